@@ -1,0 +1,75 @@
+-- exp, as the scope paper fixes it, for every f64. Definitions only.
+use Prim.Native.Nat.{ℕ, zero, suc, _+_, _*_, _/_, _<_, _≤_}
+use mathlib.Core.Bool.{Bool, true, false, cond}
+use lib.IntN.{ℤ, pos, negsuc, negℤ}
+use lib.Ieee.{Float, nan, inf, fin, binary64, up, down, add, sub, mul, div, ofInt, lt, isNan, neg}
+use Rattle.laws.specs.Area.{bits, zero64, one64}
+
+-- L, the logarithm of 2, and its two parts HI and LO
+abbrev pub ln2 : Float
+ln2 = bits 0x3fe62e42fefa39ef
+
+abbrev pub ln2hi : Float
+ln2hi = bits 0x3fe62e42fee00000
+
+abbrev pub ln2lo : Float
+ln2lo = bits 0x3dea39ef35793c76
+
+-- below -708 the answer is zero, above 709 infinity
+abbrev pub low708 : Float
+low708 = neg (bits 0x4086200000000000)
+
+abbrev pub high709 : Float
+high709 = bits 0x4086280000000000
+
+-- the number nearest to a / b, a half going up
+unfoldable pub nearUp : ℕ → ℕ → ℕ
+nearUp a b = (2 * a + b) / (2 * b)
+
+-- a number with a sign
+unfoldable pub signed : Bool → ℕ → ℤ
+signed false n = pos n
+signed true n = negℤ (pos n)
+
+-- the whole number nearest to a value, halves away from zero
+unfoldable pub wholeNear : Float → ℤ
+unfolding nearUp signed
+wholeNear nan = pos 0
+wholeNear (inf s) = pos 0
+wholeNear (fin s m e) = signed s (nearUp (m * up e) (down e))
+
+-- what is left of x after k logarithms of 2: (x - k·HI) - k·LO
+unfoldable pub reduced : Float → ℤ → Float
+reduced x k = sub binary64 (sub binary64 x (mul binary64 (ofInt binary64 k) ln2hi)) (mul binary64 (ofInt binary64 k) ln2lo)
+
+-- for m from n down to 1, t = 1 + (r / m)·t
+unfoldable pub series : Float → ℕ → Float → Float
+series r zero t = t
+series r (suc m) t = series r m (add binary64 one64 (mul binary64 (div binary64 r (ofInt binary64 (pos (suc m)))) t))
+
+-- 2 ^ k, the number itself
+unfoldable pub power : ℤ → Float
+power k = fin false 1 k
+
+-- inside the range: t·2^k, where k is the whole number nearest to the rounded quotient x / L
+unfoldable pub expIn : Float → Float
+unfolding wholeNear series power reduced
+expIn x = let k = wholeNear (div binary64 x ln2) in mul binary64 (series (reduced x k) 13 one64) (power k)
+
+-- NaN gives NaN; below -708 zero; above 709 infinity
+unfoldable pub expOf : Float → Float
+unfolding expIn
+expOf x = cond (isNan x) nan (cond (lt x low708) zero64 (cond (lt high709 x) (inf false) (expIn x)))
+
+-- ---- what the inner functions ask
+
+-- k is the exponent of a normal number
+abbrev pub inExp : ℤ → Type 0
+inExp (pos n) = n ≤ 1023
+inExp (negsuc n) = n < 1022
+
+-- finite, and of magnitude at most n
+abbrev pub within : Float → ℕ → Type 0
+within nan n = ⊥
+within (inf s) n = ⊥
+within (fin s m e) n = m * up e ≤ n * down e

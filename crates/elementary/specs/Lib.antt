@@ -1,0 +1,4 @@
+pub mod Exp
+pub mod Ln
+pub mod Limits
+pub mod Cases
