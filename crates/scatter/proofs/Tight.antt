@@ -1,0 +1,18 @@
+-- The contract of `scatter` allows one outcome: equal outcomes have equal answers and equal positions. Assumes nothing.
+use mathlib.Core.Path.{_≡_, refl, sym, ap}
+use mathlib.Core.List.{List}
+use mathlib.Core.Option.{Option·none-ne-some, Option·some-injective}
+use lib.Ieee.{Float}
+use Rattle.scatter.specs.Scatter.{Outcome, numberOf, outcome}
+use Rattle.scatter.specs.declared.Scattered.{Scattered}
+use Rattle.scatter.specs.declared.Scattered.the-variants.{Done, Refused}
+
+-- an answer is told by its number
+answer-of : (a b : Scattered) → numberOf a ≡ numberOf b → a ≡ b
+answer-of Done Done e = refl
+answer-of Done (Refused s) e = absurd (Option·none-ne-some s e)
+answer-of (Refused r) Done e = absurd (Option·none-ne-some r (sym e))
+answer-of (Refused r) (Refused s) e = ap Refused (Option·some-injective r s e)
+
+pub tight : (a b : Scattered) (p q : List Float) → outcome a p ≡ outcome b q → (a ≡ b) × (p ≡ q)
+tight a b p q e = (answer-of a b (ap (λ (o : Outcome). o .number) e), ap (λ (o : Outcome). o .positions) e)

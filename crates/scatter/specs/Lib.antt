@@ -1,0 +1,3 @@
+-- The definitions that the contracts cite, and their cases.
+pub mod Scatter
+pub mod Cases

@@ -1,0 +1,84 @@
+-- Scatter, as document 01 has it: SplitMix64, the coordinate of an output, and the positions it starts from. Definitions only.
+use mathlib.Core.List.{List}
+use mathlib.Core.Option.{Option, none, some}
+use mathlib.Core.Bool.{cond, _||_}
+use Prim.Native.Nat.{ℕ, _+_, _*_, _/_, _%_, _^_}
+use lib.ListN.{length, set}
+use lib.Dec.{eqb, ltb}
+use lib.Bits.{bitXor}
+use lib.IntN.{pos}
+use lib.Ieee.{Float, binary64, ofInt, sub, mul, div}
+use Rattle.laws.specs.Run.{run}
+use Rattle.laws.specs.Area.{bits}
+use Rattle.scatter.specs.declared.Scattered.{Scattered}
+use Rattle.scatter.specs.declared.Scattered.the-variants.{Done, Refused}
+
+-- the state after this one: plus a constant, wrapping
+abbrev pub nextOf : ℕ → ℕ
+nextOf s = (s + 0x9e3779b97f4a7c15) % 2 ^ 64
+
+-- z ^ z >> s
+abbrev pub foldOf : ℕ → ℕ → ℕ
+foldOf z s = bitXor z (z / 2 ^ s)
+
+-- the output for a state: two wrapping products of what is folded, and a last fold
+unfoldable pub mixOf : ℕ → ℕ
+mixOf z =
+    let a = foldOf z 30 * 0xbf58476d1ce4e5b9 % 2 ^ 64 in
+    let b = foldOf a 27 * 0x94d049bb133111eb % 2 ^ 64 in
+    foldOf b 31
+
+-- 2^53
+abbrev pub full : Float
+full = bits 0x4340000000000000
+
+-- 0.5
+abbrev pub half : Float
+half = bits 0x3fe0000000000000
+
+-- 1e-4, nearest
+abbrev pub scale : Float
+scale = bits 0x3f1a36e2eb1c432d
+
+-- (top 53 bits / 2^53 − 0.5)·1e-4
+unfoldable pub coordinateOf : ℕ → Float
+coordinateOf z = mul binary64 (sub binary64 (div binary64 (ofInt binary64 (pos (z / 2 ^ 11))) full) half) scale
+
+-- a state of the generator, and the positions
+pub record Spread : Type 0 where
+  pub state : ℕ
+  pub positions : List Float
+
+-- the two of them, put together
+abbrev pub spread : ℕ → List Float → Spread
+spread s p = record { state = s; positions = p }
+
+-- place k gets the coordinate of the next state
+abbrev pub scatterStep : ℕ → Spread → Spread
+scatterStep k x = let s = nextOf (x .state) in spread s (set (x .positions) k (coordinateOf (mixOf s)))
+
+-- the first m places by rising index, which is row by row, from the seed on; the tail is kept
+abbrev pub startOf : ℕ → ℕ → List Float → List Float
+startOf m seed p = run scatterStep m 0 (spread seed p) .positions
+
+-- the number that document 01 gives an answer; none when the positions are written
+abbrev pub numberOf : Scattered → Option ℕ
+numberOf Done = none
+numberOf (Refused r) = some r
+
+-- the answer's number and the positions afterwards
+pub record Outcome : Type 0 where
+  pub number : Option ℕ
+  pub positions : List Float
+
+-- an answer with the positions it leaves
+abbrev pub outcome : Scattered → List Float → Outcome
+outcome a p = record { number = numberOf a; positions = p }
+
+-- the refusals in document 01's order, which write nothing; else n rows of c coordinates
+unfoldable pub scatterOf : ℕ → ℕ → ℕ → List Float → Outcome
+scatterOf n c seed p =
+    cond (eqb c 0 || ltb 8 c) (outcome (Refused 1) p)
+    (cond (eqb n 0 || ltb 4096 n) (outcome (Refused 7) p)
+    (cond (ltb (length p) (n * c)) (outcome (Refused 12) p)
+    (outcome Done (startOf (n * c) seed p))))
