@@ -1,0 +1,59 @@
+use mathlib.Core.Path.{sym, _∙_}
+use borrow.Author.Tests.{not-true, not-false}
+use Rattle.frames.specs.Frames.{goodAlone}
+use borrow.Author.Needs.{needs}
+use Rattle.frames.proofs.good_alone.Statement.{statement}
+use Rattle.frames.proofs.good_alone.Tie as tie
+
+half-word-requires : tie.Need-half-word-requires
+half-word-requires c κs = search needs
+
+picture-fine-requires : tie.Need-picture-fine-requires
+picture-fine-requires c κs = search needs
+
+returns : tie.Need-returns
+unfolding goodAlone
+returns c = rw (rw (c .before .before .half-word .ensures .0) at (sym (c .before .picture-fine .ensures) ∙ not-true _ (c .if1 .taken)))
+
+add-side-fine : tie.Need-add-side-fine
+add-side-fine c = search needs
+
+shared-slice-read-side-fine : tie.Need-shared-slice-read-side-fine
+shared-slice-read-side-fine c = search needs
+
+side-fine-requires : tie.Need-side-fine-requires
+side-fine-requires c κs = search needs
+
+returns-2 : tie.Need-returns-2
+unfolding goodAlone
+returns-2 c = rw ((rw (c .before .before .before .before .before .half-word .ensures .0) at (sym (c .before .before .before .before .picture-fine .ensures) ∙ not-false _ (c .before .before .before .if1 .left))), sym (c .before .side-fine .ensures) ∙ not-true _ (c .if2 .taken))
+
+spare-fine-requires : tie.Need-spare-fine-requires
+spare-fine-requires c κs = search needs
+
+returns-3 : tie.Need-returns-3
+unfolding goodAlone
+returns-3 c = rw ((rw (c .before .before .before .before .before .before .before .half-word .ensures .0) at (sym (c .before .before .before .before .before .before .picture-fine .ensures) ∙ not-false _ (c .before .before .before .before .before .if1 .left))), (sym (c .before .before .before .side-fine .ensures) ∙ not-false _ (c .before .before .if2 .left)), sym (c .before .spare-fine .ensures) ∙ not-true _ (c .if3 .taken))
+
+values-fine-requires : tie.Need-values-fine-requires
+values-fine-requires c κs = search needs
+
+returns-4 : tie.Need-returns-4
+unfolding goodAlone
+returns-4 c = rw ((rw (c .before .before .before .before .before .before .before .before .half-word .ensures .0) at (sym (c .before .before .before .before .before .before .before .picture-fine .ensures) ∙ not-false _ (c .before .before .before .before .before .before .if1 .left))), (sym (c .before .before .before .before .side-fine .ensures) ∙ not-false _ (c .before .before .before .if2 .left)), sym (c .before .before .spare-fine .ensures) ∙ not-false _ (c .before .if3 .left)) (c .values-fine .ensures)
+
+pub good-alone-spec : {M : Type 1} → statement M
+good-alone-spec =
+    tie.close
+    (tie.spec
+    half-word-requires
+    picture-fine-requires
+    returns
+    add-side-fine
+    shared-slice-read-side-fine
+    side-fine-requires
+    returns-2
+    spare-fine-requires
+    returns-3
+    values-fine-requires
+    returns-4)

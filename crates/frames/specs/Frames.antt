@@ -1,0 +1,90 @@
+-- The frame file, as the scope paper has it: 72-byte records, no header, little-endian. Definitions only.
+use mathlib.Core.List.{List, [], _∷_}
+use mathlib.Core.Bool.{Bool, cond, not, _&&_, _||_}
+use Prim.Native.Nat.{ℕ, zero, suc, _+_, _-_, _*_, _/_, _%_}
+use lib.Dec.{eqb, ltb, leb}
+use lib.ListN.{length}
+use lib.Ieee.{Float}
+use Rattle.laws.specs.Run.{every, first}
+use Rattle.laws.specs.Area.{num, bits, zero64}
+use Rattle.elementary.specs.Limits.{inDomain}
+use Rattle.frames.specs.declared.Frame.{Frame}
+use Rattle.frames.specs.declared.Frames.{Frames}
+use Rattle.frames.specs.declared.Frames.the-variants.{Good, Bad}
+
+-- ---- the bytes of a record that starts at place a
+
+-- the number in the n bytes from a on, the lowest first
+unfoldable pub littleOf : List ℕ → ℕ → ℕ → ℕ
+littleOf f a zero = 0
+littleOf f a (suc n) = num f a + 256 * littleOf f (a + 1) n
+
+-- the value in the eight bytes from a on
+unfoldable pub valueAt : List ℕ → ℕ → Float
+valueAt f a = bits (littleOf f a 8)
+
+-- bytes 0 to 3: the picture's number; byte 4: the side; bytes 5 to 7: spare
+abbrev pub pictureAt : List ℕ → ℕ → ℕ
+pictureAt f a = littleOf f a 4
+
+abbrev pub sideAt : List ℕ → ℕ → ℕ
+sideAt f a = num f (a + 4)
+
+-- ---- a record that is good by itself
+
+-- pictures count from 1 to 54,000
+unfoldable pub pictureFine : ℕ → Bool
+pictureFine p = leb 1 p && leb p 54000
+
+unfoldable pub sideFine : ℕ → Bool
+sideFine s = eqb s 1 || eqb s 2
+
+-- the three spare bytes are zero
+unfoldable pub spareFine : List ℕ → ℕ → Bool
+spareFine f a = eqb (num f (a + 5)) 0 && eqb (num f (a + 6)) 0 && eqb (num f (a + 7)) 0
+
+-- six features and two start positions, from byte 8 on, are finite and at most 2^20 in magnitude
+unfoldable pub valuesFine : List ℕ → ℕ → Bool
+valuesFine f a = every (λ k. inDomain (valueAt f (a + 8 + 8 * k))) 8
+
+unfoldable pub goodAlone : List ℕ → ℕ → Bool
+goodAlone f a = pictureFine (pictureAt f a) && sideFine (sideAt f a) && spareFine f a && valuesFine f a
+
+-- ---- the file
+
+-- record i's picture is above that of the record before it
+unfoldable pub inOrder : List ℕ → ℕ → Bool
+inOrder f i = eqb i 0 || ltb (pictureAt f ((i - 1) * 72)) (pictureAt f (i * 72))
+
+unfoldable pub badAt : List ℕ → ℕ → Bool
+badAt f i = not (goodAlone f (i * 72) && inOrder f i)
+
+-- how many whole records there are
+abbrev pub wholeOf : List ℕ → ℕ
+wholeOf f = length f / 72
+
+-- the count of the records, or the place of the first bad one; a stray tail counts as a record, and is bad
+unfoldable pub framesOf : List ℕ → Frames
+framesOf f =
+    cond (ltb (first (badAt f) (wholeOf f)) (wholeOf f)) (Bad (first (badAt f) (wholeOf f)))
+    (cond (eqb (length f % 72) 0) (Good (wholeOf f)) (Bad (wholeOf f)))
+
+-- the scope paper's number for what the reader says: 16 for a bad record, none for a good file
+unfoldable pub numberOf : Frames → ℕ
+numberOf (Good n) = 0
+numberOf (Bad p) = 16
+
+-- ---- frame i
+
+unfoldable pub featuresAt : List ℕ → ℕ → List Float
+featuresAt f a = valueAt f (a + 8) ∷ valueAt f (a + 16) ∷ valueAt f (a + 24) ∷ valueAt f (a + 32) ∷ valueAt f (a + 40) ∷ valueAt f (a + 48) ∷ []
+
+unfoldable pub startsAt : List ℕ → ℕ → List Float
+startsAt f a = valueAt f (a + 56) ∷ valueAt f (a + 64) ∷ []
+
+abbrev pub noFrame : Frame
+noFrame = record { picture = 0; side = 0; features = zero64 ∷ zero64 ∷ zero64 ∷ zero64 ∷ zero64 ∷ zero64 ∷ []; starts = zero64 ∷ zero64 ∷ [] }
+
+-- what record i holds; past the whole records a frame of zeros
+unfoldable pub frameOf : List ℕ → ℕ → Frame
+frameOf f i = cond (ltb i (wholeOf f)) (record { picture = pictureAt f (i * 72); side = sideAt f (i * 72); features = featuresAt f (i * 72); starts = startsAt f (i * 72) }) noFrame

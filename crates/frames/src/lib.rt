@@ -1,0 +1,199 @@
+// The frame file: records of 72 bytes, no header, little-endian. A record is good by itself or not, and stands in order or not;
+// the reader answers how many there are, or the place of the first bad one.
+ghost use mathlib.Core.Path.{_≡_};
+ghost use Prim.Native.Nat.{_+_, _*_, _/_, _<_, _≤_};
+ghost use lib.ListN.{length};
+ghost use lib.Ieee.{binary64, ofBits};
+ghost use Rattle.frames.specs.Frames.{littleOf, valueAt, pictureAt, pictureFine, sideFine, spareFine, valuesFine, goodAlone, inOrder, badAt, framesOf, featuresAt, startsAt, frameOf};
+ghost use Rattle.laws.specs.Area.{num};
+
+// What the reader says of a file.
+pub enum Frames {
+    // so many records, all good
+    Good(usize),
+    // the place of the first bad record, from 0; a stray tail is one
+    Bad(usize),
+}
+
+// One captured frame.
+pub struct Frame {
+    // the picture's number on the disc
+    pub picture: u32,
+    // the disc's side, 1 or 2
+    pub side: u8,
+    // the six numbers that the frame is boiled down to
+    pub features: [f64; 6],
+    // where its dot starts on the map
+    pub starts: [f64; 2],
+}
+
+fn wide(b: u8) -> u64
+    ensures { λ r. ⌜ (r ≡ b) × (r < 256) ⌝ }
+{
+    b as u64
+}
+
+// The four bytes from a on, the lowest first.
+fn half_word(file: &[u8], a: usize) -> u64
+    requires { ⌜ a + 4 ≤ length (now file) ⌝ }
+    ensures { λ r. ⌜ (r ≡ littleOf (now (file .entry)) a 4) × (r < 4294967296) ⌝ }
+{
+    wide(file[a]) + 256 * (wide(file[a + 1]) + 256 * (wide(file[a + 2]) + 256 * wide(file[a + 3])))
+}
+
+// The value in the eight bytes from a on.
+fn value(file: &[u8], a: usize) -> f64
+    requires { ⌜ a + 8 ≤ length (now file) ⌝ }
+    ensures { λ r. ⌜ r ≡ valueAt (now (file .entry)) a ⌝ }
+{
+    elementary::words::value_of(half_word(file, a) + 4294967296 * half_word(file, a + 4))
+}
+
+fn picture_fine(p: u64) -> bool
+    ensures { λ r. ⌜ r ≡ pictureFine p ⌝ }
+{
+    if 1 <= p {
+        return p <= 54000;
+    }
+    false
+}
+
+fn side_fine(s: u8) -> bool
+    ensures { λ r. ⌜ r ≡ sideFine s ⌝ }
+{
+    if s == 1 {
+        return true;
+    }
+    s == 2
+}
+
+// The three spare bytes of the record at a are zero.
+fn spare_fine(file: &[u8], a: usize) -> bool
+    requires { ⌜ a + 8 ≤ length (now file) ⌝ }
+    ensures { λ r. ⌜ r ≡ spareFine (now (file .entry)) a ⌝ }
+{
+    if file[a + 5] != 0 {
+        return false;
+    }
+    if file[a + 6] != 0 {
+        return false;
+    }
+    file[a + 7] == 0
+}
+
+// The eight values of the record at a are finite and at most 2^20 in magnitude.
+fn values_fine(file: &[u8], a: usize) -> bool
+    requires { ⌜ a + 72 ≤ length (now file) ⌝ }
+    ensures { λ r. ⌜ r ≡ valuesFine (now (file .entry)) a ⌝ }
+{
+    let mut k = 0;
+    while k < 8 {
+        let v = value(file, a + 8 + 8 * k);
+        if !elementary::limits::in_domain(v) {
+            return false;
+        }
+        k += 1;
+    }
+    true
+}
+
+// The record at a is good by itself.
+fn good_alone(file: &[u8], a: usize) -> bool
+    requires { ⌜ a + 72 ≤ length (now file) ⌝ }
+    ensures { λ r. ⌜ r ≡ goodAlone (now (file .entry)) a ⌝ }
+{
+    if !picture_fine(half_word(file, a)) {
+        return false;
+    }
+    if !side_fine(file[a + 4]) {
+        return false;
+    }
+    if !spare_fine(file, a) {
+        return false;
+    }
+    values_fine(file, a)
+}
+
+// Record i's picture is above that of the record before it.
+fn in_order(file: &[u8], i: usize) -> bool
+    requires { ⌜ i * 72 + 72 ≤ length (now file) ⌝ }
+    ensures { λ r. ⌜ r ≡ inOrder (now (file .entry)) i ⌝ }
+{
+    if i == 0 {
+        return true;
+    }
+    half_word(file, (i - 1) * 72) < half_word(file, i * 72)
+}
+
+// Record i is bad by itself or out of order.
+fn is_bad(file: &[u8], i: usize) -> bool
+    requires { ⌜ i * 72 + 72 ≤ length (now file) ⌝ }
+    ensures { λ r. ⌜ r ≡ badAt (now (file .entry)) i ⌝ }
+{
+    if good_alone(file, i * 72) {
+        return !in_order(file, i);
+    }
+    true
+}
+
+// How many records the file has, or the place of the first bad one.
+pub fn read_frames(file: &[u8]) -> Frames
+    ensures { λ r. ⌜ r ≡ framesOf (now (file .entry)) ⌝ }
+{
+    let whole = file.len() / 72;
+    let mut i = 0;
+    while i < whole {
+        if is_bad(file, i) {
+            return Frames::Bad(i);
+        }
+        i += 1;
+    }
+    if file.len() % 72 == 0 {
+        return Frames::Good(whole);
+    }
+    Frames::Bad(whole)
+}
+
+fn features_at(file: &[u8], a: usize) -> [f64; 6]
+    requires { ⌜ a + 72 ≤ length (now file) ⌝ }
+    ensures { λ r. ⌜ r ≡ featuresAt (now (file .entry)) a ⌝ }
+{
+    [
+        value(file, a + 8),
+        value(file, a + 16),
+        value(file, a + 24),
+        value(file, a + 32),
+        value(file, a + 40),
+        value(file, a + 48),
+    ]
+}
+
+fn starts_at(file: &[u8], a: usize) -> [f64; 2]
+    requires { ⌜ a + 72 ≤ length (now file) ⌝ }
+    ensures { λ r. ⌜ r ≡ startsAt (now (file .entry)) a ⌝ }
+{
+    [value(file, a + 56), value(file, a + 64)]
+}
+
+// The frame in record i of the file; past the whole records a frame of zeros.
+pub fn frame_at(file: &[u8], i: usize) -> Frame
+    ensures { λ r. ⌜ r ≡ frameOf (now (file .entry)) i ⌝ }
+{
+    if i < file.len() / 72 {
+        let a = i * 72;
+        let features = features_at(file, a);
+        let starts = starts_at(file, a);
+        return Frame {
+            picture: half_word(file, a) as u32,
+            side: file[a + 4],
+            features: features,
+            starts: starts,
+        };
+    }
+    Frame {
+        picture: 0,
+        side: 0,
+        features: [0.0; 6],
+        starts: [0.0; 2],
+    }
+}
