@@ -1,0 +1,11 @@
+//! The scope paper's rules in plain Rust, written from its text alone, and the replay lists made from them.
+//!
+//! Nothing here is shared with the port: the two were written apart, so that a slip in one shows up as a difference
+//! between them. Only the standard library is used.
+
+pub mod differences;
+pub mod elementary;
+pub mod frames;
+pub mod lists;
+pub mod scatter;
+pub mod words;

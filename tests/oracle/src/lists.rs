@@ -1,0 +1,52 @@
+//! The replay lists: inputs with the answers that the scope paper's rules give, as words of 64 bits.
+//!
+//! The lists are made anew from fixed seeds, so every run makes the same bytes.
+
+pub mod elementary;
+pub mod frames;
+pub mod scatter;
+
+use std::path::{Path, PathBuf};
+
+/// One list and where it belongs.
+#[derive(Clone, Debug)]
+pub struct List {
+    /// The crate that replays the list.
+    pub replayer: &'static str,
+    /// The list's name, without its ending.
+    pub name: &'static str,
+    /// How many cases the list holds.
+    pub cases: usize,
+    /// All cases, one after the other.
+    pub words: Vec<u64>,
+}
+
+impl List {
+    /// A list of the given cases.
+    fn new(replayer: &'static str, name: &'static str, cases: &[Vec<u64>]) -> Self {
+        List {
+            replayer,
+            name,
+            cases: cases.len(),
+            words: cases.concat(),
+        }
+    }
+
+    /// Where the list lies, below the folder of crates.
+    pub fn path(&self, crates: &Path) -> PathBuf {
+        let file = format!("{}.words", self.name);
+        crates.join(self.replayer).join("data").join(file)
+    }
+}
+
+/// Every list.
+pub fn all() -> Vec<List> {
+    vec![
+        List::new("replay_elementary", "exp", &elementary::exp_cases()),
+        List::new("replay_elementary", "ln", &elementary::ln_cases()),
+        List::new("replay_elementary", "bounds", &elementary::bounds_cases()),
+        List::new("replay_elementary", "neighbours", &elementary::neighbours_cases()),
+        List::new("replay_scatter", "scatter", &scatter::cases()),
+        List::new("replay_frames", "frames", &frames::cases()),
+    ]
+}
