@@ -3,3 +3,13 @@ pub mod exponential;
 pub mod limits;
 pub mod logarithm;
 pub mod words;
+
+pub use exponential::exp;
+pub use limits::absolute;
+pub use limits::in_domain;
+pub use limits::is_calm;
+pub use limits::neighbours;
+pub use limits::unless_above;
+pub use logarithm::ln;
+pub use words::bits_of;
+pub use words::value_of;

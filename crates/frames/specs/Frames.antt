@@ -1,27 +1,19 @@
 -- The frame file, as the scope paper has it: 72-byte records, no header, little-endian. Definitions only.
 use mathlib.Core.List.{List, [], _∷_}
 use mathlib.Core.Bool.{Bool, cond, not, _&&_, _||_}
-use Prim.Native.Nat.{ℕ, zero, suc, _+_, _-_, _*_, _/_, _%_}
+use Prim.Native.Nat.{ℕ, _+_, _-_, _*_, _/_, _%_}
 use lib.Dec.{eqb, ltb, leb}
 use lib.ListN.{length}
 use lib.Ieee.{Float}
 use Rattle.laws.specs.Run.{every, first}
-use Rattle.laws.specs.Area.{num, bits, zero64}
+use Rattle.laws.specs.Area.{num, zero64}
+use Rattle.little.specs.Little.{littleOf, valueAt}
 use Rattle.elementary.specs.Limits.{inDomain}
 use Rattle.frames.specs.declared.Frame.{Frame}
 use Rattle.frames.specs.declared.Frames.{Frames}
 use Rattle.frames.specs.declared.Frames.the-variants.{Good, Bad}
 
 -- ---- the bytes of a record that starts at place a
-
--- the number in the n bytes from a on, the lowest first
-unfoldable pub littleOf : List ℕ → ℕ → ℕ → ℕ
-littleOf f a zero = 0
-littleOf f a (suc n) = num f a + 256 * littleOf f (a + 1) n
-
--- the value in the eight bytes from a on
-unfoldable pub valueAt : List ℕ → ℕ → Float
-valueAt f a = bits (littleOf f a 8)
 
 -- bytes 0 to 3: the picture's number; byte 4: the side; bytes 5 to 7: spare
 abbrev pub pictureAt : List ℕ → ℕ → ℕ

@@ -3,9 +3,7 @@
 ghost use mathlib.Core.Path.{_≡_};
 ghost use Prim.Native.Nat.{_+_, _*_, _/_, _<_, _≤_};
 ghost use lib.ListN.{length};
-ghost use lib.Ieee.{binary64, ofBits};
-ghost use Rattle.frames.specs.Frames.{littleOf, valueAt, pictureAt, pictureFine, sideFine, spareFine, valuesFine, goodAlone, inOrder, badAt, framesOf, featuresAt, startsAt, frameOf};
-ghost use Rattle.laws.specs.Area.{num};
+ghost use Rattle.frames.specs.Frames.{pictureAt, pictureFine, sideFine, spareFine, valuesFine, goodAlone, inOrder, badAt, framesOf, featuresAt, startsAt, frameOf};
 
 // What the reader says of a file.
 pub enum Frames {
@@ -25,28 +23,6 @@ pub struct Frame {
     pub features: [f64; 6],
     // where its dot starts on the map
     pub starts: [f64; 2],
-}
-
-fn wide(b: u8) -> u64
-    ensures { λ r. ⌜ (r ≡ b) × (r < 256) ⌝ }
-{
-    b as u64
-}
-
-// The four bytes from a on, the lowest first.
-fn half_word(file: &[u8], a: usize) -> u64
-    requires { ⌜ a + 4 ≤ length (now file) ⌝ }
-    ensures { λ r. ⌜ (r ≡ littleOf (now (file .entry)) a 4) × (r < 4294967296) ⌝ }
-{
-    wide(file[a]) + 256 * (wide(file[a + 1]) + 256 * (wide(file[a + 2]) + 256 * wide(file[a + 3])))
-}
-
-// The value in the eight bytes from a on.
-fn value(file: &[u8], a: usize) -> f64
-    requires { ⌜ a + 8 ≤ length (now file) ⌝ }
-    ensures { λ r. ⌜ r ≡ valueAt (now (file .entry)) a ⌝ }
-{
-    elementary::words::value_of(half_word(file, a) + 4294967296 * half_word(file, a + 4))
 }
 
 fn picture_fine(p: u64) -> bool
@@ -88,7 +64,7 @@ fn values_fine(file: &[u8], a: usize) -> bool
 {
     let mut k = 0;
     while k < 8 {
-        let v = value(file, a + 8 + 8 * k);
+        let v = little::value(file, a + 8 + 8 * k);
         if !elementary::limits::in_domain(v) {
             return false;
         }
@@ -102,7 +78,7 @@ fn good_alone(file: &[u8], a: usize) -> bool
     requires { ⌜ a + 72 ≤ length (now file) ⌝ }
     ensures { λ r. ⌜ r ≡ goodAlone (now (file .entry)) a ⌝ }
 {
-    if !picture_fine(half_word(file, a)) {
+    if !picture_fine(little::half_word(file, a)) {
         return false;
     }
     if !side_fine(file[a + 4]) {
@@ -122,7 +98,7 @@ fn in_order(file: &[u8], i: usize) -> bool
     if i == 0 {
         return true;
     }
-    half_word(file, (i - 1) * 72) < half_word(file, i * 72)
+    little::half_word(file, (i - 1) * 72) < little::half_word(file, i * 72)
 }
 
 // Record i is bad by itself or out of order.
@@ -159,12 +135,12 @@ fn features_at(file: &[u8], a: usize) -> [f64; 6]
     ensures { λ r. ⌜ r ≡ featuresAt (now (file .entry)) a ⌝ }
 {
     [
-        value(file, a + 8),
-        value(file, a + 16),
-        value(file, a + 24),
-        value(file, a + 32),
-        value(file, a + 40),
-        value(file, a + 48),
+        little::value(file, a + 8),
+        little::value(file, a + 16),
+        little::value(file, a + 24),
+        little::value(file, a + 32),
+        little::value(file, a + 40),
+        little::value(file, a + 48),
     ]
 }
 
@@ -172,7 +148,7 @@ fn starts_at(file: &[u8], a: usize) -> [f64; 2]
     requires { ⌜ a + 72 ≤ length (now file) ⌝ }
     ensures { λ r. ⌜ r ≡ startsAt (now (file .entry)) a ⌝ }
 {
-    [value(file, a + 56), value(file, a + 64)]
+    [little::value(file, a + 56), little::value(file, a + 64)]
 }
 
 // The frame in record i of the file; past the whole records a frame of zeros.
@@ -184,7 +160,7 @@ pub fn frame_at(file: &[u8], i: usize) -> Frame
         let features = features_at(file, a);
         let starts = starts_at(file, a);
         return Frame {
-            picture: half_word(file, a) as u32,
+            picture: little::half_word(file, a) as u32,
             side: file[a + 4],
             features: features,
             starts: starts,

@@ -5,7 +5,8 @@ use mathlib.Core.Path.{_≡_, sym, _∙_}
 use Rattle.laws.proofs.Every.{every-none, every-more, every-no, every-done}
 use Rattle.laws.specs.Run.{every}
 use Rattle.elementary.specs.Limits.{inDomain}
-use Rattle.frames.specs.Frames.{valuesFine, valueAt}
+use Rattle.frames.specs.Frames.{valuesFine}
+use Rattle.little.specs.Little.{valueAt}
 use borrow.Author.Needs.{needs}
 use native.Mathlib.Omega.{arith}
 use Rattle.frames.proofs.values_fine.Statement.{statement}

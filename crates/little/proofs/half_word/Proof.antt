@@ -1,9 +1,9 @@
 use mathlib.Core.Path.{sym}
-use Rattle.frames.proofs.Bytes.{four}
+use Rattle.little.proofs.Bytes.{four}
 use borrow.Author.Needs.{needs}
 use native.Mathlib.Omega.{arith}
-use Rattle.frames.proofs.half_word.Statement.{statement}
-use Rattle.frames.proofs.half_word.Tie as tie
+use Rattle.little.proofs.half_word.Statement.{statement}
+use Rattle.little.proofs.half_word.Tie as tie
 
 shared-slice-read-wide : tie.Need-shared-slice-read-wide
 shared-slice-read-wide c = search needs

@@ -4,7 +4,7 @@ use mathlib.Core.List.{List}
 use Prim.Native.Nat.{ℕ, _+_, _*_}
 use native.Mathlib.Omega.{arith}
 use Rattle.laws.specs.Area.{num}
-use Rattle.frames.specs.Frames.{littleOf}
+use Rattle.little.specs.Little.{littleOf}
 
 pub four : (f : List ℕ) (a : ℕ) → littleOf f a 4 ≡ num f a + 256 * (num f (a + 1) + 256 * (num f (a + 2) + 256 * num f (a + 3)))
 unfolding littleOf

@@ -1,0 +1,14 @@
+-- Little-endian numbers and values in a string of bytes. Definitions only.
+use mathlib.Core.List.{List}
+use Prim.Native.Nat.{ℕ, zero, suc, _+_, _*_}
+use lib.Ieee.{Float}
+use Rattle.laws.specs.Area.{num, bits}
+
+-- the number in the n bytes from a on, the lowest first
+unfoldable pub littleOf : List ℕ → ℕ → ℕ → ℕ
+littleOf f a zero = 0
+littleOf f a (suc n) = num f a + 256 * littleOf f (a + 1) n
+
+-- the value in the eight bytes from a on
+unfoldable pub valueAt : List ℕ → ℕ → Float
+valueAt f a = bits (littleOf f a 8)

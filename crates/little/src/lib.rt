@@ -1,0 +1,36 @@
+// Numbers and values in a string of bytes, the lowest byte first.
+ghost use mathlib.Core.Path.{_≡_};
+ghost use Prim.Native.Nat.{_+_, _<_, _≤_};
+ghost use lib.ListN.{length};
+ghost use Rattle.little.specs.Little.{littleOf, valueAt};
+
+fn wide(b: u8) -> u64
+    ensures { λ r. ⌜ (r ≡ b) × (r < 256) ⌝ }
+{
+    b as u64
+}
+
+// The number in the four bytes from a on.
+pub fn half_word(bytes: &[u8], a: usize) -> u64
+    requires { ⌜ a + 4 ≤ length (now bytes) ⌝ }
+    ensures { λ r. ⌜ (r ≡ littleOf (now (bytes .entry)) a 4) × (r < 4294967296) ⌝ }
+{
+    wide(bytes[a])
+        + 256 * (wide(bytes[a + 1]) + 256 * (wide(bytes[a + 2]) + 256 * wide(bytes[a + 3])))
+}
+
+// The number in the eight bytes from a on.
+pub fn word(bytes: &[u8], a: usize) -> u64
+    requires { ⌜ a + 8 ≤ length (now bytes) ⌝ }
+    ensures { λ r. ⌜ r ≡ littleOf (now (bytes .entry)) a 8 ⌝ }
+{
+    half_word(bytes, a) + 4294967296 * half_word(bytes, a + 4)
+}
+
+// The value with the bits in the eight bytes from a on.
+pub fn value(bytes: &[u8], a: usize) -> f64
+    requires { ⌜ a + 8 ≤ length (now bytes) ⌝ }
+    ensures { λ r. ⌜ r ≡ valueAt (now (bytes .entry)) a ⌝ }
+{
+    elementary::value_of(word(bytes, a))
+}
