@@ -3,7 +3,7 @@ use mathlib.Core.List.{List}
 use mathlib.Core.Bool.{Bool, true, false, cond}
 use Prim.Native.Nat.{ℕ}
 use lib.IntN.{pos}
-use lib.ListN.{set}
+use lib.ListN.{set, replicate}
 use lib.Ieee.{Float, inf, binary64, ofInt, add, sub, mul, div, neg, lt, eq}
 use Rattle.laws.specs.Run.{run, until}
 use Rattle.laws.specs.Area.{at, bits, zero64, one64, two64}
@@ -120,3 +120,7 @@ wide = record { low = bits 0x3bc79ca10c924223; high = inf false; sigma = one64 }
 unfoldable pub sigmaShares : List Float → ℕ → Float → List Float → List Float
 unfolding roundOf until
 sigmaShares ds n perplexity p = until isMet (roundOf ds n perplexity) 50 (searched p wide false) .row
+
+-- the shares themselves, from a row of n zeros on
+abbrev pub sharesOf : List Float → ℕ → Float → List Float
+sharesOf ds n perplexity = sigmaShares ds n perplexity (replicate n zero64)
