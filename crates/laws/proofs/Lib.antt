@@ -5,3 +5,5 @@ pub mod Untils
 pub mod Every
 pub mod First
 pub mod Ahead
+pub mod Written
+pub mod Places

@@ -1,0 +1,5 @@
+pub mod Entering
+pub mod Gathering
+pub mod Rows
+pub mod Order
+pub mod Apart

@@ -1,0 +1,3 @@
+pub mod Distances
+pub mod Near
+pub mod Cases
