@@ -1,0 +1,3 @@
+pub mod Flat
+pub mod Children
+pub mod Axes

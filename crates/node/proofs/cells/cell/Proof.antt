@@ -1,0 +1,15 @@
+use borrow.Author.Needs.{needs}
+use Rattle.node.proofs.cells.cell.Statement.{statement}
+use Rattle.node.proofs.cells.cell.Tie as tie
+
+child-centre-requires : tie.Need-child-centre-requires
+child-centre-requires c κs = search needs
+
+child-half-requires : tie.Need-child-half-requires
+child-half-requires c κs = search needs
+
+returns : tie.Need-returns
+returns c = rw (c .child-half .ensures, c .before .child-centre .ensures)
+
+pub cell-spec : {M : Type 1} → statement M
+cell-spec = tie.close (tie.spec child-centre-requires child-half-requires returns)

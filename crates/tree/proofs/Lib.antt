@@ -1,0 +1,5 @@
+pub mod Grow
+pub mod Descent
+pub mod Whole
+pub mod Opens
+pub mod Settles

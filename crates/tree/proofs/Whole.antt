@@ -1,0 +1,131 @@
+-- Theorems on the definition of insertion: it keeps the tree well formed, uses the nodes that the dry count says, at most 50 splits a point, and so never lacks nodes in an arena of 1 + 50 · 2^c · (n - 1). Assumes nothing.
+use mathlib.Core.Path.{_≡_, refl, sym, ap, subst, _∙_}
+use mathlib.Core.List.{List, _∷_}
+use mathlib.Core.Bool.{true, false, true≢false}
+use Prim.Native.Nat.{ℕ, zero, suc, _+_, _-_, _*_, _^_, _<_, _≤_}
+use native.Mathlib.Omega.{arith}
+use native.Mathlib.Nat.{not-suc-le-zero, mul-le-mul-right, suc-mul, mul-comm}
+use native.Mathlib.Decide.{decLt}
+use lib.ListN.{length, replicate, length-replicate}
+use lib.Ieee.{Float}
+use borrow.Author.Tests.{lt-ltb, le-ltb, ltb-true}
+use Rattle.node.specs.declared.Leaf.{Leaf}
+use Rattle.node.specs.declared.Leaf.the-variants.{Empty, Occupied}
+use Rattle.laws.specs.Run.{run, every}
+use Rattle.laws.proofs.Runs.{run-keeps}
+use Rattle.laws.proofs.Every.{every-at, every-all}
+use Rattle.node.specs.Node.{pointOf, freshOf, absorbed, occupied, turnOf}
+use Rattle.node.specs.Areas.{nodeAt, blank}
+use Rattle.tree.specs.Insert.{Tree, tree, filled, inserted, needsOf, Insertion, insertion, insertOf, pointOk, nodeOk, treeOk, built, rooted}
+use Rattle.tree.proofs.Descent.{node-facts, node-ok, ok-start, Ended, inserted-ends, needs-few}
+
+abbrev needed : List Float → ℕ → ℕ → Tree → ℕ
+needed y c j t = needsOf (length (t .nodes)) y c (pointOf y c j) 0 0 (t .nodes)
+
+point-more : (n n' : ℕ) (l : Leaf) → n ≤ n' → pointOk n l ≡ true → pointOk n' l ≡ true
+point-more n n' Empty h e = refl
+point-more n n' (Occupied o) h e = lt-ltb o n' (omega (arith, h, ltb-true o n e))
+
+-- larger bounds on points and counts
+pub looser : (n n' c m m' : ℕ) (t : Tree) → n ≤ n' → m ≤ m' → treeOk n m c t ≡ true → treeOk n' m' c t ≡ true
+looser n n' c m m' t h l e =
+    every-all (λ i. nodeOk n' m' c (t .used) i (nodeAt (t .nodes) i)) (t .used)
+    λ k lk.
+    let f = node-facts n c m (t .used) k (nodeAt (t .nodes) k) (every-at (λ i. nodeOk n m c (t .used) i (nodeAt (t .nodes) i)) (t .used) e k lk) in
+    node-ok n' c m' (t .used) k (nodeAt (t .nodes) k) (record { few = omega (arith, l, f .few); point = point-more n n' (nodeAt (t .nodes) k .leaf) h (f .point); above = f .above })
+
+module _ (y : List Float) (c j : ℕ) (t : Tree) where
+  -- the refusal, exactly when the nodes that the point needs are not there; nothing changes
+  pub refused : length (t .nodes) < t .used + needed y c j t → insertOf y c j t ≡ insertion true t
+  unfolding insertOf
+  refused l = rw (lt-ltb _ _ l)
+
+  pub taken : t .used + needed y c j t ≤ length (t .nodes) → insertOf y c j t ≡ insertion false (inserted (length (t .nodes)) y c (pointOf y c j) j 0 0 t)
+  unfolding insertOf
+  taken l = rw (le-ltb _ _ l)
+
+  pub taken-ends : (n m : ℕ) → j < n → 1 ≤ m → treeOk n m c t ≡ true → 0 < t .used → t .used ≤ length (t .nodes) → t .used + needed y c j t ≤ length (t .nodes)
+      → Ended n c m (length (t .nodes)) (t .used + needed y c j t) (insertOf y c j t .tree)
+  taken-ends n m hj hm ok h l fit = rw (taken fit) (inserted-ends n c m (length (t .nodes)) (t .used + needed y c j t) y (pointOf y c j) j hj hm fit (length (t .nodes)) 0 0 t (zero-less (length (t .nodes))) (ok-start n c m y (pointOf y c j) t ok h l))
+    where
+      zero-less : (g : ℕ) → g ≡ g - 0
+      zero-less g = omega arith
+
+  -- insertion keeps a well-formed tree well formed, and no count grows by more than one
+  pub insert-keeps : (n m : ℕ) → j < n → 1 ≤ m → treeOk n m c t ≡ true → 0 < t .used → t .used ≤ length (t .nodes) → treeOk n (m + 1) c (insertOf y c j t .tree) ≡ true
+  insert-keeps n m hj hm ok h l =
+      elim (decLt (length (t .nodes)) (t .used + needed y c j t)) [
+        | yes x ↦ rw (refused x) (looser n n c m (m + 1) t (omega arith) (omega arith) ok)
+        | no x ↦ taken-ends n m hj hm ok h l (omega (arith, x)) .tree
+      ]
+
+  -- the dry count is what the insertion uses
+  pub insert-uses : (n m : ℕ) → j < n → 1 ≤ m → treeOk n m c t ≡ true → 0 < t .used → t .used ≤ length (t .nodes) → insertOf y c j t .full ≡ false → insertOf y c j t .tree .used ≡ t .used + needed y c j t
+  insert-uses n m hj hm ok h l e =
+      elim (decLt (length (t .nodes)) (t .used + needed y c j t)) [
+        | yes x ↦ absurd (true≢false (ap (λ (r : Insertion). r .full) (sym (refused x)) ∙ e))
+        | no x ↦ taken-ends n m hj hm ok h l (omega (arith, x)) .used
+      ]
+
+  -- 50 splits are enough
+  pub needed-few : needed y c j t ≤ 50 * 2 ^ c
+  needed-few = needs-few (length (t .nodes)) y c (pointOf y c j) 0 0 (t .nodes)
+
+-- ---- the first point
+
+pub first-in : (y : List Float) (c : ℕ) (z h : List Float) (cap : ℕ) → insertOf y c 0 (rooted z h cap) ≡ insertion false (tree 1 (occupied 0 (absorbed c (pointOf y c 0) (freshOf z h)) ∷ replicate (cap - 1) blank))
+unfolding insertOf inserted needsOf turnOf filled run absorbed
+first-in y c z h cap = rw (le-ltb (suc (length (replicate (cap - 1) blank))) 1 (omega arith))
+
+first-ok : (n c : ℕ) (p z h : List Float) (k : ℕ) → 0 < n → treeOk n 1 c (tree 1 (occupied 0 (absorbed c p (freshOf z h)) ∷ replicate k blank)) ≡ true
+unfolding every nodeOk absorbed
+first-ok n c p z h k l = rw (lt-ltb 0 n l)
+
+-- ---- all points
+
+-- j points are in
+record In (n c cap j : ℕ) (r : Insertion) : Type 0 where
+  pub some : 1 ≤ j
+  pub there : r .full ≡ false
+  pub nodes : length (r .tree .nodes) ≡ cap
+  pub used : 0 < r .tree .used
+  pub few : r .tree .used ≤ 1 + (j - 1) * (50 * 2 ^ c)
+  pub tree : treeOk n j c (r .tree) ≡ true
+
+rows-more : (j n b : ℕ) → 1 ≤ j → j < n → (j - 1) * b + b ≤ (n - 1) * b
+rows-more j n b h l = subst (λ (x : ℕ). x ≤ (n - 1) * b) (suc-mul (j - 1) b) (mul-le-mul-right b (below j n h l))
+  where
+    below : (j n : ℕ) → 1 ≤ j → j < n → suc (j - 1) ≤ n - 1
+    below j n h l = omega (arith, h, l)
+
+more-in : (y : List Float) (n c cap j : ℕ) (r : Insertion) → 1 + (n - 1) * (50 * 2 ^ c) ≤ cap → j < n → In n c cap j r → In n c cap (j + 1) (insertOf y c j (r .tree))
+more-in y n c cap j r room lj i =
+    let t = r .tree in
+    let b = 50 * 2 ^ c in
+    let q = needed-few y c j t in
+    let up : (j - 1) * b + b ≤ (n - 1) * b = rows-more j n b (i .some) lj in
+    let fit : t .used + needed y c j t ≤ length (t .nodes) = omega (arith, q, up, room, i .few, i .nodes) in
+    let e = taken-ends y c j t n j lj (i .some) (i .tree) (i .used) (omega (arith, fit)) fit in
+    let rows : (j - 1) * b + b ≡ (j + 1 - 1) * b = sym (suc-mul (j - 1) b) ∙ ap (λ (x : ℕ). x * b) (one-up j (i .some)) in
+    record { some = omega arith; there = ap (λ (x : Insertion). x .full) (taken y c j t fit); nodes = e .nodes ∙ i .nodes; used = omega (arith, e .used, i .used); few = omega (arith, e .used, q, i .few, rows); tree = e .tree }
+  where
+    one-up : (j : ℕ) → 1 ≤ j → suc (j - 1) ≡ j + 1 - 1
+    one-up j h = omega (arith, h)
+
+-- under demand 3's premises the refusal never comes; counts are at most the points inserted
+pub all-in : (y : List Float) (n c k : ℕ) (z h : List Float) (cap : ℕ) → 1 ≤ k → k ≤ n → 1 + 50 * 2 ^ c * (n - 1) ≤ cap → (built y c k (rooted z h cap) .full ≡ false) × (treeOk n k c (built y c k (rooted z h cap) .tree) ≡ true)
+unfolding built run
+all-in y n c zero z h cap hk ln room = absurd (not-suc-le-zero hk)
+all-in y n c (suc k) z h cap hk ln room =
+    let room' : 1 + (n - 1) * (50 * 2 ^ c) ≤ cap = rw (mul-comm (n - 1) (50 * 2 ^ c)) room in
+    let step : ℕ → Insertion → Insertion = λ j r. elim (r .full) [ true ↦ r | false ↦ insertOf y c j (r .tree) ] in
+    let first : In n c cap 1 (insertOf y c 0 (rooted z h cap)) =
+    rw (first-in y c z h cap) (record { some = omega arith; there = refl; nodes = ap suc (length-replicate (cap - 1) blank) ∙ back cap (omega (arith, room)); used = omega arith; few = omega arith; tree = first-ok n c (pointOf y c 0) z h (cap - 1) (omega (arith, ln)) }) in
+    let all = run-keeps (In n c cap) step k 1 (insertOf y c 0 (rooted z h cap)) (λ j r l i. rw (i .there) (more-in y n c cap j r room' (omega (arith, l, ln)) i)) first in
+    (all .there, subst (λ (x : ℕ). treeOk n x c (run step k 1 (insertOf y c 0 (rooted z h cap)) .tree) ≡ true) (plus k) (all .tree))
+  where
+    back : (cap : ℕ) → 1 ≤ cap → suc (cap - 1) ≡ cap
+    back cap h = omega (arith, h)
+
+    plus : (k : ℕ) → 1 + k ≡ suc k
+    plus k = omega arith

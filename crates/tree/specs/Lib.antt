@@ -1,0 +1,3 @@
+pub mod Insert
+pub mod Repel
+pub mod Cases

@@ -1,0 +1,40 @@
+-- Repulsion on a point: rule 4 of document 01, over a list of nodes. Definitions.
+use mathlib.Core.Path.{_≡_}
+use mathlib.Core.List.{List}
+use mathlib.Core.Bool.{true, false}
+use Prim.Native.Nat.{ℕ, zero, suc, _+_, _^_, _≤_}
+use lib.Dec.{eqb}
+use lib.Ieee.{Float}
+use Rattle.laws.specs.Run.{run}
+use Rattle.node.specs.declared.Node.{Node}
+use Rattle.node.specs.declared.Acc.{Acc}
+use Rattle.laws.specs.Area.{zero64}
+use Rattle.node.specs.Node.{zeros}
+use Rattle.node.specs.Areas.{nodeAt}
+use Rattle.node.specs.Bodies.{kindOf, bodyOf}
+
+-- ---- the walk from node i, at most g levels deep, children rising
+
+unfoldable pub walkOf : ℕ → ℕ → ℕ → List Float → Float → List Node → ℕ → Acc → Acc
+unfolding kindOf bodyOf run
+walkOf zero c q p theta2 ns i acc = acc
+walkOf (suc g) c q p theta2 ns i acc =
+    elim (eqb (kindOf c q p theta2 (nodeAt ns i)) 0) [
+      | true ↦ acc
+      | false ↦ elim (eqb (kindOf c q p theta2 (nodeAt ns i)) 1) [
+        | true ↦ bodyOf c p (nodeAt ns i) acc
+        | false ↦ run (λ b a. walkOf g c q p theta2 ns (nodeAt ns i .first + b) a) (2 ^ c) 0 acc
+      ]
+    ]
+
+-- r is what the walk from node i gives, whatever number of levels is allowed, if it reaches the last used node
+abbrev pub Walked : ℕ → ℕ → ℕ → List Float → Float → List Node → ℕ → Acc → Acc → Type 0
+Walked used c q p theta2 ns i acc r = (g : ℕ) → used ≤ i + g → r ≡ walkOf g c q p theta2 ns i acc
+
+abbrev pub nothing : Acc
+nothing = record { neg = zeros; sum = zero64 }
+
+-- repulsion on point q with coordinates p, in a tree of `used` nodes
+unfoldable pub repelled : ℕ → ℕ → ℕ → List Float → Float → List Node → Acc
+unfolding walkOf
+repelled used c q p theta2 ns = walkOf used c q p theta2 ns 0 nothing
