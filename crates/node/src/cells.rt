@@ -3,7 +3,7 @@ ghost use mathlib.Core.Path.{_≡_};
 ghost use Prim.Native.Nat.{_+_, _*_, _<_, _≤_};
 ghost use lib.ListN.{length};
 ghost use Rattle.laws.specs.Run.{run};
-ghost use Rattle.node.specs.Node.{Axes, pointOf, bitOf, childIndex, movedOf, childHalf, childCentre, meanOf, meanStep, cellOf, absorbed, occupied, parent, childOf};
+ghost use Rattle.node.specs.Node.{Axes, pointOf, bitOf, childIndex, movedOf, childHalf, childCentre, meanOf, meanStep, freshOf, cellOf, absorbed, occupied, parent, childOf};
 use crate::Leaf;
 use crate::Node;
 
@@ -92,15 +92,10 @@ pub fn child_centre(z: [f64; 3], h: [f64; 3], b: usize, c: usize) -> [f64; 3]
     [x, y, moved(z[2], h[2], b, 2)]
 }
 
-// Child b of a split: an empty leaf.
-pub fn cell(v: Node, b: usize, c: usize) -> Node
-    requires { ⌜ Axes c ⌝ }
-    ensures { λ r. ⌜ r ≡ cellOf c v b ⌝ }
+// An empty leaf with that cell.
+pub fn fresh(centre: [f64; 3], half: [f64; 3]) -> Node
+    ensures { λ r. ⌜ r ≡ freshOf centre half ⌝ }
 {
-    let z = v.centre;
-    let h = v.half;
-    let centre = child_centre(z, h, b, c);
-    let half = child_half(h, c);
     let mass = [0.0, 0.0, 0.0];
     Node {
         centre,
@@ -110,6 +105,16 @@ pub fn cell(v: Node, b: usize, c: usize) -> Node
         first: 0,
         leaf: Leaf::Empty,
     }
+}
+
+// Child b of a split: an empty leaf.
+pub fn cell(v: Node, b: usize, c: usize) -> Node
+    requires { ⌜ Axes c ⌝ }
+    ensures { λ r. ⌜ r ≡ cellOf c v b ⌝ }
+{
+    let z = v.centre;
+    let h = v.half;
+    fresh(child_centre(z, h, b, c), child_half(h, c))
 }
 
 fn mean(cs: f64, m: f64, x: f64) -> f64

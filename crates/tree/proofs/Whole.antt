@@ -9,6 +9,7 @@ use native.Mathlib.Decide.{decLt}
 use lib.ListN.{length, replicate, length-replicate}
 use lib.Ieee.{Float}
 use borrow.Author.Tests.{lt-ltb, le-ltb, ltb-true}
+use Rattle.node.specs.declared.Node.{Node}
 use Rattle.node.specs.declared.Leaf.{Leaf}
 use Rattle.node.specs.declared.Leaf.the-variants.{Empty, Occupied}
 use Rattle.laws.specs.Run.{run, every}
@@ -73,18 +74,18 @@ module _ (y : List Float) (c j : ℕ) (t : Tree) where
 
 -- ---- the first point
 
-pub first-in : (y : List Float) (c : ℕ) (z h : List Float) (cap : ℕ) → insertOf y c 0 (rooted z h cap) ≡ insertion false (tree 1 (occupied 0 (absorbed c (pointOf y c 0) (freshOf z h)) ∷ replicate (cap - 1) blank))
+pub first-in : (y : List Float) (c : ℕ) (z h : List Float) (rest : List Node) → insertOf y c 0 (rooted z h rest) ≡ insertion false (tree 1 (occupied 0 (absorbed c (pointOf y c 0) (freshOf z h)) ∷ rest))
 unfolding insertOf inserted needsOf turnOf filled run absorbed
-first-in y c z h cap = rw (le-ltb (suc (length (replicate (cap - 1) blank))) 1 (omega arith))
+first-in y c z h rest = rw (le-ltb (suc (length rest)) 1 (omega arith))
 
-first-ok : (n c : ℕ) (p z h : List Float) (k : ℕ) → 0 < n → treeOk n 1 c (tree 1 (occupied 0 (absorbed c p (freshOf z h)) ∷ replicate k blank)) ≡ true
+first-ok : (n c : ℕ) (p z h : List Float) (rest : List Node) → 0 < n → treeOk n 1 c (tree 1 (occupied 0 (absorbed c p (freshOf z h)) ∷ rest)) ≡ true
 unfolding every nodeOk absorbed
-first-ok n c p z h k l = rw (lt-ltb 0 n l)
+first-ok n c p z h rest l = rw (lt-ltb 0 n l)
 
 -- ---- all points
 
--- j points are in
-record In (n c cap j : ℕ) (r : Insertion) : Type 0 where
+-- j points are in: none was refused, so many nodes are used at most, and no count is above j
+pub record In (n c cap j : ℕ) (r : Insertion) : Type 0 where
   pub some : 1 ≤ j
   pub there : r .full ≡ false
   pub nodes : length (r .tree .nodes) ≡ cap
@@ -112,20 +113,18 @@ more-in y n c cap j r room lj i =
     one-up : (j : ℕ) → 1 ≤ j → suc (j - 1) ≡ j + 1 - 1
     one-up j h = omega (arith, h)
 
--- under demand 3's premises the refusal never comes; counts are at most the points inserted
-pub all-in : (y : List Float) (n c k : ℕ) (z h : List Float) (cap : ℕ) → 1 ≤ k → k ≤ n → 1 + 50 * 2 ^ c * (n - 1) ≤ cap → (built y c k (rooted z h cap) .full ≡ false) × (treeOk n k c (built y c k (rooted z h cap) .tree) ≡ true)
+-- with room for 50 splits of each further point the refusal never comes, and counts are at most the points inserted
+pub all-in : (y : List Float) (n c k : ℕ) (z h : List Float) (rest : List Node) → 1 ≤ k → k ≤ n → 1 + 50 * 2 ^ c * (n - 1) ≤ suc (length rest) → In n c (suc (length rest)) k (built y c k (rooted z h rest))
 unfolding built run
-all-in y n c zero z h cap hk ln room = absurd (not-suc-le-zero hk)
-all-in y n c (suc k) z h cap hk ln room =
+all-in y n c zero z h rest hk ln room = absurd (not-suc-le-zero hk)
+all-in y n c (suc k) z h rest hk ln room =
+    let cap = suc (length rest) in
     let room' : 1 + (n - 1) * (50 * 2 ^ c) ≤ cap = rw (mul-comm (n - 1) (50 * 2 ^ c)) room in
     let step : ℕ → Insertion → Insertion = λ j r. elim (r .full) [ true ↦ r | false ↦ insertOf y c j (r .tree) ] in
-    let first : In n c cap 1 (insertOf y c 0 (rooted z h cap)) =
-    rw (first-in y c z h cap) (record { some = omega arith; there = refl; nodes = ap suc (length-replicate (cap - 1) blank) ∙ back cap (omega (arith, room)); used = omega arith; few = omega arith; tree = first-ok n c (pointOf y c 0) z h (cap - 1) (omega (arith, ln)) }) in
-    let all = run-keeps (In n c cap) step k 1 (insertOf y c 0 (rooted z h cap)) (λ j r l i. rw (i .there) (more-in y n c cap j r room' (omega (arith, l, ln)) i)) first in
-    (all .there, subst (λ (x : ℕ). treeOk n x c (run step k 1 (insertOf y c 0 (rooted z h cap)) .tree) ≡ true) (plus k) (all .tree))
+    let first : In n c cap 1 (insertOf y c 0 (rooted z h rest)) =
+    rw (first-in y c z h rest) (record { some = omega arith; there = refl; nodes = refl; used = omega arith; few = omega arith; tree = first-ok n c (pointOf y c 0) z h rest (omega (arith, ln)) }) in
+    subst (λ (x : ℕ). In n c cap x (run step k 1 (insertOf y c 0 (rooted z h rest)))) (plus k)
+    (run-keeps (In n c cap) step k 1 (insertOf y c 0 (rooted z h rest)) (λ j r l i. rw (i .there) (more-in y n c cap j r room' (omega (arith, l, ln)) i)) first)
   where
-    back : (cap : ℕ) → 1 ≤ cap → suc (cap - 1) ≡ cap
-    back cap h = omega (arith, h)
-
     plus : (k : ℕ) → 1 + k ≡ suc k
     plus k = omega arith

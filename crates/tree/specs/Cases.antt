@@ -1,12 +1,13 @@
--- Cases c) to f) of document 01's table, as tests of the definitions.
+-- Values of the definitions, computed: the scope paper's cases c) to h).
 use mathlib.Core.Path.{_≡_, refl}
 use mathlib.Core.List.{List, [], _∷_, map}
 use mathlib.Core.Bool.{true, false}
+use lib.ListN.{replicate}
 use lib.Ieee.{Float, ofBits, binary64, add}
 use Rattle.node.specs.declared.Node.{Node}
 use Rattle.laws.specs.Area.{bits, zero64, one64}
 use Rattle.node.specs.Node.{zeros, childIndex}
-use Rattle.node.specs.Areas.{nodeAt}
+use Rattle.node.specs.Areas.{nodeAt, blank}
 use Rattle.tree.specs.Insert.{built, rooted}
 use Rattle.tree.specs.Repel.{repelled}
 
@@ -33,11 +34,11 @@ root = half ∷ zero64 ∷ zero64 ∷ []
 abbrev root-half : List Float
 root-half = wide ∷ bits 0x3d819799812dea11 ∷ zero64 ∷ []
 
-case-e : built pair 2 2 (rooted root root-half 5) .tree .used ≡ 5
+case-e : built pair 2 2 (rooted root root-half (replicate 4 blank)) .tree .used ≡ 5
 unfolding built ofBits
 case-e = refl
 
-case-e-counts : map (λ (v : Node). v .count) (built pair 2 2 (rooted root root-half 5) .tree .nodes) ≡ 2 ∷ 1 ∷ 1 ∷ 0 ∷ 0 ∷ []
+case-e-counts : map (λ (v : Node). v .count) (built pair 2 2 (rooted root root-half (replicate 4 blank)) .tree .nodes) ≡ 2 ∷ 1 ∷ 1 ∷ 0 ∷ 0 ∷ []
 unfolding built ofBits
 case-e-counts = refl
 
@@ -51,24 +52,24 @@ fives = five ∷ zero64 ∷ zero64 ∷ []
 abbrev narrow : List Float
 narrow = bits 0x3d819799812dea11 ∷ zero64 ∷ zero64 ∷ []
 
-case-f : built (five ∷ five ∷ []) 1 2 (rooted fives narrow 101) .tree .used ≡ 101
+case-f : built (five ∷ five ∷ []) 1 2 (rooted fives narrow (replicate 100 blank)) .tree .used ≡ 101
 unfolding built ofBits
 case-f = refl
 
-case-f-leaf : nodeAt (built (five ∷ five ∷ []) 1 2 (rooted fives narrow 101) .tree .nodes) 100 .count ≡ 2
+case-f-leaf : nodeAt (built (five ∷ five ∷ []) 1 2 (rooted fives narrow (replicate 100 blank)) .tree .nodes) 100 .count ≡ 2
 unfolding built ofBits
 case-f-leaf = refl
 
-case-f-refused : built (five ∷ five ∷ []) 1 2 (rooted fives narrow 100) .full ≡ true
+case-f-refused : built (five ∷ five ∷ []) 1 2 (rooted fives narrow (replicate 99 blank)) .full ≡ true
 unfolding built ofBits
 case-f-refused = refl
 
-case-f-taken : built (five ∷ five ∷ []) 1 2 (rooted fives narrow 101) .full ≡ false
+case-f-taken : built (five ∷ five ∷ []) 1 2 (rooted fives narrow (replicate 100 blank)) .full ≡ false
 unfolding built ofBits
 case-f-taken = refl
 
 -- g) there, angle 0: the two shares make 4
-case-g : add binary64 (repelled 101 1 0 fives zero64 (built (five ∷ five ∷ []) 1 2 (rooted fives narrow 101) .tree .nodes) .sum) (repelled 101 1 1 fives zero64 (built (five ∷ five ∷ []) 1 2 (rooted fives narrow 101) .tree .nodes) .sum) ≡ bits 0x4010000000000000
+case-g : add binary64 (repelled 101 1 0 fives zero64 (built (five ∷ five ∷ []) 1 2 (rooted fives narrow (replicate 100 blank)) .tree .nodes) .sum) (repelled 101 1 1 fives zero64 (built (five ∷ five ∷ []) 1 2 (rooted fives narrow (replicate 100 blank)) .tree .nodes) .sum) ≡ bits 0x4010000000000000
 unfolding built repelled ofBits add
 case-g = refl
 
@@ -76,6 +77,6 @@ case-g = refl
 abbrev couple : List Float
 couple = zero64 ∷ one64 ∷ []
 
-case-h : add binary64 (repelled 3 1 0 zeros zero64 (built couple 1 2 (rooted root root-half 3) .tree .nodes) .sum) (repelled 3 1 1 (one64 ∷ zero64 ∷ zero64 ∷ []) zero64 (built couple 1 2 (rooted root root-half 3) .tree .nodes) .sum) ≡ one64
+case-h : add binary64 (repelled 3 1 0 zeros zero64 (built couple 1 2 (rooted root root-half (replicate 2 blank)) .tree .nodes) .sum) (repelled 3 1 1 (one64 ∷ zero64 ∷ zero64 ∷ []) zero64 (built couple 1 2 (rooted root root-half (replicate 2 blank)) .tree .nodes) .sum) ≡ one64
 unfolding built repelled ofBits add
 case-h = refl

@@ -2,7 +2,7 @@
 use mathlib.Core.List.{List, _∷_}
 use mathlib.Core.Bool.{Bool, true, false, cond, _&&_, _||_}
 use Prim.Native.Nat.{ℕ, zero, suc, _+_, _-_, _*_, _^_}
-use lib.ListN.{set, length, replicate}
+use lib.ListN.{set, length}
 use lib.Dec.{eqb, ltb, leb}
 use lib.Ieee.{Float}
 use Rattle.laws.specs.Run.{run, every}
@@ -107,11 +107,12 @@ nodeOk n m c used i v = leb (v .count) m && (pointOk n (v .leaf) && (eqb (v .fir
 abbrev pub treeOk : ℕ → ℕ → ℕ → Tree → Bool
 treeOk n m c t = every (λ i. nodeOk n m c (t .used) i (nodeAt (t .nodes) i)) (t .used)
 
--- ---- the whole tree: n points into a root in an arena of cap nodes; past a refusal nothing more goes in
+-- ---- the whole tree: n points into a root; past a refusal nothing more goes in
 
 unfoldable pub built : List Float → ℕ → ℕ → Tree → Insertion
 unfolding run insertOf
 built y c n t = run (λ j r. elim (r .full) [ true ↦ r | false ↦ insertOf y c j (r .tree) ]) n 0 (insertion false t)
 
-abbrev pub rooted : List Float → List Float → ℕ → Tree
-rooted z h cap = tree 1 (freshOf z h ∷ replicate (cap - 1) blank)
+-- an empty root with that cell, in an arena with these nodes behind it, none of them in use
+abbrev pub rooted : List Float → List Float → List Node → Tree
+rooted z h rest = tree 1 (freshOf z h ∷ rest)

@@ -1,3 +1,4 @@
 pub mod Insert
+pub mod Box
 pub mod Repel
 pub mod Cases

@@ -1,6 +1,7 @@
 // The space-partitioning tree over a node list in flat areas: insertion, the force walk, the contents rule.
 pub mod insertion;
 pub mod repulsion;
+pub mod root;
 
 // Where a level leads.
 pub struct Step {
@@ -18,4 +19,10 @@ pub struct Answer {
     pub full: bool,
     // nodes in use
     pub used: usize,
+}
+
+// The lowest and the highest coordinate met in one component.
+pub struct Span {
+    pub low: f64,
+    pub high: f64,
 }

@@ -1,6 +1,13 @@
 use borrow.Author.Needs.{needs}
+use native.Mathlib.Omega.{arith}
+use borrow.Author.Needs.{needs}
 use Rattle.node.proofs.cells.cell.Statement.{statement}
 use Rattle.node.proofs.cells.cell.Tie as tie
+use Rattle.node.proofs.cells.cell.Reads as reads
+use Rattle.node.proofs.cells.cell.Lts as lts
+use Rattle.node.proofs.cells.child_centre.Reads as child-centre-reads
+use Rattle.node.proofs.cells.child_half.Reads as child-half-reads
+use Rattle.node.proofs.cells.fresh.Reads as fresh-reads
 
 child-centre-requires : tie.Need-child-centre-requires
 child-centre-requires c κs = search needs
@@ -8,8 +15,11 @@ child-centre-requires c κs = search needs
 child-half-requires : tie.Need-child-half-requires
 child-half-requires c κs = search needs
 
+fresh-requires : tie.Need-fresh-requires
+fresh-requires c κs = search needs
+
 returns : tie.Need-returns
-returns c = rw (c .child-half .ensures, c .before .child-centre .ensures)
+returns c = rw (c .fresh .ensures, c .before .child-half .ensures, c .before .before .child-centre .ensures)
 
 pub cell-spec : {M : Type 1} → statement M
-cell-spec = tie.close (tie.spec child-centre-requires child-half-requires returns)
+cell-spec = tie.close (tie.spec child-centre-requires child-half-requires fresh-requires returns)

@@ -1,0 +1,18 @@
+use Rattle.tree.specs.Box.{higher}
+use borrow.Author.Needs.{needs}
+use native.Mathlib.Omega.{arith}
+use Rattle.tree.proofs.root.higher.Statement.{statement}
+use Rattle.tree.proofs.root.higher.Tie as tie
+use Rattle.tree.proofs.root.higher.Reads as reads
+use Rattle.tree.proofs.root.higher.Lts as lts
+
+returns : tie.Need-returns
+unfolding higher
+returns c = rw (c .if1 .taken)
+
+returns-2 : tie.Need-returns-2
+unfolding higher
+returns-2 c = rw (c .if1 .left)
+
+pub higher-spec : {M : Type 1} → statement M
+higher-spec = tie.close (tie.spec returns returns-2)

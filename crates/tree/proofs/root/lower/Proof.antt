@@ -1,0 +1,18 @@
+use Rattle.tree.specs.Box.{lower}
+use borrow.Author.Needs.{needs}
+use native.Mathlib.Omega.{arith}
+use Rattle.tree.proofs.root.lower.Statement.{statement}
+use Rattle.tree.proofs.root.lower.Tie as tie
+use Rattle.tree.proofs.root.lower.Reads as reads
+use Rattle.tree.proofs.root.lower.Lts as lts
+
+returns : tie.Need-returns
+unfolding lower
+returns c = rw (c .if1 .taken)
+
+returns-2 : tie.Need-returns-2
+unfolding lower
+returns-2 c = rw (c .if1 .left)
+
+pub lower-spec : {M : Type 1} → statement M
+lower-spec = tie.close (tie.spec returns returns-2)
