@@ -1,12 +1,12 @@
 -- The theorem of the insertion's descent: each level keeps a well-formed tree well formed and uses the nodes that the dry count foresaw. Assumes nothing.
 use mathlib.Core.Path.{_≡_, refl, sym, ap, subst, _∙_}
 use mathlib.Core.List.{List}
-use mathlib.Core.Bool.{Bool, true, false, _&&_, _||_, true≢false}
+use mathlib.Core.Bool.{Bool, true, false, _&&_, true≢false}
 use Prim.Native.Nat.{ℕ, zero, suc, _+_, _-_, _*_, _^_, _<_, _≤_}
 use native.Mathlib.Omega.{arith}
 use native.Mathlib.Nat.{add-zero, one-mul, zero-mul, suc-mul, sub-zero, le-trans, mul-le-mul-right, mul-le-mul-left}
 use native.Mathlib.Decide.{ℕ-discrete, decLt}
-use lib.Dec.{eqb, ltb, leb}
+use lib.Dec.{ltb, leb}
 use lib.ListN.{length, set, length-set}
 use lib.Seq.{getD-set-same, getD-set-other}
 use lib.Pow.{pow-mono}
@@ -21,7 +21,7 @@ use Rattle.node.specs.declared.Leaf.{Leaf}
 use Rattle.node.specs.declared.Leaf.the-variants.{Empty, Occupied}
 use Rattle.node.specs.Node.{pointOf, childIndex, childOf, cellOf, absorbed, occupied, parent, out, leafTurn, turnOf}
 use Rattle.node.specs.Areas.{wordOf, nodeAt, blank}
-use Rattle.tree.specs.Insert.{Tree, tree, filled, turnAt, levelled, levelAt, inserted, splitsOf, leafNeeds, needsOf, pointOk, nodeOk, treeOk}
+use Rattle.tree.specs.Insert.{Tree, tree, filled, turnAt, levelled, levelAt, inserted, splitsOf, leafNeeds, needsOf, pointOk, blockOk, nodeOk, treeOk}
 use Rattle.node.proofs.Children.{child-below}
 use Rattle.tree.proofs.Grow.{splits-same, splits-apart, splits-le, length-filled, filled-out, filled-in, filled-none}
 
@@ -31,9 +31,6 @@ pub record Facts (n c m used k : ℕ) (v : Node) : Type 0 where
   pub few : v .count ≤ m
   pub point : pointOk n (v .leaf) ≡ true
   pub above : (v .first ≡ 0 → ⊥) → (k < v .first) × (v .first + 2 ^ c ≤ used)
-
-abbrev blockOk : ℕ → ℕ → ℕ → ℕ → Bool
-blockOk c used k f = eqb f 0 || ltb k f && leb (f + 2 ^ c) used
 
 block-facts : (c used k f : ℕ) → blockOk c used k f ≡ true → (f ≡ 0 → ⊥) → (k < f) × (f + 2 ^ c ≤ used)
 block-facts c used k f e z =

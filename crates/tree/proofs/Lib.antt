@@ -2,4 +2,5 @@ pub mod Grow
 pub mod Descent
 pub mod Whole
 pub mod Opens
+pub mod Tested
 pub mod Settles

@@ -6,7 +6,7 @@ use Prim.Native.Nat.{ℕ, zero, suc, _+_, _-_, _*_, _^_, _<_, _≤_}
 use native.Mathlib.Omega.{arith}
 use native.Mathlib.Nat.{not-suc-le-zero, mul-le-mul-right, suc-mul, mul-comm}
 use native.Mathlib.Decide.{decLt}
-use lib.ListN.{length, replicate, length-replicate}
+use lib.ListN.{length}
 use lib.Ieee.{Float}
 use borrow.Author.Tests.{lt-ltb, le-ltb, ltb-true}
 use Rattle.node.specs.declared.Node.{Node}
@@ -16,7 +16,7 @@ use Rattle.laws.specs.Run.{run, every}
 use Rattle.laws.proofs.Runs.{run-keeps}
 use Rattle.laws.proofs.Every.{every-at, every-all}
 use Rattle.node.specs.Node.{pointOf, freshOf, absorbed, occupied, turnOf}
-use Rattle.node.specs.Areas.{nodeAt, blank}
+use Rattle.node.specs.Areas.{nodeAt}
 use Rattle.tree.specs.Insert.{Tree, tree, filled, inserted, needsOf, Insertion, insertion, insertOf, pointOk, nodeOk, treeOk, built, rooted}
 use Rattle.tree.proofs.Descent.{node-facts, node-ok, ok-start, Ended, inserted-ends, needs-few}
 

@@ -11,7 +11,7 @@ use Rattle.node.specs.declared.Out.{Out}
 use Rattle.node.specs.declared.Leaf.{Leaf}
 use Rattle.node.specs.declared.Leaf.the-variants.{Empty, Occupied}
 use Rattle.node.specs.Node.{pointOf, childIndex, childCentre, childHalf, childOf, freshOf, turnOf}
-use Rattle.node.specs.Areas.{blank, nodeAt}
+use Rattle.node.specs.Areas.{nodeAt}
 
 -- the nodes, of which the first `used` are in use
 pub record Tree : Type 0 where
@@ -101,8 +101,12 @@ abbrev pub pointOk : ℕ → Leaf → Bool
 pointOk n Empty = true
 pointOk n (Occupied o) = ltb o n
 
+-- no children, or a block of them wholly above node i among the used ones
+abbrev pub blockOk : ℕ → ℕ → ℕ → ℕ → Bool
+blockOk c used i first = eqb first 0 || ltb i first && leb (first + 2 ^ c) used
+
 unfoldable pub nodeOk : ℕ → ℕ → ℕ → ℕ → ℕ → Node → Bool
-nodeOk n m c used i v = leb (v .count) m && (pointOk n (v .leaf) && (eqb (v .first) 0 || ltb i (v .first) && leb (v .first + 2 ^ c) used))
+nodeOk n m c used i v = leb (v .count) m && (pointOk n (v .leaf) && blockOk c used i (v .first))
 
 abbrev pub treeOk : ℕ → ℕ → ℕ → Tree → Bool
 treeOk n m c t = every (λ i. nodeOk n m c (t .used) i (nodeAt (t .nodes) i)) (t .used)

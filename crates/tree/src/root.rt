@@ -6,9 +6,9 @@ ghost use Rattle.node.specs.Node.{Axes};
 ghost use Rattle.node.specs.Areas.{nodesOf, restOf};
 ghost use Rattle.tree.specs.Box.{lower as lowerOf, higher as higherOf, widened, spanOf, middleOf, reachOf, boxOf};
 use crate::Span;
+use node::Node;
 use node::areas::store;
 use node::cells::fresh;
-use node::Node;
 
 fn lower(a: f64, v: f64) -> f64
     ensures { λ r. ⌜ r ≡ lowerOf a v ⌝ }
@@ -82,7 +82,10 @@ fn bounding_box(positions: &[f64], n: usize, c: usize) -> Node
         return fresh([middle(r), middle(s), 0.0], [reach(r), reach(s), 0.0]);
     }
     let t = span(positions, n, c, 2);
-    fresh([middle(r), middle(s), middle(t)], [reach(r), reach(s), reach(t)])
+    fresh(
+        [middle(r), middle(s), middle(t)],
+        [reach(r), reach(s), reach(t)],
+    )
 }
 
 // Node 0 becomes the root over n points; the other nodes stay.

@@ -1,13 +1,6 @@
 use borrow.Author.Needs.{needs}
-use native.Mathlib.Omega.{arith}
-use borrow.Author.Needs.{needs}
 use Rattle.node.proofs.cells.cell.Statement.{statement}
 use Rattle.node.proofs.cells.cell.Tie as tie
-use Rattle.node.proofs.cells.cell.Reads as reads
-use Rattle.node.proofs.cells.cell.Lts as lts
-use Rattle.node.proofs.cells.child_centre.Reads as child-centre-reads
-use Rattle.node.proofs.cells.child_half.Reads as child-half-reads
-use Rattle.node.proofs.cells.fresh.Reads as fresh-reads
 
 child-centre-requires : tie.Need-child-centre-requires
 child-centre-requires c κs = search needs

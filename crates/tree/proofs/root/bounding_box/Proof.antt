@@ -2,16 +2,8 @@ use Rattle.node.proofs.Axes.{third}
 use Rattle.laws.specs.Run.{run}
 use Rattle.tree.specs.Box.{boxOf}
 use borrow.Author.Needs.{needs}
-use native.Mathlib.Omega.{arith}
-use borrow.Author.Needs.{needs}
 use Rattle.tree.proofs.root.bounding_box.Statement.{statement}
 use Rattle.tree.proofs.root.bounding_box.Tie as tie
-use Rattle.tree.proofs.root.bounding_box.Reads as reads
-use Rattle.tree.proofs.root.bounding_box.Lts as lts
-use Rattle.node.proofs.cells.fresh.Reads as fresh-reads
-use Rattle.tree.proofs.root.middle.Reads as middle-reads
-use Rattle.tree.proofs.root.reach.Reads as reach-reads
-use Rattle.tree.proofs.root.span.Reads as span-reads
 
 span-requires : tie.Need-span-requires
 span-requires c κs = search needs

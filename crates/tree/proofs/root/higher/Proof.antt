@@ -1,10 +1,6 @@
 use Rattle.tree.specs.Box.{higher}
-use borrow.Author.Needs.{needs}
-use native.Mathlib.Omega.{arith}
 use Rattle.tree.proofs.root.higher.Statement.{statement}
 use Rattle.tree.proofs.root.higher.Tie as tie
-use Rattle.tree.proofs.root.higher.Reads as reads
-use Rattle.tree.proofs.root.higher.Lts as lts
 
 returns : tie.Need-returns
 unfolding higher

@@ -1,10 +1,6 @@
 use Rattle.tree.specs.Box.{lower}
-use borrow.Author.Needs.{needs}
-use native.Mathlib.Omega.{arith}
 use Rattle.tree.proofs.root.lower.Statement.{statement}
 use Rattle.tree.proofs.root.lower.Tie as tie
-use Rattle.tree.proofs.root.lower.Reads as reads
-use Rattle.tree.proofs.root.lower.Lts as lts
 
 returns : tie.Need-returns
 unfolding lower

@@ -1,11 +1,7 @@
 use mathlib.Core.Path.{refl}
 use Rattle.tree.specs.Box.{middleOf}
-use borrow.Author.Needs.{needs}
-use native.Mathlib.Omega.{arith}
 use Rattle.tree.proofs.root.middle.Statement.{statement}
 use Rattle.tree.proofs.root.middle.Tie as tie
-use Rattle.tree.proofs.root.middle.Reads as reads
-use Rattle.tree.proofs.root.middle.Lts as lts
 
 returns : tie.Need-returns
 unfolding middleOf

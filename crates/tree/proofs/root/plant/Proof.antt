@@ -1,13 +1,8 @@
 use Rattle.tree.specs.Box.{boxOf}
 use borrow.Author.Needs.{needs}
 use native.Mathlib.Omega.{arith}
-use borrow.Author.Needs.{needs}
 use Rattle.tree.proofs.root.plant.Statement.{statement}
 use Rattle.tree.proofs.root.plant.Tie as tie
-use Rattle.tree.proofs.root.plant.Reads as reads
-use Rattle.tree.proofs.root.plant.Lts as lts
-use Rattle.node.proofs.areas.store.Reads as store-reads
-use Rattle.tree.proofs.root.bounding_box.Reads as bounding-box-reads
 
 bounding-box-requires : tie.Need-bounding-box-requires
 bounding-box-requires c κs = search needs

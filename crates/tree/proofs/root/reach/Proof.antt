@@ -1,13 +1,7 @@
-use mathlib.Core.Path.{refl}
 use Rattle.tree.specs.Box.{reachOf}
-use borrow.Author.Needs.{needs}
-use native.Mathlib.Omega.{arith}
 use borrow.Author.Needs.{needs}
 use Rattle.tree.proofs.root.reach.Statement.{statement}
 use Rattle.tree.proofs.root.reach.Tie as tie
-use Rattle.tree.proofs.root.reach.Reads as reads
-use Rattle.tree.proofs.root.reach.Lts as lts
-use Rattle.elementary.proofs.unless_above.Reads as unless-above-reads
 
 unless-above-requires : tie.Need-unless-above-requires
 unless-above-requires c κs = search needs

@@ -2,16 +2,12 @@ use lib.Ieee.{div, neg, ofBits}
 use Rattle.laws.proofs.Numbers.{row-in}
 use Rattle.laws.proofs.Runs.{Runs, start, more, done}
 use Rattle.tree.specs.Box.{spanStep, spanOf}
-use mathlib.Core.Path.{_≡_}
 use lib.ListN.{length}
-use Prim.Native.Nat.{_≤_, _-_, _+_, _*_, _<_, _/_}
+use Prim.Native.Nat.{_-_}
 use borrow.Author.Needs.{needs}
 use native.Mathlib.Omega.{arith}
 use Rattle.tree.proofs.root.span.Statement.{statement}
 use Rattle.tree.proofs.root.span.Tie as tie
-use Rattle.tree.proofs.root.span.Reads as reads
-use Rattle.tree.proofs.root.span.Lts as lts
-use Rattle.tree.proofs.root.widen.Reads as widen-reads
 
 abbrev Inv-loop : tie.InvT-loop
 Inv-loop positions n c d s₀ i₀ s i = Runs (spanStep positions c d) n s₀ i s

@@ -1,13 +1,6 @@
-use mathlib.Core.Path.{refl}
-use borrow.Author.Needs.{needs}
-use native.Mathlib.Omega.{arith}
 use borrow.Author.Needs.{needs}
 use Rattle.tree.proofs.root.widen.Statement.{statement}
 use Rattle.tree.proofs.root.widen.Tie as tie
-use Rattle.tree.proofs.root.widen.Reads as reads
-use Rattle.tree.proofs.root.widen.Lts as lts
-use Rattle.tree.proofs.root.higher.Reads as higher-reads
-use Rattle.tree.proofs.root.lower.Reads as lower-reads
 
 lower-requires : tie.Need-lower-requires
 lower-requires c κs = search needs

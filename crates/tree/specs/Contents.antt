@@ -1,0 +1,35 @@
+-- The contents rule: what a work call asks of the nodes in use, and the lowest node that breaks it. Definitions only.
+use mathlib.Core.Bool.{Bool, true, false, cond, not, _||_}
+use Prim.Native.Nat.{ℕ}
+use lib.ListN.{length}
+use lib.Dec.{eqb, ltb}
+use Rattle.laws.specs.Run.{first}
+use Rattle.node.specs.declared.Node.{Node}
+use Rattle.node.specs.Areas.{nodeAt}
+use Rattle.tree.specs.Insert.{Tree, pointOk, nodeOk}
+use Rattle.tree.specs.declared.Contents.{Contents}
+use Rattle.tree.specs.declared.Contents.the-variants.{Fine, Used, Count, Point, Block}
+
+-- node i breaks the rule: first by its count, then by its point, else by its block of children
+unfoldable pub faultOf : ℕ → ℕ → Node → Contents
+faultOf n i v = cond (ltb n (v .count)) (Count i) (cond (pointOk n (v .leaf)) (Block i) (Point i))
+
+-- node i of a tree over n points breaks the rule
+abbrev pub faulty : ℕ → ℕ → Tree → ℕ → Bool
+faulty n c t i = not (nodeOk n n c (t .used) i (nodeAt (t .nodes) i))
+
+-- the number in use is 0 or above the arena; else the lowest faulty node, if any, with its kind of fault
+unfoldable pub contentsOf : ℕ → ℕ → Tree → Contents
+unfolding faultOf
+contentsOf n c t =
+    cond (eqb (t .used) 0 || ltb (length (t .nodes)) (t .used)) Used
+    (cond (ltb (first (faulty n c t) (t .used)) (t .used))
+    (faultOf n (first (faulty n c t) (t .used)) (nodeAt (t .nodes) (first (faulty n c t) (t .used))))
+    Fine)
+
+abbrev pub isFine : Contents → Bool
+isFine Fine = true
+isFine Used = false
+isFine (Count i) = false
+isFine (Point i) = false
+isFine (Block i) = false
