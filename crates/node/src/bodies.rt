@@ -8,7 +8,7 @@ use crate::Leaf;
 use crate::Node;
 
 // The squared distance of p from m.
-fn gap(p: [f64; 3], m: [f64; 3], c: usize) -> f64
+pub fn gap(p: [f64; 3], m: [f64; 3], c: usize) -> f64
     requires { ⌜ Axes c ⌝ }
     ensures { λ r. ⌜ r ≡ gapOf c p m ⌝ }
 {
@@ -53,7 +53,7 @@ fn max_width(h: [f64; 3], c: usize) -> f64
 }
 
 // The repulsion so far, with a force along p - m more.
-fn pushed(t: [f64; 3], p: [f64; 3], m: [f64; 3], force: f64, c: usize) -> [f64; 3]
+pub fn pushed(t: [f64; 3], p: [f64; 3], m: [f64; 3], force: f64, c: usize) -> [f64; 3]
     requires { ⌜ Axes c ⌝ }
     ensures { λ r. ⌜ r ≡ run (pushStep p m force) c 0 t ⌝ }
 {

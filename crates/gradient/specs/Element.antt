@@ -1,0 +1,39 @@
+-- One element of the gradient, by method, from what the forces area holds; the normaliser Z; the largest element. Definitions only.
+use mathlib.Core.List.{List}
+use mathlib.Core.Bool.{Bool, cond}
+use Prim.Native.Nat.{ℕ, _+_, _*_, _/_, _%_}
+use lib.Ieee.{Float, binary64, add, sub, mul, div}
+use Rattle.laws.specs.Run.{run}
+use Rattle.laws.specs.Area.{at, zero64}
+use Rattle.elementary.specs.Limits.{unlessAbove, absOf}
+use Rattle.gradient.specs.Forces.{placeOf}
+use Rattle.gradient.specs.Exact.{least, four}
+
+-- the shares by rising point, from +0.0
+abbrev pub shareStep : List Float → ℕ → ℕ → Float → Float
+shareStep F c i s = add binary64 s (at F (placeOf c i + 2 * c))
+
+-- Z: their sum, at least 2^-52
+unfoldable pub normaliserOf : List Float → ℕ → ℕ → Float
+unfolding run unlessAbove
+normaliserOf F n c = unlessAbove least (run (shareStep F c) n 0 zero64)
+
+-- element e of the map belongs to point e / c, component e % c
+abbrev pub spotOf : ℕ → ℕ → ℕ
+spotOf c e = placeOf c (e / c) + e % c
+
+-- 4·(attraction − repulsion/Z); an exact run's stands in its place
+unfoldable pub gradientOf : Bool → List Float → Float → ℕ → ℕ → Float
+gradientOf exact F z c e = cond exact (at F e) (mul binary64 four (sub binary64 (at F (spotOf c e)) (div binary64 (at F (spotOf c e + c)) z)))
+
+-- what the gradients of a whole iteration are read from: no normaliser is worked out for an exact run
+abbrev pub gradientsOf : Bool → List Float → ℕ → ℕ → ℕ → Float
+gradientsOf exact F n c e = gradientOf exact F (cond exact zero64 (normaliserOf F n c)) c e
+
+-- the largest absolute element, from +0.0
+abbrev pub normStep : (ℕ → Float) → ℕ → Float → Float
+normStep g e m = unlessAbove m (absOf (g e))
+
+unfoldable pub normOf : (ℕ → Float) → ℕ → Float
+unfolding run
+normOf g m = run (normStep g) m 0 zero64

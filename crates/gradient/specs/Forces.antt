@@ -1,0 +1,64 @@
+-- A point's forces in a Barnes-Hut run: what its links pull, what the tree pushes. Definitions only.
+-- The forces area holds 2·c + 1 places a point: attraction, repulsion, and the share of the normaliser.
+use mathlib.Core.List.{List}
+use Prim.Native.Nat.{ℕ, _+_, _-_, _*_, _<_, _≤_}
+use lib.ListN.{length, set}
+use lib.Ieee.{Float, binary64, add, mul, div}
+use Rattle.laws.specs.Run.{run}
+use Rattle.laws.specs.Area.{at, num, one64}
+use Rattle.node.specs.declared.Node.{Node}
+use Rattle.node.specs.declared.Acc.{Acc}
+use Rattle.node.specs.Node.{zeros, pointOf}
+use Rattle.node.specs.Bodies.{gapOf, pushStep}
+use Rattle.tree.specs.Repel.{repelled}
+
+-- how strongly a link of weight w pulls: (exaggeration·w) / (1 + d²)
+unfoldable pub pullOf : Float → Float → ℕ → List Float → List Float → Float
+unfolding gapOf
+pullOf exaggeration w c p q = div binary64 (mul binary64 exaggeration w) (add binary64 one64 (gapOf c p q))
+
+-- one link more: frame q of weight w pulls the point p along p - q
+unfoldable pub pulled : Float → ℕ → List Float → List Float → Float → List Float → List Float
+unfolding run pullOf
+pulled exaggeration c p q w t = run (pushStep p q (pullOf exaggeration w c p q)) c 0 t
+
+-- the lists as they lie: a link's weight and the frame it names
+abbrev pub linkStep : Float → ℕ → List Float → List Float → List ℕ → List Float → ℕ → ℕ → List Float → List Float
+linkStep exaggeration c y W I p a k t = pulled exaggeration c p (pointOf y c (num I (a + k))) (at W (a + k)) t
+
+-- point i's attraction: over its list, by rising link, from +0.0
+unfoldable pub attractionOf : Float → ℕ → List Float → List Float → List ℕ → List ℕ → ℕ → List Float
+unfolding run pulled
+attractionOf exaggeration c y W I O i = run (linkStep exaggeration c y W I (pointOf y c i) (num O i)) (num O (i + 1) - num O i) 0 zeros
+
+-- where point i's forces begin
+abbrev pub placeOf : ℕ → ℕ → ℕ
+placeOf c i = i * (2 * c + 1)
+
+-- c values stored from place a on
+abbrev pub putStep : List Float → ℕ → ℕ → List Float → List Float
+putStep x a d l = set l (a + d) (at x d)
+
+-- attraction, repulsion and share of point i take their places; all else is kept
+unfoldable pub stored : ℕ → ℕ → List Float → Acc → List Float → List Float
+unfolding run
+stored c i t acc F = let a = placeOf c i in set (run (putStep (acc .neg) (a + c)) c 0 (run (putStep t a) c 0 F)) (a + 2 * c) (acc .sum)
+
+-- the forces unit of point i
+unfoldable pub forcesOf : Float → Float → ℕ → List Float → List Float → List ℕ → List ℕ → ℕ → List Node → ℕ → List Float → List Float
+unfolding stored attractionOf repelled
+forcesOf exaggeration angle c y W I O used ns i F = stored c i (attractionOf exaggeration c y W I O i) (repelled used c i (pointOf y c i) (mul binary64 angle angle) ns) F
+
+-- ---- what the entry tests have shown of list i
+
+-- the first m indices name frames that there are
+abbrev pub Below : ℕ → ℕ → List ℕ → Type 0
+Below n m I = (k : ℕ) → k < m → num I k < n
+
+-- list i lies within both areas, and names frames that there are
+pub record Linked (n : ℕ) (W : List Float) (I O : List ℕ) (i : ℕ) : Type 0 where
+  pub offsets : i + 1 < length O
+  pub rises : num O i ≤ num O (i + 1)
+  pub weights : num O (i + 1) ≤ length W
+  pub indices : num O (i + 1) ≤ length I
+  pub frames : Below n (num O (i + 1)) I

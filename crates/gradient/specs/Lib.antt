@@ -1,0 +1,3 @@
+pub mod Forces
+pub mod Exact
+pub mod Element

@@ -1,0 +1,153 @@
+// A point's forces in a Barnes-Hut run: attraction over its list, repulsion and share from the tree.
+ghost use mathlib.Core.Path.{_≡_};
+ghost use mathlib.Core.Bool.{true};
+ghost use Prim.Native.Nat.{ℕ, _+_, _*_, _<_, _≤_};
+ghost use lib.ListN.{length};
+ghost use Rattle.laws.specs.Area.{at, num};
+ghost use Rattle.laws.specs.Run.{run};
+ghost use Rattle.node.specs.Node.{Axes, zeros, pointOf};
+ghost use Rattle.node.specs.Areas.{nodesOf};
+ghost use Rattle.tree.specs.Insert.{tree, treeOk};
+ghost use Rattle.gradient.specs.Forces.{pullOf, pulled, linkStep, attractionOf, Below, Linked, placeOf, putStep, stored, forcesOf};
+use node::Acc;
+use node::bodies::gap;
+use node::bodies::pushed;
+use node::cells::point;
+
+// How strongly a link of weight w pulls.
+fn pull(exaggeration: f64, w: f64, c: usize, p: [f64; 3], q: [f64; 3]) -> f64
+    requires { ⌜ Axes c ⌝ }
+    ensures { λ r. ⌜ r ≡ pullOf exaggeration w c p q ⌝ }
+{
+    exaggeration * w / (1.0 + gap(p, q, c))
+}
+
+// The attraction so far, with one link more.
+fn attract(exaggeration: f64, c: usize, p: [f64; 3], q: [f64; 3], w: f64, t: [f64; 3]) -> [f64; 3]
+    requires { ⌜ Axes c ⌝ }
+    ensures { λ r. ⌜ r ≡ pulled exaggeration c p q w t ⌝ }
+{
+    pushed(t, p, q, pull(exaggeration, w, c, p, q), c)
+}
+
+fn wide(x: u32) -> usize
+    ensures { λ r. ⌜ r ≡ x ⌝ }
+{
+    x as usize
+}
+
+// The attraction so far, with the link at a place of the lists more.
+fn follow(
+    positions: &[f64],
+    weights: &[f64],
+    indices: &[u32],
+    n: usize,
+    c: usize,
+    exaggeration: f64,
+    p: [f64; 3],
+    place: usize,
+    t: [f64; 3],
+) -> [f64; 3]
+    requires { ⌜ (Axes c) × (n * c ≤ length (now positions)) × (place < length (now weights)) × (place < length (now indices)) × (num (now indices) place < n) ⌝ }
+    ensures { λ r. ⌜ r ≡ pulled exaggeration c p (pointOf (now (positions .entry)) c (num (now (indices .entry)) place)) (at (now (weights .entry)) place) t ⌝ }
+{
+    let q = point(positions, wide(indices[place]), c);
+    attract(exaggeration, c, p, q, weights[place], t)
+}
+
+// What the links from place a on pull, by rising place.
+fn follow_all(
+    positions: &[f64],
+    weights: &[f64],
+    indices: &[u32],
+    n: usize,
+    c: usize,
+    exaggeration: f64,
+    p: [f64; 3],
+    a: usize,
+    links: usize,
+) -> [f64; 3]
+    requires { ⌜ (Axes c) × (n * c ≤ length (now positions)) × (a + links ≤ length (now weights)) × (a + links ≤ length (now indices)) ⌝ }
+    requires { ⌜ Below n (a + links) (now indices) ⌝ }
+    ensures { λ r. ⌜ r ≡ run (linkStep exaggeration c (now (positions .entry)) (now (weights .entry)) (now (indices .entry)) p a) links 0 zeros ⌝ }
+{
+    let mut t = [0.0, 0.0, 0.0];
+    let mut k = 0;
+    while k < links {
+        let s = follow(positions, weights, indices, n, c, exaggeration, p, a + k, t);
+        t = s;
+        k += 1;
+    }
+    t
+}
+
+// Point i's attraction over its list.
+fn attraction(
+    positions: &[f64],
+    weights: &[f64],
+    indices: &[u32],
+    offsets: &[u32],
+    n: usize,
+    c: usize,
+    i: usize,
+    exaggeration: f64,
+) -> [f64; 3]
+    requires { ⌜ (Axes c) × (i < n) × (n * c ≤ length (now positions)) ⌝ }
+    requires { ⌜ Linked n (now weights) (now indices) (now offsets) i ⌝ }
+    ensures { λ r. ⌜ r ≡ attractionOf exaggeration c (now (positions .entry)) (now (weights .entry)) (now (indices .entry)) (now (offsets .entry)) i ⌝ }
+{
+    let p = point(positions, i, c);
+    let a = wide(offsets[i]);
+    let e = wide(offsets[i + 1]);
+    follow_all(positions, weights, indices, n, c, exaggeration, p, a, e - a)
+}
+
+// c values into the places from a on.
+fn put(forces: &mut [f64], a: usize, x: [f64; 3], c: usize)
+    requires { ⌜ (Axes c) × (a + c ≤ length (now forces)) ⌝ }
+    ensures { λ _. ⌜ now (forces .exit) ≡ run (putStep x a) c 0 (now (forces .entry)) ⌝ }
+{
+    let mut d = 0;
+    while d < c {
+        forces[a + d] = x[d];
+        d += 1;
+    }
+}
+
+// Attraction, repulsion and share of point i take their places.
+fn store(forces: &mut [f64], c: usize, i: usize, t: [f64; 3], acc: Acc)
+    requires { ⌜ (Axes c) × (placeOf c i + (2 * c + 1) ≤ length (now forces)) ⌝ }
+    ensures { λ _. ⌜ now (forces .exit) ≡ stored c i t acc (now (forces .entry)) ⌝ }
+{
+    let a = i * (2 * c + 1);
+    put(forces, a, t, c);
+    let neg = acc.neg;
+    put(forces, a + c, neg, c);
+    forces[a + 2 * c] = acc.sum;
+}
+
+// The forces unit of point i.
+pub fn point_forces(
+    reals: &[f64],
+    words: &[u32],
+    used: usize,
+    positions: &[f64],
+    weights: &[f64],
+    indices: &[u32],
+    offsets: &[u32],
+    n: usize,
+    c: usize,
+    i: usize,
+    exaggeration: f64,
+    angle: f64,
+    forces: &mut [f64],
+)
+    requires { ⌜ (Axes c) × (i < n) × (n ≤ 4096) × (n * c ≤ length (now positions)) × (n * (2 * c + 1) ≤ length (now forces)) × (0 < used) × (used ≤ length (nodesOf (now reals) (now words))) ⌝ }
+    requires { ⌜ (treeOk 4294967296 4294967295 c (tree used (nodesOf (now reals) (now words))) ≡ true) × Linked n (now weights) (now indices) (now offsets) i ⌝ }
+    ensures { λ _. ⌜ now (forces .exit) ≡ forcesOf exaggeration angle c (now (positions .entry)) (now (weights .entry)) (now (indices .entry)) (now (offsets .entry)) used (nodesOf (now (reals .entry)) (now (words .entry))) i (now (forces .entry)) ⌝ }
+{
+    let p = point(positions, i, c);
+    let acc = tree::repulsion::repulsive_force(reals, words, used, c, i as u32, p, angle * angle);
+    let t = attraction(positions, weights, indices, offsets, n, c, i, exaggeration);
+    store(forces, c, i, t, acc);
+}

@@ -1,0 +1,10 @@
+// What moves the dots: a point's forces and the exact gradient's rows, as the units of the descent need them, and one element of the gradient.
+pub mod element;
+pub mod forces;
+pub mod rows;
+
+// The sum of a gradient row's weights, and their sum along each component.
+pub struct Pulls {
+    pub sum: f64,
+    pub along: [f64; 8],
+}
