@@ -1,3 +1,4 @@
 pub mod Forces
 pub mod Exact
 pub mod Element
+pub mod Cases
