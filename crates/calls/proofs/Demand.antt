@@ -1,19 +1,17 @@
 -- Demand 3 and its kin, for every machine that is lawful. Assumes nothing.
 use mathlib.Core.Path.{_≡_, refl, sym, ap, subst, _∙_}
-use mathlib.Core.Logic.{⊎-elim}
-use mathlib.Core.List.{List, [], _∷_, _++_}
-use mathlib.Core.Bool.{Bool, true, false, cond, not, _||_, true≢false}
+use mathlib.Core.List.{List, [], _∷_}
+use mathlib.Core.Bool.{Bool, true, false, cond, true≢false}
 use Prim.Native.Nat.{ℕ, zero, suc, _+_, _-_, _≤_, _<_}
 use native.Mathlib.Omega.{arith}
 use native.Mathlib.Decide.{decLt}
-use native.Mathlib.Nat.{zero-add, add-zero, suc-add, add-assoc, sub-zero}
-use native.Mathlib.Numerals.{add-one}
-use lib.Dec.{ltb, leb}
+use native.Mathlib.Nat.{zero-add, add-zero, suc-add, sub-zero}
+use lib.Dec.{ltb}
 use borrow.Author.Tests.{ltb-true, lt-ltb, le-ltb, le-leb, lt-leb}
 use Rattle.laws.specs.Run.{until}
 use Rattle.laws.proofs.Untils.{until-add}
 use Rattle.laws.proofs.Numbers.{left, none}
-use Rattle.calls.specs.Machine.{Kind, faulty, over, refused, running, Machine, Called, called, times, stops, after, done, kindAt, go, call, left-by, told-by, sum, capped, Lawful}
+use Rattle.calls.specs.Machine.{over, refused, running, Machine, called, times, stops, after, done, kindAt, go, call, left-by, told-by, sum, capped, Lawful}
 
 module _ {S : Type 0} (m : Machine S) where
   -- ---- one step of the definitions
@@ -75,8 +73,8 @@ module _ {S : Type 0} (m : Machine S) where
   unfolding done until
   done-add zero b s = rw (zero-add b, zero-add (done m b s))
   done-add (suc a) b s = rw (suc-add a b) (by-stop (done m (suc (a + b)) s ≡ done m (suc a) s + done m b (after m (suc a) s)) s
-    (λ e. rw (done-stop (suc (a + b)) s e, done-stop (suc a) s e, after-stop (suc a) s e, done-stop b s e))
-    (λ e. rw (done-go (a + b) s e, done-go a s e, after-go a s e) (rw (done-add a b (m .next s)) (sym (suc-add (done m a (m .next s)) (done m b (after m a (m .next s))))))))
+      (λ e. rw (done-stop (suc (a + b)) s e, done-stop (suc a) s e, after-stop (suc a) s e, done-stop b s e))
+      (λ e. rw (done-go (a + b) s e, done-go a s e, after-go a s e) (rw (done-add a b (m .next s)) (sym (suc-add (done m a (m .next s)) (done m b (after m a (m .next s))))))))
 
   pub after-add : (a b : ℕ) (s : S) → after m (a + b) s ≡ after m b (after m a s)
   after-add a b s = until-add (stops m) (m .next) a b s
@@ -114,24 +112,24 @@ module _ {S : Type 0} (m : Machine S) where
     unfolding until done
     counted zero s g = omega arith
     counted (suc b) s g = by-stop (w .count (after m (suc b) s) ≡ w .count s + done m (suc b) s) s
-      (λ e. rw (after-stop (suc b) s e, done-stop (suc b) s e) (omega arith))
-      (λ e. rw (after-go b s e, done-go b s e) (let h = counted b (m .next s) (w .keeps s g e) in let k = w .counts s g e in omega arith))
+        (λ e. rw (after-stop (suc b) s e, done-stop (suc b) s e) (omega arith))
+        (λ e. rw (after-go b s e, done-go b s e) (let h = counted b (m .next s) (w .keeps s g e) in let k = w .counts s g e in omega arith))
 
     -- no more units than there were left
     pub done-rest : (b : ℕ) (s : S) → Good s → done m b s + w .rest (after m b s) ≤ w .rest s
     unfolding until done
     done-rest zero s g = omega arith
     done-rest (suc b) s g = by-stop (done m (suc b) s + w .rest (after m (suc b) s) ≤ w .rest s) s
-      (λ e. rw (after-stop (suc b) s e, done-stop (suc b) s e) (omega arith))
-      (λ e. rw (after-go b s e, done-go b s e) (let h = done-rest b (m .next s) (w .keeps s g e) in let k = w .lessens s g e in omega arith))
+        (λ e. rw (after-stop (suc b) s e, done-stop (suc b) s e) (omega arith))
+        (λ e. rw (after-go b s e, done-go b s e) (let h = done-rest b (m .next s) (w .keeps s g e) in let k = w .lessens s g e in omega arith))
 
     -- within the units that are left, the run ends or a unit is refused
     pub ends-within : (b : ℕ) (s : S) → Good s → w .rest s ≤ b → stops m (after m b s) ≡ true
     unfolding until
     ends-within zero s g h = by-stop (stops m s ≡ true) s (λ e. e) (λ e. absurd (let k = w .lessens s g e in omega arith))
     ends-within (suc b) s g h = by-stop (stops m (after m (suc b) s) ≡ true) s
-      (λ e. rw (after-stop (suc b) s e) e)
-      (λ e. rw (after-go b s e) (ends-within b (m .next s) (w .keeps s g e) (let k = w .lessens s g e in omega arith)))
+        (λ e. rw (after-stop (suc b) s e) e)
+        (λ e. rw (after-go b s e) (ends-within b (m .next s) (w .keeps s g e) (let k = w .lessens s g e in omega arith)))
 
     -- more budget than that changes nothing
     pub enough : (a b : ℕ) (s : S) → Good s → w .rest s ≤ a → after m (a + b) s ≡ after m a s
@@ -163,11 +161,12 @@ module _ {S : Type 0} (m : Machine S) where
 
     pub calls-follow : (bs : List ℕ) (s : S) → Good s → Followed bs s
     calls-follow bs s g = let e = left-sum bs s g in let u = told-sum bs s g in record {
-        good = rw e (good-after (sum bs) s g);
-        state = e;
-        units = u;
-        so-many = rw (e, u) (after-times (sum bs) s);
-        counting = rw (e, u) (counted (sum bs) s g) }
+      good = rw e (good-after (sum bs) s g);
+      state = e;
+      units = u;
+      so-many = rw (e, u) (after-times (sum bs) s);
+      counting = rw (e, u) (counted (sum bs) s g);
+    }
 
     -- the last call, at least 1, ends as one call with both budgets does
     kind-add : (a b : ℕ) (s : S) → 1 ≤ b → kindAt m b (done m b (after m a s)) (after m b (after m a s)) ≡ kindAt m (a + b) (done m (a + b) s) (after m (a + b) s)
@@ -176,22 +175,25 @@ module _ {S : Type 0} (m : Machine S) where
       where
         tests : ltb (done m b (after m a s)) b ≡ ltb (done m (a + b) s) (a + b)
         tests = elim (decLt (done m a s) a) [
-            yes l ↦ (let z = done-stop b (after m a s) (short-stops a s l) in rw (done-add a b s, z) (lt-ltb 0 b h ∙ sym (lt-ltb (done m a s + 0) (a + b) (omega arith))))
+          | yes l ↦ (let z = done-stop b (after m a s) (short-stops a s l) in rw (done-add a b s, z) (lt-ltb 0 b h ∙ sym (lt-ltb (done m a s + 0) (a + b) (omega arith))))
           | no n ↦ elim (decLt (done m b (after m a s)) b) [
-              yes l ↦ (rw (done-add a b s) (lt-ltb (done m b (after m a s)) b l ∙ sym (lt-ltb (done m a s + done m b (after m a s)) (a + b) (omega (arith, done-within a s)))))
-            | no k ↦ (rw (done-add a b s) (le-ltb (done m b (after m a s)) b (omega (arith, k)) ∙ sym (le-ltb (done m a s + done m b (after m a s)) (a + b) (omega (arith, n, k))))) ] ]
+            | yes l ↦ (rw (done-add a b s) (lt-ltb (done m b (after m a s)) b l ∙ sym (lt-ltb (done m a s + done m b (after m a s)) (a + b) (omega (arith, done-within a s)))))
+            | no k ↦ (rw (done-add a b s) (le-ltb (done m b (after m a s)) b (omega (arith, k)) ∙ sym (le-ltb (done m a s + done m b (after m a s)) (a + b) (omega (arith, n, k)))))
+          ]
+        ]
 
     -- a budget past the largest does what the largest does
     capped-same : (b : ℕ) (s : S) → Good s → go m b s ≡ go m (capped b) s
     unfolding go capped kindAt
     capped-same b s g = elim (decLt 4294967295 b) [
-        yes l ↦ (let k : w .rest s < 4294967295 = w .small s g in
+      | yes l ↦ (let k : w .rest s < 4294967295 = w .small s g in
           let e : 4294967295 + (b - 4294967295) ≡ b = omega arith in
           let x : after m b s ≡ after m 4294967295 s = subst (λ (n : ℕ). after m n s ≡ after m 4294967295 s) e (enough 4294967295 (b - 4294967295) s g (omega arith)) in
           let y : done m b s ≡ done m 4294967295 s = subst (λ (n : ℕ). done m n s ≡ done m 4294967295 s) e (enough-done 4294967295 (b - 4294967295) s g (omega arith)) in
           let z : done m 4294967295 s ≤ w .rest s = omega (arith, done-rest 4294967295 s g) in
           rw (lt-leb b 4294967295 l, x, y) (rw (lt-ltb (done m 4294967295 s) b (omega arith), lt-ltb (done m 4294967295 s) 4294967295 (omega arith))))
-      | no n ↦ rw (le-leb b 4294967295 (omega (arith, n))) ]
+      | no n ↦ rw (le-leb b 4294967295 (omega (arith, n)))
+    ]
 
     -- DEMAND 3: from any good state, for any budgets whose last is at least 1, calls one after the other leave the state where one call with
     -- the sum (or the largest budget) leaves it; their units add up to that call's; the last answer is of its kind
@@ -210,7 +212,8 @@ module _ {S : Type 0} (m : Machine S) where
         record {
           state = rw (one, last, f .state) (sym (after-add (sum bs) b s));
           units = rw (one, last, f .units, f .state) (sym (done-add (sum bs) b s));
-          kind = rw (one, last, f .state) (kind-add (sum bs) b s h) }
+          kind = rw (one, last, f .state) (kind-add (sum bs) b s h);
+        }
 
     -- ---- the budget loop: k units have led from y to x
 
@@ -232,7 +235,8 @@ module _ {S : Type 0} (m : Machine S) where
           within = omega arith;
           good = w .keeps x (r .good) e;
           state = sym a ∙ (rw l at (r .state));
-          units = (let z : k + done m (suc (b - (k + 1))) x ≡ done m b y = rw l at (r .units) in omega arith) }
+          units = (let z : k + done m (suc (b - (k + 1))) x ≡ done m b y = rw l at (r .units) in omega arith);
+        }
 
     -- a unit was not done: this is where the call ends
     pub goes-halt : {b k : ℕ} {y x : S} → Goes b y k x → k < b → stops m x ≡ true → called x k (kindAt m b k x) ≡ go m b y
@@ -268,8 +272,8 @@ module _ {S : Type 0} (m : Machine S) where
     refused-kind : (b d : ℕ) (t : S) → kindAt m b d t ≡ refused → (m .ended t ≡ false) × (d < b)
     unfolding kindAt
     refused-kind b d t e = by-bool ((m .ended t ≡ false) × (d < b)) (m .ended t)
-      (λ x. absurd (let q : over ≡ refused = rw x at e in let z : _≡_ {A = ℕ} 0 1 = cc in omega arith))
-      (λ x. by-bool ((m .ended t ≡ false) × (d < b)) (ltb d b)
+        (λ x. absurd (let q : over ≡ refused = rw x at e in let z : _≡_ {A = ℕ} 0 1 = cc in omega arith))
+        (λ x. by-bool ((m .ended t ≡ false) × (d < b)) (ltb d b)
         (λ y. (x, ltb-true d b y))
         (λ y. absurd (let q : running ≡ refused = rw (x, y) at e in let z : _≡_ {A = ℕ} 0 1 = cc in omega arith)))
 
@@ -284,7 +288,8 @@ module _ {S : Type 0} (m : Machine S) where
           so-many = rw (call-state b s g, call-units b s g) (after-times b s);
           fewer = rw (call-units b s g) (k .1);
           not-over = rw (call-state b s g) (k .0);
-          not-ok = rw (call-state b s g) (not-ok-of (after m b s) (k .0) (short-stops b s (k .1))) }
+          not-ok = rw (call-state b s g) (not-ok-of (after m b s) (k .0) (short-stops b s (k .1)));
+        }
 
     -- ---- a longer arena
 
@@ -298,8 +303,8 @@ module _ {S : Type 0} (m : Machine S) where
       unfolding done until
       grown zero s g = refl
       grown (suc b) s g = by-stop (after m (done m (suc b) s) (grow s) ≡ grow (after m (suc b) s)) s
-        (λ e. rw (done-stop (suc b) s e, after-stop (suc b) s e))
-        (λ e. rw (done-go b s e, after-go b s e) (after-go (done m b (m .next s)) (grow s) (r .due s g e) ∙ rw (r .same s g e) (grown b (m .next s) (w .keeps s g e))))
+          (λ e. rw (done-stop (suc b) s e, after-stop (suc b) s e))
+          (λ e. rw (done-go b s e, after-go b s e) (after-go (done m b (m .next s)) (grow s) (r .due s g e) ∙ rw (r .same s g e) (grown b (m .next s) (w .keeps s g e))))
 
       -- a run that goes on with more room does what a run with that room from the start does
       pub goes-on : (b c : ℕ) (s : S) → Good s → after m c (grow (after m b s)) ≡ after m (done m b s + c) (grow s)

@@ -1,7 +1,7 @@
 -- Work in units, whatever a unit does: what a call with a budget leaves and answers. Definitions only.
 use mathlib.Core.List.{List, [], _∷_}
 use mathlib.Core.Bool.{Bool, true, false, cond, not, _||_}
-use Prim.Native.Nat.{ℕ, zero, suc, _+_, _≤_, _<_}
+use Prim.Native.Nat.{ℕ, zero, suc, _+_, _<_}
 use mathlib.Core.Path.{_≡_}
 use lib.Dec.{ltb, leb}
 use Rattle.laws.specs.Run.{until}
