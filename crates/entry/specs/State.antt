@@ -1,0 +1,33 @@
+-- What is worked on: the run record and every area. Definitions only.
+use mathlib.Core.List.{List}
+use Prim.Native.Nat.{ℕ}
+use lib.Ieee.{Float}
+use Rattle.record.specs.declared.Run.{Run}
+use Rattle.node.specs.declared.Node.{Node}
+use Rattle.node.specs.Areas.{nodesOf}
+
+-- the areas; the arena is the two flat ones, reals and words
+pub record Memory : Type 0 where
+  pub positions : List Float
+  pub increments : List Float
+  pub gains : List Float
+  pub affinities : List Float
+  pub indices : List ℕ
+  pub offsets : List ℕ
+  pub forces : List Float
+  pub reals : List Float
+  pub words : List ℕ
+
+pub record State : Type 0 where
+  pub run : Run
+  pub memory : Memory
+
+abbrev pub memory : List Float → List Float → List Float → List Float → List ℕ → List ℕ → List Float → List Float → List ℕ → Memory
+memory p i g a x o f r w = record { positions = p; increments = i; gains = g; affinities = a; indices = x; offsets = o; forces = f; reals = r; words = w }
+
+abbrev pub state : Run → Memory → State
+state r m = record { run = r; memory = m }
+
+-- the arena's nodes
+abbrev pub nodesIn : Memory → List Node
+nodesIn m = nodesOf (m .reals) (m .words)
