@@ -5,3 +5,6 @@ pub mod Untils
 pub mod Every
 pub mod First
 pub mod Ahead
+pub mod Sums
+pub mod Joined
+pub mod Parts
