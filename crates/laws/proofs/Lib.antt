@@ -7,3 +7,6 @@ pub mod First
 pub mod Ahead
 pub mod Written
 pub mod Places
+pub mod Sums
+pub mod Joined
+pub mod Parts

@@ -1,2 +1,4 @@
 pub mod Run
 pub mod Area
+pub mod Sums
+pub mod Joined

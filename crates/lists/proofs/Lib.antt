@@ -1,0 +1,7 @@
+pub mod Search
+pub mod Linked
+pub mod Listing
+pub mod Filled
+pub mod Frames
+pub mod Made
+pub mod Theorems
