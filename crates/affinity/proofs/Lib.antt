@@ -1,3 +1,5 @@
 pub mod Shares
 pub mod Joint
 pub mod Symmetric
+pub mod Named
+pub mod Listed

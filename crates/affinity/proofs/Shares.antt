@@ -6,7 +6,7 @@ use native.Mathlib.Omega.{arith}
 use native.Mathlib.Decide.{ℕ-discrete}
 use native.Mathlib.Nat.{zero-add, le-of-eq}
 use lib.ListN.{length, drop, replicate, length-append, length-drop, length-replicate, List·getD-append}
-use lib.Seq.{take-all, length-take-le}
+use lib.Seq.{drop-at, take-all, length-take-le}
 use borrow.Rule.Slice.PartMut.{midOf, putMid}
 use lib.Ieee.{Float, nan}
 use Rattle.laws.specs.Area.{at, zero64}
@@ -23,15 +23,19 @@ module _ (ds es : List Float) (k : ℕ) (perplexity : Float) (p q : List Float) 
   found : q ≡ sharesOf es k perplexity ++ drop k p
   found = e ∙ shares-read ds es k same perplexity p ∙ shares-whole es k perplexity p h
 
-  count : length (sharesOf es k perplexity) ≡ k
-  count = cut (sym (length-append (sharesOf es k perplexity) (drop k p)) ∙ ap length (sym found) ∙ s) (length-drop k p) h
+  pub shares-count : length (sharesOf es k perplexity) ≡ k
+  shares-count = cut (sym (length-append (sharesOf es k perplexity) (drop k p)) ∙ ap length (sym found) ∙ s) (length-drop k p) h
     where
       cut : {x y l : ℕ} → x + y ≡ l → y ≡ l - k → k ≤ l → x ≡ k
       cut a b c = omega arith
 
   -- the distances agree on the first k places
   pub shares-there : (t : ℕ) → t < k → at q t ≡ at (sharesOf es k perplexity) t
-  shares-there t l = ap (λ (r : List Float). at r t) found ∙ List·getD-append (sharesOf es k perplexity) (drop k p) nan t (omega (arith, count))
+  shares-there t l = ap (λ (r : List Float). at r t) found ∙ List·getD-append (sharesOf es k perplexity) (drop k p) nan t (omega (arith, shares-count))
+
+  -- and the area is as it was from k on
+  pub shares-tail : drop k q ≡ drop k p
+  shares-tail = ap (drop k) found ∙ drop-at (sharesOf es k perplexity) (drop k p) k shares-count
 
 module _ (t : List Float) (n f i : ℕ) (l : i < n) where
   -- a row of distances, in whichever area

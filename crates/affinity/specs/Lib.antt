@@ -1,2 +1,4 @@
 pub mod Exact
 pub mod Steps
+pub mod Neighbours
+pub mod Cases
