@@ -3,3 +3,4 @@ pub mod Joint
 pub mod Symmetric
 pub mod Named
 pub mod Listed
+pub mod Kept

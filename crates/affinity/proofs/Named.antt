@@ -148,10 +148,10 @@ module _ (t : List Float) (n f k : ℕ) (perplexity : Float) (i : ℕ) (hi : i <
 -- ---- the rows of all frames
 
 module _ {B : Type 0} (g : Pair → B) (t : List Float) (n f k : ℕ) (perplexity : Float) (hk : k < n) where
-  abbrev rows : ℕ → List B
+  abbrev pub rows : ℕ → List B
   rows i = map g (neighbourRow t n f k perplexity i)
 
-  rows-size : (i : ℕ) → i < n → length (rows i) ≡ k
+  pub rows-size : (i : ℕ) → i < n → length (rows i) ≡ k
   rows-size i h = length-map (neighbourRow t n f k perplexity i) g ∙ row-count t n f k perplexity i h hk
 
   -- one more row is laid: what its frame left in the part of an area that was lent

@@ -1,4 +1,5 @@
 -- `affinity::exact::exact_affinities` meets its contract: squares, shares by rows, and both shares of each pair together. Assumes nothing.
+use borrow.Author.Needs.{needs}
 use mathlib.Core.Path.{subst, ap, _∙_}
 use Prim.Native.Nat.{_*_, _≤_}
 use lib.ListN.{length, replicate}
@@ -21,7 +22,7 @@ symmetrize-probabilities-requires : tie.Need-symmetrize-probabilities-requires
 symmetrize-probabilities-requires c κs = (c .before .before .before .before .before .before .before .before .before .before .before .before .before .before .before .before .before .pre .0, rw (c .before .before .before .before .before .conditional-probabilities .kept .1 .1 .1 .1 .1 .0) (c .before .before .before .before .before .before .before .before .before .before .before .before .before .before .before .before .before .pre .2))
 
 clear-row-requires : tie.Need-clear-row-requires
-clear-row-requires c κs = rw (c .before .before .before .before .before .before .before .before .before .conditional-probabilities .kept .1 .1 .1 .1 .1 .1 .0) (c .before .before .before .before .before .before .before .before .before .before .before .before .before .before .before .before .before .before .before .before .before .pre .4)
+clear-row-requires c κs = search needs
 
 same-length : tie.Need-same-length
 same-length c = c .before .before .before .before .before .before .symmetrize-probabilities .kept .0 ∙ c .before .before .before .before .before .before .before .before .before .before .before .before .conditional-probabilities .kept .1 .1 .1 .1 .1 .0
