@@ -12,7 +12,7 @@ use Rattle.elementary.specs.Limits.{neighboursOf}
 use Rattle.near.specs.Near.{Pair}
 use Rattle.lists.specs.Lists.{listOf, weightsOf, linksOf, Areas}
 use Rattle.lists.proofs.Linked.{links-least}
-use Rattle.affinity.specs.Steps.{laid}
+use Rattle.affinity.specs.Laid.{laid}
 use Rattle.affinity.specs.Neighbours.{rowsOf, neighboursListed}
 use Rattle.affinity.proofs.Named.{rows, rows-size, rows-named}
 use Rattle.affinity.proofs.Listed.{not-all-neighbours}

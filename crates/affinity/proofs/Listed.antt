@@ -1,17 +1,18 @@
 -- From the rows of all frames to their lists: what the symmetrising asks holds, and what it gives is the definition. Assumes nothing.
-use mathlib.Core.Path.{_≡_, sym, subst}
+use mathlib.Core.Path.{_≡_, ap, _∙_, sym, subst}
 use mathlib.Core.List.{List}
 use Prim.Native.Nat.{ℕ, _+_, _-_, _*_, _<_, _≤_, min, max}
 use native.Mathlib.Omega.{arith}
 use native.Mathlib.Nat.{le-max-left, max-le, min-le-right}
-use lib.ListN.{length}
+use lib.ListN.{length, drop}
 use lib.Ieee.{Float, binary64, mul}
-use Rattle.laws.proofs.Parts.{Scratch}
+use Rattle.laws.specs.Run.{run}
 use Rattle.elementary.specs.Limits.{ceilOf, three, neighboursOf}
 use Rattle.lists.specs.Lists.{Rows, areas, symmetrised, Prepared}
-use Rattle.affinity.specs.Steps.{laid}
+use Rattle.affinity.specs.Laid.{laid}
+use Rattle.affinity.specs.Steps.{sharesLeft, framesLeft}
 use Rattle.affinity.specs.Neighbours.{valuesIn, framesIn, neighbourRow, neighboursListed}
-use Rattle.affinity.proofs.Named.{rows-named}
+use Rattle.affinity.proofs.Named.{rows-named, shares-scratch, frames-scratch}
 
 -- ---- how many neighbours: at least one, and not all frames
 
@@ -62,6 +63,6 @@ module _ (n : ℕ) (perplexity : Float) (k : ℕ) (e : k ≡ neighboursOf perple
       rows = subst (Rows n k) (sym j) (rows-named t n f k perplexity I (k-below two));
     }
 
-    pub lists-done : Scratch n X X₁ → Scratch n R R₁ → symmetrised n k (areas W₁ I₁ O X₁ R₁) ≡ neighboursListed t n f perplexity (areas W I O X R)
+    pub lists-done : 2 ≤ n → n ≤ length X → n ≤ length R → X₁ ≡ run (sharesLeft t n f k perplexity) n 0 X → R₁ ≡ run (framesLeft t n f k) n 0 R → symmetrised n k (areas W₁ I₁ O X₁ R₁) ≡ neighboursListed t n f perplexity (areas W I O X R)
     unfolding neighboursListed
-    lists-done x r = rw (w, j, x .tail, r .tail, e)
+    lists-done two hX hR x r = rw (w, j, ap (drop n) x ∙ shares-scratch t n f k (k-below two) perplexity X hX .tail, ap (drop n) r ∙ frames-scratch t n f k (k-below two) R hR .tail, e)

@@ -2,18 +2,18 @@
 use mathlib.Core.Path.{_≡_, refl, sym, ap, _∙_}
 use mathlib.Core.List.{List, [], _++_, map, append-nil}
 use mathlib.Core.Bool.{true, false}
-use Prim.Native.Nat.{ℕ, zero, suc, _+_, _*_, _<_, _≤_}
+use Prim.Native.Nat.{ℕ, zero, suc, _+_, _-_, _*_, _<_, _≤_}
 use native.Mathlib.Omega.{arith}
-use native.Mathlib.Nat.{le-of-eq, le-of-lt}
-use lib.ListN.{length, getD, drop, take, replicate, length-replicate, length-map, length-drop, drop-of-length-le, List·getD-append}
+use native.Mathlib.Nat.{zero-add, le-of-eq, le-of-lt}
+use lib.ListN.{length, getD, drop, take, replicate, length-replicate, length-map, length-append, length-drop, take-append-drop, drop-of-length-le, List·getD-append}
 use lib.Seq.{drop-at, length-take-le}
 use lib.Ieee.{Float, nan, binary64, div}
 use Rattle.laws.specs.Run.{run}
 use Rattle.laws.specs.Area.{at, num, zero64}
-use Rattle.laws.proofs.Joined.{getD-map-in}
 use Rattle.laws.proofs.Parts.{Scratch, scratch-start}
-use Rattle.laws.proofs.Changed.{changed-at, changed-tail, drop-later, scratch-front}
-use Rattle.laws.proofs.Laid.{laid-at, Lays, lays-more}
+use Rattle.laws.proofs.Runs.{run-keeps}
+use Rattle.laws.proofs.Changed.{changed-at, changed-tail, scratch-front}
+use Rattle.laws.proofs.Laid.{singles-size, singles-taken, laid-at, Lays, lays-more}
 use Rattle.laws.proofs.Numbers.{row-in}
 use borrow.Rule.Slice.PartMut.{midOf, putMid, same-len-mid}
 use Rattle.near.specs.Distances.{distanceRow}
@@ -24,9 +24,14 @@ use Rattle.sigma.specs.Sigma.{divideStep, sigmaShares, sharesOf}
 use Rattle.lists.specs.Lists.{Rows}
 use Rattle.lists.proofs.Made.{rows-made}
 use Rattle.affinity.specs.Exact.{norm, distancesOf}
-use Rattle.affinity.specs.Steps.{laid}
+use Rattle.affinity.specs.Laid.{each, laid}
+use Rattle.affinity.specs.Steps.{sharesLeft, framesLeft}
 use Rattle.affinity.specs.Neighbours.{valuesIn, framesIn, nearestFrames, nearestShares, neighbourRow}
-use Rattle.affinity.proofs.Shares.{shares-there, shares-count, shares-tail, scratch-distances}
+use Rattle.affinity.proofs.Shares.{shares-there, shares-tail, scratch-distances}
+
+-- a front and the rest
+together : {x y a b : ℕ} → x ≡ a → y ≡ b - a → a ≤ b → x + y ≡ b
+together e f h = omega arith
 
 -- ---- pairs laid over an area
 
@@ -36,6 +41,9 @@ module _ {B : Type 0} (g : Pair → B) (l : List Pair) where
 
   pub over-tail : (d : List B) (k : ℕ) → length l ≡ k → drop k (map g l ++ drop (length l) d) ≡ drop k d
   over-tail d k e = drop-at (map g l) (drop (length l) d) k (length-map l g ∙ e) ∙ ap (λ (s : ℕ). drop s d) e
+
+  over-size : (d : List B) → length l ≤ length d → length (map g l ++ drop (length l) d) ≡ length d
+  over-size d h = length-append (map g l) (drop (length l) d) ∙ together (length-map l g) (length-drop (length l) d) h
 
 -- pairs that agree have one order by index
 sorted-alike : (f g : ℕ → Pair) (n : ℕ) → ((t : ℕ) → t < n → f t ≡ g t) → sorted false (λ t. true) f n ≡ sorted false (λ t. true) g n
@@ -62,6 +70,14 @@ module _ (t : List Float) (n f k : ℕ) (perplexity : Float) (i : ℕ) (hi : i <
 
   pub frames-count : length frames ≡ k
   frames-count = ap length (sym (near-is (replicate n zero64) zeros)) ∙ nearest-count (distancesOf t n f i) i n k hi hk
+
+  -- frame i's share of the s-th nearest
+  abbrev share : ℕ → Float
+  share s = div binary64 (at (sharesOf (valuesIn frames) k perplexity) s) (norm n)
+
+  shares-are : length (nearestShares t n f k perplexity i) ≡ k
+  unfolding nearestShares
+  shares-are = singles-size share k
 
   -- ---- the row is that of any areas which hold the shares and the nearest frames
 
@@ -112,13 +128,25 @@ module _ (t : List Float) (n f k : ℕ) (perplexity : Float) (i : ℕ) (hi : i <
     distances-there : (s : ℕ) → s < k → at W₁ s ≡ at (valuesIn frames) s
     distances-there s l = ap (λ (r : List Float). at r s) near-values ∙ over-at (λ (x : Pair). x .value) frames W₀ nan s (omega (arith, frames-count))
 
-    shares-divided : (s : ℕ) → s < k → at X₃ s ≡ at (nearestShares t n f k perplexity i) s
-    unfolding nearestShares
-    shares-divided s l =
+    share-there : (s : ℕ) → s < k → at X₃ s ≡ share s
+    share-there s l =
         ap (λ (r : List Float). at r s) x₃
         ∙ changed-at nan (λ j v. div binary64 v (norm n)) k X₂ (omega arith) s l
         ∙ ap (λ (v : Float). div binary64 v (norm n)) (shares-there W₁ (valuesIn frames) k perplexity X₁ X₂ distances-there (omega arith) s₂ x₂ s l)
-        ∙ sym (getD-map-in (λ (v : Float). div binary64 v (norm n)) (sharesOf (valuesIn frames) k perplexity) s nan nan (omega (arith, shares-count W₁ (valuesIn frames) k perplexity X₁ X₂ distances-there (omega arith) s₂ x₂)))
+
+    shares-left : X₃ ≡ sharesLeft t n f k perplexity i X₀
+    unfolding nearestShares
+    shares-left =
+        sym (take-append-drop k X₃)
+        ∙ ap (λ (r : List Float). r ++ drop k X₃) (singles-taken X₃ nan share 0 k (omega arith) (λ s l. ap (at X₃) (zero-add s) ∙ share-there s l))
+        ∙ ap (λ (r : List Float). each share k ++ r)
+        (ap (drop k) x₃
+        ∙ changed-tail nan (λ j v. div binary64 v (norm n)) k X₂ (omega arith)
+        ∙ shares-tail W₁ (valuesIn frames) k perplexity X₁ X₂ distances-there (omega arith) s₂ x₂
+        ∙ ap (drop k) x₁)
+
+    shares-divided : (s : ℕ) → s < k → at X₃ s ≡ at (nearestShares t n f k perplexity i) s
+    shares-divided s l = ap (λ (r : List Float). at r s) shares-left ∙ List·getD-append (nearestShares t n f k perplexity i) (drop k (distanceRow t n f i X₀)) nan s (omega (arith, shares-are))
 
     ordered : byIndexOf X₃ R₁ k ≡ row
     ordered = ap (λ (r : List ℕ). byIndexOf X₃ r k) near-frames ∙ row-by X₃ R₀ shares-divided
@@ -135,15 +163,29 @@ module _ (t : List Float) (n f k : ℕ) (perplexity : Float) (i : ℕ) (hi : i <
     row-frames : I₁ ≡ indicesOver row I₀
     row-frames = i₁ ∙ ap (λ (l : List Pair). indicesOver l I₀) ordered
 
-    values-scratch : Scratch n X₀ X₃
-    values-scratch = scratch-front k (le-of-lt hk) s₃ (ap (drop k) x₃ ∙ changed-tail nan (λ j v. div binary64 v (norm n)) k X₂ (omega arith))
-        (scratch-front k (le-of-lt hk) s₂ (shares-tail W₁ (valuesIn frames) k perplexity X₁ X₂ distances-there (omega arith) s₂ x₂) (scratch-distances t f i hi hX x₁ scratch-start))
+    pub row-done : (W₂ ≡ valuesOver row W₀) × ((I₁ ≡ indicesOver row I₀) × ((X₃ ≡ sharesLeft t n f k perplexity i X₀) × (R₁ ≡ framesLeft t n f k i R₀)))
+    row-done = (row-values, (row-frames, (shares-left, near-frames)))
 
-    frames-tail : drop n R₁ ≡ drop n R₀
-    frames-tail = drop-later R₁ R₀ k n (le-of-lt hk) (ap (drop k) near-frames ∙ over-tail (λ (x : Pair). x .index) frames R₀ k frames-count)
+-- ---- the preparation rows: past the first n places they are kept
 
-    pub row-done : (W₂ ≡ valuesOver row W₀) × ((I₁ ≡ indicesOver row I₀) × ((drop n X₃ ≡ drop n X₀) × (drop n R₁ ≡ drop n R₀)))
-    row-done = (row-values, (row-frames, (values-scratch .tail, frames-tail)))
+module _ (t : List Float) (n f k : ℕ) (hk : k < n) where
+  pub shares-scratch : (perplexity : Float) (p : List Float) → n ≤ length p → Scratch n p (run (sharesLeft t n f k perplexity) n 0 p)
+  shares-scratch perplexity p h = run-keeps (λ j m. Scratch n p m) (sharesLeft t n f k perplexity) n 0 p (λ j m b s. one j m (omega arith) s) scratch-start
+    where
+      one : (j : ℕ) (m : List Float) → j < n → Scratch n p m → Scratch n p (sharesLeft t n f k perplexity j m)
+      one j m b s =
+          let d = distanceRow t n f j m in
+          let c = shares-are t n f k perplexity j b hk in
+          let z : Scratch n p d = scratch-distances t f j b h refl s in
+          scratch-front k (le-of-lt hk) (length-append (nearestShares t n f k perplexity j) (drop k d) ∙ together c (length-drop k d) (omega (arith, z .size))) (drop-at (nearestShares t n f k perplexity j) (drop k d) k c) z
+
+  pub frames-scratch : (r : List ℕ) → n ≤ length r → Scratch n r (run (framesLeft t n f k) n 0 r)
+  frames-scratch r h = run-keeps (λ j m. Scratch n r m) (framesLeft t n f k) n 0 r (λ j m b s. one j m (omega arith) s) scratch-start
+    where
+      one : (j : ℕ) (m : List ℕ) → j < n → Scratch n r m → Scratch n r (framesLeft t n f k j m)
+      one j m b s =
+          let c = frames-count t n f k zero64 j b hk in
+          scratch-front k (le-of-lt hk) (over-size (λ (x : Pair). x .index) (nearestFrames t n f k j) m (omega (arith, c, s .size))) (over-tail (λ (x : Pair). x .index) (nearestFrames t n f k j) m k c) s
 
 -- ---- the rows of all frames
 

@@ -1,5 +1,5 @@
 -- The shares that a sigma search leaves in an area are those of the definition, whatever stood there. Assumes nothing.
-use mathlib.Core.Path.{_≡_, sym, ap, _∙_}
+use mathlib.Core.Path.{_≡_, refl, sym, ap, _∙_}
 use mathlib.Core.List.{List, _++_}
 use Prim.Native.Nat.{ℕ, _+_, _-_, _*_, _<_, _≤_}
 use native.Mathlib.Omega.{arith}
@@ -10,20 +10,21 @@ use lib.Seq.{drop-at, take-all, length-take-le}
 use borrow.Rule.Slice.PartMut.{midOf, putMid}
 use lib.Ieee.{Float, nan}
 use Rattle.laws.specs.Area.{at, zero64}
+use Rattle.laws.proofs.Runs.{run-keeps}
 use Rattle.laws.proofs.Laid.{singles-taken}
 use Rattle.near.specs.Distances.{distanceRow}
 use Rattle.near.proofs.Apart.{row-own, row-other, row-size, row-tail}
-use Rattle.laws.proofs.Parts.{Scratch}
+use Rattle.laws.proofs.Parts.{Scratch, scratch-start}
 use Rattle.sigma.specs.Sigma.{sigmaShares, sharesOf}
 use Rattle.sigma.proofs.Alone.{shares-whole, shares-read}
 use Rattle.affinity.specs.Exact.{distancesOf, conditional}
-use Rattle.affinity.specs.Steps.{conditionals}
+use Rattle.affinity.specs.Steps.{conditionals, distancesLeft}
 
 module _ (ds es : List Float) (k : ℕ) (perplexity : Float) (p q : List Float) (same : (t : ℕ) → t < k → at ds t ≡ at es t) (h : k ≤ length p) (s : length q ≡ length p) (e : q ≡ sigmaShares ds k perplexity p) where
   found : q ≡ sharesOf es k perplexity ++ drop k p
   found = e ∙ shares-read ds es k same perplexity p ∙ shares-whole es k perplexity p h
 
-  pub shares-count : length (sharesOf es k perplexity) ≡ k
+  shares-count : length (sharesOf es k perplexity) ≡ k
   shares-count = cut (sym (length-append (sharesOf es k perplexity) (drop k p)) ∙ ap length (sym found) ∙ s) (length-drop k p) h
     where
       cut : {x y l : ℕ} → x + y ≡ l → y ≡ l - k → k ≤ l → x ≡ k
@@ -65,3 +66,7 @@ pub scratch-distances : {n : ℕ} {l₀ l l′ : List Float} (t : List Float) (f
 scratch-distances {n} {l₀} {l} t f i h m e s =
     let room : n ≤ length l = rw (s .size) m in
     record { size = ap length e ∙ row-size t n f i l room ∙ s .size; tail = ap (drop n) e ∙ row-tail t n f i l room h ∙ s .tail }
+
+-- and so are the rows of one frame after the other
+pub scratch-all : (t : List Float) (n f : ℕ) (p : List Float) → n ≤ length p → Scratch n p (distancesLeft t n f p)
+scratch-all t n f p h = run-keeps (λ j m. Scratch n p m) (distanceRow t n f) n 0 p (λ j m b s. scratch-distances t f j (omega arith) h refl s) scratch-start

@@ -14,7 +14,8 @@ use Rattle.laws.specs.Joined.{joined}
 use Rattle.laws.proofs.Numbers.{row-in}
 use Rattle.laws.proofs.Laid.{singles-size, singles-get, singles-taken, laid-size, laid-at, laid-whole}
 use Rattle.affinity.specs.Exact.{conditional, norm, jointly, affinityOf, exactOf}
-use Rattle.affinity.specs.Steps.{laid, conditionals, jointAt, symmetrized}
+use Rattle.affinity.specs.Laid.{laid}
+use Rattle.affinity.specs.Steps.{conditionals, jointAt, symmetrized}
 use Rattle.affinity.proofs.Joint.{Joins, joins-all}
 
 module _ (t : List Float) (n f : ℕ) (perplexity : Float) where
@@ -31,6 +32,13 @@ module _ (t : List Float) (n f : ℕ) (perplexity : Float) where
   affinity-high : (i j : ℕ) → j < i → affinityOf t n f perplexity i j ≡ jointly t n f perplexity j i
   unfolding affinityOf
   affinity-high i j h = rw (ne-eqb i j (λ e. omega arith), min-eq-right (le-of-lt h), max-eq-left (le-of-lt h))
+
+  -- the affinity of i with j is that of j with i
+  pub affinity-mirror : (i j : ℕ) → affinityOf t n f perplexity i j ≡ affinityOf t n f perplexity j i
+  affinity-mirror i j = elim (ℕ-discrete i j) [
+    | yes e ↦ rw e refl
+    | no d ↦ elim (decLt i j) [ yes b ↦ affinity-low i j b ∙ sym (affinity-high j i b) | no b ↦ affinity-high i j (omega arith) ∙ sym (affinity-low j i (omega arith)) ]
+  ]
 
   module _ (l : List Float) where
     rows : (i : ℕ) → i < n → length (conditionals t n f perplexity i) ≡ n

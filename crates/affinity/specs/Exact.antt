@@ -1,15 +1,16 @@
 -- The exact affinities of n frames, as document 01 (rule 2), `conditional_probabilities` and `symmetrize_probabilities` have them. Definitions only.
 -- A table has f features a frame; its distances are those of `near`, the shares those of `sigma`.
-use mathlib.Core.List.{List, [], _∷_, _++_}
+use mathlib.Core.List.{List}
 use mathlib.Core.Bool.{cond}
-use Prim.Native.Nat.{ℕ, _*_, min, max}
+use Prim.Native.Nat.{ℕ, min, max}
 use lib.Dec.{eqb}
 use lib.IntN.{pos}
-use lib.ListN.{drop, replicate}
+use lib.ListN.{replicate}
 use lib.Ieee.{Float, binary64, ofInt, add, mul, div}
 use Rattle.laws.specs.Run.{run}
 use Rattle.laws.specs.Area.{at, zero64, two64}
 use Rattle.laws.specs.Joined.{joined}
+use Rattle.affinity.specs.Laid.{each, laid}
 use Rattle.near.specs.Distances.{distanceOf, distanceRow}
 use Rattle.sigma.specs.Sigma.{sigmaShares, sharesOf}
 
@@ -39,4 +40,4 @@ affinityOf t n f perplexity i j = cond (eqb i j) zero64 (jointly t n f perplexit
 -- the area: n rows of n affinities, then what stood there
 unfoldable pub exactOf : List Float → ℕ → ℕ → Float → List Float → List Float
 unfolding affinityOf joined
-exactOf t n f perplexity l = joined (λ i. joined (λ j. affinityOf t n f perplexity i j ∷ []) n) n ++ drop (n * n) l
+exactOf t n f perplexity l = laid (λ i. each (λ j. affinityOf t n f perplexity i j) n) n n l

@@ -5,13 +5,14 @@ use Prim.Native.Nat.{ℕ}
 use lib.Ieee.{Float, binary64, div}
 use Rattle.laws.specs.Run.{run, seek}
 use Rattle.laws.specs.Joined.{joined, those}
+use Rattle.laws.specs.Area.{at}
 use Rattle.elementary.specs.Limits.{neighboursOf}
 use Rattle.near.specs.Distances.{distanceOf}
 use Rattle.near.specs.Near.{Pair, sorted, nearestBy, byIndexOf}
 use Rattle.sigma.specs.Sigma.{sigmaShares, sharesOf}
 use Rattle.lists.specs.Lists.{Areas, areas, weight, symmetrised}
 use Rattle.affinity.specs.Exact.{norm}
-use Rattle.affinity.specs.Steps.{laid}
+use Rattle.affinity.specs.Laid.{each, laid}
 
 abbrev pub valuesIn : List Pair → List Float
 valuesIn l = map (λ (x : Pair). x .value) l
@@ -23,10 +24,10 @@ framesIn l = map (λ (x : Pair). x .index) l
 abbrev pub nearestFrames : List Float → ℕ → ℕ → ℕ → ℕ → List Pair
 nearestFrames t n f k i = nearestBy (distanceOf t f i) n k i
 
--- frame i's shares of them, nearest first: the sigma search over their k distances; each share is divided by 2n
+-- frame i's shares of them, nearest first: the sigma search over their k distances, and each share divided by 2n
 unfoldable pub nearestShares : List Float → ℕ → ℕ → ℕ → Float → ℕ → List Float
-unfolding run distanceOf sorted sigmaShares
-nearestShares t n f k perplexity i = map (λ (v : Float). div binary64 v (norm n)) (sharesOf (valuesIn (nearestFrames t n f k i)) k perplexity)
+unfolding run distanceOf sorted sigmaShares joined
+nearestShares t n f k perplexity i = each (λ s. div binary64 (at (sharesOf (valuesIn (nearestFrames t n f k i)) k perplexity) s) (norm n)) k
 
 -- row i: the k nearest frames by rising index, each with its share
 unfoldable pub neighbourRow : List Float → ℕ → ℕ → ℕ → Float → ℕ → List Pair

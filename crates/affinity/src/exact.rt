@@ -1,13 +1,14 @@
 // The exact route: every frame's shares of all frames, then the two shares of a pair together, in place.
 ghost use mathlib.Core.Path.{_≡_};
 ghost use Prim.Native.Nat.{_+_, _*_, _<_, _≤_};
-ghost use lib.ListN.{length, drop};
+ghost use lib.ListN.{length};
 ghost use borrow.Rule.Slice.PartMut.{putMid};
 ghost use Rattle.laws.specs.Area.{zero64};
 ghost use Rattle.near.specs.Distances.{distanceRow, squaresOf, Squared};
 ghost use Rattle.lists.specs.Lists.{cleared};
 ghost use Rattle.affinity.specs.Exact.{exactOf};
-ghost use Rattle.affinity.specs.Steps.{laid, conditionals, pairStep, frameJoined, symmetrized};
+ghost use Rattle.affinity.specs.Laid.{laid};
+ghost use Rattle.affinity.specs.Steps.{conditionals, distancesLeft, pairStep, frameJoined, symmetrized};
 
 // The distances of frame i in the row, and its shares of the n frames in row i of the affinities.
 fn conditional_row(
@@ -44,7 +45,7 @@ fn conditional_probabilities(
     requires { ⌜ (n ≤ 4096) × (n * f ≤ length (now table)) × (n ≤ length (now squares)) × (n * n ≤ length (now affinities)) × (n ≤ length (now row)) ⌝ }
     requires { ⌜ Squared (now table) n f (now squares) ⌝ }
     ensures { λ _. ⌜ now (affinities .exit) ≡ laid (conditionals (now (table .entry)) n f perplexity) n n (now (affinities .entry)) ⌝ }
-    ensures { λ _. ⌜ drop n (now (row .exit)) ≡ drop n (now (row .entry)) ⌝ }
+    ensures { λ _. ⌜ now (row .exit) ≡ distancesLeft (now (table .entry)) n f (now (row .entry)) ⌝ }
 {
     let mut i = 0;
     while i < n {

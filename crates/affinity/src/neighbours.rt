@@ -4,7 +4,7 @@ ghost use mathlib.Core.Bool.{true};
 ghost use Prim.Native.Nat.{_+_, _*_, _<_, _≤_};
 ghost use lib.IntN.{pos};
 ghost use lib.Ieee.{lt, ofInt, binary64};
-ghost use lib.ListN.{length, drop};
+ghost use lib.ListN.{length};
 ghost use Rattle.laws.specs.Run.{run};
 ghost use Rattle.laws.specs.Area.{zero64};
 ghost use Rattle.elementary.specs.Limits.{neighboursOf};
@@ -12,7 +12,8 @@ ghost use Rattle.near.specs.Distances.{squaresOf, Squared};
 ghost use Rattle.near.specs.Near.{valuesOver, indicesOver};
 ghost use Rattle.sigma.specs.Sigma.{divideStep};
 ghost use Rattle.lists.specs.Lists.{areas};
-ghost use Rattle.affinity.specs.Steps.{laid};
+ghost use Rattle.affinity.specs.Laid.{laid};
+ghost use Rattle.affinity.specs.Steps.{sharesLeft, framesLeft};
 ghost use Rattle.affinity.specs.Neighbours.{valuesIn, framesIn, neighbourRow, neighboursListed};
 
 // The first k values, each divided by the norm.
@@ -27,7 +28,7 @@ fn divide_shares(values: &mut [f64], k: usize, norm: f64)
     }
 }
 
-// The row of frame i, in the first k places of the two areas of a row; the first n places of the preparation rows are scratch.
+// The row of frame i, in the first k places of the two areas of a row.
 fn neighbor_row(
     table: &[f64],
     n: usize,
@@ -46,8 +47,8 @@ fn neighbor_row(
     requires { ⌜ Squared (now table) n f (now squares) ⌝ }
     ensures { λ _. ⌜ now (weights .exit) ≡ valuesOver (neighbourRow (now (table .entry)) n f k perplexity i) (now (weights .entry)) ⌝ }
     ensures { λ _. ⌜ now (indices .exit) ≡ indicesOver (neighbourRow (now (table .entry)) n f k perplexity i) (now (indices .entry)) ⌝ }
-    ensures { λ _. ⌜ drop n (now («row_values» .exit)) ≡ drop n (now («row_values» .entry)) ⌝ }
-    ensures { λ _. ⌜ drop n (now («row_indices» .exit)) ≡ drop n (now («row_indices» .entry)) ⌝ }
+    ensures { λ _. ⌜ now («row_values» .exit) ≡ sharesLeft (now (table .entry)) n f k perplexity i (now («row_values» .entry)) ⌝ }
+    ensures { λ _. ⌜ now («row_indices» .exit) ≡ framesLeft (now (table .entry)) n f k i (now («row_indices» .entry)) ⌝ }
 {
     near::distances::distance_row(table, n, f, squares, i, row_values);
     near::neighbours::nearest(row_values, n, k, i, weights, row_indices);
@@ -74,8 +75,8 @@ fn neighbor_rows(
     requires { ⌜ Squared (now table) n f (now squares) ⌝ }
     ensures { λ _. ⌜ now (weights .exit) ≡ laid (λ i. valuesIn (neighbourRow (now (table .entry)) n f k perplexity i)) k n (now (weights .entry)) ⌝ }
     ensures { λ _. ⌜ now (indices .exit) ≡ laid (λ i. framesIn (neighbourRow (now (table .entry)) n f k perplexity i)) k n (now (indices .entry)) ⌝ }
-    ensures { λ _. ⌜ drop n (now («row_values» .exit)) ≡ drop n (now («row_values» .entry)) ⌝ }
-    ensures { λ _. ⌜ drop n (now («row_indices» .exit)) ≡ drop n (now («row_indices» .entry)) ⌝ }
+    ensures { λ _. ⌜ now («row_values» .exit) ≡ run (sharesLeft (now (table .entry)) n f k perplexity) n 0 (now («row_values» .entry)) ⌝ }
+    ensures { λ _. ⌜ now («row_indices» .exit) ≡ run (framesLeft (now (table .entry)) n f k) n 0 (now («row_indices» .entry)) ⌝ }
 {
     let mut i = 0;
     while i < n {
