@@ -7,6 +7,7 @@ use Rattle.lists.specs.Lists.{areas}
 use Rattle.affinity.specs.Exact.{exactOf}
 use Rattle.affinity.specs.Neighbours.{neighboursListed}
 
+-- 0.5 and 0.25
 abbrev half : Float
 half = bits 0x3fe0000000000000
 

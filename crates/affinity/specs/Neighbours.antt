@@ -14,9 +14,11 @@ use Rattle.lists.specs.Lists.{Areas, areas, weight, symmetrised}
 use Rattle.affinity.specs.Exact.{norm}
 use Rattle.affinity.specs.Laid.{each, laid}
 
+-- the values of some pairs: distances, or shares
 abbrev pub valuesIn : List Pair → List Float
 valuesIn l = map (λ (x : Pair). x .value) l
 
+-- their frames
 abbrev pub framesIn : List Pair → List ℕ
 framesIn l = map (λ (x : Pair). x .index) l
 
