@@ -10,3 +10,5 @@ pub mod Places
 pub mod Sums
 pub mod Joined
 pub mod Parts
+pub mod Laid
+pub mod Changed

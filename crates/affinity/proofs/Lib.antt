@@ -1,0 +1,6 @@
+pub mod Shares
+pub mod Joint
+pub mod Symmetric
+pub mod Named
+pub mod Listed
+pub mod Kept

@@ -1,0 +1,5 @@
+pub mod Laid
+pub mod Exact
+pub mod Neighbours
+pub mod Steps
+pub mod Cases

@@ -1,0 +1,126 @@
+// The exact route: every frame's shares of all frames, then the two shares of a pair together, in place.
+ghost use mathlib.Core.Path.{_≡_};
+ghost use Prim.Native.Nat.{_+_, _*_, _<_, _≤_};
+ghost use lib.ListN.{length};
+ghost use borrow.Rule.Slice.PartMut.{putMid};
+ghost use Rattle.laws.specs.Area.{zero64};
+ghost use Rattle.near.specs.Distances.{distanceRow, squaresOf, Squared};
+ghost use Rattle.lists.specs.Lists.{cleared};
+ghost use Rattle.affinity.specs.Exact.{exactOf};
+ghost use Rattle.affinity.specs.Laid.{laid};
+ghost use Rattle.affinity.specs.Steps.{conditionals, distancesLeft, pairStep, frameJoined, symmetrized};
+
+// The distances of frame i in the row, and its shares of the n frames in row i of the affinities.
+fn conditional_row(
+    table: &[f64],
+    n: usize,
+    f: usize,
+    perplexity: f64,
+    squares: &[f64],
+    i: usize,
+    affinities: &mut [f64],
+    row: &mut [f64],
+)
+    requires { ⌜ (i < n) × (n ≤ 4096) × (n * f ≤ length (now table)) × (n ≤ length (now squares)) × (i * n + n ≤ length (now affinities)) × (n ≤ length (now row)) ⌝ }
+    requires { ⌜ Squared (now table) n f (now squares) ⌝ }
+    ensures { λ _. ⌜ now (affinities .exit) ≡ putMid (i * n) n (now (affinities .entry)) (conditionals (now (table .entry)) n f perplexity i) ⌝ }
+    ensures { λ _. ⌜ now (row .exit) ≡ distanceRow (now (table .entry)) n f i (now (row .entry)) ⌝ }
+{
+    near::distances::distance_row(table, n, f, squares, i, row);
+    let a = i * n;
+    let e = a + n;
+    sigma::binary_search_sigma(row, n, perplexity, &mut affinities[a..e]);
+}
+
+// The shares of all n frames, by rows.
+fn conditional_probabilities(
+    table: &[f64],
+    n: usize,
+    f: usize,
+    perplexity: f64,
+    squares: &[f64],
+    affinities: &mut [f64],
+    row: &mut [f64],
+)
+    requires { ⌜ (n ≤ 4096) × (n * f ≤ length (now table)) × (n ≤ length (now squares)) × (n * n ≤ length (now affinities)) × (n ≤ length (now row)) ⌝ }
+    requires { ⌜ Squared (now table) n f (now squares) ⌝ }
+    ensures { λ _. ⌜ now (affinities .exit) ≡ laid (conditionals (now (table .entry)) n f perplexity) n n (now (affinities .entry)) ⌝ }
+    ensures { λ _. ⌜ now (row .exit) ≡ distancesLeft (now (table .entry)) n f (now (row .entry)) ⌝ }
+{
+    let mut i = 0;
+    while i < n {
+        conditional_row(table, n, f, perplexity, squares, i, affinities, row);
+        i += 1;
+    }
+}
+
+// A lower frame j and a higher frame i: both places get the two shares together, divided by the norm.
+fn join_pair(affinities: &mut [f64], n: usize, norm: f64, i: usize, j: usize)
+    requires { ⌜ (j * n + i < length (now affinities)) × (i * n + j < length (now affinities)) ⌝ }
+    ensures { λ _. ⌜ now (affinities .exit) ≡ pairStep n norm i j (now (affinities .entry)) ⌝ }
+{
+    let low = j * n + i;
+    let high = i * n + j;
+    let affinity = (affinities[low] + affinities[high]) / norm;
+    affinities[low] = affinity;
+    affinities[high] = affinity;
+}
+
+// Frame i with each lower frame; with itself it has none.
+fn join_frame(affinities: &mut [f64], n: usize, norm: f64, i: usize)
+    requires { ⌜ (i < n) × (n * n ≤ length (now affinities)) ⌝ }
+    ensures { λ _. ⌜ now (affinities .exit) ≡ frameJoined n norm i (now (affinities .entry)) ⌝ }
+{
+    let mut j = 0;
+    while j < i {
+        join_pair(affinities, n, norm, i, j);
+        j += 1;
+    }
+    affinities[i * n + i] = 0.0;
+}
+
+// The shares by rows become affinities, in place.
+fn symmetrize_probabilities(affinities: &mut [f64], n: usize)
+    requires { ⌜ (n ≤ 4096) × (n * n ≤ length (now affinities)) ⌝ }
+    ensures { λ _. ⌜ now (affinities .exit) ≡ symmetrized n (now (affinities .entry)) ⌝ }
+{
+    let norm = 2.0 * n as f64;
+    let mut i = 0;
+    while i < n {
+        join_frame(affinities, n, norm, i);
+        i += 1;
+    }
+}
+
+// The first n places become +0.0.
+fn clear_row(row: &mut [f64], n: usize)
+    requires { ⌜ n ≤ length (now row) ⌝ }
+    ensures { λ _. ⌜ now (row .exit) ≡ cleared zero64 n (now (row .entry)) ⌝ }
+{
+    let mut j = 0;
+    while j < n {
+        row[j] = 0.0;
+        j += 1;
+    }
+}
+
+// The affinities of n frames, by rows, in the first n·n places; on the way the squares of the frames and a row of distances, which is zeros again afterwards.
+pub fn exact_affinities(
+    table: &[f64],
+    n: usize,
+    f: usize,
+    perplexity: f64,
+    affinities: &mut [f64],
+    squares: &mut [f64],
+    row: &mut [f64],
+)
+    requires { ⌜ (n ≤ 4096) × (n * f ≤ length (now table)) × (n * n ≤ length (now affinities)) × (n ≤ length (now squares)) × (n ≤ length (now row)) ⌝ }
+    ensures { λ _. ⌜ now (affinities .exit) ≡ exactOf (now (table .entry)) n f perplexity (now (affinities .entry)) ⌝ }
+    ensures { λ _. ⌜ now (squares .exit) ≡ squaresOf (now (table .entry)) n f (now (squares .entry)) ⌝ }
+    ensures { λ _. ⌜ now (row .exit) ≡ cleared zero64 n (now (row .entry)) ⌝ }
+{
+    near::distances::square_frames(table, n, f, squares);
+    conditional_probabilities(table, n, f, perplexity, squares, affinities, row);
+    symmetrize_probabilities(affinities, n);
+    clear_row(row, n);
+}
