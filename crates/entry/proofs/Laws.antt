@@ -208,7 +208,7 @@ unfolding faultOf faultAt
 fault-fine s e =
     let m = s .memory in
     let r = s .run in
-    let ns = nodesOf (m .reals) (m .words) in
+    let ns = m .nodes in
     let nodes = length ns in
     let F = areasFit (r .settings) (length (m .positions)) (length (m .increments)) (length (m .gains)) (length (m .affinities)) (length (m .indices)) (length (m .offsets)) (length (m .forces)) nodes in
     let C = contentsFault r (m .indices) (m .offsets) ns in
@@ -231,7 +231,7 @@ unfolding faultOf faultAt
 fault-good s g =
     let m = s .memory in
     let r = s .run in
-    let ns = nodesOf (m .reals) (m .words) in
+    let ns = m .nodes in
     let nodes = length ns in
     let f = areas-good (r .settings) (length (m .positions)) (length (m .increments)) (length (m .gains)) (length (m .affinities)) (length (m .indices)) (length (m .offsets)) (length (m .forces)) nodes (g .areas) in
     rw (record-good r (g .settings) (g .counters)) (rw f (by-bool (cond (isTree (r .settings .method)) (contentsFault r (m .indices) (m .offsets) ns) Fine ≡ Fine) (isTree (r .settings .method)) (λ t. rw t (contents-good r (m .indices) (m .offsets) ns (g .contents t))) (λ t. rw t)))

@@ -12,12 +12,11 @@ use Rattle.record.specs.declared.Settings.{Settings}
 use Rattle.record.specs.declared.Run.{Run}
 use Rattle.record.specs.Record.{isTree, settingsFault, countersOk, perOf, stateFits, kOf, sizesOf, GoodSettings}
 use Rattle.node.specs.declared.Node.{Node}
-use Rattle.node.specs.Areas.{nodesOf}
 use Rattle.tree.specs.Insert.{tree, treeOk}
 use Rattle.tree.specs.Contents.{contentsOf}
 use Rattle.tree.specs.declared.Contents.{Contents}
 use Rattle.tree.specs.declared.Contents.the-variants.{Fine as FineTree, Used, Count, Point, Block}
-use Rattle.entry.specs.State.{State, nodesIn}
+use Rattle.entry.specs.State.{State}
 use Rattle.entry.specs.declared.Fault.{Fault}
 use Rattle.entry.specs.declared.Fault.the-variants.{Fine, Settings as BadSettings, Counters, Areas, Offsets, Index, Tree}
 
@@ -86,18 +85,18 @@ isFine (Tree i) = false
 unfoldable pub recordFault : Run → Fault
 recordFault r = cond (not (eqb (settingsFault (r .settings)) 0)) (BadSettings (settingsFault (r .settings))) (cond (countersOk r) Fine Counters)
 
-unfoldable pub faultAt : Run → ℕ → ℕ → ℕ → ℕ → ℕ → List ℕ → List ℕ → List Float → List ℕ → Fault
-faultAt r p i g a f xs off R W =
+unfoldable pub faultAt : Run → ℕ → ℕ → ℕ → ℕ → ℕ → List ℕ → List ℕ → List Node → Fault
+faultAt r p i g a f xs off ns =
     cond (isFine (recordFault r))
-    (cond (areasFit (r .settings) p i g a (length xs) (length off) f (length (nodesOf R W)))
-    (cond (isTree (r .settings .method)) (contentsFault r xs off (nodesOf R W)) Fine)
+    (cond (areasFit (r .settings) p i g a (length xs) (length off) f (length ns))
+    (cond (isTree (r .settings .method)) (contentsFault r xs off ns) Fine)
     Areas)
     (recordFault r)
 
 unfoldable pub faultOf : State → Fault
 faultOf s =
     let m = s .memory in
-    faultAt (s .run) (length (m .positions)) (length (m .increments)) (length (m .gains)) (length (m .affinities)) (length (m .forces)) (m .indices) (m .offsets) (m .reals) (m .words)
+    faultAt (s .run) (length (m .positions)) (length (m .increments)) (length (m .gains)) (length (m .affinities)) (length (m .forces)) (m .indices) (m .offsets) (m .nodes)
 
 -- the scope paper's number of a fault; none where all is fine
 unfoldable pub faultNumber : Fault → ℕ
@@ -150,5 +149,5 @@ pub record GoodContents (r : Run) (xs off : List ℕ) (ns : List Node) : Type 0 
 pub record Good (s : State) : Type 0 where
   pub settings : GoodSettings (s .run .settings)
   pub counters : GoodCounters (s .run)
-  pub areas : GoodAreas (s .run .settings) (length (s .memory .positions)) (length (s .memory .increments)) (length (s .memory .gains)) (length (s .memory .affinities)) (length (s .memory .indices)) (length (s .memory .offsets)) (length (s .memory .forces)) (length (nodesIn (s .memory)))
-  pub contents : isTree (s .run .settings .method) ≡ true → GoodContents (s .run) (s .memory .indices) (s .memory .offsets) (nodesIn (s .memory))
+  pub areas : GoodAreas (s .run .settings) (length (s .memory .positions)) (length (s .memory .increments)) (length (s .memory .gains)) (length (s .memory .affinities)) (length (s .memory .indices)) (length (s .memory .offsets)) (length (s .memory .forces)) (length (s .memory .nodes))
+  pub contents : isTree (s .run .settings .method) ≡ true → GoodContents (s .run) (s .memory .indices) (s .memory .offsets) (s .memory .nodes)

@@ -4,9 +4,9 @@ use Prim.Native.Nat.{ℕ}
 use lib.Ieee.{Float}
 use Rattle.record.specs.declared.Run.{Run}
 use Rattle.node.specs.declared.Node.{Node}
-use Rattle.node.specs.Areas.{nodesOf}
+use Rattle.node.specs.Areas.{Rest, nodesOf, restOf}
 
--- the areas; the arena is the two flat ones, reals and words
+-- the areas; the arena as the nodes that its two flat areas stand for, and what lies past them: the two tell the flat areas whole
 pub record Memory : Type 0 where
   pub positions : List Float
   pub increments : List Float
@@ -15,19 +15,15 @@ pub record Memory : Type 0 where
   pub indices : List ℕ
   pub offsets : List ℕ
   pub forces : List Float
-  pub reals : List Float
-  pub words : List ℕ
+  pub nodes : List Node
+  pub rest : Rest
 
 pub record State : Type 0 where
   pub run : Run
   pub memory : Memory
 
 abbrev pub memory : List Float → List Float → List Float → List Float → List ℕ → List ℕ → List Float → List Float → List ℕ → Memory
-memory p i g a x o f r w = record { positions = p; increments = i; gains = g; affinities = a; indices = x; offsets = o; forces = f; reals = r; words = w }
+memory p i g a x o f r w = record { positions = p; increments = i; gains = g; affinities = a; indices = x; offsets = o; forces = f; nodes = nodesOf r w; rest = restOf r w }
 
 abbrev pub state : Run → Memory → State
 state r m = record { run = r; memory = m }
-
--- the arena's nodes
-abbrev pub nodesIn : Memory → List Node
-nodesIn m = nodesOf (m .reals) (m .words)

@@ -236,7 +236,7 @@ pub fn fault_at(
     reals: &[f64],
     words: &[u32],
 ) -> Fault
-    ensures { λ t. ⌜ t ≡ faultAt r p i g a f (now (indices .entry)) (now (offsets .entry)) (now (reals .entry)) (now (words .entry)) ⌝ }
+    ensures { λ t. ⌜ t ≡ faultAt r p i g a f (now (indices .entry)) (now (offsets .entry)) (nodesOf (now (reals .entry)) (now (words .entry))) ⌝ }
 {
     let t = record_fault(r);
     if !is_fine(t) {

@@ -45,11 +45,12 @@ node-row r w i h = rows-at r w (nodeCount r w) 0 i (rw length-nodes at h) ∙ ap
 -- the nodes lie within both areas
 count-in : (r : List Float) (w : List ℕ) → (9 * nodeCount r w ≤ length r) × (3 * nodeCount r w ≤ length w)
 unfolding nodeCount
-count-in r w = go (length r) (length w) (leb (length r / 9) (length w / 3)) refl
-  where
-    go : (m n : ℕ) (b : Bool) → leb (m / 9) (n / 3) ≡ b → (9 * cond b (m / 9) (n / 3) ≤ m) × (3 * cond b (m / 9) (n / 3) ≤ n)
-    go m n true e = omega (arith, leb-true (m / 9) (n / 3) e)
-    go m n false e = omega (arith, leb-false (m / 9) (n / 3) e)
+count-in r w = omega arith
+
+-- a word can name each of them
+pub nodes-named : (r : List Float) (w : List ℕ) → length (nodesOf r w) < 4294967296
+unfolding nodeCount
+nodes-named r w = rw length-nodes (omega arith)
 
 -- so there are not many
 pub nodes-few : (r : List Float) (w : List ℕ) → 9 * length (nodesOf r w) ≤ length r

@@ -2,7 +2,7 @@
 -- Where a length is no multiple, or the areas do not agree, the nodes are those that both hold whole; what lies past them is the rest, and stays.
 use mathlib.Core.List.{List, [], _∷_, _++_}
 use mathlib.Core.Bool.{cond}
-use Prim.Native.Nat.{ℕ, zero, suc, _+_, _-_, _*_, _/_}
+use Prim.Native.Nat.{ℕ, zero, suc, _+_, _-_, _*_, _/_, min}
 use lib.ListN.{getD, set, length, drop}
 use lib.Dec.{eqb, leb}
 use lib.Ieee.{Float}
@@ -34,8 +34,9 @@ rowAt r w i =
       leaf = leafOf (num w (3 * i + 2));
     }
 
+-- the nodes that both areas hold whole, at most as many as a word can name
 unfoldable pub nodeCount : List Float → List ℕ → ℕ
-nodeCount r w = cond (leb (length r / 9) (length w / 3)) (length r / 9) (length w / 3)
+nodeCount r w = min (min (length r / 9) (length w / 3)) 4294967295
 
 -- n rows from row k on
 unfoldable pub rows : List Float → List ℕ → ℕ → ℕ → List Node

@@ -1,6 +1,6 @@
 // The flat areas: nine floats and three words a node. Only the functions here know that the nodes lie flat.
 ghost use mathlib.Core.Path.{_≡_};
-ghost use Prim.Native.Nat.{_+_, _*_, _<_, _≤_};
+ghost use Prim.Native.Nat.{_+_, _*_, _<_, _≤_, min};
 ghost use lib.ListN.{length, set};
 ghost use Rattle.laws.specs.Area.{at};
 ghost use Rattle.node.specs.Areas.{leafOf, rowAt, three, put3, putReals, putWords, wordOf, nodesOf, nodeAt, restOf};
@@ -26,16 +26,21 @@ fn leaf_word(l: Leaf) -> u32
     p + 1
 }
 
-// How many nodes the areas hold.
-pub fn capacity(reals: &[f64], words: &[u32]) -> usize
-    ensures { λ r. ⌜ r ≡ length (nodesOf (now (reals .entry)) (now (words .entry))) ⌝ }
+// The smaller of two numbers.
+fn smaller(a: usize, b: usize) -> usize
+    ensures { λ r. ⌜ r ≡ min a b ⌝ }
 {
-    let a = reals.len() / 9;
-    let b = words.len() / 3;
     if a <= b {
         return a;
     }
     b
+}
+
+// How many nodes the areas hold, as far as a word can name them.
+pub fn capacity(reals: &[f64], words: &[u32]) -> usize
+    ensures { λ r. ⌜ r ≡ length (nodesOf (now (reals .entry)) (now (words .entry))) ⌝ }
+{
+    smaller(smaller(reals.len() / 9, words.len() / 3), 4294967295)
 }
 
 fn read_reals(reals: &[f64], a: usize) -> [f64; 3]
