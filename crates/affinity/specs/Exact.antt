@@ -1,4 +1,4 @@
--- The exact affinities of n frames, as document 01 (rule 2), `conditional_probabilities` and `symmetrize_probabilities` have them. Definitions only.
+-- The exact affinities of n frames, as the scope paper (rule 2), `conditional_probabilities` and `symmetrize_probabilities` have them. Definitions only.
 -- A table has f features a frame; its distances are those of `near`, the shares those of `sigma`.
 use mathlib.Core.List.{List}
 use mathlib.Core.Bool.{cond}

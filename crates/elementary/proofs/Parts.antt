@@ -317,7 +317,7 @@ positive v f a b c =
     let back = ofBits-toBits binary64 v f ∙ w .2 in
     (bits-above (toBits binary64 v) (w .0) (w .1) back, bits-under (toBits binary64 v) (toBits-lt binary64 v f) (ap signed back))
 
--- ---- that the definition splits a value as document 01 says: m in [1, 2), and the value is m * 2 ^ k
+-- ---- that the definition splits a value as the scope paper says: m in [1, 2), and the value is m * 2 ^ k
 
 -- with p the weight of the leading digit, p <= m < 2 * p: m / p lies in [1, 2)
 pub in-one-two : (m : ℕ) → 0 < m → (2 ^ (size m - 1) ≤ m) × (m < 2 * 2 ^ (size m - 1))

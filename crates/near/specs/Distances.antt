@@ -1,4 +1,4 @@
--- Squared distances between the frames of a table, as document 01 (rule 2), `pairwise_squared_distances` and `neighbor_probabilities` have them. Definitions only.
+-- Squared distances between the frames of a table, as the scope paper (rule 2), `pairwise_squared_distances` and `neighbor_probabilities` have them. Definitions only.
 use mathlib.Core.Path.{_≡_}
 use mathlib.Core.List.{List}
 use Prim.Native.Nat.{ℕ, _+_, _*_, _<_}

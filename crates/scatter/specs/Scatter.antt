@@ -1,4 +1,4 @@
--- Scatter, as document 01 has it: SplitMix64, the coordinate of an output, and the positions it starts from. Definitions only.
+-- Scatter, as the scope paper has it: SplitMix64, the coordinate of an output, and the positions it starts from. Definitions only.
 use mathlib.Core.List.{List}
 use mathlib.Core.Option.{Option, none, some}
 use mathlib.Core.Bool.{cond, _||_}
@@ -61,7 +61,7 @@ scatterStep k x = let s = nextOf (x .state) in spread s (set (x .positions) k (c
 abbrev pub startOf : ℕ → ℕ → List Float → List Float
 startOf m seed p = run scatterStep m 0 (spread seed p) .positions
 
--- the number that document 01 gives an answer; none when the positions are written
+-- the number that the scope paper gives an answer; none when the positions are written
 abbrev pub numberOf : Scattered → Option ℕ
 numberOf Done = none
 numberOf (Refused r) = some r
@@ -75,7 +75,7 @@ pub record Outcome : Type 0 where
 abbrev pub outcome : Scattered → List Float → Outcome
 outcome a p = record { number = numberOf a; positions = p }
 
--- the refusals in document 01's order, which write nothing; else n rows of c coordinates
+-- the refusals in the scope paper's order, which write nothing; else n rows of c coordinates
 unfoldable pub scatterOf : ℕ → ℕ → ℕ → List Float → Outcome
 scatterOf n c seed p =
     cond (eqb c 0 || ltb 8 c) (outcome (Refused 1) p)

@@ -1,4 +1,4 @@
--- The sigma search, as document 01 (rule 1) and `binary_search_sigma` have it: the shares of a row of distances that have a perplexity. Definitions only.
+-- The sigma search, as the scope paper (rule 1) and `binary_search_sigma` have it: the shares of a row of distances that have a perplexity. Definitions only.
 use mathlib.Core.List.{List}
 use mathlib.Core.Bool.{Bool, true, false, cond}
 use Prim.Native.Nat.{ℕ}

@@ -1,4 +1,4 @@
--- A component's sum, in the words of document 01: it starts at +0.0 and runs over the frames by rising index. Assumes nothing.
+-- A component's sum, in the words of the scope paper: it starts at +0.0 and runs over the frames by rising index. Assumes nothing.
 use mathlib.Core.Path.{_≡_, refl, sym, ap, _∙_}
 use mathlib.Core.Logic.{_⊎_, inl, inr, ⊎-elim}
 use mathlib.Core.List.{List}

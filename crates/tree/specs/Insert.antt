@@ -1,4 +1,4 @@
--- Insertion of a point into the tree, over a list of nodes: rule 3 of document 01. Definitions.
+-- Insertion of a point into the tree, over a list of nodes: rule 3 of the scope paper. Definitions only.
 use mathlib.Core.List.{List, _∷_}
 use mathlib.Core.Bool.{Bool, true, false, cond, _&&_, _||_}
 use Prim.Native.Nat.{ℕ, zero, suc, _+_, _-_, _*_, _^_}

@@ -1,4 +1,4 @@
--- Repulsion on a point: rule 4 of document 01, over a list of nodes. Definitions.
+-- Repulsion on a point: rule 4 of the scope paper, over a list of nodes. Definitions only.
 use mathlib.Core.Path.{_≡_}
 use mathlib.Core.List.{List}
 use mathlib.Core.Bool.{true, false}
