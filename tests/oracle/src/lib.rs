@@ -8,4 +8,5 @@ pub mod elementary;
 pub mod frames;
 pub mod lists;
 pub mod scatter;
+pub mod sigma;
 pub mod words;

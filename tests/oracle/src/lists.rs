@@ -5,6 +5,7 @@
 pub mod elementary;
 pub mod frames;
 pub mod scatter;
+pub mod sigma;
 
 use std::path::{Path, PathBuf};
 
@@ -48,5 +49,6 @@ pub fn all() -> Vec<List> {
         List::new("replay_elementary", "neighbours", &elementary::neighbours_cases()),
         List::new("replay_scatter", "scatter", &scatter::cases()),
         List::new("replay_frames", "frames", &frames::cases()),
+        List::new("replay_affinity", "sigma", &sigma::cases()),
     ]
 }
