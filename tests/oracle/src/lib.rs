@@ -6,6 +6,8 @@
 pub mod differences;
 pub mod elementary;
 pub mod frames;
+pub mod gradient;
 pub mod lists;
 pub mod scatter;
+pub mod step;
 pub mod words;

@@ -4,7 +4,9 @@
 
 pub mod elementary;
 pub mod frames;
+pub mod gradient;
 pub mod scatter;
+pub mod step;
 
 use std::path::{Path, PathBuf};
 
@@ -48,5 +50,7 @@ pub fn all() -> Vec<List> {
         List::new("replay_elementary", "neighbours", &elementary::neighbours_cases()),
         List::new("replay_scatter", "scatter", &scatter::cases()),
         List::new("replay_frames", "frames", &frames::cases()),
+        List::new("replay_gradient", "exact", &gradient::cases()),
+        List::new("replay_gradient", "step", &step::cases()),
     ]
 }
