@@ -6,7 +6,9 @@
 pub mod differences;
 pub mod elementary;
 pub mod frames;
+pub mod gradient;
 pub mod lists;
 pub mod scatter;
 pub mod sigma;
+pub mod step;
 pub mod words;

@@ -4,8 +4,10 @@
 
 pub mod elementary;
 pub mod frames;
+pub mod gradient;
 pub mod scatter;
 pub mod sigma;
+pub mod step;
 
 use std::path::{Path, PathBuf};
 
@@ -50,5 +52,7 @@ pub fn all() -> Vec<List> {
         List::new("replay_scatter", "scatter", &scatter::cases()),
         List::new("replay_frames", "frames", &frames::cases()),
         List::new("replay_affinity", "sigma", &sigma::cases()),
+        List::new("replay_gradient", "exact", &gradient::cases()),
+        List::new("replay_gradient", "step", &step::cases()),
     ]
 }
