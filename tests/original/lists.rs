@@ -71,7 +71,14 @@ type Points = (usize, Vec<f64>);
 
 /// Every case of trees in c components. Equal points take 50 levels of 2^c nodes, so there are few of those with c = 3.
 fn tree_cases(c: usize) -> Vec<Vec<u64>> {
-    let kinds = [scattered(c), on_centre_lines(c), with_zeros(c), far(c), coincident(c), tiny(c)];
+    let kinds = [
+        scattered(c),
+        on_centre_lines(c),
+        with_zeros(c),
+        far(c),
+        coincident(c),
+        tiny(c),
+    ];
     kinds.concat().iter().map(|(c, y)| tree_case(*c, y)).collect()
 }
 
@@ -210,13 +217,19 @@ fn tree_case(c: usize, y: &[f64]) -> Vec<u64> {
 
 /// Centre, half-width and centre of mass, count, leaf (0, or point + 1), number of children.
 fn node_words(c: usize, node: &DumpNode) -> Vec<u64> {
-    assert!([&node.center, &node.half_width, &node.com].iter().all(|row| row.len() == c));
+    assert!([&node.center, &node.half_width, &node.com]
+        .iter()
+        .all(|row| row.len() == c));
     assert!(node.n_children == 0 || (node.n_children == 1 << c && node.leaf.is_none()));
     assert!(node.cum_size < 2 || node.n_children > 0 || (node.depth == 50 && node.leaf.is_some()));
     let mut words = bits(&node.center);
     words.extend(bits(&node.half_width));
     words.extend(bits(&node.com));
-    words.extend([node.cum_size as u64, node.leaf.map_or(0, |i| i as u64 + 1), node.n_children as u64]);
+    words.extend([
+        node.cum_size as u64,
+        node.leaf.map_or(0, |i| i as u64 + 1),
+        node.n_children as u64,
+    ]);
     words
 }
 
@@ -243,11 +256,24 @@ fn near_cases() -> Vec<Vec<u64>> {
         let i = random.below(n);
         let many_ties = round % 2 == 0;
         let row: Vec<f64> = (0..n)
-            .map(|_| if many_ties { random.below(6) as f64 * 0.5 } else { random.unit() * 1.0e4 })
+            .map(|_| {
+                if many_ties {
+                    random.below(6) as f64 * 0.5
+                } else {
+                    random.unit() * 1.0e4
+                }
+            })
             .collect();
         cases.push(near_case(&row, k, i));
     }
-    let ends = [0.0, f64::from_bits(1), f64::MIN_POSITIVE, 1.0e12, f64::MAX, f64::INFINITY];
+    let ends = [
+        0.0,
+        f64::from_bits(1),
+        f64::MIN_POSITIVE,
+        1.0e12,
+        f64::MAX,
+        f64::INFINITY,
+    ];
     for k in 1..=11 {
         let row: Vec<f64> = (0..12).map(|_| random.of(&ends)).collect();
         cases.push(near_case(&row, k, k));
@@ -259,14 +285,22 @@ fn near_cases() -> Vec<Vec<u64>> {
 fn rows_of(values: &[f64], length: usize) -> Vec<Vec<f64>> {
     let mut rows = vec![Vec::new()];
     for _ in 0..length {
-        rows = rows.iter().flat_map(|row: &Vec<f64>| values.iter().map(move |&v| [&row[..], &[v]].concat())).collect();
+        rows = rows
+            .iter()
+            .flat_map(|row: &Vec<f64>| values.iter().map(move |&v| [&row[..], &[v]].concat()))
+            .collect();
     }
     rows
 }
 
 /// One choice: the k nearest of frame i, which is at the given distances from the others.
 fn near_case(row: &[f64], k: usize, i: usize) -> Vec<u64> {
-    let pairs = row.iter().enumerate().filter(|&(j, _)| j != i).map(|(j, &d)| (d, j)).collect();
+    let pairs = row
+        .iter()
+        .enumerate()
+        .filter(|&(j, _)| j != i)
+        .map(|(j, &d)| (d, j))
+        .collect();
     let found = chosen(pairs, k);
     assert_eq!(found.len(), k);
     let mut words = vec![row.len() as u64, k as u64, i as u64];
@@ -277,7 +311,7 @@ fn near_case(row: &[f64], k: usize, i: usize) -> Vec<u64> {
 
 // ---- the lists
 
-/// Every case of the lists' list: n, k, then for each frame its k links, each with its share, in any order; then the
+/// Every case of the lists' list: n, k, then for each frame its k links, by rising index, each with its share; then the
 /// n + 1 offsets, and the links of all lists, each with its weight.
 fn lists_cases() -> Vec<Vec<u64>> {
     let mut random = Random(800);
@@ -292,7 +326,9 @@ fn lists_cases() -> Vec<Vec<u64>> {
     }
     // three frames with one link each, in every way
     for choice in 0..8 {
-        let links = (0..3).map(|i| vec![((i + 1 + (choice >> i & 1)) % 3, 1.0)]).collect::<Vec<_>>();
+        let links = (0..3)
+            .map(|i| vec![((i + 1 + (choice >> i & 1)) % 3, 1.0)])
+            .collect::<Vec<_>>();
         cases.push(lists_case(3, &links));
     }
     // one frame that all others name
@@ -301,7 +337,7 @@ fn lists_cases() -> Vec<Vec<u64>> {
     cases
 }
 
-/// k links of each frame, in any order, with shares: random ones, zeros and ones that are too small to be felt.
+/// k links of each frame, by rising index, with shares: random ones, zeros and ones that are too small to be felt.
 fn random_links(n: usize, k: usize, random: &mut Random) -> Vec<Vec<(usize, f64)>> {
     (0..n)
         .map(|i| {
@@ -310,7 +346,14 @@ fn random_links(n: usize, k: usize, random: &mut Random) -> Vec<Vec<(usize, f64)
                 let from = place + random.below(n - 1 - place);
                 others.swap(place, from);
             }
-            let mut share = || if random.below(5) == 0 { random.of(&[0.0, 1.0e-300, 1.0]) } else { random.unit() };
+            others[..k].sort_unstable();
+            let mut share = || {
+                if random.below(5) == 0 {
+                    random.of(&[0.0, 1.0e-300, 1.0])
+                } else {
+                    random.unit()
+                }
+            };
             others[..k].iter().map(|&j| (j, share())).collect()
         })
         .collect()
@@ -324,13 +367,23 @@ fn lists_case(n: usize, links: &[Vec<(usize, f64)>]) -> Vec<u64> {
         .collect();
     let lists = joined(conditional, n);
     let mut words = vec![n as u64, links[0].len() as u64];
-    words.extend(links.iter().flatten().flat_map(|&(j, share)| [j as u64, share.to_bits()]));
+    words.extend(
+        links
+            .iter()
+            .flatten()
+            .flat_map(|&(j, share)| [j as u64, share.to_bits()]),
+    );
     let mut offset = 0;
     words.push(offset);
     for list in &lists {
         offset += list.len() as u64;
         words.push(offset);
     }
-    words.extend(lists.iter().flatten().flat_map(|&(j, weight)| [j as u64, weight.to_bits()]));
+    words.extend(
+        lists
+            .iter()
+            .flatten()
+            .flat_map(|&(j, weight)| [j as u64, weight.to_bits()]),
+    );
     words
 }

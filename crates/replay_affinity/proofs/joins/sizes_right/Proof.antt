@@ -1,0 +1,17 @@
+use mathlib.Core.Path.{sym}
+use mathlib.Core.Bool.{true≢false}
+use borrow.Author.Tests.{ltb-true}
+use Rattle.replay_affinity.proofs.joins.sizes_right.Statement.{statement}
+use Rattle.replay_affinity.proofs.joins.sizes_right.Tie as tie
+
+returns : tie.Need-returns
+returns c = λ e. absurd (true≢false (sym e))
+
+returns-2 : tie.Need-returns-2
+returns-2 c = λ e. absurd (true≢false (sym e))
+
+returns-3 : tie.Need-returns-3
+returns-3 c = λ e. (c .before .if1 .left, c .if2 .left, ltb-true (c .before .before .args .k) (c .before .before .args .n) e)
+
+pub sizes-right-spec : {M : Type 1} → statement M
+sizes-right-spec = tie.close (tie.spec returns returns-2 returns-3)
