@@ -5,6 +5,7 @@
 pub mod elementary;
 pub mod frames;
 pub mod gradient;
+pub mod preparation;
 pub mod scatter;
 pub mod step;
 
@@ -52,5 +53,6 @@ pub fn all() -> Vec<List> {
         List::new("replay_frames", "frames", &frames::cases()),
         List::new("replay_gradient", "exact", &gradient::cases()),
         List::new("replay_gradient", "step", &step::cases()),
+        List::new("replay_preparation", "preparation", &preparation::cases()),
     ]
 }
