@@ -8,6 +8,7 @@ pub mod elementary;
 pub mod frames;
 pub mod gradient;
 pub mod lists;
+pub mod preparation;
 pub mod scatter;
 pub mod sigma;
 pub mod step;

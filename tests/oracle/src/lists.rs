@@ -5,6 +5,7 @@
 pub mod elementary;
 pub mod frames;
 pub mod gradient;
+pub mod preparation;
 pub mod scatter;
 pub mod sigma;
 pub mod step;
@@ -54,5 +55,6 @@ pub fn all() -> Vec<List> {
         List::new("replay_affinity", "sigma", &sigma::cases()),
         List::new("replay_gradient", "exact", &gradient::cases()),
         List::new("replay_gradient", "step", &step::cases()),
+        List::new("replay_preparation", "preparation", &preparation::cases()),
     ]
 }
