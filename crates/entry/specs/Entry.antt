@@ -98,7 +98,7 @@ faultOf s =
     let m = s .memory in
     faultAt (s .run) (length (m .positions)) (length (m .increments)) (length (m .gains)) (length (m .affinities)) (length (m .forces)) (m .indices) (m .offsets) (m .nodes)
 
--- the scope paper's number of a fault; none where all is fine
+-- the scope paper's number of a fault; 0, which is no refusal, where all is fine
 unfoldable pub faultNumber : Fault → ℕ
 faultNumber Fine = 0
 faultNumber (BadSettings k) = 13
