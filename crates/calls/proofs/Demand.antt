@@ -9,6 +9,7 @@ use native.Mathlib.Nat.{zero-add, add-zero, suc-add, sub-zero}
 use lib.Dec.{ltb}
 use borrow.Author.Tests.{ltb-true, lt-ltb, le-ltb, le-leb, lt-leb}
 use Rattle.laws.specs.Run.{until}
+use Rattle.laws.proofs.Bools.{by-bool}
 use Rattle.laws.proofs.Untils.{until-add}
 use Rattle.laws.proofs.Numbers.{left, none}
 use Rattle.calls.specs.Machine.{over, refused, running, Machine, called, times, stops, after, done, kindAt, go, call, left-by, told-by, sum, capped, Lawful}
@@ -36,11 +37,7 @@ module _ {S : Type 0} (m : Machine S) where
 
   -- a case split on whether the state stops
   by-stop : (P : Type 0) (s : S) → (stops m s ≡ true → P) → (stops m s ≡ false → P) → P
-  by-stop P s t f = go2 (stops m s) refl
-    where
-      go2 : (b : Bool) → stops m s ≡ b → P
-      go2 true e = t e
-      go2 false e = f e
+  by-stop P s t f = by-bool P (stops m s) t f
 
   -- ---- what is so of every state
 
@@ -78,6 +75,48 @@ module _ {S : Type 0} (m : Machine S) where
 
   pub after-add : (a b : ℕ) (s : S) → after m (a + b) s ≡ after m b (after m a s)
   after-add a b s = until-add (stops m) (m .next) a b s
+
+  -- ---- the budget loop: k units have led from y to x, and what every unit keeps still holds
+
+  module _ (Inv : S → Type 0) (keeps : (s : S) → Inv s → stops m s ≡ false → Inv (m .next s)) where
+    pub record Goes (b : ℕ) (y : S) (k : ℕ) (x : S) : Type 0 where
+      pub within : k ≤ b
+      pub good : Inv x
+      pub state : after m (b - k) x ≡ after m b y
+      pub units : k + done m (b - k) x ≡ done m b y
+
+    pub goes-start : (b : ℕ) (y : S) → Inv y → Goes b y 0 y
+    goes-start b y g = record { within = omega arith; good = g; state = rw sub-zero; units = rw (sub-zero b) (zero-add (done m b y)) }
+
+    pub goes-more : {b k : ℕ} {y x : S} → Goes b y k x → k < b → stops m x ≡ false → Goes b y (k + 1) (m .next x)
+    goes-more {b} {k} {y} {x} r h e =
+        let a = after-go (b - (k + 1)) x e in
+        let d = done-go (b - (k + 1)) x e in
+        let l = left b k h in
+        record {
+          within = omega arith;
+          good = keeps x (r .good) e;
+          state = sym a ∙ (rw l at (r .state));
+          units = (let z : k + done m (suc (b - (k + 1))) x ≡ done m b y = rw l at (r .units) in omega arith);
+        }
+
+    -- a unit was not done: this is where the call ends
+    pub goes-halt : {b k : ℕ} {y x : S} → Goes b y k x → k < b → stops m x ≡ true → called x k (kindAt m b k x) ≡ go m b y
+    unfolding go
+    goes-halt {b} {k} {y} {x} r h e =
+        let a : x ≡ after m b y = sym (after-stop (b - k) x e) ∙ r .state in
+        let d : k ≡ done m b y = (let z = done-stop (b - k) x e in let u = r .units in omega arith) in
+        ends r a d
+      where
+        ends : {b k : ℕ} {y x : S} → Goes b y k x → x ≡ after m b y → k ≡ done m b y → called x k (kindAt m b k x) ≡ called (after m b y) (done m b y) (kindAt m b (done m b y) (after m b y))
+        ends r a d = rw (a, d)
+
+    pub goes-done : {b k : ℕ} {y x : S} → Goes b y k x → b ≤ k → called x k (kindAt m b k x) ≡ go m b y
+    unfolding go until done
+    goes-done {b} {k} {y} {x} r h =
+        let a : x ≡ after m b y = rw (none b k h) at (r .state) in
+        let d : k ≡ done m b y = (let z : k + 0 ≡ done m b y = rw (none b k h) at (r .units) in omega arith) in
+        rw (← a, ← d)
 
   -- ---- what is so of a lawful machine, from any good state
 
@@ -215,52 +254,7 @@ module _ {S : Type 0} (m : Machine S) where
           kind = rw (one, last, f .state) (kind-add (sum bs) b s h);
         }
 
-    -- ---- the budget loop: k units have led from y to x
-
-    pub record Goes (b : ℕ) (y : S) (k : ℕ) (x : S) : Type 0 where
-      pub within : k ≤ b
-      pub good : Good x
-      pub state : after m (b - k) x ≡ after m b y
-      pub units : k + done m (b - k) x ≡ done m b y
-
-    pub goes-start : (b : ℕ) (y : S) → Good y → Goes b y 0 y
-    goes-start b y g = record { within = omega arith; good = g; state = rw sub-zero; units = rw (sub-zero b) (zero-add (done m b y)) }
-
-    pub goes-more : {b k : ℕ} {y x : S} → Goes b y k x → k < b → stops m x ≡ false → Goes b y (k + 1) (m .next x)
-    goes-more {b} {k} {y} {x} r h e =
-        let a = after-go (b - (k + 1)) x e in
-        let d = done-go (b - (k + 1)) x e in
-        let l = left b k h in
-        record {
-          within = omega arith;
-          good = w .keeps x (r .good) e;
-          state = sym a ∙ (rw l at (r .state));
-          units = (let z : k + done m (suc (b - (k + 1))) x ≡ done m b y = rw l at (r .units) in omega arith);
-        }
-
-    -- a unit was not done: this is where the call ends
-    pub goes-halt : {b k : ℕ} {y x : S} → Goes b y k x → k < b → stops m x ≡ true → called x k (kindAt m b k x) ≡ go m b y
-    unfolding go
-    goes-halt {b} {k} {y} {x} r h e =
-        let a : x ≡ after m b y = sym (after-stop (b - k) x e) ∙ r .state in
-        let d : k ≡ done m b y = (let z = done-stop (b - k) x e in let u = r .units in omega arith) in
-        ends r a d
-      where
-        ends : {b k : ℕ} {y x : S} → Goes b y k x → x ≡ after m b y → k ≡ done m b y → called x k (kindAt m b k x) ≡ called (after m b y) (done m b y) (kindAt m b (done m b y) (after m b y))
-        ends r a d = rw (a, d)
-
-    pub goes-done : {b k : ℕ} {y x : S} → Goes b y k x → b ≤ k → called x k (kindAt m b k x) ≡ go m b y
-    unfolding go until done
-    goes-done {b} {k} {y} {x} r h =
-        let a : x ≡ after m b y = rw (none b k h) at (r .state) in
-        let d : k ≡ done m b y = (let z : k + 0 ≡ done m b y = rw (none b k h) at (r .units) in omega arith) in
-        rw (← a, ← d)
-
     -- ---- a refusal
-
-    by-bool : (P : Type 0) (b : Bool) → (b ≡ true → P) → (b ≡ false → P) → P
-    by-bool P true t f = t refl
-    by-bool P false t f = f refl
 
     -- what a call that answers "refused" leaves: the state of the units that it tells, and there the next unit is refused
     pub record Refusal (b : ℕ) (s : S) : Type 0 where

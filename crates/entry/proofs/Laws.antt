@@ -8,7 +8,7 @@ use lib.Dec.{eqb, ltb, leb}
 use lib.ListN.{length}
 use borrow.Author.Tests.{ltb-true, leb-true, ltb-false, ne-eqb, eq-eqb, lt-ltb, le-leb, le-ltb, eqb-true, eqb-false, not-false}
 use Rattle.laws.specs.Area.{num}
-use Rattle.laws.proofs.Bools.{and-left, and-right}
+use Rattle.laws.proofs.Bools.{by-bool, and-left, and-right}
 use Rattle.laws.proofs.First.{first-all, first-none}
 use Rattle.record.specs.declared.Settings.{Settings}
 use Rattle.record.specs.declared.Run.{Run}
@@ -53,10 +53,6 @@ listed-most s off h l =
     let e = offsets-fine s off l n (omega arith) in
     let f : leb (num off (n - 1)) (num off n) && leb (num off n) (sizesOf s .links) ≡ true = rw (ne-eqb n 0 (λ q. omega arith)) at e in
     leb-true _ _ (and-right (leb (num off (n - 1)) (num off n)) (leb (num off n) (sizesOf s .links)) f)
-
-by-bool : (P : Type 0) (b : Bool) → (b ≡ true → P) → (b ≡ false → P) → P
-by-bool P true t f = t refl
-by-bool P false t f = f refl
 
 fine-cond : (t : Bool) (a b : Fault) → isFine a ≡ false → isFine (cond t a b) ≡ true → (t ≡ false) × (isFine b ≡ true)
 fine-cond true a b n e = absurd (true≢false (sym e ∙ n))
@@ -161,7 +157,7 @@ fine-is (Point i) e = absurd (true≢false (sym e))
 fine-is (Block i) e = absurd (true≢false (sym e))
 
 module _ (r : Run) (xs off : List ℕ) (ns : List Node) where
-  tree-fine-at : isFine (treeFaultAt r ns) ≡ true → (r .phase ≡ 0 → ⊥) → GoodTree r ns
+  tree-fine-at : isFine (treeFaultAt r ns) ≡ true → (r .phase ≡ 0 → ⊥) → GoodTree (r .settings .n) r ns
   unfolding treeFaultAt
   tree-fine-at e n =
       let t = contentsOf (r .settings .n) (r .settings .c) (tree (r .used) ns) in
@@ -169,7 +165,7 @@ module _ (r : Run) (xs off : List ℕ) (ns : List Node) where
       let g = fine-sound (r .settings .n) (r .settings .c) (tree (r .used) ns) (sym (same-fine t) ∙ q) in
       record { used-some = g .some; used-most = g .within; each-node = g .nodes }
 
-  tree-good-at : (r .phase ≡ 0 → ⊥) → GoodTree r ns → treeFaultAt r ns ≡ Fine
+  tree-good-at : (r .phase ≡ 0 → ⊥) → GoodTree (r .settings .n) r ns → treeFaultAt r ns ≡ Fine
   unfolding treeFaultAt
   tree-good-at n g =
       let s : Sound (r .settings .n) (r .settings .c) (tree (r .used) ns) = record { some = g .used-some; within = g .used-most; nodes = g .each-node } in
@@ -179,7 +175,7 @@ module _ (r : Run) (xs off : List ℕ) (ns : List Node) where
   unfolding treeFaultAt
   tree-rests e = rw (eq-eqb (r .phase) 0 e)
 
-  pub contents-fine : isFine (contentsFault r xs off ns) ≡ true → GoodContents r xs off ns
+  pub contents-fine : isFine (contentsFault r xs off ns) ≡ true → GoodContents (r .settings .n) r xs off ns
   unfolding contentsFault
   contents-fine e =
       let s = r .settings in
@@ -192,7 +188,7 @@ module _ (r : Run) (xs off : List ℕ) (ns : List Node) where
         tree = tree-fine-at (b .1);
       }
 
-  pub contents-good : GoodContents r xs off ns → contentsFault r xs off ns ≡ Fine
+  pub contents-good : GoodContents (r .settings .n) r xs off ns → contentsFault r xs off ns ≡ Fine
   unfolding contentsFault
   contents-good g =
       let s = r .settings in

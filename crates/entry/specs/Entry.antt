@@ -136,18 +136,28 @@ pub record ContentsRoom (r : Run) (x o : ℕ) : Type 0 where
   pub x-long : 2 * r .settings .n * kOf (r .settings) ≤ x
   pub o-long : r .settings .n + 1 ≤ o
 
-pub record GoodTree (r : Run) (ns : List Node) : Type 0 where
+-- the nodes in use, their counts at most m
+pub record GoodTree (m : ℕ) (r : Run) (ns : List Node) : Type 0 where
   pub used-some : 0 < r .used
   pub used-most : r .used ≤ length ns
-  pub each-node : treeOk (r .settings .n) (r .settings .n) (r .settings .c) (tree (r .used) ns) ≡ true
+  pub each-node : treeOk (r .settings .n) m (r .settings .c) (tree (r .used) ns) ≡ true
 
-pub record GoodContents (r : Run) (xs off : List ℕ) (ns : List Node) : Type 0 where
+pub record GoodContents (m : ℕ) (r : Run) (xs off : List ℕ) (ns : List Node) : Type 0 where
   pub each-offset : (i : ℕ) → i < r .settings .n + 1 → offsetFine off (sizesOf (r .settings) .links) i ≡ true
   pub each-index : (i : ℕ) → i < listed (r .settings) off → indexFine xs (r .settings .n) i ≡ true
-  pub tree : (r .phase ≡ 0 → ⊥) → GoodTree r ns
+  pub tree : (r .phase ≡ 0 → ⊥) → GoodTree m r ns
 
-pub record Good (s : State) : Type 0 where
+-- in order, with counts of nodes in use of at most m
+pub record Ordered (m : ℕ) (s : State) : Type 0 where
   pub settings : GoodSettings (s .run .settings)
   pub counters : GoodCounters (s .run)
   pub areas : GoodAreas (s .run .settings) (length (s .memory .positions)) (length (s .memory .increments)) (length (s .memory .gains)) (length (s .memory .affinities)) (length (s .memory .indices)) (length (s .memory .offsets)) (length (s .memory .forces)) (length (s .memory .nodes))
-  pub contents : isTree (s .run .settings .method) ≡ true → GoodContents (s .run) (s .memory .indices) (s .memory .offsets) (s .memory .nodes)
+  pub contents : isTree (s .run .settings .method) ≡ true → GoodContents m (s .run) (s .memory .indices) (s .memory .offsets) (s .memory .nodes)
+
+-- what the entry tests pass: no count is above n
+abbrev pub Good : State → Type 0
+Good s = Ordered (s .run .settings .n) s
+
+-- what the work goes on in: a call may find counts of n, and each insertion since may have added one
+abbrev pub Workable : State → Type 0
+Workable s = Ordered (s .run .settings .n + s .run .phase) s

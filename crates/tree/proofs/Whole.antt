@@ -13,7 +13,8 @@ use Rattle.node.specs.declared.Node.{Node}
 use Rattle.node.specs.declared.Leaf.{Leaf}
 use Rattle.node.specs.declared.Leaf.the-variants.{Empty, Occupied}
 use Rattle.laws.specs.Run.{run, every}
-use Rattle.laws.proofs.Runs.{run-keeps}
+use Rattle.laws.proofs.Bools.{by-bool}
+use Rattle.laws.proofs.Runs.{run-last}
 use Rattle.laws.proofs.Every.{every-at, every-all}
 use Rattle.node.specs.Node.{pointOf, freshOf, absorbed, occupied, turnOf}
 use Rattle.node.specs.Areas.{nodeAt}
@@ -60,13 +61,17 @@ module _ (y : List Float) (c j : ℕ) (t : Tree) where
         | no x ↦ taken-ends n m hj hm ok h l (omega (arith, x)) .tree
       ]
 
-  -- the dry count is what the insertion uses
-  pub insert-uses : (n m : ℕ) → j < n → 1 ≤ m → treeOk n m c t ≡ true → 0 < t .used → t .used ≤ length (t .nodes) → insertOf y c j t .full ≡ false → insertOf y c j t .tree .used ≡ t .used + needed y c j t
-  insert-uses n m hj hm ok h l e =
+  -- what is not refused has its nodes
+  pub taken-fits : insertOf y c j t .full ≡ false → t .used + needed y c j t ≤ length (t .nodes)
+  taken-fits e =
       elim (decLt (length (t .nodes)) (t .used + needed y c j t)) [
         | yes x ↦ absurd (true≢false (ap (λ (r : Insertion). r .full) (sym (refused x)) ∙ e))
-        | no x ↦ taken-ends n m hj hm ok h l (omega (arith, x)) .used
+        | no x ↦ omega (arith, x)
       ]
+
+  -- the dry count is what the insertion uses
+  pub insert-uses : (n m : ℕ) → j < n → 1 ≤ m → treeOk n m c t ≡ true → 0 < t .used → t .used ≤ length (t .nodes) → insertOf y c j t .full ≡ false → insertOf y c j t .tree .used ≡ t .used + needed y c j t
+  insert-uses n m hj hm ok h l e = taken-ends n m hj hm ok h l (taken-fits e) .used
 
   -- 50 splits are enough
   pub needed-few : needed y c j t ≤ 50 * 2 ^ c
@@ -99,13 +104,12 @@ rows-more j n b h l = subst (λ (x : ℕ). x ≤ (n - 1) * b) (suc-mul (j - 1) b
     below : (j n : ℕ) → 1 ≤ j → j < n → suc (j - 1) ≤ n - 1
     below j n h l = omega (arith, h, l)
 
-more-in : (y : List Float) (n c cap j : ℕ) (r : Insertion) → 1 + (n - 1) * (50 * 2 ^ c) ≤ cap → j < n → In n c cap j r → In n c cap (j + 1) (insertOf y c j (r .tree))
-more-in y n c cap j r room lj i =
+-- one point more, where its nodes are there
+fit-in : (y : List Float) (n c cap j : ℕ) (r : Insertion) → r .tree .used + needed y c j (r .tree) ≤ length (r .tree .nodes) → j < n → In n c cap j r → In n c cap (j + 1) (insertOf y c j (r .tree))
+fit-in y n c cap j r fit lj i =
     let t = r .tree in
     let b = 50 * 2 ^ c in
     let q = needed-few y c j t in
-    let up : (j - 1) * b + b ≤ (n - 1) * b = rows-more j n b (i .some) lj in
-    let fit : t .used + needed y c j t ≤ length (t .nodes) = omega (arith, q, up, room, i .few, i .nodes) in
     let e = taken-ends y c j t n j lj (i .some) (i .tree) (i .used) (omega (arith, fit)) fit in
     let rows : (j - 1) * b + b ≡ (j + 1 - 1) * b = sym (suc-mul (j - 1) b) ∙ ap (λ (x : ℕ). x * b) (one-up j (i .some)) in
     record { some = omega arith; there = ap (λ (x : Insertion). x .full) (taken y c j t fit); nodes = e .nodes ∙ i .nodes; used = omega (arith, e .used, i .used); few = omega (arith, e .used, q, i .few, rows); tree = e .tree }
@@ -113,18 +117,51 @@ more-in y n c cap j r room lj i =
     one-up : (j : ℕ) → 1 ≤ j → suc (j - 1) ≡ j + 1 - 1
     one-up j h = omega (arith, h)
 
--- with room for 50 splits of each further point the refusal never comes, and counts are at most the points inserted
-pub all-in : (y : List Float) (n c k : ℕ) (z h : List Float) (rest : List Node) → 1 ≤ k → k ≤ n → 1 + 50 * 2 ^ c * (n - 1) ≤ suc (length rest) → In n c (suc (length rest)) k (built y c k (rooted z h rest))
-unfolding built run
-all-in y n c zero z h rest hk ln room = absurd (not-suc-le-zero hk)
-all-in y n c (suc k) z h rest hk ln room =
-    let cap = suc (length rest) in
-    let room' : 1 + (n - 1) * (50 * 2 ^ c) ≤ cap = rw (mul-comm (n - 1) (50 * 2 ^ c)) room in
-    let step : ℕ → Insertion → Insertion = λ j r. elim (r .full) [ true ↦ r | false ↦ insertOf y c j (r .tree) ] in
-    let first : In n c cap 1 (insertOf y c 0 (rooted z h rest)) =
-    rw (first-in y c z h rest) (record { some = omega arith; there = refl; nodes = refl; used = omega arith; few = omega arith; tree = first-ok n c (pointOf y c 0) z h rest (omega (arith, ln)) }) in
-    subst (λ (x : ℕ). In n c cap x (run step k 1 (insertOf y c 0 (rooted z h rest)))) (plus k)
-    (run-keeps (In n c cap) step k 1 (insertOf y c 0 (rooted z h rest)) (λ j r l i. rw (i .there) (more-in y n c cap j r room' (omega (arith, l, ln)) i)) first)
-  where
-    plus : (k : ℕ) → 1 + k ≡ suc k
-    plus k = omega arith
+-- there is room for it where there is room for 50 splits of each further point
+pub room-in : (y : List Float) (n c cap j : ℕ) (r : Insertion) → 1 + (n - 1) * (50 * 2 ^ c) ≤ cap → j < n → In n c cap j r → r .tree .used + needed y c j (r .tree) ≤ length (r .tree .nodes)
+room-in y n c cap j r room lj i =
+    let q = needed-few y c j (r .tree) in
+    let up : (j - 1) * (50 * 2 ^ c) + 50 * 2 ^ c ≤ (n - 1) * (50 * 2 ^ c) = rows-more j n (50 * 2 ^ c) (i .some) lj in
+    omega (arith, q, up, room, i .few, i .nodes)
+
+module _ (y : List Float) (n c : ℕ) (z h : List Float) (rest : List Node) where
+  one-in : 0 < n → In n c (suc (length rest)) 1 (built y c 1 (rooted z h rest))
+  unfolding built run
+  one-in l = rw (first-in y c z h rest) (record { some = omega arith; there = refl; nodes = refl; used = omega arith; few = omega arith; tree = first-ok n c (pointOf y c 0) z h rest l })
+
+  built-more : (k : ℕ) → built y c k (rooted z h rest) .full ≡ false → built y c (suc k) (rooted z h rest) ≡ insertOf y c k (built y c k (rooted z h rest) .tree)
+  unfolding built run
+  built-more k e = run-last (λ j r. elim (r .full) [ true ↦ r | false ↦ insertOf y c j (r .tree) ]) k (insertion false (rooted z h rest)) ∙ rw e
+
+  built-full : (k : ℕ) → built y c k (rooted z h rest) .full ≡ true → built y c (suc k) (rooted z h rest) .full ≡ true
+  unfolding built run
+  built-full k e = rw (run-last (λ j r. elim (r .full) [ true ↦ r | false ↦ insertOf y c j (r .tree) ]) k (insertion false (rooted z h rest))) (rw e e)
+
+  -- k points went in and none was refused: so many nodes are used at most, and no count is above k
+  pub in-all : (k : ℕ) → 1 ≤ k → k ≤ n → built y c k (rooted z h rest) .full ≡ false → In n c (suc (length rest)) k (built y c k (rooted z h rest))
+  in-all zero hk ln e = absurd (not-suc-le-zero hk)
+  in-all (suc zero) hk ln e = one-in ln
+  in-all (suc (suc k)) hk ln e = by-bool (In n c (suc (length rest)) (suc (suc k)) (built y c (suc (suc k)) (rooted z h rest))) (built y c (suc k) (rooted z h rest) .full)
+      (λ f. absurd (true≢false (sym (built-full (suc k) f) ∙ e)))
+      (λ f. let b = built y c (suc k) (rooted z h rest) in
+          let q : insertOf y c (suc k) (b .tree) .full ≡ false = rw (built-more (suc k) f) at e in
+          rw (built-more (suc k) f) (subst (λ (x : ℕ). In n c (suc (length rest)) x (insertOf y c (suc k) (b .tree))) (up k) (fit-in y n c (suc (length rest)) (suc k) b (taken-fits y c (suc k) (b .tree) q) (omega (arith, ln)) (in-all (suc k) (omega arith) (omega (arith, ln)) f))))
+    where
+      up : (k : ℕ) → suc k + 1 ≡ suc (suc k)
+      up k = omega arith
+
+  -- with room for 50 splits of each further point the refusal never comes
+  pub never-full : (k : ℕ) → k ≤ n → 1 + 50 * 2 ^ c * (n - 1) ≤ suc (length rest) → built y c k (rooted z h rest) .full ≡ false
+  unfolding built run
+  never-full zero ln room = refl
+  never-full (suc zero) ln room = one-in ln .there
+  never-full (suc (suc k)) ln room =
+      let b = built y c (suc k) (rooted z h rest) in
+      let f = never-full (suc k) (omega (arith, ln)) room in
+      let i = in-all (suc k) (omega arith) (omega (arith, ln)) f in
+      let wide : 1 + (n - 1) * (50 * 2 ^ c) ≤ suc (length rest) = rw (mul-comm (n - 1) (50 * 2 ^ c)) room in
+      rw (built-more (suc k) f, taken y c (suc k) (b .tree) (room-in y n c (suc (length rest)) (suc k) b wide (omega (arith, ln)) i))
+
+  -- so all of them are in
+  pub all-in : (k : ℕ) → 1 ≤ k → k ≤ n → 1 + 50 * 2 ^ c * (n - 1) ≤ suc (length rest) → In n c (suc (length rest)) k (built y c k (rooted z h rest))
+  all-in k hk ln room = in-all k hk ln (never-full k ln room)
