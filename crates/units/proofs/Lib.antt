@@ -1,2 +1,3 @@
 pub mod Turned
 pub mod Rooms
+pub mod One

@@ -4,9 +4,12 @@ ghost use Prim.Native.Nat.{_+_, _*_, _≤_};
 ghost use lib.ListN.{length};
 ghost use Rattle.node.specs.Areas.{nodesOf, restOf};
 ghost use Rattle.record.specs.Record.{advancedOf};
-ghost use Rattle.units.specs.Units.{isDone, exaggerationOf, momentumOf, groupOf, treeTurn, treeUnit, forceUnit, paceOf, finishTurn, finishUnit};
+ghost use Rattle.entry.specs.State.{memory, state};
+ghost use Rattle.entry.specs.Entry.{Workable};
+ghost use Rattle.units.specs.Units.{isDone, exaggerationOf, momentumOf, groupOf, treeTurn, treeUnit, forceUnit, paceOf, finishTurn, finishUnit, turned, unit};
 ghost use Rattle.units.specs.Room.{TreeRoom, ForceRoom, FinishRoom};
 use record::Run;
+use record::counters::is_ended;
 use record::faults::is_tree;
 use record::progress::advanced;
 use record::progress::closed;
@@ -211,4 +214,50 @@ pub fn finish_unit(
         run: next,
         why: Why::Done,
     }
+}
+
+// The next unit, whichever it is.
+pub fn one_unit(
+    r: Run,
+    positions: &mut [f64],
+    increments: &mut [f64],
+    gains: &mut [f64],
+    affinities: &[f64],
+    indices: &[u32],
+    offsets: &[u32],
+    forces: &mut [f64],
+    reals: &mut [f64],
+    words: &mut [u32],
+) -> Turn
+    requires { ⌜ Workable (state r (memory (now positions) (now increments) (now gains) (now affinities) (now indices) (now offsets) (now forces) (now reals) (now words))) ⌝ }
+    ensures { λ t. ⌜ turned (state (t .run) (memory (now (positions .exit)) (now (increments .exit)) (now (gains .exit)) (now (affinities .entry)) (now (indices .entry)) (now (offsets .entry)) (now (forces .exit)) (now (reals .exit)) (now (words .exit)))) (t .why) ≡ unit (state r (memory (now (positions .entry)) (now (increments .entry)) (now (gains .entry)) (now (affinities .entry)) (now (indices .entry)) (now (offsets .entry)) (now (forces .entry)) (now (reals .entry)) (now (words .entry)))) ⌝ }
+{
+    let st = r.standing;
+    if is_ended(st) {
+        return Turn {
+            run: r,
+            why: Why::Over,
+        };
+    }
+    let g = group(r);
+    if g == 0 {
+        return tree_unit(r, positions, reals, words);
+    }
+    if g == 1 {
+        let next = force_unit(
+            r,
+            positions,
+            affinities,
+            indices,
+            offsets,
+            reals,
+            words,
+            forces,
+        );
+        return Turn {
+            run: next,
+            why: Why::Done,
+        };
+    }
+    finish_unit(r, positions, increments, gains, forces)
 }
