@@ -124,28 +124,30 @@ room-in y n c cap j r room lj i =
     let up : (j - 1) * (50 * 2 ^ c) + 50 * 2 ^ c ≤ (n - 1) * (50 * 2 ^ c) = rows-more j n (50 * 2 ^ c) (i .some) lj in
     omega (arith, q, up, room, i .few, i .nodes)
 
+module _ (y : List Float) (c : ℕ) (t : Tree) where
+  -- one point more, where none was refused
+  pub built-more : (k : ℕ) → built y c k t .full ≡ false → built y c (suc k) t ≡ insertOf y c k (built y c k t .tree)
+  unfolding built run
+  built-more k e = run-last (λ j r. elim (r .full) [ true ↦ r | false ↦ insertOf y c j (r .tree) ]) k (insertion false t) ∙ rw e
+
+  built-full : (k : ℕ) → built y c k t .full ≡ true → built y c (suc k) t .full ≡ true
+  unfolding built run
+  built-full k e = rw (run-last (λ j r. elim (r .full) [ true ↦ r | false ↦ insertOf y c j (r .tree) ]) k (insertion false t)) (rw e e)
+
 module _ (y : List Float) (n c : ℕ) (z h : List Float) (rest : List Node) where
   one-in : 0 < n → In n c (suc (length rest)) 1 (built y c 1 (rooted z h rest))
   unfolding built run
   one-in l = rw (first-in y c z h rest) (record { some = omega arith; there = refl; nodes = refl; used = omega arith; few = omega arith; tree = first-ok n c (pointOf y c 0) z h rest l })
-
-  built-more : (k : ℕ) → built y c k (rooted z h rest) .full ≡ false → built y c (suc k) (rooted z h rest) ≡ insertOf y c k (built y c k (rooted z h rest) .tree)
-  unfolding built run
-  built-more k e = run-last (λ j r. elim (r .full) [ true ↦ r | false ↦ insertOf y c j (r .tree) ]) k (insertion false (rooted z h rest)) ∙ rw e
-
-  built-full : (k : ℕ) → built y c k (rooted z h rest) .full ≡ true → built y c (suc k) (rooted z h rest) .full ≡ true
-  unfolding built run
-  built-full k e = rw (run-last (λ j r. elim (r .full) [ true ↦ r | false ↦ insertOf y c j (r .tree) ]) k (insertion false (rooted z h rest))) (rw e e)
 
   -- k points went in and none was refused: so many nodes are used at most, and no count is above k
   pub in-all : (k : ℕ) → 1 ≤ k → k ≤ n → built y c k (rooted z h rest) .full ≡ false → In n c (suc (length rest)) k (built y c k (rooted z h rest))
   in-all zero hk ln e = absurd (not-suc-le-zero hk)
   in-all (suc zero) hk ln e = one-in ln
   in-all (suc (suc k)) hk ln e = by-bool (In n c (suc (length rest)) (suc (suc k)) (built y c (suc (suc k)) (rooted z h rest))) (built y c (suc k) (rooted z h rest) .full)
-      (λ f. absurd (true≢false (sym (built-full (suc k) f) ∙ e)))
+      (λ f. absurd (true≢false (sym (built-full y c (rooted z h rest) (suc k) f) ∙ e)))
       (λ f. let b = built y c (suc k) (rooted z h rest) in
-          let q : insertOf y c (suc k) (b .tree) .full ≡ false = rw (built-more (suc k) f) at e in
-          rw (built-more (suc k) f) (subst (λ (x : ℕ). In n c (suc (length rest)) x (insertOf y c (suc k) (b .tree))) (up k) (fit-in y n c (suc (length rest)) (suc k) b (taken-fits y c (suc k) (b .tree) q) (omega (arith, ln)) (in-all (suc k) (omega arith) (omega (arith, ln)) f))))
+      let q : insertOf y c (suc k) (b .tree) .full ≡ false = rw (built-more y c (rooted z h rest) (suc k) f) at e in
+      rw (built-more y c (rooted z h rest) (suc k) f) (subst (λ (x : ℕ). In n c (suc (length rest)) x (insertOf y c (suc k) (b .tree))) (up k) (fit-in y n c (suc (length rest)) (suc k) b (taken-fits y c (suc k) (b .tree) q) (omega (arith, ln)) (in-all (suc k) (omega arith) (omega (arith, ln)) f))))
     where
       up : (k : ℕ) → suc k + 1 ≡ suc (suc k)
       up k = omega arith
@@ -160,7 +162,7 @@ module _ (y : List Float) (n c : ℕ) (z h : List Float) (rest : List Node) wher
       let f = never-full (suc k) (omega (arith, ln)) room in
       let i = in-all (suc k) (omega arith) (omega (arith, ln)) f in
       let wide : 1 + (n - 1) * (50 * 2 ^ c) ≤ suc (length rest) = rw (mul-comm (n - 1) (50 * 2 ^ c)) room in
-      rw (built-more (suc k) f, taken y c (suc k) (b .tree) (room-in y n c (suc (length rest)) (suc k) b wide (omega (arith, ln)) i))
+      rw (built-more y c (rooted z h rest) (suc k) f, taken y c (suc k) (b .tree) (room-in y n c (suc (length rest)) (suc k) b wide (omega (arith, ln)) i))
 
   -- so all of them are in
   pub all-in : (k : ℕ) → 1 ≤ k → k ≤ n → 1 + 50 * 2 ^ c * (n - 1) ≤ suc (length rest) → In n c (suc (length rest)) k (built y c k (rooted z h rest))

@@ -1,8 +1,7 @@
 -- The next unit is one of three, by its group; a run that has ended has none. Assumes nothing.
-use mathlib.Core.Path.{_≡_, refl, sym, ap, subst, _∙_}
+use mathlib.Core.Path.{_≡_, sym, ap, subst, _∙_}
 use mathlib.Core.List.{List}
 use mathlib.Core.Bool.{true, false}
-use Prim.Native.Nat.{ℕ}
 use native.Mathlib.Omega.{arith}
 use native.Mathlib.Decide.{ℕ-discrete}
 use lib.Ieee.{Float}
@@ -13,7 +12,7 @@ use Rattle.node.specs.declared.Node.{Node}
 use Rattle.node.specs.Areas.{Rest}
 use Rattle.entry.specs.State.{State}
 use Rattle.units.specs.declared.Why.{Why}
-use Rattle.units.specs.declared.Why.the-variants.{Done, Over}
+use Rattle.units.specs.declared.Why.the-variants.{Over}
 use Rattle.units.specs.Units.{groupOf, TreeTurn, treeTurn, treeUnit, forceUnit, FinishTurn, finishTurn, finishUnit, Turned, turned, withTree, withForces, withFinish, unit}
 
 module _ (s : State) where

@@ -1,19 +1,17 @@
 -- Which unit is next, and that a state in order has what its parts ask. Assumes nothing.
 use mathlib.Core.List.{List}
-use mathlib.Core.Path.{_≡_, refl, sym, _∙_}
-use mathlib.Core.Bool.{Bool, true, false, cond, _&&_}
-use mathlib.Core.Logic.{⊎-elim}
+use mathlib.Core.Path.{_≡_, sym, _∙_}
+use mathlib.Core.Bool.{true, false, cond, _&&_}
 use Prim.Native.Nat.{ℕ, zero, suc, _+_, _-_, _*_, _<_, _≤_}
 use native.Mathlib.Omega.{arith}
-use native.Mathlib.Nat.{le-trans, mul-le-mul, mul-one, mul-add, le-refl, eq-or-lt-of-le}
-use lib.Dec.{eqb, ltb, leb}
+use native.Mathlib.Nat.{le-trans, mul-le-mul, mul-one, mul-add, le-refl}
+use lib.Dec.{ltb, leb}
 use lib.ListN.{length}
 use borrow.Author.Tests.{ltb-true, leb-true, ltb-false, leb-false, ne-eqb}
 use Rattle.laws.specs.Area.{num}
 use Rattle.laws.proofs.Bools.{by-bool, and-left, and-right}
 use Rattle.record.specs.declared.Run.{Run}
-use Rattle.record.specs.declared.Settings.{Settings}
-use Rattle.record.specs.Record.{isTree, perOf, kOf, sizesOf}
+use Rattle.record.specs.Record.{isTree, perOf, sizesOf}
 use Rattle.record.proofs.Laws.{per-most, done-most, product-fits}
 use Rattle.gradient.specs.Forces.{Linked}
 use lib.Ieee.{Float}
@@ -56,7 +54,7 @@ group-one r e =
     let n = r .settings .n in
     record {
       tree = λ t. (let P = (n < r .phase) × (r .phase ≤ 2 * n) in let q = sym (group-tree r t) ∙ e in by-bool P (leb (r .phase) n) (λ b. absurd (let z : _≡_ {A = ℕ} 0 1 = rw b at q in omega arith))
-        (λ b. by-bool P (leb (r .phase) (2 * n)) (λ d. (leb-false (r .phase) n b, leb-true (r .phase) (2 * n) d)) (λ d. absurd (let z : _≡_ {A = ℕ} 2 1 = rw (b, d) at q in omega arith))));
+          (λ b. by-bool P (leb (r .phase) (2 * n)) (λ d. (leb-false (r .phase) n b, leb-true (r .phase) (2 * n) d)) (λ d. absurd (let z : _≡_ {A = ℕ} 2 1 = rw (b, d) at q in omega arith))));
       exact = λ t. (let q = sym (group-exact r t) ∙ e in by-bool (r .phase < 2 * n) (ltb (r .phase) (2 * n)) (λ d. ltb-true (r .phase) (2 * n) d) (λ d. absurd (let z : _≡_ {A = ℕ} 2 1 = rw d at q in omega arith)));
     }
 

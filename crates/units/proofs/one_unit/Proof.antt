@@ -2,17 +2,8 @@ use Rattle.units.proofs.One.{unit-over, tree-is, force-is, finish-is}
 use Rattle.units.proofs.Rooms.{tree-room, force-room, finish-room}
 use mathlib.Core.Path.{sym, _∙_}
 use borrow.Author.Needs.{needs}
-use native.Mathlib.Omega.{arith}
-use borrow.Author.Needs.{needs}
 use Rattle.units.proofs.one_unit.Statement.{statement}
 use Rattle.units.proofs.one_unit.Tie as tie
-use Rattle.units.proofs.one_unit.Reads as reads
-use Rattle.units.proofs.one_unit.Lts as lts
-use Rattle.record.proofs.counters.is_ended.Reads as is-ended-reads
-use Rattle.units.proofs.finish_unit.Reads as finish-unit-reads
-use Rattle.units.proofs.force_unit.Reads as force-unit-reads
-use Rattle.units.proofs.group.Reads as group-reads
-use Rattle.units.proofs.tree_unit.Reads as tree-unit-reads
 
 is-ended-requires : tie.Need-is-ended-requires
 is-ended-requires c κs = search needs

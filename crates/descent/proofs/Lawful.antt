@@ -1,0 +1,52 @@
+-- The descent is a lawful machine, and honest states are its good ones. Assumes nothing.
+use mathlib.Core.Path.{_≡_}
+use mathlib.Core.Bool.{false}
+use Prim.Native.Nat.{_-_, _≤_}
+use native.Mathlib.Omega.{arith}
+use native.Mathlib.Nat.{mul-le-mul}
+use Rattle.laws.proofs.Bools.{by-bool}
+use Rattle.calls.specs.Machine.{Lawful}
+use Rattle.record.specs.Record.{isEnded}
+use Rattle.record.proofs.Laws.{per-most}
+use Rattle.entry.specs.State.{State}
+use Rattle.entry.specs.Entry.{Good}
+use Rattle.entry.proofs.Laws.{fault-good}
+use Rattle.units.specs.Units.{unit}
+use Rattle.descent.specs.Descent.{machine, wholeOf, restOf}
+use Rattle.descent.specs.Honest.{Honest}
+use Rattle.descent.proofs.Counters.{units-below}
+use Rattle.descent.proofs.Keeps.{unit-counts, unit-settings}
+use Rattle.descent.proofs.Grown.{honest-keeps}
+use Rattle.descent.proofs.Loop.{due}
+
+pub rest-live : (s : State) → isEnded (s .run .standing) ≡ false → restOf s ≡ wholeOf s - s .run .units
+unfolding restOf
+rest-live s e = rw e
+
+pub rest-most : (s : State) → restOf s ≤ wholeOf s - s .run .units
+unfolding restOf
+rest-most s = by-bool (restOf s ≤ wholeOf s - s .run .units) (isEnded (s .run .standing)) (λ e. rw e (omega arith)) (λ e. rw e (omega arith))
+
+pub whole-most : (s : State) → Good s → wholeOf s ≤ 536993790
+whole-most s g = mul-le-mul (g .settings .iterations-most) (per-most (s .run .settings .method) (s .run .settings .n) (g .settings .n-most))
+
+pub whole-same : (s : State) → isEnded (s .run .standing) ≡ false → wholeOf (unit s .now) ≡ wholeOf s
+whole-same s live = rw (unit-settings s live)
+
+unfoldable pub lawful : Lawful machine
+lawful = record {
+  Good = Honest;
+  rest = restOf;
+  count = λ s. s .run .units;
+  passes = λ s g. rw (fault-good s (g .good));
+  keeps = λ s g e. honest-keeps s g (due s e .0) (due s e .1);
+  counts = λ s g e. unit-counts s (due s e .0) (due s e .1);
+  lessens = λ s g e. (let d = due s e in
+      let c = unit-counts s (d .0) (d .1) in
+      let b = units-below (s .run) (d .0) (g .good .counters) in
+      let l = rest-live s (d .0) in
+      let m = rest-most (unit s .now) in
+      let w = whole-same s (d .0) in
+      omega arith);
+  small = λ s g. (let m = rest-most s in let w = whole-most s (g .good) in omega arith);
+}

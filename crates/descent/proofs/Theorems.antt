@@ -1,0 +1,162 @@
+-- What is so of every run, in the words of the work call. The contract of `work` is one equation with `work` of specs/, so each theorem here is one about the code. Assumes nothing.
+use mathlib.Core.List.{List, [], _∷_}
+use mathlib.Core.Path.{_≡_, refl, ap}
+use mathlib.Core.Bool.{true, false, cond}
+use Prim.Native.Nat.{ℕ, _+_, _*_, _^_, _-_, _<_, _≤_}
+use native.Mathlib.Omega.{arith}
+use lib.Dec.{ltb}
+use lib.ListN.{length}
+use Rattle.laws.proofs.Bools.{by-bool}
+use Rattle.calls.specs.Machine.{Kind, faulty, over, refused, running, times, stops, after, done, kindAt, go, call, left-by, told-by, sum, capped}
+use Rattle.calls.proofs.Demand.{calls-follow, demand-3, good-after, call-goes, call-state, call-units, call-kind, ends-within, done-rest, refusal-leaves, after-times, by-stop}
+use Rattle.record.specs.declared.Standing.{Standing}
+use Rattle.record.specs.declared.Standing.the-variants.{Running as Runs, Stopped as Stops, Finished as Ends}
+use Rattle.record.specs.Record.{isEnded}
+use Rattle.entry.specs.State.{State}
+use Rattle.entry.specs.Entry.{Good, faultOf, isFine}
+use Rattle.entry.proofs.Laws.{fault-fine, fault-good}
+use Rattle.units.specs.declared.Why.{Why}
+use Rattle.units.specs.declared.Why.the-variants.{Done, Full as NoNodes, Wild as TooLarge, Over}
+use Rattle.units.specs.Units.{unit, isDone}
+use Rattle.descent.specs.declared.Answer.{Answer}
+use Rattle.descent.specs.declared.Answer.the-variants.{Running, Stopped, Finished, Full, Wild, Bad}
+use Rattle.descent.specs.Descent.{machine, work, told, worked, answerOf, standsOf, refusedOf, unitsOf, kindOf, wholeOf, restOf, works, toldAll}
+use Rattle.descent.specs.Honest.{Honest}
+use Rattle.descent.proofs.Lawful.{lawful, rest-most, whole-most}
+
+-- ---- the answer tells the units of the call
+
+units-stands : (s : Standing) (d : ℕ) → unitsOf (standsOf s d) ≡ d
+unfolding unitsOf
+units-stands Runs d = refl
+units-stands Stops d = refl
+units-stands Ends d = refl
+
+units-refused : (w : Why) (d : ℕ) → unitsOf (refusedOf w d) ≡ d
+unfolding unitsOf
+units-refused Done d = refl
+units-refused NoNodes d = refl
+units-refused TooLarge d = refl
+units-refused Over d = refl
+
+pub units-told : (b : ℕ) (s : State) → unitsOf (work b s .answer) ≡ call machine b s .units
+unfolding work call go kindAt answerOf unitsOf
+units-told b s = by-bool (unitsOf (work b s .answer) ≡ call machine b s .units) (isFine (faultOf s))
+    (λ f. rw f (live (after machine b s) (done machine b s)))
+    (λ f. rw f)
+  where
+    live : (t : State) (d : ℕ) → unitsOf (answerOf (cond (isEnded (t .run .standing)) over (cond (ltb d b) refused running)) t d) ≡ d
+    live t d = by-bool (unitsOf (answerOf (cond (isEnded (t .run .standing)) over (cond (ltb d b) refused running)) t d) ≡ d) (isEnded (t .run .standing))
+      (λ e. rw e (units-stands (t .run .standing) d))
+      (λ e. by-bool (unitsOf (answerOf (cond (isEnded (t .run .standing)) over (cond (ltb d b) refused running)) t d) ≡ d) (ltb d b) (λ q. rw (e, q) (units-refused (unit t .why) d)) (λ q. rw (e, q)))
+
+works-left : (bs : List ℕ) (s : State) → works bs s ≡ left-by machine bs s
+unfolding works left-by work
+works-left [] s = refl
+works-left (b ∷ bs) s = works-left bs (call machine b s .state)
+
+works-told : (bs : List ℕ) (s : State) → toldAll bs s ≡ told-by machine bs s
+unfolding toldAll told-by work
+works-told [] s = refl
+works-told (b ∷ bs) s = rw (works-told bs (call machine b s .state)) (ap (λ (n : ℕ). n + told-by machine bs (call machine b s .state)) (units-told b s))
+
+kind-stands : (s : Standing) (d e : ℕ) → kindOf (standsOf s d) ≡ kindOf (standsOf s e)
+unfolding kindOf
+kind-stands Runs d e = refl
+kind-stands Stops d e = refl
+kind-stands Ends d e = refl
+
+kind-refused : (w : Why) (d e : ℕ) → kindOf (refusedOf w d) ≡ kindOf (refusedOf w e)
+unfolding kindOf
+kind-refused Done d e = refl
+kind-refused NoNodes d e = refl
+kind-refused TooLarge d e = refl
+kind-refused Over d e = refl
+
+kind-same : (k : Kind) (s : State) (d e : ℕ) → kindOf (answerOf k s d) ≡ kindOf (answerOf k s e)
+unfolding answerOf kindOf
+kind-same faulty s d e = refl
+kind-same over s d e = kind-stands (s .run .standing) d e
+kind-same refused s d e = kind-refused (unit s .why) d e
+kind-same running s d e = refl
+
+-- ---- THEOREM 1: the entry tests pass exactly on good states; every unit and every call leaves an honest state honest, and so no later call is refused by 12 or 13
+
+pub tests-exactly : (s : State) → (isFine (faultOf s) ≡ true → Good s) × (Good s → isFine (faultOf s) ≡ true)
+tests-exactly s = (fault-fine s, λ g. rw (fault-good s g))
+
+pub call-keeps : (b : ℕ) (s : State) → Honest s → Honest (work b s .left)
+unfolding work lawful
+call-keeps b s g = rw (call-state machine lawful b s g) (good-after machine lawful b s g)
+
+-- ---- THEOREM 2, demand 3: from any honest state, for any budgets whose last is at least 1
+
+pub record OneCall (bs : List ℕ) (b : ℕ) (s : State) : Type 0 where
+  -- record and every area are where one call with the sum, or 2^32 − 1, leaves them
+  pub left : work b (works bs s) .left ≡ work (capped (sum bs + b)) s .left
+  -- the units told add up to that call's
+  pub units : toldAll bs s + unitsOf (work b (works bs s) .answer) ≡ unitsOf (work (capped (sum bs + b)) s .answer)
+  -- the last answer is of its kind
+  pub kind : kindOf (work b (works bs s) .answer) ≡ kindOf (work (capped (sum bs + b)) s .answer)
+
+pub demand-three : (bs : List ℕ) (b : ℕ) (s : State) → Honest s → 1 ≤ b → OneCall bs b s
+unfolding work lawful
+demand-three bs b s g h =
+    let d = demand-3 machine lawful bs b s g h in
+    let t = left-by machine bs s in
+    let B = capped (sum bs + b) in
+    record {
+      left = rw (works-left bs s) (d .state);
+      units = rw (works-left bs s, works-told bs s, units-told b t, units-told B s) (d .units);
+      kind = rw (works-left bs s) (rw (d .kind, d .state) (kind-same (call machine B s .kind) (call machine B s .state) (call machine b t .units) (call machine B s .units)));
+    }
+
+-- after EACH call record and memory are those of so many units as were told, the state is honest, and the record's total has grown by them
+pub record SoMany (bs : List ℕ) (s : State) : Type 0 where
+  pub honest : Honest (works bs s)
+  pub left : works bs s ≡ times (λ (x : State). unit x .now) (toldAll bs s) s
+  pub total : works bs s .run .units ≡ s .run .units + toldAll bs s
+
+pub after-each : (bs : List ℕ) (s : State) → Honest s → SoMany bs s
+unfolding lawful
+after-each bs s g =
+    let f = calls-follow machine lawful bs s g in
+    record {
+      honest = rw (works-left bs s) (f .good);
+      left = rw (works-left bs s, works-told bs s) (f .so-many);
+      total = rw (works-left bs s, works-told bs s) (f .counting);
+    }
+
+-- ---- THEOREM 3: no run has 2^32 − 1 units, and each ends or is refused within its iterations' units
+
+pub never-so-many : (s : State) → Good s → s .run .units ≤ wholeOf s → s .run .units < 4294967295
+never-so-many s g l = let w = whole-most s g in omega arith
+
+-- with the units of all iterations as budget, the run has ended there or its next unit is refused
+pub ends-in-time : (b : ℕ) (s : State) → Honest s → wholeOf s ≤ b → stops machine (work b s .left) ≡ true
+unfolding work lawful
+ends-in-time b s g h = rw (call-state machine lawful b s g) (ends-within machine lawful b s g (let m = rest-most s in omega arith))
+
+-- and no more units than that are done
+pub units-in-time : (b : ℕ) (s : State) → Honest s → unitsOf (work b s .answer) ≤ wholeOf s
+unfolding lawful
+units-in-time b s g = rw (units-told b s, call-units machine lawful b s g) (let d = done-rest machine lawful b s g in let m = rest-most s in omega arith)
+
+-- ---- THEOREM 5: a refusal by 14 or 15 leaves record and memory as after the units that the call tells, fewer than its budget, and there the next unit is refused
+
+pub record Refused (b : ℕ) (s : State) : Type 0 where
+  pub left : work b s .left ≡ times (λ (x : State). unit x .now) (unitsOf (work b s .answer)) s
+  pub fewer : unitsOf (work b s .answer) < b
+  pub not-ended : isEnded (work b s .left .run .standing) ≡ false
+  pub not-done : isDone (unit (work b s .left) .why) ≡ false
+
+pub refusal : (b : ℕ) (s : State) → Honest s → call machine b s .kind ≡ refused → Refused b s
+unfolding work lawful
+refusal b s g e =
+    let r = refusal-leaves machine lawful b s g e in
+    record {
+      left = rw (units-told b s) (r .so-many);
+      fewer = rw (units-told b s) (r .fewer);
+      not-ended = r .not-over;
+      not-done = r .not-ok;
+    }
