@@ -1,6 +1,7 @@
 -- What is so of every run, in the words of the work call. The contract of `work` is one equation with `work` of specs/, so each theorem here is one about the code. Assumes nothing.
 use mathlib.Core.List.{List, [], _∷_}
-use mathlib.Core.Path.{_≡_, refl, ap}
+use mathlib.Core.Path.{_≡_, refl, ap, _∙_}
+use mathlib.Core.Logic.{_⊎_, inl, inr}
 use mathlib.Core.Bool.{true, false, cond}
 use Prim.Native.Nat.{ℕ, _+_, _*_, _^_, _-_, _<_, _≤_}
 use native.Mathlib.Omega.{arith}
@@ -8,7 +9,7 @@ use lib.Dec.{ltb}
 use lib.ListN.{length}
 use Rattle.laws.proofs.Bools.{by-bool}
 use Rattle.calls.specs.Machine.{Kind, faulty, over, refused, running, times, stops, after, done, kindAt, go, call, left-by, told-by, sum, capped}
-use Rattle.calls.proofs.Demand.{calls-follow, demand-3, good-after, call-goes, call-state, call-units, call-kind, ends-within, done-rest, refusal-leaves, after-times, by-stop}
+use Rattle.calls.proofs.Demand.{calls-follow, demand-3, good-after, call-goes, call-state, call-units, call-kind, ends-within, done-rest, refusal-leaves}
 use Rattle.record.specs.declared.Standing.{Standing}
 use Rattle.record.specs.declared.Standing.the-variants.{Running as Runs, Stopped as Stops, Finished as Ends}
 use Rattle.record.specs.Record.{isEnded}
@@ -20,9 +21,11 @@ use Rattle.units.specs.declared.Why.the-variants.{Done, Full as NoNodes, Wild a
 use Rattle.units.specs.Units.{unit, isDone}
 use Rattle.descent.specs.declared.Answer.{Answer}
 use Rattle.descent.specs.declared.Answer.the-variants.{Running, Stopped, Finished, Full, Wild, Bad}
-use Rattle.descent.specs.Descent.{machine, work, told, worked, answerOf, standsOf, refusedOf, unitsOf, kindOf, wholeOf, restOf, works, toldAll}
+use Rattle.descent.specs.Descent.{machine, work, told, worked, answerOf, standsOf, refusedOf, numberOf, unitsOf, kindOf, wholeOf, restOf, works, toldAll}
 use Rattle.descent.specs.Honest.{Honest}
-use Rattle.descent.proofs.Lawful.{lawful, rest-most, whole-most}
+use Rattle.units.proofs.Rooms.{small-of}
+use Rattle.descent.proofs.Keeps.{ordered-looser}
+use Rattle.descent.proofs.Lawful.{lawful, rest-most}
 
 -- ---- the answer tells the units of the call
 
@@ -80,6 +83,37 @@ kind-same over s d e = kind-stands (s .run .standing) d e
 kind-same refused s d e = kind-refused (unit s .why) d e
 kind-same running s d e = refl
 
+-- ---- the number of an answer
+
+number-stands : (s : Standing) (d : ℕ) → numberOf (standsOf s d) ≡ 0
+unfolding numberOf
+number-stands Runs d = refl
+number-stands Stops d = refl
+number-stands Ends d = refl
+
+number-refused : (w : Why) (d : ℕ) → (numberOf (refusedOf w d) ≡ 0) ⊎ ((numberOf (refusedOf w d) ≡ 14) ⊎ (numberOf (refusedOf w d) ≡ 15))
+unfolding numberOf
+number-refused Done d = inl refl
+number-refused NoNodes d = inr (inl refl)
+number-refused TooLarge d = inr (inr refl)
+number-refused Over d = inl refl
+
+-- of b units d led to t: the answer's number
+abbrev numberAt : ℕ → ℕ → State → ℕ
+numberAt b d t = numberOf (answerOf (kindAt machine b d t) t d)
+
+numbered : (b d : ℕ) (t : State) → (numberAt b d t ≡ 0) ⊎ ((numberAt b d t ≡ 14) ⊎ (numberAt b d t ≡ 15))
+unfolding kindAt answerOf numberOf
+numbered b d t = by-bool ((numberAt b d t ≡ 0) ⊎ ((numberAt b d t ≡ 14) ⊎ (numberAt b d t ≡ 15))) (isEnded (t .run .standing))
+    (λ e. rw e (inl (number-stands (t .run .standing) d)))
+    (λ e. by-bool ((numberAt b d t ≡ 0) ⊎ ((numberAt b d t ≡ 14) ⊎ (numberAt b d t ≡ 15))) (ltb d b) (λ q. rw (e, q) (number-refused (unit t .why) d)) (λ q. rw (e, q) (inl refl)))
+
+refused-is : (b d : ℕ) (t : State) → (numberAt b d t ≡ 0 → ⊥) → kindAt machine b d t ≡ refused
+unfolding kindAt answerOf numberOf
+refused-is b d t n = by-bool (kindAt machine b d t ≡ refused) (isEnded (t .run .standing))
+    (λ e. absurd (n (rw e (number-stands (t .run .standing) d))))
+    (λ e. by-bool (kindAt machine b d t ≡ refused) (ltb d b) (λ q. rw (e, q)) (λ q. absurd (n (rw (e, q)))))
+
 -- ---- THEOREM 1: the entry tests pass exactly on good states; every unit and every call leaves an honest state honest, and so no later call is refused by 12 or 13
 
 pub tests-exactly : (s : State) → (isFine (faultOf s) ≡ true → Good s) × (Good s → isFine (faultOf s) ≡ true)
@@ -88,6 +122,11 @@ tests-exactly s = (fault-fine s, λ g. rw (fault-good s g))
 pub call-keeps : (b : ℕ) (s : State) → Honest s → Honest (work b s .left)
 unfolding work lawful
 call-keeps b s g = rw (call-state machine lawful b s g) (good-after machine lawful b s g)
+
+-- of an honest state no call gives another number than 14 or 15
+pub only-14-or-15 : (b : ℕ) (s : State) → Honest s → (numberOf (work b s .answer) ≡ 0) ⊎ ((numberOf (work b s .answer) ≡ 14) ⊎ (numberOf (work b s .answer) ≡ 15))
+unfolding work lawful go
+only-14-or-15 b s g = rw (call-goes machine lawful b s g) (numbered b (done machine b s) (after machine b s))
 
 -- ---- THEOREM 2, demand 3: from any honest state, for any budgets whose last is at least 1
 
@@ -129,8 +168,8 @@ after-each bs s g =
 
 -- ---- THEOREM 3: no run has 2^32 − 1 units, and each ends or is refused within its iterations' units
 
-pub never-so-many : (s : State) → Good s → s .run .units ≤ wholeOf s → s .run .units < 4294967295
-never-so-many s g l = let w = whole-most s g in omega arith
+pub never-so-many : (s : State) → Good s → s .run .units < 4294967295
+never-so-many s g = let h = small-of s (ordered-looser (s .run .settings .n) (s .run .settings .n + s .run .phase) s (omega arith) g) .units-small in omega arith
 
 -- with the units of all iterations as budget, the run has ended there or its next unit is refused
 pub ends-in-time : (b : ℕ) (s : State) → Honest s → wholeOf s ≤ b → stops machine (work b s .left) ≡ true
@@ -150,9 +189,10 @@ pub record Refused (b : ℕ) (s : State) : Type 0 where
   pub not-ended : isEnded (work b s .left .run .standing) ≡ false
   pub not-done : isDone (unit (work b s .left) .why) ≡ false
 
-pub refusal : (b : ℕ) (s : State) → Honest s → call machine b s .kind ≡ refused → Refused b s
-unfolding work lawful
-refusal b s g e =
+pub refusal : (b : ℕ) (s : State) → Honest s → (numberOf (work b s .answer) ≡ 0 → ⊥) → Refused b s
+unfolding work lawful go
+refusal b s g n =
+    let e : call machine b s .kind ≡ refused = call-kind machine lawful b s g ∙ refused-is b (done machine b s) (after machine b s) (λ z. n (rw (call-goes machine lawful b s g) z)) in
     let r = refusal-leaves machine lawful b s g e in
     record {
       left = rw (units-told b s) (r .so-many);
