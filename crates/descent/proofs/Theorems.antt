@@ -50,8 +50,8 @@ units-told b s = by-bool (unitsOf (work b s .answer) ≡ call machine b s .units
   where
     live : (t : State) (d : ℕ) → unitsOf (answerOf (cond (isEnded (t .run .standing)) over (cond (ltb d b) refused running)) t d) ≡ d
     live t d = by-bool (unitsOf (answerOf (cond (isEnded (t .run .standing)) over (cond (ltb d b) refused running)) t d) ≡ d) (isEnded (t .run .standing))
-      (λ e. rw e (units-stands (t .run .standing) d))
-      (λ e. by-bool (unitsOf (answerOf (cond (isEnded (t .run .standing)) over (cond (ltb d b) refused running)) t d) ≡ d) (ltb d b) (λ q. rw (e, q) (units-refused (unit t .why) d)) (λ q. rw (e, q)))
+        (λ e. rw e (units-stands (t .run .standing) d))
+        (λ e. by-bool (unitsOf (answerOf (cond (isEnded (t .run .standing)) over (cond (ltb d b) refused running)) t d) ≡ d) (ltb d b) (λ q. rw (e, q) (units-refused (unit t .why) d)) (λ q. rw (e, q)))
 
 works-left : (bs : List ℕ) (s : State) → works bs s ≡ left-by machine bs s
 unfolding works left-by work

@@ -7,7 +7,7 @@ ghost use Rattle.laws.specs.Joined.{pasted};
 ghost use Rattle.lists.specs.Lists.{cleared};
 
 // The first k places of `to` become those of `from` from a on.
-pub(crate) fn copy_values(to: &mut [f64], from: &[f64], a: usize, k: usize)
+pub fn copy_values(to: &mut [f64], from: &[f64], a: usize, k: usize)
     requires { ⌜ (k ≤ length (now to)) × (a + k ≤ length (now from)) ⌝ }
     ensures { λ _. ⌜ now (to .exit) ≡ pasted (now (from .entry)) a k (now (to .entry)) ⌝ }
 {
@@ -31,7 +31,7 @@ pub(crate) fn copy_indices(to: &mut [u32], from: &[u32], a: usize, k: usize)
 }
 
 // The first n places become +0.0.
-pub(crate) fn clear_values(p: &mut [f64], n: usize)
+pub fn clear_values(p: &mut [f64], n: usize)
     requires { ⌜ n ≤ length (now p) ⌝ }
     ensures { λ _. ⌜ now (p .exit) ≡ cleared zero64 n (now (p .entry)) ⌝ }
 {
@@ -43,7 +43,7 @@ pub(crate) fn clear_values(p: &mut [f64], n: usize)
 }
 
 // The first n places become 0.
-pub(crate) fn clear_indices(p: &mut [u32], n: usize)
+pub fn clear_indices(p: &mut [u32], n: usize)
     requires { ⌜ n ≤ length (now p) ⌝ }
     ensures { λ _. ⌜ now (p .exit) ≡ cleared 0 n (now (p .entry)) ⌝ }
 {

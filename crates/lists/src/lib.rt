@@ -1,5 +1,5 @@
 // The Barnes-Hut neighbour lists, made in place: n rows of k links become the lists of all frames.
-mod areas;
+pub mod areas;
 mod filling;
 mod links;
 mod rows;
