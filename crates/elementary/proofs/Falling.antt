@@ -19,7 +19,7 @@ use Rattle.laws.specs.Area.{zero64, one64}
 use Rattle.laws.proofs.Numbers.{order}
 use Rattle.elementary.specs.Exp.{ln2, ln2hi, ln2lo, nearUp, signed, wholeNear, within, reduced, series, power, expIn, expOf}
 use Rattle.elementary.specs.Limits.{upToWhole}
-use Rattle.elementary.proofs.Sizes.{plain, Signed, Most, Least, Held, Sized, sized, sized-more, sized-add, held-whole, neg-round, signed-round, most-round, least-round, most-neg, within-most, bounded, whole-sized, sum-apart, most-add, most-mul, sized-mul, sized-div, plain-less}
+use Rattle.elementary.proofs.Sizes.{plain, Signed, Most, Least, Held, Sized, sized, sized-more, sized-add, held-whole, neg-round, signed-round, most-round, least-round, most-neg, within-most, bounded, whole-sized, sum-apart, most-add, most-mul, sized-mul, sized-div, whole-signed, whole-least, one-is, one-sized, plain-less}
 use Rattle.elementary.proofs.Range.{NL, ln2-is, near-le, fraction, bottom}
 
 -- ---- the whole number nearest to the quotient A / B once it is rounded: A / B is at most 1 away from it
@@ -203,25 +203,14 @@ reduced-small m e (suc j) h l r =
 
 -- ---- the series
 
-one-is : one64 ≡ fin false 1 (pos 0)
-unfolding ofBits
-one-is = refl
-
--- a whole number m from 1 to 13, as a float
-whole-float : (m : ℕ) → suc m ≤ 13 → Signed false (ofInt binary64 (pos (suc m))) × Least 1 1 (ofInt binary64 (pos (suc m)))
-unfolding ofInt
-whole-float m h =
-    let z = round binary64 false (suc m) 1 in
-    (signed-round binary64 false (suc m) 1, least-round (suc m) 1 1 1 13 1 (lit< tt) (lit< tt) (held-whole 1 (lit≤ tt)) (most-round false (suc m) 1 13 1 (lit< tt) (lit< tt) (held-whole 13 (lit≤ tt)) (omega (arith, h))) (omega arith))
-
 -- (r / m)·t
 term : (s : Bool) (n : ℕ) (r t : Float) (m : ℕ) → suc m ≤ 13 → n ≤ 2 ^ 53 → Sized s 1 1 r → Sized false n 1 t → Sized s n 1 (mul binary64 (div binary64 r (ofInt binary64 (pos (suc m)))) t)
 term s n r t m h k p q =
     let f = ofInt binary64 (pos (suc m)) in
-    let w = whole-float m h in
+    let w = whole-signed (suc m) in
     subst (λ (z : Bool). Sized z n 1 (mul binary64 (div binary64 r f) t)) (twice s)
     (sized-mul (unlike s false) false 1 1 n 1 n 1 (div binary64 r f) t (lit< tt) (lit< tt) (lit< tt) (held-whole n k) (omega arith)
-    (sized-div s false 1 1 1 1 1 1 r f (lit< tt) (lit< tt) (lit< tt) (held-whole 1 (lit≤ tt)) (lit≤ tt) p (w .0) (w .1)) q)
+    (sized-div s false 1 1 1 1 1 1 r f (lit< tt) (lit< tt) (lit< tt) (held-whole 1 (lit≤ tt)) (lit≤ tt) p w (whole-least (suc m) (omega arith) (le-trans h (lit≤ tt)))) q)
   where
     twice : (s : Bool) → unlike (unlike s false) false ≡ s
     twice true = refl
@@ -240,9 +229,6 @@ one-less-of (fin true n g) p =
 
 one-less : (z : Float) → Sized true 1 1 z → Sized false 1 1 (add binary64 one64 z)
 one-less z p = subst (λ (o : Float). Sized false 1 1 (add binary64 o z)) (sym one-is) (one-less-of z p)
-
-one-sized : Sized false 1 1 one64
-one-sized = subst (Sized false 1 1) (sym one-is) (refl, lit≤ tt)
 
 -- one more than a value
 one-more : (n : ℕ) (z : Float) → n + 1 ≤ 2 ^ 53 → Sized false n 1 z → Sized false (n + 1) 1 (add binary64 one64 z)

@@ -5,18 +5,20 @@ use mathlib.Core.Bool.{Bool, true, false, cond, not, _&&_, _||_, Bool·beq, true
 use Prim.Native.Nat.{ℕ, zero, suc, _+_, _-_, _*_, _^_, _<_, _≤_}
 use native.Mathlib.Omega.{arith}
 use native.Mathlib.Nat.{le-trans, le-of-eq, le-of-lt, lt-irrefl, lt-of-lt-of-le, mul-one, zero-mul, mul-comm, mul-assoc, mul-right-comm, mul-pos, mul-le-mul, mul-le-mul-right, add-mul, mul-sub, mul-mul-mul-comm}
-use lib.IntN.{ℤ}
-use lib.Dec.{T, ltb, eqb, ltb→lt, eqb→eq, lit<}
-use lib.Ieee.{Float, nan, inf, fin, Format, binary64, prec, emax, low, up, down, unlike, odd, units, round, sum, neg, add, mul, div, lt, le, eq}
+use lib.IntN.{ℤ, pos}
+use lib.Dec.{T, ltb, eqb, ltb→lt, eqb→eq, lit<, lit≤}
+use lib.Ieee.{Float, nan, inf, fin, Format, binary64, prec, emax, low, up, down, unlike, odd, units, round, sum, neg, add, mul, div, lt, le, eq, ofInt, ofBits}
 use lib.Ieee.Fits.{down-pos, round-is, and-l}
 use lib.Ieee.Exact.{HasValue}
 use lib.Ieee.Back.{round-whole}
 use lib.Ieee.Order.{round-mono}
 use lib.Ieee.Positive.{through}
 use borrow.Author.Tests.{le-ltb, ne-eqb}
-use Rattle.laws.proofs.Bools.{two}
+use denote.Floats.{passes}
+use Rattle.laws.specs.Area.{zero64, one64, two64}
+use Rattle.laws.proofs.Bools.{and-left, and-right}
 use Rattle.elementary.specs.Exp.{within}
-use Rattle.elementary.specs.Limits.{upToWhole, notNegative}
+use Rattle.elementary.specs.Limits.{upToWhole, notNegative, unlessAbove, upTo, large, inDomain}
 
 -- ---- the sign of what is rounded
 
@@ -87,12 +89,22 @@ or-cases : (a b : Bool) → T (a || b) → T a ⊎ T b
 or-cases true b t = inl tt
 or-cases false b t = inr t
 
-pub ordered : (m : ℕ) (e : ℤ) (k : ℕ) (g : ℤ) → T (le (fin false m e) (fin false k g)) → m * up e * down g ≤ k * up g * down e
+by-test : (a b : ℕ) (c : Bool) → (T c → a ≡ b) → T (ltb a b || c) → a ≤ b
+by-test a b c e t = ⊎-elim (λ x. le-of-lt (ltb→lt a b x)) (λ x. le-of-eq (e x)) (or-cases (ltb a b) c t)
+
+ordered : (m : ℕ) (e : ℤ) (k : ℕ) (g : ℤ) → T (le (fin false m e) (fin false k g)) → m * up e * down g ≤ k * up g * down e
 unfolding le lt eq
 ordered m e k g t =
     let A = m * up e * down g in
     let B = k * up g * down e in
-    ⊎-elim (λ x. le-of-lt (ltb→lt A B x)) (λ x. le-of-eq (eqb→eq A B (and-l (eqb A B) (true || eqb A 0) x))) (or-cases (ltb A B) (eqb A B && (true || eqb A 0)) t)
+    by-test A B (eqb A B && (true || eqb A 0)) (λ x. eqb→eq A B (and-l (eqb A B) (true || eqb A 0) x)) t
+
+ordered-minus : (m : ℕ) (e : ℤ) (k : ℕ) (g : ℤ) → T (le (fin true m e) (fin true k g)) → k * up g * down e ≤ m * up e * down g
+unfolding le lt eq
+ordered-minus m e k g t =
+    let A = m * up e * down g in
+    let B = k * up g * down e in
+    by-test B A (eqb A B && (true || eqb A 0)) (λ x. sym (eqb→eq A B (and-l (eqb A B) (true || eqb A 0) x))) t
 
 infinite-above : (s : Bool) (m : ℕ) (e : ℤ) → s ≡ false → T (le (inf s) (fin false m e)) → ⊥
 unfolding le lt eq
@@ -125,6 +137,20 @@ most-round true a b n d h k v l = subst (Most n d) (neg-round binary64 a b) (mos
 pub least-round : (a b n d N D : ℕ) → 0 < b → 0 < d → Held n d → Most N D (round binary64 false a b) → n * b ≤ a * d → Least n d (round binary64 false a b)
 least-round a b n d N D h k v w l = above (round binary64 false a b) (round binary64 false n d) n N d D (signed-round binary64 false a b) w v (round-mono binary64 n d a b k h l)
 
+-- ---- a whole number as a float
+
+pub whole-signed : (n : ℕ) → Signed false (ofInt binary64 (pos n))
+unfolding ofInt
+whole-signed n = signed-round binary64 false n 1
+
+pub whole-most : (n : ℕ) → n ≤ 2 ^ 53 → Most n 1 (ofInt binary64 (pos n))
+unfolding ofInt
+whole-most n h = most-plain n 1 n 1 (lit< tt) (lit< tt) (held-whole n h) (omega arith)
+
+pub whole-least : (n : ℕ) → 0 < n → n ≤ 2 ^ 53 → Least 1 1 (ofInt binary64 (pos n))
+unfolding ofInt
+whole-least n h k = least-round n 1 1 1 n 1 (lit< tt) (lit< tt) (held-whole 1 (lit≤ tt)) (whole-most n k) (omega arith)
+
 -- ---- a sign and a bound
 
 -- finite, with the sign s, and of magnitude at most n / d
@@ -142,10 +168,13 @@ sized-most s n d (fin t m e) p = p .1
 pub sized-signed : (s : Bool) (n d : ℕ) (x : Float) → Sized s n d x → Signed s x
 sized-signed s n d (fin t m e) p = p .0
 
+pub most-more : (n k d : ℕ) (x : Float) → n ≤ k → Most n d x → Most k d x
+most-more n k d (fin t m e) h p = le-trans p (mul-le-mul-right (down e) h)
+
 pub sized-more : (s : Bool) (n k d : ℕ) (x : Float) → n ≤ k → Sized s n d x → Sized s k d x
 sized-more s n k d (fin t m e) h p = (p .0, le-trans (p .1) (mul-le-mul-right (down e) h))
 
-sized-round : (s : Bool) (a b n d : ℕ) → 0 < b → 0 < d → Held n d → a * d ≤ n * b → Sized s n d (round binary64 s a b)
+pub sized-round : (s : Bool) (a b n d : ℕ) → 0 < b → 0 < d → Held n d → a * d ≤ n * b → Sized s n d (round binary64 s a b)
 sized-round s a b n d h k v l = sized s n d (round binary64 s a b) (signed-round binary64 s a b) (most-round s a b n d h k v l)
 
 -- ---- bounds by whole numbers
@@ -168,6 +197,45 @@ sized-whole n (fin s m e) p = (p .0, omega (arith, p .1))
 -- what is not negative and has a bound is finite and not negative
 pub whole-not-negative : (n : ℕ) (x : Float) → upToWhole x n → notNegative x
 whole-not-negative n (fin s m e) p = p .0
+
+pub one-is : one64 ≡ fin false 1 (pos 0)
+unfolding ofBits
+one-is = refl
+
+pub one-sized : Sized false 1 1 one64
+unfolding ofBits
+one-sized = (refl, lit≤ tt)
+
+pub two-is : two64 ≡ fin false 1 (pos 1)
+unfolding ofBits
+two-is = refl
+
+pub two-sized : Sized false 2 1 two64
+unfolding ofBits
+two-sized = (refl, lit≤ tt)
+
+pub zero-whole : (n : ℕ) → upToWhole zero64 n
+unfolding ofBits
+zero-whole n = (refl, omega arith)
+
+-- a value in the domain is at most 2 ^ 20 in magnitude
+pub domain-most : (x : Float) → inDomain x ≡ true → Most (2 ^ 20) 1 x
+unfolding upTo le lt eq neg ofBits
+domain-most nan h = absurd (true≢false (sym h))
+domain-most (inf true) h = absurd (true≢false (sym h))
+domain-most (inf false) h = absurd (true≢false (sym h))
+domain-most (fin true m e) h = ordered-minus 1 (pos 20) m e (passes (le (neg large) (fin true m e)) (and-left (le (neg large) (fin true m e)) (le (fin true m e) large) h))
+domain-most (fin false m e) h = ordered m e 1 (pos 20) (passes (le (fin false m e) large) (and-right (le (neg large) (fin false m e)) (le (fin false m e) large) h))
+
+-- at least 0: what is not above 0 is replaced by +0.0
+pub above-whole : (n : ℕ) (x : Float) → Most n 1 x → upToWhole (unlessAbove zero64 x) n
+unfolding unlessAbove lt ofBits
+above-whole n (fin true m e) p = zero-whole n
+above-whole n (fin false m e) p = go (lt zero64 (fin false m e))
+  where
+    go : (b : Bool) → upToWhole (cond b (fin false m e) zero64) n
+    go true = (refl, omega (arith, p))
+    go false = zero-whole n
 
 -- ---- sums
 
@@ -258,6 +326,16 @@ sized-mul s t a c b d p q (fin u m e) (fin w n g) C D Q v l x y =
     let N = n * up g in
     subst (λ (z : Bool). Sized z p q (round binary64 (unlike u w) (M * N) (down e * down g))) (λ i. unlike (x .0 i) (y .0 i))
     (sized-round (unlike u w) (M * N) (down e * down g) p q (mul-pos (down-pos e) (down-pos g)) Q v (product M (down e) N (down g) a c b d p q C D (x .1) (y .1) l))
+
+pub least-mul : (a c b d p q n k : ℕ) (x y : Float) → 0 < c → 0 < d → 0 < q → Held p q → p * (c * d) ≤ a * b * q → plain x → plain y → Least a c x → Least b d y → Most n k (mul binary64 x y) → Least p q (mul binary64 x y)
+unfolding mul
+least-mul a c b d p q n k (fin true m e) y C D Q v l s t x z w = absurd (true≢false s)
+least-mul a c b d p q n k (fin false m e) (fin true i g) C D Q v l s t x z w = absurd (true≢false t)
+least-mul a c b d p q n k (fin false m e) (fin false i g) C D Q v l s t x z w =
+    let M = m * up e in
+    let N = i * up g in
+    least-round (M * N) (down e * down g) p q n k (mul-pos (down-pos e) (down-pos g)) Q v w
+    (through p (a * b) (M * N) q (c * d) (down e * down g) (mul-pos C D) l (rw (mul-mul-mul-comm M N c d, mul-mul-mul-comm a b (down e) (down g)) (mul-le-mul x z)))
 
 -- ---- quotients
 
