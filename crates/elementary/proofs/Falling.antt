@@ -22,11 +22,30 @@ use Rattle.elementary.specs.Limits.{upToWhole}
 use Rattle.elementary.proofs.Sizes.{plain, Signed, Most, Least, Held, Sized, sized, sized-more, sized-add, held-whole, neg-round, signed-round, most-round, least-round, most-neg, within-most, bounded, whole-sized, sum-apart, most-add, most-mul, sized-mul, sized-div, whole-signed, whole-least, one-is, one-sized, plain-less}
 use Rattle.elementary.proofs.Range.{NL, ln2-is, near-le, fraction, bottom}
 
--- ---- the whole number nearest to the quotient A / B once it is rounded: A / B is at most 1 away from it
+-- ---- the whole number nearest to a quotient A / B once it is rounded: A / B is at most 1 away from it
 
 near-ge : (M D n : ℕ) → 0 < D → n * D ≤ M → n ≤ nearUp M D
 unfolding nearUp
 near-ge M D n h l = le-div-iff-mul-le {k = 2 * D} {x = n} {y = 2 * M + D} (omega (arith, h)) .1 (rw (mul-left-comm n 2 D) (omega (arith, l)))
+
+-- the whole number that a negative value - z is nearest to, but for its sign: no whole number at or above z is below it, none at or below z is above it
+record Whole (z : Float) : Type 0 where
+  whole : ℕ
+  is : wholeNear (neg z) ≡ negℤ (pos whole)
+  small : whole ≤ 1022
+  least : (j : ℕ) → within z j → whole ≤ j
+  most : (j : ℕ) → Least j 1 z → j ≤ whole
+
+whole-of : (z : Float) → plain z → within z 1022 → Whole z
+unfolding wholeNear signed neg
+whole-of (fin true m e) p w = absurd (true≢false p)
+whole-of (fin false m e) p w = record {
+  whole = nearUp (m * up e) (down e);
+  is = refl;
+  small = near-le (m * up e) (down e) 1022 (down-pos e) w;
+  least = λ j l. near-le (m * up e) (down e) j (down-pos e) l;
+  most = λ j l. near-ge (m * up e) (down e) j (down-pos e) (le-trans l (le-of-eq (mul-one (m * up e))));
+}
 
 module _ (A B : ℕ) (h : 0 < B) (k : A ≤ 1022 * B) where
   abbrev rounded : Float
@@ -34,24 +53,6 @@ module _ (A B : ℕ) (h : 0 < B) (k : A ≤ 1022 * B) where
 
   in-range : within rounded 1022
   in-range = bounded A B 1022 h (lit≤ tt) k
-
-  record Whole (z : Float) : Type 0 where
-    whole : ℕ
-    is : wholeNear (neg z) ≡ negℤ (pos whole)
-    small : whole ≤ 1022
-    least : (j : ℕ) → within z j → whole ≤ j
-    most : (j : ℕ) → Least j 1 z → j ≤ whole
-
-  whole-of : (z : Float) → plain z → within z 1022 → Whole z
-  unfolding wholeNear signed neg
-  whole-of (fin true m e) p w = absurd (true≢false p)
-  whole-of (fin false m e) p w = record {
-    whole = nearUp (m * up e) (down e);
-    is = refl;
-    small = near-le (m * up e) (down e) 1022 (down-pos e) w;
-    least = λ j l. near-le (m * up e) (down e) j (down-pos e) l;
-    most = λ j l. near-ge (m * up e) (down e) j (down-pos e) (le-trans l (le-of-eq (mul-one (m * up e))));
-  }
 
   found : Whole rounded
   found = whole-of rounded (signed-round binary64 false A B) in-range
@@ -83,6 +84,7 @@ module _ (A B : ℕ) (h : 0 < B) (k : A ≤ 1022 * B) where
 
 -- ---- what is left of x after that many logarithms of 2
 
+-- HI is NH / 2 ^ 32
 abbrev NH : ℕ
 NH = 0xb17217f7
 
@@ -90,6 +92,7 @@ hi-is : ln2hi ≡ fin false NH (negsuc 31)
 unfolding ofBits
 hi-is = refl
 
+-- LO is NO / 2 ^ 84
 abbrev NO : ℕ
 NO = 0xd1cf79abc9e3b
 
@@ -97,6 +100,7 @@ lo-is : ln2lo ≡ fin false NO (negsuc 83)
 unfolding ofBits
 lo-is = refl
 
+-- the format holds 1 / 4, 3 / 4, 0 / 4 and 4 / 4
 quarter : Held 1 4
 unfolding round
 quarter = (refl, refl)
@@ -126,7 +130,7 @@ times-hi (fin true m e) k v h =
     same : (M D : ℕ) → M ≡ k * D → M * (NH * 1) * 2 ^ 32 ≡ k * NH * (D * 2 ^ 32)
     same M D e = omega (arith, ap (λ (x : ℕ). x * NH) e, mul-right-comm k D NH, mul-assoc (k * NH) D (2 ^ 32))
 
--- a is the magnitude of x and b that of k·HI, each times c; jc is (k - 1)·c. L and HI are between 45426 / 65536 and 45427 / 65536
+-- a is the magnitude of x and b that of k·HI, each times c; jc is (|k| - 1)·c. L and HI are between 45426 / 65536 and 45427 / 65536
 gap-coarse : (a b c jc : ℕ) → jc ≤ 1022 * c → a * 65536 ≤ 45427 * (jc + c + c) → 45426 * jc ≤ a * 65536 → b * 65536 ≤ 45427 * (jc + c) → 45426 * (jc + c) ≤ b * 65536 → (a * 4 ≤ b * 4 + 3 * c) × (b * 4 ≤ a * 4 + 3 * c)
 gap-coarse a b c jc h p q u v = (omega arith, omega arith)
 
@@ -234,11 +238,13 @@ one-less z p = subst (λ (o : Float). Sized false 1 1 (add binary64 o z)) (sym o
 one-more : (n : ℕ) (z : Float) → n + 1 ≤ 2 ^ 53 → Sized false n 1 z → Sized false (n + 1) 1 (add binary64 one64 z)
 one-more n z h p = subst (λ (k : ℕ). Sized false k 1 (add binary64 one64 z)) (add-comm 1 n) (sized-add 1 n 1 one64 z (lit< tt) (held-whole (1 + n) (omega (arith, h))) one-sized p)
 
+-- r is not above 0: every t stays between 0 and 1
 series-falling : (r : Float) (m : ℕ) (t : Float) → m ≤ 13 → Sized true 1 1 r → Sized false 1 1 t → Sized false 1 1 (series r m t)
 unfolding series
 series-falling r zero t h p q = q
 series-falling r (suc m) t h p q = series-falling r m (add binary64 one64 (mul binary64 (div binary64 r (ofInt binary64 (pos (suc m)))) t)) (omega (arith, h)) p (one-less (mul binary64 (div binary64 r (ofInt binary64 (pos (suc m)))) t) (term true 1 r t m h (lit≤ tt) p q))
 
+-- r is not below 0: every t is at most 1 more than the one before
 series-rising : (r : Float) (m n : ℕ) (t : Float) → m ≤ 13 → n + m ≤ 14 → Sized false 1 1 r → Sized false n 1 t → Sized false 14 1 (series r m t)
 unfolding series
 series-rising r zero n t h k p q = sized-more false n 14 1 t (omega (arith, k)) q

@@ -177,7 +177,7 @@ sized-more s n k d (fin t m e) h p = (p .0, le-trans (p .1) (mul-le-mul-right (d
 pub sized-round : (s : Bool) (a b n d : ℕ) → 0 < b → 0 < d → Held n d → a * d ≤ n * b → Sized s n d (round binary64 s a b)
 sized-round s a b n d h k v l = sized s n d (round binary64 s a b) (signed-round binary64 s a b) (most-round s a b n d h k v l)
 
--- ---- bounds by whole numbers
+-- ---- bounds by whole numbers, and the values that have them
 
 pub within-most : (n : ℕ) (x : Float) → within x n → Most n 1 x
 within-most n (fin s m e) w = omega (arith, w)
@@ -194,7 +194,7 @@ whole-sized n (fin s m e) p = (p .0, omega (arith, p .1))
 pub sized-whole : (n : ℕ) (x : Float) → upToWhole x n → Sized false n 1 x
 sized-whole n (fin s m e) p = (p .0, omega (arith, p .1))
 
--- what is not negative and has a bound is finite and not negative
+-- what lies between 0 and n is finite and not negative
 pub whole-not-negative : (n : ℕ) (x : Float) → upToWhole x n → notNegative x
 whole-not-negative n (fin s m e) p = p .0
 
