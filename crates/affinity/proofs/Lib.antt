@@ -4,3 +4,4 @@ pub mod Symmetric
 pub mod Named
 pub mod Listed
 pub mod Kept
+pub mod Finite

@@ -14,7 +14,7 @@ use lib.Ieee.Back.{round-whole}
 use borrow.Author.Tests.{ltb-true, ltb-false, lt-ltb, le-ltb}
 use Rattle.laws.proofs.Numbers.{order}
 use Rattle.elementary.specs.Exp.{within}
-use Rattle.elementary.proofs.Range.{plain, plain-round, bounded}
+use Rattle.elementary.proofs.Sizes.{plain, signed-round, bounded}
 use Rattle.elementary.specs.Limits.{ceilOf, three, upToWhole}
 
 -- ---- a whole number against a value
@@ -115,7 +115,7 @@ three-times (fin false m e) h =
     let a = 3 * up (pos 0) * (m * up e) in
     let b = down (pos 0) * down e in
     let l : a ≤ 12288 * b = omega (arith, h .1) in
-    both (round binary64 false a b) (plain-round binary64 a b) (bounded a b 12288 (omega (arith, down-pos e)) (lit≤ tt) l)
+    both (round binary64 false a b) (signed-round binary64 false a b) (bounded a b 12288 (omega (arith, down-pos e)) (lit≤ tt) l)
 
 pub three-bounded : (p : Float) (n : ℕ) → n ≤ 4096 → lt (ofBits binary64 0) p ≡ true → lt p (ofInt binary64 (pos n)) ≡ true → upToWhole (mul binary64 three p) 12288
 unfolding ofBits

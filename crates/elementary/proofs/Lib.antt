@@ -1,8 +1,10 @@
 pub mod Nans
 pub mod Signs
+pub mod Sizes
 pub mod Near
 pub mod Range
 pub mod Powers
 pub mod Digits
 pub mod Parts
 pub mod Ceil
+pub mod Falling

@@ -57,3 +57,11 @@ abbrev pub upToWhole : Float → ℕ → Type 0
 upToWhole nan n = ⊥
 upToWhole (inf s) n = ⊥
 upToWhole (fin s m e) n = (s ≡ false) × (m * up e ≤ n * down e)
+
+-- ---- what every weight is
+
+-- a finite number with the sign +: neither NaN nor infinite nor negative
+abbrev pub notNegative : Float → Type 0
+notNegative nan = ⊥
+notNegative (inf s) = ⊥
+notNegative (fin s m e) = s ≡ false

@@ -3,3 +3,4 @@ pub mod Gathering
 pub mod Rows
 pub mod Order
 pub mod Apart
+pub mod Finite

@@ -20,7 +20,7 @@ use Rattle.laws.proofs.Places.{changed-size, changed-past, summed-past}
 use Rattle.sigma.specs.declared.Bounds.{Bounds}
 use Rattle.sigma.specs.Sigma.{weightOf, weighStep, weighed, totalOf, smallest, fillStep, divideStep, sharedBy, rowOf, termOf, excess, close, nextOf, Search, searched, isMet, roundOf, wide, sigmaShares, sharesOf}
 
-until-on : {A : Type 0} (p : A → Bool) (f : A → A) (k : ℕ) (x : A) → p x ≡ false → until p f (suc k) x ≡ until p f k (f x)
+pub until-on : {A : Type 0} (p : A → Bool) (f : A → A) (k : ℕ) (x : A) → p x ≡ false → until p f (suc k) x ≡ until p f k (f x)
 unfolding until
 until-on p f k x e = rw (e, until)
 
@@ -31,7 +31,7 @@ module _ (ds : List Float) (n : ℕ) where
     abbrev weights : ℕ → Float
     weights j = weightOf sigma (at ds j)
 
-    weighed-size : (l : List Float) → length (weighed ds n sigma l) ≡ length l
+    pub weighed-size : (l : List Float) → length (weighed ds n sigma l) ≡ length l
     weighed-size l = changed-size nan (λ j v. weights j) n l
 
     -- every weight is written, whatever stood there
@@ -64,7 +64,7 @@ module _ (ds : List Float) (n : ℕ) where
   total-past l t h = summed-past nan (λ s v. add binary64 s v) n l t zero64 h
 
   module _ (sigma : Float) where
-    row-size : (l : List Float) → length (rowOf ds n sigma l) ≡ length l
+    pub row-size : (l : List Float) → length (rowOf ds n sigma l) ≡ length l
     unfolding rowOf
     row-size l = shared-size (totalOf (weighed ds n sigma l) n) (weighed ds n sigma l) ∙ weighed-size sigma l
 

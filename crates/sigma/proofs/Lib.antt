@@ -1,2 +1,3 @@
 pub mod Rounds
 pub mod Alone
+pub mod Finite
