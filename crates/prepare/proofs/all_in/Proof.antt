@@ -1,19 +1,23 @@
+use Rattle.elementary.specs.Limits.{inDomain}
+use Rattle.laws.proofs.Every.{every-none, every-more, every-no, every-done}
+use Rattle.laws.specs.Area.{at}
+use Rattle.laws.specs.Run.{every}
+use borrow.Author.Tests.{not-true, not-false}
+use Prim.Native.Nat.{_-_, _≤_}
+use mathlib.Core.Bool.{true}
+use mathlib.Core.Path.{_≡_, sym, _∙_}
 use borrow.Author.Needs.{needs}
-use native.Mathlib.Omega.{arith}
 use Rattle.prepare.proofs.all_in.Statement.{statement}
 use Rattle.prepare.proofs.all_in.Tie as tie
-use Rattle.prepare.proofs.all_in.Reads as reads
-use Rattle.prepare.proofs.all_in.Lts as lts
-use Rattle.elementary.proofs.in_domain.Reads as in-domain-reads
 
 abbrev Inv-loop : tie.InvT-loop
-Inv-loop t m i₀ i = ?
+Inv-loop t m i₀ i = (i ≤ m) × (every (λ i. inDomain (at t i)) i ≡ true)
 
 abbrev μ-loop : tie.MeasureT-loop
-μ-loop t m i₀ i = ?
+μ-loop t m i₀ i = m - i
 
 loop-holds : tie.Need-loop-holds Inv-loop μ-loop
-loop-holds c = search needs
+loop-holds c = (search needs, every-none _)
 
 mul-in-domain : tie.Need-mul-in-domain Inv-loop μ-loop
 mul-in-domain c = search needs
@@ -25,7 +29,7 @@ in-domain-requires : tie.Need-in-domain-requires Inv-loop μ-loop
 in-domain-requires c κs = search needs
 
 returns : tie.Need-returns Inv-loop μ-loop
-returns c = search needs
+returns c = sym (every-no _ _ _ (c .before .before .before .loop-test .taken) (sym (c .before .in-domain .ensures) ∙ not-true _ (c .if1 .taken)))
 
 add-i : tie.Need-add-i Inv-loop μ-loop
 add-i c = search needs
@@ -34,10 +38,10 @@ loop-less : tie.Need-loop-less Inv-loop μ-loop
 loop-less c = search needs
 
 loop-again : tie.Need-loop-again Inv-loop μ-loop
-loop-again c = search needs
+loop-again c = (search needs, every-more _ _ (c .before .before .before .before .loop .inv .1) (sym (c .before .in-domain .ensures) ∙ not-false _ (c .if1 .left)))
 
 returns-2 : tie.Need-returns-2 Inv-loop μ-loop
-returns-2 c = search needs
+returns-2 c = every-done _ _ _ (c .before .loop .inv .1) (c .before .loop .inv .0) (c .loop-test .left)
 
 pub all-in-spec : {M : Type 1} → statement M
 all-in-spec =

@@ -1,18 +1,17 @@
+use Rattle.laws.proofs.Parts.{Clears, clears-start, clears-more, clears-done}
+use Prim.Native.Nat.{_-_}
 use borrow.Author.Needs.{needs}
-use native.Mathlib.Omega.{arith}
 use Rattle.prepare.proofs.fill.Statement.{statement}
 use Rattle.prepare.proofs.fill.Tie as tie
-use Rattle.prepare.proofs.fill.Reads as reads
-use Rattle.prepare.proofs.fill.Lts as lts
 
 abbrev Inv-loop : tie.InvT-loop
-Inv-loop p₀ n x t₀ p t = ?
+Inv-loop p₀ n x t₀ p t = Clears x p₀ n t p
 
 abbrev μ-loop : tie.MeasureT-loop
-μ-loop p₀ n x t₀ p t = ?
+μ-loop p₀ n x t₀ p t = n - t
 
 loop-holds : tie.Need-loop-holds Inv-loop μ-loop
-loop-holds c = search needs
+loop-holds c = clears-start
 
 mul-p : tie.Need-mul-p Inv-loop μ-loop
 mul-p c = search needs
@@ -27,13 +26,13 @@ loop-less : tie.Need-loop-less Inv-loop μ-loop
 loop-less c = search needs
 
 loop-again : tie.Need-loop-again Inv-loop μ-loop
-loop-again c = search needs
+loop-again c = clears-more (c .before .before .pre) (c .loop-test .taken) (c .before .loop .inv)
 
 same-length : tie.Need-same-length Inv-loop μ-loop
 same-length c = search needs
 
 returns : tie.Need-returns Inv-loop μ-loop
-returns c = search needs
+returns c = clears-done (c .loop-test .left) (c .before .loop .inv)
 
 pub fill-spec : {M : Type 1} → statement M
 fill-spec =

@@ -1,20 +1,15 @@
-use borrow.Author.Needs.{needs}
-use native.Mathlib.Omega.{arith}
+use Rattle.prepare.proofs.Laws.{routed-tree, routed-exact}
+use Rattle.record.proofs.Laws.{above-zero}
+use mathlib.Core.Path.{sym, _∙_}
 use borrow.Author.Needs.{needs}
 use Rattle.prepare.proofs.route.Statement.{statement}
 use Rattle.prepare.proofs.route.Tie as tie
-use Rattle.prepare.proofs.route.Reads as reads
-use Rattle.prepare.proofs.route.Lts as lts
-use Rattle.affinity.proofs.exact.exact_affinities.Reads as exact-affinities-reads
-use Rattle.affinity.proofs.neighbours.neighbor_probabilities.Reads as neighbor-probabilities-reads
-use Rattle.lists.proofs.areas.clear_indices.Reads as clear-indices-reads
-use Rattle.record.proofs.faults.is_tree.Reads as is-tree-reads
 
 is-tree-requires : tie.Need-is-tree-requires
 is-tree-requires c κs = search needs
 
 neighbor-probabilities-requires : tie.Need-neighbor-probabilities-requires
-neighbor-probabilities-requires c κs = search needs
+neighbor-probabilities-requires c κs = ((c .before .before .before .before .before .before .before .before .before .before .before .before .before .before .before .pre .settings-good .n-some, c .before .before .before .before .before .before .before .before .before .before .before .before .before .before .before .pre .settings-good .n-most, above-zero _ (c .before .before .before .before .before .before .before .before .before .before .before .before .before .before .before .pre .settings-good .perplexity-positive), c .before .before .before .before .before .before .before .before .before .before .before .before .before .before .before .pre .settings-good .perplexity-below), (c .before .before .before .before .before .before .before .before .before .before .before .before .before .before .before .pre .table-in, c .before .before .before .before .before .before .before .before .before .before .before .before .before .before .before .pre .weights-in (sym (c .before .before .before .before .before .before .before .is-tree .ensures) ∙ c .before .before .before .before .before .before .if1 .taken), c .before .before .before .before .before .before .before .before .before .before .before .before .before .before .before .pre .indices-in (sym (c .before .before .before .before .before .before .before .is-tree .ensures) ∙ c .before .before .before .before .before .before .if1 .taken), c .before .before .before .before .before .before .before .before .before .before .before .before .before .before .before .pre .offsets-in (sym (c .before .before .before .before .before .before .before .is-tree .ensures) ∙ c .before .before .before .before .before .before .if1 .taken), c .before .before .before .before .before .before .before .before .before .before .before .before .before .before .before .pre .squares-in, c .before .before .before .before .before .before .before .before .before .before .before .before .before .before .before .pre .values-in, c .before .before .before .before .before .before .before .before .before .before .before .before .before .before .before .pre .places-in))
 
 same-length : tie.Need-same-length
 same-length c = search needs
@@ -35,13 +30,13 @@ same-length-6 : tie.Need-same-length-6
 same-length-6 c = search needs
 
 returns : tie.Need-returns
-returns c = search needs
+returns c = (c .before .before .before .before .before .before .before .before .before .before .before .before .neighbor-probabilities .ensures .0 ∙ routed-tree _ _ _ (sym (c .before .before .before .before .before .before .before .before .before .before .before .before .before .before .before .before .before .before .before .before .is-tree .ensures) ∙ c .before .before .before .before .before .before .before .before .before .before .before .before .before .before .before .before .before .before .before .if1 .taken), c .before .before .before .before .before .before .before .before .before .before .before .before .neighbor-probabilities .ensures .1)
 
 exact-affinities-requires : tie.Need-exact-affinities-requires
-exact-affinities-requires c κs = search needs
+exact-affinities-requires c κs = (c .before .before .before .before .before .before .before .before .before .before .before .before .pre .settings-good .n-most, c .before .before .before .before .before .before .before .before .before .before .before .before .pre .table-in, c .before .before .before .before .before .before .before .before .before .before .before .before .pre .square-in (sym (c .before .before .before .before .is-tree .ensures) ∙ c .before .before .before .if1 .left), c .before .before .before .before .before .before .before .before .before .before .before .before .pre .squares-in, c .before .before .before .before .before .before .before .before .before .before .before .before .pre .values-in)
 
 clear-indices-requires : tie.Need-clear-indices-requires
-clear-indices-requires c κs = search needs
+clear-indices-requires c κs = c .before .before .before .before .before .before .before .before .before .before .before .before .before .before .before .before .before .before .before .before .pre .places-in
 
 same-length-7 : tie.Need-same-length-7
 same-length-7 c = search needs
@@ -56,7 +51,7 @@ same-length-10 : tie.Need-same-length-10
 same-length-10 c = search needs
 
 returns-2 : tie.Need-returns-2
-returns-2 c = search needs
+returns-2 c = (routed-exact _ _ _ (sym (c .before .before .before .before .before .before .before .before .before .before .before .before .before .before .before .is-tree .ensures) ∙ c .before .before .before .before .before .before .before .before .before .before .before .before .before .before .if1 .left) (c .before .before .before .before .before .before .before .before .before .before .exact-affinities .ensures .0) (c .before .before .before .before .before .before .before .before .before .before .exact-affinities .ensures .1 .1) (c .before .before .clear-indices .ensures), c .before .before .before .before .before .before .before .before .before .before .exact-affinities .ensures .1 .0)
 
 pub route-spec : {M : Type 1} → statement M
 route-spec =
