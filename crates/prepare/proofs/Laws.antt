@@ -97,7 +97,7 @@ passed s table start l e =
     }
 
 -- 2·n·k as the routes have it
-twice : (n k l : ℕ) → 2 * n * k ≤ l → 2 * (n * k) ≤ l
+pub twice : (n k l : ℕ) → 2 * n * k ≤ l → 2 * (n * k) ≤ l
 twice n k l h = rw (mul-assoc 2 n k) at h
 
 -- the routes have what they ask

@@ -16,6 +16,7 @@ use Rattle.record.specs.declared.Settings.{Settings}
 use Rattle.record.specs.declared.Run.{Run}
 use Rattle.record.specs.declared.Standing.the-variants.{Running}
 use Rattle.record.specs.Record.{isTree, earlyFault, lateFault}
+use Rattle.entry.specs.State.{Memory, memory}
 use Rattle.entry.specs.Entry.{areasFit}
 use Rattle.prepare.specs.declared.Prepared.{Prepared}
 use Rattle.prepare.specs.declared.Prepared.the-variants.{Refused, Ready}
@@ -107,6 +108,10 @@ prepared s table start nodes l =
     cond (eqb (prepareFault s table start (lengthsOf l nodes)) 0)
     (outcome (Ready (freshOf s)) (filled s table start l))
     (outcome (Refused (prepareFault s table start (lengthsOf l nodes))) l)
+
+-- the lent areas and the arena, as the work call has them
+abbrev pub memoryOf : Lent → List Float → List ℕ → Memory
+memoryOf l r w = memory (l .positions) (l .increments) (l .gains) (l .affinities) (l .indices) (l .offsets) (l .forces) r w
 
 -- the scope paper's number of an answer; 0 where it is no refusal
 unfoldable pub numberOf : Prepared → ℕ
