@@ -5,3 +5,4 @@ pub mod Grown
 pub mod Loop
 pub mod Lawful
 pub mod Theorems
+pub mod Longer
