@@ -6,3 +6,4 @@ pub mod Loop
 pub mod Lawful
 pub mod Theorems
 pub mod Longer
+pub mod Lent

@@ -5,7 +5,6 @@ use mathlib.Core.Bool.{true, false, true≢false}
 use Prim.Native.Nat.{ℕ, _+_, _-_, _≤_}
 use native.Mathlib.Omega.{arith}
 use lib.ListN.{length-set, length-append}
-use lib.Seq.{set-append-left}
 use lib.Ieee.{Float, binary64, mul}
 use Rattle.laws.proofs.Bools.{by-bool}
 use Rattle.calls.specs.Machine.{stops, after, done, sum, capped}
@@ -16,7 +15,7 @@ use Rattle.node.specs.declared.Node.{Node}
 use Rattle.node.specs.declared.Acc.{Acc}
 use Rattle.node.specs.Areas.{Rest}
 use Rattle.node.specs.Node.{pointOf}
-use Rattle.tree.specs.Insert.{tree, Insertion, insertion}
+use Rattle.tree.specs.Insert.{Tree, tree, Insertion, insertion}
 use Rattle.tree.specs.Box.{boxOf, boxed}
 use Rattle.tree.proofs.Longer.{Fits, extended, longer-ok, box-longer, insert-longer, built-longer, repelled-longer}
 use Rattle.gradient.specs.Forces.{stored, attractionOf, forcesOf}
@@ -39,6 +38,15 @@ use Rattle.descent.proofs.Theorems.{units-told, call-keeps, demand-thre
 
 tree-fits : {m : ℕ} (r : Run) (ns : List Node) → GoodTree m r ns → Fits (r .settings .n) (r .settings .c) m (tree (r .used) ns)
 tree-fits r ns t = record { some = t .used-some; within = t .used-most; sound = t .each-node }
+
+-- a call with b on s, then a call with c on t. Beside it one call on u, whose budget is the units done of b, and c
+pub record GoesOn (b c : ℕ) (s t u : State) : Type 0 where
+  -- record and every area are left the same
+  pub left : work c t .left ≡ work (unitsOf (work b s .answer) + c) u .left
+  -- the units told are as many
+  pub units : unitsOf (work b s .answer) + unitsOf (work c t .answer) ≡ unitsOf (work (unitsOf (work b s .answer) + c) u .answer)
+  -- the last answer is of the same kind
+  pub kind : 1 ≤ c → kindOf (work c t .answer) ≡ kindOf (work (unitsOf (work b s .answer) + c) u .answer)
 
 -- ---- two calls are one with the sum of their budgets
 
@@ -64,7 +72,7 @@ module _ (a c : ℕ) (t : State) (h : Honest t) where
       demand-three (a ∷ []) c t h hc .kind ∙ ap (λ (k : ℕ). kindOf (work (capped k) t .answer)) q ∙ sym (demand-three [] (a + c) t h (omega (arith, hc)) .kind)
 
 module _ (more : List Node) (rest : Rest) where
-  -- ---- each unit, where counts were at most m
+  -- ---- each unit, where counts were at most m: so of good states and of workable ones
 
   module _ (m : ℕ) (s : State) (g : Ordered m s) (live : isEnded (s .run .standing) ≡ false) (some : 1 ≤ m) where
     abbrev R : Run
@@ -80,7 +88,7 @@ module _ (more : List Node) (rest : Rest) where
     box-same : groupOf R ≡ 0 → R .phase ≡ 0 → unit (longer more rest s) ≡ turned (longer more rest (withTree M (boxTurn R (M .positions) (M .nodes)) .now)) Done
     box-same z e =
         unit-tree (longer more rest s) live z ∙ ap (λ (t : TreeTurn). withTree L t) (tree-box R (M .positions) (L .nodes) e
-        ∙ ap (λ (ns : List Node). treeTurn (advancedOf R 1) ns Done) (set-append-left (M .nodes) more 0 (boxOf (M .positions) (R .settings .n) (R .settings .c)) (g .areas .tree-long (group-zero R z .0) .nodes-some)))
+        ∙ ap (λ (t : Tree). treeTurn (advancedOf R 1) (t .nodes) Done) (box-longer more (M .positions) (R .settings .n) (R .settings .c) (M .nodes) (g .areas .tree-long (group-zero R z .0) .nodes-some)))
 
     insert-same : groupOf R ≡ 0 → (R .phase ≡ 0 → ⊥) → inserting R (M .positions) (M .nodes) .full ≡ false
         → unit (longer more rest s) ≡ turned (longer more rest (withTree M (treeTurn (advancedOf R (inserting R (M .positions) (M .nodes) .tree .used)) (inserting R (M .positions) (M .nodes) .tree .nodes) Done) .now)) Done
@@ -154,9 +162,9 @@ module _ (more : List Node) (rest : Rest) where
   pub honest-longer : (s : State) → Honest s → Honest (longer more rest s)
   honest-longer s g = record { good = ordered-longer (s .run .settings .n) s (g .good); grown = λ t q. built-same s (g .grown t q) }
 
-  -- ---- THEOREM 4, second half: lent a longer arena, a run refused by 14, or any other, goes on as a run does that had this arena from the start
+  -- ---- THEOREM 4, second half
 
-  -- the descent grows
+  -- every unit that is done is done in the longer arena too
   pub grows : Grows machine lawful (longer more rest)
   unfolding stops lawful
   grows = record {
@@ -164,6 +172,8 @@ module _ (more : List Node) (rest : Rest) where
     same = λ s g e. (let d = due s e in rw (unit-longer (s .run .settings .n) s (g .good) (d .0) (omega (arith, g .good .settings .n-some)) (d .1)));
   }
 
+  -- lent a longer arena, a run refused by 14, or any other run, goes on as a run does that had this arena from the start:
+  -- with c units more it is where that run is after the units done of b, and c
   pub goes-on-longer : (b c : ℕ) (s : State) → Honest s → after machine c (longer more rest (after machine b s)) ≡ after machine (done machine b s + c) (longer more rest s)
   unfolding lawful
   goes-on-longer b c s g = goes-on machine lawful (longer more rest) grows b c s g
@@ -191,16 +201,8 @@ module _ (more : List Node) (rest : Rest) where
         ∙ grown machine lawful (longer more rest) grows b s g
         ∙ ap (longer more rest) (sym (call-state machine lawful b s g))
 
-  -- a call with b, then the longer arena, then a call with c. Beside it, a run with that arena from the start, and one call: its budget is the units done before, and c
-  pub record GoesOn (b c : ℕ) (s : State) : Type 0 where
-    -- record and every area are left the same
-    pub left : work c (longer more rest (work b s .left)) .left ≡ work (unitsOf (work b s .answer) + c) (longer more rest s) .left
-    -- the units told are as many
-    pub units : unitsOf (work b s .answer) + unitsOf (work c (longer more rest (work b s .left)) .answer) ≡ unitsOf (work (unitsOf (work b s .answer) + c) (longer more rest s) .answer)
-    -- the last answer is of the same kind
-    pub kind : 1 ≤ c → kindOf (work c (longer more rest (work b s .left)) .answer) ≡ kindOf (work (unitsOf (work b s .answer) + c) (longer more rest s) .answer)
-
-  pub works-on-longer : (b c : ℕ) (s : State) → Honest s → GoesOn b c s
+  -- a run refused by 14, or any other, whose arena is made longer between two calls: the second call does what it does in a run with that arena from the start
+  pub works-on-longer : (b c : ℕ) (s : State) → Honest s → GoesOn b c s (longer more rest (work b s .left)) (longer more rest s)
   works-on-longer b c s g =
       let u = unitsOf (work b s .answer) in
       let t = longer more rest s in
