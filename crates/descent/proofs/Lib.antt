@@ -5,3 +5,5 @@ pub mod Grown
 pub mod Loop
 pub mod Lawful
 pub mod Theorems
+pub mod Longer
+pub mod Lent

@@ -74,11 +74,26 @@ module _ (c : ℕ) (p : List Float) (j depth u : ℕ) (v : Node) where
       go Empty e z = empty z e
       go (Occupied o) e z = elim (decLt depth 50) [ yes l ↦ rw (lt-leb 50 depth l) (split o z e l) | no l ↦ rw (le-leb 50 depth (omega (arith, l))) (deep o z e (omega (arith, l))) ]
 
+-- ---- the descent, step by step
+
+module _ (g : ℕ) (y : List Float) (c : ℕ) (p : List Float) (j d i : ℕ) (t : Tree) (r : Out) (e : turnAt c p j d i t ≡ r) where
+  pub inserted-last : r .last ≡ true → inserted (suc g) y c p j d i t ≡ levelled y c i r t
+  unfolding inserted
+  inserted-last l = let e' : turnAt c p j d i t .last ≡ true = ap (λ (r : Out). r .last) e ∙ l in rw (e', inserted) (ap (λ (r : Out). levelled y c i r t) e)
+
+  pub inserted-next : r .last ≡ false → inserted (suc g) y c p j d i t ≡ inserted g y c p j (d + 1) (r .next) (levelled y c i r t)
+  unfolding inserted
+  inserted-next l = let e' : turnAt c p j d i t .last ≡ false = ap (λ (r : Out). r .last) e ∙ l in rw (e', inserted) (ap (λ (r : Out). inserted g y c p j (d + 1) (r .next) (levelled y c i r t)) e)
+
 -- ---- between two levels
 
 -- node k of a tree whose nodes from i on have not yet been met by the point
 abbrev pub Sound : ℕ → ℕ → ℕ → ℕ → Tree → Type 0
 Sound n c m i t = (k : ℕ) → k < t .used → Facts n c (m + 1) (t .used) k (nodeAt (t .nodes) k) × (i ≤ k → nodeAt (t .nodes) k .count ≤ m)
+
+-- the children of a used node lie above it among the used ones
+abbrev pub Rises : ℕ → Tree → Type 0
+Rises c t = (k : ℕ) → k < t .used → (nodeAt (t .nodes) k .first ≡ 0 → ⊥) → (k < nodeAt (t .nodes) k .first) × (nodeAt (t .nodes) k .first + 2 ^ c ≤ t .used)
 
 -- the descent has come to node i at depth d; N nodes will be in use when it ends
 pub record Ok (n c m cap N : ℕ) (y p : List Float) (d i : ℕ) (t : Tree) : Type 0 where
@@ -136,22 +151,38 @@ module _ (y : List Float) (c : ℕ) (p : List Float) where
   unfolding needsOf
   needs-leaf g d i ns l z e = rw (eq-eqb _ _ z, needsOf) (rw e)
 
-  -- a store below the way changes nothing
-  needs-set : (n m : ℕ) (t : Tree) (i : ℕ) (v : Node) → Sound n c m i t → (g d k : ℕ) → i < k → k < t .used → needsOf g y c p d k (set (t .nodes) i v) ≡ needsOf g y c p d k (t .nodes)
+  -- nodes that agree from node b on are counted alike from there
+  pub needs-agree : (t : Tree) (ms : List Node) (b : ℕ) → Rises c t → ((k : ℕ) → b ≤ k → k < t .used → nodeAt ms k ≡ nodeAt (t .nodes) k) → (g d k : ℕ) → b ≤ k → k < t .used → needsOf g y c p d k ms ≡ needsOf g y c p d k (t .nodes)
   unfolding needsOf
-  needs-set n m t i v s zero d k l u = refl
-  needs-set n m t i v s (suc g) d k l u =
+  needs-agree t ms b s same zero d k l u = refl
+  needs-agree t ms b s same (suc g) d k l u =
       let ns = t .nodes in
-      let e : nodeAt (set ns i v) k ≡ nodeAt ns k = getD-set-other ns i k v blank (λ x. omega (arith, x, l)) in
+      let e = same k l u in
       let w = nodeAt ns k in
       elim (ℕ-discrete (w .first) 0) [
-        | yes z ↦ needs-leaf g d k (set ns i v) (w .leaf) (ap (λ (x : Node). x .first) e ∙ z) (ap (λ (x : Node). x .leaf) e) ∙ ap (λ (x : Node). leafNeeds y c p d x (w .leaf)) e ∙ sym (needs-leaf g d k ns (w .leaf) z refl)
+        | yes z ↦ needs-leaf g d k ms (w .leaf) (ap (λ (x : Node). x .first) e ∙ z) (ap (λ (x : Node). x .leaf) e) ∙ ap (λ (x : Node). leafNeeds y c p d x (w .leaf)) e ∙ sym (needs-leaf g d k ns (w .leaf) z refl)
         | no z ↦
-            let a = s k u .0 .above z in
-            needs-inner g d k (set ns i v) (λ x. z (sym (ap (λ (x : Node). x .first) e) ∙ x))
-            ∙ ap (λ (x : Node). needsOf g y c p (d + 1) (x .first + childIndex c (x .centre) p) (set ns i v)) e
-            ∙ needs-set n m t i v s g (d + 1) (w .first + childIndex c (w .centre) p) (omega (arith, a, l)) (omega (arith, a, child-below c (w .centre) p))
+            let a = s k u z in
+            needs-inner g d k ms (λ x. z (sym (ap (λ (x : Node). x .first) e) ∙ x))
+            ∙ ap (λ (x : Node). needsOf g y c p (d + 1) (x .first + childIndex c (x .centre) p) ms) e
+            ∙ needs-agree t ms b s same g (d + 1) (w .first + childIndex c (w .centre) p) (omega (arith, a, l)) (omega (arith, a, child-below c (w .centre) p))
             ∙ sym (needs-inner g d k ns z)
+      ]
+
+  -- any two numbers of levels that reach the last used node give the same count
+  pub needs-fuel : (t : Tree) → Rises c t → (g g' d k : ℕ) → k < t .used → t .used ≤ k + g → t .used ≤ k + g' → needsOf g y c p d k (t .nodes) ≡ needsOf g' y c p d k (t .nodes)
+  needs-fuel t s zero g' d k u a b = absurd (omega (arith, u, a))
+  needs-fuel t s (suc g) zero d k u a b = absurd (omega (arith, u, b))
+  needs-fuel t s (suc g) (suc g') d k u a b =
+      let ns = t .nodes in
+      let w = nodeAt ns k in
+      elim (ℕ-discrete (w .first) 0) [
+        | yes z ↦ needs-leaf g d k ns (w .leaf) z refl ∙ sym (needs-leaf g' d k ns (w .leaf) z refl)
+        | no z ↦
+            let h = s k u z in
+            needs-inner g d k ns z
+            ∙ needs-fuel t s g g' (d + 1) (w .first + childIndex c (w .centre) p) (omega (arith, h, child-below c (w .centre) p)) (omega (arith, h, a)) (omega (arith, h, b))
+            ∙ sym (needs-inner g' d k ns z)
       ]
 
   -- a made child, the point's own: what is left of the splits
@@ -268,7 +299,7 @@ module _ (n c m cap N : ℕ) (y p : List Float) (j : ℕ) (hj : j < n) (hm : 1 �
           room = k .room;
           nodes = length-set (t .nodes) i (absorbed c p v) ∙ k .nodes;
           sound = stored-sound n c m i next t (absorbed c p v) in-list up (absorbed-facts n c m (t .used) i p v few (k .sound i (k .node) .0)) (k .sound);
-          total = ap (λ (x : ℕ). t .used + x) (needs-set y c p n m t i (absorbed c p v) (k .sound) g (d + 1) next up lu ∙ sym (needs-inner y c p g d i (t .nodes) z) ∙ sym fuel) ∙ k .total;
+          total = ap (λ (x : ℕ). t .used + x) (needs-agree y c p t (set (t .nodes) i (absorbed c p v)) (i + 1) (λ x lx. k .sound x lx .0 .above) (λ x l _. getD-set-other (t .nodes) i x (absorbed c p v) blank (λ w. omega (arith, w, l))) g (d + 1) next (omega (arith, up)) lu ∙ sym (needs-inner y c p g d i (t .nodes) z) ∙ sym fuel) ∙ k .total;
         }))
         (λ z e x. absurd (true≢false x))
         (λ o z e l x. absurd (true≢false x))
@@ -318,15 +349,26 @@ module _ (n c m cap N : ℕ) (y p : List Float) (j : ℕ) (hj : j < n) (hm : 1 �
               tree = every-all (λ z. nodeOk n (m + 1) c (t .used) z (nodeAt (set (t .nodes) i a) z)) (t .used) (λ z l. node-ok n c (m + 1) (t .used) z (nodeAt (set (t .nodes) i a) z) (stored-sound n c m i (t .used) t a in-list (k .node) f (k .sound) z l .0));
             })
 
+    -- the nodes that a level makes lie within the arena
+    pub ok-room : turnAt c p j d i t .node .first + turnAt c p j d i t .fresh ≤ cap
+    unfolding absorbed
+    ok-room =
+        turn-cases c p j d (t .used) v (λ r. r .node .first + r .fresh ≤ cap)
+        (λ z. omega (arith, k .sound i (k .node) .0 .above z, k .room))
+        (λ z e. rw z (omega arith))
+        (λ o z e l. rw z (omega arith))
+        (λ o z e l. split-fits o z e l)
+
     -- what a level asks of its caller
     pub ok-asks : n * c ≤ length y → n ≤ 4294967295 → Asks n c cap y (turnAt c p j d i t)
     unfolding absorbed
     ok-asks hy hn =
-        turn-cases c p j d (t .used) v (λ r. Asks n c cap y r)
-        (λ z. record { room = omega (arith, k .sound i (k .node) .0 .above z, k .room); word = word-small n (v .leaf) (k .sound i (k .node) .0 .point) hn; old = omega (arith, hj, hn); point = hj; row = row-in j n c (length y) hj hy })
-        (λ z e. record { room = rw z (omega arith); word = omega (arith, hj, hn); old = omega (arith, hj, hn); point = hj; row = row-in j n c (length y) hj hy })
-        (λ o z e l. record { room = rw z (omega arith); word = word-small n (v .leaf) (k .sound i (k .node) .0 .point) hn; old = omega (arith, hj, hn); point = hj; row = row-in j n c (length y) hj hy })
-        (λ o z e l. record { room = split-fits o z e l; word = omega arith; old = omega (arith, below o e, hn); point = below o e; row = row-in o n c (length y) (below o e) hy })
+        turn-cases c p j d (t .used) v (λ r. r .node .first + r .fresh ≤ cap → Asks n c cap y r)
+        (λ z h. record { room = h; word = word-small n (v .leaf) (k .sound i (k .node) .0 .point) hn; old = omega (arith, hj, hn); point = hj; row = row-in j n c (length y) hj hy })
+        (λ z e h. record { room = h; word = omega (arith, hj, hn); old = omega (arith, hj, hn); point = hj; row = row-in j n c (length y) hj hy })
+        (λ o z e l h. record { room = h; word = word-small n (v .leaf) (k .sound i (k .node) .0 .point) hn; old = omega (arith, hj, hn); point = hj; row = row-in j n c (length y) hj hy })
+        (λ o z e l h. record { room = h; word = omega arith; old = omega (arith, below o e, hn); point = below o e; row = row-in o n c (length y) (below o e) hy })
+        ok-room
 
   -- the whole descent, on the definition
   pub inserted-ends : (g d i : ℕ) (t : Tree) → g ≡ cap - d → Ok n c m cap N y p d i t → Ended n c m cap N (inserted g y c p j d i t)

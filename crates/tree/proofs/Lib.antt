@@ -4,3 +4,4 @@ pub mod Whole
 pub mod Opens
 pub mod Tested
 pub mod Settles
+pub mod Longer

@@ -54,7 +54,7 @@ leaf-small q n Empty f g = g refl
 leaf-small q n (Occupied o) f g = pick-small (eqb o q && eqb n 1) f g
 
 -- an opened node has children
-opened : (c q : ℕ) (p : List Float) (theta2 : Float) (v : Node) (k : ℕ) → k ≡ kindOf c q p theta2 v → (k ≡ 0 → ⊥) → (k ≡ 1 → ⊥) → v .first ≡ 0 → ⊥
+pub opened : (c q : ℕ) (p : List Float) (theta2 : Float) (v : Node) (k : ℕ) → k ≡ kindOf c q p theta2 v → (k ≡ 0 → ⊥) → (k ≡ 1 → ⊥) → v .first ≡ 0 → ⊥
 unfolding kindOf
 opened c q p theta2 v k x h₀ h₁ z = go (eqb (v .count) 0) (rw (eq-eqb (v .first) 0 z) at x)
   where

@@ -11,17 +11,12 @@ use lib.Ieee.{Float}
 use borrow.Author.Tests.{eq-eqb, ne-eqb}
 use Rattle.laws.specs.Run.{run}
 use Rattle.node.specs.declared.Node.{Node}
-use Rattle.node.specs.declared.Out.{Out}
 use Rattle.node.specs.Node.{pointOf, childIndex, childOf, cellOf, absorbed, occupied, turnOf, out}
 use Rattle.node.specs.Areas.{nodeAt, blank}
-use Rattle.tree.specs.Insert.{Tree, tree, filled, turnAt, levelled, inserted}
+use Rattle.tree.specs.Insert.{tree, filled, inserted}
 use Rattle.node.proofs.Children.{child-below}
 use Rattle.tree.proofs.Grow.{putStep, made, length-filled, filled-in, filled-out}
-use Rattle.tree.proofs.Descent.{level-plain}
-
-inserted-last : (g : ℕ) (y : List Float) (c : ℕ) (p : List Float) (j d i : ℕ) (t : Tree) (r : Out) → turnAt c p j d i t ≡ r → r .last ≡ true → inserted (suc g) y c p j d i t ≡ levelled y c i r t
-unfolding inserted
-inserted-last g y c p j d i t r e l = let e' : turnAt c p j d i t .last ≡ true = ap (λ (r : Out). r .last) e ∙ l in rw (e', inserted) (ap (λ (r : Out). levelled y c i r t) e)
+use Rattle.tree.proofs.Descent.{level-plain, inserted-last}
 
 module _ (y : List Float) (c : ℕ) (w : Node) (o : ℕ) (ns : List Node) (h : w .first + 2 ^ c ≤ length ns) where
   abbrev q : List Float

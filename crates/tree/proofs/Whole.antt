@@ -21,7 +21,7 @@ use Rattle.node.specs.Areas.{nodeAt}
 use Rattle.tree.specs.Insert.{Tree, tree, filled, inserted, needsOf, Insertion, insertion, insertOf, pointOk, nodeOk, treeOk, built, rooted}
 use Rattle.tree.proofs.Descent.{node-facts, node-ok, ok-start, Ended, inserted-ends, needs-few}
 
-abbrev needed : List Float → ℕ → ℕ → Tree → ℕ
+abbrev pub needed : List Float → ℕ → ℕ → Tree → ℕ
 needed y c j t = needsOf (length (t .nodes)) y c (pointOf y c j) 0 0 (t .nodes)
 
 point-more : (n n' : ℕ) (l : Leaf) → n ≤ n' → pointOk n l ≡ true → pointOk n' l ≡ true
@@ -130,7 +130,7 @@ module _ (y : List Float) (c : ℕ) (t : Tree) where
   unfolding built run
   built-more k e = run-last (λ j r. elim (r .full) [ true ↦ r | false ↦ insertOf y c j (r .tree) ]) k (insertion false t) ∙ rw e
 
-  built-full : (k : ℕ) → built y c k t .full ≡ true → built y c (suc k) t .full ≡ true
+  pub built-full : (k : ℕ) → built y c k t .full ≡ true → built y c (suc k) t .full ≡ true
   unfolding built run
   built-full k e = rw (run-last (λ j r. elim (r .full) [ true ↦ r | false ↦ insertOf y c j (r .tree) ]) k (insertion false t)) (rw e e)
 
