@@ -3,10 +3,9 @@ use mathlib.Core.List.{List, [], _∷_}
 use mathlib.Core.Path.{_≡_, refl, ap, _∙_}
 use mathlib.Core.Logic.{_⊎_, inl, inr}
 use mathlib.Core.Bool.{true, false, cond}
-use Prim.Native.Nat.{ℕ, _+_, _*_, _^_, _-_, _<_, _≤_}
+use Prim.Native.Nat.{ℕ, _+_, _<_, _≤_}
 use native.Mathlib.Omega.{arith}
 use lib.Dec.{ltb}
-use lib.ListN.{length}
 use Rattle.laws.proofs.Bools.{by-bool}
 use Rattle.calls.specs.Machine.{Kind, faulty, over, refused, running, times, stops, after, done, kindAt, go, call, left-by, told-by, sum, capped}
 use Rattle.calls.proofs.Demand.{calls-follow, demand-3, good-after, call-goes, call-state, call-units, call-kind, ends-within, done-rest, refusal-leaves}
@@ -19,9 +18,7 @@ use Rattle.entry.proofs.Laws.{fault-fine, fault-good}
 use Rattle.units.specs.declared.Why.{Why}
 use Rattle.units.specs.declared.Why.the-variants.{Done, Full as NoNodes, Wild as TooLarge, Over}
 use Rattle.units.specs.Units.{unit, isDone}
-use Rattle.descent.specs.declared.Answer.{Answer}
-use Rattle.descent.specs.declared.Answer.the-variants.{Running, Stopped, Finished, Full, Wild, Bad}
-use Rattle.descent.specs.Descent.{machine, work, told, worked, answerOf, standsOf, refusedOf, numberOf, unitsOf, kindOf, wholeOf, restOf, works, toldAll}
+use Rattle.descent.specs.Descent.{machine, work, told, answerOf, standsOf, refusedOf, numberOf, unitsOf, kindOf, wholeOf, works, toldAll}
 use Rattle.descent.specs.Honest.{Honest}
 use Rattle.units.proofs.Rooms.{small-of}
 use Rattle.descent.proofs.Keeps.{ordered-looser}
