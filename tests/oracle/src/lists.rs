@@ -56,5 +56,6 @@ pub fn all() -> Vec<List> {
         List::new("replay_gradient", "exact", &gradient::cases()),
         List::new("replay_gradient", "step", &step::cases()),
         List::new("replay_preparation", "preparation", &preparation::cases()),
+        List::new("replay_preparation", "larger", &preparation::larger_cases()),
     ]
 }
