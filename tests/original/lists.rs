@@ -26,7 +26,14 @@ include!("../moved.rs");
 /// The angles of the force walks.
 const ANGLES: [f64; 4] = [0.0, 0.3, 0.5, 0.99];
 /// Angle and exaggeration of a gradient, in turn.
-const PULLS: [(f64, f64); 6] = [(0.0, 12.0), (0.5, 1.0), (0.5, 12.0), (0.0, 1.0), (0.99, 12.0), (-0.0, 1.0)];
+const PULLS: [(f64, f64); 6] = [
+    (0.0, 12.0),
+    (0.5, 1.0),
+    (0.5, 12.0),
+    (0.0, 1.0),
+    (0.99, 12.0),
+    (-0.0, 1.0),
+];
 /// The two momenta of a run.
 const MOMENTA: [f64; 2] = [0.5, 0.8];
 /// Learning rates.
@@ -463,7 +470,13 @@ fn pulls_case(c: usize, y: &[f64], turn: usize, random: &mut Random) -> Vec<u64>
     let map = Array2::from_shape_vec((n, c), y.to_vec()).expect("rows of c");
     let (gradient, z) = barnes_hut_gradient(&model, &map, &lists, angle, exaggeration);
     let links: Vec<(usize, f64)> = lists.concat();
-    let mut words = vec![n as u64, c as u64, angle.to_bits(), exaggeration.to_bits(), links.len() as u64];
+    let mut words = vec![
+        n as u64,
+        c as u64,
+        angle.to_bits(),
+        exaggeration.to_bits(),
+        links.len() as u64,
+    ];
     words.extend(bits(y));
     let mut offset = 0;
     words.push(offset);
@@ -542,7 +555,12 @@ fn element(kind: usize, random: &mut Random) -> [f64; 4] {
         // positions, increments and gains around 2^100
         6 => {
             let ends = [CALM, -CALM, CALM * 1.25, -0.5 * CALM, 1.0];
-            [random.of(&[0.0, gradient]), random.of(&ends), random.of(&ends), random.of(&ends)]
+            [
+                random.of(&[0.0, gradient]),
+                random.of(&ends),
+                random.of(&ends),
+                random.of(&ends),
+            ]
         }
         // a wild gradient
         7 => [random.of(&wild), position, random.of(&[increment, 0.0, -0.0]), gain],
@@ -570,7 +588,14 @@ fn moves_case(n: usize, c: usize, kind: usize, turn: usize, random: &mut Random)
     }
     let model = TSNE::new(c, 1.0, rate, 1).expect("a model");
     let (mut whole, mut its_increments, mut its_gains) = (y.clone(), increments.clone(), gains.clone());
-    apply_gradient_step(&model, &mut whole, &mut its_increments, &mut its_gains, &gradient, momentum);
+    apply_gradient_step(
+        &model,
+        &mut whole,
+        &mut its_increments,
+        &mut its_gains,
+        &gradient,
+        momentum,
+    );
     Rate { learning_rate: rate }.moved(&mut y, &mut increments, &mut gains, &gradient, momentum);
     let mut centred = y.clone();
     center_embedding(&model, &mut centred);
