@@ -1,20 +1,45 @@
 //! Makes the replay lists that the original Rust itself judges: `lists DIR` writes them below the folder of crates.
 //!
-//! `make` puts this file into the built original as a further program, beside the two passages of t_sne.rs that lie
-//! inside a longer function there: `chosen.rs` (the neighbours' choice) and `joined.rs` (the symmetrising). Both are cut
-//! out of the original's text, word by word. The lists come from fixed seeds, so every run makes the same bytes.
+//! `make` puts this file into the built original as a further program, beside the three passages of t_sne.rs that lie
+//! inside a longer function there: `chosen.rs` (the neighbours' choice), `joined.rs` (the symmetrising) and `moved.rs`
+//! (the step before centring). All are cut out of the original's text, word by word. The lists come from fixed seeds, so
+//! every run makes the same bytes.
 
 use ahash::AHashMap;
-use ndarray::{Array1, Array2};
-use rustyml::machine_learning::manifold::t_sne::oracle::{DumpNode, Tree};
+use ndarray::{Array1, Array2, Zip};
+use rustyml::machine_learning::manifold::t_sne::oracle::{
+    apply_gradient_step, barnes_hut_gradient, center_embedding, DumpNode, Tree,
+};
+use rustyml::machine_learning::manifold::t_sne::TSNE;
 use std::fs;
 use std::path::Path;
 
+/// What the step before centring reads of the model.
+struct Rate {
+    learning_rate: f64,
+}
+
 include!("../chosen.rs");
 include!("../joined.rs");
+include!("../moved.rs");
 
 /// The angles of the force walks.
 const ANGLES: [f64; 4] = [0.0, 0.3, 0.5, 0.99];
+/// Angle and exaggeration of a gradient, in turn.
+const PULLS: [(f64, f64); 6] = [
+    (0.0, 12.0),
+    (0.5, 1.0),
+    (0.5, 12.0),
+    (0.0, 1.0),
+    (0.99, 12.0),
+    (-0.0, 1.0),
+];
+/// The two momenta of a run.
+const MOMENTA: [f64; 2] = [0.5, 0.8];
+/// Learning rates.
+const RATES: [f64; 5] = [200.0, 5.0, 1.0, 1e-3, 1e4];
+/// The largest magnitude that a step may give: 2^100.
+const CALM: f64 = 1_267_650_600_228_229_401_496_703_205_376.0;
 
 fn main() {
     let folder = std::env::args().nth(1).expect("usage: lists DIR");
@@ -24,6 +49,8 @@ fn main() {
     }
     write(crates, "replay_affinity", "near", &near_cases());
     write(crates, "replay_affinity", "lists", &lists_cases());
+    write(crates, "replay_forces", "pulls", &pulls_cases());
+    write(crates, "replay_forces", "moves", &moves_cases());
 }
 
 /// Writes one list as little-endian words.
@@ -69,8 +96,13 @@ impl Random {
 /// A set of points: the number of components, and the coordinates row by row.
 type Points = (usize, Vec<f64>);
 
-/// Every case of trees in c components. Equal points take 50 levels of 2^c nodes, so there are few of those with c = 3.
+/// Every case of trees in c components.
 fn tree_cases(c: usize) -> Vec<Vec<u64>> {
+    maps(c).iter().map(|(c, y)| tree_case(*c, y)).collect()
+}
+
+/// The sets of points. Equal points take 50 levels of 2^c nodes, so there are few of those with c = 3.
+fn maps(c: usize) -> Vec<Points> {
     let kinds = [
         scattered(c),
         on_centre_lines(c),
@@ -79,7 +111,7 @@ fn tree_cases(c: usize) -> Vec<Vec<u64>> {
         coincident(c),
         tiny(c),
     ];
-    kinds.concat().iter().map(|(c, y)| tree_case(*c, y)).collect()
+    kinds.concat()
 }
 
 /// n points whose coordinates the given function chooses.
@@ -385,5 +417,192 @@ fn lists_case(n: usize, links: &[Vec<(usize, f64)>]) -> Vec<u64> {
             .flatten()
             .flat_map(|&(j, weight)| [j as u64, weight.to_bits()]),
     );
+    words
+}
+
+// ---- the Barnes-Hut gradient
+
+/// Every case of the gradients' list: n, c, angle, exaggeration, number of links, the positions, n + 1 offsets, the
+/// links' indices, their weights; then Z and the gradient.
+fn pulls_cases() -> Vec<Vec<u64>> {
+    let mut random = Random(900);
+    let mut cases = Vec::new();
+    let mut turn = 0;
+    for c in 1..=3 {
+        for (_, y) in maps(c) {
+            // the next set of points begins with another angle and exaggeration
+            for _ in 0..if y.len() < 32 { 4 } else { 2 } {
+                cases.push(pulls_case(c, &y, turn, &mut random));
+                turn += 1;
+            }
+        }
+    }
+    cases
+}
+
+/// A list for each of n frames, by rising index: none, some or all of the frames, itself at times; weights of 0, random
+/// ones as a preparation gives them, and ones that are too small or too large for that.
+fn random_lists(n: usize, random: &mut Random) -> Vec<Vec<(usize, f64)>> {
+    let most = 1 + random.below(6);
+    (0..n)
+        .map(|_| {
+            let wanted = random.below(most + 1);
+            let mut weight = || match random.below(8) {
+                0 => 0.0,
+                1 => random.of(&[-0.0, 1.0e-300, f64::from_bits(1), 0.5, 1.0, 1.0e30]),
+                _ => random.unit() / n as f64,
+            };
+            let weights: Vec<f64> = (0..wanted).map(|_| weight()).collect();
+            let mut frames: Vec<usize> = (0..wanted).map(|_| random.below(n)).collect();
+            frames.sort_unstable();
+            frames.dedup();
+            frames.into_iter().zip(weights).collect()
+        })
+        .collect()
+}
+
+/// One gradient, by the original's own function.
+fn pulls_case(c: usize, y: &[f64], turn: usize, random: &mut Random) -> Vec<u64> {
+    let n = y.len() / c;
+    let (angle, exaggeration) = PULLS[turn % PULLS.len()];
+    let lists = random_lists(n, random);
+    let model = TSNE::new(c, 1.0, 1.0, 1).expect("a model");
+    let map = Array2::from_shape_vec((n, c), y.to_vec()).expect("rows of c");
+    let (gradient, z) = barnes_hut_gradient(&model, &map, &lists, angle, exaggeration);
+    let links: Vec<(usize, f64)> = lists.concat();
+    let mut words = vec![
+        n as u64,
+        c as u64,
+        angle.to_bits(),
+        exaggeration.to_bits(),
+        links.len() as u64,
+    ];
+    words.extend(bits(y));
+    let mut offset = 0;
+    words.push(offset);
+    for list in &lists {
+        offset += list.len() as u64;
+        words.push(offset);
+    }
+    words.extend(links.iter().map(|link| link.0 as u64));
+    words.extend(links.iter().map(|link| link.1.to_bits()));
+    words.push(listed(z));
+    words.extend(gradient.iter().map(|&v| listed(v)));
+    words
+}
+
+/// The bits of a value in a list: any NaN is listed as the one NaN.
+fn listed(v: f64) -> u64 {
+    if v.is_nan() {
+        0x7FF8_0000_0000_0000
+    } else {
+        v.to_bits()
+    }
+}
+
+// ---- the step before centring
+
+/// Every case of the moves' list: n, c, momentum, rate, then the gradient, positions, increments and gains before the
+/// step, and positions, increments and gains after it, not yet centred.
+fn moves_cases() -> Vec<Vec<u64>> {
+    let mut random = Random(1000);
+    let mut cases = Vec::new();
+    let mut turn = 0;
+    for c in 1..=8 {
+        for n in 1..=4 {
+            for kind in 0..MOVES {
+                cases.push(moves_case(n, c, kind, turn, &mut random));
+                turn += 1;
+            }
+        }
+    }
+    cases
+}
+
+/// How many kinds of elements there are.
+const MOVES: usize = 9;
+
+/// Gradient, position, increment and gain of one element before the step.
+fn element(kind: usize, random: &mut Random) -> [f64; 4] {
+    let gradient = (random.unit() - 0.5) * 4.0;
+    let position = (random.unit() - 0.5) * 10.0;
+    let increment = (random.unit() - 0.5) * 2.0;
+    let gain = random.unit() * 3.0 + 0.01;
+    let wild = [f64::NAN, f64::INFINITY, f64::NEG_INFINITY, 1.0e300, -1.0e300, f64::MAX];
+    match kind {
+        0 => [gradient, position, increment, gain],
+        // zero products: of zeros of either sign, and of values too small
+        1 => {
+            let zero = random.of(&[0.0, -0.0]);
+            let pairs = [(zero, increment), (gradient, zero), (zero, zero), (1.0e-200, -1.0e-200)];
+            let (g, v) = pairs[random.below(pairs.len())];
+            [g, position, v, gain]
+        }
+        2 => [gradient, position, increment.copysign(gradient), gain],
+        3 => [gradient, position, increment.copysign(-gradient), gain],
+        // gains at the floor and around it, before and after the change
+        4 => {
+            let gain = random.of(&[
+                0.01, 0.0125, 0.012, 0.0, -0.0, -0.19, -0.2, -0.21, -1.0, 0.009, 0.013, 5.0e-324,
+            ]);
+            [gradient, position, increment, gain]
+        }
+        // products that overflow or vanish
+        5 => {
+            let ends = [1.0e-200, -1.0e-200, 1.0e25, -1.0e25, 1.0e200, -1.0e200];
+            [random.of(&ends), position, random.of(&ends), gain]
+        }
+        // positions, increments and gains around 2^100
+        6 => {
+            let ends = [CALM, -CALM, CALM * 1.25, -0.5 * CALM, 1.0];
+            [
+                random.of(&[0.0, gradient]),
+                random.of(&ends),
+                random.of(&ends),
+                random.of(&ends),
+            ]
+        }
+        // a wild gradient
+        7 => [random.of(&wild), position, random.of(&[increment, 0.0, -0.0]), gain],
+        // anything wild
+        _ => {
+            let mut values = [gradient, position, increment, gain];
+            values[random.below(4)] = random.of(&wild);
+            values
+        }
+    }
+}
+
+/// One step. The passage that was cut out has to give what the original's function gives: the same gains and increments,
+/// and with the original's centring the same positions.
+fn moves_case(n: usize, c: usize, kind: usize, turn: usize, random: &mut Random) -> Vec<u64> {
+    let momentum = MOMENTA[turn / 2 % 2];
+    let rate = RATES[turn % RATES.len()];
+    let elements: Vec<[f64; 4]> = (0..n * c).map(|_| element(kind, random)).collect();
+    let column = |k: usize| Array2::from_shape_fn((n, c), |(i, d)| elements[i * c + d][k]);
+    let gradient = column(0);
+    let (mut y, mut increments, mut gains) = (column(1), column(2), column(3));
+    let mut words = vec![n as u64, c as u64, momentum.to_bits(), rate.to_bits()];
+    for values in [&gradient, &y, &increments, &gains] {
+        words.extend(values.iter().map(|&v| listed(v)));
+    }
+    let model = TSNE::new(c, 1.0, rate, 1).expect("a model");
+    let (mut whole, mut its_increments, mut its_gains) = (y.clone(), increments.clone(), gains.clone());
+    apply_gradient_step(
+        &model,
+        &mut whole,
+        &mut its_increments,
+        &mut its_gains,
+        &gradient,
+        momentum,
+    );
+    Rate { learning_rate: rate }.moved(&mut y, &mut increments, &mut gains, &gradient, momentum);
+    let mut centred = y.clone();
+    center_embedding(&model, &mut centred);
+    let same = |a: &Array2<f64>, b: &Array2<f64>| a.iter().zip(b).all(|(&v, &w)| listed(v) == listed(w));
+    assert!(same(&gains, &its_gains) && same(&increments, &its_increments) && same(&centred, &whole));
+    for values in [&y, &increments, &gains] {
+        words.extend(values.iter().map(|&v| listed(v)));
+    }
     words
 }

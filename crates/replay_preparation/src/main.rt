@@ -1,4 +1,4 @@
-// Replays the list of preparations by both routes: every place of every area afterwards, the tails and the zeroed rows included.
+// Replays the lists of preparations by both routes: every place of every area afterwards, the tails and the zeroed rows included.
 use replay::word_at;
 ghost use mathlib.Core.Path.{_≡_};
 ghost use mathlib.Core.Bool.{true};
@@ -207,7 +207,7 @@ fn exact_case(
     squares: &mut [f64],
     row: &mut [f64],
 ) -> bool
-    requires { ⌜ (n ≤ 32) × (n * f ≤ length (now table)) ⌝ }
+    requires { ⌜ (n ≤ 64) × (n * f ≤ length (now table)) ⌝ }
 {
     let p = times(n, n);
     if p > affinities.len() {
@@ -370,7 +370,7 @@ fn lists_in(
     row_values: &mut [f64],
     row_indices: &mut [u32],
 ) -> bool
-    requires { ⌜ (2 ≤ n) × (n ≤ 32) × (lt zero64 perplexity ≡ true) × (lt perplexity (ofInt binary64 (pos n)) ≡ true) ⌝ }
+    requires { ⌜ (2 ≤ n) × (n ≤ 64) × (lt zero64 perplexity ≡ true) × (lt perplexity (ofInt binary64 (pos n)) ≡ true) ⌝ }
     requires { ⌜ (n * f ≤ length (now table)) × (n + 1 ≤ length (now offsets)) × (n ≤ length (now squares)) × (n ≤ length (now «row_values»)) × (n ≤ length (now «row_indices»)) ⌝ }
 {
     let k = elementary::neighbours(perplexity, n as u64) as usize;
@@ -415,7 +415,7 @@ fn lists_of(
     row_values: &mut [f64],
     row_indices: &mut [u32],
 ) -> bool
-    requires { ⌜ (2 ≤ n) × (n ≤ 32) × (n * f ≤ length (now table)) × (n + 1 ≤ length (now offsets)) × (n ≤ length (now squares)) × (n ≤ length (now «row_values»)) × (n ≤ length (now «row_indices»)) ⌝ }
+    requires { ⌜ (2 ≤ n) × (n ≤ 64) × (n * f ≤ length (now table)) × (n + 1 ≤ length (now offsets)) × (n ≤ length (now squares)) × (n ≤ length (now «row_values»)) × (n ≤ length (now «row_indices»)) ⌝ }
 {
     if perplexity > 0.0 {
         if perplexity < n as f64 {
@@ -453,7 +453,7 @@ fn lists_case(
     row_values: &mut [f64],
     row_indices: &mut [u32],
 ) -> bool
-    requires { ⌜ (n ≤ 32) × (n * f ≤ length (now table)) ⌝ }
+    requires { ⌜ (n ≤ 64) × (n * f ≤ length (now table)) ⌝ }
 {
     if n < 2 {
         return false;
@@ -500,7 +500,7 @@ fn case_right(
     row_values: &mut [f64],
     row_indices: &mut [u32],
 ) -> bool
-    requires { ⌜ (n ≤ 32) × (f ≤ 6) ⌝ }
+    requires { ⌜ (n ≤ 64) × (f ≤ 6) ⌝ }
 {
     let m = times(n, f);
     if m > table.len() {
@@ -541,7 +541,7 @@ fn case_right(
 
 // How many words the case at word a has behind its perplexity.
 fn rest(list: &[u8], a: usize, n: usize, f: usize) -> usize
-    requires { ⌜ (n ≤ 32) × (f ≤ 6) ⌝ }
+    requires { ⌜ (n ≤ 64) × (f ≤ 6) ⌝ }
     ensures { λ r. ⌜ r ≤ 40000000 ⌝ }
 {
     let m = times(n, f);
@@ -549,7 +549,7 @@ fn rest(list: &[u8], a: usize, n: usize, f: usize) -> usize
         return m + times(n, n);
     }
     let links = word_at(list, plus(plus(a, 4), plus(m, n)));
-    if links > 2000 {
+    if links > 8100 {
         return m;
     }
     m + n + 1 + 2 * links as usize
@@ -576,7 +576,7 @@ fn one_case(
     mark_lists(weights, indices, offsets, squares, row_values, row_indices);
     let n = word_at(list, plus(a, 1)) as usize;
     let f = word_at(list, plus(a, 2)) as usize;
-    if n > 32 {
+    if n > 64 {
         return Next {
             right: false,
             at: 0,
@@ -641,7 +641,10 @@ fn preparation_cases(
     t
 }
 
-fn replay_preparation(
+// One list, with a line for it.
+fn replay_list(
+    path: &[u8],
+    name: &[u8],
     list: &mut [u8],
     table: &mut [f64],
     weights: &mut [f64],
@@ -651,7 +654,7 @@ fn replay_preparation(
     row_values: &mut [f64],
     row_indices: &mut [u32],
 ) {
-    let n = replay::load(b"preparation.words", list);
+    let n = replay::load(path, list);
     let t = preparation_cases(
         &list[..n],
         table,
@@ -662,19 +665,33 @@ fn replay_preparation(
         row_values,
         row_indices,
     );
-    replay::print(b"preparation", t);
+    replay::print(name, t);
 }
 
 fn main() {
-    let mut list = [0u8; 524288];
-    let mut table = [0.0; 200];
-    let mut weights = [0.0; 2000];
-    let mut indices = [0u32; 2001];
-    let mut offsets = [0u32; 40];
-    let mut squares = [0.0; 34];
-    let mut row_values = [0.0; 36];
-    let mut row_indices = [0u32; 38];
-    replay_preparation(
+    let mut list = [0u8; 278528];
+    let mut table = [0.0; 400];
+    let mut weights = [0.0; 8100];
+    let mut indices = [0u32; 8101];
+    let mut offsets = [0u32; 70];
+    let mut squares = [0.0; 66];
+    let mut row_values = [0.0; 68];
+    let mut row_indices = [0u32; 72];
+    replay_list(
+        b"preparation.words",
+        b"preparation",
+        &mut list,
+        &mut table,
+        &mut weights,
+        &mut indices,
+        &mut offsets,
+        &mut squares,
+        &mut row_values,
+        &mut row_indices,
+    );
+    replay_list(
+        b"larger.words",
+        b"larger preparations",
         &mut list,
         &mut table,
         &mut weights,

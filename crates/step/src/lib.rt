@@ -79,8 +79,8 @@ fn new_element(
     }
 }
 
-// Element e's new values, read from the areas.
-fn element_at(
+// Element e's new values before centring, read from the areas.
+pub fn element_at(
     pace: Pace,
     n: usize,
     c: usize,

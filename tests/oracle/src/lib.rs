@@ -3,6 +3,7 @@
 //! Nothing here is shared with the port: the two were written apart, so that a slip in one shows up as a difference
 //! between them. Only the standard library is used.
 
+pub mod descent;
 pub mod differences;
 pub mod elementary;
 pub mod frames;
@@ -12,4 +13,5 @@ pub mod preparation;
 pub mod scatter;
 pub mod sigma;
 pub mod step;
+pub mod tree;
 pub mod words;

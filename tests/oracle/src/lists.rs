@@ -2,6 +2,7 @@
 //!
 //! The lists are made anew from fixed seeds, so every run makes the same bytes.
 
+pub mod descent;
 pub mod elementary;
 pub mod frames;
 pub mod gradient;
@@ -56,5 +57,8 @@ pub fn all() -> Vec<List> {
         List::new("replay_gradient", "exact", &gradient::cases()),
         List::new("replay_gradient", "step", &step::cases()),
         List::new("replay_preparation", "preparation", &preparation::cases()),
+        List::new("replay_preparation", "larger", &preparation::larger_cases()),
+        List::new("replay_descent", "runs", &descent::run_cases()),
+        List::new("replay_descent", "faults", &descent::fault_cases()),
     ]
 }

@@ -21,10 +21,7 @@ impl SplitMix64 {
     #[allow(clippy::should_implement_trait)]
     pub fn next(&mut self) -> u64 {
         self.state = self.state.wrapping_add(0x9E37_79B9_7F4A_7C15);
-        let z = self.state;
-        let z = (z ^ (z >> 30)).wrapping_mul(0xBF58_476D_1CE4_E5B9);
-        let z = (z ^ (z >> 27)).wrapping_mul(0x94D0_49BB_1331_11EB);
-        z ^ (z >> 31)
+        mix(self.state)
     }
 
     /// The next number in [0, 1): the top 53 bits over 2^53, which is exact.
@@ -36,6 +33,13 @@ impl SplitMix64 {
     pub fn coordinate(&mut self) -> f64 {
         (self.unit() - 0.5) * 1e-4
     }
+}
+
+/// The generator's output for a state.
+pub fn mix(z: u64) -> u64 {
+    let z = (z ^ (z >> 30)).wrapping_mul(0xBF58_476D_1CE4_E5B9);
+    let z = (z ^ (z >> 27)).wrapping_mul(0x94D0_49BB_1331_11EB);
+    z ^ (z >> 31)
 }
 
 /// Why a scatter is refused.

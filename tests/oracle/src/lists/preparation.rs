@@ -8,6 +8,9 @@ use crate::scatter::SplitMix64;
 const KINDS: usize = 7;
 /// Numbers of frames.
 const SIZES: [usize; 14] = [2, 3, 4, 5, 6, 7, 8, 10, 12, 15, 18, 22, 27, 32];
+/// Numbers of frames of the larger preparations, up to 64: by the exact route, and by the Barnes-Hut route.
+const LARGER_EXACT: [usize; 4] = [37, 50, 63, 64];
+const LARGER_LISTS: [usize; 7] = [33, 37, 43, 50, 57, 63, 64];
 /// The method's number in a case.
 const EXACT: u64 = 0;
 const BARNES_HUT: u64 = 1;
@@ -33,6 +36,35 @@ pub fn cases() -> Vec<Vec<u64>> {
             turn += 1;
         }
     }
+    found
+}
+
+/// The same for more frames. Lists are as long as the perplexity makes them, so only one case has that of the last kind.
+pub fn larger_cases() -> Vec<Vec<u64>> {
+    let mut random = SplitMix64::new(102);
+    let mut found = Vec::new();
+    for (turn, n) in LARGER_EXACT.into_iter().enumerate() {
+        let f = 1 + turn % 6;
+        let values = table(&mut random, turn % KINDS, n, f);
+        let perplexity = perplexity(&mut random, turn, n);
+        found.push(exact_case(&Table { n, f, values: &values }, perplexity));
+    }
+    for n in LARGER_LISTS {
+        for perplexity in [0.3, 1.0 + random.unit()] {
+            let turn = found.len();
+            let f = 1 + turn % 6;
+            let values = table(&mut random, turn % KINDS, n, f);
+            found.push(lists_case(&Table { n, f, values: &values }, perplexity));
+        }
+    }
+    // Every frame names every other.
+    let values = table(&mut random, 0, 64, 2);
+    let table = Table {
+        n: 64,
+        f: 2,
+        values: &values,
+    };
+    found.push(lists_case(&table, perplexity(&mut random, 2, 64)));
     found
 }
 
@@ -103,15 +135,24 @@ fn lists_case(table: &Table, perplexity: f64) -> Vec<u64> {
 mod tests {
     use super::*;
 
-    #[test]
-    fn the_list_stays_small_and_answers_are_numbers() {
-        let cases = cases();
-        assert!(8 * cases.concat().len() < 450_000);
+    /// The list stays small, its answers are numbers, and both routes are there with the given most frames.
+    fn is_well_made(cases: &[Vec<u64>], most: u64) {
+        assert!(8 * cases.concat().len() < 275_000);
         for case in cases.iter().filter(|case| case[0] == EXACT) {
             let (n, f) = (case[1] as usize, case[2] as usize);
             let affinities = &case[4 + n * f..];
             assert_eq!(affinities.len(), n * n);
             assert!(affinities.iter().all(|&bits| f64::from_bits(bits) >= 0.0));
         }
+        for method in [EXACT, BARNES_HUT] {
+            let largest = cases.iter().filter(|case| case[0] == method).map(|case| case[1]).max();
+            assert_eq!(largest, Some(most));
+        }
+    }
+
+    #[test]
+    fn lists_are_well_made() {
+        is_well_made(&cases(), 32);
+        is_well_made(&larger_cases(), 64);
     }
 }

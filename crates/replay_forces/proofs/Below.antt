@@ -1,0 +1,17 @@
+-- Indices that name frames: none at first, one more with each test. Assumes nothing.
+use mathlib.Core.List.{List}
+use mathlib.Core.Path.{_≡_, sym, subst}
+use mathlib.Core.Logic.{⊎-elim}
+use Prim.Native.Nat.{ℕ, _+_, _<_, _≤_}
+use native.Mathlib.Nat.{eq-or-lt-of-le}
+use native.Mathlib.Omega.{arith}
+use Rattle.laws.specs.Area.{num}
+use Rattle.gradient.specs.Forces.{Below}
+
+pub below-none : (n : ℕ) (I : List ℕ) → Below n 0 I
+below-none n I k h = absurd (omega arith)
+
+pub below-more : (n m : ℕ) (I : List ℕ) → Below n m I → num I m < n → Below n (m + 1) I
+below-more n m I b h k l =
+    let within : k ≤ m = omega arith in
+    ⊎-elim (λ (q : k ≡ m). subst (λ (i : ℕ). num I i < n) (sym q) h) (λ (s : k < m). b k s) (eq-or-lt-of-le within)

@@ -1,0 +1,432 @@
+// Barnes-Hut gradients: the normaliser and every element, out of the forces of all points.
+use crate::areas::fill;
+use crate::areas::fill_words;
+use crate::areas::mark;
+use crate::areas::plus;
+use crate::areas::same_tail;
+use crate::areas::same_value;
+use crate::areas::times;
+use crate::areas::value_at;
+use crate::growth::fine;
+use crate::growth::grow;
+use crate::links::linked;
+use gradient::element::gradient_at;
+use gradient::element::normaliser;
+use gradient::forces::point_forces;
+use replay::word_at;
+ghost use mathlib.Core.Path.{_≡_};
+ghost use mathlib.Core.Bool.{true};
+ghost use Prim.Native.Nat.{_+_, _*_, _<_, _≤_};
+ghost use lib.ListN.{length};
+ghost use Rattle.node.specs.Node.{Axes};
+
+// What a case begins with.
+struct Case {
+    // the sizes are such as a case has
+    good: bool,
+    // points
+    n: u32,
+    // components
+    c: usize,
+    angle: f64,
+    exaggeration: f64,
+    links: usize,
+    // the word where the positions begin
+    at: usize,
+}
+
+// The forces of point i; false where tree or list is not in order.
+fn one_point(
+    s: Case,
+    used: usize,
+    i: usize,
+    positions: &[f64],
+    weights: &[f64],
+    indices: &[u32],
+    offsets: &[u32],
+    reals: &[f64],
+    words: &[u32],
+    forces: &mut [f64],
+) -> bool
+    requires { ⌜ (Axes (s .c)) × (i < s .n) × (s .n ≤ 64) × (s .n * s .c ≤ length (now positions)) × (s .n * (2 * s .c + 1) ≤ length (now forces)) ⌝ }
+{
+    if !fine(reals, words, used, s.n as usize, s.c) {
+        return false;
+    }
+    if !linked(weights, indices, offsets, s.n as usize, i) {
+        return false;
+    }
+    point_forces(
+        reals,
+        words,
+        used,
+        positions,
+        weights,
+        indices,
+        offsets,
+        s.n as usize,
+        s.c,
+        i,
+        s.exaggeration,
+        s.angle,
+        forces,
+    );
+    true
+}
+
+// The forces of every point.
+fn all_points(
+    s: Case,
+    used: usize,
+    positions: &[f64],
+    weights: &[f64],
+    indices: &[u32],
+    offsets: &[u32],
+    reals: &[f64],
+    words: &[u32],
+    forces: &mut [f64],
+) -> bool
+    requires { ⌜ (Axes (s .c)) × (s .n ≤ 64) × (s .n * s .c ≤ length (now positions)) × (s .n * (2 * s .c + 1) ≤ length (now forces)) ⌝ }
+{
+    let n = s.n as usize;
+    let mut i = 0;
+    while i < n {
+        if !one_point(
+            s,
+            used,
+            i,
+            positions,
+            weights,
+            indices,
+            offsets,
+            reals,
+            words,
+            forces,
+        ) {
+            return false;
+        }
+        i += 1;
+    }
+    true
+}
+
+// The normaliser stands at word a, the gradient behind it.
+fn same_gradient(forces: &[f64], n: usize, c: usize, m: usize, list: &[u8], a: usize) -> bool
+    requires { ⌜ (0 < c) × (c ≤ 8) × (m ≡ n * c) × (n * (2 * c + 1) ≤ length (now forces)) ⌝ }
+{
+    let z = normaliser(forces, n, c);
+    if !same_value(z, list, a) {
+        return false;
+    }
+    let b = plus(a, 1);
+    let mut e = 0;
+    while e < m {
+        if !same_value(gradient_at(false, forces, z, n, c, e), list, plus(b, e)) {
+            return false;
+        }
+        e += 1;
+    }
+    true
+}
+
+// Positions, offsets, indices and weights of a case take their words.
+fn ready(
+    list: &[u8],
+    s: Case,
+    m: usize,
+    positions: &mut [f64],
+    weights: &mut [f64],
+    indices: &mut [u32],
+    offsets: &mut [u32],
+)
+    requires { ⌜ (s .n ≤ 64) × (m ≤ length (now positions)) × (s .links ≤ length (now weights)) × (s .links ≤ length (now indices)) × (s .n < length (now offsets)) ⌝ }
+{
+    let n = s.n as usize;
+    let b = plus(s.at, m);
+    let d = plus(b, n + 1);
+    fill(positions, m, list, s.at);
+    fill_words(offsets, n + 1, list, b);
+    fill_words(indices, s.links, list, d);
+    fill(weights, s.links, list, plus(d, s.links));
+}
+
+// The forces of a case that is ready, in an area of marks.
+fn forces_of(
+    s: Case,
+    positions: &[f64],
+    weights: &[f64],
+    indices: &[u32],
+    offsets: &[u32],
+    forces: &mut [f64],
+    reals: &mut [f64],
+    words: &mut [u32],
+) -> bool
+    requires { ⌜ (Axes (s .c)) × (s .n ≤ 64) × (s .n * s .c ≤ length (now positions)) × (s .n * (2 * s .c + 1) ≤ length (now forces)) ⌝ }
+{
+    mark(forces);
+    let used = grow(reals, words, positions, s.n, s.c);
+    all_points(
+        s,
+        used,
+        positions,
+        weights,
+        indices,
+        offsets,
+        reals,
+        words,
+        forces,
+    )
+}
+
+// The normaliser, which stands at word a, the gradient, and what lies past the forces of n points.
+fn same_forces(forces: &[f64], n: usize, c: usize, m: usize, list: &[u8], a: usize) -> bool
+    requires { ⌜ (n ≤ 64) × (0 < c) × (c ≤ 8) × (m ≡ n * c) × (n * (2 * c + 1) ≤ length (now forces)) ⌝ }
+{
+    if !same_gradient(forces, n, c, m, list, a) {
+        return false;
+    }
+    same_tail(forces, times(n, 2 * c + 1))
+}
+
+// The gradient of a case that is ready; its normaliser stands at word a.
+fn gradient_right(
+    list: &[u8],
+    a: usize,
+    s: Case,
+    m: usize,
+    positions: &[f64],
+    weights: &[f64],
+    indices: &[u32],
+    offsets: &[u32],
+    forces: &mut [f64],
+    reals: &mut [f64],
+    words: &mut [u32],
+) -> bool
+    requires { ⌜ (Axes (s .c)) × (s .n ≤ 64) × (m ≡ s .n * s .c) × (m ≤ length (now positions)) × (s .n * (2 * s .c + 1) ≤ length (now forces)) ⌝ }
+{
+    if !forces_of(
+        s,
+        positions,
+        weights,
+        indices,
+        offsets,
+        forces,
+        reals,
+        words,
+    ) {
+        return false;
+    }
+    same_forces(forces, s.n as usize, s.c, m, list, a)
+}
+
+// The word behind the links of a case with m coordinates.
+fn answer_at(s: Case, m: usize) -> usize
+    requires { ⌜ s .n ≤ 64 ⌝ }
+{
+    plus(
+        plus(plus(s.at, m), s.n as usize + 1),
+        plus(s.links, s.links),
+    )
+}
+
+// A case with room: m is n·c.
+fn pulls_in(
+    list: &[u8],
+    s: Case,
+    m: usize,
+    positions: &mut [f64],
+    weights: &mut [f64],
+    indices: &mut [u32],
+    offsets: &mut [u32],
+    forces: &mut [f64],
+    reals: &mut [f64],
+    words: &mut [u32],
+) -> bool
+    requires { ⌜ (Axes (s .c)) × (s .n ≤ 64) × (m ≡ s .n * s .c) × (m ≤ length (now positions)) × (s .links ≤ length (now weights)) × (s .links ≤ length (now indices)) × (s .n < length (now offsets)) × (s .n * (2 * s .c + 1) ≤ length (now forces)) ⌝ }
+{
+    ready(list, s, m, positions, weights, indices, offsets);
+    let a = answer_at(s, m);
+    gradient_right(
+        list,
+        a,
+        s,
+        m,
+        positions,
+        weights,
+        indices,
+        offsets,
+        forces,
+        reals,
+        words,
+    )
+}
+
+// Areas without room count as wrong.
+fn pulls_case(
+    list: &[u8],
+    s: Case,
+    positions: &mut [f64],
+    weights: &mut [f64],
+    indices: &mut [u32],
+    offsets: &mut [u32],
+    forces: &mut [f64],
+    reals: &mut [f64],
+    words: &mut [u32],
+) -> bool
+    requires { ⌜ (Axes (s .c)) × (s .n ≤ 64) ⌝ }
+{
+    let n = s.n as usize;
+    let m = times(n, s.c);
+    if m > positions.len() {
+        return false;
+    }
+    if s.links > weights.len() {
+        return false;
+    }
+    if s.links > indices.len() {
+        return false;
+    }
+    if n >= offsets.len() {
+        return false;
+    }
+    if times(n, 2 * s.c + 1) > forces.len() {
+        return false;
+    }
+    pulls_in(
+        list,
+        s,
+        m,
+        positions,
+        weights,
+        indices,
+        offsets,
+        forces,
+        reals,
+        words,
+    )
+}
+
+// What stands at word a where the sizes are no case's: no points, and not good.
+fn no_case(a: usize) -> Case
+    ensures { λ r. ⌜ (r .n ≤ 64) × (Axes (r .c)) ⌝ }
+{
+    Case {
+        good: false,
+        n: 0,
+        c: 1,
+        angle: 0.0,
+        exaggeration: 0.0,
+        links: 0,
+        at: a,
+    }
+}
+
+// What the case from word a on begins with: n, c, angle, exaggeration, number of links.
+fn case_at(list: &[u8], a: usize) -> Case
+    ensures { λ r. ⌜ (r .n ≤ 64) × (Axes (r .c)) ⌝ }
+{
+    let n = word_at(list, a);
+    let c = word_at(list, plus(a, 1));
+    if n > 64 {
+        return no_case(a);
+    }
+    if c == 0 {
+        return no_case(a);
+    }
+    if c > 3 {
+        return no_case(a);
+    }
+    Case {
+        good: true,
+        n: n as u32,
+        c: c as usize,
+        angle: value_at(list, plus(a, 2)),
+        exaggeration: value_at(list, plus(a, 3)),
+        links: word_at(list, plus(a, 4)) as usize,
+        at: plus(a, 5),
+    }
+}
+
+// The word after a case: its normaliser and its gradient come last.
+fn end_of(s: Case) -> usize
+    requires { ⌜ (s .n ≤ 64) × (Axes (s .c)) ⌝ }
+{
+    let m = times(s.n as usize, s.c);
+    plus(answer_at(s, m), m + 1)
+}
+
+// What became of one case: right or not, and the word after it.
+struct Next {
+    right: bool,
+    at: usize,
+}
+
+// The case from word a on: sizes and numbers, positions, offsets, indices and weights, then the normaliser and the gradient.
+fn one_case(
+    list: &[u8],
+    a: usize,
+    positions: &mut [f64],
+    weights: &mut [f64],
+    indices: &mut [u32],
+    offsets: &mut [u32],
+    forces: &mut [f64],
+    reals: &mut [f64],
+    words: &mut [u32],
+) -> Next {
+    let s = case_at(list, a);
+    if !s.good {
+        return Next {
+            right: false,
+            at: 0,
+        };
+    }
+    let at = end_of(s);
+    let right = pulls_case(
+        list,
+        s,
+        positions,
+        weights,
+        indices,
+        offsets,
+        forces,
+        reals,
+        words,
+    );
+    Next { right, at }
+}
+
+// A case that does not lead on ends the replay, and counts as wrong.
+pub(crate) fn pulls_cases(
+    list: &[u8],
+    positions: &mut [f64],
+    weights: &mut [f64],
+    indices: &mut [u32],
+    offsets: &mut [u32],
+    forces: &mut [f64],
+    reals: &mut [f64],
+    words: &mut [u32],
+) -> replay::Tally {
+    let end = list.len() / 8;
+    let mut t = replay::Tally::new();
+    let mut a: usize = 0;
+    while a < end {
+        let next = one_case(
+            list,
+            a,
+            positions,
+            weights,
+            indices,
+            offsets,
+            forces,
+            reals,
+            words,
+        );
+        t = t.with(next.right);
+        let at = next.at;
+        if at <= a {
+            return t.with(false);
+        }
+        a = at;
+    }
+    t
+}

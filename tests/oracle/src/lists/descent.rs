@@ -1,0 +1,473 @@
+//! The lists of whole runs: a preparation, then work calls with budgets, with areas lent shorter and with one field or
+//! place altered before a call. After the preparation and after each call the list has the answer, the record, and a
+//! digest of every area.
+
+use super::gradient::listed;
+use crate::descent::{prepare, work, Answer, Areas, Method, Record, Rows, Settings, Standing};
+use crate::scatter::mix;
+use crate::tree::Arena;
+
+mod faults;
+mod runs;
+
+pub use faults::cases as fault_cases;
+pub use runs::cases as run_cases;
+
+/// How many areas a work call is lent.
+const LENT: usize = 9;
+/// How many words a call has.
+pub const CALL_WORDS: usize = 3 + LENT + 1 + 3 + FIELDS + LENT;
+/// How many fields a record has.
+const FIELDS: usize = 14;
+
+/// The areas by their numbers.
+const POSITIONS: usize = 0;
+const GAINS: usize = 2;
+const AFFINITIES: usize = 3;
+const INDICES: usize = 4;
+const OFFSETS: usize = 5;
+const FORCES: usize = 6;
+const REALS: usize = 7;
+const WORDS: usize = 8;
+
+/// The record's fields by their numbers.
+const N: usize = 0;
+const F: usize = 1;
+const C: usize = 2;
+const METHOD: usize = 3;
+const PERPLEXITY: usize = 4;
+const RATE: usize = 5;
+const ITERATIONS: usize = 6;
+const ANGLE: usize = 7;
+const MINIMUM: usize = 8;
+const STANDING: usize = 9;
+const DONE: usize = 10;
+const PHASE: usize = 11;
+const UNITS: usize = 12;
+const USED: usize = 13;
+
+/// What is altered before a call.
+#[derive(Clone, Copy, Debug)]
+enum Alteration {
+    Nothing,
+    /// A field of the record becomes the value with these bits.
+    Field(usize, u64),
+    /// A place of an area does.
+    Place(usize, usize, u64),
+}
+
+/// A call to come.
+#[derive(Clone, Debug)]
+struct Call {
+    alteration: Alteration,
+    /// How much of each area is lent.
+    lengths: [usize; LENT],
+    budget: u32,
+}
+
+/// What a case starts from.
+#[derive(Clone, Debug)]
+struct Start {
+    settings: Settings,
+    table: Vec<f64>,
+    start: Vec<f64>,
+    /// The lengths of the nine areas, then of the two preparation rows.
+    lengths: [usize; LENT + 2],
+}
+
+/// A case in the making.
+struct Case {
+    words: Vec<u64>,
+    lengths: [usize; LENT],
+    areas: Areas,
+    /// None where the preparation was refused.
+    record: Option<Record>,
+    calls: u64,
+    /// Where the number of calls stands.
+    calls_at: usize,
+}
+
+/// The digest of an area: it starts as the number of elements, and each element's word is added and mixed in.
+fn digest(words: impl ExactSizeIterator<Item = u64>) -> u64 {
+    let length = words.len() as u64;
+    words.fold(length, |digest, word| mix(digest.wrapping_add(word)))
+}
+
+fn digest_values(values: &[f64]) -> u64 {
+    digest(values.iter().map(|&v| listed(v)))
+}
+
+fn digest_numbers(numbers: &[u32]) -> u64 {
+    digest(numbers.iter().map(|&v| u64::from(v)))
+}
+
+/// The digests of the nine areas.
+fn digests(areas: &Areas) -> [u64; LENT] {
+    [
+        digest_values(&areas.positions),
+        digest_values(&areas.increments),
+        digest_values(&areas.gains),
+        digest_values(&areas.affinities),
+        digest_numbers(&areas.indices),
+        digest_numbers(&areas.offsets),
+        digest_values(&areas.forces),
+        digest_values(&areas.arena.reals),
+        digest_numbers(&areas.arena.words),
+    ]
+}
+
+/// Place i holds the value with the bits 4000000000000000 + i.
+fn marks(length: usize) -> Vec<f64> {
+    (0..length as u64)
+        .map(|i| f64::from_bits(0x4000_0000_0000_0000 + i))
+        .collect()
+}
+
+/// Place i holds 40000000 + i, in hex.
+fn marked_numbers(length: usize) -> Vec<u32> {
+    (0..length as u32).map(|i| 0x4000_0000 + i).collect()
+}
+
+impl Settings {
+    /// The settings as words.
+    fn words(&self) -> [u64; 9] {
+        [
+            self.n as u64,
+            self.f as u64,
+            self.c as u64,
+            match self.method {
+                Method::Exact => 0,
+                Method::BarnesHut => 1,
+            },
+            listed(self.perplexity),
+            listed(self.rate),
+            self.iterations as u64,
+            listed(self.angle),
+            listed(self.minimum),
+        ]
+    }
+}
+
+impl Record {
+    /// The record as words: the settings, the state, iterations done, units of the iteration, all units, nodes in use.
+    fn words(&self) -> Vec<u64> {
+        let mut words = self.settings.words().to_vec();
+        words.extend([
+            match self.standing {
+                Standing::Running => 0,
+                Standing::Stopped => 1,
+                Standing::Finished => 2,
+            },
+            self.done as u64,
+            self.phase as u64,
+            self.units as u64,
+            self.used as u64,
+        ]);
+        words
+    }
+
+    /// One field becomes the value with the given bits.
+    fn alter(&mut self, field: usize, bits: u64) {
+        let (number, value) = (bits as usize, f64::from_bits(bits));
+        match field {
+            N => self.settings.n = number,
+            F => self.settings.f = number,
+            C => self.settings.c = number,
+            METHOD => self.settings.method = [Method::Exact, Method::BarnesHut][number],
+            PERPLEXITY => self.settings.perplexity = value,
+            RATE => self.settings.rate = value,
+            ITERATIONS => self.settings.iterations = number,
+            ANGLE => self.settings.angle = value,
+            MINIMUM => self.settings.minimum = value,
+            STANDING => self.standing = [Standing::Running, Standing::Stopped, Standing::Finished][number],
+            DONE => self.done = number,
+            PHASE => self.phase = number,
+            UNITS => self.units = number,
+            USED => self.used = number,
+            _ => panic!("no such field: {field}"),
+        }
+    }
+}
+
+/// The values of an area of values, the numbers of one of numbers.
+enum Part<'a> {
+    Values(&'a mut Vec<f64>),
+    Numbers(&'a mut Vec<u32>),
+}
+
+/// An area by its number.
+fn part(areas: &mut Areas, area: usize) -> Part<'_> {
+    match area {
+        POSITIONS => Part::Values(&mut areas.positions),
+        1 => Part::Values(&mut areas.increments),
+        GAINS => Part::Values(&mut areas.gains),
+        AFFINITIES => Part::Values(&mut areas.affinities),
+        INDICES => Part::Numbers(&mut areas.indices),
+        OFFSETS => Part::Numbers(&mut areas.offsets),
+        FORCES => Part::Values(&mut areas.forces),
+        REALS => Part::Values(&mut areas.arena.reals),
+        WORDS => Part::Numbers(&mut areas.arena.words),
+        _ => panic!("no such area: {area}"),
+    }
+}
+
+/// What a place holds, as a word.
+fn held(areas: &mut Areas, area: usize, place: usize) -> u64 {
+    match part(areas, area) {
+        Part::Values(values) => listed(values[place]),
+        Part::Numbers(numbers) => u64::from(numbers[place]),
+    }
+}
+
+/// The areas cut down to what is lent.
+fn cut(areas: &Areas, lengths: &[usize; LENT]) -> Areas {
+    let mut lent = areas.clone();
+    for (area, &length) in lengths.iter().enumerate() {
+        match part(&mut lent, area) {
+            Part::Values(values) => values.truncate(length),
+            Part::Numbers(numbers) => numbers.truncate(length),
+        }
+    }
+    lent
+}
+
+/// What was lent goes back to the front of the areas.
+fn put_back(areas: &mut Areas, lent: &mut Areas) {
+    for area in 0..LENT {
+        match (part(areas, area), part(lent, area)) {
+            (Part::Values(whole), Part::Values(cut)) => whole[..cut.len()].copy_from_slice(cut),
+            (Part::Numbers(whole), Part::Numbers(cut)) => whole[..cut.len()].copy_from_slice(cut),
+            _ => unreachable!("an area keeps its kind"),
+        }
+    }
+}
+
+impl Case {
+    /// The preparation.
+    fn new(from: &Start) -> Case {
+        let lengths = from.lengths;
+        let mut areas = Areas {
+            positions: marks(lengths[POSITIONS]),
+            increments: marks(lengths[1]),
+            gains: marks(lengths[GAINS]),
+            affinities: marks(lengths[AFFINITIES]),
+            indices: marked_numbers(lengths[INDICES]),
+            offsets: marked_numbers(lengths[OFFSETS]),
+            forces: marks(lengths[FORCES]),
+            arena: Arena {
+                reals: marks(lengths[REALS]),
+                words: marked_numbers(lengths[WORDS]),
+            },
+        };
+        let mut rows = Rows {
+            values: marks(lengths[LENT]),
+            indices: marked_numbers(lengths[LENT + 1]),
+        };
+        let mut words = vec![0];
+        words.extend(from.settings.words());
+        words.extend(lengths.iter().map(|&length| length as u64));
+        words.extend([from.table.len() as u64, from.start.len() as u64]);
+        words.extend(from.table.iter().chain(&from.start).map(|&v| listed(v)));
+        let prepared = prepare(from.settings, &from.table, &from.start, &mut areas, &mut rows);
+        words.push(prepared.err().unwrap_or(0));
+        words.extend(digests(&areas));
+        words.extend([digest_values(&rows.values), digest_numbers(&rows.indices)]);
+        words.push(0);
+        let mut lent = [0; LENT];
+        lent.copy_from_slice(&lengths[..LENT]);
+        Case {
+            calls_at: words.len() - 1,
+            words,
+            lengths: lent,
+            areas,
+            record: prepared.ok(),
+            calls: 0,
+        }
+    }
+
+    /// A record of a run that was prepared.
+    fn record(&self) -> &Record {
+        self.record.as_ref().expect("a run that was prepared")
+    }
+
+    /// One call, and what it gives.
+    fn call(&mut self, call: &Call) -> Answer {
+        let mut record = *self.record();
+        let (part_number, place, bits) = match call.alteration {
+            Alteration::Nothing => (0, 0, 0),
+            Alteration::Field(field, bits) => (1, field, bits),
+            Alteration::Place(area, place, bits) => (2 + area, place, bits),
+        };
+        match call.alteration {
+            Alteration::Nothing => {}
+            Alteration::Field(field, bits) => record.alter(field, bits),
+            Alteration::Place(area, place, bits) => match part(&mut self.areas, area) {
+                Part::Values(values) => values[place] = f64::from_bits(bits),
+                Part::Numbers(numbers) => numbers[place] = bits as u32,
+            },
+        }
+        self.words.extend([part_number as u64, place as u64, bits]);
+        self.words.extend(call.lengths.iter().map(|&length| length as u64));
+        self.words.push(u64::from(call.budget));
+        let mut lent = cut(&self.areas, &call.lengths);
+        let answer = work(&mut record, &mut lent, call.budget);
+        put_back(&mut self.areas, &mut lent);
+        self.words.extend(match answer {
+            Answer::Running(units) => [0, 0, units],
+            Answer::Stopped(units) => [1, 0, units],
+            Answer::Finished(units) => [2, 0, units],
+            Answer::Refused(number, units) => [3, number, units],
+        });
+        self.words.extend(record.words());
+        self.words.extend(digests(&self.areas));
+        self.record = Some(record);
+        self.calls += 1;
+        answer
+    }
+
+    /// A call with all areas whole.
+    fn plain(&mut self, budget: u32) -> Answer {
+        self.altered(Alteration::Nothing, budget)
+    }
+
+    /// A call with all areas whole, after an alteration.
+    fn altered(&mut self, alteration: Alteration, budget: u32) -> Answer {
+        let lengths = self.lengths;
+        self.call(&Call {
+            alteration,
+            lengths,
+            budget,
+        })
+    }
+
+    /// A call that is lent so much of one area.
+    fn shortened(&mut self, area: usize, length: usize, budget: u32) -> Answer {
+        let mut lengths = self.lengths;
+        lengths[area] = length;
+        self.call(&Call {
+            alteration: Alteration::Nothing,
+            lengths,
+            budget,
+        })
+    }
+
+    /// A call after an alteration, and one after it was taken back.
+    fn there_and_back(&mut self, alteration: Alteration, budget: u32) -> Answer {
+        let before = match alteration {
+            Alteration::Nothing => Alteration::Nothing,
+            Alteration::Field(field, _) => Alteration::Field(field, self.record().words()[field]),
+            Alteration::Place(area, place, _) => Alteration::Place(area, place, held(&mut self.areas, area, place)),
+        };
+        let answer = self.altered(alteration, budget);
+        self.altered(before, 0);
+        answer
+    }
+
+    /// The case with its length and its number of calls.
+    fn done(mut self) -> Vec<u64> {
+        self.words[0] = self.words.len() as u64;
+        self.words[self.calls_at] = self.calls;
+        self.words
+    }
+}
+
+/// Lengths that are enough for the settings, with room for the given nodes, and in each area a few places more.
+fn roomy(settings: &Settings, nodes: usize) -> [usize; LENT + 2] {
+    let mut lengths = tight(settings, nodes);
+    for (area, length) in lengths.iter_mut().enumerate() {
+        *length += 1 + area % 3;
+    }
+    lengths
+}
+
+/// Lengths that are just enough; an exact run has no lists and no arena.
+fn tight(settings: &Settings, nodes: usize) -> [usize; LENT + 2] {
+    let Settings { n, c, .. } = *settings;
+    let cells = n * c;
+    let forces = n * (2 * c + 1);
+    match settings.method {
+        Method::Exact => [cells, cells, cells, n * n, 0, 0, forces, 0, 0, n, n],
+        Method::BarnesHut => {
+            let links = 2 * n * crate::elementary::neighbours(settings.perplexity, n);
+            [
+                cells,
+                cells,
+                cells,
+                links,
+                links,
+                n + 1,
+                forces,
+                9 * nodes,
+                3 * nodes,
+                n,
+                n,
+            ]
+        }
+    }
+}
+
+#[cfg(test)]
+mod tests {
+    use super::*;
+
+    #[test]
+    fn a_digest_tells_signs_places_and_lengths() {
+        let digest = |values: &[f64]| digest_values(values);
+        assert_ne!(digest(&[1.0, 2.0]), digest(&[-1.0, -2.0]));
+        assert_ne!(digest(&[1.0, 2.0]), digest(&[2.0, 1.0]));
+        assert_ne!(digest(&[0.0, 0.0]), digest(&[0.0]));
+        assert_ne!(digest(&[0.0]), digest(&[-0.0]));
+        assert_eq!(digest(&[]), 0);
+        assert_eq!(digest_numbers(&[5]), mix(6));
+    }
+
+    /// The cases follow each other, and each has the calls that it says.
+    fn is_well_made(cases: &[Vec<u64>]) {
+        assert!(8 * cases.concat().len() < 275_000);
+        for case in cases {
+            assert_eq!(case[0], case.len() as u64);
+            let before = 23 + (case[21] + case[22]) as usize + 12;
+            let calls = case[before] as usize;
+            assert_eq!(case.len(), before + 1 + calls * CALL_WORDS);
+            assert_eq!(case[before - 12] == 0, calls > 0);
+        }
+    }
+
+    /// How many calls there are with the given kind and number.
+    fn calls(cases: &[Vec<u64>], kind: u64, number: u64) -> usize {
+        let answers = cases.iter().flat_map(|case| {
+            let first = 23 + (case[21] + case[22]) as usize + 13;
+            case[first..].chunks(CALL_WORDS).map(|call| (call[13], call[14]))
+        });
+        answers.filter(|&answer| answer == (kind, number)).count()
+    }
+
+    #[test]
+    fn runs_reach_what_they_are_meant_to() {
+        let cases = run_cases();
+        is_well_made(&cases);
+        assert!(calls(&cases, 0, 0) > 100 && calls(&cases, 1, 0) > 3 && calls(&cases, 2, 0) > 50);
+        assert!(calls(&cases, 3, 14) > 10 && calls(&cases, 3, 15) > 8);
+        assert!(cases.iter().any(|case| case[1] == 64));
+        for c in 1..=8 {
+            assert!(cases.iter().any(|case| case[3] == c && case[4] == 0));
+        }
+        for c in 1..=3 {
+            assert!(cases.iter().any(|case| case[3] == c && case[4] == 1));
+        }
+    }
+
+    #[test]
+    fn faults_reach_what_they_are_meant_to() {
+        let cases = fault_cases();
+        is_well_made(&cases);
+        assert!(calls(&cases, 3, 12) > 10 && calls(&cases, 3, 13) > 50);
+        for number in 1..=12 {
+            let refused = cases.iter().filter(|case| {
+                let at = 23 + (case[21] + case[22]) as usize;
+                case[at] == number
+            });
+            assert!(refused.count() > 0, "{number}");
+        }
+    }
+}
