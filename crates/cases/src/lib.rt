@@ -1,0 +1,1 @@
+// No code: the scope paper's table of cases a) to k), proved together (specs/).
