@@ -1,6 +1,26 @@
-use mathlib.Core.Path.{_≡_}
-
 -- The scope paper's cases a) to k), one table. Each field is a claim about a definition that a contract cites; the table at the end is computed by the checker.
+use mathlib.Core.Path.{_≡_, refl}
+use mathlib.Core.List.{List, [], _∷_, map}
+use mathlib.Core.Bool.{true, false}
+use Prim.Native.Nat.{ℕ}
+use lib.ListN.{replicate}
+use lib.Ieee.{Float, ofBits, ofInt, isNan, size, add, sub, mul, div, lt, eq, neg}
+use Rattle.laws.specs.Run.{run}
+use Rattle.laws.specs.Area.{bits, zero64, one64}
+use Rattle.elementary.specs.Exp.{expOf}
+use Rattle.elementary.specs.Ln.{lnOf}
+use Rattle.elementary.specs.Limits.{unlessAbove}
+use Rattle.lists.specs.Lists.{areas}
+use Rattle.affinity.specs.Exact.{exactOf}
+use Rattle.affinity.specs.Neighbours.{neighboursListed}
+use Rattle.node.specs.declared.Node.{Node}
+use Rattle.node.specs.Node.{zeros, childIndex}
+use Rattle.node.specs.Areas.{nodeAt, blank}
+use Rattle.tree.specs.Insert.{Insertion, built}
+use Rattle.tree.specs.Box.{boxed, boxOf}
+use Rattle.gradient.specs.Forces.{forcesOf}
+use Rattle.gradient.specs.Element.{gradientsOf, gradientOf, normaliserOf}
+use Rattle.step.specs.Step.{gainOf}
 
 -- 0.5, 12, -11 and 11, 4
 abbrev half : Float
