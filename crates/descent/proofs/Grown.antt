@@ -125,7 +125,7 @@ module _ (s : State) (g : Honest s) (live : isEnded (s .run .standing) ≡ false
         grown = grown;
       }
 
--- ---- THEOREM: with 1 + 50·2^c·(n - 1) nodes no insertion is refused
+-- ---- with 1 + 50·2^c·(n - 1) nodes no insertion is refused
 
 module _ (s : State) (g : Honest s) (live : isEnded (s .run .standing) ≡ false) (room : 1 + 50 * 2 ^ s .run .settings .c * (s .run .settings .n - 1) ≤ length (s .memory .nodes)) where
   insert-room : groupOf (s .run) ≡ 0 → (s .run .phase ≡ 0 → ⊥) → inserting (s .run) (s .memory .positions) (s .memory .nodes) .full ≡ false
@@ -136,8 +136,8 @@ module _ (s : State) (g : Honest s) (live : isEnded (s .run .standing) ≡ false
       let j : pointsIn r ≡ r .phase - 1 = omega (arith, k .1) in
       next-in (s .memory .positions) (r .settings .n) (r .settings .c) (r .phase - 1) (tree (r .used) (s .memory .nodes)) (b .before) (b .some) (omega (arith, k .1, p)) (rw j at (b .same)) room
 
-  pub never-refused-by-14 : unit s .why ≡ Full → ⊥
-  never-refused-by-14 = by-unit s live (λ (t : Turned). t .why ≡ Full → ⊥)
+  pub never-full : unit s .why ≡ Full → ⊥
+  never-full = by-unit s live (λ (t : Turned). t .why ≡ Full → ⊥)
       (λ z. by-tree (s .run) (s .memory .positions) (s .memory .nodes) (λ (t : TreeTurn). t .why ≡ Full → ⊥) (λ e q. apart-done q) (λ e f q. true≢false (sym f ∙ insert-room z e)) (λ e f q. apart-done q))
       (λ z q. apart-done q)
       (λ a b. by-finish (s .run) (s .memory .positions) (s .memory .increments) (s .memory .gains) (s .memory .forces) (λ (t : FinishTurn). t .why ≡ Full → ⊥) (λ q. apart-done q) (λ q. apart-wild q))

@@ -27,6 +27,7 @@ use Rattle.descent.specs.Descent.{machine, work}
 use Rattle.descent.specs.Honest.{Honest}
 use Rattle.descent.specs.Longer.{inArena, longer, Holds, lent}
 use Rattle.descent.proofs.Turns.{by-tree}
+use Rattle.descent.proofs.Keeps.{unit-settings}
 use Rattle.descent.proofs.Loop.{due}
 use Rattle.descent.proofs.Lawful.{lawful}
 use Rattle.descent.proofs.Longer.{GoesOn, works-on-longer}
@@ -124,7 +125,7 @@ module _ (a : List Float) (d : List ℕ) (r r' : List Float) (w w' : List ℕ) (
             ∙ ap (nodeAt ms) (sym f) ∙ sym (getD-drop k ms (i - k) blank) ∙ sym (getD-append-add ns (drop k ms) (i - k) blank) ∙ ap (nodeAt (ns ++ drop k ms)) e
       ]
 
--- ---- no unit changes the number of nodes, nor what lies past them
+-- ---- no unit changes the number of nodes, what lies past them, or the settings
 
 module _ (s : State) (g : Honest s) (live : isEnded (s .run .standing) ≡ false) where
   unit-rest : unit s .now .memory .rest ≡ s .memory .rest
@@ -148,9 +149,9 @@ module _ (s : State) (g : Honest s) (live : isEnded (s .run .standing) ≡ false
       (λ z. refl)
       (λ a b. refl)
 
--- an arena of so many nodes, and the same past them
-abbrev Framed : State → State → Type 0
-Framed s t = (length (t .memory .nodes) ≡ length (s .memory .nodes)) × (t .memory .rest ≡ s .memory .rest)
+-- an arena of so many nodes, the same past them, and the same settings
+abbrev pub Framed : State → State → Type 0
+Framed s t = (length (t .memory .nodes) ≡ length (s .memory .nodes)) × ((t .memory .rest ≡ s .memory .rest) × (t .run .settings ≡ s .run .settings))
 
 -- the descent is lawful with that kept besides
 unfoldable framed : State → Lawful machine
@@ -160,7 +161,7 @@ framed s = record {
   rest = lawful .rest;
   count = lawful .count;
   passes = λ t g. lawful .passes t (g .0);
-  keeps = λ t g e. (lawful .keeps t (g .0) e, (unit-nodes t (g .0) (due t e .0) ∙ g .1 .0, unit-rest t (g .0) (due t e .0) ∙ g .1 .1));
+  keeps = λ t g e. (lawful .keeps t (g .0) e, (unit-nodes t (g .0) (due t e .0) ∙ g .1 .0, (unit-rest t (g .0) (due t e .0) ∙ g .1 .1 .0, unit-settings t (due t e .0) ∙ g .1 .1 .1)));
   counts = λ t g e. lawful .counts t (g .0) e;
   lessens = λ t g e. lawful .lessens t (g .0) e;
   small = λ t g. lawful .small t (g .0);
@@ -168,7 +169,7 @@ framed s = record {
 
 pub work-frames : (b : ℕ) (s : State) → Honest s → Framed s (work b s .left)
 unfolding work lawful framed
-work-frames b s g = rw (call-state machine lawful b s g) (good-after machine (framed s) b s (g, (refl, refl)) .1)
+work-frames b s g = rw (call-state machine lawful b s g) (good-after machine (framed s) b s (g, (refl, (refl, refl))) .1)
 
 -- ---- THEOREM: a call leaves the arena in the flat areas r' and w'; further floats and words are put behind them, and the run goes on.
 -- It does what a run does that had them behind its areas from the start
@@ -179,7 +180,7 @@ goes-on-lent a d b c s g r r' w w' h h' =
     let t = work b s .left in
     let f = work-frames b s g in
     let same : nodeCount r' w' ≡ nodeCount r w = sym (length-nodes r' w') ∙ ap length (sym (h' .nodes)) ∙ f .0 ∙ ap length (h .nodes) ∙ length-nodes r w in
-    let rests : restOf r' w' ≡ restOf r w = sym (h' .rest) ∙ f .1 ∙ h .rest in
+    let rests : restOf r' w' ≡ restOf r w = sym (h' .rest) ∙ f .1 .0 ∙ h .rest in
     let more = drop (nodeCount r w) (nodesOf (r ++ a) (w ++ d)) in
     let rest = restOf (r ++ a) (w ++ d) in
     let here : longer more rest s ≡ lent (r ++ a) (w ++ d) s = ap (λ (ns : List Node). inArena ns rest s) (ap (λ (ns : List Node). ns ++ more) (h .nodes) ∙ sym (lent-nodes a d r r w w refl refl)) in

@@ -7,3 +7,4 @@ pub mod Lawful
 pub mod Theorems
 pub mod Longer
 pub mod Lent
+pub mod Room

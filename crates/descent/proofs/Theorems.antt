@@ -1,6 +1,6 @@
 -- What is so of every run, in the words of the work call. The contract of `work` is one equation with `work` of specs/, so each theorem here is one about the code. Assumes nothing.
 use mathlib.Core.List.{List, [], _∷_}
-use mathlib.Core.Path.{_≡_, refl, ap, _∙_}
+use mathlib.Core.Path.{_≡_, refl, sym, ap, _∙_}
 use mathlib.Core.Logic.{_⊎_, inl, inr}
 use mathlib.Core.Bool.{true, false, cond}
 use Prim.Native.Nat.{ℕ, _+_, _<_, _≤_}
@@ -178,6 +178,31 @@ pub units-in-time : (b : ℕ) (s : State) → Honest s → unitsOf (work b s .an
 unfolding lawful
 units-in-time b s g = rw (units-told b s, call-units machine lawful b s g) (let d = done-rest machine lawful b s g in let m = rest-most s in omega arith)
 
+-- a call of an honest state whose answer has a number ended with a unit that was refused
+refused-kind : (b : ℕ) (s : State) → Honest s → (numberOf (work b s .answer) ≡ 0 → ⊥) → call machine b s .kind ≡ refused
+unfolding work lawful go
+refused-kind b s g n = call-kind machine lawful b s g ∙ refused-is b (done machine b s) (after machine b s) (λ z. n (rw (call-goes machine lawful b s g) z))
+
+-- the answer of a refused call is the reason why its next unit is not done
+refused-why : (b : ℕ) (s : State) → Honest s → (numberOf (work b s .answer) ≡ 0 → ⊥) → work b s .answer ≡ refusedOf (unit (work b s .left) .why) (call machine b s .units)
+unfolding work lawful go answerOf
+refused-why b s g n =
+    let e = refused-kind b s g n in
+    rw e
+
+full-why : (w : Why) (d : ℕ) → numberOf (refusedOf w d) ≡ 14 → w ≡ NoNodes
+unfolding numberOf
+full-why Done d e = absurd (let z : _≡_ {A = ℕ} 0 14 = e in omega arith)
+full-why NoNodes d e = refl
+full-why TooLarge d e = absurd (let z : _≡_ {A = ℕ} 15 14 = e in omega arith)
+full-why Over d e = absurd (let z : _≡_ {A = ℕ} 0 14 = e in omega arith)
+
+-- a call refused by 14 stands before an insertion that lacks nodes
+pub refused-full : (b : ℕ) (s : State) → Honest s → numberOf (work b s .answer) ≡ 14 → unit (work b s .left) .why ≡ NoNodes
+refused-full b s g e =
+    let n : numberOf (work b s .answer) ≡ 0 → ⊥ = λ z. let q : _≡_ {A = ℕ} 0 14 = sym z ∙ e in omega arith in
+    full-why (unit (work b s .left) .why) (call machine b s .units) (ap numberOf (sym (refused-why b s g n)) ∙ e)
+
 -- ---- THEOREM 5: a refusal by 14 or 15 leaves record and memory as after the units that the call tells, fewer than its budget, and there the next unit is refused
 
 pub record Refused (b : ℕ) (s : State) : Type 0 where
@@ -189,7 +214,7 @@ pub record Refused (b : ℕ) (s : State) : Type 0 where
 pub refusal : (b : ℕ) (s : State) → Honest s → (numberOf (work b s .answer) ≡ 0 → ⊥) → Refused b s
 unfolding work lawful go
 refusal b s g n =
-    let e : call machine b s .kind ≡ refused = call-kind machine lawful b s g ∙ refused-is b (done machine b s) (after machine b s) (λ z. n (rw (call-goes machine lawful b s g) z)) in
+    let e = refused-kind b s g n in
     let r = refusal-leaves machine lawful b s g e in
     record {
       left = rw (units-told b s) (r .so-many);
