@@ -1,0 +1,68 @@
+-- What the desk's calls leave is what the definitions name. Assumes nothing.
+use mathlib.Core.Path.{_≡_, ap}
+use mathlib.Core.List.{List}
+use mathlib.Core.Bool.{true, false, _&&_}
+use Prim.Native.Nat.{ℕ, _<_, _≤_}
+use lib.Dec.{leb}
+use lib.ListN.{length}
+use lib.Ieee.{Float}
+use borrow.Author.Tests.{lt-ltb, le-ltb, le-leb, lt-leb, leb-true}
+use Rattle.laws.specs.Area.{num}
+use Rattle.laws.proofs.Bools.{and-left}
+use Rattle.record.specs.declared.Run.{Run}
+use Rattle.record.specs.declared.Settings.{Settings}
+use Rattle.entry.specs.declared.Fault.the-variants.{Counters}
+use Rattle.entry.specs.State.{Memory, state}
+use Rattle.descent.specs.declared.Answer.{Answer}
+use Rattle.descent.specs.declared.Answer.the-variants.{Bad}
+use Rattle.descent.specs.Descent.{Worked, worked, work, numberOf}
+use Rattle.prepare.specs.declared.Prepared.{Prepared}
+use Rattle.prepare.specs.Prepare.{Lent, Outcome, outcome, prepared, numberOf as preparedNumber}
+use Rattle.desk.specs.Words.{settingsFine, settingsOf, runFine, runOf, runPut, answerPut}
+use Rattle.desk.specs.Desk.{begun, recorded, begunWith, hostPrepare, tell, tellWork, hostWork}
+
+-- ---- words that can be read are there
+
+pub settings-long : (w : List ℕ) → settingsFine w ≡ true → 9 ≤ length w
+unfolding settingsFine
+settings-long w e = leb-true 9 (length w) (and-left (leb 9 (length w)) (leb (num w 3) 1) e)
+
+pub run-long : (w : List ℕ) → runFine w ≡ true → 14 ≤ length w
+unfolding runFine
+run-long w e = leb-true 14 (length w) (and-left (leb 14 (length w)) (settingsFine w) (and-left (leb 14 (length w) && settingsFine w) (leb (num w 9) 2) e))
+
+-- ---- preparation
+
+module _ (s : List ℕ) (table start : List Float) (nodes : ℕ) (l : Lent) (w : List ℕ) where
+  pub unread-begun : settingsFine s ≡ false → begun 13 w l ≡ hostPrepare s table start nodes l w
+  unfolding hostPrepare
+  unread-begun e = rw e
+
+  pub short-begun : settingsFine s ≡ true → length w < 14 → begun 13 w l ≡ hostPrepare s table start nodes l w
+  unfolding hostPrepare
+  short-begun e h = rw (e, lt-leb 14 (length w) h)
+
+  module _ {p : Prepared} {l' : Lent} {t : Settings} (e : settingsFine s ≡ true) (h : 14 ≤ length w) (q : t ≡ settingsOf s) (o : outcome p l' ≡ prepared t table start nodes l) where
+    pub begun-is : {k : ℕ} {w' : List ℕ} → k ≡ preparedNumber p → w' ≡ recorded p w → begun k w' l' ≡ hostPrepare s table start nodes l w
+    unfolding hostPrepare
+    begun-is ek ew =
+        let o' : outcome p l' ≡ prepared (settingsOf s) table start nodes l = rw q at o in
+        rw (e, le-leb 14 (length w) h, ek, ew) (ap (λ (x : Outcome). begunWith x w) o')
+
+-- ---- the work call
+
+module _ (b : ℕ) (w a : List ℕ) (m : Memory) where
+  pub short-told : length a < 5 → tell 12 a w m ≡ hostWork b w a m
+  unfolding hostWork
+  short-told h = rw (lt-ltb (length a) 5 h)
+
+  pub unread-told : {a' : List ℕ} → 5 ≤ length a → runFine w ≡ false → a' ≡ answerPut (Bad Counters) a → tell 13 a' w m ≡ hostWork b w a m
+  unfolding hostWork
+  unread-told h e q = rw (le-ltb (length a) 5 h, e, q)
+
+  module _ {r q : Run} {t : Answer} {m' : Memory} (h : 5 ≤ length a) (e : runFine w ≡ true) (s : r ≡ runOf w) (o : worked t (state q m') ≡ work b (state r m)) where
+    pub work-told : {k : ℕ} {a' w' : List ℕ} → k ≡ numberOf t → a' ≡ answerPut t a → w' ≡ runPut q w → tell k a' w' m' ≡ hostWork b w a m
+    unfolding hostWork
+    work-told ek ea ew =
+        let o' : worked t (state q m') ≡ work b (state (runOf w) m) = rw s at o in
+        rw (le-ltb (length a) 5 h, e, ek, ea, ew) (ap (λ (x : Worked). tellWork x a w) o')

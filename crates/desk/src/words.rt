@@ -1,0 +1,251 @@
+// Settings, record and answers as plain words of 64 bits.
+ghost use mathlib.Core.Path.{_≡_};
+ghost use Prim.Native.Nat.{_≤_};
+ghost use lib.ListN.{length};
+ghost use Rattle.entry.specs.Entry.{faultNumber};
+ghost use Rattle.descent.specs.Descent.{numberOf, unitsOf};
+ghost use Rattle.desk.specs.Words.{methodOf, methodWord, settingsFine, settingsOf, settingsPut, standingOf, standingWord, runFine, runOf, runPut, kindWord, faultWord, faultValue, faultIn, answerPut};
+use descent::Answer;
+use elementary::words::bits_of;
+use elementary::words::value_of;
+use entry::Fault;
+use record::Method;
+use record::Run;
+use record::Settings;
+use record::Standing;
+
+fn method_of(w: u64) -> Method
+    ensures { λ m. ⌜ m ≡ methodOf w ⌝ }
+{
+    if w == 0 {
+        return Method::Exact;
+    }
+    Method::BarnesHut
+}
+
+fn method_word(m: Method) -> u64
+    ensures { λ w. ⌜ w ≡ methodWord m ⌝ }
+{
+    match m {
+        Method::Exact => 0,
+        Method::BarnesHut => 1,
+    }
+}
+
+fn standing_of(w: u64) -> Standing
+    ensures { λ s. ⌜ s ≡ standingOf w ⌝ }
+{
+    if w == 0 {
+        return Standing::Running;
+    }
+    if w == 1 {
+        return Standing::Stopped;
+    }
+    Standing::Finished
+}
+
+fn standing_word(s: Standing) -> u64
+    ensures { λ w. ⌜ w ≡ standingWord s ⌝ }
+{
+    match s {
+        Standing::Running => 0,
+        Standing::Stopped => 1,
+        Standing::Finished => 2,
+    }
+}
+
+pub fn settings_fine(words: &[u64]) -> bool
+    ensures { λ r. ⌜ r ≡ settingsFine (now (words .entry)) ⌝ }
+{
+    if words.len() < 9 {
+        return false;
+    }
+    words[3] <= 1
+}
+
+pub fn settings_of(words: &[u64]) -> Settings
+    requires { ⌜ 9 ≤ length (now words) ⌝ }
+    ensures { λ s. ⌜ s ≡ settingsOf (now (words .entry)) ⌝ }
+{
+    let perplexity = value_of(words[4]);
+    let rate = value_of(words[5]);
+    let angle = value_of(words[7]);
+    let minimum = value_of(words[8]);
+    let method = method_of(words[3]);
+    Settings {
+        n: words[0] as usize,
+        f: words[1] as usize,
+        c: words[2] as usize,
+        perplexity,
+        rate,
+        iterations: words[6] as usize,
+        minimum,
+        angle,
+        method,
+    }
+}
+
+fn put_settings(words: &mut [u64], s: Settings)
+    requires { ⌜ 9 ≤ length (now words) ⌝ }
+    ensures { λ _. ⌜ now (words .exit) ≡ settingsPut s (now (words .entry)) ⌝ }
+{
+    let m = s.method;
+    words[0] = s.n as u64;
+    words[1] = s.f as u64;
+    words[2] = s.c as u64;
+    words[3] = method_word(m);
+    words[4] = bits_of(s.perplexity);
+    words[5] = bits_of(s.rate);
+    words[6] = s.iterations as u64;
+    words[7] = bits_of(s.angle);
+    words[8] = bits_of(s.minimum);
+}
+
+pub fn run_fine(words: &[u64]) -> bool
+    ensures { λ r. ⌜ r ≡ runFine (now (words .entry)) ⌝ }
+{
+    if words.len() < 14 {
+        return false;
+    }
+    if !settings_fine(words) {
+        return false;
+    }
+    words[9] <= 2
+}
+
+pub fn run_of(words: &[u64]) -> Run
+    requires { ⌜ 14 ≤ length (now words) ⌝ }
+    ensures { λ r. ⌜ r ≡ runOf (now (words .entry)) ⌝ }
+{
+    let settings = settings_of(words);
+    let standing = standing_of(words[9]);
+    Run {
+        settings,
+        standing,
+        done: words[10] as usize,
+        phase: words[11] as usize,
+        units: words[12] as usize,
+        used: words[13] as usize,
+    }
+}
+
+pub fn put_run(words: &mut [u64], r: Run)
+    requires { ⌜ 14 ≤ length (now words) ⌝ }
+    ensures { λ _. ⌜ now (words .exit) ≡ runPut r (now (words .entry)) ⌝ }
+{
+    let s = r.settings;
+    let t = r.standing;
+    put_settings(words, s);
+    words[9] = standing_word(t);
+    words[10] = r.done as u64;
+    words[11] = r.phase as u64;
+    words[12] = r.units as u64;
+    words[13] = r.used as u64;
+}
+
+fn kind_word(a: Answer) -> u64
+    ensures { λ w. ⌜ w ≡ kindWord a ⌝ }
+{
+    match a {
+        Answer::Running(_) => 0,
+        Answer::Stopped(_) => 1,
+        Answer::Finished(_) => 2,
+        Answer::Full(_) => 3,
+        Answer::Wild(_) => 3,
+        Answer::Bad(_) => 3,
+    }
+}
+
+fn fault_number(f: Fault) -> u32
+    ensures { λ w. ⌜ w ≡ faultNumber f ⌝ }
+{
+    match f {
+        Fault::Fine => 0,
+        Fault::Settings(_) => 13,
+        Fault::Counters => 13,
+        Fault::Areas => 12,
+        Fault::Offsets(_) => 13,
+        Fault::Index(_) => 13,
+        Fault::Tree(_) => 13,
+    }
+}
+
+// The scope paper's number of an answer.
+pub fn answer_number(a: Answer) -> u32
+    ensures { λ w. ⌜ w ≡ numberOf a ⌝ }
+{
+    match a {
+        Answer::Running(_) => 0,
+        Answer::Stopped(_) => 0,
+        Answer::Finished(_) => 0,
+        Answer::Full(_) => 14,
+        Answer::Wild(_) => 15,
+        Answer::Bad(f) => fault_number(f),
+    }
+}
+
+fn units_word(a: Answer) -> u64
+    ensures { λ w. ⌜ w ≡ unitsOf a ⌝ }
+{
+    match a {
+        Answer::Running(d) => d as u64,
+        Answer::Stopped(d) => d as u64,
+        Answer::Finished(d) => d as u64,
+        Answer::Full(d) => d as u64,
+        Answer::Wild(d) => d as u64,
+        Answer::Bad(_) => 0,
+    }
+}
+
+fn fault_word(f: Fault) -> u64
+    ensures { λ w. ⌜ w ≡ faultWord f ⌝ }
+{
+    match f {
+        Fault::Fine => 0,
+        Fault::Settings(_) => 1,
+        Fault::Counters => 2,
+        Fault::Areas => 3,
+        Fault::Offsets(_) => 4,
+        Fault::Index(_) => 5,
+        Fault::Tree(_) => 6,
+    }
+}
+
+fn fault_value(f: Fault) -> u64
+    ensures { λ w. ⌜ w ≡ faultValue f ⌝ }
+{
+    match f {
+        Fault::Fine => 0,
+        Fault::Settings(k) => k as u64,
+        Fault::Counters => 0,
+        Fault::Areas => 0,
+        Fault::Offsets(i) => i as u64,
+        Fault::Index(i) => i as u64,
+        Fault::Tree(i) => i as u64,
+    }
+}
+
+fn fault_in(a: Answer) -> Fault
+    ensures { λ f. ⌜ f ≡ faultIn a ⌝ }
+{
+    match a {
+        Answer::Running(_) => Fault::Fine,
+        Answer::Stopped(_) => Fault::Fine,
+        Answer::Finished(_) => Fault::Fine,
+        Answer::Full(_) => Fault::Fine,
+        Answer::Wild(_) => Fault::Fine,
+        Answer::Bad(f) => f,
+    }
+}
+
+pub fn put_answer(words: &mut [u64], a: Answer)
+    requires { ⌜ 5 ≤ length (now words) ⌝ }
+    ensures { λ _. ⌜ now (words .exit) ≡ answerPut a (now (words .entry)) ⌝ }
+{
+    let f = fault_in(a);
+    words[0] = kind_word(a);
+    words[1] = answer_number(a) as u64;
+    words[2] = units_word(a);
+    words[3] = fault_word(f);
+    words[4] = fault_value(f);
+}
