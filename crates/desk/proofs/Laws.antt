@@ -1,8 +1,10 @@
 -- What the desk's calls leave is what the definitions name. Assumes nothing.
-use mathlib.Core.Path.{_≡_, ap}
+use mathlib.Core.Path.{_≡_, ap, _∙_}
 use mathlib.Core.List.{List}
 use mathlib.Core.Bool.{true, false, _&&_}
-use Prim.Native.Nat.{ℕ, _<_, _≤_}
+use Prim.Native.Nat.{ℕ, _-_, _*_, _^_, _<_, _≤_}
+use native.Mathlib.Omega.{arith}
+use native.Mathlib.Nat.{mul-le-mul}
 use lib.Dec.{leb}
 use lib.ListN.{length}
 use lib.Ieee.{Float}
@@ -12,14 +14,19 @@ use Rattle.laws.proofs.Bools.{and-left}
 use Rattle.record.specs.declared.Run.{Run}
 use Rattle.record.specs.declared.Settings.{Settings}
 use Rattle.entry.specs.declared.Fault.the-variants.{Counters}
+use Rattle.record.specs.Record.{isTree, GoodSettings}
+use Rattle.tree.proofs.Descent.{few-nodes}
+use Rattle.entry.proofs.Laws.{axes}
 use Rattle.entry.specs.State.{Memory, state}
 use Rattle.descent.specs.declared.Answer.{Answer}
 use Rattle.descent.specs.declared.Answer.the-variants.{Bad}
 use Rattle.descent.specs.Descent.{Worked, worked, work, numberOf}
 use Rattle.prepare.specs.declared.Prepared.{Prepared}
 use Rattle.prepare.specs.Prepare.{Lent, Outcome, outcome, prepared, numberOf as preparedNumber}
+use Rattle.scatter.specs.declared.Scattered.{Scattered}
+use Rattle.scatter.specs.Scatter.{Outcome as Start, outcome as startOutcome, numberOf as startNumber}
 use Rattle.desk.specs.Words.{settingsFine, settingsOf, runFine, runOf, runPut, answerPut}
-use Rattle.desk.specs.Desk.{begun, recorded, begunWith, hostPrepare, tell, tellWork, hostWork}
+use Rattle.desk.specs.Desk.{begun, recorded, begunWith, hostPrepare, tell, tellWork, hostWork, orZero}
 
 -- ---- words that can be read are there
 
@@ -66,3 +73,16 @@ module _ (b : ℕ) (w a : List ℕ) (m : Memory) where
     work-told ek ea ew =
         let o' : worked t (state q m') ≡ work b (state (runOf w) m) = rw s at o in
         rw (le-ltb (length a) 5 h, e, ek, ea, ew) (ap (λ (x : Worked). tellWork x a w) o')
+
+-- ---- starting positions
+
+pub scattered-is : (r : Scattered) {p : List Float} (o : Start) → startOutcome r p ≡ o → (k : ℕ) → k ≡ orZero (startNumber r) → (k ≡ orZero (o .number)) × (p ≡ o .positions)
+scattered-is r o e k q = (q ∙ ap (λ (x : Start). orZero (x .number)) e, ap (λ (x : Start). x .positions) e)
+
+-- ---- sizes
+
+-- 50 splits of each point but the first are few
+pub nodes-few : (s : Settings) → GoodSettings s → isTree (s .method) ≡ true → (50 * 2 ^ s .c ≤ 400) × (50 * 2 ^ s .c * (s .n - 1) ≤ 1638000)
+nodes-few s g t =
+    let a = few-nodes 50 (s .c) (omega arith) (axes s g t .1) in
+    (a, mul-le-mul {n₁ = 50 * 2 ^ s .c} {m₁ = s .n - 1} {n₂ = 400} {m₂ = 4095} a (omega (arith, g .n-most)))

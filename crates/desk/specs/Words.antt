@@ -1,11 +1,14 @@
 -- Settings, record and answers as plain words of 64 bits, which a host can keep; values by their bits. Definitions only.
 use mathlib.Core.List.{List}
 use mathlib.Core.Bool.{Bool, cond, _&&_}
-use Prim.Native.Nat.{ℕ}
+use Prim.Native.Nat.{ℕ, _+_, _-_, _*_, _^_}
 use lib.Dec.{eqb, leb}
 use lib.ListN.{length, set}
-use lib.Ieee.{binary64, toBits}
-use Rattle.laws.specs.Area.{num, bits}
+use lib.Ieee.{Float, binary64, toBits}
+use Rattle.laws.specs.Run.{run}
+use Rattle.laws.specs.Area.{at, num, bits}
+use Rattle.frames.specs.declared.Frame.{Frame}
+use Rattle.record.specs.Record.{isTree, sizesOf}
 use Rattle.record.specs.declared.Method.{Method}
 use Rattle.record.specs.declared.Method.the-variants.{Exact, BarnesHut}
 use Rattle.record.specs.declared.Standing.{Standing}
@@ -97,3 +100,24 @@ faultIn (Bad f) = f
 
 unfoldable pub answerPut : Answer → List ℕ → List ℕ
 answerPut a w = set (set (set (set (set w 0 (kindWord a)) 1 (numberOf a)) 2 (unitsOf a)) 3 (faultWord (faultIn a))) 4 (faultValue (faultIn a))
+
+-- ---- a frame: picture, side, six features, two starts
+
+abbrev pub featuresPut : List Float → List ℕ → List ℕ
+featuresPut v w = run (λ k x. set x (2 + k) (toBits binary64 (at v k))) 6 0 w
+
+abbrev pub startsPut : List Float → List ℕ → List ℕ
+startsPut v w = run (λ k x. set x (8 + k) (toBits binary64 (at v k))) 2 0 w
+
+unfoldable pub framePut : Frame → List ℕ → List ℕ
+framePut f w = startsPut (f .starts) (featuresPut (f .features) (set (set w 0 (f .picture)) 1 (f .side)))
+
+-- ---- how long the areas of good settings must be
+
+-- positions (increments and gains too), forces, row values (row indices too); affinities, indices, offsets by method; and the nodes with which 14 never comes
+unfoldable pub lengthsPut : Settings → List ℕ → List ℕ
+lengthsPut s w =
+    let v = set (set (set w 0 (sizesOf s .cells)) 4 (sizesOf s .forces)) 5 (s .n) in
+    cond (isTree (s .method))
+    (set (set (set (set v 1 (sizesOf s .links)) 2 (sizesOf s .links)) 3 (s .n + 1)) 6 (1 + 50 * 2 ^ s .c * (s .n - 1)))
+    (set (set (set (set v 1 (sizesOf s .square)) 2 0) 3 0) 6 0)

@@ -2,19 +2,24 @@
 pub mod words;
 
 ghost use mathlib.Core.Path.{_≡_};
+ghost use Prim.Native.Nat.{_<_};
 ghost use lib.ListN.{length};
 ghost use Rattle.node.specs.Areas.{nodesOf};
 ghost use Rattle.entry.specs.State.{memory};
 ghost use Rattle.prepare.specs.Prepare.{lent, numberOf};
-ghost use Rattle.desk.specs.Desk.{begun, hostPrepare, tell, hostWork};
+ghost use Rattle.scatter.specs.Scatter.{scatterOf};
+ghost use Rattle.desk.specs.Desk.{begun, hostPrepare, tell, hostWork, orZero, found, hostFrames, hostFrame, sized, hostSizes, saidOf};
 use descent::Answer;
 use descent::work;
 use entry::Fault;
 use prepare::Prepared;
 use prepare::prepare;
+use record::faults::settings_fault;
 use words::answer_number;
 use words::put_answer;
+use words::put_frame;
 use words::put_run;
+use words::put_sizes;
 use words::run_fine;
 use words::run_of;
 use words::settings_fine;
@@ -117,4 +122,109 @@ pub extern "C" fn brothanchor_work(
     let a = t.answer;
     put_answer(answer, a);
     answer_number(a)
+}
+
+// ---- what a record says
+
+// Word i of a record, or another number where the words are no record.
+fn said(record: &[u64], i: usize, other: u64) -> u64
+    requires { ⌜ i < 14 ⌝ }
+    ensures { λ k. ⌜ k ≡ saidOf i other (now («record» .entry)) ⌝ }
+{
+    if !run_fine(record) {
+        return other;
+    }
+    record[i]
+}
+
+// 0 running, 1 stopped, 2 finished; 3 where the words are no record.
+#[no_mangle]
+pub extern "C" fn brothanchor_state(record: &[u64]) -> u64
+    ensures { λ k. ⌜ k ≡ saidOf 9 3 (now («record» .entry)) ⌝ }
+{
+    said(record, 9, 3)
+}
+
+// Iterations done; 0 where the words are no record.
+#[no_mangle]
+pub extern "C" fn brothanchor_iterations(record: &[u64]) -> u64
+    ensures { λ k. ⌜ k ≡ saidOf 10 0 (now («record» .entry)) ⌝ }
+{
+    said(record, 10, 0)
+}
+
+// Units done in all; 0 where the words are no record.
+#[no_mangle]
+pub extern "C" fn brothanchor_units(record: &[u64]) -> u64
+    ensures { λ k. ⌜ k ≡ saidOf 12 0 (now («record» .entry)) ⌝ }
+{
+    said(record, 12, 0)
+}
+
+// ---- starting positions and the frame file
+
+// Starting positions from a seed. Answers 0, or 1, 7 or 12; then nothing is changed.
+#[no_mangle]
+pub extern "C" fn brothanchor_scatter(positions: &mut [f64], n: u32, c: u32, seed: u64) -> u32
+    ensures { λ k. ⌜ (k ≡ orZero (scatterOf n c seed (now (positions .entry)) .number)) × (now (positions .exit) ≡ scatterOf n c seed (now (positions .entry)) .positions) ⌝ }
+{
+    match scatter::scatter(positions, n, c, seed) {
+        scatter::Scattered::Done => 0,
+        scatter::Scattered::Refused(k) => k as u32,
+    }
+}
+
+// How many records a frame file has, or 16 and the place of the first bad one, in the first word of the area.
+#[no_mangle]
+pub extern "C" fn brothanchor_frames(file: &[u8], place: &mut [u64]) -> u32
+    ensures { λ k. ⌜ found k (now (place .exit)) ≡ hostFrames (now (file .entry)) (now (place .entry)) ⌝ }
+{
+    if place.len() == 0 {
+        return 12;
+    }
+    match frames::read_frames(file) {
+        frames::Frames::Good(n) => {
+            place[0] = n as u64;
+            0
+        }
+        frames::Frames::Bad(p) => {
+            place[0] = p as u64;
+            16
+        }
+    }
+}
+
+// Picture, side, six features and two starts of record i, in ten words; zeros past the whole records. Answers 0, or 12.
+#[no_mangle]
+pub extern "C" fn brothanchor_frame(file: &[u8], i: usize, frame: &mut [u64]) -> u32
+    ensures { λ k. ⌜ found k (now (frame .exit)) ≡ hostFrame (now (file .entry)) i (now (frame .entry)) ⌝ }
+{
+    if frame.len() < 10 {
+        return 12;
+    }
+    let f = frames::frame_at(file, i);
+    put_frame(frame, f);
+    0
+}
+
+// ---- sizes
+
+// How long the areas must be, in seven words. Answers 0, or 13, 12, or the number that 1 to 10 would give; then nothing is changed.
+#[no_mangle]
+pub extern "C" fn brothanchor_sizes(settings: &[u64], sizes: &mut [u64]) -> u32
+    ensures { λ k. ⌜ sized k (now (sizes .exit)) ≡ hostSizes (now (settings .entry)) (now (sizes .entry)) ⌝ }
+{
+    if !settings_fine(settings) {
+        return 13;
+    }
+    if sizes.len() < 7 {
+        return 12;
+    }
+    let s = settings_of(settings);
+    let k = settings_fault(s);
+    if k != 0 {
+        return k as u32;
+    }
+    put_sizes(sizes, s);
+    0
 }

@@ -1,18 +1,23 @@
 // Settings, record and answers as plain words of 64 bits.
 ghost use mathlib.Core.Path.{_≡_};
-ghost use Prim.Native.Nat.{_≤_};
+ghost use Prim.Native.Nat.{_≤_, _^_};
 ghost use lib.ListN.{length};
 ghost use Rattle.entry.specs.Entry.{faultNumber};
 ghost use Rattle.descent.specs.Descent.{numberOf, unitsOf};
-ghost use Rattle.desk.specs.Words.{methodOf, methodWord, settingsFine, settingsOf, settingsPut, standingOf, standingWord, runFine, runOf, runPut, kindWord, faultWord, faultValue, faultIn, answerPut};
+ghost use Rattle.desk.specs.Words.{methodOf, methodWord, settingsFine, settingsOf, settingsPut, standingOf, standingWord, runFine, runOf, runPut, kindWord, faultWord, faultValue, faultIn, answerPut, featuresPut, startsPut, framePut, lengthsPut};
+ghost use Rattle.node.specs.Node.{Axes};
+ghost use Rattle.record.specs.Record.{GoodSettings};
 use descent::Answer;
 use elementary::words::bits_of;
 use elementary::words::value_of;
 use entry::Fault;
+use frames::Frame;
 use record::Method;
 use record::Run;
 use record::Settings;
 use record::Standing;
+use record::faults::is_tree;
+use record::faults::sizes_of;
 
 fn method_of(w: u64) -> Method
     ensures { λ m. ⌜ m ≡ methodOf w ⌝ }
@@ -248,4 +253,73 @@ pub fn put_answer(words: &mut [u64], a: Answer)
     words[2] = units_word(a);
     words[3] = fault_word(f);
     words[4] = fault_value(f);
+}
+
+fn put_features(words: &mut [u64], f: Frame)
+    requires { ⌜ 10 ≤ length (now words) ⌝ }
+    ensures { λ _. ⌜ now (words .exit) ≡ featuresPut (f .features) (now (words .entry)) ⌝ }
+{
+    let mut k = 0;
+    while k < 6 {
+        words[2 + k] = bits_of(f.features[k]);
+        k += 1;
+    }
+}
+
+fn put_starts(words: &mut [u64], f: Frame)
+    requires { ⌜ 10 ≤ length (now words) ⌝ }
+    ensures { λ _. ⌜ now (words .exit) ≡ startsPut (f .starts) (now (words .entry)) ⌝ }
+{
+    let mut k = 0;
+    while k < 2 {
+        words[8 + k] = bits_of(f.starts[k]);
+        k += 1;
+    }
+}
+
+pub fn put_frame(words: &mut [u64], f: Frame)
+    requires { ⌜ 10 ≤ length (now words) ⌝ }
+    ensures { λ _. ⌜ now (words .exit) ≡ framePut f (now (words .entry)) ⌝ }
+{
+    words[0] = f.picture as u64;
+    words[1] = f.side as u64;
+    put_features(words, f);
+    put_starts(words, f);
+}
+
+// 2^c.
+fn corners(c: usize) -> usize
+    requires { ⌜ Axes c ⌝ }
+    ensures { λ r. ⌜ r ≡ 2 ^ c ⌝ }
+{
+    if c == 1 {
+        return 2;
+    }
+    if c == 2 {
+        return 4;
+    }
+    8
+}
+
+// How long the areas of good settings must be.
+pub fn put_sizes(words: &mut [u64], s: Settings)
+    requires { ⌜ (7 ≤ length (now words)) × GoodSettings s ⌝ }
+    ensures { λ _. ⌜ now (words .exit) ≡ lengthsPut s (now (words .entry)) ⌝ }
+{
+    let z = sizes_of(s);
+    words[0] = z.cells as u64;
+    words[4] = z.forces as u64;
+    words[5] = s.n as u64;
+    let m = s.method;
+    if is_tree(m) {
+        words[1] = z.links as u64;
+        words[2] = z.links as u64;
+        words[3] = (s.n + 1) as u64;
+        words[6] = (1 + 50 * corners(s.c) * (s.n - 1)) as u64;
+        return;
+    }
+    words[1] = z.square as u64;
+    words[2] = 0;
+    words[3] = 0;
+    words[6] = 0;
 }

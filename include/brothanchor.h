@@ -1,0 +1,144 @@
+/* Brothanchor: the map-maker of a laserdisc transfer desk, for C.
+ *
+ * Link libdesk.a (rt staticlib desk), for x86-64 Linux. All memory is lent by the caller; nothing is kept between calls.
+ * An area is a pointer and its number of elements; an empty area may have any pointer. Areas of one call must not overlap.
+ * A call that is refused at its entry changes nothing. Longer areas keep what lies past what is asked for.
+ *
+ * Refusal numbers (0: none)
+ *   1  c is 0 or above 8
+ *   2  the perplexity is not finite or not above 0
+ *   3  the learning rate is not finite or not above 0
+ *   4  iterations are 0 or above 65,535
+ *   5  a Barnes-Hut angle is not finite or outside [0, 1)
+ *   6  a Barnes-Hut run has c above 3
+ *   7  n is 0 or above 4096, f is 0 or above 256, or the table's length is not n*f
+ *   8  a table value is not finite or above 2^20 in magnitude
+ *   9  n is 1
+ *  10  the perplexity is not below n
+ *  11  the start's length is not n*c, or a start value is not finite or above 2^20 in magnitude
+ *  12  a lent area is too short
+ *  13  the words are no settings or no record, or record and areas are not well formed
+ *  14  the next point needs more nodes than the arena has left; with a longer arena the run goes on
+ *  15  the step would give a value that is NaN or above 2^100 in magnitude
+ *  16  a record of a frame file is bad
+ */
+#ifndef BROTHANCHOR_H
+#define BROTHANCHOR_H
+
+#include <stddef.h>
+#include <stdint.h>
+
+#ifdef __cplusplus
+extern "C" {
+#endif
+
+/* Settings are nine words; a value (perplexity, rate, angle, minimum) is given by its bits. */
+enum {
+    BROTHANCHOR_N,          /* samples, the frames on the map */
+    BROTHANCHOR_F,          /* features of a frame */
+    BROTHANCHOR_C,          /* components of the map */
+    BROTHANCHOR_METHOD,     /* 0 exact, 1 Barnes-Hut */
+    BROTHANCHOR_PERPLEXITY,
+    BROTHANCHOR_RATE,       /* the learning rate */
+    BROTHANCHOR_ITERATIONS,
+    BROTHANCHOR_ANGLE,      /* not looked at in an exact run */
+    BROTHANCHOR_MINIMUM,    /* the gradient norm below which a run stops; NaN, zero or negative never stops one */
+    BROTHANCHOR_SETTINGS_WORDS
+};
+
+/* A record is fourteen words: the settings, then these. A host may keep it as it is. */
+enum {
+    BROTHANCHOR_STATE = BROTHANCHOR_SETTINGS_WORDS, /* 0 running, 1 stopped, 2 finished */
+    BROTHANCHOR_ITERATIONS_DONE,
+    BROTHANCHOR_PHASE,      /* units done in the current iteration */
+    BROTHANCHOR_UNITS_DONE, /* units done in all */
+    BROTHANCHOR_NODES_USED,
+    BROTHANCHOR_RECORD_WORDS
+};
+
+/* The answer of a work call is five words. */
+enum {
+    BROTHANCHOR_KIND,   /* 0 running, 1 stopped, 2 finished, 3 refused */
+    BROTHANCHOR_NUMBER, /* of the refusal, or 0 */
+    BROTHANCHOR_UNITS,  /* units done in this call */
+    BROTHANCHOR_FAULT,  /* 0 none, 1 settings, 2 counters, 3 areas, 4 offsets, 5 listed index, 6 tree */
+    BROTHANCHOR_VALUE,  /* with it: the number that the settings would have had, the frame, the place, the node */
+    BROTHANCHOR_ANSWER_WORDS
+};
+
+/* Sizes are seven words. */
+enum {
+    BROTHANCHOR_CELLS,          /* positions, increments and gains, each */
+    BROTHANCHOR_AFFINITIES,
+    BROTHANCHOR_INDICES,        /* 0 for an exact run */
+    BROTHANCHOR_OFFSETS,        /* 0 for an exact run */
+    BROTHANCHOR_FORCES,
+    BROTHANCHOR_ROWS,           /* row values and row indices, each */
+    BROTHANCHOR_NODES,          /* nodes of an arena with which 14 never comes, 0 for an exact run; one is enough to begin */
+    BROTHANCHOR_SIZES_WORDS
+};
+
+/* A node of the arena takes nine reals and three words. */
+#define BROTHANCHOR_NODE_REALS 9
+#define BROTHANCHOR_NODE_WORDS 3
+
+/* How long the areas must be, in the first seven words of sizes. Answers 0; 13 where the words are no settings, 12 where
+ * sizes is shorter than seven words, or the number that 1 to 10 would give of the settings alone. */
+uint32_t brothanchor_sizes(const uint64_t *settings, size_t settings_length, uint64_t *sizes, size_t sizes_length);
+
+/* Prepares a run and writes its record. Answers 0 or the number of the refusal; refused, nothing is changed. 13 where the
+ * words are no settings or the record area is shorter than fourteen words. Of the arena only its size is looked at. */
+uint32_t brothanchor_prepare(
+    const uint64_t *settings, size_t settings_length,
+    const double *table, size_t table_length,
+    const double *start, size_t start_length,
+    double *positions, size_t positions_length,
+    double *increments, size_t increments_length,
+    double *gains, size_t gains_length,
+    double *affinities, size_t affinities_length,
+    uint32_t *indices, size_t indices_length,
+    uint32_t *offsets, size_t offsets_length,
+    double *forces, size_t forces_length,
+    double *row_values, size_t row_values_length,
+    uint32_t *row_indices, size_t row_indices_length,
+    const double *reals, size_t reals_length,
+    const uint32_t *words, size_t words_length,
+    uint64_t *record, size_t record_length);
+
+/* Does units until the budget is done, one is refused or the run has ended. Answers 0 or the number of the refusal, and
+ * writes record and answer. 12 where the answer area is shorter than five words: then nothing is changed at all. */
+uint32_t brothanchor_work(
+    uint64_t *record, size_t record_length,
+    double *positions, size_t positions_length,
+    double *increments, size_t increments_length,
+    double *gains, size_t gains_length,
+    const double *affinities, size_t affinities_length,
+    const uint32_t *indices, size_t indices_length,
+    const uint32_t *offsets, size_t offsets_length,
+    double *forces, size_t forces_length,
+    double *reals, size_t reals_length,
+    uint32_t *words, size_t words_length,
+    uint32_t budget,
+    uint64_t *answer, size_t answer_length);
+
+/* What a record says. The state is 3, the numbers are 0, where the words are no record. */
+uint64_t brothanchor_state(const uint64_t *record, size_t record_length);
+uint64_t brothanchor_iterations(const uint64_t *record, size_t record_length);
+uint64_t brothanchor_units(const uint64_t *record, size_t record_length);
+
+/* n*c starting positions from a seed. Answers 0, 1, 7 or 12. */
+uint32_t brothanchor_scatter(double *positions, size_t positions_length, uint32_t n, uint32_t c, uint64_t seed);
+
+/* The frame file: records of 72 bytes. Answers 0 and the number of records, or 16 and the place of the first bad one, in
+ * the first word of place; 12 where place is empty. */
+uint32_t brothanchor_frames(const uint8_t *file, size_t file_length, uint64_t *place, size_t place_length);
+
+/* Record i in ten words: picture, side, six features and two starts by their bits; zeros past the whole records. Answers 0,
+ * or 12 where the area is shorter. */
+uint32_t brothanchor_frame(const uint8_t *file, size_t file_length, size_t i, uint64_t *frame, size_t frame_length);
+
+#ifdef __cplusplus
+}
+#endif
+
+#endif
