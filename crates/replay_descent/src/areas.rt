@@ -1,6 +1,5 @@
 // Areas of the replay: marked, filled, altered, and held against their digests.
 use replay::word_at;
-ghost use mathlib.Core.Path.{_≡_};
 ghost use Prim.Native.Nat.{_≤_};
 ghost use lib.ListN.{length};
 

@@ -15,7 +15,6 @@ use record::Run;
 use record::Settings;
 use record::Standing;
 use replay::word_at;
-ghost use mathlib.Core.Path.{_≡_};
 ghost use Prim.Native.Nat.{_≤_};
 ghost use lib.ListN.{length};
 

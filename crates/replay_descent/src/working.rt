@@ -13,7 +13,6 @@ use crate::lent::same_areas;
 use descent::Worked;
 use record::Run;
 use replay::word_at;
-ghost use mathlib.Core.Path.{_≡_};
 ghost use Prim.Native.Nat.{_≤_};
 ghost use lib.ListN.{length};
 
@@ -273,7 +272,7 @@ pub(crate) fn both(a: bool, b: bool) -> bool {
     false
 }
 
-// So many calls, the first at word b, of the case from word a on; the case has to end with them.
+// So many calls of the case from word a on, from word `first`; the case has to end with them.
 pub(crate) fn all_calls(
     list: &[u8],
     a: usize,
