@@ -31,7 +31,7 @@ fn fold(z: u64, s: u32) -> u64
 }
 
 // SplitMix64's output for a state.
-fn mix(state: u64) -> u64
+pub fn mix(state: u64) -> u64
     ensures { λ r. ⌜ r ≡ mixOf state ⌝ }
 {
     let a = wrapping_mul(fold(state, 30), 0xbf58476d1ce4e5b9);
