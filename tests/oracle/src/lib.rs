@@ -3,6 +3,7 @@
 //! Nothing here is shared with the port: the two were written apart, so that a slip in one shows up as a difference
 //! between them. Only the standard library is used.
 
+pub mod bench;
 pub mod descent;
 pub mod differences;
 pub mod elementary;

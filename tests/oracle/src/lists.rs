@@ -2,6 +2,7 @@
 //!
 //! The lists are made anew from fixed seeds, so every run makes the same bytes.
 
+pub mod bench;
 pub mod descent;
 pub mod elementary;
 pub mod frames;
@@ -11,6 +12,7 @@ pub mod scatter;
 pub mod sigma;
 pub mod step;
 
+use crate::bench::printed;
 use std::path::{Path, PathBuf};
 
 /// One list and where it belongs.
@@ -60,5 +62,16 @@ pub fn all() -> Vec<List> {
         List::new("replay_preparation", "larger", &preparation::larger_cases()),
         List::new("replay_descent", "runs", &descent::run_cases()),
         List::new("replay_descent", "faults", &descent::fault_cases()),
+        List::new("bench_cases", "files", &bench::cases()),
+    ]
+}
+
+/// The files of text and bytes beside the bench's programs: where each lies below the folder of crates, and what it
+/// holds.
+pub fn bench_files() -> Vec<(&'static str, Vec<u8>)> {
+    vec![
+        ("bench/stdin", bench::example()),
+        ("bench/stdout", printed(&bench::example()).into_bytes()),
+        ("bench_cases/stdout", bench::text().into_bytes()),
     ]
 }

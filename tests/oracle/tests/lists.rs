@@ -13,3 +13,13 @@ fn lists_are_the_committed_ones() {
         assert!(committed == words::to_bytes(&list.words), "{} differs", path.display());
     }
 }
+
+#[test]
+fn bench_files_are_the_committed_ones() {
+    let crates = Path::new(env!("CARGO_MANIFEST_DIR")).join("../../crates");
+    for (place, bytes) in lists::bench_files() {
+        let path = crates.join(place);
+        let committed = fs::read(&path).unwrap_or_else(|error| panic!("{}: {error}", path.display()));
+        assert!(committed == bytes, "{} differs", path.display());
+    }
+}
