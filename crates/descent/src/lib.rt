@@ -3,9 +3,10 @@ ghost use mathlib.Core.Path.{_≡_};
 ghost use Rattle.calls.specs.Machine.{go};
 ghost use Rattle.entry.specs.State.{memory, state};
 ghost use Rattle.entry.specs.Entry.{Good};
-ghost use Rattle.descent.specs.Descent.{machine, standsOf, refusedOf, haltedOf, worked, told, work};
+ghost use Rattle.descent.specs.Descent.{machine, standsOf, refusedOf, haltedOf, worked, told, work, numberOf};
 use entry::Fault;
 use entry::fault_at;
+use entry::fault_number;
 use entry::is_fine;
 use record::Run;
 use record::Standing;
@@ -157,6 +158,20 @@ pub fn work(
         words,
         budget,
     )
+}
+
+// The scope paper's number of an answer; 0: it is no refusal.
+pub fn number(a: Answer) -> u8
+    ensures { λ r. ⌜ r ≡ numberOf a ⌝ }
+{
+    match a {
+        Answer::Running(_) => 0,
+        Answer::Stopped(_) => 0,
+        Answer::Finished(_) => 0,
+        Answer::Full(_) => 14,
+        Answer::Wild(_) => 15,
+        Answer::Bad(f) => fault_number(f),
+    }
 }
 
 // ---- what a record says

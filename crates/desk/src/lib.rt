@@ -6,7 +6,7 @@ ghost use Prim.Native.Nat.{_<_};
 ghost use lib.ListN.{length};
 ghost use Rattle.node.specs.Areas.{nodesOf};
 ghost use Rattle.entry.specs.State.{memory};
-ghost use Rattle.prepare.specs.Prepare.{lent, numberOf};
+ghost use Rattle.prepare.specs.Prepare.{lent};
 ghost use Rattle.scatter.specs.Scatter.{scatterOf};
 ghost use Rattle.desk.specs.Desk.{begun, hostPrepare, tell, hostWork, orZero, found, hostFrames, hostFrame, sized, hostSizes, saidOf};
 use descent::Answer;
@@ -15,7 +15,6 @@ use entry::Fault;
 use prepare::Prepared;
 use prepare::prepare;
 use record::faults::settings_fault;
-use words::answer_number;
 use words::put_answer;
 use words::put_frame;
 use words::put_run;
@@ -121,7 +120,7 @@ pub extern "C" fn brothanchor_work(
     put_run(record, next);
     let a = t.answer;
     put_answer(answer, a);
-    answer_number(a)
+    descent::number(a) as u32
 }
 
 // ---- what a record says

@@ -2,8 +2,7 @@
 ghost use mathlib.Core.Path.{_≡_};
 ghost use Prim.Native.Nat.{_≤_, _^_};
 ghost use lib.ListN.{length};
-ghost use Rattle.entry.specs.Entry.{faultNumber};
-ghost use Rattle.descent.specs.Descent.{numberOf, unitsOf};
+ghost use Rattle.descent.specs.Descent.{unitsOf};
 ghost use Rattle.desk.specs.Words.{methodOf, methodWord, settingsFine, settingsOf, settingsPut, standingOf, standingWord, runFine, runOf, runPut, kindWord, faultWord, faultValue, faultIn, answerPut, featuresPut, startsPut, framePut, lengthsPut};
 ghost use Rattle.node.specs.Node.{Axes};
 ghost use Rattle.record.specs.Record.{GoodSettings};
@@ -161,34 +160,6 @@ fn kind_word(a: Answer) -> u64
     }
 }
 
-fn fault_number(f: Fault) -> u32
-    ensures { λ w. ⌜ w ≡ faultNumber f ⌝ }
-{
-    match f {
-        Fault::Fine => 0,
-        Fault::Settings(_) => 13,
-        Fault::Counters => 13,
-        Fault::Areas => 12,
-        Fault::Offsets(_) => 13,
-        Fault::Index(_) => 13,
-        Fault::Tree(_) => 13,
-    }
-}
-
-// The scope paper's number of an answer.
-pub fn answer_number(a: Answer) -> u32
-    ensures { λ w. ⌜ w ≡ numberOf a ⌝ }
-{
-    match a {
-        Answer::Running(_) => 0,
-        Answer::Stopped(_) => 0,
-        Answer::Finished(_) => 0,
-        Answer::Full(_) => 14,
-        Answer::Wild(_) => 15,
-        Answer::Bad(f) => fault_number(f),
-    }
-}
-
 fn units_word(a: Answer) -> u64
     ensures { λ w. ⌜ w ≡ unitsOf a ⌝ }
 {
@@ -249,7 +220,7 @@ pub fn put_answer(words: &mut [u64], a: Answer)
 {
     let f = fault_in(a);
     words[0] = kind_word(a);
-    words[1] = answer_number(a) as u64;
+    words[1] = descent::number(a) as u64;
     words[2] = units_word(a);
     words[3] = fault_word(f);
     words[4] = fault_value(f);

@@ -7,7 +7,7 @@ ghost use Rattle.laws.specs.Run.{first};
 ghost use Rattle.node.specs.Node.{Axes};
 ghost use Rattle.node.specs.Areas.{nodesOf};
 ghost use Rattle.record.specs.Record.{GoodSettings, sizesOf};
-ghost use Rattle.entry.specs.Entry.{offsetFine, indexFine, treeFits, areasFit, isFine, treeFault, treeFaultAt, contentsFault, recordFault, faultAt, ContentsRoom};
+ghost use Rattle.entry.specs.Entry.{offsetFine, indexFine, treeFits, areasFit, isFine, faultNumber, treeFault, treeFaultAt, contentsFault, recordFault, faultAt, ContentsRoom};
 use record::Run;
 use record::Settings;
 use record::counters::counters_ok;
@@ -42,6 +42,22 @@ pub fn is_fine(f: Fault) -> bool
         Fault::Offsets(_) => false,
         Fault::Index(_) => false,
         Fault::Tree(_) => false,
+    }
+}
+
+// The scope paper's number of a fault; 0: there is none.
+pub // 12 for an area, 13 for all else that the entry tests find.
+fn fault_number(f: Fault) -> u8
+    ensures { λ r. ⌜ r ≡ faultNumber f ⌝ }
+{
+    match f {
+        Fault::Fine => 0,
+        Fault::Settings(_) => 13,
+        Fault::Counters => 13,
+        Fault::Areas => 12,
+        Fault::Offsets(_) => 13,
+        Fault::Index(_) => 13,
+        Fault::Tree(_) => 13,
     }
 }
 

@@ -3,11 +3,8 @@
 ghost use mathlib.Core.Path.{_≡_};
 ghost use Prim.Native.Nat.{_≤_};
 ghost use lib.ListN.{length};
-ghost use Rattle.entry.specs.Entry.{faultNumber};
-ghost use Rattle.descent.specs.Descent.{numberOf as workNumber};
 ghost use Rattle.mapping.specs.Mapping.{settingsOf, tableOf, startOf, descended, mapped, mapOf, numberOf};
 use descent::Answer;
-use entry::Fault;
 use frames::Frames;
 use frames::frame_at;
 use frames::read_frames;
@@ -171,34 +168,6 @@ pub fn map_file(file: &[u8]) -> Mapped
 
 // ---- the number of an answer
 
-// 12 for an area, 13 for all else that the entry tests find.
-fn fault_number(f: Fault) -> u8
-    ensures { λ r. ⌜ r ≡ faultNumber f ⌝ }
-{
-    match f {
-        Fault::Fine => 0,
-        Fault::Settings(_) => 13,
-        Fault::Counters => 13,
-        Fault::Areas => 12,
-        Fault::Offsets(_) => 13,
-        Fault::Index(_) => 13,
-        Fault::Tree(_) => 13,
-    }
-}
-
-fn work_number(a: Answer) -> u8
-    ensures { λ r. ⌜ r ≡ workNumber a ⌝ }
-{
-    match a {
-        Answer::Running(_) => 0,
-        Answer::Stopped(_) => 0,
-        Answer::Finished(_) => 0,
-        Answer::Full(_) => 14,
-        Answer::Wild(_) => 15,
-        Answer::Bad(f) => fault_number(f),
-    }
-}
-
 // The number that the file is refused by; 0: it has a map.
 pub fn number(t: Told) -> u8
     ensures { λ r. ⌜ r ≡ numberOf t ⌝ }
@@ -207,6 +176,6 @@ pub fn number(t: Told) -> u8
         Told::Long => 7,
         Told::Record(_) => 16,
         Told::Refused(k) => k,
-        Told::Worked(a) => work_number(a),
+        Told::Worked(a) => descent::number(a),
     }
 }

@@ -35,8 +35,11 @@ put-run-requires c κs = run-long _ (sym (c .before .before .before .before .bef
 put-answer-requires-2 : tie.Need-put-answer-requires-2
 put-answer-requires-2 c κs = c .before .before .before .before .before .before .before .before .before .before .before .before .before .before .before .before .before .before .before .before .before .before .before .before .before .before .before .before .before .before .if1 .left
 
-answer-number-requires : tie.Need-answer-number-requires
-answer-number-requires c κs = search needs
+number-requires : tie.Need-number-requires
+number-requires c κs = search needs
+
+cast-result : tie.Need-cast-result
+cast-result c = search needs
 
 same-length-3 : tie.Need-same-length-3
 same-length-3 c = search needs
@@ -63,7 +66,7 @@ same-length-10 : tie.Need-same-length-10
 same-length-10 c = search needs
 
 returns-3 : tie.Need-returns-3
-returns-3 c = work-told _ _ _ _ (c .before .before .before .before .before .before .before .before .before .before .before .before .before .before .before .before .before .before .before .before .before .before .before .before .before .before .before .before .before .before .before .before .before .before .if1 .left) (sym (c .before .before .before .before .before .before .before .before .before .before .before .before .before .before .before .before .before .before .before .before .before .before .before .before .before .before .before .before .before .before .before .before .run-fine .ensures) ∙ not-false _ (c .before .before .before .before .before .before .before .before .before .before .before .before .before .before .before .before .before .before .before .before .before .before .before .before .before .before .before .before .before .before .before .if2 .left)) (c .before .before .before .before .before .before .before .before .before .before .before .before .before .before .before .before .before .before .before .before .before .before .before .before .before .before .before .before .before .run-of .ensures) (c .before .before .before .before .before .before .before .before .before .before .before .before .before .before .before .before .before .before .before .before .before .before .work .ensures) (c .answer-number .ensures) (c .before .before .before .put-answer2 .ensures) (c .before .before .before .before .before .before .before .put-run .ensures)
+returns-3 c = work-told _ _ _ _ (c .before .before .before .before .before .before .before .before .before .before .before .before .before .before .before .before .before .before .before .before .before .before .before .before .before .before .before .before .before .before .before .before .before .before .if1 .left) (sym (c .before .before .before .before .before .before .before .before .before .before .before .before .before .before .before .before .before .before .before .before .before .before .before .before .before .before .before .before .before .before .before .before .run-fine .ensures) ∙ not-false _ (c .before .before .before .before .before .before .before .before .before .before .before .before .before .before .before .before .before .before .before .before .before .before .before .before .before .before .before .before .before .before .before .if2 .left)) (c .before .before .before .before .before .before .before .before .before .before .before .before .before .before .before .before .before .before .before .before .before .before .before .before .before .before .before .before .before .run-of .ensures) (c .before .before .before .before .before .before .before .before .before .before .before .before .before .before .before .before .before .before .before .before .before .before .work .ensures) (c .number .ensures) (c .before .before .before .put-answer2 .ensures) (c .before .before .before .before .before .before .before .put-run .ensures)
 
 pub brothanchor-work-spec : {M : Type 1} → statement M
 brothanchor-work-spec =
@@ -79,7 +82,8 @@ brothanchor-work-spec =
     work-requires
     put-run-requires
     put-answer-requires-2
-    answer-number-requires
+    number-requires
+    cast-result
     same-length-3
     same-length-4
     same-length-5

@@ -1,12 +1,7 @@
 use Rattle.mapping.specs.Mapping.{numberOf}
 use borrow.Author.Needs.{needs}
-use native.Mathlib.Omega.{arith}
-use borrow.Author.Needs.{needs}
 use Rattle.mapping.proofs.number.Statement.{statement}
 use Rattle.mapping.proofs.number.Tie as tie
-use Rattle.mapping.proofs.number.Reads as reads
-use Rattle.mapping.proofs.number.Lts as lts
-use Rattle.mapping.proofs.work_number.Reads as work-number-reads
 
 enum-told : tie.Need-enum-told
 enum-told c = search needs
@@ -20,8 +15,8 @@ enum-known-t c = search needs
 enum-known-t-2 : tie.Need-enum-known-t-2
 enum-known-t-2 c = search needs
 
-work-number-requires : tie.Need-work-number-requires
-work-number-requires c κs = search needs
+number-requires : tie.Need-number-requires
+number-requires c κs = search needs
 
 returns : tie.Need-returns
 unfolding numberOf
@@ -37,7 +32,7 @@ returns-3 c = rw (c .before .t .given .1)
 
 returns-4 : tie.Need-returns-4
 unfolding numberOf
-returns-4 c = rw (c .before .before .t2 .given .1) (c .work-number .ensures)
+returns-4 c = rw (c .before .before .t2 .given .1) (c .number .ensures)
 
 pub number-spec : {M : Type 1} → statement M
 number-spec =
@@ -47,7 +42,7 @@ number-spec =
     enum-told-2
     enum-known-t
     enum-known-t-2
-    work-number-requires
+    number-requires
     returns
     returns-2
     returns-3

@@ -14,8 +14,8 @@ kind-word-requires c κs = search needs
 slice-write-words : tie.Need-slice-write-words
 slice-write-words c = search needs
 
-answer-number-requires : tie.Need-answer-number-requires
-answer-number-requires c κs = search needs
+number-requires : tie.Need-number-requires
+number-requires c κs = search needs
 
 cast-words : tie.Need-cast-words
 cast-words c = search needs
@@ -46,7 +46,7 @@ same-length c = search needs
 
 returns : tie.Need-returns
 unfolding answerPut
-returns c = rw (c .before .before .before .before .kind-word .ensures, c .before .before .before .answer-number .ensures, c .before .before .units-word .ensures, c .before .fault-word .ensures, c .fault-value .ensures, c .before .before .before .before .before .fault-in .ensures)
+returns c = rw (c .before .before .before .before .kind-word .ensures, c .before .before .before .number .ensures, c .before .before .units-word .ensures, c .before .fault-word .ensures, c .fault-value .ensures, c .before .before .before .before .before .fault-in .ensures)
 
 pub put-answer-spec : {M : Type 1} → statement M
 put-answer-spec =
@@ -55,7 +55,7 @@ put-answer-spec =
     fault-in-requires
     kind-word-requires
     slice-write-words
-    answer-number-requires
+    number-requires
     cast-words
     slice-write-words-2
     units-word-requires

@@ -1,11 +1,7 @@
 use Rattle.entry.specs.Entry.{faultNumber}
 use borrow.Author.Needs.{needs}
-use native.Mathlib.Omega.{arith}
-use borrow.Author.Needs.{needs}
-use Rattle.mapping.proofs.fault_number.Statement.{statement}
-use Rattle.mapping.proofs.fault_number.Tie as tie
-use Rattle.mapping.proofs.fault_number.Reads as reads
-use Rattle.mapping.proofs.fault_number.Lts as lts
+use Rattle.entry.proofs.fault_number.Statement.{statement}
+use Rattle.entry.proofs.fault_number.Tie as tie
 
 enum-told : tie.Need-enum-told
 enum-told c = search needs

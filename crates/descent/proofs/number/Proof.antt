@@ -1,12 +1,7 @@
-use Rattle.descent.specs.Descent.{numberOf as workNumber}
+use Rattle.descent.specs.Descent.{numberOf}
 use borrow.Author.Needs.{needs}
-use native.Mathlib.Omega.{arith}
-use borrow.Author.Needs.{needs}
-use Rattle.mapping.proofs.work_number.Statement.{statement}
-use Rattle.mapping.proofs.work_number.Tie as tie
-use Rattle.mapping.proofs.work_number.Reads as reads
-use Rattle.mapping.proofs.work_number.Lts as lts
-use Rattle.mapping.proofs.fault_number.Reads as fault-number-reads
+use Rattle.descent.proofs.number.Statement.{statement}
+use Rattle.descent.proofs.number.Tie as tie
 
 enum-told : tie.Need-enum-told
 enum-told c = search needs
@@ -30,31 +25,31 @@ fault-number-requires : tie.Need-fault-number-requires
 fault-number-requires c κs = search needs
 
 returns : tie.Need-returns
-unfolding workNumber
+unfolding numberOf
 returns c = rw (c .enum-told .given .1)
 
 returns-2 : tie.Need-returns-2
-unfolding workNumber
+unfolding numberOf
 returns-2 c = rw (c .enum-told2 .given .1)
 
 returns-3 : tie.Need-returns-3
-unfolding workNumber
+unfolding numberOf
 returns-3 c = rw (c .enum-told3 .given .1)
 
 returns-4 : tie.Need-returns-4
-unfolding workNumber
+unfolding numberOf
 returns-4 c = rw (c .enum-told4 .given .1)
 
 returns-5 : tie.Need-returns-5
-unfolding workNumber
+unfolding numberOf
 returns-5 c = rw (c .enum-told5 .given .1)
 
 returns-6 : tie.Need-returns-6
-unfolding workNumber
+unfolding numberOf
 returns-6 c = rw (c .before .before .a .given .1) (c .fault-number .ensures)
 
-pub work-number-spec : {M : Type 1} → statement M
-work-number-spec =
+pub number-spec : {M : Type 1} → statement M
+number-spec =
     tie.close
     (tie.spec
     enum-told
