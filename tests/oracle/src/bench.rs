@@ -24,7 +24,7 @@ pub fn printed(bytes: &[u8]) -> String {
 }
 
 /// The settings for so many frames.
-fn settings(n: usize) -> Settings {
+pub(crate) fn settings(n: usize) -> Settings {
     Settings {
         n,
         f: FEATURES,

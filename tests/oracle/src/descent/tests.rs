@@ -30,17 +30,7 @@ fn areas(settings: &Settings, nodes: usize) -> (Areas, Rows) {
 }
 
 fn bench() -> Settings {
-    Settings {
-        n: 2,
-        f: 6,
-        c: 2,
-        method: Method::BarnesHut,
-        perplexity: 1.0,
-        rate: 5.0,
-        iterations: 1,
-        angle: 0.0,
-        minimum: 0.0,
-    }
+    crate::bench::settings(2)
 }
 
 /// A run of random frames.
