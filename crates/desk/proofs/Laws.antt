@@ -25,7 +25,7 @@ use Rattle.prepare.specs.declared.Prepared.{Prepared}
 use Rattle.prepare.specs.Prepare.{Lent, Outcome, outcome, prepared, numberOf as preparedNumber}
 use Rattle.scatter.specs.declared.Scattered.{Scattered}
 use Rattle.scatter.specs.Scatter.{Outcome as Start, outcome as startOutcome, numberOf as startNumber}
-use Rattle.desk.specs.Words.{settingsFine, settingsOf, runFine, runOf, runPut, answerPut}
+use Rattle.desk.specs.Words.{settingsFine, settingsOf, runFine, runOf, runPut, isBad, runAfter, answerPut}
 use Rattle.desk.specs.Desk.{begun, recorded, begunWith, hostPrepare, tell, tellWork, hostWork, orZero}
 
 -- ---- words that can be read are there
@@ -37,6 +37,17 @@ settings-long w e = leb-true 9 (length w) (and-left (leb 9 (length w)) (leb (num
 pub run-long : (w : List ℕ) → runFine w ≡ true → 14 ≤ length w
 unfolding runFine
 run-long w e = leb-true 14 (length w) (and-left (leb 14 (length w)) (settingsFine w) (and-left (leb 14 (length w) && settingsFine w) (leb (num w 9) 2) e))
+
+-- ---- the record after an answer
+
+module _ (a : Answer) (r : Run) (w : List ℕ) where
+  pub bad-after : isBad a ≡ true → w ≡ runAfter a r w
+  unfolding runAfter
+  bad-after e = rw e
+
+  pub fine-after : {w' : List ℕ} → isBad a ≡ false → w' ≡ runPut r w → w' ≡ runAfter a r w
+  unfolding runAfter
+  fine-after e q = rw (e, q)
 
 -- ---- preparation
 
@@ -68,7 +79,7 @@ module _ (b : ℕ) (w a : List ℕ) (m : Memory) where
   unread-told h e q = rw (le-ltb (length a) 5 h, e, q)
 
   module _ {r q : Run} {t : Answer} {m' : Memory} (h : 5 ≤ length a) (e : runFine w ≡ true) (s : r ≡ runOf w) (o : worked t (state q m') ≡ work b (state r m)) where
-    pub work-told : {k : ℕ} {a' w' : List ℕ} → k ≡ numberOf t → a' ≡ answerPut t a → w' ≡ runPut q w → tell k a' w' m' ≡ hostWork b w a m
+    pub work-told : {k : ℕ} {a' w' : List ℕ} → k ≡ numberOf t → a' ≡ answerPut t a → w' ≡ runAfter t q w → tell k a' w' m' ≡ hostWork b w a m
     unfolding hostWork
     work-told ek ea ew =
         let o' : worked t (state q m') ≡ work b (state (runOf w) m) = rw s at o in

@@ -19,7 +19,7 @@ use Rattle.descent.specs.Descent.{Worked, work, numberOf}
 use Rattle.prepare.specs.declared.Prepared.{Prepared}
 use Rattle.prepare.specs.declared.Prepared.the-variants.{Refused, Ready}
 use Rattle.prepare.specs.Prepare.{Lent, Outcome, prepared, numberOf as preparedNumber}
-use Rattle.desk.specs.Words.{settingsFine, settingsOf, runFine, runOf, runPut, answerPut, framePut, lengthsPut}
+use Rattle.desk.specs.Words.{settingsFine, settingsOf, runFine, runOf, runPut, runAfter, answerPut, framePut, lengthsPut}
 
 -- ---- preparation
 
@@ -56,7 +56,7 @@ abbrev pub tell : ℕ → List ℕ → List ℕ → Memory → Told
 tell k a w m = record { number = k; answer = a; run = w; memory = m }
 
 abbrev pub tellWork : Worked → List ℕ → List ℕ → Told
-tellWork t a w = tell (numberOf (t .answer)) (answerPut (t .answer) a) (runPut (t .left .run) w) (t .left .memory)
+tellWork t a w = tell (numberOf (t .answer)) (answerPut (t .answer) a) (runAfter (t .answer) (t .left .run) w) (t .left .memory)
 
 -- an answer area a of fewer than 5 words: 12; a record w that cannot be read: 13, as bad counters; else as the work call has it
 unfoldable pub hostWork : ℕ → List ℕ → List ℕ → Memory → Told

@@ -1,6 +1,6 @@
 -- Settings, record and answers as plain words of 64 bits, which a host can keep; values by their bits. Definitions only.
 use mathlib.Core.List.{List}
-use mathlib.Core.Bool.{Bool, cond, _&&_}
+use mathlib.Core.Bool.{Bool, true, false, cond, _&&_}
 use Prim.Native.Nat.{ℕ, _+_, _-_, _*_, _^_}
 use lib.Dec.{eqb, leb}
 use lib.ListN.{length, set}
@@ -100,6 +100,19 @@ faultIn (Bad f) = f
 
 unfoldable pub answerPut : Answer → List ℕ → List ℕ
 answerPut a w = set (set (set (set (set w 0 (kindWord a)) 1 (numberOf a)) 2 (unitsOf a)) 3 (faultWord (faultIn a))) 4 (faultValue (faultIn a))
+
+-- refused at the entry
+abbrev pub isBad : Answer → Bool
+isBad (Running d) = false
+isBad (Stopped d) = false
+isBad (Finished d) = false
+isBad (Full d) = false
+isBad (Wild d) = false
+isBad (Bad f) = true
+
+-- the record's words after an answer: a call that is refused at its entry leaves them as they are
+unfoldable pub runAfter : Answer → Run → List ℕ → List ℕ
+runAfter a r w = cond (isBad a) w (runPut r w)
 
 -- ---- a frame: picture, side, six features, two starts
 

@@ -15,6 +15,7 @@ use entry::Fault;
 use prepare::Prepared;
 use prepare::prepare;
 use record::faults::settings_fault;
+use words::put_after;
 use words::put_answer;
 use words::put_frame;
 use words::put_run;
@@ -117,8 +118,8 @@ pub extern "C" fn brothanchor_work(
         budget,
     );
     let next = t.run;
-    put_run(record, next);
     let a = t.answer;
+    put_after(record, a, next);
     put_answer(answer, a);
     descent::number(a) as u32
 }

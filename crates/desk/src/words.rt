@@ -3,7 +3,7 @@ ghost use mathlib.Core.Path.{_≡_};
 ghost use Prim.Native.Nat.{_≤_, _^_};
 ghost use lib.ListN.{length};
 ghost use Rattle.descent.specs.Descent.{unitsOf};
-ghost use Rattle.desk.specs.Words.{methodOf, methodWord, settingsFine, settingsOf, settingsPut, standingOf, standingWord, runFine, runOf, runPut, kindWord, faultWord, faultValue, faultIn, answerPut, featuresPut, startsPut, framePut, lengthsPut};
+ghost use Rattle.desk.specs.Words.{methodOf, methodWord, settingsFine, settingsOf, settingsPut, standingOf, standingWord, runFine, runOf, runPut, isBad, runAfter, kindWord, faultWord, faultValue, faultIn, answerPut, featuresPut, startsPut, framePut, lengthsPut};
 ghost use Rattle.node.specs.Node.{Axes};
 ghost use Rattle.record.specs.Record.{GoodSettings};
 use descent::Answer;
@@ -158,6 +158,30 @@ fn kind_word(a: Answer) -> u64
         Answer::Wild(_) => 3,
         Answer::Bad(_) => 3,
     }
+}
+
+fn is_bad(a: Answer) -> bool
+    ensures { λ b. ⌜ b ≡ isBad a ⌝ }
+{
+    match a {
+        Answer::Running(_) => false,
+        Answer::Stopped(_) => false,
+        Answer::Finished(_) => false,
+        Answer::Full(_) => false,
+        Answer::Wild(_) => false,
+        Answer::Bad(_) => true,
+    }
+}
+
+// The record after a call; one that is refused at its entry leaves the words as they are, to the last bit of a NaN.
+pub fn put_after(words: &mut [u64], a: Answer, r: Run)
+    requires { ⌜ 14 ≤ length (now words) ⌝ }
+    ensures { λ _. ⌜ now (words .exit) ≡ runAfter a r (now (words .entry)) ⌝ }
+{
+    if is_bad(a) {
+        return;
+    }
+    put_run(words, r);
 }
 
 fn units_word(a: Answer) -> u64
