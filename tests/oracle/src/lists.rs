@@ -8,6 +8,7 @@ pub mod elementary;
 pub mod frames;
 pub mod gradient;
 pub mod preparation;
+pub mod sample;
 pub mod scatter;
 pub mod sigma;
 pub mod step;
@@ -66,12 +67,13 @@ pub fn all() -> Vec<List> {
     ]
 }
 
-/// The files of text and bytes beside the bench's programs: where each lies below the folder of crates, and what it
-/// holds.
-pub fn bench_files() -> Vec<(&'static str, Vec<u8>)> {
+/// The files that are no lists, those beside the bench's programs and the sample: where each lies as seen from the folder
+/// of crates, and what it holds.
+pub fn files() -> Vec<(&'static str, Vec<u8>)> {
     vec![
         ("bench/stdin", bench::example()),
         ("bench/stdout", printed(&bench::example()).into_bytes()),
         ("bench_cases/stdout", bench::text().into_bytes()),
+        ("../sample.frames", sample::file()),
     ]
 }

@@ -1,4 +1,4 @@
-//! `oracle make DIR` writes the replay lists and the bench's files below the folder of crates, `oracle show FILE` prints a list as hex,
+//! `oracle make DIR` writes the replay lists, the bench's files and the sample, as seen from the folder of crates, `oracle show FILE` prints a list as hex,
 //! `oracle differences` prints how far the scope paper's rules lie from the usual library.
 
 use oracle::{differences, lists, words};
@@ -47,7 +47,7 @@ fn make(crates: &Path) -> Result<(), String> {
             list.cases
         ))?;
     }
-    for (place, bytes) in lists::bench_files() {
+    for (place, bytes) in lists::files() {
         let path = crates.join(place);
         fs::write(&path, &bytes).map_err(|error| format!("{}: {error}", path.display()))?;
         print(&format!("{}: {} bytes\n", path.display(), bytes.len()))?;

@@ -15,9 +15,9 @@ fn lists_are_the_committed_ones() {
 }
 
 #[test]
-fn bench_files_are_the_committed_ones() {
+fn files_are_the_committed_ones() {
     let crates = Path::new(env!("CARGO_MANIFEST_DIR")).join("../../crates");
-    for (place, bytes) in lists::bench_files() {
+    for (place, bytes) in lists::files() {
         let path = crates.join(place);
         let committed = fs::read(&path).unwrap_or_else(|error| panic!("{}: {error}", path.display()));
         assert!(committed == bytes, "{} differs", path.display());

@@ -39,7 +39,7 @@ fn files() -> Vec<Vec<u8>> {
 }
 
 /// A record: six features, then two starts.
-fn record(picture: u32, side: u8, values: &[f64; 8]) -> Vec<u8> {
+pub(super) fn record(picture: u32, side: u8, values: &[f64; 8]) -> Vec<u8> {
     let mut bytes = picture.to_le_bytes().to_vec();
     bytes.extend([side, 0, 0, 0]);
     bytes.extend(values.iter().flat_map(|v| v.to_le_bytes()));

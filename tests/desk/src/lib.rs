@@ -1,0 +1,60 @@
+//! Brothanchor for Rust: a safe wrapper over libdesk.a, the proved library of the map-maker.
+//!
+//! All memory is the caller's. A refusal at entry changes nothing. The library tests whatever it is given, so nothing
+//! here can be called wrongly; a slice brings its own length, and the borrow checker keeps areas from overlapping.
+
+mod library;
+pub mod map;
+mod picture;
+mod refusal;
+mod run;
+
+pub use refusal::Refusal;
+pub use run::{prepare, sizes, work, Areas, Fault, Kind, Method, Record, Rows, Settings, Sizes, State, Worked};
+
+/// Components of a frame file's starts, features of its frames.
+pub const STARTS: usize = 2;
+pub const FEATURES: usize = 6;
+
+/// One record of a frame file.
+#[derive(Clone, Copy, Debug, PartialEq)]
+pub struct Frame {
+    /// The picture's number, rising through the file.
+    pub picture: u32,
+    /// 1 or 2.
+    pub side: u8,
+    /// The frame's row of the table.
+    pub features: [f64; FEATURES],
+    /// Where the frame starts on the map.
+    pub starts: [f64; STARTS],
+}
+
+/// n·c starting positions from a seed, at the front of the area.
+pub fn scatter(positions: &mut [f64], n: u32, c: u32, seed: u64) -> Result<(), Refusal> {
+    let number =
+        unsafe { library::brothanchor_scatter(positions.as_mut_ptr(), positions.len(), n, c, seed) };
+    Refusal::unless_0(number)
+}
+
+/// How many frames a frame file has; or 16 with the place of its first bad record, counted from 0.
+pub fn frames(file: &[u8]) -> Result<usize, (Refusal, usize)> {
+    let mut place = [0];
+    let number =
+        unsafe { library::brothanchor_frames(file.as_ptr(), file.len(), place.as_mut_ptr(), place.len()) };
+    let place = place[0] as usize;
+    Refusal::unless_0(number).map(|()| place).map_err(|refusal| (refusal, place))
+}
+
+/// Record i of a file; zeros past its whole records.
+pub fn frame(file: &[u8], i: usize) -> Frame {
+    let mut words = [0; 10];
+    // The area is long enough, so this is not refused.
+    unsafe { library::brothanchor_frame(file.as_ptr(), file.len(), i, words.as_mut_ptr(), words.len()) };
+    let value = |at: usize| f64::from_bits(words[at]);
+    Frame {
+        picture: words[0] as u32,
+        side: words[1] as u8,
+        features: [value(2), value(3), value(4), value(5), value(6), value(7)],
+        starts: [value(8), value(9)],
+    }
+}

@@ -1,0 +1,157 @@
+//! The main job: from the bytes of a frame file to a map, its lines and its picture.
+
+use crate::picture;
+use crate::run::{prepare, sizes, work, Areas, Kind, Method, Record, Rows, Settings, State};
+use crate::{frame, frames, scatter, Frame, Refusal, FEATURES, STARTS};
+use std::fmt;
+
+/// The most frames on a map, and the bytes of a frame in the file.
+pub const MOST_FRAMES: usize = 4096;
+pub const RECORD: usize = 72;
+
+/// A map is worked in so many iterations, unless it stops before.
+const ITERATIONS: usize = 1000;
+/// The perplexity, where there are frames enough.
+const PERPLEXITY: f64 = 30.0;
+/// The least learning rate.
+const LEAST_RATE: f64 = 50.0;
+/// The first iterations pull so much harder.
+const EXAGGERATION: f64 = 12.0;
+
+/// Why there is no map.
+#[derive(Clone, Copy, Debug, PartialEq, Eq)]
+pub struct NoMap {
+    /// The number.
+    pub refusal: Refusal,
+    /// With 16: the place of the first bad record, counted from 0.
+    pub record: Option<usize>,
+}
+
+impl From<Refusal> for NoMap {
+    fn from(refusal: Refusal) -> NoMap {
+        NoMap { refusal, record: None }
+    }
+}
+
+impl fmt::Display for NoMap {
+    fn fmt(&self, f: &mut fmt::Formatter<'_>) -> fmt::Result {
+        match self.record {
+            Some(place) => write!(f, "{} (record {place}, counted from 0)", self.refusal),
+            None => write!(f, "{}", self.refusal),
+        }
+    }
+}
+
+/// A map, or as much of one as was worked.
+#[derive(Clone, Debug, PartialEq)]
+pub struct Map {
+    /// The frames, in capture order.
+    pub frames: Vec<Frame>,
+    /// Two coordinates a frame.
+    pub positions: Vec<f64>,
+    /// The record at the end.
+    pub record: Record,
+}
+
+/// What a map of n frames goes by. The perplexity is a third of the other frames where there are few; the rate grows with n.
+pub fn settings(n: usize, iterations: usize) -> Settings {
+    let others = n.saturating_sub(1).max(1) as f64;
+    Settings {
+        n,
+        f: FEATURES,
+        c: STARTS,
+        method: Method::BarnesHut,
+        perplexity: PERPLEXITY.min(others / 3.0),
+        rate: LEAST_RATE.max(n as f64 / (4.0 * EXAGGERATION)),
+        iterations,
+        angle: 0.5,
+        minimum: 1e-7,
+    }
+}
+
+/// Maps a frame file from its own starting positions, or from a scatter where a seed is given. After each iteration
+/// `progress` is told how many are done of how many.
+pub fn map(file: &[u8], seed: Option<u64>, progress: impl FnMut(u64, u64)) -> Result<Map, NoMap> {
+    map_in(file, seed, ITERATIONS, progress)
+}
+
+/// The same in so many iterations.
+pub fn map_in(
+    file: &[u8],
+    seed: Option<u64>,
+    iterations: usize,
+    progress: impl FnMut(u64, u64),
+) -> Result<Map, NoMap> {
+    let frames = read(file)?;
+    let n = frames.len();
+    let settings = settings(n, iterations);
+    let sizes = sizes(&settings)?;
+    let table: Vec<f64> = frames.iter().flat_map(|frame| frame.features).collect();
+    let mut start: Vec<f64> = frames.iter().flat_map(|frame| frame.starts).collect();
+    if let Some(seed) = seed {
+        scatter(&mut start, n as u32, STARTS as u32, seed)?;
+    }
+    let mut areas = Areas::new(&sizes, sizes.nodes);
+    let mut record = prepare(&settings.words(), &table, &start, &mut areas, &mut Rows::new(&sizes))?;
+    descend(&mut record, &mut areas, &settings, progress)?;
+    Ok(Map { frames, positions: areas.positions, record })
+}
+
+/// The frames of a file; 7 where it is too long, before any record is tested.
+fn read(file: &[u8]) -> Result<Vec<Frame>, NoMap> {
+    if file.len() > MOST_FRAMES * RECORD {
+        return Err(Refusal(7).into());
+    }
+    let bad = |(refusal, place)| NoMap { refusal, record: Some(place) };
+    let count = frames(file).map_err(bad)?;
+    Ok((0..count).map(|i| frame(file, i)).collect())
+}
+
+/// Works a run to its end, an iteration a call.
+fn descend(
+    record: &mut Record,
+    areas: &mut Areas,
+    settings: &Settings,
+    mut progress: impl FnMut(u64, u64),
+) -> Result<(), Refusal> {
+    loop {
+        let worked = work(record, areas, settings.iteration() as u32);
+        progress(record.iterations(), settings.iterations as u64);
+        match worked.kind {
+            Kind::Running => {}
+            Kind::Stopped | Kind::Finished => return Ok(()),
+            Kind::Refused(refusal) => return Err(refusal),
+        }
+    }
+}
+
+impl Map {
+    /// How it ended, in a word.
+    pub fn ending(&self) -> &'static str {
+        match self.record.state() {
+            Some(State::Stopped) => "stopped",
+            Some(State::Finished) => "finished",
+            _ => "not at its end",
+        }
+    }
+
+    /// Where frame i stands.
+    pub fn place(&self, i: usize) -> [f64; STARTS] {
+        [self.positions[STARTS * i], self.positions[STARTS * i + 1]]
+    }
+
+    /// A line for each frame: picture, side, both coordinates, both again as bits.
+    pub fn lines(&self) -> String {
+        let line = |(i, frame): (usize, &Frame)| {
+            let [x, y] = self.place(i);
+            let (picture, side) = (frame.picture, frame.side);
+            format!("{picture:5} {side} {x:14.6} {y:14.6} {:016x} {:016x}\n", x.to_bits(), y.to_bits())
+        };
+        self.frames.iter().enumerate().map(line).collect()
+    }
+
+    /// A still picture of the map.
+    pub fn svg(&self) -> String {
+        picture::svg(self)
+    }
+}

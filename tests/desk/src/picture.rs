@@ -1,0 +1,97 @@
+//! The map as a picture: a dot for each frame, and a line from each frame to the next one captured.
+
+use crate::map::Map;
+use std::fmt::Write;
+
+/// The sides of the picture, and the margin around the map.
+const SIDE: f64 = 900.0;
+const MARGIN: f64 = 50.0;
+/// Frames with their picture's number beside them, about so many.
+const LABELS: usize = 12;
+
+/// The map as an SVG file. Colours run from blue, the first frame, over green and yellow to red, the last.
+pub fn svg(map: &Map) -> String {
+    let dots = dots(map);
+    let mut text = String::new();
+    let foot = SIDE + 40.0;
+    // Writing to a String does not fail.
+    let _ = writeln!(
+        text,
+        "<svg xmlns=\"http://www.w3.org/2000/svg\" viewBox=\"0 0 {SIDE} {foot}\" width=\"{SIDE}\" height=\"{foot}\" font-family=\"sans-serif\" font-size=\"12\">"
+    );
+    let _ = writeln!(text, "<rect width=\"100%\" height=\"100%\" fill=\"white\"/>");
+    text += &lines(&dots);
+    text += &circles(map, &dots);
+    text += &labels(map, &dots);
+    text += &legend(map);
+    text + "</svg>\n"
+}
+
+/// Where the frames stand in the picture: one scale for both directions, the middle of the map in the middle.
+fn dots(map: &Map) -> Vec<[f64; 2]> {
+    let places: Vec<[f64; 2]> = (0..map.frames.len()).map(|i| map.place(i)).collect();
+    let ends = |d: usize| {
+        let least = places.iter().map(|p| p[d]).fold(f64::INFINITY, f64::min);
+        let most = places.iter().map(|p| p[d]).fold(f64::NEG_INFINITY, f64::max);
+        (least, most)
+    };
+    let ((left, right), (low, high)) = (ends(0), ends(1));
+    let span = (right - left).max(high - low);
+    let scale = if span > 0.0 { (SIDE - 2.0 * MARGIN) / span } else { 0.0 };
+    let (x, y) = ((left + right) / 2.0, (low + high) / 2.0);
+    places
+        .iter()
+        .map(|p| [SIDE / 2.0 + (p[0] - x) * scale, SIDE / 2.0 - (p[1] - y) * scale])
+        .collect()
+}
+
+/// The colour of frame i of n.
+fn colour(i: usize, n: usize) -> String {
+    let hue = 240.0 * (1.0 - i as f64 / n.saturating_sub(1).max(1) as f64);
+    format!("hsl({hue:.0},80%,45%)")
+}
+
+/// A line from each frame to the next.
+fn lines(dots: &[[f64; 2]]) -> String {
+    let line = |(i, pair): (usize, &[[f64; 2]])| {
+        let [[x1, y1], [x2, y2]] = [pair[0], pair[1]];
+        let colour = colour(i, dots.len());
+        format!("<line x1=\"{x1:.2}\" y1=\"{y1:.2}\" x2=\"{x2:.2}\" y2=\"{y2:.2}\" stroke=\"{colour}\" stroke-opacity=\"0.4\"/>\n")
+    };
+    dots.windows(2).enumerate().map(line).collect()
+}
+
+/// A dot for each frame; a viewer shows picture and side when it is pointed at.
+fn circles(map: &Map, dots: &[[f64; 2]]) -> String {
+    let circle = |(i, [x, y]): (usize, &[f64; 2])| {
+        let (frame, colour) = (&map.frames[i], colour(i, dots.len()));
+        let (picture, side) = (frame.picture, frame.side);
+        format!("<circle cx=\"{x:.2}\" cy=\"{y:.2}\" r=\"4\" fill=\"{colour}\"><title>picture {picture}, side {side}</title></circle>\n")
+    };
+    dots.iter().enumerate().map(circle).collect()
+}
+
+/// The picture's number beside the first and last frame and some between.
+fn labels(map: &Map, dots: &[[f64; 2]]) -> String {
+    let last = dots.len() - 1;
+    let every = (dots.len() / LABELS).max(1);
+    let label = |i: usize| {
+        let ([x, y], picture) = (dots[i], map.frames[i].picture);
+        format!("<text x=\"{:.2}\" y=\"{:.2}\">{picture}</text>\n", x + 6.0, y - 6.0)
+    };
+    (0..=last).filter(|&i| i % every == 0 || i == last).map(label).collect()
+}
+
+/// What the colours say, below the map.
+fn legend(map: &Map) -> String {
+    let n = map.frames.len();
+    let (first, last) = (map.frames[0].picture, map.frames[n - 1].picture);
+    let y = SIDE + 10.0;
+    let patch = |i: usize| {
+        format!("<rect x=\"{}\" y=\"{y}\" width=\"8\" height=\"8\" fill=\"{}\"/>\n", 50 + 8 * i, colour(i, 25))
+    };
+    let patches: String = (0..25).map(patch).collect();
+    let words = y + 8.0;
+    patches
+        + &format!("<text x=\"260\" y=\"{words}\">picture {first} to {last}, {n} frames in capture order</text>\n")
+}

@@ -1,0 +1,48 @@
+//! What is refused, and why.
+
+use std::fmt;
+
+/// The number of a refusal, from 1 to 16.
+#[derive(Clone, Copy, Debug, PartialEq, Eq)]
+pub struct Refusal(pub u32);
+
+impl Refusal {
+    /// A refusal, unless the number is 0.
+    pub(crate) fn unless_0(number: u32) -> Result<(), Refusal> {
+        match number {
+            0 => Ok(()),
+            _ => Err(Refusal(number)),
+        }
+    }
+
+    /// What the number means.
+    pub fn meaning(self) -> &'static str {
+        match self.0 {
+            1 => "the components are 0 or more than 8",
+            2 => "the perplexity is not a positive number",
+            3 => "the learning rate is not a positive number",
+            4 => "the iterations are 0 or more than 65,535",
+            5 => "the angle is not from 0 to below 1",
+            6 => "a Barnes-Hut run has more than 3 components",
+            7 => "there are no frames or more than 4096, no features or more than 256, or the table has another length",
+            8 => "a feature is not finite or above 2^20 in magnitude",
+            9 => "a single frame has no map",
+            10 => "the perplexity is not below the number of frames",
+            11 => "the start has another length, or a value that is not finite or above 2^20 in magnitude",
+            12 => "a lent area is too short",
+            13 => "the settings, the record or the areas are not well formed",
+            14 => "the next point needs more nodes than the arena has left",
+            15 => "the step would leave the range of numbers that a map may have",
+            16 => "a record of the frame file is bad",
+            _ => "no known number",
+        }
+    }
+}
+
+impl fmt::Display for Refusal {
+    fn fmt(&self, f: &mut fmt::Formatter<'_>) -> fmt::Result {
+        write!(f, "refused {}: {}", self.0, self.meaning())
+    }
+}
+
+impl std::error::Error for Refusal {}

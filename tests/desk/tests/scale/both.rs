@@ -1,0 +1,170 @@
+//! The library and the independent implementation side by side: each call is made on both, and all that there is
+//! afterwards has to be the same, bit for bit.
+
+use crate::case::Case;
+use brothanchor::{prepare, work, Areas, Fault, Kind, Method, Record, Rows, Worked};
+use oracle::descent::{self, Standing};
+use oracle::tree::Arena;
+
+/// The library's memory, and the record if there is one. The other side's is made of it for each call.
+#[derive(Clone)]
+pub struct Both {
+    pub areas: Areas,
+    pub record: Record,
+}
+
+impl Both {
+    /// Prepares on both sides: the run, or the number of the refusal.
+    pub fn prepare(case: &Case) -> Result<Both, u64> {
+        let (mut areas, mut rows) = (case.areas.clone(), case.rows.clone());
+        let settings = case.settings.words();
+        let ours = prepare(&settings, &case.table, &case.start, &mut areas, &mut rows);
+
+        let mut theirs = other_side(&case.areas);
+        let mut their_rows = descent::Rows { values: case.rows.values.clone(), indices: case.rows.indices.clone() };
+        let settings = settings_of(&settings);
+        let record = descent::prepare(settings, &case.table, &case.start, &mut theirs, &mut their_rows);
+
+        same_areas(&areas, &theirs);
+        same_rows(&rows, &their_rows);
+        let ours = ours.map_err(|refusal| u64::from(refusal.0));
+        assert_eq!(ours.map(|record| record.words), record.as_ref().map(words_of).map_err(|&number| number));
+        ours.map(|record| Both { areas, record })
+    }
+
+    /// A work call on both sides.
+    pub fn work(&mut self, budget: u32) -> Worked {
+        let mut theirs = other_side(&self.areas);
+        let before = self.record;
+        let worked = work(&mut self.record, &mut self.areas, budget);
+        if before.words[3] > 1 || before.words[9] > 2 {
+            assert_eq!((number(&worked), worked.units, worked.fault), (13, 0, Some(Fault::Counters)));
+            assert_eq!(self.record, before);
+        } else {
+            let mut record = record_of(&before.words);
+            let answer = descent::work(&mut record, &mut theirs, budget);
+            assert_eq!((kind(&worked), number(&worked), worked.units), parts(answer));
+            assert_eq!(self.record.words, words_of(&record));
+        }
+        same_areas(&self.areas, &theirs);
+        worked
+    }
+}
+
+/// The number of a refusal, or 0.
+pub fn number(worked: &Worked) -> u64 {
+    match worked.kind {
+        Kind::Refused(refusal) => u64::from(refusal.0),
+        _ => 0,
+    }
+}
+
+fn kind(worked: &Worked) -> u64 {
+    match worked.kind {
+        Kind::Running => 0,
+        Kind::Stopped => 1,
+        Kind::Finished => 2,
+        Kind::Refused(_) => 3,
+    }
+}
+
+/// Kind, number and units of the other side's answer.
+fn parts(answer: descent::Answer) -> (u64, u64, u64) {
+    match answer {
+        descent::Answer::Running(units) => (0, 0, units),
+        descent::Answer::Stopped(units) => (1, 0, units),
+        descent::Answer::Finished(units) => (2, 0, units),
+        descent::Answer::Refused(number, units) => (3, number, units),
+    }
+}
+
+fn settings_of(words: &[u64]) -> descent::Settings {
+    descent::Settings {
+        n: words[0] as usize,
+        f: words[1] as usize,
+        c: words[2] as usize,
+        method: if words[3] == Method::Exact as u64 { descent::Method::Exact } else { descent::Method::BarnesHut },
+        perplexity: f64::from_bits(words[4]),
+        rate: f64::from_bits(words[5]),
+        iterations: words[6] as usize,
+        angle: f64::from_bits(words[7]),
+        minimum: f64::from_bits(words[8]),
+    }
+}
+
+fn record_of(words: &[u64; 14]) -> descent::Record {
+    descent::Record {
+        settings: settings_of(words),
+        standing: [Standing::Running, Standing::Stopped, Standing::Finished][words[9] as usize],
+        done: words[10] as usize,
+        phase: words[11] as usize,
+        units: words[12] as usize,
+        used: words[13] as usize,
+    }
+}
+
+fn words_of(record: &descent::Record) -> [u64; 14] {
+    let settings = &record.settings;
+    [
+        settings.n as u64,
+        settings.f as u64,
+        settings.c as u64,
+        settings.method as u64,
+        bits(settings.perplexity),
+        bits(settings.rate),
+        settings.iterations as u64,
+        bits(settings.angle),
+        bits(settings.minimum),
+        record.standing as u64,
+        record.done as u64,
+        record.phase as u64,
+        record.units as u64,
+        record.used as u64,
+    ]
+}
+
+/// A value's bits; every NaN is one.
+fn bits(value: f64) -> u64 {
+    if value.is_nan() {
+        return 0x7ff8_0000_0000_0000;
+    }
+    value.to_bits()
+}
+
+fn other_side(areas: &Areas) -> descent::Areas {
+    descent::Areas {
+        positions: areas.positions.clone(),
+        increments: areas.increments.clone(),
+        gains: areas.gains.clone(),
+        affinities: areas.affinities.clone(),
+        indices: areas.indices.clone(),
+        offsets: areas.offsets.clone(),
+        forces: areas.forces.clone(),
+        arena: Arena { reals: areas.reals.clone(), words: areas.words.clone() },
+    }
+}
+
+/// Every place of every area, tails included.
+fn same_areas(ours: &Areas, theirs: &descent::Areas) {
+    same_values("positions", &ours.positions, &theirs.positions);
+    same_values("increments", &ours.increments, &theirs.increments);
+    same_values("gains", &ours.gains, &theirs.gains);
+    same_values("affinities", &ours.affinities, &theirs.affinities);
+    assert!(ours.indices == theirs.indices, "indices");
+    assert!(ours.offsets == theirs.offsets, "offsets");
+    same_values("forces", &ours.forces, &theirs.forces);
+    same_values("reals", &ours.reals, &theirs.arena.reals);
+    assert!(ours.words == theirs.arena.words, "words");
+}
+
+fn same_rows(ours: &Rows, theirs: &descent::Rows) {
+    same_values("row values", &ours.values, &theirs.values);
+    assert!(ours.indices == theirs.indices, "row indices");
+}
+
+fn same_values(area: &str, ours: &[f64], theirs: &[f64]) {
+    assert_eq!(ours.len(), theirs.len(), "{area}");
+    for (place, (a, b)) in ours.iter().zip(theirs).enumerate() {
+        assert!(bits(*a) == bits(*b), "{area}, place {place}: {a:e} and {b:e}");
+    }
+}

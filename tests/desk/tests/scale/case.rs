@@ -1,0 +1,162 @@
+//! A case: settings, table, start, and areas that are long enough or not quite.
+
+use crate::random::Random;
+use brothanchor::{sizes, Areas, Method, Rows, Settings, Sizes};
+
+/// What one run starts from.
+pub struct Case {
+    pub settings: Settings,
+    pub table: Vec<f64>,
+    pub start: Vec<f64>,
+    pub areas: Areas,
+    pub rows: Rows,
+}
+
+/// How large a case may be.
+#[derive(Clone, Copy)]
+pub struct Scope {
+    pub exact: usize,
+    pub tree: usize,
+}
+
+impl Case {
+    /// A case from a seed; one in ten is to be refused by its preparation.
+    pub fn new(random: &mut Random, scope: Scope) -> Case {
+        let settings = settings(random, scope);
+        let Settings { n, f, c, .. } = settings;
+        let sizes = sizes(&settings).expect("good settings");
+        let (areas, rows) = areas(random, &sizes);
+        let mut case = Case {
+            settings,
+            table: table(random, n, f),
+            start: start(random, n * c),
+            areas,
+            rows,
+        };
+        if random.once_in(10) {
+            case.spoil(random);
+        }
+        case
+    }
+
+    /// One thing that preparation refuses, or nearly so.
+    fn spoil(&mut self, random: &mut Random) {
+        let settings = &mut self.settings;
+        match random.below(12) {
+            0 => settings.c = random.one_of(&[0, 4, 9, usize::MAX]),
+            1 => settings.perplexity = random.odd_value(),
+            2 => settings.rate = random.odd_value(),
+            3 => settings.iterations = random.one_of(&[0, 65_535, 65_536]),
+            4 => settings.angle = random.odd_value(),
+            5 => settings.n = random.one_of(&[0, 1, 4097]),
+            6 => settings.f = random.one_of(&[0, 257, usize::MAX]),
+            7 => settings.perplexity = settings.n as f64,
+            8 => put(&mut self.table, random),
+            9 => put(&mut self.start, random),
+            10 => drop(self.table.pop()),
+            _ => shorten(&mut self.areas, random.below(9)),
+        }
+    }
+}
+
+/// An odd value somewhere.
+fn put(values: &mut [f64], random: &mut Random) {
+    let place = random.below(values.len());
+    values[place] = random.odd_value();
+}
+
+/// Takes the last element of one of the nine areas.
+pub fn shorten(areas: &mut Areas, which: usize) {
+    match which {
+        0 => drop(areas.positions.pop()),
+        1 => drop(areas.increments.pop()),
+        2 => drop(areas.gains.pop()),
+        3 => drop(areas.affinities.pop()),
+        4 => drop(areas.indices.pop()),
+        5 => drop(areas.offsets.pop()),
+        6 => drop(areas.forces.pop()),
+        7 => drop(areas.reals.pop()),
+        _ => drop(areas.words.pop()),
+    }
+}
+
+fn settings(random: &mut Random, scope: Scope) -> Settings {
+    let method = random.one_of(&[Method::Exact, Method::BarnesHut]);
+    let (most, components) = match method {
+        Method::Exact => (scope.exact, 8),
+        Method::BarnesHut => (scope.tree, 3),
+    };
+    let n = random.between(2.0, most as f64 + 1.0) as usize;
+    let long = n <= 8 && random.once_in(3);
+    Settings {
+        n,
+        f: if random.once_in(20) { 256 } else { random.within(1, 8) },
+        c: random.within(1, components),
+        method,
+        perplexity: random.between(0.3, 60.0).min(n as f64 * 0.999),
+        rate: random.between(0.1, 2000.0),
+        iterations: if long { random.within(250, 256) } else { random.within(1, 4) },
+        angle: random.one_of(&[0.0, 0.3, 0.5, 0.8, 0.99]),
+        minimum: random.one_of(&[0.0, f64::NAN, 1e-7, 1e-3, 1e9]),
+    }
+}
+
+/// Frames at random, in clusters, with ties, all alike, or at the ends of the domain.
+fn table(random: &mut Random, n: usize, f: usize) -> Vec<f64> {
+    let kind = random.below(5);
+    let heaps: Vec<f64> = (0..4 * f).map(|_| random.unit() * 50.0).collect();
+    let one = |i: usize| {
+        let value = random.unit() - 0.5;
+        match kind {
+            0 => value * 10.0,
+            1 => heaps[(i / f % 4) * f + i % f] + value * 0.1,
+            2 => (value * 6.0).round(),
+            3 => heaps[i % f],
+            _ => (value * 2_097_152.0).clamp(-1_048_576.0, 1_048_576.0),
+        }
+    };
+    (0..n * f).map(one).collect()
+}
+
+/// Starts close together, wide apart, on a grid, or all in one place.
+fn start(random: &mut Random, cells: usize) -> Vec<f64> {
+    let kind = random.below(5);
+    let one = |_| {
+        let value = random.unit() - 0.5;
+        match kind {
+            0 | 1 => value * 1e-4,
+            2 => value * 100.0,
+            3 => (value * 8.0).round(),
+            _ => 3.25,
+        }
+    };
+    (0..cells).map(one).collect()
+}
+
+/// Areas of marks, each a little longer than asked for; an arena that is large enough, or only to begin with.
+fn areas(random: &mut Random, sizes: &Sizes) -> (Areas, Rows) {
+    let nodes = if random.once_in(2) { sizes.nodes } else { random.within(1, 1 + sizes.nodes.min(200)) };
+    let mut more = |asked: usize| asked + random.below(4);
+    let areas = Areas {
+        positions: values(more(sizes.cells)),
+        increments: values(more(sizes.cells)),
+        gains: values(more(sizes.cells)),
+        affinities: values(more(sizes.affinities)),
+        indices: numbers(more(sizes.indices)),
+        offsets: numbers(more(sizes.offsets)),
+        forces: values(more(sizes.forces)),
+        reals: values(more(9 * nodes)),
+        words: numbers(more(3 * nodes)),
+    };
+    let rows = Rows { values: values(more(sizes.rows)), indices: numbers(more(sizes.rows)) };
+    (areas, rows)
+}
+
+/// A mark for each place.
+pub fn values(length: usize) -> Vec<f64> {
+    (0..length).map(|i| f64::from_bits(0x4000_0000_0000_0000 + i as u64)).collect()
+}
+
+pub fn numbers(length: usize) -> Vec<u32> {
+    (0..length).map(|i| 0x4000_0000 + i as u32).collect()
+}

@@ -1,0 +1,156 @@
+//! The library against the independent implementation of the scope paper's rules (tests/oracle), at scale. The original
+//! Rust is not asked here: the lists that it judges are replayed by the programs under crates/.
+//!
+//! A run is a preparation and the calls after it: budgets at random with zeros among them, records, areas and lengths
+//! damaged now and then, an arena that grows when 14 comes. Each failure names its seed; BROTHANCHOR_SEED and
+//! BROTHANCHOR_RUNS choose others than the gate's few.
+
+mod both;
+mod case;
+mod random;
+
+use both::{number, Both};
+use brothanchor::{Areas, Kind, Worked};
+use case::{numbers, shorten, values, Case, Scope};
+use random::Random;
+use std::env;
+use std::panic::{catch_unwind, AssertUnwindSafe};
+
+/// A number from the environment, or another.
+fn setting(name: &str, usual: u64) -> u64 {
+    env::var(name).ok().and_then(|text| text.parse().ok()).unwrap_or(usual)
+}
+
+/// What was met in a number of runs.
+#[derive(Debug, Default)]
+struct Met {
+    runs: usize,
+    calls: usize,
+    units: u64,
+    ended: usize,
+    /// Refusals by their number.
+    refused: [usize; 17],
+}
+
+impl Met {
+    fn call(&mut self, worked: &Worked) {
+        self.calls += 1;
+        self.units += worked.units;
+        self.refused[number(worked) as usize] += 1;
+    }
+}
+
+/// So many runs within a scope, each from a seed of its own.
+fn runs(name: &str, count: u64, scope: Scope) -> Met {
+    let first = setting("BROTHANCHOR_SEED", 1);
+    let mut met = Met::default();
+    for seed in first..first + count {
+        let one = || run(&mut Random::new(seed), scope, &mut met);
+        if catch_unwind(AssertUnwindSafe(one)).is_err() {
+            panic!("{name}: the run of seed {seed} differs");
+        }
+    }
+    println!("{name}: seeds {first} to {}: {met:?}", first + count - 1);
+    met
+}
+
+/// One run, to its end or through so many calls.
+fn run(random: &mut Random, scope: Scope, met: &mut Met) {
+    met.runs += 1;
+    let case = Case::new(random, scope);
+    let mut both = match Both::prepare(&case) {
+        Ok(both) => both,
+        Err(number) => {
+            met.refused[number as usize] += 1;
+            return;
+        }
+    };
+    for _ in 0..60 {
+        let worked = if random.once_in(4) { damaged_call(random, &mut both) } else { both.work(budget(random, &case)) };
+        met.call(&worked);
+        match number(&worked) {
+            14 => grow(&mut both.areas, random.within(1, 400)),
+            15 => return,
+            _ => {}
+        }
+        if matches!(worked.kind, Kind::Stopped | Kind::Finished) {
+            met.ended += 1;
+            return;
+        }
+    }
+}
+
+/// Nothing, a few units, about an iteration, or all that is left.
+fn budget(random: &mut Random, case: &Case) -> u32 {
+    let iteration = case.settings.iteration();
+    match random.below(8) {
+        0 => 0,
+        1 => 1,
+        2 => random.within(1, 9) as u32,
+        3 => u32::MAX,
+        _ => random.within(1, 2 * iteration) as u32,
+    }
+}
+
+/// More nodes, of marks.
+fn grow(areas: &mut Areas, nodes: usize) {
+    areas.reals.extend(values(9 * nodes));
+    areas.words.extend(numbers(3 * nodes));
+}
+
+/// A call on a damaged record or area; afterwards all is as it was before the damage.
+fn damaged_call(random: &mut Random, both: &mut Both) -> Worked {
+    let before = both.clone();
+    match random.below(3) {
+        0 => {
+            let place = random.below(14);
+            let word = both.record.words[place];
+            both.record.words[place] = match place {
+                4 | 5 | 7 | 8 => random.odd_value().to_bits(),
+                _ => random.odd_number(word),
+            };
+        }
+        1 => shorten(&mut both.areas, random.below(9)),
+        _ => damage(random, &mut both.areas),
+    }
+    let budget = random.below(40) as u32;
+    let worked = both.work(budget);
+    *both = before;
+    worked
+}
+
+/// Another value or number in one place of an area.
+fn damage(random: &mut Random, areas: &mut Areas) {
+    let values = [&mut areas.positions, &mut areas.increments, &mut areas.gains, &mut areas.forces, &mut areas.reals];
+    let numbers = [&mut areas.indices, &mut areas.offsets, &mut areas.words];
+    let which = random.below(values.len() + 2 * numbers.len());
+    if which < values.len() {
+        for (i, area) in values.into_iter().enumerate() {
+            if i == which && !area.is_empty() {
+                let place = random.below(area.len());
+                area[place] = random.odd_value();
+            }
+        }
+        return;
+    }
+    for (i, area) in numbers.into_iter().enumerate() {
+        if i == (which - 5) / 2 && !area.is_empty() {
+            let place = random.below(area.len());
+            area[place] = random.odd_number(u64::from(area[place])) as u32;
+        }
+    }
+}
+
+#[test]
+fn small_runs() {
+    let met = runs("small", setting("BROTHANCHOR_RUNS", 300), Scope { exact: 24, tree: 40 });
+    for number in [12, 13, 14, 15] {
+        assert!(met.refused[number] > 0, "no run met {number}");
+    }
+    assert!(met.ended > 0, "no run ended");
+}
+
+#[test]
+fn larger_runs() {
+    runs("larger", setting("BROTHANCHOR_RUNS", 300) / 60, Scope { exact: 100, tree: 400 });
+}
