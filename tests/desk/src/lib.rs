@@ -31,18 +31,18 @@ pub struct Frame {
 
 /// n·c starting positions from a seed, at the front of the area.
 pub fn scatter(positions: &mut [f64], n: u32, c: u32, seed: u64) -> Result<(), Refusal> {
-    let number =
-        unsafe { library::brothanchor_scatter(positions.as_mut_ptr(), positions.len(), n, c, seed) };
+    let number = unsafe { library::brothanchor_scatter(positions.as_mut_ptr(), positions.len(), n, c, seed) };
     Refusal::unless_0(number)
 }
 
 /// How many frames a frame file has; or 16 with the place of its first bad record, counted from 0.
 pub fn frames(file: &[u8]) -> Result<usize, (Refusal, usize)> {
     let mut place = [0];
-    let number =
-        unsafe { library::brothanchor_frames(file.as_ptr(), file.len(), place.as_mut_ptr(), place.len()) };
+    let number = unsafe { library::brothanchor_frames(file.as_ptr(), file.len(), place.as_mut_ptr(), place.len()) };
     let place = place[0] as usize;
-    Refusal::unless_0(number).map(|()| place).map_err(|refusal| (refusal, place))
+    Refusal::unless_0(number)
+        .map(|()| place)
+        .map_err(|refusal| (refusal, place))
 }
 
 /// Record i of a file; zeros past its whole records.

@@ -1,12 +1,8 @@
 //! The functions of libdesk.a as `include/brothanchor.h` declares them.
 
 extern "C" {
-    pub fn brothanchor_sizes(
-        settings: *const u64,
-        settings_length: usize,
-        sizes: *mut u64,
-        sizes_length: usize,
-    ) -> u32;
+    pub fn brothanchor_sizes(settings: *const u64, settings_length: usize, sizes: *mut u64, sizes_length: usize)
+        -> u32;
 
     pub fn brothanchor_prepare(
         settings: *const u64,

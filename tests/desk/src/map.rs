@@ -76,12 +76,7 @@ pub fn map(file: &[u8], seed: Option<u64>, progress: impl FnMut(u64, u64)) -> Re
 }
 
 /// The same in so many iterations.
-pub fn map_in(
-    file: &[u8],
-    seed: Option<u64>,
-    iterations: usize,
-    progress: impl FnMut(u64, u64),
-) -> Result<Map, NoMap> {
+pub fn map_in(file: &[u8], seed: Option<u64>, iterations: usize, progress: impl FnMut(u64, u64)) -> Result<Map, NoMap> {
     let frames = read(file)?;
     let n = frames.len();
     let settings = settings(n, iterations);
@@ -94,7 +89,11 @@ pub fn map_in(
     let mut areas = Areas::new(&sizes, sizes.nodes);
     let mut record = prepare(&settings.words(), &table, &start, &mut areas, &mut Rows::new(&sizes))?;
     descend(&mut record, &mut areas, &settings, progress)?;
-    Ok(Map { frames, positions: areas.positions, record })
+    Ok(Map {
+        frames,
+        positions: areas.positions,
+        record,
+    })
 }
 
 /// The frames of a file; 7 where it is too long, before any record is tested.
@@ -102,7 +101,10 @@ fn read(file: &[u8]) -> Result<Vec<Frame>, NoMap> {
     if file.len() > MOST_FRAMES * RECORD {
         return Err(Refusal(7).into());
     }
-    let bad = |(refusal, place)| NoMap { refusal, record: Some(place) };
+    let bad = |(refusal, place)| NoMap {
+        refusal,
+        record: Some(place),
+    };
     let count = frames(file).map_err(bad)?;
     Ok((0..count).map(|i| frame(file, i)).collect())
 }
@@ -145,7 +147,11 @@ impl Map {
         let line = |(i, frame): (usize, &Frame)| {
             let [x, y] = self.place(i);
             let (picture, side) = (frame.picture, frame.side);
-            format!("{picture:5} {side} {x:14.6} {y:14.6} {:016x} {:016x}\n", x.to_bits(), y.to_bits())
+            format!(
+                "{picture:5} {side} {x:14.6} {y:14.6} {:016x} {:016x}\n",
+                x.to_bits(),
+                y.to_bits()
+            )
         };
         self.frames.iter().enumerate().map(line).collect()
     }

@@ -66,7 +66,7 @@ fn circles(map: &Map, dots: &[[f64; 2]]) -> String {
     let circle = |(i, [x, y]): (usize, &[f64; 2])| {
         let (frame, colour) = (&map.frames[i], colour(i, dots.len()));
         let (picture, side) = (frame.picture, frame.side);
-        format!("<circle cx=\"{x:.2}\" cy=\"{y:.2}\" r=\"4\" fill=\"{colour}\"><title>picture {picture}, side {side}</title></circle>\n")
+        format!("<circle cx=\"{x:.2}\" cy=\"{y:.2}\" r=\"3\" fill=\"{colour}\"><title>picture {picture}, side {side}</title></circle>\n")
     };
     dots.iter().enumerate().map(circle).collect()
 }
@@ -88,10 +88,13 @@ fn legend(map: &Map) -> String {
     let (first, last) = (map.frames[0].picture, map.frames[n - 1].picture);
     let y = SIDE + 10.0;
     let patch = |i: usize| {
-        format!("<rect x=\"{}\" y=\"{y}\" width=\"8\" height=\"8\" fill=\"{}\"/>\n", 50 + 8 * i, colour(i, 25))
+        format!(
+            "<rect x=\"{}\" y=\"{y}\" width=\"8\" height=\"8\" fill=\"{}\"/>\n",
+            50 + 8 * i,
+            colour(i, 25)
+        )
     };
     let patches: String = (0..25).map(patch).collect();
     let words = y + 8.0;
-    patches
-        + &format!("<text x=\"260\" y=\"{words}\">picture {first} to {last}, {n} frames in capture order</text>\n")
+    patches + &format!("<text x=\"260\" y=\"{words}\">picture {first} to {last}, {n} frames in capture order</text>\n")
 }

@@ -123,12 +123,18 @@ pub struct Sizes {
 pub fn sizes(settings: &Settings) -> Result<Sizes, Refusal> {
     let words = settings.words();
     let mut sizes = [0_u64; 7];
-    let number = unsafe {
-        library::brothanchor_sizes(words.as_ptr(), words.len(), sizes.as_mut_ptr(), sizes.len())
-    };
+    let number = unsafe { library::brothanchor_sizes(words.as_ptr(), words.len(), sizes.as_mut_ptr(), sizes.len()) };
     Refusal::unless_0(number)?;
     let [cells, affinities, indices, offsets, forces, rows, nodes] = sizes.map(|size| size as usize);
-    Ok(Sizes { cells, affinities, indices, offsets, forces, rows, nodes })
+    Ok(Sizes {
+        cells,
+        affinities,
+        indices,
+        offsets,
+        forces,
+        rows,
+        nodes,
+    })
 }
 
 /// What is lent to every call of a run.
@@ -183,7 +189,10 @@ pub struct Rows {
 impl Rows {
     /// Just as long as asked for.
     pub fn new(sizes: &Sizes) -> Rows {
-        Rows { values: vec![0.0; sizes.rows], indices: vec![0; sizes.rows] }
+        Rows {
+            values: vec![0.0; sizes.rows],
+            indices: vec![0; sizes.rows],
+        }
     }
 }
 

@@ -81,31 +81,63 @@ impl Node {
     }
 }
 
-/// Point j goes into the subtree of node i; new nodes come last.
-fn put(nodes: &mut Vec<Node>, positions: &[f64], c: usize, i: usize, j: u32, depth: usize) {
-    let p = point(positions, c, j as usize);
-    nodes[i].absorb(c, &p);
-    if nodes[i].first == 0 {
-        let old = match nodes[i].leaf {
-            Some(old) => old,
-            None => {
-                nodes[i].leaf = Some(j);
-                return;
-            }
-        };
-        if depth >= DEEPEST {
-            return;
-        }
-        let node = nodes[i];
-        let first = nodes.len();
-        nodes.extend((0..1 << c).map(|corner| node.child(c, corner)));
-        nodes[i].first = first as u32;
-        nodes[i].leaf = None;
-        let corner = node.child_index(c, &point(positions, c, old as usize));
-        put(nodes, positions, c, first + corner, old, depth + 1);
+/// An insertion under way.
+struct Growth<'a> {
+    arena: &'a mut Arena,
+    /// Nodes in use.
+    used: usize,
+    /// What stood in the places written to, first to last.
+    before: Vec<(usize, Node)>,
+}
+
+impl Growth<'_> {
+    fn set(&mut self, i: usize, node: &Node) {
+        self.before.push((i, self.arena.node(i)));
+        self.arena.set(i, node);
     }
-    let next = nodes[i].first as usize + nodes[i].child_index(c, &p);
-    put(nodes, positions, c, next, j, depth + 1);
+
+    /// Point j goes into the subtree of node i; new nodes come last. Whether there was room.
+    fn put(&mut self, positions: &[f64], c: usize, i: usize, j: u32, depth: usize) -> bool {
+        let p = point(positions, c, j as usize);
+        let mut node = self.arena.node(i);
+        node.absorb(c, &p);
+        let old = node.leaf;
+        if node.first == 0 && (old.is_none() || depth >= DEEPEST) {
+            node.leaf = old.or(Some(j));
+            self.set(i, &node);
+            return true;
+        }
+        if node.first != 0 {
+            self.set(i, &node);
+        } else if !self.split(&mut node, c, i) {
+            return false;
+        }
+        let child = |p: &[f64; 3]| node.first as usize + node.child_index(c, p);
+        let moved = match old {
+            Some(old) if node.leaf.is_none() => {
+                let at = child(&point(positions, c, old as usize));
+                self.put(positions, c, at, old, depth + 1)
+            }
+            _ => true,
+        };
+        moved && self.put(positions, c, child(&p), j, depth + 1)
+    }
+
+    /// A leaf gets its children, if there is room for them, and gives up its point.
+    fn split(&mut self, node: &mut Node, c: usize, i: usize) -> bool {
+        let first = self.used;
+        if first + (1 << c) > self.arena.capacity() {
+            return false;
+        }
+        for corner in 0..1 << c {
+            self.set(first + corner, &node.child(c, corner));
+        }
+        self.used += 1 << c;
+        node.first = first as u32;
+        node.leaf = None;
+        self.set(i, node);
+        true
+    }
 }
 
 impl Arena {
@@ -158,15 +190,18 @@ impl Arena {
     /// Point j goes in: the nodes in use afterwards, or none where it needs more nodes than there are; then nothing has
     /// changed.
     pub fn insert(&mut self, used: usize, positions: &[f64], c: usize, j: usize) -> Option<usize> {
-        let mut nodes: Vec<Node> = (0..used).map(|i| self.node(i)).collect();
-        put(&mut nodes, positions, c, 0, j as u32, 0);
-        if nodes.len() > self.capacity() {
-            return None;
+        let mut growth = Growth {
+            arena: self,
+            used,
+            before: Vec::new(),
+        };
+        if growth.put(positions, c, 0, j as u32, 0) {
+            return Some(growth.used);
         }
-        for (i, node) in nodes.iter().enumerate() {
-            self.set(i, node);
+        while let Some((i, node)) = growth.before.pop() {
+            growth.arena.set(i, &node);
         }
-        Some(nodes.len())
+        None
     }
 
     /// What the tree does to point j: the repulsion, and its share of the normaliser.

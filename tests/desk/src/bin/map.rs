@@ -31,7 +31,12 @@ struct Asked {
 }
 
 fn asked(mut words: impl Iterator<Item = String>) -> Result<Asked, String> {
-    let mut asked = Asked { file: PathBuf::new(), seed: None, out: PathBuf::from("maps"), progress: false };
+    let mut asked = Asked {
+        file: PathBuf::new(),
+        seed: None,
+        out: PathBuf::from("maps"),
+        progress: false,
+    };
     while let Some(word) = words.next() {
         match word.as_str() {
             "--progress" => asked.progress = true,
@@ -74,7 +79,9 @@ fn run(asked: &Asked) -> Result<String, String> {
 /// The file's bytes, but no more than tell that there are too many.
 fn read(path: &Path) -> std::io::Result<Vec<u8>> {
     let mut bytes = Vec::new();
-    File::open(path)?.take((MOST_FRAMES * RECORD + 1) as u64).read_to_end(&mut bytes)?;
+    File::open(path)?
+        .take((MOST_FRAMES * RECORD + 1) as u64)
+        .read_to_end(&mut bytes)?;
     Ok(bytes)
 }
 

@@ -21,14 +21,20 @@ impl Both {
         let ours = prepare(&settings, &case.table, &case.start, &mut areas, &mut rows);
 
         let mut theirs = other_side(&case.areas);
-        let mut their_rows = descent::Rows { values: case.rows.values.clone(), indices: case.rows.indices.clone() };
+        let mut their_rows = descent::Rows {
+            values: case.rows.values.clone(),
+            indices: case.rows.indices.clone(),
+        };
         let settings = settings_of(&settings);
         let record = descent::prepare(settings, &case.table, &case.start, &mut theirs, &mut their_rows);
 
         same_areas(&areas, &theirs);
         same_rows(&rows, &their_rows);
         let ours = ours.map_err(|refusal| u64::from(refusal.0));
-        assert_eq!(ours.map(|record| record.words), record.as_ref().map(words_of).map_err(|&number| number));
+        assert_eq!(
+            ours.map(|record| record.words),
+            record.as_ref().map(words_of).map_err(|&number| number)
+        );
         ours.map(|record| Both { areas, record })
     }
 
@@ -38,7 +44,10 @@ impl Both {
         let before = self.record;
         let worked = work(&mut self.record, &mut self.areas, budget);
         if before.words[3] > 1 || before.words[9] > 2 {
-            assert_eq!((number(&worked), worked.units, worked.fault), (13, 0, Some(Fault::Counters)));
+            assert_eq!(
+                (number(&worked), worked.units, worked.fault),
+                (13, 0, Some(Fault::Counters))
+            );
             assert_eq!(self.record, before);
         } else {
             let mut record = record_of(&before.words);
@@ -83,7 +92,11 @@ fn settings_of(words: &[u64]) -> descent::Settings {
         n: words[0] as usize,
         f: words[1] as usize,
         c: words[2] as usize,
-        method: if words[3] == Method::Exact as u64 { descent::Method::Exact } else { descent::Method::BarnesHut },
+        method: if words[3] == Method::Exact as u64 {
+            descent::Method::Exact
+        } else {
+            descent::Method::BarnesHut
+        },
         perplexity: f64::from_bits(words[4]),
         rate: f64::from_bits(words[5]),
         iterations: words[6] as usize,
@@ -140,7 +153,10 @@ fn other_side(areas: &Areas) -> descent::Areas {
         indices: areas.indices.clone(),
         offsets: areas.offsets.clone(),
         forces: areas.forces.clone(),
-        arena: Arena { reals: areas.reals.clone(), words: areas.words.clone() },
+        arena: Arena {
+            reals: areas.reals.clone(),
+            words: areas.words.clone(),
+        },
     }
 }
 

@@ -25,11 +25,13 @@ impl Case {
         let settings = settings(random, scope);
         let Settings { n, f, c, .. } = settings;
         let sizes = sizes(&settings).expect("good settings");
-        let (areas, rows) = areas(random, &sizes);
+        let nodes = nodes(random, &sizes);
+        let (areas, rows) = areas(random, &sizes, nodes);
+        let (frames, places) = (random.below(5), random.below(5));
         let mut case = Case {
             settings,
-            table: table(random, n, f),
-            start: start(random, n * c),
+            table: table(random, n, f, frames),
+            start: start(random, n * c, places),
             areas,
             rows,
         };
@@ -37,6 +39,31 @@ impl Case {
             case.spoil(random);
         }
         case
+    }
+
+    /// As many frames as may be, in clusters, for one iteration.
+    pub fn largest(random: &mut Random, method: Method, c: usize, perplexity: f64) -> Case {
+        let (n, f) = (4096, 6);
+        let settings = Settings {
+            n,
+            f,
+            c,
+            method,
+            perplexity,
+            rate: 100.0,
+            iterations: 1,
+            angle: 0.5,
+            minimum: 0.0,
+        };
+        let sizes = sizes(&settings).expect("good settings");
+        let (areas, rows) = areas(random, &sizes, sizes.nodes.min(100_000));
+        Case {
+            settings,
+            table: table(random, n, f, 1),
+            start: start(random, n * c, 2),
+            areas,
+            rows,
+        }
     }
 
     /// One thing that preparation refuses, or nearly so.
@@ -95,15 +122,18 @@ fn settings(random: &mut Random, scope: Scope) -> Settings {
         method,
         perplexity: random.between(0.3, 60.0).min(n as f64 * 0.999),
         rate: random.between(0.1, 2000.0),
-        iterations: if long { random.within(250, 256) } else { random.within(1, 4) },
+        iterations: if long {
+            random.within(250, 256)
+        } else {
+            random.within(1, 4)
+        },
         angle: random.one_of(&[0.0, 0.3, 0.5, 0.8, 0.99]),
         minimum: random.one_of(&[0.0, f64::NAN, 1e-7, 1e-3, 1e9]),
     }
 }
 
 /// Frames at random, in clusters, with ties, all alike, or at the ends of the domain.
-fn table(random: &mut Random, n: usize, f: usize) -> Vec<f64> {
-    let kind = random.below(5);
+fn table(random: &mut Random, n: usize, f: usize, kind: usize) -> Vec<f64> {
     let heaps: Vec<f64> = (0..4 * f).map(|_| random.unit() * 50.0).collect();
     let one = |i: usize| {
         let value = random.unit() - 0.5;
@@ -119,8 +149,7 @@ fn table(random: &mut Random, n: usize, f: usize) -> Vec<f64> {
 }
 
 /// Starts close together, wide apart, on a grid, or all in one place.
-fn start(random: &mut Random, cells: usize) -> Vec<f64> {
-    let kind = random.below(5);
+fn start(random: &mut Random, cells: usize, kind: usize) -> Vec<f64> {
     let one = |_| {
         let value = random.unit() - 0.5;
         match kind {
@@ -133,9 +162,17 @@ fn start(random: &mut Random, cells: usize) -> Vec<f64> {
     (0..cells).map(one).collect()
 }
 
-/// Areas of marks, each a little longer than asked for; an arena that is large enough, or only to begin with.
-fn areas(random: &mut Random, sizes: &Sizes) -> (Areas, Rows) {
-    let nodes = if random.once_in(2) { sizes.nodes } else { random.within(1, 1 + sizes.nodes.min(200)) };
+/// An arena that is large enough, or only to begin with.
+fn nodes(random: &mut Random, sizes: &Sizes) -> usize {
+    if random.once_in(2) {
+        sizes.nodes
+    } else {
+        random.within(1, 1 + sizes.nodes.min(200))
+    }
+}
+
+/// Areas of marks, each a little longer than asked for.
+fn areas(random: &mut Random, sizes: &Sizes, nodes: usize) -> (Areas, Rows) {
     let mut more = |asked: usize| asked + random.below(4);
     let areas = Areas {
         positions: values(more(sizes.cells)),
@@ -148,13 +185,18 @@ fn areas(random: &mut Random, sizes: &Sizes) -> (Areas, Rows) {
         reals: values(more(9 * nodes)),
         words: numbers(more(3 * nodes)),
     };
-    let rows = Rows { values: values(more(sizes.rows)), indices: numbers(more(sizes.rows)) };
+    let rows = Rows {
+        values: values(more(sizes.rows)),
+        indices: numbers(more(sizes.rows)),
+    };
     (areas, rows)
 }
 
 /// A mark for each place.
 pub fn values(length: usize) -> Vec<f64> {
-    (0..length).map(|i| f64::from_bits(0x4000_0000_0000_0000 + i as u64)).collect()
+    (0..length)
+        .map(|i| f64::from_bits(0x4000_0000_0000_0000 + i as u64))
+        .collect()
 }
 
 pub fn numbers(length: usize) -> Vec<u32> {

@@ -10,7 +10,7 @@ mod case;
 mod random;
 
 use both::{number, Both};
-use brothanchor::{Areas, Kind, Worked};
+use brothanchor::{Areas, Kind, Method, State, Worked};
 use case::{numbers, shorten, values, Case, Scope};
 use random::Random;
 use std::env;
@@ -66,7 +66,11 @@ fn run(random: &mut Random, scope: Scope, met: &mut Met) {
         }
     };
     for _ in 0..60 {
-        let worked = if random.once_in(4) { damaged_call(random, &mut both) } else { both.work(budget(random, &case)) };
+        let worked = if random.once_in(4) {
+            damaged_call(random, &mut both)
+        } else {
+            both.work(budget(random, &case))
+        };
         met.call(&worked);
         match number(&worked) {
             14 => grow(&mut both.areas, random.within(1, 400)),
@@ -121,7 +125,13 @@ fn damaged_call(random: &mut Random, both: &mut Both) -> Worked {
 
 /// Another value or number in one place of an area.
 fn damage(random: &mut Random, areas: &mut Areas) {
-    let values = [&mut areas.positions, &mut areas.increments, &mut areas.gains, &mut areas.forces, &mut areas.reals];
+    let values = [
+        &mut areas.positions,
+        &mut areas.increments,
+        &mut areas.gains,
+        &mut areas.forces,
+        &mut areas.reals,
+    ];
     let numbers = [&mut areas.indices, &mut areas.offsets, &mut areas.words];
     let which = random.below(values.len() + 2 * numbers.len());
     if which < values.len() {
@@ -152,5 +162,38 @@ fn small_runs() {
 
 #[test]
 fn larger_runs() {
-    runs("larger", setting("BROTHANCHOR_RUNS", 300) / 60, Scope { exact: 100, tree: 400 });
+    let count = setting("BROTHANCHOR_RUNS", 300).div_euclid(60).max(1);
+    runs("larger", count, Scope { exact: 100, tree: 400 });
+}
+
+/// A run as large as may be, of one iteration in three calls.
+fn most_frames(method: Method, c: usize, perplexity: f64) {
+    let mut random = Random::new(setting("BROTHANCHOR_SEED", 1));
+    let case = Case::largest(&mut random, method, c, perplexity);
+    let mut both = Both::prepare(&case).expect("a good run");
+    for budget in [1, 4096, u32::MAX] {
+        both.work(budget);
+    }
+    assert_eq!(both.record.state(), Some(State::Finished));
+}
+
+#[test]
+fn most_frames_by_the_tree() {
+    most_frames(Method::BarnesHut, 2, 1.0);
+}
+
+#[test]
+#[ignore = "takes minutes: up to 4096 frames, as many runs as larger_runs"]
+fn largest_runs() {
+    let count = setting("BROTHANCHOR_RUNS", 300).div_euclid(60).max(1);
+    runs("largest", count, Scope { exact: 600, tree: 4096 });
+    for c in 1..=3 {
+        most_frames(Method::BarnesHut, c, 30.0);
+    }
+}
+
+#[test]
+#[ignore = "takes minutes: 4096 frames, every pair of them"]
+fn most_frames_exactly() {
+    most_frames(Method::Exact, 8, 30.0);
 }

@@ -47,7 +47,17 @@ impl Random {
     /// A value that a test is likely to stumble over.
     pub fn odd_value(&mut self) -> f64 {
         let any = f64::from_bits(self.word());
-        let usual = [0.0, -0.0, 1.0, -1.0, 0.5, f64::NAN, f64::INFINITY, f64::NEG_INFINITY, f64::MIN_POSITIVE];
+        let usual = [
+            0.0,
+            -0.0,
+            1.0,
+            -1.0,
+            0.5,
+            f64::NAN,
+            f64::INFINITY,
+            f64::NEG_INFINITY,
+            f64::MIN_POSITIVE,
+        ];
         let bounds = [1_048_576.0, 1_048_576.5, 2_f64.powi(100), -(2_f64.powi(101)), any];
         match self.below(2) {
             0 => self.one_of(&usual),
@@ -59,7 +69,17 @@ impl Random {
     pub fn odd_number(&mut self, near: u64) -> u64 {
         let small = self.below(8) as u64;
         let any = self.word();
-        let choices = [0, 1, small, near.wrapping_add(1), near.wrapping_sub(1), near / 2, u64::from(u32::MAX), u64::MAX, any];
+        let choices = [
+            0,
+            1,
+            small,
+            near.wrapping_add(1),
+            near.wrapping_sub(1),
+            near / 2,
+            u64::from(u32::MAX),
+            u64::MAX,
+            any,
+        ];
         self.one_of(&choices)
     }
 }

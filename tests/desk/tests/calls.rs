@@ -1,0 +1,190 @@
+//! The small calls of the library: starting positions, the frame file, sizes, what a record says and how it is kept.
+
+use brothanchor::{
+    frame, frames, prepare, scatter, sizes, work, Areas, Kind, Method, Record, Refusal, Rows, Settings, State,
+};
+use oracle::frames::{check, fetch, Checked, RECORD};
+use oracle::scatter::{self as rules, SplitMix64};
+
+fn settings(method: Method, n: usize) -> Settings {
+    Settings {
+        n,
+        f: 2,
+        c: 2,
+        method,
+        perplexity: 1.5,
+        rate: 10.0,
+        iterations: 3,
+        angle: 0.5,
+        minimum: 0.0,
+    }
+}
+
+/// A prepared run of n frames along a line.
+fn begun(settings: &Settings) -> (Record, Areas) {
+    let n = settings.n;
+    let sizes = sizes(settings).expect("good settings");
+    let mut areas = Areas::new(&sizes, sizes.nodes);
+    let table: Vec<f64> = (0..2 * n).map(|i| (i * i % 17) as f64).collect();
+    let mut start = vec![0.0; 2 * n];
+    scatter(&mut start, n as u32, 2, 7).expect("room for all");
+    let record = prepare(&settings.words(), &table, &start, &mut areas, &mut Rows::new(&sizes)).expect("a good run");
+    (record, areas)
+}
+
+#[test]
+fn starting_positions() {
+    let mut random = SplitMix64::new(5);
+    for _ in 0..400 {
+        let seed = random.next();
+        let (n, c) = ((random.next() % 70) as usize, (random.next() % 10) as usize);
+        let mut ours = vec![0.5; (random.next() % 500) as usize];
+        let mut theirs = ours.clone();
+        let answer = scatter(&mut ours, n as u32, c as u32, seed);
+        let wanted = rules::scatter(seed, n, c, &mut theirs);
+        assert_eq!(
+            answer,
+            wanted.map_err(|refusal| Refusal(refusal.number() as u32)),
+            "{n} {c}"
+        );
+        assert_eq!(ours, theirs);
+    }
+}
+
+/// A good file, at times with one byte changed or a tail.
+fn file(random: &mut SplitMix64) -> Vec<u8> {
+    let mut file = Vec::new();
+    for i in 0..random.next() % 9 {
+        file.extend((1 + 3 * i as u32).to_le_bytes());
+        file.extend([1 + (random.next() % 2) as u8, 0, 0, 0]);
+        for _ in 0..8 {
+            file.extend((random.unit() * 100.0 - 50.0).to_le_bytes());
+        }
+    }
+    if !file.is_empty() && random.next() % 2 == 0 {
+        let place = (random.next() % file.len() as u64) as usize;
+        file[place] = random.next() as u8;
+    }
+    if random.next() % 8 == 0 {
+        file.extend(vec![0; (random.next() % 72) as usize]);
+    }
+    file
+}
+
+#[test]
+fn frame_files() {
+    let mut random = SplitMix64::new(6);
+    let (mut good, mut bad) = (0, 0);
+    for _ in 0..2000 {
+        let file = file(&mut random);
+        match check(&file) {
+            Checked::Good(count) => {
+                assert_eq!(frames(&file), Ok(count));
+                good += 1;
+            }
+            Checked::Bad(place) => {
+                assert_eq!(frames(&file), Err((Refusal(16), place)));
+                bad += 1;
+            }
+        }
+        for i in 0..file.len() / RECORD {
+            let (ours, theirs) = (frame(&file, i), fetch(&file, i).expect("a whole record"));
+            assert_eq!((ours.picture, ours.side), (theirs.picture, theirs.side));
+            let bits = |values: &[f64]| {
+                values
+                    .iter()
+                    .map(|v| if v.is_nan() { 0 } else { v.to_bits() })
+                    .collect::<Vec<u64>>()
+            };
+            assert_eq!(bits(&ours.features), bits(&theirs.features));
+            assert_eq!(bits(&ours.starts), bits(&theirs.starts));
+        }
+    }
+    assert!(good > 100 && bad > 100);
+    assert_eq!(frame(&[], 0).picture, 0);
+}
+
+/// With one element less in one of the areas, if it has any.
+fn one_less(areas: &Areas, which: usize) -> Option<Areas> {
+    let mut less = areas.clone();
+    let popped = match which {
+        0 => less.positions.pop().is_some(),
+        1 => less.increments.pop().is_some(),
+        2 => less.gains.pop().is_some(),
+        3 => less.affinities.pop().is_some(),
+        4 => less.indices.pop().is_some(),
+        5 => less.offsets.pop().is_some(),
+        _ => less.forces.pop().is_some(),
+    };
+    popped.then_some(less)
+}
+
+#[test]
+fn sizes_are_just_enough() {
+    for method in [Method::Exact, Method::BarnesHut] {
+        for n in [2, 3, 9, 40] {
+            let (record, areas) = begun(&settings(method, n));
+            for mut less in (0..7).filter_map(|which| one_less(&areas, which)) {
+                let before = less.clone();
+                let mut kept = record;
+                assert_eq!(work(&mut kept, &mut less, 9).kind, Kind::Refused(Refusal(12)));
+                assert!(kept == record && less == before);
+            }
+        }
+    }
+    let bad = Settings {
+        c: 9,
+        ..settings(Method::Exact, 5)
+    };
+    assert_eq!(sizes(&bad), Err(Refusal(1)));
+}
+
+#[test]
+fn fourteen_never_comes_with_all_the_nodes() {
+    let settings = settings(Method::BarnesHut, 30);
+    let (mut record, mut areas) = begun(&settings);
+    areas.positions.fill(1.5);
+    assert_eq!(work(&mut record, &mut areas, u32::MAX).kind, Kind::Finished);
+}
+
+#[test]
+fn a_record_is_kept_as_words() {
+    for method in [Method::Exact, Method::BarnesHut] {
+        let settings = settings(method, 12);
+        let (mut whole, mut one_call) = begun(&settings);
+        let answer = work(&mut whole, &mut one_call, u32::MAX);
+        let (record, mut areas) = begun(&settings);
+        let mut words = record.words;
+        let mut units = 0;
+        loop {
+            let mut again = Record { words };
+            let worked = work(&mut again, &mut areas, 5);
+            words = again.words;
+            units += worked.units;
+            assert_eq!(again.units(), units);
+            assert_eq!(again.iterations(), units / settings.iteration() as u64);
+            if worked.kind != Kind::Running {
+                assert_eq!((worked.kind, units), (answer.kind, answer.units));
+                break;
+            }
+            assert_eq!(again.state(), Some(State::Running));
+        }
+        assert!(words == whole.words && areas == one_call);
+    }
+}
+
+#[test]
+fn words_that_are_no_record() {
+    let record = Record { words: [u64::MAX; 14] };
+    assert_eq!((record.state(), record.iterations(), record.units()), (None, 0, 0));
+}
+
+#[test]
+fn a_refused_call_keeps_every_bit_of_the_record() {
+    let (mut record, mut areas) = begun(&settings(Method::Exact, 5));
+    record.words[8] = 0x7ff8_0000_0000_1234; // a minimum that is another NaN
+    record.words[11] = 99;
+    let before = record;
+    assert_eq!(work(&mut record, &mut areas, 1).kind, Kind::Refused(Refusal(13)));
+    assert_eq!(record, before);
+}

@@ -1,0 +1,150 @@
+//! The map of a frame file: against the independent implementation of the rules, and what is said and drawn.
+
+use brothanchor::map::{map, map_in, settings, Map, NoMap, MOST_FRAMES, RECORD};
+use brothanchor::{sizes, Refusal};
+use oracle::descent::{self, Areas, Method, Rows};
+use oracle::frames::fetch;
+use oracle::lists::sample;
+use oracle::scatter::scatter;
+use oracle::tree::Arena;
+
+/// The positions that the rules give, from the file's starts or by a seed.
+fn by_the_rules(file: &[u8], seed: Option<u64>, iterations: usize) -> Vec<f64> {
+    let frames: Vec<_> = (0..file.len() / RECORD).filter_map(|i| fetch(file, i)).collect();
+    let (n, ours) = (frames.len(), settings(frames.len(), iterations));
+    let sizes = sizes(&ours).expect("good settings");
+    let table: Vec<f64> = frames.iter().flat_map(|frame| frame.features).collect();
+    let mut start: Vec<f64> = frames.iter().flat_map(|frame| frame.starts).collect();
+    if let Some(seed) = seed {
+        scatter(seed, n, 2, &mut start).expect("room for all");
+    }
+    let mut areas = Areas {
+        positions: vec![0.0; sizes.cells],
+        increments: vec![0.0; sizes.cells],
+        gains: vec![0.0; sizes.cells],
+        affinities: vec![0.0; sizes.affinities],
+        indices: vec![0; sizes.indices],
+        offsets: vec![0; sizes.offsets],
+        forces: vec![0.0; sizes.forces],
+        arena: Arena {
+            reals: vec![0.0; 9 * sizes.nodes],
+            words: vec![0; 3 * sizes.nodes],
+        },
+    };
+    let mut rows = Rows {
+        values: vec![0.0; n],
+        indices: vec![0; n],
+    };
+    let rules = descent::Settings {
+        n,
+        f: ours.f,
+        c: ours.c,
+        method: Method::BarnesHut,
+        perplexity: ours.perplexity,
+        rate: ours.rate,
+        iterations,
+        angle: ours.angle,
+        minimum: ours.minimum,
+    };
+    let mut record = descent::prepare(rules, &table, &start, &mut areas, &mut rows).expect("a good run");
+    descent::work(&mut record, &mut areas, u32::MAX);
+    areas.positions
+}
+
+fn bits(values: &[f64]) -> Vec<u64> {
+    values.iter().map(|v| v.to_bits()).collect()
+}
+
+/// The sample's first frames.
+fn few(frames: usize) -> Vec<u8> {
+    sample::file()[..frames * RECORD].to_vec()
+}
+
+fn made(file: &[u8]) -> Map {
+    map(file, None, |_, _| ()).expect("a good file")
+}
+
+#[test]
+fn maps_are_those_of_the_rules() {
+    for (frames, seed, iterations) in [
+        (2, None, 300),
+        (3, Some(4), 260),
+        (24, None, 40),
+        (24, Some(9), 40),
+        (120, None, 3),
+    ] {
+        let file = few(frames);
+        let ours = map_in(&file, seed, iterations, |_, _| ()).expect("a good file");
+        assert_eq!(
+            bits(&ours.positions),
+            bits(&by_the_rules(&file, seed, iterations)),
+            "{frames} frames"
+        );
+    }
+}
+
+#[test]
+fn small_maps_come_to_an_end() {
+    for frames in 2..12 {
+        let mut last = (0, 0);
+        let made = map(&few(frames), None, |done, of| last = (done, of)).expect("a good file");
+        assert!(matches!(made.ending(), "finished" | "stopped"));
+        assert_eq!(last.0, made.record.iterations());
+        assert!(last.1 == 1000 && last.0 > 250);
+    }
+}
+
+#[test]
+fn what_is_refused() {
+    let refused = |file: &[u8]| map(file, None, |_, _| ()).expect_err("bad");
+    assert_eq!(
+        refused(&[]),
+        NoMap {
+            refusal: Refusal(7),
+            record: None
+        }
+    );
+    assert_eq!(refused(&few(1)).refusal, Refusal(9));
+    assert_eq!(refused(&vec![0; MOST_FRAMES * RECORD + 1]).refusal, Refusal(7));
+    assert_eq!(refused(&vec![0; MOST_FRAMES * RECORD]).record, Some(0));
+    let mut side = few(9);
+    side[3 * RECORD + 4] = 3;
+    let none = refused(&side);
+    assert_eq!(
+        none,
+        NoMap {
+            refusal: Refusal(16),
+            record: Some(3)
+        }
+    );
+    assert_eq!(
+        none.to_string(),
+        "refused 16: a record of the frame file is bad (record 3, counted from 0)"
+    );
+    for number in 1..=16 {
+        assert!(!Refusal(number).meaning().starts_with("no known"));
+    }
+}
+
+#[test]
+fn lines_and_picture() {
+    let made = made(&few(10));
+    let lines = made.lines();
+    assert_eq!(lines.lines().count(), 10);
+    for (i, line) in lines.lines().enumerate() {
+        let words: Vec<&str> = line.split_whitespace().collect();
+        let [x, y] = made.place(i);
+        assert_eq!(words[..2], [(1201 + i).to_string(), "1".to_string()]);
+        assert_eq!(
+            words[4..],
+            [format!("{:016x}", x.to_bits()), format!("{:016x}", y.to_bits())]
+        );
+        let read: f64 = words[2].parse().expect("a number");
+        assert!((read - x).abs() <= 1e-6);
+    }
+    let picture = made.svg();
+    assert!(picture.starts_with("<svg ") && picture.ends_with("</svg>\n"));
+    assert_eq!(picture.matches("<circle ").count(), 10);
+    assert_eq!(picture.matches("<line ").count(), 9);
+    assert!(picture.contains("<title>picture 1210, side 1</title>") && !picture.contains("NaN"));
+}
