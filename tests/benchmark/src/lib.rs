@@ -1,0 +1,79 @@
+//! The library beside other ways to do the same work: interleaved in one run, as ratios. Never part of the gate.
+
+pub mod array;
+pub mod contest;
+pub mod library;
+
+use contest::{contest, Contestant};
+use library::{prepared, Preparing, Run, Working};
+use oracle::scatter::SplitMix64;
+
+/// What someone else brings to a contest, where they have it.
+pub trait Others {
+    /// One iteration by the tree.
+    fn tree(&self, run: &Run) -> Option<Box<dyn Contestant>>;
+    /// One iteration over all pairs.
+    fn exact(&self, run: &Run) -> Option<Box<dyn Contestant>>;
+    /// A preparation.
+    fn preparation(&self, run: &Run) -> Option<Box<dyn Contestant>>;
+}
+
+/// Nobody else.
+pub struct Nobody;
+
+impl Others for Nobody {
+    fn tree(&self, _: &Run) -> Option<Box<dyn Contestant>> {
+        None
+    }
+
+    fn exact(&self, _: &Run) -> Option<Box<dyn Contestant>> {
+        None
+    }
+
+    fn preparation(&self, _: &Run) -> Option<Box<dyn Contestant>> {
+        None
+    }
+}
+
+/// Frames in forty shots: each goes some way through the space of features.
+pub fn frames(n: usize) -> Vec<f64> {
+    let mut random = SplitMix64::new(40);
+    let mut table = Vec::new();
+    for shot in 0..40 {
+        let from: Vec<f64> = (0..6).map(|_| random.unit() * 16.0 - 8.0).collect();
+        let along: Vec<f64> = (0..6).map(|_| random.unit() * 6.0 - 3.0).collect();
+        for i in (shot * n / 40)..((shot + 1) * n / 40) {
+            let share = (i * 40 % n) as f64 / n as f64;
+            table.extend((0..6).map(|d| from[d] + along[d] * share + random.unit() * 0.05));
+        }
+    }
+    table
+}
+
+/// All contests.
+pub fn all(others: &dyn Others) {
+    for (iterations, title) in [
+        (0, "Barnes-Hut iteration, n 4096, at the start"),
+        (350, "Barnes-Hut iteration, n 4096, after 350"),
+    ] {
+        let run = prepared(brothanchor::Method::BarnesHut, 4096, iterations);
+        let ours: Vec<Box<dyn Contestant>> = vec![Box::new(Working::new(&run)), Box::new(array::Tree::new(&run))];
+        contest(title, ours.into_iter().chain(others.tree(&run)).collect(), 21);
+    }
+    let run = prepared(brothanchor::Method::Exact, 1024, 10);
+    let ours: Vec<Box<dyn Contestant>> = vec![Box::new(Working::new(&run)), Box::new(array::Exact::new(&run))];
+    contest(
+        "exact iteration, n 1024",
+        ours.into_iter().chain(others.exact(&run)).collect(),
+        11,
+    );
+    for (method, title) in [
+        (brothanchor::Method::BarnesHut, "preparation, Barnes-Hut, n 1024"),
+        (brothanchor::Method::Exact, "preparation, exact, n 1024"),
+    ] {
+        let run = prepared(method, 1024, 0);
+        let ours: Vec<Box<dyn Contestant>> =
+            vec![Box::new(Preparing::new(&run)), Box::new(array::Preparation::new(&run))];
+        contest(title, ours.into_iter().chain(others.preparation(&run)).collect(), 7);
+    }
+}

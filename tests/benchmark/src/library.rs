@@ -1,0 +1,137 @@
+//! The library's side of a contest.
+
+use crate::contest::Contestant;
+use crate::frames;
+use brothanchor::{prepare, scatter, sizes, work, Areas, Method, Record, Rows, Settings};
+
+/// A run at the start of an iteration.
+pub struct Run {
+    pub settings: Settings,
+    pub table: Vec<f64>,
+    pub start: Vec<f64>,
+    pub record: Record,
+    pub areas: Areas,
+}
+
+/// A run of n frames after so many iterations.
+pub fn prepared(method: Method, n: usize, iterations: usize) -> Run {
+    let settings = Settings {
+        n,
+        f: 6,
+        c: 2,
+        method,
+        perplexity: 30.0,
+        rate: 200.0,
+        iterations: 1000,
+        angle: 0.5,
+        minimum: 0.0,
+    };
+    let sizes = sizes(&settings).expect("good settings");
+    let mut areas = Areas::new(&sizes, 10 * n);
+    let table = frames(n);
+    let mut start = vec![0.0; 2 * n];
+    scatter(&mut start, n as u32, 2, 1).expect("room for all");
+    let mut record =
+        prepare(&settings.words(), &table, &start, &mut areas, &mut Rows::new(&sizes)).expect("a good run");
+    work(&mut record, &mut areas, (iterations * settings.iteration()) as u32);
+    assert_eq!(record.iterations(), iterations as u64, "ten nodes a frame are enough");
+    Run {
+        settings,
+        table,
+        start,
+        record,
+        areas,
+    }
+}
+
+/// One iteration by the library.
+pub struct Working {
+    from: (Record, [Vec<f64>; 3]),
+    record: Record,
+    areas: Areas,
+    units: u32,
+}
+
+impl Working {
+    pub fn new(run: &Run) -> Working {
+        let areas = run.areas.clone();
+        Working {
+            from: (
+                run.record,
+                [areas.positions.clone(), areas.increments.clone(), areas.gains.clone()],
+            ),
+            record: run.record,
+            areas,
+            units: run.settings.iteration() as u32,
+        }
+    }
+}
+
+impl Contestant for Working {
+    fn name(&self) -> &'static str {
+        "the library"
+    }
+
+    fn reset(&mut self) {
+        let (record, [positions, increments, gains]) = &self.from;
+        self.record = *record;
+        self.areas.positions.copy_from_slice(positions);
+        self.areas.increments.copy_from_slice(increments);
+        self.areas.gains.copy_from_slice(gains);
+    }
+
+    fn work(&mut self) {
+        let worked = work(&mut self.record, &mut self.areas, self.units);
+        assert_eq!(worked.units, u64::from(self.units));
+    }
+
+    fn result(&self) -> Option<Vec<f64>> {
+        Some(self.areas.positions.clone())
+    }
+}
+
+/// A preparation by the library.
+pub struct Preparing {
+    settings: Settings,
+    table: Vec<f64>,
+    start: Vec<f64>,
+    areas: Areas,
+    rows: Rows,
+}
+
+impl Preparing {
+    pub fn new(run: &Run) -> Preparing {
+        Preparing {
+            settings: run.settings,
+            table: run.table.clone(),
+            start: run.start.clone(),
+            areas: run.areas.clone(),
+            rows: Rows::new(&sizes(&run.settings).expect("good settings")),
+        }
+    }
+}
+
+impl Contestant for Preparing {
+    fn name(&self) -> &'static str {
+        "the library"
+    }
+
+    fn reset(&mut self) {
+        self.areas.affinities.fill(0.0);
+    }
+
+    fn work(&mut self) {
+        prepare(
+            &self.settings.words(),
+            &self.table,
+            &self.start,
+            &mut self.areas,
+            &mut self.rows,
+        )
+        .expect("a good run");
+    }
+
+    fn result(&self) -> Option<Vec<f64>> {
+        Some(self.areas.affinities.clone())
+    }
+}
