@@ -1,4 +1,4 @@
--- Values of the definitions, computed: the scope paper's cases c) to h).
+-- Trees over a given box, computed. The scope paper's cases e) to h), whose boxes the table in the crate `cases` works out, with the boxes written here.
 use mathlib.Core.Path.{_≡_, refl}
 use mathlib.Core.List.{List, [], _∷_, map}
 use mathlib.Core.Bool.{true, false}
@@ -6,18 +6,10 @@ use lib.ListN.{replicate}
 use lib.Ieee.{Float, ofBits, binary64, add}
 use Rattle.node.specs.declared.Node.{Node}
 use Rattle.laws.specs.Area.{bits, zero64, one64}
-use Rattle.node.specs.Node.{zeros, childIndex}
+use Rattle.node.specs.Node.{zeros}
 use Rattle.node.specs.Areas.{nodeAt, blank}
 use Rattle.tree.specs.Insert.{built, rooted}
 use Rattle.tree.specs.Repel.{repelled}
-
-case-c : childIndex 2 zeros (zero64 ∷ one64 ∷ zero64 ∷ []) ≡ 2
-unfolding childIndex ofBits
-case-c = refl
-
-case-d : childIndex 2 zeros zeros ≡ 0
-unfolding childIndex ofBits
-case-d = refl
 
 abbrev half : Float
 half = bits 0x3fe0000000000000
