@@ -14,13 +14,15 @@ use Rattle.record.specs.declared.Run.{Run}
 use Rattle.record.specs.Record.{isTree, isEnded, perOf, advancedOf, closedOf}
 use Rattle.record.proofs.Laws.{per-some}
 use Rattle.node.specs.declared.Node.{Node}
-use Rattle.tree.specs.Insert.{tree, nodeOk, treeOk}
-use Rattle.tree.specs.Box.{boxOf}
+use Rattle.contents.specs.Contents.{nodeOk}
+use Rattle.tree.specs.Insert.{tree, treeOk}
+use Rattle.bounds.specs.Bounds.{boxOf}
 use Rattle.tree.proofs.Whole.{looser, taken-ends, taken-fits}
 use Rattle.entry.specs.State.{Memory, State}
 use Rattle.entry.specs.Entry.{GoodTree, Ordered, Workable}
 use Rattle.units.specs.declared.Why.the-variants.{Done}
-use Rattle.units.specs.Units.{unit, groupOf, isDone, TreeTurn, treeTurn, boxTurn, forceUnit, FinishTurn, finishTurn, Turned, withTree, withForces, withFinish}
+use Rattle.plan.specs.Plan.{groupOf}
+use Rattle.units.specs.Units.{unit, isDone, TreeTurn, treeTurn, boxTurn, forceUnit, FinishTurn, finishTurn, Turned, withTree, withForces, withFinish}
 use Rattle.units.proofs.Rooms.{group-zero, group-one, group-two}
 use Rattle.units.proofs.One.{unit-over, by-unit}
 use Rattle.descent.proofs.Counters.{advanced-good, closed-good}

@@ -17,7 +17,7 @@ use Rattle.node.specs.declared.Node.{Node}
 use Rattle.node.specs.Areas.{three, rowAt, nodeCount, nodesOf, nodeAt, blank, Rest, restOf}
 use Rattle.node.proofs.Flat.{length-nodes, node-row, row-in}
 use Rattle.tree.specs.Insert.{tree}
-use Rattle.tree.specs.Box.{boxOf}
+use Rattle.bounds.specs.Bounds.{boxOf}
 use Rattle.tree.proofs.Whole.{taken-ends, taken-fits}
 use Rattle.entry.specs.State.{State}
 use Rattle.units.specs.Units.{unit, TreeTurn, Turned}

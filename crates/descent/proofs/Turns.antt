@@ -20,11 +20,14 @@ use Rattle.tree.specs.Insert.{Tree, tree, needsOf, inserted, Insertion, inserti
 use Rattle.gradient.specs.Forces.{stored, placeOf, putStep, attractionOf, forcesOf}
 use Rattle.tree.specs.Repel.{repelled}
 use Rattle.node.specs.Node.{pointOf}
-use Rattle.gradient.specs.Exact.{totalStep, totalRow, pullsOf, slopeStep, gradientRow}
+use Rattle.pairs.specs.Exact.{totalStep, pullsOf}
+use Rattle.gradient.specs.Exact.{totalRow, slopeStep, gradientRow}
 use Rattle.gradient.specs.Element.{normOf}
-use Rattle.step.specs.Step.{Before, finishOf, meansOf, calmMoves, calmCentred, positionStep, incrementStep, gainStep}
+use Rattle.moves.specs.Moves.{Before, meansOf, calmMoves, calmCentred, positionStep, incrementStep, gainStep}
+use Rattle.step.specs.Step.{finishOf}
 use Rattle.units.specs.declared.Why.the-variants.{Done, Full, Wild}
-use Rattle.units.specs.Units.{exaggerationOf, TreeTurn, treeTurn, boxTurn, insertTurn, treeUnit, forceUnit, beforeOf, FinishTurn, finishTurn, finishUnit}
+use Rattle.plan.specs.Plan.{exaggerationOf}
+use Rattle.units.specs.Units.{TreeTurn, treeTurn, boxTurn, insertTurn, treeUnit, forceUnit, beforeOf, FinishTurn, finishTurn, finishUnit}
 
 -- ---- a unit of the tree: the box, a refusal, or an insertion
 
