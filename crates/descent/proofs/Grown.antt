@@ -23,8 +23,8 @@ use Rattle.units.specs.Units.{unit, isDone, TreeTurn, treeTurn, boxTurn, forceU
 use Rattle.units.proofs.Rooms.{group-zero, group-one}
 use Rattle.units.proofs.One.{by-unit}
 use Rattle.descent.specs.Honest.{pointsIn, Built, Honest}
-use Rattle.descent.proofs.Turns.{inserting, by-tree, by-finish}
-use Rattle.descent.proofs.Keeps.{retreed, box-ok, unit-keeps, unit-settings}
+use Rattle.budget.proofs.Turns.{inserting, by-tree, by-finish}
+use Rattle.budget.proofs.Keeps.{retreed, box-ok, unit-keeps, unit-settings}
 
 -- ---- what was built is a tree, whose counts are at most the points in it
 

@@ -2,15 +2,15 @@
 ghost use mathlib.Core.Path.{_≡_};
 ghost use Prim.Native.Nat.{_+_, _*_, _<_, _≤_};
 ghost use lib.ListN.{length};
-ghost use Rattle.moves.specs.Moves.{paced};
+ghost use Rattle.passes.specs.Passes.{paced};
 ghost use Rattle.step.specs.Step.{outcome, finishOf};
 pub use gains::Element;
-pub use moves::Pace;
-use moves::calm_centred;
-pub use moves::element_at;
-use moves::sum_moves;
-use moves::take_means;
-use moves::write_moves;
+pub use passes::Pace;
+use passes::calm_centred;
+pub use passes::element_at;
+use passes::sum_moves;
+use passes::take_means;
+use passes::write_moves;
 
 // What the finish answers.
 pub enum Answer {

@@ -16,8 +16,8 @@ use Rattle.gradient.specs.Exact.{totalRow, gradientRow}
 use Rattle.gradient.specs.Element.{normaliserOf, normOf}
 use Rattle.step.specs.declared.Answer.{Answer}
 use Rattle.step.specs.declared.Answer.the-variants.{Moved, Refused}
-use Rattle.moves.specs.declared.Pace.{Pace}
-use Rattle.moves.specs.Moves.{Before, paced}
+use Rattle.passes.specs.declared.Pace.{Pace}
+use Rattle.passes.specs.Passes.{Before, paced}
 use Rattle.step.specs.Step.{Outcome, finishOf}
 use Rattle.entry.specs.State.{Memory, State}
 use Rattle.units.specs.declared.Why.{Why}
