@@ -26,10 +26,12 @@ use Rattle.near.proofs.Rows.{all-take, all-sorted, all-at}
 use Rattle.near.proofs.Finite.{distance-bounded}
 use Rattle.sigma.specs.Sigma.{sharesOf}
 use Rattle.sigma.proofs.Finite.{mostShare, share-bounded}
-use Rattle.lists.specs.Lists.{Areas, place, plusOf, plusShare, joint, weight, listOf, weightsOf, linksOf, linked}
+use Rattle.links.specs.Links.{plusOf}
+use Rattle.lists.specs.Lists.{Areas, place, plusShare, joint, weight, listOf, weightsOf, linksOf, linked}
 use Rattle.lists.proofs.Linked.{length-weights}
 use Rattle.lists.proofs.Theorems.{offsets-last}
-use Rattle.affinity.specs.Exact.{norm, distancesOf, conditional, jointly, affinityOf, exactOf}
+use Rattle.joins.specs.Joins.{norm}
+use Rattle.affinity.specs.Exact.{distancesOf, conditional, jointly, affinityOf, exactOf}
 use Rattle.affinity.specs.Laid.{each, laid}
 use Rattle.affinity.specs.Neighbours.{valuesIn, framesIn, nearestFrames, nearestShares, neighbourRow, rowsOf, neighboursListed}
 use Rattle.affinity.proofs.Named.{frames-count, row-count, rows-size, rows-named}

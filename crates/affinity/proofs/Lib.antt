@@ -1,5 +1,4 @@
 pub mod Shares
-pub mod Joint
 pub mod Symmetric
 pub mod Named
 pub mod Listed

@@ -23,7 +23,8 @@ use Rattle.near.proofs.Rows.{nearest-count, nearest-distinct, by-index-count, m
 use Rattle.sigma.specs.Sigma.{divideStep, sigmaShares, sharesOf}
 use Rattle.lists.specs.Lists.{Rows}
 use Rattle.lists.proofs.Made.{rows-made}
-use Rattle.affinity.specs.Exact.{norm, distancesOf}
+use Rattle.joins.specs.Joins.{norm}
+use Rattle.affinity.specs.Exact.{distancesOf}
 use Rattle.affinity.specs.Laid.{each, laid}
 use Rattle.affinity.specs.Steps.{sharesLeft, framesLeft}
 use Rattle.affinity.specs.Neighbours.{valuesIn, framesIn, nearestFrames, nearestShares, neighbourRow}

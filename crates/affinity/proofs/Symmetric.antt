@@ -13,10 +13,11 @@ use Rattle.laws.specs.Area.{at, zero64}
 use Rattle.laws.specs.Joined.{joined}
 use Rattle.laws.proofs.Numbers.{row-in}
 use Rattle.laws.proofs.Laid.{singles-size, singles-get, singles-taken, laid-size, laid-at, laid-whole}
-use Rattle.affinity.specs.Exact.{conditional, norm, jointly, affinityOf, exactOf}
+use Rattle.joins.specs.Joins.{norm, jointAt, symmetrized}
+use Rattle.joins.proofs.Joint.{Joins, joins-all}
+use Rattle.affinity.specs.Exact.{conditional, jointly, affinityOf, exactOf}
 use Rattle.affinity.specs.Laid.{laid}
-use Rattle.affinity.specs.Steps.{conditionals, jointAt, symmetrized}
-use Rattle.affinity.proofs.Joint.{Joins, joins-all}
+use Rattle.affinity.specs.Steps.{conditionals}
 
 module _ (t : List Float) (n f : ℕ) (perplexity : Float) where
   -- ---- the definition, by the order of the two frames

@@ -4,12 +4,12 @@ use mathlib.Core.List.{List}
 use mathlib.Core.Bool.{cond}
 use Prim.Native.Nat.{ℕ, min, max}
 use lib.Dec.{eqb}
-use lib.IntN.{pos}
 use lib.ListN.{replicate}
-use lib.Ieee.{Float, binary64, ofInt, add, mul, div}
+use lib.Ieee.{Float, binary64, add, div}
 use Rattle.laws.specs.Run.{run}
-use Rattle.laws.specs.Area.{at, zero64, two64}
+use Rattle.laws.specs.Area.{at, zero64}
 use Rattle.laws.specs.Joined.{joined}
+use Rattle.joins.specs.Joins.{norm}
 use Rattle.affinity.specs.Laid.{each, laid}
 use Rattle.near.specs.Distances.{distanceOf, distanceRow}
 use Rattle.sigma.specs.Sigma.{sigmaShares, sharesOf}
@@ -22,10 +22,6 @@ distancesOf t n f i = distanceRow t n f i (replicate n zero64)
 unfoldable pub conditional : List Float → ℕ → ℕ → Float → ℕ → ℕ → Float
 unfolding run distanceOf sigmaShares
 conditional t n f perplexity i j = at (sharesOf (distancesOf t n f i) n perplexity) j
-
--- 2n
-abbrev pub norm : ℕ → Float
-norm n = mul binary64 two64 (ofInt binary64 (pos n))
 
 -- a lower frame's share of a higher one and the higher one's share of the lower, together, divided by 2n
 unfoldable pub jointly : List Float → ℕ → ℕ → Float → ℕ → ℕ → Float

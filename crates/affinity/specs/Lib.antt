@@ -2,4 +2,3 @@ pub mod Laid
 pub mod Exact
 pub mod Neighbours
 pub mod Steps
-pub mod Cases

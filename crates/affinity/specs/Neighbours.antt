@@ -11,7 +11,7 @@ use Rattle.near.specs.Distances.{distanceOf}
 use Rattle.near.specs.Near.{Pair, sorted, nearestBy, byIndexOf}
 use Rattle.sigma.specs.Sigma.{sigmaShares, sharesOf}
 use Rattle.lists.specs.Lists.{Areas, areas, weight, symmetrised}
-use Rattle.affinity.specs.Exact.{norm}
+use Rattle.joins.specs.Joins.{norm}
 use Rattle.affinity.specs.Laid.{each, laid}
 
 -- the values of some pairs: distances, or shares

@@ -8,7 +8,8 @@ ghost use Rattle.near.specs.Distances.{distanceRow, squaresOf, Squared};
 ghost use Rattle.lists.specs.Lists.{cleared};
 ghost use Rattle.affinity.specs.Exact.{exactOf};
 ghost use Rattle.affinity.specs.Laid.{laid};
-ghost use Rattle.affinity.specs.Steps.{conditionals, distancesLeft, pairStep, frameJoined, symmetrized};
+ghost use Rattle.affinity.specs.Steps.{conditionals, distancesLeft};
+use joins::symmetrize_probabilities;
 
 // The distances of frame i in the row, and its shares of the n frames in row i of the affinities.
 fn conditional_row(
@@ -50,44 +51,6 @@ fn conditional_probabilities(
     let mut i = 0;
     while i < n {
         conditional_row(table, n, f, perplexity, squares, i, affinities, row);
-        i += 1;
-    }
-}
-
-// A lower frame j and a higher frame i: both places get the two shares together, divided by the norm.
-fn join_pair(affinities: &mut [f64], n: usize, norm: f64, i: usize, j: usize)
-    requires { ⌜ (j * n + i < length (now affinities)) × (i * n + j < length (now affinities)) ⌝ }
-    ensures { λ _. ⌜ now (affinities .exit) ≡ pairStep n norm i j (now (affinities .entry)) ⌝ }
-{
-    let low = j * n + i;
-    let high = i * n + j;
-    let affinity = (affinities[low] + affinities[high]) / norm;
-    affinities[low] = affinity;
-    affinities[high] = affinity;
-}
-
-// Frame i with each lower frame; with itself it has none.
-fn join_frame(affinities: &mut [f64], n: usize, norm: f64, i: usize)
-    requires { ⌜ (i < n) × (n * n ≤ length (now affinities)) ⌝ }
-    ensures { λ _. ⌜ now (affinities .exit) ≡ frameJoined n norm i (now (affinities .entry)) ⌝ }
-{
-    let mut j = 0;
-    while j < i {
-        join_pair(affinities, n, norm, i, j);
-        j += 1;
-    }
-    affinities[i * n + i] = 0.0;
-}
-
-// The shares by rows become affinities, in place.
-fn symmetrize_probabilities(affinities: &mut [f64], n: usize)
-    requires { ⌜ (n ≤ 4096) × (n * n ≤ length (now affinities)) ⌝ }
-    ensures { λ _. ⌜ now (affinities .exit) ≡ symmetrized n (now (affinities .entry)) ⌝ }
-{
-    let norm = 2.0 * n as f64;
-    let mut i = 0;
-    while i < n {
-        join_frame(affinities, n, norm, i);
         i += 1;
     }
 }

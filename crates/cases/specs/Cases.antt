@@ -17,10 +17,11 @@ use Rattle.node.specs.declared.Node.{Node}
 use Rattle.node.specs.Node.{zeros, childIndex}
 use Rattle.node.specs.Areas.{nodeAt, blank}
 use Rattle.tree.specs.Insert.{Insertion, built}
-use Rattle.tree.specs.Box.{boxed, boxOf}
+use Rattle.bounds.specs.Bounds.{boxOf}
+use Rattle.tree.specs.Box.{boxed}
 use Rattle.gradient.specs.Forces.{forcesOf}
 use Rattle.gradient.specs.Element.{gradientsOf, gradientOf, normaliserOf}
-use Rattle.step.specs.Step.{gainOf}
+use Rattle.gains.specs.Gains.{gainOf}
 
 -- 0.5, 12, -11 and 11, 4
 abbrev half : Float

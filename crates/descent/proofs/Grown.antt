@@ -13,16 +13,18 @@ use Rattle.record.specs.Record.{isTree, isEnded, advancedOf, closedOf}
 use Rattle.node.specs.declared.Node.{Node}
 use Rattle.node.specs.Node.{zeros}
 use Rattle.tree.specs.Insert.{Tree, tree, Insertion, insertion, insertOf, treeOk, built, rooted}
-use Rattle.tree.specs.Box.{boxOf, boxed, middleStep, reachStep}
+use Rattle.bounds.specs.Bounds.{boxOf, middleStep, reachStep}
+use Rattle.tree.specs.Box.{boxed}
 use Rattle.tree.proofs.Whole.{looser, In, first-in, in-all, built-more, room-in, taken}
 use Rattle.entry.specs.State.{Memory, State}
 use Rattle.units.specs.declared.Why.the-variants.{Done, Full, Wild}
-use Rattle.units.specs.Units.{unit, groupOf, isDone, TreeTurn, treeTurn, boxTurn, forceUnit, FinishTurn, Turned, withTree, withForces, withFinish}
+use Rattle.plan.specs.Plan.{groupOf}
+use Rattle.units.specs.Units.{unit, isDone, TreeTurn, treeTurn, boxTurn, forceUnit, FinishTurn, Turned, withTree, withForces, withFinish}
 use Rattle.units.proofs.Rooms.{group-zero, group-one}
 use Rattle.units.proofs.One.{by-unit}
 use Rattle.descent.specs.Honest.{pointsIn, Built, Honest}
-use Rattle.descent.proofs.Turns.{inserting, by-tree, by-finish}
-use Rattle.descent.proofs.Keeps.{retreed, box-ok, unit-keeps, unit-settings}
+use Rattle.budget.proofs.Turns.{inserting, by-tree, by-finish}
+use Rattle.budget.proofs.Keeps.{retreed, box-ok, unit-keeps, unit-settings}
 
 -- ---- what was built is a tree, whose counts are at most the points in it
 

@@ -12,12 +12,13 @@ use Rattle.entry.specs.State.{State}
 use Rattle.entry.specs.Entry.{Good}
 use Rattle.entry.proofs.Laws.{fault-good}
 use Rattle.units.specs.Units.{unit}
-use Rattle.descent.specs.Descent.{machine, wholeOf, restOf}
+use Rattle.budget.specs.Budget.{machine}
+use Rattle.descent.specs.Descent.{wholeOf, restOf}
 use Rattle.descent.specs.Honest.{Honest}
-use Rattle.descent.proofs.Counters.{units-below}
-use Rattle.descent.proofs.Keeps.{unit-counts, unit-settings}
+use Rattle.budget.proofs.Counters.{units-below}
+use Rattle.budget.proofs.Keeps.{unit-counts, unit-settings}
 use Rattle.descent.proofs.Grown.{honest-keeps}
-use Rattle.descent.proofs.Loop.{due}
+use Rattle.budget.proofs.Loop.{due}
 
 pub rest-live : (s : State) → isEnded (s .run .standing) ≡ false → restOf s ≡ wholeOf s - s .run .units
 unfolding restOf

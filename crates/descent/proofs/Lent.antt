@@ -17,18 +17,19 @@ use Rattle.node.specs.declared.Node.{Node}
 use Rattle.node.specs.Areas.{three, rowAt, nodeCount, nodesOf, nodeAt, blank, Rest, restOf}
 use Rattle.node.proofs.Flat.{length-nodes, node-row, row-in}
 use Rattle.tree.specs.Insert.{tree}
-use Rattle.tree.specs.Box.{boxOf}
+use Rattle.bounds.specs.Bounds.{boxOf}
 use Rattle.tree.proofs.Whole.{taken-ends, taken-fits}
 use Rattle.entry.specs.State.{State}
 use Rattle.units.specs.Units.{unit, TreeTurn, Turned}
 use Rattle.units.proofs.Rooms.{group-zero}
 use Rattle.units.proofs.One.{by-unit}
-use Rattle.descent.specs.Descent.{machine, work}
+use Rattle.budget.specs.Budget.{machine}
+use Rattle.descent.specs.Descent.{work}
 use Rattle.descent.specs.Honest.{Honest}
 use Rattle.descent.specs.Longer.{inArena, longer, Holds, lent}
-use Rattle.descent.proofs.Turns.{by-tree}
-use Rattle.descent.proofs.Keeps.{unit-settings}
-use Rattle.descent.proofs.Loop.{due}
+use Rattle.budget.proofs.Turns.{by-tree}
+use Rattle.budget.proofs.Keeps.{unit-settings}
+use Rattle.budget.proofs.Loop.{due}
 use Rattle.descent.proofs.Lawful.{lawful}
 use Rattle.descent.proofs.Longer.{GoesOn, works-on-longer}
 

@@ -16,21 +16,24 @@ use Rattle.node.specs.declared.Acc.{Acc}
 use Rattle.node.specs.Areas.{Rest}
 use Rattle.node.specs.Node.{pointOf}
 use Rattle.tree.specs.Insert.{Tree, tree, Insertion, insertion}
-use Rattle.tree.specs.Box.{boxOf, boxed}
+use Rattle.bounds.specs.Bounds.{boxOf}
+use Rattle.tree.specs.Box.{boxed}
 use Rattle.tree.proofs.Longer.{Fits, extended, longer-ok, box-longer, insert-longer, built-longer, repelled-longer}
 use Rattle.gradient.specs.Forces.{stored, attractionOf, forcesOf}
 use Rattle.entry.specs.State.{Memory, State}
 use Rattle.entry.specs.Entry.{GoodTree, Ordered}
 use Rattle.units.specs.declared.Why.the-variants.{Done}
-use Rattle.units.specs.Units.{unit, groupOf, isDone, exaggerationOf, TreeTurn, treeTurn, boxTurn, forceUnit, Turned, turned, withTree, withForces}
+use Rattle.plan.specs.Plan.{exaggerationOf, groupOf}
+use Rattle.units.specs.Units.{unit, isDone, TreeTurn, treeTurn, boxTurn, forceUnit, Turned, turned, withTree, withForces}
 use Rattle.units.proofs.Rooms.{group-zero, group-one}
 use Rattle.units.proofs.One.{unit-tree, unit-force, unit-finish, by-unit}
-use Rattle.descent.specs.Descent.{machine, work, unitsOf, kindOf, works}
+use Rattle.budget.specs.Budget.{machine}
+use Rattle.descent.specs.Descent.{work, unitsOf, kindOf, works}
 use Rattle.descent.specs.Honest.{pointsIn, Built, Honest}
 use Rattle.descent.specs.Longer.{longer}
-use Rattle.descent.proofs.Turns.{inserting, tree-box, tree-insert, by-tree}
-use Rattle.descent.proofs.Keeps.{box-ok}
-use Rattle.descent.proofs.Loop.{due}
+use Rattle.budget.proofs.Turns.{inserting, tree-box, tree-insert, by-tree}
+use Rattle.budget.proofs.Keeps.{box-ok}
+use Rattle.budget.proofs.Loop.{due}
 use Rattle.descent.proofs.Lawful.{lawful}
 use Rattle.descent.proofs.Theorems.{units-told, call-keeps, demand-three}
 

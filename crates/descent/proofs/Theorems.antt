@@ -18,10 +18,11 @@ use Rattle.entry.proofs.Laws.{fault-fine, fault-good}
 use Rattle.units.specs.declared.Why.{Why}
 use Rattle.units.specs.declared.Why.the-variants.{Done, Full as NoNodes, Wild as TooLarge, Over}
 use Rattle.units.specs.Units.{unit, isDone}
-use Rattle.descent.specs.Descent.{machine, work, told, answerOf, standsOf, refusedOf, numberOf, unitsOf, kindOf, wholeOf, works, toldAll}
+use Rattle.budget.specs.Budget.{machine, answerOf, standsOf, refusedOf}
+use Rattle.descent.specs.Descent.{work, numberOf, unitsOf, kindOf, wholeOf, works, toldAll}
 use Rattle.descent.specs.Honest.{Honest}
 use Rattle.units.proofs.Rooms.{small-of}
-use Rattle.descent.proofs.Keeps.{ordered-looser}
+use Rattle.budget.proofs.Keeps.{ordered-looser}
 use Rattle.descent.proofs.Lawful.{lawful, rest-most}
 
 -- ---- the answer tells the units of the call

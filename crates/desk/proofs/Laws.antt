@@ -18,9 +18,10 @@ use Rattle.record.specs.Record.{isTree, GoodSettings}
 use Rattle.tree.proofs.Descent.{few-nodes}
 use Rattle.entry.proofs.Laws.{axes}
 use Rattle.entry.specs.State.{Memory, state}
-use Rattle.descent.specs.declared.Answer.{Answer}
-use Rattle.descent.specs.declared.Answer.the-variants.{Bad}
-use Rattle.descent.specs.Descent.{Worked, worked, work, numberOf}
+use Rattle.budget.specs.declared.Answer.{Answer}
+use Rattle.budget.specs.declared.Answer.the-variants.{Bad}
+use Rattle.budget.specs.Budget.{Worked, worked}
+use Rattle.descent.specs.Descent.{work, numberOf}
 use Rattle.prepare.specs.declared.Prepared.{Prepared}
 use Rattle.prepare.specs.Prepare.{Lent, Outcome, outcome, prepared, numberOf as preparedNumber}
 use Rattle.scatter.specs.declared.Scattered.{Scattered}

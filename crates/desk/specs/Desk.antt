@@ -14,8 +14,9 @@ use Rattle.frames.specs.Frames.{framesOf, frameOf}
 use Rattle.record.specs.Record.{settingsFault}
 use Rattle.entry.specs.declared.Fault.the-variants.{Counters}
 use Rattle.entry.specs.State.{Memory, state}
-use Rattle.descent.specs.declared.Answer.the-variants.{Bad}
-use Rattle.descent.specs.Descent.{Worked, work, numberOf}
+use Rattle.budget.specs.declared.Answer.the-variants.{Bad}
+use Rattle.budget.specs.Budget.{Worked}
+use Rattle.descent.specs.Descent.{work, numberOf}
 use Rattle.prepare.specs.declared.Prepared.{Prepared}
 use Rattle.prepare.specs.declared.Prepared.the-variants.{Refused, Ready}
 use Rattle.prepare.specs.Prepare.{Lent, Outcome, prepared, numberOf as preparedNumber}

@@ -17,8 +17,8 @@ use Rattle.record.specs.declared.Settings.{Settings}
 use Rattle.record.specs.declared.Run.{Run}
 use Rattle.entry.specs.declared.Fault.{Fault}
 use Rattle.entry.specs.declared.Fault.the-variants.{Fine, Settings as BadSettings, Counters, Areas, Offsets, Index, Tree}
-use Rattle.descent.specs.declared.Answer.{Answer}
-use Rattle.descent.specs.declared.Answer.the-variants.{Running, Stopped, Finished, Full, Wild, Bad}
+use Rattle.budget.specs.declared.Answer.{Answer}
+use Rattle.budget.specs.declared.Answer.the-variants.{Running, Stopped, Finished, Full, Wild, Bad}
 use Rattle.descent.specs.Descent.{numberOf, unitsOf}
 
 -- ---- settings: n, f, c, method (0 exact, 1 Barnes-Hut), perplexity, rate, iterations, angle, minimum

@@ -19,8 +19,8 @@ use Rattle.node.specs.Node.{Axes}
 use Rattle.node.specs.Areas.{nodesOf}
 use Rattle.tree.specs.Insert.{tree}
 use Rattle.tree.specs.Contents.{contentsOf, isFine as isSound}
-use Rattle.tree.specs.declared.Contents.{Contents}
-use Rattle.tree.specs.declared.Contents.the-variants.{Fine as FineTree, Used, Count, Point, Block}
+use Rattle.contents.specs.declared.Contents.{Contents}
+use Rattle.contents.specs.declared.Contents.the-variants.{Fine as FineTree, Used, Count, Point, Block}
 use Rattle.tree.proofs.Tested.{Sound, sound-fine, fine-sound}
 use Rattle.entry.specs.State.{State}
 use Rattle.entry.specs.declared.Fault.{Fault}

@@ -14,8 +14,8 @@ use Rattle.record.specs.Record.{isTree, settingsFault, countersOk, perOf, state
 use Rattle.node.specs.declared.Node.{Node}
 use Rattle.tree.specs.Insert.{tree, treeOk}
 use Rattle.tree.specs.Contents.{contentsOf}
-use Rattle.tree.specs.declared.Contents.{Contents}
-use Rattle.tree.specs.declared.Contents.the-variants.{Fine as FineTree, Used, Count, Point, Block}
+use Rattle.contents.specs.declared.Contents.{Contents}
+use Rattle.contents.specs.declared.Contents.the-variants.{Fine as FineTree, Used, Count, Point, Block}
 use Rattle.entry.specs.State.{State}
 use Rattle.entry.specs.declared.Fault.{Fault}
 use Rattle.entry.specs.declared.Fault.the-variants.{Fine, Settings as BadSettings, Counters, Areas, Offsets, Index, Tree}

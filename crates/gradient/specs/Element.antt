@@ -7,7 +7,8 @@ use Rattle.laws.specs.Run.{run}
 use Rattle.laws.specs.Area.{at, zero64}
 use Rattle.elementary.specs.Limits.{unlessAbove, absOf}
 use Rattle.gradient.specs.Forces.{placeOf}
-use Rattle.gradient.specs.Exact.{least, four}
+use Rattle.pairs.specs.Exact.{least}
+use Rattle.gradient.specs.Exact.{four}
 
 -- the shares by rising point, from +0.0
 abbrev pub shareStep : List Float → ℕ → ℕ → Float → Float

@@ -3,24 +3,14 @@
 use mathlib.Core.List.{List}
 use Prim.Native.Nat.{ℕ, _+_, _-_, _*_, _<_, _≤_}
 use lib.ListN.{length, set}
-use lib.Ieee.{Float, binary64, add, mul, div}
+use lib.Ieee.{Float, binary64, mul}
 use Rattle.laws.specs.Run.{run}
-use Rattle.laws.specs.Area.{at, num, one64}
+use Rattle.laws.specs.Area.{at, num}
 use Rattle.node.specs.declared.Node.{Node}
 use Rattle.node.specs.declared.Acc.{Acc}
 use Rattle.node.specs.Node.{zeros, pointOf}
-use Rattle.node.specs.Bodies.{gapOf, pushStep}
+use Rattle.pairs.specs.Links.{pulled}
 use Rattle.tree.specs.Repel.{repelled}
-
--- how strongly a link of weight w pulls: (exaggeration·w) / (1 + d²)
-unfoldable pub pullOf : Float → Float → ℕ → List Float → List Float → Float
-unfolding gapOf
-pullOf exaggeration w c p q = div binary64 (mul binary64 exaggeration w) (add binary64 one64 (gapOf c p q))
-
--- one link more: frame q of weight w pulls the point p along p - q
-unfoldable pub pulled : Float → ℕ → List Float → List Float → Float → List Float → List Float
-unfolding run pullOf
-pulled exaggeration c p q w t = run (pushStep p q (pullOf exaggeration w c p q)) c 0 t
 
 -- the lists as they lie: a link's weight and the frame it names
 abbrev pub linkStep : Float → ℕ → List Float → List Float → List ℕ → List Float → ℕ → ℕ → List Float → List Float

@@ -8,27 +8,11 @@ ghost use Rattle.laws.specs.Run.{run};
 ghost use Rattle.node.specs.Node.{Axes, zeros, pointOf};
 ghost use Rattle.node.specs.Areas.{nodesOf};
 ghost use Rattle.tree.specs.Insert.{tree, treeOk};
-ghost use Rattle.gradient.specs.Forces.{pullOf, pulled, linkStep, attractionOf, Below, Linked, placeOf, putStep, stored, forcesOf};
+ghost use Rattle.pairs.specs.Links.{pulled};
+ghost use Rattle.gradient.specs.Forces.{linkStep, attractionOf, Below, Linked, placeOf, putStep, stored, forcesOf};
 use node::Acc;
-use node::bodies::gap;
-use node::bodies::pushed;
 use node::cells::point;
-
-// How strongly a link of weight w pulls.
-fn pull(exaggeration: f64, w: f64, c: usize, p: [f64; 3], q: [f64; 3]) -> f64
-    requires { ⌜ Axes c ⌝ }
-    ensures { λ r. ⌜ r ≡ pullOf exaggeration w c p q ⌝ }
-{
-    exaggeration * w / (1.0 + gap(p, q, c))
-}
-
-// The attraction so far, with one link more.
-fn attract(exaggeration: f64, c: usize, p: [f64; 3], q: [f64; 3], w: f64, t: [f64; 3]) -> [f64; 3]
-    requires { ⌜ Axes c ⌝ }
-    ensures { λ r. ⌜ r ≡ pulled exaggeration c p q w t ⌝ }
-{
-    pushed(t, p, q, pull(exaggeration, w, c, p, q), c)
-}
+use pairs::links::attract;
 
 fn wide(x: u32) -> usize
     ensures { λ r. ⌜ r ≡ x ⌝ }

@@ -2,9 +2,3 @@
 pub mod element;
 pub mod forces;
 pub mod rows;
-
-// The sum of a gradient row's weights, and their sum along each component.
-pub struct Pulls {
-    pub sum: f64,
-    pub along: [f64; 8],
-}

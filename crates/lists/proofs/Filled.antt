@@ -20,9 +20,10 @@ use Rattle.laws.proofs.Bools.{two}
 use Rattle.laws.proofs.First.{first-same}
 use Rattle.laws.proofs.Joined.{those-rise, those-same, map-those, spot, spot-yes, spot-no, spot-at, joined-none, joined-more, joined-grow, joined-mono, joined-at, tail-at, length-singles, singles-at, length-map, getD-map-in}
 use Rattle.laws.proofs.Parts.{length-pasted, drop-put, getD-pasted}
-use Rattle.lists.specs.Lists.{found, Rows, place, plusOf, linked, weight, listOf, weightsOf, startOf, linksOf, indicesOf, weightsAll, offsetsOf}
-use Rattle.lists.specs.Steps.{span, soughtYes, soughtWeight, Sought, linkSought, weightSought, listSought, weightsSought, Room}
-use Rattle.lists.proofs.Search.{found-same}
+use Rattle.links.specs.Links.{found, plusOf, span, soughtYes, soughtWeight, Sought}
+use Rattle.links.proofs.Search.{found-same}
+use Rattle.lists.specs.Lists.{Rows, place, linked, weight, listOf, weightsOf, startOf, linksOf, indicesOf, weightsAll, offsetsOf}
+use Rattle.lists.specs.Steps.{linkSought, weightSought, listSought, weightsSought, Room}
 use Rattle.lists.proofs.Linked.{linked-comm, linked-self, weight-down, weight-none, weight-comm, plus-same, length-weights, links-most, links-small, start-least}
 
 abbrev pub singles : ℕ → ℕ → List ℕ → ℕ → List ℕ

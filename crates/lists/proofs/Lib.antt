@@ -1,4 +1,3 @@
-pub mod Search
 pub mod Linked
 pub mod Listing
 pub mod Filled

@@ -17,7 +17,8 @@ use Rattle.laws.proofs.Bools.{or-left, or-right}
 use Rattle.laws.proofs.First.{first-none}
 use Rattle.laws.proofs.Sums.{sum-same, sum-add, sum-const, sum-swap, sum-le, bit-le, bit-more, bit-left, bit-miss, bit-and-true, row-sum}
 use Rattle.laws.proofs.Joined.{length-those, length-joined, length-map}
-use Rattle.lists.specs.Lists.{Rows, place, names, plusOf, linked, joint, weight, listOf, weightsOf, startOf, linksOf}
+use Rattle.links.specs.Links.{plusOf}
+use Rattle.lists.specs.Lists.{Rows, place, names, linked, joint, weight, listOf, weightsOf, startOf, linksOf}
 use Rattle.lists.specs.Steps.{missOf, missesOf}
 
 or-comm : (a b : Bool) → (a || b) ≡ (b || a)

@@ -14,9 +14,9 @@ use Rattle.laws.specs.Joined.{those, ending}
 use Rattle.laws.proofs.Numbers.{row-in}
 use Rattle.laws.proofs.Joined.{those-yes, those-no, those-none, map-append, length-map}
 use Rattle.laws.proofs.Parts.{Ends, ends-start, ends-more, ends-low, ends-done}
-use Rattle.lists.specs.Lists.{found, plusOf}
-use Rattle.lists.specs.Steps.{loweredOf, span, soughtYes, soughtWeight, Sought, linkSought, weightSought, listSought, weightsSought, Room}
-use Rattle.lists.proofs.Search.{found-same, Cursor, cursor-start, cursor-next, cursor-yes, cursor-plus}
+use Rattle.links.specs.Links.{found, plusOf, loweredOf, span, soughtYes, soughtWeight, Sought}
+use Rattle.lists.specs.Steps.{linkSought, weightSought, listSought, weightsSought, Room}
+use Rattle.links.proofs.Search.{found-same, Cursor, cursor-start, cursor-next, cursor-yes, cursor-plus}
 use Rattle.lists.proofs.Linked.{plus-same}
 
 -- W₀, I₀: the areas at first. From j on list i is written; q is where it begins so far, c the cursor in the copy of row i

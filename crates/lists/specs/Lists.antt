@@ -5,18 +5,14 @@ use mathlib.Core.Path.{_≡_}
 use mathlib.Core.List.{List, [], _∷_, _++_, map}
 use mathlib.Core.Bool.{Bool, cond, _||_}
 use Prim.Native.Nat.{ℕ, suc, _+_, _*_, _<_, _≤_}
-use lib.Dec.{eqb, ltb}
+use lib.Dec.{ltb}
 use lib.ListN.{length, drop, replicate}
-use lib.Ieee.{Float, binary64, add}
-use Rattle.laws.specs.Run.{first}
-use Rattle.laws.specs.Area.{at, num, zero64}
+use lib.Ieee.{Float}
+use Rattle.laws.specs.Area.{num, zero64}
 use Rattle.laws.specs.Joined.{those, joined}
+use Rattle.links.specs.Links.{Rising, found, plusOf}
 
 -- ---- rows
-
--- the k numbers from place a on rise strictly
-abbrev pub Rising : List ℕ → ℕ → ℕ → Type 0
-Rising l a k = (s t : ℕ) → s < t → t < k → num l (a + s) < num l (a + t)
 
 -- the first m rows of k: each rises, names frames that there are, and not the frame itself
 pub record Rowed (m n k : ℕ) (J : List ℕ) : Type 0 where
@@ -27,10 +23,6 @@ pub record Rowed (m n k : ℕ) (J : List ℕ) : Type 0 where
 -- the rows of all n frames
 abbrev pub Rows : ℕ → ℕ → List ℕ → Type 0
 Rows n k J = Rowed n n k J
-
--- where j stands among the k numbers from place a on; k if it does not
-abbrev pub found : List ℕ → ℕ → ℕ → ℕ → ℕ
-found l a k j = first (λ t. eqb (num l (a + t)) j) k
 
 -- the place of frame j in row i; k if i does not name j
 abbrev pub place : ℕ → List ℕ → ℕ → ℕ → ℕ
@@ -45,10 +37,6 @@ names k J i j = ltb (place k J i j) k
 -- two frames are linked if one names the other
 abbrev pub linked : ℕ → List ℕ → ℕ → ℕ → Bool
 linked k J i j = names k J i j || names k J j i
-
--- w, and what stands p past place a if p is below k
-abbrev pub plusOf : List Float → ℕ → ℕ → ℕ → Float → Float
-plusOf S a k p w = cond (ltb p k) (add binary64 w (at S (a + p))) w
 
 -- w, and frame i's share of frame j if i names j: the Rust's `+=`
 abbrev pub plusShare : ℕ → List ℕ → List Float → ℕ → ℕ → Float → Float

@@ -1,14 +1,14 @@
 -- What the private functions answer on the way to the lists. Definitions only.
 use mathlib.Core.List.{List, map}
-use mathlib.Core.Bool.{Bool, false, cond, _||_}
-use Prim.Native.Nat.{ℕ, _+_, _-_, _*_, _<_, _≤_}
-use lib.Dec.{eqb, ltb}
+use mathlib.Core.Bool.{Bool, cond}
+use Prim.Native.Nat.{ℕ, _+_, _*_, _<_, _≤_}
 use lib.ListN.{length}
 use lib.Ieee.{Float}
-use Rattle.laws.specs.Area.{at, num, zero64}
+use Rattle.laws.specs.Area.{num}
 use Rattle.laws.specs.Sums.{sum}
 use Rattle.laws.specs.Joined.{those}
-use Rattle.lists.specs.Lists.{Rising, found, names, plusOf}
+use Rattle.links.specs.Links.{Rising, found, soughtYes, soughtWeight, Sought}
+use Rattle.lists.specs.Lists.{names}
 
 -- 1 if the frame at place t of row j does not name j back, else 0
 unfoldable pub missOf : ℕ → List ℕ → ℕ → ℕ → ℕ
@@ -18,37 +18,7 @@ missOf k J j t = cond (names k J (num J (j * k + t)) j) 0 1
 abbrev pub missesOf : ℕ → List ℕ → ℕ → ℕ
 missesOf k J j = sum (missOf k J j) k
 
--- a cursor in a rising row while the frames fall: it falls by one where the frame just below it is j
-unfoldable pub loweredOf : List ℕ → ℕ → ℕ → ℕ
-loweredOf R c j = cond (eqb c 0) 0 (cond (eqb (num R (c - 1)) j) (c - 1) c)
-
--- how long list j is
-abbrev pub span : List ℕ → ℕ → ℕ
-span O j = num O (j + 1) - num O j
-
--- while list i is written, is i linked with a frame j below it? The copy of row i tells, which names j if r is below c, or row j
-abbrev pub belowYes : List ℕ → ℕ → ℕ → ℕ → ℕ → ℕ → Bool
-belowYes I k i j c r = ltb r c || ltb (found I (j * k) k i) k
-
--- and the weight of that link: +0.0, the share in row j, the share in the copy; +0.0 where there is none
-abbrev pub belowWeight : List Float → List ℕ → List Float → ℕ → ℕ → ℕ → ℕ → ℕ → Float
-belowWeight W I X k i j c r = plusOf X 0 c r (plusOf W (j * k) k (found I (j * k) k i) zero64)
-
--- of a frame j above it the finished list j tells
-abbrev pub aboveYes : List ℕ → List ℕ → ℕ → ℕ → Bool
-aboveYes I O i j = ltb (found I (num O j) (span O j) i) (span O j)
-
-abbrev pub aboveWeight : List Float → List ℕ → List ℕ → ℕ → ℕ → Float
-aboveWeight W I O i j = cond (aboveYes I O i j) (at W (num O j + found I (num O j) (span O j) i)) zero64
-
--- of any frame; i itself is not linked
-unfoldable pub soughtYes : List ℕ → List ℕ → ℕ → ℕ → ℕ → ℕ → ℕ → Bool
-soughtYes I O k i j c r = cond (ltb j i) (belowYes I k i j c r) (cond (eqb j i) false (aboveYes I O i j))
-
-unfoldable pub soughtWeight : List Float → List ℕ → List ℕ → List Float → ℕ → ℕ → ℕ → ℕ → ℕ → Float
-soughtWeight W I O X k i j c r = cond (ltb j i) (belowWeight W I X k i j c r) (cond (eqb j i) zero64 (aboveWeight W I O i j))
-
--- the same where the copy of row i stands in X and R, and is searched
+-- whether and how strongly i is linked with j, where the copy of row i stands in X and R and is searched
 abbrev pub linkSought : List ℕ → List ℕ → List ℕ → ℕ → ℕ → ℕ → Bool
 linkSought I O R k i j = soughtYes I O k i j k (found R 0 k j)
 
@@ -61,21 +31,6 @@ listSought I O R n k i = those (linkSought I O R k i) n
 
 abbrev pub weightsSought : List Float → List ℕ → List ℕ → List Float → List ℕ → ℕ → ℕ → ℕ → List Float
 weightsSought W I O X R n k i = map (weightSought W I O X R k i) (listSought I O R n k i)
-
--- row j may be searched
-abbrev pub RowAt : List Float → List ℕ → ℕ → ℕ → Type 0
-RowAt W I k j = (j * k + k ≤ length I) × (j * k + k ≤ length W) × Rising I (j * k) k
-
--- list j may be searched
-abbrev pub ListAt : List Float → List ℕ → List ℕ → ℕ → Type 0
-ListAt W I O j = (j + 1 < length O) × (num O j ≤ num O (j + 1)) × (num O (j + 1) ≤ length I) × (num O (j + 1) ≤ length W) × Rising I (num O j) (span O j)
-
--- what may be read for the link of i with j
-pub record Sought (W : List Float) (I O : List ℕ) (X : List Float) (k i j c : ℕ) : Type 0 where
-  pub small : (i < 4096) × (j < 4096)
-  pub copy : c ≤ length X
-  pub below : j < i → RowAt W I k j
-  pub above : i < j → ListAt W I O j
 
 -- list i can be written just below place q: between the rows below i and the lists above i there is room for it
 pub record Room (W : List Float) (I O : List ℕ) (X : List Float) (R : List ℕ) (n k i q : ℕ) : Type 0 where

@@ -1,6 +1,6 @@
 // Writing one list, from its last link down: the lists above it are finished, and the rows below it still stand.
-use crate::links::link_of;
-use crate::rows::lowered;
+use links::link_of;
+use links::lowered;
 ghost use mathlib.Core.Path.{_≡_};
 ghost use Prim.Native.Nat.{_-_};
 ghost use lib.ListN.{length};

@@ -1,7 +1,6 @@
 // The Barnes-Hut neighbour lists, made in place: n rows of k links become the lists of all frames.
 pub mod areas;
 mod filling;
-mod links;
 mod rows;
 
 use areas::clear_indices;

@@ -16,8 +16,9 @@ use Rattle.record.specs.declared.Settings.{Settings}
 use Rattle.record.specs.declared.Run.{Run}
 use Rattle.node.specs.Areas.{nodesOf}
 use Rattle.entry.specs.State.{State, state}
-use Rattle.descent.specs.declared.Answer.{Answer}
-use Rattle.descent.specs.Descent.{worked, work}
+use Rattle.budget.specs.declared.Answer.{Answer}
+use Rattle.budget.specs.Budget.{worked}
+use Rattle.descent.specs.Descent.{work}
 use Rattle.prepare.specs.declared.Prepared.{Prepared}
 use Rattle.prepare.specs.declared.Prepared.the-variants.{Refused as Turned, Ready}
 use Rattle.prepare.specs.Prepare.{Lent, Outcome, outcome, prepared, memoryOf}

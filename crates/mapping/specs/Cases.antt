@@ -5,7 +5,7 @@ use Prim.Native.Nat.{ℕ}
 use lib.ListN.{replicate}
 use lib.Ieee.{ofBits, ofInt, isNan, size, add, sub, mul, div, lt, le, eq, neg}
 use Rattle.laws.specs.Area.{bits, zero64}
-use Rattle.descent.specs.declared.Answer.the-variants.{Finished}
+use Rattle.budget.specs.declared.Answer.the-variants.{Finished}
 use Rattle.mapping.specs.declared.Told.the-variants.{Record, Worked as Answered}
 use Rattle.laws.specs.Run.{run, every, seek}
 use Rattle.elementary.specs.Limits.{upTo, neighboursOf}
@@ -13,16 +13,19 @@ use Rattle.little.specs.Little.{littleOf, valueAt}
 use Rattle.frames.specs.Frames.{pictureFine, sideFine, spareFine, valuesFine, goodAlone, inOrder, badAt, framesOf, featuresAt, startsAt, frameOf}
 use Rattle.affinity.specs.Neighbours.{neighboursListed}
 use Rattle.node.specs.Areas.{nodesOf}
-use Rattle.tree.specs.Box.{boxOf}
+use Rattle.bounds.specs.Bounds.{boxOf}
 use Rattle.tree.specs.Insert.{insertOf}
 use Rattle.gradient.specs.Element.{normaliserOf, gradientOf}
 use Rattle.gradient.specs.Forces.{forcesOf}
-use Rattle.step.specs.Step.{elementAt, centredBy, finishOf}
+use Rattle.passes.specs.Passes.{elementAt, centredBy}
+use Rattle.step.specs.Step.{finishOf}
 use Rattle.calls.specs.Machine.{stops, done, kindAt, go, call}
 use Rattle.record.specs.Record.{positive, inside, treeFault, earlyFault, lateFault, settingsFault, perOf, stateFits, countersOk, advancedOf, stopsNow, closedOf, sizesOf}
 use Rattle.entry.specs.Entry.{recordFault, treeFits, areasFit, offsetFine, indexFine, treeFaultAt, contentsFault, faultAt, faultOf}
-use Rattle.units.specs.Units.{exaggerationOf, momentumOf, groupOf, insertTurn, treeUnit, forceUnit, paceOf, finishUnit, unit}
-use Rattle.descent.specs.Descent.{answerOf, work}
+use Rattle.plan.specs.Plan.{exaggerationOf, momentumOf, groupOf}
+use Rattle.units.specs.Units.{insertTurn, treeUnit, forceUnit, paceOf, finishUnit, unit}
+use Rattle.budget.specs.Budget.{answerOf}
+use Rattle.descent.specs.Descent.{work}
 use Rattle.prepare.specs.Prepare.{lengthsFit, prepareFault, freshOf, routed, prepared}
 use Rattle.mapping.specs.Mapping.{settingsOf, tableOf, startOf, descended, mapped, mapOf, numberOf, zeros, mappedAs}
 

@@ -14,8 +14,9 @@ use Rattle.record.specs.declared.Method.the-variants.{BarnesHut}
 use Rattle.record.specs.declared.Settings.{Settings}
 use Rattle.node.specs.Areas.{nodesOf}
 use Rattle.entry.specs.State.{state}
-use Rattle.descent.specs.declared.Answer.{Answer}
-use Rattle.descent.specs.Descent.{Worked, work, numberOf as workNumber}
+use Rattle.budget.specs.declared.Answer.{Answer}
+use Rattle.budget.specs.Budget.{Worked}
+use Rattle.descent.specs.Descent.{work, numberOf as workNumber}
 use Rattle.prepare.specs.declared.Prepared.{Prepared}
 use Rattle.prepare.specs.declared.Prepared.the-variants.{Refused as Turned, Ready}
 use Rattle.prepare.specs.Prepare.{Lent, lent, Outcome, prepared, memoryOf}

@@ -1,8 +1,6 @@
 // A cell of the tree, by value, and the two flat areas that hold cells.
 pub mod areas;
-pub mod bodies;
 pub mod cells;
-pub mod turns;
 
 // What a leaf holds.
 pub enum Leaf {

@@ -21,7 +21,8 @@ use Rattle.node.specs.declared.Leaf.{Leaf}
 use Rattle.node.specs.declared.Leaf.the-variants.{Empty, Occupied}
 use Rattle.node.specs.Node.{pointOf, childIndex, childOf, cellOf, absorbed, occupied, parent, out, leafTurn, turnOf}
 use Rattle.node.specs.Areas.{wordOf, nodeAt, blank}
-use Rattle.tree.specs.Insert.{Tree, tree, filled, turnAt, levelled, levelAt, inserted, splitsOf, leafNeeds, needsOf, pointOk, blockOk, nodeOk, treeOk}
+use Rattle.tree.specs.Insert.{Tree, tree, filled, turnAt, levelled, levelAt, inserted, splitsOf, leafNeeds, needsOf, treeOk}
+use Rattle.contents.specs.Contents.{pointOk, blockOk, nodeOk}
 use Rattle.node.proofs.Children.{child-below}
 use Rattle.tree.proofs.Grow.{splits-same, splits-apart, splits-le, length-filled, filled-out, filled-in, filled-none}
 

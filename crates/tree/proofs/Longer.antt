@@ -19,8 +19,10 @@ use Rattle.node.specs.declared.Acc.{Acc}
 use Rattle.node.specs.Node.{pointOf, childOf, turnOf}
 use Rattle.node.specs.Areas.{nodeAt, blank}
 use Rattle.node.specs.Bodies.{kindOf}
-use Rattle.tree.specs.Insert.{Tree, tree, filled, turnAt, levelled, levelAt, inserted, Insertion, insertion, insertOf, nodeOk, treeOk, built}
-use Rattle.tree.specs.Box.{boxOf, boxed}
+use Rattle.tree.specs.Insert.{Tree, tree, filled, turnAt, levelled, levelAt, inserted, Insertion, insertion, insertOf, treeOk, built}
+use Rattle.contents.specs.Contents.{nodeOk}
+use Rattle.bounds.specs.Bounds.{boxOf}
+use Rattle.tree.specs.Box.{boxed}
 use Rattle.tree.specs.Repel.{walkOf, nothing, repelled}
 use Rattle.tree.proofs.Grow.{putStep}
 use Rattle.tree.proofs.Descent.{Ok, Rises, needs-agree, needs-fuel, ok-start, ok-room, ok-next, inserted-last, inserted-next, tree-facts}

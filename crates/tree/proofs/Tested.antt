@@ -12,9 +12,10 @@ use Rattle.laws.proofs.First.{Seeks, seek-stop, seek-done, first-none, first-al
 use Rattle.laws.proofs.Every.{every-at, every-all}
 use Rattle.node.specs.declared.Node.{Node}
 use Rattle.node.specs.Areas.{nodeAt}
-use Rattle.tree.specs.Insert.{Tree, pointOk, nodeOk, treeOk}
-use Rattle.tree.specs.Contents.{faultOf, faulty, contentsOf, isFine}
-use Rattle.tree.specs.declared.Contents.the-variants.{Fine, Used, Count, Point, Block}
+use Rattle.contents.specs.declared.Contents.the-variants.{Fine, Used, Count, Point, Block}
+use Rattle.contents.specs.Contents.{pointOk, nodeOk, faultOf}
+use Rattle.tree.specs.Insert.{Tree, treeOk}
+use Rattle.tree.specs.Contents.{faulty, contentsOf, isFine}
 
 module _ (n c : ℕ) (t : Tree) where
   pub none-used : t .used ≡ 0 → Used ≡ contentsOf n c t

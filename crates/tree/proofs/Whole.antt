@@ -18,7 +18,8 @@ use Rattle.laws.proofs.Runs.{run-last}
 use Rattle.laws.proofs.Every.{every-at, every-all}
 use Rattle.node.specs.Node.{pointOf, freshOf, absorbed, occupied, turnOf}
 use Rattle.node.specs.Areas.{nodeAt}
-use Rattle.tree.specs.Insert.{Tree, tree, filled, inserted, needsOf, Insertion, insertion, insertOf, pointOk, nodeOk, treeOk, built, rooted}
+use Rattle.tree.specs.Insert.{Tree, tree, filled, inserted, needsOf, Insertion, insertion, insertOf, treeOk, built, rooted}
+use Rattle.contents.specs.Contents.{pointOk, nodeOk}
 use Rattle.tree.proofs.Descent.{node-facts, node-ok, ok-start, Ended, inserted-ends, needs-few}
 
 abbrev pub needed : List Float → ℕ → ℕ → Tree → ℕ

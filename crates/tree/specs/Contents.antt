@@ -4,15 +4,11 @@ use Prim.Native.Nat.{ℕ}
 use lib.ListN.{length}
 use lib.Dec.{eqb, ltb}
 use Rattle.laws.specs.Run.{first}
-use Rattle.node.specs.declared.Node.{Node}
 use Rattle.node.specs.Areas.{nodeAt}
-use Rattle.tree.specs.Insert.{Tree, pointOk, nodeOk}
-use Rattle.tree.specs.declared.Contents.{Contents}
-use Rattle.tree.specs.declared.Contents.the-variants.{Fine, Used, Count, Point, Block}
-
--- node i breaks the rule: first by its count, then by its point, else by its block of children
-unfoldable pub faultOf : ℕ → ℕ → Node → Contents
-faultOf n i v = cond (ltb n (v .count)) (Count i) (cond (pointOk n (v .leaf)) (Block i) (Point i))
+use Rattle.contents.specs.declared.Contents.{Contents}
+use Rattle.contents.specs.declared.Contents.the-variants.{Fine, Used, Count, Point, Block}
+use Rattle.contents.specs.Contents.{nodeOk, faultOf}
+use Rattle.tree.specs.Insert.{Tree}
 
 -- node i of a tree over n points breaks the rule
 abbrev pub faulty : ℕ → ℕ → Tree → ℕ → Bool

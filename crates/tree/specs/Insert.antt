@@ -1,9 +1,9 @@
 -- Insertion of a point into the tree, over a list of nodes: rule 3 of the scope paper. Definitions only.
 use mathlib.Core.List.{List, _∷_}
-use mathlib.Core.Bool.{Bool, true, false, cond, _&&_, _||_}
+use mathlib.Core.Bool.{Bool, true, false, cond}
 use Prim.Native.Nat.{ℕ, zero, suc, _+_, _-_, _*_, _^_}
 use lib.ListN.{set, length}
-use lib.Dec.{eqb, ltb, leb}
+use lib.Dec.{eqb, ltb}
 use lib.Ieee.{Float}
 use Rattle.laws.specs.Run.{run, every}
 use Rattle.node.specs.declared.Node.{Node}
@@ -12,6 +12,7 @@ use Rattle.node.specs.declared.Leaf.{Leaf}
 use Rattle.node.specs.declared.Leaf.the-variants.{Empty, Occupied}
 use Rattle.node.specs.Node.{pointOf, childIndex, childCentre, childHalf, childOf, freshOf, turnOf}
 use Rattle.node.specs.Areas.{nodeAt}
+use Rattle.contents.specs.Contents.{nodeOk}
 
 -- the nodes, of which the first `used` are in use
 pub record Tree : Type 0 where
@@ -95,18 +96,7 @@ insertOf y c j t =
     (insertion true t)
     (insertion false (inserted (length (t .nodes)) y c (pointOf y c j) j 0 0 t))
 
--- ---- contents that are well formed: of n points, counts at most m, among `used` nodes
-
-abbrev pub pointOk : ℕ → Leaf → Bool
-pointOk n Empty = true
-pointOk n (Occupied o) = ltb o n
-
--- no children, or a block of them wholly above node i among the used ones
-abbrev pub blockOk : ℕ → ℕ → ℕ → ℕ → Bool
-blockOk c used i first = eqb first 0 || ltb i first && leb (first + 2 ^ c) used
-
-unfoldable pub nodeOk : ℕ → ℕ → ℕ → ℕ → ℕ → Node → Bool
-nodeOk n m c used i v = leb (v .count) m && (pointOk n (v .leaf) && blockOk c used i (v .first))
+-- ---- contents that are well formed: of n points, counts at most m
 
 abbrev pub treeOk : ℕ → ℕ → ℕ → Tree → Bool
 treeOk n m c t = every (λ i. nodeOk n m c (t .used) i (nodeAt (t .nodes) i)) (t .used)

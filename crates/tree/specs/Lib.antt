@@ -2,4 +2,3 @@ pub mod Insert
 pub mod Box
 pub mod Contents
 pub mod Repel
-pub mod Cases

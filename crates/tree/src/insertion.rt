@@ -8,17 +8,17 @@ ghost use Rattle.node.specs.Areas.{wordOf, nodesOf, nodeAt, restOf};
 ghost use Rattle.tree.specs.Insert.{tree, filled, turnAt, levelAt, splitsOf, needsOf, insertOf, insertion, treeOk};
 use crate::Answer;
 use crate::Step;
+use children::child_centre;
+use children::child_half;
+use children::child_index;
 use node::Leaf;
 use node::Node;
 use node::areas::capacity;
 use node::areas::load;
 use node::areas::store;
-use node::cells::child;
-use node::cells::child_centre;
-use node::cells::child_half;
-use node::cells::child_index;
 use node::cells::point;
-use node::turns::turn;
+use turns::child;
+use turns::turn;
 
 // Makes n children of the split node v.
 fn subdivide(reals: &mut [f64], words: &mut [u32], v: Node, o: u32, q: [f64; 3], c: usize, n: usize)

@@ -7,10 +7,10 @@ ghost use Rattle.node.specs.Node.{Axes};
 ghost use Rattle.node.specs.Areas.{nodesOf};
 ghost use Rattle.tree.specs.Insert.{tree, treeOk};
 ghost use Rattle.tree.specs.Repel.{Walked, repelled};
+use bodies::body;
+use bodies::kind;
 use node::Acc;
 use node::areas::load;
-use node::bodies::body;
-use node::bodies::kind;
 
 // The walk from node i.
 fn walk(

@@ -1,92 +1,12 @@
-// The box: the root's cell over all points.
+// The root, planted over all points.
 ghost use mathlib.Core.Path.{_≡_};
-ghost use Prim.Native.Nat.{_+_, _*_, _<_, _≤_};
+ghost use Prim.Native.Nat.{_*_, _<_, _≤_};
 ghost use lib.ListN.{length, set};
 ghost use Rattle.node.specs.Node.{Axes};
 ghost use Rattle.node.specs.Areas.{nodesOf, restOf};
-ghost use Rattle.tree.specs.Box.{lower as lowerOf, higher as higherOf, widened, spanOf, middleOf, reachOf, boxOf};
-use crate::Span;
-use node::Node;
+ghost use Rattle.bounds.specs.Bounds.{boxOf};
+use bounds::bounding_box;
 use node::areas::store;
-use node::cells::fresh;
-
-fn lower(a: f64, v: f64) -> f64
-    ensures { λ r. ⌜ r ≡ lowerOf a v ⌝ }
-{
-    if v < a {
-        return v;
-    }
-    a
-}
-
-fn higher(a: f64, v: f64) -> f64
-    ensures { λ r. ⌜ r ≡ higherOf a v ⌝ }
-{
-    if v > a {
-        return v;
-    }
-    a
-}
-
-// The span with one coordinate more.
-fn widen(s: Span, v: f64) -> Span
-    ensures { λ r. ⌜ r ≡ widened s v ⌝ }
-{
-    Span {
-        low: lower(s.low, v),
-        high: higher(s.high, v),
-    }
-}
-
-// The span of component d over n points.
-fn span(positions: &[f64], n: usize, c: usize, d: usize) -> Span
-    requires { ⌜ (d < c) × (n * c ≤ length (now positions)) ⌝ }
-    ensures { λ r. ⌜ r ≡ spanOf (now (positions .entry)) n c d ⌝ }
-{
-    let mut s = Span {
-        low: 1.0 / 0.0,
-        high: -1.0 / 0.0,
-    };
-    let mut i = 0;
-    while i < n {
-        s = widen(s, positions[i * c + d]);
-        i += 1;
-    }
-    s
-}
-
-fn middle(s: Span) -> f64
-    ensures { λ r. ⌜ r ≡ middleOf s ⌝ }
-{
-    (s.low + s.high) / 2.0
-}
-
-// Half the span, at least 1e-12, and 1e-12 more: every point lies inside.
-fn reach(s: Span) -> f64
-    ensures { λ r. ⌜ r ≡ reachOf s ⌝ }
-{
-    elementary::unless_above(1e-12, (s.high - s.low) / 2.0) + 1e-12
-}
-
-// An empty leaf over the padded span of n points.
-fn bounding_box(positions: &[f64], n: usize, c: usize) -> Node
-    requires { ⌜ (Axes c) × (n * c ≤ length (now positions)) ⌝ }
-    ensures { λ r. ⌜ r ≡ boxOf (now (positions .entry)) n c ⌝ }
-{
-    let r = span(positions, n, c, 0);
-    if c == 1 {
-        return fresh([middle(r), 0.0, 0.0], [reach(r), 0.0, 0.0]);
-    }
-    let s = span(positions, n, c, 1);
-    if c == 2 {
-        return fresh([middle(r), middle(s), 0.0], [reach(r), reach(s), 0.0]);
-    }
-    let t = span(positions, n, c, 2);
-    fresh(
-        [middle(r), middle(s), middle(t)],
-        [reach(r), reach(s), reach(t)],
-    )
-}
 
 // Node 0 becomes the root over n points; the other nodes stay.
 pub fn plant(reals: &mut [f64], words: &mut [u32], positions: &[f64], n: usize, c: usize)

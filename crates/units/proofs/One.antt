@@ -13,7 +13,8 @@ use Rattle.node.specs.Areas.{Rest}
 use Rattle.entry.specs.State.{State}
 use Rattle.units.specs.declared.Why.{Why}
 use Rattle.units.specs.declared.Why.the-variants.{Over}
-use Rattle.units.specs.Units.{groupOf, TreeTurn, treeTurn, treeUnit, forceUnit, FinishTurn, finishTurn, finishUnit, Turned, turned, withTree, withForces, withFinish, unit}
+use Rattle.plan.specs.Plan.{groupOf}
+use Rattle.units.specs.Units.{TreeTurn, treeTurn, treeUnit, forceUnit, FinishTurn, finishTurn, finishUnit, Turned, turned, withTree, withForces, withFinish, unit}
 
 module _ (s : State) where
   pub unit-over : isEnded (s .run .standing) ≡ true → turned s Over ≡ unit s

@@ -21,7 +21,7 @@ use Rattle.tree.proofs.Whole.{looser}
 use Rattle.entry.specs.State.{State}
 use Rattle.entry.specs.Entry.{offsetFine, indexFine, listed, GoodContents, TreeAreas, Workable}
 use Rattle.entry.proofs.Laws.{axes, links-is}
-use Rattle.units.specs.Units.{groupOf}
+use Rattle.plan.specs.Plan.{groupOf}
 use Rattle.units.specs.Room.{Small, TreeRoom, ForceRoom, FinishRoom}
 
 -- ---- which unit

@@ -14,7 +14,7 @@ use Rattle.step.specs.declared.Answer.the-variants.{Moved, Refused}
 use Rattle.step.specs.Step.{outcome, finishOf}
 use Rattle.node.specs.declared.Node.{Node}
 use Rattle.tree.specs.Insert.{tree, insertion, insertOf}
-use Rattle.tree.specs.Box.{boxOf}
+use Rattle.bounds.specs.Bounds.{boxOf}
 use Rattle.units.specs.declared.Why.the-variants.{Done, Full, Wild}
 use Rattle.units.specs.Units.{treeTurn, insertTurn, treeUnit, beforeOf, finishTurn, finishUnit}
 

@@ -2,11 +2,12 @@
 use mathlib.Core.List.{List}
 use mathlib.Core.Bool.{Bool, true, false, cond, not}
 use Prim.Native.Nat.{ℕ, _-_, _*_}
-use lib.Dec.{eqb, ltb, leb}
+use lib.Dec.{eqb, ltb}
 use lib.Ieee.{Float}
-use Rattle.laws.specs.Area.{bits, zero64, one64}
+use Rattle.laws.specs.Area.{zero64}
 use Rattle.record.specs.declared.Run.{Run}
 use Rattle.record.specs.Record.{isTree, isEnded, advancedOf, closedOf}
+use Rattle.plan.specs.Plan.{exaggerationOf, momentumOf, groupOf}
 use Rattle.node.specs.declared.Node.{Node}
 use Rattle.tree.specs.Insert.{tree, Insertion, insertOf}
 use Rattle.tree.specs.Box.{boxed}
@@ -15,8 +16,9 @@ use Rattle.gradient.specs.Exact.{totalRow, gradientRow}
 use Rattle.gradient.specs.Element.{normaliserOf, normOf}
 use Rattle.step.specs.declared.Answer.{Answer}
 use Rattle.step.specs.declared.Answer.the-variants.{Moved, Refused}
-use Rattle.step.specs.declared.Pace.{Pace}
-use Rattle.step.specs.Step.{Before, Outcome, paced, finishOf}
+use Rattle.passes.specs.declared.Pace.{Pace}
+use Rattle.passes.specs.Passes.{Before, paced}
+use Rattle.step.specs.Step.{Outcome, finishOf}
 use Rattle.entry.specs.State.{Memory, State}
 use Rattle.units.specs.declared.Why.{Why}
 use Rattle.units.specs.declared.Why.the-variants.{Done, Full, Wild, Over}
@@ -26,22 +28,6 @@ isDone Done = true
 isDone Full = false
 isDone Wild = false
 isDone Over = false
-
--- ---- what an iteration goes by: 12 and 0.5 in the first 250, then 1 and 0.8
-
-unfoldable pub exaggerationOf : Run → Float
-exaggerationOf r = cond (ltb (r .done) 250) (bits 0x4028000000000000) one64
-
-unfoldable pub momentumOf : Run → Float
-momentumOf r = cond (ltb (r .done) 250) (bits 0x3fe0000000000000) (bits 0x3fe999999999999a)
-
--- ---- which unit is next: 0 of the tree, 1 of the forces, 2 the finish
-
-unfoldable pub groupOf : Run → ℕ
-groupOf r =
-    cond (isTree (r .settings .method))
-    (cond (leb (r .phase) (r .settings .n)) 0 (cond (leb (r .phase) (2 * r .settings .n)) 1 2))
-    (cond (ltb (r .phase) (2 * r .settings .n)) 1 2)
 
 -- ---- box and insertion
 

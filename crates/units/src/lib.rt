@@ -6,8 +6,11 @@ ghost use Rattle.node.specs.Areas.{nodesOf, restOf};
 ghost use Rattle.record.specs.Record.{advancedOf};
 ghost use Rattle.entry.specs.State.{memory, state};
 ghost use Rattle.entry.specs.Entry.{Workable};
-ghost use Rattle.units.specs.Units.{isDone, exaggerationOf, momentumOf, groupOf, treeTurn, treeUnit, forceUnit, paceOf, finishTurn, finishUnit, turned, unit};
+ghost use Rattle.units.specs.Units.{isDone, treeTurn, treeUnit, forceUnit, paceOf, finishTurn, finishUnit, turned, unit};
 ghost use Rattle.units.specs.Room.{TreeRoom, ForceRoom, FinishRoom};
+use plan::exaggeration;
+use plan::group;
+use plan::momentum;
 use record::Run;
 use record::counters::is_ended;
 use record::faults::is_tree;
@@ -42,46 +45,6 @@ pub fn is_done(w: Why) -> bool
         Why::Wild => false,
         Why::Over => false,
     }
-}
-
-pub fn exaggeration(r: Run) -> f64
-    ensures { λ x. ⌜ x ≡ exaggerationOf r ⌝ }
-{
-    if r.done < 250 {
-        return 12.0;
-    }
-    1.0
-}
-
-pub fn momentum(r: Run) -> f64
-    ensures { λ x. ⌜ x ≡ momentumOf r ⌝ }
-{
-    if r.done < 250 {
-        return 0.5;
-    }
-    0.8
-}
-
-// Which unit is next: 0 of the tree, 1 of the forces, 2 the finish.
-pub fn group(r: Run) -> u8
-    requires { ⌜ r .settings .n ≤ 4096 ⌝ }
-    ensures { λ k. ⌜ k ≡ groupOf r ⌝ }
-{
-    let s = r.settings;
-    let m = s.method;
-    if is_tree(m) {
-        if r.phase <= s.n {
-            return 0;
-        }
-        if r.phase <= 2 * s.n {
-            return 1;
-        }
-        return 2;
-    }
-    if r.phase < 2 * s.n {
-        return 1;
-    }
-    2
 }
 
 // The box unit, or the insertion of a point, which may be refused.

@@ -1,4 +1,4 @@
-use Rattle.descent.proofs.Loop.{work-bad, work-fine}
+use Rattle.descent.proofs.Calls.{work-bad, work-fine}
 use Rattle.entry.proofs.Laws.{fault-fine}
 use Rattle.entry.specs.State.{memory, state}
 use Rattle.entry.specs.Entry.{faultOf}

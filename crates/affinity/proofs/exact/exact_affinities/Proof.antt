@@ -4,7 +4,7 @@ use borrow.Author.Needs.{needs}
 use mathlib.Core.Path.{subst, ap, _∙_}
 use Prim.Native.Nat.{_*_, _≤_}
 use Rattle.affinity.proofs.Symmetric.{exact-after}
-use Rattle.affinity.specs.Steps.{symmetrized}
+use Rattle.joins.specs.Joins.{symmetrized}
 use Rattle.near.proofs.Apart.{squares-known}
 use Rattle.laws.specs.Area.{zero64}
 use lib.Ieee.{Float}

@@ -10,8 +10,8 @@ use Rattle.lists.proofs.filling.fill_list.Statement.{statement}
 use Rattle.lists.proofs.filling.fill_list.Tie as tie
 use Rattle.lists.proofs.filling.fill_list.Reads as reads
 use Rattle.lists.proofs.filling.fill_list.Lts as lts
-use Rattle.lists.proofs.links.link_of.Reads as link-of-reads
-use Rattle.lists.proofs.rows.lowered.Reads as lowered-reads
+use Rattle.links.proofs.link_of.Reads as link-of-reads
+use Rattle.links.proofs.lowered.Reads as lowered-reads
 
 abbrev Inv-loop : tie.InvT-loop
 Inv-loop weights₀ indices₀ offsets row-values row-indices n k i e q₀ c₀ j₀ weights indices q c j = Writing weights₀ indices₀ offsets row-values row-indices n k i e j c q weights indices

@@ -13,8 +13,8 @@ use borrow.Fn.PlainCycle.{Measures, is, falls, and}
 use Rattle.tree.proofs.repulsion.walk.Reads as walk
 use Rattle.tree.proofs.repulsion.walk.Kinds as walk-kinds
 use Rattle.tree.proofs.repulsion.+walk.Lts-walk as walk-lts
-use Rattle.node.proofs.bodies.body.Reads as body-reads
-use Rattle.node.proofs.bodies.kind.Reads as kind-reads
+use Rattle.bodies.proofs.body.Reads as body-reads
+use Rattle.bodies.proofs.kind.Reads as kind-reads
 use Rattle.node.proofs.areas.load.Reads as load-reads
 use Rattle.tree.proofs.repulsion.+walk.{statement}
 use Rattle.tree.proofs.repulsion.+walk.Tie.{close}

@@ -1,0 +1,3 @@
+pub mod Sigma
+pub mod Affinity
+pub mod Tree
