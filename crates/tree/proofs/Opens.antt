@@ -62,10 +62,11 @@ opened c q p theta2 v k x h₀ h₁ z = go (eqb (v .count) 0) (rw (eq-eqb (v .fi
     go true y = h₀ y
     go false y = leaf-small q (v .count) (v .leaf) (λ w. h₀ (y ∙ w)) (λ w. h₁ (y ∙ w))
 
--- so they lie above it among the used nodes
-pub open-in : (n c m : ℕ) (t : Tree) (q : ℕ) (p : List Float) (theta2 : Float) (i : ℕ) (v : Node) (k b : ℕ) → treeOk n m c t ≡ true → i < t .used → c ≤ 3 → v ≡ nodeAt (t .nodes) i → k ≡ kindOf c q p theta2 v → (k ≡ 0 → ⊥) → (k ≡ 1 → ⊥) → b < 1 * 2 ^ c % 2 ^ 64
-    → (i < v .first) × (v .first + b < t .used)
-open-in n c m t q p theta2 i v k b ok l h e x h₀ h₁ lb =
-    let z = opened c q p theta2 v k x h₀ h₁ in
-    let a : (i < v .first) × (v .first + 2 ^ c ≤ t .used) = rw e (tree-facts n c m t ok i l .above (rw e at z)) in
-    (a .0, omega (arith, a, rw (shl-one c (omega (arith, h))) at lb))
+-- so they lie above it, whole among the used nodes
+pub open-block : (n c m : ℕ) (t : Tree) (q : ℕ) (p : List Float) (theta2 : Float) (i : ℕ) (v : Node) (k : ℕ) → treeOk n m c t ≡ true → i < t .used → v ≡ nodeAt (t .nodes) i → k ≡ kindOf c q p theta2 v → (k ≡ 0 → ⊥) → (k ≡ 1 → ⊥)
+    → (i < v .first) × (v .first + 2 ^ c ≤ t .used)
+open-block n c m t q p theta2 i v k ok l e x h₀ h₁ = let z = opened c q p theta2 v k x h₀ h₁ in rw e (tree-facts n c m t ok i l .above (rw e at z))
+
+-- and so does each of them
+pub child-in : (c f used b : ℕ) → c ≤ 3 → f + 2 ^ c ≤ used → b < 1 * 2 ^ c % 2 ^ 64 → f + b < used
+child-in c f used b h k l = omega (arith, k, rw (shl-one c (omega (arith, h))) at l)

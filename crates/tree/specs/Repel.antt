@@ -27,9 +27,9 @@ walkOf (suc g) c q p theta2 ns i acc =
       ]
     ]
 
--- r is what the walk from node i gives, whatever number of levels is allowed, if it reaches the last used node
+-- r is what the walks from the children at f give, one after the other, whatever number of levels is allowed, if it reaches the last used node
 abbrev pub Walked : ℕ → ℕ → ℕ → List Float → Float → List Node → ℕ → Acc → Acc → Type 0
-Walked used c q p theta2 ns i acc r = (g : ℕ) → used ≤ i + g → r ≡ walkOf g c q p theta2 ns i acc
+Walked used c q p theta2 ns f acc r = (g : ℕ) → used ≤ f + g → r ≡ run (λ b a. walkOf g c q p theta2 ns (f + b) a) (2 ^ c) 0 acc
 
 abbrev pub nothing : Acc
 nothing = record { neg = zeros; sum = zero64 }

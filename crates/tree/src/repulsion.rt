@@ -1,7 +1,7 @@
 // The force walk: what the tree does to one point.
 ghost use mathlib.Core.Path.{_≡_};
 ghost use mathlib.Core.Bool.{true};
-ghost use Prim.Native.Nat.{_<_, _≤_};
+ghost use Prim.Native.Nat.{_+_, _^_, _<_, _≤_};
 ghost use lib.ListN.{length};
 ghost use Rattle.node.specs.Node.{Axes};
 ghost use Rattle.node.specs.Areas.{nodesOf};
@@ -12,7 +12,7 @@ use bodies::kind;
 use node::Acc;
 use node::areas::load;
 
-// The walk from node i.
+// The walk through the children of an opened node, which stand from node f on.
 fn walk(
     reals: &[f64],
     words: &[u32],
@@ -21,27 +21,24 @@ fn walk(
     q: u32,
     p: [f64; 3],
     theta2: f64,
-    i: usize,
+    f: usize,
     acc: Acc,
 ) -> Acc
-    requires { ⌜ (Axes c) × (i < used) × (used ≤ length (nodesOf (now reals) (now words))) ⌝ }
+    requires { ⌜ (Axes c) × (f + 2 ^ c ≤ used) × (used ≤ length (nodesOf (now reals) (now words))) ⌝ }
     requires { ⌜ treeOk 4294967296 4294967295 c (tree used (nodesOf (now reals) (now words))) ≡ true ⌝ }
-    ensures { λ r. ⌜ Walked used c q p theta2 (nodesOf (now (reals .entry)) (now (words .entry))) i acc r ⌝ }
+    ensures { λ r. ⌜ Walked used c q p theta2 (nodesOf (now (reals .entry)) (now (words .entry))) f acc r ⌝ }
 {
-    let v = load(reals, words, i);
-    let k = kind(v, q, p, theta2, c);
-    if k == 0 {
-        return acc;
-    }
-    if k == 1 {
-        return body(v, p, c, acc);
-    }
-    let f = v.first as usize;
     let e = 1 << c;
     let mut a = acc;
     let mut b: usize = 0;
     while b < e {
-        a = walk(reals, words, used, c, q, p, theta2, f + b, a);
+        let v = load(reals, words, f + b);
+        let k = kind(v, q, p, theta2, c);
+        if k == 1 {
+            a = body(v, p, c, a);
+        } else if k != 0 {
+            a = walk(reals, words, used, c, q, p, theta2, v.first as usize, a);
+        }
         b += 1;
     }
     a
@@ -63,5 +60,13 @@ pub fn repulsive_force(
 {
     let neg = [0.0, 0.0, 0.0];
     let acc = Acc { neg, sum: 0.0 };
-    walk(reals, words, used, c, q, p, theta2, 0, acc)
+    let v = load(reals, words, 0);
+    let k = kind(v, q, p, theta2, c);
+    if k == 0 {
+        return acc;
+    }
+    if k == 1 {
+        return body(v, p, c, acc);
+    }
+    walk(reals, words, used, c, q, p, theta2, v.first as usize, acc)
 }
