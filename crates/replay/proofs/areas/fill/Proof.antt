@@ -2,23 +2,23 @@ use mathlib.Core.Path.{_≡_}
 use lib.ListN.{length}
 use Prim.Native.Nat.{_≤_, _-_}
 use borrow.Author.Needs.{needs}
-use Rattle.replay_preparation.proofs.mark.Statement.{statement}
-use Rattle.replay_preparation.proofs.mark.Tie as tie
+use Rattle.replay.proofs.areas.fill.Statement.{statement}
+use Rattle.replay.proofs.areas.fill.Tie as tie
 
 abbrev Inv-loop : tie.InvT-loop
-Inv-loop area₀ i₀ area i = (length area ≡ length area₀) × (i ≤ length area₀)
+Inv-loop area₀ m list a i₀ area i = (length area ≡ length area₀) × (i ≤ m)
 
 abbrev μ-loop : tie.MeasureT-loop
-μ-loop area₀ i₀ area i = length area₀ - i
+μ-loop area₀ m list a i₀ area i = m - i
 
 loop-holds : tie.Need-loop-holds Inv-loop μ-loop
 loop-holds c = search needs
 
-wrapping-add-u64-requires : tie.Need-wrapping-add-u64-requires Inv-loop μ-loop
-wrapping-add-u64-requires c κs = search needs
+plus-requires : tie.Need-plus-requires Inv-loop μ-loop
+plus-requires c κs = search needs
 
-value-of-requires : tie.Need-value-of-requires Inv-loop μ-loop
-value-of-requires c κs = search needs
+value-at-requires : tie.Need-value-at-requires Inv-loop μ-loop
+value-at-requires c κs = search needs
 
 mul-area : tie.Need-mul-area Inv-loop μ-loop
 mul-area c = search needs
@@ -41,15 +41,15 @@ same-length c = search needs
 returns : tie.Need-returns Inv-loop μ-loop
 returns c = search needs
 
-pub mark-spec : {M : Type 1} → statement M
-mark-spec =
+pub fill-spec : {M : Type 1} → statement M
+fill-spec =
     tie.close
     (tie.spec
     Inv-loop
     μ-loop
     loop-holds
-    wrapping-add-u64-requires
-    value-of-requires
+    plus-requires
+    value-at-requires
     mul-area
     slice-write-area
     add-i
