@@ -2,14 +2,14 @@ use mathlib.Core.Path.{_≡_}
 use lib.ListN.{length}
 use Prim.Native.Nat.{_≤_, _-_}
 use borrow.Author.Needs.{needs}
-use Rattle.replay_forces.proofs.areas.fill_words.Statement.{statement}
-use Rattle.replay_forces.proofs.areas.fill_words.Tie as tie
+use Rattle.replay_forces.proofs.areas.numbers_at.Statement.{statement}
+use Rattle.replay_forces.proofs.areas.numbers_at.Tie as tie
 
 abbrev Inv-loop : tie.InvT-loop
-Inv-loop area₀ m list a i₀ area i = (length area ≡ length area₀) × (i ≤ m)
+Inv-loop list a m numbers₀ i₀ numbers i = (length numbers ≡ 401) × (i ≤ m)
 
 abbrev μ-loop : tie.MeasureT-loop
-μ-loop area₀ m list a i₀ area i = m - i
+μ-loop list a m numbers₀ i₀ numbers i = m - i
 
 loop-holds : tie.Need-loop-holds Inv-loop μ-loop
 loop-holds c = search needs
@@ -20,11 +20,11 @@ plus-requires c κs = search needs
 number-at-requires : tie.Need-number-at-requires Inv-loop μ-loop
 number-at-requires c κs = search needs
 
-mul-area : tie.Need-mul-area Inv-loop μ-loop
-mul-area c = search needs
+mul-numbers : tie.Need-mul-numbers Inv-loop μ-loop
+mul-numbers c = search needs
 
-slice-write-area : tie.Need-slice-write-area Inv-loop μ-loop
-slice-write-area c = search needs
+array-write-numbers : tie.Need-array-write-numbers Inv-loop μ-loop
+array-write-numbers c = search needs
 
 add-i : tie.Need-add-i Inv-loop μ-loop
 add-i c = search needs
@@ -35,14 +35,11 @@ loop-less c = search needs
 loop-again : tie.Need-loop-again Inv-loop μ-loop
 loop-again c = search needs
 
-same-length : tie.Need-same-length Inv-loop μ-loop
-same-length c = search needs
-
 returns : tie.Need-returns Inv-loop μ-loop
 returns c = search needs
 
-pub fill-words-spec : {M : Type 1} → statement M
-fill-words-spec =
+pub numbers-at-spec : {M : Type 1} → statement M
+numbers-at-spec =
     tie.close
     (tie.spec
     Inv-loop
@@ -50,10 +47,9 @@ fill-words-spec =
     loop-holds
     plus-requires
     number-at-requires
-    mul-area
-    slice-write-area
+    mul-numbers
+    array-write-numbers
     add-i
     loop-less
     loop-again
-    same-length
     returns)
