@@ -1,4 +1,6 @@
-// What every replay program shares: the words of a list, the tally of what was compared, and its printing.
+// What every replay program shares: the words of a list, the areas that are compared with them, the tally of what was compared, and its printing.
+pub mod areas;
+
 ghost use mathlib.Core.Path.{_≡_};
 ghost use Prim.Native.Nat.{_≤_};
 ghost use lib.ListN.{length};

@@ -1,5 +1,7 @@
 // Replays the list of neighbours that the original chose: the k nearest, nearest first, with their distances.
 use near::neighbours::nearest;
+use replay::areas::mark;
+use replay::areas::mark_words;
 use replay::word_at;
 ghost use Prim.Native.Nat.{_+_, _≤_};
 ghost use lib.ListN.{length};
@@ -39,49 +41,38 @@ fn same_pairs(values: &[f64], indices: &[u32], k: usize, list: &[u8], a: usize) 
     true
 }
 
-// The case from word a on: n frames, of which the k nearest to frame i are chosen.
-fn case_right(
-    list: &[u8],
-    a: usize,
-    n: usize,
-    k: usize,
-    distances: &mut [f64],
-    values: &mut [f64],
-    indices: &mut [u32],
-) -> bool
+// The case from word a on: n frames, of which the k nearest to frame i are chosen. Areas without room count as wrong.
+fn case_right(list: &[u8], a: usize, n: usize, k: usize) -> bool
     requires { ⌜ (a ≤ 100000) × (n ≤ 1000) × (k ≤ 1000) ⌝ }
 {
     if k == 0 {
         return false;
     }
-    if distances.len() < n {
+    if n > 256 {
         return false;
     }
-    if values.len() < k {
+    if k > 256 {
         return false;
     }
-    if indices.len() < k {
-        return false;
-    }
-    read_distances(list, a + 3, distances, n);
+    let mut distances = [0.0; 256];
+    let mut values = [0.0; 256];
+    let mut indices = [0u32; 256];
+    mark(&mut values);
+    mark_words(&mut indices);
+    read_distances(list, a + 3, &mut distances, n);
     nearest(
-        distances,
+        &distances,
         n,
         k,
         word_at(list, a + 2) as usize,
-        values,
-        indices,
+        &mut values,
+        &mut indices,
     );
-    same_pairs(values, indices, k, list, a + 3 + n)
+    same_pairs(&values, &indices, k, list, a + 3 + n)
 }
 
 // Numbers that no case has end the replay, and count as wrong.
-pub(crate) fn cases(
-    list: &[u8],
-    distances: &mut [f64],
-    values: &mut [f64],
-    indices: &mut [u32],
-) -> replay::Tally {
+pub(crate) fn cases(list: &[u8]) -> replay::Tally {
     let words = list.len() / 8;
     let mut t = replay::Tally::new();
     let mut a: usize = 0;
@@ -97,7 +88,7 @@ pub(crate) fn cases(
         if k > 1000 {
             return t.with(false);
         }
-        t = t.with(case_right(list, a, n as usize, k as usize, distances, values, indices));
+        t = t.with(case_right(list, a, n as usize, k as usize));
         a = a + 3 + n as usize + 2 * k as usize;
     }
     t

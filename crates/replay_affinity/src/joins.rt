@@ -1,5 +1,7 @@
 // Replays the lists that the original made of rows of links: offsets, links and weights of all frames.
 use lists::symmetrise;
+use replay::areas::mark;
+use replay::areas::mark_words;
 use replay::word_at;
 ghost use mathlib.Core.Path.{_≡_};
 ghost use mathlib.Core.Bool.{true};
@@ -162,19 +164,8 @@ struct Next {
 }
 
 // The case from word a on: n rows of k links with their shares, then the offsets and the links of all lists. More links than the areas hold end the replay.
-fn case_at(
-    list: &[u8],
-    a: usize,
-    n: usize,
-    k: usize,
-    weights: &mut [f64],
-    indices: &mut [u32],
-    offsets: &mut [u32],
-    row_values: &mut [f64],
-    row_indices: &mut [u32],
-) -> Next
+fn case_at(list: &[u8], a: usize, n: usize, k: usize) -> Next
     requires { ⌜ (a ≤ 100000) × (n ≤ 64) × (k < n) ⌝ }
-    requires { ⌜ (length (now weights) ≡ 8192) × (length (now indices) ≡ 8192) × (length (now offsets) ≡ 65) × (length (now «row_values») ≡ 64) × (length (now «row_indices») ≡ 64) ⌝ }
     ensures { λ r. ⌜ (a < r .at) × (r .at ≤ 200000) ⌝ }
 {
     let m = product(n, k);
@@ -187,35 +178,35 @@ fn case_at(
         };
     }
     let count = links as usize;
-    read_links(list, a + 2, weights, indices, m, 2.0 * n as f64);
-    Next {
-        right: join_right(
-            list,
-            from,
-            n,
-            k,
-            count,
-            weights,
-            indices,
-            offsets,
-            row_values,
-            row_indices,
-        ),
-        at: from + n + 1 + 2 * count,
-    }
+    let at = from + n + 1 + 2 * count;
+    let mut weights = [0.0; 8192];
+    let mut indices = [0u32; 8192];
+    let mut offsets = [0u32; 65];
+    let mut row_values = [0.0; 64];
+    let mut row_indices = [0u32; 64];
+    mark(&mut weights);
+    mark_words(&mut indices);
+    mark_words(&mut offsets);
+    mark(&mut row_values);
+    mark_words(&mut row_indices);
+    read_links(list, a + 2, &mut weights, &mut indices, m, 2.0 * n as f64);
+    let right = join_right(
+        list,
+        from,
+        n,
+        k,
+        count,
+        &mut weights,
+        &mut indices,
+        &mut offsets,
+        &mut row_values,
+        &mut row_indices,
+    );
+    Next { right, at }
 }
 
 // Numbers that no case has end the replay, and count as wrong.
-pub(crate) fn cases(
-    list: &[u8],
-    weights: &mut [f64],
-    indices: &mut [u32],
-    offsets: &mut [u32],
-    row_values: &mut [f64],
-    row_indices: &mut [u32],
-) -> replay::Tally
-    requires { ⌜ (length (now weights) ≡ 8192) × (length (now indices) ≡ 8192) × (length (now offsets) ≡ 65) × (length (now «row_values») ≡ 64) × (length (now «row_indices») ≡ 64) ⌝ }
-{
+pub(crate) fn cases(list: &[u8]) -> replay::Tally {
     let end = list.len() / 8;
     let mut t = replay::Tally::new();
     let mut a: usize = 0;
@@ -225,17 +216,7 @@ pub(crate) fn cases(
         if !sizes_right(a, n, k) {
             return t.with(false);
         }
-        let next = case_at(
-            list,
-            a,
-            n,
-            k,
-            weights,
-            indices,
-            offsets,
-            row_values,
-            row_indices,
-        );
+        let next = case_at(list, a, n, k);
         t = t.with(next.right);
         a = next.at;
     }

@@ -1,11 +1,22 @@
-// Areas of the replay: marked, filled, altered, and held against their digests.
+// The areas of a run, one value at a time: altered, and held against their digests.
+use replay::areas::mark;
+use replay::areas::mark_words;
+use replay::areas::plus;
 use replay::word_at;
 ghost use Prim.Native.Nat.{_≤_};
 ghost use lib.ListN.{length};
 
-// A word's place further on.
-pub(crate) fn plus(a: usize, b: usize) -> usize {
-    std::num::wrapping_add_usize(a, b)
+// The nine areas of a work call, with room for every case.
+pub(crate) struct Areas {
+    pub(crate) positions: [f64; 132],
+    pub(crate) increments: [f64; 132],
+    pub(crate) gains: [f64; 132],
+    pub(crate) affinities: [f64; 4100],
+    pub(crate) indices: [u32; 2052],
+    pub(crate) offsets: [u32; 70],
+    pub(crate) forces: [f64; 324],
+    pub(crate) reals: [f64; 4608],
+    pub(crate) words: [u32; 1536],
 }
 
 // The word as a number, but no more than most.
@@ -27,55 +38,41 @@ pub(crate) fn narrow(w: u64) -> u32 {
     w as u32
 }
 
-// The first m places take the words from a on.
-pub(crate) fn fill(area: &mut [f64], m: usize, list: &[u8], a: usize)
-    requires { ⌜ m ≤ length (now area) ⌝ }
-{
-    let mut i = 0;
-    while i < m {
-        area[i] = elementary::value_of(word_at(list, plus(a, i)));
-        i += 1;
+// Areas in which each place holds its mark.
+pub(crate) fn marked() -> Areas {
+    let mut positions = [0.0; 132];
+    let mut increments = [0.0; 132];
+    let mut gains = [0.0; 132];
+    let mut affinities = [0.0; 4100];
+    let mut indices = [0u32; 2052];
+    let mut offsets = [0u32; 70];
+    let mut forces = [0.0; 324];
+    let mut reals = [0.0; 4608];
+    let mut words = [0u32; 1536];
+    mark(&mut positions);
+    mark(&mut increments);
+    mark(&mut gains);
+    mark(&mut affinities);
+    mark_words(&mut indices);
+    mark_words(&mut offsets);
+    mark(&mut forces);
+    mark(&mut reals);
+    mark_words(&mut words);
+    Areas {
+        positions,
+        increments,
+        gains,
+        affinities,
+        indices,
+        offsets,
+        forces,
+        reals,
+        words,
     }
-}
-
-// Of the first m places, place i holds the value with the bits 4000000000000000 + i.
-fn mark_first(area: &mut [f64], m: usize)
-    requires { ⌜ m ≤ length (now area) ⌝ }
-{
-    let mut i = 0;
-    while i < m {
-        area[i] = elementary::value_of(std::num::wrapping_add_u64(0x4000000000000000, i as u64));
-        i += 1;
-    }
-}
-
-// Of the first m places, place i holds 40000000 + i, in hex.
-fn mark_first_words(area: &mut [u32], m: usize)
-    requires { ⌜ m ≤ length (now area) ⌝ }
-{
-    let mut w: u32 = 0x40000000;
-    let mut i = 0;
-    while i < m {
-        area[i] = w;
-        w = std::num::wrapping_add_u32(w, 1);
-        i += 1;
-    }
-}
-
-// As many places as word i says hold their marks.
-pub(crate) fn mark(area: &mut [f64], list: &[u8], i: usize) {
-    let m = least(word_at(list, i), area.len());
-    mark_first(area, m);
-}
-
-// The same of numbers.
-pub(crate) fn mark_words(area: &mut [u32], list: &[u8], i: usize) {
-    let m = least(word_at(list, i), area.len());
-    mark_first_words(area, m);
 }
 
 // The alteration at word b, if it is of this part: a place of the area takes the value.
-pub(crate) fn alter(area: &mut [f64], list: &[u8], b: usize, part: u64) {
+fn alter(area: &mut [f64], list: &[u8], b: usize, part: u64) {
     if word_at(list, b) == part {
         let i = word_at(list, plus(b, 1)) as usize;
         let w = word_at(list, plus(b, 2));
@@ -86,13 +83,46 @@ pub(crate) fn alter(area: &mut [f64], list: &[u8], b: usize, part: u64) {
 }
 
 // The same of numbers.
-pub(crate) fn alter_words(area: &mut [u32], list: &[u8], b: usize, part: u64) {
+fn alter_words(area: &mut [u32], list: &[u8], b: usize, part: u64) {
     if word_at(list, b) == part {
         let i = word_at(list, plus(b, 1)) as usize;
         let w = narrow(word_at(list, plus(b, 2)));
         if i < area.len() {
             area[i] = w;
         }
+    }
+}
+
+// The areas with the alteration at word b made.
+pub(crate) fn altered(s: Areas, list: &[u8], b: usize) -> Areas {
+    let mut positions = s.positions;
+    let mut increments = s.increments;
+    let mut gains = s.gains;
+    let mut affinities = s.affinities;
+    let mut indices = s.indices;
+    let mut offsets = s.offsets;
+    let mut forces = s.forces;
+    let mut reals = s.reals;
+    let mut words = s.words;
+    alter(&mut positions, list, b, 2);
+    alter(&mut increments, list, b, 3);
+    alter(&mut gains, list, b, 4);
+    alter(&mut affinities, list, b, 5);
+    alter_words(&mut indices, list, b, 6);
+    alter_words(&mut offsets, list, b, 7);
+    alter(&mut forces, list, b, 8);
+    alter(&mut reals, list, b, 9);
+    alter_words(&mut words, list, b, 10);
+    Areas {
+        positions,
+        increments,
+        gains,
+        affinities,
+        indices,
+        offsets,
+        forces,
+        reals,
+        words,
     }
 }
 
@@ -131,20 +161,60 @@ fn digest_words(area: &[u32], m: usize) -> u64
     d
 }
 
-// As many places as word i says have the digest of word j; an area without room counts as wrong.
-pub(crate) fn same(area: &[f64], list: &[u8], i: usize, j: usize) -> bool {
-    let m = word_at(list, i) as usize;
+// As many places as word i says have the digest of word j, each word k further on; an area without room counts as wrong.
+pub(crate) fn same(area: &[f64], list: &[u8], i: usize, j: usize, k: usize) -> bool {
+    let m = word_at(list, plus(i, k)) as usize;
     if m > area.len() {
         return false;
     }
-    digest(area, m) == word_at(list, j)
+    digest(area, m) == word_at(list, plus(j, k))
 }
 
 // The same of numbers.
-pub(crate) fn same_words(area: &[u32], list: &[u8], i: usize, j: usize) -> bool {
-    let m = word_at(list, i) as usize;
+pub(crate) fn same_words(area: &[u32], list: &[u8], i: usize, j: usize, k: usize) -> bool {
+    let m = word_at(list, plus(i, k)) as usize;
     if m > area.len() {
         return false;
     }
-    digest_words(area, m) == word_at(list, j)
+    digest_words(area, m) == word_at(list, plus(j, k))
+}
+
+pub(crate) fn both(a: bool, b: bool) -> bool {
+    if a {
+        return b;
+    }
+    false
+}
+
+// The areas of values have their digests among those from word j on; the words from i on say how long they are.
+fn same_values(s: Areas, list: &[u8], i: usize, j: usize) -> bool {
+    let positions = s.positions;
+    let increments = s.increments;
+    let gains = s.gains;
+    let affinities = s.affinities;
+    let forces = s.forces;
+    let reals = s.reals;
+    let p = same(&positions, list, i, j, 0);
+    let q = same(&increments, list, i, j, 1);
+    let g = same(&gains, list, i, j, 2);
+    let a = same(&affinities, list, i, j, 3);
+    let f = same(&forces, list, i, j, 6);
+    let r = same(&reals, list, i, j, 7);
+    both(both(both(p, q), both(g, a)), both(f, r))
+}
+
+// The areas of numbers.
+fn same_numbers(s: Areas, list: &[u8], i: usize, j: usize) -> bool {
+    let indices = s.indices;
+    let offsets = s.offsets;
+    let words = s.words;
+    let x = same_words(&indices, list, i, j, 4);
+    let o = same_words(&offsets, list, i, j, 5);
+    let w = same_words(&words, list, i, j, 8);
+    both(both(x, o), w)
+}
+
+// The nine areas have the digests from word j on; the words from i on say how long they are.
+pub(crate) fn same_areas(s: Areas, list: &[u8], i: usize, j: usize) -> bool {
+    both(same_values(s, list, i, j), same_numbers(s, list, i, j))
 }

@@ -1,11 +1,11 @@
 // The settings, the record and the answers, as a list has them.
-use crate::areas::plus;
 use descent::Answer;
 use entry::Fault;
 use record::Method;
 use record::Run;
 use record::Settings;
 use record::Standing;
+use replay::areas::plus;
 use replay::word_at;
 
 // What a call alters in the record: a field and its word. From 14 on there is no such field.
@@ -94,7 +94,7 @@ fn or_standing(x: Change, old: Standing) -> Standing {
     old
 }
 
-fn altered_settings(s: Settings, x: Change) -> Settings {
+fn changed_settings(s: Settings, x: Change) -> Settings {
     let m = s.method;
     let method = or_method(x, m);
     Settings {
@@ -111,10 +111,10 @@ fn altered_settings(s: Settings, x: Change) -> Settings {
 }
 
 // The record with the change made.
-pub(crate) fn altered(r: Run, x: Change) -> Run {
+pub(crate) fn changed(r: Run, x: Change) -> Run {
     let s = r.settings;
     let st = r.standing;
-    let settings = altered_settings(s, x);
+    let settings = changed_settings(s, x);
     let standing = or_standing(x, st);
     Run {
         settings,

@@ -5,99 +5,30 @@ mod lent;
 mod preparation;
 mod working;
 
-use areas::plus;
+use areas::both;
 use preparation::answer_place;
 use preparation::begin;
+use replay::areas::plus;
 use replay::word_at;
 use working::all_calls;
-use working::both;
 
 // The case from word a on.
-fn case_right(
-    list: &[u8],
-    a: usize,
-    positions: &mut [f64],
-    increments: &mut [f64],
-    gains: &mut [f64],
-    affinities: &mut [f64],
-    indices: &mut [u32],
-    offsets: &mut [u32],
-    forces: &mut [f64],
-    reals: &mut [f64],
-    words: &mut [u32],
-    row_values: &mut [f64],
-    row_indices: &mut [u32],
-) -> bool {
-    let begun = begin(
-        list,
-        a,
-        positions,
-        increments,
-        gains,
-        affinities,
-        indices,
-        offsets,
-        forces,
-        reals,
-        words,
-        row_values,
-        row_indices,
-    );
+fn case_right(list: &[u8], a: usize) -> bool {
+    let begun = begin(list, a);
     let run = begun.run;
-    let right = all_calls(
-        list,
-        a,
-        plus(answer_place(list, a), 13),
-        begun.calls,
-        run,
-        positions,
-        increments,
-        gains,
-        affinities,
-        indices,
-        offsets,
-        forces,
-        reals,
-        words,
-    );
+    let areas = begun.areas;
+    let first = plus(answer_place(list, a), 13);
+    let right = all_calls(list, a, first, begun.calls, run, areas);
     both(begun.right, right)
 }
 
 // A case that does not lead on ends the replay, and counts as wrong.
-fn cases(
-    list: &[u8],
-    positions: &mut [f64],
-    increments: &mut [f64],
-    gains: &mut [f64],
-    affinities: &mut [f64],
-    indices: &mut [u32],
-    offsets: &mut [u32],
-    forces: &mut [f64],
-    reals: &mut [f64],
-    words: &mut [u32],
-    row_values: &mut [f64],
-    row_indices: &mut [u32],
-) -> replay::Tally {
+fn cases(list: &[u8]) -> replay::Tally {
     let count = list.len() / 8;
     let mut t = replay::Tally::new();
     let mut a: usize = 0;
     while a < count {
-        let right = case_right(
-            list,
-            a,
-            positions,
-            increments,
-            gains,
-            affinities,
-            indices,
-            offsets,
-            forces,
-            reals,
-            words,
-            row_values,
-            row_indices,
-        );
-        t = t.with(right);
+        t = t.with(case_right(list, a));
         let at = plus(a, word_at(list, a) as usize);
         if at <= a {
             return t.with(false);
@@ -110,32 +41,7 @@ fn cases(
 // One list, with a line for it.
 fn replay_list(path: &[u8], name: &[u8], list: &mut [u8]) {
     let n = replay::load(path, list);
-    let mut positions = [0.0; 132];
-    let mut increments = [0.0; 132];
-    let mut gains = [0.0; 132];
-    let mut affinities = [0.0; 4100];
-    let mut indices = [0u32; 2052];
-    let mut offsets = [0u32; 70];
-    let mut forces = [0.0; 324];
-    let mut reals = [0.0; 4608];
-    let mut words = [0u32; 1536];
-    let mut row_values = [0.0; 68];
-    let mut row_indices = [0u32; 68];
-    let t = cases(
-        &list[..n],
-        &mut positions,
-        &mut increments,
-        &mut gains,
-        &mut affinities,
-        &mut indices,
-        &mut offsets,
-        &mut forces,
-        &mut reals,
-        &mut words,
-        &mut row_values,
-        &mut row_indices,
-    );
-    replay::print(name, t);
+    replay::print(name, cases(&list[..n]));
 }
 
 fn main() {

@@ -1,95 +1,114 @@
-// The preparation of a case: the areas marked, lent as far as the case says, and held against their digests.
-use crate::areas::fill;
+// The preparation of a case: marked areas, lent as far as the case says, and held against their digests.
+use crate::areas::Areas;
+use crate::areas::both;
 use crate::areas::least;
-use crate::areas::mark;
-use crate::areas::mark_words;
-use crate::areas::plus;
+use crate::areas::marked;
 use crate::areas::same;
+use crate::areas::same_areas;
 use crate::areas::same_words;
 use crate::fields::settings_at;
-use crate::lent::Lent;
+use crate::lent::length_at;
 use crate::lent::lent_at;
-use crate::lent::same_areas;
 use prepare::Prepared;
 use record::Run;
 use record::Settings;
 use record::Standing;
+use replay::areas::fill;
+use replay::areas::mark;
+use replay::areas::mark_words;
+use replay::areas::plus;
 use replay::word_at;
 ghost use Prim.Native.Nat.{_≤_};
 ghost use lib.ListN.{length};
 
-// The areas of values, marked as far as the words from i on say.
-fn mark_values(
+// How many words table and start have in the case from word a on; no more than there is room for.
+fn table_length(list: &[u8], a: usize) -> usize
+    ensures { λ r. ⌜ r ≤ 200 ⌝ }
+{
+    length_at(list, a, 21, 200)
+}
+
+fn start_length(list: &[u8], a: usize) -> usize
+    ensures { λ r. ⌜ r ≤ 200 ⌝ }
+{
+    length_at(list, a, 22, 200)
+}
+
+// The word with the answer of the preparation of the case from word a on.
+pub(crate) fn answer_place(list: &[u8], a: usize) -> usize {
+    plus(
+        plus(a, 23),
+        plus(table_length(list, a), start_length(list, a)),
+    )
+}
+
+// The m values from word a on.
+fn values_at(list: &[u8], a: usize, m: usize) -> [f64; 200]
+    requires { ⌜ m ≤ 200 ⌝ }
+{
+    let mut values = [0.0; 200];
+    fill(&mut values, m, list, a);
+    values
+}
+
+// The two rows that a preparation is lent beside the areas.
+struct Rows {
+    values: [f64; 68],
+    indices: [u32; 68],
+}
+
+// Rows in which each place holds its mark.
+fn marked_rows() -> Rows {
+    let mut values = [0.0; 68];
+    let mut indices = [0u32; 68];
+    mark(&mut values);
+    mark_words(&mut indices);
+    Rows { values, indices }
+}
+
+// The rows have the last two of the digests from word j on; the words from i on say how long they are.
+fn same_rows(s: Rows, list: &[u8], i: usize, j: usize) -> bool {
+    let values = s.values;
+    let indices = s.indices;
+    let x = same(&values, list, i, j, 9);
+    both(x, same_words(&indices, list, i, j, 10))
+}
+
+// What a preparation gives: its outcome, the areas and the rows.
+struct Ready {
+    outcome: Prepared,
+    areas: Areas,
+    rows: Rows,
+}
+
+// The preparation of the case from word a on, with areas and rows lent as far as it says.
+fn prepared(
     list: &[u8],
-    i: usize,
-    positions: &mut [f64],
-    increments: &mut [f64],
-    gains: &mut [f64],
-    affinities: &mut [f64],
-    forces: &mut [f64],
-    reals: &mut [f64],
-    row_values: &mut [f64],
-) {
-    mark(positions, list, i);
-    mark(increments, list, plus(i, 1));
-    mark(gains, list, plus(i, 2));
-    mark(affinities, list, plus(i, 3));
-    mark(forces, list, plus(i, 6));
-    mark(reals, list, plus(i, 7));
-    mark(row_values, list, plus(i, 9));
-}
-
-// The areas of numbers.
-fn mark_numbers(
-    list: &[u8],
-    i: usize,
-    indices: &mut [u32],
-    offsets: &mut [u32],
-    words: &mut [u32],
-    row_indices: &mut [u32],
-) {
-    mark_words(indices, list, plus(i, 4));
-    mark_words(offsets, list, plus(i, 5));
-    mark_words(words, list, plus(i, 8));
-    mark_words(row_indices, list, plus(i, 10));
-}
-
-// The two rows.
-fn same_rows(list: &[u8], i: usize, j: usize, row_values: &[f64], row_indices: &[u32]) -> bool {
-    if !same(row_values, list, plus(i, 9), plus(j, 9)) {
-        return false;
-    }
-    same_words(row_indices, list, plus(i, 10), plus(j, 10))
-}
-
-// The preparation, with the areas lent as far as l says, the rows as far as v and k, table and start as far as t and u.
-fn prepare_lent(
-    l: Lent,
-    v: usize,
-    k: usize,
-    t: usize,
-    u: usize,
+    a: usize,
     s: Settings,
     table: &[f64],
     start: &[f64],
-    positions: &mut [f64],
-    increments: &mut [f64],
-    gains: &mut [f64],
-    affinities: &mut [f64],
-    indices: &mut [u32],
-    offsets: &mut [u32],
-    forces: &mut [f64],
-    row_values: &mut [f64],
-    row_indices: &mut [u32],
-    reals: &[f64],
-    words: &[u32],
-) -> Prepared
-    requires { ⌜ (l .positions ≤ length (now positions)) × (l .increments ≤ length (now increments)) × (l .gains ≤ length (now gains)) × (l .affinities ≤ length (now affinities)) × (l .indices ≤ length (now indices)) × (l .offsets ≤ length (now offsets)) × (l .forces ≤ length (now forces)) × (l .reals ≤ length (now reals)) × (l .words ≤ length (now words)) × (v ≤ length (now «row_values»)) × (k ≤ length (now «row_indices»)) × (t ≤ length (now table)) × (u ≤ length (now start)) ⌝ }
-{
-    prepare::prepare(
+    m: Areas,
+    r: Rows,
+) -> Ready {
+    let l = lent_at(list, plus(a, 10));
+    let v = length_at(list, a, 19, 68);
+    let k = length_at(list, a, 20, 68);
+    let mut positions = m.positions;
+    let mut increments = m.increments;
+    let mut gains = m.gains;
+    let mut affinities = m.affinities;
+    let mut indices = m.indices;
+    let mut offsets = m.offsets;
+    let mut forces = m.forces;
+    let reals = m.reals;
+    let words = m.words;
+    let mut row_values = r.values;
+    let mut row_indices = r.indices;
+    let outcome = prepare::prepare(
         s,
-        &table[..t],
-        &start[..u],
+        table,
+        start,
         &mut positions[..l.positions],
         &mut increments[..l.increments],
         &mut gains[..l.gains],
@@ -101,119 +120,8 @@ fn prepare_lent(
         &mut row_indices[..k],
         &reals[..l.reals],
         &words[..l.words],
-    )
-}
-
-// How many words table and start have in the case from word a on; no more than there is room for.
-pub(crate) fn table_length(list: &[u8], a: usize) -> usize
-    ensures { λ r. ⌜ r ≤ 200 ⌝ }
-{
-    least(word_at(list, plus(a, 21)), 200)
-}
-
-pub(crate) fn start_length(list: &[u8], a: usize) -> usize
-    ensures { λ r. ⌜ r ≤ 200 ⌝ }
-{
-    least(word_at(list, plus(a, 22)), 200)
-}
-
-// The word with the answer of the preparation of the case from word a on.
-pub(crate) fn answer_place(list: &[u8], a: usize) -> usize {
-    plus(
-        plus(a, 23),
-        plus(table_length(list, a), start_length(list, a)),
-    )
-}
-
-// The preparation of the case from word a on, on marked areas.
-fn prepared(
-    list: &[u8],
-    a: usize,
-    s: Settings,
-    table: &[f64],
-    start: &[f64],
-    positions: &mut [f64],
-    increments: &mut [f64],
-    gains: &mut [f64],
-    affinities: &mut [f64],
-    indices: &mut [u32],
-    offsets: &mut [u32],
-    forces: &mut [f64],
-    reals: &[f64],
-    words: &[u32],
-    row_values: &mut [f64],
-    row_indices: &mut [u32],
-) -> Prepared {
-    let l = lent_at(
-        list,
-        plus(a, 10),
-        positions.len(),
-        increments.len(),
-        gains.len(),
-        affinities.len(),
-        indices.len(),
-        offsets.len(),
-        forces.len(),
-        reals.len(),
-        words.len(),
     );
-    let v = least(word_at(list, plus(a, 19)), row_values.len());
-    let k = least(word_at(list, plus(a, 20)), row_indices.len());
-    let t = least(word_at(list, plus(a, 21)), table.len());
-    let u = least(word_at(list, plus(a, 22)), start.len());
-    prepare_lent(
-        l,
-        v,
-        k,
-        t,
-        u,
-        s,
-        table,
-        start,
-        positions,
-        increments,
-        gains,
-        affinities,
-        indices,
-        offsets,
-        forces,
-        row_values,
-        row_indices,
-        reals,
-        words,
-    )
-}
-
-// The same, with table and start taken from the list.
-fn filled(
-    list: &[u8],
-    a: usize,
-    s: Settings,
-    positions: &mut [f64],
-    increments: &mut [f64],
-    gains: &mut [f64],
-    affinities: &mut [f64],
-    indices: &mut [u32],
-    offsets: &mut [u32],
-    forces: &mut [f64],
-    reals: &[f64],
-    words: &[u32],
-    row_values: &mut [f64],
-    row_indices: &mut [u32],
-) -> Prepared {
-    let mut table = [0.0; 200];
-    let mut start = [0.0; 200];
-    let t = table_length(list, a);
-    let u = start_length(list, a);
-    let b = plus(a, 23);
-    fill(&mut table, t, list, b);
-    fill(&mut start, u, list, plus(b, t));
-    prepared(
-        list,
-        a,
-        s,
-        &table,
-        &start,
+    let areas = Areas {
         positions,
         increments,
         gains,
@@ -223,14 +131,22 @@ fn filled(
         forces,
         reals,
         words,
-        row_values,
-        row_indices,
-    )
+    };
+    let rows = Rows {
+        values: row_values,
+        indices: row_indices,
+    };
+    Ready {
+        outcome,
+        areas,
+        rows,
+    }
 }
 
-// What a preparation leaves: the record, the number of calls that follow, and whether all came out as listed.
+// What a preparation leaves: the record, the areas, the number of calls that follow, and whether all came out as listed.
 pub(crate) struct Begun {
     pub(crate) run: Run,
+    pub(crate) areas: Areas,
     pub(crate) calls: usize,
     pub(crate) right: bool,
 }
@@ -271,146 +187,39 @@ fn calls_after(k: u64, list: &[u8], i: usize) -> usize
     0
 }
 
-// The answer and all eleven digests are as listed.
-fn same_prepared(
-    k: u64,
-    list: &[u8],
-    a: usize,
-    positions: &[f64],
-    increments: &[f64],
-    gains: &[f64],
-    affinities: &[f64],
-    indices: &[u32],
-    offsets: &[u32],
-    forces: &[f64],
-    reals: &[f64],
-    words: &[u32],
-    row_values: &[f64],
-    row_indices: &[u32],
-) -> bool {
-    let b = answer_place(list, a);
-    if k != word_at(list, b) {
-        return false;
-    }
-    if !same_rows(list, plus(a, 10), plus(b, 1), row_values, row_indices) {
-        return false;
-    }
-    same_areas(
-        list,
-        plus(a, 10),
-        plus(b, 1),
-        positions,
-        increments,
-        gains,
-        affinities,
-        indices,
-        offsets,
-        forces,
-        reals,
-        words,
-    )
-}
-
-// The case from word a on, on marked areas.
-fn begin_marked(
-    list: &[u8],
-    a: usize,
-    positions: &mut [f64],
-    increments: &mut [f64],
-    gains: &mut [f64],
-    affinities: &mut [f64],
-    indices: &mut [u32],
-    offsets: &mut [u32],
-    forces: &mut [f64],
-    reals: &[f64],
-    words: &[u32],
-    row_values: &mut [f64],
-    row_indices: &mut [u32],
-) -> Begun
+// The case from word a on: its preparation, of which the answer and all eleven digests are compared.
+pub(crate) fn begin(list: &[u8], a: usize) -> Begun
     ensures { λ r. ⌜ r .calls ≤ length (now (list .entry)) ⌝ }
 {
     let s = settings_at(list, plus(a, 1));
-    let p = filled(
+    let t = table_length(list, a);
+    let u = start_length(list, a);
+    let table = values_at(list, plus(a, 23), t);
+    let start = values_at(list, plus(plus(a, 23), t), u);
+    let p = prepared(
         list,
         a,
         s,
-        positions,
-        increments,
-        gains,
-        affinities,
-        indices,
-        offsets,
-        forces,
-        reals,
-        words,
-        row_values,
-        row_indices,
+        &table[..t],
+        &start[..u],
+        marked(),
+        marked_rows(),
     );
-    let k = refusal(p);
-    let right = same_prepared(
-        k,
-        list,
-        a,
-        positions,
-        increments,
-        gains,
-        affinities,
-        indices,
-        offsets,
-        forces,
-        reals,
-        words,
-        row_values,
-        row_indices,
-    );
-    let run = run_of(p, s);
-    let calls = calls_after(k, list, plus(answer_place(list, a), 12));
-    Begun { run, calls, right }
-}
-
-// The case from word a on: marks in the areas, then its preparation.
-pub(crate) fn begin(
-    list: &[u8],
-    a: usize,
-    positions: &mut [f64],
-    increments: &mut [f64],
-    gains: &mut [f64],
-    affinities: &mut [f64],
-    indices: &mut [u32],
-    offsets: &mut [u32],
-    forces: &mut [f64],
-    reals: &mut [f64],
-    words: &mut [u32],
-    row_values: &mut [f64],
-    row_indices: &mut [u32],
-) -> Begun
-    ensures { λ r. ⌜ r .calls ≤ length (now (list .entry)) ⌝ }
-{
-    mark_values(
-        list,
-        plus(a, 10),
-        positions,
-        increments,
-        gains,
-        affinities,
-        forces,
-        reals,
-        row_values,
-    );
-    mark_numbers(list, plus(a, 10), indices, offsets, words, row_indices);
-    begin_marked(
-        list,
-        a,
-        positions,
-        increments,
-        gains,
-        affinities,
-        indices,
-        offsets,
-        forces,
-        reals,
-        words,
-        row_values,
-        row_indices,
-    )
+    let outcome = p.outcome;
+    let areas = p.areas;
+    let rows = p.rows;
+    let k = refusal(outcome);
+    let b = answer_place(list, a);
+    let i = plus(a, 10);
+    let j = plus(b, 1);
+    let answered = both(k == word_at(list, b), same_rows(rows, list, i, j));
+    let right = both(answered, same_areas(areas, list, i, j));
+    let run = run_of(outcome, s);
+    let calls = calls_after(k, list, plus(b, 12));
+    Begun {
+        run,
+        areas,
+        calls,
+        right,
+    }
 }

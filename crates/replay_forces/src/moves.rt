@@ -1,9 +1,9 @@
 // Steps before centring: each element's gain, increment and moved position.
-use crate::areas::fill;
-use crate::areas::plus;
-use crate::areas::same_value;
 use crate::areas::times;
-use crate::areas::value_at;
+use crate::areas::values_at;
+use replay::areas::plus;
+use replay::areas::same_value;
+use replay::areas::value_at;
 use replay::word_at;
 use step::Element;
 use step::Pace;
@@ -49,73 +49,15 @@ fn same_moves(
     true
 }
 
-// Gradient, positions, increments and gains take m words each, from a on.
-fn ready(
-    list: &[u8],
-    a: usize,
-    m: usize,
-    forces: &mut [f64],
-    positions: &mut [f64],
-    increments: &mut [f64],
-    gains: &mut [f64],
-)
-    requires { ⌜ (m ≤ length (now forces)) × (m ≤ length (now positions)) × (m ≤ length (now increments)) × (m ≤ length (now gains)) ⌝ }
-{
-    let b = plus(a, m);
-    let d = plus(b, m);
-    fill(forces, m, list, a);
-    fill(positions, m, list, b);
-    fill(increments, m, list, d);
-    fill(gains, m, list, plus(d, m));
-}
-
-// A case with room: m is n·c, and its gradient begins at word a.
-fn moves_in(
-    list: &[u8],
-    a: usize,
-    n: usize,
-    c: usize,
-    m: usize,
-    pace: Pace,
-    forces: &mut [f64],
-    positions: &mut [f64],
-    increments: &mut [f64],
-    gains: &mut [f64],
-) -> bool
-    requires { ⌜ (0 < c) × (c ≤ 8) × (m ≡ n * c) × (n * (2 * c + 1) ≤ length (now forces)) × (m ≤ length (now forces)) × (m ≤ length (now positions)) × (m ≤ length (now increments)) × (m ≤ length (now gains)) ⌝ }
-{
-    ready(list, a, m, forces, positions, increments, gains);
-    let e = plus(plus(a, plus(m, m)), plus(m, m));
-    same_moves(list, e, n, c, m, pace, forces, positions, increments, gains)
-}
-
 // A case from word a on: n, c, momentum, rate, gradient, positions, increments and gains, then positions, increments and gains. Areas without room count as wrong.
-fn moves_case(
-    list: &[u8],
-    a: usize,
-    n: usize,
-    c: usize,
-    forces: &mut [f64],
-    positions: &mut [f64],
-    increments: &mut [f64],
-    gains: &mut [f64],
-) -> bool
+fn moves_case(list: &[u8], a: usize, n: usize, c: usize) -> bool
     requires { ⌜ (n ≤ 12) × (0 < c) × (c ≤ 8) ⌝ }
 {
     let m = times(n, c);
-    if times(n, 2 * c + 1) > forces.len() {
+    if m > 400 {
         return false;
     }
-    if m > forces.len() {
-        return false;
-    }
-    if m > positions.len() {
-        return false;
-    }
-    if m > increments.len() {
-        return false;
-    }
-    if m > gains.len() {
+    if times(n, 2 * c + 1) > 400 {
         return false;
     }
     let pace = Pace {
@@ -124,28 +66,29 @@ fn moves_case(
         momentum: value_at(list, plus(a, 2)),
         rate: value_at(list, plus(a, 3)),
     };
-    moves_in(
+    let b = plus(a, 4);
+    let d = plus(b, plus(m, m));
+    let forces = values_at(list, b, m);
+    let positions = values_at(list, plus(b, m), m);
+    let increments = values_at(list, d, m);
+    let gains = values_at(list, plus(d, m), m);
+    let e = plus(d, plus(m, m));
+    same_moves(
         list,
-        plus(a, 4),
+        e,
         n,
         c,
         m,
         pace,
-        forces,
-        positions,
-        increments,
-        gains,
+        &forces,
+        &positions,
+        &increments,
+        &gains,
     )
 }
 
 // A size that no case has ends the replay, and counts as wrong.
-pub(crate) fn moves_cases(
-    list: &[u8],
-    forces: &mut [f64],
-    positions: &mut [f64],
-    increments: &mut [f64],
-    gains: &mut [f64],
-) -> replay::Tally {
+pub(crate) fn moves_cases(list: &[u8]) -> replay::Tally {
     let words = list.len() / 8;
     let mut t = replay::Tally::new();
     let mut a: usize = 0;
@@ -164,16 +107,7 @@ pub(crate) fn moves_cases(
         if a > 100000 {
             return t.with(false);
         }
-        t = t.with(moves_case(
-            list,
-            a,
-            n as usize,
-            c as usize,
-            forces,
-            positions,
-            increments,
-            gains,
-        ));
+        t = t.with(moves_case(list, a, n as usize, c as usize));
         a = a + 4 + 7 * times(n as usize, c as usize);
     }
     t

@@ -1,18 +1,18 @@
 // Barnes-Hut gradients: the normaliser and every element, out of the forces of all points.
-use crate::areas::fill;
-use crate::areas::fill_words;
-use crate::areas::mark;
-use crate::areas::plus;
-use crate::areas::same_tail;
-use crate::areas::same_value;
+use crate::areas::numbers_at;
 use crate::areas::times;
-use crate::areas::value_at;
+use crate::areas::values_at;
 use crate::growth::fine;
 use crate::growth::grow;
 use crate::links::linked;
 use gradient::element::gradient_at;
 use gradient::element::normaliser;
 use gradient::forces::point_forces;
+use replay::areas::mark;
+use replay::areas::plus;
+use replay::areas::same_area;
+use replay::areas::same_value;
+use replay::areas::value_at;
 use replay::word_at;
 ghost use mathlib.Core.Path.{_≡_};
 ghost use mathlib.Core.Bool.{true};
@@ -129,28 +129,7 @@ fn same_gradient(forces: &[f64], n: usize, c: usize, m: usize, list: &[u8], a: u
     true
 }
 
-// Positions, offsets, indices and weights of a case take their words.
-fn ready(
-    list: &[u8],
-    s: Case,
-    m: usize,
-    positions: &mut [f64],
-    weights: &mut [f64],
-    indices: &mut [u32],
-    offsets: &mut [u32],
-)
-    requires { ⌜ (s .n ≤ 64) × (m ≤ length (now positions)) × (s .links ≤ length (now weights)) × (s .links ≤ length (now indices)) × (s .n < length (now offsets)) ⌝ }
-{
-    let n = s.n as usize;
-    let b = plus(s.at, m);
-    let d = plus(b, n + 1);
-    fill(positions, m, list, s.at);
-    fill_words(offsets, n + 1, list, b);
-    fill_words(indices, s.links, list, d);
-    fill(weights, s.links, list, plus(d, s.links));
-}
-
-// The forces of a case that is ready, in an area of marks.
+// The tree of a case, and in it the forces of every point.
 fn forces_of(
     s: Case,
     positions: &[f64],
@@ -158,13 +137,12 @@ fn forces_of(
     indices: &[u32],
     offsets: &[u32],
     forces: &mut [f64],
-    reals: &mut [f64],
-    words: &mut [u32],
 ) -> bool
     requires { ⌜ (Axes (s .c)) × (s .n ≤ 64) × (s .n * s .c ≤ length (now positions)) × (s .n * (2 * s .c + 1) ≤ length (now forces)) ⌝ }
 {
-    mark(forces);
-    let used = grow(reals, words, positions, s.n, s.c);
+    let mut reals = [0.0; 4608];
+    let mut words = [0u32; 1536];
+    let used = grow(&mut reals, &mut words, positions, s.n, s.c);
     all_points(
         s,
         used,
@@ -172,8 +150,8 @@ fn forces_of(
         weights,
         indices,
         offsets,
-        reals,
-        words,
+        &reals,
+        &words,
         forces,
     )
 }
@@ -185,38 +163,7 @@ fn same_forces(forces: &[f64], n: usize, c: usize, m: usize, list: &[u8], a: usi
     if !same_gradient(forces, n, c, m, list, a) {
         return false;
     }
-    same_tail(forces, times(n, 2 * c + 1))
-}
-
-// The gradient of a case that is ready; its normaliser stands at word a.
-fn gradient_right(
-    list: &[u8],
-    a: usize,
-    s: Case,
-    m: usize,
-    positions: &[f64],
-    weights: &[f64],
-    indices: &[u32],
-    offsets: &[u32],
-    forces: &mut [f64],
-    reals: &mut [f64],
-    words: &mut [u32],
-) -> bool
-    requires { ⌜ (Axes (s .c)) × (s .n ≤ 64) × (m ≡ s .n * s .c) × (m ≤ length (now positions)) × (s .n * (2 * s .c + 1) ≤ length (now forces)) ⌝ }
-{
-    if !forces_of(
-        s,
-        positions,
-        weights,
-        indices,
-        offsets,
-        forces,
-        reals,
-        words,
-    ) {
-        return false;
-    }
-    same_forces(forces, s.n as usize, s.c, m, list, a)
+    same_area(forces, times(n, 2 * c + 1), 0, list, a)
 }
 
 // The word behind the links of a case with m coordinates.
@@ -229,86 +176,35 @@ fn answer_at(s: Case, m: usize) -> usize
     )
 }
 
-// A case with room: m is n·c.
-fn pulls_in(
-    list: &[u8],
-    s: Case,
-    m: usize,
-    positions: &mut [f64],
-    weights: &mut [f64],
-    indices: &mut [u32],
-    offsets: &mut [u32],
-    forces: &mut [f64],
-    reals: &mut [f64],
-    words: &mut [u32],
-) -> bool
-    requires { ⌜ (Axes (s .c)) × (s .n ≤ 64) × (m ≡ s .n * s .c) × (m ≤ length (now positions)) × (s .links ≤ length (now weights)) × (s .links ≤ length (now indices)) × (s .n < length (now offsets)) × (s .n * (2 * s .c + 1) ≤ length (now forces)) ⌝ }
-{
-    ready(list, s, m, positions, weights, indices, offsets);
-    let a = answer_at(s, m);
-    gradient_right(
-        list,
-        a,
-        s,
-        m,
-        positions,
-        weights,
-        indices,
-        offsets,
-        forces,
-        reals,
-        words,
-    )
-}
-
-// Areas without room count as wrong.
-fn pulls_case(
-    list: &[u8],
-    s: Case,
-    positions: &mut [f64],
-    weights: &mut [f64],
-    indices: &mut [u32],
-    offsets: &mut [u32],
-    forces: &mut [f64],
-    reals: &mut [f64],
-    words: &mut [u32],
-) -> bool
-    requires { ⌜ (Axes (s .c)) × (s .n ≤ 64) ⌝ }
+// The case from its positions on: the forces go into an area of marks. Areas without room count as wrong.
+fn pulls_case(list: &[u8], s: Case) -> bool
+    requires { ⌜ (Axes (s .c)) × (s .n ≤ 64) × (s .links ≤ 400) ⌝ }
 {
     let n = s.n as usize;
     let m = times(n, s.c);
-    if m > positions.len() {
+    if m > 400 {
         return false;
     }
-    if s.links > weights.len() {
+    if times(n, 2 * s.c + 1) > 460 {
         return false;
     }
-    if s.links > indices.len() {
+    let b = plus(s.at, m);
+    let d = plus(b, n + 1);
+    let positions = values_at(list, s.at, m);
+    let offsets = numbers_at(list, b, n + 1);
+    let indices = numbers_at(list, d, s.links);
+    let weights = values_at(list, plus(d, s.links), s.links);
+    let mut forces = [0.0; 460];
+    mark(&mut forces);
+    if !forces_of(s, &positions, &weights, &indices, &offsets, &mut forces) {
         return false;
     }
-    if n >= offsets.len() {
-        return false;
-    }
-    if times(n, 2 * s.c + 1) > forces.len() {
-        return false;
-    }
-    pulls_in(
-        list,
-        s,
-        m,
-        positions,
-        weights,
-        indices,
-        offsets,
-        forces,
-        reals,
-        words,
-    )
+    same_forces(&forces, n, s.c, m, list, answer_at(s, m))
 }
 
 // What stands at word a where the sizes are no case's: no points, and not good.
 fn no_case(a: usize) -> Case
-    ensures { λ r. ⌜ (r .n ≤ 64) × (Axes (r .c)) ⌝ }
+    ensures { λ r. ⌜ (r .n ≤ 64) × (Axes (r .c)) × (r .links ≤ 400) ⌝ }
 {
     Case {
         good: false,
@@ -323,10 +219,11 @@ fn no_case(a: usize) -> Case
 
 // What the case from word a on begins with: n, c, angle, exaggeration, number of links.
 fn case_at(list: &[u8], a: usize) -> Case
-    ensures { λ r. ⌜ (r .n ≤ 64) × (Axes (r .c)) ⌝ }
+    ensures { λ r. ⌜ (r .n ≤ 64) × (Axes (r .c)) × (r .links ≤ 400) ⌝ }
 {
     let n = word_at(list, a);
     let c = word_at(list, plus(a, 1));
+    let links = word_at(list, plus(a, 4));
     if n > 64 {
         return no_case(a);
     }
@@ -336,13 +233,16 @@ fn case_at(list: &[u8], a: usize) -> Case
     if c > 3 {
         return no_case(a);
     }
+    if links > 400 {
+        return no_case(a);
+    }
     Case {
         good: true,
         n: n as u32,
         c: c as usize,
         angle: value_at(list, plus(a, 2)),
         exaggeration: value_at(list, plus(a, 3)),
-        links: word_at(list, plus(a, 4)) as usize,
+        links: links as usize,
         at: plus(a, 5),
     }
 }
@@ -362,17 +262,7 @@ struct Next {
 }
 
 // The case from word a on: sizes and numbers, positions, offsets, indices and weights, then the normaliser and the gradient.
-fn one_case(
-    list: &[u8],
-    a: usize,
-    positions: &mut [f64],
-    weights: &mut [f64],
-    indices: &mut [u32],
-    offsets: &mut [u32],
-    forces: &mut [f64],
-    reals: &mut [f64],
-    words: &mut [u32],
-) -> Next {
+fn one_case(list: &[u8], a: usize) -> Next {
     let s = case_at(list, a);
     if !s.good {
         return Next {
@@ -381,46 +271,17 @@ fn one_case(
         };
     }
     let at = end_of(s);
-    let right = pulls_case(
-        list,
-        s,
-        positions,
-        weights,
-        indices,
-        offsets,
-        forces,
-        reals,
-        words,
-    );
+    let right = pulls_case(list, s);
     Next { right, at }
 }
 
 // A case that does not lead on ends the replay, and counts as wrong.
-pub(crate) fn pulls_cases(
-    list: &[u8],
-    positions: &mut [f64],
-    weights: &mut [f64],
-    indices: &mut [u32],
-    offsets: &mut [u32],
-    forces: &mut [f64],
-    reals: &mut [f64],
-    words: &mut [u32],
-) -> replay::Tally {
+pub(crate) fn pulls_cases(list: &[u8]) -> replay::Tally {
     let end = list.len() / 8;
     let mut t = replay::Tally::new();
     let mut a: usize = 0;
     while a < end {
-        let next = one_case(
-            list,
-            a,
-            positions,
-            weights,
-            indices,
-            offsets,
-            forces,
-            reals,
-            words,
-        );
+        let next = one_case(list, a);
         t = t.with(next.right);
         let at = next.at;
         if at <= a {

@@ -1,19 +1,4 @@
-// Areas of the replay: coordinates out of the list, a copy of an arena, and whether an arena is still its copy.
-use replay::word_at;
-ghost use Prim.Native.Nat.{_≤_};
-ghost use lib.ListN.{length};
-
-// The first m places become what the list has from word a on.
-pub(crate) fn read_reals(list: &[u8], a: usize, to: &mut [f64], m: usize)
-    requires { ⌜ (a ≤ 400000) × (m ≤ length (now to)) ⌝ }
-{
-    let mut i = 0;
-    while i < m {
-        to[i] = elementary::value_of(word_at(list, std::num::wrapping_add_usize(a, i)));
-        i += 1;
-    }
-}
-
+// Areas of the replay: a copy of an arena, and whether an arena is still its copy.
 // As much as both areas hold.
 pub(crate) fn copy_reals(from: &[f64], to: &mut [f64]) {
     let mut i = 0;

@@ -90,30 +90,24 @@ fn unchanged(
 }
 
 // The points go into a tree of one node; a copy of the arena is kept from before each.
-fn put_all(
-    reals: &mut [f64],
-    words: &mut [u32],
-    old_reals: &mut [f64],
-    old_words: &mut [u32],
-    positions: &[f64],
-    n: u32,
-    c: usize,
-) -> Grown
+fn put_all(reals: &mut [f64], words: &mut [u32], positions: &[f64], n: u32, c: usize) -> Grown
     requires { ⌜ (Axes c) × (n * c ≤ length (now positions)) × (n ≤ 64) ⌝ }
 {
+    let mut old_reals = [0.0; 4608];
+    let mut old_words = [0u32; 1536];
     let mut used = 1;
     let mut last = 0;
     let mut j: u32 = 0;
     while j < n {
-        copy_reals(reals, old_reals);
-        copy_words(words, old_words);
+        copy_reals(reals, &mut old_reals);
+        copy_words(words, &mut old_words);
         let a = put(reals, words, positions, n as usize, used, j, c);
         if a.full {
             return Grown {
                 used: a.used,
                 full: true,
                 last: j,
-                kept: unchanged(reals, words, old_reals, old_words, a.used, used),
+                kept: unchanged(reals, words, &old_reals, &old_words, a.used, used),
             };
         }
         if a.used > used {
@@ -134,8 +128,6 @@ fn put_all(
 pub(crate) fn grow(
     reals: &mut [f64],
     words: &mut [u32],
-    old_reals: &mut [f64],
-    old_words: &mut [u32],
     positions: &[f64],
     n: u32,
     c: usize,
@@ -151,5 +143,5 @@ pub(crate) fn grow(
         };
     }
     plant(reals, words, positions, n as usize, c);
-    put_all(reals, words, old_reals, old_words, positions, n, c)
+    put_all(reals, words, positions, n, c)
 }

@@ -5,12 +5,14 @@ mod forces;
 mod growth;
 mod order;
 
-use arenas::read_reals;
 use compare::product;
 use forces::same_forces;
 use growth::Grown;
 use growth::grow;
 use order::same_tree;
+use replay::areas::fill;
+use replay::areas::mark;
+use replay::areas::mark_words;
 use replay::word_at;
 ghost use mathlib.Core.Path.{_≡_};
 ghost use mathlib.Core.Bool.{true};
@@ -38,91 +40,56 @@ struct Next {
     at: usize,
 }
 
-// In the arena as it is: the point that took the last node, or the number of points where something differs.
-fn in_all(
-    list: &[u8],
-    s: Case,
-    reals: &mut [f64],
-    words: &mut [u32],
-    old_reals: &mut [f64],
-    old_words: &mut [u32],
-    positions: &[f64],
-    stack: &mut [u32],
-) -> u32
+// In an arena with room to spare: the point that took the last node, or the number of points where something differs.
+fn in_all(list: &[u8], s: Case, positions: &[f64]) -> u32
     requires { ⌜ (Axes (s .c)) × (s .n ≤ 64) × (s .n * s .c ≤ length (now positions)) × (s .count ≤ 1000) × (s .nodes ≤ 200000) × (s .forces ≤ 200000) ⌝ }
 {
-    let g = grow(reals, words, old_reals, old_words, positions, s.n, s.c);
+    let mut reals = [0.0; 4608];
+    let mut words = [0u32; 1536];
+    mark(&mut reals);
+    mark_words(&mut words);
+    let g = grow(&mut reals, &mut words, positions, s.n, s.c);
     if g.full {
         return s.n;
     }
     if g.used != s.count {
         return s.n;
     }
-    if !same_tree(reals, words, list, s.nodes, s.count, s.c, stack) {
+    if !same_tree(&reals, &words, list, s.nodes, s.count, s.c) {
         return s.n;
     }
-    if !same_forces(reals, words, g.used, positions, s.n, s.c, list, s.forces) {
+    if !same_forces(&reals, &words, g.used, positions, s.n, s.c, list, s.forces) {
         return s.n;
     }
     g.last
 }
 
 // In an arena of count nodes, at the front of the areas; areas that are too short give nothing.
-fn grow_in(
-    reals: &mut [f64],
-    words: &mut [u32],
-    old_reals: &mut [f64],
-    old_words: &mut [u32],
-    positions: &[f64],
-    n: u32,
-    c: usize,
-    count: usize,
-) -> Grown
-    requires { ⌜ (Axes c) × (n * c ≤ length (now positions)) × (n ≤ 64) × (count ≤ 1000) ⌝ }
+fn grow_in(positions: &[f64], n: u32, c: usize, count: usize) -> Grown
+    requires { ⌜ (Axes c) × (n * c ≤ length (now positions)) × (n ≤ 64) ⌝ }
 {
+    if count > 512 {
+        return Grown {
+            used: 0,
+            full: false,
+            last: n,
+            kept: false,
+        };
+    }
     let a = 9 * count;
     let b = 3 * count;
-    if a > reals.len() {
-        return Grown {
-            used: 0,
-            full: false,
-            last: n,
-            kept: false,
-        };
-    }
-    if b > words.len() {
-        return Grown {
-            used: 0,
-            full: false,
-            last: n,
-            kept: false,
-        };
-    }
-    grow(
-        &mut reals[..a],
-        &mut words[..b],
-        old_reals,
-        old_words,
-        positions,
-        n,
-        c,
-    )
+    let mut reals = [0.0; 4608];
+    let mut words = [0u32; 1536];
+    mark(&mut reals);
+    mark_words(&mut words);
+    grow(&mut reals[..a], &mut words[..b], positions, n, c)
 }
 
 // In an arena of just the nodes that the tree needs, all points go in.
-fn in_exact(
-    reals: &mut [f64],
-    words: &mut [u32],
-    old_reals: &mut [f64],
-    old_words: &mut [u32],
-    positions: &[f64],
-    n: u32,
-    c: usize,
-    count: usize,
-) -> bool
-    requires { ⌜ (Axes c) × (n * c ≤ length (now positions)) × (n ≤ 64) × (count ≤ 1000) ⌝ }
+fn in_exact(positions: &[f64], n: u32, c: usize, count: usize) -> bool
+    requires { ⌜ (Axes c) × (n * c ≤ length (now positions)) × (n ≤ 64) ⌝ }
 {
-    let g = grow_in(reals, words, old_reals, old_words, positions, n, c, count);
+    let g = grow_in(positions, n, c, count);
     if g.full {
         return false;
     }
@@ -130,32 +97,13 @@ fn in_exact(
 }
 
 // In an arena of one node less, the point that would take the last node is refused, and nothing changes; a tree of one node has no such point.
-fn in_short(
-    reals: &mut [f64],
-    words: &mut [u32],
-    old_reals: &mut [f64],
-    old_words: &mut [u32],
-    positions: &[f64],
-    n: u32,
-    c: usize,
-    count: usize,
-    last: u32,
-) -> bool
-    requires { ⌜ (Axes c) × (n * c ≤ length (now positions)) × (n ≤ 64) × (count ≤ 1000) ⌝ }
+fn in_short(positions: &[f64], n: u32, c: usize, count: usize, last: u32) -> bool
+    requires { ⌜ (Axes c) × (n * c ≤ length (now positions)) × (n ≤ 64) ⌝ }
 {
     if count < 2 {
         return true;
     }
-    let g = grow_in(
-        reals,
-        words,
-        old_reals,
-        old_words,
-        positions,
-        n,
-        c,
-        count - 1,
-    );
+    let g = grow_in(positions, n, c, count - 1);
     if !g.full {
         return false;
     }
@@ -166,54 +114,17 @@ fn in_short(
 }
 
 // One case: the tree in an arena with room to spare, then in just enough nodes, then in one less.
-fn case_right(
-    list: &[u8],
-    s: Case,
-    reals: &mut [f64],
-    words: &mut [u32],
-    old_reals: &mut [f64],
-    old_words: &mut [u32],
-    positions: &[f64],
-    stack: &mut [u32],
-) -> bool
+fn case_right(list: &[u8], s: Case, positions: &[f64]) -> bool
     requires { ⌜ (Axes (s .c)) × (s .n ≤ 64) × (s .n * s .c ≤ length (now positions)) × (s .count ≤ 1000) × (s .nodes ≤ 200000) × (s .forces ≤ 200000) ⌝ }
 {
-    let last = in_all(
-        list,
-        s,
-        reals,
-        words,
-        old_reals,
-        old_words,
-        positions,
-        stack,
-    );
+    let last = in_all(list, s, positions);
     if last >= s.n {
         return false;
     }
-    if !in_exact(
-        reals,
-        words,
-        old_reals,
-        old_words,
-        positions,
-        s.n,
-        s.c,
-        s.count,
-    ) {
+    if !in_exact(positions, s.n, s.c, s.count) {
         return false;
     }
-    in_short(
-        reals,
-        words,
-        old_reals,
-        old_words,
-        positions,
-        s.n,
-        s.c,
-        s.count,
-        last,
-    )
+    in_short(positions, s.n, s.c, s.count, last)
 }
 
 // The sizes that begin at word a are such that the case fits.
@@ -236,19 +147,8 @@ fn sizes_right(a: usize, c: usize, n: u64, room: usize) -> bool
 }
 
 // The case from word a on, with c components and n points. A number of nodes that no case has ends the replay.
-fn case_at(
-    list: &[u8],
-    a: usize,
-    c: usize,
-    n: u32,
-    reals: &mut [f64],
-    words: &mut [u32],
-    old_reals: &mut [f64],
-    old_words: &mut [u32],
-    positions: &mut [f64],
-    stack: &mut [u32],
-) -> Next
-    requires { ⌜ (a ≤ 100000) × (Axes c) × (n ≤ 64) × (n * c ≤ length (now positions)) ⌝ }
+fn case_at(list: &[u8], a: usize, c: usize, n: u32) -> Next
+    requires { ⌜ (a ≤ 100000) × (Axes c) × (n ≤ 64) × (n * c ≤ 192) ⌝ }
     ensures { λ r. ⌜ (a < r .at) × (r .at ≤ 200000) ⌝ }
 {
     let coordinates = product(n as usize, c);
@@ -259,7 +159,8 @@ fn case_at(
             at: 200000,
         };
     }
-    read_reals(list, a + 2, positions, coordinates);
+    let mut positions = [0.0; 192];
+    fill(&mut positions, coordinates, list, a + 2);
     let nodes = a + 3 + coordinates;
     let forces = nodes + product(count as usize, 3 * c + 3);
     let s = Case {
@@ -270,51 +171,23 @@ fn case_at(
         forces,
     };
     Next {
-        right: case_right(
-            list,
-            s,
-            reals,
-            words,
-            old_reals,
-            old_words,
-            positions,
-            stack,
-        ),
+        right: case_right(list, s, &positions),
         at: forces + product(4 * n as usize, c + 1),
     }
 }
 
 // Numbers that no case has end the replay, and count as wrong.
-fn tree_cases(
-    list: &[u8],
-    reals: &mut [f64],
-    words: &mut [u32],
-    old_reals: &mut [f64],
-    old_words: &mut [u32],
-    positions: &mut [f64],
-    stack: &mut [u32],
-) -> replay::Tally {
+fn tree_cases(list: &[u8]) -> replay::Tally {
     let end = list.len() / 8;
     let mut t = replay::Tally::new();
     let mut a: usize = 0;
     while a < end {
         let c = word_at(list, a) as usize;
         let n = word_at(list, a + 1);
-        if !sizes_right(a, c, n, positions.len()) {
+        if !sizes_right(a, c, n, 192) {
             return t.with(false);
         }
-        let next = case_at(
-            list,
-            a,
-            c,
-            n as u32,
-            reals,
-            words,
-            old_reals,
-            old_words,
-            positions,
-            stack,
-        );
+        let next = case_at(list, a, c, n as u32);
         t = t.with(next.right);
         a = next.at;
     }
@@ -324,24 +197,7 @@ fn tree_cases(
 // One list, with a line for it.
 fn replay_list(path: &[u8], name: &[u8], list: &mut [u8]) {
     let n = replay::load(path, list);
-    let mut reals = [0.0; 4608];
-    let mut words = [0u32; 1536];
-    let mut old_reals = [0.0; 4608];
-    let mut old_words = [0u32; 1536];
-    let mut positions = [0.0; 192];
-    let mut stack = [0u32; 512];
-    replay::print(
-        name,
-        tree_cases(
-            &list[..n],
-            &mut reals,
-            &mut words,
-            &mut old_reals,
-            &mut old_words,
-            &mut positions,
-            &mut stack,
-        ),
-    );
+    replay::print(name, tree_cases(&list[..n]));
 }
 
 fn replay_lists(list: &mut [u8]) {

@@ -61,7 +61,7 @@ fn same_nodes(
     top == 0
 }
 
-// The nodes in pre-order are the count nodes that the list has from word a on.
+// The nodes in pre-order are the count nodes that the list has from word a on; at first the root, node 0, is on the stack.
 pub(crate) fn same_tree(
     reals: &[f64],
     words: &[u32],
@@ -69,13 +69,9 @@ pub(crate) fn same_tree(
     a: usize,
     count: usize,
     c: usize,
-    stack: &mut [u32],
 ) -> bool
     requires { ⌜ (Axes c) × (a ≤ 200000) × (count ≤ 1000) ⌝ }
 {
-    if stack.len() < 512 {
-        return false;
-    }
-    push(stack, 0, 0, 1);
-    same_nodes(reals, words, list, a, count, c, stack)
+    let mut stack = [0u32; 512];
+    same_nodes(reals, words, list, a, count, c, &mut stack)
 }

@@ -1,17 +1,15 @@
 use borrow.Author.Tests.{not-false}
-use mathlib.Core.Path.{_≡_}
-use lib.ListN.{length}
+use native.Mathlib.Omega.{arith}
 use Prim.Native.Nat.{_≤_, _-_}
 use borrow.Author.Needs.{needs}
-use native.Mathlib.Omega.{arith}
 use Rattle.replay_tree.proofs.tree_cases.Statement.{statement}
 use Rattle.replay_tree.proofs.tree_cases.Tie as tie
 
 abbrev Inv-loop : tie.InvT-loop
-Inv-loop list reals₀ words₀ old-reals₀ old-words₀ positions₀ stack₀ end t₀ a₀ reals words old-reals old-words positions stack t a = (length reals ≡ length reals₀) × (length words ≡ length words₀) × (length old-reals ≡ length old-reals₀) × (length old-words ≡ length old-words₀) × (length positions ≡ length positions₀) × (length stack ≡ length stack₀) × (a ≤ 200000)
+Inv-loop list end t₀ a₀ t a = a ≤ 200000
 
 abbrev μ-loop : tie.MeasureT-loop
-μ-loop list reals₀ words₀ old-reals₀ old-words₀ positions₀ stack₀ end t₀ a₀ reals words old-reals old-words positions stack t a = end - a
+μ-loop list end t₀ a₀ t a = end - a
 
 new-requires : tie.Need-new-requires Inv-loop μ-loop
 new-requires c κs = search needs
@@ -34,24 +32,6 @@ sizes-right-requires c κs = search needs
 with-requires : tie.Need-with-requires Inv-loop μ-loop
 with-requires c κs = search needs
 
-same-length : tie.Need-same-length Inv-loop μ-loop
-same-length c = search needs
-
-same-length-2 : tie.Need-same-length-2 Inv-loop μ-loop
-same-length-2 c = search needs
-
-same-length-3 : tie.Need-same-length-3 Inv-loop μ-loop
-same-length-3 c = search needs
-
-same-length-4 : tie.Need-same-length-4 Inv-loop μ-loop
-same-length-4 c = search needs
-
-same-length-5 : tie.Need-same-length-5 Inv-loop μ-loop
-same-length-5 c = search needs
-
-same-length-6 : tie.Need-same-length-6 Inv-loop μ-loop
-same-length-6 c = search needs
-
 returns : tie.Need-returns Inv-loop μ-loop
 returns c = search needs
 
@@ -59,7 +39,7 @@ cast-case-at : tie.Need-cast-case-at Inv-loop μ-loop
 cast-case-at c = omega (arith, c .before .sizes-right .ensures (not-false _ (c .if1 .left)) .2)
 
 case-at-requires : tie.Need-case-at-requires Inv-loop μ-loop
-case-at-requires c κs = c .before .before .before .before .before .before .before .sizes-right .ensures (not-false _ (c .before .before .before .before .before .before .if1 .left))
+case-at-requires c κs = c .before .sizes-right .ensures (not-false _ (c .if1 .left))
 
 with-requires-2 : tie.Need-with-requires-2 Inv-loop μ-loop
 with-requires-2 c κs = search needs
@@ -69,24 +49,6 @@ loop-less c = search needs
 
 loop-again : tie.Need-loop-again Inv-loop μ-loop
 loop-again c = search needs
-
-same-length-7 : tie.Need-same-length-7 Inv-loop μ-loop
-same-length-7 c = search needs
-
-same-length-8 : tie.Need-same-length-8 Inv-loop μ-loop
-same-length-8 c = search needs
-
-same-length-9 : tie.Need-same-length-9 Inv-loop μ-loop
-same-length-9 c = search needs
-
-same-length-10 : tie.Need-same-length-10 Inv-loop μ-loop
-same-length-10 c = search needs
-
-same-length-11 : tie.Need-same-length-11 Inv-loop μ-loop
-same-length-11 c = search needs
-
-same-length-12 : tie.Need-same-length-12 Inv-loop μ-loop
-same-length-12 c = search needs
 
 returns-2 : tie.Need-returns-2 Inv-loop μ-loop
 returns-2 c = search needs
@@ -104,22 +66,10 @@ tree-cases-spec =
     word-at-requires-2
     sizes-right-requires
     with-requires
-    same-length
-    same-length-2
-    same-length-3
-    same-length-4
-    same-length-5
-    same-length-6
     returns
     cast-case-at
     case-at-requires
     with-requires-2
     loop-less
     loop-again
-    same-length-7
-    same-length-8
-    same-length-9
-    same-length-10
-    same-length-11
-    same-length-12
     returns-2)

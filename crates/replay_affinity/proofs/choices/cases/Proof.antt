@@ -1,15 +1,13 @@
-use mathlib.Core.Path.{_≡_}
-use lib.ListN.{length}
 use Prim.Native.Nat.{_≤_, _-_}
 use borrow.Author.Needs.{needs}
 use Rattle.replay_affinity.proofs.choices.cases.Statement.{statement}
 use Rattle.replay_affinity.proofs.choices.cases.Tie as tie
 
 abbrev Inv-loop : tie.InvT-loop
-Inv-loop list distances₀ values₀ indices₀ words t₀ a₀ distances values indices t a = (length distances ≡ length distances₀) × (length values ≡ length values₀) × (length indices ≡ length indices₀) × (a ≤ 200000)
+Inv-loop list words t₀ a₀ t a = 0 ≤ a
 
 abbrev μ-loop : tie.MeasureT-loop
-μ-loop list distances₀ values₀ indices₀ words t₀ a₀ distances values indices t a = words - a
+μ-loop list words t₀ a₀ t a = words - a
 
 new-requires : tie.Need-new-requires Inv-loop μ-loop
 new-requires c κs = search needs
@@ -20,15 +18,6 @@ loop-holds c = search needs
 with-requires : tie.Need-with-requires Inv-loop μ-loop
 with-requires c κs = search needs
 
-same-length : tie.Need-same-length Inv-loop μ-loop
-same-length c = search needs
-
-same-length-2 : tie.Need-same-length-2 Inv-loop μ-loop
-same-length-2 c = search needs
-
-same-length-3 : tie.Need-same-length-3 Inv-loop μ-loop
-same-length-3 c = search needs
-
 returns : tie.Need-returns Inv-loop μ-loop
 returns c = search needs
 
@@ -37,15 +26,6 @@ word-at-requires c κs = search needs
 
 with-requires-2 : tie.Need-with-requires-2 Inv-loop μ-loop
 with-requires-2 c κs = search needs
-
-same-length-4 : tie.Need-same-length-4 Inv-loop μ-loop
-same-length-4 c = search needs
-
-same-length-5 : tie.Need-same-length-5 Inv-loop μ-loop
-same-length-5 c = search needs
-
-same-length-6 : tie.Need-same-length-6 Inv-loop μ-loop
-same-length-6 c = search needs
 
 returns-2 : tie.Need-returns-2 Inv-loop μ-loop
 returns-2 c = search needs
@@ -58,15 +38,6 @@ word-at-requires-2 c κs = search needs
 
 with-requires-3 : tie.Need-with-requires-3 Inv-loop μ-loop
 with-requires-3 c κs = search needs
-
-same-length-7 : tie.Need-same-length-7 Inv-loop μ-loop
-same-length-7 c = search needs
-
-same-length-8 : tie.Need-same-length-8 Inv-loop μ-loop
-same-length-8 c = search needs
-
-same-length-9 : tie.Need-same-length-9 Inv-loop μ-loop
-same-length-9 c = search needs
 
 returns-3 : tie.Need-returns-3 Inv-loop μ-loop
 returns-3 c = search needs
@@ -95,15 +66,6 @@ loop-less c = search needs
 loop-again : tie.Need-loop-again Inv-loop μ-loop
 loop-again c = search needs
 
-same-length-10 : tie.Need-same-length-10 Inv-loop μ-loop
-same-length-10 c = search needs
-
-same-length-11 : tie.Need-same-length-11 Inv-loop μ-loop
-same-length-11 c = search needs
-
-same-length-12 : tie.Need-same-length-12 Inv-loop μ-loop
-same-length-12 c = search needs
-
 returns-4 : tie.Need-returns-4 Inv-loop μ-loop
 returns-4 c = search needs
 
@@ -116,22 +78,13 @@ cases-spec =
     new-requires
     loop-holds
     with-requires
-    same-length
-    same-length-2
-    same-length-3
     returns
     word-at-requires
     with-requires-2
-    same-length-4
-    same-length-5
-    same-length-6
     returns-2
     add-word-at
     word-at-requires-2
     with-requires-3
-    same-length-7
-    same-length-8
-    same-length-9
     returns-3
     case-right-requires
     with-requires-4
@@ -141,7 +94,4 @@ cases-spec =
     add-a-3
     loop-less
     loop-again
-    same-length-10
-    same-length-11
-    same-length-12
     returns-4)

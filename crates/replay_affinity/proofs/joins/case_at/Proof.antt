@@ -1,8 +1,8 @@
 use Prim.Native.Nat.{_^_}
 use lib.Dec.{le→leb}
 use lib.Ieee.{inFloat}
-use borrow.Author.Needs.{needs}
 use native.Mathlib.Omega.{arith}
+use borrow.Author.Needs.{needs}
 use Rattle.replay_affinity.proofs.joins.case_at.Statement.{statement}
 use Rattle.replay_affinity.proofs.joins.case_at.Tie as tie
 
@@ -27,54 +27,84 @@ word-at-requires c κs = search needs
 returns : tie.Need-returns
 returns c = search needs
 
+add-at : tie.Need-add-at
+add-at c = search needs
+
+add-at-2 : tie.Need-add-at-2
+add-at-2 c = search needs
+
+mul-at : tie.Need-mul-at
+mul-at c = search needs
+
+add-at-3 : tie.Need-add-at-3
+add-at-3 c = search needs
+
+slice-aggregate-mark : tie.Need-slice-aggregate-mark
+slice-aggregate-mark c = search needs
+
+mark-requires : tie.Need-mark-requires
+mark-requires c κs = search needs
+
+slice-aggregate-mark-words : tie.Need-slice-aggregate-mark-words
+slice-aggregate-mark-words c = search needs
+
+mark-words-requires : tie.Need-mark-words-requires
+mark-words-requires c κs = search needs
+
+slice-aggregate-mark-words-2 : tie.Need-slice-aggregate-mark-words-2
+slice-aggregate-mark-words-2 c = search needs
+
+mark-words-requires-2 : tie.Need-mark-words-requires-2
+mark-words-requires-2 c κs = search needs
+
+slice-aggregate-mark-2 : tie.Need-slice-aggregate-mark-2
+slice-aggregate-mark-2 c = search needs
+
+mark-requires-2 : tie.Need-mark-requires-2
+mark-requires-2 c κs = search needs
+
+slice-aggregate-mark-words-3 : tie.Need-slice-aggregate-mark-words-3
+slice-aggregate-mark-words-3 c = search needs
+
+mark-words-requires-3 : tie.Need-mark-words-requires-3
+mark-words-requires-3 c κs = search needs
+
 add-read-links : tie.Need-add-read-links
 add-read-links c = search needs
 
+slice-aggregate-read-links : tie.Need-slice-aggregate-read-links
+slice-aggregate-read-links c = search needs
+
+slice-aggregate-read-links-2 : tie.Need-slice-aggregate-read-links-2
+slice-aggregate-read-links-2 c = search needs
+
 int-to-float-read-links : tie.Need-int-to-float-read-links
 unfolding inFloat
-int-to-float-read-links c = le→leb (c .before .before .before .before .before .before .before .before .before .before .before .before .args .n) (2 ^ 53) (omega (arith, c .before .before .before .before .before .before .before .before .before .before .before .before .pre .0 .1))
+int-to-float-read-links c = le→leb (c .before .before .before .before .before .before .before .before .before .before .before .before .before .before .before .before .before .before .before .before .before .before .args .n) (2 ^ 53) (omega (arith, c .before .before .before .before .before .before .before .before .before .before .before .before .before .before .before .before .before .before .before .before .before .before .pre .1))
 
 read-links-requires : tie.Need-read-links-requires
 read-links-requires c κs = search needs
 
+slice-aggregate-join-right : tie.Need-slice-aggregate-join-right
+slice-aggregate-join-right c = search needs
+
+slice-aggregate-join-right-2 : tie.Need-slice-aggregate-join-right-2
+slice-aggregate-join-right-2 c = search needs
+
+slice-aggregate-join-right-3 : tie.Need-slice-aggregate-join-right-3
+slice-aggregate-join-right-3 c = search needs
+
+slice-aggregate-join-right-4 : tie.Need-slice-aggregate-join-right-4
+slice-aggregate-join-right-4 c = search needs
+
+slice-aggregate-join-right-5 : tie.Need-slice-aggregate-join-right-5
+slice-aggregate-join-right-5 c = search needs
+
 join-right-requires : tie.Need-join-right-requires
-join-right-requires c κs =
-    let p = c .before .before .before .before .before .before .before .before .before .before .before .before .before .before .before .before .before .before .before .before .before .before .pre in
-    let m = c .before .before .before .before .before .before .before .before .before .before .before .before .before .before .before .product .ensures in
-    let w = c .before .before .before .before .before .before .before .before .before .read-links .kept .1 .1 .0 in
-    let i = c .before .before .before .before .before .before .before .before .before .read-links .kept .1 .1 .1 .0 in
-    let l = c .before .before .before .before .before .before .before .before .before .before .before .before .before .if1 .left in
-    ((omega (arith, p .0 .0, m .1), omega (arith, p .0 .1), p .0 .2, omega (arith, l), omega (arith, l, w, p .1 .0), omega (arith, l, i, p .1 .1)), (omega (arith, m .0, m .1, w, p .1 .0), omega (arith, m .0, m .1, i, p .1 .1), omega (arith, p .0 .1, p .1 .2), omega (arith, p .0 .1, p .1 .3), omega (arith, p .0 .1, p .1 .4)))
-
-add-t14 : tie.Need-add-t14
-add-t14 c = omega (arith, c .before .before .before .before .before .before .before .before .before .before .before .before .before .before .before .before .before .before .before .before .before .before .before .before .before .before .before .before .before .before .before .before .before .pre .0, c .before .before .before .before .before .before .before .before .before .before .before .before .before .before .before .before .before .before .before .before .before .before .before .before .before .before .product .ensures .1, c .before .before .before .before .before .before .before .before .before .before .before .before .before .before .before .before .before .before .before .before .before .before .before .before .if1 .left)
-
-add-t15 : tie.Need-add-t15
-add-t15 c = omega (arith, c .before .before .before .before .before .before .before .before .before .before .before .before .before .before .before .before .before .before .before .before .before .before .before .before .before .before .before .before .before .before .before .before .before .pre .0, c .before .before .before .before .before .before .before .before .before .before .before .before .before .before .before .before .before .before .before .before .before .before .before .before .before .before .product .ensures .1, c .before .before .before .before .before .before .before .before .before .before .before .before .before .before .before .before .before .before .before .before .before .before .before .before .if1 .left)
-
-mul-t34 : tie.Need-mul-t34
-mul-t34 c = omega (arith, c .before .before .before .before .before .before .before .before .before .before .before .before .before .before .before .before .before .before .before .before .before .before .before .before .before .before .before .before .before .before .before .before .before .pre .0, c .before .before .before .before .before .before .before .before .before .before .before .before .before .before .before .before .before .before .before .before .before .before .before .before .before .before .product .ensures .1, c .before .before .before .before .before .before .before .before .before .before .before .before .before .before .before .before .before .before .before .before .before .before .before .before .if1 .left)
-
-add-t35 : tie.Need-add-t35
-add-t35 c = omega (arith, c .before .before .before .before .before .before .before .before .before .before .before .before .before .before .before .before .before .before .before .before .before .before .before .before .before .before .before .before .before .before .before .before .before .pre .0, c .before .before .before .before .before .before .before .before .before .before .before .before .before .before .before .before .before .before .before .before .before .before .before .before .before .before .product .ensures .1, c .before .before .before .before .before .before .before .before .before .before .before .before .before .before .before .before .before .before .before .before .before .before .before .before .if1 .left)
-
-same-length : tie.Need-same-length
-same-length c = search needs
-
-same-length-2 : tie.Need-same-length-2
-same-length-2 c = search needs
-
-same-length-3 : tie.Need-same-length-3
-same-length-3 c = search needs
-
-same-length-4 : tie.Need-same-length-4
-same-length-4 c = search needs
-
-same-length-5 : tie.Need-same-length-5
-same-length-5 c = search needs
+join-right-requires c κs = search needs
 
 returns-2 : tie.Need-returns-2
-returns-2 c = (omega (arith, c .before .before .before .before .before .before .before .before .before .before .before .before .before .before .before .before .before .before .before .before .before .before .before .before .before .before .before .before .before .before .before .before .before .pre .0, c .before .before .before .before .before .before .before .before .before .before .before .before .before .before .before .before .before .before .before .before .before .before .before .before .before .before .product .ensures .1, c .before .before .before .before .before .before .before .before .before .before .before .before .before .before .before .before .before .before .before .before .before .before .before .before .if1 .left), omega (arith, c .before .before .before .before .before .before .before .before .before .before .before .before .before .before .before .before .before .before .before .before .before .before .before .before .before .before .before .before .before .before .before .before .before .pre .0, c .before .before .before .before .before .before .before .before .before .before .before .before .before .before .before .before .before .before .before .before .before .before .before .before .before .before .product .ensures .1, c .before .before .before .before .before .before .before .before .before .before .before .before .before .before .before .before .before .before .before .before .before .before .before .before .if1 .left))
+returns-2 c = (omega (arith, c .before .before .before .before .before .before .before .before .before .before .before .before .before .before .before .before .before .before .before .before .before .before .before .before .before .before .before .before .before .before .before .before .before .before .before .before .pre, c .before .before .before .before .before .before .before .before .before .before .before .before .before .before .before .before .before .before .before .before .before .before .before .before .before .before .before .before .before .before .before .before .before .before .product .ensures .1, c .before .before .before .before .before .before .before .before .before .before .before .before .before .before .before .before .before .before .before .before .before .before .before .before .before .before .before .before .before .before .before .before .if1 .left), omega (arith, c .before .before .before .before .before .before .before .before .before .before .before .before .before .before .before .before .before .before .before .before .before .before .before .before .before .before .before .before .before .before .before .before .before .before .before .before .pre, c .before .before .before .before .before .before .before .before .before .before .before .before .before .before .before .before .before .before .before .before .before .before .before .before .before .before .before .before .before .before .before .before .before .before .product .ensures .1, c .before .before .before .before .before .before .before .before .before .before .before .before .before .before .before .before .before .before .before .before .before .before .before .before .before .before .before .before .before .before .before .before .if1 .left))
 
 pub case-at-spec : {M : Type 1} → statement M
 case-at-spec =
@@ -87,17 +117,29 @@ case-at-spec =
     add-word-at
     word-at-requires
     returns
+    add-at
+    add-at-2
+    mul-at
+    add-at-3
+    slice-aggregate-mark
+    mark-requires
+    slice-aggregate-mark-words
+    mark-words-requires
+    slice-aggregate-mark-words-2
+    mark-words-requires-2
+    slice-aggregate-mark-2
+    mark-requires-2
+    slice-aggregate-mark-words-3
+    mark-words-requires-3
     add-read-links
+    slice-aggregate-read-links
+    slice-aggregate-read-links-2
     int-to-float-read-links
     read-links-requires
+    slice-aggregate-join-right
+    slice-aggregate-join-right-2
+    slice-aggregate-join-right-3
+    slice-aggregate-join-right-4
+    slice-aggregate-join-right-5
     join-right-requires
-    add-t14
-    add-t15
-    mul-t34
-    add-t35
-    same-length
-    same-length-2
-    same-length-3
-    same-length-4
-    same-length-5
     returns-2)

@@ -1,15 +1,13 @@
-use mathlib.Core.Path.{_≡_}
-use lib.ListN.{length}
 use Prim.Native.Nat.{_≤_, _-_}
 use borrow.Author.Needs.{needs}
 use Rattle.replay_affinity.proofs.sigmas.cases.Statement.{statement}
 use Rattle.replay_affinity.proofs.sigmas.cases.Tie as tie
 
 abbrev Inv-loop : tie.InvT-loop
-Inv-loop list distances₀ shares₀ words t₀ a₀ distances shares t a = (length distances ≡ length distances₀) × (length shares ≡ length shares₀) × (a ≤ 200000)
+Inv-loop list words t₀ a₀ t a = 0 ≤ a
 
 abbrev μ-loop : tie.MeasureT-loop
-μ-loop list distances₀ shares₀ words t₀ a₀ distances shares t a = words - a
+μ-loop list words t₀ a₀ t a = words - a
 
 new-requires : tie.Need-new-requires Inv-loop μ-loop
 new-requires c κs = search needs
@@ -23,23 +21,11 @@ word-at-requires c κs = search needs
 with-requires : tie.Need-with-requires Inv-loop μ-loop
 with-requires c κs = search needs
 
-same-length : tie.Need-same-length Inv-loop μ-loop
-same-length c = search needs
-
-same-length-2 : tie.Need-same-length-2 Inv-loop μ-loop
-same-length-2 c = search needs
-
 returns : tie.Need-returns Inv-loop μ-loop
 returns c = search needs
 
 with-requires-2 : tie.Need-with-requires-2 Inv-loop μ-loop
 with-requires-2 c κs = search needs
-
-same-length-3 : tie.Need-same-length-3 Inv-loop μ-loop
-same-length-3 c = search needs
-
-same-length-4 : tie.Need-same-length-4 Inv-loop μ-loop
-same-length-4 c = search needs
 
 returns-2 : tie.Need-returns-2 Inv-loop μ-loop
 returns-2 c = search needs
@@ -65,12 +51,6 @@ loop-less c = search needs
 loop-again : tie.Need-loop-again Inv-loop μ-loop
 loop-again c = search needs
 
-same-length-5 : tie.Need-same-length-5 Inv-loop μ-loop
-same-length-5 c = search needs
-
-same-length-6 : tie.Need-same-length-6 Inv-loop μ-loop
-same-length-6 c = search needs
-
 returns-3 : tie.Need-returns-3 Inv-loop μ-loop
 returns-3 c = search needs
 
@@ -84,12 +64,8 @@ cases-spec =
     loop-holds
     word-at-requires
     with-requires
-    same-length
-    same-length-2
     returns
     with-requires-2
-    same-length-3
-    same-length-4
     returns-2
     case-right-requires
     with-requires-3
@@ -98,6 +74,4 @@ cases-spec =
     add-a-2
     loop-less
     loop-again
-    same-length-5
-    same-length-6
     returns-3)

@@ -1,5 +1,5 @@
-use mathlib.Core.Path.{_∙_}
-use lib.ListN.{length}
+use mathlib.Core.Path.{sym}
+use lib.Seq.{length-take-le}
 use borrow.Author.Needs.{needs}
 use Rattle.replay_descent.proofs.preparation.begin.Statement.{statement}
 use Rattle.replay_descent.proofs.preparation.begin.Tie as tie
@@ -7,50 +7,86 @@ use Rattle.replay_descent.proofs.preparation.begin.Tie as tie
 plus-requires : tie.Need-plus-requires
 plus-requires c κs = search needs
 
-mark-values-requires : tie.Need-mark-values-requires
-mark-values-requires c κs = search needs
+settings-at-requires : tie.Need-settings-at-requires
+settings-at-requires c κs = search needs
+
+table-length-requires : tie.Need-table-length-requires
+table-length-requires c κs = search needs
+
+start-length-requires : tie.Need-start-length-requires
+start-length-requires c κs = search needs
 
 plus-requires-2 : tie.Need-plus-requires-2
 plus-requires-2 c κs = search needs
 
-mark-numbers-requires : tie.Need-mark-numbers-requires
-mark-numbers-requires c κs = search needs
+values-at-requires : tie.Need-values-at-requires
+values-at-requires c κs = search needs
 
-begin-marked-requires : tie.Need-begin-marked-requires
-begin-marked-requires c κs = search needs
+plus-requires-3 : tie.Need-plus-requires-3
+plus-requires-3 c κs = search needs
 
-same-length : tie.Need-same-length
-same-length c = c .before .before .before .before .before .before .before .before .before .before .before .before .before .before .before .before .before .before .begin-marked .kept .1 .1 .0 ∙ c .before .before .before .before .before .before .before .before .before .before .before .before .before .before .before .before .before .before .before .before .before .before .before .before .before .before .before .before .before .before .before .before .before .before .before .before .before .before .before .before .before .before .before .before .before .before .before .before .before .before .before .before .before .before .before .before .before .before .mark-values .kept .1 .1 .0
+plus-requires-4 : tie.Need-plus-requires-4
+plus-requires-4 c κs = search needs
 
-same-length-2 : tie.Need-same-length-2
-same-length-2 c = c .before .before .before .before .before .before .before .before .before .before .before .before .before .before .before .before .before .before .begin-marked .kept .1 .1 .1 .0 ∙ c .before .before .before .before .before .before .before .before .before .before .before .before .before .before .before .before .before .before .before .before .before .before .before .before .before .before .before .before .before .before .before .before .before .before .before .before .before .before .before .before .before .before .before .before .before .before .before .before .before .before .before .before .before .before .before .before .before .before .mark-values .kept .1 .1 .1 .0
+values-at-requires-2 : tie.Need-values-at-requires-2
+values-at-requires-2 c κs = search needs
 
-same-length-3 : tie.Need-same-length-3
-same-length-3 c = c .before .before .before .before .before .before .before .before .before .before .before .before .before .before .before .before .before .before .begin-marked .kept .1 .1 .1 .1 .0 ∙ c .before .before .before .before .before .before .before .before .before .before .before .before .before .before .before .before .before .before .before .before .before .before .before .before .before .before .before .before .before .before .before .before .before .before .before .before .before .before .before .before .before .before .before .before .before .before .before .before .before .before .before .before .before .before .before .before .before .before .mark-values .kept .1 .1 .1 .1 .0
+array-share-prefix-table : tie.Need-array-share-prefix-table
+array-share-prefix-table c = search needs
 
-same-length-4 : tie.Need-same-length-4
-same-length-4 c = c .before .before .before .before .before .before .before .before .before .before .before .before .before .before .before .before .before .before .begin-marked .kept .1 .1 .1 .1 .1 .0 ∙ c .before .before .before .before .before .before .before .before .before .before .before .before .before .before .before .before .before .before .before .before .before .before .before .before .before .before .before .before .before .before .before .before .before .before .before .before .before .before .before .before .before .before .before .before .before .before .before .before .before .before .before .before .before .before .before .before .before .before .mark-values .kept .1 .1 .1 .1 .1 .0
+slice-aggregate-prepared : tie.Need-slice-aggregate-prepared
+slice-aggregate-prepared c = sym (length-take-le (c .before .before .before .before .before .before .before .table-length .result) (c .before .before .before .before .values-at .result) (search needs))
 
-same-length-5 : tie.Need-same-length-5
-same-length-5 c = c .before .before .before .before .before .before .before .before .before .before .before .before .before .before .before .before .before .before .begin-marked .kept .1 .1 .1 .1 .1 .1 .0 ∙ c .before .before .before .before .before .before .before .before .before .before .before .before .before .before .before .before .before .before .before .before .before .before .before .before .before .before .before .before .before .before .before .before .before .before .before .before .before .before .mark-numbers .kept .1 .1 .0
+array-share-prefix-start : tie.Need-array-share-prefix-start
+array-share-prefix-start c = search needs
 
-same-length-6 : tie.Need-same-length-6
-same-length-6 c = c .before .before .before .before .before .before .before .before .before .before .before .before .before .before .before .before .before .before .begin-marked .kept .1 .1 .1 .1 .1 .1 .1 .0 ∙ c .before .before .before .before .before .before .before .before .before .before .before .before .before .before .before .before .before .before .before .before .before .before .before .before .before .before .before .before .before .before .before .before .before .before .before .before .before .before .mark-numbers .kept .1 .1 .1 .0
+slice-aggregate-prepared-2 : tie.Need-slice-aggregate-prepared-2
+slice-aggregate-prepared-2 c = sym (length-take-le (c .before .before .before .before .before .before .before .start-length .result) (c .before .before .values-at2 .result) (search needs))
 
-same-length-7 : tie.Need-same-length-7
-same-length-7 c = c .before .before .before .before .before .before .before .before .before .before .before .before .before .before .before .before .before .before .begin-marked .kept .1 .1 .1 .1 .1 .1 .1 .1 .0 ∙ c .before .before .before .before .before .before .before .before .before .before .before .before .before .before .before .before .before .before .before .before .before .before .before .before .before .before .before .before .before .before .before .before .before .before .before .before .before .before .before .before .before .before .before .before .before .before .before .before .before .before .before .before .before .before .before .before .before .before .mark-values .kept .1 .1 .1 .1 .1 .1 .0
+marked-requires : tie.Need-marked-requires
+marked-requires c κs = search needs
 
-same-length-8 : tie.Need-same-length-8
-same-length-8 c = c .before .before .before .before .before .before .before .before .before .before .before .before .before .before .before .before .before .before .before .before .before .before .before .before .before .before .before .before .before .before .before .before .before .before .before .before .before .before .before .before .before .before .before .before .before .before .before .before .before .before .before .before .before .before .before .before .before .before .mark-values .kept .1 .1 .1 .1 .1 .1 .1 .0
+marked-rows-requires : tie.Need-marked-rows-requires
+marked-rows-requires c κs = search needs
 
-same-length-9 : tie.Need-same-length-9
-same-length-9 c = c .before .before .before .before .before .before .before .before .before .before .before .before .before .before .before .before .before .before .before .before .before .before .before .before .before .before .before .before .before .before .before .before .before .before .before .before .before .before .mark-numbers .kept .1 .1 .1 .1 .0
+prepared-requires : tie.Need-prepared-requires
+prepared-requires c κs = search needs
 
-same-length-10 : tie.Need-same-length-10
-same-length-10 c = c .before .before .before .before .before .before .before .before .before .before .before .before .before .before .before .before .before .before .begin-marked .kept .1 .1 .1 .1 .1 .1 .1 .1 .1 .1 .1 .0 ∙ c .before .before .before .before .before .before .before .before .before .before .before .before .before .before .before .before .before .before .before .before .before .before .before .before .before .before .before .before .before .before .before .before .before .before .before .before .before .before .before .before .before .before .before .before .before .before .before .before .before .before .before .before .before .before .before .before .before .before .mark-values .kept .1 .1 .1 .1 .1 .1 .1 .1 .0
+refusal-requires : tie.Need-refusal-requires
+refusal-requires c κs = search needs
 
-same-length-11 : tie.Need-same-length-11
-same-length-11 c = c .before .before .before .before .before .before .before .before .before .before .before .before .before .before .before .before .before .before .begin-marked .kept .1 .1 .1 .1 .1 .1 .1 .1 .1 .1 .1 .1 .0 ∙ c .before .before .before .before .before .before .before .before .before .before .before .before .before .before .before .before .before .before .before .before .before .before .before .before .before .before .before .before .before .before .before .before .before .before .before .before .before .before .mark-numbers .kept .1 .1 .1 .1 .1 .0
+answer-place-requires : tie.Need-answer-place-requires
+answer-place-requires c κs = search needs
+
+plus-requires-5 : tie.Need-plus-requires-5
+plus-requires-5 c κs = search needs
+
+plus-requires-6 : tie.Need-plus-requires-6
+plus-requires-6 c κs = search needs
+
+word-at-requires : tie.Need-word-at-requires
+word-at-requires c κs = search needs
+
+same-rows-requires : tie.Need-same-rows-requires
+same-rows-requires c κs = search needs
+
+both-requires : tie.Need-both-requires
+both-requires c κs = search needs
+
+same-areas-requires : tie.Need-same-areas-requires
+same-areas-requires c κs = search needs
+
+both-requires-2 : tie.Need-both-requires-2
+both-requires-2 c κs = search needs
+
+run-of-requires : tie.Need-run-of-requires
+run-of-requires c κs = search needs
+
+plus-requires-7 : tie.Need-plus-requires-7
+plus-requires-7 c κs = search needs
+
+calls-after-requires : tie.Need-calls-after-requires
+calls-after-requires c κs = search needs
 
 returns : tie.Need-returns
 returns c = search needs
@@ -60,19 +96,31 @@ begin-spec =
     tie.close
     (tie.spec
     plus-requires
-    mark-values-requires
+    settings-at-requires
+    table-length-requires
+    start-length-requires
     plus-requires-2
-    mark-numbers-requires
-    begin-marked-requires
-    same-length
-    same-length-2
-    same-length-3
-    same-length-4
-    same-length-5
-    same-length-6
-    same-length-7
-    same-length-8
-    same-length-9
-    same-length-10
-    same-length-11
+    values-at-requires
+    plus-requires-3
+    plus-requires-4
+    values-at-requires-2
+    array-share-prefix-table
+    slice-aggregate-prepared
+    array-share-prefix-start
+    slice-aggregate-prepared-2
+    marked-requires
+    marked-rows-requires
+    prepared-requires
+    refusal-requires
+    answer-place-requires
+    plus-requires-5
+    plus-requires-6
+    word-at-requires
+    same-rows-requires
+    both-requires
+    same-areas-requires
+    both-requires-2
+    run-of-requires
+    plus-requires-7
+    calls-after-requires
     returns)

@@ -1,5 +1,5 @@
-use lib.ListN.{length}
 use borrow.Author.Needs.{needs}
+use Rattle.replay_descent.proofs.Within.{within, part}
 use Rattle.replay_descent.proofs.preparation.prepared.Statement.{statement}
 use Rattle.replay_descent.proofs.preparation.prepared.Tie as tie
 
@@ -9,71 +9,80 @@ plus-requires c κs = search needs
 lent-at-requires : tie.Need-lent-at-requires
 lent-at-requires c κs = search needs
 
-plus-requires-2 : tie.Need-plus-requires-2
-plus-requires-2 c κs = search needs
+length-at-requires : tie.Need-length-at-requires
+length-at-requires c κs = search needs
 
-word-at-requires : tie.Need-word-at-requires
-word-at-requires c κs = search needs
+length-at-requires-2 : tie.Need-length-at-requires-2
+length-at-requires-2 c κs = search needs
 
-least-requires : tie.Need-least-requires
-least-requires c κs = search needs
+array-borrow-prefix-positions : tie.Need-array-borrow-prefix-positions
+array-borrow-prefix-positions c = within (c .before .before .before .before .before .before .before .before .before .before .before .before .before .before .before .before .before .before .args .m .positions) (c .before .before .before .before .before .before .before .before .before .before .before .before .before .lent-at .result .positions) 132 (c .before .before .before .before .before .before .before .before .before .before .before .before .before .before .before .before .before .before .good .1 .1 .1 .1 .1 .0 .1 .1 .0 .1 .0 .1) (c .before .before .before .before .before .before .before .before .before .before .before .before .before .lent-at .ensures .0)
 
-plus-requires-3 : tie.Need-plus-requires-3
-plus-requires-3 c κs = search needs
+slice-aggregate-prepare : tie.Need-slice-aggregate-prepare
+slice-aggregate-prepare c = part (c .before .before .before .before .before .before .before .before .before .before .before .before .before .before .before .before .before .before .before .args .m .positions) (c .before .before .before .before .before .before .before .before .before .before .before .before .before .before .lent-at .result .positions) 132 (c .before .before .before .before .before .before .before .before .before .before .before .before .before .before .before .before .before .before .before .good .1 .1 .1 .1 .1 .0 .1 .1 .0 .1 .0 .1) (c .before .before .before .before .before .before .before .before .before .before .before .before .before .before .lent-at .ensures .0)
 
-word-at-requires-2 : tie.Need-word-at-requires-2
-word-at-requires-2 c κs = search needs
+array-borrow-prefix-increments : tie.Need-array-borrow-prefix-increments
+array-borrow-prefix-increments c = within (c .before .before .before .before .before .before .before .before .before .before .before .before .before .before .before .before .before .before .before .args .m .increments) (c .before .before .before .before .before .before .before .before .before .before .before .before .before .before .lent-at .result .increments) 132 (c .before .before .before .before .before .before .before .before .before .before .before .before .before .before .before .before .before .before .before .good .1 .1 .1 .1 .1 .0 .1 .1 .1 .0 .1 .0 .1) (c .before .before .before .before .before .before .before .before .before .before .before .before .before .before .lent-at .ensures .1)
 
-least-requires-2 : tie.Need-least-requires-2
-least-requires-2 c κs = search needs
+slice-aggregate-prepare-2 : tie.Need-slice-aggregate-prepare-2
+slice-aggregate-prepare-2 c = part (c .before .before .before .before .before .before .before .before .before .before .before .before .before .before .before .before .before .before .before .before .args .m .increments) (c .before .before .before .before .before .before .before .before .before .before .before .before .before .before .before .lent-at .result .increments) 132 (c .before .before .before .before .before .before .before .before .before .before .before .before .before .before .before .before .before .before .before .before .good .1 .1 .1 .1 .1 .0 .1 .1 .1 .0 .1 .0 .1) (c .before .before .before .before .before .before .before .before .before .before .before .before .before .before .before .lent-at .ensures .1)
 
-plus-requires-4 : tie.Need-plus-requires-4
-plus-requires-4 c κs = search needs
+array-borrow-prefix-gains : tie.Need-array-borrow-prefix-gains
+array-borrow-prefix-gains c = within (c .before .before .before .before .before .before .before .before .before .before .before .before .before .before .before .before .before .before .before .before .args .m .gains) (c .before .before .before .before .before .before .before .before .before .before .before .before .before .before .before .lent-at .result .gains) 132 (c .before .before .before .before .before .before .before .before .before .before .before .before .before .before .before .before .before .before .before .before .good .1 .1 .1 .1 .1 .0 .1 .1 .1 .1 .0 .1 .0 .1) (c .before .before .before .before .before .before .before .before .before .before .before .before .before .before .before .lent-at .ensures .2)
 
-word-at-requires-3 : tie.Need-word-at-requires-3
-word-at-requires-3 c κs = search needs
+slice-aggregate-prepare-3 : tie.Need-slice-aggregate-prepare-3
+slice-aggregate-prepare-3 c = part (c .before .before .before .before .before .before .before .before .before .before .before .before .before .before .before .before .before .before .before .before .before .args .m .gains) (c .before .before .before .before .before .before .before .before .before .before .before .before .before .before .before .before .lent-at .result .gains) 132 (c .before .before .before .before .before .before .before .before .before .before .before .before .before .before .before .before .before .before .before .before .before .good .1 .1 .1 .1 .1 .0 .1 .1 .1 .1 .0 .1 .0 .1) (c .before .before .before .before .before .before .before .before .before .before .before .before .before .before .before .before .lent-at .ensures .2)
 
-least-requires-3 : tie.Need-least-requires-3
-least-requires-3 c κs = search needs
+array-borrow-prefix-affinities : tie.Need-array-borrow-prefix-affinities
+array-borrow-prefix-affinities c = within (c .before .before .before .before .before .before .before .before .before .before .before .before .before .before .before .before .before .before .before .before .before .args .m .affinities) (c .before .before .before .before .before .before .before .before .before .before .before .before .before .before .before .before .lent-at .result .affinities) 4100 (c .before .before .before .before .before .before .before .before .before .before .before .before .before .before .before .before .before .before .before .before .before .good .1 .1 .1 .1 .1 .0 .1 .1 .1 .1 .1 .0 .1 .0 .1) (c .before .before .before .before .before .before .before .before .before .before .before .before .before .before .before .before .lent-at .ensures .3)
 
-plus-requires-5 : tie.Need-plus-requires-5
-plus-requires-5 c κs = search needs
+slice-aggregate-prepare-4 : tie.Need-slice-aggregate-prepare-4
+slice-aggregate-prepare-4 c = part (c .before .before .before .before .before .before .before .before .before .before .before .before .before .before .before .before .before .before .before .before .before .before .args .m .affinities) (c .before .before .before .before .before .before .before .before .before .before .before .before .before .before .before .before .before .lent-at .result .affinities) 4100 (c .before .before .before .before .before .before .before .before .before .before .before .before .before .before .before .before .before .before .before .before .before .before .good .1 .1 .1 .1 .1 .0 .1 .1 .1 .1 .1 .0 .1 .0 .1) (c .before .before .before .before .before .before .before .before .before .before .before .before .before .before .before .before .before .lent-at .ensures .3)
 
-word-at-requires-4 : tie.Need-word-at-requires-4
-word-at-requires-4 c κs = search needs
+array-borrow-prefix-indices : tie.Need-array-borrow-prefix-indices
+array-borrow-prefix-indices c = within (c .before .before .before .before .before .before .before .before .before .before .before .before .before .before .before .before .before .before .before .before .before .before .args .m .indices) (c .before .before .before .before .before .before .before .before .before .before .before .before .before .before .before .before .before .lent-at .result .indices) 2052 (c .before .before .before .before .before .before .before .before .before .before .before .before .before .before .before .before .before .before .before .before .before .before .good .1 .1 .1 .1 .1 .0 .1 .1 .1 .1 .1 .1 .0 .1 .0 .1) (c .before .before .before .before .before .before .before .before .before .before .before .before .before .before .before .before .before .lent-at .ensures .4)
 
-least-requires-4 : tie.Need-least-requires-4
-least-requires-4 c κs = search needs
+slice-aggregate-prepare-5 : tie.Need-slice-aggregate-prepare-5
+slice-aggregate-prepare-5 c = part (c .before .before .before .before .before .before .before .before .before .before .before .before .before .before .before .before .before .before .before .before .before .before .before .args .m .indices) (c .before .before .before .before .before .before .before .before .before .before .before .before .before .before .before .before .before .before .lent-at .result .indices) 2052 (c .before .before .before .before .before .before .before .before .before .before .before .before .before .before .before .before .before .before .before .before .before .before .before .good .1 .1 .1 .1 .1 .0 .1 .1 .1 .1 .1 .1 .0 .1 .0 .1) (c .before .before .before .before .before .before .before .before .before .before .before .before .before .before .before .before .before .before .lent-at .ensures .4)
 
-prepare-lent-requires : tie.Need-prepare-lent-requires
-prepare-lent-requires c κs = search needs
+array-borrow-prefix-offsets : tie.Need-array-borrow-prefix-offsets
+array-borrow-prefix-offsets c = within (c .before .before .before .before .before .before .before .before .before .before .before .before .before .before .before .before .before .before .before .before .before .before .before .args .m .offsets) (c .before .before .before .before .before .before .before .before .before .before .before .before .before .before .before .before .before .before .lent-at .result .offsets) 70 (c .before .before .before .before .before .before .before .before .before .before .before .before .before .before .before .before .before .before .before .before .before .before .before .good .1 .1 .1 .1 .1 .0 .1 .1 .1 .1 .1 .1 .1 .0 .1 .0 .1) (c .before .before .before .before .before .before .before .before .before .before .before .before .before .before .before .before .before .before .lent-at .ensures .5)
 
-same-length : tie.Need-same-length
-same-length c = c .before .before .before .before .before .before .before .before .before .before .before .before .before .before .before .before .before .before .prepare-lent .kept .1 .1 .1 .1 .1 .1 .1 .1 .0
+slice-aggregate-prepare-6 : tie.Need-slice-aggregate-prepare-6
+slice-aggregate-prepare-6 c = part (c .before .before .before .before .before .before .before .before .before .before .before .before .before .before .before .before .before .before .before .before .before .before .before .before .args .m .offsets) (c .before .before .before .before .before .before .before .before .before .before .before .before .before .before .before .before .before .before .before .lent-at .result .offsets) 70 (c .before .before .before .before .before .before .before .before .before .before .before .before .before .before .before .before .before .before .before .before .before .before .before .before .good .1 .1 .1 .1 .1 .0 .1 .1 .1 .1 .1 .1 .1 .0 .1 .0 .1) (c .before .before .before .before .before .before .before .before .before .before .before .before .before .before .before .before .before .before .before .lent-at .ensures .5)
 
-same-length-2 : tie.Need-same-length-2
-same-length-2 c = c .before .before .before .before .before .before .before .before .before .before .before .before .before .before .before .before .before .before .prepare-lent .kept .1 .1 .1 .1 .1 .1 .1 .1 .1 .0
+array-borrow-prefix-forces : tie.Need-array-borrow-prefix-forces
+array-borrow-prefix-forces c = within (c .before .before .before .before .before .before .before .before .before .before .before .before .before .before .before .before .before .before .before .before .before .before .before .before .args .m .forces) (c .before .before .before .before .before .before .before .before .before .before .before .before .before .before .before .before .before .before .before .lent-at .result .forces) 324 (c .before .before .before .before .before .before .before .before .before .before .before .before .before .before .before .before .before .before .before .before .before .before .before .before .good .1 .1 .1 .1 .1 .0 .1 .1 .1 .1 .1 .1 .1 .1 .0 .1 .0 .1) (c .before .before .before .before .before .before .before .before .before .before .before .before .before .before .before .before .before .before .before .lent-at .ensures .6)
 
-same-length-3 : tie.Need-same-length-3
-same-length-3 c = c .before .before .before .before .before .before .before .before .before .before .before .before .before .before .before .before .before .before .prepare-lent .kept .1 .1 .1 .1 .1 .1 .1 .1 .1 .1 .0
+slice-aggregate-prepare-7 : tie.Need-slice-aggregate-prepare-7
+slice-aggregate-prepare-7 c = part (c .before .before .before .before .before .before .before .before .before .before .before .before .before .before .before .before .before .before .before .before .before .before .before .before .before .args .m .forces) (c .before .before .before .before .before .before .before .before .before .before .before .before .before .before .before .before .before .before .before .before .lent-at .result .forces) 324 (c .before .before .before .before .before .before .before .before .before .before .before .before .before .before .before .before .before .before .before .before .before .before .before .before .before .good .1 .1 .1 .1 .1 .0 .1 .1 .1 .1 .1 .1 .1 .1 .0 .1 .0 .1) (c .before .before .before .before .before .before .before .before .before .before .before .before .before .before .before .before .before .before .before .before .lent-at .ensures .6)
 
-same-length-4 : tie.Need-same-length-4
-same-length-4 c = c .before .before .before .before .before .before .before .before .before .before .before .before .before .before .before .before .before .before .prepare-lent .kept .1 .1 .1 .1 .1 .1 .1 .1 .1 .1 .1 .0
+array-borrow-prefix-row-values : tie.Need-array-borrow-prefix-row-values
+array-borrow-prefix-row-values c = within (c .before .before .before .before .before .before .before .before .before .before .before .before .before .before .before .before .before .before .before .before .before .before .before .before .before .args .r .values) (c .before .before .before .before .before .before .before .before .before .before .before .before .before .before .before .before .before .before .before .length-at .result) 68 (c .before .before .before .before .before .before .before .before .before .before .before .before .before .before .before .before .before .before .before .before .before .before .before .before .before .good .1 .1 .1 .1 .1 .1 .0 .1 .1 .0 .1 .0 .1) (c .before .before .before .before .before .before .before .before .before .before .before .before .before .before .before .before .before .before .before .length-at .ensures)
 
-same-length-5 : tie.Need-same-length-5
-same-length-5 c = c .before .before .before .before .before .before .before .before .before .before .before .before .before .before .before .before .before .before .prepare-lent .kept .1 .1 .1 .1 .1 .1 .1 .1 .1 .1 .1 .1 .0
+slice-aggregate-prepare-8 : tie.Need-slice-aggregate-prepare-8
+slice-aggregate-prepare-8 c = part (c .before .before .before .before .before .before .before .before .before .before .before .before .before .before .before .before .before .before .before .before .before .before .before .before .before .before .args .r .values) (c .before .before .before .before .before .before .before .before .before .before .before .before .before .before .before .before .before .before .before .before .length-at .result) 68 (c .before .before .before .before .before .before .before .before .before .before .before .before .before .before .before .before .before .before .before .before .before .before .before .before .before .before .good .1 .1 .1 .1 .1 .1 .0 .1 .1 .0 .1 .0 .1) (c .before .before .before .before .before .before .before .before .before .before .before .before .before .before .before .before .before .before .before .before .length-at .ensures)
 
-same-length-6 : tie.Need-same-length-6
-same-length-6 c = c .before .before .before .before .before .before .before .before .before .before .before .before .before .before .before .before .before .before .prepare-lent .kept .1 .1 .1 .1 .1 .1 .1 .1 .1 .1 .1 .1 .1 .0
+array-borrow-prefix-row-indices : tie.Need-array-borrow-prefix-row-indices
+array-borrow-prefix-row-indices c = within (c .before .before .before .before .before .before .before .before .before .before .before .before .before .before .before .before .before .before .before .before .before .before .before .before .before .before .args .r .indices) (c .before .before .before .before .before .before .before .before .before .before .before .before .before .before .before .before .before .before .before .length-at2 .result) 68 (c .before .before .before .before .before .before .before .before .before .before .before .before .before .before .before .before .before .before .before .before .before .before .before .before .before .before .good .1 .1 .1 .1 .1 .1 .0 .1 .1 .1 .0 .1 .0 .1) (c .before .before .before .before .before .before .before .before .before .before .before .before .before .before .before .before .before .before .before .length-at2 .ensures)
 
-same-length-7 : tie.Need-same-length-7
-same-length-7 c = c .before .before .before .before .before .before .before .before .before .before .before .before .before .before .before .before .before .before .prepare-lent .kept .1 .1 .1 .1 .1 .1 .1 .1 .1 .1 .1 .1 .1 .1 .0
+slice-aggregate-prepare-9 : tie.Need-slice-aggregate-prepare-9
+slice-aggregate-prepare-9 c = part (c .before .before .before .before .before .before .before .before .before .before .before .before .before .before .before .before .before .before .before .before .before .before .before .before .before .before .before .args .r .indices) (c .before .before .before .before .before .before .before .before .before .before .before .before .before .before .before .before .before .before .before .before .length-at2 .result) 68 (c .before .before .before .before .before .before .before .before .before .before .before .before .before .before .before .before .before .before .before .before .before .before .before .before .before .before .before .good .1 .1 .1 .1 .1 .1 .0 .1 .1 .1 .0 .1 .0 .1) (c .before .before .before .before .before .before .before .before .before .before .before .before .before .before .before .before .before .before .before .before .length-at2 .ensures)
 
-same-length-8 : tie.Need-same-length-8
-same-length-8 c = c .before .before .before .before .before .before .before .before .before .before .before .before .before .before .before .before .before .before .prepare-lent .kept .1 .1 .1 .1 .1 .1 .1 .1 .1 .1 .1 .1 .1 .1 .1 .0
+array-share-prefix-reals : tie.Need-array-share-prefix-reals
+array-share-prefix-reals c = within (c .before .before .before .before .before .before .before .before .before .before .before .before .before .before .before .before .before .before .before .before .before .before .before .before .before .before .before .args .m .reals) (c .before .before .before .before .before .before .before .before .before .before .before .before .before .before .before .before .before .before .before .before .before .before .lent-at .result .reals) 4608 (c .before .before .before .before .before .before .before .before .before .before .before .before .before .before .before .before .before .before .before .before .before .before .before .before .before .before .before .good .1 .1 .1 .1 .1 .0 .1 .1 .1 .1 .1 .1 .1 .1 .1 .0 .1 .0 .1) (c .before .before .before .before .before .before .before .before .before .before .before .before .before .before .before .before .before .before .before .before .before .before .lent-at .ensures .7)
 
-same-length-9 : tie.Need-same-length-9
-same-length-9 c = c .before .before .before .before .before .before .before .before .before .before .before .before .before .before .before .before .before .before .prepare-lent .kept .1 .1 .1 .1 .1 .1 .1 .1 .1 .1 .1 .1 .1 .1 .1 .1 .0
+slice-aggregate-prepare-10 : tie.Need-slice-aggregate-prepare-10
+slice-aggregate-prepare-10 c = part (c .before .before .before .before .before .before .before .before .before .before .before .before .before .before .before .before .before .before .before .before .before .before .before .before .before .before .before .before .args .m .reals) (c .before .before .before .before .before .before .before .before .before .before .before .before .before .before .before .before .before .before .before .before .before .before .before .lent-at .result .reals) 4608 (c .before .before .before .before .before .before .before .before .before .before .before .before .before .before .before .before .before .before .before .before .before .before .before .before .before .before .before .before .good .1 .1 .1 .1 .1 .0 .1 .1 .1 .1 .1 .1 .1 .1 .1 .0 .1 .0 .1) (c .before .before .before .before .before .before .before .before .before .before .before .before .before .before .before .before .before .before .before .before .before .before .before .lent-at .ensures .7)
+
+array-share-prefix-words : tie.Need-array-share-prefix-words
+array-share-prefix-words c = within (c .before .before .before .before .before .before .before .before .before .before .before .before .before .before .before .before .before .before .before .before .before .before .before .before .before .before .before .before .args .m .words) (c .before .before .before .before .before .before .before .before .before .before .before .before .before .before .before .before .before .before .before .before .before .before .before .lent-at .result .words) 1536 (c .before .before .before .before .before .before .before .before .before .before .before .before .before .before .before .before .before .before .before .before .before .before .before .before .before .before .before .before .good .1 .1 .1 .1 .1 .0 .1 .1 .1 .1 .1 .1 .1 .1 .1 .1 .0 .1 .0 .1) (c .before .before .before .before .before .before .before .before .before .before .before .before .before .before .before .before .before .before .before .before .before .before .before .lent-at .ensures .8)
+
+slice-aggregate-prepare-11 : tie.Need-slice-aggregate-prepare-11
+slice-aggregate-prepare-11 c = part (c .before .before .before .before .before .before .before .before .before .before .before .before .before .before .before .before .before .before .before .before .before .before .before .before .before .before .before .before .before .args .m .words) (c .before .before .before .before .before .before .before .before .before .before .before .before .before .before .before .before .before .before .before .before .before .before .before .before .lent-at .result .words) 1536 (c .before .before .before .before .before .before .before .before .before .before .before .before .before .before .before .before .before .before .before .before .before .before .before .before .before .before .before .before .before .good .1 .1 .1 .1 .1 .0 .1 .1 .1 .1 .1 .1 .1 .1 .1 .1 .0 .1 .0 .1) (c .before .before .before .before .before .before .before .before .before .before .before .before .before .before .before .before .before .before .before .before .before .before .before .before .lent-at .ensures .8)
+
+prepare-requires : tie.Need-prepare-requires
+prepare-requires c κs = search needs
 
 returns : tie.Need-returns
 returns c = search needs
@@ -84,26 +93,29 @@ prepared-spec =
     (tie.spec
     plus-requires
     lent-at-requires
-    plus-requires-2
-    word-at-requires
-    least-requires
-    plus-requires-3
-    word-at-requires-2
-    least-requires-2
-    plus-requires-4
-    word-at-requires-3
-    least-requires-3
-    plus-requires-5
-    word-at-requires-4
-    least-requires-4
-    prepare-lent-requires
-    same-length
-    same-length-2
-    same-length-3
-    same-length-4
-    same-length-5
-    same-length-6
-    same-length-7
-    same-length-8
-    same-length-9
+    length-at-requires
+    length-at-requires-2
+    array-borrow-prefix-positions
+    slice-aggregate-prepare
+    array-borrow-prefix-increments
+    slice-aggregate-prepare-2
+    array-borrow-prefix-gains
+    slice-aggregate-prepare-3
+    array-borrow-prefix-affinities
+    slice-aggregate-prepare-4
+    array-borrow-prefix-indices
+    slice-aggregate-prepare-5
+    array-borrow-prefix-offsets
+    slice-aggregate-prepare-6
+    array-borrow-prefix-forces
+    slice-aggregate-prepare-7
+    array-borrow-prefix-row-values
+    slice-aggregate-prepare-8
+    array-borrow-prefix-row-indices
+    slice-aggregate-prepare-9
+    array-share-prefix-reals
+    slice-aggregate-prepare-10
+    array-share-prefix-words
+    slice-aggregate-prepare-11
+    prepare-requires
     returns)

@@ -1,4 +1,5 @@
 use borrow.Author.Needs.{needs}
+use native.Mathlib.Omega.{arith}
 use Rattle.replay_forces.proofs.pulls.pulls_case.Statement.{statement}
 use Rattle.replay_forces.proofs.pulls.pulls_case.Tie as tie
 
@@ -11,15 +12,6 @@ times-requires c κs = search needs
 returns : tie.Need-returns
 returns c = search needs
 
-returns-2 : tie.Need-returns-2
-returns-2 c = search needs
-
-returns-3 : tie.Need-returns-3
-returns-3 c = search needs
-
-returns-4 : tie.Need-returns-4
-returns-4 c = search needs
-
 mul-times : tie.Need-mul-times
 mul-times c = search needs
 
@@ -29,35 +21,74 @@ add-times c = search needs
 times-requires-2 : tie.Need-times-requires-2
 times-requires-2 c κs = search needs
 
-returns-5 : tie.Need-returns-5
-returns-5 c = search needs
+returns-2 : tie.Need-returns-2
+returns-2 c = search needs
 
-pulls-in-requires : tie.Need-pulls-in-requires
-pulls-in-requires c κs = (c .before .before .before .before .before .before .before .before .before .before .before .before .before .before .before .before .before .before .before .before .before .before .before .before .before .before .pre .0, c .before .before .before .before .before .before .before .before .before .before .before .before .before .before .before .before .before .before .before .before .before .before .before .before .before .before .pre .1, c .before .before .before .before .before .before .before .before .before .before .before .before .before .before .before .before .times .ensures .0, c .before .before .before .before .before .before .before .before .before .before .before .before .before .before .before .if1 .left, c .before .before .before .before .before .before .before .before .before .before .before .before .before .if2 .left, c .before .before .before .before .before .before .before .before .before .before .before .if3 .left, c .before .before .before .before .before .before .before .before .before .before .if4 .left, rw (c .before .before .before .before .before .before .before .before .times2 .ensures .0) at (c .before .before .before .before .before .before .before .if5 .left))
+plus-requires : tie.Need-plus-requires
+plus-requires c κs = search needs
 
-same-length : tie.Need-same-length
-same-length c = search needs
+add-plus : tie.Need-add-plus
+add-plus c = search needs
 
-same-length-2 : tie.Need-same-length-2
-same-length-2 c = search needs
+plus-requires-2 : tie.Need-plus-requires-2
+plus-requires-2 c κs = search needs
 
-same-length-3 : tie.Need-same-length-3
-same-length-3 c = search needs
+values-at-requires : tie.Need-values-at-requires
+values-at-requires c κs = search needs
 
-same-length-4 : tie.Need-same-length-4
-same-length-4 c = search needs
+add-numbers-at : tie.Need-add-numbers-at
+add-numbers-at c = search needs
 
-same-length-5 : tie.Need-same-length-5
-same-length-5 c = search needs
+numbers-at-requires : tie.Need-numbers-at-requires
+numbers-at-requires c κs = search needs
 
-same-length-6 : tie.Need-same-length-6
-same-length-6 c = search needs
+numbers-at-requires-2 : tie.Need-numbers-at-requires-2
+numbers-at-requires-2 c κs = search needs
 
-same-length-7 : tie.Need-same-length-7
-same-length-7 c = search needs
+plus-requires-3 : tie.Need-plus-requires-3
+plus-requires-3 c κs = search needs
 
-returns-6 : tie.Need-returns-6
-returns-6 c = search needs
+values-at-requires-2 : tie.Need-values-at-requires-2
+values-at-requires-2 c κs = search needs
+
+slice-aggregate-mark : tie.Need-slice-aggregate-mark
+slice-aggregate-mark c = search needs
+
+mark-requires : tie.Need-mark-requires
+mark-requires c κs = search needs
+
+slice-aggregate-forces-of : tie.Need-slice-aggregate-forces-of
+slice-aggregate-forces-of c = search needs
+
+slice-aggregate-forces-of-2 : tie.Need-slice-aggregate-forces-of-2
+slice-aggregate-forces-of-2 c = search needs
+
+slice-aggregate-forces-of-3 : tie.Need-slice-aggregate-forces-of-3
+slice-aggregate-forces-of-3 c = search needs
+
+slice-aggregate-forces-of-4 : tie.Need-slice-aggregate-forces-of-4
+slice-aggregate-forces-of-4 c = search needs
+
+slice-aggregate-forces-of-5 : tie.Need-slice-aggregate-forces-of-5
+slice-aggregate-forces-of-5 c = search needs
+
+forces-of-requires : tie.Need-forces-of-requires
+forces-of-requires c κs = (c .before .before .before .before .before .before .before .before .before .before .before .before .before .before .before .before .before .before .before .before .before .before .pre .0, c .before .before .before .before .before .before .before .before .before .before .before .before .before .before .before .before .before .before .before .before .before .before .pre .1, omega (arith, c .before .before .before .before .before .before .before .before .before .before .before .before .before .before .before .before .before .before .before .times .ensures .0, c .before .before .before .before .before .before .before .before .before .before .before .before .before .before .before .before .before .before .if1 .left, c .before .before .before .before .before .before .before .before .before .before .before .before .values-at .ok .1 .0 .1), omega (arith, c .before .before .before .before .before .before .before .before .before .before .before .before .before .before .before .before .times2 .ensures .0, c .before .before .before .before .before .before .before .before .before .before .before .before .before .before .before .if2 .left))
+
+returns-3 : tie.Need-returns-3
+returns-3 c = search needs
+
+slice-aggregate-same-forces : tie.Need-slice-aggregate-same-forces
+slice-aggregate-same-forces c = search needs
+
+answer-at-requires : tie.Need-answer-at-requires
+answer-at-requires c κs = c .before .before .before .before .before .before .before .before .before .before .before .before .before .before .before .before .before .before .before .before .before .before .before .before .before .before .pre .1
+
+same-forces-requires : tie.Need-same-forces-requires
+same-forces-requires c κs = (omega (arith, c .before .before .before .before .before .before .before .before .before .before .before .before .before .before .before .before .before .before .before .before .before .before .before .before .before .before .before .pre .1), omega (arith, c .before .before .before .before .before .before .before .before .before .before .before .before .before .before .before .before .before .before .before .before .before .before .before .before .before .before .before .pre .0), omega (arith, c .before .before .before .before .before .before .before .before .before .before .before .before .before .before .before .before .before .before .before .before .before .before .before .before .before .before .before .pre .0), c .before .before .before .before .before .before .before .before .before .before .before .before .before .before .before .before .before .before .before .before .before .before .before .before .times .ensures .0, omega (arith, c .before .before .before .before .before .before .before .before .before .before .before .before .before .before .before .before .before .before .before .before .before .times2 .ensures .0, c .before .before .before .before .before .before .before .before .before .before .before .before .before .before .before .before .before .before .before .before .if2 .left))
+
+returns-4 : tie.Need-returns-4
+returns-4 c = search needs
 
 pub pulls-case-spec : {M : Type 1} → statement M
 pulls-case-spec =
@@ -66,19 +97,29 @@ pulls-case-spec =
     cast-n
     times-requires
     returns
-    returns-2
-    returns-3
-    returns-4
     mul-times
     add-times
     times-requires-2
-    returns-5
-    pulls-in-requires
-    same-length
-    same-length-2
-    same-length-3
-    same-length-4
-    same-length-5
-    same-length-6
-    same-length-7
-    returns-6)
+    returns-2
+    plus-requires
+    add-plus
+    plus-requires-2
+    values-at-requires
+    add-numbers-at
+    numbers-at-requires
+    numbers-at-requires-2
+    plus-requires-3
+    values-at-requires-2
+    slice-aggregate-mark
+    mark-requires
+    slice-aggregate-forces-of
+    slice-aggregate-forces-of-2
+    slice-aggregate-forces-of-3
+    slice-aggregate-forces-of-4
+    slice-aggregate-forces-of-5
+    forces-of-requires
+    returns-3
+    slice-aggregate-same-forces
+    answer-at-requires
+    same-forces-requires
+    returns-4)
