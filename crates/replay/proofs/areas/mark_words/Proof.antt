@@ -1,27 +1,33 @@
-use mathlib.Core.Path.{_≡_}
+use Rattle.laws.proofs.Runs.{Runs, start, more, done}
+use lib.ListN.{set}
+use native.Mathlib.Omega.{arith}
+use mathlib.Core.Path.{_≡_, refl}
 use lib.ListN.{length}
-use Prim.Native.Nat.{_≤_, _-_}
+use Prim.Native.Nat.{_+_, _-_, _%_}
 use borrow.Author.Needs.{needs}
 use Rattle.replay.proofs.areas.mark_words.Statement.{statement}
 use Rattle.replay.proofs.areas.mark_words.Tie as tie
 
 abbrev Inv-loop : tie.InvT-loop
-Inv-loop area₀ w₀ i₀ area w i = (length area ≡ length area₀) × (i ≤ length area₀)
+Inv-loop area₀ i₀ area i = (length area ≡ length area₀) × Runs (λ i x. set x i (0x40000000 + i % 0x40000000)) (length area₀) area₀ i area
 
 abbrev μ-loop : tie.MeasureT-loop
-μ-loop area₀ w₀ i₀ area w i = length area₀ - i
+μ-loop area₀ i₀ area i = length area₀ - i
 
 loop-holds : tie.Need-loop-holds Inv-loop μ-loop
-loop-holds c = search needs
+loop-holds c = (refl, start _ _ _)
+
+add-area : tie.Need-add-area Inv-loop μ-loop
+add-area c = search needs
+
+cast-area : tie.Need-cast-area Inv-loop μ-loop
+cast-area c = search needs
 
 mul-area : tie.Need-mul-area Inv-loop μ-loop
 mul-area c = search needs
 
 slice-write-area : tie.Need-slice-write-area Inv-loop μ-loop
 slice-write-area c = search needs
-
-wrapping-add-u32-requires : tie.Need-wrapping-add-u32-requires Inv-loop μ-loop
-wrapping-add-u32-requires c κs = search needs
 
 add-i : tie.Need-add-i Inv-loop μ-loop
 add-i c = search needs
@@ -30,13 +36,13 @@ loop-less : tie.Need-loop-less Inv-loop μ-loop
 loop-less c = search needs
 
 loop-again : tie.Need-loop-again Inv-loop μ-loop
-loop-again c = search needs
+loop-again c = (search needs, more (c .before .loop .inv .1) (omega (arith, c .loop-test .taken, c .before .loop .inv .0)))
 
 same-length : tie.Need-same-length Inv-loop μ-loop
 same-length c = search needs
 
 returns : tie.Need-returns Inv-loop μ-loop
-returns c = search needs
+returns c = done (c .before .loop .inv .1) (omega (arith, c .loop-test .left, c .before .loop .inv .0))
 
 pub mark-words-spec : {M : Type 1} → statement M
 mark-words-spec =
@@ -45,9 +51,10 @@ mark-words-spec =
     Inv-loop
     μ-loop
     loop-holds
+    add-area
+    cast-area
     mul-area
     slice-write-area
-    wrapping-add-u32-requires
     add-i
     loop-less
     loop-again

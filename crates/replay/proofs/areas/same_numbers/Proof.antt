@@ -1,3 +1,10 @@
+use Rattle.replay.proofs.Compared.{number-right, number-wrong, numbers-short, numbers-are}
+use Rattle.replay.specs.Areas.{rightNumber}
+use Rattle.laws.proofs.Every.{every-none, every-more, every-no, every-done}
+use Rattle.laws.specs.Run.{every}
+use mathlib.Core.Path.{_≡_, sym}
+use mathlib.Core.Bool.{true}
+use native.Mathlib.Omega.{arith}
 use lib.ListN.{length}
 use Prim.Native.Nat.{_≤_, _-_}
 use borrow.Author.Needs.{needs}
@@ -5,16 +12,16 @@ use Rattle.replay.proofs.areas.same_numbers.Statement.{statement}
 use Rattle.replay.proofs.areas.same_numbers.Tie as tie
 
 abbrev Inv-loop : tie.InvT-loop
-Inv-loop area m list a i₀ i = i ≤ length area
+Inv-loop area m list a i₀ i = (i ≤ length area) × (every (rightNumber area m list a) i ≡ true)
 
 abbrev μ-loop : tie.MeasureT-loop
 μ-loop area m list a i₀ i = length area - i
 
 returns : tie.Need-returns Inv-loop μ-loop
-returns c = search needs
+returns c = numbers-short _ _ _ _ (c .if1 .taken)
 
 loop-holds : tie.Need-loop-holds Inv-loop μ-loop
-loop-holds c = search needs
+loop-holds c = (omega arith, every-none _)
 
 mul-wide : tie.Need-mul-wide Inv-loop μ-loop
 mul-wide c = search needs
@@ -29,7 +36,7 @@ wanted-requires : tie.Need-wanted-requires Inv-loop μ-loop
 wanted-requires c κs = search needs
 
 returns-2 : tie.Need-returns-2 Inv-loop μ-loop
-returns-2 c = search needs
+returns-2 c = numbers-are _ _ _ _ _ (c .before .before .before .before .before .before .if1 .left) (sym (every-no _ _ _ (c .before .before .before .before .loop-test .taken) (number-wrong (c .before .before .before .before .before .before .before .before .before .args .area .now) (c .before .before .before .before .before .before .before .before .before .args .m) (c .before .before .before .before .before .before .before .before .before .args .list .now) (c .before .before .before .before .before .before .before .before .before .args .a) (c .before .before .before .before .before .loop .i) (c .before .before .wide .ensures) (c .before .wanted .ensures) (c .if2 .taken))))
 
 add-i : tie.Need-add-i Inv-loop μ-loop
 add-i c = search needs
@@ -38,10 +45,10 @@ loop-less : tie.Need-loop-less Inv-loop μ-loop
 loop-less c = search needs
 
 loop-again : tie.Need-loop-again Inv-loop μ-loop
-loop-again c = search needs
+loop-again c = (omega (arith, c .before .before .before .before .loop-test .taken), every-more _ _ (c .before .before .before .before .before .loop .inv .1) (number-right (c .before .before .before .before .before .before .before .before .before .args .area .now) (c .before .before .before .before .before .before .before .before .before .args .m) (c .before .before .before .before .before .before .before .before .before .args .list .now) (c .before .before .before .before .before .before .before .before .before .args .a) (c .before .before .before .before .before .loop .i) (c .before .before .wide .ensures) (c .before .wanted .ensures) (c .if2 .left)))
 
 returns-3 : tie.Need-returns-3 Inv-loop μ-loop
-returns-3 c = search needs
+returns-3 c = numbers-are _ _ _ _ _ (c .before .before .if1 .left) (every-done _ _ _ (c .before .loop .inv .1) (c .before .loop .inv .0) (c .loop-test .left))
 
 pub same-numbers-spec : {M : Type 1} → statement M
 same-numbers-spec =
