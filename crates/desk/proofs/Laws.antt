@@ -1,22 +1,14 @@
 -- What the desk's calls leave is what the definitions name. Assumes nothing.
 use mathlib.Core.Path.{_≡_, ap, _∙_}
 use mathlib.Core.List.{List}
-use mathlib.Core.Bool.{true, false, _&&_}
-use Prim.Native.Nat.{ℕ, _-_, _*_, _^_, _<_, _≤_}
-use native.Mathlib.Omega.{arith}
-use native.Mathlib.Nat.{mul-le-mul}
-use lib.Dec.{leb}
+use mathlib.Core.Bool.{true, false}
+use Prim.Native.Nat.{ℕ, _<_, _≤_}
 use lib.ListN.{length}
 use lib.Ieee.{Float}
-use borrow.Author.Tests.{lt-ltb, le-ltb, le-leb, lt-leb, leb-true}
-use Rattle.laws.specs.Area.{num}
-use Rattle.laws.proofs.Bools.{and-left}
+use borrow.Author.Tests.{lt-ltb, le-ltb, le-leb, lt-leb}
 use Rattle.record.specs.declared.Run.{Run}
 use Rattle.record.specs.declared.Settings.{Settings}
 use Rattle.entry.specs.declared.Fault.the-variants.{Counters}
-use Rattle.record.specs.Record.{isTree, GoodSettings}
-use Rattle.tree.proofs.Descent.{few-nodes}
-use Rattle.entry.proofs.Laws.{axes}
 use Rattle.entry.specs.State.{Memory, state}
 use Rattle.budget.specs.declared.Answer.{Answer}
 use Rattle.budget.specs.declared.Answer.the-variants.{Bad}
@@ -26,29 +18,8 @@ use Rattle.prepare.specs.declared.Prepared.{Prepared}
 use Rattle.prepare.specs.Prepare.{Lent, Outcome, outcome, prepared, numberOf as preparedNumber}
 use Rattle.scatter.specs.declared.Scattered.{Scattered}
 use Rattle.scatter.specs.Scatter.{Outcome as Start, outcome as startOutcome, numberOf as startNumber}
-use Rattle.desk.specs.Words.{settingsFine, settingsOf, runFine, runOf, runPut, isBad, runAfter, answerPut}
+use Rattle.words.specs.Words.{settingsFine, settingsOf, runFine, runOf, runAfter, answerPut}
 use Rattle.desk.specs.Desk.{begun, recorded, begunWith, hostPrepare, tell, tellWork, hostWork, orZero}
-
--- ---- words that can be read are there
-
-pub settings-long : (w : List ℕ) → settingsFine w ≡ true → 9 ≤ length w
-unfolding settingsFine
-settings-long w e = leb-true 9 (length w) (and-left (leb 9 (length w)) (leb (num w 3) 1) e)
-
-pub run-long : (w : List ℕ) → runFine w ≡ true → 14 ≤ length w
-unfolding runFine
-run-long w e = leb-true 14 (length w) (and-left (leb 14 (length w)) (settingsFine w) (and-left (leb 14 (length w) && settingsFine w) (leb (num w 9) 2) e))
-
--- ---- the record after an answer
-
-module _ (a : Answer) (r : Run) (w : List ℕ) where
-  pub bad-after : isBad a ≡ true → w ≡ runAfter a r w
-  unfolding runAfter
-  bad-after e = rw e
-
-  pub fine-after : {w' : List ℕ} → isBad a ≡ false → w' ≡ runPut r w → w' ≡ runAfter a r w
-  unfolding runAfter
-  fine-after e q = rw (e, q)
 
 -- ---- preparation
 
@@ -90,11 +61,3 @@ module _ (b : ℕ) (w a : List ℕ) (m : Memory) where
 
 pub scattered-is : (r : Scattered) {p : List Float} (o : Start) → startOutcome r p ≡ o → (k : ℕ) → k ≡ orZero (startNumber r) → (k ≡ orZero (o .number)) × (p ≡ o .positions)
 scattered-is r o e k q = (q ∙ ap (λ (x : Start). orZero (x .number)) e, ap (λ (x : Start). x .positions) e)
-
--- ---- sizes
-
--- 50 splits of each point but the first are few
-pub nodes-few : (s : Settings) → GoodSettings s → isTree (s .method) ≡ true → (50 * 2 ^ s .c ≤ 400) × (50 * 2 ^ s .c * (s .n - 1) ≤ 1638000)
-nodes-few s g t =
-    let a = few-nodes 50 (s .c) (omega arith) (axes s g t .1) in
-    (a, mul-le-mul {n₁ = 50 * 2 ^ s .c} {m₁ = s .n - 1} {n₂ = 400} {m₂ = 4095} a (omega (arith, g .n-most)))

@@ -20,7 +20,7 @@ use Rattle.descent.specs.Descent.{work, numberOf}
 use Rattle.prepare.specs.declared.Prepared.{Prepared}
 use Rattle.prepare.specs.declared.Prepared.the-variants.{Refused, Ready}
 use Rattle.prepare.specs.Prepare.{Lent, Outcome, prepared, numberOf as preparedNumber}
-use Rattle.desk.specs.Words.{settingsFine, settingsOf, runFine, runOf, runPut, runAfter, answerPut, framePut, lengthsPut}
+use Rattle.words.specs.Words.{settingsFine, settingsOf, runFine, runOf, runPut, runAfter, answerPut, framePut, lengthsPut}
 
 -- ---- preparation
 

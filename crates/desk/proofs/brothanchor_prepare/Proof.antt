@@ -1,4 +1,5 @@
-use Rattle.desk.proofs.Laws.{settings-long, unread-begun, short-begun, begun-is}
+use Rattle.words.proofs.Laws.{settings-long}
+use Rattle.desk.proofs.Laws.{unread-begun, short-begun, begun-is}
 use Rattle.prepare.specs.Prepare.{numberOf}
 use borrow.Author.Tests.{not-true, not-false}
 use mathlib.Core.Path.{sym, _∙_}

@@ -1,4 +1,4 @@
-use Rattle.desk.proofs.Laws.{settings-long}
+use Rattle.words.proofs.Laws.{settings-long}
 use Rattle.desk.specs.Desk.{hostSizes}
 use Rattle.record.proofs.Laws.{settings-fine}
 use borrow.Author.Tests.{lt-ltb, le-ltb, eq-eqb, ne-eqb, not-true, not-false}

@@ -1,4 +1,5 @@
-use Rattle.desk.proofs.Laws.{run-long, short-told, unread-told, work-told}
+use Rattle.words.proofs.Laws.{run-long}
+use Rattle.desk.proofs.Laws.{short-told, unread-told, work-told}
 use borrow.Author.Tests.{not-true, not-false}
 use mathlib.Core.Path.{sym, _∙_}
 use borrow.Author.Needs.{needs}
