@@ -2,7 +2,8 @@
  *
  * Link libdesk.a (rt staticlib desk), for x86-64 Linux. All memory is lent by the caller; nothing is kept between calls.
  * An area is a pointer and its number of elements; an empty area may have any pointer. Areas of one call must not overlap.
- * A call that is refused at its entry changes nothing. Longer areas keep what lies past what is asked for.
+ * A call that is refused at its entry changes nothing, but for the answer of a work call. Longer areas keep what lies past
+ * what is asked for.
  *
  * Refusal numbers (0: none)
  *   1  c is 0 or above 8
@@ -106,7 +107,8 @@ uint32_t brothanchor_prepare(
     uint64_t *record, size_t record_length);
 
 /* Does units until the budget is done, one is refused or the run has ended. Answers 0 or the number of the refusal, and
- * writes record and answer. 12 where the answer area is shorter than five words: then nothing is changed at all. */
+ * writes record and answer. Refused at its entry (12, 13) it writes the answer alone, and leaves the record to the last bit.
+ * 12 where the answer area is shorter than five words: then nothing is changed at all. */
 uint32_t brothanchor_work(
     uint64_t *record, size_t record_length,
     double *positions, size_t positions_length,
