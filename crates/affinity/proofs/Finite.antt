@@ -18,19 +18,19 @@ use Rattle.laws.proofs.Joined.{joined-all, getD-map-in, length-map, those-below
 use Rattle.laws.proofs.Laid.{singles-size, singles-get, laid-at, laid-size}
 use Rattle.elementary.specs.Limits.{inDomain, notNegative, neighboursOf}
 use Rattle.elementary.proofs.Sizes.{Least, Sized, held-whole, sized, sized-signed, sized-most, sized-more, sized-add, sized-mul, sized-div, least-mul, whole-sized, sized-whole, whole-not-negative, whole-signed, whole-most, whole-least, two-sized, zero-whole}
-use Rattle.near.specs.Distances.{distanceOf}
-use Rattle.near.specs.Near.{Pair, pair, sorted}
-use Rattle.near.proofs.Apart.{row-own, row-other}
-use Rattle.near.proofs.Entering.{none-pair}
-use Rattle.near.proofs.Rows.{all-take, all-sorted, all-at}
-use Rattle.near.proofs.Finite.{distance-bounded}
-use Rattle.sigma.specs.Sigma.{sharesOf}
-use Rattle.sigma.proofs.Finite.{mostShare, share-bounded}
-use Rattle.links.specs.Links.{plusOf}
-use Rattle.lists.specs.Lists.{Areas, place, plusShare, joint, weight, listOf, weightsOf, linksOf, linked}
-use Rattle.lists.proofs.Linked.{length-weights}
-use Rattle.lists.proofs.Theorems.{offsets-last}
-use Rattle.joins.specs.Joins.{norm}
+use Rattle.affinity_near.specs.Distances.{distanceOf}
+use Rattle.affinity_near.specs.Near.{Pair, pair, sorted}
+use Rattle.affinity_near.proofs.Apart.{row-own, row-other}
+use Rattle.affinity_near.proofs.Entering.{none-pair}
+use Rattle.affinity_near.proofs.Rows.{all-take, all-sorted, all-at}
+use Rattle.affinity_near.proofs.Finite.{distance-bounded}
+use Rattle.affinity_sigma.specs.Sigma.{sharesOf}
+use Rattle.affinity_sigma.proofs.Finite.{mostShare, share-bounded}
+use Rattle.affinity_links.specs.Links.{plusOf}
+use Rattle.affinity_lists.specs.Lists.{Areas, place, plusShare, joint, weight, listOf, weightsOf, linksOf, linked}
+use Rattle.affinity_lists.proofs.Linked.{length-weights}
+use Rattle.affinity_lists.proofs.Theorems.{offsets-last}
+use Rattle.affinity_joins.specs.Joins.{norm}
 use Rattle.affinity.specs.Exact.{distancesOf, conditional, jointly, affinityOf, exactOf}
 use Rattle.affinity.specs.Laid.{each, laid}
 use Rattle.affinity.specs.Neighbours.{valuesIn, framesIn, nearestFrames, nearestShares, neighbourRow, rowsOf, neighboursListed}

@@ -8,7 +8,7 @@ use lib.ListN.{length, drop}
 use lib.Ieee.{Float, binary64, mul}
 use Rattle.laws.specs.Run.{run}
 use Rattle.elementary.specs.Limits.{ceilOf, three, neighboursOf}
-use Rattle.lists.specs.Lists.{Rows, areas, symmetrised, Prepared}
+use Rattle.affinity_lists.specs.Lists.{Rows, areas, symmetrised, Prepared}
 use Rattle.affinity.specs.Laid.{laid}
 use Rattle.affinity.specs.Steps.{sharesLeft, framesLeft}
 use Rattle.affinity.specs.Neighbours.{valuesIn, framesIn, neighbourRow, neighboursListed}

@@ -16,14 +16,14 @@ use Rattle.laws.proofs.Changed.{changed-at, changed-tail, scratch-front}
 use Rattle.laws.proofs.Laid.{singles-size, singles-taken, laid-at, Lays, lays-more}
 use Rattle.laws.proofs.Numbers.{row-in}
 use borrow.Rule.Slice.PartMut.{midOf, putMid, same-len-mid}
-use Rattle.near.specs.Distances.{distanceRow}
-use Rattle.near.specs.Near.{Pair, pair, sorted, nearestOf, byIndexOf, valuesOver, indicesOver}
-use Rattle.near.proofs.Apart.{nearest-frames}
-use Rattle.near.proofs.Rows.{nearest-count, nearest-distinct, by-index-count, made-rises, made-in}
-use Rattle.sigma.specs.Sigma.{divideStep, sigmaShares, sharesOf}
-use Rattle.lists.specs.Lists.{Rows}
-use Rattle.lists.proofs.Made.{rows-made}
-use Rattle.joins.specs.Joins.{norm}
+use Rattle.affinity_near.specs.Distances.{distanceRow}
+use Rattle.affinity_near.specs.Near.{Pair, pair, sorted, nearestOf, byIndexOf, valuesOver, indicesOver}
+use Rattle.affinity_near.proofs.Apart.{nearest-frames}
+use Rattle.affinity_near.proofs.Rows.{nearest-count, nearest-distinct, by-index-count, made-rises, made-in}
+use Rattle.affinity_sigma.specs.Sigma.{divideStep, sigmaShares, sharesOf}
+use Rattle.affinity_lists.specs.Lists.{Rows}
+use Rattle.affinity_lists.proofs.Made.{rows-made}
+use Rattle.affinity_joins.specs.Joins.{norm}
 use Rattle.affinity.specs.Exact.{distancesOf}
 use Rattle.affinity.specs.Laid.{each, laid}
 use Rattle.affinity.specs.Steps.{sharesLeft, framesLeft}

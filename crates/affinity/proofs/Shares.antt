@@ -12,11 +12,11 @@ use lib.Ieee.{Float, nan}
 use Rattle.laws.specs.Area.{at, zero64}
 use Rattle.laws.proofs.Runs.{run-keeps}
 use Rattle.laws.proofs.Laid.{singles-taken}
-use Rattle.near.specs.Distances.{distanceRow}
-use Rattle.near.proofs.Apart.{row-own, row-other, row-size, row-tail}
+use Rattle.affinity_near.specs.Distances.{distanceRow}
+use Rattle.affinity_near.proofs.Apart.{row-own, row-other, row-size, row-tail}
 use Rattle.laws.proofs.Parts.{Scratch, scratch-start}
-use Rattle.sigma.specs.Sigma.{sigmaShares, sharesOf}
-use Rattle.sigma.proofs.Alone.{shares-whole, shares-read}
+use Rattle.affinity_sigma.specs.Sigma.{sigmaShares, sharesOf}
+use Rattle.affinity_sigma.proofs.Alone.{shares-whole, shares-read}
 use Rattle.affinity.specs.Exact.{distancesOf, conditional}
 use Rattle.affinity.specs.Steps.{conditionals, distancesLeft}
 

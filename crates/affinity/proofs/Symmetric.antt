@@ -13,8 +13,8 @@ use Rattle.laws.specs.Area.{at, zero64}
 use Rattle.laws.specs.Joined.{joined}
 use Rattle.laws.proofs.Numbers.{row-in}
 use Rattle.laws.proofs.Laid.{singles-size, singles-get, singles-taken, laid-size, laid-at, laid-whole}
-use Rattle.joins.specs.Joins.{norm, jointAt, symmetrized}
-use Rattle.joins.proofs.Joint.{Joins, joins-all}
+use Rattle.affinity_joins.specs.Joins.{norm, jointAt, symmetrized}
+use Rattle.affinity_joins.proofs.Joint.{Joins, joins-all}
 use Rattle.affinity.specs.Exact.{conditional, jointly, affinityOf, exactOf}
 use Rattle.affinity.specs.Laid.{laid}
 use Rattle.affinity.specs.Steps.{conditionals}

@@ -9,10 +9,10 @@ use lib.Ieee.{Float, binary64, add, div}
 use Rattle.laws.specs.Run.{run}
 use Rattle.laws.specs.Area.{at, zero64}
 use Rattle.laws.specs.Joined.{joined}
-use Rattle.joins.specs.Joins.{norm}
+use Rattle.affinity_joins.specs.Joins.{norm}
 use Rattle.affinity.specs.Laid.{each, laid}
-use Rattle.near.specs.Distances.{distanceOf, distanceRow}
-use Rattle.sigma.specs.Sigma.{sigmaShares, sharesOf}
+use Rattle.affinity_near.specs.Distances.{distanceOf, distanceRow}
+use Rattle.affinity_sigma.specs.Sigma.{sigmaShares, sharesOf}
 
 -- the distances of frame i to the n frames, to itself 0
 abbrev pub distancesOf : List Float → ℕ → ℕ → ℕ → List Float

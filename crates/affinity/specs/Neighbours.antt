@@ -7,11 +7,11 @@ use Rattle.laws.specs.Run.{run, seek}
 use Rattle.laws.specs.Joined.{joined, those}
 use Rattle.laws.specs.Area.{at}
 use Rattle.elementary.specs.Limits.{neighboursOf}
-use Rattle.near.specs.Distances.{distanceOf}
-use Rattle.near.specs.Near.{Pair, sorted, nearestBy, byIndexOf}
-use Rattle.sigma.specs.Sigma.{sigmaShares, sharesOf}
-use Rattle.lists.specs.Lists.{Areas, areas, weight, symmetrised}
-use Rattle.joins.specs.Joins.{norm}
+use Rattle.affinity_near.specs.Distances.{distanceOf}
+use Rattle.affinity_near.specs.Near.{Pair, sorted, nearestBy, byIndexOf}
+use Rattle.affinity_sigma.specs.Sigma.{sigmaShares, sharesOf}
+use Rattle.affinity_lists.specs.Lists.{Areas, areas, weight, symmetrised}
+use Rattle.affinity_joins.specs.Joins.{norm}
 use Rattle.affinity.specs.Laid.{each, laid}
 
 -- the values of some pairs: distances, or shares

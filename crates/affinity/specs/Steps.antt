@@ -4,8 +4,8 @@ use Prim.Native.Nat.{ℕ}
 use lib.ListN.{drop}
 use lib.Ieee.{Float}
 use Rattle.laws.specs.Run.{run}
-use Rattle.near.specs.Distances.{distanceRow}
-use Rattle.near.specs.Near.{indicesOver}
+use Rattle.affinity_near.specs.Distances.{distanceRow}
+use Rattle.affinity_near.specs.Near.{indicesOver}
 use Rattle.affinity.specs.Laid.{each}
 use Rattle.affinity.specs.Exact.{conditional}
 use Rattle.affinity.specs.Neighbours.{nearestFrames, nearestShares}

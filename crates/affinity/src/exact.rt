@@ -4,12 +4,12 @@ ghost use Prim.Native.Nat.{_+_, _*_, _<_, _≤_};
 ghost use lib.ListN.{length};
 ghost use borrow.Rule.Slice.PartMut.{putMid};
 ghost use Rattle.laws.specs.Area.{zero64};
-ghost use Rattle.near.specs.Distances.{distanceRow, squaresOf, Squared};
-ghost use Rattle.lists.specs.Lists.{cleared};
+ghost use Rattle.affinity_near.specs.Distances.{distanceRow, squaresOf, Squared};
+ghost use Rattle.affinity_lists.specs.Lists.{cleared};
 ghost use Rattle.affinity.specs.Exact.{exactOf};
 ghost use Rattle.affinity.specs.Laid.{laid};
 ghost use Rattle.affinity.specs.Steps.{conditionals, distancesLeft};
-use joins::symmetrize_probabilities;
+use affinity_joins::symmetrize_probabilities;
 
 // The distances of frame i in the row, and its shares of the n frames in row i of the affinities.
 fn conditional_row(
@@ -27,10 +27,10 @@ fn conditional_row(
     ensures { λ _. ⌜ now (affinities .exit) ≡ putMid (i * n) n (now (affinities .entry)) (conditionals (now (table .entry)) n f perplexity i) ⌝ }
     ensures { λ _. ⌜ now (row .exit) ≡ distanceRow (now (table .entry)) n f i (now (row .entry)) ⌝ }
 {
-    near::distances::distance_row(table, n, f, squares, i, row);
+    affinity_near::distances::distance_row(table, n, f, squares, i, row);
     let a = i * n;
     let e = a + n;
-    sigma::binary_search_sigma(row, n, perplexity, &mut affinities[a..e]);
+    affinity_sigma::binary_search_sigma(row, n, perplexity, &mut affinities[a..e]);
 }
 
 // The shares of all n frames, by rows.
@@ -82,7 +82,7 @@ pub fn exact_affinities(
     ensures { λ _. ⌜ now (squares .exit) ≡ squaresOf (now (table .entry)) n f (now (squares .entry)) ⌝ }
     ensures { λ _. ⌜ now (row .exit) ≡ cleared zero64 n (now (row .entry)) ⌝ }
 {
-    near::distances::square_frames(table, n, f, squares);
+    affinity_near::distances::square_frames(table, n, f, squares);
     conditional_probabilities(table, n, f, perplexity, squares, affinities, row);
     symmetrize_probabilities(affinities, n);
     clear_row(row, n);

@@ -8,10 +8,10 @@ ghost use lib.ListN.{length};
 ghost use Rattle.laws.specs.Run.{run};
 ghost use Rattle.laws.specs.Area.{zero64};
 ghost use Rattle.elementary.specs.Limits.{neighboursOf};
-ghost use Rattle.near.specs.Distances.{squaresOf, Squared};
-ghost use Rattle.near.specs.Near.{valuesOver, indicesOver};
-ghost use Rattle.sigma.specs.Sigma.{divideStep};
-ghost use Rattle.lists.specs.Lists.{areas};
+ghost use Rattle.affinity_near.specs.Distances.{squaresOf, Squared};
+ghost use Rattle.affinity_near.specs.Near.{valuesOver, indicesOver};
+ghost use Rattle.affinity_sigma.specs.Sigma.{divideStep};
+ghost use Rattle.affinity_lists.specs.Lists.{areas};
 ghost use Rattle.affinity.specs.Laid.{laid};
 ghost use Rattle.affinity.specs.Steps.{sharesLeft, framesLeft};
 ghost use Rattle.affinity.specs.Neighbours.{valuesIn, framesIn, neighbourRow, neighboursListed};
@@ -50,11 +50,11 @@ fn neighbor_row(
     ensures { λ _. ⌜ now («row_values» .exit) ≡ sharesLeft (now (table .entry)) n f k perplexity i (now («row_values» .entry)) ⌝ }
     ensures { λ _. ⌜ now («row_indices» .exit) ≡ framesLeft (now (table .entry)) n f k i (now («row_indices» .entry)) ⌝ }
 {
-    near::distances::distance_row(table, n, f, squares, i, row_values);
-    near::neighbours::nearest(row_values, n, k, i, weights, row_indices);
-    sigma::binary_search_sigma(weights, k, perplexity, row_values);
+    affinity_near::distances::distance_row(table, n, f, squares, i, row_values);
+    affinity_near::neighbours::nearest(row_values, n, k, i, weights, row_indices);
+    affinity_sigma::binary_search_sigma(weights, k, perplexity, row_values);
     divide_shares(row_values, k, 2.0 * n as f64);
-    near::neighbours::by_index(row_values, row_indices, k, weights, indices);
+    affinity_near::neighbours::by_index(row_values, row_indices, k, weights, indices);
 }
 
 // The rows of all n frames: row i at i·k.
@@ -118,7 +118,7 @@ pub fn neighbor_probabilities(
     ensures { λ _. ⌜ now (squares .exit) ≡ squaresOf (now (table .entry)) n f (now (squares .entry)) ⌝ }
 {
     let k = elementary::limits::neighbours(perplexity, n as u64) as usize;
-    near::distances::square_frames(table, n, f, squares);
+    affinity_near::distances::square_frames(table, n, f, squares);
     neighbor_rows(
         table,
         n,
@@ -131,5 +131,5 @@ pub fn neighbor_probabilities(
         row_values,
         row_indices,
     );
-    lists::symmetrise(weights, indices, offsets, row_values, row_indices, n, k);
+    affinity_lists::symmetrise(weights, indices, offsets, row_values, row_indices, n, k);
 }

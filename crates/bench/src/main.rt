@@ -3,7 +3,7 @@ use libc::STDIN_FILENO;
 
 fn map_input(file: &mut [u8]) {
     let n = io::read_full(STDIN_FILENO, file);
-    printout::print_file(&file[..n]);
+    bench_printout::print_file(&file[..n]);
 }
 
 fn main() {

@@ -24,7 +24,7 @@ fn map_cases(list: &[u8]) {
             return;
         }
         print_case(k);
-        printout::print_file(&list[from..end]);
+        bench_printout::print_file(&list[from..end]);
         k = std::num::wrapping_add_u64(k, 1);
         a = a + 1 + (length as usize + 7) / 8;
     }

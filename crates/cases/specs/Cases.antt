@@ -10,18 +10,18 @@ use Rattle.laws.specs.Area.{bits, zero64, one64}
 use Rattle.elementary.specs.Exp.{expOf}
 use Rattle.elementary.specs.Ln.{lnOf}
 use Rattle.elementary.specs.Limits.{unlessAbove}
-use Rattle.lists.specs.Lists.{areas}
+use Rattle.affinity_lists.specs.Lists.{areas}
 use Rattle.affinity.specs.Exact.{exactOf}
 use Rattle.affinity.specs.Neighbours.{neighboursListed}
-use Rattle.node.specs.declared.Node.{Node}
-use Rattle.node.specs.Node.{zeros, childIndex}
-use Rattle.node.specs.Areas.{nodeAt, blank}
+use Rattle.tree_node.specs.declared.Node.{Node}
+use Rattle.tree_node.specs.Node.{zeros, childIndex}
+use Rattle.tree_node.specs.Areas.{nodeAt, blank}
 use Rattle.tree.specs.Insert.{Insertion, built}
-use Rattle.bounds.specs.Bounds.{boxOf}
+use Rattle.tree_bounds.specs.Bounds.{boxOf}
 use Rattle.tree.specs.Box.{boxed}
 use Rattle.gradient.specs.Forces.{forcesOf}
 use Rattle.gradient.specs.Element.{gradientsOf, gradientOf, normaliserOf}
-use Rattle.gains.specs.Gains.{gainOf}
+use Rattle.step_gains.specs.Gains.{gainOf}
 
 -- 0.5, 12, -11 and 11, 4
 abbrev half : Float

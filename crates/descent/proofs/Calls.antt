@@ -2,11 +2,11 @@
 use mathlib.Core.Path.{_≡_}
 use mathlib.Core.Bool.{true, false}
 use Prim.Native.Nat.{ℕ}
-use Rattle.calls.specs.Machine.{go, call}
-use Rattle.entry.specs.State.{State}
-use Rattle.entry.specs.Entry.{faultOf, isFine}
-use Rattle.budget.specs.declared.Answer.the-variants.{Bad}
-use Rattle.budget.specs.Budget.{machine, worked, told, answerOf}
+use Rattle.run_calls.specs.Machine.{go, call}
+use Rattle.run_entry.specs.State.{State}
+use Rattle.run_entry.specs.Entry.{faultOf, isFine}
+use Rattle.run_budget.specs.declared.Answer.the-variants.{Bad}
+use Rattle.run_budget.specs.Budget.{machine, worked, told, answerOf}
 use Rattle.descent.specs.Descent.{work}
 
 pub work-bad : (b : ℕ) (s : State) → isFine (faultOf s) ≡ false → worked (Bad (faultOf s)) s ≡ work b s

@@ -8,23 +8,23 @@ use native.Mathlib.Nat.{le-refl, not-suc-le-zero, mul-comm}
 use lib.ListN.{length}
 use lib.Ieee.{Float}
 use Rattle.laws.specs.Run.{run}
-use Rattle.record.specs.declared.Run.{Run}
-use Rattle.record.specs.Record.{isTree, isEnded, advancedOf, closedOf}
-use Rattle.node.specs.declared.Node.{Node}
-use Rattle.node.specs.Node.{zeros}
+use Rattle.run_record.specs.declared.Run.{Run}
+use Rattle.run_record.specs.Record.{isTree, isEnded, advancedOf, closedOf}
+use Rattle.tree_node.specs.declared.Node.{Node}
+use Rattle.tree_node.specs.Node.{zeros}
 use Rattle.tree.specs.Insert.{Tree, tree, Insertion, insertion, insertOf, treeOk, built, rooted}
-use Rattle.bounds.specs.Bounds.{boxOf, middleStep, reachStep}
+use Rattle.tree_bounds.specs.Bounds.{boxOf, middleStep, reachStep}
 use Rattle.tree.specs.Box.{boxed}
 use Rattle.tree.proofs.Whole.{looser, In, first-in, in-all, built-more, room-in, taken}
-use Rattle.entry.specs.State.{Memory, State}
-use Rattle.units.specs.declared.Why.the-variants.{Done, Full, Wild}
-use Rattle.plan.specs.Plan.{groupOf}
-use Rattle.units.specs.Units.{unit, isDone, TreeTurn, treeTurn, boxTurn, forceUnit, FinishTurn, Turned, withTree, withForces, withFinish}
-use Rattle.units.proofs.Rooms.{group-zero, group-one}
-use Rattle.units.proofs.One.{by-unit}
+use Rattle.run_entry.specs.State.{Memory, State}
+use Rattle.run_units.specs.declared.Why.the-variants.{Done, Full, Wild}
+use Rattle.run_plan.specs.Plan.{groupOf}
+use Rattle.run_units.specs.Units.{unit, isDone, TreeTurn, treeTurn, boxTurn, forceUnit, FinishTurn, Turned, withTree, withForces, withFinish}
+use Rattle.run_units.proofs.Rooms.{group-zero, group-one}
+use Rattle.run_units.proofs.One.{by-unit}
 use Rattle.descent.specs.Honest.{pointsIn, Built, Honest}
-use Rattle.budget.proofs.Turns.{inserting, by-tree, by-finish}
-use Rattle.budget.proofs.Keeps.{retreed, box-ok, unit-keeps, unit-settings}
+use Rattle.run_budget.proofs.Turns.{inserting, by-tree, by-finish}
+use Rattle.run_budget.proofs.Keeps.{retreed, box-ok, unit-keeps, unit-settings}
 
 -- ---- what was built is a tree, whose counts are at most the points in it
 

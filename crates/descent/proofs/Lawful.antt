@@ -5,20 +5,20 @@ use Prim.Native.Nat.{_-_, _≤_}
 use native.Mathlib.Omega.{arith}
 use native.Mathlib.Nat.{mul-le-mul}
 use Rattle.laws.proofs.Bools.{by-bool}
-use Rattle.calls.specs.Machine.{Lawful}
-use Rattle.record.specs.Record.{isEnded}
-use Rattle.record.proofs.Laws.{per-most}
-use Rattle.entry.specs.State.{State}
-use Rattle.entry.specs.Entry.{Good}
-use Rattle.entry.proofs.Laws.{fault-good}
-use Rattle.units.specs.Units.{unit}
-use Rattle.budget.specs.Budget.{machine}
+use Rattle.run_calls.specs.Machine.{Lawful}
+use Rattle.run_record.specs.Record.{isEnded}
+use Rattle.run_record.proofs.Laws.{per-most}
+use Rattle.run_entry.specs.State.{State}
+use Rattle.run_entry.specs.Entry.{Good}
+use Rattle.run_entry.proofs.Laws.{fault-good}
+use Rattle.run_units.specs.Units.{unit}
+use Rattle.run_budget.specs.Budget.{machine}
 use Rattle.descent.specs.Descent.{wholeOf, restOf}
 use Rattle.descent.specs.Honest.{Honest}
-use Rattle.budget.proofs.Counters.{units-below}
-use Rattle.budget.proofs.Keeps.{unit-counts, unit-settings}
+use Rattle.run_budget.proofs.Counters.{units-below}
+use Rattle.run_budget.proofs.Keeps.{unit-counts, unit-settings}
 use Rattle.descent.proofs.Grown.{honest-keeps}
-use Rattle.budget.proofs.Loop.{due}
+use Rattle.run_budget.proofs.Loop.{due}
 
 pub rest-live : (s : State) → isEnded (s .run .standing) ≡ false → restOf s ≡ wholeOf s - s .run .units
 unfolding restOf

@@ -10,26 +10,26 @@ use lib.Seq.{drop-append-le, getD-append-add, getD-drop, ext-getD}
 use lib.Ieee.{Float, nan}
 use Rattle.laws.specs.Area.{at, num}
 use Rattle.laws.proofs.Changed.{drop-later}
-use Rattle.calls.specs.Machine.{Lawful}
-use Rattle.calls.proofs.Demand.{good-after, call-state}
-use Rattle.record.specs.Record.{isEnded}
-use Rattle.node.specs.declared.Node.{Node}
-use Rattle.node.specs.Areas.{three, rowAt, nodeCount, nodesOf, nodeAt, blank, Rest, restOf}
-use Rattle.node.proofs.Flat.{length-nodes, node-row, row-in}
+use Rattle.run_calls.specs.Machine.{Lawful}
+use Rattle.run_calls.proofs.Demand.{good-after, call-state}
+use Rattle.run_record.specs.Record.{isEnded}
+use Rattle.tree_node.specs.declared.Node.{Node}
+use Rattle.tree_node.specs.Areas.{three, rowAt, nodeCount, nodesOf, nodeAt, blank, Rest, restOf}
+use Rattle.tree_node.proofs.Flat.{length-nodes, node-row, row-in}
 use Rattle.tree.specs.Insert.{tree}
-use Rattle.bounds.specs.Bounds.{boxOf}
+use Rattle.tree_bounds.specs.Bounds.{boxOf}
 use Rattle.tree.proofs.Whole.{taken-ends, taken-fits}
-use Rattle.entry.specs.State.{State}
-use Rattle.units.specs.Units.{unit, TreeTurn, Turned}
-use Rattle.units.proofs.Rooms.{group-zero}
-use Rattle.units.proofs.One.{by-unit}
-use Rattle.budget.specs.Budget.{machine}
+use Rattle.run_entry.specs.State.{State}
+use Rattle.run_units.specs.Units.{unit, TreeTurn, Turned}
+use Rattle.run_units.proofs.Rooms.{group-zero}
+use Rattle.run_units.proofs.One.{by-unit}
+use Rattle.run_budget.specs.Budget.{machine}
 use Rattle.descent.specs.Descent.{work}
 use Rattle.descent.specs.Honest.{Honest}
 use Rattle.descent.specs.Longer.{inArena, longer, Holds, lent}
-use Rattle.budget.proofs.Turns.{by-tree}
-use Rattle.budget.proofs.Keeps.{unit-settings}
-use Rattle.budget.proofs.Loop.{due}
+use Rattle.run_budget.proofs.Turns.{by-tree}
+use Rattle.run_budget.proofs.Keeps.{unit-settings}
+use Rattle.run_budget.proofs.Loop.{due}
 use Rattle.descent.proofs.Lawful.{lawful}
 use Rattle.descent.proofs.Longer.{GoesOn, works-on-longer}
 

@@ -7,33 +7,33 @@ use native.Mathlib.Omega.{arith}
 use lib.ListN.{length-set, length-append}
 use lib.Ieee.{Float, binary64, mul}
 use Rattle.laws.proofs.Bools.{by-bool}
-use Rattle.calls.specs.Machine.{stops, after, done, sum, capped}
-use Rattle.calls.proofs.Demand.{Grows, grown, goes-on, after-add, done-add, call-state, call-units, counted}
-use Rattle.record.specs.declared.Run.{Run}
-use Rattle.record.specs.Record.{isTree, isEnded, advancedOf}
-use Rattle.node.specs.declared.Node.{Node}
-use Rattle.node.specs.declared.Acc.{Acc}
-use Rattle.node.specs.Areas.{Rest}
-use Rattle.node.specs.Node.{pointOf}
+use Rattle.run_calls.specs.Machine.{stops, after, done, sum, capped}
+use Rattle.run_calls.proofs.Demand.{Grows, grown, goes-on, after-add, done-add, call-state, call-units, counted}
+use Rattle.run_record.specs.declared.Run.{Run}
+use Rattle.run_record.specs.Record.{isTree, isEnded, advancedOf}
+use Rattle.tree_node.specs.declared.Node.{Node}
+use Rattle.tree_node.specs.declared.Acc.{Acc}
+use Rattle.tree_node.specs.Areas.{Rest}
+use Rattle.tree_node.specs.Node.{pointOf}
 use Rattle.tree.specs.Insert.{Tree, tree, Insertion, insertion}
-use Rattle.bounds.specs.Bounds.{boxOf}
+use Rattle.tree_bounds.specs.Bounds.{boxOf}
 use Rattle.tree.specs.Box.{boxed}
 use Rattle.tree.proofs.Longer.{Fits, extended, longer-ok, box-longer, insert-longer, built-longer, repelled-longer}
 use Rattle.gradient.specs.Forces.{stored, attractionOf, forcesOf}
-use Rattle.entry.specs.State.{Memory, State}
-use Rattle.entry.specs.Entry.{GoodTree, Ordered}
-use Rattle.units.specs.declared.Why.the-variants.{Done}
-use Rattle.plan.specs.Plan.{exaggerationOf, groupOf}
-use Rattle.units.specs.Units.{unit, isDone, TreeTurn, treeTurn, boxTurn, forceUnit, Turned, turned, withTree, withForces}
-use Rattle.units.proofs.Rooms.{group-zero, group-one}
-use Rattle.units.proofs.One.{unit-tree, unit-force, unit-finish, by-unit}
-use Rattle.budget.specs.Budget.{machine}
+use Rattle.run_entry.specs.State.{Memory, State}
+use Rattle.run_entry.specs.Entry.{GoodTree, Ordered}
+use Rattle.run_units.specs.declared.Why.the-variants.{Done}
+use Rattle.run_plan.specs.Plan.{exaggerationOf, groupOf}
+use Rattle.run_units.specs.Units.{unit, isDone, TreeTurn, treeTurn, boxTurn, forceUnit, Turned, turned, withTree, withForces}
+use Rattle.run_units.proofs.Rooms.{group-zero, group-one}
+use Rattle.run_units.proofs.One.{unit-tree, unit-force, unit-finish, by-unit}
+use Rattle.run_budget.specs.Budget.{machine}
 use Rattle.descent.specs.Descent.{work, unitsOf, kindOf, works}
 use Rattle.descent.specs.Honest.{pointsIn, Built, Honest}
 use Rattle.descent.specs.Longer.{longer}
-use Rattle.budget.proofs.Turns.{inserting, tree-box, tree-insert, by-tree}
-use Rattle.budget.proofs.Keeps.{box-ok}
-use Rattle.budget.proofs.Loop.{due}
+use Rattle.run_budget.proofs.Turns.{inserting, tree-box, tree-insert, by-tree}
+use Rattle.run_budget.proofs.Keeps.{box-ok}
+use Rattle.run_budget.proofs.Loop.{due}
 use Rattle.descent.proofs.Lawful.{lawful}
 use Rattle.descent.proofs.Theorems.{units-told, call-keeps, demand-three}
 

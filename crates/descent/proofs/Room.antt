@@ -4,8 +4,8 @@ use mathlib.Core.List.{List, [], _∷_}
 use Prim.Native.Nat.{ℕ, _+_, _-_, _*_, _^_, _≤_}
 use native.Mathlib.Omega.{arith}
 use lib.ListN.{length}
-use Rattle.record.specs.declared.Settings.{Settings}
-use Rattle.entry.specs.State.{State}
+use Rattle.run_record.specs.declared.Settings.{Settings}
+use Rattle.run_entry.specs.State.{State}
 use Rattle.descent.specs.Descent.{work, numberOf, works}
 use Rattle.descent.specs.Honest.{Honest}
 use Rattle.descent.proofs.Grown.{never-full}

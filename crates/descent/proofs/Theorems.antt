@@ -7,22 +7,22 @@ use Prim.Native.Nat.{ℕ, _+_, _<_, _≤_}
 use native.Mathlib.Omega.{arith}
 use lib.Dec.{ltb}
 use Rattle.laws.proofs.Bools.{by-bool}
-use Rattle.calls.specs.Machine.{Kind, faulty, over, refused, running, times, stops, after, done, kindAt, go, call, left-by, told-by, sum, capped}
-use Rattle.calls.proofs.Demand.{calls-follow, demand-3, good-after, call-goes, call-state, call-units, call-kind, ends-within, done-rest, refusal-leaves}
-use Rattle.record.specs.declared.Standing.{Standing}
-use Rattle.record.specs.declared.Standing.the-variants.{Running as Runs, Stopped as Stops, Finished as Ends}
-use Rattle.record.specs.Record.{isEnded}
-use Rattle.entry.specs.State.{State}
-use Rattle.entry.specs.Entry.{Good, faultOf, isFine}
-use Rattle.entry.proofs.Laws.{fault-fine, fault-good}
-use Rattle.units.specs.declared.Why.{Why}
-use Rattle.units.specs.declared.Why.the-variants.{Done, Full as NoNodes, Wild as TooLarge, Over}
-use Rattle.units.specs.Units.{unit, isDone}
-use Rattle.budget.specs.Budget.{machine, answerOf, standsOf, refusedOf}
+use Rattle.run_calls.specs.Machine.{Kind, faulty, over, refused, running, times, stops, after, done, kindAt, go, call, left-by, told-by, sum, capped}
+use Rattle.run_calls.proofs.Demand.{calls-follow, demand-3, good-after, call-goes, call-state, call-units, call-kind, ends-within, done-rest, refusal-leaves}
+use Rattle.run_record.specs.declared.Standing.{Standing}
+use Rattle.run_record.specs.declared.Standing.the-variants.{Running as Runs, Stopped as Stops, Finished as Ends}
+use Rattle.run_record.specs.Record.{isEnded}
+use Rattle.run_entry.specs.State.{State}
+use Rattle.run_entry.specs.Entry.{Good, faultOf, isFine}
+use Rattle.run_entry.proofs.Laws.{fault-fine, fault-good}
+use Rattle.run_units.specs.declared.Why.{Why}
+use Rattle.run_units.specs.declared.Why.the-variants.{Done, Full as NoNodes, Wild as TooLarge, Over}
+use Rattle.run_units.specs.Units.{unit, isDone}
+use Rattle.run_budget.specs.Budget.{machine, answerOf, standsOf, refusedOf}
 use Rattle.descent.specs.Descent.{work, numberOf, unitsOf, kindOf, wholeOf, works, toldAll}
 use Rattle.descent.specs.Honest.{Honest}
-use Rattle.units.proofs.Rooms.{small-of}
-use Rattle.budget.proofs.Keeps.{ordered-looser}
+use Rattle.run_units.proofs.Rooms.{small-of}
+use Rattle.run_budget.proofs.Keeps.{ordered-looser}
 use Rattle.descent.proofs.Lawful.{lawful, rest-most}
 
 -- ---- the answer tells the units of the call

@@ -2,13 +2,13 @@
 use mathlib.Core.Bool.{cond}
 use mathlib.Core.List.{List, [], _∷_}
 use Prim.Native.Nat.{ℕ, _+_, _*_, _-_}
-use Rattle.calls.specs.Machine.{call}
-use Rattle.record.specs.Record.{isEnded, perOf}
-use Rattle.entry.specs.State.{State}
-use Rattle.entry.specs.Entry.{faultNumber}
-use Rattle.budget.specs.declared.Answer.{Answer}
-use Rattle.budget.specs.declared.Answer.the-variants.{Running, Stopped, Finished, Full, Wild, Bad}
-use Rattle.budget.specs.Budget.{machine, Worked, told}
+use Rattle.run_calls.specs.Machine.{call}
+use Rattle.run_record.specs.Record.{isEnded, perOf}
+use Rattle.run_entry.specs.State.{State}
+use Rattle.run_entry.specs.Entry.{faultNumber}
+use Rattle.run_budget.specs.declared.Answer.{Answer}
+use Rattle.run_budget.specs.declared.Answer.the-variants.{Running, Stopped, Finished, Full, Wild, Bad}
+use Rattle.run_budget.specs.Budget.{machine, Worked, told}
 
 -- a work call: its answer, and the record and areas that it leaves
 unfoldable pub work : ℕ → State → Worked

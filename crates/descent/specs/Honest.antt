@@ -4,13 +4,13 @@ use mathlib.Core.List.{List}
 use mathlib.Core.Bool.{true, false}
 use Prim.Native.Nat.{ℕ, _-_, _<_, min}
 use lib.ListN.{length}
-use Rattle.node.specs.declared.Node.{Node}
-use Rattle.record.specs.declared.Run.{Run}
-use Rattle.record.specs.Record.{isTree}
+use Rattle.tree_node.specs.declared.Node.{Node}
+use Rattle.run_record.specs.declared.Run.{Run}
+use Rattle.run_record.specs.Record.{isTree}
 use Rattle.tree.specs.Insert.{tree, insertion, built}
 use Rattle.tree.specs.Box.{boxed}
-use Rattle.entry.specs.State.{State}
-use Rattle.entry.specs.Entry.{Good}
+use Rattle.run_entry.specs.State.{State}
+use Rattle.run_entry.specs.Entry.{Good}
 
 -- the points that are in the tree: unit 0 is the box, unit j + 1 the insertion of point j
 abbrev pub pointsIn : Run → ℕ

@@ -3,9 +3,9 @@ use mathlib.Core.Path.{_≡_}
 use mathlib.Core.List.{List, _++_}
 use Prim.Native.Nat.{ℕ}
 use lib.Ieee.{Float}
-use Rattle.node.specs.declared.Node.{Node}
-use Rattle.node.specs.Areas.{Rest, nodesOf, restOf}
-use Rattle.entry.specs.State.{State}
+use Rattle.tree_node.specs.declared.Node.{Node}
+use Rattle.tree_node.specs.Areas.{Rest, nodesOf, restOf}
+use Rattle.run_entry.specs.State.{State}
 
 -- s with another arena; the record and the other areas are as they are
 abbrev pub inArena : List Node → Rest → State → State

@@ -1,16 +1,16 @@
 // The work call: entry tests, then units until the budget is done, one is refused or the run has ended.
 ghost use mathlib.Core.Path.{_≡_};
-ghost use Rattle.entry.specs.State.{memory, state};
-ghost use Rattle.budget.specs.Budget.{worked};
+ghost use Rattle.run_entry.specs.State.{memory, state};
+ghost use Rattle.run_budget.specs.Budget.{worked};
 ghost use Rattle.descent.specs.Descent.{work, numberOf};
-pub use budget::Answer;
-pub use budget::Worked;
-use budget::go_on;
-use entry::fault_at;
-use entry::fault_number;
-use entry::is_fine;
-use record::Run;
-use record::Standing;
+pub use run_budget::Answer;
+pub use run_budget::Worked;
+use run_budget::go_on;
+use run_entry::fault_at;
+use run_entry::fault_number;
+use run_entry::is_fine;
+use run_record::Run;
+use run_record::Standing;
 
 // A call with a budget: takes any record and any areas.
 pub fn work(

@@ -6,19 +6,19 @@ use Prim.Native.Nat.{ℕ, _<_, _≤_}
 use lib.ListN.{length}
 use lib.Ieee.{Float}
 use borrow.Author.Tests.{lt-ltb, le-ltb, le-leb, lt-leb}
-use Rattle.record.specs.declared.Run.{Run}
-use Rattle.record.specs.declared.Settings.{Settings}
-use Rattle.entry.specs.declared.Fault.the-variants.{Counters}
-use Rattle.entry.specs.State.{Memory, state}
-use Rattle.budget.specs.declared.Answer.{Answer}
-use Rattle.budget.specs.declared.Answer.the-variants.{Bad}
-use Rattle.budget.specs.Budget.{Worked, worked}
+use Rattle.run_record.specs.declared.Run.{Run}
+use Rattle.run_record.specs.declared.Settings.{Settings}
+use Rattle.run_entry.specs.declared.Fault.the-variants.{Counters}
+use Rattle.run_entry.specs.State.{Memory, state}
+use Rattle.run_budget.specs.declared.Answer.{Answer}
+use Rattle.run_budget.specs.declared.Answer.the-variants.{Bad}
+use Rattle.run_budget.specs.Budget.{Worked, worked}
 use Rattle.descent.specs.Descent.{work, numberOf}
 use Rattle.prepare.specs.declared.Prepared.{Prepared}
 use Rattle.prepare.specs.Prepare.{Lent, Outcome, outcome, prepared, numberOf as preparedNumber}
 use Rattle.scatter.specs.declared.Scattered.{Scattered}
 use Rattle.scatter.specs.Scatter.{Outcome as Start, outcome as startOutcome, numberOf as startNumber}
-use Rattle.words.specs.Words.{settingsFine, settingsOf, runFine, runOf, runAfter, answerPut}
+use Rattle.desk_words.specs.Words.{settingsFine, settingsOf, runFine, runOf, runAfter, answerPut}
 use Rattle.desk.specs.Desk.{begun, recorded, begunWith, hostPrepare, tell, tellWork, hostWork, orZero}
 
 -- ---- preparation

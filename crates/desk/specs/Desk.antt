@@ -11,16 +11,16 @@ use Rattle.laws.specs.Area.{num}
 use Rattle.frames.specs.declared.Frames.{Frames}
 use Rattle.frames.specs.declared.Frames.the-variants.{Good, Bad as BadRecord}
 use Rattle.frames.specs.Frames.{framesOf, frameOf}
-use Rattle.record.specs.Record.{settingsFault}
-use Rattle.entry.specs.declared.Fault.the-variants.{Counters}
-use Rattle.entry.specs.State.{Memory, state}
-use Rattle.budget.specs.declared.Answer.the-variants.{Bad}
-use Rattle.budget.specs.Budget.{Worked}
+use Rattle.run_record.specs.Record.{settingsFault}
+use Rattle.run_entry.specs.declared.Fault.the-variants.{Counters}
+use Rattle.run_entry.specs.State.{Memory, state}
+use Rattle.run_budget.specs.declared.Answer.the-variants.{Bad}
+use Rattle.run_budget.specs.Budget.{Worked}
 use Rattle.descent.specs.Descent.{work, numberOf}
 use Rattle.prepare.specs.declared.Prepared.{Prepared}
 use Rattle.prepare.specs.declared.Prepared.the-variants.{Refused, Ready}
 use Rattle.prepare.specs.Prepare.{Lent, Outcome, prepared, numberOf as preparedNumber}
-use Rattle.words.specs.Words.{settingsFine, settingsOf, runFine, runOf, runPut, runAfter, answerPut, framePut, lengthsPut}
+use Rattle.desk_words.specs.Words.{settingsFine, settingsOf, runFine, runOf, runPut, runAfter, answerPut, framePut, lengthsPut}
 
 -- ---- preparation
 

@@ -2,26 +2,26 @@
 ghost use mathlib.Core.Path.{_≡_};
 ghost use Prim.Native.Nat.{_<_};
 ghost use lib.ListN.{length};
-ghost use Rattle.node.specs.Areas.{nodesOf};
-ghost use Rattle.entry.specs.State.{memory};
+ghost use Rattle.tree_node.specs.Areas.{nodesOf};
+ghost use Rattle.run_entry.specs.State.{memory};
 ghost use Rattle.prepare.specs.Prepare.{lent};
 ghost use Rattle.scatter.specs.Scatter.{scatterOf};
 ghost use Rattle.desk.specs.Desk.{begun, hostPrepare, tell, hostWork, orZero, found, hostFrames, hostFrame, sized, hostSizes, saidOf};
 use descent::Answer;
 use descent::work;
-use entry::Fault;
+use desk_words::put_after;
+use desk_words::put_answer;
+use desk_words::put_frame;
+use desk_words::put_run;
+use desk_words::put_sizes;
+use desk_words::run_fine;
+use desk_words::run_of;
+use desk_words::settings_fine;
+use desk_words::settings_of;
 use prepare::Prepared;
 use prepare::prepare;
-use record::faults::settings_fault;
-use words::put_after;
-use words::put_answer;
-use words::put_frame;
-use words::put_run;
-use words::put_sizes;
-use words::run_fine;
-use words::run_of;
-use words::settings_fine;
-use words::settings_of;
+use run_entry::Fault;
+use run_record::faults::settings_fault;
 
 // Prepares a run. Answers 0, or the number of the refusal; then nothing is changed.
 #[no_mangle]

@@ -3,7 +3,7 @@ use mathlib.Core.Path.{_≡_, refl}
 use mathlib.Core.List.{List, [], _∷_}
 use lib.Ieee.{Float, ofBits, add, sub, mul, div, lt, eq, neg, ofInt, isNan, size}
 use Rattle.laws.specs.Area.{bits, zero64, one64, two64}
-use Rattle.lists.specs.Lists.{areas}
+use Rattle.affinity_lists.specs.Lists.{areas}
 use Rattle.affinity.specs.Exact.{exactOf}
 use Rattle.affinity.specs.Neighbours.{neighboursListed}
 

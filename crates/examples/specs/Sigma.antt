@@ -3,7 +3,7 @@ use mathlib.Core.Path.{_≡_, refl}
 use mathlib.Core.List.{[], _∷_}
 use lib.Ieee.{Float, ofBits, add, sub, mul, div, lt, eq, neg, ofInt, isNan, size}
 use Rattle.laws.specs.Area.{bits, zero64, one64}
-use Rattle.sigma.specs.Sigma.{sigmaShares}
+use Rattle.affinity_sigma.specs.Sigma.{sigmaShares}
 
 abbrev half : Float
 half = bits 0x3fe0000000000000

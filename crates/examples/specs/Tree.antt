@@ -4,10 +4,10 @@ use mathlib.Core.List.{List, [], _∷_, map}
 use mathlib.Core.Bool.{true, false}
 use lib.ListN.{replicate}
 use lib.Ieee.{Float, ofBits, binary64, add}
-use Rattle.node.specs.declared.Node.{Node}
+use Rattle.tree_node.specs.declared.Node.{Node}
 use Rattle.laws.specs.Area.{bits, zero64, one64}
-use Rattle.node.specs.Node.{zeros}
-use Rattle.node.specs.Areas.{nodeAt, blank}
+use Rattle.tree_node.specs.Node.{zeros}
+use Rattle.tree_node.specs.Areas.{nodeAt, blank}
 use Rattle.tree.specs.Insert.{built, rooted}
 use Rattle.tree.specs.Repel.{repelled}
 

@@ -7,10 +7,10 @@ use Rattle.laws.specs.Run.{run}
 use Rattle.laws.specs.Area.{bits, zero64, one64}
 use Rattle.elementary.specs.Limits.{unlessAbove}
 use Rattle.tree.specs.Insert.{built}
-use Rattle.bounds.specs.Bounds.{boxOf}
+use Rattle.tree_bounds.specs.Bounds.{boxOf}
 use Rattle.tree.specs.Box.{boxed}
-use Rattle.node.specs.Areas.{blank}
-use Rattle.node.specs.declared.Node.{Node}
+use Rattle.tree_node.specs.Areas.{blank}
+use Rattle.tree_node.specs.declared.Node.{Node}
 use Rattle.gradient.specs.Forces.{forcesOf}
 use Rattle.gradient.specs.Exact.{totalRow, gradientRow}
 use Rattle.gradient.specs.Element.{gradientsOf, normaliserOf, gradientOf}

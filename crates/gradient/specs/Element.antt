@@ -7,7 +7,7 @@ use Rattle.laws.specs.Run.{run}
 use Rattle.laws.specs.Area.{at, zero64}
 use Rattle.elementary.specs.Limits.{unlessAbove, absOf}
 use Rattle.gradient.specs.Forces.{placeOf}
-use Rattle.pairs.specs.Exact.{least}
+use Rattle.gradient_pairs.specs.Exact.{least}
 use Rattle.gradient.specs.Exact.{four}
 
 -- the shares by rising point, from +0.0

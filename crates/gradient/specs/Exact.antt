@@ -8,8 +8,8 @@ use lib.Dec.{eqb}
 use lib.Ieee.{Float, binary64, sub, mul}
 use Rattle.laws.specs.Run.{run}
 use Rattle.laws.specs.Area.{at, bits, zero64}
-use Rattle.pairs.specs.declared.Pulls.{Pulls}
-use Rattle.pairs.specs.Exact.{numOf, totalStep, pullsOf}
+use Rattle.gradient_pairs.specs.declared.Pulls.{Pulls}
+use Rattle.gradient_pairs.specs.Exact.{numOf, totalStep, pullsOf}
 
 -- 4
 abbrev pub four : Float

@@ -6,10 +6,10 @@ use lib.ListN.{length, set}
 use lib.Ieee.{Float, binary64, mul}
 use Rattle.laws.specs.Run.{run}
 use Rattle.laws.specs.Area.{at, num}
-use Rattle.node.specs.declared.Node.{Node}
-use Rattle.node.specs.declared.Acc.{Acc}
-use Rattle.node.specs.Node.{zeros, pointOf}
-use Rattle.pairs.specs.Links.{pulled}
+use Rattle.tree_node.specs.declared.Node.{Node}
+use Rattle.tree_node.specs.declared.Acc.{Acc}
+use Rattle.tree_node.specs.Node.{zeros, pointOf}
+use Rattle.gradient_pairs.specs.Links.{pulled}
 use Rattle.tree.specs.Repel.{repelled}
 
 -- the lists as they lie: a link's weight and the frame it names

@@ -5,14 +5,14 @@ ghost use Prim.Native.Nat.{ℕ, _+_, _*_, _<_, _≤_};
 ghost use lib.ListN.{length};
 ghost use Rattle.laws.specs.Area.{at, num};
 ghost use Rattle.laws.specs.Run.{run};
-ghost use Rattle.node.specs.Node.{Axes, zeros, pointOf};
-ghost use Rattle.node.specs.Areas.{nodesOf};
+ghost use Rattle.tree_node.specs.Node.{Axes, zeros, pointOf};
+ghost use Rattle.tree_node.specs.Areas.{nodesOf};
 ghost use Rattle.tree.specs.Insert.{tree, treeOk};
-ghost use Rattle.pairs.specs.Links.{pulled};
+ghost use Rattle.gradient_pairs.specs.Links.{pulled};
 ghost use Rattle.gradient.specs.Forces.{linkStep, attractionOf, Below, Linked, placeOf, putStep, stored, forcesOf};
-use node::Acc;
-use node::cells::point;
-use pairs::links::attract;
+use gradient_pairs::links::attract;
+use tree_node::Acc;
+use tree_node::cells::point;
 
 fn wide(x: u32) -> usize
     ensures { λ r. ⌜ r ≡ x ⌝ }

@@ -4,9 +4,9 @@ ghost use Prim.Native.Nat.{_+_, _*_, _<_, _≤_};
 ghost use lib.ListN.{length};
 ghost use Rattle.laws.specs.Run.{run};
 ghost use Rattle.gradient.specs.Exact.{totalRow, slopeStep, gradientRow};
-use pairs::Pulls;
-use pairs::exact::add_row;
-use pairs::exact::gather;
+use gradient_pairs::Pulls;
+use gradient_pairs::exact::add_row;
+use gradient_pairs::exact::gather;
 
 // The unit of total row i: one running sum at place n·c, which the first row sets to +0.0.
 pub fn total_row(positions: &[f64], n: usize, c: usize, i: usize, forces: &mut [f64])

@@ -15,24 +15,24 @@ use Rattle.laws.specs.Joined.{joined}
 use Rattle.laws.proofs.Bools.{by-bool}
 use Rattle.laws.proofs.Parts.{length-pasted}
 use Rattle.laws.proofs.Laid.{singles-size, laid-size}
-use Rattle.lists.specs.Lists.{Rows, Areas, areas, cleared, listOf, weightsOf, startOf, linksOf}
-use Rattle.lists.proofs.Linked.{length-weights, links-most}
-use Rattle.lists.proofs.Theorems.{offsets-first, offsets-rise, links-between, listed-below}
+use Rattle.affinity_lists.specs.Lists.{Rows, Areas, areas, cleared, listOf, weightsOf, startOf, linksOf}
+use Rattle.affinity_lists.proofs.Linked.{length-weights, links-most}
+use Rattle.affinity_lists.proofs.Theorems.{offsets-first, offsets-rise, links-between, listed-below}
 use Rattle.affinity.specs.Laid.{each}
 use Rattle.affinity.specs.Exact.{affinityOf, exactOf}
 use Rattle.affinity.specs.Neighbours.{rowsOf, neighboursListed}
 use Rattle.affinity.proofs.Kept.{weights-kept, indices-kept}
 use Rattle.affinity.proofs.Listed.{not-all-neighbours}
 use Rattle.affinity.proofs.Named.{rows-named}
-use Rattle.calls.specs.Machine.{sum}
-use Rattle.node.specs.Areas.{nodesOf}
-use Rattle.record.specs.declared.Settings.{Settings}
-use Rattle.record.specs.declared.Run.{Run}
-use Rattle.record.specs.Record.{isTree, stateFits, kOf, sizesOf}
-use Rattle.record.proofs.Laws.{per-some}
-use Rattle.entry.specs.State.{State, state}
-use Rattle.entry.specs.Entry.{offsetFine, indexFine, GoodAreas, Good}
-use Rattle.entry.proofs.Laws.{links-is}
+use Rattle.run_calls.specs.Machine.{sum}
+use Rattle.tree_node.specs.Areas.{nodesOf}
+use Rattle.run_record.specs.declared.Settings.{Settings}
+use Rattle.run_record.specs.declared.Run.{Run}
+use Rattle.run_record.specs.Record.{isTree, stateFits, kOf, sizesOf}
+use Rattle.run_record.proofs.Laws.{per-some}
+use Rattle.run_entry.specs.State.{State, state}
+use Rattle.run_entry.specs.Entry.{offsetFine, indexFine, GoodAreas, Good}
+use Rattle.run_entry.proofs.Laws.{links-is}
 use Rattle.descent.specs.Honest.{Honest}
 use Rattle.descent.proofs.Theorems.{OneCall, demand-three, SoMany, after-each}
 use Rattle.prepare.specs.declared.Prepared.the-variants.{Refused, Ready}

@@ -14,20 +14,20 @@ use Rattle.laws.specs.Joined.{pasted}
 use Rattle.laws.proofs.Bools.{and-left, and-right, or-right, by-bool}
 use Rattle.laws.proofs.Changed.{drop-later}
 use Rattle.laws.proofs.Written.{written-tail}
-use Rattle.lists.specs.Lists.{Areas, areas, cleared}
-use Rattle.near.specs.Distances.{squareOf, squaresOf}
+use Rattle.affinity_lists.specs.Lists.{Areas, areas, cleared}
+use Rattle.affinity_near.specs.Distances.{squareOf, squaresOf}
 use Rattle.affinity.specs.Exact.{exactOf}
 use Rattle.affinity.specs.Neighbours.{neighboursListed}
-use Rattle.record.specs.declared.Settings.{Settings}
-use Rattle.record.specs.Record.{isTree, earlyFault, lateFault, settingsFault, kOf, GoodSettings}
-use Rattle.record.proofs.Laws.{early-fine, settings-fine}
-use Rattle.entry.specs.Entry.{areasFit, GoodAreas}
-use Rattle.entry.proofs.Laws.{areas-fine}
-use Rattle.units.proofs.Rooms.{cells-forces}
+use Rattle.run_record.specs.declared.Settings.{Settings}
+use Rattle.run_record.specs.Record.{isTree, earlyFault, lateFault, settingsFault, kOf, GoodSettings}
+use Rattle.run_record.proofs.Laws.{early-fine, settings-fine}
+use Rattle.run_entry.specs.Entry.{areasFit, GoodAreas}
+use Rattle.run_entry.proofs.Laws.{areas-fine}
+use Rattle.run_units.proofs.Rooms.{cells-forces}
 use Rattle.prepare.specs.declared.Lengths.{Lengths}
 use Rattle.prepare.specs.declared.Prepared.the-variants.{Refused, Ready}
 use Rattle.prepare.specs.Prepare.{Lent, lent, lengthsOf, allIn, lengthsFit, prepareFault, freshOf, routed, routedIn, outcome, prepared}
-use Rattle.record.specs.declared.Run.{Run}
+use Rattle.run_record.specs.declared.Run.{Run}
 use Rattle.prepare.specs.Room.{RouteRoom}
 
 -- ---- the tests

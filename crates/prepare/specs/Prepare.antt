@@ -9,15 +9,15 @@ use Rattle.laws.specs.Run.{every}
 use Rattle.laws.specs.Area.{at, zero64, one64}
 use Rattle.laws.specs.Joined.{pasted}
 use Rattle.elementary.specs.Limits.{inDomain}
-use Rattle.lists.specs.Lists.{Areas, areas, cleared}
+use Rattle.affinity_lists.specs.Lists.{Areas, areas, cleared}
 use Rattle.affinity.specs.Exact.{exactOf}
 use Rattle.affinity.specs.Neighbours.{neighboursListed}
-use Rattle.record.specs.declared.Settings.{Settings}
-use Rattle.record.specs.declared.Run.{Run}
-use Rattle.record.specs.declared.Standing.the-variants.{Running}
-use Rattle.record.specs.Record.{isTree, earlyFault, lateFault}
-use Rattle.entry.specs.State.{Memory, memory}
-use Rattle.entry.specs.Entry.{areasFit}
+use Rattle.run_record.specs.declared.Settings.{Settings}
+use Rattle.run_record.specs.declared.Run.{Run}
+use Rattle.run_record.specs.declared.Standing.the-variants.{Running}
+use Rattle.run_record.specs.Record.{isTree, earlyFault, lateFault}
+use Rattle.run_entry.specs.State.{Memory, memory}
+use Rattle.run_entry.specs.Entry.{areasFit}
 use Rattle.prepare.specs.declared.Prepared.{Prepared}
 use Rattle.prepare.specs.declared.Prepared.the-variants.{Refused, Ready}
 use Rattle.prepare.specs.declared.Lengths.{Lengths}

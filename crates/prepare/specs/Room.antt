@@ -2,8 +2,8 @@
 use mathlib.Core.Path.{_≡_}
 use mathlib.Core.Bool.{true, false}
 use Prim.Native.Nat.{ℕ, _+_, _*_, _≤_}
-use Rattle.record.specs.declared.Settings.{Settings}
-use Rattle.record.specs.Record.{isTree, kOf, GoodSettings}
+use Rattle.run_record.specs.declared.Settings.{Settings}
+use Rattle.run_record.specs.Record.{isTree, kOf, GoodSettings}
 
 -- t, a, x, o, q, v, w: the lengths of table, affinities, indices, offsets, squares and the two rows
 pub record RouteRoom (s : Settings) (t a x o q v w : ℕ) : Type 0 where

@@ -4,24 +4,24 @@ ghost use Prim.Native.Nat.{_+_, _*_, _≤_};
 ghost use lib.ListN.{length};
 ghost use Rattle.laws.specs.Area.{zero64, one64};
 ghost use Rattle.laws.specs.Joined.{pasted};
-ghost use Rattle.lists.specs.Lists.{areas, cleared};
-ghost use Rattle.near.specs.Distances.{squaresOf};
+ghost use Rattle.affinity_lists.specs.Lists.{areas, cleared};
+ghost use Rattle.affinity_near.specs.Distances.{squaresOf};
 ghost use Rattle.affinity.specs.Exact.{exactOf};
-ghost use Rattle.node.specs.Areas.{nodesOf};
-ghost use Rattle.record.specs.Record.{GoodSettings};
+ghost use Rattle.tree_node.specs.Areas.{nodesOf};
+ghost use Rattle.run_record.specs.Record.{GoodSettings};
 ghost use Rattle.prepare.specs.Room.{RouteRoom};
 ghost use Rattle.prepare.specs.Prepare.{allIn, lengthsFit, prepareFault, freshOf, routed, lent, outcome, prepared};
 use elementary::in_domain;
-use entry::areas_fit;
-use record::Run;
-use record::Settings;
-use record::Sizes;
-use record::Standing;
-use record::faults::early_fault;
-use record::faults::is_tree;
-use record::faults::late_fault;
-use record::faults::sizes_of;
-use record::faults::times;
+use run_entry::areas_fit;
+use run_record::Run;
+use run_record::Settings;
+use run_record::Sizes;
+use run_record::Standing;
+use run_record::faults::early_fault;
+use run_record::faults::is_tree;
+use run_record::faults::late_fault;
+use run_record::faults::sizes_of;
+use run_record::faults::times;
 
 // What preparation answers.
 pub enum Prepared {
@@ -153,7 +153,7 @@ fn set_out(
     requires { ⌜ (z .cells ≤ length (now start)) × (z .cells ≤ length (now positions)) × (z .cells ≤ length (now increments)) × (z .cells ≤ length (now gains)) × (z .forces ≤ length (now forces)) ⌝ }
     ensures { λ _. ⌜ (now (positions .exit) ≡ pasted (now (start .entry)) 0 (z .cells) (now (positions .entry))) × (now (increments .exit) ≡ cleared zero64 (z .cells) (now (increments .entry))) × (now (gains .exit) ≡ cleared one64 (z .cells) (now (gains .entry))) × (now (forces .exit) ≡ cleared zero64 (z .forces) (now (forces .entry))) ⌝ }
 {
-    lists::areas::copy_values(positions, start, 0, z.cells);
+    affinity_lists::areas::copy_values(positions, start, 0, z.cells);
     fill(increments, z.cells, 0.0);
     fill(gains, z.cells, 1.0);
     fill(forces, z.forces, 0.0);
@@ -199,7 +199,7 @@ fn route(
         squares,
         row_values,
     );
-    lists::areas::clear_indices(row_indices, s.n);
+    affinity_lists::areas::clear_indices(row_indices, s.n);
 }
 
 // Prepares a run: takes any settings and any areas. Of the arena only its size is looked at.
@@ -229,7 +229,7 @@ pub fn prepare(
         indices: indices.len(),
         offsets: offsets.len(),
         forces: forces.len(),
-        nodes: node::areas::capacity(reals, words),
+        nodes: tree_node::areas::capacity(reals, words),
         values: row_values.len(),
         places: row_indices.len(),
     };

@@ -10,7 +10,7 @@ use lib.Seq.{getD-set-same, getD-set-other}
 use lib.Ieee.{Float, nan, inf, fin, lt, ofBits}
 use Rattle.laws.specs.Area.{zero64}
 use Rattle.elementary.specs.Limits.{unlessAbove}
-use Rattle.near.specs.Near.{plain, Plains}
+use Rattle.affinity_near.specs.Near.{plain, Plains}
 
 pub above-plain : (d : Float) → plain (unlessAbove zero64 d) ≡ true
 unfolding plain unlessAbove lt ofBits

@@ -6,8 +6,8 @@ use native.Mathlib.Omega.{arith}
 use native.Mathlib.Decide.{decLt}
 use native.Mathlib.Nat.{not-suc-le-zero}
 use Rattle.laws.specs.Area.{num}
-use Rattle.lists.specs.Lists.{Rowed}
-use Rattle.lists.proofs.Made.{Row, rows-more}
+use Rattle.affinity_lists.specs.Lists.{Rowed}
+use Rattle.affinity_lists.proofs.Made.{Row, rows-more}
 
 -- the first t places of a row of frame i are in order, and all below low
 pub record Risen (n t i low : ℕ) (row : ℕ → ℕ) : Type 0 where

@@ -1,11 +1,11 @@
 // Replays the list of neighbours that the original chose: the k nearest, nearest first, with their distances.
-use near::neighbours::nearest;
+use affinity_near::neighbours::nearest;
 use replay::areas::mark;
 use replay::areas::mark_words;
 use replay::word_at;
 ghost use Prim.Native.Nat.{_+_, _≤_};
 ghost use lib.ListN.{length};
-ghost use Rattle.near.specs.Near.{Plains};
+ghost use Rattle.affinity_near.specs.Near.{Plains};
 
 // The first m places become the distances that the list has from word a on. What is no distance becomes +0.0, and differs then.
 fn read_distances(list: &[u8], a: usize, to: &mut [f64], m: usize)

@@ -1,5 +1,5 @@
 // Replays the lists that the original made of rows of links: offsets, links and weights of all frames.
-use lists::symmetrise;
+use affinity_lists::symmetrise;
 use replay::areas::mark;
 use replay::areas::mark_words;
 use replay::word_at;
@@ -7,7 +7,7 @@ ghost use mathlib.Core.Path.{_≡_};
 ghost use mathlib.Core.Bool.{true};
 ghost use Prim.Native.Nat.{_+_, _*_, _<_, _≤_};
 ghost use lib.ListN.{length};
-ghost use Rattle.lists.specs.Lists.{Rowed, Rows};
+ghost use Rattle.affinity_lists.specs.Lists.{Rowed, Rows};
 
 // A product that is small.
 fn product(n: usize, k: usize) -> usize

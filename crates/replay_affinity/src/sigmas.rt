@@ -17,7 +17,7 @@ fn case_right(list: &[u8], a: usize, n: usize) -> bool
     fill(&mut distances, n, list, a + 2);
     mark(&mut shares);
     let perplexity = elementary::value_of(word_at(list, a + 1));
-    sigma::binary_search_sigma(&distances, n, perplexity, &mut shares);
+    affinity_sigma::binary_search_sigma(&distances, n, perplexity, &mut shares);
     same_area(&shares, 0, n, list, a + 2 + n)
 }
 

@@ -1,12 +1,12 @@
 // The settings, the record and the answers, as a list has them.
 use descent::Answer;
-use entry::Fault;
-use record::Method;
-use record::Run;
-use record::Settings;
-use record::Standing;
 use replay::areas::plus;
 use replay::word_at;
+use run_entry::Fault;
+use run_record::Method;
+use run_record::Run;
+use run_record::Settings;
+use run_record::Standing;
 
 // What a call alters in the record: a field and its word. From 14 on there is no such field.
 pub(crate) struct Change {

@@ -10,14 +10,14 @@ use crate::fields::settings_at;
 use crate::lent::length_at;
 use crate::lent::lent_at;
 use prepare::Prepared;
-use record::Run;
-use record::Settings;
-use record::Standing;
 use replay::areas::fill;
 use replay::areas::mark;
 use replay::areas::mark_words;
 use replay::areas::plus;
 use replay::word_at;
+use run_record::Run;
+use run_record::Settings;
+use run_record::Standing;
 ghost use Prim.Native.Nat.{_≤_};
 ghost use lib.ListN.{length};
 

@@ -10,9 +10,9 @@ use crate::fields::same_answer;
 use crate::fields::same_run;
 use crate::lent::lent_at;
 use descent::Worked;
-use record::Run;
 use replay::areas::plus;
 use replay::word_at;
+use run_record::Run;
 
 // What a call gives: its answer and the record, and the areas.
 struct Left {

@@ -1,14 +1,14 @@
 // The tree over all points, one point after the other.
-use node::areas::capacity;
 use tree::Contents;
 use tree::insertion::insert;
 use tree::root::plant;
 use tree::wellformed::tree_ok;
+use tree_node::areas::capacity;
 ghost use mathlib.Core.Path.{_≡_};
 ghost use Prim.Native.Nat.{_*_, _<_, _≤_};
 ghost use lib.ListN.{length};
-ghost use Rattle.node.specs.Node.{Axes};
-ghost use Rattle.node.specs.Areas.{nodesOf};
+ghost use Rattle.tree_node.specs.Node.{Axes};
+ghost use Rattle.tree_node.specs.Areas.{nodesOf};
 ghost use Rattle.tree.specs.Insert.{tree};
 ghost use Rattle.tree.specs.Contents.{contentsOf, isFine};
 

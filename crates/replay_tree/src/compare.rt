@@ -1,10 +1,10 @@
 // Comparing what a node holds with the words of the list.
-use node::Leaf;
-use node::Node;
 use replay::word_at;
+use tree_node::Leaf;
+use tree_node::Node;
 ghost use mathlib.Core.Path.{_≡_};
 ghost use Prim.Native.Nat.{_*_, _≤_};
-ghost use Rattle.node.specs.Node.{Axes};
+ghost use Rattle.tree_node.specs.Node.{Axes};
 
 // A product that is small.
 pub(crate) fn product(n: usize, c: usize) -> usize

@@ -2,12 +2,12 @@
 use crate::compare::product;
 use crate::compare::same_three;
 use crate::growth::fine;
-use node::cells::point;
 use replay::word_at;
 use tree::repulsion::repulsive_force;
+use tree_node::cells::point;
 ghost use Prim.Native.Nat.{_*_, _<_, _≤_};
 ghost use lib.ListN.{length};
-ghost use Rattle.node.specs.Node.{Axes};
+ghost use Rattle.tree_node.specs.Node.{Axes};
 
 // The angles in the order of the list.
 fn angle(t: usize) -> f64 {

@@ -2,11 +2,11 @@
 use crate::compare::children;
 use crate::compare::product;
 use crate::compare::same_node;
-use node::areas::capacity;
-use node::areas::load;
+use tree_node::areas::capacity;
+use tree_node::areas::load;
 ghost use Prim.Native.Nat.{_+_, _≤_};
 ghost use lib.ListN.{length};
-ghost use Rattle.node.specs.Node.{Axes};
+ghost use Rattle.tree_node.specs.Node.{Axes};
 
 fn number(i: u32) -> usize {
     i as usize

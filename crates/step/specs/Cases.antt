@@ -6,8 +6,8 @@ use Rattle.laws.specs.Run.{run, every}
 use Rattle.laws.specs.Area.{at, bits, zero64, one64}
 use Rattle.elementary.specs.Limits.{upTo}
 use Rattle.step.specs.declared.Answer.the-variants.{Moved, Refused}
-use Rattle.gains.specs.Gains.{gainOf, floor64}
-use Rattle.passes.specs.Passes.{before, centredBy}
+use Rattle.step_gains.specs.Gains.{gainOf, floor64}
+use Rattle.step_passes.specs.Passes.{before, centredBy}
 use Rattle.step.specs.Step.{outcome, finishOf}
 
 -- j) a gain of 0.012 with agreeing signs becomes 0.01

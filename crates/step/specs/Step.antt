@@ -4,7 +4,7 @@ use mathlib.Core.Bool.{cond, _&&_}
 use Prim.Native.Nat.{ℕ, _*_}
 use lib.Ieee.{Float}
 use Rattle.laws.specs.Run.{run}
-use Rattle.passes.specs.Passes.{Before, meansOf, calmMoves, calmCentred, positionStep, incrementStep, gainStep}
+use Rattle.step_passes.specs.Passes.{Before, meansOf, calmMoves, calmCentred, positionStep, incrementStep, gainStep}
 use Rattle.step.specs.declared.Answer.{Answer}
 use Rattle.step.specs.declared.Answer.the-variants.{Moved, Refused}
 

@@ -2,15 +2,15 @@
 ghost use mathlib.Core.Path.{_≡_};
 ghost use Prim.Native.Nat.{_+_, _*_, _<_, _≤_};
 ghost use lib.ListN.{length};
-ghost use Rattle.passes.specs.Passes.{paced};
+ghost use Rattle.step_passes.specs.Passes.{paced};
 ghost use Rattle.step.specs.Step.{outcome, finishOf};
-pub use gains::Element;
-pub use passes::Pace;
-use passes::calm_centred;
-pub use passes::element_at;
-use passes::sum_moves;
-use passes::take_means;
-use passes::write_moves;
+pub use step_gains::Element;
+pub use step_passes::Pace;
+use step_passes::calm_centred;
+pub use step_passes::element_at;
+use step_passes::sum_moves;
+use step_passes::take_means;
+use step_passes::write_moves;
 
 // What the finish answers.
 pub enum Answer {

@@ -15,15 +15,15 @@ use borrow.Author.Tests.{ltb-true, leb-true, eq-eqb, ne-eqb, lt-ltb, le-leb, lt-
 use Rattle.laws.proofs.Every.{every-at, every-all}
 use Rattle.laws.proofs.Numbers.{left, row-in}
 use Rattle.laws.proofs.Bools.{and-left, and-right}
-use Rattle.node.specs.declared.Node.{Node}
-use Rattle.node.specs.declared.Out.{Out}
-use Rattle.node.specs.declared.Leaf.{Leaf}
-use Rattle.node.specs.declared.Leaf.the-variants.{Empty, Occupied}
-use Rattle.node.specs.Node.{pointOf, childIndex, childOf, cellOf, absorbed, occupied, parent, out, leafTurn, turnOf}
-use Rattle.node.specs.Areas.{wordOf, nodeAt, blank}
+use Rattle.tree_node.specs.declared.Node.{Node}
+use Rattle.tree_node.specs.declared.Out.{Out}
+use Rattle.tree_node.specs.declared.Leaf.{Leaf}
+use Rattle.tree_node.specs.declared.Leaf.the-variants.{Empty, Occupied}
+use Rattle.tree_node.specs.Node.{pointOf, childIndex, childOf, cellOf, absorbed, occupied, parent, out, leafTurn, turnOf}
+use Rattle.tree_node.specs.Areas.{wordOf, nodeAt, blank}
 use Rattle.tree.specs.Insert.{Tree, tree, filled, turnAt, levelled, levelAt, inserted, splitsOf, leafNeeds, needsOf, treeOk}
-use Rattle.contents.specs.Contents.{pointOk, blockOk, nodeOk}
-use Rattle.node.proofs.Children.{child-below}
+use Rattle.tree_contents.specs.Contents.{pointOk, blockOk, nodeOk}
+use Rattle.tree_node.proofs.Children.{child-below}
 use Rattle.tree.proofs.Grow.{splits-same, splits-apart, splits-le, length-filled, filled-out, filled-in, filled-none}
 
 -- ---- a well-formed node, in numbers

@@ -12,9 +12,9 @@ use borrow.Author.Tests.{eq-eqb, ne-eqb}
 use Rattle.laws.specs.Run.{run}
 use Rattle.laws.proofs.Runs.{run-keeps}
 use Rattle.laws.proofs.Numbers.{left, none}
-use Rattle.node.specs.declared.Node.{Node}
-use Rattle.node.specs.Node.{childIndex, childCentre, childHalf, childOf}
-use Rattle.node.specs.Areas.{nodeAt, blank}
+use Rattle.tree_node.specs.declared.Node.{Node}
+use Rattle.tree_node.specs.Node.{childIndex, childCentre, childHalf, childOf}
+use Rattle.tree_node.specs.Areas.{nodeAt, blank}
 use Rattle.tree.specs.Insert.{filled, splitsOf}
 
 -- ---- the splits counted: n so far, and those that are left, are the whole

@@ -13,15 +13,15 @@ use Rattle.laws.specs.Run.{run}
 use Rattle.laws.proofs.Bools.{by-bool}
 use Rattle.laws.proofs.Every.{every-at, every-all}
 use Rattle.laws.proofs.Runs.{run-same}
-use Rattle.node.specs.declared.Node.{Node}
-use Rattle.node.specs.declared.Out.{Out}
-use Rattle.node.specs.declared.Acc.{Acc}
-use Rattle.node.specs.Node.{pointOf, childOf, turnOf}
-use Rattle.node.specs.Areas.{nodeAt, blank}
-use Rattle.node.specs.Bodies.{kindOf}
+use Rattle.tree_node.specs.declared.Node.{Node}
+use Rattle.tree_node.specs.declared.Out.{Out}
+use Rattle.tree_node.specs.declared.Acc.{Acc}
+use Rattle.tree_node.specs.Node.{pointOf, childOf, turnOf}
+use Rattle.tree_node.specs.Areas.{nodeAt, blank}
+use Rattle.tree_node.specs.Bodies.{kindOf}
 use Rattle.tree.specs.Insert.{Tree, tree, filled, turnAt, levelled, levelAt, inserted, Insertion, insertion, insertOf, treeOk, built}
-use Rattle.contents.specs.Contents.{nodeOk}
-use Rattle.bounds.specs.Bounds.{boxOf}
+use Rattle.tree_contents.specs.Contents.{nodeOk}
+use Rattle.tree_bounds.specs.Bounds.{boxOf}
 use Rattle.tree.specs.Box.{boxed}
 use Rattle.tree.specs.Repel.{walkOf, nothing, repelled}
 use Rattle.tree.proofs.Grow.{putStep}

@@ -9,13 +9,13 @@ use lib.Ieee.{Float}
 use borrow.Author.Tests.{eq-eqb, ne-eqb}
 use Rattle.laws.specs.Run.{run}
 use Rattle.laws.proofs.Numbers.{shl-one}
-use Rattle.node.specs.declared.Node.{Node}
-use Rattle.node.specs.declared.Acc.{Acc}
-use Rattle.node.specs.declared.Leaf.{Leaf}
-use Rattle.node.specs.declared.Leaf.the-variants.{Empty, Occupied}
-use Rattle.node.specs.Areas.{nodeAt}
+use Rattle.tree_node.specs.declared.Node.{Node}
+use Rattle.tree_node.specs.declared.Acc.{Acc}
+use Rattle.tree_node.specs.declared.Leaf.{Leaf}
+use Rattle.tree_node.specs.declared.Leaf.the-variants.{Empty, Occupied}
+use Rattle.tree_node.specs.Areas.{nodeAt}
 use Rattle.tree.specs.Insert.{Tree, treeOk}
-use Rattle.node.specs.Bodies.{leafKind, kindOf, bodyOf}
+use Rattle.tree_node.specs.Bodies.{leafKind, kindOf, bodyOf}
 use Rattle.tree.specs.Repel.{walkOf}
 use Rattle.tree.proofs.Descent.{tree-facts}
 

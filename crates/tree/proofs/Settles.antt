@@ -10,11 +10,11 @@ use lib.Seq.{getD-set-same, getD-set-other, ext-getD}
 use lib.Ieee.{Float}
 use borrow.Author.Tests.{eq-eqb, ne-eqb}
 use Rattle.laws.specs.Run.{run}
-use Rattle.node.specs.declared.Node.{Node}
-use Rattle.node.specs.Node.{pointOf, childIndex, childOf, cellOf, absorbed, occupied, turnOf, out}
-use Rattle.node.specs.Areas.{nodeAt, blank}
+use Rattle.tree_node.specs.declared.Node.{Node}
+use Rattle.tree_node.specs.Node.{pointOf, childIndex, childOf, cellOf, absorbed, occupied, turnOf, out}
+use Rattle.tree_node.specs.Areas.{nodeAt, blank}
 use Rattle.tree.specs.Insert.{tree, filled, inserted}
-use Rattle.node.proofs.Children.{child-below}
+use Rattle.tree_node.proofs.Children.{child-below}
 use Rattle.tree.proofs.Grow.{putStep, made, length-filled, filled-in, filled-out}
 use Rattle.tree.proofs.Descent.{level-plain, inserted-last}
 

@@ -10,10 +10,10 @@ use borrow.Author.Tests.{eq-eqb, ne-eqb, lt-ltb, le-ltb, not-false}
 use Rattle.laws.specs.Run.{first}
 use Rattle.laws.proofs.First.{Seeks, seek-stop, seek-done, first-none, first-all}
 use Rattle.laws.proofs.Every.{every-at, every-all}
-use Rattle.node.specs.declared.Node.{Node}
-use Rattle.node.specs.Areas.{nodeAt}
-use Rattle.contents.specs.declared.Contents.the-variants.{Fine, Used, Count, Point, Block}
-use Rattle.contents.specs.Contents.{pointOk, nodeOk, faultOf}
+use Rattle.tree_node.specs.declared.Node.{Node}
+use Rattle.tree_node.specs.Areas.{nodeAt}
+use Rattle.tree_contents.specs.declared.Contents.the-variants.{Fine, Used, Count, Point, Block}
+use Rattle.tree_contents.specs.Contents.{pointOk, nodeOk, faultOf}
 use Rattle.tree.specs.Insert.{Tree, treeOk}
 use Rattle.tree.specs.Contents.{faulty, contentsOf, isFine}
 

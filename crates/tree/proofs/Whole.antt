@@ -9,17 +9,17 @@ use native.Mathlib.Decide.{decLt}
 use lib.ListN.{length}
 use lib.Ieee.{Float}
 use borrow.Author.Tests.{lt-ltb, le-ltb, ltb-true}
-use Rattle.node.specs.declared.Node.{Node}
-use Rattle.node.specs.declared.Leaf.{Leaf}
-use Rattle.node.specs.declared.Leaf.the-variants.{Empty, Occupied}
+use Rattle.tree_node.specs.declared.Node.{Node}
+use Rattle.tree_node.specs.declared.Leaf.{Leaf}
+use Rattle.tree_node.specs.declared.Leaf.the-variants.{Empty, Occupied}
 use Rattle.laws.specs.Run.{run, every}
 use Rattle.laws.proofs.Bools.{by-bool}
 use Rattle.laws.proofs.Runs.{run-last}
 use Rattle.laws.proofs.Every.{every-at, every-all}
-use Rattle.node.specs.Node.{pointOf, freshOf, absorbed, occupied, turnOf}
-use Rattle.node.specs.Areas.{nodeAt}
+use Rattle.tree_node.specs.Node.{pointOf, freshOf, absorbed, occupied, turnOf}
+use Rattle.tree_node.specs.Areas.{nodeAt}
 use Rattle.tree.specs.Insert.{Tree, tree, filled, inserted, needsOf, Insertion, insertion, insertOf, treeOk, built, rooted}
-use Rattle.contents.specs.Contents.{pointOk, nodeOk}
+use Rattle.tree_contents.specs.Contents.{pointOk, nodeOk}
 use Rattle.tree.proofs.Descent.{node-facts, node-ok, ok-start, Ended, inserted-ends, needs-few}
 
 abbrev pub needed : List Float → ℕ → ℕ → Tree → ℕ

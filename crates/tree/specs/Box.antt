@@ -3,8 +3,8 @@ use mathlib.Core.List.{List}
 use Prim.Native.Nat.{ℕ}
 use lib.ListN.{set}
 use lib.Ieee.{Float}
-use Rattle.node.specs.declared.Node.{Node}
-use Rattle.bounds.specs.Bounds.{boxOf}
+use Rattle.tree_node.specs.declared.Node.{Node}
+use Rattle.tree_bounds.specs.Bounds.{boxOf}
 use Rattle.tree.specs.Insert.{Tree, tree}
 
 -- the box unit: node 0 becomes the root, and is the only node in use

@@ -4,10 +4,10 @@ use Prim.Native.Nat.{ℕ}
 use lib.ListN.{length}
 use lib.Dec.{eqb, ltb}
 use Rattle.laws.specs.Run.{first}
-use Rattle.node.specs.Areas.{nodeAt}
-use Rattle.contents.specs.declared.Contents.{Contents}
-use Rattle.contents.specs.declared.Contents.the-variants.{Fine, Used, Count, Point, Block}
-use Rattle.contents.specs.Contents.{nodeOk, faultOf}
+use Rattle.tree_node.specs.Areas.{nodeAt}
+use Rattle.tree_contents.specs.declared.Contents.{Contents}
+use Rattle.tree_contents.specs.declared.Contents.the-variants.{Fine, Used, Count, Point, Block}
+use Rattle.tree_contents.specs.Contents.{nodeOk, faultOf}
 use Rattle.tree.specs.Insert.{Tree}
 
 -- node i of a tree over n points breaks the rule

@@ -6,13 +6,13 @@ use lib.ListN.{set, length}
 use lib.Dec.{eqb, ltb}
 use lib.Ieee.{Float}
 use Rattle.laws.specs.Run.{run, every}
-use Rattle.node.specs.declared.Node.{Node}
-use Rattle.node.specs.declared.Out.{Out}
-use Rattle.node.specs.declared.Leaf.{Leaf}
-use Rattle.node.specs.declared.Leaf.the-variants.{Empty, Occupied}
-use Rattle.node.specs.Node.{pointOf, childIndex, childCentre, childHalf, childOf, freshOf, turnOf}
-use Rattle.node.specs.Areas.{nodeAt}
-use Rattle.contents.specs.Contents.{nodeOk}
+use Rattle.tree_node.specs.declared.Node.{Node}
+use Rattle.tree_node.specs.declared.Out.{Out}
+use Rattle.tree_node.specs.declared.Leaf.{Leaf}
+use Rattle.tree_node.specs.declared.Leaf.the-variants.{Empty, Occupied}
+use Rattle.tree_node.specs.Node.{pointOf, childIndex, childCentre, childHalf, childOf, freshOf, turnOf}
+use Rattle.tree_node.specs.Areas.{nodeAt}
+use Rattle.tree_contents.specs.Contents.{nodeOk}
 
 -- the nodes, of which the first `used` are in use
 pub record Tree : Type 0 where

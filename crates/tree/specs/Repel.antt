@@ -6,12 +6,12 @@ use Prim.Native.Nat.{ℕ, zero, suc, _+_, _^_, _≤_}
 use lib.Dec.{eqb}
 use lib.Ieee.{Float}
 use Rattle.laws.specs.Run.{run}
-use Rattle.node.specs.declared.Node.{Node}
-use Rattle.node.specs.declared.Acc.{Acc}
+use Rattle.tree_node.specs.declared.Node.{Node}
+use Rattle.tree_node.specs.declared.Acc.{Acc}
 use Rattle.laws.specs.Area.{zero64}
-use Rattle.node.specs.Node.{zeros}
-use Rattle.node.specs.Areas.{nodeAt}
-use Rattle.node.specs.Bodies.{kindOf, bodyOf}
+use Rattle.tree_node.specs.Node.{zeros}
+use Rattle.tree_node.specs.Areas.{nodeAt}
+use Rattle.tree_node.specs.Bodies.{kindOf, bodyOf}
 
 -- ---- the walk from node i, at most g levels deep, children rising
 

@@ -3,22 +3,22 @@ ghost use mathlib.Core.Path.{_≡_};
 ghost use mathlib.Core.Bool.{true};
 ghost use Prim.Native.Nat.{_+_, _-_, _*_, _<_, _≤_};
 ghost use lib.ListN.{length};
-ghost use Rattle.node.specs.Node.{Axes};
-ghost use Rattle.node.specs.Areas.{wordOf, nodesOf, nodeAt, restOf};
+ghost use Rattle.tree_node.specs.Node.{Axes};
+ghost use Rattle.tree_node.specs.Areas.{wordOf, nodesOf, nodeAt, restOf};
 ghost use Rattle.tree.specs.Insert.{tree, filled, turnAt, levelAt, splitsOf, needsOf, insertOf, insertion, treeOk};
 use crate::Answer;
 use crate::Step;
-use children::child_centre;
-use children::child_half;
-use children::child_index;
-use node::Leaf;
-use node::Node;
-use node::areas::capacity;
-use node::areas::load;
-use node::areas::store;
-use node::cells::point;
-use turns::child;
-use turns::turn;
+use tree_children::child_centre;
+use tree_children::child_half;
+use tree_children::child_index;
+use tree_node::Leaf;
+use tree_node::Node;
+use tree_node::areas::capacity;
+use tree_node::areas::load;
+use tree_node::areas::store;
+use tree_node::cells::point;
+use tree_turns::child;
+use tree_turns::turn;
 
 // Makes n children of the split node v.
 fn subdivide(reals: &mut [f64], words: &mut [u32], v: Node, o: u32, q: [f64; 3], c: usize, n: usize)

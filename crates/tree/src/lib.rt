@@ -4,7 +4,7 @@ pub mod repulsion;
 pub mod root;
 pub mod wellformed;
 
-pub use contents::Contents;
+pub use tree_contents::Contents;
 
 // Where a level leads.
 pub struct Step {

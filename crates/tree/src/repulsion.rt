@@ -3,14 +3,14 @@ ghost use mathlib.Core.Path.{_≡_};
 ghost use mathlib.Core.Bool.{true};
 ghost use Prim.Native.Nat.{_+_, _^_, _<_, _≤_};
 ghost use lib.ListN.{length};
-ghost use Rattle.node.specs.Node.{Axes};
-ghost use Rattle.node.specs.Areas.{nodesOf};
+ghost use Rattle.tree_node.specs.Node.{Axes};
+ghost use Rattle.tree_node.specs.Areas.{nodesOf};
 ghost use Rattle.tree.specs.Insert.{tree, treeOk};
 ghost use Rattle.tree.specs.Repel.{Walked, repelled};
-use bodies::body;
-use bodies::kind;
-use node::Acc;
-use node::areas::load;
+use tree_bodies::body;
+use tree_bodies::kind;
+use tree_node::Acc;
+use tree_node::areas::load;
 
 // The walk through the children of an opened node, which stand from node f on.
 fn walk(

@@ -2,11 +2,11 @@
 ghost use mathlib.Core.Path.{_≡_};
 ghost use Prim.Native.Nat.{_*_, _<_, _≤_};
 ghost use lib.ListN.{length, set};
-ghost use Rattle.node.specs.Node.{Axes};
-ghost use Rattle.node.specs.Areas.{nodesOf, restOf};
-ghost use Rattle.bounds.specs.Bounds.{boxOf};
-use bounds::bounding_box;
-use node::areas::store;
+ghost use Rattle.tree_node.specs.Node.{Axes};
+ghost use Rattle.tree_node.specs.Areas.{nodesOf, restOf};
+ghost use Rattle.tree_bounds.specs.Bounds.{boxOf};
+use tree_bounds::bounding_box;
+use tree_node::areas::store;
 
 // Node 0 becomes the root over n points; the other nodes stay.
 pub fn plant(reals: &mut [f64], words: &mut [u32], positions: &[f64], n: usize, c: usize)

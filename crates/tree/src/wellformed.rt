@@ -1,14 +1,14 @@
 // The contents test: are the nodes in use what a force walk and an insertion may rely on?
 ghost use mathlib.Core.Path.{_≡_};
-ghost use Rattle.node.specs.Node.{Axes};
-ghost use Rattle.node.specs.Areas.{nodesOf};
+ghost use Rattle.tree_node.specs.Node.{Axes};
+ghost use Rattle.tree_node.specs.Areas.{nodesOf};
 ghost use Rattle.tree.specs.Insert.{tree};
 ghost use Rattle.tree.specs.Contents.{contentsOf};
-use contents::Contents;
-use contents::fault;
-use contents::node_ok;
-use node::areas::capacity;
-use node::areas::load;
+use tree_contents::Contents;
+use tree_contents::fault;
+use tree_contents::node_ok;
+use tree_node::areas::capacity;
+use tree_node::areas::load;
 
 // Whether the nodes in use are well formed for n points, or the lowest faulty one.
 pub fn tree_ok(reals: &[f64], words: &[u32], used: usize, n: usize, c: usize) -> Contents

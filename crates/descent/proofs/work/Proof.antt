@@ -1,7 +1,7 @@
 use Rattle.descent.proofs.Calls.{work-bad, work-fine}
-use Rattle.entry.proofs.Laws.{fault-fine}
-use Rattle.entry.specs.State.{memory, state}
-use Rattle.entry.specs.Entry.{faultOf}
+use Rattle.run_entry.proofs.Laws.{fault-fine}
+use Rattle.run_entry.specs.State.{memory, state}
+use Rattle.run_entry.specs.Entry.{faultOf}
 use borrow.Author.Tests.{not-true, not-false}
 use mathlib.Core.Path.{sym, _∙_}
 use borrow.Author.Needs.{needs}

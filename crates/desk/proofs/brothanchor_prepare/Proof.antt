@@ -1,4 +1,4 @@
-use Rattle.words.proofs.Laws.{settings-long}
+use Rattle.desk_words.proofs.Laws.{settings-long}
 use Rattle.desk.proofs.Laws.{unread-begun, short-begun, begun-is}
 use Rattle.prepare.specs.Prepare.{numberOf}
 use borrow.Author.Tests.{not-true, not-false}

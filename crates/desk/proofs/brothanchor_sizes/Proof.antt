@@ -1,6 +1,6 @@
-use Rattle.words.proofs.Laws.{settings-long}
+use Rattle.desk_words.proofs.Laws.{settings-long}
 use Rattle.desk.specs.Desk.{hostSizes}
-use Rattle.record.proofs.Laws.{settings-fine}
+use Rattle.run_record.proofs.Laws.{settings-fine}
 use borrow.Author.Tests.{lt-ltb, le-ltb, eq-eqb, ne-eqb, not-true, not-false}
 use mathlib.Core.Path.{sym, _∙_}
 use borrow.Author.Needs.{needs}

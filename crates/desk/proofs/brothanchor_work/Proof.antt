@@ -1,4 +1,4 @@
-use Rattle.words.proofs.Laws.{run-long}
+use Rattle.desk_words.proofs.Laws.{run-long}
 use Rattle.desk.proofs.Laws.{short-told, unread-told, work-told}
 use borrow.Author.Tests.{not-true, not-false}
 use mathlib.Core.Path.{sym, _∙_}

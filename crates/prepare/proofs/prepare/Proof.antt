@@ -1,6 +1,6 @@
 use Rattle.prepare.proofs.Laws.{passed, route-room, refused-is, ready-is}
 use Rattle.prepare.specs.Prepare.{lent}
-use Rattle.record.specs.Record.{sizesOf}
+use Rattle.run_record.specs.Record.{sizesOf}
 use mathlib.Core.Path.{sym, _∙_}
 use borrow.Author.Needs.{needs}
 use native.Mathlib.Omega.{arith}

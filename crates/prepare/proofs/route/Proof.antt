@@ -1,5 +1,5 @@
 use Rattle.prepare.proofs.Laws.{routed-tree, routed-exact}
-use Rattle.record.proofs.Laws.{above-zero}
+use Rattle.run_record.proofs.Laws.{above-zero}
 use mathlib.Core.Path.{sym, _∙_}
 use borrow.Author.Needs.{needs}
 use Rattle.prepare.proofs.route.Statement.{statement}

@@ -1,4 +1,4 @@
-use Rattle.near.specs.Distances.{distanceRow}
+use Rattle.affinity_near.specs.Distances.{distanceRow}
 use Rattle.laws.proofs.Runs.{Runs, start, more, done}
 use mathlib.Core.Path.{_≡_, refl, _∙_}
 use lib.ListN.{length}

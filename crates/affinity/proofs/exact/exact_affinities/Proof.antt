@@ -4,8 +4,8 @@ use borrow.Author.Needs.{needs}
 use mathlib.Core.Path.{subst, ap, _∙_}
 use Prim.Native.Nat.{_*_, _≤_}
 use Rattle.affinity.proofs.Symmetric.{exact-after}
-use Rattle.joins.specs.Joins.{symmetrized}
-use Rattle.near.proofs.Apart.{squares-known}
+use Rattle.affinity_joins.specs.Joins.{symmetrized}
+use Rattle.affinity_near.proofs.Apart.{squares-known}
 use Rattle.laws.specs.Area.{zero64}
 use lib.Ieee.{Float}
 use mathlib.Core.List.{List, _++_}

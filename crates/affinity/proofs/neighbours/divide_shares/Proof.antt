@@ -1,6 +1,6 @@
 -- `affinity::neighbours::divide_shares` meets its contract: t shares are divided. Assumes nothing.
 use Rattle.laws.proofs.Runs.{Runs, start, more, done}
-use Rattle.sigma.specs.Sigma.{divideStep}
+use Rattle.affinity_sigma.specs.Sigma.{divideStep}
 use mathlib.Core.Path.{_≡_}
 use lib.ListN.{length}
 use Prim.Native.Nat.{_-_}

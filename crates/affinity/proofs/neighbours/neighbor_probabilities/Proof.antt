@@ -1,6 +1,6 @@
 -- `affinity::neighbours::neighbor_probabilities` meets its contract: squares, rows, and the lists that become of them. Assumes nothing.
 use Rattle.affinity.proofs.Listed.{k-some, k-below, k-room, rows-prepared, lists-done}
-use Rattle.near.proofs.Apart.{squares-known}
+use Rattle.affinity_near.proofs.Apart.{squares-known}
 use mathlib.Core.Path.{_∙_}
 use Rattle.affinity.proofs.neighbours.neighbor_probabilities.Statement.{statement}
 use Rattle.affinity.proofs.neighbours.neighbor_probabilities.Tie as tie

@@ -5,7 +5,7 @@ use lib.Dec.{le→leb}
 use native.Mathlib.Nat.{le-trans, le-of-lt}
 use mathlib.Core.Path.{_∙_}
 use Rattle.affinity.proofs.Named.{row-done}
-use Rattle.near.proofs.Apart.{row-plain}
+use Rattle.affinity_near.proofs.Apart.{row-plain}
 use native.Mathlib.Omega.{arith}
 use Rattle.affinity.proofs.neighbours.neighbor_row.Statement.{statement}
 use Rattle.affinity.proofs.neighbours.neighbor_row.Tie as tie

@@ -6,7 +6,7 @@ use Prim.Native.Nat.{_-_, _+_, _*_}
 use borrow.Rule.Slice.PartMut.{mid-len}
 use Rattle.affinity.proofs.Named.{lays-row}
 use Rattle.affinity.specs.Neighbours.{valuesIn, framesIn, neighbourRow}
-use Rattle.near.specs.Near.{Pair}
+use Rattle.affinity_near.specs.Near.{Pair}
 use Rattle.laws.proofs.Numbers.{row-in}
 use Rattle.laws.proofs.Laid.{Lays, lays-start, lays-done}
 use native.Mathlib.Omega.{arith}

@@ -1,4 +1,4 @@
-use Rattle.near.specs.Near.{Plains}
+use Rattle.affinity_near.specs.Near.{Plains}
 use Rattle.replay_affinity.proofs.Plain.{above-plain, plain-more}
 use native.Mathlib.Nat.{not-suc-le-zero}
 use mathlib.Core.Path.{refl, _≡_}

@@ -2,8 +2,8 @@ use mathlib.Core.Path.{sym, subst}
 use mathlib.Core.Bool.{true≢false}
 use Prim.Native.Nat.{ℕ, _≤_, _-_}
 use borrow.Author.Tests.{not-false}
-use Rattle.lists.specs.Lists.{Rowed}
-use Rattle.lists.proofs.Made.{rows-none}
+use Rattle.affinity_lists.specs.Lists.{Rowed}
+use Rattle.affinity_lists.proofs.Made.{rows-none}
 use Rattle.replay_affinity.proofs.Rowing.{all-done}
 use borrow.Author.Needs.{needs}
 use native.Mathlib.Omega.{arith}

@@ -1,6 +1,6 @@
 use mathlib.Core.Path.{sym, _∙_}
 use borrow.Author.Tests.{not-false}
-use Rattle.node.specs.Areas.{nodesOf}
+use Rattle.tree_node.specs.Areas.{nodesOf}
 use Rattle.tree.specs.Insert.{tree}
 use Rattle.tree.proofs.Tested.{fine-sound}
 use Rattle.tree.proofs.Whole.{looser}

@@ -1,4 +1,4 @@
-use Rattle.node.proofs.Axes.{few-children}
+use Rattle.tree_node.proofs.Axes.{few-children}
 use Rattle.laws.proofs.Numbers.{shl-one}
 use borrow.Author.Needs.{needs}
 use native.Mathlib.Omega.{arith}

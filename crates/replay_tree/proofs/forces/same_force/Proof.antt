@@ -1,7 +1,7 @@
 use Rattle.tree.proofs.Whole.{looser}
 use Rattle.tree.proofs.Tested.{fine-sound}
 use Rattle.tree.specs.Insert.{tree}
-use Rattle.node.specs.Areas.{nodesOf}
+use Rattle.tree_node.specs.Areas.{nodesOf}
 use Rattle.laws.proofs.Numbers.{row-in}
 use borrow.Author.Tests.{not-false}
 use mathlib.Core.Path.{sym, _∙_}

@@ -1,6 +1,6 @@
 use Rattle.tree.proofs.Descent.{Goes, goes-start, goes-on, goes-in, goes-asks, goes-few, goes-up, needs-few, few-nodes}
 use Rattle.tree.specs.Insert.{tree, inserted, insertion, insertOf}
-use Rattle.node.specs.Areas.{nodesOf, restOf}
+use Rattle.tree_node.specs.Areas.{nodesOf, restOf}
 use lib.Ieee.{Float}
 use mathlib.Core.List.{List}
 use borrow.Author.Tests.{lt-ltb, le-ltb}

@@ -1,7 +1,7 @@
 use Rattle.tree.proofs.Descent.{Dry, dry-start, dry-next, dry-leaf, tree-point, next-in, few-nodes}
 use Rattle.tree.specs.Insert.{tree}
-use Rattle.node.specs.Areas.{nodesOf}
-use Rattle.node.specs.declared.Leaf.the-variants.{Empty, Occupied}
+use Rattle.tree_node.specs.Areas.{nodesOf}
+use Rattle.tree_node.specs.declared.Leaf.the-variants.{Empty, Occupied}
 use Prim.Native.Nat.{_-_, _<_}
 use Rattle.laws.proofs.Numbers.{shl-one, row-in}
 use borrow.Author.Needs.{needs}

@@ -1,7 +1,7 @@
-use Rattle.node.proofs.Flat.{nodes-few}
-use Rattle.node.proofs.Children.{child-word}
+use Rattle.tree_node.proofs.Flat.{nodes-few}
+use Rattle.tree_node.proofs.Children.{child-word}
 use Rattle.tree.specs.Insert.{fillStep, filled}
-use Rattle.node.specs.Areas.{nodesOf, restOf}
+use Rattle.tree_node.specs.Areas.{nodesOf, restOf}
 use mathlib.Core.Path.{_≡_, refl, _∙_}
 use Prim.Native.Nat.{_-_}
 use lib.ListN.{length, length-set}

@@ -1,5 +1,5 @@
 use Rattle.tree.proofs.Opens.{walk-skip, walk-body, walk-open, open-block, child-in}
-use Rattle.node.specs.Areas.{nodesOf}
+use Rattle.tree_node.specs.Areas.{nodesOf}
 use Rattle.tree.specs.Insert.{tree}
 use Rattle.tree.specs.Repel.{walkOf}
 use mathlib.Core.Path.{_≡_, sym, _∙_}
@@ -14,9 +14,9 @@ use borrow.Fn.PlainCycle.{Measures, is, falls, and}
 use Rattle.tree.proofs.repulsion.walk.Reads as walk
 use Rattle.tree.proofs.repulsion.walk.Kinds as walk-kinds
 use Rattle.tree.proofs.repulsion.+walk.Lts-walk as walk-lts
-use Rattle.bodies.proofs.body.Reads as body-reads
-use Rattle.bodies.proofs.kind.Reads as kind-reads
-use Rattle.node.proofs.areas.load.Reads as load-reads
+use Rattle.tree_bodies.proofs.body.Reads as body-reads
+use Rattle.tree_bodies.proofs.kind.Reads as kind-reads
+use Rattle.tree_node.proofs.areas.load.Reads as load-reads
 use Rattle.tree.proofs.repulsion.+walk.{statement}
 use Rattle.tree.proofs.repulsion.+walk.Tie.{close}
 

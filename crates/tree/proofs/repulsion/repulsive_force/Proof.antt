@@ -1,5 +1,5 @@
 use Rattle.tree.proofs.Opens.{walk-skip, walk-body, walk-open, open-block}
-use Rattle.node.specs.Areas.{nodesOf}
+use Rattle.tree_node.specs.Areas.{nodesOf}
 use Rattle.tree.specs.Insert.{tree}
 use Rattle.tree.specs.Repel.{repelled}
 use mathlib.Core.Path.{_≡_, sym, _∙_}

@@ -1,4 +1,4 @@
-use Rattle.bounds.specs.Bounds.{boxOf}
+use Rattle.tree_bounds.specs.Bounds.{boxOf}
 use borrow.Author.Needs.{needs}
 use native.Mathlib.Omega.{arith}
 use Rattle.tree.proofs.root.plant.Statement.{statement}

@@ -2,7 +2,7 @@ use mathlib.Core.Path.{sym, _∙_}
 use borrow.Author.Tests.{not-true}
 use Rattle.tree.proofs.Tested.{none-used, too-many, a-fault, no-fault}
 use Rattle.laws.proofs.First.{Seeks, seek-start, seek-more}
-use Rattle.node.specs.Areas.{nodesOf}
+use Rattle.tree_node.specs.Areas.{nodesOf}
 use Rattle.tree.specs.Insert.{tree}
 use Rattle.tree.specs.Contents.{faulty}
 use Prim.Native.Nat.{_-_}

@@ -1,0 +1,23 @@
+-- `lists::links::plus` meets its contract, by its test. Assumes nothing.
+use borrow.Author.Tests.{lt-ltb, le-ltb}
+use borrow.Author.Needs.{needs}
+use Rattle.affinity_links.proofs.plus.Statement.{statement}
+use Rattle.affinity_links.proofs.plus.Tie as tie
+
+add-result : tie.Need-add-result
+add-result c = search needs
+
+mul-result : tie.Need-mul-result
+mul-result c = search needs
+
+shared-slice-read-result : tie.Need-shared-slice-read-result
+shared-slice-read-result c = search needs
+
+returns : tie.Need-returns
+returns c = rw (lt-ltb _ _ (c .before .if1 .taken))
+
+returns-2 : tie.Need-returns-2
+returns-2 c = rw (le-ltb _ _ (c .if1 .left))
+
+pub plus-spec : {M : Type 1} → statement M
+plus-spec = tie.close (tie.spec add-result mul-result shared-slice-read-result returns returns-2)

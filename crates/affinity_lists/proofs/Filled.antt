@@ -1,0 +1,296 @@
+-- Writing all lists from the last link down: what holds between two frames, and what a frame keeps. Assumes nothing.
+use mathlib.Core.Path.{_≡_, refl, sym, ap, subst, _∙_}
+use mathlib.Core.Logic.{⊎-elim}
+use mathlib.Core.List.{List, [], _∷_, _++_, map, append-assoc}
+use Prim.Native.Nat.{ℕ, suc, _+_, _-_, _*_, _<_, _≤_}
+use native.Mathlib.Omega.{arith}
+use native.Mathlib.Decide.{ℕ-discrete, decLt}
+use native.Mathlib.Numerals.{add-one}
+use native.Mathlib.Nat.{le-refl, add-mul, one-mul}
+use lib.Dec.{eqb}
+use lib.Ieee.{Float, nan}
+use lib.ListN.{length, set, take, drop, length-set, length-append, length-drop, List·getD-append}
+use lib.Seq.{drop-set-lt, drop-at, getD-take, length-take-le}
+use borrow.Author.Tests.{eq-eqb, ne-eqb, lt-ltb, le-ltb}
+use Rattle.laws.specs.Run.{first}
+use Rattle.laws.specs.Area.{at, num, zero64}
+use Rattle.laws.specs.Joined.{joined, pasted, ending}
+use Rattle.laws.proofs.Numbers.{row-in}
+use Rattle.laws.proofs.Bools.{two}
+use Rattle.laws.proofs.First.{first-same}
+use Rattle.laws.proofs.Joined.{those-rise, those-same, map-those, spot, spot-yes, spot-no, spot-at, joined-none, joined-more, joined-grow, joined-mono, joined-at, tail-at, length-singles, singles-at, length-map, getD-map-in}
+use Rattle.laws.proofs.Parts.{length-pasted, drop-put, getD-pasted}
+use Rattle.affinity_links.specs.Links.{found, plusOf, span, soughtYes, soughtWeight, Sought}
+use Rattle.affinity_links.proofs.Search.{found-same}
+use Rattle.affinity_lists.specs.Lists.{Rows, place, linked, weight, listOf, weightsOf, startOf, linksOf, indicesOf, weightsAll, offsetsOf}
+use Rattle.affinity_lists.specs.Steps.{linkSought, weightSought, listSought, weightsSought, Room}
+use Rattle.affinity_lists.proofs.Linked.{linked-comm, linked-self, weight-down, weight-none, weight-comm, plus-same, length-weights, links-most, links-small, start-least}
+
+abbrev pub singles : ℕ → ℕ → List ℕ → ℕ → List ℕ
+singles n k J i = startOf n k J i ∷ []
+
+-- ---- J, S, Q: the areas at first. The lists from i on are written, and the rows below i are as they were
+
+pub record Filled (n k : ℕ) (J : List ℕ) (S : List Float) (Q : List ℕ) (i q : ℕ) (W : List Float) (I O : List ℕ) : Type 0 where
+  pub within : i ≤ n
+  pub keptI : (p : ℕ) → p < i * k → num I p ≡ num J p
+  pub keptW : (p : ℕ) → p < i * k → at W p ≡ at S p
+  pub leftI : joined (listOf n k J) i ++ drop q I ≡ indicesOf n k J
+  pub leftW : joined (weightsOf n k J S) i ++ drop q W ≡ weightsAll n k J S
+  pub leftO : joined (singles n k J) i ++ drop i O ≡ offsetsOf n k J Q
+  pub here : q ≡ startOf n k J i
+  pub sizeI : length I ≡ length J
+  pub sizeW : length W ≡ length S
+  pub sizeO : length O ≡ length Q
+  pub roomO : n + 1 ≤ length Q
+
+module _ (n k : ℕ) (J : List ℕ) (S : List Float) (Q : List ℕ) (ok : Rows n k J) where
+  -- ---- the start
+  -- what is past the offsets does not see a store among them
+  pub offsets-same : (v : ℕ) → offsetsOf n k J (set Q n v) ≡ offsetsOf n k J Q
+  offsets-same v = ap (λ (r : List ℕ). joined (singles n k J) (suc n) ++ r) (drop-set-lt (suc n) Q n v (omega arith))
+
+  pub filled-start : (links : ℕ) → links ≡ linksOf n k J → n + 1 ≤ length Q → Filled n k J S (set Q n links) n links S J (set Q n links)
+  filled-start links e h = rw e (record {
+    within = le-refl n;
+    keptI = λ p l. refl;
+    keptW = λ p l. refl;
+    leftI = refl;
+    leftW = refl;
+    leftO =
+        ap (λ (r : List ℕ). joined (singles n k J) n ++ r) (drop-put Q n (linksOf n k J) (omega arith) ∙ ap (λ (x : ℕ). linksOf n k J ∷ drop x Q) (add-one n))
+        ∙ sym (append-assoc (joined (singles n k J) n) (linksOf n k J ∷ []) (drop (suc n) Q))
+        ∙ ap (λ (r : List ℕ). r ++ drop (suc n) Q) (sym (joined-more (singles n k J) n) ∙ ap (joined (singles n k J)) (add-one n))
+        ∙ sym (offsets-same (linksOf n k J));
+    here = refl;
+    sizeI = refl;
+    sizeW = refl;
+    sizeO = refl;
+    roomO = rw (length-set Q n (linksOf n k J)) h;
+  })
+
+  pub filled-small : {i q : ℕ} {W : List Float} {I O : List ℕ} → n ≤ 4096 → k < n → Filled n k J S Q i q W I O → q ≤ 33554432
+  filled-small {i} h l f = omega (arith, f .here, joined-mono (listOf n k J) i n (f .within), links-small n k J ok h l)
+
+  -- ---- the end
+  pub filled-end : {i q : ℕ} {W : List Float} {I O : List ℕ} → i ≡ 0 → Filled n k J S Q i q W I O → (W ≡ weightsAll n k J S) × (I ≡ indicesOf n k J) × (O ≡ offsetsOf n k J Q)
+  filled-end {i} {q} {W} {I} {O} e f =
+      let g : Filled n k J S Q 0 q W I O = rw e at f in
+      let z : q ≡ 0 = g .here ∙ ap length (joined-none (listOf n k J)) in (
+        ap (λ (x : ℕ). drop x W) (sym z) ∙ ap (λ (r : List Float). r ++ drop q W) (sym (joined-none (weightsOf n k J S))) ∙ g .leftW,
+        ap (λ (x : ℕ). drop x I) (sym z) ∙ ap (λ (r : List ℕ). r ++ drop q I) (sym (joined-none (listOf n k J))) ∙ g .leftI,
+        ap (λ (r : List ℕ). r ++ O) (sym (joined-none (singles n k J))) ∙ g .leftO,
+      )
+
+-- ---- the same, and X and R hold row i
+
+pub record Ready (n k : ℕ) (J : List ℕ) (S : List Float) (Q : List ℕ) (i q : ℕ) (W : List Float) (I O : List ℕ) (X : List Float) (R : List ℕ) : Type 0 where
+  pub filled : Filled n k J S Q (i + 1) q W I O
+  pub rowI : (t : ℕ) → t < k → num R (0 + t) ≡ num J (i * k + t)
+  pub rowW : (t : ℕ) → t < k → at X (0 + t) ≡ at S (i * k + t)
+  pub sizeX : k ≤ length X
+  pub sizeR : k ≤ length R
+
+module _ {n k : ℕ} {J : List ℕ} {S : List Float} {Q : List ℕ} (big : (2 * (n * k) ≤ length S) × (2 * (n * k) ≤ length J)) where
+  ready : {i q : ℕ} {W : List Float} {I O : List ℕ} (X : List Float) (R : List ℕ) → k ≤ length X → k ≤ length R
+      → Filled n k J S Q (i + 1) q W I O → Ready n k J S Q i q W I O (pasted W (i * k) k X) (pasted I (i * k) k R)
+  ready {i} {q} {W} {I} X R hX hR f =
+      let more : (i + 1) * k ≡ i * k + k = rw (add-mul i 1 k, one-mul k) in
+      let rows : i * k + k ≤ n * k = row-in i n k (n * k) (omega (arith, f .within)) (le-refl (n * k)) in
+      record {
+        filled = f;
+        rowI = λ t l. ap (num (pasted I (i * k) k R)) (zeroed t) ∙ getD-pasted I R (i * k) k t 0 l (omega (arith, f .sizeI, rows)) ∙ f .keptI (i * k + t) (omega (arith, more));
+        rowW = λ t l. ap (at (pasted W (i * k) k X)) (zeroed t) ∙ getD-pasted W X (i * k) k t nan l (omega (arith, f .sizeW, rows)) ∙ f .keptW (i * k + t) (omega (arith, more));
+        sizeX = paste-size W X (omega (arith, f .sizeW, rows)) hX;
+        sizeR = paste-size I R (omega (arith, f .sizeI, rows)) hR;
+      }
+    where
+      zeroed : (t : ℕ) → 0 + t ≡ t
+      zeroed t = omega arith
+
+      paste-size : {A : Type 0} (l d : List A) → i * k + k ≤ length l → k ≤ length d → k ≤ length (pasted l (i * k) k d)
+      paste-size l d h m = subst (λ (x : ℕ). k ≤ x) (sym (length-pasted l d (i * k) k h m)) m
+
+  -- row i is copied
+  pub ready-of : {i i' q : ℕ} {W : List Float} {I O : List ℕ} {X' : List Float} {R' : List ℕ} (X : List Float) (R : List ℕ) → i' ≡ i + 1
+      → k ≤ length X → k ≤ length R → X' ≡ pasted W (i * k) k X → R' ≡ pasted I (i * k) k R
+      → Filled n k J S Q i' q W I O → Ready n k J S Q i q W I O X' R'
+  ready-of {i} {i'} {q} {W} {I} {O} X R e hX hR eX eR f = rw (eX, eR) (ready X R hX hR (rw e at f))
+
+  module _ (ok : Rows n k J) {i q : ℕ} {W : List Float} {I O : List ℕ} {X : List Float} {R : List ℕ} (g : Ready n k J S Q i q W I O X R) where
+    f : Filled n k J S Q (i + 1) q W I O
+    f = g .filled
+
+    frame : i < n
+    frame = omega (arith, f .within)
+
+    next-row : (i + 1) * k ≡ i * k + k
+    next-row = rw (add-mul i 1 k, one-mul k)
+
+    -- ---- what can be read
+    start-at : (j : ℕ) → i < j → j ≤ n → num O j ≡ startOf n k J j
+    start-at j h l =
+        tail-at (joined (singles n k J) (i + 1)) O (offsetsOf n k J Q) (i + 1) j 0 (f .leftO) (length-singles (startOf n k J) (i + 1)) (omega arith)
+        ∙ singles-at (startOf n k J) (suc n) j (drop (suc n) Q) (omega arith)
+
+    low : (j : ℕ) → i < j → q ≤ startOf n k J j
+    low j h = omega (arith, f .here, joined-mono (listOf n k J) (i + 1) j (omega arith))
+
+    list-at : (j t : ℕ) → i < j → j < n → t < length (listOf n k J j) → num I (startOf n k J j + t) ≡ num (listOf n k J j) t
+    list-at j t h l m =
+        tail-at (joined (listOf n k J) (i + 1)) I (indicesOf n k J) q (startOf n k J j + t) 0 (f .leftI) (sym (f .here)) (omega (arith, low j h))
+        ∙ joined-at (listOf n k J) n j t (drop (linksOf n k J) J) 0 l m
+
+    weight-at : (j t : ℕ) → i < j → j < n → t < length (listOf n k J j) → at W (startOf n k J j + t) ≡ weight k J S j (num (listOf n k J j) t)
+    weight-at j t h l m =
+        tail-at (joined (weightsOf n k J S) (i + 1)) W (weightsAll n k J S) q (startOf n k J j + t) nan (f .leftW) (length-weights n k J S (i + 1) ∙ sym (f .here)) (omega (arith, low j h))
+        ∙ ap (λ (x : ℕ). at (weightsAll n k J S) (x + t)) (sym (length-weights n k J S j))
+        ∙ joined-at (weightsOf n k J S) n j t (drop (linksOf n k J) S) nan l (subst (λ (x : ℕ). t < x) (sym (length-map (weight k J S j) (listOf n k J j))) m)
+        ∙ getD-map-in (weight k J S j) (listOf n k J j) t 0 nan m
+
+    -- list j is as long as its offsets say
+    span-is : (j : ℕ) → i < j → j < n → span O j ≡ length (listOf n k J j)
+    span-is j h l = omega (arith, start-at j h (omega arith), start-at (j + 1) (omega arith) (omega arith), joined-grow (listOf n k J) j)
+
+    row-at : (j t : ℕ) → j < i → t < k → j * k + t < (i + 1) * k
+    row-at j t h l = omega (arith, next-row, row-in j i k (i * k) h (le-refl (i * k)))
+
+    row-end : (j : ℕ) → j < n → (j * k + k ≤ length I) × (j * k + k ≤ length W)
+    row-end j l = omega (arith, f .sizeI, f .sizeW, row-in j n k (n * k) l (le-refl (n * k)))
+
+    top : (q ≤ linksOf n k J) × (linksOf n k J ≤ length I) × (linksOf n k J ≤ length W)
+    top = omega (arith, f .here, joined-mono (listOf n k J) (i + 1) n (f .within), links-most n k J ok, f .sizeI, f .sizeW)
+
+    ready-sought : (j : ℕ) → n ≤ 4096 → j < n → Sought W I O X k i j k
+    ready-sought j h l = record {
+      small = omega (arith, frame);
+      copy = g .sizeX;
+      below = λ m. (
+        row-end j l .0,
+        row-end j l .1,
+        λ s t a b. omega (arith, f .keptI (j * k + s) (row-at j s m (omega arith)), f .keptI (j * k + t) (row-at j t m b), ok .rising j l s t a b),
+      );
+      above = λ m. let e = start-at j m (omega arith) in let e' = start-at (j + 1) (omega arith) (omega arith) in
+          let last : startOf n k J (j + 1) ≤ linksOf n k J = joined-mono (listOf n k J) (j + 1) n (omega arith) in (
+            omega (arith, f .sizeO, f .roomO),
+            omega (arith, e, e', joined-grow (listOf n k J) j),
+            omega (arith, e', last, top),
+            omega (arith, e', last, top),
+            λ s t a b. let b' : t < length (listOf n k J j) = omega (arith, span-is j m l) in
+                subst (λ (x : ℕ). num I (x + s) < num I (x + t)) (sym e) (omega (arith, list-at j s m l (omega arith), list-at j t m l b', those-rise (linked k J j) n s t a b')),
+          );
+    }
+
+    -- ---- what is looked up is the link, and its weight
+    module _ (j : ℕ) (l : j < n) where
+      row-found : found R 0 k j ≡ place k J i j
+      row-found = found-same R J 0 (i * k) k j (g .rowI)
+
+      below-found : j < i → found I (j * k) k i ≡ place k J j i
+      below-found m = found-same I J (j * k) (j * k) k i (λ t b. f .keptI (j * k + t) (row-at j t m b))
+
+      above-found : i < j → found I (num O j) (span O j) i ≡ spot (linked k J j) n i
+      above-found m =
+          ap (λ (x : ℕ). first (λ t. eqb (num I (num O j + t)) i) x) (span-is j m l)
+          ∙ first-same (λ t. eqb (num I (num O j + t)) i) (λ t. eqb (num (listOf n k J j) t) i) (length (listOf n k J j)) (λ t b. ap (λ (x : ℕ). eqb x i) (ap (λ (x : ℕ). num I (x + t)) (start-at j m (omega arith)) ∙ list-at j t m l b))
+
+      le-from : {a b : ℕ} → a ≡ b → b ≤ a
+      le-from e = omega arith
+
+      ready-yes : linkSought I O R k i j ≡ linked k J i j
+      unfolding soughtYes
+      ready-yes = elim (decLt j i) [
+        | yes m ↦ rw (lt-ltb j i m, row-found, below-found m)
+        | no m ↦ elim (ℕ-discrete j i) [
+          | yes e ↦ rw (le-ltb j i (omega arith), eq-eqb j i e) (sym (ap (linked k J i) e ∙ linked-self n k J ok i frame))
+          | no d ↦ rw (le-ltb j i (omega arith), ne-eqb j i d, above-found (omega arith), span-is j (omega arith) l)
+              (⊎-elim
+              (λ b. lt-ltb _ _ (spot-yes (linked k J j) n i frame b) ∙ sym b)
+              (λ b. le-ltb _ _ (le-from (spot-no (linked k J j) n i b)) ∙ sym b)
+              (two (linked k J j i)) ∙ linked-comm k J S j i)
+        ]
+      ]
+
+      ready-weight : weightSought W I O X R k i j ≡ weight k J S i j
+      unfolding soughtWeight
+      ready-weight = elim (decLt j i) [
+        | yes m ↦ rw (lt-ltb j i m, row-found, below-found m)
+            (plus-same X S 0 (i * k) k (place k J i j) (plusOf W (j * k) k (place k J j i) zero64) (g .rowW)
+            ∙ ap (plusOf S (i * k) k (place k J i j)) (plus-same W S (j * k) (j * k) k (place k J j i) zero64 (λ t b. f .keptW (j * k + t) (row-at j t m b)))
+            ∙ sym (weight-down k J S i j (omega arith)))
+        | no m ↦ elim (ℕ-discrete j i) [
+          | yes e ↦ rw (le-ltb j i (omega arith), eq-eqb j i e) (sym (ap (weight k J S i) e ∙ weight-none k J S i i (linked-self n k J ok i frame)))
+          | no d ↦ rw (le-ltb j i (omega arith), ne-eqb j i d, above-found (omega arith), span-is j (omega arith) l)
+              (⊎-elim
+              (λ b. rw (lt-ltb _ _ (spot-yes (linked k J j) n i frame b))
+              (ap (λ (x : ℕ). at W (x + spot (linked k J j) n i)) (start-at j (omega arith) (omega arith))
+              ∙ weight-at j (spot (linked k J j) n i) (omega arith) l (spot-yes (linked k J j) n i frame b)
+              ∙ ap (weight k J S j) (spot-at (linked k J j) n i frame b) ∙ weight-comm k J S j i))
+              (λ b. rw (le-ltb _ _ (le-from (spot-no (linked k J j) n i b))) (sym (weight-none k J S i j (linked-comm k J S i j ∙ b))))
+              (two (linked k J j i)))
+        ]
+      ]
+
+    -- so what is looked up is list i
+    list-is : listSought I O R n k i ≡ listOf n k J i
+    list-is = those-same (linkSought I O R k i) (linked k J i) n (λ j l. ready-yes j l)
+
+    weights-are : weightsSought W I O X R n k i ≡ weightsOf n k J S i
+    weights-are = ap (map (weightSought W I O X R k i)) list-is ∙ map-those (weightSought W I O X R k i) (weight k J S i) (linked k J i) n (λ j l. ready-weight j l)
+
+    size-is : q ≡ startOf n k J i + length (listOf n k J i)
+    size-is = f .here ∙ joined-grow (listOf n k J) i
+
+    pub ready-room : n ≤ 4096 → Room W I O X R n k i q
+    ready-room h = record {
+      frame = (frame, h);
+      copied = (g .sizeR, λ s t a b. omega (arith, g .rowI s (omega arith), g .rowI t b, ok .rising i frame s t a b), λ t l. omega (arith, g .rowI t l, ok .inside i t frame l));
+      sought = λ j l. ready-sought j h l;
+      inside = omega (arith, top);
+      under = omega (arith, ap length list-is, size-is, start-least n k J ok i (omega (arith, frame)));
+      over = λ j m l. omega (arith, start-at j m (omega arith), low j m);
+    }
+
+    -- ---- list i is written
+    filled-so : (q' : ℕ) → q' ≡ startOf n k J i → Filled n k J S Q i q' (take q' W ++ (weightsOf n k J S i ++ drop q W)) (take q' I ++ (listOf n k J i ++ drop q I)) (set O i q')
+    filled-so q' e =
+        let hI : length (take q' I) ≡ q' = length-take-le q' I (omega (arith, top, size-is)) in
+        let hW : length (take q' W) ≡ q' = length-take-le q' W (omega (arith, top, size-is)) in
+        let under : i * k ≤ q' = omega (arith, e, start-least n k J ok i (omega (arith, frame))) in
+        record {
+          within = omega (arith, frame);
+          keptI = λ p l. List·getD-append (take q' I) (listOf n k J i ++ drop q I) 0 p (omega (arith, hI)) ∙ getD-take q' I p 0 (omega arith) ∙ f .keptI p (omega (arith, next-row));
+          keptW = λ p l. List·getD-append (take q' W) (weightsOf n k J S i ++ drop q W) nan p (omega (arith, hW)) ∙ getD-take q' W p nan (omega arith) ∙ f .keptW p (omega (arith, next-row));
+          leftI = left (listOf n k J) I (take q' I) q' hI (f .leftI);
+          leftW = left (weightsOf n k J S) W (take q' W) q' hW (f .leftW);
+          leftO =
+              ap (λ (r : List ℕ). joined (singles n k J) i ++ r) (drop-put O i q' (omega (arith, f .sizeO, f .roomO, frame)) ∙ ap (λ (x : ℕ). x ∷ drop (i + 1) O) e)
+              ∙ sym (append-assoc (joined (singles n k J) i) (singles n k J i) (drop (i + 1) O))
+              ∙ ap (λ (r : List ℕ). r ++ drop (i + 1) O) (sym (joined-more (singles n k J) i))
+              ∙ f .leftO;
+          here = e;
+          sizeI = whole I (take q' I) (listOf n k J i) hI (omega (arith, size-is)) (omega (arith, top)) ∙ f .sizeI;
+          sizeW = whole W (take q' W) (weightsOf n k J S i) hW (omega (arith, size-is, length-map (weight k J S i) (listOf n k J i))) (omega (arith, top)) ∙ f .sizeW;
+          sizeO = length-set O i q' ∙ f .sizeO;
+          roomO = f .roomO;
+        }
+      where
+        -- the list is put before what is left
+        left : {A : Type 0} {T : List A} (h : ℕ → List A) (L x : List A) (q' : ℕ) → length x ≡ q' → joined h (i + 1) ++ drop q L ≡ T → joined h i ++ drop q' (x ++ (h i ++ drop q L)) ≡ T
+        left {A} h L x q' e t =
+            ap (λ (r : List A). joined h i ++ r) (drop-at x (h i ++ drop q L) q' e)
+            ∙ sym (append-assoc (joined h i) (h i) (drop q L)) ∙ ap (λ (r : List A). r ++ drop q L) (sym (joined-more h i)) ∙ t
+
+        whole : {A : Type 0} (L x w : List A) → length x ≡ q' → q' + length w ≡ q → q ≤ length L → length (x ++ (w ++ drop q L)) ≡ length L
+        whole L x w e a b = omega (arith, length-append x (w ++ drop q L), length-append w (drop q L), length-drop q L)
+
+    pub filled-more : (q' : ℕ) (W' : List Float) (I' : List ℕ) → q' ≡ q - length (listSought I O R n k i)
+        → W' ≡ ending (weightsSought W I O X R n k i) q W → I' ≡ ending (listSought I O R n k i) q I → Filled n k J S Q i q' W' I' (set O i q')
+    filled-more q' W' I' e eW eI =
+        let s : q' ≡ startOf n k J i = omega (arith, e, ap length list-is, size-is) in
+        let wI : I' ≡ take q' I ++ (listOf n k J i ++ drop q I) = eI ∙ ap (λ (x : ℕ). take x I ++ (listSought I O R n k i ++ drop q I)) (sym e) ∙ ap (λ (r : List ℕ). take q' I ++ (r ++ drop q I)) list-is in
+        let wW : W' ≡ take q' W ++ (weightsOf n k J S i ++ drop q W) = eW ∙ ap (λ (x : ℕ). take x W ++ (weightsSought W I O X R n k i ++ drop q W)) (shorter e) ∙ ap (λ (r : List Float). take q' W ++ (r ++ drop q W)) weights-are in
+        rw (wI, wW) (filled-so q' s)
+      where
+        shorter : q' ≡ q - length (listSought I O R n k i) → q - length (weightsSought W I O X R n k i) ≡ q'
+        shorter e = omega (arith, e, length-map (weightSought W I O X R k i) (listSought I O R n k i))

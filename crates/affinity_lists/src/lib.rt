@@ -1,0 +1,51 @@
+// The Barnes-Hut neighbour lists, made in place: n rows of k links become the lists of all frames.
+pub mod areas;
+mod filling;
+mod rows;
+
+use areas::clear_indices;
+use areas::clear_values;
+use areas::copy_indices;
+use areas::copy_values;
+use filling::fill_list;
+use rows::total;
+ghost use mathlib.Core.Path.{_≡_};
+ghost use Rattle.affinity_lists.specs.Lists.{Prepared, areas, symmetrised};
+
+// The lists of all frames from their rows, from the last link of all down: list i begins no lower than row i, which is copied to the preparation rows before it is written over.
+pub fn symmetrise(
+    weights: &mut [f64],
+    indices: &mut [u32],
+    offsets: &mut [u32],
+    row_values: &mut [f64],
+    row_indices: &mut [u32],
+    n: usize,
+    k: usize,
+)
+    requires { ⌜ Prepared n k (areas (now weights) (now indices) (now offsets) (now «row_values») (now «row_indices»)) ⌝ }
+    ensures { λ _. ⌜ areas (now (weights .exit)) (now (indices .exit)) (now (offsets .exit)) (now («row_values» .exit)) (now («row_indices» .exit)) ≡ symmetrised n k (areas (now (weights .entry)) (now (indices .entry)) (now (offsets .entry)) (now («row_values» .entry)) (now («row_indices» .entry))) ⌝ }
+{
+    let links = total(indices, n, k);
+    offsets[n] = links as u32;
+    let mut q = links;
+    let mut i = n;
+    while i > 0 {
+        i -= 1;
+        copy_values(row_values, weights, i * k, k);
+        copy_indices(row_indices, indices, i * k, k);
+        q = fill_list(
+            weights,
+            indices,
+            offsets,
+            row_values,
+            row_indices,
+            n,
+            k,
+            i,
+            q,
+        );
+        offsets[i] = q as u32;
+    }
+    clear_values(row_values, n);
+    clear_indices(row_indices, n);
+}

@@ -1,0 +1,55 @@
+-- `sigma::fill` meets its contract: j places are filled. Assumes nothing.
+use lib.ListN.{length}
+use Rattle.affinity_sigma.specs.Sigma.{fillStep}
+use Prim.Native.Nat.{_-_}
+use mathlib.Core.Path.{_≡_}
+use Rattle.laws.proofs.Runs.{Runs, start, more, done}
+use borrow.Author.Needs.{needs}
+use native.Mathlib.Omega.{arith}
+use Rattle.affinity_sigma.proofs.fill.Statement.{statement}
+use Rattle.affinity_sigma.proofs.fill.Tie as tie
+
+abbrev Inv-loop : tie.InvT-loop
+Inv-loop shares₀ n x j₀ shares j = (length shares ≡ length shares₀) × Runs (fillStep x) n shares₀ j shares
+
+abbrev μ-loop : tie.MeasureT-loop
+μ-loop shares₀ n x j₀ shares j = n - j
+
+loop-holds : tie.Need-loop-holds Inv-loop μ-loop
+loop-holds c = (search needs, start _ _ _)
+
+mul-shares : tie.Need-mul-shares Inv-loop μ-loop
+mul-shares c = search needs
+
+slice-write-shares : tie.Need-slice-write-shares Inv-loop μ-loop
+slice-write-shares c = search needs
+
+add-j : tie.Need-add-j Inv-loop μ-loop
+add-j c = search needs
+
+loop-less : tie.Need-loop-less Inv-loop μ-loop
+loop-less c = search needs
+
+loop-again : tie.Need-loop-again Inv-loop μ-loop
+loop-again c = (search needs, more (c .before .loop .inv .1) (omega arith))
+
+same-length : tie.Need-same-length Inv-loop μ-loop
+same-length c = search needs
+
+returns : tie.Need-returns Inv-loop μ-loop
+returns c = done (c .before .loop .inv .1) (omega arith)
+
+pub fill-spec : {M : Type 1} → statement M
+fill-spec =
+    tie.close
+    (tie.spec
+    Inv-loop
+    μ-loop
+    loop-holds
+    mul-shares
+    slice-write-shares
+    add-j
+    loop-less
+    loop-again
+    same-length
+    returns)

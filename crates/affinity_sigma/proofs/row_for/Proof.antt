@@ -1,0 +1,26 @@
+-- `sigma::row_for` meets its contract: weights, their sum, shares. Assumes nothing.
+use mathlib.Core.Path.{refl}
+use Rattle.affinity_sigma.specs.Sigma.{rowOf}
+use borrow.Author.Needs.{needs}
+use Rattle.affinity_sigma.proofs.row_for.Statement.{statement}
+use Rattle.affinity_sigma.proofs.row_for.Tie as tie
+
+weigh-requires : tie.Need-weigh-requires
+weigh-requires c κs = search needs
+
+total-requires : tie.Need-total-requires
+total-requires c κs = search needs
+
+share-out-requires : tie.Need-share-out-requires
+share-out-requires c κs = search needs
+
+same-length : tie.Need-same-length
+same-length c = search needs
+
+returns : tie.Need-returns
+unfolding rowOf
+returns c = rw (c .before .before .share-out .ensures, c .before .before .before .before .total .ensures, c .before .before .before .before .before .before .before .before .weigh .ensures) refl
+
+pub row-for-spec : {M : Type 1} → statement M
+row-for-spec =
+    tie.close (tie.spec weigh-requires total-requires share-out-requires same-length returns)

@@ -1,0 +1,174 @@
+// The sigma search: the shares of a row of distances, with the width found by halving that gives them the perplexity asked for.
+ghost use mathlib.Core.Path.{_≡_};
+ghost use Prim.Native.Nat.{_≤_};
+ghost use lib.ListN.{length};
+ghost use Rattle.laws.specs.Run.{run};
+ghost use Rattle.affinity_sigma.specs.Sigma.{weightOf, weighed, totalOf, fillStep, divideStep, sharedBy, rowOf, termOf, entropyOf, excess, nextOf, sigmaShares};
+
+// What the search knows of sigma: it lies above low and below high, and is tried next.
+struct Bounds {
+    low: f64,
+    high: f64,
+    sigma: f64,
+}
+
+// The weight of a frame at distance d: nothing at a distance of exactly 0.0.
+fn weight(sigma: f64, d: f64) -> f64
+    ensures { λ r. ⌜ r ≡ weightOf sigma d ⌝ }
+{
+    if d == 0.0 {
+        return 0.0;
+    }
+    elementary::exponential::exp(-d / (2.0 * sigma * sigma))
+}
+
+// The weights of n distances.
+fn weigh(distances: &[f64], n: usize, sigma: f64, shares: &mut [f64])
+    requires { ⌜ (n ≤ length (now distances)) × (n ≤ length (now shares)) ⌝ }
+    ensures { λ _. ⌜ now (shares .exit) ≡ weighed (now (distances .entry)) n sigma (now (shares .entry)) ⌝ }
+{
+    let mut j = 0;
+    while j < n {
+        shares[j] = weight(sigma, distances[j]);
+        j += 1;
+    }
+}
+
+// The sum of the first n, from +0.0 on.
+fn total(shares: &[f64], n: usize) -> f64
+    requires { ⌜ n ≤ length (now shares) ⌝ }
+    ensures { λ r. ⌜ r ≡ totalOf (now (shares .entry)) n ⌝ }
+{
+    let mut sum = 0.0;
+    let mut j = 0;
+    while j < n {
+        sum = sum + shares[j];
+        j += 1;
+    }
+    sum
+}
+
+// One value in the first n places.
+fn fill(shares: &mut [f64], n: usize, x: f64)
+    requires { ⌜ n ≤ length (now shares) ⌝ }
+    ensures { λ _. ⌜ now (shares .exit) ≡ run (fillStep x) n 0 (now (shares .entry)) ⌝ }
+{
+    let mut j = 0;
+    while j < n {
+        shares[j] = x;
+        j += 1;
+    }
+}
+
+// The first n, each divided by their sum.
+fn divide(shares: &mut [f64], n: usize, sum: f64)
+    requires { ⌜ n ≤ length (now shares) ⌝ }
+    ensures { λ _. ⌜ now (shares .exit) ≡ run (divideStep sum) n 0 (now (shares .entry)) ⌝ }
+{
+    let mut j = 0;
+    while j < n {
+        shares[j] = shares[j] / sum;
+        j += 1;
+    }
+}
+
+// Weights made shares: where their sum is too small, each frame gets as much as any other.
+fn share_out(shares: &mut [f64], n: usize, sum: f64)
+    requires { ⌜ (n ≤ length (now shares)) × (n ≤ 4096) ⌝ }
+    ensures { λ _. ⌜ now (shares .exit) ≡ sharedBy sum n (now (shares .entry)) ⌝ }
+{
+    if sum < 1e-8 {
+        fill(shares, n, 1.0 / n as f64);
+        return;
+    }
+    divide(shares, n, sum);
+}
+
+// The row of one round: the shares that a sigma gives.
+fn row_for(distances: &[f64], n: usize, sigma: f64, shares: &mut [f64])
+    requires { ⌜ (n ≤ length (now distances)) × (n ≤ length (now shares)) × (n ≤ 4096) ⌝ }
+    ensures { λ _. ⌜ now (shares .exit) ≡ rowOf (now (distances .entry)) n sigma (now (shares .entry)) ⌝ }
+{
+    weigh(distances, n, sigma, shares);
+    let sum = total(shares, n);
+    share_out(shares, n, sum);
+}
+
+// What a share adds to the entropy.
+fn term(share: f64) -> f64
+    ensures { λ r. ⌜ r ≡ termOf share ⌝ }
+{
+    if share > 1e-10 {
+        return -share * elementary::logarithm::ln(share);
+    }
+    0.0
+}
+
+// The entropy of the first n shares, from +0.0 on.
+fn entropy(shares: &[f64], n: usize) -> f64
+    requires { ⌜ n ≤ length (now shares) ⌝ }
+    ensures { λ r. ⌜ r ≡ entropyOf (now (shares .entry)) n ⌝ }
+{
+    let mut h = 0.0;
+    let mut j = 0;
+    while j < n {
+        h = h + term(shares[j]);
+        j += 1;
+    }
+    h
+}
+
+// How far the perplexity of the shares is above the one asked for.
+fn excess_of(shares: &[f64], n: usize, perplexity: f64) -> f64
+    requires { ⌜ n ≤ length (now shares) ⌝ }
+    ensures { λ r. ⌜ r ≡ excess (now (shares .entry)) n perplexity ⌝ }
+{
+    elementary::exponential::exp(entropy(shares, n)) - perplexity
+}
+
+// The bounds after a round that was off by diff.
+fn next(b: Bounds, diff: f64) -> Bounds
+    ensures { λ r. ⌜ r ≡ nextOf b diff ⌝ }
+{
+    if diff > 0.0 {
+        return Bounds {
+            low: b.low,
+            high: b.sigma,
+            sigma: (b.sigma + b.low) / 2.0,
+        };
+    }
+    if b.high == 1.0 / 0.0 {
+        return Bounds {
+            low: b.sigma,
+            high: b.high,
+            sigma: b.sigma * 2.0,
+        };
+    }
+    Bounds {
+        low: b.sigma,
+        high: b.high,
+        sigma: (b.sigma + b.high) / 2.0,
+    }
+}
+
+// The shares of n distances, of the last of at most 50 rounds: the search is left once the perplexity is within 1e-5.
+pub fn binary_search_sigma(distances: &[f64], n: usize, perplexity: f64, shares: &mut [f64])
+    requires { ⌜ (n ≤ length (now distances)) × (n ≤ length (now shares)) × (n ≤ 4096) ⌝ }
+    ensures { λ _. ⌜ now (shares .exit) ≡ sigmaShares (now (distances .entry)) n perplexity (now (shares .entry)) ⌝ }
+{
+    let mut b = Bounds {
+        low: 1e-20,
+        high: 1.0 / 0.0,
+        sigma: 1.0,
+    };
+    let mut round: u32 = 0;
+    while round < 50 {
+        row_for(distances, n, b.sigma, shares);
+        let diff = excess_of(shares, n, perplexity);
+        if elementary::limits::absolute(diff) < 1e-5 {
+            break;
+        }
+        b = next(b, diff);
+        round += 1;
+    }
+}

@@ -1,0 +1,84 @@
+-- The map from the answers of the calls below it, and how many records a file within the limit has. Assumes nothing.
+use mathlib.Core.Path.{_≡_, sym, ap, subst, _∙_}
+use mathlib.Core.List.{List}
+use mathlib.Core.Bool.{Bool, true, false, cond}
+use Prim.Native.Nat.{ℕ, _/_, _%_, _<_, _≤_}
+use native.Mathlib.Omega.{arith}
+use lib.Dec.{eqb, ltb}
+use lib.ListN.{length}
+use borrow.Author.Tests.{lt-ltb, le-ltb}
+use lib.Ieee.{Float}
+use Rattle.frames.specs.declared.Frames.{Frames}
+use Rattle.frames.specs.declared.Frames.the-variants.{Good, Bad}
+use Rattle.laws.specs.Run.{first}
+use Rattle.frames.specs.Frames.{framesOf, badAt, wholeOf}
+use Rattle.run_record.specs.declared.Settings.{Settings}
+use Rattle.run_record.specs.declared.Run.{Run}
+use Rattle.tree_node.specs.Areas.{nodesOf}
+use Rattle.run_entry.specs.State.{State, state}
+use Rattle.run_budget.specs.declared.Answer.{Answer}
+use Rattle.run_budget.specs.Budget.{worked}
+use Rattle.descent.specs.Descent.{work}
+use Rattle.prepare.specs.declared.Prepared.{Prepared}
+use Rattle.prepare.specs.declared.Prepared.the-variants.{Refused as Turned, Ready}
+use Rattle.prepare.specs.Prepare.{Lent, Outcome, outcome, prepared, memoryOf}
+use Rattle.bench_mapping.specs.declared.Told.the-variants.{Long, Record, Refused, Worked as Answered}
+use Rattle.bench_mapping.specs.declared.Mapped.{Mapped}
+use Rattle.bench_mapping.specs.Mapping.{zeros, noughts, blank, mappedAs, workedAs, goesOn, descended, mapped, recordsOf, mapOf}
+
+-- ---- preparation, then the work call
+
+module _ (s : Settings) (table start : List Float) (l : Lent) (p : Prepared) (e : outcome p l ≡ prepared s table start (length (nodesOf (zeros 2304) (noughts 768))) blank) where
+  goes-on : goesOn p l ≡ descended s table start
+  unfolding descended
+  goes-on = ap (λ (o : Outcome). goesOn (o .answer) (o .areas)) e
+
+  pub refused-is : (k : ℕ) → p ≡ Turned k → mappedAs (Refused k) (l .positions) ≡ descended s table start
+  refused-is k h = ap (λ (x : Prepared). goesOn x l) (sym h) ∙ goes-on
+
+  pub worked-is : (r : Run) (a : Answer) (t : State) → p ≡ Ready r → worked a t ≡ work 4294967295 (state r (memoryOf l (zeros 2304) (noughts 768))) → mappedAs (Answered a) (t .memory .positions) ≡ descended s table start
+  worked-is r a t h w = ap workedAs w ∙ ap (λ (x : Prepared). goesOn x l) (sym h) ∙ goes-on
+
+-- ---- the records of a file
+
+countOf : Frames → ℕ
+countOf (Good n) = n
+countOf (Bad p) = 0
+
+least : (w : ℕ) → 0 ≤ w
+least w = omega arith
+
+itself : (w : ℕ) → w ≤ w
+itself w = omega arith
+
+count-most : (a b : Bool) (p w : ℕ) → countOf (cond a (Bad p) (cond b (Good w) (Bad w))) ≤ w
+unfolding countOf
+count-most true b p w = least w
+count-most false true p w = itself w
+count-most false false p w = least w
+
+count-in : (f : List ℕ) → countOf (framesOf f) ≤ length f / 72
+unfolding framesOf
+count-in f = count-most (ltb (first (badAt f) (wholeOf f)) (wholeOf f)) (eqb (length f % 72) 0) (first (badAt f) (wholeOf f)) (wholeOf f)
+
+-- a file of at most 4,608 bytes has at most 64 good records
+pub few : (f : List ℕ) (n : ℕ) → length f ≤ 4608 → framesOf f ≡ Good n → n ≤ 64
+unfolding countOf
+few f n h e = omega (arith, subst (λ (r : Frames). countOf r ≤ length f / 72) e (count-in f))
+
+-- ---- the whole file
+
+pub too-long : (f : List ℕ) → 4608 < length f → mappedAs Long (zeros 128) ≡ mapOf f
+unfolding mapOf
+too-long f h = rw (lt-ltb _ _ h)
+
+module _ (f : List ℕ) (h : length f ≤ 4608) where
+  within : recordsOf f (framesOf f) ≡ mapOf f
+  unfolding mapOf
+  within = rw (le-ltb _ _ h)
+
+  pub bad-record : (p : ℕ) → framesOf f ≡ Bad p → mappedAs (Record p) (zeros 128) ≡ mapOf f
+  bad-record p e = ap (recordsOf f) (sym e) ∙ within
+
+  pub all-good : (n : ℕ) (m : Mapped) → framesOf f ≡ Good n → m ≡ mapped f n → m ≡ mapOf f
+  all-good n m e q = q ∙ ap (recordsOf f) (sym e) ∙ within

@@ -1,0 +1,48 @@
+use mathlib.Core.Bool.{not}
+use Rattle.laws.proofs.First.{Seeks, seek-start, seek-more, seek-stop, seek-done}
+use Rattle.run_entry.specs.Entry.{offsetFine}
+use Prim.Native.Nat.{_-_}
+use borrow.Author.Needs.{needs}
+use Rattle.run_entry.proofs.first_offset.Statement.{statement}
+use Rattle.run_entry.proofs.first_offset.Tie as tie
+
+abbrev Inv-loop : tie.InvT-loop
+Inv-loop offsets most n i₀ i = Seeks (λ j. not (offsetFine offsets most j)) n i
+
+abbrev μ-loop : tie.MeasureT-loop
+μ-loop offsets most n i₀ i = n - i
+
+loop-holds : tie.Need-loop-holds Inv-loop μ-loop
+loop-holds c = seek-start _ _
+
+offset-fine-requires : tie.Need-offset-fine-requires Inv-loop μ-loop
+offset-fine-requires c κs = search needs
+
+returns : tie.Need-returns Inv-loop μ-loop
+returns c = seek-stop (c .before .before .before .loop .inv) (c .before .before .loop-test .taken) (rw (c .before .offset-fine .ensures) at (c .if1 .taken))
+
+add-i : tie.Need-add-i Inv-loop μ-loop
+add-i c = search needs
+
+loop-less : tie.Need-loop-less Inv-loop μ-loop
+loop-less c = search needs
+
+loop-again : tie.Need-loop-again Inv-loop μ-loop
+loop-again c = seek-more (c .before .before .before .loop .inv) (c .before .before .loop-test .taken) (rw (c .before .offset-fine .ensures) at (c .if1 .left))
+
+returns-2 : tie.Need-returns-2 Inv-loop μ-loop
+returns-2 c = seek-done (c .before .loop .inv) (c .loop-test .left)
+
+pub first-offset-spec : {M : Type 1} → statement M
+first-offset-spec =
+    tie.close
+    (tie.spec
+    Inv-loop
+    μ-loop
+    loop-holds
+    offset-fine-requires
+    returns
+    add-i
+    loop-less
+    loop-again
+    returns-2)

@@ -1,0 +1,11 @@
+use Rattle.run_record.specs.Record.{above}
+use mathlib.Core.Path.{refl}
+use Rattle.run_record.proofs.faults.is_above.Statement.{statement}
+use Rattle.run_record.proofs.faults.is_above.Tie as tie
+
+returns : tie.Need-returns
+unfolding above
+returns c = refl
+
+pub is-above-spec : {M : Type 1} → statement M
+is-above-spec = tie.close (tie.spec returns)

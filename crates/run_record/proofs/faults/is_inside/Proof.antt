@@ -1,0 +1,14 @@
+use Rattle.run_record.specs.Record.{inside}
+use Rattle.run_record.proofs.faults.is_inside.Statement.{statement}
+use Rattle.run_record.proofs.faults.is_inside.Tie as tie
+
+returns : tie.Need-returns
+unfolding inside
+returns c = simp (c .if1 .taken)
+
+returns-2 : tie.Need-returns-2
+unfolding inside
+returns-2 c = simp (c .if1 .left)
+
+pub is-inside-spec : {M : Type 1} → statement M
+is-inside-spec = tie.close (tie.spec returns returns-2)

@@ -1,0 +1,187 @@
+-- Which unit is next, and that a state in order has what its parts ask. Assumes nothing.
+use mathlib.Core.List.{List}
+use mathlib.Core.Path.{_≡_, sym, _∙_}
+use mathlib.Core.Bool.{true, false, cond, _&&_}
+use Prim.Native.Nat.{ℕ, zero, suc, _+_, _-_, _*_, _<_, _≤_}
+use native.Mathlib.Omega.{arith}
+use native.Mathlib.Nat.{le-trans, mul-le-mul, mul-one, mul-add, le-refl}
+use lib.Dec.{ltb, leb}
+use lib.ListN.{length}
+use borrow.Author.Tests.{ltb-true, leb-true, ltb-false, leb-false, ne-eqb}
+use Rattle.laws.specs.Area.{num}
+use Rattle.laws.proofs.Bools.{by-bool, and-left, and-right}
+use Rattle.run_record.specs.declared.Run.{Run}
+use Rattle.run_record.specs.Record.{isTree, perOf, sizesOf}
+use Rattle.run_record.proofs.Laws.{per-most, done-most, product-fits}
+use Rattle.gradient.specs.Forces.{Linked}
+use lib.Ieee.{Float}
+use Rattle.tree_node.specs.declared.Node.{Node}
+use Rattle.tree.specs.Insert.{tree}
+use Rattle.tree.proofs.Whole.{looser}
+use Rattle.run_entry.specs.State.{State}
+use Rattle.run_entry.specs.Entry.{offsetFine, indexFine, listed, GoodContents, TreeAreas, Workable}
+use Rattle.run_entry.proofs.Laws.{axes, links-is}
+use Rattle.run_plan.specs.Plan.{groupOf}
+use Rattle.run_units.specs.Room.{Small, TreeRoom, ForceRoom, FinishRoom}
+
+-- ---- which unit
+
+group-tree : (r : Run) → isTree (r .settings .method) ≡ true → groupOf r ≡ cond (leb (r .phase) (r .settings .n)) 0 (cond (leb (r .phase) (2 * r .settings .n)) 1 2)
+unfolding groupOf
+group-tree r t = rw t
+
+group-exact : (r : Run) → isTree (r .settings .method) ≡ false → groupOf r ≡ cond (ltb (r .phase) (2 * r .settings .n)) 1 2
+unfolding groupOf
+group-exact r t = rw t
+
+-- a unit of the tree
+pub group-zero : (r : Run) → groupOf r ≡ 0 → (isTree (r .settings .method) ≡ true) × (r .phase ≤ r .settings .n)
+group-zero r e =
+    let n = r .settings .n in
+    let P = (isTree (r .settings .method) ≡ true) × (r .phase ≤ n) in
+    by-bool P (isTree (r .settings .method))
+    (λ t. let q = sym (group-tree r t) ∙ e in by-bool P (leb (r .phase) n) (λ b. (t, leb-true (r .phase) n b))
+    (λ b. by-bool P (leb (r .phase) (2 * n)) (λ d. absurd (let z : _≡_ {A = ℕ} 1 0 = rw (b, d) at q in omega arith)) (λ d. absurd (let z : _≡_ {A = ℕ} 2 0 = rw (b, d) at q in omega arith))))
+    (λ t. let q = sym (group-exact r t) ∙ e in by-bool P (ltb (r .phase) (2 * n)) (λ d. absurd (let z : _≡_ {A = ℕ} 1 0 = rw d at q in omega arith)) (λ d. absurd (let z : _≡_ {A = ℕ} 2 0 = rw d at q in omega arith)))
+
+pub record One (r : Run) : Type 0 where
+  pub tree : isTree (r .settings .method) ≡ true → (r .settings .n < r .phase) × (r .phase ≤ 2 * r .settings .n)
+  pub exact : isTree (r .settings .method) ≡ false → r .phase < 2 * r .settings .n
+
+-- a unit of the forces
+pub group-one : (r : Run) → groupOf r ≡ 1 → One r
+group-one r e =
+    let n = r .settings .n in
+    record {
+      tree = λ t. (let P = (n < r .phase) × (r .phase ≤ 2 * n) in let q = sym (group-tree r t) ∙ e in by-bool P (leb (r .phase) n) (λ b. absurd (let z : _≡_ {A = ℕ} 0 1 = rw b at q in omega arith))
+          (λ b. by-bool P (leb (r .phase) (2 * n)) (λ d. (leb-false (r .phase) n b, leb-true (r .phase) (2 * n) d)) (λ d. absurd (let z : _≡_ {A = ℕ} 2 1 = rw (b, d) at q in omega arith))));
+      exact = λ t. (let q = sym (group-exact r t) ∙ e in by-bool (r .phase < 2 * n) (ltb (r .phase) (2 * n)) (λ d. ltb-true (r .phase) (2 * n) d) (λ d. absurd (let z : _≡_ {A = ℕ} 2 1 = rw d at q in omega arith)));
+    }
+
+-- neither: the last unit of an iteration
+pub group-two : (r : Run) → (groupOf r ≡ 0 → ⊥) → (groupOf r ≡ 1 → ⊥) → r .phase < perOf (r .settings .method) (r .settings .n) → r .phase + 1 ≡ perOf (r .settings .method) (r .settings .n)
+unfolding perOf
+group-two r a b l =
+    let n = r .settings .n in
+    let P = r .phase + 1 ≡ perOf (r .settings .method) n in
+    by-bool P (isTree (r .settings .method))
+    (λ t. let h : r .phase < 2 * n + 2 = rw t at l in by-bool P (leb (r .phase) n) (λ x. absurd (a (group-tree r t ∙ rw x)))
+    (λ x. by-bool P (leb (r .phase) (2 * n)) (λ y. absurd (b (group-tree r t ∙ rw (x, y)))) (λ y. rw t (omega (arith, leb-false (r .phase) (2 * n) y)))))
+    (λ t. let h : r .phase < 2 * n + 1 = rw t at l in by-bool P (ltb (r .phase) (2 * n)) (λ x. absurd (b (group-exact r t ∙ rw x))) (λ x. rw t (omega (arith, ltb-false (r .phase) (2 * n) x))))
+
+-- ---- the lists
+
+module _ {m : ℕ} (r : Run) (xs off : List ℕ) (ns : List Node) (g : GoodContents m r xs off ns) where
+  -- an offset past the first is not below the one before it, and passes no slot
+  pub offset-rises : (i : ℕ) → i < r .settings .n → (num off i ≤ num off (i + 1)) × (num off (i + 1) ≤ sizesOf (r .settings) .links)
+  unfolding offsetFine
+  offset-rises i h =
+      let l = sizesOf (r .settings) .links in
+      let e = g .each-offset (i + 1) (omega arith) in
+      let f : leb (num off (i + 1 - 1)) (num off (i + 1)) && leb (num off (i + 1)) l ≡ true = rw (ne-eqb (i + 1) 0 (λ q. omega arith)) at e in
+      let a = leb-true (num off (i + 1 - 1)) (num off (i + 1)) (and-left (leb (num off (i + 1 - 1)) (num off (i + 1))) (leb (num off (i + 1)) l) f) in
+      let z : i + 1 - 1 ≡ i = omega arith in
+      (rw z at a, leb-true (num off (i + 1)) l (and-right (leb (num off (i + 1 - 1)) (num off (i + 1))) (leb (num off (i + 1)) l) f))
+
+  -- so none is above the last
+  pub offset-listed : (d i : ℕ) → i + d ≡ r .settings .n → num off i ≤ listed (r .settings) off
+  offset-listed zero i h = let e : i ≡ r .settings .n = omega arith in rw e (le-refl (num off (r .settings .n)))
+  offset-listed (suc d) i h = le-trans (offset-rises i (omega arith) .0) (offset-listed d (i + 1) (omega arith))
+
+  pub index-below : (k : ℕ) → k < listed (r .settings) off → num xs k < r .settings .n
+  unfolding indexFine
+  index-below k h = ltb-true (num xs k) (r .settings .n) (g .each-index k h)
+
+  linked-at : (W : List Float) → TreeAreas (r .settings) (length W) (length xs) (length off) (length ns) → (i : ℕ) → i < r .settings .n → Linked (r .settings .n) W xs off i
+  linked-at W a i h =
+      let o = offset-rises i h in
+      let l = links-is (r .settings) in
+      let last = offset-listed (r .settings .n - (i + 1)) (i + 1) (omega arith) in
+      record {
+        offsets = omega (arith, a .offsets-most);
+        rises = o .0;
+        weights = omega (arith, o .1, l, a .links-most);
+        indices = omega (arith, o .1, l, a .indices-most);
+        frames = λ k q. index-below k (omega (arith, q, last));
+      }
+
+-- ---- what the parts ask
+
+-- n·c places and one more are fewer than n·(2c + 1)
+pub cells-forces : (n c : ℕ) → n * c + n ≤ n * (2 * c + 1)
+cells-forces n c =
+    let a : n * (c + 1) ≤ n * (2 * c + 1) = mul-le-mul {n₁ = n} {m₁ = c + 1} {n₂ = n} {m₂ = 2 * c + 1} (le-refl n) (omega arith) in
+    let b : n * (c + 1) ≡ n * c + n * 1 = mul-add n c 1 in
+    let d : n * 1 ≡ n = mul-one n in
+    omega arith
+
+module _ (s : State) (g : Workable s) where
+  pub small-of : Small (s .run)
+  small-of =
+      let r = s .run in
+      let p = per-most (r .settings .method) (r .settings .n) (g .settings .n-most) in
+      let d = product-fits (r .done) (r .settings .iterations) (r .settings .method) (r .settings .n) (done-most (r .standing) (r .done) (r .settings .iterations) (r .phase) (r .settings .minimum) (g .counters .standing-fits)) (g .settings .iterations-most) (g .settings .n-most) in
+      let h = g .counters .phase-below in
+      let t = g .counters .total in
+      record { phase-small = omega arith; units-small = omega arith; n-most = g .settings .n-most }
+
+  pub tree-room : groupOf (s .run) ≡ 0 → TreeRoom (s .run) (length (s .memory .positions)) (s .memory .nodes)
+  tree-room e =
+      let z = group-zero (s .run) e in
+      let c = g .contents (z .0) in
+      let n = s .run .settings .n in
+      let p = small-of .phase-small in
+      let m = g .settings .n-most in
+      record {
+        numbers = small-of;
+        axes = axes (s .run .settings) (g .settings) (z .0);
+        phase-in = z .1;
+        positions-in = g .areas .positions-long;
+        nodes-some = g .areas .tree-long (z .0) .nodes-some;
+        used-some = λ q. c .tree q .used-some;
+        used-in = λ q. c .tree q .used-most;
+        sound = λ q. looser n n (s .run .settings .c) (n + s .run .phase) 4294967294 (tree (s .run .used) (s .memory .nodes)) (le-refl n) (omega arith) (c .tree q .each-node);
+      }
+
+  pub force-room : groupOf (s .run) ≡ 1 → ForceRoom (s .run) (length (s .memory .positions)) (length (s .memory .affinities)) (length (s .memory .forces)) (s .memory .affinities) (s .memory .indices) (s .memory .offsets) (s .memory .nodes)
+  force-room e =
+      let r = s .run in
+      let n = r .settings .n in
+      let o = group-one r e in
+      let p = small-of .phase-small in
+      let m = g .settings .n-most in
+      let t2 = g .settings .n-some in
+      let f = g .areas .forces-long in
+      let cf = cells-forces n (r .settings .c) in
+      record {
+        numbers = small-of;
+        c-most = g .settings .c-most;
+        phase-most = by-bool (r .phase ≤ 2 * n) (isTree (r .settings .method)) (λ t. o .tree t .1) (λ t. let h = o .exact t in omega arith);
+        positions-in = g .areas .positions-long;
+        forces-in = f;
+        total-in = omega arith;
+        phase-tree = λ t. o .tree t .0;
+        axes = λ t. axes (r .settings) (g .settings) t;
+        used-some = λ t. g .contents t .tree (λ z. let h = o .tree t in omega arith) .used-some;
+        used-in = λ t. g .contents t .tree (λ z. let h = o .tree t in omega arith) .used-most;
+        sound = λ t. looser n 4294967296 (r .settings .c) (n + r .phase) 4294967295 (tree (r .used) (s .memory .nodes)) (omega arith) (omega arith) (g .contents t .tree (λ z. let h = o .tree t in omega arith) .each-node);
+        linked = λ t. (let h = o .tree t in linked-at r (s .memory .indices) (s .memory .offsets) (s .memory .nodes) (g .contents t) (s .memory .affinities) (g .areas .tree-long t) (r .phase - n - 1) (omega arith));
+        phase-exact = o .exact;
+        square-in = g .areas .exact-long;
+      }
+
+  pub finish-room : FinishRoom (s .run) (length (s .memory .positions)) (length (s .memory .increments)) (length (s .memory .gains)) (length (s .memory .forces))
+  finish-room =
+      let r = s .run in
+      let d = done-most (r .standing) (r .done) (r .settings .iterations) (r .phase) (r .settings .minimum) (g .counters .standing-fits) in
+      let i = g .settings .iterations-most in
+      record {
+        numbers = small-of;
+        done-small = omega arith;
+        c-some = g .settings .c-some;
+        c-most = g .settings .c-most;
+        positions-in = g .areas .positions-long;
+        increments-in = g .areas .increments-long;
+        gains-in = g .areas .gains-long;
+        forces-in = g .areas .forces-long;
+      }

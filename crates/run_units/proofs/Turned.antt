@@ -1,0 +1,44 @@
+-- What the tree's functions leave is the unit that the definition names. Assumes nothing.
+use mathlib.Core.Path.{_≡_, sym}
+use mathlib.Core.List.{List}
+use mathlib.Core.Bool.{Bool, true, false}
+use Prim.Native.Nat.{ℕ, _-_, _*_}
+use lib.ListN.{set}
+use lib.Ieee.{Float}
+use borrow.Author.Tests.{eq-eqb, ne-eqb}
+use Rattle.run_record.specs.declared.Run.{Run}
+use Rattle.run_record.specs.Record.{advancedOf, closedOf}
+use Rattle.gradient.specs.Element.{normOf}
+use Rattle.step.specs.declared.Answer.{Answer}
+use Rattle.step.specs.declared.Answer.the-variants.{Moved, Refused}
+use Rattle.step.specs.Step.{outcome, finishOf}
+use Rattle.tree_node.specs.declared.Node.{Node}
+use Rattle.tree.specs.Insert.{tree, insertion, insertOf}
+use Rattle.tree_bounds.specs.Bounds.{boxOf}
+use Rattle.run_units.specs.declared.Why.the-variants.{Done, Full, Wild}
+use Rattle.run_units.specs.Units.{treeTurn, insertTurn, treeUnit, beforeOf, finishTurn, finishUnit}
+
+module _ (r : Run) (y : List Float) (ns ns' : List Node) where
+  pub box-is : {t : Run} → r .phase ≡ 0 → t ≡ advancedOf r 1 → ns' ≡ set ns 0 (boxOf y (r .settings .n) (r .settings .c)) → treeTurn t ns' Done ≡ treeUnit r y ns
+  unfolding treeUnit
+  box-is e a q = rw (eq-eqb (r .phase) 0 e, a, q)
+
+  module _ (full : Bool) (u : ℕ) (z : r .phase ≡ 0 → ⊥) (q : insertion full (tree u ns') ≡ insertOf y (r .settings .c) (r .phase - 1) (tree (r .used) ns)) where
+    pub insert-full : full ≡ true → treeTurn r ns' Full ≡ treeUnit r y ns
+    unfolding treeUnit insertTurn
+    insert-full e = rw (ne-eqb (r .phase) 0 z, sym q, e)
+
+    pub insert-done : {t : Run} → full ≡ false → t ≡ advancedOf r u → treeTurn t ns' Done ≡ treeUnit r y ns
+    unfolding treeUnit insertTurn
+    insert-done e a = rw (ne-eqb (r .phase) 0 z, sym q, e, a)
+
+-- ---- the finish
+
+module _ (r : Run) (y v g F y' v' g' : List Float) (a : Answer) (q : outcome a y' v' g' ≡ finishOf (beforeOf r y v g F) (r .settings .n) (r .settings .c)) where
+  pub finish-moved : {t : Run} {norm : Float} → a ≡ Moved → norm ≡ normOf (beforeOf r y v g F .gradients) (r .settings .n * r .settings .c) → t ≡ closedOf r norm → finishTurn t y' v' g' Done ≡ finishUnit r y v g F
+  unfolding finishUnit
+  finish-moved e m t = rw (sym q, e, t, m)
+
+  pub finish-wild : (k : ℕ) → a ≡ Refused k → finishTurn r y' v' g' Wild ≡ finishUnit r y v g F
+  unfolding finishUnit
+  finish-wild k e = rw (sym q, e)

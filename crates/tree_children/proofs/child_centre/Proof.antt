@@ -1,0 +1,62 @@
+use Rattle.tree_node.specs.Node.{childCentre}
+use Rattle.laws.specs.Run.{run}
+use Rattle.tree_node.proofs.Axes.{third}
+use borrow.Author.Needs.{needs}
+use Rattle.tree_children.proofs.child_centre.Statement.{statement}
+use Rattle.tree_children.proofs.child_centre.Tie as tie
+
+array-read-moved : tie.Need-array-read-moved
+array-read-moved c = search needs
+
+array-read-moved-2 : tie.Need-array-read-moved-2
+array-read-moved-2 c = search needs
+
+moved-requires : tie.Need-moved-requires
+moved-requires c κs = search needs
+
+returns : tie.Need-returns
+unfolding childCentre run
+returns c = rw (c .if1 .taken, c .before .moved .ensures)
+
+array-read-moved-3 : tie.Need-array-read-moved-3
+array-read-moved-3 c = search needs
+
+array-read-moved-4 : tie.Need-array-read-moved-4
+array-read-moved-4 c = search needs
+
+moved-requires-2 : tie.Need-moved-requires-2
+moved-requires-2 c κs = search needs
+
+returns-2 : tie.Need-returns-2
+unfolding childCentre run
+returns-2 c = rw (c .if2 .taken, c .before .moved2 .ensures, c .before .before .before .moved .ensures)
+
+array-read-moved-5 : tie.Need-array-read-moved-5
+array-read-moved-5 c = search needs
+
+array-read-moved-6 : tie.Need-array-read-moved-6
+array-read-moved-6 c = search needs
+
+moved-requires-3 : tie.Need-moved-requires-3
+moved-requires-3 c κs = search needs
+
+returns-3 : tie.Need-returns-3
+unfolding childCentre run
+returns-3 c = rw ((third _ (c .before .before .before .before .before .pre) (c .before .before .before .if1 .left) (c .before .if2 .left)), c .moved3 .ensures, c .before .before .moved2 .ensures, c .before .before .before .before .moved .ensures)
+
+pub child-centre-spec : {M : Type 1} → statement M
+child-centre-spec =
+    tie.close
+    (tie.spec
+    array-read-moved
+    array-read-moved-2
+    moved-requires
+    returns
+    array-read-moved-3
+    array-read-moved-4
+    moved-requires-2
+    returns-2
+    array-read-moved-5
+    array-read-moved-6
+    moved-requires-3
+    returns-3)

@@ -1,0 +1,11 @@
+use Rattle.tree_node.specs.Node.{meanOf}
+use borrow.Author.Needs.{needs}
+use Rattle.tree_turns.proofs.mean.Statement.{statement}
+use Rattle.tree_turns.proofs.mean.Tie as tie
+
+returns : tie.Need-returns
+unfolding meanOf
+returns c = search needs
+
+pub mean-spec : {M : Type 1} → statement M
+mean-spec = tie.close (tie.spec returns)

@@ -1,0 +1,74 @@
+use lib.Pow.{pow-mono}
+use Rattle.tree_node.proofs.Children.{child-below}
+use Rattle.tree_node.specs.Node.{turnOf}
+use borrow.Author.Tests.{eq-eqb, ne-eqb, le-leb, lt-leb}
+use Rattle.laws.proofs.Numbers.{shl-one}
+use borrow.Author.Needs.{needs}
+use native.Mathlib.Omega.{arith}
+use Rattle.tree_turns.proofs.turn.Statement.{statement}
+use Rattle.tree_turns.proofs.turn.Tie as tie
+
+absorb-requires : tie.Need-absorb-requires
+absorb-requires c κs = search needs
+
+child-index-requires : tie.Need-child-index-requires
+child-index-requires c κs = search needs
+
+cast-t15 : tie.Need-cast-t15
+cast-t15 c = search needs
+
+add-t16 : tie.Need-add-t16
+add-t16 c = rw (c .before .before .before .child-index .ensures) (omega (arith, child-below (c .before .before .before .before .before .before .args .c) (c .before .before .before .before .before .before .args .v .centre) (c .before .before .before .before .before .before .args .p), pow-mono {i = c .before .before .before .before .before .before .args .c} {j = 3} (omega arith), c .struct-known2 .given))
+
+returns : tie.Need-returns
+unfolding turnOf
+returns c = simp (ne-eqb _ _ (c .before .if1 .taken), c .before .before .before .before .before .absorb .ensures, c .before .before .before .child-index .ensures)
+
+enum-known-l : tie.Need-enum-known-l
+enum-known-l c = search needs
+
+enum-told : tie.Need-enum-told
+enum-told c = search needs
+
+occupy-requires : tie.Need-occupy-requires
+occupy-requires c κs = search needs
+
+returns-2 : tie.Need-returns-2
+unfolding turnOf
+returns-2 c = simp (eq-eqb _ _ (c .before .before .before .if1 .left), c .before .enum-told .given .1, c .occupy .ensures, c .before .before .before .before .before .before .before .absorb .ensures)
+
+returns-3 : tie.Need-returns-3
+unfolding turnOf
+returns-3 c = simp (eq-eqb _ _ (c .before .before .before .before .if1 .left), c .before .before .l .given .1, le-leb _ _ (c .if2 .taken), c .before .before .before .before .before .before .before .before .absorb .ensures)
+
+split-requires : tie.Need-split-requires
+split-requires c κs = search needs
+
+add-t18 : tie.Need-add-t18
+add-t18 c = rw (c .before .before .before .before .before .before .before .child-index .ensures) (omega (arith, child-below (c .before .before .before .before .before .before .before .before .before .before .args .c) (c .before .before .before .before .before .before .before .before .before .before .args .v .centre) (c .before .before .before .before .before .before .before .before .before .before .args .p), pow-mono {i = c .before .before .before .before .before .before .before .before .before .before .args .c} {j = 3} (omega arith)))
+
+shl-t19 : tie.Need-shl-t19
+shl-t19 c = search needs
+
+returns-4 : tie.Need-returns-4
+unfolding turnOf
+returns-4 c = simp (eq-eqb _ _ (c .before .before .before .before .before .if1 .left), c .before .before .before .l .given .1, lt-leb _ _ (c .before .if2 .left), c .split .ensures, c .before .before .before .before .before .before .before .before .before .absorb .ensures, c .before .before .before .before .before .before .before .child-index .ensures, shl-one (c .before .before .before .before .before .before .before .before .before .before .args .c) (omega arith))
+
+pub turn-spec : {M : Type 1} → statement M
+turn-spec =
+    tie.close
+    (tie.spec
+    absorb-requires
+    child-index-requires
+    cast-t15
+    add-t16
+    returns
+    enum-known-l
+    enum-told
+    occupy-requires
+    returns-2
+    returns-3
+    split-requires
+    add-t18
+    shl-t19
+    returns-4)
