@@ -11,6 +11,7 @@ use lib.IntN.{pos}
 use lib.ListN.{length, drop, replicate, length-replicate, List·getD-append}
 use lib.Ieee.{Float, nan, binary64, add, div, ofInt, ofBits}
 use borrow.Author.Tests.{ltb-true}
+use Rattle.laws.specs.Domain.{mostFeatures, mostFrames}
 use Rattle.laws.specs.Area.{at, num, zero64, two64}
 use Rattle.laws.specs.Joined.{joined}
 use Rattle.laws.proofs.Numbers.{row-in}
@@ -44,7 +45,7 @@ two-least : Least 1 1 two64
 unfolding ofBits
 two-least = lit≤ tt
 
-module _ (n : ℕ) (some : 0 < n) (few : n ≤ 4096) where
+module _ (n : ℕ) (some : 0 < n) (few : n ≤ mostFrames) where
   norm-sized : Sized false (2 * n) 1 (norm n)
   norm-sized = sized-mul false false 2 1 n 1 (2 * n) 1 two64 (ofInt binary64 (pos n)) (lit< tt) (lit< tt) (lit< tt) (held-whole (2 * n) (omega (arith, few))) (omega arith) two-sized
       (sized false n 1 (ofInt binary64 (pos n)) (whole-signed n) (whole-most n (omega (arith, few))))
@@ -85,7 +86,7 @@ module _ (b : ℕ) (small : b + b ≤ 2 ^ 53) (k : ℕ) (J : List ℕ) (S : List
 
 -- ---- a table in the domain
 
-module _ (t : List Float) (n f : ℕ) (perplexity : Float) (few-features : f ≤ 256) (few : n ≤ 4096) (inside : (q : ℕ) → q < n * f → inDomain (at t q) ≡ true) where
+module _ (t : List Float) (n f : ℕ) (perplexity : Float) (few-features : f ≤ mostFeatures) (few : n ≤ mostFrames) (inside : (q : ℕ) → q < n * f → inDomain (at t q) ≡ true) where
   distance-far : (i j : ℕ) → i < n → j < n → notNegative (distanceOf t f i j)
   distance-far i j h l = whole-not-negative _ (distanceOf t f i j) (distance-bounded t f few-features i j (row i h) (row j l))
     where
@@ -95,7 +96,7 @@ module _ (t : List Float) (n f : ℕ) (perplexity : Float) (few-features : f ≤
   zero-far : notNegative zero64
   zero-far = whole-not-negative 0 zero64 (zero-whole 0)
 
-  share-sized : (ds : List Float) (k : ℕ) → 0 < k → k ≤ 4096 → ((j : ℕ) → j < k → notNegative (at ds j)) → (j : ℕ) → j < k → Sized false mostShare 1 (at (sharesOf ds k perplexity) j)
+  share-sized : (ds : List Float) (k : ℕ) → 0 < k → k ≤ mostFrames → ((j : ℕ) → j < k → notNegative (at ds j)) → (j : ℕ) → j < k → Sized false mostShare 1 (at (sharesOf ds k perplexity) j)
   share-sized ds k some few far j h = sized-whole mostShare (at (sharesOf ds k perplexity) j) (share-bounded ds k some few far perplexity (replicate k zero64) (le-of-eq (sym (length-replicate k zero64))) j h)
 
   -- ---- the exact route

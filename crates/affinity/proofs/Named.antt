@@ -8,10 +8,10 @@ use native.Mathlib.Nat.{zero-add, le-of-eq, le-of-lt}
 use lib.ListN.{length, getD, drop, take, replicate, length-replicate, length-map, length-append, length-drop, take-append-drop, drop-of-length-le, List·getD-append}
 use lib.Seq.{drop-at, length-take-le}
 use lib.Ieee.{Float, nan, binary64, div}
-use Rattle.laws.specs.Run.{run}
+use Rattle.laws.specs.Loops.{loop}
 use Rattle.laws.specs.Area.{at, num, zero64}
 use Rattle.laws.proofs.Parts.{Scratch, scratch-start}
-use Rattle.laws.proofs.Runs.{run-keeps}
+use Rattle.laws.proofs.Loops.{loop-keeps}
 use Rattle.laws.proofs.Changed.{changed-at, changed-tail, scratch-front}
 use Rattle.laws.proofs.Laid.{singles-size, singles-taken, laid-at, Lays, lays-more}
 use Rattle.laws.proofs.Numbers.{row-in}
@@ -115,7 +115,7 @@ module _ (t : List Float) (n f k : ℕ) (perplexity : Float) (i : ℕ) (hi : i <
       (x₁ : X₁ ≡ distanceRow t n f i X₀) (s₁ : length X₁ ≡ length X₀)
       (w₁ : W₁ ≡ valuesOver (nearestOf X₁ n k i) W₀) (r₁ : R₁ ≡ indicesOver (nearestOf X₁ n k i) R₀)
       (x₂ : X₂ ≡ sigmaShares W₁ k perplexity X₁) (s₂ : length X₂ ≡ length X₁)
-      (x₃ : X₃ ≡ run (divideStep (norm n)) k 0 X₂) (s₃ : length X₃ ≡ length X₂)
+      (x₃ : X₃ ≡ loop (divideStep (norm n)) k 0 X₂) (s₃ : length X₃ ≡ length X₂)
       (w₂ : W₂ ≡ valuesOver (byIndexOf X₃ R₁ k) W₁) (i₁ : I₁ ≡ indicesOver (byIndexOf X₃ R₁ k) I₀) where
     named : nearestOf X₁ n k i ≡ frames
     named = ap (λ (x : List Float). nearestOf x n k i) x₁ ∙ near-is X₀ hX
@@ -170,8 +170,8 @@ module _ (t : List Float) (n f k : ℕ) (perplexity : Float) (i : ℕ) (hi : i <
 -- ---- the preparation rows: past the first n places they are kept
 
 module _ (t : List Float) (n f k : ℕ) (hk : k < n) where
-  pub shares-scratch : (perplexity : Float) (p : List Float) → n ≤ length p → Scratch n p (run (sharesLeft t n f k perplexity) n 0 p)
-  shares-scratch perplexity p h = run-keeps (λ j m. Scratch n p m) (sharesLeft t n f k perplexity) n 0 p (λ j m b s. one j m (omega arith) s) scratch-start
+  pub shares-scratch : (perplexity : Float) (p : List Float) → n ≤ length p → Scratch n p (loop (sharesLeft t n f k perplexity) n 0 p)
+  shares-scratch perplexity p h = loop-keeps (λ j m. Scratch n p m) (sharesLeft t n f k perplexity) n 0 p (λ j m b s. one j m (omega arith) s) scratch-start
     where
       one : (j : ℕ) (m : List Float) → j < n → Scratch n p m → Scratch n p (sharesLeft t n f k perplexity j m)
       one j m b s =
@@ -180,8 +180,8 @@ module _ (t : List Float) (n f k : ℕ) (hk : k < n) where
           let z : Scratch n p d = scratch-distances t f j b h refl s in
           scratch-front k (le-of-lt hk) (length-append (nearestShares t n f k perplexity j) (drop k d) ∙ together c (length-drop k d) (omega (arith, z .size))) (drop-at (nearestShares t n f k perplexity j) (drop k d) k c) z
 
-  pub frames-scratch : (r : List ℕ) → n ≤ length r → Scratch n r (run (framesLeft t n f k) n 0 r)
-  frames-scratch r h = run-keeps (λ j m. Scratch n r m) (framesLeft t n f k) n 0 r (λ j m b s. one j m (omega arith) s) scratch-start
+  pub frames-scratch : (r : List ℕ) → n ≤ length r → Scratch n r (loop (framesLeft t n f k) n 0 r)
+  frames-scratch r h = loop-keeps (λ j m. Scratch n r m) (framesLeft t n f k) n 0 r (λ j m b s. one j m (omega arith) s) scratch-start
     where
       one : (j : ℕ) (m : List ℕ) → j < n → Scratch n r m → Scratch n r (framesLeft t n f k j m)
       one j m b s =

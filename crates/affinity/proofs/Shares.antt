@@ -10,7 +10,7 @@ use lib.Seq.{drop-at, take-all, length-take-le}
 use borrow.Rule.Slice.PartMut.{midOf, putMid}
 use lib.Ieee.{Float, nan}
 use Rattle.laws.specs.Area.{at, zero64}
-use Rattle.laws.proofs.Runs.{run-keeps}
+use Rattle.laws.proofs.Loops.{loop-keeps}
 use Rattle.laws.proofs.Laid.{singles-taken}
 use Rattle.affinity_near.specs.Distances.{distanceRow}
 use Rattle.affinity_near.proofs.Apart.{row-own, row-other, row-size, row-tail}
@@ -69,4 +69,4 @@ scratch-distances {n} {l₀} {l} t f i h m e s =
 
 -- and so are the rows of one frame after the other
 pub scratch-all : (t : List Float) (n f : ℕ) (p : List Float) → n ≤ length p → Scratch n p (distancesLeft t n f p)
-scratch-all t n f p h = run-keeps (λ j m. Scratch n p m) (distanceRow t n f) n 0 p (λ j m b s. scratch-distances t f j (omega arith) h refl s) scratch-start
+scratch-all t n f p h = loop-keeps (λ j m. Scratch n p m) (distanceRow t n f) n 0 p (λ j m b s. scratch-distances t f j (omega arith) h refl s) scratch-start

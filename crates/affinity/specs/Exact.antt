@@ -6,7 +6,7 @@ use Prim.Native.Nat.{ℕ, min, max}
 use lib.Dec.{eqb}
 use lib.ListN.{replicate}
 use lib.Ieee.{Float, binary64, add, div}
-use Rattle.laws.specs.Run.{run}
+use Rattle.laws.specs.Loops.{loop}
 use Rattle.laws.specs.Area.{at, zero64}
 use Rattle.laws.specs.Joined.{joined}
 use Rattle.affinity_joins.specs.Joins.{norm}
@@ -20,7 +20,7 @@ distancesOf t n f i = distanceRow t n f i (replicate n zero64)
 
 -- frame i's share of frame j: what the sigma search over i's distances gives j
 unfoldable pub conditional : List Float → ℕ → ℕ → Float → ℕ → ℕ → Float
-unfolding run distanceOf sigmaShares
+unfolding loop distanceOf sigmaShares
 conditional t n f perplexity i j = at (sharesOf (distancesOf t n f i) n perplexity) j
 
 -- a lower frame's share of a higher one and the higher one's share of the lower, together, divided by 2n

@@ -3,14 +3,14 @@
 use mathlib.Core.List.{List, map}
 use Prim.Native.Nat.{ℕ}
 use lib.Ieee.{Float, binary64, div}
-use Rattle.laws.specs.Run.{run, seek}
+use Rattle.laws.specs.Loops.{loop, seek}
 use Rattle.laws.specs.Joined.{joined, those}
 use Rattle.laws.specs.Area.{at}
 use Rattle.elementary.specs.Limits.{neighboursOf}
 use Rattle.affinity_near.specs.Distances.{distanceOf}
 use Rattle.affinity_near.specs.Near.{Pair, sorted, nearestBy, byIndexOf}
 use Rattle.affinity_sigma.specs.Sigma.{sigmaShares, sharesOf}
-use Rattle.affinity_lists.specs.Lists.{Areas, areas, weight, symmetrised}
+use Rattle.affinity_lists.specs.Lists.{Areas, areas, weight, listsMade}
 use Rattle.affinity_joins.specs.Joins.{norm}
 use Rattle.affinity.specs.Laid.{each, laid}
 
@@ -28,7 +28,7 @@ nearestFrames t n f k i = nearestBy (distanceOf t f i) n k i
 
 -- frame i's shares of them, nearest first: the sigma search over their k distances, and each share divided by 2n
 unfoldable pub nearestShares : List Float → ℕ → ℕ → ℕ → Float → ℕ → List Float
-unfolding run distanceOf sorted sigmaShares joined
+unfolding loop distanceOf sorted sigmaShares joined
 nearestShares t n f k perplexity i = each (λ s. div binary64 (at (sharesOf (valuesIn (nearestFrames t n f k i)) k perplexity) s) (norm n)) k
 
 -- row i: the k nearest frames by rising index, each with its share
@@ -49,4 +49,4 @@ rowsOf t n f k perplexity a =
 -- the areas with the lists that become of the rows; the preparation rows are zeros again
 unfoldable pub neighboursListed : List Float → ℕ → ℕ → Float → Areas → Areas
 unfolding neighboursOf neighbourRow joined those seek weight
-neighboursListed t n f perplexity a = symmetrised n (neighboursOf perplexity n) (rowsOf t n f (neighboursOf perplexity n) perplexity a)
+neighboursListed t n f perplexity a = listsMade n (neighboursOf perplexity n) (rowsOf t n f (neighboursOf perplexity n) perplexity a)

@@ -3,7 +3,7 @@ use mathlib.Core.List.{List, _++_}
 use Prim.Native.Nat.{ℕ}
 use lib.ListN.{drop}
 use lib.Ieee.{Float}
-use Rattle.laws.specs.Run.{run}
+use Rattle.laws.specs.Loops.{loop}
 use Rattle.affinity_near.specs.Distances.{distanceRow}
 use Rattle.affinity_near.specs.Near.{indicesOver}
 use Rattle.affinity.specs.Laid.{each}
@@ -18,7 +18,7 @@ conditionals t n f perplexity i = each (λ j. conditional t n f perplexity i j) 
 
 -- the distances of one frame after the other: those of the last stay
 abbrev pub distancesLeft : List Float → ℕ → ℕ → List Float → List Float
-distancesLeft t n f p = run (distanceRow t n f) n 0 p
+distancesLeft t n f p = loop (distanceRow t n f) n 0 p
 
 -- ---- the Barnes-Hut route: the preparation rows
 

@@ -3,6 +3,7 @@ ghost use mathlib.Core.Path.{_≡_};
 ghost use Prim.Native.Nat.{_+_, _*_, _<_, _≤_};
 ghost use lib.ListN.{length};
 ghost use borrow.Rule.Slice.PartMut.{putMid};
+ghost use Rattle.laws.specs.Domain.{mostFrames};
 ghost use Rattle.laws.specs.Area.{zero64};
 ghost use Rattle.affinity_near.specs.Distances.{distanceRow, squaresOf, Squared};
 ghost use Rattle.affinity_lists.specs.Lists.{cleared};
@@ -22,7 +23,7 @@ fn conditional_row(
     affinities: &mut [f64],
     row: &mut [f64],
 )
-    requires { ⌜ (i < n) × (n ≤ 4096) × (n * f ≤ length (now table)) × (n ≤ length (now squares)) × (i * n + n ≤ length (now affinities)) × (n ≤ length (now row)) ⌝ }
+    requires { ⌜ (i < n) × (n ≤ mostFrames) × (n * f ≤ length (now table)) × (n ≤ length (now squares)) × (i * n + n ≤ length (now affinities)) × (n ≤ length (now row)) ⌝ }
     requires { ⌜ Squared (now table) n f (now squares) ⌝ }
     ensures { λ _. ⌜ now (affinities .exit) ≡ putMid (i * n) n (now (affinities .entry)) (conditionals (now (table .entry)) n f perplexity i) ⌝ }
     ensures { λ _. ⌜ now (row .exit) ≡ distanceRow (now (table .entry)) n f i (now (row .entry)) ⌝ }
@@ -43,7 +44,7 @@ fn conditional_probabilities(
     affinities: &mut [f64],
     row: &mut [f64],
 )
-    requires { ⌜ (n ≤ 4096) × (n * f ≤ length (now table)) × (n ≤ length (now squares)) × (n * n ≤ length (now affinities)) × (n ≤ length (now row)) ⌝ }
+    requires { ⌜ (n ≤ mostFrames) × (n * f ≤ length (now table)) × (n ≤ length (now squares)) × (n * n ≤ length (now affinities)) × (n ≤ length (now row)) ⌝ }
     requires { ⌜ Squared (now table) n f (now squares) ⌝ }
     ensures { λ _. ⌜ now (affinities .exit) ≡ laid (conditionals (now (table .entry)) n f perplexity) n n (now (affinities .entry)) ⌝ }
     ensures { λ _. ⌜ now (row .exit) ≡ distancesLeft (now (table .entry)) n f (now (row .entry)) ⌝ }
@@ -77,7 +78,7 @@ pub fn exact_affinities(
     squares: &mut [f64],
     row: &mut [f64],
 )
-    requires { ⌜ (n ≤ 4096) × (n * f ≤ length (now table)) × (n * n ≤ length (now affinities)) × (n ≤ length (now squares)) × (n ≤ length (now row)) ⌝ }
+    requires { ⌜ (n ≤ mostFrames) × (n * f ≤ length (now table)) × (n * n ≤ length (now affinities)) × (n ≤ length (now squares)) × (n ≤ length (now row)) ⌝ }
     ensures { λ _. ⌜ now (affinities .exit) ≡ exactOf (now (table .entry)) n f perplexity (now (affinities .entry)) ⌝ }
     ensures { λ _. ⌜ now (squares .exit) ≡ squaresOf (now (table .entry)) n f (now (squares .entry)) ⌝ }
     ensures { λ _. ⌜ now (row .exit) ≡ cleared zero64 n (now (row .entry)) ⌝ }

@@ -5,7 +5,8 @@ ghost use Prim.Native.Nat.{_+_, _*_, _<_, _≤_};
 ghost use lib.IntN.{pos};
 ghost use lib.Ieee.{lt, ofInt, binary64};
 ghost use lib.ListN.{length};
-ghost use Rattle.laws.specs.Run.{run};
+ghost use Rattle.laws.specs.Domain.{mostFrames};
+ghost use Rattle.laws.specs.Loops.{loop};
 ghost use Rattle.laws.specs.Area.{zero64};
 ghost use Rattle.elementary.specs.Limits.{neighboursOf};
 ghost use Rattle.affinity_near.specs.Distances.{squaresOf, Squared};
@@ -19,7 +20,7 @@ ghost use Rattle.affinity.specs.Neighbours.{valuesIn, framesIn, neighbou
 // The first k values, each divided by the norm.
 fn divide_shares(values: &mut [f64], k: usize, norm: f64)
     requires { ⌜ k ≤ length (now values) ⌝ }
-    ensures { λ _. ⌜ now (values .exit) ≡ run (divideStep norm) k 0 (now (values .entry)) ⌝ }
+    ensures { λ _. ⌜ now (values .exit) ≡ loop (divideStep norm) k 0 (now (values .entry)) ⌝ }
 {
     let mut t = 0;
     while t < k {
@@ -42,7 +43,7 @@ fn neighbor_row(
     row_values: &mut [f64],
     row_indices: &mut [u32],
 )
-    requires { ⌜ (i < n) × (n ≤ 4096) × (0 < k) × (k < n) × (n * f ≤ length (now table)) × (n ≤ length (now squares)) ⌝ }
+    requires { ⌜ (i < n) × (n ≤ mostFrames) × (0 < k) × (k < n) × (n * f ≤ length (now table)) × (n ≤ length (now squares)) ⌝ }
     requires { ⌜ (k ≤ length (now weights)) × (k ≤ length (now indices)) × (n ≤ length (now «row_values»)) × (n ≤ length (now «row_indices»)) ⌝ }
     requires { ⌜ Squared (now table) n f (now squares) ⌝ }
     ensures { λ _. ⌜ now (weights .exit) ≡ valuesOver (neighbourRow (now (table .entry)) n f k perplexity i) (now (weights .entry)) ⌝ }
@@ -70,13 +71,13 @@ fn neighbor_rows(
     row_values: &mut [f64],
     row_indices: &mut [u32],
 )
-    requires { ⌜ (n ≤ 4096) × (0 < k) × (k < n) × (n * f ≤ length (now table)) × (n ≤ length (now squares)) ⌝ }
+    requires { ⌜ (n ≤ mostFrames) × (0 < k) × (k < n) × (n * f ≤ length (now table)) × (n ≤ length (now squares)) ⌝ }
     requires { ⌜ (n * k ≤ length (now weights)) × (n * k ≤ length (now indices)) × (n ≤ length (now «row_values»)) × (n ≤ length (now «row_indices»)) ⌝ }
     requires { ⌜ Squared (now table) n f (now squares) ⌝ }
     ensures { λ _. ⌜ now (weights .exit) ≡ laid (λ i. valuesIn (neighbourRow (now (table .entry)) n f k perplexity i)) k n (now (weights .entry)) ⌝ }
     ensures { λ _. ⌜ now (indices .exit) ≡ laid (λ i. framesIn (neighbourRow (now (table .entry)) n f k perplexity i)) k n (now (indices .entry)) ⌝ }
-    ensures { λ _. ⌜ now («row_values» .exit) ≡ run (sharesLeft (now (table .entry)) n f k perplexity) n 0 (now («row_values» .entry)) ⌝ }
-    ensures { λ _. ⌜ now («row_indices» .exit) ≡ run (framesLeft (now (table .entry)) n f k) n 0 (now («row_indices» .entry)) ⌝ }
+    ensures { λ _. ⌜ now («row_values» .exit) ≡ loop (sharesLeft (now (table .entry)) n f k perplexity) n 0 (now («row_values» .entry)) ⌝ }
+    ensures { λ _. ⌜ now («row_indices» .exit) ≡ loop (framesLeft (now (table .entry)) n f k) n 0 (now («row_indices» .entry)) ⌝ }
 {
     let mut i = 0;
     while i < n {
@@ -112,7 +113,7 @@ pub fn neighbor_probabilities(
     row_values: &mut [f64],
     row_indices: &mut [u32],
 )
-    requires { ⌜ (2 ≤ n) × (n ≤ 4096) × (lt zero64 perplexity ≡ true) × (lt perplexity (ofInt binary64 (pos n)) ≡ true) ⌝ }
+    requires { ⌜ (2 ≤ n) × (n ≤ mostFrames) × (lt zero64 perplexity ≡ true) × (lt perplexity (ofInt binary64 (pos n)) ≡ true) ⌝ }
     requires { ⌜ (n * f ≤ length (now table)) × (2 * (n * neighboursOf perplexity n) ≤ length (now weights)) × (2 * (n * neighboursOf perplexity n) ≤ length (now indices)) × (n + 1 ≤ length (now offsets)) × (n ≤ length (now squares)) × (n ≤ length (now «row_values»)) × (n ≤ length (now «row_indices»)) ⌝ }
     ensures { λ _. ⌜ areas (now (weights .exit)) (now (indices .exit)) (now (offsets .exit)) (now («row_values» .exit)) (now («row_indices» .exit)) ≡ neighboursListed (now (table .entry)) n f perplexity (areas (now (weights .entry)) (now (indices .entry)) (now (offsets .entry)) (now («row_values» .entry)) (now («row_indices» .entry))) ⌝ }
     ensures { λ _. ⌜ now (squares .exit) ≡ squaresOf (now (table .entry)) n f (now (squares .entry)) ⌝ }

@@ -8,10 +8,10 @@ use native.Mathlib.Nat.{zero-add, le-refl, not-suc-le-zero}
 use lib.ListN.{length, drop, set, length-set}
 use lib.Seq.{getD-set-same, getD-set-other, drop-set-lt}
 use lib.Ieee.{Float, nan}
-use Rattle.laws.specs.Run.{run}
+use Rattle.laws.specs.Loops.{loop}
 use Rattle.laws.specs.Area.{at, zero64}
 use Rattle.laws.proofs.Numbers.{row-in}
-use Rattle.laws.proofs.Runs.{run-keeps}
+use Rattle.laws.proofs.Loops.{loop-keeps}
 use Rattle.affinity_joins.specs.Joins.{jointAt, pairStep, frameJoined}
 
 -- ---- places of an area of n columns
@@ -135,7 +135,7 @@ module _ (n : ℕ) (d : Float) (l₀ : List Float) (room : n * n ≤ length l₀
         below b o g = omega arith
 
   joins-frame : (i : ℕ) (l : List Float) → i < n → Joins i 0 l → Joins (i + 1) 0 (frameJoined n d i l)
-  joins-frame i l h r = joins-own h (subst (λ (j : ℕ). Joins i j (run (pairStep n d i) i 0 l)) (zero-add i) (run-keeps (λ j m. Joins i j m) (pairStep n d i) i 0 l (λ j m b s. joins-pair h (omega arith) s) r))
+  joins-frame i l h r = joins-own h (subst (λ (j : ℕ). Joins i j (loop (pairStep n d i) i 0 l)) (zero-add i) (loop-keeps (λ j m. Joins i j m) (pairStep n d i) i 0 l (λ j m b s. joins-pair h (omega arith) s) r))
 
-  pub joins-all : Joins n 0 (run (frameJoined n d) n 0 l₀)
-  joins-all = subst (λ (i : ℕ). Joins i 0 (run (frameJoined n d) n 0 l₀)) (zero-add n) (run-keeps (λ i m. Joins i 0 m) (frameJoined n d) n 0 l₀ (λ i m b r. joins-frame i m (omega arith) r) joins-start)
+  pub joins-all : Joins n 0 (loop (frameJoined n d) n 0 l₀)
+  joins-all = subst (λ (i : ℕ). Joins i 0 (loop (frameJoined n d) n 0 l₀)) (zero-add n) (loop-keeps (λ i m. Joins i 0 m) (frameJoined n d) n 0 l₀ (λ i m b r. joins-frame i m (omega arith) r) joins-start)

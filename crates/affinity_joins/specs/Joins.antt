@@ -4,7 +4,7 @@ use Prim.Native.Nat.{ℕ, _+_, _*_}
 use lib.IntN.{pos}
 use lib.ListN.{set}
 use lib.Ieee.{Float, binary64, ofInt, add, mul, div}
-use Rattle.laws.specs.Run.{run}
+use Rattle.laws.specs.Loops.{loop}
 use Rattle.laws.specs.Area.{at, zero64, two64}
 
 -- 2n
@@ -21,8 +21,8 @@ pairStep n d i j l = set (set l (j * n + i) (jointAt l n d i j)) (i * n + j) (jo
 
 -- frame i with each lower frame; its own place gets 0
 abbrev pub frameJoined : ℕ → Float → ℕ → List Float → List Float
-frameJoined n d i l = set (run (pairStep n d i) i 0 l) (i * n + i) zero64
+frameJoined n d i l = set (loop (pairStep n d i) i 0 l) (i * n + i) zero64
 
 -- all n frames
 abbrev pub symmetrized : ℕ → List Float → List Float
-symmetrized n l = run (frameJoined n (norm n)) n 0 l
+symmetrized n l = loop (frameJoined n (norm n)) n 0 l

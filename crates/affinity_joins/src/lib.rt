@@ -2,6 +2,7 @@
 ghost use mathlib.Core.Path.{_≡_};
 ghost use Prim.Native.Nat.{_+_, _*_, _<_, _≤_};
 ghost use lib.ListN.{length};
+ghost use Rattle.laws.specs.Domain.{mostFrames};
 ghost use Rattle.affinity_joins.specs.Joins.{pairStep, frameJoined, symmetrized};
 
 // A lower frame j and a higher frame i: both places get the two shares together, divided by the norm.
@@ -31,7 +32,7 @@ fn join_frame(affinities: &mut [f64], n: usize, norm: f64, i: usize)
 
 // The shares by rows become affinities, in place.
 pub fn symmetrize_probabilities(affinities: &mut [f64], n: usize)
-    requires { ⌜ (n ≤ 4096) × (n * n ≤ length (now affinities)) ⌝ }
+    requires { ⌜ (n ≤ mostFrames) × (n * n ≤ length (now affinities)) ⌝ }
     ensures { λ _. ⌜ now (affinities .exit) ≡ symmetrized n (now (affinities .entry)) ⌝ }
 {
     let norm = 2.0 * n as f64;

@@ -5,7 +5,8 @@ use Prim.Native.Nat.{ℕ, _+_, _-_, _*_, _<_, _≤_}
 use lib.Dec.{eqb, ltb}
 use lib.ListN.{length}
 use lib.Ieee.{Float, binary64, add}
-use Rattle.laws.specs.Run.{first}
+use Rattle.laws.specs.Domain.{mostFrames}
+use Rattle.laws.specs.Loops.{first}
 use Rattle.laws.specs.Area.{at, num, zero64}
 
 -- the k numbers from place a on rise strictly
@@ -60,7 +61,7 @@ ListAt W I O j = (j + 1 < length O) × (num O j ≤ num O (j + 1)) × (num O (j 
 
 -- what may be read for the link of i with j
 pub record Sought (W : List Float) (I O : List ℕ) (X : List Float) (k i j c : ℕ) : Type 0 where
-  pub small : (i < 4096) × (j < 4096)
+  pub small : (i < mostFrames) × (j < mostFrames)
   pub copy : c ≤ length X
   pub below : j < i → RowAt W I k j
   pub above : i < j → ListAt W I O j

@@ -2,6 +2,7 @@
 ghost use mathlib.Core.Path.{_≡_};
 ghost use Prim.Native.Nat.{_+_, _<_, _≤_};
 ghost use lib.ListN.{length};
+ghost use Rattle.laws.specs.Domain.{mostFrames};
 ghost use Rattle.laws.specs.Area.{zero64};
 ghost use Rattle.affinity_links.specs.Links.{Rising, found, plusOf, loweredOf, RowAt, ListAt, Sought, belowYes, belowWeight, aboveYes, aboveWeight, soughtYes, soughtWeight};
 
@@ -87,7 +88,7 @@ fn link_below(
     c: usize,
     r: usize,
 ) -> Link
-    requires { ⌜ (i < 4096) × (c ≤ length (now «row_values»)) × RowAt (now weights) (now indices) k j ⌝ }
+    requires { ⌜ (i < mostFrames) × (c ≤ length (now «row_values»)) × RowAt (now weights) (now indices) k j ⌝ }
     ensures { λ l. ⌜ l .yes ≡ belowYes (now (indices .entry)) k i j c r ⌝ }
     ensures { λ l. ⌜ l .weight ≡ belowWeight (now (weights .entry)) (now (indices .entry)) (now («row_values» .entry)) k i j c r ⌝ }
 {
@@ -107,7 +108,7 @@ fn link_below(
 
 // The link of frame i with a frame j above it, from the finished list j.
 fn link_above(weights: &[f64], indices: &[u32], offsets: &[u32], i: usize, j: usize) -> Link
-    requires { ⌜ (i < 4096) × (j < 4096) × ListAt (now weights) (now indices) (now offsets) j ⌝ }
+    requires { ⌜ (i < mostFrames) × (j < mostFrames) × ListAt (now weights) (now indices) (now offsets) j ⌝ }
     ensures { λ l. ⌜ l .yes ≡ aboveYes (now (indices .entry)) (now (offsets .entry)) i j ⌝ }
     ensures { λ l. ⌜ l .weight ≡ aboveWeight (now (weights .entry)) (now (indices .entry)) (now (offsets .entry)) i j ⌝ }
 {

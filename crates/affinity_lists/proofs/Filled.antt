@@ -12,7 +12,8 @@ use lib.Ieee.{Float, nan}
 use lib.ListN.{length, set, take, drop, length-set, length-append, length-drop, List·getD-append}
 use lib.Seq.{drop-set-lt, drop-at, getD-take, length-take-le}
 use borrow.Author.Tests.{eq-eqb, ne-eqb, lt-ltb, le-ltb}
-use Rattle.laws.specs.Run.{first}
+use Rattle.laws.specs.Domain.{mostFrames}
+use Rattle.laws.specs.Loops.{first}
 use Rattle.laws.specs.Area.{at, num, zero64}
 use Rattle.laws.specs.Joined.{joined, pasted, ending}
 use Rattle.laws.proofs.Numbers.{row-in}
@@ -22,12 +23,12 @@ use Rattle.laws.proofs.Joined.{those-rise, those-same, map-those, spot, spot-ye
 use Rattle.laws.proofs.Parts.{length-pasted, drop-put, getD-pasted}
 use Rattle.affinity_links.specs.Links.{found, plusOf, span, soughtYes, soughtWeight, Sought}
 use Rattle.affinity_links.proofs.Search.{found-same}
-use Rattle.affinity_lists.specs.Lists.{Rows, place, linked, weight, listOf, weightsOf, startOf, linksOf, indicesOf, weightsAll, offsetsOf}
+use Rattle.affinity_lists.specs.Lists.{Rows, place, linked, weight, listOf, weightsOf, listStart, linksOf, indicesOf, weightsAll, offsetsOf}
 use Rattle.affinity_lists.specs.Steps.{linkSought, weightSought, listSought, weightsSought, Room}
 use Rattle.affinity_lists.proofs.Linked.{linked-comm, linked-self, weight-down, weight-none, weight-comm, plus-same, length-weights, links-most, links-small, start-least}
 
 abbrev pub singles : ℕ → ℕ → List ℕ → ℕ → List ℕ
-singles n k J i = startOf n k J i ∷ []
+singles n k J i = listStart n k J i ∷ []
 
 -- ---- J, S, Q: the areas at first. The lists from i on are written, and the rows below i are as they were
 
@@ -38,7 +39,7 @@ pub record Filled (n k : ℕ) (J : List ℕ) (S : List Float) (Q : List ℕ) (i 
   pub leftI : joined (listOf n k J) i ++ drop q I ≡ indicesOf n k J
   pub leftW : joined (weightsOf n k J S) i ++ drop q W ≡ weightsAll n k J S
   pub leftO : joined (singles n k J) i ++ drop i O ≡ offsetsOf n k J Q
-  pub here : q ≡ startOf n k J i
+  pub here : q ≡ listStart n k J i
   pub sizeI : length I ≡ length J
   pub sizeW : length W ≡ length S
   pub sizeO : length O ≡ length Q
@@ -69,7 +70,7 @@ module _ (n k : ℕ) (J : List ℕ) (S : List Float) (Q : List ℕ) (ok : Rows n
     roomO = rw (length-set Q n (linksOf n k J)) h;
   })
 
-  pub filled-small : {i q : ℕ} {W : List Float} {I O : List ℕ} → n ≤ 4096 → k < n → Filled n k J S Q i q W I O → q ≤ 33554432
+  pub filled-small : {i q : ℕ} {W : List Float} {I O : List ℕ} → n ≤ mostFrames → k < n → Filled n k J S Q i q W I O → q ≤ 2 * (mostFrames * mostFrames)
   filled-small {i} h l f = omega (arith, f .here, joined-mono (listOf n k J) i n (f .within), links-small n k J ok h l)
 
   -- ---- the end
@@ -128,22 +129,22 @@ module _ {n k : ℕ} {J : List ℕ} {S : List Float} {Q : List ℕ} (big : (2 * 
     next-row = rw (add-mul i 1 k, one-mul k)
 
     -- ---- what can be read
-    start-at : (j : ℕ) → i < j → j ≤ n → num O j ≡ startOf n k J j
+    start-at : (j : ℕ) → i < j → j ≤ n → num O j ≡ listStart n k J j
     start-at j h l =
-        tail-at (joined (singles n k J) (i + 1)) O (offsetsOf n k J Q) (i + 1) j 0 (f .leftO) (length-singles (startOf n k J) (i + 1)) (omega arith)
-        ∙ singles-at (startOf n k J) (suc n) j (drop (suc n) Q) (omega arith)
+        tail-at (joined (singles n k J) (i + 1)) O (offsetsOf n k J Q) (i + 1) j 0 (f .leftO) (length-singles (listStart n k J) (i + 1)) (omega arith)
+        ∙ singles-at (listStart n k J) (suc n) j (drop (suc n) Q) (omega arith)
 
-    low : (j : ℕ) → i < j → q ≤ startOf n k J j
+    low : (j : ℕ) → i < j → q ≤ listStart n k J j
     low j h = omega (arith, f .here, joined-mono (listOf n k J) (i + 1) j (omega arith))
 
-    list-at : (j t : ℕ) → i < j → j < n → t < length (listOf n k J j) → num I (startOf n k J j + t) ≡ num (listOf n k J j) t
+    list-at : (j t : ℕ) → i < j → j < n → t < length (listOf n k J j) → num I (listStart n k J j + t) ≡ num (listOf n k J j) t
     list-at j t h l m =
-        tail-at (joined (listOf n k J) (i + 1)) I (indicesOf n k J) q (startOf n k J j + t) 0 (f .leftI) (sym (f .here)) (omega (arith, low j h))
+        tail-at (joined (listOf n k J) (i + 1)) I (indicesOf n k J) q (listStart n k J j + t) 0 (f .leftI) (sym (f .here)) (omega (arith, low j h))
         ∙ joined-at (listOf n k J) n j t (drop (linksOf n k J) J) 0 l m
 
-    weight-at : (j t : ℕ) → i < j → j < n → t < length (listOf n k J j) → at W (startOf n k J j + t) ≡ weight k J S j (num (listOf n k J j) t)
+    weight-at : (j t : ℕ) → i < j → j < n → t < length (listOf n k J j) → at W (listStart n k J j + t) ≡ weight k J S j (num (listOf n k J j) t)
     weight-at j t h l m =
-        tail-at (joined (weightsOf n k J S) (i + 1)) W (weightsAll n k J S) q (startOf n k J j + t) nan (f .leftW) (length-weights n k J S (i + 1) ∙ sym (f .here)) (omega (arith, low j h))
+        tail-at (joined (weightsOf n k J S) (i + 1)) W (weightsAll n k J S) q (listStart n k J j + t) nan (f .leftW) (length-weights n k J S (i + 1) ∙ sym (f .here)) (omega (arith, low j h))
         ∙ ap (λ (x : ℕ). at (weightsAll n k J S) (x + t)) (sym (length-weights n k J S j))
         ∙ joined-at (weightsOf n k J S) n j t (drop (linksOf n k J) S) nan l (subst (λ (x : ℕ). t < x) (sym (length-map (weight k J S j) (listOf n k J j))) m)
         ∙ getD-map-in (weight k J S j) (listOf n k J j) t 0 nan m
@@ -161,7 +162,7 @@ module _ {n k : ℕ} {J : List ℕ} {S : List Float} {Q : List ℕ} (big : (2 * 
     top : (q ≤ linksOf n k J) × (linksOf n k J ≤ length I) × (linksOf n k J ≤ length W)
     top = omega (arith, f .here, joined-mono (listOf n k J) (i + 1) n (f .within), links-most n k J ok, f .sizeI, f .sizeW)
 
-    ready-sought : (j : ℕ) → n ≤ 4096 → j < n → Sought W I O X k i j k
+    ready-sought : (j : ℕ) → n ≤ mostFrames → j < n → Sought W I O X k i j k
     ready-sought j h l = record {
       small = omega (arith, frame);
       copy = g .sizeX;
@@ -171,7 +172,7 @@ module _ {n k : ℕ} {J : List ℕ} {S : List Float} {Q : List ℕ} (big : (2 * 
         λ s t a b. omega (arith, f .keptI (j * k + s) (row-at j s m (omega arith)), f .keptI (j * k + t) (row-at j t m b), ok .rising j l s t a b),
       );
       above = λ m. let e = start-at j m (omega arith) in let e' = start-at (j + 1) (omega arith) (omega arith) in
-          let last : startOf n k J (j + 1) ≤ linksOf n k J = joined-mono (listOf n k J) (j + 1) n (omega arith) in (
+          let last : listStart n k J (j + 1) ≤ linksOf n k J = joined-mono (listOf n k J) (j + 1) n (omega arith) in (
             omega (arith, f .sizeO, f .roomO),
             omega (arith, e, e', joined-grow (listOf n k J) j),
             omega (arith, e', last, top),
@@ -238,10 +239,10 @@ module _ {n k : ℕ} {J : List ℕ} {S : List Float} {Q : List ℕ} (big : (2 * 
     weights-are : weightsSought W I O X R n k i ≡ weightsOf n k J S i
     weights-are = ap (map (weightSought W I O X R k i)) list-is ∙ map-those (weightSought W I O X R k i) (weight k J S i) (linked k J i) n (λ j l. ready-weight j l)
 
-    size-is : q ≡ startOf n k J i + length (listOf n k J i)
+    size-is : q ≡ listStart n k J i + length (listOf n k J i)
     size-is = f .here ∙ joined-grow (listOf n k J) i
 
-    pub ready-room : n ≤ 4096 → Room W I O X R n k i q
+    pub ready-room : n ≤ mostFrames → Room W I O X R n k i q
     ready-room h = record {
       frame = (frame, h);
       copied = (g .sizeR, λ s t a b. omega (arith, g .rowI s (omega arith), g .rowI t b, ok .rising i frame s t a b), λ t l. omega (arith, g .rowI t l, ok .inside i t frame l));
@@ -252,7 +253,7 @@ module _ {n k : ℕ} {J : List ℕ} {S : List Float} {Q : List ℕ} (big : (2 * 
     }
 
     -- ---- list i is written
-    filled-so : (q' : ℕ) → q' ≡ startOf n k J i → Filled n k J S Q i q' (take q' W ++ (weightsOf n k J S i ++ drop q W)) (take q' I ++ (listOf n k J i ++ drop q I)) (set O i q')
+    filled-so : (q' : ℕ) → q' ≡ listStart n k J i → Filled n k J S Q i q' (take q' W ++ (weightsOf n k J S i ++ drop q W)) (take q' I ++ (listOf n k J i ++ drop q I)) (set O i q')
     filled-so q' e =
         let hI : length (take q' I) ≡ q' = length-take-le q' I (omega (arith, top, size-is)) in
         let hW : length (take q' W) ≡ q' = length-take-le q' W (omega (arith, top, size-is)) in
@@ -287,7 +288,7 @@ module _ {n k : ℕ} {J : List ℕ} {S : List Float} {Q : List ℕ} (big : (2 * 
     pub filled-more : (q' : ℕ) (W' : List Float) (I' : List ℕ) → q' ≡ q - length (listSought I O R n k i)
         → W' ≡ ending (weightsSought W I O X R n k i) q W → I' ≡ ending (listSought I O R n k i) q I → Filled n k J S Q i q' W' I' (set O i q')
     filled-more q' W' I' e eW eI =
-        let s : q' ≡ startOf n k J i = omega (arith, e, ap length list-is, size-is) in
+        let s : q' ≡ listStart n k J i = omega (arith, e, ap length list-is, size-is) in
         let wI : I' ≡ take q' I ++ (listOf n k J i ++ drop q I) = eI ∙ ap (λ (x : ℕ). take x I ++ (listSought I O R n k i ++ drop q I)) (sym e) ∙ ap (λ (r : List ℕ). take q' I ++ (r ++ drop q I)) list-is in
         let wW : W' ≡ take q' W ++ (weightsOf n k J S i ++ drop q W) = eW ∙ ap (λ (x : ℕ). take x W ++ (weightsSought W I O X R n k i ++ drop q W)) (shorter e) ∙ ap (λ (r : List Float). take q' W ++ (r ++ drop q W)) weights-are in
         rw (wI, wW) (filled-so q' s)

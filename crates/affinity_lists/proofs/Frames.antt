@@ -6,11 +6,12 @@ use native.Mathlib.Omega.{arith}
 use native.Mathlib.Nat.{le-refl}
 use lib.Ieee.{Float}
 use lib.ListN.{length, set}
+use Rattle.laws.specs.Domain.{mostFrames}
 use Rattle.laws.specs.Area.{zero64}
 use Rattle.laws.specs.Joined.{pasted, ending}
 use Rattle.laws.proofs.Numbers.{row-in}
 use Rattle.laws.proofs.Parts.{Scratch, scratch-start, scratch-copy, scratch-clear}
-use Rattle.affinity_lists.specs.Lists.{linksOf, cleared, Areas, areas, symmetrised, Prepared}
+use Rattle.affinity_lists.specs.Lists.{linksOf, cleared, Areas, areas, listsMade, Prepared}
 use Rattle.affinity_lists.specs.Steps.{listSought, weightsSought, Room}
 use Rattle.affinity_lists.proofs.Filled.{Filled, filled-start, filled-small, filled-end, filled-more, offsets-same, Ready, ready-of, ready-room}
 
@@ -30,7 +31,7 @@ module _ {n k : ℕ} {b : Areas} (ok : Prepared n k b) where
 
   module _ {i q : ℕ} {Q : List ℕ} {W : List Float} {I O : List ℕ} {X : List Float} {R : List ℕ} (f : Frames n k (offset Q) i q (areas W I O X R)) where
     -- a place is far below 2^32
-    pub frames-small : q ≤ 33554432
+    pub frames-small : q ≤ 2 * (mostFrames * mostFrames)
     frames-small = filled-small n k (b .indices) (b .weights) Q (ok .rows) (ok .frames .0) (ok .frames .1) (f .lists)
 
     -- row i - 1 can be copied
@@ -55,7 +56,7 @@ module _ {n k : ℕ} {b : Areas} (ok : Prepared n k b) where
 
   -- no frame is left, and the preparation rows are cleared
   pub frames-done : (links : ℕ) {i q : ℕ} {W : List Float} {I O : List ℕ} {X : List Float} {R : List ℕ} {X' : List Float} {R' : List ℕ} → i ≡ 0 → Frames n k (offset (set (b .offsets) n links)) i q (areas W I O X R)
-      → X' ≡ cleared zero64 n X → R' ≡ cleared 0 n R → areas W I O X' R' ≡ symmetrised n k b
+      → X' ≡ cleared zero64 n X → R' ≡ cleared 0 n R → areas W I O X' R' ≡ listsMade n k b
   frames-done links z f eX eR =
       let g = filled-end n k (b .indices) (b .weights) (set (b .offsets) n links) (ok .rows) z (f .lists) in
       rw (g .0, g .1, g .2 ∙ offsets-same n k (b .indices) (b .weights) (b .offsets) (ok .rows) links, scratch-clear zero64 eX (f .values), scratch-clear 0 eR (f .names))

@@ -10,6 +10,7 @@ use lib.Dec.{eqb}
 use lib.Ieee.{Float}
 use lib.ListN.{length}
 use borrow.Author.Tests.{ne-eqb, lt-ltb, le-ltb}
+use Rattle.laws.specs.Domain.{mostFrames}
 use Rattle.laws.specs.Area.{at, num, zero64}
 use Rattle.laws.specs.Sums.{sum, bit}
 use Rattle.laws.specs.Joined.{joined}
@@ -18,7 +19,7 @@ use Rattle.laws.proofs.First.{first-none}
 use Rattle.laws.proofs.Sums.{sum-same, sum-add, sum-const, sum-swap, sum-le, bit-le, bit-more, bit-left, bit-miss, bit-and-true, row-sum}
 use Rattle.laws.proofs.Joined.{length-those, length-joined, length-map}
 use Rattle.affinity_links.specs.Links.{plusOf}
-use Rattle.affinity_lists.specs.Lists.{Rows, place, names, linked, joint, weight, listOf, weightsOf, startOf, linksOf}
+use Rattle.affinity_lists.specs.Lists.{Rows, place, names, linked, joint, weight, listOf, weightsOf, listStart, linksOf}
 use Rattle.affinity_lists.specs.Steps.{missOf, missesOf}
 
 or-comm : (a b : Bool) → (a || b) ≡ (b || a)
@@ -76,7 +77,7 @@ plus-same W S a b k p s h = elim (decLt p k) [
 -- ---- how many
 
 module _ (n k : ℕ) (J : List ℕ) (S : List Float) where
-  pub length-weights : (i : ℕ) → length (joined (weightsOf n k J S) i) ≡ startOf n k J i
+  pub length-weights : (i : ℕ) → length (joined (weightsOf n k J S) i) ≡ listStart n k J i
   length-weights i =
       length-joined (weightsOf n k J S) i
       ∙ sum-same (λ j. length (weightsOf n k J S j)) (λ j. length (listOf n k J j)) i (λ j l. length-map (weight k J S j) (listOf n k J j))
@@ -133,9 +134,9 @@ module _ (n k : ℕ) (J : List ℕ) (R : Rows n k J) where
   links-least = omega (arith, links-count)
 
   -- list i begins no lower than row i
-  pub start-least : (i : ℕ) → i ≤ n → i * k ≤ startOf n k J i
+  pub start-least : (i : ℕ) → i ≤ n → i * k ≤ listStart n k J i
   start-least i h = omega (arith, length-joined (listOf n k J) i, sum-const k i, sum-le (λ j. k) (λ j. length (listOf n k J j)) i (λ j l. degree-least j (omega arith)))
 
   -- no more than a place of an area of 2^32
-  pub links-small : n ≤ 4096 → k < n → linksOf n k J ≤ 33554432
+  pub links-small : n ≤ mostFrames → k < n → linksOf n k J ≤ 2 * (mostFrames * mostFrames)
   links-small h l = omega (arith, links-most, mul-le-mul-right k h)

@@ -9,17 +9,17 @@ use lib.ListN.{length, drop, List·getD-append}
 use Rattle.laws.specs.Area.{num, at}
 use Rattle.laws.specs.Joined.{joined}
 use Rattle.laws.proofs.Joined.{those-below, those-holds, those-rise, spot, spot-yes, spot-at, joined-none, joined-grow, joined-at, joined-all, singles-at, length-map, getD-map-in}
-use Rattle.affinity_lists.specs.Lists.{Rows, InList, linked, weight, listOf, weightsOf, startOf, linksOf, Areas, symmetrised}
+use Rattle.affinity_lists.specs.Lists.{Rows, InList, linked, weight, listOf, weightsOf, listStart, linksOf, Areas, listsMade}
 use Rattle.affinity_lists.proofs.Linked.{linked-comm, weight-comm, linked-self, length-weights, degree-least, links-least, links-most}
 
 -- b: the areas before, with the rows in order
 module _ (n k : ℕ) (b : Areas) (ok : Rows n k (b .indices)) where
   -- the areas afterwards
   abbrev made : Areas
-  made = symmetrised n k b
+  made = listsMade n k b
 
   abbrev start : ℕ → ℕ
-  start i = startOf n k (b .indices) i
+  start i = listStart n k (b .indices) i
 
   abbrev list : ℕ → List ℕ
   list i = listOf n k (b .indices) i

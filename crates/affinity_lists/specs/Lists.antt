@@ -8,6 +8,7 @@ use Prim.Native.Nat.{ℕ, suc, _+_, _*_, _<_, _≤_}
 use lib.Dec.{ltb}
 use lib.ListN.{length, drop, replicate}
 use lib.Ieee.{Float}
+use Rattle.laws.specs.Domain.{mostFrames}
 use Rattle.laws.specs.Area.{num, zero64}
 use Rattle.laws.specs.Joined.{those, joined}
 use Rattle.affinity_links.specs.Links.{Rising, found, plusOf}
@@ -61,12 +62,12 @@ abbrev pub weightsOf : ℕ → ℕ → List ℕ → List Float → ℕ → List 
 weightsOf n k J S i = map (weight k J S i) (listOf n k J i)
 
 -- where list i begins: the links of the lists before it
-abbrev pub startOf : ℕ → ℕ → List ℕ → ℕ → ℕ
-startOf n k J i = length (joined (listOf n k J) i)
+abbrev pub listStart : ℕ → ℕ → List ℕ → ℕ → ℕ
+listStart n k J i = length (joined (listOf n k J) i)
 
 -- the links of all lists
 abbrev pub linksOf : ℕ → ℕ → List ℕ → ℕ
-linksOf n k J = startOf n k J n
+linksOf n k J = listStart n k J n
 
 -- ---- the areas afterwards, each with what stood past the part that is written
 
@@ -78,7 +79,7 @@ weightsAll n k J S = joined (weightsOf n k J S) n ++ drop (linksOf n k J) S
 
 -- the beginnings of the n lists, and the end of the last
 abbrev pub offsetsOf : ℕ → ℕ → List ℕ → List ℕ → List ℕ
-offsetsOf n k J O = joined (λ i. startOf n k J i ∷ []) (suc n) ++ drop (suc n) O
+offsetsOf n k J O = joined (λ i. listStart n k J i ∷ []) (suc n) ++ drop (suc n) O
 
 -- place p belongs to list i
 abbrev pub InList : List ℕ → ℕ → ℕ → Type 0
@@ -102,8 +103,8 @@ abbrev pub areas : List Float → List ℕ → List ℕ → List Float → List 
 areas W I O X R = record { weights = W; indices = I; offsets = O; rowValues = X; rowIndices = R }
 
 -- what the rows of n frames become
-abbrev pub symmetrised : ℕ → ℕ → Areas → Areas
-symmetrised n k a =
+abbrev pub listsMade : ℕ → ℕ → Areas → Areas
+listsMade n k a =
     areas
     (weightsAll n k (a .indices) (a .weights))
     (indicesOf n k (a .indices))
@@ -113,7 +114,7 @@ symmetrised n k a =
 
 -- what is asked of them: their sizes, and the rows
 pub record Prepared (n k : ℕ) (a : Areas) : Type 0 where
-  pub frames : (n ≤ 4096) × (k < n)
+  pub frames : (n ≤ mostFrames) × (k < n)
   pub weights : 2 * (n * k) ≤ length (a .weights)
   pub indices : 2 * (n * k) ≤ length (a .indices)
   pub offsets : n + 1 ≤ length (a .offsets)

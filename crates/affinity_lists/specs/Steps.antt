@@ -4,6 +4,7 @@ use mathlib.Core.Bool.{Bool, cond}
 use Prim.Native.Nat.{ℕ, _+_, _*_, _<_, _≤_}
 use lib.ListN.{length}
 use lib.Ieee.{Float}
+use Rattle.laws.specs.Domain.{mostFrames}
 use Rattle.laws.specs.Area.{num}
 use Rattle.laws.specs.Sums.{sum}
 use Rattle.laws.specs.Joined.{those}
@@ -34,7 +35,7 @@ weightsSought W I O X R n k i = map (weightSought W I O X R k i) (listSought I O
 
 -- list i can be written just below place q: between the rows below i and the lists above i there is room for it
 pub record Room (W : List Float) (I O : List ℕ) (X : List Float) (R : List ℕ) (n k i q : ℕ) : Type 0 where
-  pub frame : (i < n) × (n ≤ 4096)
+  pub frame : (i < n) × (n ≤ mostFrames)
   pub copied : (k ≤ length R) × Rising R 0 k × ((t : ℕ) → t < k → num R (0 + t) < n)
   pub sought : (j : ℕ) → j < n → Sought W I O X k i j k
   pub inside : (q ≤ length I) × (q ≤ length W)

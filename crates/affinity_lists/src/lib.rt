@@ -10,7 +10,7 @@ use areas::copy_values;
 use filling::fill_list;
 use rows::total;
 ghost use mathlib.Core.Path.{_≡_};
-ghost use Rattle.affinity_lists.specs.Lists.{Prepared, areas, symmetrised};
+ghost use Rattle.affinity_lists.specs.Lists.{Prepared, areas, listsMade};
 
 // The lists of all frames from their rows, from the last link of all down: list i begins no lower than row i, which is copied to the preparation rows before it is written over.
 pub fn symmetrise(
@@ -23,7 +23,7 @@ pub fn symmetrise(
     k: usize,
 )
     requires { ⌜ Prepared n k (areas (now weights) (now indices) (now offsets) (now «row_values») (now «row_indices»)) ⌝ }
-    ensures { λ _. ⌜ areas (now (weights .exit)) (now (indices .exit)) (now (offsets .exit)) (now («row_values» .exit)) (now («row_indices» .exit)) ≡ symmetrised n k (areas (now (weights .entry)) (now (indices .entry)) (now (offsets .entry)) (now («row_values» .entry)) (now («row_indices» .entry))) ⌝ }
+    ensures { λ _. ⌜ areas (now (weights .exit)) (now (indices .exit)) (now (offsets .exit)) (now («row_values» .exit)) (now («row_indices» .exit)) ≡ listsMade n k (areas (now (weights .entry)) (now (indices .entry)) (now (offsets .entry)) (now («row_values» .entry)) (now («row_indices» .entry))) ⌝ }
 {
     let links = total(indices, n, k);
     offsets[n] = links as u32;

@@ -10,7 +10,7 @@ use lib.Dec.{eqb}
 use lib.Ieee.{Float, nan, inf, fin, lt, ofBits}
 use lib.ListN.{length, drop, take, length-set}
 use lib.Seq.{getD-set-same, getD-set-other, drop-set-lt}
-use Rattle.laws.specs.Run.{run}
+use Rattle.laws.specs.Loops.{loop}
 use Rattle.laws.specs.Area.{at, zero64}
 use Rattle.laws.proofs.Bools.{two}
 use Rattle.laws.proofs.Written.{written-at, written-size, written-tail}
@@ -62,7 +62,7 @@ module _ (t : List Float) (n f : ℕ) where
 
   module _ (i : ℕ) (p : List Float) (h : n ≤ length p) where
     abbrev filled : List Float
-    filled = run (distanceStep t f i) n 0 p
+    filled = loop (distanceStep t f i) n 0 p
 
     pub row-size : length (distanceRow t n f i p) ≡ length p
     row-size = length-set filled i zero64 ∙ written-size (distanceOf t f i) n p

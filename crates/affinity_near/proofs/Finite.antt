@@ -7,13 +7,14 @@ use native.Mathlib.Omega.{arith}
 use native.Mathlib.Nat.{zero-add}
 use lib.Dec.{lit<, lit≤}
 use lib.Ieee.{Float, binary64, add, sub, mul, neg}
+use Rattle.laws.specs.Domain.{mostFeatures}
 use Rattle.laws.specs.Area.{at, zero64, two64}
-use Rattle.laws.proofs.Runs.{run-keeps}
+use Rattle.laws.proofs.Loops.{loop-keeps}
 use Rattle.elementary.specs.Limits.{inDomain, upToWhole}
 use Rattle.elementary.proofs.Sizes.{Most, held-whole, most-more, most-neg, most-add, most-mul, sized-most, sized-whole, zero-whole, two-sized, domain-most, above-whole}
 use Rattle.affinity_near.specs.Distances.{dotStep, dotOf, squareOf, distanceOf}
 
-module _ (t : List Float) (f : ℕ) (few : f ≤ 256) where
+module _ (t : List Float) (f : ℕ) (few : f ≤ mostFeatures) where
   -- the values of frame i are in the domain
   abbrev Inside : ℕ → Type 0
   Inside i = (k : ℕ) → k < f → inDomain (at t (i * f + k)) ≡ true
@@ -27,7 +28,7 @@ module _ (t : List Float) (f : ℕ) (few : f ≤ 256) where
     dot-most : Most (2 ^ 48) 1 (dotOf t f i j)
     dot-most = most-more (2 ^ 40 * f) (2 ^ 48) 1 (dotOf t f i j) (omega (arith, few))
         (subst (λ (k : ℕ). Most (2 ^ 40 * k) 1 (dotOf t f i j)) (zero-add f)
-        (run-keeps (λ k s. Most (2 ^ 40 * k) 1 s) (dotStep t (i * f) (j * f)) f 0 zero64
+        (loop-keeps (λ k s. Most (2 ^ 40 * k) 1 s) (dotStep t (i * f) (j * f)) f 0 zero64
         (λ k s h p. subst (λ (n : ℕ). Most n 1 (dotStep t (i * f) (j * f) k s)) (one-more k)
         (most-add (2 ^ 40 * k) (2 ^ 40) 1 s (mul binary64 (at t (i * f + k)) (at t (j * f + k))) (lit< tt) (held-whole (2 ^ 40 * k + 2 ^ 40) (omega (arith, h, few))) p (product k (omega (arith, h)))))
         (sized-most false 0 1 zero64 (sized-whole 0 zero64 (zero-whole 0)))))

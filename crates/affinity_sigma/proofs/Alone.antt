@@ -3,22 +3,22 @@ use mathlib.Core.Path.{_≡_, refl, sym, ap, subst, _∙_}
 use mathlib.Core.Logic.{⊎-elim}
 use mathlib.Core.List.{List, _++_}
 use mathlib.Core.Bool.{Bool, true, false, cond}
-use Prim.Native.Nat.{ℕ, zero, suc, _<_, _≤_}
+use Prim.Native.Nat.{ℕ, zero, suc, _<_, _≤_, _-_}
 use native.Mathlib.Omega.{arith}
 use native.Mathlib.Nat.{le-of-eq}
 use lib.IntN.{pos}
 use lib.ListN.{length, drop, set, take, replicate, length-replicate, take-append-drop}
 use lib.Seq.{ext-getD, length-take-le}
 use lib.Ieee.{Float, nan, binary64, ofInt, add, div, lt}
-use Rattle.laws.specs.Run.{run, until}
+use Rattle.laws.specs.Loops.{loop, until}
 use Rattle.laws.specs.Area.{at, zero64, one64}
 use Rattle.laws.proofs.Bools.{two}
-use Rattle.laws.proofs.Runs.{run-same}
+use Rattle.laws.proofs.Loops.{loop-same}
 use Rattle.laws.proofs.Untils.{until-end}
 use Rattle.laws.proofs.Written.{written-at}
 use Rattle.laws.proofs.Places.{changed-size, changed-past, summed-past}
 use Rattle.affinity_sigma.specs.declared.Bounds.{Bounds}
-use Rattle.affinity_sigma.specs.Sigma.{weightOf, weighStep, weighed, totalOf, smallest, fillStep, divideStep, sharedBy, rowOf, termOf, excess, close, nextOf, Search, searched, isMet, roundOf, wide, sigmaShares, sharesOf}
+use Rattle.affinity_sigma.specs.Sigma.{weightOf, weighStep, weighed, weightSum, smallest, fillStep, divideStep, sharedBy, rowOf, termOf, excess, close, narrowed, Search, searched, isMet, roundOf, openBounds, sigmaShares, sharesOf, mostRounds}
 
 pub until-on : {A : Type 0} (p : A → Bool) (f : A → A) (k : ℕ) (x : A) → p x ≡ false → until p f (suc k) x ≡ until p f k (f x)
 unfolding until
@@ -48,7 +48,7 @@ module _ (ds : List Float) (n : ℕ) where
   unfolding sharedBy
   shared-size s l = go (lt s smallest)
     where
-      go : (b : Bool) → length (cond b (run (fillStep equal) n 0 l) (run (divideStep s) n 0 l)) ≡ length l
+      go : (b : Bool) → length (cond b (loop (fillStep equal) n 0 l) (loop (divideStep s) n 0 l)) ≡ length l
       go true = changed-size nan (λ j v. equal) n l
       go false = changed-size nan (λ j v. div binary64 v s) n l
 
@@ -56,30 +56,30 @@ module _ (ds : List Float) (n : ℕ) where
   unfolding sharedBy
   shared-past s l t h = go (lt s smallest)
     where
-      go : (b : Bool) → cond b (run (fillStep equal) n 0 (l ++ t)) (run (divideStep s) n 0 (l ++ t)) ≡ cond b (run (fillStep equal) n 0 l) (run (divideStep s) n 0 l) ++ t
+      go : (b : Bool) → cond b (loop (fillStep equal) n 0 (l ++ t)) (loop (divideStep s) n 0 (l ++ t)) ≡ cond b (loop (fillStep equal) n 0 l) (loop (divideStep s) n 0 l) ++ t
       go true = changed-past nan (λ j v. equal) n l t h
       go false = changed-past nan (λ j v. div binary64 v s) n l t h
 
-  total-past : (l t : List Float) → n ≤ length l → totalOf (l ++ t) n ≡ totalOf l n
+  total-past : (l t : List Float) → n ≤ length l → weightSum (l ++ t) n ≡ weightSum l n
   total-past l t h = summed-past nan (λ s v. add binary64 s v) n l t zero64 h
 
   module _ (sigma : Float) where
     pub row-size : (l : List Float) → length (rowOf ds n sigma l) ≡ length l
     unfolding rowOf
-    row-size l = shared-size (totalOf (weighed ds n sigma l) n) (weighed ds n sigma l) ∙ weighed-size sigma l
+    row-size l = shared-size (weightSum (weighed ds n sigma l) n) (weighed ds n sigma l) ∙ weighed-size sigma l
 
     row-alone : (l m : List Float) → length l ≡ n → length m ≡ n → rowOf ds n sigma l ≡ rowOf ds n sigma m
     unfolding rowOf
-    row-alone l m e f = ap (λ (w : List Float). sharedBy (totalOf w n) n w) (weighed-alone sigma l m e f)
+    row-alone l m e f = ap (λ (w : List Float). sharedBy (weightSum w n) n w) (weighed-alone sigma l m e f)
 
     row-past : (l t : List Float) → length l ≡ n → rowOf ds n sigma (l ++ t) ≡ rowOf ds n sigma l ++ t
     unfolding rowOf
     row-past l t e =
         let w = weighed ds n sigma l in
         let h : n ≤ length w = le-of-eq (sym (weighed-size sigma l ∙ e)) in
-        ap (λ (x : List Float). sharedBy (totalOf x n) n x) (changed-past nan (λ j v. weights sigma j) n l t (le-of-eq (sym e)))
+        ap (λ (x : List Float). sharedBy (weightSum x n) n x) (changed-past nan (λ j v. weights sigma j) n l t (le-of-eq (sym e)))
         ∙ ap (λ (s : Float). sharedBy s n (w ++ t)) (total-past w t h)
-        ∙ shared-past (totalOf w n) w t h
+        ∙ shared-past (weightSum w n) w t h
 
   -- ---- the rounds
 
@@ -98,7 +98,7 @@ module _ (ds : List Float) (n : ℕ) where
         let r = rowOf ds n (s .bounds .sigma) (s .row) in
         go (excess r n perplexity) (close (excess r n perplexity)) ∙ row-size (s .bounds .sigma) (s .row)
       where
-        go : (d : Float) (b : Bool) → length (cond b (searched (rowOf ds n (s .bounds .sigma) (s .row)) (s .bounds) true) (searched (rowOf ds n (s .bounds .sigma) (s .row)) (nextOf (s .bounds) d) false) .row) ≡ length (rowOf ds n (s .bounds .sigma) (s .row))
+        go : (d : Float) (b : Bool) → length (cond b (searched (rowOf ds n (s .bounds .sigma) (s .row)) (s .bounds) true) (searched (rowOf ds n (s .bounds .sigma) (s .row)) (narrowed (s .bounds) d) false) .row) ≡ length (rowOf ds n (s .bounds .sigma) (s .row))
         go d true = refl
         go d false = refl
 
@@ -108,7 +108,7 @@ module _ (ds : List Float) (n : ℕ) where
         let r = rowOf ds n (s .bounds .sigma) (s .row) in
         rw (row-past (s .bounds .sigma) (s .row) t e, excess-past r t (le-of-eq (sym (row-size (s .bounds .sigma) (s .row) ∙ e)))) (go r (excess r n perplexity) (close (excess r n perplexity)))
       where
-        go : (r : List Float) (d : Float) (b : Bool) → cond b (searched (r ++ t) (s .bounds) true) (searched (r ++ t) (nextOf (s .bounds) d) false) ≡ past t (cond b (searched r (s .bounds) true) (searched r (nextOf (s .bounds) d) false))
+        go : (r : List Float) (d : Float) (b : Bool) → cond b (searched (r ++ t) (s .bounds) true) (searched (r ++ t) (narrowed (s .bounds) d) false) ≡ past t (cond b (searched r (s .bounds) true) (searched r (narrowed (s .bounds) d) false))
         go r d true = refl
         go r d false = refl
 
@@ -134,8 +134,8 @@ module _ (ds : List Float) (n : ℕ) where
     unfolding roundOf
     round-alone l m b e f = rw (row-alone (b .sigma) l m e f)
 
-    rounds-alone : (l m : List Float) → length l ≡ n → length m ≡ n → rounds 50 (searched l wide false) ≡ rounds 50 (searched m wide false)
-    rounds-alone l m e f = rounds-on 49 (searched l wide false) refl ∙ ap (rounds 49) (round-alone l m wide e f) ∙ sym (rounds-on 49 (searched m wide false) refl)
+    rounds-alone : (l m : List Float) → length l ≡ n → length m ≡ n → rounds mostRounds (searched l openBounds false) ≡ rounds mostRounds (searched m openBounds false)
+    rounds-alone l m e f = rounds-on (mostRounds - 1) (searched l openBounds false) refl ∙ ap (rounds (mostRounds - 1)) (round-alone l m openBounds e f) ∙ sym (rounds-on (mostRounds - 1) (searched m openBounds false) refl)
 
     -- ---- the whole area
 
@@ -145,8 +145,8 @@ module _ (ds : List Float) (n : ℕ) where
         let l = take n p in
         let e : length l ≡ n = length-take-le n p h in
         ap (λ (s : Search). s .row)
-        (ap (λ (q : List Float). rounds 50 (searched q wide false)) (sym (take-append-drop n p))
-        ∙ rounds-past (drop n p) 50 (searched l wide false) e
+        (ap (λ (q : List Float). rounds mostRounds (searched q openBounds false)) (sym (take-append-drop n p))
+        ∙ rounds-past (drop n p) mostRounds (searched l openBounds false) e
         ∙ ap (past (drop n p)) (rounds-alone l (replicate n zero64) e (length-replicate n zero64)))
 
 -- ---- of the distances only the first n are read
@@ -155,8 +155,8 @@ module _ (ds es : List Float) (n : ℕ) (same : (j : ℕ) → j < n → at ds j 
   row-read : (sigma : Float) (l : List Float) → rowOf ds n sigma l ≡ rowOf es n sigma l
   unfolding rowOf
   row-read sigma l =
-      ap (λ (w : List Float). sharedBy (totalOf w n) n w)
-      (run-same (weighStep ds sigma) (weighStep es sigma) n 0 l (λ j q a b. ap (λ (v : Float). set q j (weightOf sigma v)) (same j (omega arith))))
+      ap (λ (w : List Float). sharedBy (weightSum w n) n w)
+      (loop-same (weighStep ds sigma) (weighStep es sigma) n 0 l (λ j q a b. ap (λ (v : Float). set q j (weightOf sigma v)) (same j (omega arith))))
 
   module _ (perplexity : Float) where
     round-read : (s : Search) → roundOf ds n perplexity s ≡ roundOf es n perplexity s
@@ -177,4 +177,4 @@ module _ (ds es : List Float) (n : ℕ) (same : (j : ℕ) → j < n → at ds j 
 
     pub shares-read : (p : List Float) → sigmaShares ds n perplexity p ≡ sigmaShares es n perplexity p
     unfolding sigmaShares
-    shares-read p = ap (λ (s : Search). s .row) (rounds-read 50 (searched p wide false))
+    shares-read p = ap (λ (s : Search). s .row) (rounds-read mostRounds (searched p openBounds false))

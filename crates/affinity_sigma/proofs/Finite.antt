@@ -3,7 +3,7 @@ use mathlib.Core.Path.{_≡_, refl, sym, ap, subst, _∙_}
 use mathlib.Core.Logic.{⊎-elim}
 use mathlib.Core.List.{List}
 use mathlib.Core.Bool.{Bool, true, false, cond, true≢false}
-use Prim.Native.Nat.{ℕ, zero, suc, _+_, _*_, _^_, _<_, _≤_}
+use Prim.Native.Nat.{ℕ, zero, suc, _+_, _*_, _^_, _<_, _≤_, _-_}
 use native.Mathlib.Omega.{arith}
 use native.Mathlib.Nat.{le-trans, le-of-eq, zero-add, zero-mul}
 use lib.IntN.{ℤ, pos, negsuc}
@@ -12,10 +12,11 @@ use lib.ListN.{length}
 use lib.Ieee.{Float, nan, inf, fin, binary64, up, down, round, neg, add, mul, div, lt, eq, ofInt, ofBits}
 use lib.Ieee.Fits.{down-pos}
 use borrow.Author.Tests.{ltb-false, ne-eqb}
-use Rattle.laws.specs.Run.{run, until}
+use Rattle.laws.specs.Domain.{mostFrames}
+use Rattle.laws.specs.Loops.{loop, until}
 use Rattle.laws.specs.Area.{at, zero64, one64, two64}
 use Rattle.laws.proofs.Bools.{two}
-use Rattle.laws.proofs.Runs.{run-keeps}
+use Rattle.laws.proofs.Loops.{loop-keeps}
 use Rattle.laws.proofs.Untils.{until-end}
 use Rattle.laws.proofs.Written.{written-at}
 use Rattle.laws.proofs.Changed.{changed-at}
@@ -24,7 +25,7 @@ use Rattle.elementary.specs.Limits.{upToWhole, notNegative}
 use Rattle.elementary.proofs.Sizes.{plain, Signed, Least, Sized, held-whole, signed-round, sized-signed, sized-round, zero-whole, sized-more, sized-add, sized-div, whole-sized, sized-whole, whole-not-negative, whole-signed, whole-least, one-sized, two-is, plain-add}
 use Rattle.elementary.proofs.Falling.{exp-falling}
 use Rattle.affinity_sigma.specs.declared.Bounds.{Bounds}
-use Rattle.affinity_sigma.specs.Sigma.{weightOf, weighed, totalStep, totalOf, smallest, fillStep, divideStep, sharedBy, rowOf, excess, close, nextOf, Search, searched, isMet, roundOf, wide, sigmaShares}
+use Rattle.affinity_sigma.specs.Sigma.{weightOf, weighed, weightStep, weightSum, smallest, fillStep, divideStep, sharedBy, rowOf, excess, close, narrowed, Search, searched, isMet, roundOf, openBounds, sigmaShares, mostRounds}
 use Rattle.affinity_sigma.proofs.Alone.{until-on, weighed-size, row-size}
 
 -- ---- one weight
@@ -92,8 +93,8 @@ middle x y p q = subst (λ (t : Float). plain (div binary64 (add binary64 x y) t
 double : (z : Float) → plain z → plain (mul binary64 z two64)
 double z p = subst (λ (t : Float). plain (mul binary64 z t)) (sym two-is) (times-some z 0 (pos 1) p)
 
-next-plain : (b : Bounds) (diff : Float) → PlainBounds b → PlainBounds (nextOf b diff)
-unfolding nextOf
+next-plain : (b : Bounds) (diff : Float) → PlainBounds b → PlainBounds (narrowed b diff)
+unfolding narrowed
 next-plain b diff p = go (lt zero64 diff)
   where
     higher : (c : Bool) → plain (cond c (mul binary64 (b .sigma) two64) (div binary64 (add binary64 (b .sigma) (b .high)) two64))
@@ -104,7 +105,7 @@ next-plain b diff p = go (lt zero64 diff)
     go true = record { low = p .low; high = p .sigma; sigma = middle (b .sigma) (b .low) (p .sigma) (p .low) }
     go false = record { low = p .sigma; high = p .high; sigma = higher (eq (b .high) (inf false)) }
 
-wide-plain : PlainBounds wide
+wide-plain : PlainBounds openBounds
 unfolding ofBits
 wide-plain = record { low = refl; high = refl; sigma = refl }
 
@@ -131,7 +132,7 @@ enough s k p h = enough-of s k p (ap (lt s) (sym small-is) ∙ h)
 abbrev pub mostShare : ℕ
 mostShare = 1400000000
 
-module _ (ds : List Float) (n : ℕ) (some : 0 < n) (few : n ≤ 4096) (far : (j : ℕ) → j < n → notNegative (at ds j)) where
+module _ (ds : List Float) (n : ℕ) (some : 0 < n) (few : n ≤ mostFrames) (far : (j : ℕ) → j < n → notNegative (at ds j)) where
   abbrev Bounded : List Float → Type 0
   Bounded l = (j : ℕ) → j < n → upToWhole (at l j) mostShare
 
@@ -152,10 +153,10 @@ module _ (ds : List Float) (n : ℕ) (some : 0 < n) (few : n ≤ 4096) (far : (j
     weighed-small j h = subst (λ (v : Float). upToWhole v 14) (sym (written-at (λ j. weightOf sigma (at ds j)) nan n l room j h)) (weight-small sigma (at ds j) up-sigma (far j h))
 
     -- the sum of k weights is at most 14·k
-    total-small : Sized false (14 * n) 1 (totalOf w n)
-    total-small = subst (λ (k : ℕ). Sized false (14 * k) 1 (totalOf w n)) (zero-add n)
-        (run-keeps (λ k s. Sized false (14 * k) 1 s) (totalStep w) n 0 zero64
-        (λ j s h p. subst (λ (k : ℕ). Sized false k 1 (totalStep w j s)) (one-more j)
+    total-small : Sized false (14 * n) 1 (weightSum w n)
+    total-small = subst (λ (k : ℕ). Sized false (14 * k) 1 (weightSum w n)) (zero-add n)
+        (loop-keeps (λ k s. Sized false (14 * k) 1 s) (weightStep w) n 0 zero64
+        (λ j s h p. subst (λ (k : ℕ). Sized false k 1 (weightStep w j s)) (one-more j)
         (sized-add (14 * j) 14 1 s (at w j) (lit< tt) (held-whole (14 * j + 14) (omega (arith, h, few))) p (sized-whole 14 (at w j) (weighed-small j (omega (arith, h))))))
         (sized-whole 0 zero64 (zero-whole 0)))
       where
@@ -164,14 +165,14 @@ module _ (ds : List Float) (n : ℕ) (some : 0 < n) (few : n ≤ 4096) (far : (j
 
     row-small : Bounded (rowOf ds n sigma l)
     unfolding rowOf sharedBy
-    row-small j h = go (lt (totalOf w n) smallest) refl
+    row-small j h = go (lt (weightSum w n) smallest) refl
       where
-        go : (b : Bool) → lt (totalOf w n) smallest ≡ b → upToWhole (at (cond b (run (fillStep (div binary64 one64 (ofInt binary64 (pos n)))) n 0 w) (run (divideStep (totalOf w n)) n 0 w)) j) mostShare
+        go : (b : Bool) → lt (weightSum w n) smallest ≡ b → upToWhole (at (cond b (loop (fillStep (div binary64 one64 (ofInt binary64 (pos n)))) n 0 w) (loop (divideStep (weightSum w n)) n 0 w)) j) mostShare
         go true e = subst (λ (v : Float). upToWhole v mostShare) (sym (written-at (λ j. div binary64 one64 (ofInt binary64 (pos n))) nan n w filled j h)) equal-small
-        go false e = subst (λ (v : Float). upToWhole v mostShare) (sym (changed-at nan (λ j v. div binary64 v (totalOf w n)) n w filled j h))
-            (whole-sized mostShare (div binary64 (at w j) (totalOf w n))
-            (sized-div false false 14 1 NS (2 ^ 78) mostShare 1 (at w j) (totalOf w n) (lit< tt) (lit< tt) (lit< tt) (held-whole mostShare (lit≤ tt)) (lit≤ tt)
-            (sized-whole 14 (at w j) (weighed-small j h)) (sized-signed false (14 * n) 1 (totalOf w n) total-small) (enough (totalOf w n) (14 * n) total-small e)))
+        go false e = subst (λ (v : Float). upToWhole v mostShare) (sym (changed-at nan (λ j v. div binary64 v (weightSum w n)) n w filled j h))
+            (whole-sized mostShare (div binary64 (at w j) (weightSum w n))
+            (sized-div false false 14 1 NS (2 ^ 78) mostShare 1 (at w j) (weightSum w n) (lit< tt) (lit< tt) (lit< tt) (held-whole mostShare (lit≤ tt)) (lit≤ tt)
+            (sized-whole 14 (at w j) (weighed-small j h)) (sized-signed false (14 * n) 1 (weightSum w n) total-small) (enough (weightSum w n) (14 * n) total-small e)))
 
   -- ---- the rounds
 
@@ -199,9 +200,9 @@ module _ (ds : List Float) (n : ℕ) (some : 0 < n) (few : n ≤ 4096) (far : (j
           shares = row-small (s .bounds .sigma) (g .bounds .sigma) (s .row) (g .room);
         }
 
-        go : (d : Float) (b : Bool) → Fair (cond b (searched row (s .bounds) true) (searched row (nextOf (s .bounds) d) false))
+        go : (d : Float) (b : Bool) → Fair (cond b (searched row (s .bounds) true) (searched row (narrowed (s .bounds) d) false))
         go d true = fair (s .bounds) true (g .bounds)
-        go d false = fair (nextOf (s .bounds) d) false (next-plain (s .bounds) d (g .bounds))
+        go d false = fair (narrowed (s .bounds) d) false (next-plain (s .bounds) d (g .bounds))
 
     rounds-fair : (k : ℕ) (s : Search) → Fair s → Fair (until isMet (roundOf ds n perplexity) k s)
     unfolding until
@@ -212,13 +213,13 @@ module _ (ds : List Float) (n : ℕ) (some : 0 < n) (few : n ≤ 4096) (far : (j
         (two (s .met))
 
     module _ (p : List Float) (room : n ≤ length p) where
-      start : Good (searched p wide false)
+      start : Good (searched p openBounds false)
       start = record { bounds = wide-plain; room = room }
 
       -- each of the first n shares is finite, not negative, and at most 14 / 1e-8: a coarse bound
       pub share-bounded : (j : ℕ) → j < n → upToWhole (at (sigmaShares ds n perplexity p) j) mostShare
       unfolding sigmaShares
-      share-bounded = subst (λ (s : Search). Bounded (s .row)) (sym (until-on isMet (roundOf ds n perplexity) 49 (searched p wide false) refl)) (rounds-fair 49 (roundOf ds n perplexity (searched p wide false)) (round-fair (searched p wide false) start) .shares)
+      share-bounded = subst (λ (s : Search). Bounded (s .row)) (sym (until-on isMet (roundOf ds n perplexity) (mostRounds - 1) (searched p openBounds false) refl)) (rounds-fair (mostRounds - 1) (roundOf ds n perplexity (searched p openBounds false)) (round-fair (searched p openBounds false) start) .shares)
 
       pub share-not-negative : (j : ℕ) → j < n → notNegative (at (sigmaShares ds n perplexity p) j)
       share-not-negative j h = whole-not-negative mostShare (at (sigmaShares ds n perplexity p) j) (share-bounded j h)

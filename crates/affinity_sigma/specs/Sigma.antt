@@ -5,7 +5,7 @@ use Prim.Native.Nat.{ℕ}
 use lib.IntN.{pos}
 use lib.ListN.{set, replicate}
 use lib.Ieee.{Float, inf, binary64, ofInt, add, sub, mul, div, neg, lt, eq}
-use Rattle.laws.specs.Run.{run, until}
+use Rattle.laws.specs.Loops.{loop, until}
 use Rattle.laws.specs.Area.{at, bits, zero64, one64, two64}
 use Rattle.elementary.specs.Exp.{expOf}
 use Rattle.elementary.specs.Ln.{lnOf}
@@ -24,14 +24,14 @@ weighStep ds sigma j p = set p j (weightOf sigma (at ds j))
 
 -- the weights of n distances in the first n places, the tail kept
 abbrev pub weighed : List Float → ℕ → Float → List Float → List Float
-weighed ds n sigma p = run (weighStep ds sigma) n 0 p
+weighed ds n sigma p = loop (weighStep ds sigma) n 0 p
 
-abbrev pub totalStep : List Float → ℕ → Float → Float
-totalStep p j s = add binary64 s (at p j)
+abbrev pub weightStep : List Float → ℕ → Float → Float
+weightStep p j s = add binary64 s (at p j)
 
 -- the sum of the first n: from +0.0 on, by rising index
-abbrev pub totalOf : List Float → ℕ → Float
-totalOf p n = run (totalStep p) n 0 zero64
+abbrev pub weightSum : List Float → ℕ → Float
+weightSum p n = loop (weightStep p) n 0 zero64
 
 abbrev pub fillStep : Float → ℕ → List Float → List Float
 fillStep x j p = set p j x
@@ -45,12 +45,12 @@ smallest = bits 0x3e45798ee2308c3a
 
 -- divided by their sum; a sum below 1e-8 makes every entry 1 / length
 unfoldable pub sharedBy : Float → ℕ → List Float → List Float
-unfolding run
-sharedBy s n p = cond (lt s smallest) (run (fillStep (div binary64 one64 (ofInt binary64 (pos n)))) n 0 p) (run (divideStep s) n 0 p)
+unfolding loop
+sharedBy s n p = cond (lt s smallest) (loop (fillStep (div binary64 one64 (ofInt binary64 (pos n)))) n 0 p) (loop (divideStep s) n 0 p)
 
 unfoldable pub rowOf : List Float → ℕ → Float → List Float → List Float
-unfolding weightOf sharedBy run
-rowOf ds n sigma p = let w = weighed ds n sigma p in sharedBy (totalOf w n) n w
+unfolding weightOf sharedBy loop
+rowOf ds n sigma p = let w = weighed ds n sigma p in sharedBy (weightSum w n) n w
 
 -- ---- its perplexity
 
@@ -67,11 +67,11 @@ abbrev pub entropyStep : List Float → ℕ → Float → Float
 entropyStep p j h = add binary64 h (termOf (at p j))
 
 abbrev pub entropyOf : List Float → ℕ → Float
-entropyOf p n = run (entropyStep p) n 0 zero64
+entropyOf p n = loop (entropyStep p) n 0 zero64
 
 -- how far the perplexity, which is exp of the entropy, is above the one asked for
 unfoldable pub excess : List Float → ℕ → Float → Float
-unfolding termOf run expOf
+unfolding termOf loop expOf
 excess p n perplexity = sub binary64 (expOf (entropyOf p n)) perplexity
 
 -- 1e-5
@@ -86,8 +86,8 @@ close diff = lt (absOf diff) tolerance
 
 -- too high: sigma is the upper bound, and the middle to the lower one is next
 -- else: sigma is the lower bound, and its double is next while there is no upper one, then the middle to that
-unfoldable pub nextOf : Bounds → Float → Bounds
-nextOf b diff =
+unfoldable pub narrowed : Bounds → Float → Bounds
+narrowed b diff =
     cond (lt zero64 diff)
     (record { low = b .low; high = b .sigma; sigma = div binary64 (add binary64 (b .sigma) (b .low)) two64 })
     (record { low = b .sigma; high = b .high; sigma = cond (eq (b .high) (inf false)) (mul binary64 (b .sigma) two64) (div binary64 (add binary64 (b .sigma) (b .high)) two64) })
@@ -106,20 +106,24 @@ isMet s = s .met
 
 -- one round: the row of this sigma, and the next sigma where its perplexity is not close enough
 unfoldable pub roundOf : List Float → ℕ → Float → Search → Search
-unfolding rowOf excess nextOf absOf
+unfolding rowOf excess narrowed absOf
 roundOf ds n perplexity s =
     let r = rowOf ds n (s .bounds .sigma) (s .row) in
     let diff = excess r n perplexity in
-    cond (close diff) (searched r (s .bounds) true) (searched r (nextOf (s .bounds) diff) false)
+    cond (close diff) (searched r (s .bounds) true) (searched r (narrowed (s .bounds) diff) false)
 
 -- 1e-20, infinity, 1
-abbrev pub wide : Bounds
-wide = record { low = bits 0x3bc79ca10c924223; high = inf false; sigma = one64 }
+abbrev pub openBounds : Bounds
+openBounds = record { low = bits 0x3bc79ca10c924223; high = inf false; sigma = one64 }
 
--- at most 50 rounds, left once the perplexity is met: the last round's row, and the tail of what was there
+-- at most so many rounds
+abbrev pub mostRounds : ℕ
+mostRounds = 50
+
+-- left once the perplexity is met: the last round's row, and the tail of what was there
 unfoldable pub sigmaShares : List Float → ℕ → Float → List Float → List Float
 unfolding roundOf until
-sigmaShares ds n perplexity p = until isMet (roundOf ds n perplexity) 50 (searched p wide false) .row
+sigmaShares ds n perplexity p = until isMet (roundOf ds n perplexity) mostRounds (searched p openBounds false) .row
 
 -- the shares themselves, from a row of n zeros on
 abbrev pub sharesOf : List Float → ℕ → Float → List Float

@@ -2,8 +2,12 @@
 ghost use mathlib.Core.Path.{_≡_};
 ghost use Prim.Native.Nat.{_≤_};
 ghost use lib.ListN.{length};
-ghost use Rattle.laws.specs.Run.{run};
-ghost use Rattle.affinity_sigma.specs.Sigma.{weightOf, weighed, totalOf, fillStep, divideStep, sharedBy, rowOf, termOf, entropyOf, excess, nextOf, sigmaShares};
+ghost use Rattle.laws.specs.Domain.{mostFrames};
+ghost use Rattle.laws.specs.Loops.{loop};
+ghost use Rattle.affinity_sigma.specs.Sigma.{weightOf, weighed, weightSum, fillStep, divideStep, sharedBy, rowOf, termOf, entropyOf, excess, narrowed, sigmaShares};
+
+// The most rounds of a search.
+const MOST_ROUNDS: u32 = 50;
 
 // What the search knows of sigma: it lies above low and below high, and is tried next.
 struct Bounds {
@@ -37,7 +41,7 @@ fn weigh(distances: &[f64], n: usize, sigma: f64, shares: &mut [f64])
 // The sum of the first n, from +0.0 on.
 fn total(shares: &[f64], n: usize) -> f64
     requires { ⌜ n ≤ length (now shares) ⌝ }
-    ensures { λ r. ⌜ r ≡ totalOf (now (shares .entry)) n ⌝ }
+    ensures { λ r. ⌜ r ≡ weightSum (now (shares .entry)) n ⌝ }
 {
     let mut sum = 0.0;
     let mut j = 0;
@@ -51,7 +55,7 @@ fn total(shares: &[f64], n: usize) -> f64
 // One value in the first n places.
 fn fill(shares: &mut [f64], n: usize, x: f64)
     requires { ⌜ n ≤ length (now shares) ⌝ }
-    ensures { λ _. ⌜ now (shares .exit) ≡ run (fillStep x) n 0 (now (shares .entry)) ⌝ }
+    ensures { λ _. ⌜ now (shares .exit) ≡ loop (fillStep x) n 0 (now (shares .entry)) ⌝ }
 {
     let mut j = 0;
     while j < n {
@@ -63,7 +67,7 @@ fn fill(shares: &mut [f64], n: usize, x: f64)
 // The first n, each divided by their sum.
 fn divide(shares: &mut [f64], n: usize, sum: f64)
     requires { ⌜ n ≤ length (now shares) ⌝ }
-    ensures { λ _. ⌜ now (shares .exit) ≡ run (divideStep sum) n 0 (now (shares .entry)) ⌝ }
+    ensures { λ _. ⌜ now (shares .exit) ≡ loop (divideStep sum) n 0 (now (shares .entry)) ⌝ }
 {
     let mut j = 0;
     while j < n {
@@ -74,7 +78,7 @@ fn divide(shares: &mut [f64], n: usize, sum: f64)
 
 // Weights made shares: where their sum is too small, each frame gets as much as any other.
 fn share_out(shares: &mut [f64], n: usize, sum: f64)
-    requires { ⌜ (n ≤ length (now shares)) × (n ≤ 4096) ⌝ }
+    requires { ⌜ (n ≤ length (now shares)) × (n ≤ mostFrames) ⌝ }
     ensures { λ _. ⌜ now (shares .exit) ≡ sharedBy sum n (now (shares .entry)) ⌝ }
 {
     if sum < 1e-8 {
@@ -86,7 +90,7 @@ fn share_out(shares: &mut [f64], n: usize, sum: f64)
 
 // The row of one round: the shares that a sigma gives.
 fn row_for(distances: &[f64], n: usize, sigma: f64, shares: &mut [f64])
-    requires { ⌜ (n ≤ length (now distances)) × (n ≤ length (now shares)) × (n ≤ 4096) ⌝ }
+    requires { ⌜ (n ≤ length (now distances)) × (n ≤ length (now shares)) × (n ≤ mostFrames) ⌝ }
     ensures { λ _. ⌜ now (shares .exit) ≡ rowOf (now (distances .entry)) n sigma (now (shares .entry)) ⌝ }
 {
     weigh(distances, n, sigma, shares);
@@ -128,7 +132,7 @@ fn excess_of(shares: &[f64], n: usize, perplexity: f64) -> f64
 
 // The bounds after a round that was off by diff.
 fn next(b: Bounds, diff: f64) -> Bounds
-    ensures { λ r. ⌜ r ≡ nextOf b diff ⌝ }
+    ensures { λ r. ⌜ r ≡ narrowed b diff ⌝ }
 {
     if diff > 0.0 {
         return Bounds {
@@ -153,7 +157,7 @@ fn next(b: Bounds, diff: f64) -> Bounds
 
 // The shares of n distances, of the last of at most 50 rounds: the search is left once the perplexity is within 1e-5.
 pub fn binary_search_sigma(distances: &[f64], n: usize, perplexity: f64, shares: &mut [f64])
-    requires { ⌜ (n ≤ length (now distances)) × (n ≤ length (now shares)) × (n ≤ 4096) ⌝ }
+    requires { ⌜ (n ≤ length (now distances)) × (n ≤ length (now shares)) × (n ≤ mostFrames) ⌝ }
     ensures { λ _. ⌜ now (shares .exit) ≡ sigmaShares (now (distances .entry)) n perplexity (now (shares .entry)) ⌝ }
 {
     let mut b = Bounds {
@@ -162,7 +166,7 @@ pub fn binary_search_sigma(distances: &[f64], n: usize, perplexity: f64, shares:
         sigma: 1.0,
     };
     let mut round: u32 = 0;
-    while round < 50 {
+    while round < MOST_ROUNDS {
         row_for(distances, n, b.sigma, shares);
         let diff = excess_of(shares, n, perplexity);
         if elementary::limits::absolute(diff) < 1e-5 {

@@ -10,8 +10,9 @@ use borrow.Author.Tests.{lt-ltb, le-ltb}
 use lib.Ieee.{Float}
 use Rattle.frames.specs.declared.Frames.{Frames}
 use Rattle.frames.specs.declared.Frames.the-variants.{Good, Bad}
-use Rattle.laws.specs.Run.{first}
-use Rattle.frames.specs.Frames.{framesOf, badAt, wholeOf}
+use Rattle.laws.specs.Domain.{mostWord}
+use Rattle.laws.specs.Loops.{first}
+use Rattle.frames.specs.Frames.{recordBytes, framesOf, badAt, wholeRecords}
 use Rattle.run_record.specs.declared.Settings.{Settings}
 use Rattle.run_record.specs.declared.Run.{Run}
 use Rattle.tree_node.specs.Areas.{nodesOf}
@@ -24,11 +25,11 @@ use Rattle.prepare.specs.declared.Prepared.the-variants.{Refused as Turned, Rea
 use Rattle.prepare.specs.Prepare.{Lent, Outcome, outcome, prepared, memoryOf}
 use Rattle.bench_mapping.specs.declared.Told.the-variants.{Long, Record, Refused, Worked as Answered}
 use Rattle.bench_mapping.specs.declared.Mapped.{Mapped}
-use Rattle.bench_mapping.specs.Mapping.{zeros, noughts, blank, mappedAs, workedAs, goesOn, descended, mapped, recordsOf, mapOf}
+use Rattle.bench_mapping.specs.Mapping.{benchFrames, benchBytes, zeros, noughts, benchAreas, mappedAs, workedAs, goesOn, descended, mapped, recordsOf, mapOf}
 
 -- ---- preparation, then the work call
 
-module _ (s : Settings) (table start : List Float) (l : Lent) (p : Prepared) (e : outcome p l ≡ prepared s table start (length (nodesOf (zeros 2304) (noughts 768))) blank) where
+module _ (s : Settings) (table start : List Float) (l : Lent) (p : Prepared) (e : outcome p l ≡ prepared s table start (length (nodesOf (zeros 2304) (noughts 768))) benchAreas) where
   goes-on : goesOn p l ≡ descended s table start
   unfolding descended
   goes-on = ap (λ (o : Outcome). goesOn (o .answer) (o .areas)) e
@@ -36,7 +37,7 @@ module _ (s : Settings) (table start : List Float) (l : Lent) (p : Prepared) (e 
   pub refused-is : (k : ℕ) → p ≡ Turned k → mappedAs (Refused k) (l .positions) ≡ descended s table start
   refused-is k h = ap (λ (x : Prepared). goesOn x l) (sym h) ∙ goes-on
 
-  pub worked-is : (r : Run) (a : Answer) (t : State) → p ≡ Ready r → worked a t ≡ work 4294967295 (state r (memoryOf l (zeros 2304) (noughts 768))) → mappedAs (Answered a) (t .memory .positions) ≡ descended s table start
+  pub worked-is : (r : Run) (a : Answer) (t : State) → p ≡ Ready r → worked a t ≡ work mostWord (state r (memoryOf l (zeros 2304) (noughts 768))) → mappedAs (Answered a) (t .memory .positions) ≡ descended s table start
   worked-is r a t h w = ap workedAs w ∙ ap (λ (x : Prepared). goesOn x l) (sym h) ∙ goes-on
 
 -- ---- the records of a file
@@ -57,22 +58,22 @@ count-most true b p w = least w
 count-most false true p w = itself w
 count-most false false p w = least w
 
-count-in : (f : List ℕ) → countOf (framesOf f) ≤ length f / 72
+count-in : (f : List ℕ) → countOf (framesOf f) ≤ length f / recordBytes
 unfolding framesOf
-count-in f = count-most (ltb (first (badAt f) (wholeOf f)) (wholeOf f)) (eqb (length f % 72) 0) (first (badAt f) (wholeOf f)) (wholeOf f)
+count-in f = count-most (ltb (first (badAt f) (wholeRecords f)) (wholeRecords f)) (eqb (length f % recordBytes) 0) (first (badAt f) (wholeRecords f)) (wholeRecords f)
 
 -- a file of at most 4,608 bytes has at most 64 good records
-pub few : (f : List ℕ) (n : ℕ) → length f ≤ 4608 → framesOf f ≡ Good n → n ≤ 64
+pub few : (f : List ℕ) (n : ℕ) → length f ≤ benchBytes → framesOf f ≡ Good n → n ≤ benchFrames
 unfolding countOf
-few f n h e = omega (arith, subst (λ (r : Frames). countOf r ≤ length f / 72) e (count-in f))
+few f n h e = omega (arith, subst (λ (r : Frames). countOf r ≤ length f / recordBytes) e (count-in f))
 
 -- ---- the whole file
 
-pub too-long : (f : List ℕ) → 4608 < length f → mappedAs Long (zeros 128) ≡ mapOf f
+pub too-long : (f : List ℕ) → benchBytes < length f → mappedAs Long (zeros 128) ≡ mapOf f
 unfolding mapOf
 too-long f h = rw (lt-ltb _ _ h)
 
-module _ (f : List ℕ) (h : length f ≤ 4608) where
+module _ (f : List ℕ) (h : length f ≤ benchBytes) where
   within : recordsOf f (framesOf f) ≡ mapOf f
   unfolding mapOf
   within = rw (le-ltb _ _ h)

@@ -5,18 +5,19 @@ use Prim.Native.Nat.{ℕ, _*_, _/_, _%_}
 use lib.Dec.{ltb}
 use lib.ListN.{length, set, take, replicate}
 use lib.Ieee.{Float}
-use Rattle.laws.specs.Run.{run}
+use Rattle.laws.specs.Domain.{mostWord}
+use Rattle.laws.specs.Loops.{loop}
 use Rattle.laws.specs.Area.{at, bits, zero64, one64}
 use Rattle.frames.specs.declared.Frames.{Frames}
 use Rattle.frames.specs.declared.Frames.the-variants.{Good, Bad}
-use Rattle.frames.specs.Frames.{framesOf, frameOf}
+use Rattle.frames.specs.Frames.{recordBytes, framesOf, frameOf}
 use Rattle.run_record.specs.declared.Method.the-variants.{BarnesHut}
 use Rattle.run_record.specs.declared.Settings.{Settings}
 use Rattle.tree_node.specs.Areas.{nodesOf}
 use Rattle.run_entry.specs.State.{state}
 use Rattle.run_budget.specs.declared.Answer.{Answer}
 use Rattle.run_budget.specs.Budget.{Worked}
-use Rattle.descent.specs.Descent.{work, numberOf as workNumber}
+use Rattle.descent.specs.Descent.{work, workNumber}
 use Rattle.prepare.specs.declared.Prepared.{Prepared}
 use Rattle.prepare.specs.declared.Prepared.the-variants.{Refused as Turned, Ready}
 use Rattle.prepare.specs.Prepare.{Lent, lent, Outcome, prepared, memoryOf}
@@ -24,11 +25,18 @@ use Rattle.bench_mapping.specs.declared.Told.{Told}
 use Rattle.bench_mapping.specs.declared.Told.the-variants.{Long, Record, Refused, Worked as Answered}
 use Rattle.bench_mapping.specs.declared.Mapped.{Mapped}
 
+-- the most frames that the bench takes, and their bytes
+abbrev pub benchFrames : ℕ
+benchFrames = 64
+
+abbrev pub benchBytes : ℕ
+benchBytes = benchFrames * recordBytes
+
 -- ---- settings
 
 -- Barnes-Hut, perplexity 1, rate 5, one iteration, angle 0, no early stop
-unfoldable pub settingsOf : ℕ → Settings
-settingsOf n = record { n = n; f = 6; c = 2; perplexity = one64; rate = bits 0x4014000000000000; iterations = 1; minimum = zero64; angle = zero64; method = BarnesHut }
+unfoldable pub benchSettings : ℕ → Settings
+benchSettings n = record { n = n; f = 6; c = 2; perplexity = one64; rate = bits 0x4014000000000000; iterations = 1; minimum = zero64; angle = zero64; method = BarnesHut }
 
 -- ---- areas of zeros
 
@@ -45,21 +53,21 @@ abbrev pub featureStep : List ℕ → ℕ → List Float → List Float
 featureStep file k t = set t k (at (frameOf file (k / 6) .features) (k % 6))
 
 -- the first m values
-unfoldable pub tableOf : List ℕ → ℕ → List Float
-tableOf file m = run (featureStep file) m 0 (zeros 384)
+unfoldable pub benchTable : List ℕ → ℕ → List Float
+benchTable file m = loop (featureStep file) m 0 (zeros 384)
 
 -- value k of the start is position k % 2 of frame k / 2
 abbrev pub startStep : List ℕ → ℕ → List Float → List Float
 startStep file k t = set t k (at (frameOf file (k / 2) .starts) (k % 2))
 
-unfoldable pub startOf : List ℕ → ℕ → List Float
-startOf file m = run (startStep file) m 0 (zeros 128)
+unfoldable pub benchStart : List ℕ → ℕ → List Float
+benchStart file m = loop (startStep file) m 0 (zeros 128)
 
 -- ---- the areas that the run has
 
 -- room for 64 frames
-abbrev pub blank : Lent
-blank = lent (zeros 128) (zeros 128) (zeros 128) (zeros 512) (noughts 512) (noughts 65) (zeros 320) (zeros 64) (noughts 64)
+abbrev pub benchAreas : Lent
+benchAreas = lent (zeros 128) (zeros 128) (zeros 128) (zeros 512) (noughts 512) (noughts 65) (zeros 320) (zeros 64) (noughts 64)
 
 -- ---- the answer
 
@@ -72,29 +80,29 @@ workedAs w = mappedAs (Answered (w .answer)) (w .left .memory .positions)
 -- a run that preparation made is worked, one that it refused is not
 abbrev pub goesOn : Prepared → Lent → Mapped
 goesOn (Turned k) l = mappedAs (Refused k) (l .positions)
-goesOn (Ready r) l = workedAs (work 4294967295 (state r (memoryOf l (zeros 2304) (noughts 768))))
+goesOn (Ready r) l = workedAs (work mostWord (state r (memoryOf l (zeros 2304) (noughts 768))))
 
 -- preparation, then one work call
 unfoldable pub descended : Settings → List Float → List Float → Mapped
 descended s table start =
-    let o = prepared s table start (length (nodesOf (zeros 2304) (noughts 768))) blank in
+    let o = prepared s table start (length (nodesOf (zeros 2304) (noughts 768))) benchAreas in
     goesOn (o .answer) (o .areas)
 
 -- n good frames
 unfoldable pub mapped : List ℕ → ℕ → Mapped
-mapped file n = descended (settingsOf n) (take (n * 6) (tableOf file (n * 6))) (take (n * 2) (startOf file (n * 2)))
+mapped file n = descended (benchSettings n) (take (n * 6) (benchTable file (n * 6))) (take (n * 2) (benchStart file (n * 2)))
 
 abbrev pub recordsOf : List ℕ → Frames → Mapped
 recordsOf file (Bad p) = mappedAs (Record p) (zeros 128)
 recordsOf file (Good n) = mapped file n
 
--- over 4,608 bytes no record is tested
+-- of a longer file no record is tested
 unfoldable pub mapOf : List ℕ → Mapped
-mapOf file = cond (ltb 4608 (length file)) (mappedAs Long (zeros 128)) (recordsOf file (framesOf file))
+mapOf file = cond (ltb benchBytes (length file)) (mappedAs Long (zeros 128)) (recordsOf file (framesOf file))
 
 -- the scope paper's number of an answer; 0 where it is no refusal
-unfoldable pub numberOf : Told → ℕ
-numberOf Long = 7
-numberOf (Record p) = 16
-numberOf (Refused k) = k
-numberOf (Answered a) = workNumber a
+unfoldable pub mapNumber : Told → ℕ
+mapNumber Long = 7
+mapNumber (Record p) = 16
+mapNumber (Refused k) = k
+mapNumber (Answered a) = workNumber a

@@ -3,14 +3,19 @@
 ghost use mathlib.Core.Path.{_≡_};
 ghost use Prim.Native.Nat.{_≤_};
 ghost use lib.ListN.{length};
-ghost use Rattle.bench_mapping.specs.Mapping.{settingsOf, tableOf, startOf, descended, mapped, mapOf, numberOf};
+ghost use Rattle.bench_mapping.specs.Mapping.{benchFrames, benchSettings, benchTable, benchStart, descended, mapped, mapOf, mapNumber};
 use descent::Answer;
 use frames::Frames;
+use frames::RECORD_BYTES;
 use frames::frame_at;
 use frames::read_frames;
+use laws::MOST_WORD;
 use prepare::Prepared;
 use run_record::Method;
 use run_record::Settings;
+
+// The most frames that the bench takes.
+pub const BENCH_FRAMES: usize = 64;
 
 // What the bench says of a file.
 pub enum Told {
@@ -32,7 +37,7 @@ pub struct Mapped {
 
 // The bench's settings for n frames.
 fn settings(n: usize) -> Settings
-    ensures { λ r. ⌜ r ≡ settingsOf n ⌝ }
+    ensures { λ r. ⌜ r ≡ benchSettings n ⌝ }
 {
     Settings {
         n: n,
@@ -51,7 +56,7 @@ fn settings(n: usize) -> Settings
 fn table_of(file: &[u8], m: usize) -> [f64; 384]
     requires { ⌜ m ≤ 384 ⌝ }
     ensures { λ r. ⌜ 384 ≡ length r ⌝ }
-    ensures { λ r. ⌜ r ≡ tableOf (now (file .entry)) m ⌝ }
+    ensures { λ r. ⌜ r ≡ benchTable (now (file .entry)) m ⌝ }
 {
     let mut table = [0.0; 384];
     let mut k = 0;
@@ -67,7 +72,7 @@ fn table_of(file: &[u8], m: usize) -> [f64; 384]
 fn start_of(file: &[u8], m: usize) -> [f64; 128]
     requires { ⌜ m ≤ 128 ⌝ }
     ensures { λ r. ⌜ 128 ≡ length r ⌝ }
-    ensures { λ r. ⌜ r ≡ startOf (now (file .entry)) m ⌝ }
+    ensures { λ r. ⌜ r ≡ benchStart (now (file .entry)) m ⌝ }
 {
     let mut start = [0.0; 128];
     let mut k = 0;
@@ -127,7 +132,7 @@ fn descend(s: Settings, table: &[f64], start: &[f64]) -> Mapped
                 &mut forces,
                 &mut reals,
                 &mut words,
-                4294967295,
+                MOST_WORD as u32,
             );
             let answer = w.answer;
             let told = Told::Worked(answer);
@@ -138,7 +143,7 @@ fn descend(s: Settings, table: &[f64], start: &[f64]) -> Mapped
 
 // The map of n frames, all good.
 fn map_frames(file: &[u8], n: usize) -> Mapped
-    requires { ⌜ n ≤ 64 ⌝ }
+    requires { ⌜ n ≤ benchFrames ⌝ }
     ensures { λ r. ⌜ r ≡ mapped (now (file .entry)) n ⌝ }
 {
     let table = table_of(file, n * 6);
@@ -151,7 +156,7 @@ fn map_frames(file: &[u8], n: usize) -> Mapped
 pub fn map_file(file: &[u8]) -> Mapped
     ensures { λ r. ⌜ r ≡ mapOf (now (file .entry)) ⌝ }
 {
-    if file.len() > 4608 {
+    if file.len() > BENCH_FRAMES * RECORD_BYTES {
         return Mapped {
             told: Told::Long,
             positions: [0.0; 128],
@@ -170,7 +175,7 @@ pub fn map_file(file: &[u8]) -> Mapped
 
 // The number that the file is refused by; 0: it has a map.
 pub fn number(t: Told) -> u8
-    ensures { λ r. ⌜ r ≡ numberOf t ⌝ }
+    ensures { λ r. ⌜ r ≡ mapNumber t ⌝ }
 {
     match t {
         Told::Long => 7,

@@ -1,8 +1,11 @@
 // What the bench prints of a frame file: the answer with its units and a line for each frame, or the refusal.
 ghost use Prim.Native.Nat.{_≤_};
+ghost use Rattle.bench_mapping.specs.Mapping.{benchFrames};
+use bench_mapping::BENCH_FRAMES;
 use bench_mapping::Told;
 use bench_mapping::map_file;
 use descent::Answer;
+use frames::RECORD_BYTES;
 use frames::frame_at;
 use libc::STDOUT_FILENO;
 
@@ -34,11 +37,11 @@ fn print_frame(file: &[u8], i: usize, x: f64, y: f64) {
 
 // The whole records of the file, as far as the map has room for them.
 fn count(file: &[u8]) -> usize
-    ensures { λ r. ⌜ r ≤ 64 ⌝ }
+    ensures { λ r. ⌜ r ≤ benchFrames ⌝ }
 {
-    let whole = file.len() / 72;
-    if whole > 64 {
-        return 64;
+    let whole = file.len() / RECORD_BYTES;
+    if whole > BENCH_FRAMES {
+        return BENCH_FRAMES;
     }
     whole
 }

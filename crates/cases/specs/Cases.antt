@@ -5,7 +5,7 @@ use mathlib.Core.Bool.{true, false}
 use Prim.Native.Nat.{ℕ}
 use lib.ListN.{replicate}
 use lib.Ieee.{Float, ofBits, ofInt, isNan, size, add, sub, mul, div, lt, eq, neg}
-use Rattle.laws.specs.Run.{run}
+use Rattle.laws.specs.Loops.{loop}
 use Rattle.laws.specs.Area.{bits, zero64, one64}
 use Rattle.elementary.specs.Exp.{expOf}
 use Rattle.elementary.specs.Ln.{lnOf}
@@ -14,7 +14,8 @@ use Rattle.affinity_lists.specs.Lists.{areas}
 use Rattle.affinity.specs.Exact.{exactOf}
 use Rattle.affinity.specs.Neighbours.{neighboursListed}
 use Rattle.tree_node.specs.declared.Node.{Node}
-use Rattle.tree_node.specs.Node.{zeros, childIndex}
+use Rattle.tree_node.specs.Node.{zeros3}
+use Rattle.tree_children.specs.Children.{childIndex}
 use Rattle.tree_node.specs.Areas.{nodeAt, blank}
 use Rattle.tree.specs.Insert.{Insertion, built}
 use Rattle.tree_bounds.specs.Bounds.{boxOf}
@@ -59,7 +60,7 @@ treeOf y c nodes = built y c 2 (boxed y 2 c (replicate nodes blank))
 
 -- the forces of both points at angle 0, from an area of zeros: lists, weights, exaggeration
 abbrev forced : List Float → ℕ → List ℕ → List ℕ → List Float → Float → List Float
-forced y nodes xs off weights x = run (λ i F. forcesOf x zero64 1 y weights xs off (treeOf y 1 nodes .tree .used) (treeOf y 1 nodes .tree .nodes) i F) 2 0 (replicate 6 zero64)
+forced y nodes xs off weights x = loop (λ i F. forcesOf x zero64 1 y weights xs off (treeOf y 1 nodes .tree .used) (treeOf y 1 nodes .tree .nodes) i F) 2 0 (replicate 6 zero64)
 
 -- no links; and each point linked with the other by 0.5
 abbrev alone : List Float → ℕ → List Float
@@ -78,9 +79,9 @@ pub record Table : Type 0 where
   -- b) ln 1 is 0
   pub b : lnOf one64 ≡ zero64
   -- c) with the centre (0, 0), the point (0, 1) belongs to child 2
-  pub c : childIndex 2 zeros above ≡ 2
+  pub c : childIndex 2 zeros3 above ≡ 2
   -- d) and (0, 0) to child 0
-  pub d : childIndex 2 zeros zeros ≡ 0
+  pub d : childIndex 2 zeros3 zeros3 ≡ 0
   -- e) starts (0, 0) and (1, 0): 5 nodes, the children's counts are 1, 1, 0, 0
   pub e : (treeOf apart 2 5 .tree .used ≡ 5) × (counts (treeOf apart 2 5) ≡ 2 ∷ 1 ∷ 1 ∷ 0 ∷ 0 ∷ [])
   -- f) 5 and 5 in one component: 101 nodes, the last leaf counts 2; 100 nodes are refused, 101 not
@@ -97,7 +98,7 @@ pub record Table : Type 0 where
   pub k : (exactOf couple 2 1 one64 (replicate 4 one64) ≡ zero64 ∷ half ∷ half ∷ zero64 ∷ []) × (neighboursListed couple 2 1 one64 (areas (replicate 4 one64) (0 ∷ 0 ∷ 0 ∷ 0 ∷ []) (0 ∷ 0 ∷ 0 ∷ []) (replicate 2 one64) (0 ∷ 0 ∷ [])) .weights ≡ half ∷ half ∷ one64 ∷ one64 ∷ [])
 
 pub table : Table
-unfolding expOf lnOf childIndex built boxOf forcesOf normaliserOf gradientOf gainOf exactOf neighboursListed run unlessAbove ofBits ofInt isNan size add sub mul div lt eq neg
+unfolding expOf lnOf childIndex built boxOf forcesOf normaliserOf gradientOf gainOf exactOf neighboursListed loop unlessAbove ofBits ofInt isNan size add sub mul div lt eq neg
 table = record {
   a = refl;
   b = refl;

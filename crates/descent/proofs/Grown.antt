@@ -7,12 +7,13 @@ use native.Mathlib.Omega.{arith}
 use native.Mathlib.Nat.{le-refl, not-suc-le-zero, mul-comm}
 use lib.ListN.{length}
 use lib.Ieee.{Float}
-use Rattle.laws.specs.Run.{run}
+use Rattle.laws.specs.Domain.{deepest}
+use Rattle.laws.specs.Loops.{loop}
 use Rattle.run_record.specs.declared.Run.{Run}
 use Rattle.run_record.specs.Record.{isTree, isEnded, advancedOf, closedOf}
 use Rattle.tree_node.specs.declared.Node.{Node}
-use Rattle.tree_node.specs.Node.{zeros}
-use Rattle.tree.specs.Insert.{Tree, tree, Insertion, insertion, insertOf, treeOk, built, rooted}
+use Rattle.tree_node.specs.Node.{zeros3}
+use Rattle.tree.specs.Insert.{Tree, tree, Insertion, insertion, insertOf, treeOk, built, rooted, enoughNodes}
 use Rattle.tree_bounds.specs.Bounds.{boxOf, middleStep, reachStep}
 use Rattle.tree.specs.Box.{boxed}
 use Rattle.tree.proofs.Whole.{looser, In, first-in, in-all, built-more, room-in, taken}
@@ -30,33 +31,33 @@ use Rattle.run_budget.proofs.Keeps.{retreed, box-ok, unit-keeps, unit-settings}
 
 module _ (y : List Float) (n c : ℕ) where
   -- an arena with the box in front
-  boxed-is : (v : Node) (ns : List Node) → boxed y n c (v ∷ ns) ≡ rooted (run (middleStep y n c) c 0 zeros) (run (reachStep y n c) c 0 zeros) ns
+  boxed-is : (v : Node) (ns : List Node) → boxed y n c (v ∷ ns) ≡ rooted (loop (middleStep y n c) c 0 zeros3) (loop (reachStep y n c) c 0 zeros3) ns
   unfolding boxOf
   boxed-is v ns = refl
 
   built-in : (k : ℕ) (ns : List Node) → 0 < length ns → 1 ≤ k → k ≤ n → built y c k (boxed y n c ns) .full ≡ false → In n c (length ns) k (built y c k (boxed y n c ns))
   unfolding boxOf
   built-in k [] h l m e = absurd (not-suc-le-zero h)
-  built-in k (v ∷ ns) h l m e = in-all y n c (run (middleStep y n c) c 0 zeros) (run (reachStep y n c) c 0 zeros) ns k l m e
+  built-in k (v ∷ ns) h l m e = in-all y n c (loop (middleStep y n c) c 0 zeros3) (loop (reachStep y n c) c 0 zeros3) ns k l m e
 
   -- none refused so far: what is in the arena is well formed
   counts-few : (k : ℕ) (t : Tree) (before : List Node) → 0 < length before → 1 ≤ n → k ≤ n → insertion false t ≡ built y c k (boxed y n c before) → treeOk n n c t ≡ true
-  unfolding built run
+  unfolding built loop
   counts-few zero t before h l m e = rw (ap (λ (x : Insertion). x .tree) e) (box-ok n n c n y before h)
   counts-few (suc k) t before h l m e =
       let i = built-in (suc k) before h (omega arith) m (ap (λ (x : Insertion). x .full) (sym e)) in
       rw (ap (λ (x : Insertion). x .tree) e) (looser n n c (suc k) n (built y c (suc k) (boxed y n c before) .tree) (le-refl n) m (i .tree))
 
   -- with so many nodes the next point finds its own
-  next-in : (k : ℕ) (t : Tree) (before : List Node) → 0 < length before → k < n → insertion false t ≡ built y c k (boxed y n c before) → 1 + 50 * 2 ^ c * (n - 1) ≤ length (t .nodes) → insertOf y c k t .full ≡ false
-  unfolding built run boxOf
+  next-in : (k : ℕ) (t : Tree) (before : List Node) → 0 < length before → k < n → insertion false t ≡ built y c k (boxed y n c before) → enoughNodes c n ≤ length (t .nodes) → insertOf y c k t .full ≡ false
+  unfolding built loop boxOf
   next-in zero t [] h l e room = absurd (not-suc-le-zero h)
-  next-in zero t (v ∷ before) h l e room = rw (ap (λ (x : Insertion). x .tree) e, first-in y c (run (middleStep y n c) c 0 zeros) (run (reachStep y n c) c 0 zeros) before)
+  next-in zero t (v ∷ before) h l e room = rw (ap (λ (x : Insertion). x .tree) e, first-in y c (loop (middleStep y n c) c 0 zeros3) (loop (reachStep y n c) c 0 zeros3) before)
   next-in (suc k) t before h l e room =
       let b = built y c (suc k) (boxed y n c before) in
       let i = built-in (suc k) before h (omega arith) (omega (arith, l)) (ap (λ (x : Insertion). x .full) (sym e)) in
       let q : t ≡ b .tree = ap (λ (x : Insertion). x .tree) e in
-      let wide : 1 + (n - 1) * (50 * 2 ^ c) ≤ length (b .tree .nodes) = rw (mul-comm (n - 1) (50 * 2 ^ c)) (rw q at room) in
+      let wide : 1 + (n - 1) * (deepest * 2 ^ c) ≤ length (b .tree .nodes) = rw (mul-comm (n - 1) (deepest * 2 ^ c)) (rw q at room) in
       rw (q, taken y c (suc k) (b .tree) (room-in y n c (length before) (suc k) b (rw (i .nodes) at wide) l i))
 
 -- so a tree that its insertions built has no count above n
@@ -73,7 +74,7 @@ module _ (s : State) (g : Honest s) (live : isEnded (s .run .standing) ≡ false
   M = s .memory
 
   box-grown : groupOf R ≡ 0 → R .phase ≡ 0 → Built (withTree M (boxTurn R (M .positions) (M .nodes)) .now)
-  unfolding advancedOf built run
+  unfolding advancedOf built loop
   box-grown z e = record {
     before = M .nodes;
     some = g .good .areas .tree-long (group-zero R z .0) .nodes-some;
@@ -129,7 +130,7 @@ module _ (s : State) (g : Honest s) (live : isEnded (s .run .standing) ≡ false
 
 -- ---- with 1 + 50·2^c·(n - 1) nodes no insertion is refused
 
-module _ (s : State) (g : Honest s) (live : isEnded (s .run .standing) ≡ false) (room : 1 + 50 * 2 ^ s .run .settings .c * (s .run .settings .n - 1) ≤ length (s .memory .nodes)) where
+module _ (s : State) (g : Honest s) (live : isEnded (s .run .standing) ≡ false) (room : enoughNodes (s .run .settings .c) (s .run .settings .n) ≤ length (s .memory .nodes)) where
   insert-room : groupOf (s .run) ≡ 0 → (s .run .phase ≡ 0 → ⊥) → inserting (s .run) (s .memory .positions) (s .memory .nodes) .full ≡ false
   insert-room z p =
       let r = s .run in

@@ -6,38 +6,38 @@ use native.Mathlib.Omega.{arith}
 use native.Mathlib.Nat.{mul-le-mul}
 use Rattle.laws.proofs.Bools.{by-bool}
 use Rattle.run_calls.specs.Machine.{Lawful}
-use Rattle.run_record.specs.Record.{isEnded}
+use Rattle.run_record.specs.Record.{isEnded, mostUnits}
 use Rattle.run_record.proofs.Laws.{per-most}
 use Rattle.run_entry.specs.State.{State}
 use Rattle.run_entry.specs.Entry.{Good}
 use Rattle.run_entry.proofs.Laws.{fault-good}
 use Rattle.run_units.specs.Units.{unit}
 use Rattle.run_budget.specs.Budget.{machine}
-use Rattle.descent.specs.Descent.{wholeOf, restOf}
+use Rattle.descent.specs.Descent.{wholeUnits, unitsLeft}
 use Rattle.descent.specs.Honest.{Honest}
 use Rattle.run_budget.proofs.Counters.{units-below}
 use Rattle.run_budget.proofs.Keeps.{unit-counts, unit-settings}
 use Rattle.descent.proofs.Grown.{honest-keeps}
 use Rattle.run_budget.proofs.Loop.{due}
 
-pub rest-live : (s : State) → isEnded (s .run .standing) ≡ false → restOf s ≡ wholeOf s - s .run .units
-unfolding restOf
+pub rest-live : (s : State) → isEnded (s .run .standing) ≡ false → unitsLeft s ≡ wholeUnits s - s .run .units
+unfolding unitsLeft
 rest-live s e = rw e
 
-pub rest-most : (s : State) → restOf s ≤ wholeOf s - s .run .units
-unfolding restOf
-rest-most s = by-bool (restOf s ≤ wholeOf s - s .run .units) (isEnded (s .run .standing)) (λ e. rw e (omega arith)) (λ e. rw e (omega arith))
+pub rest-most : (s : State) → unitsLeft s ≤ wholeUnits s - s .run .units
+unfolding unitsLeft
+rest-most s = by-bool (unitsLeft s ≤ wholeUnits s - s .run .units) (isEnded (s .run .standing)) (λ e. rw e (omega arith)) (λ e. rw e (omega arith))
 
-pub whole-most : (s : State) → Good s → wholeOf s ≤ 536993790
+pub whole-most : (s : State) → Good s → wholeUnits s ≤ mostUnits
 whole-most s g = mul-le-mul (g .settings .iterations-most) (per-most (s .run .settings .method) (s .run .settings .n) (g .settings .n-most))
 
-pub whole-same : (s : State) → isEnded (s .run .standing) ≡ false → wholeOf (unit s .now) ≡ wholeOf s
+pub whole-same : (s : State) → isEnded (s .run .standing) ≡ false → wholeUnits (unit s .now) ≡ wholeUnits s
 whole-same s live = rw (unit-settings s live)
 
 unfoldable pub lawful : Lawful machine
 lawful = record {
   Good = Honest;
-  rest = restOf;
+  rest = unitsLeft;
   count = λ s. s .run .units;
   passes = λ s g. rw (fault-good s (g .good));
   keeps = λ s g e. honest-keeps s g (due s e .0) (due s e .1);

@@ -1,36 +1,22 @@
 -- The longer arena as it lies: the two flat areas that a call left, with further floats and words behind them. Assumes nothing.
 use mathlib.Core.Path.{_≡_, refl, sym, ap, subst, _∙_}
 use mathlib.Core.List.{List, _++_}
-use mathlib.Core.Bool.{false}
 use Prim.Native.Nat.{ℕ, _+_, _-_, _*_, _<_, _≤_}
 use native.Mathlib.Omega.{arith}
 use native.Mathlib.Decide.{decLt}
-use lib.ListN.{length, getD, drop, length-append, length-set, length-drop, List·getD-append}
+use lib.ListN.{length, getD, drop, length-append, length-drop, List·getD-append}
 use lib.Seq.{drop-append-le, getD-append-add, getD-drop, ext-getD}
 use lib.Ieee.{Float, nan}
 use Rattle.laws.specs.Area.{at, num}
 use Rattle.laws.proofs.Changed.{drop-later}
-use Rattle.run_calls.specs.Machine.{Lawful}
-use Rattle.run_calls.proofs.Demand.{good-after, call-state}
-use Rattle.run_record.specs.Record.{isEnded}
 use Rattle.tree_node.specs.declared.Node.{Node}
-use Rattle.tree_node.specs.Areas.{three, rowAt, nodeCount, nodesOf, nodeAt, blank, Rest, restOf}
+use Rattle.tree_node.specs.Areas.{threeAt, rowAt, nodeCount, nodesOf, nodeAt, blank, Rest, arenaRest}
 use Rattle.tree_node.proofs.Flat.{length-nodes, node-row, row-in}
-use Rattle.tree.specs.Insert.{tree}
-use Rattle.tree_bounds.specs.Bounds.{boxOf}
-use Rattle.tree.proofs.Whole.{taken-ends, taken-fits}
 use Rattle.run_entry.specs.State.{State}
-use Rattle.run_units.specs.Units.{unit, TreeTurn, Turned}
-use Rattle.run_units.proofs.Rooms.{group-zero}
-use Rattle.run_units.proofs.One.{by-unit}
-use Rattle.run_budget.specs.Budget.{machine}
 use Rattle.descent.specs.Descent.{work}
 use Rattle.descent.specs.Honest.{Honest}
-use Rattle.descent.specs.Longer.{inArena, longer, Holds, lent}
-use Rattle.run_budget.proofs.Turns.{by-tree}
-use Rattle.run_budget.proofs.Keeps.{unit-settings}
-use Rattle.run_budget.proofs.Loop.{due}
-use Rattle.descent.proofs.Lawful.{lawful}
+use Rattle.descent.specs.Longer.{inArena, longer, Holds, lentArena}
+use Rattle.descent.proofs.Framed.{work-frames}
 use Rattle.descent.proofs.Longer.{GoesOn, works-on-longer}
 
 -- ---- a node's row, by what stands in its places
@@ -38,7 +24,7 @@ use Rattle.descent.proofs.Longer.{GoesOn, works-on-longer}
 row-agree : (r r' : List Float) (w w' : List ℕ) (i : ℕ) → ((x : ℕ) → 9 * i ≤ x → x < 9 * i + 9 → at r x ≡ at r' x) → ((x : ℕ) → 3 * i ≤ x → x < 3 * i + 3 → num w x ≡ num w' x) → rowAt r w i ≡ rowAt r' w' i
 unfolding rowAt
 row-agree r r' w w' i h k =
-    let t : (a : ℕ) → 9 * i ≤ a → a + 2 < 9 * i + 9 → three r a ≡ three r' a = λ a l m. rw (h a l (omega (arith, m)), h (a + 1) (omega (arith, l)) (omega (arith, m)), h (a + 2) (omega (arith, l)) m) in
+    let t : (a : ℕ) → 9 * i ≤ a → a + 2 < 9 * i + 9 → threeAt r a ≡ threeAt r' a = λ a l m. rw (h a l (omega (arith, m)), h (a + 1) (omega (arith, l)) (omega (arith, m)), h (a + 2) (omega (arith, l)) m) in
     rw (t (9 * i) (omega arith) (omega arith), t (9 * i + 3) (omega arith) (omega arith), t (9 * i + 6) (omega arith) (omega arith), k (3 * i) (omega arith) (omega arith), k (3 * i + 1) (omega arith) (omega arith), k (3 * i + 2) (omega arith) (omega arith))
 
 module _ {A : Type 0} where
@@ -60,16 +46,16 @@ count-within r w = omega arith
 
 -- ---- two arenas that differ in their nodes alone, and the same behind both
 
-module _ (a : List Float) (d : List ℕ) (r r' : List Float) (w w' : List ℕ) (same : nodeCount r' w' ≡ nodeCount r w) (rests : restOf r' w' ≡ restOf r w) where
+module _ (a : List Float) (d : List ℕ) (r r' : List Float) (w w' : List ℕ) (same : nodeCount r' w' ≡ nodeCount r w) (rests : arenaRest r' w' ≡ arenaRest r w) where
   abbrev k : ℕ
   k = nodeCount r w
 
   past-reals : drop (9 * k) r' ≡ drop (9 * k) r
-  unfolding restOf
+  unfolding arenaRest
   past-reals = rw same at (ap (λ (x : Rest). x .reals) rests)
 
   past-words : drop (3 * k) w' ≡ drop (3 * k) w
-  unfolding restOf
+  unfolding arenaRest
   past-words = rw same at (ap (λ (x : Rest). x .words) rests)
 
   within : (9 * k ≤ length r') × (3 * k ≤ length w')
@@ -96,8 +82,8 @@ module _ (a : List Float) (d : List ℕ) (r r' : List Float) (w w' : List ℕ) (
   tail-words = tail-same w' w d (3 * k) (within .1) (count-within r w .1) past-words
 
   -- past the nodes of the longer arena both have the same
-  pub lent-rest : restOf (r' ++ a) (w' ++ d) ≡ restOf (r ++ a) (w ++ d)
-  unfolding restOf
+  pub lent-rest : arenaRest (r' ++ a) (w' ++ d) ≡ arenaRest (r ++ a) (w ++ d)
+  unfolding arenaRest
   lent-rest =
       let K = nodeCount (r ++ a) (w ++ d) in
       rw (counts, drop-later (r' ++ a) (r ++ a) (9 * k) (9 * K) (omega (arith, no-fewer)) tail-reals, drop-later (w' ++ d) (w ++ d) (3 * k) (3 * K) (omega (arith, no-fewer)) tail-words)
@@ -126,64 +112,18 @@ module _ (a : List Float) (d : List ℕ) (r r' : List Float) (w w' : List ℕ) (
             ∙ ap (nodeAt ms) (sym f) ∙ sym (getD-drop k ms (i - k) blank) ∙ sym (getD-append-add ns (drop k ms) (i - k) blank) ∙ ap (nodeAt (ns ++ drop k ms)) e
       ]
 
--- ---- no unit changes the number of nodes, what lies past them, or the settings
-
-module _ (s : State) (g : Honest s) (live : isEnded (s .run .standing) ≡ false) where
-  unit-rest : unit s .now .memory .rest ≡ s .memory .rest
-  unit-rest = by-unit s live (λ (t : Turned). t .now .memory .rest ≡ s .memory .rest) (λ z. refl) (λ z. refl) (λ a b. refl)
-
-  unit-nodes : length (unit s .now .memory .nodes) ≡ length (s .memory .nodes)
-  unit-nodes =
-      let r = s .run in
-      let y = s .memory .positions in
-      let ns = s .memory .nodes in
-      let n = r .settings .n in
-      by-unit s live (λ (t : Turned). length (t .now .memory .nodes) ≡ length ns)
-      (λ z.
-      let k = group-zero r z in
-      by-tree r y ns (λ (t : TreeTurn). length (t .nodes) ≡ length ns)
-      (λ e. length-set ns 0 (boxOf y n (r .settings .c)))
-      (λ e f. refl)
-      (λ p f.
-      let t = g .good .contents (k .0) .tree p in
-      taken-ends y (r .settings .c) (r .phase - 1) (tree (r .used) ns) n n (omega (arith, k .1, p)) (omega (arith, g .good .settings .n-some)) (t .each-node) (t .used-some) (t .used-most) (taken-fits y (r .settings .c) (r .phase - 1) (tree (r .used) ns) f) .nodes))
-      (λ z. refl)
-      (λ a b. refl)
-
--- an arena of so many nodes, the same past them, and the same settings
-abbrev pub Framed : State → State → Type 0
-Framed s t = (length (t .memory .nodes) ≡ length (s .memory .nodes)) × ((t .memory .rest ≡ s .memory .rest) × (t .run .settings ≡ s .run .settings))
-
--- the descent is lawful with that kept besides
-unfoldable framed : State → Lawful machine
-unfolding lawful
-framed s = record {
-  Good = λ t. Honest t × Framed s t;
-  rest = lawful .rest;
-  count = lawful .count;
-  passes = λ t g. lawful .passes t (g .0);
-  keeps = λ t g e. (lawful .keeps t (g .0) e, (unit-nodes t (g .0) (due t e .0) ∙ g .1 .0, (unit-rest t (g .0) (due t e .0) ∙ g .1 .1 .0, unit-settings t (due t e .0) ∙ g .1 .1 .1)));
-  counts = λ t g e. lawful .counts t (g .0) e;
-  lessens = λ t g e. lawful .lessens t (g .0) e;
-  small = λ t g. lawful .small t (g .0);
-}
-
-pub work-frames : (b : ℕ) (s : State) → Honest s → Framed s (work b s .left)
-unfolding work lawful framed
-work-frames b s g = rw (call-state machine lawful b s g) (good-after machine (framed s) b s (g, (refl, (refl, refl))) .1)
-
 -- ---- THEOREM: a call leaves the arena in the flat areas r' and w'; further floats and words are put behind them, and the run goes on.
 -- It does what a run does that had them behind its areas from the start
 
 pub goes-on-lent : (a : List Float) (d : List ℕ) (b c : ℕ) (s : State) → Honest s → (r r' : List Float) (w w' : List ℕ) → Holds r w s → Holds r' w' (work b s .left)
-    → GoesOn b c s (lent (r' ++ a) (w' ++ d) (work b s .left)) (lent (r ++ a) (w ++ d) s)
+    → GoesOn b c s (lentArena (r' ++ a) (w' ++ d) (work b s .left)) (lentArena (r ++ a) (w ++ d) s)
 goes-on-lent a d b c s g r r' w w' h h' =
     let t = work b s .left in
     let f = work-frames b s g in
     let same : nodeCount r' w' ≡ nodeCount r w = sym (length-nodes r' w') ∙ ap length (sym (h' .nodes)) ∙ f .0 ∙ ap length (h .nodes) ∙ length-nodes r w in
-    let rests : restOf r' w' ≡ restOf r w = sym (h' .rest) ∙ f .1 .0 ∙ h .rest in
+    let rests : arenaRest r' w' ≡ arenaRest r w = sym (h' .rest) ∙ f .1 .0 ∙ h .rest in
     let more = drop (nodeCount r w) (nodesOf (r ++ a) (w ++ d)) in
-    let rest = restOf (r ++ a) (w ++ d) in
-    let here : longer more rest s ≡ lent (r ++ a) (w ++ d) s = ap (λ (ns : List Node). inArena ns rest s) (ap (λ (ns : List Node). ns ++ more) (h .nodes) ∙ sym (lent-nodes a d r r w w refl refl)) in
-    let there : longer more rest t ≡ lent (r' ++ a) (w' ++ d) t = ap (λ (ns : List Node). inArena ns rest t) (ap (λ (ns : List Node). ns ++ more) (h' .nodes) ∙ sym (lent-nodes a d r r' w w' same rests)) ∙ ap (λ (x : Rest). inArena (nodesOf (r' ++ a) (w' ++ d)) x t) (sym (lent-rest a d r r' w w' same rests)) in
-    subst (λ (x : State). GoesOn b c s x (lent (r ++ a) (w ++ d) s)) there (subst (λ (x : State). GoesOn b c s (longer more rest t) x) here (works-on-longer more rest b c s g))
+    let rest = arenaRest (r ++ a) (w ++ d) in
+    let here : longer more rest s ≡ lentArena (r ++ a) (w ++ d) s = ap (λ (ns : List Node). inArena ns rest s) (ap (λ (ns : List Node). ns ++ more) (h .nodes) ∙ sym (lent-nodes a d r r w w refl refl)) in
+    let there : longer more rest t ≡ lentArena (r' ++ a) (w' ++ d) t = ap (λ (ns : List Node). inArena ns rest t) (ap (λ (ns : List Node). ns ++ more) (h' .nodes) ∙ sym (lent-nodes a d r r' w w' same rests)) ∙ ap (λ (x : Rest). inArena (nodesOf (r' ++ a) (w' ++ d)) x t) (sym (lent-rest a d r r' w w' same rests)) in
+    subst (λ (x : State). GoesOn b c s x (lentArena (r ++ a) (w ++ d) s)) there (subst (λ (x : State). GoesOn b c s (longer more rest t) x) here (works-on-longer more rest b c s g))

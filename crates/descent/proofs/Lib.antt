@@ -1,7 +1,7 @@
 pub mod Calls
 pub mod Grown
 pub mod Lawful
+pub mod Framed
 pub mod Theorems
 pub mod Longer
 pub mod Lent
-pub mod Room

@@ -7,12 +7,12 @@ use native.Mathlib.Omega.{arith}
 use lib.ListN.{length-set, length-append}
 use lib.Ieee.{Float, binary64, mul}
 use Rattle.laws.proofs.Bools.{by-bool}
-use Rattle.run_calls.specs.Machine.{stops, after, done, sum, capped}
+use Rattle.run_calls.specs.Machine.{stops, after, unitsDone, together, capped}
 use Rattle.run_calls.proofs.Demand.{Grows, grown, goes-on, after-add, done-add, call-state, call-units, counted}
 use Rattle.run_record.specs.declared.Run.{Run}
 use Rattle.run_record.specs.Record.{isTree, isEnded, advancedOf}
 use Rattle.tree_node.specs.declared.Node.{Node}
-use Rattle.tree_node.specs.declared.Acc.{Acc}
+use Rattle.tree_bodies.specs.declared.Acc.{Acc}
 use Rattle.tree_node.specs.Areas.{Rest}
 use Rattle.tree_node.specs.Node.{pointOf}
 use Rattle.tree.specs.Insert.{Tree, tree, Insertion, insertion}
@@ -28,7 +28,7 @@ use Rattle.run_units.specs.Units.{unit, isDone, TreeTurn, treeTurn, boxTurn, fo
 use Rattle.run_units.proofs.Rooms.{group-zero, group-one}
 use Rattle.run_units.proofs.One.{unit-tree, unit-force, unit-finish, by-unit}
 use Rattle.run_budget.specs.Budget.{machine}
-use Rattle.descent.specs.Descent.{work, unitsOf, kindOf, works}
+use Rattle.descent.specs.Descent.{work, unitsOf, answerKind, works}
 use Rattle.descent.specs.Honest.{pointsIn, Built, Honest}
 use Rattle.descent.specs.Longer.{longer}
 use Rattle.run_budget.proofs.Turns.{inserting, tree-box, tree-insert, by-tree}
@@ -49,11 +49,11 @@ pub record GoesOn (b c : ℕ) (s t u : State) : Type 0 where
   -- the units told are as many
   pub units : unitsOf (work b s .answer) + unitsOf (work c t .answer) ≡ unitsOf (work (unitsOf (work b s .answer) + c) u .answer)
   -- the last answer is of the same kind
-  pub kind : 1 ≤ c → kindOf (work c t .answer) ≡ kindOf (work (unitsOf (work b s .answer) + c) u .answer)
+  pub kind : 1 ≤ c → answerKind (work c t .answer) ≡ answerKind (work (unitsOf (work b s .answer) + c) u .answer)
 
 -- ---- two calls are one with the sum of their budgets
 
-units-done : (b : ℕ) (s : State) → Honest s → unitsOf (work b s .answer) ≡ done machine b s
+units-done : (b : ℕ) (s : State) → Honest s → unitsOf (work b s .answer) ≡ unitsDone machine b s
 unfolding lawful
 units-done b s g = units-told b s ∙ call-units machine lawful b s g
 
@@ -65,14 +65,14 @@ module _ (a c : ℕ) (t : State) (h : Honest t) where
   two-units : unitsOf (work a t .answer) + unitsOf (work c (work a t .left) .answer) ≡ unitsOf (work (a + c) t .answer)
   unfolding work lawful
   two-units =
-      let e = units-done c (work a t .left) (call-keeps a t h) ∙ ap (done machine c) (call-state machine lawful a t h) in
+      let e = units-done c (work a t .left) (call-keeps a t h) ∙ ap (unitsDone machine c) (call-state machine lawful a t h) in
       omega (arith, e, units-done a t h, units-done (a + c) t h, done-add machine a c t)
 
-  two-kinds : 1 ≤ c → kindOf (work c (work a t .left) .answer) ≡ kindOf (work (a + c) t .answer)
-  unfolding works sum
+  two-kinds : 1 ≤ c → answerKind (work c (work a t .left) .answer) ≡ answerKind (work (a + c) t .answer)
+  unfolding works together
   two-kinds hc =
-      let q : sum (a ∷ []) + c ≡ sum [] + (a + c) = omega arith in
-      demand-three (a ∷ []) c t h hc .kind ∙ ap (λ (k : ℕ). kindOf (work (capped k) t .answer)) q ∙ sym (demand-three [] (a + c) t h (omega (arith, hc)) .kind)
+      let q : together (a ∷ []) + c ≡ together [] + (a + c) = omega arith in
+      demand-three (a ∷ []) c t h hc .kind ∙ ap (λ (k : ℕ). answerKind (work (capped k) t .answer)) q ∙ sym (demand-three [] (a + c) t h (omega (arith, hc)) .kind)
 
 module _ (more : List Node) (rest : Rest) where
   -- ---- each unit, where counts were at most m: so of good states and of workable ones
@@ -177,7 +177,7 @@ module _ (more : List Node) (rest : Rest) where
 
   -- lent a longer arena, a run refused by 14, or any other run, goes on as a run does that had this arena from the start:
   -- with c units more it is where that run is after the units done of b, and c
-  pub goes-on-longer : (b c : ℕ) (s : State) → Honest s → after machine c (longer more rest (after machine b s)) ≡ after machine (done machine b s + c) (longer more rest s)
+  pub goes-on-longer : (b c : ℕ) (s : State) → Honest s → after machine c (longer more rest (after machine b s)) ≡ after machine (unitsDone machine b s + c) (longer more rest s)
   unfolding lawful
   goes-on-longer b c s g = goes-on machine lawful (longer more rest) grows b c s g
 
@@ -214,5 +214,5 @@ module _ (more : List Node) (rest : Rest) where
       record {
         left = ap (λ (x : State). work c x .left) e ∙ two-left u c t h;
         units = (let q = ap (λ (x : State). unitsOf (work c x .answer)) e in omega (arith, q, units-longer b s g, two-units u c t h));
-        kind = λ hc. ap (λ (x : State). kindOf (work c x .answer)) e ∙ two-kinds u c t h hc;
+        kind = λ hc. ap (λ (x : State). answerKind (work c x .answer)) e ∙ two-kinds u c t h hc;
       }

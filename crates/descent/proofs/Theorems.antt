@@ -6,9 +6,12 @@ use mathlib.Core.Bool.{true, false, cond}
 use Prim.Native.Nat.{ℕ, _+_, _<_, _≤_}
 use native.Mathlib.Omega.{arith}
 use lib.Dec.{ltb}
+use lib.ListN.{length}
+use Rattle.laws.specs.Domain.{mostWord}
 use Rattle.laws.proofs.Bools.{by-bool}
-use Rattle.run_calls.specs.Machine.{Kind, faulty, over, refused, running, times, stops, after, done, kindAt, go, call, left-by, told-by, sum, capped}
+use Rattle.run_calls.specs.Machine.{Kind, faulty, over, refused, running, times, stops, after, unitsDone, kindAt, go, call, left-by, told-by, together, capped}
 use Rattle.run_calls.proofs.Demand.{calls-follow, demand-3, good-after, call-goes, call-state, call-units, call-kind, ends-within, done-rest, refusal-leaves}
+use Rattle.run_record.specs.declared.Settings.{Settings}
 use Rattle.run_record.specs.declared.Standing.{Standing}
 use Rattle.run_record.specs.declared.Standing.the-variants.{Running as Runs, Stopped as Stops, Finished as Ends}
 use Rattle.run_record.specs.Record.{isEnded}
@@ -19,11 +22,13 @@ use Rattle.run_units.specs.declared.Why.{Why}
 use Rattle.run_units.specs.declared.Why.the-variants.{Done, Full as NoNodes, Wild as TooLarge, Over}
 use Rattle.run_units.specs.Units.{unit, isDone}
 use Rattle.run_budget.specs.Budget.{machine, answerOf, standsOf, refusedOf}
-use Rattle.descent.specs.Descent.{work, numberOf, unitsOf, kindOf, wholeOf, works, toldAll}
-use Rattle.descent.specs.Honest.{Honest}
+use Rattle.descent.specs.Descent.{work, workNumber, unitsOf, answerKind, wholeUnits, works, toldAll}
+use Rattle.descent.specs.Honest.{Honest, Roomy}
 use Rattle.run_units.proofs.Rooms.{small-of}
 use Rattle.run_budget.proofs.Keeps.{ordered-looser}
+use Rattle.descent.proofs.Grown.{never-full}
 use Rattle.descent.proofs.Lawful.{lawful, rest-most}
+use Rattle.descent.proofs.Framed.{Framed, work-frames}
 
 -- ---- the answer tells the units of the call
 
@@ -43,7 +48,7 @@ units-refused Over d = refl
 pub units-told : (b : ℕ) (s : State) → unitsOf (work b s .answer) ≡ call machine b s .units
 unfolding work call go kindAt answerOf unitsOf
 units-told b s = by-bool (unitsOf (work b s .answer) ≡ call machine b s .units) (isFine (faultOf s))
-    (λ f. rw f (live (after machine b s) (done machine b s)))
+    (λ f. rw f (live (after machine b s) (unitsDone machine b s)))
     (λ f. rw f)
   where
     live : (t : State) (d : ℕ) → unitsOf (answerOf (cond (isEnded (t .run .standing)) over (cond (ltb d b) refused running)) t d) ≡ d
@@ -61,21 +66,21 @@ unfolding toldAll told-by work
 works-told [] s = refl
 works-told (b ∷ bs) s = rw (works-told bs (call machine b s .state)) (ap (λ (n : ℕ). n + told-by machine bs (call machine b s .state)) (units-told b s))
 
-kind-stands : (s : Standing) (d e : ℕ) → kindOf (standsOf s d) ≡ kindOf (standsOf s e)
-unfolding kindOf
+kind-stands : (s : Standing) (d e : ℕ) → answerKind (standsOf s d) ≡ answerKind (standsOf s e)
+unfolding answerKind
 kind-stands Runs d e = refl
 kind-stands Stops d e = refl
 kind-stands Ends d e = refl
 
-kind-refused : (w : Why) (d e : ℕ) → kindOf (refusedOf w d) ≡ kindOf (refusedOf w e)
-unfolding kindOf
+kind-refused : (w : Why) (d e : ℕ) → answerKind (refusedOf w d) ≡ answerKind (refusedOf w e)
+unfolding answerKind
 kind-refused Done d e = refl
 kind-refused NoNodes d e = refl
 kind-refused TooLarge d e = refl
 kind-refused Over d e = refl
 
-kind-same : (k : Kind) (s : State) (d e : ℕ) → kindOf (answerOf k s d) ≡ kindOf (answerOf k s e)
-unfolding answerOf kindOf
+kind-same : (k : Kind) (s : State) (d e : ℕ) → answerKind (answerOf k s d) ≡ answerKind (answerOf k s e)
+unfolding answerOf answerKind
 kind-same faulty s d e = refl
 kind-same over s d e = kind-stands (s .run .standing) d e
 kind-same refused s d e = kind-refused (unit s .why) d e
@@ -83,14 +88,14 @@ kind-same running s d e = refl
 
 -- ---- the number of an answer
 
-number-stands : (s : Standing) (d : ℕ) → numberOf (standsOf s d) ≡ 0
-unfolding numberOf
+number-stands : (s : Standing) (d : ℕ) → workNumber (standsOf s d) ≡ 0
+unfolding workNumber
 number-stands Runs d = refl
 number-stands Stops d = refl
 number-stands Ends d = refl
 
-number-refused : (w : Why) (d : ℕ) → (numberOf (refusedOf w d) ≡ 0) ⊎ ((numberOf (refusedOf w d) ≡ 14) ⊎ (numberOf (refusedOf w d) ≡ 15))
-unfolding numberOf
+number-refused : (w : Why) (d : ℕ) → (workNumber (refusedOf w d) ≡ 0) ⊎ ((workNumber (refusedOf w d) ≡ 14) ⊎ (workNumber (refusedOf w d) ≡ 15))
+unfolding workNumber
 number-refused Done d = inl refl
 number-refused NoNodes d = inr (inl refl)
 number-refused TooLarge d = inr (inr refl)
@@ -98,16 +103,16 @@ number-refused Over d = inl refl
 
 -- of b units d led to t: the answer's number
 abbrev numberAt : ℕ → ℕ → State → ℕ
-numberAt b d t = numberOf (answerOf (kindAt machine b d t) t d)
+numberAt b d t = workNumber (answerOf (kindAt machine b d t) t d)
 
 numbered : (b d : ℕ) (t : State) → (numberAt b d t ≡ 0) ⊎ ((numberAt b d t ≡ 14) ⊎ (numberAt b d t ≡ 15))
-unfolding kindAt answerOf numberOf
+unfolding kindAt answerOf workNumber
 numbered b d t = by-bool ((numberAt b d t ≡ 0) ⊎ ((numberAt b d t ≡ 14) ⊎ (numberAt b d t ≡ 15))) (isEnded (t .run .standing))
     (λ e. rw e (inl (number-stands (t .run .standing) d)))
     (λ e. by-bool ((numberAt b d t ≡ 0) ⊎ ((numberAt b d t ≡ 14) ⊎ (numberAt b d t ≡ 15))) (ltb d b) (λ q. rw (e, q) (number-refused (unit t .why) d)) (λ q. rw (e, q) (inl refl)))
 
 refused-is : (b d : ℕ) (t : State) → (numberAt b d t ≡ 0 → ⊥) → kindAt machine b d t ≡ refused
-unfolding kindAt answerOf numberOf
+unfolding kindAt answerOf workNumber
 refused-is b d t n = by-bool (kindAt machine b d t ≡ refused) (isEnded (t .run .standing))
     (λ e. absurd (n (rw e (number-stands (t .run .standing) d))))
     (λ e. by-bool (kindAt machine b d t ≡ refused) (ltb d b) (λ q. rw (e, q)) (λ q. absurd (n (rw (e, q)))))
@@ -122,26 +127,26 @@ unfolding work lawful
 call-keeps b s g = rw (call-state machine lawful b s g) (good-after machine lawful b s g)
 
 -- of an honest state no call gives another number than 14 or 15
-pub only-14-or-15 : (b : ℕ) (s : State) → Honest s → (numberOf (work b s .answer) ≡ 0) ⊎ ((numberOf (work b s .answer) ≡ 14) ⊎ (numberOf (work b s .answer) ≡ 15))
+pub only-14-or-15 : (b : ℕ) (s : State) → Honest s → (workNumber (work b s .answer) ≡ 0) ⊎ ((workNumber (work b s .answer) ≡ 14) ⊎ (workNumber (work b s .answer) ≡ 15))
 unfolding work lawful go
-only-14-or-15 b s g = rw (call-goes machine lawful b s g) (numbered b (done machine b s) (after machine b s))
+only-14-or-15 b s g = rw (call-goes machine lawful b s g) (numbered b (unitsDone machine b s) (after machine b s))
 
 -- ---- THEOREM 2, demand 3: from any honest state, for any budgets whose last is at least 1
 
 pub record OneCall (bs : List ℕ) (b : ℕ) (s : State) : Type 0 where
   -- record and every area are where one call with the sum, or 2^32 − 1, leaves them
-  pub left : work b (works bs s) .left ≡ work (capped (sum bs + b)) s .left
+  pub left : work b (works bs s) .left ≡ work (capped (together bs + b)) s .left
   -- the units told add up to that call's
-  pub units : toldAll bs s + unitsOf (work b (works bs s) .answer) ≡ unitsOf (work (capped (sum bs + b)) s .answer)
+  pub units : toldAll bs s + unitsOf (work b (works bs s) .answer) ≡ unitsOf (work (capped (together bs + b)) s .answer)
   -- the last answer is of its kind
-  pub kind : kindOf (work b (works bs s) .answer) ≡ kindOf (work (capped (sum bs + b)) s .answer)
+  pub kind : answerKind (work b (works bs s) .answer) ≡ answerKind (work (capped (together bs + b)) s .answer)
 
 pub demand-three : (bs : List ℕ) (b : ℕ) (s : State) → Honest s → 1 ≤ b → OneCall bs b s
 unfolding work lawful
 demand-three bs b s g h =
     let d = demand-3 machine lawful bs b s g h in
     let t = left-by machine bs s in
-    let B = capped (sum bs + b) in
+    let B = capped (together bs + b) in
     record {
       left = rw (works-left bs s) (d .state);
       units = rw (works-left bs s, works-told bs s, units-told b t, units-told B s) (d .units);
@@ -166,43 +171,43 @@ after-each bs s g =
 
 -- ---- THEOREM 3: no run has 2^32 − 1 units, and each ends or is refused within its iterations' units
 
-pub never-so-many : (s : State) → Good s → s .run .units < 4294967295
+pub never-so-many : (s : State) → Good s → s .run .units < mostWord
 never-so-many s g = let h = small-of s (ordered-looser (s .run .settings .n) (s .run .settings .n + s .run .phase) s (omega arith) g) .units-small in omega arith
 
 -- with the units of all iterations as budget, the run has ended there or its next unit is refused
-pub ends-in-time : (b : ℕ) (s : State) → Honest s → wholeOf s ≤ b → stops machine (work b s .left) ≡ true
+pub ends-in-time : (b : ℕ) (s : State) → Honest s → wholeUnits s ≤ b → stops machine (work b s .left) ≡ true
 unfolding work lawful
 ends-in-time b s g h = rw (call-state machine lawful b s g) (ends-within machine lawful b s g (let m = rest-most s in omega arith))
 
 -- and no more units than that are done
-pub units-in-time : (b : ℕ) (s : State) → Honest s → unitsOf (work b s .answer) ≤ wholeOf s
+pub units-in-time : (b : ℕ) (s : State) → Honest s → unitsOf (work b s .answer) ≤ wholeUnits s
 unfolding lawful
 units-in-time b s g = rw (units-told b s, call-units machine lawful b s g) (let d = done-rest machine lawful b s g in let m = rest-most s in omega arith)
 
 -- a call of an honest state whose answer has a number ended with a unit that was refused
-refused-kind : (b : ℕ) (s : State) → Honest s → (numberOf (work b s .answer) ≡ 0 → ⊥) → call machine b s .kind ≡ refused
+refused-kind : (b : ℕ) (s : State) → Honest s → (workNumber (work b s .answer) ≡ 0 → ⊥) → call machine b s .kind ≡ refused
 unfolding work lawful go
-refused-kind b s g n = call-kind machine lawful b s g ∙ refused-is b (done machine b s) (after machine b s) (λ z. n (rw (call-goes machine lawful b s g) z))
+refused-kind b s g n = call-kind machine lawful b s g ∙ refused-is b (unitsDone machine b s) (after machine b s) (λ z. n (rw (call-goes machine lawful b s g) z))
 
 -- the answer of a refused call is the reason why its next unit is not done
-refused-why : (b : ℕ) (s : State) → Honest s → (numberOf (work b s .answer) ≡ 0 → ⊥) → work b s .answer ≡ refusedOf (unit (work b s .left) .why) (call machine b s .units)
+refused-why : (b : ℕ) (s : State) → Honest s → (workNumber (work b s .answer) ≡ 0 → ⊥) → work b s .answer ≡ refusedOf (unit (work b s .left) .why) (call machine b s .units)
 unfolding work lawful go answerOf
 refused-why b s g n =
     let e = refused-kind b s g n in
     rw e
 
-full-why : (w : Why) (d : ℕ) → numberOf (refusedOf w d) ≡ 14 → w ≡ NoNodes
-unfolding numberOf
+full-why : (w : Why) (d : ℕ) → workNumber (refusedOf w d) ≡ 14 → w ≡ NoNodes
+unfolding workNumber
 full-why Done d e = absurd (let z : _≡_ {A = ℕ} 0 14 = e in omega arith)
 full-why NoNodes d e = refl
 full-why TooLarge d e = absurd (let z : _≡_ {A = ℕ} 15 14 = e in omega arith)
 full-why Over d e = absurd (let z : _≡_ {A = ℕ} 0 14 = e in omega arith)
 
 -- a call refused by 14 stands before an insertion that lacks nodes
-pub refused-full : (b : ℕ) (s : State) → Honest s → numberOf (work b s .answer) ≡ 14 → unit (work b s .left) .why ≡ NoNodes
+pub refused-full : (b : ℕ) (s : State) → Honest s → workNumber (work b s .answer) ≡ 14 → unit (work b s .left) .why ≡ NoNodes
 refused-full b s g e =
-    let n : numberOf (work b s .answer) ≡ 0 → ⊥ = λ z. let q : _≡_ {A = ℕ} 0 14 = sym z ∙ e in omega arith in
-    full-why (unit (work b s .left) .why) (call machine b s .units) (ap numberOf (sym (refused-why b s g n)) ∙ e)
+    let n : workNumber (work b s .answer) ≡ 0 → ⊥ = λ z. let q : _≡_ {A = ℕ} 0 14 = sym z ∙ e in omega arith in
+    full-why (unit (work b s .left) .why) (call machine b s .units) (ap workNumber (sym (refused-why b s g n)) ∙ e)
 
 -- ---- THEOREM 5: a refusal by 14 or 15 leaves record and memory as after the units that the call tells, fewer than its budget, and there the next unit is refused
 
@@ -212,7 +217,7 @@ pub record Refused (b : ℕ) (s : State) : Type 0 where
   pub not-ended : isEnded (work b s .left .run .standing) ≡ false
   pub not-done : isDone (unit (work b s .left) .why) ≡ false
 
-pub refusal : (b : ℕ) (s : State) → Honest s → (numberOf (work b s .answer) ≡ 0 → ⊥) → Refused b s
+pub refusal : (b : ℕ) (s : State) → Honest s → (workNumber (work b s .answer) ≡ 0 → ⊥) → Refused b s
 unfolding work lawful go
 refusal b s g n =
     let e = refused-kind b s g n in
@@ -223,3 +228,29 @@ refusal b s g n =
       not-ended = r .not-over;
       not-done = r .not-ok;
     }
+
+-- ---- THEOREM 4: with room for all splits of each point but the first no call is refused by 14, nor any after it. What a longer arena does is told in Longer and Lent
+
+-- calls one after the other keep the number of nodes and the settings
+works-frames : (bs : List ℕ) (s : State) → Honest s → Framed s (works bs s)
+unfolding works
+works-frames [] s g = (refl, (refl, refl))
+works-frames (b ∷ bs) s g =
+    let f = work-frames b s g in
+    let h = works-frames bs (work b s .left) (call-keeps b s g) in
+    (h .0 ∙ f .0, (h .1 .0 ∙ f .1 .0, h .1 .1 ∙ f .1 .1))
+
+-- one call
+never-now : (b : ℕ) (s : State) → Honest s → Roomy (s .run .settings) (length (s .memory .nodes)) → workNumber (work b s .answer) ≡ 14 → ⊥
+never-now b s g room e =
+    let t = work b s .left in
+    let f = work-frames b s g in
+    let n : workNumber (work b s .answer) ≡ 0 → ⊥ = λ z. let q : _≡_ {A = ℕ} 0 14 = sym z ∙ e in omega arith in
+    let here : Roomy (t .run .settings) (length (t .memory .nodes)) = rw (f .1 .1, f .0) room in
+    never-full t (call-keeps b s g) (refusal b s g n .not-ended) here (refused-full b s g e)
+
+-- nor any call after others
+pub never-14 : (bs : List ℕ) (b : ℕ) (s : State) → Honest s → Roomy (s .run .settings) (length (s .memory .nodes)) → workNumber (work b (works bs s) .answer) ≡ 14 → ⊥
+never-14 bs b s g room e =
+    let f = works-frames bs s g in
+    never-now b (works bs s) (after-each bs s g .honest) (rw (f .1 .1, f .0) room) e

@@ -17,13 +17,13 @@ work b s = told (call machine b s)
 -- ---- what an answer says
 
 -- the scope paper's number of a refusal; 0 where there is none
-unfoldable pub numberOf : Answer → ℕ
-numberOf (Running d) = 0
-numberOf (Stopped d) = 0
-numberOf (Finished d) = 0
-numberOf (Full d) = 14
-numberOf (Wild d) = 15
-numberOf (Bad f) = faultNumber f
+unfoldable pub workNumber : Answer → ℕ
+workNumber (Running d) = 0
+workNumber (Stopped d) = 0
+workNumber (Finished d) = 0
+workNumber (Full d) = 14
+workNumber (Wild d) = 15
+workNumber (Bad f) = faultNumber f
 
 -- the units done in the call
 unfoldable pub unitsOf : Answer → ℕ
@@ -35,23 +35,23 @@ unitsOf (Wild d) = d
 unitsOf (Bad f) = 0
 
 -- its kind: the answer without its units
-unfoldable pub kindOf : Answer → Answer
-kindOf (Running d) = Running 0
-kindOf (Stopped d) = Stopped 0
-kindOf (Finished d) = Finished 0
-kindOf (Full d) = Full 0
-kindOf (Wild d) = Wild 0
-kindOf (Bad f) = Bad f
+unfoldable pub answerKind : Answer → Answer
+answerKind (Running d) = Running 0
+answerKind (Stopped d) = Stopped 0
+answerKind (Finished d) = Finished 0
+answerKind (Full d) = Full 0
+answerKind (Wild d) = Wild 0
+answerKind (Bad f) = Bad f
 
 -- ---- a whole run
 
 -- the units of all its iterations
-abbrev pub wholeOf : State → ℕ
-wholeOf s = s .run .settings .iterations * perOf (s .run .settings .method) (s .run .settings .n)
+abbrev pub wholeUnits : State → ℕ
+wholeUnits s = s .run .settings .iterations * perOf (s .run .settings .method) (s .run .settings .n)
 
 -- the units that it may yet do
-unfoldable pub restOf : State → ℕ
-restOf s = cond (isEnded (s .run .standing)) 0 (wholeOf s - s .run .units)
+unfoldable pub unitsLeft : State → ℕ
+unitsLeft s = cond (isEnded (s .run .standing)) 0 (wholeUnits s - s .run .units)
 
 -- ---- calls one after the other
 

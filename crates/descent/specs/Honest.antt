@@ -2,12 +2,13 @@
 use mathlib.Core.Path.{_≡_}
 use mathlib.Core.List.{List}
 use mathlib.Core.Bool.{true, false}
-use Prim.Native.Nat.{ℕ, _-_, _<_, min}
+use Prim.Native.Nat.{ℕ, _-_, _<_, _≤_, min}
 use lib.ListN.{length}
+use Rattle.run_record.specs.declared.Settings.{Settings}
 use Rattle.tree_node.specs.declared.Node.{Node}
 use Rattle.run_record.specs.declared.Run.{Run}
 use Rattle.run_record.specs.Record.{isTree}
-use Rattle.tree.specs.Insert.{tree, insertion, built}
+use Rattle.tree.specs.Insert.{tree, insertion, built, enoughNodes}
 use Rattle.tree.specs.Box.{boxed}
 use Rattle.run_entry.specs.State.{State}
 use Rattle.run_entry.specs.Entry.{Good}
@@ -26,3 +27,7 @@ pub record Honest (s : State) : Type 0 where
   pub good : Good s
   -- asked between box and finish of a Barnes-Hut run
   pub grown : isTree (s .run .settings .method) ≡ true → (s .run .phase ≡ 0 → ⊥) → Built s
+
+-- the arena has nodes for every split that the points of a run can need
+abbrev pub Roomy : Settings → ℕ → Type 0
+Roomy s nodes = enoughNodes (s .c) (s .n) ≤ nodes

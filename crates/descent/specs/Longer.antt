@@ -4,7 +4,7 @@ use mathlib.Core.List.{List, _++_}
 use Prim.Native.Nat.{ℕ}
 use lib.Ieee.{Float}
 use Rattle.tree_node.specs.declared.Node.{Node}
-use Rattle.tree_node.specs.Areas.{Rest, nodesOf, restOf}
+use Rattle.tree_node.specs.Areas.{Rest, nodesOf, arenaRest}
 use Rattle.run_entry.specs.State.{State}
 
 -- s with another arena; the record and the other areas are as they are
@@ -20,8 +20,8 @@ longer more rest s = inArena (s .memory .nodes ++ more) rest s
 -- the flat areas r and w hold the arena of s
 pub record Holds (r : List Float) (w : List ℕ) (s : State) : Type 0 where
   pub nodes : s .memory .nodes ≡ nodesOf r w
-  pub rest : s .memory .rest ≡ restOf r w
+  pub rest : s .memory .rest ≡ arenaRest r w
 
 -- the flat areas r and w are lent as the arena
-abbrev pub lent : List Float → List ℕ → State → State
-lent r w s = inArena (nodesOf r w) (restOf r w) s
+abbrev pub lentArena : List Float → List ℕ → State → State
+lentArena r w s = inArena (nodesOf r w) (arenaRest r w) s

@@ -2,7 +2,7 @@
 ghost use mathlib.Core.Path.{_≡_};
 ghost use Rattle.run_entry.specs.State.{memory, state};
 ghost use Rattle.run_budget.specs.Budget.{worked};
-ghost use Rattle.descent.specs.Descent.{work, numberOf};
+ghost use Rattle.descent.specs.Descent.{work, workNumber};
 pub use run_budget::Answer;
 pub use run_budget::Worked;
 use run_budget::go_on;
@@ -61,7 +61,7 @@ pub fn work(
 
 // The scope paper's number of an answer; 0: it is no refusal.
 pub fn number(a: Answer) -> u8
-    ensures { λ r. ⌜ r ≡ numberOf a ⌝ }
+    ensures { λ r. ⌜ r ≡ workNumber a ⌝ }
 {
     match a {
         Answer::Running(_) => 0,

@@ -13,11 +13,11 @@ use Rattle.run_entry.specs.State.{Memory, state}
 use Rattle.run_budget.specs.declared.Answer.{Answer}
 use Rattle.run_budget.specs.declared.Answer.the-variants.{Bad}
 use Rattle.run_budget.specs.Budget.{Worked, worked}
-use Rattle.descent.specs.Descent.{work, numberOf}
+use Rattle.descent.specs.Descent.{work, workNumber}
 use Rattle.prepare.specs.declared.Prepared.{Prepared}
-use Rattle.prepare.specs.Prepare.{Lent, Outcome, outcome, prepared, numberOf as preparedNumber}
+use Rattle.prepare.specs.Prepare.{Lent, Outcome, outcome, prepared, prepareNumber}
 use Rattle.scatter.specs.declared.Scattered.{Scattered}
-use Rattle.scatter.specs.Scatter.{Outcome as Start, outcome as startOutcome, numberOf as startNumber}
+use Rattle.scatter.specs.Scatter.{Outcome as Start, outcome as startOutcome, scatterNumber as startNumber}
 use Rattle.desk_words.specs.Words.{settingsFine, settingsOf, runFine, runOf, runAfter, answerPut}
 use Rattle.desk.specs.Desk.{begun, recorded, begunWith, hostPrepare, tell, tellWork, hostWork, orZero}
 
@@ -33,7 +33,7 @@ module _ (s : List ℕ) (table start : List Float) (nodes : ℕ) (l : Lent) (w :
   short-begun e h = rw (e, lt-leb 14 (length w) h)
 
   module _ {p : Prepared} {l' : Lent} {t : Settings} (e : settingsFine s ≡ true) (h : 14 ≤ length w) (q : t ≡ settingsOf s) (o : outcome p l' ≡ prepared t table start nodes l) where
-    pub begun-is : {k : ℕ} {w' : List ℕ} → k ≡ preparedNumber p → w' ≡ recorded p w → begun k w' l' ≡ hostPrepare s table start nodes l w
+    pub begun-is : {k : ℕ} {w' : List ℕ} → k ≡ prepareNumber p → w' ≡ recorded p w → begun k w' l' ≡ hostPrepare s table start nodes l w
     unfolding hostPrepare
     begun-is ek ew =
         let o' : outcome p l' ≡ prepared (settingsOf s) table start nodes l = rw q at o in
@@ -51,7 +51,7 @@ module _ (b : ℕ) (w a : List ℕ) (m : Memory) where
   unread-told h e q = rw (le-ltb (length a) 5 h, e, q)
 
   module _ {r q : Run} {t : Answer} {m' : Memory} (h : 5 ≤ length a) (e : runFine w ≡ true) (s : r ≡ runOf w) (o : worked t (state q m') ≡ work b (state r m)) where
-    pub work-told : {k : ℕ} {a' w' : List ℕ} → k ≡ numberOf t → a' ≡ answerPut t a → w' ≡ runAfter t q w → tell k a' w' m' ≡ hostWork b w a m
+    pub work-told : {k : ℕ} {a' w' : List ℕ} → k ≡ workNumber t → a' ≡ answerPut t a → w' ≡ runAfter t q w → tell k a' w' m' ≡ hostWork b w a m
     unfolding hostWork
     work-told ek ea ew =
         let o' : worked t (state q m') ≡ work b (state (runOf w) m) = rw s at o in

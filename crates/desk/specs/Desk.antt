@@ -6,7 +6,7 @@ use Prim.Native.Nat.{ℕ}
 use lib.Dec.{eqb, ltb, leb}
 use lib.ListN.{length, set}
 use lib.Ieee.{Float}
-use Rattle.laws.specs.Run.{run}
+use Rattle.laws.specs.Loops.{loop}
 use Rattle.laws.specs.Area.{num}
 use Rattle.frames.specs.declared.Frames.{Frames}
 use Rattle.frames.specs.declared.Frames.the-variants.{Good, Bad as BadRecord}
@@ -16,21 +16,21 @@ use Rattle.run_entry.specs.declared.Fault.the-variants.{Counters}
 use Rattle.run_entry.specs.State.{Memory, state}
 use Rattle.run_budget.specs.declared.Answer.the-variants.{Bad}
 use Rattle.run_budget.specs.Budget.{Worked}
-use Rattle.descent.specs.Descent.{work, numberOf}
+use Rattle.descent.specs.Descent.{work, workNumber}
 use Rattle.prepare.specs.declared.Prepared.{Prepared}
 use Rattle.prepare.specs.declared.Prepared.the-variants.{Refused, Ready}
-use Rattle.prepare.specs.Prepare.{Lent, Outcome, prepared, numberOf as preparedNumber}
+use Rattle.prepare.specs.Prepare.{Lent, Outcome, prepared, prepareNumber}
 use Rattle.desk_words.specs.Words.{settingsFine, settingsOf, runFine, runOf, runPut, runAfter, answerPut, framePut, lengthsPut}
 
 -- ---- preparation
 
 pub record Begun : Type 0 where
   pub number : ℕ
-  pub run : List ℕ
+  pub loop : List ℕ
   pub areas : Lent
 
 abbrev pub begun : ℕ → List ℕ → Lent → Begun
-begun k w l = record { number = k; run = w; areas = l }
+begun k w l = record { number = k; loop = w; areas = l }
 
 -- the record's words are written where there is a record
 abbrev pub recorded : Prepared → List ℕ → List ℕ
@@ -38,7 +38,7 @@ recorded (Refused k) w = w
 recorded (Ready r) w = runPut r w
 
 abbrev pub begunWith : Outcome → List ℕ → Begun
-begunWith o w = begun (preparedNumber (o .answer)) (recorded (o .answer) w) (o .areas)
+begunWith o w = begun (prepareNumber (o .answer)) (recorded (o .answer) w) (o .areas)
 
 -- settings in words s that cannot be read, or a record area w of fewer than 14 words: 13, and nothing is changed; else as preparation has it
 unfoldable pub hostPrepare : List ℕ → List Float → List Float → ℕ → Lent → List ℕ → Begun
@@ -50,14 +50,14 @@ hostPrepare s table start nodes l w =
 pub record Told : Type 0 where
   pub number : ℕ
   pub answer : List ℕ
-  pub run : List ℕ
+  pub loop : List ℕ
   pub memory : Memory
 
 abbrev pub tell : ℕ → List ℕ → List ℕ → Memory → Told
-tell k a w m = record { number = k; answer = a; run = w; memory = m }
+tell k a w m = record { number = k; answer = a; loop = w; memory = m }
 
 abbrev pub tellWork : Worked → List ℕ → List ℕ → Told
-tellWork t a w = tell (numberOf (t .answer)) (answerPut (t .answer) a) (runAfter (t .answer) (t .left .run) w) (t .left .memory)
+tellWork t a w = tell (workNumber (t .answer)) (answerPut (t .answer) a) (runAfter (t .answer) (t .left .run) w) (t .left .memory)
 
 -- an answer area a of fewer than 5 words: 12; a record w that cannot be read: 13, as bad counters; else as the work call has it
 unfoldable pub hostWork : ℕ → List ℕ → List ℕ → Memory → Told

@@ -8,12 +8,13 @@ use native.Mathlib.Nat.{mul-le-mul}
 use lib.Dec.{leb}
 use lib.ListN.{length}
 use borrow.Author.Tests.{leb-true}
+use Rattle.laws.specs.Domain.{deepest, mostFrames}
 use Rattle.laws.specs.Area.{num}
 use Rattle.laws.proofs.Bools.{and-left}
 use Rattle.run_record.specs.declared.Run.{Run}
 use Rattle.run_record.specs.declared.Settings.{Settings}
 use Rattle.run_record.specs.Record.{isTree, GoodSettings}
-use Rattle.tree.proofs.Descent.{few-nodes}
+use Rattle.tree.proofs.Inserting.{few-nodes}
 use Rattle.run_entry.proofs.Laws.{axes}
 use Rattle.run_budget.specs.declared.Answer.{Answer}
 use Rattle.desk_words.specs.Words.{settingsFine, runFine, runPut, isBad, runAfter}
@@ -41,8 +42,8 @@ module _ (a : Answer) (r : Run) (w : List ℕ) where
 
 -- ---- sizes
 
--- 50 splits of each point but the first are few
-pub nodes-few : (s : Settings) → GoodSettings s → isTree (s .method) ≡ true → (50 * 2 ^ s .c ≤ 400) × (50 * 2 ^ s .c * (s .n - 1) ≤ 1638000)
+-- the splits of each point but the first are few
+pub nodes-few : (s : Settings) → GoodSettings s → isTree (s .method) ≡ true → (deepest * 2 ^ s .c ≤ deepest * 8) × (deepest * 2 ^ s .c * (s .n - 1) ≤ deepest * 8 * (mostFrames - 1))
 nodes-few s g t =
-    let a = few-nodes 50 (s .c) (omega arith) (axes s g t .1) in
-    (a, mul-le-mul {n₁ = 50 * 2 ^ s .c} {m₁ = s .n - 1} {n₂ = 400} {m₂ = 4095} a (omega (arith, g .n-most)))
+    let a = few-nodes deepest (s .c) (omega arith) (axes s g t .1) in
+    (a, mul-le-mul {n₁ = deepest * 2 ^ s .c} {m₁ = s .n - 1} {n₂ = deepest * 8} {m₂ = mostFrames - 1} a (omega (arith, g .n-most)))

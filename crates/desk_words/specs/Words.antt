@@ -5,7 +5,8 @@ use Prim.Native.Nat.{ℕ, _+_, _-_, _*_, _^_}
 use lib.Dec.{eqb, leb}
 use lib.ListN.{length, set}
 use lib.Ieee.{Float, binary64, toBits}
-use Rattle.laws.specs.Run.{run}
+use Rattle.tree.specs.Insert.{enoughNodes}
+use Rattle.laws.specs.Loops.{loop}
 use Rattle.laws.specs.Area.{at, num, bits}
 use Rattle.frames.specs.declared.Frame.{Frame}
 use Rattle.run_record.specs.Record.{isTree, sizesOf}
@@ -19,7 +20,7 @@ use Rattle.run_entry.specs.declared.Fault.{Fault}
 use Rattle.run_entry.specs.declared.Fault.the-variants.{Fine, Settings as BadSettings, Counters, Areas, Offsets, Index, Tree}
 use Rattle.run_budget.specs.declared.Answer.{Answer}
 use Rattle.run_budget.specs.declared.Answer.the-variants.{Running, Stopped, Finished, Full, Wild, Bad}
-use Rattle.descent.specs.Descent.{numberOf, unitsOf}
+use Rattle.descent.specs.Descent.{workNumber, unitsOf}
 
 -- ---- settings: n, f, c, method (0 exact, 1 Barnes-Hut), perplexity, rate, iterations, angle, minimum
 
@@ -99,7 +100,7 @@ faultIn (Wild d) = Fine
 faultIn (Bad f) = f
 
 unfoldable pub answerPut : Answer → List ℕ → List ℕ
-answerPut a w = set (set (set (set (set w 0 (kindWord a)) 1 (numberOf a)) 2 (unitsOf a)) 3 (faultWord (faultIn a))) 4 (faultValue (faultIn a))
+answerPut a w = set (set (set (set (set w 0 (kindWord a)) 1 (workNumber a)) 2 (unitsOf a)) 3 (faultWord (faultIn a))) 4 (faultValue (faultIn a))
 
 -- refused at the entry
 abbrev pub isBad : Answer → Bool
@@ -117,10 +118,10 @@ runAfter a r w = cond (isBad a) w (runPut r w)
 -- ---- a frame: picture, side, six features, two starts
 
 abbrev pub featuresPut : List Float → List ℕ → List ℕ
-featuresPut v w = run (λ k x. set x (2 + k) (toBits binary64 (at v k))) 6 0 w
+featuresPut v w = loop (λ k x. set x (2 + k) (toBits binary64 (at v k))) 6 0 w
 
 abbrev pub startsPut : List Float → List ℕ → List ℕ
-startsPut v w = run (λ k x. set x (8 + k) (toBits binary64 (at v k))) 2 0 w
+startsPut v w = loop (λ k x. set x (8 + k) (toBits binary64 (at v k))) 2 0 w
 
 unfoldable pub framePut : Frame → List ℕ → List ℕ
 framePut f w = startsPut (f .starts) (featuresPut (f .features) (set (set w 0 (f .picture)) 1 (f .side)))
@@ -132,5 +133,5 @@ unfoldable pub lengthsPut : Settings → List ℕ → List ℕ
 lengthsPut s w =
     let v = set (set (set w 0 (sizesOf s .cells)) 4 (sizesOf s .forces)) 5 (s .n) in
     cond (isTree (s .method))
-    (set (set (set (set v 1 (sizesOf s .links)) 2 (sizesOf s .links)) 3 (s .n + 1)) 6 (1 + 50 * 2 ^ s .c * (s .n - 1)))
+    (set (set (set (set v 1 (sizesOf s .links)) 2 (sizesOf s .links)) 3 (s .n + 1)) 6 (enoughNodes (s .c) (s .n)))
     (set (set (set (set v 1 (sizesOf s .square)) 2 0) 3 0) 6 0)

@@ -10,6 +10,7 @@ use descent::Answer;
 use elementary::words::bits_of;
 use elementary::words::value_of;
 use frames::Frame;
+use laws::DEEPEST;
 use run_entry::Fault;
 use run_record::Method;
 use run_record::Run;
@@ -310,7 +311,7 @@ pub fn put_sizes(words: &mut [u64], s: Settings)
         words[1] = z.links as u64;
         words[2] = z.links as u64;
         words[3] = (s.n + 1) as u64;
-        words[6] = (1 + 50 * corners(s.c) * (s.n - 1)) as u64;
+        words[6] = (1 + DEEPEST * corners(s.c) * (s.n - 1)) as u64;
         return;
     }
     words[1] = z.square as u64;

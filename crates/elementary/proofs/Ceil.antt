@@ -12,10 +12,11 @@ use lib.Ieee.Fits.{down-pos}
 use lib.Ieee.Exact.{HasValue}
 use lib.Ieee.Back.{round-whole}
 use borrow.Author.Tests.{ltb-true, ltb-false, lt-ltb, le-ltb}
+use Rattle.laws.specs.Domain.{mostFrames}
 use Rattle.laws.proofs.Numbers.{order}
 use Rattle.elementary.specs.Exp.{within}
 use Rattle.elementary.proofs.Sizes.{plain, signed-round, bounded}
-use Rattle.elementary.specs.Limits.{ceilOf, three, upToWhole}
+use Rattle.elementary.specs.Limits.{ceilOf, three64, upToWhole}
 
 -- ---- a whole number against a value
 
@@ -37,11 +38,11 @@ whole-lt (fin false a d) w m e v =
 pub record Cut (q : Float) : Type 0 where
   pub above : T (lt (fin true 1 (pos 0)) q)
   pub below : T (lt q (fin false 1 (pos 64)))
-  pub small : toUnsigned 64 q ≤ 12288
+  pub small : toUnsigned 64 q ≤ (3 * mostFrames)
   pub more : lt (ofInt binary64 (pos (toUnsigned 64 q))) q ≡ true → toUnsigned 64 q + 1 ≡ ceilOf q
   pub even : lt (ofInt binary64 (pos (toUnsigned 64 q))) q ≡ false → toUnsigned 64 q ≡ ceilOf q
 
-pub cut : (q : Float) → upToWhole q 12288 → Cut q
+pub cut : (q : Float) → upToWhole q (3 * mostFrames) → Cut q
 unfolding lt toUnsigned ceilOf ofInt
 cut nan h = absurd h
 cut (inf s) h = absurd h
@@ -49,7 +50,7 @@ cut (fin true m e) h = absurd (true≢false (h .0))
 cut (fin false m e) h =
     let D = down e in
     let A = m * up e in
-    let l : A / D ≤ 12288 = div-le-of-le-mul D (le-trans (h .1) (le-of-eq (mul-comm 12288 D))) in
+    let l : A / D ≤ (3 * mostFrames) = div-le-of-le-mul D (le-trans (h .1) (le-of-eq (mul-comm (3 * mostFrames) D))) in
     let u : min (A / D) (2 ^ 64 - 1) ≡ A / D = min-left (A / D) l in
     let s : lt (round binary64 false (A / D) 1) (fin false m e) ≡ ltb (A / D * D) A = whole-lt (round binary64 false (A / D) 1) (A / D) m e (round-whole binary64 false (A / D) (le-trans l (lit≤ tt))) in
     record {
@@ -60,7 +61,7 @@ cut (fin false m e) h =
       even = λ t. rw u (nothing (A / D) D A (A % D) (div-add-mod' A D) (sym s ∙ rw u at t));
     }
   where
-    min-left : (n : ℕ) → n ≤ 12288 → min n (2 ^ 64 - 1) ≡ n
+    min-left : (n : ℕ) → n ≤ (3 * mostFrames) → min n (2 ^ 64 - 1) ≡ n
     min-left n h = omega arith
 
     left-over : (w d a r : ℕ) → w * d + r ≡ a → ltb (w * d) a ≡ true → w + 1 ≡ w + cond (eqb r 0) 0 1
@@ -79,7 +80,7 @@ cut (fin false m e) h =
 
 -- ---- three perplexities
 
-under-n : (p : Float) (n : ℕ) → n ≤ 4096 → lt (ofBits binary64 0) p ≡ true → lt p (ofInt binary64 (pos n)) ≡ true → upToWhole p 4096
+under-n : (p : Float) (n : ℕ) → n ≤ mostFrames → lt (ofBits binary64 0) p ≡ true → lt p (ofInt binary64 (pos n)) ≡ true → upToWhole p mostFrames
 unfolding lt ofBits ofInt
 under-n nan n h a b = absurd (true≢false (sym a))
 under-n (inf true) n h a b = absurd (true≢false (sym a))
@@ -92,7 +93,7 @@ under-n (inf false) n h a b = absurd (infinite (round binary64 false n 1) (round
 under-n (fin true m e) n h a b = absurd (true≢false (sym a))
 under-n (fin false m e) n h a b = (refl, value (round binary64 false n 1) (round-whole binary64 false n (le-trans h (lit≤ tt))) b)
   where
-    value : (z : Float) → HasValue z false n 1 → lt (fin false m e) z ≡ true → m * up e ≤ 4096 * down e
+    value : (z : Float) → HasValue z false n 1 → lt (fin false m e) z ≡ true → m * up e ≤ mostFrames * down e
     value nan v t = absurd v
     value (inf s) v t = absurd v
     value (fin true a d) v t = absurd (true≢false (v .0))
@@ -101,12 +102,12 @@ under-n (fin false m e) n h a b = (refl, value (round binary64 false n 1) (round
         let k : m * up e * down d ≤ n * down e * down d = le-trans (le-of-lt l) (le-of-eq (ap (λ (x : ℕ). x * down e) (sym (mul-one (a * up d)) ∙ v .1) ∙ mul-right-comm n (down d) (down e))) in
         le-trans (le-of-mul-le-mul-right {k = down d} k (down-pos d)) (mul-le-mul-right (down e) h)
 
-both : (z : Float) → plain z → within z 12288 → upToWhole z 12288
+both : (z : Float) → plain z → within z (3 * mostFrames) → upToWhole z (3 * mostFrames)
 both nan p w = w
 both (inf s) p w = w
 both (fin s m e) p w = (p, w)
 
-three-times : (p : Float) → upToWhole p 4096 → upToWhole (mul binary64 (fin false 3 (pos 0)) p) 12288
+three-times : (p : Float) → upToWhole p mostFrames → upToWhole (mul binary64 (fin false 3 (pos 0)) p) (3 * mostFrames)
 unfolding mul
 three-times nan h = absurd h
 three-times (inf s) h = absurd h
@@ -114,14 +115,14 @@ three-times (fin true m e) h = absurd (true≢false (h .0))
 three-times (fin false m e) h =
     let a = 3 * up (pos 0) * (m * up e) in
     let b = down (pos 0) * down e in
-    let l : a ≤ 12288 * b = omega (arith, h .1) in
-    both (round binary64 false a b) (signed-round binary64 false a b) (bounded a b 12288 (omega (arith, down-pos e)) (lit≤ tt) l)
+    let l : a ≤ (3 * mostFrames) * b = omega (arith, h .1) in
+    both (round binary64 false a b) (signed-round binary64 false a b) (bounded a b (3 * mostFrames) (omega (arith, down-pos e)) (lit≤ tt) l)
 
-pub three-bounded : (p : Float) (n : ℕ) → n ≤ 4096 → lt (ofBits binary64 0) p ≡ true → lt p (ofInt binary64 (pos n)) ≡ true → upToWhole (mul binary64 three p) 12288
+pub three-bounded : (p : Float) (n : ℕ) → n ≤ mostFrames → lt (ofBits binary64 0) p ≡ true → lt p (ofInt binary64 (pos n)) ≡ true → upToWhole (mul binary64 three64 p) (3 * mostFrames)
 unfolding ofBits
 three-bounded p n h a b = three-times p (under-n p n h a b)
 
-pub ceil-small : (q : Float) → upToWhole q 12288 → ceilOf q ≤ 12289
+pub ceil-small : (q : Float) → upToWhole q (3 * mostFrames) → ceilOf q ≤ 12289
 ceil-small q h = go (cut q h) (lt (ofInt binary64 (pos (toUnsigned 64 q))) q) refl
   where
     go : Cut q → (b : Bool) → lt (ofInt binary64 (pos (toUnsigned 64 q))) q ≡ b → ceilOf q ≤ 12289

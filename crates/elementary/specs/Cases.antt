@@ -2,7 +2,7 @@
 use mathlib.Core.Path.{_≡_, refl}
 use mathlib.Core.Bool.{false}
 use lib.Ieee.{ofBits, toBits, binary64, nan, inf, size, lt, isNan, neg, add, sub, mul, div, ofInt}
-use Rattle.laws.specs.Run.{run}
+use Rattle.laws.specs.Loops.{loop}
 use Rattle.laws.specs.Area.{bits, zero64, one64, two64}
 use Rattle.elementary.specs.Exp.{expOf}
 use Rattle.elementary.specs.Ln.{lnOf}
@@ -30,48 +30,48 @@ exp-lowest = refl
 -- ---- ln
 
 pub ln-one : lnOf one64 ≡ zero64
-unfolding lnOf run size lt add sub mul div ofInt ofBits
+unfolding lnOf loop size lt add sub mul div ofInt ofBits
 ln-one = refl
 
 pub ln-two : toBits binary64 (lnOf two64) ≡ 0x3fe62e42fefa39ef
-unfolding lnOf run size lt add sub mul div ofInt ofBits toBits
+unfolding lnOf loop size lt add sub mul div ofInt ofBits toBits
 ln-two = refl
 
 -- the smallest subnormal
 pub ln-least : toBits binary64 (lnOf (bits 1)) ≡ 0xc0874385446d71c3
-unfolding lnOf run size lt add sub mul div ofInt ofBits toBits
+unfolding lnOf loop size lt add sub mul div ofInt ofBits toBits
 ln-least = refl
 
 pub ln-infinity : lnOf (bits 0x7ff0000000000000) ≡ inf false
-unfolding lnOf run size lt add sub mul div ofInt ofBits
+unfolding lnOf loop size lt add sub mul div ofInt ofBits
 ln-infinity = refl
 
 pub ln-minus-zero : lnOf (bits 0x8000000000000000) ≡ nan
-unfolding lnOf run size lt add sub mul div ofInt ofBits
+unfolding lnOf loop size lt add sub mul div ofInt ofBits
 ln-minus-zero = refl
 
 pub ln-ten : toBits binary64 (lnOf (bits 0x4024000000000000)) ≡ 0x40026bb1bbb55516
-unfolding lnOf run size lt add sub mul div ofInt ofBits toBits
+unfolding lnOf loop size lt add sub mul div ofInt ofBits toBits
 ln-ten = refl
 
 -- ---- neighbours
 
 -- perplexity 30 among 4096 frames
-pub thirty : neighboursOf (bits 0x403e000000000000) 4096 ≡ 91
+pub neighbours-thirty : neighboursOf (bits 0x403e000000000000) 4096 ≡ 91
 unfolding neighboursOf mul ofBits
-thirty = refl
+neighbours-thirty = refl
 
 -- perplexity 1 among 2
-pub two-frames : neighboursOf one64 2 ≡ 1
+pub neighbours-two : neighboursOf one64 2 ≡ 1
 unfolding neighboursOf mul ofBits
-two-frames = refl
+neighbours-two = refl
 
 -- three times a third, rounded, is 1
-pub a-third : neighboursOf (bits 0x3fd5555555555555) 100 ≡ 2
+pub neighbours-third : neighboursOf (bits 0x3fd5555555555555) 100 ≡ 2
 unfolding neighboursOf mul ofBits
-a-third = refl
+neighbours-third = refl
 
 -- the smallest perplexity
-pub least : neighboursOf (bits 1) 100 ≡ 2
+pub neighbours-least : neighboursOf (bits 1) 100 ≡ 2
 unfolding neighboursOf mul ofBits
-least = refl
+neighbours-least = refl

@@ -44,13 +44,13 @@ ceilOf (inf s) = 0
 ceilOf (fin true m e) = 0
 ceilOf (fin false m e) = m * up e / down e + cond (eqb (m * up e % down e) 0) 0 1
 
-abbrev pub three : Float
-three = bits 0x4008000000000000
+abbrev pub three64 : Float
+three64 = bits 0x4008000000000000
 
 -- k = min (ceil (3·perplexity) + 1, n - 1), at least 1; the product is rounded first
 unfoldable pub neighboursOf : Float → ℕ → ℕ
 unfolding ceilOf
-neighboursOf perplexity n = max 1 (min (ceilOf (mul binary64 three perplexity) + 1) (n - 1))
+neighboursOf perplexity n = max 1 (min (ceilOf (mul binary64 three64 perplexity) + 1) (n - 1))
 
 -- what `ceil_of` asks: neither negative nor above n
 abbrev pub upToWhole : Float → ℕ → Type 0

@@ -3,7 +3,7 @@ use Prim.Native.Nat.{ℕ, zero, suc, _-_, _*_}
 use mathlib.Core.Bool.{true, false, cond}
 use lib.IntN.{ℤ, pos, negℤ, _+ℤ_}
 use lib.Ieee.{Float, nan, inf, fin, binary64, size, add, sub, mul, div, ofInt, lt}
-use Rattle.laws.specs.Run.{run}
+use Rattle.laws.specs.Loops.{loop}
 use Rattle.laws.specs.Area.{bits, one64, two64}
 use Rattle.elementary.specs.Exp.{ln2hi, ln2lo}
 
@@ -25,17 +25,17 @@ oddStep z i t = add binary64 (div binary64 one64 (ofInt binary64 (pos (19 - 2 * 
 
 -- t = 1/21, then for d = 19, 17 .. 1
 unfoldable pub oddSeries : Float → Float
-unfolding run
-oddSeries z = run (oddStep z) 10 0 (div binary64 one64 (bits 0x4035000000000000))
+unfolding loop
+oddSeries z = loop (oddStep z) 10 0 (div binary64 one64 (bits 0x4035000000000000))
 
 -- k·HI + ((2·s)·t + k·LO)
-abbrev pub joined : Float → Float → Float → Float
-joined k s t = add binary64 (mul binary64 k ln2hi) (add binary64 (mul binary64 (mul binary64 two64 s) t) (mul binary64 k ln2lo))
+abbrev pub lnSum : Float → Float → Float → Float
+lnSum k s t = add binary64 (mul binary64 k ln2hi) (add binary64 (mul binary64 (mul binary64 two64 s) t) (mul binary64 k ln2lo))
 
 -- of m·2^k: s = (m - 1) / (m + 1), z = s·s
 unfoldable pub lnAt : Float → ℤ → Float
 unfolding oddSeries
-lnAt m k = let s = div binary64 (sub binary64 m one64) (add binary64 m one64) in joined (ofInt binary64 k) s (oddSeries (mul binary64 s s))
+lnAt m k = let s = div binary64 (sub binary64 m one64) (add binary64 m one64) in lnSum (ofInt binary64 k) s (oddSeries (mul binary64 s s))
 
 -- of m·2^k with m in [1, 2): where m is above the root of 2, it is halved and k is one more
 unfoldable pub lnIn : Float → ℤ → Float

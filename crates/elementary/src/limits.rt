@@ -1,9 +1,10 @@
 // The bounds on values, and what stands for the Rust's `abs`, `max` with a constant and `ceil`.
 ghost use mathlib.Core.Path.{_≡_};
 ghost use mathlib.Core.Bool.{true};
-ghost use Prim.Native.Nat.{_≤_};
+ghost use Prim.Native.Nat.{_*_, _≤_};
 ghost use lib.IntN.{pos};
 ghost use lib.Ieee.{lt, ofInt, ofBits, binary64};
+ghost use Rattle.laws.specs.Domain.{mostFrames};
 ghost use Rattle.elementary.specs.Limits.{absOf, unlessAbove, inDomain, calm, ceilOf, neighboursOf, upToWhole};
 
 // x without its sign.
@@ -51,7 +52,7 @@ pub fn is_calm(x: f64) -> bool
 
 // The smallest whole number that is not below q.
 fn ceil_of(q: f64) -> u64
-    requires { ⌜ upToWhole q 12288 ⌝ }
+    requires { ⌜ upToWhole q (3 * mostFrames) ⌝ }
     ensures { λ r. ⌜ r ≡ ceilOf q ⌝ }
 {
     let w = std::num::truncating_f64_to_u64(q);
@@ -63,7 +64,7 @@ fn ceil_of(q: f64) -> u64
 
 // How many nearest neighbours a frame has: min(ceil(3 * perplexity) + 1, n - 1), at least 1.
 pub fn neighbours(perplexity: f64, n: u64) -> u64
-    requires { ⌜ (lt (ofBits binary64 0) perplexity ≡ true) × (lt perplexity (ofInt binary64 (pos n)) ≡ true) × (n ≤ 4096) ⌝ }
+    requires { ⌜ (lt (ofBits binary64 0) perplexity ≡ true) × (lt perplexity (ofInt binary64 (pos n)) ≡ true) × (n ≤ mostFrames) ⌝ }
     ensures { λ k. ⌜ k ≡ neighboursOf perplexity n ⌝ }
 {
     let k = ceil_of(3.0 * perplexity) + 1;

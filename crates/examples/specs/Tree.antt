@@ -6,7 +6,7 @@ use lib.ListN.{replicate}
 use lib.Ieee.{Float, ofBits, binary64, add}
 use Rattle.tree_node.specs.declared.Node.{Node}
 use Rattle.laws.specs.Area.{bits, zero64, one64}
-use Rattle.tree_node.specs.Node.{zeros}
+use Rattle.tree_node.specs.Node.{zeros3}
 use Rattle.tree_node.specs.Areas.{nodeAt, blank}
 use Rattle.tree.specs.Insert.{built, rooted}
 use Rattle.tree.specs.Repel.{repelled}
@@ -69,6 +69,6 @@ case-g = refl
 abbrev couple : List Float
 couple = zero64 ∷ one64 ∷ []
 
-case-h : add binary64 (repelled 3 1 0 zeros zero64 (built couple 1 2 (rooted root root-half (replicate 2 blank)) .tree .nodes) .sum) (repelled 3 1 1 (one64 ∷ zero64 ∷ zero64 ∷ []) zero64 (built couple 1 2 (rooted root root-half (replicate 2 blank)) .tree .nodes) .sum) ≡ one64
+case-h : add binary64 (repelled 3 1 0 zeros3 zero64 (built couple 1 2 (rooted root root-half (replicate 2 blank)) .tree .nodes) .sum) (repelled 3 1 1 (one64 ∷ zero64 ∷ zero64 ∷ []) zero64 (built couple 1 2 (rooted root root-half (replicate 2 blank)) .tree .nodes) .sum) ≡ one64
 unfolding built repelled ofBits add
 case-h = refl

@@ -5,13 +5,17 @@ use Prim.Native.Nat.{ℕ, _+_, _-_, _*_, _/_, _%_}
 use lib.Dec.{eqb, ltb, leb}
 use lib.ListN.{length}
 use lib.Ieee.{Float}
-use Rattle.laws.specs.Run.{every, first}
+use Rattle.laws.specs.Loops.{every, first}
 use Rattle.laws.specs.Area.{num, zero64}
 use Rattle.little.specs.Little.{littleOf, valueAt}
 use Rattle.elementary.specs.Limits.{inDomain}
 use Rattle.frames.specs.declared.Frame.{Frame}
 use Rattle.frames.specs.declared.Frames.{Frames}
 use Rattle.frames.specs.declared.Frames.the-variants.{Good, Bad}
+
+-- how long a record is
+abbrev pub recordBytes : ℕ
+recordBytes = 72
 
 -- ---- the bytes of a record that starts at place a
 
@@ -24,9 +28,12 @@ sideAt f a = num f (a + 4)
 
 -- ---- a record that is good by itself
 
--- pictures count from 1 to 54,000
+-- pictures count from 1
+abbrev pub mostPicture : ℕ
+mostPicture = 54000
+
 unfoldable pub pictureFine : ℕ → Bool
-pictureFine p = leb 1 p && leb p 54000
+pictureFine p = leb 1 p && leb p mostPicture
 
 unfoldable pub sideFine : ℕ → Bool
 sideFine s = eqb s 1 || eqb s 2
@@ -46,25 +53,25 @@ goodAlone f a = pictureFine (pictureAt f a) && sideFine (sideAt f a) && spareFin
 
 -- record i's picture is above that of the record before it
 unfoldable pub inOrder : List ℕ → ℕ → Bool
-inOrder f i = eqb i 0 || ltb (pictureAt f ((i - 1) * 72)) (pictureAt f (i * 72))
+inOrder f i = eqb i 0 || ltb (pictureAt f ((i - 1) * recordBytes)) (pictureAt f (i * recordBytes))
 
 unfoldable pub badAt : List ℕ → ℕ → Bool
-badAt f i = not (goodAlone f (i * 72) && inOrder f i)
+badAt f i = not (goodAlone f (i * recordBytes) && inOrder f i)
 
 -- how many whole records there are
-abbrev pub wholeOf : List ℕ → ℕ
-wholeOf f = length f / 72
+abbrev pub wholeRecords : List ℕ → ℕ
+wholeRecords f = length f / recordBytes
 
 -- the count of the records, or the place of the first bad one; a stray tail counts as a record, and is bad
 unfoldable pub framesOf : List ℕ → Frames
 framesOf f =
-    cond (ltb (first (badAt f) (wholeOf f)) (wholeOf f)) (Bad (first (badAt f) (wholeOf f)))
-    (cond (eqb (length f % 72) 0) (Good (wholeOf f)) (Bad (wholeOf f)))
+    cond (ltb (first (badAt f) (wholeRecords f)) (wholeRecords f)) (Bad (first (badAt f) (wholeRecords f)))
+    (cond (eqb (length f % recordBytes) 0) (Good (wholeRecords f)) (Bad (wholeRecords f)))
 
 -- the scope paper's number for what the reader says: 16 for a bad record, none for a good file
-unfoldable pub numberOf : Frames → ℕ
-numberOf (Good n) = 0
-numberOf (Bad p) = 16
+unfoldable pub framesNumber : Frames → ℕ
+framesNumber (Good n) = 0
+framesNumber (Bad p) = 16
 
 -- ---- frame i
 
@@ -79,4 +86,4 @@ noFrame = record { picture = 0; side = 0; features = zero64 ∷ zero64 ∷ zero6
 
 -- what record i holds; past the whole records a frame of zeros
 unfoldable pub frameOf : List ℕ → ℕ → Frame
-frameOf f i = cond (ltb i (wholeOf f)) (record { picture = pictureAt f (i * 72); side = sideAt f (i * 72); features = featuresAt f (i * 72); starts = startsAt f (i * 72) }) noFrame
+frameOf f i = cond (ltb i (wholeRecords f)) (record { picture = pictureAt f (i * recordBytes); side = sideAt f (i * recordBytes); features = featuresAt f (i * recordBytes); starts = startsAt f (i * recordBytes) }) noFrame

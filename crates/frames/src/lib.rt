@@ -3,7 +3,13 @@
 ghost use mathlib.Core.Path.{_≡_};
 ghost use Prim.Native.Nat.{_+_, _*_, _/_, _<_, _≤_};
 ghost use lib.ListN.{length};
-ghost use Rattle.frames.specs.Frames.{pictureAt, pictureFine, sideFine, spareFine, valuesFine, goodAlone, inOrder, badAt, framesOf, featuresAt, startsAt, frameOf};
+ghost use Rattle.frames.specs.Frames.{recordBytes, pictureAt, pictureFine, sideFine, spareFine, valuesFine, goodAlone, inOrder, badAt, framesOf, featuresAt, startsAt, frameOf};
+
+// How long a record is.
+pub const RECORD_BYTES: usize = 72;
+
+// Pictures count from 1 to this.
+const MOST_PICTURE: u64 = 54000;
 
 // What the reader says of a file.
 pub enum Frames {
@@ -29,7 +35,7 @@ fn picture_fine(p: u64) -> bool
     ensures { λ r. ⌜ r ≡ pictureFine p ⌝ }
 {
     if 1 <= p {
-        return p <= 54000;
+        return p <= MOST_PICTURE;
     }
     false
 }
@@ -59,7 +65,7 @@ fn spare_fine(file: &[u8], a: usize) -> bool
 
 // The eight values of the record at a are finite and at most 2^20 in magnitude.
 fn values_fine(file: &[u8], a: usize) -> bool
-    requires { ⌜ a + 72 ≤ length (now file) ⌝ }
+    requires { ⌜ a + recordBytes ≤ length (now file) ⌝ }
     ensures { λ r. ⌜ r ≡ valuesFine (now (file .entry)) a ⌝ }
 {
     let mut k = 0;
@@ -75,7 +81,7 @@ fn values_fine(file: &[u8], a: usize) -> bool
 
 // The record at a is good by itself.
 fn good_alone(file: &[u8], a: usize) -> bool
-    requires { ⌜ a + 72 ≤ length (now file) ⌝ }
+    requires { ⌜ a + recordBytes ≤ length (now file) ⌝ }
     ensures { λ r. ⌜ r ≡ goodAlone (now (file .entry)) a ⌝ }
 {
     if !picture_fine(little::half_word(file, a)) {
@@ -92,21 +98,21 @@ fn good_alone(file: &[u8], a: usize) -> bool
 
 // Record i's picture is above that of the record before it.
 fn in_order(file: &[u8], i: usize) -> bool
-    requires { ⌜ i * 72 + 72 ≤ length (now file) ⌝ }
+    requires { ⌜ i * recordBytes + recordBytes ≤ length (now file) ⌝ }
     ensures { λ r. ⌜ r ≡ inOrder (now (file .entry)) i ⌝ }
 {
     if i == 0 {
         return true;
     }
-    little::half_word(file, (i - 1) * 72) < little::half_word(file, i * 72)
+    little::half_word(file, (i - 1) * RECORD_BYTES) < little::half_word(file, i * RECORD_BYTES)
 }
 
 // Record i is bad by itself or out of order.
 fn is_bad(file: &[u8], i: usize) -> bool
-    requires { ⌜ i * 72 + 72 ≤ length (now file) ⌝ }
+    requires { ⌜ i * recordBytes + recordBytes ≤ length (now file) ⌝ }
     ensures { λ r. ⌜ r ≡ badAt (now (file .entry)) i ⌝ }
 {
-    if good_alone(file, i * 72) {
+    if good_alone(file, i * RECORD_BYTES) {
         return !in_order(file, i);
     }
     true
@@ -116,7 +122,7 @@ fn is_bad(file: &[u8], i: usize) -> bool
 pub fn read_frames(file: &[u8]) -> Frames
     ensures { λ r. ⌜ r ≡ framesOf (now (file .entry)) ⌝ }
 {
-    let whole = file.len() / 72;
+    let whole = file.len() / RECORD_BYTES;
     let mut i = 0;
     while i < whole {
         if is_bad(file, i) {
@@ -124,14 +130,14 @@ pub fn read_frames(file: &[u8]) -> Frames
         }
         i += 1;
     }
-    if file.len() % 72 == 0 {
+    if file.len() % RECORD_BYTES == 0 {
         return Frames::Good(whole);
     }
     Frames::Bad(whole)
 }
 
 fn features_at(file: &[u8], a: usize) -> [f64; 6]
-    requires { ⌜ a + 72 ≤ length (now file) ⌝ }
+    requires { ⌜ a + recordBytes ≤ length (now file) ⌝ }
     ensures { λ r. ⌜ r ≡ featuresAt (now (file .entry)) a ⌝ }
 {
     [
@@ -145,7 +151,7 @@ fn features_at(file: &[u8], a: usize) -> [f64; 6]
 }
 
 fn starts_at(file: &[u8], a: usize) -> [f64; 2]
-    requires { ⌜ a + 72 ≤ length (now file) ⌝ }
+    requires { ⌜ a + recordBytes ≤ length (now file) ⌝ }
     ensures { λ r. ⌜ r ≡ startsAt (now (file .entry)) a ⌝ }
 {
     [little::value(file, a + 56), little::value(file, a + 64)]
@@ -155,8 +161,8 @@ fn starts_at(file: &[u8], a: usize) -> [f64; 2]
 pub fn frame_at(file: &[u8], i: usize) -> Frame
     ensures { λ r. ⌜ r ≡ frameOf (now (file .entry)) i ⌝ }
 {
-    if i < file.len() / 72 {
-        let a = i * 72;
+    if i < file.len() / RECORD_BYTES {
+        let a = i * RECORD_BYTES;
         let features = features_at(file, a);
         let starts = starts_at(file, a);
         return Frame {

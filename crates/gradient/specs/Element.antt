@@ -3,11 +3,11 @@ use mathlib.Core.List.{List}
 use mathlib.Core.Bool.{Bool, cond}
 use Prim.Native.Nat.{ℕ, _+_, _*_, _/_, _%_}
 use lib.Ieee.{Float, binary64, add, sub, mul, div}
-use Rattle.laws.specs.Run.{run}
+use Rattle.laws.specs.Loops.{loop}
 use Rattle.laws.specs.Area.{at, zero64}
 use Rattle.elementary.specs.Limits.{unlessAbove, absOf}
 use Rattle.gradient.specs.Forces.{placeOf}
-use Rattle.gradient_pairs.specs.Exact.{least}
+use Rattle.gradient_pairs.specs.Exact.{shareFloor}
 use Rattle.gradient.specs.Exact.{four}
 
 -- the shares by rising point, from +0.0
@@ -16,8 +16,8 @@ shareStep F c i s = add binary64 s (at F (placeOf c i + 2 * c))
 
 -- Z: their sum, at least 2^-52
 unfoldable pub normaliserOf : List Float → ℕ → ℕ → Float
-unfolding run unlessAbove
-normaliserOf F n c = unlessAbove least (run (shareStep F c) n 0 zero64)
+unfolding loop unlessAbove
+normaliserOf F n c = unlessAbove shareFloor (loop (shareStep F c) n 0 zero64)
 
 -- element e of the map belongs to point e / c, component e % c
 abbrev pub spotOf : ℕ → ℕ → ℕ
@@ -36,5 +36,5 @@ abbrev pub normStep : (ℕ → Float) → ℕ → Float → Float
 normStep g e m = unlessAbove m (absOf (g e))
 
 unfoldable pub normOf : (ℕ → Float) → ℕ → Float
-unfolding run
-normOf g m = run (normStep g) m 0 zero64
+unfolding loop
+normOf g m = loop (normStep g) m 0 zero64

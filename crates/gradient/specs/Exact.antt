@@ -6,10 +6,10 @@ use Prim.Native.Nat.{ℕ, _+_, _*_}
 use lib.ListN.{set}
 use lib.Dec.{eqb}
 use lib.Ieee.{Float, binary64, sub, mul}
-use Rattle.laws.specs.Run.{run}
+use Rattle.laws.specs.Loops.{loop}
 use Rattle.laws.specs.Area.{at, bits, zero64}
 use Rattle.gradient_pairs.specs.declared.Pulls.{Pulls}
-use Rattle.gradient_pairs.specs.Exact.{numOf, totalStep, pullsOf}
+use Rattle.gradient_pairs.specs.Exact.{numOf, numStep, pullsOf}
 
 -- 4
 abbrev pub four : Float
@@ -19,8 +19,8 @@ four = bits 0x4010000000000000
 
 -- the unit of total row i: the first row's sets the sum to +0.0 first
 unfoldable pub totalRow : List Float → ℕ → ℕ → ℕ → List Float → List Float
-unfolding run numOf
-totalRow y n c i F = set F (n * c) (run (totalStep y c i) n 0 (cond (eqb i 0) zero64 (at F (n * c))))
+unfolding loop numOf
+totalRow y n c i F = set F (n * c) (loop (numStep y c i) n 0 (cond (eqb i 0) zero64 (at F (n * c))))
 
 -- ---- a gradient row
 
@@ -30,5 +30,5 @@ slopeStep x y a d F = set F (a + d) (mul binary64 (sub binary64 (mul binary64 (a
 
 -- the unit of gradient row i
 unfoldable pub gradientRow : List Float → List Float → Float → ℕ → ℕ → ℕ → List Float → List Float
-unfolding run pullsOf
-gradientRow y P exaggeration n c i F = run (slopeStep (pullsOf y P exaggeration (at F (n * c)) n c i) y (i * c)) c 0 F
+unfolding loop pullsOf
+gradientRow y P exaggeration n c i F = loop (slopeStep (pullsOf y P exaggeration (at F (n * c)) n c i) y (i * c)) c 0 F

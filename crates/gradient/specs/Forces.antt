@@ -4,11 +4,11 @@ use mathlib.Core.List.{List}
 use Prim.Native.Nat.{ℕ, _+_, _-_, _*_, _<_, _≤_}
 use lib.ListN.{length, set}
 use lib.Ieee.{Float, binary64, mul}
-use Rattle.laws.specs.Run.{run}
+use Rattle.laws.specs.Loops.{loop}
 use Rattle.laws.specs.Area.{at, num}
 use Rattle.tree_node.specs.declared.Node.{Node}
-use Rattle.tree_node.specs.declared.Acc.{Acc}
-use Rattle.tree_node.specs.Node.{zeros, pointOf}
+use Rattle.tree_bodies.specs.declared.Acc.{Acc}
+use Rattle.tree_node.specs.Node.{zeros3, pointOf}
 use Rattle.gradient_pairs.specs.Links.{pulled}
 use Rattle.tree.specs.Repel.{repelled}
 
@@ -18,8 +18,8 @@ linkStep exaggeration c y W I p a k t = pulled exaggeration c p (pointOf y c (nu
 
 -- point i's attraction: over its list, by rising link, from +0.0
 unfoldable pub attractionOf : Float → ℕ → List Float → List Float → List ℕ → List ℕ → ℕ → List Float
-unfolding run pulled
-attractionOf exaggeration c y W I O i = run (linkStep exaggeration c y W I (pointOf y c i) (num O i)) (num O (i + 1) - num O i) 0 zeros
+unfolding loop pulled
+attractionOf exaggeration c y W I O i = loop (linkStep exaggeration c y W I (pointOf y c i) (num O i)) (num O (i + 1) - num O i) 0 zeros3
 
 -- where point i's forces begin
 abbrev pub placeOf : ℕ → ℕ → ℕ
@@ -31,8 +31,8 @@ putStep x a d l = set l (a + d) (at x d)
 
 -- attraction, repulsion and share of point i take their places; all else is kept
 unfoldable pub stored : ℕ → ℕ → List Float → Acc → List Float → List Float
-unfolding run
-stored c i t acc F = let a = placeOf c i in set (run (putStep (acc .neg) (a + c)) c 0 (run (putStep t a) c 0 F)) (a + 2 * c) (acc .sum)
+unfolding loop
+stored c i t acc F = let a = placeOf c i in set (loop (putStep (acc .neg) (a + c)) c 0 (loop (putStep t a) c 0 F)) (a + 2 * c) (acc .sum)
 
 -- the forces unit of point i
 unfoldable pub forcesOf : Float → Float → ℕ → List Float → List Float → List ℕ → List ℕ → ℕ → List Node → ℕ → List Float → List Float

@@ -3,15 +3,16 @@ ghost use mathlib.Core.Path.{_≡_};
 ghost use mathlib.Core.Bool.{true};
 ghost use Prim.Native.Nat.{ℕ, _+_, _*_, _<_, _≤_};
 ghost use lib.ListN.{length};
+ghost use Rattle.laws.specs.Domain.{mostFrames};
 ghost use Rattle.laws.specs.Area.{at, num};
-ghost use Rattle.laws.specs.Run.{run};
-ghost use Rattle.tree_node.specs.Node.{Axes, zeros, pointOf};
+ghost use Rattle.laws.specs.Loops.{loop};
+ghost use Rattle.tree_node.specs.Node.{Axes, zeros3, pointOf};
 ghost use Rattle.tree_node.specs.Areas.{nodesOf};
-ghost use Rattle.tree.specs.Insert.{tree, treeOk};
+ghost use Rattle.tree.specs.Insert.{tree, shaped};
 ghost use Rattle.gradient_pairs.specs.Links.{pulled};
 ghost use Rattle.gradient.specs.Forces.{linkStep, attractionOf, Below, Linked, placeOf, putStep, stored, forcesOf};
 use gradient_pairs::links::attract;
-use tree_node::Acc;
+use tree_bodies::Acc;
 use tree_node::cells::point;
 
 fn wide(x: u32) -> usize
@@ -53,7 +54,7 @@ fn follow_all(
 ) -> [f64; 3]
     requires { ⌜ (Axes c) × (n * c ≤ length (now positions)) × (a + links ≤ length (now weights)) × (a + links ≤ length (now indices)) ⌝ }
     requires { ⌜ Below n (a + links) (now indices) ⌝ }
-    ensures { λ r. ⌜ r ≡ run (linkStep exaggeration c (now (positions .entry)) (now (weights .entry)) (now (indices .entry)) p a) links 0 zeros ⌝ }
+    ensures { λ r. ⌜ r ≡ loop (linkStep exaggeration c (now (positions .entry)) (now (weights .entry)) (now (indices .entry)) p a) links 0 zeros3 ⌝ }
 {
     let mut t = [0.0, 0.0, 0.0];
     let mut k = 0;
@@ -89,7 +90,7 @@ fn attraction(
 // c values into the places from a on.
 fn put(forces: &mut [f64], a: usize, x: [f64; 3], c: usize)
     requires { ⌜ (Axes c) × (a + c ≤ length (now forces)) ⌝ }
-    ensures { λ _. ⌜ now (forces .exit) ≡ run (putStep x a) c 0 (now (forces .entry)) ⌝ }
+    ensures { λ _. ⌜ now (forces .exit) ≡ loop (putStep x a) c 0 (now (forces .entry)) ⌝ }
 {
     let mut d = 0;
     while d < c {
@@ -126,8 +127,8 @@ pub fn point_forces(
     angle: f64,
     forces: &mut [f64],
 )
-    requires { ⌜ (Axes c) × (i < n) × (n ≤ 4096) × (n * c ≤ length (now positions)) × (n * (2 * c + 1) ≤ length (now forces)) × (0 < used) × (used ≤ length (nodesOf (now reals) (now words))) ⌝ }
-    requires { ⌜ (treeOk 4294967296 4294967295 c (tree used (nodesOf (now reals) (now words))) ≡ true) × Linked n (now weights) (now indices) (now offsets) i ⌝ }
+    requires { ⌜ (Axes c) × (i < n) × (n ≤ mostFrames) × (n * c ≤ length (now positions)) × (n * (2 * c + 1) ≤ length (now forces)) × (0 < used) × (used ≤ length (nodesOf (now reals) (now words))) ⌝ }
+    requires { ⌜ (shaped c (tree used (nodesOf (now reals) (now words))) ≡ true) × Linked n (now weights) (now indices) (now offsets) i ⌝ }
     ensures { λ _. ⌜ now (forces .exit) ≡ forcesOf exaggeration angle c (now (positions .entry)) (now (weights .entry)) (now (indices .entry)) (now (offsets .entry)) used (nodesOf (now (reals .entry)) (now (words .entry))) i (now (forces .entry)) ⌝ }
 {
     let p = point(positions, i, c);

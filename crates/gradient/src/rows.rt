@@ -2,7 +2,7 @@
 ghost use mathlib.Core.Path.{_≡_};
 ghost use Prim.Native.Nat.{_+_, _*_, _<_, _≤_};
 ghost use lib.ListN.{length};
-ghost use Rattle.laws.specs.Run.{run};
+ghost use Rattle.laws.specs.Loops.{loop};
 ghost use Rattle.gradient.specs.Exact.{totalRow, slopeStep, gradientRow};
 use gradient_pairs::Pulls;
 use gradient_pairs::exact::add_row;
@@ -25,7 +25,7 @@ pub fn total_row(positions: &[f64], n: usize, c: usize, i: usize, forces: &mut [
 // Frame i's gradient into its c places.
 fn slopes(forces: &mut [f64], positions: &[f64], a: usize, c: usize, x: Pulls)
     requires { ⌜ (c ≤ 8) × (a + c ≤ length (now positions)) × (a + c ≤ length (now forces)) ⌝ }
-    ensures { λ _. ⌜ now (forces .exit) ≡ run (slopeStep x (now (positions .entry)) a) c 0 (now (forces .entry)) ⌝ }
+    ensures { λ _. ⌜ now (forces .exit) ≡ loop (slopeStep x (now (positions .entry)) a) c 0 (now (forces .entry)) ⌝ }
 {
     let along = x.along;
     let mut d = 0;

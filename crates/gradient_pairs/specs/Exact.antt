@@ -5,14 +5,14 @@ use Prim.Native.Nat.{ℕ, _+_, _*_}
 use lib.ListN.{set}
 use lib.Dec.{eqb}
 use lib.Ieee.{Float, binary64, add, sub, mul, div}
-use Rattle.laws.specs.Run.{run}
-use Rattle.laws.specs.Area.{at, bits, zero64, one64}
+use Rattle.laws.specs.Loops.{loop}
+use Rattle.laws.specs.Area.{at, bits, zero64, one64, zeros8}
 use Rattle.elementary.specs.Limits.{unlessAbove}
 use Rattle.gradient_pairs.specs.declared.Pulls.{Pulls}
 
 -- 2^-52, below which no share of the total goes
-abbrev pub least : Float
-least = bits 0x3cb0000000000000
+abbrev pub shareFloor : Float
+shareFloor = bits 0x3cb0000000000000
 
 -- ---- the numerators
 
@@ -21,8 +21,8 @@ abbrev pub apartStep : List Float → ℕ → ℕ → ℕ → Float → Float
 apartStep y a b d s = add binary64 s (mul binary64 (sub binary64 (at y (a + d)) (at y (b + d))) (sub binary64 (at y (a + d)) (at y (b + d))))
 
 unfoldable pub apartOf : List Float → ℕ → ℕ → ℕ → Float
-unfolding run
-apartOf y c i j = run (apartStep y (i * c) (j * c)) c 0 zero64
+unfolding loop
+apartOf y c i j = loop (apartStep y (i * c) (j * c)) c 0 zero64
 
 -- 1 / (1 + d²), and 0 on the diagonal
 unfoldable pub numOf : List Float → ℕ → ℕ → ℕ → Float
@@ -30,35 +30,32 @@ unfolding apartOf
 numOf y c i j = cond (eqb i j) zero64 (div binary64 one64 (add binary64 one64 (apartOf y c i j)))
 
 -- one numerator more of row i
-abbrev pub totalStep : List Float → ℕ → ℕ → ℕ → Float → Float
-totalStep y c i j s = add binary64 s (numOf y c i j)
+abbrev pub numStep : List Float → ℕ → ℕ → ℕ → Float → Float
+numStep y c i j s = add binary64 s (numOf y c i j)
 
 -- ---- the weights of a gradient row
 
 -- q = num / total, at least 2^-52; w = (affinity·exaggeration − q)·num, the product rounded first
 unfoldable pub pushOf : Float → Float → Float → Float → Float
 unfolding unlessAbove
-pushOf p exaggeration num total = mul binary64 (sub binary64 (mul binary64 p exaggeration) (unlessAbove least (div binary64 num total))) num
-
--- the sum of the w so far, and Σ w·y in each component, all from +0.0
-abbrev pub zeros8 : List Float
-zeros8 = zero64 ∷ zero64 ∷ zero64 ∷ zero64 ∷ zero64 ∷ zero64 ∷ zero64 ∷ zero64 ∷ []
+pushOf p exaggeration num total = mul binary64 (sub binary64 (mul binary64 p exaggeration) (unlessAbove shareFloor (div binary64 num total))) num
 
 abbrev pub alongStep : Float → List Float → ℕ → ℕ → List Float → List Float
 alongStep w y b d t = set t d (add binary64 (at t d) (mul binary64 w (at y (b + d))))
 
+-- the sum of the w so far, and Σ w·y in each component
 abbrev pub pulls : Float → List Float → Pulls
 pulls s t = record { sum = s; along = t }
 
 -- frame j's part, of weight w
 unfoldable pub pullBy : Float → List Float → ℕ → ℕ → Pulls → Pulls
-unfolding run
-pullBy w y c j x = pulls (add binary64 (x .sum) w) (run (alongStep w y (j * c)) c 0 (x .along))
+unfolding loop
+pullBy w y c j x = pulls (add binary64 (x .sum) w) (loop (alongStep w y (j * c)) c 0 (x .along))
 
 abbrev pub pushAt : List Float → List Float → Float → Float → ℕ → ℕ → ℕ → ℕ → Float
 pushAt y P exaggeration total n c i j = pushOf (at P (i * n + j)) exaggeration (numOf y c i j) total
 
 -- all frames by rising j, from +0.0
 unfoldable pub pullsOf : List Float → List Float → Float → Float → ℕ → ℕ → ℕ → Pulls
-unfolding run pullBy pushOf
-pullsOf y P exaggeration total n c i = run (λ j x. pullBy (pushAt y P exaggeration total n c i j) y c j x) n 0 (pulls zero64 zeros8)
+unfolding loop pullBy pushOf
+pullsOf y P exaggeration total n c i = loop (λ j x. pullBy (pushAt y P exaggeration total n c i j) y c j x) n 0 (pulls zero64 zeros8)

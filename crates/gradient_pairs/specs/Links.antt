@@ -2,9 +2,9 @@
 use mathlib.Core.List.{List}
 use Prim.Native.Nat.{ℕ}
 use lib.Ieee.{Float, binary64, add, mul, div}
-use Rattle.laws.specs.Run.{run}
+use Rattle.laws.specs.Loops.{loop}
 use Rattle.laws.specs.Area.{one64}
-use Rattle.tree_node.specs.Bodies.{gapOf, pushStep}
+use Rattle.tree_bodies.specs.Bodies.{gapOf, pushStep}
 
 -- how strongly a link of weight w pulls: (exaggeration·w) / (1 + d²)
 unfoldable pub pullOf : Float → Float → ℕ → List Float → List Float → Float
@@ -13,5 +13,5 @@ pullOf exaggeration w c p q = div binary64 (mul binary64 exaggeration w) (add bi
 
 -- one link more: frame q of weight w pulls the point p along p - q
 unfoldable pub pulled : Float → ℕ → List Float → List Float → Float → List Float → List Float
-unfolding run pullOf
-pulled exaggeration c p q w t = run (pushStep p q (pullOf exaggeration w c p q)) c 0 t
+unfolding loop pullOf
+pulled exaggeration c p q w t = loop (pushStep p q (pullOf exaggeration w c p q)) c 0 t

@@ -2,8 +2,8 @@
 ghost use mathlib.Core.Path.{_≡_};
 ghost use Prim.Native.Nat.{_+_, _*_, _<_, _≤_};
 ghost use lib.ListN.{length};
-ghost use Rattle.laws.specs.Run.{run};
-ghost use Rattle.gradient_pairs.specs.Exact.{apartOf, numOf, totalStep, pushOf, alongStep, pullBy, pushAt, pullsOf};
+ghost use Rattle.laws.specs.Loops.{loop};
+ghost use Rattle.gradient_pairs.specs.Exact.{apartOf, numOf, numStep, pushOf, alongStep, pullBy, pushAt, pullsOf};
 use crate::Pulls;
 
 // The squared distance of frames i and j on the map.
@@ -37,7 +37,7 @@ fn num(positions: &[f64], c: usize, i: usize, j: usize) -> f64
 // The numerators of row i, by rising frame, onto a sum.
 pub fn add_row(positions: &[f64], n: usize, c: usize, i: usize, sum: f64) -> f64
     requires { ⌜ (i < n) × (n * c ≤ length (now positions)) ⌝ }
-    ensures { λ r. ⌜ r ≡ run (totalStep (now (positions .entry)) c i) n 0 sum ⌝ }
+    ensures { λ r. ⌜ r ≡ loop (numStep (now (positions .entry)) c i) n 0 sum ⌝ }
 {
     let mut s = sum;
     let mut j = 0;
@@ -59,7 +59,7 @@ fn push(p: f64, exaggeration: f64, num: f64, total: f64) -> f64
 // The sums along each component, with c values from place b on, weighed by w, more.
 fn add_along(along: [f64; 8], positions: &[f64], b: usize, c: usize, w: f64) -> [f64; 8]
     requires { ⌜ (c ≤ 8) × (b + c ≤ length (now positions)) ⌝ }
-    ensures { λ r. ⌜ r ≡ run (alongStep w (now (positions .entry)) b) c 0 along ⌝ }
+    ensures { λ r. ⌜ r ≡ loop (alongStep w (now (positions .entry)) b) c 0 along ⌝ }
 {
     let mut t = along;
     let mut d = 0;

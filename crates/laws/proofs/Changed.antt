@@ -7,8 +7,8 @@ use native.Mathlib.Decide.{decLt}
 use native.Mathlib.Nat.{zero-add, not-suc-le-zero}
 use lib.ListN.{length, getD, take, drop, take-append-drop}
 use lib.Seq.{drop-at, drop-drop, getD-set-same, getD-set-other, length-take-le}
-use Rattle.laws.specs.Run.{run}
-use Rattle.laws.proofs.Runs.{run-keeps}
+use Rattle.laws.specs.Loops.{loop}
+use Rattle.laws.proofs.Loops.{loop-keeps}
 use Rattle.laws.proofs.Ahead.{Ahead, ahead-start, ahead-more}
 use Rattle.laws.proofs.Places.{change, changed-size, changed-past}
 use Rattle.laws.proofs.Parts.{Scratch}
@@ -33,15 +33,15 @@ module _ {A : Type 0} where
         last : (j k : ℕ) → j < k + 1 → (j < k → ⊥) → k ≡ j
         last j k a b = omega arith
 
-    pub changed-at : (n : ℕ) (l : List A) → n ≤ length l → (j : ℕ) → j < n → getD (run (change d g) n 0 l) j d ≡ g j (getD l j d)
-    changed-at n l h = subst (λ (k : ℕ). Changes l k (run (change d g) n 0 l)) (zero-add n) (run-keeps (Changes l) (change d g) n 0 l (λ k m b c. changes-more (omega arith) c) (record { ahead = ahead-start d l; front = λ j a. absurd (not-suc-le-zero a) })) .front
+    pub changed-at : (n : ℕ) (l : List A) → n ≤ length l → (j : ℕ) → j < n → getD (loop (change d g) n 0 l) j d ≡ g j (getD l j d)
+    changed-at n l h = subst (λ (k : ℕ). Changes l k (loop (change d g) n 0 l)) (zero-add n) (loop-keeps (Changes l) (change d g) n 0 l (λ k m b c. changes-more (omega arith) c) (record { ahead = ahead-start d l; front = λ j a. absurd (not-suc-le-zero a) })) .front
 
-    pub changed-tail : (n : ℕ) (l : List A) → n ≤ length l → drop n (run (change d g) n 0 l) ≡ drop n l
+    pub changed-tail : (n : ℕ) (l : List A) → n ≤ length l → drop n (loop (change d g) n 0 l) ≡ drop n l
     changed-tail n l h =
         let e : length (take n l) ≡ n = length-take-le n l h in
-        ap (λ (r : List A). drop n (run (change d g) n 0 r)) (sym (take-append-drop n l))
+        ap (λ (r : List A). drop n (loop (change d g) n 0 r)) (sym (take-append-drop n l))
         ∙ ap (drop n) (changed-past d g n (take n l) (drop n l) (omega arith))
-        ∙ drop-at (run (change d g) n 0 (take n l)) (drop n l) n (changed-size d g n (take n l) ∙ e)
+        ∙ drop-at (loop (change d g) n 0 (take n l)) (drop n l) n (changed-size d g n (take n l) ∙ e)
 
   -- areas that are one from k on are one from any later place on
   pub drop-later : (l m : List A) (k n : ℕ) → k ≤ n → drop k l ≡ drop k m → drop n l ≡ drop n m

@@ -6,7 +6,7 @@ use Prim.Native.Nat.{ℕ, zero, suc, _+_, _<_, _≤_}
 use native.Mathlib.Omega.{arith}
 use native.Mathlib.Numerals.{add-one}
 use native.Mathlib.Nat.{eq-or-lt-of-le, le-of-suc-le-suc, not-suc-le-zero, le-antisymm}
-use Rattle.laws.specs.Run.{every}
+use Rattle.laws.specs.Loops.{every}
 use Rattle.laws.proofs.Bools.{and-left, and-right, not-true-is}
 
 pub every-none : (p : ℕ → Bool) → every p 0 ≡ true

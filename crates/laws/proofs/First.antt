@@ -8,7 +8,7 @@ use native.Mathlib.Decide.{decLt}
 use native.Mathlib.Nat.{sub-zero, eq-or-lt-of-le, le-refl}
 use lib.Dec.{ltb}
 use borrow.Author.Tests.{lt-ltb, le-ltb}
-use Rattle.laws.specs.Run.{seek, first}
+use Rattle.laws.specs.Loops.{seek, first}
 use Rattle.laws.proofs.Numbers.{left, none}
 use Rattle.laws.proofs.Bools.{two}
 

@@ -12,7 +12,7 @@ use lib.Dec.{eqb}
 use lib.ListN.{length, getD, drop, length-append, List·getD-append}
 use lib.Seq.{getD-append-seam, getD-append-add, getD-drop}
 use borrow.Author.Tests.{eq-eqb, ne-eqb, eqb-true}
-use Rattle.laws.specs.Run.{first}
+use Rattle.laws.specs.Loops.{first}
 use Rattle.laws.specs.Area.{num}
 use Rattle.laws.specs.Sums.{sum, bit}
 use Rattle.laws.specs.Joined.{those, joined}

@@ -1,6 +1,6 @@
 pub mod Numbers
 pub mod Bools
-pub mod Runs
+pub mod Loops
 pub mod Untils
 pub mod Every
 pub mod First

@@ -8,7 +8,7 @@ use native.Mathlib.Numerals.{add-one}
 use native.Mathlib.Nat.{le-refl, le-antisymm, not-suc-le-zero, suc-mul, zero-mul, mul-zero}
 use lib.Dec.{eqb, ltb}
 use borrow.Author.Tests.{eq-eqb, ne-eqb, ltb-true, eqb-true}
-use Rattle.laws.specs.Run.{seek, first}
+use Rattle.laws.specs.Loops.{seek, first}
 use Rattle.laws.specs.Sums.{sum, bit}
 use Rattle.laws.proofs.Numbers.{row-in}
 use Rattle.laws.proofs.First.{first-suc, first-holds}

@@ -4,7 +4,7 @@ use mathlib.Core.Bool.{Bool, true, false}
 use Prim.Native.Nat.{ℕ, zero, suc, _+_, _-_, _<_, _≤_}
 use native.Mathlib.Omega.{arith}
 use native.Mathlib.Nat.{sub-zero, zero-add, suc-add}
-use Rattle.laws.specs.Run.{until}
+use Rattle.laws.specs.Loops.{until}
 use Rattle.laws.proofs.Numbers.{left, none}
 
 module _ {A : Type 0} where

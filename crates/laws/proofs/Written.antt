@@ -7,8 +7,8 @@ use native.Mathlib.Decide.{decLt}
 use native.Mathlib.Nat.{zero-add, not-suc-le-zero}
 use lib.ListN.{length, getD, set, drop, length-set}
 use lib.Seq.{drop-drop, drop-set-lt, getD-set-same, getD-set-other}
-use Rattle.laws.specs.Run.{run}
-use Rattle.laws.proofs.Runs.{run-keeps}
+use Rattle.laws.specs.Loops.{loop}
+use Rattle.laws.proofs.Loops.{loop-keeps}
 
 module _ {A : Type 0} where
   -- areas that are one from p on are one from p + 1 on
@@ -20,11 +20,11 @@ module _ {A : Type 0} where
     abbrev pub write : ℕ → List A → List A
     write k l = set l k (g k)
 
-    pub written-size : (n : ℕ) (l : List A) → length (run write n 0 l) ≡ length l
-    written-size n l = run-keeps (λ k m. length m ≡ length l) write n 0 l (λ k m h e. length-set m k (g k) ∙ e) refl
+    pub written-size : (n : ℕ) (l : List A) → length (loop write n 0 l) ≡ length l
+    written-size n l = loop-keeps (λ k m. length m ≡ length l) write n 0 l (λ k m h e. length-set m k (g k) ∙ e) refl
 
-    pub written-tail : (n : ℕ) (l : List A) → drop n (run write n 0 l) ≡ drop n l
-    written-tail n l = subst (λ (q : ℕ). drop q (run write n 0 l) ≡ drop q l) (zero-add n) (run-keeps (λ k m. drop k m ≡ drop k l) write n 0 l (λ k m h e. drop-set-lt (k + 1) m k (g k) (omega arith) ∙ drop-more m l k e) refl)
+    pub written-tail : (n : ℕ) (l : List A) → drop n (loop write n 0 l) ≡ drop n l
+    written-tail n l = subst (λ (q : ℕ). drop q (loop write n 0 l) ≡ drop q l) (zero-add n) (loop-keeps (λ k m. drop k m ≡ drop k l) write n 0 l (λ k m h e. drop-set-lt (k + 1) m k (g k) (omega arith) ∙ drop-more m l k e) refl)
 
     -- the first k places are written
     record Front (d : A) (l : List A) (k : ℕ) (m : List A) : Type 0 where
@@ -43,5 +43,5 @@ module _ {A : Type 0} where
         last : (j k : ℕ) → j < k + 1 → (j < k → ⊥) → k ≡ j
         last j k a b = omega arith
 
-    pub written-at : (d : A) (n : ℕ) (l : List A) → n ≤ length l → (j : ℕ) → j < n → getD (run write n 0 l) j d ≡ g j
-    written-at d n l h = subst (λ (q : ℕ). Front d l q (run write n 0 l)) (zero-add n) (run-keeps (Front d l) write n 0 l (λ k m a f. front-more (omega arith) f) (record { size = refl; holds = λ j a. absurd (not-suc-le-zero a) })) .holds
+    pub written-at : (d : A) (n : ℕ) (l : List A) → n ≤ length l → (j : ℕ) → j < n → getD (loop write n 0 l) j d ≡ g j
+    written-at d n l h = subst (λ (q : ℕ). Front d l q (loop write n 0 l)) (zero-add n) (loop-keeps (Front d l) write n 0 l (λ k m a f. front-more (omega arith) f) (record { size = refl; holds = λ j a. absurd (not-suc-le-zero a) })) .holds

@@ -1,4 +1,5 @@
-pub mod Run
+pub mod Loops
 pub mod Area
 pub mod Sums
 pub mod Joined
+pub mod Domain

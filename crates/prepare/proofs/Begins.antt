@@ -15,7 +15,7 @@ use Rattle.laws.specs.Joined.{joined}
 use Rattle.laws.proofs.Bools.{by-bool}
 use Rattle.laws.proofs.Parts.{length-pasted}
 use Rattle.laws.proofs.Laid.{singles-size, laid-size}
-use Rattle.affinity_lists.specs.Lists.{Rows, Areas, areas, cleared, listOf, weightsOf, startOf, linksOf}
+use Rattle.affinity_lists.specs.Lists.{Rows, Areas, areas, cleared, listOf, weightsOf, listStart, linksOf}
 use Rattle.affinity_lists.proofs.Linked.{length-weights, links-most}
 use Rattle.affinity_lists.proofs.Theorems.{offsets-first, offsets-rise, links-between, listed-below}
 use Rattle.affinity.specs.Laid.{each}
@@ -24,7 +24,7 @@ use Rattle.affinity.specs.Neighbours.{rowsOf, neighboursListed}
 use Rattle.affinity.proofs.Kept.{weights-kept, indices-kept}
 use Rattle.affinity.proofs.Listed.{not-all-neighbours}
 use Rattle.affinity.proofs.Named.{rows-named}
-use Rattle.run_calls.specs.Machine.{sum}
+use Rattle.run_calls.specs.Machine.{together}
 use Rattle.tree_node.specs.Areas.{nodesOf}
 use Rattle.run_record.specs.declared.Settings.{Settings}
 use Rattle.run_record.specs.declared.Run.{Run}
@@ -36,7 +36,7 @@ use Rattle.run_entry.proofs.Laws.{links-is}
 use Rattle.descent.specs.Honest.{Honest}
 use Rattle.descent.proofs.Theorems.{OneCall, demand-three, SoMany, after-each}
 use Rattle.prepare.specs.declared.Prepared.the-variants.{Refused, Ready}
-use Rattle.prepare.specs.Prepare.{Lent, lengthsOf, prepareFault, freshOf, routedIn, filled, prepared, memoryOf}
+use Rattle.prepare.specs.Prepare.{Lent, lengthsOf, prepareFault, freshRun, routedIn, begunAreas, prepared, memoryOf}
 use Rattle.prepare.proofs.Laws.{Passed, passed, twice, routed-tree, routed-exact}
 
 -- ---- areas keep their lengths
@@ -83,7 +83,7 @@ module _ (s : Settings) (t : List Float) (two : 2 ≤ s .n) (a : Areas) where
 
   offsets-size : s .n + 1 ≤ length (a .offsets) → length (made .offsets) ≡ length (a .offsets)
   unfolding neighboursListed
-  offsets-size h = front-size (joined (λ i. startOf (s .n) k (b .indices) i ∷ []) (suc (s .n))) (a .offsets) (suc (s .n)) (singles-size (startOf (s .n) k (b .indices)) (suc (s .n))) (omega arith)
+  offsets-size h = front-size (joined (λ i. listStart (s .n) k (b .indices) i ∷ []) (suc (s .n))) (a .offsets) (suc (s .n)) (singles-size (listStart (s .n) k (b .indices)) (suc (s .n))) (omega arith)
 
   first-is : num (made .offsets) 0 ≡ 0
   unfolding neighboursListed
@@ -124,13 +124,13 @@ module _ (s : Settings) (table start r : List Float) (w : List ℕ) (l : Lent) w
   nodes = length (nodesOf r w)
 
   abbrev A : Lent
-  A = filled s table start l
+  A = begunAreas s table start l
 
   abbrev before : Areas
   before = areas (l .affinities) (l .indices) (l .offsets) (l .rowValues) (l .rowIndices)
 
   abbrev first : State
-  first = state (freshOf s) (memoryOf A r w)
+  first = state (freshRun s) (memoryOf A r w)
 
   tree-is : isTree (s .method) ≡ true → routedIn s table l ≡ neighboursListed table (s .n) (s .f) (s .perplexity) before
   tree-is t = sym (routed-tree s table before t)
@@ -160,7 +160,7 @@ module _ (s : Settings) (table start r : List Float) (w : List ℕ) (l : Lent) w
     }
 
     good-begin : Good first
-    unfolding freshOf stateFits
+    unfolding freshRun stateFits
     good-begin = record {
       settings = p .good;
       counters = record { standing-fits = lt-ltb 0 (s .iterations) (p .good .iterations-some); phase-below = (let q = per-some (s .method) (s .n) in omega arith); total = omega arith };
@@ -173,7 +173,7 @@ module _ (s : Settings) (table start r : List Float) (w : List ℕ) (l : Lent) w
     }
 
     honest-begin : Honest first
-    unfolding freshOf
+    unfolding freshRun
     honest-begin = record { good = good-begin; grown = λ t n. absurd (n refl) }
 
 -- ---- THEOREM 1, where a run begins: preparation that is not refused leaves an honest state
@@ -188,8 +188,8 @@ module _ (s : Settings) (table start r : List Float) (w : List ℕ) (l : Lent) (
   preparation-honest =
       let fault = prepareFault s table start (lengthsOf l (length (nodesOf r w))) in
       by-bool (Honest begun) (eqb fault 0)
-      (λ e. let q : Ready (freshOf s) ≡ Ready run = rw e at ready in
-      let same : run ≡ freshOf s = cc in
+      (λ e. let q : Ready (freshRun s) ≡ Ready run = rw e at ready in
+      let same : run ≡ freshRun s = cc in
       rw (e, same) (honest-begin s table start r w l (passed s table start (lengthsOf l (length (nodesOf r w))) (eqb-true fault 0 e))))
       (λ e. absurd (let q : Refused fault ≡ Ready run = rw e at ready in let z : _≡_ {A = ℕ} 0 1 = cc in omega arith))
 

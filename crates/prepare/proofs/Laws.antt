@@ -9,6 +9,7 @@ use lib.Dec.{eqb, ltb, leb}
 use lib.ListN.{length, replicate}
 use lib.Ieee.{Float}
 use borrow.Author.Tests.{eq-eqb, ne-eqb, eqb-true, eqb-false, ltb-false, leb-true, not-false}
+use Rattle.laws.specs.Domain.{mostFeatures, mostFrames, mostComponents}
 use Rattle.laws.specs.Area.{zero64, one64}
 use Rattle.laws.specs.Joined.{pasted}
 use Rattle.laws.proofs.Bools.{and-left, and-right, or-right, by-bool}
@@ -26,7 +27,7 @@ use Rattle.run_entry.proofs.Laws.{areas-fine}
 use Rattle.run_units.proofs.Rooms.{cells-forces}
 use Rattle.prepare.specs.declared.Lengths.{Lengths}
 use Rattle.prepare.specs.declared.Prepared.the-variants.{Refused, Ready}
-use Rattle.prepare.specs.Prepare.{Lent, lent, lengthsOf, allIn, lengthsFit, prepareFault, freshOf, routed, routedIn, outcome, prepared}
+use Rattle.prepare.specs.Prepare.{Lent, lent, lengthsOf, allIn, lengthsFit, prepareFault, freshRun, routed, routedIn, outcome, prepared}
 use Rattle.run_record.specs.declared.Run.{Run}
 use Rattle.prepare.specs.Room.{RouteRoom}
 
@@ -47,8 +48,8 @@ last false e = absurd (let z : _≡_ {A = ℕ} 12 0 = e in omega arith)
 most : (x m : ℕ) → (eqb x 0 || ltb m x) ≡ false → x ≤ m
 most x m e = ltb-false m x (or-right (eqb x 0) (ltb m x) e)
 
-pub early-most : (s : Settings) → earlyFault s ≡ 0 → (s .n ≤ 4096) × (s .f ≤ 256) × (s .c ≤ 8)
-early-most s e = let y = early-fine s e in (most (s .n) 4096 (y .n-fine), most (s .f) 256 (y .f-fine), most (s .c) 8 (y .c-fine))
+pub early-most : (s : Settings) → earlyFault s ≡ 0 → (s .n ≤ mostFrames) × (s .f ≤ mostFeatures) × (s .c ≤ mostComponents)
+early-most s e = let y = early-fine s e in (most (s .n) mostFrames (y .n-fine), most (s .f) mostFeatures (y .f-fine), most (s .c) mostComponents (y .c-fine))
 
 -- early and late tests together are those of the settings
 pub early-late : (s : Settings) → earlyFault s ≡ 0 → lateFault s ≡ 0 → GoodSettings s
@@ -139,7 +140,7 @@ module _ (s : Settings) (table start : List Float) (nodes : ℕ) (l : Lent) {k :
   unfolding prepared
   refused-is n = rw (ne-eqb (prepareFault s table start (lengthsOf l nodes)) 0 (λ e. n (q ∙ e)), q)
 
-  pub ready-is : {r : Run} {p i g a F F₁ v : List Float} {x o w : List ℕ} → k ≡ 0 → r ≡ freshOf s → areas a x o v w ≡ routedIn s table l
+  pub ready-is : {r : Run} {p i g a F F₁ v : List Float} {x o w : List ℕ} → k ≡ 0 → r ≡ freshRun s → areas a x o v w ≡ routedIn s table l
       → p ≡ pasted start 0 (s .n * s .c) (l .positions) → i ≡ cleared zero64 (s .n * s .c) (l .increments) → g ≡ cleared one64 (s .n * s .c) (l .gains)
       → F₁ ≡ squaresOf table (s .n) (s .f) (l .forces) → F ≡ cleared zero64 (s .n * (2 * s .c + 1)) F₁
       → outcome (Ready r) (lent p i g a x o F v w) ≡ prepared s table start nodes l

@@ -5,7 +5,7 @@ use Prim.Native.Nat.{ℕ, _+_, _*_}
 use lib.Dec.{eqb, leb}
 use lib.ListN.{length}
 use lib.Ieee.{Float}
-use Rattle.laws.specs.Run.{every}
+use Rattle.laws.specs.Loops.{every}
 use Rattle.laws.specs.Area.{at, zero64, one64}
 use Rattle.laws.specs.Joined.{pasted}
 use Rattle.elementary.specs.Limits.{inDomain}
@@ -66,8 +66,8 @@ prepareFault s table start l =
 -- ---- what a run begins with
 
 -- no unit is done, no node in use
-unfoldable pub freshOf : Settings → Run
-freshOf s = record { settings = s; standing = Running; done = 0; phase = 0; units = 0; used = 0 }
+unfoldable pub freshRun : Settings → Run
+freshRun s = record { settings = s; standing = Running; done = 0; phase = 0; units = 0; used = 0 }
 
 -- the affinities by method; the preparation rows end as zeros
 unfoldable pub routed : Settings → List Float → Areas → Areas
@@ -79,8 +79,8 @@ abbrev pub routedIn : Settings → List Float → Lent → Areas
 routedIn s table l = routed s table (areas (l .affinities) (l .indices) (l .offsets) (l .rowValues) (l .rowIndices))
 
 -- positions are the start, increments and forces 0, gains 1; tails are kept
-abbrev pub filled : Settings → List Float → List Float → Lent → Lent
-filled s table start l =
+abbrev pub begunAreas : Settings → List Float → List Float → Lent → Lent
+begunAreas s table start l =
     let r = routedIn s table l in
     lent
     (pasted start 0 (s .n * s .c) (l .positions))
@@ -106,7 +106,7 @@ outcome a l = record { answer = a; areas = l }
 unfoldable pub prepared : Settings → List Float → List Float → ℕ → Lent → Outcome
 prepared s table start nodes l =
     cond (eqb (prepareFault s table start (lengthsOf l nodes)) 0)
-    (outcome (Ready (freshOf s)) (filled s table start l))
+    (outcome (Ready (freshRun s)) (begunAreas s table start l))
     (outcome (Refused (prepareFault s table start (lengthsOf l nodes))) l)
 
 -- the lent areas and the arena, as the work call has them
@@ -114,6 +114,6 @@ abbrev pub memoryOf : Lent → List Float → List ℕ → Memory
 memoryOf l r w = memory (l .positions) (l .increments) (l .gains) (l .affinities) (l .indices) (l .offsets) (l .forces) r w
 
 -- the scope paper's number of an answer; 0 where it is no refusal
-unfoldable pub numberOf : Prepared → ℕ
-numberOf (Refused k) = k
-numberOf (Ready r) = 0
+unfoldable pub prepareNumber : Prepared → ℕ
+prepareNumber (Refused k) = k
+prepareNumber (Ready r) = 0

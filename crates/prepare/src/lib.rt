@@ -10,7 +10,7 @@ ghost use Rattle.affinity.specs.Exact.{exactOf};
 ghost use Rattle.tree_node.specs.Areas.{nodesOf};
 ghost use Rattle.run_record.specs.Record.{GoodSettings};
 ghost use Rattle.prepare.specs.Room.{RouteRoom};
-ghost use Rattle.prepare.specs.Prepare.{allIn, lengthsFit, prepareFault, freshOf, routed, lent, outcome, prepared};
+ghost use Rattle.prepare.specs.Prepare.{allIn, lengthsFit, prepareFault, freshRun, routed, lent, outcome, prepared};
 use elementary::in_domain;
 use run_entry::areas_fit;
 use run_record::Run;
@@ -117,7 +117,7 @@ pub fn prepare_fault(s: Settings, table: &[f64], start: &[f64], l: Lengths) -> u
 
 // The record of a run that begins.
 fn fresh(s: Settings) -> Run
-    ensures { λ r. ⌜ r ≡ freshOf s ⌝ }
+    ensures { λ r. ⌜ r ≡ freshRun s ⌝ }
 {
     Run {
         settings: s,

@@ -6,7 +6,7 @@ use Prim.Native.Nat.{ℕ, _<_, _≤_}
 use lib.ListN.{length}
 use lib.Ieee.{Float, binary64, toBits}
 use borrow.Author.Tests.{eq-eqb, ne-eqb, lt-ltb, le-ltb, le-leb, lt-leb}
-use Rattle.laws.specs.Run.{every}
+use Rattle.laws.specs.Loops.{every}
 use Rattle.laws.specs.Area.{at, num}
 use Rattle.replay.specs.Areas.{wantedAt, rightValue, rightNumber, sameArea, sameNumbers}
 

@@ -5,7 +5,7 @@ use Prim.Native.Nat.{ℕ, _+_, _%_, _^_}
 use lib.Dec.{eqb, ltb, leb}
 use lib.ListN.{length, set}
 use lib.Ieee.{Float, binary64, toBits}
-use Rattle.laws.specs.Run.{run, every}
+use Rattle.laws.specs.Loops.{loop, every}
 use Rattle.laws.specs.Area.{at, num, bits}
 use Rattle.replay.specs.Replay.{wordOf}
 
@@ -15,15 +15,15 @@ onward a b = (a + b) % 2 ^ 64
 
 -- place i holds the value with the bits 4000000000000000 + i
 abbrev pub marked : List Float → List Float
-marked v = run (λ i x. set x i (bits ((0x4000000000000000 + i) % 2 ^ 64))) (length v) 0 v
+marked v = loop (λ i x. set x i (bits ((0x4000000000000000 + i) % 2 ^ 64))) (length v) 0 v
 
 -- place i holds 40000000 + i, in hex; past 3fffffff it begins again
 abbrev pub markedNumbers : List ℕ → List ℕ
-markedNumbers v = run (λ i x. set x i (0x40000000 + i % 0x40000000)) (length v) 0 v
+markedNumbers v = loop (λ i x. set x i (0x40000000 + i % 0x40000000)) (length v) 0 v
 
 -- the first m places take the words from a on
 abbrev pub filled : List ℕ → ℕ → ℕ → List Float → List Float
-filled l a m v = run (λ i x. set x i (bits (wordOf l (onward a i)))) m 0 v
+filled l a m v = loop (λ i x. set x i (bits (wordOf l (onward a i)))) m 0 v
 
 -- what place i is to hold: below m the word, then a mark
 abbrev pub wantedAt : List ℕ → ℕ → ℕ → ℕ → ℕ → ℕ

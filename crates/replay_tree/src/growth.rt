@@ -15,7 +15,7 @@ ghost use lib.ListN.{length};
 ghost use Rattle.tree_node.specs.Node.{Axes};
 ghost use Rattle.tree_node.specs.Areas.{nodesOf};
 ghost use Rattle.tree.specs.Insert.{tree};
-ghost use Rattle.tree.specs.Contents.{contentsOf, isFine};
+ghost use Rattle.tree.specs.Contents.{contentsOf, contentsFine};
 
 // What became of the points.
 pub(crate) struct Grown {
@@ -32,7 +32,7 @@ pub(crate) struct Grown {
 // Whether the nodes in use are well formed.
 pub(crate) fn fine(reals: &[f64], words: &[u32], used: usize, n: usize, c: usize) -> bool
     requires { ⌜ Axes c ⌝ }
-    ensures { λ r. ⌜ r ≡ isFine (contentsOf n c (tree used (nodesOf (now (reals .entry)) (now (words .entry))))) ⌝ }
+    ensures { λ r. ⌜ r ≡ contentsFine (contentsOf n c (tree used (nodesOf (now (reals .entry)) (now (words .entry))))) ⌝ }
 {
     let contents = tree_ok(reals, words, used, n, c);
     match contents {

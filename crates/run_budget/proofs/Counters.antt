@@ -1,17 +1,18 @@
 -- What a unit does to the record keeps its counters in order. Assumes nothing.
 use mathlib.Core.Path.{_≡_, refl, _∙_}
 use mathlib.Core.Bool.{true, false, _&&_, true≢false}
-use Prim.Native.Nat.{ℕ, _+_, _*_, _<_, _≤_}
+use Prim.Native.Nat.{ℕ, suc, _+_, _*_, _<_, _≤_}
 use native.Mathlib.Omega.{arith}
 use native.Mathlib.Nat.{mul-le-mul-right, add-mul, one-mul}
 use lib.Dec.{eqb, leb}
 use lib.Ieee.{Float}
 use borrow.Author.Tests.{ltb-true, leb-true, eq-eqb, lt-ltb, le-leb, eqb-true, eqb-false}
+use Rattle.laws.specs.Domain.{earlyIterations}
 use Rattle.laws.proofs.Bools.{by-bool, and-left, and-right}
 use Rattle.run_record.specs.declared.Run.{Run}
 use Rattle.run_record.specs.declared.Standing.{Standing}
 use Rattle.run_record.specs.declared.Standing.the-variants.{Running, Stopped, Finished}
-use Rattle.run_record.specs.Record.{isEnded, above, perOf, stateFits, advancedOf, stopsNow, closedOf}
+use Rattle.run_record.specs.Record.{isEnded, aboveZero, perOf, stateFits, advancedOf, stopsNow, closedOf}
 use Rattle.run_record.proofs.Laws.{per-some}
 use Rattle.run_entry.specs.Entry.{GoodCounters}
 
@@ -56,10 +57,10 @@ module _ (r : Run) (live : isEnded (r .standing) ≡ false) (g : GoodCounters r)
       let b = below in
       let i = r .settings .iterations in
       let P = stateFits (closedOf r norm .standing) (r .done + 1) i 0 (r .settings .minimum) ≡ true in
-      let A = leb 250 (r .done) in
-      let B = above (r .settings .minimum) in
+      let A = leb earlyIterations (r .done) in
+      let B = aboveZero (r .settings .minimum) in
       by-bool P (stopsNow r norm)
-      (λ e. let ab = and-left (A && B) _ e in rw e (rw (le-leb 251 (r .done + 1) (omega (arith, leb-true 250 (r .done) (and-left A B ab))), le-leb (r .done + 1) i (omega arith), and-right A B ab)))
+      (λ e. let ab = and-left (A && B) _ e in rw e (rw (le-leb (suc earlyIterations) (r .done + 1) (omega (arith, leb-true earlyIterations (r .done) (and-left A B ab))), le-leb (r .done + 1) i (omega arith), and-right A B ab)))
       (λ e. by-bool P (eqb (r .done + 1) i) (λ q. rw (e, q) (rw (eqb-true (r .done + 1) i q, eq-eqb i i refl))) (λ q. rw (e, q) (lt-ltb (r .done + 1) i (omega (arith, eqb-false (r .done + 1) i q)))))
 
   pub closed-good : (norm : Float) → r .phase + 1 ≡ perAt r → GoodCounters (closedOf r norm)

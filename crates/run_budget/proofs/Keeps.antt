@@ -8,7 +8,7 @@ use native.Mathlib.Nat.{le-refl, not-suc-le-zero}
 use lib.ListN.{length, set, length-set}
 use lib.Ieee.{Float}
 use borrow.Author.Tests.{le-leb}
-use Rattle.laws.specs.Run.{run, every}
+use Rattle.laws.specs.Loops.{loop, every}
 use Rattle.laws.proofs.Bools.{by-bool}
 use Rattle.run_record.specs.declared.Run.{Run}
 use Rattle.run_record.specs.Record.{isTree, isEnded, perOf, advancedOf, closedOf}

@@ -8,19 +8,19 @@ use lib.Dec.{eqb, ltb}
 use lib.ListN.{length, length-set}
 use lib.Ieee.{Float, binary64, mul}
 use borrow.Author.Tests.{eq-eqb, ne-eqb}
-use Rattle.laws.specs.Run.{run}
+use Rattle.laws.specs.Loops.{loop}
 use Rattle.laws.specs.Area.{at, zero64}
 use Rattle.laws.proofs.Bools.{by-bool}
-use Rattle.laws.proofs.Runs.{run-keeps}
+use Rattle.laws.proofs.Loops.{loop-keeps}
 use Rattle.run_record.specs.declared.Run.{Run}
 use Rattle.run_record.specs.Record.{isTree, advancedOf, closedOf}
 use Rattle.tree_node.specs.declared.Node.{Node}
-use Rattle.tree_node.specs.declared.Acc.{Acc}
+use Rattle.tree_bodies.specs.declared.Acc.{Acc}
 use Rattle.tree.specs.Insert.{Tree, tree, needsOf, inserted, Insertion, insertion, insertOf}
 use Rattle.gradient.specs.Forces.{stored, placeOf, putStep, attractionOf, forcesOf}
 use Rattle.tree.specs.Repel.{repelled}
 use Rattle.tree_node.specs.Node.{pointOf}
-use Rattle.gradient_pairs.specs.Exact.{totalStep, pullsOf}
+use Rattle.gradient_pairs.specs.Exact.{numStep, pullsOf}
 use Rattle.gradient.specs.Exact.{totalRow, slopeStep, gradientRow}
 use Rattle.gradient.specs.Element.{normOf}
 use Rattle.step_passes.specs.Passes.{Before, meansOf, calmMoves, calmCentred, positionStep, incrementStep, gainStep}
@@ -77,7 +77,7 @@ module _ (r : Run) (y v g F : List Float) where
   m = r .settings .n * r .settings .c
 
   pub by-finish : (P : FinishTurn → Type 0)
-      → P (finishTurn (closedOf r (normOf (b .gradients) m)) (run (positionStep (meansOf b (r .settings .n) (r .settings .c)) b (r .settings .c)) m 0 y) (run (incrementStep b) m 0 v) (run (gainStep b) m 0 g) Done)
+      → P (finishTurn (closedOf r (normOf (b .gradients) m)) (loop (positionStep (meansOf b (r .settings .n) (r .settings .c)) b (r .settings .c)) m 0 y) (loop (incrementStep b) m 0 v) (loop (gainStep b) m 0 g) Done)
       → P (finishTurn r y v g Wild)
       → P (finishUnit r y v g F)
   unfolding finishUnit finishOf
@@ -87,17 +87,17 @@ module _ (r : Run) (y v g F : List Float) where
 
 module _ {A : Type 0} where
   -- what keeps the length in each turn keeps it
-  pub length-run : (f : ℕ → List A → List A) (n k : ℕ) (l : List A) → ((j : ℕ) (m : List A) → length (f j m) ≡ length m) → length (run f n k l) ≡ length l
-  length-run f n k l h = run-keeps (λ (j : ℕ) (m : List A). length m ≡ length l) f n k l (λ j m a b. h j m ∙ b) refl
+  pub length-run : (f : ℕ → List A → List A) (n k : ℕ) (l : List A) → ((j : ℕ) (m : List A) → length (f j m) ≡ length m) → length (loop f n k l) ≡ length l
+  length-run f n k l h = loop-keeps (λ (j : ℕ) (m : List A). length m ≡ length l) f n k l (λ j m a b. h j m ∙ b) refl
 
-length-put : (x : List Float) (a n : ℕ) (F : List Float) → length (run (putStep x a) n 0 F) ≡ length F
+length-put : (x : List Float) (a n : ℕ) (F : List Float) → length (loop (putStep x a) n 0 F) ≡ length F
 length-put x a n F = length-run (putStep x a) n 0 F (λ j l. length-set l (a + j) _)
 
 length-stored : (c i : ℕ) (t : List Float) (acc : Acc) (F : List Float) → length (stored c i t acc F) ≡ length F
 unfolding stored
 length-stored c i t acc F =
     let a = placeOf c i in
-    length-set (run (putStep (acc .neg) (a + c)) c 0 (run (putStep t a) c 0 F)) (a + 2 * c) (acc .sum) ∙ (length-put (acc .neg) (a + c) c (run (putStep t a) c 0 F) ∙ length-put t a c F)
+    length-set (loop (putStep (acc .neg) (a + c)) c 0 (loop (putStep t a) c 0 F)) (a + 2 * c) (acc .sum) ∙ (length-put (acc .neg) (a + c) c (loop (putStep t a) c 0 F) ∙ length-put t a c F)
 
 length-point : (e angle : Float) (c : ℕ) (y W : List Float) (xs off : List ℕ) (used : ℕ) (ns : List Node) (i : ℕ) (F : List Float) → length (forcesOf e angle c y W xs off used ns i F) ≡ length F
 unfolding forcesOf
@@ -105,7 +105,7 @@ length-point e angle c y W xs off used ns i F = length-stored c i (attractionOf 
 
 length-total : (y : List Float) (n c i : ℕ) (F : List Float) → length (totalRow y n c i F) ≡ length F
 unfolding totalRow
-length-total y n c i F = length-set F (n * c) (run (totalStep y c i) n 0 (cond (eqb i 0) zero64 (at F (n * c))))
+length-total y n c i F = length-set F (n * c) (loop (numStep y c i) n 0 (cond (eqb i 0) zero64 (at F (n * c))))
 
 length-gradient : (y P : List Float) (e : Float) (n c i : ℕ) (F : List Float) → length (gradientRow y P e n c i F) ≡ length F
 unfolding gradientRow

@@ -8,23 +8,24 @@ use native.Mathlib.Decide.{decLt}
 use native.Mathlib.Nat.{zero-add, add-zero, suc-add, sub-zero}
 use lib.Dec.{ltb}
 use borrow.Author.Tests.{ltb-true, lt-ltb, le-ltb, le-leb, lt-leb}
-use Rattle.laws.specs.Run.{until}
+use Rattle.laws.specs.Domain.{mostWord}
+use Rattle.laws.specs.Loops.{until}
 use Rattle.laws.proofs.Bools.{by-bool}
 use Rattle.laws.proofs.Untils.{until-add}
 use Rattle.laws.proofs.Numbers.{left, none}
-use Rattle.run_calls.specs.Machine.{over, refused, running, Machine, called, times, stops, after, done, kindAt, go, call, left-by, told-by, sum, capped, Lawful}
+use Rattle.run_calls.specs.Machine.{over, refused, running, Machine, called, times, stops, after, unitsDone, kindAt, go, call, left-by, told-by, together, capped, Lawful}
 
 module _ {S : Type 0} (m : Machine S) where
   -- ---- one step of the definitions
 
-  done-stop : (b : ℕ) (s : S) → stops m s ≡ true → done m b s ≡ 0
-  unfolding done
+  done-stop : (b : ℕ) (s : S) → stops m s ≡ true → unitsDone m b s ≡ 0
+  unfolding unitsDone
   done-stop zero s e = refl
-  done-stop (suc b) s e = rw (e, done)
+  done-stop (suc b) s e = rw (e, unitsDone)
 
-  done-go : (b : ℕ) (s : S) → stops m s ≡ false → done m (suc b) s ≡ suc (done m b (m .next s))
-  unfolding done
-  done-go b s e = rw (e, done)
+  done-go : (b : ℕ) (s : S) → stops m s ≡ false → unitsDone m (suc b) s ≡ suc (unitsDone m b (m .next s))
+  unfolding unitsDone
+  done-go b s e = rw (e, unitsDone)
 
   after-stop : (b : ℕ) (s : S) → stops m s ≡ true → after m b s ≡ s
   unfolding until
@@ -41,37 +42,37 @@ module _ {S : Type 0} (m : Machine S) where
 
   -- ---- what is so of every state
 
-  pub done-within : (b : ℕ) (s : S) → done m b s ≤ b
-  unfolding done
+  pub done-within : (b : ℕ) (s : S) → unitsDone m b s ≤ b
+  unfolding unitsDone
   done-within zero s = omega arith
-  done-within (suc b) s = by-stop (done m (suc b) s ≤ suc b) s (λ e. rw (done-stop (suc b) s e) (omega arith)) (λ e. rw (done-go b s e) (omega (arith, done-within b (m .next s))))
+  done-within (suc b) s = by-stop (unitsDone m (suc b) s ≤ suc b) s (λ e. rw (done-stop (suc b) s e) (omega arith)) (λ e. rw (done-go b s e) (omega (arith, done-within b (m .next s))))
 
   -- the state is that of so many units
-  pub after-times : (b : ℕ) (s : S) → after m b s ≡ times (m .next) (done m b s) s
-  unfolding done until times
+  pub after-times : (b : ℕ) (s : S) → after m b s ≡ times (m .next) (unitsDone m b s) s
+  unfolding unitsDone until times
   after-times zero s = refl
-  after-times (suc b) s = by-stop (after m (suc b) s ≡ times (m .next) (done m (suc b) s) s) s (λ e. rw (done-stop (suc b) s e) (after-stop (suc b) s e)) (λ e. rw (done-go b s e) (after-go b s e ∙ after-times b (m .next s)))
+  after-times (suc b) s = by-stop (after m (suc b) s ≡ times (m .next) (unitsDone m (suc b) s) s) s (λ e. rw (done-stop (suc b) s e) (after-stop (suc b) s e)) (λ e. rw (done-go b s e) (after-go b s e ∙ after-times b (m .next s)))
 
   -- none of them was attempted where no unit is done
-  pub each-was-due : (b : ℕ) (s : S) (j : ℕ) → j < done m b s → stops m (times (m .next) j s) ≡ false
-  unfolding done times
+  pub each-was-due : (b : ℕ) (s : S) (j : ℕ) → j < unitsDone m b s → stops m (times (m .next) j s) ≡ false
+  unfolding unitsDone times
   each-was-due zero s j h = absurd (omega arith)
   each-was-due (suc b) s zero h = by-stop (stops m s ≡ false) s (λ e. absurd (let z = done-stop (suc b) s e in omega arith)) (λ e. e)
   each-was-due (suc b) s (suc j) h = by-stop (stops m (times (m .next) j (m .next s)) ≡ false) s (λ e. absurd (let z = done-stop (suc b) s e in omega arith)) (λ e. each-was-due b (m .next s) j (let z = done-go b s e in omega arith))
 
   -- fewer units than the budget: none further is done there
-  pub short-stops : (b : ℕ) (s : S) → done m b s < b → stops m (after m b s) ≡ true
-  unfolding done until
+  pub short-stops : (b : ℕ) (s : S) → unitsDone m b s < b → stops m (after m b s) ≡ true
+  unfolding unitsDone until
   short-stops zero s h = absurd (omega arith)
   short-stops (suc b) s h = by-stop (stops m (after m (suc b) s) ≡ true) s (λ e. rw (after-stop (suc b) s e) e) (λ e. rw (after-go b s e) (short-stops b (m .next s) (let z = done-go b s e in omega arith)))
 
   -- m units and then n
-  pub done-add : (a b : ℕ) (s : S) → done m (a + b) s ≡ done m a s + done m b (after m a s)
-  unfolding done until
-  done-add zero b s = rw (zero-add b, zero-add (done m b s))
-  done-add (suc a) b s = rw (suc-add a b) (by-stop (done m (suc (a + b)) s ≡ done m (suc a) s + done m b (after m (suc a) s)) s
+  pub done-add : (a b : ℕ) (s : S) → unitsDone m (a + b) s ≡ unitsDone m a s + unitsDone m b (after m a s)
+  unfolding unitsDone until
+  done-add zero b s = rw (zero-add b, zero-add (unitsDone m b s))
+  done-add (suc a) b s = rw (suc-add a b) (by-stop (unitsDone m (suc (a + b)) s ≡ unitsDone m (suc a) s + unitsDone m b (after m (suc a) s)) s
       (λ e. rw (done-stop (suc (a + b)) s e, done-stop (suc a) s e, after-stop (suc a) s e, done-stop b s e))
-      (λ e. rw (done-go (a + b) s e, done-go a s e, after-go a s e) (rw (done-add a b (m .next s)) (sym (suc-add (done m a (m .next s)) (done m b (after m a (m .next s))))))))
+      (λ e. rw (done-go (a + b) s e, done-go a s e, after-go a s e) (rw (done-add a b (m .next s)) (sym (suc-add (unitsDone m a (m .next s)) (unitsDone m b (after m a (m .next s))))))))
 
   pub after-add : (a b : ℕ) (s : S) → after m (a + b) s ≡ after m b (after m a s)
   after-add a b s = until-add (stops m) (m .next) a b s
@@ -83,10 +84,10 @@ module _ {S : Type 0} (m : Machine S) where
       pub within : k ≤ b
       pub good : Inv x
       pub state : after m (b - k) x ≡ after m b y
-      pub units : k + done m (b - k) x ≡ done m b y
+      pub units : k + unitsDone m (b - k) x ≡ unitsDone m b y
 
     pub goes-start : (b : ℕ) (y : S) → Inv y → Goes b y 0 y
-    goes-start b y g = record { within = omega arith; good = g; state = rw sub-zero; units = rw (sub-zero b) (zero-add (done m b y)) }
+    goes-start b y g = record { within = omega arith; good = g; state = rw sub-zero; units = rw (sub-zero b) (zero-add (unitsDone m b y)) }
 
     pub goes-more : {b k : ℕ} {y x : S} → Goes b y k x → k < b → stops m x ≡ false → Goes b y (k + 1) (m .next x)
     goes-more {b} {k} {y} {x} r h e =
@@ -97,7 +98,7 @@ module _ {S : Type 0} (m : Machine S) where
           within = omega arith;
           good = keeps x (r .good) e;
           state = sym a ∙ (rw l at (r .state));
-          units = (let z : k + done m (suc (b - (k + 1))) x ≡ done m b y = rw l at (r .units) in omega arith);
+          units = (let z : k + unitsDone m (suc (b - (k + 1))) x ≡ unitsDone m b y = rw l at (r .units) in omega arith);
         }
 
     -- a unit was not done: this is where the call ends
@@ -105,17 +106,17 @@ module _ {S : Type 0} (m : Machine S) where
     unfolding go
     goes-halt {b} {k} {y} {x} r h e =
         let a : x ≡ after m b y = sym (after-stop (b - k) x e) ∙ r .state in
-        let d : k ≡ done m b y = (let z = done-stop (b - k) x e in let u = r .units in omega arith) in
+        let d : k ≡ unitsDone m b y = (let z = done-stop (b - k) x e in let u = r .units in omega arith) in
         ends r a d
       where
-        ends : {b k : ℕ} {y x : S} → Goes b y k x → x ≡ after m b y → k ≡ done m b y → called x k (kindAt m b k x) ≡ called (after m b y) (done m b y) (kindAt m b (done m b y) (after m b y))
+        ends : {b k : ℕ} {y x : S} → Goes b y k x → x ≡ after m b y → k ≡ unitsDone m b y → called x k (kindAt m b k x) ≡ called (after m b y) (unitsDone m b y) (kindAt m b (unitsDone m b y) (after m b y))
         ends r a d = rw (a, d)
 
     pub goes-done : {b k : ℕ} {y x : S} → Goes b y k x → b ≤ k → called x k (kindAt m b k x) ≡ go m b y
-    unfolding go until done
+    unfolding go until unitsDone
     goes-done {b} {k} {y} {x} r h =
         let a : x ≡ after m b y = rw (none b k h) at (r .state) in
-        let d : k ≡ done m b y = (let z : k + 0 ≡ done m b y = rw (none b k h) at (r .units) in omega arith) in
+        let d : k ≡ unitsDone m b y = (let z : k + 0 ≡ unitsDone m b y = rw (none b k h) at (r .units) in omega arith) in
         rw (← a, ← d)
 
   -- ---- what is so of a lawful machine, from any good state
@@ -138,27 +139,27 @@ module _ {S : Type 0} (m : Machine S) where
     unfolding go
     call-state b s g = rw (call-goes b s g)
 
-    pub call-units : (b : ℕ) (s : S) → Good s → call m b s .units ≡ done m b s
+    pub call-units : (b : ℕ) (s : S) → Good s → call m b s .units ≡ unitsDone m b s
     unfolding go
     call-units b s g = rw (call-goes b s g)
 
-    pub call-kind : (b : ℕ) (s : S) → Good s → call m b s .kind ≡ kindAt m b (done m b s) (after m b s)
+    pub call-kind : (b : ℕ) (s : S) → Good s → call m b s .kind ≡ kindAt m b (unitsDone m b s) (after m b s)
     unfolding go
     call-kind b s g = rw (call-goes b s g)
 
     -- the record counts the units
-    pub counted : (b : ℕ) (s : S) → Good s → w .count (after m b s) ≡ w .count s + done m b s
-    unfolding until done
+    pub counted : (b : ℕ) (s : S) → Good s → w .count (after m b s) ≡ w .count s + unitsDone m b s
+    unfolding until unitsDone
     counted zero s g = omega arith
-    counted (suc b) s g = by-stop (w .count (after m (suc b) s) ≡ w .count s + done m (suc b) s) s
+    counted (suc b) s g = by-stop (w .count (after m (suc b) s) ≡ w .count s + unitsDone m (suc b) s) s
         (λ e. rw (after-stop (suc b) s e, done-stop (suc b) s e) (omega arith))
         (λ e. rw (after-go b s e, done-go b s e) (let h = counted b (m .next s) (w .keeps s g e) in let k = w .counts s g e in omega arith))
 
     -- no more units than there were left
-    pub done-rest : (b : ℕ) (s : S) → Good s → done m b s + w .rest (after m b s) ≤ w .rest s
-    unfolding until done
+    pub done-rest : (b : ℕ) (s : S) → Good s → unitsDone m b s + w .rest (after m b s) ≤ w .rest s
+    unfolding until unitsDone
     done-rest zero s g = omega arith
-    done-rest (suc b) s g = by-stop (done m (suc b) s + w .rest (after m (suc b) s) ≤ w .rest s) s
+    done-rest (suc b) s g = by-stop (unitsDone m (suc b) s + w .rest (after m (suc b) s) ≤ w .rest s) s
         (λ e. rw (after-stop (suc b) s e, done-stop (suc b) s e) (omega arith))
         (λ e. rw (after-go b s e, done-go b s e) (let h = done-rest b (m .next s) (w .keeps s g e) in let k = w .lessens s g e in omega arith))
 
@@ -174,7 +175,7 @@ module _ {S : Type 0} (m : Machine S) where
     pub enough : (a b : ℕ) (s : S) → Good s → w .rest s ≤ a → after m (a + b) s ≡ after m a s
     enough a b s g h = after-add a b s ∙ after-stop b (after m a s) (ends-within a s g h)
 
-    pub enough-done : (a b : ℕ) (s : S) → Good s → w .rest s ≤ a → done m (a + b) s ≡ done m a s
+    pub enough-done : (a b : ℕ) (s : S) → Good s → w .rest s ≤ a → unitsDone m (a + b) s ≡ unitsDone m a s
     enough-done a b s g h = done-add a b s ∙ rw (done-stop b (after m a s) (ends-within a s g h), add-zero)
 
     -- ---- calls one after the other
@@ -183,75 +184,75 @@ module _ {S : Type 0} (m : Machine S) where
     -- they are the units of one call with the sum of the budgets
     pub record Followed (bs : List ℕ) (s : S) : Type 0 where
       pub good : Good (left-by m bs s)
-      pub state : left-by m bs s ≡ after m (sum bs) s
-      pub units : told-by m bs s ≡ done m (sum bs) s
+      pub state : left-by m bs s ≡ after m (together bs) s
+      pub units : told-by m bs s ≡ unitsDone m (together bs) s
       pub so-many : left-by m bs s ≡ times (m .next) (told-by m bs s) s
       pub counting : w .count (left-by m bs s) ≡ w .count s + told-by m bs s
 
-    left-sum : (bs : List ℕ) (s : S) → Good s → left-by m bs s ≡ after m (sum bs) s
-    unfolding left-by sum until
+    left-sum : (bs : List ℕ) (s : S) → Good s → left-by m bs s ≡ after m (together bs) s
+    unfolding left-by together until
     left-sum [] s g = refl
-    left-sum (b ∷ bs) s g = rw (call-state b s g) (left-sum bs (after m b s) (good-after b s g) ∙ sym (after-add b (sum bs) s))
+    left-sum (b ∷ bs) s g = rw (call-state b s g) (left-sum bs (after m b s) (good-after b s g) ∙ sym (after-add b (together bs) s))
 
-    told-sum : (bs : List ℕ) (s : S) → Good s → told-by m bs s ≡ done m (sum bs) s
-    unfolding told-by sum done
+    told-sum : (bs : List ℕ) (s : S) → Good s → told-by m bs s ≡ unitsDone m (together bs) s
+    unfolding told-by together unitsDone
     told-sum [] s g = refl
-    told-sum (b ∷ bs) s g = rw (call-state b s g, call-units b s g) (rw (told-sum bs (after m b s) (good-after b s g)) (sym (done-add b (sum bs) s)))
+    told-sum (b ∷ bs) s g = rw (call-state b s g, call-units b s g) (rw (told-sum bs (after m b s) (good-after b s g)) (sym (done-add b (together bs) s)))
 
     pub calls-follow : (bs : List ℕ) (s : S) → Good s → Followed bs s
     calls-follow bs s g = let e = left-sum bs s g in let u = told-sum bs s g in record {
-      good = rw e (good-after (sum bs) s g);
+      good = rw e (good-after (together bs) s g);
       state = e;
       units = u;
-      so-many = rw (e, u) (after-times (sum bs) s);
-      counting = rw (e, u) (counted (sum bs) s g);
+      so-many = rw (e, u) (after-times (together bs) s);
+      counting = rw (e, u) (counted (together bs) s g);
     }
 
     -- the last call, at least 1, ends as one call with both budgets does
-    kind-add : (a b : ℕ) (s : S) → 1 ≤ b → kindAt m b (done m b (after m a s)) (after m b (after m a s)) ≡ kindAt m (a + b) (done m (a + b) s) (after m (a + b) s)
+    kind-add : (a b : ℕ) (s : S) → 1 ≤ b → kindAt m b (unitsDone m b (after m a s)) (after m b (after m a s)) ≡ kindAt m (a + b) (unitsDone m (a + b) s) (after m (a + b) s)
     unfolding kindAt
     kind-add a b s h = rw (after-add a b s) (ap (λ (t : Bool). cond (m .ended (after m b (after m a s))) over (cond t refused running)) tests)
       where
-        tests : ltb (done m b (after m a s)) b ≡ ltb (done m (a + b) s) (a + b)
-        tests = elim (decLt (done m a s) a) [
-          | yes l ↦ (let z = done-stop b (after m a s) (short-stops a s l) in rw (done-add a b s, z) (lt-ltb 0 b h ∙ sym (lt-ltb (done m a s + 0) (a + b) (omega arith))))
-          | no n ↦ elim (decLt (done m b (after m a s)) b) [
-            | yes l ↦ (rw (done-add a b s) (lt-ltb (done m b (after m a s)) b l ∙ sym (lt-ltb (done m a s + done m b (after m a s)) (a + b) (omega (arith, done-within a s)))))
-            | no k ↦ (rw (done-add a b s) (le-ltb (done m b (after m a s)) b (omega (arith, k)) ∙ sym (le-ltb (done m a s + done m b (after m a s)) (a + b) (omega (arith, n, k)))))
+        tests : ltb (unitsDone m b (after m a s)) b ≡ ltb (unitsDone m (a + b) s) (a + b)
+        tests = elim (decLt (unitsDone m a s) a) [
+          | yes l ↦ (let z = done-stop b (after m a s) (short-stops a s l) in rw (done-add a b s, z) (lt-ltb 0 b h ∙ sym (lt-ltb (unitsDone m a s + 0) (a + b) (omega arith))))
+          | no n ↦ elim (decLt (unitsDone m b (after m a s)) b) [
+            | yes l ↦ (rw (done-add a b s) (lt-ltb (unitsDone m b (after m a s)) b l ∙ sym (lt-ltb (unitsDone m a s + unitsDone m b (after m a s)) (a + b) (omega (arith, done-within a s)))))
+            | no k ↦ (rw (done-add a b s) (le-ltb (unitsDone m b (after m a s)) b (omega (arith, k)) ∙ sym (le-ltb (unitsDone m a s + unitsDone m b (after m a s)) (a + b) (omega (arith, n, k)))))
           ]
         ]
 
     -- a budget past the largest does what the largest does
     capped-same : (b : ℕ) (s : S) → Good s → go m b s ≡ go m (capped b) s
     unfolding go capped kindAt
-    capped-same b s g = elim (decLt 4294967295 b) [
-      | yes l ↦ (let k : w .rest s < 4294967295 = w .small s g in
-          let e : 4294967295 + (b - 4294967295) ≡ b = omega arith in
-          let x : after m b s ≡ after m 4294967295 s = subst (λ (n : ℕ). after m n s ≡ after m 4294967295 s) e (enough 4294967295 (b - 4294967295) s g (omega arith)) in
-          let y : done m b s ≡ done m 4294967295 s = subst (λ (n : ℕ). done m n s ≡ done m 4294967295 s) e (enough-done 4294967295 (b - 4294967295) s g (omega arith)) in
-          let z : done m 4294967295 s ≤ w .rest s = omega (arith, done-rest 4294967295 s g) in
-          rw (lt-leb b 4294967295 l, x, y) (rw (lt-ltb (done m 4294967295 s) b (omega arith), lt-ltb (done m 4294967295 s) 4294967295 (omega arith))))
-      | no n ↦ rw (le-leb b 4294967295 (omega (arith, n)))
+    capped-same b s g = elim (decLt mostWord b) [
+      | yes l ↦ (let k : w .rest s < mostWord = w .small s g in
+          let e : mostWord + (b - mostWord) ≡ b = omega arith in
+          let x : after m b s ≡ after m mostWord s = subst (λ (n : ℕ). after m n s ≡ after m mostWord s) e (enough mostWord (b - mostWord) s g (omega arith)) in
+          let y : unitsDone m b s ≡ unitsDone m mostWord s = subst (λ (n : ℕ). unitsDone m n s ≡ unitsDone m mostWord s) e (enough-done mostWord (b - mostWord) s g (omega arith)) in
+          let z : unitsDone m mostWord s ≤ w .rest s = omega (arith, done-rest mostWord s g) in
+          rw (lt-leb b mostWord l, x, y) (rw (lt-ltb (unitsDone m mostWord s) b (omega arith), lt-ltb (unitsDone m mostWord s) mostWord (omega arith))))
+      | no n ↦ rw (le-leb b mostWord (omega (arith, n)))
     ]
 
     -- DEMAND 3: from any good state, for any budgets whose last is at least 1, calls one after the other leave the state where one call with
     -- the sum (or the largest budget) leaves it; their units add up to that call's; the last answer is of its kind
     pub record Demanded (bs : List ℕ) (b : ℕ) (s : S) : Type 0 where
-      pub state : call m b (left-by m bs s) .state ≡ call m (capped (sum bs + b)) s .state
-      pub units : told-by m bs s + call m b (left-by m bs s) .units ≡ call m (capped (sum bs + b)) s .units
-      pub kind : call m b (left-by m bs s) .kind ≡ call m (capped (sum bs + b)) s .kind
+      pub state : call m b (left-by m bs s) .state ≡ call m (capped (together bs + b)) s .state
+      pub units : told-by m bs s + call m b (left-by m bs s) .units ≡ call m (capped (together bs + b)) s .units
+      pub kind : call m b (left-by m bs s) .kind ≡ call m (capped (together bs + b)) s .kind
 
     pub demand-3 : (bs : List ℕ) (b : ℕ) (s : S) → Good s → 1 ≤ b → Demanded bs b s
     unfolding go
     demand-3 bs b s g h =
         let t : S = left-by m bs s in
         let f = calls-follow bs s g in
-        let one = call-goes (capped (sum bs + b)) s g ∙ sym (capped-same (sum bs + b) s g) in
+        let one = call-goes (capped (together bs + b)) s g ∙ sym (capped-same (together bs + b) s g) in
         let last = call-goes b t (f .good) in
         record {
-          state = rw (one, last, f .state) (sym (after-add (sum bs) b s));
-          units = rw (one, last, f .units, f .state) (sym (done-add (sum bs) b s));
-          kind = rw (one, last, f .state) (kind-add (sum bs) b s h);
+          state = rw (one, last, f .state) (sym (after-add (together bs) b s));
+          units = rw (one, last, f .units, f .state) (sym (done-add (together bs) b s));
+          kind = rw (one, last, f .state) (kind-add (together bs) b s h);
         }
 
     -- ---- a refusal
@@ -277,7 +278,7 @@ module _ {S : Type 0} (m : Machine S) where
 
     pub refusal-leaves : (b : ℕ) (s : S) → Good s → call m b s .kind ≡ refused → Refusal b s
     refusal-leaves b s g e =
-        let k = refused-kind b (done m b s) (after m b s) (sym (call-kind b s g) ∙ e) in
+        let k = refused-kind b (unitsDone m b s) (after m b s) (sym (call-kind b s g) ∙ e) in
         record {
           so-many = rw (call-state b s g, call-units b s g) (after-times b s);
           fewer = rw (call-units b s g) (k .1);
@@ -293,13 +294,13 @@ module _ {S : Type 0} (m : Machine S) where
       pub same : (s : S) → Good s → stops m s ≡ false → m .next (grow s) ≡ grow (m .next s)
 
     module _ (grow : S → S) (r : Grows grow) where
-      pub grown : (b : ℕ) (s : S) → Good s → after m (done m b s) (grow s) ≡ grow (after m b s)
-      unfolding done until
+      pub grown : (b : ℕ) (s : S) → Good s → after m (unitsDone m b s) (grow s) ≡ grow (after m b s)
+      unfolding unitsDone until
       grown zero s g = refl
-      grown (suc b) s g = by-stop (after m (done m (suc b) s) (grow s) ≡ grow (after m (suc b) s)) s
+      grown (suc b) s g = by-stop (after m (unitsDone m (suc b) s) (grow s) ≡ grow (after m (suc b) s)) s
           (λ e. rw (done-stop (suc b) s e, after-stop (suc b) s e))
-          (λ e. rw (done-go b s e, after-go b s e) (after-go (done m b (m .next s)) (grow s) (r .due s g e) ∙ rw (r .same s g e) (grown b (m .next s) (w .keeps s g e))))
+          (λ e. rw (done-go b s e, after-go b s e) (after-go (unitsDone m b (m .next s)) (grow s) (r .due s g e) ∙ rw (r .same s g e) (grown b (m .next s) (w .keeps s g e))))
 
       -- a run that goes on with more room does what a run with that room from the start does
-      pub goes-on : (b c : ℕ) (s : S) → Good s → after m c (grow (after m b s)) ≡ after m (done m b s + c) (grow s)
-      goes-on b c s g = rw (← grown b s g) (sym (after-add (done m b s) c (grow s)))
+      pub goes-on : (b c : ℕ) (s : S) → Good s → after m c (grow (after m b s)) ≡ after m (unitsDone m b s + c) (grow s)
+      goes-on b c s g = rw (← grown b s g) (sym (after-add (unitsDone m b s) c (grow s)))

@@ -4,7 +4,8 @@ use mathlib.Core.Bool.{Bool, true, false, cond, not, _||_}
 use Prim.Native.Nat.{ℕ, zero, suc, _+_, _<_}
 use mathlib.Core.Path.{_≡_}
 use lib.Dec.{ltb, leb}
-use Rattle.laws.specs.Run.{until}
+use Rattle.laws.specs.Domain.{mostWord}
+use Rattle.laws.specs.Loops.{until}
 
 -- how a call can end
 pub data Kind : Type 0 where
@@ -46,16 +47,16 @@ module _ {S : Type 0} (m : Machine S) where
   after b s = until (stops) (m .next) b s
 
   -- the units done of a budget
-  unfoldable pub done : ℕ → S → ℕ
-  done zero s = 0
-  done (suc b) s = elim (stops s) [ true ↦ 0 | false ↦ suc (done b (m .next s)) ]
+  unfoldable pub unitsDone : ℕ → S → ℕ
+  unitsDone zero s = 0
+  unitsDone (suc b) s = elim (stops s) [ true ↦ 0 | false ↦ suc (unitsDone b (m .next s)) ]
 
   -- of a budget b, d units led to t
   unfoldable pub kindAt : ℕ → ℕ → S → Kind
   kindAt b d t = cond (m .ended t) over (cond (ltb d b) refused running)
 
   unfoldable pub go : ℕ → S → Called S
-  go b s = called (after b s) (done b s) (kindAt b (done b s) (after b s))
+  go b s = called (after b s) (unitsDone b s) (kindAt b (unitsDone b s) (after b s))
 
   -- a call: the tests, then units until the budget is done, one is refused or the run has ended
   unfoldable pub call : ℕ → S → Called S
@@ -71,13 +72,13 @@ module _ {S : Type 0} (m : Machine S) where
   told-by [] s = 0
   told-by (b ∷ bs) s = call b s .units + told-by bs (call b s .state)
 
-unfoldable pub sum : List ℕ → ℕ
-sum [] = 0
-sum (b ∷ bs) = b + sum bs
+unfoldable pub together : List ℕ → ℕ
+together [] = 0
+together (b ∷ bs) = b + together bs
 
 -- a budget, or the largest there is
 unfoldable pub capped : ℕ → ℕ
-capped b = cond (leb b 4294967295) b 4294967295
+capped b = cond (leb b mostWord) b mostWord
 
 -- what is asked of a machine
 pub record Lawful {S : Type 0} (m : Machine S) : Type 1 where
@@ -92,4 +93,4 @@ pub record Lawful {S : Type 0} (m : Machine S) : Type 1 where
   pub keeps : (s : S) → Good s → stops m s ≡ false → Good (m .next s)
   pub counts : (s : S) → Good s → stops m s ≡ false → count (m .next s) ≡ count s + 1
   pub lessens : (s : S) → Good s → stops m s ≡ false → rest (m .next s) < rest s
-  pub small : (s : S) → Good s → rest s < 4294967295
+  pub small : (s : S) → Good s → rest s < mostWord

@@ -12,13 +12,13 @@ use Rattle.laws.proofs.Bools.{by-bool, and-left, and-right}
 use Rattle.laws.proofs.First.{first-all, first-none}
 use Rattle.run_record.specs.declared.Settings.{Settings}
 use Rattle.run_record.specs.declared.Run.{Run}
-use Rattle.run_record.specs.Record.{isTree, inside, treeFault as badTree, settingsFault, countersOk, perOf, stateFits, kOf, sizesOf, GoodSettings}
+use Rattle.run_record.specs.Record.{isTree, angleFine, angleFault as badTree, settingsFault, countersOk, perOf, stateFits, kOf, sizesOf, GoodSettings}
 use Rattle.run_record.proofs.Laws.{settings-fine, settings-good}
 use Rattle.tree_node.specs.declared.Node.{Node}
 use Rattle.tree_node.specs.Node.{Axes}
 use Rattle.tree_node.specs.Areas.{nodesOf}
 use Rattle.tree.specs.Insert.{tree}
-use Rattle.tree.specs.Contents.{contentsOf, isFine as isSound}
+use Rattle.tree.specs.Contents.{contentsOf, contentsFine as isSound}
 use Rattle.tree_contents.specs.declared.Contents.{Contents}
 use Rattle.tree_contents.specs.declared.Contents.the-variants.{Fine as FineTree, Used, Count, Point, Block}
 use Rattle.tree.proofs.Tested.{Sound, sound-fine, fine-sound}
@@ -30,7 +30,7 @@ use Rattle.run_entry.specs.Entry.{treeFits, areasFit, offsetFine, indexF
 -- a Barnes-Hut run has 1, 2 or 3 components
 pub axes : (s : Settings) → GoodSettings s → isTree (s .method) ≡ true → Axes (s .c)
 unfolding badTree
-axes s g t = (g .c-some, by (ltb 3 (s .c)) refl (inside (s .angle)) (rw t at (g .tree-fine)))
+axes s g t = (g .c-some, by (ltb 3 (s .c)) refl (angleFine (s .angle)) (rw t at (g .tree-fine)))
   where
     by : (b : Bool) → ltb 3 (s .c) ≡ b → (a : Bool) → _≡_ {A = ℕ} (cond (not a) 5 (cond (ltb 3 (s .c)) 6 0)) 0 → s .c ≤ 3
     by true e true q = absurd (let z : _≡_ {A = ℕ} 6 0 = rw e at q in omega arith)

@@ -4,7 +4,7 @@ use Prim.Native.Nat.{ℕ}
 use lib.Ieee.{Float}
 use Rattle.run_record.specs.declared.Run.{Run}
 use Rattle.tree_node.specs.declared.Node.{Node}
-use Rattle.tree_node.specs.Areas.{Rest, nodesOf, restOf}
+use Rattle.tree_node.specs.Areas.{Rest, nodesOf, arenaRest}
 
 -- the areas; the arena as the nodes that its two flat areas stand for, and what lies past them: the two tell the flat areas whole
 pub record Memory : Type 0 where
@@ -23,7 +23,7 @@ pub record State : Type 0 where
   pub memory : Memory
 
 abbrev pub memory : List Float → List Float → List Float → List Float → List ℕ → List ℕ → List Float → List Float → List ℕ → Memory
-memory p i g a x o f r w = record { positions = p; increments = i; gains = g; affinities = a; indices = x; offsets = o; forces = f; nodes = nodesOf r w; rest = restOf r w }
+memory p i g a x o f r w = record { positions = p; increments = i; gains = g; affinities = a; indices = x; offsets = o; forces = f; nodes = nodesOf r w; rest = arenaRest r w }
 
 abbrev pub state : Run → Memory → State
 state r m = record { run = r; memory = m }

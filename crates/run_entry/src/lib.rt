@@ -3,7 +3,8 @@ ghost use mathlib.Core.Path.{_≡_};
 ghost use mathlib.Core.Bool.{not};
 ghost use Prim.Native.Nat.{_+_, _-_, _≤_, _<_};
 ghost use lib.ListN.{length};
-ghost use Rattle.laws.specs.Run.{first};
+ghost use Rattle.laws.specs.Domain.{mostFrames};
+ghost use Rattle.laws.specs.Loops.{first};
 ghost use Rattle.tree_node.specs.Node.{Axes};
 ghost use Rattle.tree_node.specs.Areas.{nodesOf};
 ghost use Rattle.run_record.specs.Record.{GoodSettings, sizesOf};
@@ -120,7 +121,7 @@ fn first_index(indices: &[u32], n: usize, count: usize) -> usize
 }
 
 fn tree_fits(n: usize, links: usize, a: usize, x: usize, o: usize, nodes: usize) -> bool
-    requires { ⌜ n ≤ 4096 ⌝ }
+    requires { ⌜ n ≤ mostFrames ⌝ }
     ensures { λ r. ⌜ r ≡ treeFits n links a x o nodes ⌝ }
 {
     if a < links {

@@ -1,10 +1,11 @@
 -- Settings and run record: the tests of a work call, and what a unit does to the record. Definitions only.
 use mathlib.Core.Path.{_≡_}
 use mathlib.Core.Bool.{Bool, true, false, cond, not, _&&_, _||_}
-use Prim.Native.Nat.{ℕ, _+_, _*_, _≤_}
+use Prim.Native.Nat.{ℕ, suc, _+_, _*_, _≤_}
 use lib.Dec.{eqb, ltb, leb}
 use lib.IntN.{pos}
 use lib.Ieee.{Float, binary64, ofInt, lt, le}
+use Rattle.laws.specs.Domain.{earlyIterations, mostAxes, mostComponents, mostFeatures, mostFrames, mostIterations}
 use Rattle.laws.specs.Area.{bits, zero64, one64}
 use Rattle.elementary.specs.Limits.{neighboursOf}
 use Rattle.run_record.specs.declared.Method.{Method}
@@ -22,8 +23,8 @@ largest = bits 0x7fefffffffffffff
 unfoldable pub positive : Float → Bool
 positive x = lt zero64 x && le x largest
 
-unfoldable pub above : Float → Bool
-above x = lt zero64 x
+unfoldable pub aboveZero : Float → Bool
+aboveZero x = lt zero64 x
 
 abbrev pub isTree : Method → Bool
 isTree Exact = false
@@ -37,22 +38,22 @@ isEnded Finished = true
 -- ---- settings
 
 -- an angle in [0, 1); −0.0 is inside
-unfoldable pub inside : Float → Bool
-inside a = le zero64 a && lt a one64
+unfoldable pub angleFine : Float → Bool
+angleFine a = le zero64 a && lt a one64
 
 -- 5 and 6
-unfoldable pub treeFault : Method → Float → ℕ → ℕ
-treeFault m a c = cond (isTree m) (cond (not (inside a)) 5 (cond (ltb 3 c) 6 0)) 0
+unfoldable pub angleFault : Method → Float → ℕ → ℕ
+angleFault m a c = cond (isTree m) (cond (not (angleFine a)) 5 (cond (ltb mostAxes c) 6 0)) 0
 
 -- 1 to 6, and 7 for n or f: from the last test up
 abbrev pub from7 : Settings → ℕ
-from7 s = cond (eqb (s .n) 0 || ltb 4096 (s .n) || (eqb (s .f) 0 || ltb 256 (s .f))) 7 0
+from7 s = cond (eqb (s .n) 0 || ltb mostFrames (s .n) || (eqb (s .f) 0 || ltb mostFeatures (s .f))) 7 0
 
 abbrev pub from5 : Settings → ℕ
-from5 s = cond (not (eqb (treeFault (s .method) (s .angle) (s .c)) 0)) (treeFault (s .method) (s .angle) (s .c)) (from7 s)
+from5 s = cond (not (eqb (angleFault (s .method) (s .angle) (s .c)) 0)) (angleFault (s .method) (s .angle) (s .c)) (from7 s)
 
 abbrev pub from4 : Settings → ℕ
-from4 s = cond (eqb (s .iterations) 0 || ltb 65535 (s .iterations)) 4 (from5 s)
+from4 s = cond (eqb (s .iterations) 0 || ltb mostIterations (s .iterations)) 4 (from5 s)
 
 abbrev pub from3 : Settings → ℕ
 from3 s = cond (not (positive (s .rate))) 3 (from4 s)
@@ -61,7 +62,7 @@ abbrev pub from2 : Settings → ℕ
 from2 s = cond (not (positive (s .perplexity))) 2 (from3 s)
 
 unfoldable pub earlyFault : Settings → ℕ
-earlyFault s = cond (eqb (s .c) 0 || ltb 8 (s .c)) 1 (from2 s)
+earlyFault s = cond (eqb (s .c) 0 || ltb mostComponents (s .c)) 1 (from2 s)
 
 -- 9, and 10 where the perplexity is not below n
 unfoldable pub lateFault : Settings → ℕ
@@ -77,9 +78,16 @@ settingsFault s = cond (not (eqb (earlyFault s) 0)) (earlyFault s) (lateFault s)
 unfoldable pub perOf : Method → ℕ → ℕ
 perOf m n = cond (isTree m) (2 * n + 2) (2 * n + 1)
 
+-- the most that an iteration has, and a run
+abbrev pub mostPer : ℕ
+mostPer = 2 * mostFrames + 2
+
+abbrev pub mostUnits : ℕ
+mostUnits = mostIterations * mostPer
+
 unfoldable pub stateFits : Standing → ℕ → ℕ → ℕ → Float → Bool
 stateFits Running done set phase least = ltb done set
-stateFits Stopped done set phase least = leb 251 done && leb done set && above least && eqb phase 0
+stateFits Stopped done set phase least = leb (suc earlyIterations) done && leb done set && aboveZero least && eqb phase 0
 stateFits Finished done set phase least = eqb done set && eqb phase 0
 
 unfoldable pub countersOk : Run → Bool
@@ -95,7 +103,7 @@ advancedOf r used = record { settings = r .settings; standing = r .standing; don
 
 -- the norm is below the minimum, from iteration 250 on
 unfoldable pub stopsNow : Run → Float → Bool
-stopsNow r norm = leb 250 (r .done) && above (r .settings .minimum) && lt norm (r .settings .minimum)
+stopsNow r norm = leb earlyIterations (r .done) && aboveZero (r .settings .minimum) && lt norm (r .settings .minimum)
 
 unfoldable pub closedOf : Run → Float → Run
 closedOf r norm = record {
@@ -120,14 +128,14 @@ sizesOf s = record { cells = s .n * s .c; forces = s .n * (2 * s .c + 1); links 
 
 pub record GoodSettings (s : Settings) : Type 0 where
   pub c-some : 1 ≤ s .c
-  pub c-most : s .c ≤ 8
+  pub c-most : s .c ≤ mostComponents
   pub perplexity-positive : positive (s .perplexity) ≡ true
   pub rate-positive : positive (s .rate) ≡ true
   pub iterations-some : 1 ≤ s .iterations
-  pub iterations-most : s .iterations ≤ 65535
-  pub tree-fine : treeFault (s .method) (s .angle) (s .c) ≡ 0
+  pub iterations-most : s .iterations ≤ mostIterations
+  pub tree-fine : angleFault (s .method) (s .angle) (s .c) ≡ 0
   pub n-some : 2 ≤ s .n
-  pub n-most : s .n ≤ 4096
+  pub n-most : s .n ≤ mostFrames
   pub f-some : 1 ≤ s .f
-  pub f-most : s .f ≤ 256
+  pub f-most : s .f ≤ mostFeatures
   pub perplexity-below : lt (s .perplexity) (ofInt binary64 (pos (s .n))) ≡ true

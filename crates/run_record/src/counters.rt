@@ -2,13 +2,15 @@
 ghost use mathlib.Core.Path.{_≡_};
 ghost use Prim.Native.Nat.{_+_, _*_, _<_, _≤_};
 ghost use lib.Dec.{eqb};
-ghost use Rattle.run_record.specs.Record.{isEnded, stateFits, countersOk, perOf, GoodSettings};
+ghost use Rattle.laws.specs.Domain.{mostFrames, mostIterations};
+ghost use Rattle.run_record.specs.Record.{isEnded, stateFits, countersOk, perOf, GoodSettings, mostPer};
 ghost use Rattle.run_record.specs.declared.Standing.the-variants.{Stopped, Finished};
 use crate::Method;
 use crate::Run;
 use crate::Standing;
 use crate::faults::is_above;
 use crate::faults::is_tree;
+use laws::EARLY_ITERATIONS;
 
 pub fn is_ended(s: Standing) -> bool
     ensures { λ r. ⌜ r ≡ isEnded s ⌝ }
@@ -22,7 +24,7 @@ pub fn is_ended(s: Standing) -> bool
 
 // the units of an iteration
 pub fn per(m: Method, n: usize) -> usize
-    requires { ⌜ n ≤ 4096 ⌝ }
+    requires { ⌜ n ≤ mostFrames ⌝ }
     ensures { λ r. ⌜ r ≡ perOf m n ⌝ }
 {
     if is_tree(m) {
@@ -34,7 +36,7 @@ pub fn per(m: Method, n: usize) -> usize
 fn stopped_fits(done: usize, set: usize, phase: usize, least: f64) -> bool
     ensures { λ r. ⌜ r ≡ stateFits Stopped done set phase least ⌝ }
 {
-    if done < 251 {
+    if done <= EARLY_ITERATIONS {
         return false;
     }
     if set < done {
@@ -66,7 +68,7 @@ fn state_fits(s: Standing, done: usize, set: usize, phase: usize, least: f64) ->
 }
 
 fn total_fits(units: usize, done: usize, p: usize, phase: usize) -> bool
-    requires { ⌜ (done ≤ 65535) × (p ≤ 8194) × (phase < p) ⌝ }
+    requires { ⌜ (done ≤ mostIterations) × (p ≤ mostPer) × (phase < p) ⌝ }
     ensures { λ r. ⌜ r ≡ eqb units (done * p + phase) ⌝ }
 {
     units == done * p + phase

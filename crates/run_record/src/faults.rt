@@ -2,10 +2,16 @@
 ghost use mathlib.Core.Path.{_≡_};
 ghost use Prim.Native.Nat.{_*_, _≤_};
 ghost use lib.Ieee.{lt};
-ghost use Rattle.run_record.specs.Record.{positive, inside, above, isTree, treeFault, earlyFault, lateFault, settingsFault, GoodSettings, kOf, sizesOf};
+ghost use Rattle.laws.specs.Domain.{mostFrames};
+ghost use Rattle.run_record.specs.Record.{positive, angleFine, aboveZero, isTree, angleFault, earlyFault, lateFault, settingsFault, GoodSettings, kOf, sizesOf};
 use crate::Method;
 use crate::Settings;
 use crate::Sizes;
+use laws::MOST_AXES;
+use laws::MOST_COMPONENTS;
+use laws::MOST_FEATURES;
+use laws::MOST_FRAMES;
+use laws::MOST_ITERATIONS;
 
 // finite and above 0
 pub fn is_positive(x: f64) -> bool
@@ -18,7 +24,7 @@ pub fn is_positive(x: f64) -> bool
 }
 
 fn is_inside(a: f64) -> bool
-    ensures { λ r. ⌜ r ≡ inside a ⌝ }
+    ensures { λ r. ⌜ r ≡ angleFine a ⌝ }
 {
     if 0.0 <= a {
         return a < 1.0;
@@ -33,7 +39,7 @@ fn is_below(x: f64, y: f64) -> bool
 }
 
 pub fn is_above(x: f64) -> bool
-    ensures { λ r. ⌜ r ≡ above x ⌝ }
+    ensures { λ r. ⌜ r ≡ aboveZero x ⌝ }
 {
     0.0 < x
 }
@@ -54,7 +60,7 @@ pub fn early_fault(s: Settings) -> u8
     if s.c == 0 {
         return 1;
     }
-    if 8 < s.c {
+    if MOST_COMPONENTS < s.c {
         return 1;
     }
     if !is_positive(s.perplexity) {
@@ -66,7 +72,7 @@ pub fn early_fault(s: Settings) -> u8
     if s.iterations == 0 {
         return 4;
     }
-    if 65535 < s.iterations {
+    if MOST_ITERATIONS < s.iterations {
         return 4;
     }
     let m = s.method;
@@ -77,13 +83,13 @@ pub fn early_fault(s: Settings) -> u8
     if s.n == 0 {
         return 7;
     }
-    if 4096 < s.n {
+    if MOST_FRAMES < s.n {
         return 7;
     }
     if s.f == 0 {
         return 7;
     }
-    if 256 < s.f {
+    if MOST_FEATURES < s.f {
         return 7;
     }
     0
@@ -91,7 +97,7 @@ pub fn early_fault(s: Settings) -> u8
 
 // refusals 5 and 6; 0: none
 fn tree_fault(m: Method, a: f64, c: usize) -> u8
-    ensures { λ r. ⌜ r ≡ treeFault m a c ⌝ }
+    ensures { λ r. ⌜ r ≡ angleFault m a c ⌝ }
 {
     if !is_tree(m) {
         return 0;
@@ -99,7 +105,7 @@ fn tree_fault(m: Method, a: f64, c: usize) -> u8
     if !is_inside(a) {
         return 5;
     }
-    if 3 < c {
+    if MOST_AXES < c {
         return 6;
     }
     0
@@ -107,7 +113,7 @@ fn tree_fault(m: Method, a: f64, c: usize) -> u8
 
 // refusals 9 and 10; 0: none
 pub fn late_fault(s: Settings) -> u8
-    requires { ⌜ s .n ≤ 4096 ⌝ }
+    requires { ⌜ s .n ≤ mostFrames ⌝ }
     ensures { λ r. ⌜ r ≡ lateFault s ⌝ }
 {
     if s.n == 1 {

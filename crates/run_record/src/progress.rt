@@ -5,6 +5,7 @@ ghost use Rattle.run_record.specs.Record.{advancedOf, stopsNow, closedOf
 use crate::Run;
 use crate::Standing;
 use crate::faults::is_above;
+use laws::EARLY_ITERATIONS;
 
 // one unit more, inside an iteration
 pub fn advanced(r: Run, used: usize) -> Run
@@ -26,7 +27,7 @@ pub fn advanced(r: Run, used: usize) -> Run
 fn stops_now(r: Run, norm: f64) -> bool
     ensures { λ b. ⌜ b ≡ stopsNow r norm ⌝ }
 {
-    if r.done < 250 {
+    if r.done < EARLY_ITERATIONS {
         return false;
     }
     let s = r.settings;

@@ -8,6 +8,7 @@ use native.Mathlib.Nat.{le-trans, mul-le-mul, mul-one, mul-add, le-refl}
 use lib.Dec.{ltb, leb}
 use lib.ListN.{length}
 use borrow.Author.Tests.{ltb-true, leb-true, ltb-false, leb-false, ne-eqb}
+use Rattle.laws.specs.Domain.{mostWord}
 use Rattle.laws.specs.Area.{num}
 use Rattle.laws.proofs.Bools.{by-bool, and-left, and-right}
 use Rattle.run_record.specs.declared.Run.{Run}
@@ -140,7 +141,7 @@ module _ (s : State) (g : Workable s) where
         nodes-some = g .areas .tree-long (z .0) .nodes-some;
         used-some = λ q. c .tree q .used-some;
         used-in = λ q. c .tree q .used-most;
-        sound = λ q. looser n n (s .run .settings .c) (n + s .run .phase) 4294967294 (tree (s .run .used) (s .memory .nodes)) (le-refl n) (omega arith) (c .tree q .each-node);
+        sound = λ q. looser n n (s .run .settings .c) (n + s .run .phase) (mostWord - 1) (tree (s .run .used) (s .memory .nodes)) (le-refl n) (omega arith) (c .tree q .each-node);
       }
 
   pub force-room : groupOf (s .run) ≡ 1 → ForceRoom (s .run) (length (s .memory .positions)) (length (s .memory .affinities)) (length (s .memory .forces)) (s .memory .affinities) (s .memory .indices) (s .memory .offsets) (s .memory .nodes)
@@ -164,7 +165,7 @@ module _ (s : State) (g : Workable s) where
         axes = λ t. axes (r .settings) (g .settings) t;
         used-some = λ t. g .contents t .tree (λ z. let h = o .tree t in omega arith) .used-some;
         used-in = λ t. g .contents t .tree (λ z. let h = o .tree t in omega arith) .used-most;
-        sound = λ t. looser n 4294967296 (r .settings .c) (n + r .phase) 4294967295 (tree (r .used) (s .memory .nodes)) (omega arith) (omega arith) (g .contents t .tree (λ z. let h = o .tree t in omega arith) .each-node);
+        sound = λ t. looser n (suc mostWord) (r .settings .c) (n + r .phase) mostWord (tree (r .used) (s .memory .nodes)) (omega arith) (omega arith) (g .contents t .tree (λ z. let h = o .tree t in omega arith) .each-node);
         linked = λ t. (let h = o .tree t in linked-at r (s .memory .indices) (s .memory .offsets) (s .memory .nodes) (g .contents t) (s .memory .affinities) (g .areas .tree-long t) (r .phase - n - 1) (omega arith));
         phase-exact = o .exact;
         square-in = g .areas .exact-long;

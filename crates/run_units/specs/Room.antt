@@ -5,18 +5,19 @@ use mathlib.Core.Bool.{true, false}
 use Prim.Native.Nat.{ℕ, _+_, _-_, _*_, _<_, _≤_}
 use lib.ListN.{length}
 use lib.Ieee.{Float}
+use Rattle.laws.specs.Domain.{mostFrames}
 use Rattle.run_record.specs.declared.Run.{Run}
 use Rattle.run_record.specs.Record.{isTree}
 use Rattle.tree_node.specs.declared.Node.{Node}
 use Rattle.tree_node.specs.Node.{Axes}
-use Rattle.tree.specs.Insert.{tree, treeOk}
+use Rattle.tree.specs.Insert.{tree, shaped, growable}
 use Rattle.gradient.specs.Forces.{Linked}
 
 -- the record's numbers are small
 pub record Small (r : Run) : Type 0 where
   pub phase-small : r .phase < 10000
   pub units-small : r .units < 1000000000
-  pub n-most : r .settings .n ≤ 4096
+  pub n-most : r .settings .n ≤ mostFrames
 
 pub record TreeRoom (r : Run) (p : ℕ) (ns : List Node) : Type 0 where
   pub numbers : Small r
@@ -26,7 +27,7 @@ pub record TreeRoom (r : Run) (p : ℕ) (ns : List Node) : Type 0 where
   pub nodes-some : 0 < length ns
   pub used-some : (r .phase ≡ 0 → ⊥) → 0 < r .used
   pub used-in : (r .phase ≡ 0 → ⊥) → r .used ≤ length ns
-  pub sound : (r .phase ≡ 0 → ⊥) → treeOk (r .settings .n) 4294967294 (r .settings .c) (tree (r .used) ns) ≡ true
+  pub sound : (r .phase ≡ 0 → ⊥) → growable (r .settings .n) (r .settings .c) (tree (r .used) ns) ≡ true
 
 -- a unit of the forces: a point's of a Barnes-Hut run, else a row of the total or of the gradient
 pub record ForceRoom (r : Run) (p a f : ℕ) (W : List Float) (xs off : List ℕ) (ns : List Node) : Type 0 where
@@ -40,7 +41,7 @@ pub record ForceRoom (r : Run) (p a f : ℕ) (W : List Float) (xs off : List ℕ
   pub axes : isTree (r .settings .method) ≡ true → Axes (r .settings .c)
   pub used-some : isTree (r .settings .method) ≡ true → 0 < r .used
   pub used-in : isTree (r .settings .method) ≡ true → r .used ≤ length ns
-  pub sound : isTree (r .settings .method) ≡ true → treeOk 4294967296 4294967295 (r .settings .c) (tree (r .used) ns) ≡ true
+  pub sound : isTree (r .settings .method) ≡ true → shaped (r .settings .c) (tree (r .used) ns) ≡ true
   pub linked : isTree (r .settings .method) ≡ true → Linked (r .settings .n) W xs off (r .phase - r .settings .n - 1)
   pub phase-exact : isTree (r .settings .method) ≡ false → r .phase < 2 * r .settings .n
   pub square-in : isTree (r .settings .method) ≡ false → r .settings .n * r .settings .n ≤ a

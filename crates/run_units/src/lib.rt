@@ -2,7 +2,7 @@
 ghost use mathlib.Core.Path.{_≡_};
 ghost use Prim.Native.Nat.{_+_, _*_, _≤_};
 ghost use lib.ListN.{length};
-ghost use Rattle.tree_node.specs.Areas.{nodesOf, restOf};
+ghost use Rattle.tree_node.specs.Areas.{nodesOf, arenaRest};
 ghost use Rattle.run_record.specs.Record.{advancedOf};
 ghost use Rattle.run_entry.specs.State.{memory, state};
 ghost use Rattle.run_entry.specs.Entry.{Workable};
@@ -51,7 +51,7 @@ pub fn is_done(w: Why) -> bool
 pub fn tree_unit(r: Run, positions: &[f64], reals: &mut [f64], words: &mut [u32]) -> Turn
     requires { ⌜ TreeRoom r (length (now positions)) (nodesOf (now reals) (now words)) ⌝ }
     ensures { λ t. ⌜ treeTurn (t .run) (nodesOf (now (reals .exit)) (now (words .exit))) (t .why) ≡ treeUnit r (now (positions .entry)) (nodesOf (now (reals .entry)) (now (words .entry))) ⌝ }
-    ensures { λ _. ⌜ restOf (now (reals .exit)) (now (words .exit)) ≡ restOf (now (reals .entry)) (now (words .entry)) ⌝ }
+    ensures { λ _. ⌜ arenaRest (now (reals .exit)) (now (words .exit)) ≡ arenaRest (now (reals .entry)) (now (words .entry)) ⌝ }
 {
     let s = r.settings;
     if r.phase == 0 {

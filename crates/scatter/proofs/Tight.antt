@@ -3,12 +3,12 @@ use mathlib.Core.Path.{_≡_, refl, sym, ap}
 use mathlib.Core.List.{List}
 use mathlib.Core.Option.{Option·none-ne-some, Option·some-injective}
 use lib.Ieee.{Float}
-use Rattle.scatter.specs.Scatter.{Outcome, numberOf, outcome}
+use Rattle.scatter.specs.Scatter.{Outcome, scatterNumber, outcome}
 use Rattle.scatter.specs.declared.Scattered.{Scattered}
 use Rattle.scatter.specs.declared.Scattered.the-variants.{Done, Refused}
 
 -- an answer is told by its number
-answer-of : (a b : Scattered) → numberOf a ≡ numberOf b → a ≡ b
+answer-of : (a b : Scattered) → scatterNumber a ≡ scatterNumber b → a ≡ b
 answer-of Done Done e = refl
 answer-of Done (Refused s) e = absurd (Option·none-ne-some s e)
 answer-of (Refused r) Done e = absurd (Option·none-ne-some r (sym e))

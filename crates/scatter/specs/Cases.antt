@@ -2,24 +2,24 @@
 use mathlib.Core.Path.{_≡_, refl}
 use mathlib.Core.List.{[], _∷_}
 use lib.Ieee.{toBits, ofBits, binary64, ofInt, sub, mul, div}
-use Rattle.laws.specs.Run.{run}
+use Rattle.laws.specs.Loops.{loop}
 use Rattle.laws.specs.Area.{zero64, one64}
-use Rattle.scatter.specs.Scatter.{nextOf, mixOf, coordinateOf, outcome, scatterOf}
+use Rattle.scatter.specs.Scatter.{nextState, mixOf, coordinateOf, outcome, scatterOf}
 use Rattle.scatter.specs.declared.Scattered.the-variants.{Done, Refused}
 
-zero-first : mixOf (nextOf 0) ≡ 0xe220a8397b1dcdaf
+zero-first : mixOf (nextState 0) ≡ 0xe220a8397b1dcdaf
 unfolding mixOf
 zero-first = refl
 
-known-first : mixOf (nextOf 1234567) ≡ 6457827717110365317
+known-first : mixOf (nextState 1234567) ≡ 6457827717110365317
 unfolding mixOf
 known-first = refl
 
-known-second : mixOf (nextOf (nextOf 1234567)) ≡ 3203168211198807973
+known-second : mixOf (nextState (nextState 1234567)) ≡ 3203168211198807973
 unfolding mixOf
 known-second = refl
 
-known-third : mixOf (nextOf (nextOf (nextOf 1234567))) ≡ 9817491932198370423
+known-third : mixOf (nextState (nextState (nextState 1234567))) ≡ 9817491932198370423
 unfolding mixOf
 known-third = refl
 
@@ -30,7 +30,7 @@ coordinate-zero-first = refl
 
 -- one row of two: the first outputs in order, and the tail kept
 one-row : scatterOf 1 2 1234567 (zero64 ∷ zero64 ∷ one64 ∷ []) ≡ outcome Done (coordinateOf 6457827717110365317 ∷ coordinateOf 3203168211198807973 ∷ one64 ∷ [])
-unfolding scatterOf run mixOf
+unfolding scatterOf loop mixOf
 one-row = refl
 
 -- c is tested before n, and n before the area

@@ -8,14 +8,15 @@ use lib.Dec.{eqb, ltb}
 use lib.Bits.{bitXor}
 use lib.IntN.{pos}
 use lib.Ieee.{Float, binary64, ofInt, sub, mul, div}
-use Rattle.laws.specs.Run.{run}
+use Rattle.laws.specs.Domain.{mostComponents, mostFrames}
+use Rattle.laws.specs.Loops.{loop}
 use Rattle.laws.specs.Area.{bits}
 use Rattle.scatter.specs.declared.Scattered.{Scattered}
 use Rattle.scatter.specs.declared.Scattered.the-variants.{Done, Refused}
 
 -- the state after this one: plus a constant, wrapping
-abbrev pub nextOf : ℕ → ℕ
-nextOf s = (s + 0x9e3779b97f4a7c15) % 2 ^ 64
+abbrev pub nextState : ℕ → ℕ
+nextState s = (s + 0x9e3779b97f4a7c15) % 2 ^ 64
 
 -- z ^ z >> s
 abbrev pub foldOf : ℕ → ℕ → ℕ
@@ -29,8 +30,8 @@ mixOf z =
     foldOf b 31
 
 -- 2^53
-abbrev pub full : Float
-full = bits 0x4340000000000000
+abbrev pub two53 : Float
+two53 = bits 0x4340000000000000
 
 -- 0.5
 abbrev pub half : Float
@@ -42,7 +43,7 @@ scale = bits 0x3f1a36e2eb1c432d
 
 -- (top 53 bits / 2^53 − 0.5)·1e-4
 unfoldable pub coordinateOf : ℕ → Float
-coordinateOf z = mul binary64 (sub binary64 (div binary64 (ofInt binary64 (pos (z / 2 ^ 11))) full) half) scale
+coordinateOf z = mul binary64 (sub binary64 (div binary64 (ofInt binary64 (pos (z / 2 ^ 11))) two53) half) scale
 
 -- a state of the generator, and the positions
 pub record Spread : Type 0 where
@@ -55,16 +56,16 @@ spread s p = record { state = s; positions = p }
 
 -- place k gets the coordinate of the next state
 abbrev pub scatterStep : ℕ → Spread → Spread
-scatterStep k x = let s = nextOf (x .state) in spread s (set (x .positions) k (coordinateOf (mixOf s)))
+scatterStep k x = let s = nextState (x .state) in spread s (set (x .positions) k (coordinateOf (mixOf s)))
 
 -- the first m places by rising index, which is row by row, from the seed on; the tail is kept
-abbrev pub startOf : ℕ → ℕ → List Float → List Float
-startOf m seed p = run scatterStep m 0 (spread seed p) .positions
+abbrev pub scattered : ℕ → ℕ → List Float → List Float
+scattered m seed p = loop scatterStep m 0 (spread seed p) .positions
 
 -- the number that the scope paper gives an answer; none when the positions are written
-abbrev pub numberOf : Scattered → Option ℕ
-numberOf Done = none
-numberOf (Refused r) = some r
+abbrev pub scatterNumber : Scattered → Option ℕ
+scatterNumber Done = none
+scatterNumber (Refused r) = some r
 
 -- the answer's number and the positions afterwards
 pub record Outcome : Type 0 where
@@ -73,12 +74,12 @@ pub record Outcome : Type 0 where
 
 -- an answer with the positions it leaves
 abbrev pub outcome : Scattered → List Float → Outcome
-outcome a p = record { number = numberOf a; positions = p }
+outcome a p = record { number = scatterNumber a; positions = p }
 
 -- the refusals in the scope paper's order, which write nothing; else n rows of c coordinates
 unfoldable pub scatterOf : ℕ → ℕ → ℕ → List Float → Outcome
 scatterOf n c seed p =
-    cond (eqb c 0 || ltb 8 c) (outcome (Refused 1) p)
-    (cond (eqb n 0 || ltb 4096 n) (outcome (Refused 7) p)
+    cond (eqb c 0 || ltb mostComponents c) (outcome (Refused 1) p)
+    (cond (eqb n 0 || ltb mostFrames n) (outcome (Refused 7) p)
     (cond (ltb (length p) (n * c)) (outcome (Refused 12) p)
-    (outcome Done (startOf (n * c) seed p))))
+    (outcome Done (scattered (n * c) seed p))))

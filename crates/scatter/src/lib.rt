@@ -2,7 +2,9 @@
 ghost use mathlib.Core.Path.{_≡_};
 ghost use Prim.Native.Nat.{_*_, _%_, _^_, _<_, _≤_};
 ghost use lib.ListN.{length};
-ghost use Rattle.scatter.specs.Scatter.{foldOf, mixOf, coordinateOf, startOf, outcome, scatterOf};
+ghost use Rattle.scatter.specs.Scatter.{foldOf, mixOf, coordinateOf, scattered, outcome, scatterOf};
+use laws::MOST_COMPONENTS;
+use laws::MOST_FRAMES;
 
 // What scatter answers: the positions are written, or they are not, for the reason with this number.
 pub enum Scattered {
@@ -49,7 +51,7 @@ fn coordinate(z: u64) -> f64
 // Writes the first m places, each from the next state.
 fn random_init(positions: &mut [f64], m: usize, seed: u64)
     requires { ⌜ m ≤ length (now positions) ⌝ }
-    ensures { λ _. ⌜ now (positions .exit) ≡ startOf m seed (now (positions .entry)) ⌝ }
+    ensures { λ _. ⌜ now (positions .exit) ≡ scattered m seed (now (positions .entry)) ⌝ }
 {
     let mut state = seed;
     let mut k = 0;
@@ -67,13 +69,13 @@ pub fn scatter(positions: &mut [f64], n: u32, c: u32, seed: u64) -> Scattered
     if c == 0 {
         return Scattered::Refused(1);
     }
-    if 8 < c {
+    if MOST_COMPONENTS < c as usize {
         return Scattered::Refused(1);
     }
     if n == 0 {
         return Scattered::Refused(7);
     }
-    if 4096 < n {
+    if MOST_FRAMES < n as usize {
         return Scattered::Refused(7);
     }
     let m = (n * c) as usize;

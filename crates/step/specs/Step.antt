@@ -3,7 +3,7 @@ use mathlib.Core.List.{List}
 use mathlib.Core.Bool.{cond, _&&_}
 use Prim.Native.Nat.{ℕ, _*_}
 use lib.Ieee.{Float}
-use Rattle.laws.specs.Run.{run}
+use Rattle.laws.specs.Loops.{loop}
 use Rattle.step_passes.specs.Passes.{Before, meansOf, calmMoves, calmCentred, positionStep, incrementStep, gainStep}
 use Rattle.step.specs.declared.Answer.{Answer}
 use Rattle.step.specs.declared.Answer.the-variants.{Moved, Refused}
@@ -23,5 +23,5 @@ finishOf b n c =
     let m = n * c in
     let means = meansOf b n c in
     cond (calmMoves b m && calmCentred means b c m)
-    (outcome Moved (run (positionStep means b c) m 0 (b .positions)) (run (incrementStep b) m 0 (b .increments)) (run (gainStep b) m 0 (b .gains)))
+    (outcome Moved (loop (positionStep means b c) m 0 (b .positions)) (loop (incrementStep b) m 0 (b .increments)) (loop (gainStep b) m 0 (b .gains)))
     (outcome (Refused 15) (b .positions) (b .increments) (b .gains))

@@ -2,6 +2,7 @@
 ghost use mathlib.Core.Path.{_≡_};
 ghost use Prim.Native.Nat.{_+_, _*_, _<_, _≤_};
 ghost use lib.ListN.{length};
+ghost use Rattle.laws.specs.Domain.{mostFrames};
 ghost use Rattle.step_passes.specs.Passes.{paced};
 ghost use Rattle.step.specs.Step.{outcome, finishOf};
 pub use step_gains::Element;
@@ -29,7 +30,7 @@ pub fn finish(
     increments: &mut [f64],
     gains: &mut [f64],
 ) -> Answer
-    requires { ⌜ (0 < c) × (c ≤ 8) × (n ≤ 4096) × (n * (2 * c + 1) ≤ length (now forces)) × (n * c ≤ length (now positions)) × (n * c ≤ length (now increments)) × (n * c ≤ length (now gains)) ⌝ }
+    requires { ⌜ (0 < c) × (c ≤ 8) × (n ≤ mostFrames) × (n * (2 * c + 1) ≤ length (now forces)) × (n * c ≤ length (now positions)) × (n * c ≤ length (now increments)) × (n * c ≤ length (now gains)) ⌝ }
     ensures { λ r. ⌜ outcome r (now (positions .exit)) (now (increments .exit)) (now (gains .exit)) ≡ finishOf (paced pace c (now (forces .entry)) (now (positions .entry)) (now (increments .entry)) (now (gains .entry))) n c ⌝ }
 {
     let m = n * c;

@@ -9,16 +9,16 @@ use native.Mathlib.Nat.{mul-add-mod-self-right, mod-eq-of-lt, suc-mul, zero-mul,
 use lib.ListN.{length, set, length-set}
 use lib.Seq.{getD-set-same, getD-set-other}
 use lib.Ieee.{Float, nan, binary64, add}
-use Rattle.laws.specs.Area.{at, zero64}
-use Rattle.laws.specs.Run.{run}
-use Rattle.laws.proofs.Runs.{run-add, run-keeps}
-use Rattle.step_passes.specs.Passes.{Before, elementAt, zeros8, sumStep, sumsOf}
+use Rattle.laws.specs.Area.{at, zero64, zeros8}
+use Rattle.laws.specs.Loops.{loop}
+use Rattle.laws.proofs.Loops.{loop-add, loop-keeps}
+use Rattle.step_passes.specs.Passes.{Before, elementAt, sumStep, sumsOf}
 
 abbrev pub columnStep : Before → ℕ → ℕ → ℕ → Float → Float
 columnStep b c d i s = add binary64 s (elementAt b (i * c + d) .moved)
 
 abbrev pub columnOf : Before → ℕ → ℕ → ℕ → Float
-columnOf b n c d = run (columnStep b c d) n 0 zero64
+columnOf b n c d = loop (columnStep b c d) n 0 zero64
 
 differ : (a b : ℕ) → (a ≡ b) ⊎ (a ≡ b → ⊥)
 differ zero zero = inl refl
@@ -74,9 +74,9 @@ row-more b c d q s h l j y t r = go (differ j (q * c + d))
         under : q * c + d < j + 1 → q * c + d < j
         under k = ⊎-elim (λ e. absurd (n (sym e))) (λ m. omega (arith, m, k)) (differ (q * c + d) j)
 
-row-sum : (b : Before) (c d q : ℕ) (s : List Float) → d < c → c ≤ length s → Row b c d q s (q * c + c) (run (sumStep b c) c (q * c) s)
+row-sum : (b : Before) (c d q : ℕ) (s : List Float) → d < c → c ≤ length s → Row b c d q s (q * c + c) (loop (sumStep b c) c (q * c) s)
 row-sum b c d q s h l =
-    run-keeps (Row b c d q s) (sumStep b c) c (q * c) s (row-more b c d q s h l) (record { from = omega arith; size = refl; new = λ k. absurd (no k); old = λ _. refl })
+    loop-keeps (Row b c d q s) (sumStep b c) c (q * c) s (row-more b c d q s h l) (record { from = omega arith; size = refl; new = λ k. absurd (no k); old = λ _. refl })
   where
     no : q * c + d < q * c → ⊥
     no k = omega arith
@@ -85,8 +85,8 @@ record Columns (b : Before) (c d n : ℕ) (s : List Float) : Type 0 where
   size : length s ≡ 8
   sum : at s d ≡ columnOf b n c d
 
-columns : (b : Before) (c d : ℕ) → d < c → c ≤ 8 → (n : ℕ) → Columns b c d n (run (sumStep b c) (n * c) 0 zeros8)
-unfolding run
+columns : (b : Before) (c d : ℕ) → d < c → c ≤ 8 → (n : ℕ) → Columns b c d n (loop (sumStep b c) (n * c) 0 zeros8)
+unfolding loop
 columns b c d h l zero = rw (zero-mul c) (record { size = refl; sum = first d (omega (arith, h, l)) })
   where
     first : (d : ℕ) → d < 8 → at zeros8 d ≡ zero64
@@ -103,11 +103,11 @@ columns b c d h l zero = rw (zero-mul c) (record { size = refl; sum = first d (o
         big : suc (suc (suc (suc (suc (suc (suc (suc d))))))) < 8 → ⊥
         big h = omega arith
 columns b c d h l (suc n) =
-    let s = run (sumStep b c) (n * c) 0 zeros8 in
+    let s = loop (sumStep b c) (n * c) 0 zeros8 in
     let ih = columns b c d h l n in
     let r = row-sum b c d n s h (le-trans l (le-of-eq (sym (ih .size)))) in
-    let e : run (sumStep b c) (suc n * c) 0 zeros8 ≡ run (sumStep b c) c (n * c) s = ap (λ (x : ℕ). run (sumStep b c) x 0 zeros8) (suc-mul n c) ∙ run-add (sumStep b c) (n * c) c 0 zeros8 ∙ ap (λ (x : ℕ). run (sumStep b c) c x s) (zero-add (n * c)) in
-    let k : columnOf b (suc n) c d ≡ columnStep b c d n (columnOf b n c d) = ap (λ (x : ℕ). run (columnStep b c d) x 0 zero64) (sym (add-one n)) ∙ run-add (columnStep b c d) n 1 0 zero64 ∙ ap (λ (x : ℕ). columnStep b c d x (columnOf b n c d)) (zero-add n) in
+    let e : loop (sumStep b c) (suc n * c) 0 zeros8 ≡ loop (sumStep b c) c (n * c) s = ap (λ (x : ℕ). loop (sumStep b c) x 0 zeros8) (suc-mul n c) ∙ loop-add (sumStep b c) (n * c) c 0 zeros8 ∙ ap (λ (x : ℕ). loop (sumStep b c) c x s) (zero-add (n * c)) in
+    let k : columnOf b (suc n) c d ≡ columnStep b c d n (columnOf b n c d) = ap (λ (x : ℕ). loop (columnStep b c d) x 0 zero64) (sym (add-one n)) ∙ loop-add (columnStep b c d) n 1 0 zero64 ∙ ap (λ (x : ℕ). columnStep b c d x (columnOf b n c d)) (zero-add n) in
     record {
       size = ap length e ∙ r .size ∙ ih .size;
       sum = ap (λ (x : List Float). at x d) e ∙ r .new (omega (arith, h)) ∙ ap (columnStep b c d n) (ih .sum) ∙ sym k;

@@ -7,11 +7,11 @@ use native.Mathlib.Omega.{arith}
 use native.Mathlib.Nat.{mod-lt, lt-of-lt-of-le}
 use lib.ListN.{set}
 use lib.Ieee.{Float, nan, binary64, add, sub}
-use Rattle.laws.specs.Run.{run, every}
+use Rattle.laws.specs.Loops.{loop, every}
 use Rattle.laws.proofs.Bools.{and-no}
 use Rattle.laws.proofs.Ahead.{Ahead, ahead-start, ahead-more}
 use Rattle.laws.specs.Area.{at}
-use Rattle.laws.proofs.Runs.{Runs, start, more, done}
+use Rattle.laws.proofs.Loops.{Loops, loop-start, loop-more, loop-done}
 use Rattle.laws.proofs.Every.{every-none, every-more, every-no, every-done}
 use Rattle.elementary.specs.Limits.{calm}
 use Rattle.step_gains.specs.declared.Element.{Element}
@@ -24,16 +24,16 @@ component-in e c h l = lt-of-lt-of-le (mod-lt e h) l
 
 pub record Summed (b : Before) (c m : ℕ) (s₀ : List Float) (e : ℕ) (s : List Float) : Type 0 where
   pub calmly : every (calmAt b) e ≡ true
-  pub sums : Runs (sumStep b c) m s₀ e s
+  pub sums : Loops (sumStep b c) m s₀ e s
 
 pub summed-start : (b : Before) (c m : ℕ) (s : List Float) → Summed b c m s 0 s
-summed-start b c m s = record { calmly = every-none _; sums = start _ _ _ }
+summed-start b c m s = record { calmly = every-none _; sums = loop-start _ _ _ }
 
 pub summed-more : {b : Before} {c m : ℕ} {s₀ s : List Float} {e : ℕ} {x : Element} → Summed b c m s₀ e s → e < m → x ≡ elementAt b e
     → calm (x .gain) ≡ true → calm (x .increment) ≡ true → Summed b c m s₀ (e + 1) (set s (e % c) (add binary64 (at s (e % c)) (x .moved)))
 summed-more {b} {c} {m} {s₀} {s} {e} r l p cg cv = record {
   calmly = every-more (calmAt b) e (r .calmly) (rw (sym p, cg, cv));
-  sums = rw p (more (r .sums) l);
+  sums = rw p (loop-more (r .sums) l);
 }
 
 pub summed-no-gain : {b : Before} {c m : ℕ} {s₀ s : List Float} {e : ℕ} {x : Element} → Summed b c m s₀ e s → e < m → x ≡ elementAt b e → calm (x .gain) ≡ false → false ≡ calmMoves b m
@@ -42,8 +42,8 @@ summed-no-gain {b} {c} {m} {s₀} {s} {e} r l p h = sym (every-no (calmAt b) m e
 pub summed-no-increment : {b : Before} {c m : ℕ} {s₀ s : List Float} {e : ℕ} {x : Element} → Summed b c m s₀ e s → e < m → x ≡ elementAt b e → calm (x .increment) ≡ false → false ≡ calmMoves b m
 summed-no-increment {b} {c} {m} {s₀} {s} {e} {x} r l p h = sym (every-no (calmAt b) m e l (rw (sym p, h) (and-no (calm (x .gain)))))
 
-pub summed-done : {b : Before} {c m : ℕ} {s₀ s : List Float} {e : ℕ} → Summed b c m s₀ e s → m ≤ e → (true ≡ calmMoves b m) × (true ≡ true → s ≡ run (sumStep b c) m 0 s₀)
-summed-done {b} {c} {m} {s₀} {s} {e} r l = (every-done (calmAt b) m e (r .calmly) (r .sums .within) l, λ _. done (r .sums) l)
+pub summed-done : {b : Before} {c m : ℕ} {s₀ s : List Float} {e : ℕ} → Summed b c m s₀ e s → m ≤ e → (true ≡ calmMoves b m) × (true ≡ true → s ≡ loop (sumStep b c) m 0 s₀)
+summed-done {b} {c} {m} {s₀} {s} {e} r l = (every-done (calmAt b) m e (r .calmly) (r .sums .within) l, λ _. loop-done (r .sums) l)
 
 -- ---- pass 2
 
@@ -72,15 +72,15 @@ tested-done {means} {b} {c} {m} {e} r l = every-done (λ e. calm (centredBy mean
 -- ---- pass 3: an area that is written from the front, and is as it was from e on
 
 pub record Written (means : List Float) (b : Before) (c m e : ℕ) (y v g : List Float) : Type 0 where
-  pub positions : Runs (positionStep means b c) m (b .positions) e y
-  pub increments : Runs (incrementStep b) m (b .increments) e v
-  pub gains : Runs (gainStep b) m (b .gains) e g
+  pub positions : Loops (positionStep means b c) m (b .positions) e y
+  pub increments : Loops (incrementStep b) m (b .increments) e v
+  pub gains : Loops (gainStep b) m (b .gains) e g
   pub ahead-y : Ahead nan (b .positions) y e
   pub ahead-v : Ahead nan (b .increments) v e
   pub ahead-g : Ahead nan (b .gains) g e
 
 pub written-start : (means : List Float) (b : Before) (c m : ℕ) → Written means b c m 0 (b .positions) (b .increments) (b .gains)
-written-start means b c m = record { positions = start _ _ _; increments = start _ _ _; gains = start _ _ _; ahead-y = ahead-start _ _; ahead-v = ahead-start _ _; ahead-g = ahead-start _ _ }
+written-start means b c m = record { positions = loop-start _ _ _; increments = loop-start _ _ _; gains = loop-start _ _ _; ahead-y = ahead-start _ _; ahead-v = ahead-start _ _; ahead-g = ahead-start _ _ }
 
 -- what stands ahead gives the same element
 element-ahead : (b : Before) (e : ℕ) (y v g : List Float) → at y e ≡ at (b .positions) e → at v e ≡ at (b .increments) e → at g e ≡ at (b .gains) e → elementAt (before (b .momentum) (b .rate) (b .gradients) y v g) e ≡ elementAt b e
@@ -93,14 +93,14 @@ pub written-more : {means : List Float} {b : Before} {c m e : ℕ} {y v g : List
 written-more {means} {b} {c} {m} {e} {y} {v} {g} {x} w l q =
     let p : x ≡ elementAt b e = q ∙ element-ahead b e y v g (w .ahead-y .same e (omega arith)) (w .ahead-v .same e (omega arith)) (w .ahead-g .same e (omega arith)) in
     record {
-      positions = rw (centred-is means b c e p) (more (w .positions) l);
-      increments = rw p (more (w .increments) l);
-      gains = rw p (more (w .gains) l);
+      positions = rw (centred-is means b c e p) (loop-more (w .positions) l);
+      increments = rw p (loop-more (w .increments) l);
+      gains = rw p (loop-more (w .gains) l);
       ahead-y = ahead-more _ (w .ahead-y);
       ahead-v = ahead-more _ (w .ahead-v);
       ahead-g = ahead-more _ (w .ahead-g);
     }
 
 pub written-done : {means : List Float} {b : Before} {c m e : ℕ} {y v g : List Float} → Written means b c m e y v g → m ≤ e
-    → (y ≡ run (positionStep means b c) m 0 (b .positions)) × (v ≡ run (incrementStep b) m 0 (b .increments)) × (g ≡ run (gainStep b) m 0 (b .gains))
-written-done w l = (done (w .positions) l, done (w .increments) l, done (w .gains) l)
+    → (y ≡ loop (positionStep means b c) m 0 (b .positions)) × (v ≡ loop (incrementStep b) m 0 (b .increments)) × (g ≡ loop (gainStep b) m 0 (b .gains))
+written-done w l = (loop-done (w .positions) l, loop-done (w .increments) l, loop-done (w .gains) l)

@@ -5,8 +5,8 @@ use Prim.Native.Nat.{ℕ, _*_, _%_}
 use lib.IntN.{pos}
 use lib.ListN.{set}
 use lib.Ieee.{Float, binary64, ofInt, add, sub, div}
-use Rattle.laws.specs.Run.{run, every}
-use Rattle.laws.specs.Area.{at, zero64}
+use Rattle.laws.specs.Loops.{loop, every}
+use Rattle.laws.specs.Area.{at, zero64, zeros8}
 use Rattle.elementary.specs.Limits.{calm}
 use Rattle.gradient.specs.Element.{gradientOf}
 use Rattle.step_gains.specs.declared.Element.{Element}
@@ -36,22 +36,19 @@ elementAt b e = newOf (b .momentum) (b .rate) (b .gradients e) (at (b .positions
 
 -- ---- centring: element e belongs to component e % c
 
-abbrev pub zeros8 : List Float
-zeros8 = zero64 ∷ zero64 ∷ zero64 ∷ zero64 ∷ zero64 ∷ zero64 ∷ zero64 ∷ zero64 ∷ []
-
 abbrev pub sumStep : Before → ℕ → ℕ → List Float → List Float
 sumStep b c e s = set s (e % c) (add binary64 (at s (e % c)) (elementAt b e .moved))
 
 -- each component's sum starts at +0.0 and runs by rising index
 abbrev pub sumsOf : Before → ℕ → ℕ → List Float
-sumsOf b n c = run (sumStep b c) (n * c) 0 zeros8
+sumsOf b n c = loop (sumStep b c) (n * c) 0 zeros8
 
 abbrev pub meanStep : Float → ℕ → List Float → List Float
 meanStep count d s = set s d (div binary64 (at s d) count)
 
 -- the means: the c sums divided by the count
 abbrev pub meansOf : Before → ℕ → ℕ → List Float
-meansOf b n c = run (meanStep (ofInt binary64 (pos n))) c 0 (sumsOf b n c)
+meansOf b n c = loop (meanStep (ofInt binary64 (pos n))) c 0 (sumsOf b n c)
 
 -- a moved position less the mean of its component
 unfoldable pub centredBy : List Float → Before → ℕ → ℕ → Float

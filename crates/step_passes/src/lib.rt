@@ -3,7 +3,7 @@ ghost use mathlib.Core.Path.{_≡_};
 ghost use mathlib.Core.Bool.{true};
 ghost use Prim.Native.Nat.{_+_, _*_, _<_, _≤_};
 ghost use lib.ListN.{length};
-ghost use Rattle.laws.specs.Run.{run};
+ghost use Rattle.laws.specs.Loops.{loop};
 ghost use Rattle.step_passes.specs.Passes.{elementAt, paced, sumStep, meanStep, calmMoves, calmCentred, positionStep, incrementStep, gainStep};
 use step_gains::Element;
 use step_gains::new_element;
@@ -56,7 +56,7 @@ pub fn sum_moves(
     sums: &mut [f64; 8],
 ) -> bool
     requires { ⌜ (0 < c) × (c ≤ 8) × (m ≡ n * c) × (n * (2 * c + 1) ≤ length (now forces)) × (n * c ≤ length (now positions)) × (n * c ≤ length (now increments)) × (n * c ≤ length (now gains)) ⌝ }
-    ensures { λ r. ⌜ (r ≡ calmMoves (paced pace c (now (forces .entry)) (now (positions .entry)) (now (increments .entry)) (now (gains .entry))) m) × (r ≡ true → now (sums .exit) ≡ run (sumStep (paced pace c (now (forces .entry)) (now (positions .entry)) (now (increments .entry)) (now (gains .entry))) c) m 0 (now (sums .entry))) ⌝ }
+    ensures { λ r. ⌜ (r ≡ calmMoves (paced pace c (now (forces .entry)) (now (positions .entry)) (now (increments .entry)) (now (gains .entry))) m) × (r ≡ true → now (sums .exit) ≡ loop (sumStep (paced pace c (now (forces .entry)) (now (positions .entry)) (now (increments .entry)) (now (gains .entry))) c) m 0 (now (sums .entry))) ⌝ }
 {
     let mut e = 0;
     while e < m {
@@ -77,7 +77,7 @@ pub fn sum_moves(
 // Divides the first c sums by the count.
 pub fn take_means(sums: &mut [f64; 8], c: usize, count: f64)
     requires { ⌜ c ≤ 8 ⌝ }
-    ensures { λ _. ⌜ now (sums .exit) ≡ run (meanStep count) c 0 (now (sums .entry)) ⌝ }
+    ensures { λ _. ⌜ now (sums .exit) ≡ loop (meanStep count) c 0 (now (sums .entry)) ⌝ }
 {
     let mut d = 0;
     while d < c {
@@ -126,7 +126,7 @@ pub fn write_moves(
     means: &[f64; 8],
 )
     requires { ⌜ (0 < c) × (c ≤ 8) × (m ≡ n * c) × (n * (2 * c + 1) ≤ length (now forces)) × (n * c ≤ length (now positions)) × (n * c ≤ length (now increments)) × (n * c ≤ length (now gains)) ⌝ }
-    ensures { λ _. ⌜ (now (positions .exit) ≡ run (positionStep (now (means .entry)) (paced pace c (now (forces .entry)) (now (positions .entry)) (now (increments .entry)) (now (gains .entry))) c) m 0 (now (positions .entry))) × (now (increments .exit) ≡ run (incrementStep (paced pace c (now (forces .entry)) (now (positions .entry)) (now (increments .entry)) (now (gains .entry)))) m 0 (now (increments .entry))) × (now (gains .exit) ≡ run (gainStep (paced pace c (now (forces .entry)) (now (positions .entry)) (now (increments .entry)) (now (gains .entry)))) m 0 (now (gains .entry))) ⌝ }
+    ensures { λ _. ⌜ (now (positions .exit) ≡ loop (positionStep (now (means .entry)) (paced pace c (now (forces .entry)) (now (positions .entry)) (now (increments .entry)) (now (gains .entry))) c) m 0 (now (positions .entry))) × (now (increments .exit) ≡ loop (incrementStep (paced pace c (now (forces .entry)) (now (positions .entry)) (now (increments .entry)) (now (gains .entry)))) m 0 (now (increments .entry))) × (now (gains .exit) ≡ loop (gainStep (paced pace c (now (forces .entry)) (now (positions .entry)) (now (increments .entry)) (now (gains .entry)))) m 0 (now (gains .entry))) ⌝ }
 {
     let mut e = 0;
     while e < m {

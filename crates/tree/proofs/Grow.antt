@@ -9,13 +9,15 @@ use lib.ListN.{length, set, length-set}
 use lib.Seq.{getD-set-same, getD-set-other}
 use lib.Ieee.{Float}
 use borrow.Author.Tests.{eq-eqb, ne-eqb}
-use Rattle.laws.specs.Run.{run}
-use Rattle.laws.proofs.Runs.{run-keeps}
+use Rattle.laws.specs.Domain.{deepest}
+use Rattle.laws.specs.Loops.{loop}
+use Rattle.laws.proofs.Loops.{loop-keeps}
 use Rattle.laws.proofs.Numbers.{left, none}
 use Rattle.tree_node.specs.declared.Node.{Node}
-use Rattle.tree_node.specs.Node.{childIndex, childCentre, childHalf, childOf}
+use Rattle.tree_children.specs.Children.{childIndex, childCentre, childHalf}
+use Rattle.tree_turns.specs.Turns.{childOf}
 use Rattle.tree_node.specs.Areas.{nodeAt, blank}
-use Rattle.tree.specs.Insert.{filled, splitsOf}
+use Rattle.tree.specs.Insert.{subdivided, splitsOf}
 
 -- ---- the splits counted: n so far, and those that are left, are the whole
 
@@ -41,20 +43,20 @@ unfolding splitsOf
 splits-none c z h q p = refl
 
 pub record Splits (c : ℕ) (q p : List Float) (depth : ℕ) (y g : List Float) (z h : List Float) (n d : ℕ) : Type 0 where
-  pub same : n + splitsOf (50 - d) c z h q p ≡ splitsOf (50 - depth) c y g q p
+  pub same : n + splitsOf (deepest - d) c z h q p ≡ splitsOf (deepest - depth) c y g q p
 
 module _ {c : ℕ} {q p : List Float} {depth : ℕ} {y g z h : List Float} {n d : ℕ} where
-  pub splits-few : Splits c q p depth y g z h n d → n ≤ 50
-  splits-few s = omega (arith, s .same, splits-le (50 - depth) c y g q p)
+  pub splits-few : Splits c q p depth y g z h n d → n ≤ deepest
+  splits-few s = omega (arith, s .same, splits-le (deepest - depth) c y g q p)
 
-  pub splits-go : Splits c q p depth y g z h n d → d < 50 → childIndex c z q ≡ childIndex c z p → Splits c q p depth y g (childCentre c z h (childIndex c z p)) (childHalf c h) (n + 1) (d + 1)
-  splits-go s l e = record { same = omega (arith, s .same, ap (λ (k : ℕ). splitsOf k c z h q p) (left 50 d l) ∙ splits-same (50 - (d + 1)) c z h q p e) }
+  pub splits-go : Splits c q p depth y g z h n d → d < deepest → childIndex c z q ≡ childIndex c z p → Splits c q p depth y g (childCentre c z h (childIndex c z p)) (childHalf c h) (n + 1) (d + 1)
+  splits-go s l e = record { same = omega (arith, s .same, ap (λ (k : ℕ). splitsOf k c z h q p) (left deepest d l) ∙ splits-same (deepest - (d + 1)) c z h q p e) }
 
-  pub splits-last : Splits c q p depth y g z h n d → d < 50 → (childIndex c z q ≡ childIndex c z p → ⊥) → n + 1 ≡ splitsOf (50 - depth) c y g q p
-  splits-last s l e = omega (arith, s .same, ap (λ (k : ℕ). splitsOf k c z h q p) (left 50 d l) ∙ splits-apart (50 - (d + 1)) c z h q p e)
+  pub splits-last : Splits c q p depth y g z h n d → d < deepest → (childIndex c z q ≡ childIndex c z p → ⊥) → n + 1 ≡ splitsOf (deepest - depth) c y g q p
+  splits-last s l e = omega (arith, s .same, ap (λ (k : ℕ). splitsOf k c z h q p) (left deepest d l) ∙ splits-apart (deepest - (d + 1)) c z h q p e)
 
-  pub splits-end : Splits c q p depth y g z h n d → 50 ≤ d → n ≡ splitsOf (50 - depth) c y g q p
-  splits-end s l = omega (arith, s .same, ap (λ (k : ℕ). splitsOf k c z h q p) (none 50 d l) ∙ splits-none c z h q p)
+  pub splits-end : Splits c q p depth y g z h n d → deepest ≤ d → n ≡ splitsOf (deepest - depth) c y g q p
+  splits-end s l = omega (arith, s .same, ap (λ (k : ℕ). splitsOf k c z h q p) (none deepest d l) ∙ splits-none c z h q p)
 
 -- ---- a run of stores, from place u on
 
@@ -75,25 +77,25 @@ module _ (u : ℕ) (f : ℕ → Node) where
     ],
   )
 
-  pub made : (n : ℕ) (ns : List Node) → Made ns n (run putStep n 0 ns)
-  unfolding run
-  made n ns = subst (λ (k : ℕ). Made ns k (run putStep n 0 ns)) (zero-add n) (run-keeps (Made ns) putStep n 0 ns (λ j y l h. made-more ns j y h) (refl, (λ k x. refl), (λ k l r. absurd (not-suc-le-zero l))))
+  pub made : (n : ℕ) (ns : List Node) → Made ns n (loop putStep n 0 ns)
+  unfolding loop
+  made n ns = subst (λ (k : ℕ). Made ns k (loop putStep n 0 ns)) (zero-add n) (loop-keeps (Made ns) putStep n 0 ns (λ j y l h. made-more ns j y h) (refl, (λ k x. refl), (λ k l r. absurd (not-suc-le-zero l))))
 
 -- ---- the children made
 
 module _ (c : ℕ) (v : Node) (o : ℕ) (q : List Float) where
-  pub length-filled : (n : ℕ) (ns : List Node) → length (filled c v o q n ns) ≡ length ns
-  unfolding filled
+  pub length-filled : (n : ℕ) (ns : List Node) → length (subdivided c v o q n ns) ≡ length ns
+  unfolding subdivided
   length-filled n ns = made (v .first) (childOf c v o q) n ns .0
 
-  pub filled-out : (n : ℕ) (ns : List Node) (k : ℕ) → (v .first ≤ k → k < v .first + n → ⊥) → nodeAt (filled c v o q n ns) k ≡ nodeAt ns k
-  unfolding filled
+  pub filled-out : (n : ℕ) (ns : List Node) (k : ℕ) → (v .first ≤ k → k < v .first + n → ⊥) → nodeAt (subdivided c v o q n ns) k ≡ nodeAt ns k
+  unfolding subdivided
   filled-out n ns = made (v .first) (childOf c v o q) n ns .1
 
-  pub filled-in : (n : ℕ) (ns : List Node) (k : ℕ) → k < n → v .first + k < length ns → nodeAt (filled c v o q n ns) (v .first + k) ≡ childOf c v o q k
-  unfolding filled
+  pub filled-in : (n : ℕ) (ns : List Node) (k : ℕ) → k < n → v .first + k < length ns → nodeAt (subdivided c v o q n ns) (v .first + k) ≡ childOf c v o q k
+  unfolding subdivided
   filled-in n ns = made (v .first) (childOf c v o q) n ns .2
 
-  pub filled-none : (ns : List Node) → filled c v o q 0 ns ≡ ns
-  unfolding filled run
+  pub filled-none : (ns : List Node) → subdivided c v o q 0 ns ≡ ns
+  unfolding subdivided loop
   filled-none ns = refl

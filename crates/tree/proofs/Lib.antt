@@ -1,5 +1,5 @@
 pub mod Grow
-pub mod Descent
+pub mod Inserting
 pub mod Whole
 pub mod Opens
 pub mod Tested

@@ -9,23 +9,24 @@ use native.Mathlib.Decide.{ℕ-discrete}
 use lib.ListN.{length, set, length-set, length-append, List·getD-append}
 use lib.Seq.{set-append-left}
 use lib.Ieee.{Float}
-use Rattle.laws.specs.Run.{run}
+use Rattle.laws.specs.Loops.{loop}
 use Rattle.laws.proofs.Bools.{by-bool}
 use Rattle.laws.proofs.Every.{every-at, every-all}
-use Rattle.laws.proofs.Runs.{run-same}
+use Rattle.laws.proofs.Loops.{loop-same}
 use Rattle.tree_node.specs.declared.Node.{Node}
-use Rattle.tree_node.specs.declared.Out.{Out}
-use Rattle.tree_node.specs.declared.Acc.{Acc}
-use Rattle.tree_node.specs.Node.{pointOf, childOf, turnOf}
+use Rattle.tree_turns.specs.declared.Out.{Out}
+use Rattle.tree_bodies.specs.declared.Acc.{Acc}
+use Rattle.tree_node.specs.Node.{pointOf}
+use Rattle.tree_turns.specs.Turns.{childOf, turnOf}
 use Rattle.tree_node.specs.Areas.{nodeAt, blank}
-use Rattle.tree_node.specs.Bodies.{kindOf}
-use Rattle.tree.specs.Insert.{Tree, tree, filled, turnAt, levelled, levelAt, inserted, Insertion, insertion, insertOf, treeOk, built}
+use Rattle.tree_bodies.specs.Bodies.{kindOf}
+use Rattle.tree.specs.Insert.{Tree, tree, subdivided, turnAt, levelled, levelAt, inserted, Insertion, insertion, insertOf, treeOk, built}
 use Rattle.tree_contents.specs.Contents.{nodeOk}
 use Rattle.tree_bounds.specs.Bounds.{boxOf}
 use Rattle.tree.specs.Box.{boxed}
 use Rattle.tree.specs.Repel.{walkOf, nothing, repelled}
 use Rattle.tree.proofs.Grow.{putStep}
-use Rattle.tree.proofs.Descent.{Ok, Rises, needs-agree, needs-fuel, ok-start, ok-room, ok-next, inserted-last, inserted-next, tree-facts}
+use Rattle.tree.proofs.Inserting.{Ok, Rises, needs-agree, needs-fuel, ok-start, ok-room, ok-next, inserted-last, inserted-next, tree-facts}
 use Rattle.tree.proofs.Whole.{needed, taken, taken-fits, taken-ends, built-more, built-full}
 use Rattle.tree.proofs.Opens.{opened, walk-skip, walk-body, walk-open}
 
@@ -75,13 +76,13 @@ module _ (more : List Node) where
 
   -- ---- one level
 
-  put-longer : (u : ℕ) (f : ℕ → Node) (n k : ℕ) (ns : List Node) → u + k + n ≤ length ns → run (putStep u f) n k (ns ++ more) ≡ run (putStep u f) n k ns ++ more
-  unfolding run
+  put-longer : (u : ℕ) (f : ℕ → Node) (n k : ℕ) (ns : List Node) → u + k + n ≤ length ns → loop (putStep u f) n k (ns ++ more) ≡ loop (putStep u f) n k ns ++ more
+  unfolding loop
   put-longer u f zero k ns h = refl
   put-longer u f (suc n) k ns h = rw (set-append-left ns more (u + k) (f k) (omega (arith, h))) (put-longer u f n (k + 1) (set ns (u + k) (f k)) (omega (arith, h, length-set ns (u + k) (f k))))
 
-  filled-longer : (c : ℕ) (v : Node) (o : ℕ) (q : List Float) (n : ℕ) (ns : List Node) → v .first + n ≤ length ns → filled c v o q n (ns ++ more) ≡ filled c v o q n ns ++ more
-  unfolding filled
+  filled-longer : (c : ℕ) (v : Node) (o : ℕ) (q : List Float) (n : ℕ) (ns : List Node) → v .first + n ≤ length ns → subdivided c v o q n (ns ++ more) ≡ subdivided c v o q n ns ++ more
+  unfolding subdivided
   filled-longer c v o q n ns h = put-longer (v .first) (childOf c v o q) n 0 ns (omega (arith, h))
 
   level-longer : (y : List Float) (c i : ℕ) (r : Out) (t : Tree) → i < length (t .nodes) → r .node .first + r .fresh ≤ length (t .nodes) → levelled y c i r (extended t) ≡ extended (levelled y c i r t)
@@ -124,7 +125,7 @@ module _ (more : List Node) where
 
   pub built-longer : (y : List Float) (n c m : ℕ) (t : Tree) → 1 ≤ m → Fits n c m t → (k : ℕ) → k ≤ n → built y c k t .full ≡ false
       → Fits n c (m + k) (built y c k t .tree) × (built y c k (extended t) ≡ insertion false (extended (built y c k t .tree)))
-  unfolding built run
+  unfolding built loop
   built-longer y n c m t hm f zero h e = (rw (add-zero m) f, refl)
   built-longer y n c m t hm f (suc k) h e = by-bool (Fits n c (m + suc k) (built y c (suc k) t .tree) × (built y c (suc k) (extended t) ≡ insertion false (extended (built y c (suc k) t .tree)))) (built y c k t .full)
       (λ x. absurd (true≢false (sym (built-full y c t k x) ∙ e)))
@@ -162,7 +163,7 @@ module _ (more : List Node) where
             | no b ↦
                 let h = tree-facts n c m t (f .sound) i l .above (opened c q p theta2 v k refl a b) in
                 walk-open c q p theta2 (ns ++ more) i acc v e (suc g) k some refl a b
-                ∙ rw pred (run-same (λ x a. walkOf g c q p theta2 (ns ++ more) (v .first + x) a) (λ x a. walkOf g c q p theta2 ns (v .first + x) a) (2 ^ c) 0 acc (λ x a _ lx. walk-longer g (v .first + x) a (omega (arith, h, lx))))
+                ∙ rw pred (loop-same (λ x a. walkOf g c q p theta2 (ns ++ more) (v .first + x) a) (λ x a. walkOf g c q p theta2 ns (v .first + x) a) (2 ^ c) 0 acc (λ x a _ lx. walk-longer g (v .first + x) a (omega (arith, h, lx))))
                 ∙ sym (walk-open c q p theta2 ns i acc v refl (suc g) k some refl a b)
           ]
         ]

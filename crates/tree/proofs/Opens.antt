@@ -7,17 +7,17 @@ use native.Mathlib.Omega.{arith}
 use lib.Dec.{eqb}
 use lib.Ieee.{Float}
 use borrow.Author.Tests.{eq-eqb, ne-eqb}
-use Rattle.laws.specs.Run.{run}
+use Rattle.laws.specs.Loops.{loop}
 use Rattle.laws.proofs.Numbers.{shl-one}
 use Rattle.tree_node.specs.declared.Node.{Node}
-use Rattle.tree_node.specs.declared.Acc.{Acc}
+use Rattle.tree_bodies.specs.declared.Acc.{Acc}
 use Rattle.tree_node.specs.declared.Leaf.{Leaf}
 use Rattle.tree_node.specs.declared.Leaf.the-variants.{Empty, Occupied}
 use Rattle.tree_node.specs.Areas.{nodeAt}
 use Rattle.tree.specs.Insert.{Tree, treeOk}
-use Rattle.tree_node.specs.Bodies.{leafKind, kindOf, bodyOf}
+use Rattle.tree_bodies.specs.Bodies.{leafKind, kindOf, bodyOf}
 use Rattle.tree.specs.Repel.{walkOf}
-use Rattle.tree.proofs.Descent.{tree-facts}
+use Rattle.tree.proofs.Inserting.{tree-facts}
 
 pred : (g : ℕ) → suc g - 1 ≡ g
 pred g = omega arith
@@ -33,7 +33,7 @@ module _ (c q : ℕ) (p : List Float) (theta2 : Float) (ns : List Node) (i : ℕ
   walk-body zero n k = absurd (n refl)
   walk-body (suc g) n k = let k' : kindOf c q p theta2 (nodeAt ns i) ≡ 1 = rw e at k in sym (rw (k', walkOf) (rw k' (rw e)))
 
-  pub walk-open : (g k : ℕ) → (g ≡ 0 → ⊥) → k ≡ kindOf c q p theta2 v → (k ≡ 0 → ⊥) → (k ≡ 1 → ⊥) → walkOf g c q p theta2 ns i acc ≡ run (λ b a. walkOf (g - 1) c q p theta2 ns (v .first + b) a) (2 ^ c) 0 acc
+  pub walk-open : (g k : ℕ) → (g ≡ 0 → ⊥) → k ≡ kindOf c q p theta2 v → (k ≡ 0 → ⊥) → (k ≡ 1 → ⊥) → walkOf g c q p theta2 ns i acc ≡ loop (λ b a. walkOf (g - 1) c q p theta2 ns (v .first + b) a) (2 ^ c) 0 acc
   unfolding walkOf
   walk-open zero k n x h₀ h₁ = absurd (n refl)
   walk-open (suc g) k n x h₀ h₁ =

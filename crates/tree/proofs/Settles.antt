@@ -1,4 +1,4 @@
--- The Rust makes all children empty and then inserts the old point into one of them. `filled` does the same. Assumes nothing.
+-- The Rust makes all children empty and then inserts the old point into one of them. `subdivided` does the same. Assumes nothing.
 use mathlib.Core.Path.{_≡_, refl, sym, ap, subst, _∙_}
 use mathlib.Core.List.{List}
 use mathlib.Core.Bool.{true}
@@ -9,14 +9,16 @@ use lib.ListN.{length, set, length-set}
 use lib.Seq.{getD-set-same, getD-set-other, ext-getD}
 use lib.Ieee.{Float}
 use borrow.Author.Tests.{eq-eqb, ne-eqb}
-use Rattle.laws.specs.Run.{run}
+use Rattle.laws.specs.Loops.{loop}
 use Rattle.tree_node.specs.declared.Node.{Node}
-use Rattle.tree_node.specs.Node.{pointOf, childIndex, childOf, cellOf, absorbed, occupied, turnOf, out}
+use Rattle.tree_node.specs.Node.{pointOf}
+use Rattle.tree_children.specs.Children.{childIndex, cellOf}
+use Rattle.tree_turns.specs.Turns.{childOf, absorbed, occupied, turnOf, out}
 use Rattle.tree_node.specs.Areas.{nodeAt, blank}
-use Rattle.tree.specs.Insert.{tree, filled, inserted}
-use Rattle.tree_node.proofs.Children.{child-below}
+use Rattle.tree.specs.Insert.{tree, subdivided, inserted}
+use Rattle.tree_children.proofs.Below.{child-below}
 use Rattle.tree.proofs.Grow.{putStep, made, length-filled, filled-in, filled-out}
-use Rattle.tree.proofs.Descent.{level-plain, inserted-last}
+use Rattle.tree.proofs.Inserting.{level-plain, inserted-last}
 
 module _ (y : List Float) (c : ℕ) (w : Node) (o : ℕ) (ns : List Node) (h : w .first + 2 ^ c ≤ length ns) where
   abbrev q : List Float
@@ -27,7 +29,7 @@ module _ (y : List Float) (c : ℕ) (w : Node) (o : ℕ) (ns : List Node) (h : w
 
   -- all children empty
   abbrev pub empties : List Node
-  empties = run (putStep (w .first) (cellOf c w)) (2 ^ c) 0 ns
+  empties = loop (putStep (w .first) (cellOf c w)) (2 ^ c) 0 ns
 
   abbrev old : Node
   old = occupied o (absorbed c q (cellOf c w k))
@@ -46,24 +48,24 @@ module _ (y : List Float) (c : ℕ) (w : Node) (o : ℕ) (ns : List Node) (h : w
   unfolding childOf
   child-other b n = rw (ne-eqb b k n)
 
-  put-old : set empties (w .first + k) old ≡ filled c w o q (2 ^ c) ns
+  put-old : set empties (w .first + k) old ≡ subdivided c w o q (2 ^ c) ns
   put-old =
       let u = w .first in
-      ext-getD blank (set empties (u + k) old) (filled c w o q (2 ^ c) ns) (length-set empties (u + k) old ∙ made u (cellOf c w) (2 ^ c) ns .0 ∙ sym (length-filled c w o q (2 ^ c) ns))
+      ext-getD blank (set empties (u + k) old) (subdivided c w o q (2 ^ c) ns) (length-set empties (u + k) old ∙ made u (cellOf c w) (2 ^ c) ns .0 ∙ sym (length-filled c w o q (2 ^ c) ns))
       λ x lx. elim (ℕ-discrete x (u + k)) [
         | yes e ↦ rw e (getD-set-same empties (u + k) old blank at-k ∙ sym (filled-in c w o q (2 ^ c) ns k (child-below c (w .centre) q) (omega (arith, child-below c (w .centre) q, h)) ∙ child-same))
         | no n ↦ getD-set-other empties (u + k) x old blank n ∙ go x n
       ]
     where
-      inside : (x : ℕ) → w .first ≤ x → x < w .first + 2 ^ c → (x ≡ w .first + k → ⊥) → nodeAt empties x ≡ nodeAt (filled c w o q (2 ^ c) ns) x
+      inside : (x : ℕ) → w .first ≤ x → x < w .first + 2 ^ c → (x ≡ w .first + k → ⊥) → nodeAt empties x ≡ nodeAt (subdivided c w o q (2 ^ c) ns) x
       inside x a b n =
           let i = x - w .first in
           let e : w .first + i ≡ x = omega (arith, a) in
           let l : i < 2 ^ c = omega (arith, a, b) in
           let r : w .first + i < length ns = omega (arith, e, b, h) in
-          subst (λ (z : ℕ). nodeAt empties z ≡ nodeAt (filled c w o q (2 ^ c) ns) z) e (made (w .first) (cellOf c w) (2 ^ c) ns .2 i l r ∙ sym (filled-in c w o q (2 ^ c) ns i l r ∙ child-other i (λ z. n (omega (arith, e, z)))))
+          subst (λ (z : ℕ). nodeAt empties z ≡ nodeAt (subdivided c w o q (2 ^ c) ns) z) e (made (w .first) (cellOf c w) (2 ^ c) ns .2 i l r ∙ sym (filled-in c w o q (2 ^ c) ns i l r ∙ child-other i (λ z. n (omega (arith, e, z)))))
 
-      go : (x : ℕ) → (x ≡ w .first + k → ⊥) → nodeAt empties x ≡ nodeAt (filled c w o q (2 ^ c) ns) x
+      go : (x : ℕ) → (x ≡ w .first + k → ⊥) → nodeAt empties x ≡ nodeAt (subdivided c w o q (2 ^ c) ns) x
       go x n =
           elim (decLt x (w .first)) [
             | yes a ↦ made (w .first) (cellOf c w) (2 ^ c) ns .1 x (λ s t. omega (arith, s, a)) ∙ sym (filled-out c w o q (2 ^ c) ns x (λ s t. omega (arith, s, a)))
@@ -74,7 +76,7 @@ module _ (y : List Float) (c : ℕ) (w : Node) (o : ℕ) (ns : List Node) (h : w
           ]
 
   -- the old point's own insertion, one level down
-  pub settles : (g d u : ℕ) → inserted (suc g) y c q o d (w .first + k) (tree u empties) ≡ tree u (filled c w o q (2 ^ c) ns)
+  pub settles : (g d u : ℕ) → inserted (suc g) y c q o d (w .first + k) (tree u empties) ≡ tree u (subdivided c w o q (2 ^ c) ns)
   unfolding turnOf
   settles g d u =
       inserted-last g y c q o d (w .first + k) (tree u empties) (out old 0 0 o true) (ap (λ (v : Node). turnOf c q o d u v) here) refl

@@ -9,18 +9,20 @@ use native.Mathlib.Decide.{decLt}
 use lib.ListN.{length}
 use lib.Ieee.{Float}
 use borrow.Author.Tests.{lt-ltb, le-ltb, ltb-true}
+use Rattle.laws.specs.Domain.{deepest}
 use Rattle.tree_node.specs.declared.Node.{Node}
 use Rattle.tree_node.specs.declared.Leaf.{Leaf}
 use Rattle.tree_node.specs.declared.Leaf.the-variants.{Empty, Occupied}
-use Rattle.laws.specs.Run.{run, every}
+use Rattle.laws.specs.Loops.{loop, every}
 use Rattle.laws.proofs.Bools.{by-bool}
-use Rattle.laws.proofs.Runs.{run-last}
+use Rattle.laws.proofs.Loops.{loop-last}
 use Rattle.laws.proofs.Every.{every-at, every-all}
-use Rattle.tree_node.specs.Node.{pointOf, freshOf, absorbed, occupied, turnOf}
+use Rattle.tree_node.specs.Node.{pointOf, freshOf}
+use Rattle.tree_turns.specs.Turns.{absorbed, occupied, turnOf}
 use Rattle.tree_node.specs.Areas.{nodeAt}
-use Rattle.tree.specs.Insert.{Tree, tree, filled, inserted, needsOf, Insertion, insertion, insertOf, treeOk, built, rooted}
+use Rattle.tree.specs.Insert.{Tree, tree, subdivided, inserted, needsOf, Insertion, insertion, insertOf, treeOk, built, rooted, enoughNodes}
 use Rattle.tree_contents.specs.Contents.{pointOk, nodeOk}
-use Rattle.tree.proofs.Descent.{node-facts, node-ok, ok-start, Ended, inserted-ends, needs-few}
+use Rattle.tree.proofs.Inserting.{node-facts, node-ok, ok-start, Ended, inserted-ends, needs-few}
 
 abbrev pub needed : List Float → ℕ → ℕ → Tree → ℕ
 needed y c j t = needsOf (length (t .nodes)) y c (pointOf y c j) 0 0 (t .nodes)
@@ -75,13 +77,13 @@ module _ (y : List Float) (c j : ℕ) (t : Tree) where
   insert-uses n m hj hm ok h l e = taken-ends n m hj hm ok h l (taken-fits e) .used
 
   -- 50 splits are enough
-  pub needed-few : needed y c j t ≤ 50 * 2 ^ c
+  pub needed-few : needed y c j t ≤ deepest * 2 ^ c
   needed-few = needs-few (length (t .nodes)) y c (pointOf y c j) 0 0 (t .nodes)
 
 -- ---- the first point
 
 pub first-in : (y : List Float) (c : ℕ) (z h : List Float) (rest : List Node) → insertOf y c 0 (rooted z h rest) ≡ insertion false (tree 1 (occupied 0 (absorbed c (pointOf y c 0) (freshOf z h)) ∷ rest))
-unfolding insertOf inserted needsOf turnOf filled run absorbed
+unfolding insertOf inserted needsOf turnOf subdivided loop absorbed
 first-in y c z h rest = rw (le-ltb (suc (length rest)) 1 (omega arith))
 
 first-ok : (n c : ℕ) (p z h : List Float) (rest : List Node) → 0 < n → treeOk n 1 c (tree 1 (occupied 0 (absorbed c p (freshOf z h)) ∷ rest)) ≡ true
@@ -96,7 +98,7 @@ pub record In (n c cap j : ℕ) (r : Insertion) : Type 0 where
   pub there : r .full ≡ false
   pub nodes : length (r .tree .nodes) ≡ cap
   pub used : 0 < r .tree .used
-  pub few : r .tree .used ≤ 1 + (j - 1) * (50 * 2 ^ c)
+  pub few : r .tree .used ≤ 1 + (j - 1) * (deepest * 2 ^ c)
   pub tree : treeOk n j c (r .tree) ≡ true
 
 rows-more : (j n b : ℕ) → 1 ≤ j → j < n → (j - 1) * b + b ≤ (n - 1) * b
@@ -109,7 +111,7 @@ rows-more j n b h l = subst (λ (x : ℕ). x ≤ (n - 1) * b) (suc-mul (j - 1) b
 fit-in : (y : List Float) (n c cap j : ℕ) (r : Insertion) → r .tree .used + needed y c j (r .tree) ≤ length (r .tree .nodes) → j < n → In n c cap j r → In n c cap (j + 1) (insertOf y c j (r .tree))
 fit-in y n c cap j r fit lj i =
     let t = r .tree in
-    let b = 50 * 2 ^ c in
+    let b = deepest * 2 ^ c in
     let q = needed-few y c j t in
     let e = taken-ends y c j t n j lj (i .some) (i .tree) (i .used) (omega (arith, fit)) fit in
     let rows : (j - 1) * b + b ≡ (j + 1 - 1) * b = sym (suc-mul (j - 1) b) ∙ ap (λ (x : ℕ). x * b) (one-up j (i .some)) in
@@ -119,25 +121,25 @@ fit-in y n c cap j r fit lj i =
     one-up j h = omega (arith, h)
 
 -- there is room for it where there is room for 50 splits of each further point
-pub room-in : (y : List Float) (n c cap j : ℕ) (r : Insertion) → 1 + (n - 1) * (50 * 2 ^ c) ≤ cap → j < n → In n c cap j r → r .tree .used + needed y c j (r .tree) ≤ length (r .tree .nodes)
+pub room-in : (y : List Float) (n c cap j : ℕ) (r : Insertion) → 1 + (n - 1) * (deepest * 2 ^ c) ≤ cap → j < n → In n c cap j r → r .tree .used + needed y c j (r .tree) ≤ length (r .tree .nodes)
 room-in y n c cap j r room lj i =
     let q = needed-few y c j (r .tree) in
-    let up : (j - 1) * (50 * 2 ^ c) + 50 * 2 ^ c ≤ (n - 1) * (50 * 2 ^ c) = rows-more j n (50 * 2 ^ c) (i .some) lj in
+    let up : (j - 1) * (deepest * 2 ^ c) + deepest * 2 ^ c ≤ (n - 1) * (deepest * 2 ^ c) = rows-more j n (deepest * 2 ^ c) (i .some) lj in
     omega (arith, q, up, room, i .few, i .nodes)
 
 module _ (y : List Float) (c : ℕ) (t : Tree) where
   -- one point more, where none was refused
   pub built-more : (k : ℕ) → built y c k t .full ≡ false → built y c (suc k) t ≡ insertOf y c k (built y c k t .tree)
-  unfolding built run
-  built-more k e = run-last (λ j r. elim (r .full) [ true ↦ r | false ↦ insertOf y c j (r .tree) ]) k (insertion false t) ∙ rw e
+  unfolding built loop
+  built-more k e = loop-last (λ j r. elim (r .full) [ true ↦ r | false ↦ insertOf y c j (r .tree) ]) k (insertion false t) ∙ rw e
 
   pub built-full : (k : ℕ) → built y c k t .full ≡ true → built y c (suc k) t .full ≡ true
-  unfolding built run
-  built-full k e = rw (run-last (λ j r. elim (r .full) [ true ↦ r | false ↦ insertOf y c j (r .tree) ]) k (insertion false t)) (rw e e)
+  unfolding built loop
+  built-full k e = rw (loop-last (λ j r. elim (r .full) [ true ↦ r | false ↦ insertOf y c j (r .tree) ]) k (insertion false t)) (rw e e)
 
 module _ (y : List Float) (n c : ℕ) (z h : List Float) (rest : List Node) where
   one-in : 0 < n → In n c (suc (length rest)) 1 (built y c 1 (rooted z h rest))
-  unfolding built run
+  unfolding built loop
   one-in l = rw (first-in y c z h rest) (record { some = omega arith; there = refl; nodes = refl; used = omega arith; few = omega arith; tree = first-ok n c (pointOf y c 0) z h rest l })
 
   -- k points went in and none was refused: so many nodes are used at most, and no count is above k
@@ -154,17 +156,17 @@ module _ (y : List Float) (n c : ℕ) (z h : List Float) (rest : List Node) wher
       up k = omega arith
 
   -- with room for 50 splits of each further point the refusal never comes
-  pub never-full : (k : ℕ) → k ≤ n → 1 + 50 * 2 ^ c * (n - 1) ≤ suc (length rest) → built y c k (rooted z h rest) .full ≡ false
-  unfolding built run
+  pub never-full : (k : ℕ) → k ≤ n → enoughNodes c n ≤ suc (length rest) → built y c k (rooted z h rest) .full ≡ false
+  unfolding built loop
   never-full zero ln room = refl
   never-full (suc zero) ln room = one-in ln .there
   never-full (suc (suc k)) ln room =
       let b = built y c (suc k) (rooted z h rest) in
       let f = never-full (suc k) (omega (arith, ln)) room in
       let i = in-all (suc k) (omega arith) (omega (arith, ln)) f in
-      let wide : 1 + (n - 1) * (50 * 2 ^ c) ≤ suc (length rest) = rw (mul-comm (n - 1) (50 * 2 ^ c)) room in
+      let wide : 1 + (n - 1) * (deepest * 2 ^ c) ≤ suc (length rest) = rw (mul-comm (n - 1) (deepest * 2 ^ c)) room in
       rw (built-more y c (rooted z h rest) (suc k) f, taken y c (suc k) (b .tree) (room-in y n c (suc (length rest)) (suc k) b wide (omega (arith, ln)) i))
 
   -- so all of them are in
-  pub all-in : (k : ℕ) → 1 ≤ k → k ≤ n → 1 + 50 * 2 ^ c * (n - 1) ≤ suc (length rest) → In n c (suc (length rest)) k (built y c k (rooted z h rest))
+  pub all-in : (k : ℕ) → 1 ≤ k → k ≤ n → enoughNodes c n ≤ suc (length rest) → In n c (suc (length rest)) k (built y c k (rooted z h rest))
   all-in k hk ln room = in-all k hk ln (never-full k ln room)

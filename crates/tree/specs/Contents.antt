@@ -3,11 +3,11 @@ use mathlib.Core.Bool.{Bool, true, false, cond, not, _||_}
 use Prim.Native.Nat.{ℕ}
 use lib.ListN.{length}
 use lib.Dec.{eqb, ltb}
-use Rattle.laws.specs.Run.{first}
+use Rattle.laws.specs.Loops.{first}
 use Rattle.tree_node.specs.Areas.{nodeAt}
 use Rattle.tree_contents.specs.declared.Contents.{Contents}
 use Rattle.tree_contents.specs.declared.Contents.the-variants.{Fine, Used, Count, Point, Block}
-use Rattle.tree_contents.specs.Contents.{nodeOk, faultOf}
+use Rattle.tree_contents.specs.Contents.{nodeOk, nodeFault}
 use Rattle.tree.specs.Insert.{Tree}
 
 -- node i of a tree over n points breaks the rule
@@ -16,16 +16,16 @@ faulty n c t i = not (nodeOk n n c (t .used) i (nodeAt (t .nodes) i))
 
 -- the number in use is 0 or above the arena; else the lowest faulty node, if any, with its kind of fault
 unfoldable pub contentsOf : ℕ → ℕ → Tree → Contents
-unfolding faultOf
+unfolding nodeFault
 contentsOf n c t =
     cond (eqb (t .used) 0 || ltb (length (t .nodes)) (t .used)) Used
     (cond (ltb (first (faulty n c t) (t .used)) (t .used))
-    (faultOf n (first (faulty n c t) (t .used)) (nodeAt (t .nodes) (first (faulty n c t) (t .used))))
+    (nodeFault n (first (faulty n c t) (t .used)) (nodeAt (t .nodes) (first (faulty n c t) (t .used))))
     Fine)
 
-abbrev pub isFine : Contents → Bool
-isFine Fine = true
-isFine Used = false
-isFine (Count i) = false
-isFine (Point i) = false
-isFine (Block i) = false
+abbrev pub contentsFine : Contents → Bool
+contentsFine Fine = true
+contentsFine Used = false
+contentsFine (Count i) = false
+contentsFine (Point i) = false
+contentsFine (Block i) = false

@@ -5,12 +5,15 @@ use Prim.Native.Nat.{ℕ, zero, suc, _+_, _-_, _*_, _^_}
 use lib.ListN.{set, length}
 use lib.Dec.{eqb, ltb}
 use lib.Ieee.{Float}
-use Rattle.laws.specs.Run.{run, every}
+use Rattle.laws.specs.Domain.{deepest, mostWord}
+use Rattle.laws.specs.Loops.{loop, every}
 use Rattle.tree_node.specs.declared.Node.{Node}
-use Rattle.tree_node.specs.declared.Out.{Out}
+use Rattle.tree_turns.specs.declared.Out.{Out}
 use Rattle.tree_node.specs.declared.Leaf.{Leaf}
 use Rattle.tree_node.specs.declared.Leaf.the-variants.{Empty, Occupied}
-use Rattle.tree_node.specs.Node.{pointOf, childIndex, childCentre, childHalf, childOf, freshOf, turnOf}
+use Rattle.tree_node.specs.Node.{pointOf, freshOf}
+use Rattle.tree_children.specs.Children.{childIndex, childCentre, childHalf}
+use Rattle.tree_turns.specs.Turns.{childOf, turnOf}
 use Rattle.tree_node.specs.Areas.{nodeAt}
 use Rattle.tree_contents.specs.Contents.{nodeOk}
 
@@ -24,13 +27,13 @@ tree u ns = record { used = u; nodes = ns }
 
 -- ---- one level
 
-abbrev pub fillStep : ℕ → Node → ℕ → List Float → ℕ → List Node → List Node
-fillStep c v o q b ns = set ns (v .first + b) (childOf c v o q b)
+abbrev pub childStep : ℕ → Node → ℕ → List Float → ℕ → List Node → List Node
+childStep c v o q b ns = set ns (v .first + b) (childOf c v o q b)
 
 -- n children of the split node v, from its first child on; the old point o with coordinates q goes down first
-unfoldable pub filled : ℕ → Node → ℕ → List Float → ℕ → List Node → List Node
-unfolding run childOf
-filled c v o q n ns = run (fillStep c v o q) n 0 ns
+unfoldable pub subdivided : ℕ → Node → ℕ → List Float → ℕ → List Node → List Node
+unfolding loop childOf
+subdivided c v o q n ns = loop (childStep c v o q) n 0 ns
 
 -- what becomes of node i
 abbrev pub turnAt : ℕ → List Float → ℕ → ℕ → ℕ → Tree → Out
@@ -38,7 +41,7 @@ turnAt c p j depth i t = turnOf c p j depth (t .used) (nodeAt (t .nodes) i)
 
 -- the tree after it: its node stored, then its children made from the first free node on
 abbrev pub levelled : List Float → ℕ → ℕ → Out → Tree → Tree
-levelled y c i r t = tree (t .used + r .fresh) (filled c (r .node) (r .old) (pointOf y c (r .old)) (r .fresh) (set (t .nodes) i (r .node)))
+levelled y c i r t = tree (t .used + r .fresh) (subdivided c (r .node) (r .old) (pointOf y c (r .old)) (r .fresh) (set (t .nodes) i (r .node)))
 
 abbrev pub levelAt : List Float → ℕ → List Float → ℕ → ℕ → ℕ → Tree → Tree
 levelAt y c p j depth i t = levelled y c i (turnAt c p j depth i t) t
@@ -46,7 +49,7 @@ levelAt y c p j depth i t = levelled y c i (turnAt c p j depth i t) t
 -- ---- the descent of point j with coordinates p from node i on, at a depth, in at most g levels
 
 unfoldable pub inserted : ℕ → List Float → ℕ → List Float → ℕ → ℕ → ℕ → Tree → Tree
-unfolding turnOf filled pointOf
+unfolding turnOf subdivided pointOf
 inserted zero y c p j depth i t = t
 inserted (suc g) y c p j depth i t =
     elim (turnAt c p j depth i t .last) [
@@ -68,7 +71,7 @@ splitsOf (suc g) c z h q p =
 
 abbrev pub leafNeeds : List Float → ℕ → List Float → ℕ → Node → Leaf → ℕ
 leafNeeds y c p depth v Empty = 0
-leafNeeds y c p depth v (Occupied o) = splitsOf (50 - depth) c (v .centre) (v .half) (pointOf y c o) p * 2 ^ c
+leafNeeds y c p depth v (Occupied o) = splitsOf (deepest - depth) c (v .centre) (v .half) (pointOf y c o) p * 2 ^ c
 
 -- the descent that changes nothing
 unfoldable pub needsOf : ℕ → List Float → ℕ → List Float → ℕ → ℕ → List Node → ℕ
@@ -101,12 +104,24 @@ insertOf y c j t =
 abbrev pub treeOk : ℕ → ℕ → ℕ → Tree → Bool
 treeOk n m c t = every (λ i. nodeOk n m c (t .used) i (nodeAt (t .nodes) i)) (t .used)
 
+-- the shape alone, whatever points and counts the nodes have: the children of each used node lie above it among the used ones
+abbrev pub shaped : ℕ → Tree → Bool
+shaped c t = treeOk (suc mostWord) mostWord c t
+
+-- well formed, and every count can grow by one within a word
+abbrev pub growable : ℕ → ℕ → Tree → Bool
+growable n c t = treeOk n (mostWord - 1) c t
+
 -- ---- the whole tree: n points into a root; past a refusal nothing more goes in
 
 unfoldable pub built : List Float → ℕ → ℕ → Tree → Insertion
-unfolding run insertOf
-built y c n t = run (λ j r. elim (r .full) [ true ↦ r | false ↦ insertOf y c j (r .tree) ]) n 0 (insertion false t)
+unfolding loop insertOf
+built y c n t = loop (λ j r. elim (r .full) [ true ↦ r | false ↦ insertOf y c j (r .tree) ]) n 0 (insertion false t)
 
 -- an empty root with that cell, in an arena with these nodes behind it, none of them in use
 abbrev pub rooted : List Float → List Float → List Node → Tree
 rooted z h rest = tree 1 (freshOf z h ∷ rest)
+
+-- nodes for every split that n points can need, the first point none: with so many no insertion is refused
+abbrev pub enoughNodes : ℕ → ℕ → ℕ
+enoughNodes c n = 1 + deepest * 2 ^ c * (n - 1)

@@ -5,34 +5,34 @@ use mathlib.Core.Bool.{true, false}
 use Prim.Native.Nat.{ℕ, zero, suc, _+_, _^_, _≤_}
 use lib.Dec.{eqb}
 use lib.Ieee.{Float}
-use Rattle.laws.specs.Run.{run}
+use Rattle.laws.specs.Loops.{loop}
 use Rattle.tree_node.specs.declared.Node.{Node}
-use Rattle.tree_node.specs.declared.Acc.{Acc}
+use Rattle.tree_bodies.specs.declared.Acc.{Acc}
 use Rattle.laws.specs.Area.{zero64}
-use Rattle.tree_node.specs.Node.{zeros}
+use Rattle.tree_node.specs.Node.{zeros3}
 use Rattle.tree_node.specs.Areas.{nodeAt}
-use Rattle.tree_node.specs.Bodies.{kindOf, bodyOf}
+use Rattle.tree_bodies.specs.Bodies.{kindOf, bodyOf}
 
 -- ---- the walk from node i, at most g levels deep, children rising
 
 unfoldable pub walkOf : ℕ → ℕ → ℕ → List Float → Float → List Node → ℕ → Acc → Acc
-unfolding kindOf bodyOf run
+unfolding kindOf bodyOf loop
 walkOf zero c q p theta2 ns i acc = acc
 walkOf (suc g) c q p theta2 ns i acc =
     elim (eqb (kindOf c q p theta2 (nodeAt ns i)) 0) [
       | true ↦ acc
       | false ↦ elim (eqb (kindOf c q p theta2 (nodeAt ns i)) 1) [
         | true ↦ bodyOf c p (nodeAt ns i) acc
-        | false ↦ run (λ b a. walkOf g c q p theta2 ns (nodeAt ns i .first + b) a) (2 ^ c) 0 acc
+        | false ↦ loop (λ b a. walkOf g c q p theta2 ns (nodeAt ns i .first + b) a) (2 ^ c) 0 acc
       ]
     ]
 
 -- r is what the walks from the children at f give, one after the other, whatever number of levels is allowed, if it reaches the last used node
 abbrev pub Walked : ℕ → ℕ → ℕ → List Float → Float → List Node → ℕ → Acc → Acc → Type 0
-Walked used c q p theta2 ns f acc r = (g : ℕ) → used ≤ f + g → r ≡ run (λ b a. walkOf g c q p theta2 ns (f + b) a) (2 ^ c) 0 acc
+Walked used c q p theta2 ns f acc r = (g : ℕ) → used ≤ f + g → r ≡ loop (λ b a. walkOf g c q p theta2 ns (f + b) a) (2 ^ c) 0 acc
 
 abbrev pub nothing : Acc
-nothing = record { neg = zeros; sum = zero64 }
+nothing = record { neg = zeros3; sum = zero64 }
 
 -- repulsion on point q with coordinates p, in a tree of `used` nodes
 unfoldable pub repelled : ℕ → ℕ → ℕ → List Float → Float → List Node → Acc

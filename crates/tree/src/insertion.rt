@@ -1,13 +1,15 @@
 // Insertion of a point: a dry descent counts the nodes that it needs, then the point goes down level by level.
 ghost use mathlib.Core.Path.{_≡_};
 ghost use mathlib.Core.Bool.{true};
-ghost use Prim.Native.Nat.{_+_, _-_, _*_, _<_, _≤_};
+ghost use Prim.Native.Nat.{suc, _+_, _-_, _*_, _<_, _≤_};
 ghost use lib.ListN.{length};
+ghost use Rattle.laws.specs.Domain.{deepest, mostWord};
 ghost use Rattle.tree_node.specs.Node.{Axes};
-ghost use Rattle.tree_node.specs.Areas.{wordOf, nodesOf, nodeAt, restOf};
-ghost use Rattle.tree.specs.Insert.{tree, filled, turnAt, levelAt, splitsOf, needsOf, insertOf, insertion, treeOk};
+ghost use Rattle.tree_node.specs.Areas.{leafWord, nodesOf, nodeAt, arenaRest};
+ghost use Rattle.tree.specs.Insert.{tree, subdivided, turnAt, levelAt, splitsOf, needsOf, insertOf, insertion, growable};
 use crate::Answer;
 use crate::Step;
+use laws::DEEPEST;
 use tree_children::child_centre;
 use tree_children::child_half;
 use tree_children::child_index;
@@ -22,8 +24,8 @@ use tree_turns::turn;
 
 // Makes n children of the split node v.
 fn subdivide(reals: &mut [f64], words: &mut [u32], v: Node, o: u32, q: [f64; 3], c: usize, n: usize)
-    requires { ⌜ (Axes c) × (o < 4294967295) × (v .first + n ≤ length (nodesOf (now reals) (now words))) ⌝ }
-    ensures { λ _. ⌜ (nodesOf (now (reals .exit)) (now (words .exit)) ≡ filled c v o q n (nodesOf (now (reals .entry)) (now (words .entry)))) × (restOf (now (reals .exit)) (now (words .exit)) ≡ restOf (now (reals .entry)) (now (words .entry))) ⌝ }
+    requires { ⌜ (Axes c) × (o < mostWord) × (v .first + n ≤ length (nodesOf (now reals) (now words))) ⌝ }
+    ensures { λ _. ⌜ (nodesOf (now (reals .exit)) (now (words .exit)) ≡ subdivided c v o q n (nodesOf (now (reals .entry)) (now (words .entry)))) × (arenaRest (now (reals .exit)) (now (words .exit)) ≡ arenaRest (now (reals .entry)) (now (words .entry))) ⌝ }
 {
     let u = v.first as usize;
     let mut b = 0;
@@ -46,11 +48,11 @@ fn level(
     depth: usize,
     i: usize,
 ) -> Step
-    requires { ⌜ (Axes c) × (used < 4294967296) × (i < length (nodesOf (now reals) (now words))) × (nodeAt (nodesOf (now reals) (now words)) i .count < 4294967295) × (length (nodesOf (now reals) (now words)) < 4294967296) ⌝ }
-    requires { ⌜ (turnAt c p j depth i (tree used (nodesOf (now reals) (now words))) .node .first + turnAt c p j depth i (tree used (nodesOf (now reals) (now words))) .fresh ≤ length (nodesOf (now reals) (now words))) × (wordOf (turnAt c p j depth i (tree used (nodesOf (now reals) (now words))) .node .leaf) < 4294967296) ⌝ }
-    requires { ⌜ (turnAt c p j depth i (tree used (nodesOf (now reals) (now words))) .old < 4294967295) × (turnAt c p j depth i (tree used (nodesOf (now reals) (now words))) .old * c + c ≤ length (now positions)) ⌝ }
+    requires { ⌜ (Axes c) × (used < suc mostWord) × (i < length (nodesOf (now reals) (now words))) × (nodeAt (nodesOf (now reals) (now words)) i .count < mostWord) × (length (nodesOf (now reals) (now words)) < suc mostWord) ⌝ }
+    requires { ⌜ (turnAt c p j depth i (tree used (nodesOf (now reals) (now words))) .node .first + turnAt c p j depth i (tree used (nodesOf (now reals) (now words))) .fresh ≤ length (nodesOf (now reals) (now words))) × (leafWord (turnAt c p j depth i (tree used (nodesOf (now reals) (now words))) .node .leaf) < suc mostWord) ⌝ }
+    requires { ⌜ (turnAt c p j depth i (tree used (nodesOf (now reals) (now words))) .old < mostWord) × (turnAt c p j depth i (tree used (nodesOf (now reals) (now words))) .old * c + c ≤ length (now positions)) ⌝ }
     ensures { λ r. ⌜ (tree (r .used) (nodesOf (now (reals .exit)) (now (words .exit))) ≡ levelAt (now (positions .entry)) c p j depth i (tree used (nodesOf (now (reals .entry)) (now (words .entry))))) × (r .next ≡ turnAt c p j depth i (tree used (nodesOf (now (reals .entry)) (now (words .entry)))) .next) × (r .last ≡ turnAt c p j depth i (tree used (nodesOf (now (reals .entry)) (now (words .entry)))) .last) ⌝ }
-    ensures { λ _. ⌜ restOf (now (reals .exit)) (now (words .exit)) ≡ restOf (now (reals .entry)) (now (words .entry)) ⌝ }
+    ensures { λ _. ⌜ arenaRest (now (reals .exit)) (now (words .exit)) ≡ arenaRest (now (reals .entry)) (now (words .entry)) ⌝ }
 {
     let v = load(reals, words, i);
     let t = turn(v, p, j, c, depth, used as u32);
@@ -68,13 +70,13 @@ fn level(
 // The splits of a leaf that holds a point q when p comes, at a depth.
 fn splits(z0: [f64; 3], h0: [f64; 3], q: [f64; 3], p: [f64; 3], c: usize, depth: usize) -> usize
     requires { ⌜ Axes c ⌝ }
-    ensures { λ r. ⌜ (r ≡ splitsOf (50 - depth) c z0 h0 q p) × (r ≤ 50) ⌝ }
+    ensures { λ r. ⌜ (r ≡ splitsOf (deepest - depth) c z0 h0 q p) × (r ≤ deepest) ⌝ }
 {
     let mut z = z0;
     let mut h = h0;
     let mut n: usize = 0;
     let mut d = depth;
-    while d < 50 {
+    while d < DEEPEST {
         let k = child_index(z, p, c);
         let o = child_index(z, q, c);
         n += 1;
@@ -101,7 +103,7 @@ fn needs(
     c: usize,
 ) -> usize
     requires { ⌜ (Axes c) × (0 < used) × (used ≤ length (nodesOf (now reals) (now words))) × (n * c ≤ length (now positions)) ⌝ }
-    requires { ⌜ treeOk n 4294967294 c (tree used (nodesOf (now reals) (now words))) ≡ true ⌝ }
+    requires { ⌜ growable n c (tree used (nodesOf (now reals) (now words))) ≡ true ⌝ }
     ensures { λ r. ⌜ r ≡ needsOf (length (nodesOf (now (reals .entry)) (now (words .entry)))) (now (positions .entry)) c p 0 0 (nodesOf (now (reals .entry)) (now (words .entry))) ⌝ }
 {
     let mut i: usize = 0;
@@ -134,10 +136,10 @@ pub fn insert(
     j: u32,
     c: usize,
 ) -> Answer
-    requires { ⌜ (Axes c) × (0 < used) × (used ≤ length (nodesOf (now reals) (now words))) × (n * c ≤ length (now positions)) × (j < n) × (n ≤ 4294967295) × (length (nodesOf (now reals) (now words)) < 4294967296) ⌝ }
-    requires { ⌜ treeOk n 4294967294 c (tree used (nodesOf (now reals) (now words))) ≡ true ⌝ }
+    requires { ⌜ (Axes c) × (0 < used) × (used ≤ length (nodesOf (now reals) (now words))) × (n * c ≤ length (now positions)) × (j < n) × (n ≤ mostWord) × (length (nodesOf (now reals) (now words)) < suc mostWord) ⌝ }
+    requires { ⌜ growable n c (tree used (nodesOf (now reals) (now words))) ≡ true ⌝ }
     ensures { λ r. ⌜ insertion (r .full) (tree (r .used) (nodesOf (now (reals .exit)) (now (words .exit)))) ≡ insertOf (now (positions .entry)) c j (tree used (nodesOf (now (reals .entry)) (now (words .entry)))) ⌝ }
-    ensures { λ _. ⌜ restOf (now (reals .exit)) (now (words .exit)) ≡ restOf (now (reals .entry)) (now (words .entry)) ⌝ }
+    ensures { λ _. ⌜ arenaRest (now (reals .exit)) (now (words .exit)) ≡ arenaRest (now (reals .entry)) (now (words .entry)) ⌝ }
 {
     let p = point(positions, j as usize, c);
     let more = needs(reals, words, positions, n, used, p, c);

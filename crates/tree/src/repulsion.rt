@@ -5,11 +5,11 @@ ghost use Prim.Native.Nat.{_+_, _^_, _<_, _≤_};
 ghost use lib.ListN.{length};
 ghost use Rattle.tree_node.specs.Node.{Axes};
 ghost use Rattle.tree_node.specs.Areas.{nodesOf};
-ghost use Rattle.tree.specs.Insert.{tree, treeOk};
+ghost use Rattle.tree.specs.Insert.{tree, shaped};
 ghost use Rattle.tree.specs.Repel.{Walked, repelled};
+use tree_bodies::Acc;
 use tree_bodies::body;
 use tree_bodies::kind;
-use tree_node::Acc;
 use tree_node::areas::load;
 
 // The walk through the children of an opened node, which stand from node f on.
@@ -25,7 +25,7 @@ fn walk(
     acc: Acc,
 ) -> Acc
     requires { ⌜ (Axes c) × (f + 2 ^ c ≤ used) × (used ≤ length (nodesOf (now reals) (now words))) ⌝ }
-    requires { ⌜ treeOk 4294967296 4294967295 c (tree used (nodesOf (now reals) (now words))) ≡ true ⌝ }
+    requires { ⌜ shaped c (tree used (nodesOf (now reals) (now words))) ≡ true ⌝ }
     ensures { λ r. ⌜ Walked used c q p theta2 (nodesOf (now (reals .entry)) (now (words .entry))) f acc r ⌝ }
 {
     let e = 1 << c;
@@ -55,7 +55,7 @@ pub fn repulsive_force(
     theta2: f64,
 ) -> Acc
     requires { ⌜ (Axes c) × (0 < used) × (used ≤ length (nodesOf (now reals) (now words))) ⌝ }
-    requires { ⌜ treeOk 4294967296 4294967295 c (tree used (nodesOf (now reals) (now words))) ≡ true ⌝ }
+    requires { ⌜ shaped c (tree used (nodesOf (now reals) (now words))) ≡ true ⌝ }
     ensures { λ r. ⌜ r ≡ repelled used c q p theta2 (nodesOf (now (reals .entry)) (now (words .entry))) ⌝ }
 {
     let neg = [0.0, 0.0, 0.0];

@@ -1,11 +1,16 @@
 // A node as seen from a point: its distance, its width, and what it adds where it acts as one body.
 ghost use mathlib.Core.Path.{_≡_};
-ghost use Rattle.laws.specs.Run.{run};
+ghost use Rattle.laws.specs.Loops.{loop};
 ghost use Rattle.tree_node.specs.Node.{Axes};
-ghost use Rattle.tree_node.specs.Bodies.{gapOf, wider, widthOf, pushStep, bodyOf, leafKind, kindOf};
-use tree_node::Acc;
+ghost use Rattle.tree_bodies.specs.Bodies.{gapOf, wider, widthOf, pushStep, bodyOf, leafKind, kindOf};
 use tree_node::Leaf;
 use tree_node::Node;
+
+// The repulsion gathered so far, and the normaliser's share.
+pub struct Acc {
+    pub neg: [f64; 3],
+    pub sum: f64,
+}
 
 // The squared distance of p from m.
 pub fn gap(p: [f64; 3], m: [f64; 3], c: usize) -> f64
@@ -55,7 +60,7 @@ fn max_width(h: [f64; 3], c: usize) -> f64
 // The repulsion so far, with a force along p - m more.
 pub fn pushed(t: [f64; 3], p: [f64; 3], m: [f64; 3], force: f64, c: usize) -> [f64; 3]
     requires { ⌜ Axes c ⌝ }
-    ensures { λ r. ⌜ r ≡ run (pushStep p m force) c 0 t ⌝ }
+    ensures { λ r. ⌜ r ≡ loop (pushStep p m force) c 0 t ⌝ }
 {
     let mut s = t;
     s[0] = s[0] + force * (p[0] - m[0]);

@@ -4,11 +4,11 @@ use mathlib.Core.Bool.{true, false, cond}
 use Prim.Native.Nat.{ℕ, _+_, _*_}
 use lib.ListN.{set}
 use lib.Ieee.{Float, inf, binary64, add, sub, div, lt}
-use Rattle.laws.specs.Run.{run}
+use Rattle.laws.specs.Loops.{loop}
 use Rattle.laws.specs.Area.{at, bits, two64}
 use Rattle.elementary.specs.Limits.{unlessAbove}
 use Rattle.tree_node.specs.declared.Node.{Node}
-use Rattle.tree_node.specs.Node.{zeros, freshOf}
+use Rattle.tree_node.specs.Node.{zeros3, freshOf}
 use Rattle.tree_bounds.specs.declared.Span.{Span}
 
 -- one coordinate more: it replaces the lowest where it is below it, and the highest where it is above it
@@ -26,8 +26,8 @@ abbrev pub spanStep : List Float → ℕ → ℕ → ℕ → Span → Span
 spanStep y c d i s = widened s (at y (i * c + d))
 
 unfoldable pub spanOf : List Float → ℕ → ℕ → ℕ → Span
-unfolding run lower higher
-spanOf y n c d = run (spanStep y c d) n 0 (record { low = inf false; high = inf true })
+unfolding loop lower higher
+spanOf y n c d = loop (spanStep y c d) n 0 (record { low = inf false; high = inf true })
 
 -- 1e-12
 abbrev pub pad : Float
@@ -50,5 +50,5 @@ reachStep y n c d h = set h d (reachOf (spanOf y n c d))
 
 -- an empty leaf over the padded span of n points in c components
 unfoldable pub boxOf : List Float → ℕ → ℕ → Node
-unfolding run spanOf middleOf reachOf
-boxOf y n c = freshOf (run (middleStep y n c) c 0 zeros) (run (reachStep y n c) c 0 zeros)
+unfolding loop spanOf middleOf reachOf
+boxOf y n c = freshOf (loop (middleStep y n c) c 0 zeros3) (loop (reachStep y n c) c 0 zeros3)

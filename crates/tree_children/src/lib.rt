@@ -1,7 +1,8 @@
 // Where a point goes, and the cells of a node's children.
 ghost use mathlib.Core.Path.{_≡_};
 ghost use Prim.Native.Nat.{_<_, _≤_};
-ghost use Rattle.tree_node.specs.Node.{Axes, bitOf, childIndex, movedOf, childHalf, childCentre, cellOf};
+ghost use Rattle.tree_node.specs.Node.{Axes};
+ghost use Rattle.tree_children.specs.Children.{bitOf, childIndex, movedOf, childHalf, childCentre, cellOf};
 use tree_node::Node;
 use tree_node::cells::fresh;
 

@@ -20,5 +20,5 @@ unfoldable pub nodeOk : ℕ → ℕ → ℕ → ℕ → ℕ → Node → Bool
 nodeOk n m c used i v = leb (v .count) m && (pointOk n (v .leaf) && blockOk c used i (v .first))
 
 -- node i breaks the rule: first by its count, then by its point, else by its block of children
-unfoldable pub faultOf : ℕ → ℕ → Node → Contents
-faultOf n i v = cond (ltb n (v .count)) (Count i) (cond (pointOk n (v .leaf)) (Block i) (Point i))
+unfoldable pub nodeFault : ℕ → ℕ → Node → Contents
+nodeFault n i v = cond (ltb n (v .count)) (Count i) (cond (pointOk n (v .leaf)) (Block i) (Point i))

@@ -1,7 +1,7 @@
 // What the contents test asks of one node, and which part of it a faulty node breaks.
 ghost use mathlib.Core.Path.{_≡_};
 ghost use Rattle.tree_node.specs.Node.{Axes};
-ghost use Rattle.tree_contents.specs.Contents.{pointOk, blockOk, nodeOk, faultOf};
+ghost use Rattle.tree_contents.specs.Contents.{pointOk, blockOk, nodeOk, nodeFault};
 use tree_node::Leaf;
 use tree_node::Node;
 
@@ -59,7 +59,7 @@ pub fn node_ok(v: Node, n: usize, c: usize, used: usize, i: usize) -> bool
 
 // Which part of the rule a faulty node breaks first.
 pub fn fault(v: Node, n: usize, i: usize) -> Contents
-    ensures { λ r. ⌜ r ≡ faultOf n i v ⌝ }
+    ensures { λ r. ⌜ r ≡ nodeFault n i v ⌝ }
 {
     if v.count as usize > n {
         return Contents::Count(i);

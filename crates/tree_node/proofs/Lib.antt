@@ -1,3 +1,2 @@
 pub mod Flat
-pub mod Children
 pub mod Axes

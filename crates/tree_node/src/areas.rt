@@ -1,11 +1,13 @@
 // The flat areas: nine floats and three words a node. Only the functions here know that the nodes lie flat.
 ghost use mathlib.Core.Path.{_≡_};
-ghost use Prim.Native.Nat.{_+_, _*_, _<_, _≤_, min};
+ghost use Prim.Native.Nat.{suc, _+_, _*_, _<_, _≤_, min};
 ghost use lib.ListN.{length, set};
+ghost use Rattle.laws.specs.Domain.{mostWord};
 ghost use Rattle.laws.specs.Area.{at};
-ghost use Rattle.tree_node.specs.Areas.{leafOf, rowAt, three, put3, putReals, putWords, wordOf, nodesOf, nodeAt, restOf};
+ghost use Rattle.tree_node.specs.Areas.{leafOf, rowAt, threeAt, put3, putReals, putWords, leafWord, nodesOf, nodeAt, arenaRest};
 use crate::Leaf;
 use crate::Node;
+use laws::MOST_WORD;
 
 fn read_leaf(v: u32) -> Leaf
     ensures { λ r. ⌜ r ≡ leafOf v ⌝ }
@@ -17,8 +19,8 @@ fn read_leaf(v: u32) -> Leaf
 }
 
 fn leaf_word(l: Leaf) -> u32
-    requires { ⌜ wordOf l < 4294967296 ⌝ }
-    ensures { λ r. ⌜ r ≡ wordOf l ⌝ }
+    requires { ⌜ leafWord l < suc mostWord ⌝ }
+    ensures { λ r. ⌜ r ≡ leafWord l ⌝ }
 {
     let Leaf::Occupied(p) = l else {
         return 0;
@@ -40,12 +42,12 @@ fn smaller(a: usize, b: usize) -> usize
 pub fn capacity(reals: &[f64], words: &[u32]) -> usize
     ensures { λ r. ⌜ r ≡ length (nodesOf (now (reals .entry)) (now (words .entry))) ⌝ }
 {
-    smaller(smaller(reals.len() / 9, words.len() / 3), 4294967295)
+    smaller(smaller(reals.len() / 9, words.len() / 3), MOST_WORD)
 }
 
 fn read_reals(reals: &[f64], a: usize) -> [f64; 3]
     requires { ⌜ a + 3 ≤ length (now reals) ⌝ }
-    ensures { λ r. ⌜ r ≡ three (now (reals .entry)) a ⌝ }
+    ensures { λ r. ⌜ r ≡ threeAt (now (reals .entry)) a ⌝ }
 {
     [reals[a], reals[a + 1], reals[a + 2]]
 }
@@ -89,7 +91,7 @@ fn write_words(words: &mut [u32], b: usize, count: u32, first: u32, leaf: u32)
 }
 
 fn write_row(reals: &mut [f64], words: &mut [u32], i: usize, v: Node)
-    requires { ⌜ (9 * i + 9 ≤ length (now reals)) × (3 * i + 3 ≤ length (now words)) × (wordOf (v .leaf) < 4294967296) ⌝ }
+    requires { ⌜ (9 * i + 9 ≤ length (now reals)) × (3 * i + 3 ≤ length (now words)) × (leafWord (v .leaf) < suc mostWord) ⌝ }
     ensures { λ _. ⌜ (now (reals .exit) ≡ putReals (now (reals .entry)) (9 * i) v) × (now (words .exit) ≡ putWords (now (words .entry)) (3 * i) v) × (length (v .centre) ≡ 3) × (length (v .half) ≡ 3) × (length (v .mass) ≡ 3) ⌝ }
 {
     let centre = v.centre;
@@ -114,8 +116,8 @@ pub fn load(reals: &[f64], words: &[u32], i: usize) -> Node
 
 // Node i becomes v.
 pub fn store(reals: &mut [f64], words: &mut [u32], i: usize, v: Node)
-    requires { ⌜ (i < length (nodesOf (now reals) (now words))) × (wordOf (v .leaf) < 4294967296) ⌝ }
-    ensures { λ _. ⌜ (nodesOf (now (reals .exit)) (now (words .exit)) ≡ set (nodesOf (now (reals .entry)) (now (words .entry))) i v) × (restOf (now (reals .exit)) (now (words .exit)) ≡ restOf (now (reals .entry)) (now (words .entry))) ⌝ }
+    requires { ⌜ (i < length (nodesOf (now reals) (now words))) × (leafWord (v .leaf) < suc mostWord) ⌝ }
+    ensures { λ _. ⌜ (nodesOf (now (reals .exit)) (now (words .exit)) ≡ set (nodesOf (now (reals .entry)) (now (words .entry))) i v) × (arenaRest (now (reals .exit)) (now (words .exit)) ≡ arenaRest (now (reals .entry)) (now (words .entry))) ⌝ }
 {
     write_row(reals, words, i, v);
 }

@@ -24,23 +24,3 @@ pub struct Node {
     // what it holds while it has no children
     pub leaf: Leaf,
 }
-
-// What a level of an insertion does with its node.
-pub struct Out {
-    // the node as it is to be stored
-    pub node: Node,
-    // the node to go on at
-    pub next: usize,
-    // how many children to make
-    pub fresh: usize,
-    // the point that goes down into one of them
-    pub old: u32,
-    // whether the point is in
-    pub last: bool,
-}
-
-// The repulsion gathered so far, and the normaliser's share.
-pub struct Acc {
-    pub neg: [f64; 3],
-    pub sum: f64,
-}

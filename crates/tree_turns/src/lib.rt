@@ -1,13 +1,29 @@
 // A node that takes a point in, a made child, and what a level of an insertion does with its node.
 ghost use mathlib.Core.Path.{_≡_};
 ghost use Prim.Native.Nat.{_<_};
-ghost use Rattle.laws.specs.Run.{run};
-ghost use Rattle.tree_node.specs.Node.{Axes, meanOf, meanStep, absorbed, occupied, parent, childOf, turnOf};
+ghost use Rattle.laws.specs.Domain.{mostWord};
+ghost use Rattle.laws.specs.Loops.{loop};
+ghost use Rattle.tree_node.specs.Node.{Axes};
+ghost use Rattle.tree_turns.specs.Turns.{meanOf, massStep, absorbed, occupied, parent, childOf, turnOf};
+use laws::DEEPEST;
 use tree_children::cell;
 use tree_children::child_index;
 use tree_node::Leaf;
 use tree_node::Node;
-use tree_node::Out;
+
+// What a level of an insertion does with its node.
+pub struct Out {
+    // the node as it is to be stored
+    pub node: Node,
+    // the node to go on at
+    pub next: usize,
+    // how many children to make
+    pub fresh: usize,
+    // the point that goes down into one of them
+    pub old: u32,
+    // whether the point is in
+    pub last: bool,
+}
 
 fn mean(cs: f64, m: f64, x: f64) -> f64
     ensures { λ r. ⌜ r ≡ meanOf cs m x ⌝ }
@@ -18,7 +34,7 @@ fn mean(cs: f64, m: f64, x: f64) -> f64
 // The mean of cs points in each component, the last of which is p.
 fn means(cs: f64, m: [f64; 3], p: [f64; 3], c: usize) -> [f64; 3]
     requires { ⌜ Axes c ⌝ }
-    ensures { λ r. ⌜ r ≡ run (meanStep cs p) c 0 m ⌝ }
+    ensures { λ r. ⌜ r ≡ loop (massStep cs p) c 0 m ⌝ }
 {
     let mut t = m;
     t[0] = mean(cs, t[0], p[0]);
@@ -35,7 +51,7 @@ fn means(cs: f64, m: [f64; 3], p: [f64; 3], c: usize) -> [f64; 3]
 
 // The node with one point more.
 pub fn absorb(v: Node, p: [f64; 3], c: usize) -> Node
-    requires { ⌜ (Axes c) × (v .count < 4294967295) ⌝ }
+    requires { ⌜ (Axes c) × (v .count < mostWord) ⌝ }
     ensures { λ r. ⌜ r ≡ absorbed c p v ⌝ }
 {
     let k = v.count + 1;
@@ -108,7 +124,7 @@ pub fn child(v: Node, o: u32, q: [f64; 3], b: usize, c: usize) -> Node
 
 // What becomes of a node, at a depth, when point j comes to it.
 pub fn turn(v: Node, p: [f64; 3], j: u32, c: usize, depth: usize, used: u32) -> Out
-    requires { ⌜ (Axes c) × (v .count < 4294967295) ⌝ }
+    requires { ⌜ (Axes c) × (v .count < mostWord) ⌝ }
     ensures { λ r. ⌜ r ≡ turnOf c p j depth used v ⌝ }
 {
     let a = absorb(v, p, c);
@@ -134,7 +150,7 @@ pub fn turn(v: Node, p: [f64; 3], j: u32, c: usize, depth: usize, used: u32) -> 
             last: true,
         };
     };
-    if depth >= 50 {
+    if depth >= DEEPEST {
         return Out {
             node: a,
             next: 0,

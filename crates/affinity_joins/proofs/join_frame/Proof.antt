@@ -5,7 +5,7 @@ use lib.ListN.{set, length}
 use mathlib.Core.List.{List}
 use mathlib.Core.Path.{refl, ap, _∙_, _≡_}
 use Rattle.affinity_joins.proofs.Joint.{place-in}
-use Rattle.laws.proofs.Runs.{Runs, start, more, done}
+use Rattle.laws.proofs.Loops.{Loops, loop-start, loop-more, loop-done}
 use Rattle.affinity_joins.specs.Joins.{pairStep}
 use Prim.Native.Nat.{_-_, _+_, _*_}
 use borrow.Author.Needs.{needs}
@@ -14,13 +14,13 @@ use Rattle.affinity_joins.proofs.join_frame.Statement.{statement}
 use Rattle.affinity_joins.proofs.join_frame.Tie as tie
 
 abbrev Inv-loop : tie.InvT-loop
-Inv-loop affinities₀ n norm i j₀ affinities j = (length affinities ≡ length affinities₀) × Runs (pairStep n norm i) i affinities₀ j affinities
+Inv-loop affinities₀ n norm i j₀ affinities j = (length affinities ≡ length affinities₀) × Loops (pairStep n norm i) i affinities₀ j affinities
 
 abbrev μ-loop : tie.MeasureT-loop
 μ-loop affinities₀ n norm i j₀ affinities j = i - j
 
 loop-holds : tie.Need-loop-holds Inv-loop μ-loop
-loop-holds c = (refl, start _ _ _)
+loop-holds c = (refl, loop-start _ _ _)
 
 join-pair-requires : tie.Need-join-pair-requires Inv-loop μ-loop
 join-pair-requires c κs = (rw (c .before .before .loop .inv .0) (place-in _ _ _ _ (omega (arith, c .before .loop-test .taken, c .before .before .before .before .pre .0)) (c .before .before .before .before .pre .0) (c .before .before .before .before .pre .1)), rw (c .before .before .loop .inv .0) (place-in _ _ _ _ (c .before .before .before .before .pre .0) (omega (arith, c .before .loop-test .taken, c .before .before .before .before .pre .0)) (c .before .before .before .before .pre .1)))
@@ -32,7 +32,7 @@ loop-less : tie.Need-loop-less Inv-loop μ-loop
 loop-less c = search needs
 
 loop-again : tie.Need-loop-again Inv-loop μ-loop
-loop-again c = (c .before .before .join-pair .kept .0 ∙ c .before .before .before .before .before .loop .inv .0, rw (c .before .before .join-pair .ensures) (more (c .before .before .before .before .before .loop .inv .1) (c .before .before .before .before .loop-test .taken)))
+loop-again c = (c .before .before .join-pair .kept .0 ∙ c .before .before .before .before .before .loop .inv .0, rw (c .before .before .join-pair .ensures) (loop-more (c .before .before .before .before .before .loop .inv .1) (c .before .before .before .before .loop-test .taken)))
 
 mul-affinities : tie.Need-mul-affinities Inv-loop μ-loop
 mul-affinities c = omega (arith, (place-in _ _ _ _ (c .before .before .before .pre .0) (c .before .before .before .pre .0) (c .before .before .before .pre .1)))
@@ -50,7 +50,7 @@ same-length : tie.Need-same-length Inv-loop μ-loop
 same-length c = search needs
 
 returns : tie.Need-returns Inv-loop μ-loop
-returns c = ap (λ (l : List Float). set l (c .before .before .before .args .i * c .before .before .before .args .n + c .before .before .before .args .i) zero64) (done (c .before .loop .inv .1) (c .loop-test .left))
+returns c = ap (λ (l : List Float). set l (c .before .before .before .args .i * c .before .before .before .args .n + c .before .before .before .args .i) zero64) (loop-done (c .before .loop .inv .1) (c .loop-test .left))
 
 pub join-frame-spec : {M : Type 1} → statement M
 join-frame-spec =

@@ -1,5 +1,5 @@
 -- `affinity::exact::symmetrize_probabilities` meets its contract: i frames are joined with their lower ones. Assumes nothing.
-use Rattle.laws.proofs.Runs.{Runs, start, more, done}
+use Rattle.laws.proofs.Loops.{Loops, loop-start, loop-more, loop-done}
 use Rattle.affinity_joins.specs.Joins.{frameJoined}
 use mathlib.Core.Path.{refl, _∙_, _≡_}
 use lib.Ieee.{inFloat}
@@ -12,7 +12,7 @@ use Rattle.affinity_joins.proofs.symmetrize_probabilities.Statement.{st
 use Rattle.affinity_joins.proofs.symmetrize_probabilities.Tie as tie
 
 abbrev Inv-loop : tie.InvT-loop
-Inv-loop affinities₀ n norm i₀ affinities i = (length affinities ≡ length affinities₀) × Runs (frameJoined n norm) n affinities₀ i affinities
+Inv-loop affinities₀ n norm i₀ affinities i = (length affinities ≡ length affinities₀) × Loops (frameJoined n norm) n affinities₀ i affinities
 
 abbrev μ-loop : tie.MeasureT-loop
 μ-loop affinities₀ n norm i₀ affinities i = n - i
@@ -22,7 +22,7 @@ unfolding inFloat
 int-to-float-norm c = le→leb (c .before .before .args .n) (2 ^ 53) (omega arith)
 
 loop-holds : tie.Need-loop-holds Inv-loop μ-loop
-loop-holds c = (refl, start _ _ _)
+loop-holds c = (refl, loop-start _ _ _)
 
 join-frame-requires : tie.Need-join-frame-requires Inv-loop μ-loop
 join-frame-requires c κs = (c .before .loop-test .taken, rw (c .before .before .loop .inv .0) (c .before .before .before .before .before .pre .1))
@@ -34,13 +34,13 @@ loop-less : tie.Need-loop-less Inv-loop μ-loop
 loop-less c = search needs
 
 loop-again : tie.Need-loop-again Inv-loop μ-loop
-loop-again c = (c .before .before .join-frame .kept .0 ∙ c .before .before .before .before .before .loop .inv .0, rw (c .before .before .join-frame .ensures) (more (c .before .before .before .before .before .loop .inv .1) (c .before .before .before .before .loop-test .taken)))
+loop-again c = (c .before .before .join-frame .kept .0 ∙ c .before .before .before .before .before .loop .inv .0, rw (c .before .before .join-frame .ensures) (loop-more (c .before .before .before .before .before .loop .inv .1) (c .before .before .before .before .loop-test .taken)))
 
 same-length : tie.Need-same-length Inv-loop μ-loop
 same-length c = c .before .loop .inv .0
 
 returns : tie.Need-returns Inv-loop μ-loop
-returns c = done (c .before .loop .inv .1) (c .loop-test .left)
+returns c = loop-done (c .before .loop .inv .1) (c .loop-test .left)
 
 pub symmetrize-probabilities-spec : {M : Type 1} → statement M
 symmetrize-probabilities-spec =

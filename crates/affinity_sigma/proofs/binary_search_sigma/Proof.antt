@@ -2,7 +2,7 @@
 use lib.ListN.{length}
 use Prim.Native.Nat.{_-_}
 use mathlib.Core.Path.{_≡_, refl}
-use Rattle.affinity_sigma.specs.Sigma.{close}
+use Rattle.affinity_sigma.specs.Sigma.{close, mostRounds}
 use Rattle.affinity_sigma.proofs.Rounds.{Narrows, unbounded, narrows-start, narrows-more, narrows-met, narrows-done}
 use borrow.Author.Needs.{needs}
 use Rattle.affinity_sigma.proofs.binary_search_sigma.Statement.{statement}
@@ -12,7 +12,7 @@ abbrev Inv-loop : tie.InvT-loop
 Inv-loop distances n perplexity shares₀ b₀ round₀ shares b round = (length shares ≡ length shares₀) × Narrows distances n perplexity shares₀ round shares b
 
 abbrev μ-loop : tie.MeasureT-loop
-μ-loop distances n perplexity shares₀ b₀ round₀ shares b round = 50 - round
+μ-loop distances n perplexity shares₀ b₀ round₀ shares b round = mostRounds - round
 
 loop-holds : tie.Need-loop-holds Inv-loop μ-loop
 loop-holds c = (refl, narrows-start _ _ _ _ _ (rw unbounded))

@@ -4,19 +4,19 @@ use native.Mathlib.Omega.{arith}
 use mathlib.Core.Path.{_≡_}
 use Prim.Native.Nat.{_-_}
 use lib.ListN.{length}
-use Rattle.laws.proofs.Runs.{Runs, start, more, done}
+use Rattle.laws.proofs.Loops.{Loops, loop-start, loop-more, loop-done}
 use Rattle.affinity_sigma.specs.Sigma.{divideStep}
 use Rattle.affinity_sigma.proofs.divide.Statement.{statement}
 use Rattle.affinity_sigma.proofs.divide.Tie as tie
 
 abbrev Inv-loop : tie.InvT-loop
-Inv-loop shares₀ n sum j₀ shares j = (length shares ≡ length shares₀) × Runs (divideStep sum) n shares₀ j shares
+Inv-loop shares₀ n sum j₀ shares j = (length shares ≡ length shares₀) × Loops (divideStep sum) n shares₀ j shares
 
 abbrev μ-loop : tie.MeasureT-loop
 μ-loop shares₀ n sum j₀ shares j = n - j
 
 loop-holds : tie.Need-loop-holds Inv-loop μ-loop
-loop-holds c = (search needs, start _ _ _)
+loop-holds c = (search needs, loop-start _ _ _)
 
 mul-shares : tie.Need-mul-shares Inv-loop μ-loop
 mul-shares c = search needs
@@ -37,13 +37,13 @@ loop-less : tie.Need-loop-less Inv-loop μ-loop
 loop-less c = search needs
 
 loop-again : tie.Need-loop-again Inv-loop μ-loop
-loop-again c = (search needs, more (c .before .before .loop .inv .1) (omega arith))
+loop-again c = (search needs, loop-more (c .before .before .loop .inv .1) (omega arith))
 
 same-length : tie.Need-same-length Inv-loop μ-loop
 same-length c = search needs
 
 returns : tie.Need-returns Inv-loop μ-loop
-returns c = done (c .before .loop .inv .1) (omega arith)
+returns c = loop-done (c .before .loop .inv .1) (omega arith)
 
 pub divide-spec : {M : Type 1} → statement M
 divide-spec =

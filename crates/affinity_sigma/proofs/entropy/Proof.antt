@@ -1,20 +1,20 @@
 -- `sigma::entropy` meets its contract: j shares have entered. Assumes nothing.
 use Rattle.affinity_sigma.specs.Sigma.{entropyStep}
 use Prim.Native.Nat.{_-_}
-use Rattle.laws.proofs.Runs.{Runs, start, more, done}
+use Rattle.laws.proofs.Loops.{Loops, loop-start, loop-more, loop-done}
 use borrow.Author.Needs.{needs}
 use native.Mathlib.Omega.{arith}
 use Rattle.affinity_sigma.proofs.entropy.Statement.{statement}
 use Rattle.affinity_sigma.proofs.entropy.Tie as tie
 
 abbrev Inv-loop : tie.InvT-loop
-Inv-loop shares n h₀ j₀ h j = Runs (entropyStep shares) n h₀ j h
+Inv-loop shares n h₀ j₀ h j = Loops (entropyStep shares) n h₀ j h
 
 abbrev μ-loop : tie.MeasureT-loop
 μ-loop shares n h₀ j₀ h j = n - j
 
 loop-holds : tie.Need-loop-holds Inv-loop μ-loop
-loop-holds c = start _ _ _
+loop-holds c = loop-start _ _ _
 
 mul-term : tie.Need-mul-term Inv-loop μ-loop
 mul-term c = search needs
@@ -32,10 +32,10 @@ loop-less : tie.Need-loop-less Inv-loop μ-loop
 loop-less c = search needs
 
 loop-again : tie.Need-loop-again Inv-loop μ-loop
-loop-again c = rw (c .term .ensures) (more (c .before .before .before .loop .inv) (omega arith))
+loop-again c = rw (c .term .ensures) (loop-more (c .before .before .before .loop .inv) (omega arith))
 
 returns : tie.Need-returns Inv-loop μ-loop
-returns c = done (c .before .loop .inv) (omega arith)
+returns c = loop-done (c .before .loop .inv) (omega arith)
 
 pub entropy-spec : {M : Type 1} → statement M
 entropy-spec =

@@ -3,20 +3,20 @@ use lib.ListN.{length}
 use Rattle.affinity_sigma.specs.Sigma.{fillStep}
 use Prim.Native.Nat.{_-_}
 use mathlib.Core.Path.{_≡_}
-use Rattle.laws.proofs.Runs.{Runs, start, more, done}
+use Rattle.laws.proofs.Loops.{Loops, loop-start, loop-more, loop-done}
 use borrow.Author.Needs.{needs}
 use native.Mathlib.Omega.{arith}
 use Rattle.affinity_sigma.proofs.fill.Statement.{statement}
 use Rattle.affinity_sigma.proofs.fill.Tie as tie
 
 abbrev Inv-loop : tie.InvT-loop
-Inv-loop shares₀ n x j₀ shares j = (length shares ≡ length shares₀) × Runs (fillStep x) n shares₀ j shares
+Inv-loop shares₀ n x j₀ shares j = (length shares ≡ length shares₀) × Loops (fillStep x) n shares₀ j shares
 
 abbrev μ-loop : tie.MeasureT-loop
 μ-loop shares₀ n x j₀ shares j = n - j
 
 loop-holds : tie.Need-loop-holds Inv-loop μ-loop
-loop-holds c = (search needs, start _ _ _)
+loop-holds c = (search needs, loop-start _ _ _)
 
 mul-shares : tie.Need-mul-shares Inv-loop μ-loop
 mul-shares c = search needs
@@ -31,13 +31,13 @@ loop-less : tie.Need-loop-less Inv-loop μ-loop
 loop-less c = search needs
 
 loop-again : tie.Need-loop-again Inv-loop μ-loop
-loop-again c = (search needs, more (c .before .loop .inv .1) (omega arith))
+loop-again c = (search needs, loop-more (c .before .loop .inv .1) (omega arith))
 
 same-length : tie.Need-same-length Inv-loop μ-loop
 same-length c = search needs
 
 returns : tie.Need-returns Inv-loop μ-loop
-returns c = done (c .before .loop .inv .1) (omega arith)
+returns c = loop-done (c .before .loop .inv .1) (omega arith)
 
 pub fill-spec : {M : Type 1} → statement M
 fill-spec =

@@ -1,4 +1,4 @@
-use Rattle.bench_mapping.specs.Mapping.{numberOf}
+use Rattle.bench_mapping.specs.Mapping.{mapNumber}
 use borrow.Author.Needs.{needs}
 use Rattle.bench_mapping.proofs.number.Statement.{statement}
 use Rattle.bench_mapping.proofs.number.Tie as tie
@@ -19,19 +19,19 @@ number-requires : tie.Need-number-requires
 number-requires c κs = search needs
 
 returns : tie.Need-returns
-unfolding numberOf
+unfolding mapNumber
 returns c = rw (c .enum-told .given .1)
 
 returns-2 : tie.Need-returns-2
-unfolding numberOf
+unfolding mapNumber
 returns-2 c = rw (c .enum-told2 .given .1)
 
 returns-3 : tie.Need-returns-3
-unfolding numberOf
+unfolding mapNumber
 returns-3 c = rw (c .before .t .given .1)
 
 returns-4 : tie.Need-returns-4
-unfolding numberOf
+unfolding mapNumber
 returns-4 c = rw (c .before .before .t2 .given .1) (c .number .ensures)
 
 pub number-spec : {M : Type 1} → statement M

@@ -1,11 +1,11 @@
 use lib.Ieee.{ofBits}
-use Rattle.bench_mapping.specs.Mapping.{settingsOf}
+use Rattle.bench_mapping.specs.Mapping.{benchSettings}
 use borrow.Author.Needs.{needs}
 use Rattle.bench_mapping.proofs.settings.Statement.{statement}
 use Rattle.bench_mapping.proofs.settings.Tie as tie
 
 returns : tie.Need-returns
-unfolding ofBits settingsOf
+unfolding ofBits benchSettings
 returns c = search needs
 
 pub settings-spec : {M : Type 1} → statement M

@@ -1,7 +1,7 @@
 use mathlib.Core.Path.{_≡_}
 use lib.ListN.{length}
-use Rattle.bench_mapping.specs.Mapping.{startStep, startOf, zeros}
-use Rattle.laws.proofs.Runs.{Runs, start as begin, more, done}
+use Rattle.bench_mapping.specs.Mapping.{startStep, benchStart, zeros}
+use Rattle.laws.proofs.Loops.{Loops, loop-start as begin, loop-more, loop-done}
 use Prim.Native.Nat.{_-_}
 use borrow.Author.Needs.{needs}
 use native.Mathlib.Omega.{arith}
@@ -9,7 +9,7 @@ use Rattle.bench_mapping.proofs.start_of.Statement.{statement}
 use Rattle.bench_mapping.proofs.start_of.Tie as tie
 
 abbrev Inv-loop : tie.InvT-loop
-Inv-loop file m start₀ k₀ start k = (128 ≡ length start) × Runs (startStep file) m (zeros 128) k start
+Inv-loop file m start₀ k₀ start k = (128 ≡ length start) × Loops (startStep file) m (zeros 128) k start
 
 abbrev μ-loop : tie.MeasureT-loop
 μ-loop file m start₀ k₀ start k = m - k
@@ -39,11 +39,11 @@ loop-less : tie.Need-loop-less Inv-loop μ-loop
 loop-less c = search needs
 
 loop-again : tie.Need-loop-again Inv-loop μ-loop
-loop-again c = (search needs, rw (c .before .frame-at .ensures) (more (c .before .before .before .loop .inv .1) (omega arith)))
+loop-again c = (search needs, rw (c .before .frame-at .ensures) (loop-more (c .before .before .before .loop .inv .1) (omega arith)))
 
 returns : tie.Need-returns Inv-loop μ-loop
-unfolding startOf
-returns c = (c .before .loop .inv .0, done (c .before .loop .inv .1) (omega arith))
+unfolding benchStart
+returns c = (c .before .loop .inv .0, loop-done (c .before .loop .inv .1) (omega arith))
 
 pub start-of-spec : {M : Type 1} → statement M
 start-of-spec =

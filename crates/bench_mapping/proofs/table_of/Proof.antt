@@ -1,7 +1,7 @@
 use mathlib.Core.Path.{_≡_}
 use lib.ListN.{length}
-use Rattle.bench_mapping.specs.Mapping.{featureStep, tableOf, zeros}
-use Rattle.laws.proofs.Runs.{Runs, start as begin, more, done}
+use Rattle.bench_mapping.specs.Mapping.{featureStep, benchTable, zeros}
+use Rattle.laws.proofs.Loops.{Loops, loop-start as begin, loop-more, loop-done}
 use Prim.Native.Nat.{_-_}
 use borrow.Author.Needs.{needs}
 use native.Mathlib.Omega.{arith}
@@ -9,7 +9,7 @@ use Rattle.bench_mapping.proofs.table_of.Statement.{statement}
 use Rattle.bench_mapping.proofs.table_of.Tie as tie
 
 abbrev Inv-loop : tie.InvT-loop
-Inv-loop file m table₀ k₀ table k = (384 ≡ length table) × Runs (featureStep file) m (zeros 384) k table
+Inv-loop file m table₀ k₀ table k = (384 ≡ length table) × Loops (featureStep file) m (zeros 384) k table
 
 abbrev μ-loop : tie.MeasureT-loop
 μ-loop file m table₀ k₀ table k = m - k
@@ -39,11 +39,11 @@ loop-less : tie.Need-loop-less Inv-loop μ-loop
 loop-less c = search needs
 
 loop-again : tie.Need-loop-again Inv-loop μ-loop
-loop-again c = (search needs, rw (c .before .frame-at .ensures) (more (c .before .before .before .loop .inv .1) (omega arith)))
+loop-again c = (search needs, rw (c .before .frame-at .ensures) (loop-more (c .before .before .before .loop .inv .1) (omega arith)))
 
 returns : tie.Need-returns Inv-loop μ-loop
-unfolding tableOf
-returns c = (c .before .loop .inv .0, done (c .before .loop .inv .1) (omega arith))
+unfolding benchTable
+returns c = (c .before .loop .inv .0, loop-done (c .before .loop .inv .1) (omega arith))
 
 pub table-of-spec : {M : Type 1} → statement M
 table-of-spec =

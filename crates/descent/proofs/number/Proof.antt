@@ -1,4 +1,4 @@
-use Rattle.descent.specs.Descent.{numberOf}
+use Rattle.descent.specs.Descent.{workNumber}
 use borrow.Author.Needs.{needs}
 use Rattle.descent.proofs.number.Statement.{statement}
 use Rattle.descent.proofs.number.Tie as tie
@@ -25,27 +25,27 @@ fault-number-requires : tie.Need-fault-number-requires
 fault-number-requires c κs = search needs
 
 returns : tie.Need-returns
-unfolding numberOf
+unfolding workNumber
 returns c = rw (c .enum-told .given .1)
 
 returns-2 : tie.Need-returns-2
-unfolding numberOf
+unfolding workNumber
 returns-2 c = rw (c .enum-told2 .given .1)
 
 returns-3 : tie.Need-returns-3
-unfolding numberOf
+unfolding workNumber
 returns-3 c = rw (c .enum-told3 .given .1)
 
 returns-4 : tie.Need-returns-4
-unfolding numberOf
+unfolding workNumber
 returns-4 c = rw (c .enum-told4 .given .1)
 
 returns-5 : tie.Need-returns-5
-unfolding numberOf
+unfolding workNumber
 returns-5 c = rw (c .enum-told5 .given .1)
 
 returns-6 : tie.Need-returns-6
-unfolding numberOf
+unfolding workNumber
 returns-6 c = rw (c .before .before .a .given .1) (c .fault-number .ensures)
 
 pub number-spec : {M : Type 1} → statement M

@@ -1,6 +1,6 @@
 use Rattle.desk_words.proofs.Laws.{settings-long}
 use Rattle.desk.proofs.Laws.{unread-begun, short-begun, begun-is}
-use Rattle.prepare.specs.Prepare.{numberOf}
+use Rattle.prepare.specs.Prepare.{prepareNumber}
 use borrow.Author.Tests.{not-true, not-false}
 use mathlib.Core.Path.{sym, _∙_}
 use borrow.Author.Needs.{needs}
@@ -62,7 +62,7 @@ same-length-9 : tie.Need-same-length-9
 same-length-9 c = search needs
 
 returns-3 : tie.Need-returns-3
-unfolding numberOf
+unfolding prepareNumber
 returns-3 c = begun-is _ _ _ _ _ _ (sym (c .before .before .before .before .before .before .before .before .before .before .before .before .before .before .before .before .before .before .before .before .before .before .before .before .before .before .before .before .before .before .before .before .before .before .settings-fine .ensures) ∙ not-false _ (c .before .before .before .before .before .before .before .before .before .before .before .before .before .before .before .before .before .before .before .before .before .before .before .before .before .before .before .before .before .before .before .before .before .if1 .left)) (c .before .before .before .before .before .before .before .before .before .before .before .before .before .before .before .before .before .before .before .before .before .before .before .before .before .before .before .before .before .before .before .before .if2 .left) (c .before .before .before .before .before .before .before .before .before .before .before .before .before .before .before .before .before .before .before .before .before .before .before .before .before .before .before .before .before .before .before .settings-of .ensures) (c .before .before .before .before .before .before .before .before .before .before .before .before .before .before .before .before .before .before .before .before .before .prepare .ensures) (rw (c .before .p .given .1)) (rw (c .before .p .given .1))
 
 same-length-10 : tie.Need-same-length-10
@@ -96,7 +96,7 @@ same-length-19 : tie.Need-same-length-19
 same-length-19 c = search needs
 
 returns-4 : tie.Need-returns-4
-unfolding numberOf
+unfolding prepareNumber
 returns-4 c = begun-is _ _ _ _ _ _ (sym (c .before .before .before .before .before .before .before .before .before .before .before .before .before .before .before .before .before .before .before .before .before .before .before .before .before .before .before .before .before .before .before .before .before .before .before .before .before .before .settings-fine .ensures) ∙ not-false _ (c .before .before .before .before .before .before .before .before .before .before .before .before .before .before .before .before .before .before .before .before .before .before .before .before .before .before .before .before .before .before .before .before .before .before .before .before .before .if1 .left)) (c .before .before .before .before .before .before .before .before .before .before .before .before .before .before .before .before .before .before .before .before .before .before .before .before .before .before .before .before .before .before .before .before .before .before .before .before .if2 .left) (c .before .before .before .before .before .before .before .before .before .before .before .before .before .before .before .before .before .before .before .before .before .before .before .before .before .before .before .before .before .before .before .before .before .before .before .settings-of .ensures) (c .before .before .before .before .before .before .before .before .before .before .before .before .before .before .before .before .before .before .before .before .before .before .before .before .before .prepare .ensures) (rw (c .before .before .before .before .before .p2 .given .1)) (rw (c .before .before .before .before .before .p2 .given .1) (c .before .before .put-run .ensures))
 
 pub brothanchor-prepare-spec : {M : Type 1} → statement M

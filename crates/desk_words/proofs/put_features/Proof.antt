@@ -1,4 +1,4 @@
-use Rattle.laws.proofs.Runs.{Runs, start, more, done}
+use Rattle.laws.proofs.Loops.{Loops, loop-start, loop-more, loop-done}
 use Rattle.laws.specs.Area.{at}
 use lib.Ieee.{binary64, toBits}
 use lib.ListN.{length, set, length-set}
@@ -9,13 +9,13 @@ use Rattle.desk_words.proofs.put_features.Statement.{statement}
 use Rattle.desk_words.proofs.put_features.Tie as tie
 
 abbrev Inv-loop : tie.InvT-loop
-Inv-loop words₀ f k₀ words k = (length words ≡ length words₀) × Runs (λ k x. set x (2 + k) (toBits binary64 (at (f .features) k))) 6 words₀ k words
+Inv-loop words₀ f k₀ words k = (length words ≡ length words₀) × Loops (λ k x. set x (2 + k) (toBits binary64 (at (f .features) k))) 6 words₀ k words
 
 abbrev μ-loop : tie.MeasureT-loop
 μ-loop words₀ f k₀ words k = 6 - k
 
 loop-holds : tie.Need-loop-holds Inv-loop μ-loop
-loop-holds c = (search needs, start _ _ _)
+loop-holds c = (search needs, loop-start _ _ _)
 
 mul-bits-of : tie.Need-mul-bits-of Inv-loop μ-loop
 mul-bits-of c = search needs
@@ -42,13 +42,13 @@ loop-less : tie.Need-loop-less Inv-loop μ-loop
 loop-less c = search needs
 
 loop-again : tie.Need-loop-again Inv-loop μ-loop
-loop-again c = (simp length-set (c .before .before .before .loop .inv .0), rw (c .bits-of .ensures) (more (c .before .before .before .loop .inv .1) (c .before .before .loop-test .taken)))
+loop-again c = (simp length-set (c .before .before .before .loop .inv .0), rw (c .bits-of .ensures) (loop-more (c .before .before .before .loop .inv .1) (c .before .before .loop-test .taken)))
 
 same-length : tie.Need-same-length Inv-loop μ-loop
 same-length c = search needs
 
 returns : tie.Need-returns Inv-loop μ-loop
-returns c = done (c .before .loop .inv .1) (c .loop-test .left)
+returns c = loop-done (c .before .loop .inv .1) (c .loop-test .left)
 
 pub put-features-spec : {M : Type 1} → statement M
 put-features-spec =

@@ -2,16 +2,16 @@ use Prim.Native.Nat.{_-_}
 use mathlib.Core.Path.{sym, _∙_}
 use Rattle.frames.proofs.Reader.{bad-one, all-good, stray}
 use Rattle.laws.proofs.First.{Seeks, seek-start, seek-more}
-use Rattle.frames.specs.Frames.{badAt, wholeOf}
+use Rattle.frames.specs.Frames.{badAt, wholeRecords}
 use borrow.Author.Needs.{needs}
 use Rattle.frames.proofs.read_frames.Statement.{statement}
 use Rattle.frames.proofs.read_frames.Tie as tie
 
 abbrev Inv-loop : tie.InvT-loop
-Inv-loop file whole i₀ i = Seeks (badAt file) (wholeOf file) i
+Inv-loop file whole i₀ i = Seeks (badAt file) (wholeRecords file) i
 
 abbrev μ-loop : tie.MeasureT-loop
-μ-loop file whole i₀ i = wholeOf file - i
+μ-loop file whole i₀ i = wholeRecords file - i
 
 loop-holds : tie.Need-loop-holds Inv-loop μ-loop
 loop-holds c = seek-start _ _

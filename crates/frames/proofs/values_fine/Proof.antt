@@ -3,7 +3,7 @@ use Prim.Native.Nat.{_+_, _*_, _≤_, _-_}
 use mathlib.Core.Bool.{true}
 use mathlib.Core.Path.{_≡_, sym, _∙_}
 use Rattle.laws.proofs.Every.{every-none, every-more, every-no, every-done}
-use Rattle.laws.specs.Run.{every}
+use Rattle.laws.specs.Loops.{every}
 use Rattle.elementary.specs.Limits.{inDomain}
 use Rattle.frames.specs.Frames.{valuesFine}
 use Rattle.little.specs.Little.{valueAt}

@@ -1,7 +1,7 @@
 use Rattle.elementary.specs.Limits.{inDomain}
 use Rattle.laws.proofs.Every.{every-none, every-more, every-no, every-done}
 use Rattle.laws.specs.Area.{at}
-use Rattle.laws.specs.Run.{every}
+use Rattle.laws.specs.Loops.{every}
 use borrow.Author.Tests.{not-true, not-false}
 use Prim.Native.Nat.{_-_, _≤_}
 use mathlib.Core.Bool.{true}

@@ -2,7 +2,7 @@
 use mathlib.Core.Path.{_≡_, ap}
 use Prim.Native.Nat.{_-_}
 use lib.ListN.{length}
-use Rattle.laws.proofs.Runs.{Runs, start, more, done}
+use Rattle.laws.proofs.Loops.{Loops, loop-start, loop-more, loop-done}
 use Rattle.scatter.specs.Scatter.{Spread, spread, scatterStep}
 use borrow.Author.Needs.{needs}
 use native.Mathlib.Omega.{arith}
@@ -10,13 +10,13 @@ use Rattle.scatter.proofs.random_init.Statement.{statement}
 use Rattle.scatter.proofs.random_init.Tie as tie
 
 abbrev Inv-loop : tie.InvT-loop
-Inv-loop positions₀ m seed state₀ k₀ positions state k = (length positions ≡ length positions₀) × Runs scatterStep m (spread seed positions₀) k (spread state positions)
+Inv-loop positions₀ m seed state₀ k₀ positions state k = (length positions ≡ length positions₀) × Loops scatterStep m (spread seed positions₀) k (spread state positions)
 
 abbrev μ-loop : tie.MeasureT-loop
 μ-loop positions₀ m seed state₀ k₀ positions state k = m - k
 
 loop-holds : tie.Need-loop-holds Inv-loop μ-loop
-loop-holds c = (search needs, start _ _ _)
+loop-holds c = (search needs, loop-start _ _ _)
 
 wrapping-add-u64-requires : tie.Need-wrapping-add-u64-requires Inv-loop μ-loop
 wrapping-add-u64-requires c κs = search needs
@@ -40,13 +40,13 @@ loop-less : tie.Need-loop-less Inv-loop μ-loop
 loop-less c = search needs
 
 loop-again : tie.Need-loop-again Inv-loop μ-loop
-loop-again c = (search needs, rw (c .coordinate .ensures, c .before .mix .ensures, c .before .before .wrapping-add-u64 .ensures) (more (c .before .before .before .before .loop .inv .1) (omega arith)))
+loop-again c = (search needs, rw (c .coordinate .ensures, c .before .mix .ensures, c .before .before .wrapping-add-u64 .ensures) (loop-more (c .before .before .before .before .loop .inv .1) (omega arith)))
 
 same-length : tie.Need-same-length Inv-loop μ-loop
 same-length c = search needs
 
 returns : tie.Need-returns Inv-loop μ-loop
-returns c = ap (λ (x : Spread). x .positions) (done (c .before .loop .inv .1) (omega arith))
+returns c = ap (λ (x : Spread). x .positions) (loop-done (c .before .loop .inv .1) (omega arith))
 
 pub random-init-spec : {M : Type 1} → statement M
 random-init-spec =

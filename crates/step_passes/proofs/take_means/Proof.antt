@@ -1,5 +1,5 @@
 use Rattle.step_passes.specs.Passes.{meanStep}
-use Rattle.laws.proofs.Runs.{Runs, start, more, done}
+use Rattle.laws.proofs.Loops.{Loops, loop-start, loop-more, loop-done}
 use Prim.Native.Nat.{_-_}
 use borrow.Author.Needs.{needs}
 use native.Mathlib.Omega.{arith}
@@ -7,13 +7,13 @@ use Rattle.step_passes.proofs.take_means.Statement.{statement}
 use Rattle.step_passes.proofs.take_means.Tie as tie
 
 abbrev Inv-loop : tie.InvT-loop
-Inv-loop sums₀ c count d₀ sums d = Runs (meanStep count) c sums₀ d sums
+Inv-loop sums₀ c count d₀ sums d = Loops (meanStep count) c sums₀ d sums
 
 abbrev μ-loop : tie.MeasureT-loop
 μ-loop sums₀ c count d₀ sums d = c - d
 
 loop-holds : tie.Need-loop-holds Inv-loop μ-loop
-loop-holds c = start _ _ _
+loop-holds c = loop-start _ _ _
 
 mul-sums : tie.Need-mul-sums Inv-loop μ-loop
 mul-sums c = search needs
@@ -34,10 +34,10 @@ loop-less : tie.Need-loop-less Inv-loop μ-loop
 loop-less c = search needs
 
 loop-again : tie.Need-loop-again Inv-loop μ-loop
-loop-again c = more (c .before .before .loop .inv) (omega arith)
+loop-again c = loop-more (c .before .before .loop .inv) (omega arith)
 
 returns : tie.Need-returns Inv-loop μ-loop
-returns c = done (c .before .loop .inv) (omega arith)
+returns c = loop-done (c .before .loop .inv) (omega arith)
 
 pub take-means-spec : {M : Type 1} → statement M
 take-means-spec =

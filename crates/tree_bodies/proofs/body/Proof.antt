@@ -1,4 +1,4 @@
-use Rattle.tree_node.specs.Bodies.{bodyOf}
+use Rattle.tree_bodies.specs.Bodies.{bodyOf}
 use borrow.Author.Needs.{needs}
 use Rattle.tree_bodies.proofs.body.Statement.{statement}
 use Rattle.tree_bodies.proofs.body.Tie as tie

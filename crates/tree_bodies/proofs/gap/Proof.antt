@@ -1,5 +1,5 @@
-use Rattle.tree_node.specs.Bodies.{gapOf}
-use Rattle.laws.specs.Run.{run}
+use Rattle.tree_bodies.specs.Bodies.{gapOf}
+use Rattle.laws.specs.Loops.{loop}
 use Rattle.tree_node.proofs.Axes.{third}
 use borrow.Author.Needs.{needs}
 use Rattle.tree_bodies.proofs.gap.Statement.{statement}
@@ -12,7 +12,7 @@ array-read-x-2 : tie.Need-array-read-x-2
 array-read-x-2 c = search needs
 
 returns : tie.Need-returns
-unfolding gapOf run
+unfolding gapOf loop
 returns c = rw (c .if1 .taken)
 
 array-read-y : tie.Need-array-read-y
@@ -22,7 +22,7 @@ array-read-y-2 : tie.Need-array-read-y-2
 array-read-y-2 c = search needs
 
 returns-2 : tie.Need-returns-2
-unfolding gapOf run
+unfolding gapOf loop
 returns-2 c = rw (c .if2 .taken)
 
 array-read-z : tie.Need-array-read-z
@@ -32,7 +32,7 @@ array-read-z-2 : tie.Need-array-read-z-2
 array-read-z-2 c = search needs
 
 returns-3 : tie.Need-returns-3
-unfolding gapOf run
+unfolding gapOf loop
 returns-3 c = rw (third _ (c .before .before .pre) (c .before .if1 .left) (c .if2 .left))
 
 pub gap-spec : {M : Type 1} → statement M

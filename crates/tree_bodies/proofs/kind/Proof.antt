@@ -1,4 +1,4 @@
-use Rattle.tree_node.specs.Bodies.{kindOf}
+use Rattle.tree_bodies.specs.Bodies.{kindOf}
 use borrow.Author.Tests.{eq-eqb, ne-eqb}
 use borrow.Author.Needs.{needs}
 use Rattle.tree_bodies.proofs.kind.Statement.{statement}

@@ -1,4 +1,4 @@
-use Rattle.tree_node.specs.Bodies.{wider}
+use Rattle.tree_bodies.specs.Bodies.{wider}
 use Rattle.tree_bodies.proofs.larger.Statement.{statement}
 use Rattle.tree_bodies.proofs.larger.Tie as tie
 

@@ -1,5 +1,5 @@
-use Rattle.tree_node.specs.Bodies.{widthOf}
-use Rattle.laws.specs.Run.{run}
+use Rattle.tree_bodies.specs.Bodies.{widthOf}
+use Rattle.laws.specs.Loops.{loop}
 use Rattle.tree_node.proofs.Axes.{third}
 use borrow.Author.Needs.{needs}
 use Rattle.tree_bodies.proofs.max_width.Statement.{statement}
@@ -12,7 +12,7 @@ larger-requires : tie.Need-larger-requires
 larger-requires c κs = search needs
 
 returns : tie.Need-returns
-unfolding widthOf run
+unfolding widthOf loop
 returns c = rw (c .if1 .taken, c .before .larger .ensures)
 
 array-read-larger-2 : tie.Need-array-read-larger-2
@@ -22,7 +22,7 @@ larger-requires-2 : tie.Need-larger-requires-2
 larger-requires-2 c κs = search needs
 
 returns-2 : tie.Need-returns-2
-unfolding widthOf run
+unfolding widthOf loop
 returns-2 c = rw (c .if2 .taken, c .before .larger2 .ensures, c .before .before .before .larger .ensures)
 
 array-read-larger-3 : tie.Need-array-read-larger-3
@@ -32,7 +32,7 @@ larger-requires-3 : tie.Need-larger-requires-3
 larger-requires-3 c κs = search needs
 
 returns-3 : tie.Need-returns-3
-unfolding widthOf run
+unfolding widthOf loop
 returns-3 c = rw ((third _ (c .before .before .before .before .before .pre) (c .before .before .before .if1 .left) (c .before .if2 .left)), c .larger3 .ensures, c .before .before .larger2 .ensures, c .before .before .before .before .larger .ensures)
 
 pub max-width-spec : {M : Type 1} → statement M

@@ -1,4 +1,4 @@
-use Rattle.laws.specs.Run.{run}
+use Rattle.laws.specs.Loops.{loop}
 use Rattle.tree_node.proofs.Axes.{third}
 use borrow.Author.Needs.{needs}
 use Rattle.tree_bodies.proofs.pushed.Statement.{statement}
@@ -17,7 +17,7 @@ array-write-s : tie.Need-array-write-s
 array-write-s c = search needs
 
 returns : tie.Need-returns
-unfolding run
+unfolding loop
 returns c = rw (c .if1 .taken)
 
 array-read-s-4 : tie.Need-array-read-s-4
@@ -33,7 +33,7 @@ array-write-s-2 : tie.Need-array-write-s-2
 array-write-s-2 c = search needs
 
 returns-2 : tie.Need-returns-2
-unfolding run
+unfolding loop
 returns-2 c = rw (c .if2 .taken)
 
 array-read-s-7 : tie.Need-array-read-s-7
@@ -49,7 +49,7 @@ array-write-s-3 : tie.Need-array-write-s-3
 array-write-s-3 c = search needs
 
 returns-3 : tie.Need-returns-3
-unfolding run
+unfolding loop
 returns-3 c = rw (third _ (c .before .before .pre) (c .before .if1 .left) (c .if2 .left))
 
 pub pushed-spec : {M : Type 1} → statement M

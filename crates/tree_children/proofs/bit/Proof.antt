@@ -1,6 +1,6 @@
 use lib.Pow.{pow-mono}
 use Rattle.laws.proofs.Numbers.{shl-one}
-use Rattle.tree_node.specs.Node.{bitOf}
+use Rattle.tree_children.specs.Children.{bitOf}
 use borrow.Author.Needs.{needs}
 use native.Mathlib.Omega.{arith}
 use Rattle.tree_children.proofs.bit.Statement.{statement}

@@ -1,5 +1,5 @@
-use Rattle.tree_node.specs.Node.{childCentre}
-use Rattle.laws.specs.Run.{run}
+use Rattle.tree_children.specs.Children.{childCentre}
+use Rattle.laws.specs.Loops.{loop}
 use Rattle.tree_node.proofs.Axes.{third}
 use borrow.Author.Needs.{needs}
 use Rattle.tree_children.proofs.child_centre.Statement.{statement}
@@ -15,7 +15,7 @@ moved-requires : tie.Need-moved-requires
 moved-requires c κs = search needs
 
 returns : tie.Need-returns
-unfolding childCentre run
+unfolding childCentre loop
 returns c = rw (c .if1 .taken, c .before .moved .ensures)
 
 array-read-moved-3 : tie.Need-array-read-moved-3
@@ -28,7 +28,7 @@ moved-requires-2 : tie.Need-moved-requires-2
 moved-requires-2 c κs = search needs
 
 returns-2 : tie.Need-returns-2
-unfolding childCentre run
+unfolding childCentre loop
 returns-2 c = rw (c .if2 .taken, c .before .moved2 .ensures, c .before .before .before .moved .ensures)
 
 array-read-moved-5 : tie.Need-array-read-moved-5
@@ -41,7 +41,7 @@ moved-requires-3 : tie.Need-moved-requires-3
 moved-requires-3 c κs = search needs
 
 returns-3 : tie.Need-returns-3
-unfolding childCentre run
+unfolding childCentre loop
 returns-3 c = rw ((third _ (c .before .before .before .before .before .pre) (c .before .before .before .if1 .left) (c .before .if2 .left)), c .moved3 .ensures, c .before .before .moved2 .ensures, c .before .before .before .before .moved .ensures)
 
 pub child-centre-spec : {M : Type 1} → statement M

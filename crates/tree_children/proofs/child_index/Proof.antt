@@ -1,5 +1,5 @@
-use Rattle.tree_node.specs.Node.{childIndex}
-use Rattle.laws.specs.Run.{run}
+use Rattle.tree_children.specs.Children.{childIndex}
+use Rattle.laws.specs.Loops.{loop}
 use Rattle.tree_node.proofs.Axes.{third}
 use borrow.Author.Needs.{needs}
 use native.Mathlib.Omega.{arith}
@@ -16,7 +16,7 @@ bit-requires : tie.Need-bit-requires
 bit-requires c κs = search needs
 
 returns : tie.Need-returns
-unfolding childIndex run
+unfolding childIndex loop
 returns c = rw (c .if1 .taken, c .before .bit .ensures .0) (omega arith)
 
 array-read-bit-3 : tie.Need-array-read-bit-3
@@ -32,7 +32,7 @@ add-y : tie.Need-add-y
 add-y c = search needs
 
 returns-2 : tie.Need-returns-2
-unfolding childIndex run
+unfolding childIndex loop
 returns-2 c = rw (c .if2 .taken, c .before .bit2 .ensures .0, c .before .before .before .bit .ensures .0) (omega arith)
 
 array-read-bit-5 : tie.Need-array-read-bit-5
@@ -48,7 +48,7 @@ add-result : tie.Need-add-result
 add-result c = search needs
 
 returns-3 : tie.Need-returns-3
-unfolding childIndex run
+unfolding childIndex loop
 returns-3 c = rw ((third _ (c .before .before .before .before .before .pre) (c .before .before .before .if1 .left) (c .before .if2 .left)), c .bit3 .ensures .0, c .before .before .bit2 .ensures .0, c .before .before .before .before .bit .ensures .0) (omega arith)
 
 pub child-index-spec : {M : Type 1} → statement M

@@ -1,5 +1,5 @@
 use borrow.Author.Tests.{eq-eqb, ne-eqb}
-use Rattle.tree_node.specs.Node.{movedOf}
+use Rattle.tree_children.specs.Children.{movedOf}
 use borrow.Author.Needs.{needs}
 use Rattle.tree_children.proofs.moved.Statement.{statement}
 use Rattle.tree_children.proofs.moved.Tie as tie

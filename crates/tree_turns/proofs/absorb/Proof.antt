@@ -1,4 +1,4 @@
-use Rattle.tree_node.specs.Node.{absorbed, meansOf}
+use Rattle.tree_turns.specs.Turns.{absorbed, massOf}
 use borrow.Author.Needs.{needs}
 use Rattle.tree_turns.proofs.absorb.Statement.{statement}
 use Rattle.tree_turns.proofs.absorb.Tie as tie
@@ -13,7 +13,7 @@ means-requires : tie.Need-means-requires
 means-requires c κs = search needs
 
 returns : tie.Need-returns
-unfolding absorbed meansOf
+unfolding absorbed massOf
 returns c = rw (c .means .ensures)
 
 pub absorb-spec : {M : Type 1} → statement M

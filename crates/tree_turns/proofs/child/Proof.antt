@@ -1,4 +1,4 @@
-use Rattle.tree_node.specs.Node.{childOf}
+use Rattle.tree_turns.specs.Turns.{childOf}
 use borrow.Author.Tests.{eq-eqb, ne-eqb}
 use mathlib.Core.Path.{_∙_}
 use borrow.Author.Needs.{needs}

@@ -1,4 +1,4 @@
-use Rattle.tree_node.specs.Node.{meanOf}
+use Rattle.tree_turns.specs.Turns.{meanOf}
 use borrow.Author.Needs.{needs}
 use Rattle.tree_turns.proofs.mean.Statement.{statement}
 use Rattle.tree_turns.proofs.mean.Tie as tie

@@ -1,4 +1,4 @@
-use Rattle.laws.specs.Run.{run}
+use Rattle.laws.specs.Loops.{loop}
 use Rattle.tree_node.proofs.Axes.{third}
 use borrow.Author.Needs.{needs}
 use Rattle.tree_turns.proofs.means.Statement.{statement}
@@ -17,7 +17,7 @@ array-write-t : tie.Need-array-write-t
 array-write-t c = search needs
 
 returns : tie.Need-returns
-unfolding run
+unfolding loop
 returns c = rw (c .if1 .taken, c .before .mean .ensures)
 
 array-read-mean-3 : tie.Need-array-read-mean-3
@@ -33,7 +33,7 @@ array-write-t-2 : tie.Need-array-write-t-2
 array-write-t-2 c = search needs
 
 returns-2 : tie.Need-returns-2
-unfolding run
+unfolding loop
 returns-2 c = rw (c .if2 .taken, c .before .mean2 .ensures, c .before .before .before .mean .ensures)
 
 array-read-mean-5 : tie.Need-array-read-mean-5
@@ -49,7 +49,7 @@ array-write-t-3 : tie.Need-array-write-t-3
 array-write-t-3 c = search needs
 
 returns-3 : tie.Need-returns-3
-unfolding run
+unfolding loop
 returns-3 c = rw ((third _ (c .before .before .before .before .before .pre) (c .before .before .before .if1 .left) (c .before .if2 .left)), c .mean3 .ensures, c .before .before .mean2 .ensures, c .before .before .before .before .mean .ensures)
 
 pub means-spec : {M : Type 1} → statement M

@@ -1,6 +1,6 @@
 use lib.Pow.{pow-mono}
-use Rattle.tree_node.proofs.Children.{child-below}
-use Rattle.tree_node.specs.Node.{turnOf}
+use Rattle.tree_children.proofs.Below.{child-below}
+use Rattle.tree_turns.specs.Turns.{turnOf}
 use borrow.Author.Tests.{eq-eqb, ne-eqb, le-leb, lt-leb}
 use Rattle.laws.proofs.Numbers.{shl-one}
 use borrow.Author.Needs.{needs}

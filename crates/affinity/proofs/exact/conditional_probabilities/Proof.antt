@@ -1,5 +1,5 @@
 use Rattle.affinity_near.specs.Distances.{distanceRow}
-use Rattle.laws.proofs.Runs.{Runs, start, more, done}
+use Rattle.laws.proofs.Loops.{Loops, loop-start, loop-more, loop-done}
 use mathlib.Core.Path.{_≡_, refl, _∙_}
 use lib.ListN.{length}
 use Prim.Native.Nat.{_-_}
@@ -13,13 +13,13 @@ use Rattle.affinity.proofs.exact.conditional_probabilities.Tie as tie
 -- `affinity::exact::conditional_probabilities` meets its contract: i rows of shares are laid, and the row holds the distances of the last. Assumes nothing.
 
 abbrev Inv-loop : tie.InvT-loop
-Inv-loop table n f perplexity squares affinities₀ row₀ i₀ affinities row i = (length row ≡ length row₀) × Runs (distanceRow table n f) n row₀ i row × Lays n (conditionals table n f perplexity) n affinities₀ i affinities
+Inv-loop table n f perplexity squares affinities₀ row₀ i₀ affinities row i = (length row ≡ length row₀) × Loops (distanceRow table n f) n row₀ i row × Lays n (conditionals table n f perplexity) n affinities₀ i affinities
 
 abbrev μ-loop : tie.MeasureT-loop
 μ-loop table n f perplexity squares affinities₀ row₀ i₀ affinities row i = n - i
 
 loop-holds : tie.Need-loop-holds Inv-loop μ-loop
-loop-holds c = (refl, start _ _ _, lays-start _ _)
+loop-holds c = (refl, loop-start _ _ _, lays-start _ _)
 
 conditional-row-requires : tie.Need-conditional-row-requires Inv-loop μ-loop
 conditional-row-requires c κs = ((c .before .before .loop-test .taken, c .before .before .before .before .before .before .before .before .pre .0 .0, c .before .before .before .before .before .before .before .before .pre .0 .1, c .before .before .before .before .before .before .before .before .pre .0 .2, rw (c .before .before .before .loop .inv .2 .size) (row-in _ _ _ _ (c .before .before .loop-test .taken) (c .before .before .before .before .before .before .before .before .pre .0 .3)), rw (c .before .before .before .loop .inv .0) (c .before .before .before .before .before .before .before .before .pre .0 .4)), c .before .before .before .before .before .before .before .before .pre .1)
@@ -31,7 +31,7 @@ loop-less : tie.Need-loop-less Inv-loop μ-loop
 loop-less c = search needs
 
 loop-again : tie.Need-loop-again Inv-loop μ-loop
-loop-again c = (c .before .before .before .before .conditional-row .kept .1 .1 .1 .1 .1 .1 .1 .0 ∙ c .before .before .before .before .before .before .before .before .loop .inv .0, rw (c .before .before .before .before .conditional-row .ensures .1) (more (c .before .before .before .before .before .before .before .before .loop .inv .1) (c .before .before .before .before .before .before .before .loop-test .taken)), lays-more _ _ (c .before .before .before .before .before .before .before .before .loop .inv .2) (c .before .before .before .before .before .before .before .loop-test .taken) (c .before .before .before .before .before .before .before .before .before .before .before .before .before .pre .0 .3) (c .before .before .before .before .conditional-row .kept .1 .1 .1 .1 .1 .1 .0) (c .before .before .before .before .conditional-row .ensures .0))
+loop-again c = (c .before .before .before .before .conditional-row .kept .1 .1 .1 .1 .1 .1 .1 .0 ∙ c .before .before .before .before .before .before .before .before .loop .inv .0, rw (c .before .before .before .before .conditional-row .ensures .1) (loop-more (c .before .before .before .before .before .before .before .before .loop .inv .1) (c .before .before .before .before .before .before .before .loop-test .taken)), lays-more _ _ (c .before .before .before .before .before .before .before .before .loop .inv .2) (c .before .before .before .before .before .before .before .loop-test .taken) (c .before .before .before .before .before .before .before .before .before .before .before .before .before .pre .0 .3) (c .before .before .before .before .conditional-row .kept .1 .1 .1 .1 .1 .1 .0) (c .before .before .before .before .conditional-row .ensures .0))
 
 same-length : tie.Need-same-length Inv-loop μ-loop
 same-length c = c .before .loop .inv .2 .size
@@ -40,7 +40,7 @@ same-length-2 : tie.Need-same-length-2 Inv-loop μ-loop
 same-length-2 c = c .before .loop .inv .0
 
 returns : tie.Need-returns Inv-loop μ-loop
-returns c = (lays-done _ _ (c .before .loop .inv .2) (c .loop-test .left), done (c .before .loop .inv .1) (c .loop-test .left))
+returns c = (lays-done _ _ (c .before .loop .inv .2) (c .loop-test .left), loop-done (c .before .loop .inv .1) (c .loop-test .left))
 
 pub conditional-probabilities-spec : {M : Type 1} → statement M
 conditional-probabilities-spec =

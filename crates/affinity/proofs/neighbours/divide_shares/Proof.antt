@@ -1,5 +1,5 @@
 -- `affinity::neighbours::divide_shares` meets its contract: t shares are divided. Assumes nothing.
-use Rattle.laws.proofs.Runs.{Runs, start, more, done}
+use Rattle.laws.proofs.Loops.{Loops, loop-start, loop-more, loop-done}
 use Rattle.affinity_sigma.specs.Sigma.{divideStep}
 use mathlib.Core.Path.{_≡_}
 use lib.ListN.{length}
@@ -10,13 +10,13 @@ use Rattle.affinity.proofs.neighbours.divide_shares.Statement.{statemen
 use Rattle.affinity.proofs.neighbours.divide_shares.Tie as tie
 
 abbrev Inv-loop : tie.InvT-loop
-Inv-loop values₀ k norm t₀ values t = (length values ≡ length values₀) × Runs (divideStep norm) k values₀ t values
+Inv-loop values₀ k norm t₀ values t = (length values ≡ length values₀) × Loops (divideStep norm) k values₀ t values
 
 abbrev μ-loop : tie.MeasureT-loop
 μ-loop values₀ k norm t₀ values t = k - t
 
 loop-holds : tie.Need-loop-holds Inv-loop μ-loop
-loop-holds c = (search needs, start _ _ _)
+loop-holds c = (search needs, loop-start _ _ _)
 
 mul-values : tie.Need-mul-values Inv-loop μ-loop
 mul-values c = search needs
@@ -37,13 +37,13 @@ loop-less : tie.Need-loop-less Inv-loop μ-loop
 loop-less c = search needs
 
 loop-again : tie.Need-loop-again Inv-loop μ-loop
-loop-again c = (search needs, more (c .before .before .loop .inv .1) (omega arith))
+loop-again c = (search needs, loop-more (c .before .before .loop .inv .1) (omega arith))
 
 same-length : tie.Need-same-length Inv-loop μ-loop
 same-length c = search needs
 
 returns : tie.Need-returns Inv-loop μ-loop
-returns c = done (c .before .loop .inv .1) (omega arith)
+returns c = loop-done (c .before .loop .inv .1) (omega arith)
 
 pub divide-shares-spec : {M : Type 1} → statement M
 divide-shares-spec =

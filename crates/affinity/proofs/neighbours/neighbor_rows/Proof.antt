@@ -1,5 +1,5 @@
 use Rattle.affinity.specs.Steps.{sharesLeft, framesLeft}
-use Rattle.laws.proofs.Runs.{Runs, start, more, done}
+use Rattle.laws.proofs.Loops.{Loops, loop-start, loop-more, loop-done}
 use mathlib.Core.Path.{_≡_, refl, _∙_}
 use lib.ListN.{length}
 use Prim.Native.Nat.{_-_, _+_, _*_}
@@ -16,13 +16,13 @@ use Rattle.affinity.proofs.neighbours.neighbor_rows.Tie as tie
 -- `affinity::neighbours::neighbor_rows` meets its contract: i rows are laid in both areas, and the preparation rows hold what the last of them left. Assumes nothing.
 
 abbrev Inv-loop : tie.InvT-loop
-Inv-loop table n f k perplexity squares weights₀ indices₀ row-values₀ row-indices₀ i₀ weights indices row-values row-indices i = Lays k (λ j. valuesIn (neighbourRow table n f k perplexity j)) n weights₀ i weights × Lays k (λ j. framesIn (neighbourRow table n f k perplexity j)) n indices₀ i indices × (length row-values ≡ length row-values₀) × Runs (sharesLeft table n f k perplexity) n row-values₀ i row-values × (length row-indices ≡ length row-indices₀) × Runs (framesLeft table n f k) n row-indices₀ i row-indices
+Inv-loop table n f k perplexity squares weights₀ indices₀ row-values₀ row-indices₀ i₀ weights indices row-values row-indices i = Lays k (λ j. valuesIn (neighbourRow table n f k perplexity j)) n weights₀ i weights × Lays k (λ j. framesIn (neighbourRow table n f k perplexity j)) n indices₀ i indices × (length row-values ≡ length row-values₀) × Loops (sharesLeft table n f k perplexity) n row-values₀ i row-values × (length row-indices ≡ length row-indices₀) × Loops (framesLeft table n f k) n row-indices₀ i row-indices
 
 abbrev μ-loop : tie.MeasureT-loop
 μ-loop table n f k perplexity squares weights₀ indices₀ row-values₀ row-indices₀ i₀ weights indices row-values row-indices i = n - i
 
 loop-holds : tie.Need-loop-holds Inv-loop μ-loop
-loop-holds c = (lays-start _ _, lays-start _ _, refl, start _ _ _, refl, start _ _ _)
+loop-holds c = (lays-start _ _, lays-start _ _, refl, loop-start _ _ _, refl, loop-start _ _ _)
 
 mul-a : tie.Need-mul-a Inv-loop μ-loop
 mul-a c = omega (arith, (row-in (c .before .loop .i) (c .before .before .before .before .before .before .before .before .args .n) (c .before .before .before .before .before .before .before .before .args .k) _ (c .loop-test .taken) (c .before .before .before .before .before .before .before .before .pre .1 .0 .0)))
@@ -64,7 +64,7 @@ loop-less : tie.Need-loop-less Inv-loop μ-loop
 loop-less c = omega (arith, c .before .before .before .before .before .before .before .before .before .before .before .before .before .loop-test .taken)
 
 loop-again : tie.Need-loop-again Inv-loop μ-loop
-loop-again c = (lays-row (λ (x : Pair). x .value) _ _ _ _ _ (c .before .before .before .before .before .before .before .before .before .before .before .before .before .before .before .before .before .before .before .before .before .pre .0 .2) (c .before .before .before .before .before .before .before .before .before .before .before .before .before .before .loop .i * c .before .before .before .before .before .before .before .before .before .before .before .before .before .before .before .before .before .before .before .before .before .args .k + c .before .before .before .before .before .before .before .before .before .before .before .before .before .before .before .before .before .before .before .before .before .args .k - c .before .before .before .before .before .before .before .before .before .before .before .before .before .before .loop .i * c .before .before .before .before .before .before .before .before .before .before .before .before .before .before .before .before .before .before .before .before .before .args .k) (omega arith) (c .before .before .before .before .before .before .before .before .before .before .before .before .before .loop-test .taken) (c .before .before .before .before .before .before .before .before .before .before .before .before .before .before .before .before .before .before .before .before .before .pre .1 .0 .0) (c .before .before .before .before .before .before .before .before .neighbor-row .kept .1 .1 .1 .1 .1 .1 .1 .0) (c .before .before .before .before .before .before .before .before .neighbor-row .ensures .0) (c .before .before .before .before .before .before .before .before .before .before .before .before .before .before .loop .inv .0), lays-row (λ (x : Pair). x .index) _ _ _ _ _ (c .before .before .before .before .before .before .before .before .before .before .before .before .before .before .before .before .before .before .before .before .before .pre .0 .2) (c .before .before .before .before .before .before .before .before .before .before .before .before .before .before .loop .i * c .before .before .before .before .before .before .before .before .before .before .before .before .before .before .before .before .before .before .before .before .before .args .k + c .before .before .before .before .before .before .before .before .before .before .before .before .before .before .before .before .before .before .before .before .before .args .k - c .before .before .before .before .before .before .before .before .before .before .before .before .before .before .loop .i * c .before .before .before .before .before .before .before .before .before .before .before .before .before .before .before .before .before .before .before .before .before .args .k) (omega arith) (c .before .before .before .before .before .before .before .before .before .before .before .before .before .loop-test .taken) (c .before .before .before .before .before .before .before .before .before .before .before .before .before .before .before .before .before .before .before .before .before .pre .1 .0 .1) (c .before .before .before .before .before .before .before .before .neighbor-row .kept .1 .1 .1 .1 .1 .1 .1 .1 .0) (c .before .before .before .before .before .before .before .before .neighbor-row .ensures .1 .0) (c .before .before .before .before .before .before .before .before .before .before .before .before .before .before .loop .inv .1), c .before .before .before .before .before .before .before .before .neighbor-row .kept .1 .1 .1 .1 .1 .1 .1 .1 .1 .0 ∙ c .before .before .before .before .before .before .before .before .before .before .before .before .before .before .loop .inv .2, rw (c .before .before .before .before .before .before .before .before .neighbor-row .ensures .1 .1 .0) (more (c .before .before .before .before .before .before .before .before .before .before .before .before .before .before .loop .inv .3) (c .before .before .before .before .before .before .before .before .before .before .before .before .before .loop-test .taken)), c .before .before .before .before .before .before .before .before .neighbor-row .kept .1 .1 .1 .1 .1 .1 .1 .1 .1 .1 .0 ∙ c .before .before .before .before .before .before .before .before .before .before .before .before .before .before .loop .inv .4, rw (c .before .before .before .before .before .before .before .before .neighbor-row .ensures .1 .1 .1) (more (c .before .before .before .before .before .before .before .before .before .before .before .before .before .before .loop .inv .5) (c .before .before .before .before .before .before .before .before .before .before .before .before .before .loop-test .taken)))
+loop-again c = (lays-row (λ (x : Pair). x .value) _ _ _ _ _ (c .before .before .before .before .before .before .before .before .before .before .before .before .before .before .before .before .before .before .before .before .before .pre .0 .2) (c .before .before .before .before .before .before .before .before .before .before .before .before .before .before .loop .i * c .before .before .before .before .before .before .before .before .before .before .before .before .before .before .before .before .before .before .before .before .before .args .k + c .before .before .before .before .before .before .before .before .before .before .before .before .before .before .before .before .before .before .before .before .before .args .k - c .before .before .before .before .before .before .before .before .before .before .before .before .before .before .loop .i * c .before .before .before .before .before .before .before .before .before .before .before .before .before .before .before .before .before .before .before .before .before .args .k) (omega arith) (c .before .before .before .before .before .before .before .before .before .before .before .before .before .loop-test .taken) (c .before .before .before .before .before .before .before .before .before .before .before .before .before .before .before .before .before .before .before .before .before .pre .1 .0 .0) (c .before .before .before .before .before .before .before .before .neighbor-row .kept .1 .1 .1 .1 .1 .1 .1 .0) (c .before .before .before .before .before .before .before .before .neighbor-row .ensures .0) (c .before .before .before .before .before .before .before .before .before .before .before .before .before .before .loop .inv .0), lays-row (λ (x : Pair). x .index) _ _ _ _ _ (c .before .before .before .before .before .before .before .before .before .before .before .before .before .before .before .before .before .before .before .before .before .pre .0 .2) (c .before .before .before .before .before .before .before .before .before .before .before .before .before .before .loop .i * c .before .before .before .before .before .before .before .before .before .before .before .before .before .before .before .before .before .before .before .before .before .args .k + c .before .before .before .before .before .before .before .before .before .before .before .before .before .before .before .before .before .before .before .before .before .args .k - c .before .before .before .before .before .before .before .before .before .before .before .before .before .before .loop .i * c .before .before .before .before .before .before .before .before .before .before .before .before .before .before .before .before .before .before .before .before .before .args .k) (omega arith) (c .before .before .before .before .before .before .before .before .before .before .before .before .before .loop-test .taken) (c .before .before .before .before .before .before .before .before .before .before .before .before .before .before .before .before .before .before .before .before .before .pre .1 .0 .1) (c .before .before .before .before .before .before .before .before .neighbor-row .kept .1 .1 .1 .1 .1 .1 .1 .1 .0) (c .before .before .before .before .before .before .before .before .neighbor-row .ensures .1 .0) (c .before .before .before .before .before .before .before .before .before .before .before .before .before .before .loop .inv .1), c .before .before .before .before .before .before .before .before .neighbor-row .kept .1 .1 .1 .1 .1 .1 .1 .1 .1 .0 ∙ c .before .before .before .before .before .before .before .before .before .before .before .before .before .before .loop .inv .2, rw (c .before .before .before .before .before .before .before .before .neighbor-row .ensures .1 .1 .0) (loop-more (c .before .before .before .before .before .before .before .before .before .before .before .before .before .before .loop .inv .3) (c .before .before .before .before .before .before .before .before .before .before .before .before .before .loop-test .taken)), c .before .before .before .before .before .before .before .before .neighbor-row .kept .1 .1 .1 .1 .1 .1 .1 .1 .1 .1 .0 ∙ c .before .before .before .before .before .before .before .before .before .before .before .before .before .before .loop .inv .4, rw (c .before .before .before .before .before .before .before .before .neighbor-row .ensures .1 .1 .1) (loop-more (c .before .before .before .before .before .before .before .before .before .before .before .before .before .before .loop .inv .5) (c .before .before .before .before .before .before .before .before .before .before .before .before .before .loop-test .taken)))
 
 same-length : tie.Need-same-length Inv-loop μ-loop
 same-length c = c .before .loop .inv .0 .size
@@ -79,7 +79,7 @@ same-length-4 : tie.Need-same-length-4 Inv-loop μ-loop
 same-length-4 c = c .before .loop .inv .4
 
 returns : tie.Need-returns Inv-loop μ-loop
-returns c = (lays-done _ _ (c .before .loop .inv .0) (c .loop-test .left), (lays-done _ _ (c .before .loop .inv .1) (c .loop-test .left), (done (c .before .loop .inv .3) (c .loop-test .left), done (c .before .loop .inv .5) (c .loop-test .left))))
+returns c = (lays-done _ _ (c .before .loop .inv .0) (c .loop-test .left), (lays-done _ _ (c .before .loop .inv .1) (c .loop-test .left), (loop-done (c .before .loop .inv .3) (c .loop-test .left), loop-done (c .before .loop .inv .5) (c .loop-test .left))))
 
 pub neighbor-rows-spec : {M : Type 1} → statement M
 neighbor-rows-spec =

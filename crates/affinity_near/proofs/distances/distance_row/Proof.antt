@@ -5,7 +5,7 @@ use Prim.Native.Nat.{_-_}
 use lib.ListN.{length, set}
 use lib.Ieee.{Float}
 use Rattle.laws.specs.Area.{zero64}
-use Rattle.laws.proofs.Runs.{Runs, start, more, done}
+use Rattle.laws.proofs.Loops.{Loops, loop-start, loop-more, loop-done}
 use Rattle.laws.proofs.Numbers.{row-in}
 use Rattle.affinity_near.specs.Distances.{distanceStep}
 use borrow.Author.Needs.{needs}
@@ -14,13 +14,13 @@ use Rattle.affinity_near.proofs.distances.distance_row.Statement.{state
 use Rattle.affinity_near.proofs.distances.distance_row.Tie as tie
 
 abbrev Inv-loop : tie.InvT-loop
-Inv-loop table n f squares i row₀ j₀ row j = (length row ≡ length row₀) × Runs (distanceStep table f i) n row₀ j row
+Inv-loop table n f squares i row₀ j₀ row j = (length row ≡ length row₀) × Loops (distanceStep table f i) n row₀ j row
 
 abbrev μ-loop : tie.MeasureT-loop
 μ-loop table n f squares i row₀ j₀ row j = n - j
 
 loop-holds : tie.Need-loop-holds Inv-loop μ-loop
-loop-holds c = (search needs, start _ _ _)
+loop-holds c = (search needs, loop-start _ _ _)
 
 distance-requires : tie.Need-distance-requires Inv-loop μ-loop
 distance-requires c κs = ((row-in _ _ _ _ (c .before .before .before .before .before .pre .0 .0) (c .before .before .before .before .before .pre .0 .1), row-in _ _ _ _ (c .loop-test .taken) (c .before .before .before .before .before .pre .0 .1), omega (arith, c .before .before .before .before .before .pre .0 .0, c .before .before .before .before .before .pre .0 .2), omega (arith, c .before .before .before .before .before .pre .0 .2)), (c .before .before .before .before .before .pre .1 _ (c .before .before .before .before .before .pre .0 .0), c .before .before .before .before .before .pre .1 _ (c .loop-test .taken)))
@@ -38,7 +38,7 @@ loop-less : tie.Need-loop-less Inv-loop μ-loop
 loop-less c = search needs
 
 loop-again : tie.Need-loop-again Inv-loop μ-loop
-loop-again c = (search needs, rw (c .distance .ensures) (more (c .before .before .loop .inv .1) (omega arith)))
+loop-again c = (search needs, rw (c .distance .ensures) (loop-more (c .before .before .loop .inv .1) (omega arith)))
 
 mul-row-2 : tie.Need-mul-row-2 Inv-loop μ-loop
 mul-row-2 c = search needs
@@ -50,7 +50,7 @@ same-length : tie.Need-same-length Inv-loop μ-loop
 same-length c = search needs
 
 returns : tie.Need-returns Inv-loop μ-loop
-returns c = ap (λ (p : List Float). set p (c .before .before .before .before .before .args .i) zero64) (done (c .before .loop .inv .1) (c .loop-test .left))
+returns c = ap (λ (p : List Float). set p (c .before .before .before .before .before .args .i) zero64) (loop-done (c .before .loop .inv .1) (c .loop-test .left))
 
 pub distance-row-spec : {M : Type 1} → statement M
 distance-row-spec =

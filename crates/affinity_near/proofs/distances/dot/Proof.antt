@@ -2,13 +2,13 @@
 use borrow.Author.Needs.{needs}
 use native.Mathlib.Omega.{arith}
 use Prim.Native.Nat.{_-_}
-use Rattle.laws.proofs.Runs.{Runs, start, more, done}
+use Rattle.laws.proofs.Loops.{Loops, loop-start, loop-more, loop-done}
 use Rattle.affinity_near.specs.Distances.{dotStep}
 use Rattle.affinity_near.proofs.distances.dot.Statement.{statement}
 use Rattle.affinity_near.proofs.distances.dot.Tie as tie
 
 abbrev Inv-loop : tie.InvT-loop
-Inv-loop table f i j a b sum₀ k₀ sum k = Runs (dotStep table a b) f sum₀ k sum
+Inv-loop table f i j a b sum₀ k₀ sum k = Loops (dotStep table a b) f sum₀ k sum
 
 abbrev μ-loop : tie.MeasureT-loop
 μ-loop table f i j a b sum₀ k₀ sum k = f - k
@@ -20,7 +20,7 @@ mul-b : tie.Need-mul-b Inv-loop μ-loop
 mul-b c = search needs
 
 loop-holds : tie.Need-loop-holds Inv-loop μ-loop
-loop-holds c = start _ _ _
+loop-holds c = loop-start _ _ _
 
 add-sum : tie.Need-add-sum Inv-loop μ-loop
 add-sum c = search needs
@@ -47,10 +47,10 @@ loop-less : tie.Need-loop-less Inv-loop μ-loop
 loop-less c = search needs
 
 loop-again : tie.Need-loop-again Inv-loop μ-loop
-loop-again c = more (c .before .before .before .loop .inv) (omega arith)
+loop-again c = loop-more (c .before .before .before .loop .inv) (omega arith)
 
 returns : tie.Need-returns Inv-loop μ-loop
-returns c = done (c .before .loop .inv) (omega arith)
+returns c = loop-done (c .before .loop .inv) (omega arith)
 
 pub dot-spec : {M : Type 1} → statement M
 dot-spec =

@@ -1,19 +1,19 @@
 use Prim.Native.Nat.{_-_}
 use Rattle.elementary.specs.Ln.{oddStep, oddSeries}
-use Rattle.laws.proofs.Runs.{Runs, start, more, done}
+use Rattle.laws.proofs.Loops.{Loops, loop-start, loop-more, loop-done}
 use borrow.Author.Needs.{needs}
 use native.Mathlib.Omega.{arith}
 use Rattle.elementary.proofs.logarithm.odd_series.Statement.{statement}
 use Rattle.elementary.proofs.logarithm.odd_series.Tie as tie
 
 abbrev Inv-loop : tie.InvT-loop
-Inv-loop z t₀ i₀ t i = Runs (oddStep z) 10 t₀ i t
+Inv-loop z t₀ i₀ t i = Loops (oddStep z) 10 t₀ i t
 
 abbrev μ-loop : tie.MeasureT-loop
 μ-loop z t₀ i₀ t i = 10 - i
 
 loop-holds : tie.Need-loop-holds Inv-loop μ-loop
-loop-holds c = start _ _ _
+loop-holds c = loop-start _ _ _
 
 mul-t : tie.Need-mul-t Inv-loop μ-loop
 mul-t c = search needs
@@ -31,11 +31,11 @@ loop-less : tie.Need-loop-less Inv-loop μ-loop
 loop-less c = search needs
 
 loop-again : tie.Need-loop-again Inv-loop μ-loop
-loop-again c = more (c .before .before .loop .inv) (omega arith)
+loop-again c = loop-more (c .before .before .loop .inv) (omega arith)
 
 returns : tie.Need-returns Inv-loop μ-loop
 unfolding oddSeries
-returns c = done (c .before .loop .inv) (omega arith)
+returns c = loop-done (c .before .loop .inv) (omega arith)
 
 pub odd-series-spec : {M : Type 1} → statement M
 odd-series-spec =

@@ -1,5 +1,5 @@
 use Rattle.gradient.specs.Element.{normStep, normOf, gradientOf}
-use Rattle.laws.proofs.Runs.{Runs, start, more, done}
+use Rattle.laws.proofs.Loops.{Loops, loop-start, loop-more, loop-done}
 use Prim.Native.Nat.{_-_}
 use borrow.Author.Needs.{needs}
 use native.Mathlib.Omega.{arith}
@@ -7,13 +7,13 @@ use Rattle.gradient.proofs.element.norm.Statement.{statement}
 use Rattle.gradient.proofs.element.norm.Tie as tie
 
 abbrev Inv-loop : tie.InvT-loop
-Inv-loop exact forces z n c m w₀ e₀ w e = Runs (normStep (gradientOf exact forces z c)) m w₀ e w
+Inv-loop exact forces z n c m w₀ e₀ w e = Loops (normStep (gradientOf exact forces z c)) m w₀ e w
 
 abbrev μ-loop : tie.MeasureT-loop
 μ-loop exact forces z n c m w₀ e₀ w e = m - e
 
 loop-holds : tie.Need-loop-holds Inv-loop μ-loop
-loop-holds c = start _ _ _
+loop-holds c = loop-start _ _ _
 
 gradient-at-requires : tie.Need-gradient-at-requires Inv-loop μ-loop
 gradient-at-requires c κs = search needs
@@ -31,11 +31,11 @@ loop-less : tie.Need-loop-less Inv-loop μ-loop
 loop-less c = search needs
 
 loop-again : tie.Need-loop-again Inv-loop μ-loop
-loop-again c = rw (c .unless-above .ensures, c .before .absolute .ensures, c .before .before .gradient-at .ensures) (more (c .before .before .before .before .loop .inv) (omega arith))
+loop-again c = rw (c .unless-above .ensures, c .before .absolute .ensures, c .before .before .gradient-at .ensures) (loop-more (c .before .before .before .before .loop .inv) (omega arith))
 
 returns : tie.Need-returns Inv-loop μ-loop
 unfolding normOf
-returns c = done (c .before .loop .inv) (omega arith)
+returns c = loop-done (c .before .loop .inv) (omega arith)
 
 pub norm-spec : {M : Type 1} → statement M
 norm-spec =

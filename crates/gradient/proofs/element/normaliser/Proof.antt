@@ -1,6 +1,6 @@
 use Rattle.laws.proofs.Numbers.{row-in}
 use Rattle.gradient.specs.Element.{shareStep, normaliserOf}
-use Rattle.laws.proofs.Runs.{Runs, start, more, done}
+use Rattle.laws.proofs.Loops.{Loops, loop-start, loop-more, loop-done}
 use lib.ListN.{length}
 use Prim.Native.Nat.{_-_, _+_, _*_}
 use borrow.Author.Needs.{needs}
@@ -9,13 +9,13 @@ use Rattle.gradient.proofs.element.normaliser.Statement.{statement}
 use Rattle.gradient.proofs.element.normaliser.Tie as tie
 
 abbrev Inv-loop : tie.InvT-loop
-Inv-loop forces n c s₀ i₀ s i = Runs (shareStep forces c) n s₀ i s
+Inv-loop forces n c s₀ i₀ s i = Loops (shareStep forces c) n s₀ i s
 
 abbrev μ-loop : tie.MeasureT-loop
 μ-loop forces n c s₀ i₀ s i = n - i
 
 loop-holds : tie.Need-loop-holds Inv-loop μ-loop
-loop-holds c = start _ _ _
+loop-holds c = loop-start _ _ _
 
 mul-s : tie.Need-mul-s Inv-loop μ-loop
 mul-s c = search needs
@@ -45,14 +45,14 @@ loop-less : tie.Need-loop-less Inv-loop μ-loop
 loop-less c = search needs
 
 loop-again : tie.Need-loop-again Inv-loop μ-loop
-loop-again c = more (c .before .before .loop .inv) (omega arith)
+loop-again c = loop-more (c .before .before .loop .inv) (omega arith)
 
 unless-above-requires : tie.Need-unless-above-requires Inv-loop μ-loop
 unless-above-requires c κs = search needs
 
 returns : tie.Need-returns Inv-loop μ-loop
 unfolding normaliserOf
-returns c = rw (c .unless-above .ensures, done (c .before .before .loop .inv) (omega arith))
+returns c = rw (c .unless-above .ensures, loop-done (c .before .before .loop .inv) (omega arith))
 
 pub normaliser-spec : {M : Type 1} → statement M
 normaliser-spec =

@@ -1,5 +1,5 @@
 use Rattle.gradient.specs.Forces.{linkStep}
-use Rattle.laws.proofs.Runs.{Runs, start, more, done}
+use Rattle.laws.proofs.Loops.{Loops, loop-start, loop-more, loop-done}
 use Prim.Native.Nat.{_-_}
 use borrow.Author.Needs.{needs}
 use native.Mathlib.Omega.{arith}
@@ -7,13 +7,13 @@ use Rattle.gradient.proofs.forces.follow_all.Statement.{statement}
 use Rattle.gradient.proofs.forces.follow_all.Tie as tie
 
 abbrev Inv-loop : tie.InvT-loop
-Inv-loop positions weights indices n c exaggeration p a links t₀ k₀ t k = Runs (linkStep exaggeration c positions weights indices p a) links t₀ k t
+Inv-loop positions weights indices n c exaggeration p a links t₀ k₀ t k = Loops (linkStep exaggeration c positions weights indices p a) links t₀ k t
 
 abbrev μ-loop : tie.MeasureT-loop
 μ-loop positions weights indices n c exaggeration p a links t₀ k₀ t k = links - k
 
 loop-holds : tie.Need-loop-holds Inv-loop μ-loop
-loop-holds c = start _ _ _
+loop-holds c = loop-start _ _ _
 
 add-follow : tie.Need-add-follow Inv-loop μ-loop
 add-follow c = search needs
@@ -28,10 +28,10 @@ loop-less : tie.Need-loop-less Inv-loop μ-loop
 loop-less c = search needs
 
 loop-again : tie.Need-loop-again Inv-loop μ-loop
-loop-again c = rw (c .follow .ensures) (more (c .before .before .loop .inv) (omega arith))
+loop-again c = rw (c .follow .ensures) (loop-more (c .before .before .loop .inv) (omega arith))
 
 returns : tie.Need-returns Inv-loop μ-loop
-returns c = done (c .before .loop .inv) (omega arith)
+returns c = loop-done (c .before .loop .inv) (omega arith)
 
 pub follow-all-spec : {M : Type 1} → statement M
 follow-all-spec =

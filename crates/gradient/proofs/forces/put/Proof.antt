@@ -1,5 +1,5 @@
 use Rattle.gradient.specs.Forces.{putStep}
-use Rattle.laws.proofs.Runs.{Runs, start, more, done}
+use Rattle.laws.proofs.Loops.{Loops, loop-start, loop-more, loop-done}
 use mathlib.Core.Path.{_≡_}
 use lib.ListN.{length}
 use Prim.Native.Nat.{_-_}
@@ -9,13 +9,13 @@ use Rattle.gradient.proofs.forces.put.Statement.{statement}
 use Rattle.gradient.proofs.forces.put.Tie as tie
 
 abbrev Inv-loop : tie.InvT-loop
-Inv-loop forces₀ a c x d₀ forces d = (length forces ≡ length forces₀) × Runs (putStep x a) c forces₀ d forces
+Inv-loop forces₀ a c x d₀ forces d = (length forces ≡ length forces₀) × Loops (putStep x a) c forces₀ d forces
 
 abbrev μ-loop : tie.MeasureT-loop
 μ-loop forces₀ a c x d₀ forces d = c - d
 
 loop-holds : tie.Need-loop-holds Inv-loop μ-loop
-loop-holds c = (search needs, start _ _ _)
+loop-holds c = (search needs, loop-start _ _ _)
 
 mul-forces : tie.Need-mul-forces Inv-loop μ-loop
 mul-forces c = search needs
@@ -39,13 +39,13 @@ loop-less : tie.Need-loop-less Inv-loop μ-loop
 loop-less c = search needs
 
 loop-again : tie.Need-loop-again Inv-loop μ-loop
-loop-again c = (search needs, more (c .before .loop .inv .1) (omega arith))
+loop-again c = (search needs, loop-more (c .before .loop .inv .1) (omega arith))
 
 same-length : tie.Need-same-length Inv-loop μ-loop
 same-length c = search needs
 
 returns : tie.Need-returns Inv-loop μ-loop
-returns c = done (c .before .loop .inv .1) (omega arith)
+returns c = loop-done (c .before .loop .inv .1) (omega arith)
 
 pub put-spec : {M : Type 1} → statement M
 put-spec =

@@ -1,5 +1,5 @@
 use Rattle.gradient_pairs.specs.Exact.{alongStep}
-use Rattle.laws.proofs.Runs.{Runs, start, more, done}
+use Rattle.laws.proofs.Loops.{Loops, loop-start, loop-more, loop-done}
 use Prim.Native.Nat.{_-_}
 use borrow.Author.Needs.{needs}
 use native.Mathlib.Omega.{arith}
@@ -7,13 +7,13 @@ use Rattle.gradient_pairs.proofs.exact.add_along.Statement.{statement}
 use Rattle.gradient_pairs.proofs.exact.add_along.Tie as tie
 
 abbrev Inv-loop : tie.InvT-loop
-Inv-loop positions b c w t₀ d₀ t d = Runs (alongStep w positions b) c t₀ d t
+Inv-loop positions b c w t₀ d₀ t d = Loops (alongStep w positions b) c t₀ d t
 
 abbrev μ-loop : tie.MeasureT-loop
 μ-loop positions b c w t₀ d₀ t d = c - d
 
 loop-holds : tie.Need-loop-holds Inv-loop μ-loop
-loop-holds c = start _ _ _
+loop-holds c = loop-start _ _ _
 
 mul-t : tie.Need-mul-t Inv-loop μ-loop
 mul-t c = search needs
@@ -43,10 +43,10 @@ loop-less : tie.Need-loop-less Inv-loop μ-loop
 loop-less c = search needs
 
 loop-again : tie.Need-loop-again Inv-loop μ-loop
-loop-again c = more (c .before .before .loop .inv) (omega arith)
+loop-again c = loop-more (c .before .before .loop .inv) (omega arith)
 
 returns : tie.Need-returns Inv-loop μ-loop
-returns c = done (c .before .loop .inv) (omega arith)
+returns c = loop-done (c .before .loop .inv) (omega arith)
 
 pub add-along-spec : {M : Type 1} → statement M
 add-along-spec =

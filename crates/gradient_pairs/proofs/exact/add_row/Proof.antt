@@ -1,6 +1,6 @@
 use Rattle.laws.proofs.Numbers.{row-in}
-use Rattle.gradient_pairs.specs.Exact.{totalStep}
-use Rattle.laws.proofs.Runs.{Runs, start, more, done}
+use Rattle.gradient_pairs.specs.Exact.{numStep}
+use Rattle.laws.proofs.Loops.{Loops, loop-start, loop-more, loop-done}
 use Prim.Native.Nat.{_-_}
 use borrow.Author.Needs.{needs}
 use native.Mathlib.Omega.{arith}
@@ -8,13 +8,13 @@ use Rattle.gradient_pairs.proofs.exact.add_row.Statement.{statement}
 use Rattle.gradient_pairs.proofs.exact.add_row.Tie as tie
 
 abbrev Inv-loop : tie.InvT-loop
-Inv-loop positions n c i sum s₀ j₀ s j = Runs (totalStep positions c i) n s₀ j s
+Inv-loop positions n c i sum s₀ j₀ s j = Loops (numStep positions c i) n s₀ j s
 
 abbrev μ-loop : tie.MeasureT-loop
 μ-loop positions n c i sum s₀ j₀ s j = n - j
 
 loop-holds : tie.Need-loop-holds Inv-loop μ-loop
-loop-holds c = start _ _ _
+loop-holds c = loop-start _ _ _
 
 num-requires : tie.Need-num-requires Inv-loop μ-loop
 num-requires c κs = (row-in _ (c .before .before .before .args .n) (c .before .before .before .args .c) _ (c .before .before .before .pre .0) (c .before .before .before .pre .1), row-in _ (c .before .before .before .args .n) (c .before .before .before .args .c) _ (c .loop-test .taken) (c .before .before .before .pre .1))
@@ -26,10 +26,10 @@ loop-less : tie.Need-loop-less Inv-loop μ-loop
 loop-less c = search needs
 
 loop-again : tie.Need-loop-again Inv-loop μ-loop
-loop-again c = rw (c .num .ensures) (more (c .before .before .loop .inv) (omega arith))
+loop-again c = rw (c .num .ensures) (loop-more (c .before .before .loop .inv) (omega arith))
 
 returns : tie.Need-returns Inv-loop μ-loop
-returns c = done (c .before .loop .inv) (omega arith)
+returns c = loop-done (c .before .loop .inv) (omega arith)
 
 pub add-row-spec : {M : Type 1} → statement M
 add-row-spec =

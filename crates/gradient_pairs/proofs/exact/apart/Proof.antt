@@ -1,5 +1,5 @@
 use Rattle.gradient_pairs.specs.Exact.{apartStep, apartOf}
-use Rattle.laws.proofs.Runs.{Runs, start, more, done}
+use Rattle.laws.proofs.Loops.{Loops, loop-start, loop-more, loop-done}
 use Prim.Native.Nat.{_-_, _*_}
 use borrow.Author.Needs.{needs}
 use native.Mathlib.Omega.{arith}
@@ -7,7 +7,7 @@ use Rattle.gradient_pairs.proofs.exact.apart.Statement.{statement}
 use Rattle.gradient_pairs.proofs.exact.apart.Tie as tie
 
 abbrev Inv-loop : tie.InvT-loop
-Inv-loop positions c i j a b s₀ d₀ s d = Runs (apartStep positions (i * c) (j * c)) c s₀ d s
+Inv-loop positions c i j a b s₀ d₀ s d = Loops (apartStep positions (i * c) (j * c)) c s₀ d s
 
 abbrev μ-loop : tie.MeasureT-loop
 μ-loop positions c i j a b s₀ d₀ s d = c - d
@@ -19,7 +19,7 @@ mul-b : tie.Need-mul-b Inv-loop μ-loop
 mul-b c = search needs
 
 loop-holds : tie.Need-loop-holds Inv-loop μ-loop
-loop-holds c = start _ _ _
+loop-holds c = loop-start _ _ _
 
 add-g : tie.Need-add-g Inv-loop μ-loop
 add-g c = search needs
@@ -46,11 +46,11 @@ loop-less : tie.Need-loop-less Inv-loop μ-loop
 loop-less c = search needs
 
 loop-again : tie.Need-loop-again Inv-loop μ-loop
-loop-again c = more (c .before .before .before .loop .inv) (omega arith)
+loop-again c = loop-more (c .before .before .before .loop .inv) (omega arith)
 
 returns : tie.Need-returns Inv-loop μ-loop
 unfolding apartOf
-returns c = done (c .before .loop .inv) (omega arith)
+returns c = loop-done (c .before .loop .inv) (omega arith)
 
 pub apart-spec : {M : Type 1} → statement M
 apart-spec =

@@ -1,6 +1,6 @@
 use Rattle.laws.proofs.Numbers.{row-in}
 use Rattle.gradient_pairs.specs.Exact.{pullBy, pushAt, pullsOf}
-use Rattle.laws.proofs.Runs.{Runs, start, more, done}
+use Rattle.laws.proofs.Loops.{Loops, loop-start, loop-more, loop-done}
 use Prim.Native.Nat.{_-_}
 use borrow.Author.Needs.{needs}
 use native.Mathlib.Omega.{arith}
@@ -8,13 +8,13 @@ use Rattle.gradient_pairs.proofs.exact.gather.Statement.{statement}
 use Rattle.gradient_pairs.proofs.exact.gather.Tie as tie
 
 abbrev Inv-loop : tie.InvT-loop
-Inv-loop positions affinities exaggeration total n c i x₀ j₀ x j = Runs (λ j x. pullBy (pushAt positions affinities exaggeration total n c i j) positions c j x) n x₀ j x
+Inv-loop positions affinities exaggeration total n c i x₀ j₀ x j = Loops (λ j x. pullBy (pushAt positions affinities exaggeration total n c i j) positions c j x) n x₀ j x
 
 abbrev μ-loop : tie.MeasureT-loop
 μ-loop positions affinities exaggeration total n c i x₀ j₀ x j = n - j
 
 loop-holds : tie.Need-loop-holds Inv-loop μ-loop
-loop-holds c = start _ _ _
+loop-holds c = loop-start _ _ _
 
 push-at-requires : tie.Need-push-at-requires Inv-loop μ-loop
 push-at-requires c κs = search needs
@@ -29,11 +29,11 @@ loop-less : tie.Need-loop-less Inv-loop μ-loop
 loop-less c = search needs
 
 loop-again : tie.Need-loop-again Inv-loop μ-loop
-loop-again c = rw (c .add-frame .ensures, c .before .push-at .ensures) (more (c .before .before .before .loop .inv) (omega arith))
+loop-again c = rw (c .add-frame .ensures, c .before .push-at .ensures) (loop-more (c .before .before .before .loop .inv) (omega arith))
 
 returns : tie.Need-returns Inv-loop μ-loop
 unfolding pullsOf
-returns c = done (c .before .loop .inv) (omega arith)
+returns c = loop-done (c .before .loop .inv) (omega arith)
 
 pub gather-spec : {M : Type 1} → statement M
 gather-spec =

@@ -1,4 +1,4 @@
-use Rattle.laws.proofs.Runs.{Runs, start, more, done}
+use Rattle.laws.proofs.Loops.{Loops, loop-start, loop-more, loop-done}
 use Rattle.laws.specs.Area.{bits}
 use lib.ListN.{set}
 use Rattle.replay.specs.Replay.{wordOf}
@@ -11,13 +11,13 @@ use Rattle.replay.proofs.areas.fill.Statement.{statement}
 use Rattle.replay.proofs.areas.fill.Tie as tie
 
 abbrev Inv-loop : tie.InvT-loop
-Inv-loop area₀ m list a i₀ area i = (length area ≡ length area₀) × Runs (λ i x. set x i (bits (wordOf list (onward a i)))) m area₀ i area
+Inv-loop area₀ m list a i₀ area i = (length area ≡ length area₀) × Loops (λ i x. set x i (bits (wordOf list (onward a i)))) m area₀ i area
 
 abbrev μ-loop : tie.MeasureT-loop
 μ-loop area₀ m list a i₀ area i = m - i
 
 loop-holds : tie.Need-loop-holds Inv-loop μ-loop
-loop-holds c = (refl, start _ _ _)
+loop-holds c = (refl, loop-start _ _ _)
 
 plus-requires : tie.Need-plus-requires Inv-loop μ-loop
 plus-requires c κs = search needs
@@ -38,13 +38,13 @@ loop-less : tie.Need-loop-less Inv-loop μ-loop
 loop-less c = search needs
 
 loop-again : tie.Need-loop-again Inv-loop μ-loop
-loop-again c = (search needs, rw (c .value-at .ensures, c .before .plus .ensures) (more (c .before .before .before .loop .inv .1) (c .before .before .loop-test .taken)))
+loop-again c = (search needs, rw (c .value-at .ensures, c .before .plus .ensures) (loop-more (c .before .before .before .loop .inv .1) (c .before .before .loop-test .taken)))
 
 same-length : tie.Need-same-length Inv-loop μ-loop
 same-length c = search needs
 
 returns : tie.Need-returns Inv-loop μ-loop
-returns c = done (c .before .loop .inv .1) (c .loop-test .left)
+returns c = loop-done (c .before .loop .inv .1) (c .loop-test .left)
 
 pub fill-spec : {M : Type 1} → statement M
 fill-spec =

@@ -1,4 +1,4 @@
-use Rattle.laws.proofs.Runs.{Runs, start, more, done}
+use Rattle.laws.proofs.Loops.{Loops, loop-start, loop-more, loop-done}
 use Rattle.laws.specs.Area.{bits}
 use lib.ListN.{set}
 use native.Mathlib.Omega.{arith}
@@ -10,13 +10,13 @@ use Rattle.replay.proofs.areas.mark.Statement.{statement}
 use Rattle.replay.proofs.areas.mark.Tie as tie
 
 abbrev Inv-loop : tie.InvT-loop
-Inv-loop area₀ i₀ area i = (length area ≡ length area₀) × Runs (λ i x. set x i (bits ((0x4000000000000000 + i) % 2 ^ 64))) (length area₀) area₀ i area
+Inv-loop area₀ i₀ area i = (length area ≡ length area₀) × Loops (λ i x. set x i (bits ((0x4000000000000000 + i) % 2 ^ 64))) (length area₀) area₀ i area
 
 abbrev μ-loop : tie.MeasureT-loop
 μ-loop area₀ i₀ area i = length area₀ - i
 
 loop-holds : tie.Need-loop-holds Inv-loop μ-loop
-loop-holds c = (refl, start _ _ _)
+loop-holds c = (refl, loop-start _ _ _)
 
 wrapping-add-u64-requires : tie.Need-wrapping-add-u64-requires Inv-loop μ-loop
 wrapping-add-u64-requires c κs = search needs
@@ -37,13 +37,13 @@ loop-less : tie.Need-loop-less Inv-loop μ-loop
 loop-less c = search needs
 
 loop-again : tie.Need-loop-again Inv-loop μ-loop
-loop-again c = (search needs, rw (c .value-of .ensures, c .before .wrapping-add-u64 .ensures) (more (c .before .before .before .loop .inv .1) (omega (arith, c .before .before .loop-test .taken, c .before .before .before .loop .inv .0))))
+loop-again c = (search needs, rw (c .value-of .ensures, c .before .wrapping-add-u64 .ensures) (loop-more (c .before .before .before .loop .inv .1) (omega (arith, c .before .before .loop-test .taken, c .before .before .before .loop .inv .0))))
 
 same-length : tie.Need-same-length Inv-loop μ-loop
 same-length c = search needs
 
 returns : tie.Need-returns Inv-loop μ-loop
-returns c = done (c .before .loop .inv .1) (omega (arith, c .loop-test .left, c .before .loop .inv .0))
+returns c = loop-done (c .before .loop .inv .1) (omega (arith, c .loop-test .left, c .before .loop .inv .0))
 
 pub mark-spec : {M : Type 1} → statement M
 mark-spec =

@@ -1,4 +1,4 @@
-use Rattle.laws.proofs.Runs.{Runs, start, more, done}
+use Rattle.laws.proofs.Loops.{Loops, loop-start, loop-more, loop-done}
 use lib.ListN.{set}
 use native.Mathlib.Omega.{arith}
 use mathlib.Core.Path.{_≡_, refl}
@@ -9,13 +9,13 @@ use Rattle.replay.proofs.areas.mark_words.Statement.{statement}
 use Rattle.replay.proofs.areas.mark_words.Tie as tie
 
 abbrev Inv-loop : tie.InvT-loop
-Inv-loop area₀ i₀ area i = (length area ≡ length area₀) × Runs (λ i x. set x i (0x40000000 + i % 0x40000000)) (length area₀) area₀ i area
+Inv-loop area₀ i₀ area i = (length area ≡ length area₀) × Loops (λ i x. set x i (0x40000000 + i % 0x40000000)) (length area₀) area₀ i area
 
 abbrev μ-loop : tie.MeasureT-loop
 μ-loop area₀ i₀ area i = length area₀ - i
 
 loop-holds : tie.Need-loop-holds Inv-loop μ-loop
-loop-holds c = (refl, start _ _ _)
+loop-holds c = (refl, loop-start _ _ _)
 
 add-area : tie.Need-add-area Inv-loop μ-loop
 add-area c = search needs
@@ -36,13 +36,13 @@ loop-less : tie.Need-loop-less Inv-loop μ-loop
 loop-less c = search needs
 
 loop-again : tie.Need-loop-again Inv-loop μ-loop
-loop-again c = (search needs, more (c .before .loop .inv .1) (omega (arith, c .loop-test .taken, c .before .loop .inv .0)))
+loop-again c = (search needs, loop-more (c .before .loop .inv .1) (omega (arith, c .loop-test .taken, c .before .loop .inv .0)))
 
 same-length : tie.Need-same-length Inv-loop μ-loop
 same-length c = search needs
 
 returns : tie.Need-returns Inv-loop μ-loop
-returns c = done (c .before .loop .inv .1) (omega (arith, c .loop-test .left, c .before .loop .inv .0))
+returns c = loop-done (c .before .loop .inv .1) (omega (arith, c .loop-test .left, c .before .loop .inv .0))
 
 pub mark-words-spec : {M : Type 1} → statement M
 mark-words-spec =

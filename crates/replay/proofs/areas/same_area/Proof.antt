@@ -1,7 +1,7 @@
 use Rattle.replay.proofs.Compared.{value-passed, value-right, value-wrong, area-before, area-short, area-is}
 use Rattle.replay.specs.Areas.{rightValue}
 use Rattle.laws.proofs.Every.{every-all, every-more, every-no, every-done}
-use Rattle.laws.specs.Run.{every}
+use Rattle.laws.specs.Loops.{every}
 use mathlib.Core.Path.{_≡_, sym}
 use mathlib.Core.Bool.{true}
 use native.Mathlib.Omega.{arith}

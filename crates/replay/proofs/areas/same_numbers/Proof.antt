@@ -1,7 +1,7 @@
 use Rattle.replay.proofs.Compared.{number-right, number-wrong, numbers-short, numbers-are}
 use Rattle.replay.specs.Areas.{rightNumber}
 use Rattle.laws.proofs.Every.{every-none, every-more, every-no, every-done}
-use Rattle.laws.specs.Run.{every}
+use Rattle.laws.specs.Loops.{every}
 use mathlib.Core.Path.{_≡_, sym}
 use mathlib.Core.Bool.{true}
 use native.Mathlib.Omega.{arith}

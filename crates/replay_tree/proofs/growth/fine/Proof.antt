@@ -1,5 +1,5 @@
 use mathlib.Core.Path.{sym, ap, _∙_}
-use Rattle.tree.specs.Contents.{isFine}
+use Rattle.tree.specs.Contents.{contentsFine}
 use borrow.Author.Needs.{needs}
 use Rattle.replay_tree.proofs.growth.fine.Statement.{statement}
 use Rattle.replay_tree.proofs.growth.fine.Tie as tie
@@ -23,19 +23,19 @@ enum-told-5 : tie.Need-enum-told-5
 enum-told-5 c = search needs
 
 returns : tie.Need-returns
-returns c = ap isFine (sym (c .enum-told .given .1) ∙ c .before .before .tree-ok .ensures)
+returns c = ap contentsFine (sym (c .enum-told .given .1) ∙ c .before .before .tree-ok .ensures)
 
 returns-2 : tie.Need-returns-2
-returns-2 c = ap isFine (sym (c .enum-told2 .given .1) ∙ c .before .before .tree-ok .ensures)
+returns-2 c = ap contentsFine (sym (c .enum-told2 .given .1) ∙ c .before .before .tree-ok .ensures)
 
 returns-3 : tie.Need-returns-3
-returns-3 c = ap isFine (sym (c .enum-told3 .given .1) ∙ c .before .before .tree-ok .ensures)
+returns-3 c = ap contentsFine (sym (c .enum-told3 .given .1) ∙ c .before .before .tree-ok .ensures)
 
 returns-4 : tie.Need-returns-4
-returns-4 c = ap isFine (sym (c .enum-told4 .given .1) ∙ c .before .before .tree-ok .ensures)
+returns-4 c = ap contentsFine (sym (c .enum-told4 .given .1) ∙ c .before .before .tree-ok .ensures)
 
 returns-5 : tie.Need-returns-5
-returns-5 c = ap isFine (sym (c .enum-told5 .given .1) ∙ c .before .before .tree-ok .ensures)
+returns-5 c = ap contentsFine (sym (c .enum-told5 .given .1) ∙ c .before .before .tree-ok .ensures)
 
 pub fine-spec : {M : Type 1} → statement M
 fine-spec =

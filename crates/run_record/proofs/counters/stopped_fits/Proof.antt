@@ -1,3 +1,6 @@
+use Prim.Native.Nat.{suc}
+use native.Mathlib.Omega.{arith}
+use Rattle.laws.specs.Domain.{earlyIterations}
 use Rattle.run_record.specs.Record.{stateFits}
 use mathlib.Core.Path.{sym, _∙_}
 use borrow.Author.Tests.{le-leb, lt-leb, not-true, not-false}
@@ -7,7 +10,7 @@ use Rattle.run_record.proofs.counters.stopped_fits.Tie as tie
 
 returns : tie.Need-returns
 unfolding stateFits
-returns c = simp (lt-leb _ _ (c .if1 .taken))
+returns c = simp (lt-leb (suc earlyIterations) (c .before .args .done) (omega (arith, c .if1 .taken)))
 
 returns-2 : tie.Need-returns-2
 unfolding stateFits

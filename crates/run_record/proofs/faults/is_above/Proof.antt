@@ -1,10 +1,10 @@
-use Rattle.run_record.specs.Record.{above}
+use Rattle.run_record.specs.Record.{aboveZero}
 use mathlib.Core.Path.{refl}
 use Rattle.run_record.proofs.faults.is_above.Statement.{statement}
 use Rattle.run_record.proofs.faults.is_above.Tie as tie
 
 returns : tie.Need-returns
-unfolding above
+unfolding aboveZero
 returns c = refl
 
 pub is-above-spec : {M : Type 1} → statement M

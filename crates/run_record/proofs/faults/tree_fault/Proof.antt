@@ -1,4 +1,4 @@
-use Rattle.run_record.specs.Record.{treeFault}
+use Rattle.run_record.specs.Record.{angleFault}
 use mathlib.Core.Path.{sym, _∙_}
 use borrow.Author.Tests.{lt-ltb, le-ltb, not-true, not-false}
 use borrow.Author.Needs.{needs}
@@ -9,22 +9,22 @@ is-tree-requires : tie.Need-is-tree-requires
 is-tree-requires c κs = search needs
 
 returns : tie.Need-returns
-unfolding treeFault
+unfolding angleFault
 returns c = simp (sym (c .before .is-tree .ensures) ∙ not-true _ (c .if1 .taken))
 
 is-inside-requires : tie.Need-is-inside-requires
 is-inside-requires c κs = search needs
 
 returns-2 : tie.Need-returns-2
-unfolding treeFault
+unfolding angleFault
 returns-2 c = simp (sym (c .before .before .before .is-tree .ensures) ∙ not-false _ (c .before .before .if1 .left), sym (c .before .is-inside .ensures) ∙ not-true _ (c .if2 .taken))
 
 returns-3 : tie.Need-returns-3
-unfolding treeFault
+unfolding angleFault
 returns-3 c = simp (sym (c .before .before .before .before .is-tree .ensures) ∙ not-false _ (c .before .before .before .if1 .left), sym (c .before .before .is-inside .ensures) ∙ not-false _ (c .before .if2 .left), lt-ltb _ _ (c .if3 .taken))
 
 returns-4 : tie.Need-returns-4
-unfolding treeFault
+unfolding angleFault
 returns-4 c = simp (sym (c .before .before .before .before .is-tree .ensures) ∙ not-false _ (c .before .before .before .if1 .left), sym (c .before .before .is-inside .ensures) ∙ not-false _ (c .before .if2 .left), le-ltb _ _ (c .if3 .left))
 
 pub tree-fault-spec : {M : Type 1} → statement M

@@ -1,6 +1,6 @@
-use Rattle.tree.proofs.Descent.{Goes, goes-start, goes-on, goes-in, goes-asks, goes-few, goes-up, needs-few, few-nodes}
+use Rattle.tree.proofs.Inserting.{Goes, goes-start, goes-on, goes-in, goes-asks, goes-few, goes-up, needs-few, few-nodes}
 use Rattle.tree.specs.Insert.{tree, inserted, insertion, insertOf}
-use Rattle.tree_node.specs.Areas.{nodesOf, restOf}
+use Rattle.tree_node.specs.Areas.{nodesOf, arenaRest}
 use lib.Ieee.{Float}
 use mathlib.Core.List.{List}
 use borrow.Author.Tests.{lt-ltb, le-ltb}
@@ -8,7 +8,8 @@ use mathlib.Core.Bool.{false}
 use mathlib.Core.Path.{_≡_, refl, ap, _∙_}
 use Prim.Native.Nat.{_+_, _-_, _≤_}
 use lib.ListN.{length}
-use Rattle.laws.proofs.Runs.{more}
+use Rattle.laws.specs.Domain.{deepest, mostWord}
+use Rattle.laws.proofs.Loops.{loop-more}
 use Rattle.laws.proofs.Numbers.{row-in}
 use borrow.Author.Needs.{needs}
 use native.Mathlib.Omega.{arith}
@@ -16,10 +17,10 @@ use Rattle.tree.proofs.insertion.insert.Statement.{statement}
 use Rattle.tree.proofs.insertion.insert.Tie as tie
 
 abbrev Inv-loop : tie.InvT-loop
-Inv-loop reals₀ words₀ positions n used j c p more u₀ i₀ depth₀ reals words u i depth = (length reals ≡ length reals₀) × (length words ≡ length words₀) × (restOf reals words ≡ restOf reals₀ words₀) × (used + more ≤ length (nodesOf reals₀ words₀)) × Goes n c 4294967294 (length (nodesOf reals₀ words₀)) (used + more) positions p j (tree used (nodesOf reals₀ words₀)) depth i (tree u (nodesOf reals words))
+Inv-loop reals₀ words₀ positions n used j c p loop-more u₀ i₀ depth₀ reals words u i depth = (length reals ≡ length reals₀) × (length words ≡ length words₀) × (arenaRest reals words ≡ arenaRest reals₀ words₀) × (used + loop-more ≤ length (nodesOf reals₀ words₀)) × Goes n c (mostWord - 1) (length (nodesOf reals₀ words₀)) (used + loop-more) positions p j (tree used (nodesOf reals₀ words₀)) depth i (tree u (nodesOf reals words))
 
 abbrev μ-loop : tie.MeasureT-loop
-μ-loop reals₀ words₀ positions n used j c p more u₀ i₀ depth₀ reals words u i depth = length (nodesOf reals₀ words₀) - depth
+μ-loop reals₀ words₀ positions n used j c p loop-more u₀ i₀ depth₀ reals words u i depth = length (nodesOf reals₀ words₀) - depth
 
 point-requires : tie.Need-point-requires Inv-loop μ-loop
 point-requires c κs = (c .before .before .before .pre .0 .0, row-in _ _ _ _ (c .before .before .before .pre .0 .4) (c .before .before .before .pre .0 .3))
@@ -31,7 +32,7 @@ capacity-requires : tie.Need-capacity-requires Inv-loop μ-loop
 capacity-requires c κs = search needs
 
 add-if1 : tie.Need-add-if1 Inv-loop μ-loop
-add-if1 c = let a = c .before .before .before .before .before .before .before .before .before .before .args in rw (c .before .before .before .needs .ensures) (omega (arith, c .before .before .before .before .before .before .before .before .before .before .pre .0, needs-few (length (nodesOf (a .reals .now) (a .words .now))) (a .positions .now) (a .c) (c .before .before .before .before .before .before .point .result) 0 0 (nodesOf (a .reals .now) (a .words .now)), few-nodes 50 (a .c) (omega arith) (c .before .before .before .before .before .before .before .before .before .before .pre .0 .0 .1)))
+add-if1 c = let a = c .before .before .before .before .before .before .before .before .before .before .args in rw (c .before .before .before .needs .ensures) (omega (arith, c .before .before .before .before .before .before .before .before .before .before .pre .0, needs-few (length (nodesOf (a .reals .now) (a .words .now))) (a .positions .now) (a .c) (c .before .before .before .before .before .before .point .result) 0 0 (nodesOf (a .reals .now) (a .words .now)), few-nodes deepest (a .c) (omega arith) (c .before .before .before .before .before .before .before .before .before .before .pre .0 .0 .1)))
 
 same-length : tie.Need-same-length Inv-loop μ-loop
 same-length c = search needs

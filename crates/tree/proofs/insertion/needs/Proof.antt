@@ -1,8 +1,9 @@
-use Rattle.tree.proofs.Descent.{Dry, dry-start, dry-next, dry-leaf, tree-point, next-in, few-nodes}
+use Rattle.tree.proofs.Inserting.{Dry, dry-start, dry-next, dry-leaf, tree-point, next-in, few-nodes}
 use Rattle.tree.specs.Insert.{tree}
 use Rattle.tree_node.specs.Areas.{nodesOf}
 use Rattle.tree_node.specs.declared.Leaf.the-variants.{Empty, Occupied}
 use Prim.Native.Nat.{_-_, _<_}
+use Rattle.laws.specs.Domain.{mostWord}
 use Rattle.laws.proofs.Numbers.{shl-one, row-in}
 use borrow.Author.Needs.{needs}
 use native.Mathlib.Omega.{arith}
@@ -34,7 +35,7 @@ cast-point : tie.Need-cast-point Inv-loop μ-loop
 cast-point c = search needs
 
 point-requires : tie.Need-point-requires Inv-loop μ-loop
-point-requires c κs = let a = c .before .before .before .before .before .before .before .before .before .before .before .before .args in (c .before .before .before .before .before .before .before .before .before .before .before .before .pre .0 .0, row-in _ (a .n) (a .c) _ (tree-point (a .n) (a .c) 4294967294 (tree (a .used) (nodesOf (a .reals .now) (a .words .now))) (c .before .before .before .before .before .before .before .before .before .before .before .before .pre .1) (c .before .before .before .before .before .before .before .before .loop .i) _ (c .before .before .before .before .before .before .before .before .loop .inv .0) (rw (c .before .before .before .before .before .before .before .load .ensures) at (c .before .before .l .given .1))) (c .before .before .before .before .before .before .before .before .before .before .before .before .pre .0 .3))
+point-requires c κs = let a = c .before .before .before .before .before .before .before .before .before .before .before .before .args in (c .before .before .before .before .before .before .before .before .before .before .before .before .pre .0 .0, row-in _ (a .n) (a .c) _ (tree-point (a .n) (a .c) (mostWord - 1) (tree (a .used) (nodesOf (a .reals .now) (a .words .now))) (c .before .before .before .before .before .before .before .before .before .before .before .before .pre .1) (c .before .before .before .before .before .before .before .before .loop .i) _ (c .before .before .before .before .before .before .before .before .loop .inv .0) (rw (c .before .before .before .before .before .before .before .load .ensures) at (c .before .before .l .given .1))) (c .before .before .before .before .before .before .before .before .before .before .before .before .pre .0 .3))
 
 splits-requires : tie.Need-splits-requires Inv-loop μ-loop
 splits-requires c κs = search needs
@@ -55,16 +56,16 @@ child-index-requires : tie.Need-child-index-requires Inv-loop μ-loop
 child-index-requires c κs = search needs
 
 add-i : tie.Need-add-i Inv-loop μ-loop
-add-i c = let a = c .before .before .before .before .before .before .before .before .before .before .args in rw (c .child-index .ensures, c .before .before .before .before .before .load .ensures) (omega (arith, next-in (a .n) (a .c) 4294967294 (tree (a .used) (nodesOf (a .reals .now) (a .words .now))) (a .p) (c .before .before .before .before .before .before .before .before .before .before .pre .1) (c .before .before .before .before .before .before .loop .i) (c .before .before .before .before .before .before .loop .inv .0) (rw (c .before .before .before .before .before .load .ensures) at (c .before .before .if1 .left))))
+add-i c = let a = c .before .before .before .before .before .before .before .before .before .before .args in rw (c .child-index .ensures, c .before .before .before .before .before .load .ensures) (omega (arith, next-in (a .n) (a .c) (mostWord - 1) (tree (a .used) (nodesOf (a .reals .now) (a .words .now))) (a .p) (c .before .before .before .before .before .before .before .before .before .before .pre .1) (c .before .before .before .before .before .before .loop .i) (c .before .before .before .before .before .before .loop .inv .0) (rw (c .before .before .before .before .before .load .ensures) at (c .before .before .if1 .left))))
 
 add-depth : tie.Need-add-depth Inv-loop μ-loop
 add-depth c = omega (arith, c .before .before .before .before .before .before .loop .inv .0, c .before .before .before .before .before .before .loop .inv .1 .deep)
 
 loop-less : tie.Need-loop-less Inv-loop μ-loop
-loop-less c = let a = c .before .before .before .before .before .before .before .before .before .before .args in rw (c .child-index .ensures, c .before .before .before .before .before .load .ensures) (omega (arith, next-in (a .n) (a .c) 4294967294 (tree (a .used) (nodesOf (a .reals .now) (a .words .now))) (a .p) (c .before .before .before .before .before .before .before .before .before .before .pre .1) (c .before .before .before .before .before .before .loop .i) (c .before .before .before .before .before .before .loop .inv .0) (rw (c .before .before .before .before .before .load .ensures) at (c .before .before .if1 .left))))
+loop-less c = let a = c .before .before .before .before .before .before .before .before .before .before .args in rw (c .child-index .ensures, c .before .before .before .before .before .load .ensures) (omega (arith, next-in (a .n) (a .c) (mostWord - 1) (tree (a .used) (nodesOf (a .reals .now) (a .words .now))) (a .p) (c .before .before .before .before .before .before .before .before .before .before .pre .1) (c .before .before .before .before .before .before .loop .i) (c .before .before .before .before .before .before .loop .inv .0) (rw (c .before .before .before .before .before .load .ensures) at (c .before .before .if1 .left))))
 
 loop-again : tie.Need-loop-again Inv-loop μ-loop
-loop-again c = let a = c .before .before .before .before .before .before .before .before .before .before .args in let z = rw (c .before .before .before .before .before .load .ensures) at (c .before .before .if1 .left) in let h = next-in (a .n) (a .c) 4294967294 (tree (a .used) (nodesOf (a .reals .now) (a .words .now))) (a .p) (c .before .before .before .before .before .before .before .before .before .before .pre .1) (c .before .before .before .before .before .before .loop .i) (c .before .before .before .before .before .before .loop .inv .0) z in rw (c .child-index .ensures, c .before .before .before .before .before .load .ensures) (h .1, dry-next (c .before .before .before .before .before .before .loop .inv .1) (omega (arith, c .before .before .before .before .before .before .loop .inv .0, c .before .before .before .before .before .before .before .before .before .before .pre .0)) z (h .0))
+loop-again c = let a = c .before .before .before .before .before .before .before .before .before .before .args in let z = rw (c .before .before .before .before .before .load .ensures) at (c .before .before .if1 .left) in let h = next-in (a .n) (a .c) (mostWord - 1) (tree (a .used) (nodesOf (a .reals .now) (a .words .now))) (a .p) (c .before .before .before .before .before .before .before .before .before .before .pre .1) (c .before .before .before .before .before .before .loop .i) (c .before .before .before .before .before .before .loop .inv .0) z in rw (c .child-index .ensures, c .before .before .before .before .before .load .ensures) (h .1, dry-next (c .before .before .before .before .before .before .loop .inv .1) (omega (arith, c .before .before .before .before .before .before .loop .inv .0, c .before .before .before .before .before .before .before .before .before .before .pre .0)) z (h .0))
 
 pub needs-spec : {M : Type 1} → statement M
 needs-spec =

@@ -1,5 +1,5 @@
 use Rattle.tree_node.proofs.Axes.{third}
-use Rattle.laws.specs.Run.{run}
+use Rattle.laws.specs.Loops.{loop}
 use Rattle.tree_bounds.specs.Bounds.{boxOf}
 use borrow.Author.Needs.{needs}
 use Rattle.tree_bounds.proofs.root.bounding_box.Statement.{statement}
@@ -18,7 +18,7 @@ fresh-requires : tie.Need-fresh-requires
 fresh-requires c κs = search needs
 
 returns : tie.Need-returns
-unfolding boxOf run
+unfolding boxOf loop
 returns c = rw (c .fresh .ensures, c .before .reach .ensures, c .before .before .middle .ensures, c .before .before .before .before .span .ensures, c .before .before .before .if1 .taken)
 
 span-requires-2 : tie.Need-span-requires-2
@@ -40,7 +40,7 @@ fresh-requires-2 : tie.Need-fresh-requires-2
 fresh-requires-2 c κs = search needs
 
 returns-2 : tie.Need-returns-2
-unfolding boxOf run
+unfolding boxOf loop
 returns-2 c = rw (c .fresh2 .ensures, c .before .reach3 .ensures, c .before .before .reach2 .ensures, c .before .before .before .middle3 .ensures, c .before .before .before .before .middle2 .ensures, c .before .before .before .before .before .before .span2 .ensures, c .before .before .before .before .before .before .before .before .span .ensures, c .before .before .before .before .before .if2 .taken)
 
 span-requires-3 : tie.Need-span-requires-3
@@ -68,7 +68,7 @@ fresh-requires-3 : tie.Need-fresh-requires-3
 fresh-requires-3 c κs = search needs
 
 returns-3 : tie.Need-returns-3
-unfolding boxOf run
+unfolding boxOf loop
 returns-3 c = rw (c .fresh3 .ensures, c .before .reach6 .ensures, c .before .before .reach5 .ensures, c .before .before .before .reach4 .ensures, c .before .before .before .before .middle6 .ensures, c .before .before .before .before .before .middle5 .ensures, c .before .before .before .before .before .before .middle4 .ensures, c .before .before .before .before .before .before .before .span3 .ensures, c .before .before .before .before .before .before .before .before .before .span2 .ensures, c .before .before .before .before .before .before .before .before .before .before .before .span .ensures, (third _ (c .before .before .before .before .before .before .before .before .before .before .before .before .before .pre .0) (c .before .before .before .before .before .before .before .before .before .before .if1 .left) (c .before .before .before .before .before .before .before .before .if2 .left)))
 
 pub bounding-box-spec : {M : Type 1} → statement M

@@ -1,6 +1,6 @@
 use lib.Ieee.{div, neg, ofBits}
 use Rattle.laws.proofs.Numbers.{row-in}
-use Rattle.laws.proofs.Runs.{Runs, start, more, done}
+use Rattle.laws.proofs.Loops.{Loops, loop-start, loop-more, loop-done}
 use Rattle.tree_bounds.specs.Bounds.{spanStep, spanOf}
 use lib.ListN.{length}
 use Prim.Native.Nat.{_-_}
@@ -10,13 +10,13 @@ use Rattle.tree_bounds.proofs.root.span.Statement.{statement}
 use Rattle.tree_bounds.proofs.root.span.Tie as tie
 
 abbrev Inv-loop : tie.InvT-loop
-Inv-loop positions n c d s₀ i₀ s i = Runs (spanStep positions c d) n s₀ i s
+Inv-loop positions n c d s₀ i₀ s i = Loops (spanStep positions c d) n s₀ i s
 
 abbrev μ-loop : tie.MeasureT-loop
 μ-loop positions n c d s₀ i₀ s i = n - i
 
 loop-holds : tie.Need-loop-holds Inv-loop μ-loop
-loop-holds c = start _ _ _
+loop-holds c = loop-start _ _ _
 
 mul-widen : tie.Need-mul-widen Inv-loop μ-loop
 mul-widen c = omega (arith, (row-in (c .before .loop .i) (c .before .before .before .args .n) (c .before .before .before .args .c) (length (c .before .before .before .args .positions .now)) (c .loop-test .taken) (c .before .before .before .pre .1)))
@@ -40,11 +40,11 @@ loop-less : tie.Need-loop-less Inv-loop μ-loop
 loop-less c = search needs
 
 loop-again : tie.Need-loop-again Inv-loop μ-loop
-loop-again c = rw (c .widen .ensures) (more (c .before .before .before .loop .inv) (omega arith))
+loop-again c = rw (c .widen .ensures) (loop-more (c .before .before .before .loop .inv) (omega arith))
 
 returns : tie.Need-returns Inv-loop μ-loop
 unfolding spanOf div neg ofBits
-returns c = done (c .before .loop .inv) (omega arith)
+returns c = loop-done (c .before .loop .inv) (omega arith)
 
 pub span-spec : {M : Type 1} → statement M
 span-spec =

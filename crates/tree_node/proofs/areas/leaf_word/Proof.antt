@@ -1,5 +1,5 @@
 use mathlib.Core.Path.{sym, ap}
-use Rattle.tree_node.specs.Areas.{wordOf}
+use Rattle.tree_node.specs.Areas.{leafWord}
 use borrow.Author.Needs.{needs}
 use native.Mathlib.Omega.{arith}
 use Rattle.tree_node.proofs.areas.leaf_word.Statement.{statement}
@@ -18,7 +18,7 @@ add-result : tie.Need-add-result
 add-result c = omega (arith, rw (c .before .l .given .1) at (c .before .before .before .pre))
 
 returns-2 : tie.Need-returns-2
-returns-2 c = ap wordOf (sym (c .before .l .given .1))
+returns-2 c = ap leafWord (sym (c .before .l .given .1))
 
 pub leaf-word-spec : {M : Type 1} → statement M
 leaf-word-spec = tie.close (tie.spec enum-known-l enum-told returns add-result returns-2)

@@ -1,6 +1,6 @@
 use native.Mathlib.Nat.{add-zero}
 use Rattle.tree_node.specs.Node.{pointOf}
-use Rattle.laws.specs.Run.{run}
+use Rattle.laws.specs.Loops.{loop}
 use Rattle.tree_node.proofs.Axes.{third}
 use borrow.Author.Needs.{needs}
 use Rattle.tree_node.proofs.cells.point.Statement.{statement}
@@ -16,7 +16,7 @@ shared-slice-read-t8 : tie.Need-shared-slice-read-t8
 shared-slice-read-t8 c = search needs
 
 returns : tie.Need-returns
-unfolding pointOf run
+unfolding pointOf loop
 returns c = rw (c .before .if1 .taken, add-zero)
 
 mul-t9 : tie.Need-mul-t9
@@ -35,7 +35,7 @@ shared-slice-read-t15 : tie.Need-shared-slice-read-t15
 shared-slice-read-t15 c = search needs
 
 returns-2 : tie.Need-returns-2
-unfolding pointOf run
+unfolding pointOf loop
 returns-2 c = rw (c .before .before .if2 .taken, add-zero)
 
 mul-t16 : tie.Need-mul-t16
@@ -63,7 +63,7 @@ shared-slice-read-t26 : tie.Need-shared-slice-read-t26
 shared-slice-read-t26 c = search needs
 
 returns-3 : tie.Need-returns-3
-unfolding pointOf run
+unfolding pointOf loop
 returns-3 c = rw ((third _ (c .before .before .before .before .before .pre .0) (c .before .before .before .before .if1 .left) (c .before .before .before .if2 .left)), add-zero)
 
 pub point-spec : {M : Type 1} → statement M

@@ -12,18 +12,21 @@ use lib.Seq.{getD-set-same, getD-set-other}
 use lib.Pow.{pow-mono}
 use lib.Ieee.{Float}
 use borrow.Author.Tests.{ltb-true, leb-true, eq-eqb, ne-eqb, lt-ltb, le-leb, lt-leb}
+use Rattle.laws.specs.Domain.{deepest, mostWord}
 use Rattle.laws.proofs.Every.{every-at, every-all}
 use Rattle.laws.proofs.Numbers.{left, row-in}
 use Rattle.laws.proofs.Bools.{and-left, and-right}
 use Rattle.tree_node.specs.declared.Node.{Node}
-use Rattle.tree_node.specs.declared.Out.{Out}
+use Rattle.tree_turns.specs.declared.Out.{Out}
 use Rattle.tree_node.specs.declared.Leaf.{Leaf}
 use Rattle.tree_node.specs.declared.Leaf.the-variants.{Empty, Occupied}
-use Rattle.tree_node.specs.Node.{pointOf, childIndex, childOf, cellOf, absorbed, occupied, parent, out, leafTurn, turnOf}
-use Rattle.tree_node.specs.Areas.{wordOf, nodeAt, blank}
-use Rattle.tree.specs.Insert.{Tree, tree, filled, turnAt, levelled, levelAt, inserted, splitsOf, leafNeeds, needsOf, treeOk}
+use Rattle.tree_node.specs.Node.{pointOf}
+use Rattle.tree_children.specs.Children.{childIndex, cellOf}
+use Rattle.tree_turns.specs.Turns.{childOf, absorbed, occupied, parent, out, leafTurn, turnOf}
+use Rattle.tree_node.specs.Areas.{leafWord, nodeAt, blank}
+use Rattle.tree.specs.Insert.{Tree, tree, subdivided, turnAt, levelled, levelAt, inserted, splitsOf, leafNeeds, needsOf, treeOk}
 use Rattle.tree_contents.specs.Contents.{pointOk, blockOk, nodeOk}
-use Rattle.tree_node.proofs.Children.{child-below}
+use Rattle.tree_children.proofs.Below.{child-below}
 use Rattle.tree.proofs.Grow.{splits-same, splits-apart, splits-le, length-filled, filled-out, filled-in, filled-none}
 
 -- ---- a well-formed node, in numbers
@@ -61,8 +64,8 @@ module _ (c : ℕ) (p : List Float) (j depth u : ℕ) (v : Node) where
   pub turn-cases : (P : Out → Type 0)
       → ((v .first ≡ 0 → ⊥) → P (out (absorbed c p v) (v .first + childIndex c (v .centre) p) 0 j false))
       → (v .first ≡ 0 → v .leaf ≡ Empty → P (out (occupied j (absorbed c p v)) 0 0 j true))
-      → ((o : ℕ) → v .first ≡ 0 → v .leaf ≡ Occupied o → 50 ≤ depth → P (out (absorbed c p v) 0 0 j true))
-      → ((o : ℕ) → v .first ≡ 0 → v .leaf ≡ Occupied o → depth < 50 → P (out (parent u (absorbed c p v)) (u + childIndex c (v .centre) p) (2 ^ c) o false))
+      → ((o : ℕ) → v .first ≡ 0 → v .leaf ≡ Occupied o → deepest ≤ depth → P (out (absorbed c p v) 0 0 j true))
+      → ((o : ℕ) → v .first ≡ 0 → v .leaf ≡ Occupied o → depth < deepest → P (out (parent u (absorbed c p v)) (u + childIndex c (v .centre) p) (2 ^ c) o false))
       → P (turnOf c p j depth u v)
   unfolding turnOf absorbed
   turn-cases P inner empty deep split =
@@ -73,7 +76,7 @@ module _ (c : ℕ) (p : List Float) (j depth u : ℕ) (v : Node) where
     where
       go : (l : Leaf) → v .leaf ≡ l → v .first ≡ 0 → P (leafTurn c p j depth u (absorbed c p v) l)
       go Empty e z = empty z e
-      go (Occupied o) e z = elim (decLt depth 50) [ yes l ↦ rw (lt-leb 50 depth l) (split o z e l) | no l ↦ rw (le-leb 50 depth (omega (arith, l))) (deep o z e (omega (arith, l))) ]
+      go (Occupied o) e z = elim (decLt depth deepest) [ yes l ↦ rw (lt-leb deepest depth l) (split o z e l) | no l ↦ rw (le-leb deepest depth (omega (arith, l))) (deep o z e (omega (arith, l))) ]
 
 -- ---- the descent, step by step
 
@@ -187,8 +190,8 @@ module _ (y : List Float) (c : ℕ) (p : List Float) where
       ]
 
   -- a made child, the point's own: what is left of the splits
-  needs-child : (g d k : ℕ) (ns : List Node) (v : Node) (o : ℕ) → d < 50 → nodeAt ns k ≡ childOf c v o (pointOf y c o) (childIndex c (v .centre) p)
-      → splitsOf (50 - d) c (v .centre) (v .half) (pointOf y c o) p * 2 ^ c ≡ 2 ^ c + needsOf (suc g) y c p (d + 1) k ns
+  needs-child : (g d k : ℕ) (ns : List Node) (v : Node) (o : ℕ) → d < deepest → nodeAt ns k ≡ childOf c v o (pointOf y c o) (childIndex c (v .centre) p)
+      → splitsOf (deepest - d) c (v .centre) (v .half) (pointOf y c o) p * 2 ^ c ≡ 2 ^ c + needsOf (suc g) y c p (d + 1) k ns
   unfolding childOf absorbed
   needs-child g d k ns v o l e =
       let q = pointOf y c o in
@@ -196,11 +199,11 @@ module _ (y : List Float) (c : ℕ) (p : List Float) where
       elim (ℕ-discrete b (childIndex c (v .centre) q)) [
         | yes x ↦
             let e' : nodeAt ns k ≡ occupied o (absorbed c q (cellOf c v b)) = rw (eq-eqb b (childIndex c (v .centre) q) x) at e in
-            rw (left 50 d l, splits-same (50 - (d + 1)) c (v .centre) (v .half) q p (sym x), suc-mul)
+            rw (left deepest d l, splits-same (deepest - (d + 1)) c (v .centre) (v .half) q p (sym x), suc-mul)
             (ap (λ (k : ℕ). k + 2 ^ c) (sym (needs-leaf g (d + 1) k ns (Occupied o) (ap (λ (x : Node). x .first) e') (ap (λ (x : Node). x .leaf) e') ∙ ap (λ (x : Node). leafNeeds y c p (d + 1) x (Occupied o)) e')) ∙ plus (needsOf (suc g) y c p (d + 1) k ns) (2 ^ c))
         | no x ↦
             let e' : nodeAt ns k ≡ cellOf c v b = rw (ne-eqb b (childIndex c (v .centre) q) x) at e in
-            rw (left 50 d l, splits-apart (50 - (d + 1)) c (v .centre) (v .half) q p (λ w. x (sym w)), one-mul, needs-leaf g (d + 1) k ns Empty (ap (λ (x : Node). x .first) e') (ap (λ (x : Node). x .leaf) e')) (sym (add-zero (2 ^ c)))
+            rw (left deepest d l, splits-apart (deepest - (d + 1)) c (v .centre) (v .half) q p (λ w. x (sym w)), one-mul, needs-leaf g (d + 1) k ns Empty (ap (λ (x : Node). x .first) e') (ap (λ (x : Node). x .leaf) e')) (sym (add-zero (2 ^ c)))
       ]
     where
       plus : (a b : ℕ) → a + b ≡ b + a
@@ -209,7 +212,7 @@ module _ (y : List Float) (c : ℕ) (p : List Float) where
 -- ---- a level that splits its node
 
 split-sound : (n c m i o : ℕ) (q : List Float) (t : Tree) (a : Node) → i < t .used → t .used + 2 ^ c ≤ length (t .nodes) → a .count ≤ m + 1 → o < n → 1 ≤ m → Sound n c m i t
-    → (k : ℕ) → t .used ≤ k → Sound n c m k (tree (t .used + 2 ^ c) (filled c (parent (t .used) a) o q (2 ^ c) (set (t .nodes) i (parent (t .used) a))))
+    → (k : ℕ) → t .used ≤ k → Sound n c m k (tree (t .used + 2 ^ c) (subdivided c (parent (t .used) a) o q (2 ^ c) (set (t .nodes) i (parent (t .used) a))))
 split-sound n c m i o q t a li lc hc ho hm s k lk x lx =
     let u = t .used in
     let w = parent u a in
@@ -224,15 +227,15 @@ split-sound n c m i o q t a li lc hc ho hm s k lk x lx =
       | no l ↦
           let b = x - u in
           let eb : u + b ≡ x = omega (arith, l) in
-          let e : nodeAt (filled c w o q (2 ^ c) ns) x ≡ childOf c w o q b = ap (nodeAt (filled c w o q (2 ^ c) ns)) (sym eb) ∙ filled-in c w o q (2 ^ c) ns b (omega (arith, l, lx)) (omega (arith, eb, lx, lc, length-set (t .nodes) i w)) in
+          let e : nodeAt (subdivided c w o q (2 ^ c) ns) x ≡ childOf c w o q b = ap (nodeAt (subdivided c w o q (2 ^ c) ns)) (sym eb) ∙ filled-in c w o q (2 ^ c) ns b (omega (arith, l, lx)) (omega (arith, eb, lx, lc, length-set (t .nodes) i w)) in
           let f = child-facts n c m (u + 2 ^ c) x w o q b ho hm in
           rw e (fewer n c m (m + 1) (u + 2 ^ c) x (childOf c w o q b) (omega arith) f, λ _. f .few)
     ]
 
-no-splits : (s d m : ℕ) → s ≤ 50 - d → 50 ≤ d → s * m ≡ 0
+no-splits : (s d m : ℕ) → s ≤ deepest - d → deepest ≤ d → s * m ≡ 0
 no-splits s d m h l = let z : s ≡ 0 = omega (arith, h, l) in rw z (zero-mul m)
 
-word-small : (n : ℕ) (l : Leaf) → pointOk n l ≡ true → n ≤ 4294967295 → wordOf l < 4294967296
+word-small : (n : ℕ) (l : Leaf) → pointOk n l ≡ true → n ≤ mostWord → leafWord l < suc mostWord
 word-small n Empty e h = omega arith
 word-small n (Occupied o) e h = omega (arith, ltb-true o n e, h)
 
@@ -244,8 +247,8 @@ pub record Ended (n c m cap N : ℕ) (t : Tree) : Type 0 where
 
 pub record Asks (n c cap : ℕ) (y : List Float) (r : Out) : Type 0 where
   pub room : r .node .first + r .fresh ≤ cap
-  pub word : wordOf (r .node .leaf) < 4294967296
-  pub old : r .old < 4294967295
+  pub word : leafWord (r .node .leaf) < suc mostWord
+  pub old : r .old < mostWord
   pub point : r .old < n
   pub row : r .old * c + c ≤ length y
 
@@ -269,15 +272,15 @@ module _ (n c m cap N : ℕ) (y p : List Float) (j : ℕ) (hj : j < n) (hm : 1 �
     few = k .sound i (k .node) .1 (omega arith)
 
     -- the splits of an occupied leaf are there
-    split-total : (o : ℕ) → v .first ≡ 0 → v .leaf ≡ Occupied o → t .used + splitsOf (50 - d) c (v .centre) (v .half) (pointOf y c o) p * 2 ^ c ≡ N
+    split-total : (o : ℕ) → v .first ≡ 0 → v .leaf ≡ Occupied o → t .used + splitsOf (deepest - d) c (v .centre) (v .half) (pointOf y c o) p * 2 ^ c ≡ N
     split-total o z e = ap (λ (x : ℕ). t .used + x) (sym (fuel ∙ needs-leaf y c p (cap - (d + 1)) d i (t .nodes) (Occupied o) z e)) ∙ k .total
 
-    split-fits : (o : ℕ) → v .first ≡ 0 → v .leaf ≡ Occupied o → d < 50 → t .used + 2 ^ c ≤ cap
+    split-fits : (o : ℕ) → v .first ≡ 0 → v .leaf ≡ Occupied o → d < deepest → t .used + 2 ^ c ≤ cap
     split-fits o z e l =
         let q = pointOf y c o in
         elim (ℕ-discrete (childIndex c (v .centre) q) (childIndex c (v .centre) p)) [
-          | yes x ↦ omega (arith, fit, rw (left 50 d l, splits-same (50 - (d + 1)) c (v .centre) (v .half) q p x, suc-mul) at (split-total o z e))
-          | no x ↦ omega (arith, fit, rw (left 50 d l, splits-apart (50 - (d + 1)) c (v .centre) (v .half) q p x, one-mul) at (split-total o z e))
+          | yes x ↦ omega (arith, fit, rw (left deepest d l, splits-same (deepest - (d + 1)) c (v .centre) (v .half) q p x, suc-mul) at (split-total o z e))
+          | no x ↦ omega (arith, fit, rw (left deepest d l, splits-apart (deepest - (d + 1)) c (v .centre) (v .half) q p x, one-mul) at (split-total o z e))
         ]
 
     below : (o : ℕ) → v .leaf ≡ Occupied o → o < n
@@ -310,7 +313,7 @@ module _ (n c m cap N : ℕ) (y p : List Float) (j : ℕ) (hj : j < n) (hm : 1 �
         let q = pointOf y c o in
         let w = parent u (absorbed c p v) in
         let ns = set (t .nodes) i w in
-        let ms = filled c w o q (2 ^ c) ns in
+        let ms = subdivided c w o q (2 ^ c) ns in
         let lc = split-fits o z e l in
         let lb = child-below c (v .centre) p in
         let ll : length ns ≡ cap = length-set (t .nodes) i w ∙ k .nodes in
@@ -338,7 +341,7 @@ module _ (n c m cap N : ℕ) (y p : List Float) (j : ℕ) (hj : j < n) (hm : 1 �
         (sym (add-zero (t .used)) ∙ ap (λ (x : ℕ). t .used + x) (sym (fuel ∙ needs-leaf y c p (cap - (d + 1)) d i (t .nodes) Empty z e)) ∙ k .total))
         (λ o z e l _.
         stored-ends (absorbed c p v) 0 j (absorbed-facts n c m (t .used) i p v few (k .sound i (k .node) .0))
-        (sym (add-zero (t .used)) ∙ ap (λ (x : ℕ). t .used + x) (sym (no-splits (splitsOf (50 - d) c (v .centre) (v .half) (pointOf y c o) p) d (2 ^ c) (splits-le (50 - d) c (v .centre) (v .half) (pointOf y c o) p) l)) ∙ split-total o z e))
+        (sym (add-zero (t .used)) ∙ ap (λ (x : ℕ). t .used + x) (sym (no-splits (splitsOf (deepest - d) c (v .centre) (v .half) (pointOf y c o) p) d (2 ^ c) (splits-le (deepest - d) c (v .centre) (v .half) (pointOf y c o) p) l)) ∙ split-total o z e))
         (λ o z e l x. absurd (true≢false (sym x)))
       where
         stored-ends : (a : Node) (x o : ℕ) → Facts n c (m + 1) (t .used) i a → t .used ≡ N → Ended n c m cap N (levelled y c i (out a x 0 o true) t)
@@ -361,7 +364,7 @@ module _ (n c m cap N : ℕ) (y p : List Float) (j : ℕ) (hj : j < n) (hm : 1 �
         (λ o z e l. split-fits o z e l)
 
     -- what a level asks of its caller
-    pub ok-asks : n * c ≤ length y → n ≤ 4294967295 → Asks n c cap y (turnAt c p j d i t)
+    pub ok-asks : n * c ≤ length y → n ≤ mostWord → Asks n c cap y (turnAt c p j d i t)
     unfolding absorbed
     ok-asks hy hn =
         turn-cases c p j d (t .used) v (λ r. r .node .first + r .fresh ≤ cap → Asks n c cap y r)
@@ -442,7 +445,7 @@ pub tree-point : (n c m : ℕ) (t : Tree) → treeOk n m c t ≡ true → (i o :
 tree-point n c m t e i o l q = point-below n (nodeAt (t .nodes) i .leaf) o (tree-facts n c m t e i l .point) q
 
 -- a point needs at most 50 splits
-pub needs-few : (g : ℕ) (y : List Float) (c : ℕ) (p : List Float) (d i : ℕ) (ns : List Node) → needsOf g y c p d i ns ≤ 50 * 2 ^ c
+pub needs-few : (g : ℕ) (y : List Float) (c : ℕ) (p : List Float) (d i : ℕ) (ns : List Node) → needsOf g y c p d i ns ≤ deepest * 2 ^ c
 unfolding needsOf
 needs-few zero y c p d i ns = omega arith
 needs-few (suc g) y c p d i ns =
@@ -451,17 +454,17 @@ needs-few (suc g) y c p d i ns =
       | yes z ↦ rw (needs-leaf y c p g d i ns (nodeAt ns i .leaf) z refl) (leaf-few (nodeAt ns i .leaf))
     ]
   where
-    leaf-few : (l : Leaf) → leafNeeds y c p d (nodeAt ns i) l ≤ 50 * 2 ^ c
+    leaf-few : (l : Leaf) → leafNeeds y c p d (nodeAt ns i) l ≤ deepest * 2 ^ c
     leaf-few Empty = omega arith
-    leaf-few (Occupied o) = mul-le-mul-right (2 ^ c) (le-trans (splits-le (50 - d) c (nodeAt ns i .centre) (nodeAt ns i .half) (pointOf y c o) p) (few-left d))
+    leaf-few (Occupied o) = mul-le-mul-right (2 ^ c) (le-trans (splits-le (deepest - d) c (nodeAt ns i .centre) (nodeAt ns i .half) (pointOf y c o) p) (few-left d))
       where
-        few-left : (d : ℕ) → 50 - d ≤ 50
+        few-left : (d : ℕ) → deepest - d ≤ deepest
         few-left d = omega arith
 
-pub few-nodes : (s c : ℕ) → s ≤ 50 → c ≤ 3 → s * 2 ^ c ≤ 400
+pub few-nodes : (s c : ℕ) → s ≤ deepest → c ≤ 3 → s * 2 ^ c ≤ deepest * 8
 few-nodes s c h l = le-trans (mul-le-mul-left s (pow-mono {i = c} {j = 3} l)) (eight s h)
   where
-    eight : (s : ℕ) → s ≤ 50 → s * 8 ≤ 400
+    eight : (s : ℕ) → s ≤ deepest → s * 8 ≤ deepest * 8
     eight s h = omega (arith, h)
 
 -- the child that a split node sends a point to lies above it among the used nodes
@@ -482,7 +485,7 @@ module _ {n c m cap N : ℕ} {y p : List Float} {j : ℕ} {t₀ : Tree} {d i : �
   pub goes-in : (t' : Tree) (b : Bool) → t' ≡ levelAt y c p j d i t → b ≡ turnAt c p j d i t .last → b ≡ true → t' ≡ inserted cap y c p j 0 0 t₀
   goes-in t' b e h x = e ∙ goes-last g (sym h ∙ x)
 
-  pub goes-asks : n * c ≤ length y → n ≤ 4294967295 → Asks n c cap y (turnAt c p j d i t)
+  pub goes-asks : n * c ≤ length y → n ≤ mostWord → Asks n c cap y (turnAt c p j d i t)
   goes-asks = ok-asks n c m cap N y p j hj hm fit d i t (g .ok)
 
   pub goes-few : nodeAt (t .nodes) i .count ≤ m

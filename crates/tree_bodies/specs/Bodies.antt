@@ -6,12 +6,12 @@ use lib.ListN.{set}
 use lib.Dec.{eqb}
 use lib.IntN.{pos}
 use lib.Ieee.{Float, binary64, add, sub, mul, div, ofInt, lt}
-use Rattle.laws.specs.Run.{run}
+use Rattle.laws.specs.Loops.{loop}
 use Rattle.laws.specs.Area.{at, zero64, one64, two64}
 use Rattle.tree_node.specs.declared.Node.{Node}
-use Rattle.tree_node.specs.declared.Acc.{Acc}
+use Rattle.tree_bodies.specs.declared.Acc.{Acc}
 use Rattle.tree_node.specs.declared.Leaf.{Leaf}
 use Rattle.tree_node.specs.declared.Leaf.the-variants.{Empty, Occupied}
 
 -- ---- the squared distance from a node's mass, and its largest side
 
@@ -19,8 +19,8 @@ abbrev pub gapStep : List Float → List Float → ℕ → Float → Float
 gapStep p m d s = add binary64 s (mul binary64 (sub binary64 (at p d) (at m d)) (sub binary64 (at p d) (at m d)))
 
 unfoldable pub gapOf : ℕ → List Float → List Float → Float
-unfolding run add sub mul
-gapOf c p m = run (gapStep p m) c 0 zero64
+unfolding loop add sub mul
+gapOf c p m = loop (gapStep p m) c 0 zero64
 
 unfoldable pub wider : Float → Float → Float
 unfolding lt mul
@@ -30,8 +30,8 @@ abbrev pub widthStep : List Float → ℕ → Float → Float
 widthStep h d w = wider w (at h d)
 
 unfoldable pub widthOf : ℕ → List Float → Float
-unfolding run wider
-widthOf c h = run (widthStep h) c 0 zero64
+unfolding loop wider
+widthOf c h = loop (widthStep h) c 0 zero64
 
 -- ---- what one body adds
 
@@ -39,11 +39,11 @@ abbrev pub pushStep : List Float → List Float → Float → ℕ → List Float
 pushStep p m force d t = set t d (add binary64 (at t d) (mul binary64 force (sub binary64 (at p d) (at m d))))
 
 unfoldable pub bodyOf : ℕ → List Float → Node → Acc → Acc
-unfolding run gapOf add sub mul div ofInt
+unfolding loop gapOf add sub mul div ofInt
 bodyOf c p v acc =
     let inv = div binary64 one64 (add binary64 one64 (gapOf c p (v .mass))) in
     let mult = mul binary64 (ofInt binary64 (pos (v .count))) inv in
-    record { neg = run (pushStep p (v .mass) (mul binary64 mult inv)) c 0 (acc .neg); sum = add binary64 (acc .sum) mult }
+    record { neg = loop (pushStep p (v .mass) (mul binary64 mult inv)) c 0 (acc .neg); sum = add binary64 (acc .sum) mult }
 
 -- ---- what a node is to point q: 0 gives nothing, 1 acts as one body, 2 opens
 
