@@ -1,9 +1,9 @@
 use mathlib.Core.Path.{sym, ap}
-use Rattle.tree_node.specs.Areas.{leafWord}
+use Rattle.tree_node.specs.Arena.{leafWord}
 use borrow.Author.Needs.{needs}
 use native.Mathlib.Omega.{arith}
-use Rattle.tree_node.proofs.areas.leaf_word.Statement.{statement}
-use Rattle.tree_node.proofs.areas.leaf_word.Tie as tie
+use Rattle.tree_node.proofs.arena.leaf_word.Statement.{statement}
+use Rattle.tree_node.proofs.arena.leaf_word.Tie as tie
 
 enum-known-l : tie.Need-enum-known-l
 enum-known-l c = search needs

@@ -1,8 +1,8 @@
-use Rattle.tree_node.specs.Areas.{leafOf}
+use Rattle.tree_node.specs.Arena.{leafOf}
 use borrow.Author.Tests.{eq-eqb, ne-eqb}
 use borrow.Author.Needs.{needs}
-use Rattle.tree_node.proofs.areas.read_leaf.Statement.{statement}
-use Rattle.tree_node.proofs.areas.read_leaf.Tie as tie
+use Rattle.tree_node.proofs.arena.read_leaf.Statement.{statement}
+use Rattle.tree_node.proofs.arena.read_leaf.Tie as tie
 
 returns : tie.Need-returns
 unfolding leafOf

@@ -1,0 +1,5 @@
+pub mod Plain
+pub mod After
+pub mod Again
+pub mod Pass
+pub mod Lies
