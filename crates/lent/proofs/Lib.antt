@@ -3,3 +3,4 @@ pub mod After
 pub mod Again
 pub mod Pass
 pub mod Lies
+pub mod Holds
