@@ -1,6 +1,6 @@
 -- The walk from a node, cell by cell: any number of levels that reaches the last used node gives the same. Assumes nothing.
 --     whole-skip, whole-body, whole-open      what a node is to the eye, and what the walk from it gives then
-use mathlib.Core.Path.{_≡_, refl, sym, ap, _∙_}
+use mathlib.Core.Path.{_≡_, refl, sym, _∙_}
 use mathlib.Core.List.{List}
 use mathlib.Core.Bool.{Bool, true, false, cond, _&&_}
 use Prim.Native.Nat.{ℕ, zero, suc, _+_, _-_, _^_, _<_, _≤_}

@@ -3,12 +3,12 @@
 --     asks             what the turn asks.       onward, resumes       where the loop goes on: after a turn, and after a turn whose children had no room on the stack, once they are walked
 --     smaller, again-req       the children lie further on, and a walk from them may be asked for
 -- Assumes nothing.
-use mathlib.Core.Path.{_≡_, refl, sym, subst}
+use mathlib.Core.Path.{_≡_, sym, subst}
 use Prim.Native.Nat.{ℕ, _-_, _*_, _<_}
 use native.Mathlib.Omega.{arith}
 use mathlib.Core.List.{List}
 use mathlib.Core.WellFounded.{WellFounded, InvImage·wf}
-use lib.ListN.{length, replicate}
+use lib.ListN.{length}
 use lib.WfN.{Nat·lt-wfRel}
 use mir.Syntax.{w32}
 use denote.Laws.{Is}

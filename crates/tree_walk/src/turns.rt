@@ -81,10 +81,10 @@ fn opened(stack: &mut [u32], levels: usize, s: Spot, f: u32, e: u32) -> Spot
     standing(a, f, e, l)
 }
 
-// A turn at the cell v.
-fn turn(stack: &mut [u32], levels: usize, v: Cell, s: Spot, eye: Eye) -> Spot
-    requires { ⌜ (Axes (eye .c)) × (s .at < s .end) × (s .level ≤ levels) × (v .first + 2 ^ (eye .c) ≤ mostWord) × (length (now stack) ≡ 2 * levels) ⌝ }
-    ensures { λ r. ⌜ (r ≡ turnedOf levels eye v (now (stack .entry)) s) × (now (stack .exit) ≡ stackedOf levels eye v (now (stack .entry)) s) ⌝ }
+// A turn at the cell v, with 32 levels. The two are apart, so that each has one caller and becomes part of it.
+pub fn short_turn(stack: &mut [u32; 64], v: Cell, s: Spot, eye: Eye) -> Spot
+    requires { ⌜ (Axes (eye .c)) × (s .at < s .end) × (s .level ≤ 32) × (v .first + 2 ^ (eye .c) ≤ mostWord) ⌝ }
+    ensures { λ r. ⌜ (r ≡ turnedOf 32 eye v (now (stack .entry)) s) × (now (stack .exit) ≡ stackedOf 32 eye v (now (stack .entry)) s) ⌝ }
 {
     let n = read_node(v);
     let p = eye.p;
@@ -92,26 +92,33 @@ fn turn(stack: &mut [u32], levels: usize, v: Cell, s: Spot, eye: Eye) -> Spot
     let c = eye.c;
     let k = kind(n, eye.q, p, eye.theta2, c);
     if k == 0 {
-        return onward(stack, levels, s, a);
+        return onward(stack, 32, s, a);
     }
     if k == 1 {
         let b = body(n, p, c, a);
-        return onward(stack, levels, s, b);
+        return onward(stack, 32, s, b);
     }
     let e: u32 = 1 << c;
-    opened(stack, levels, s, v.first, v.first + e)
+    opened(stack, 32, s, v.first, v.first + e)
 }
 
-pub fn short_turn(stack: &mut [u32; 64], v: Cell, s: Spot, eye: Eye) -> Spot
-    requires { ⌜ (Axes (eye .c)) × (s .at < s .end) × (s .level ≤ 32) × (v .first + 2 ^ (eye .c) ≤ mostWord) ⌝ }
-    ensures { λ r. ⌜ (r ≡ turnedOf 32 eye v (now (stack .entry)) s) × (now (stack .exit) ≡ stackedOf 32 eye v (now (stack .entry)) s) ⌝ }
-{
-    turn(stack, 32, v, s, eye)
-}
-
+// The same with 256 levels.
 pub fn long_turn(stack: &mut [u32; 512], v: Cell, s: Spot, eye: Eye) -> Spot
     requires { ⌜ (Axes (eye .c)) × (s .at < s .end) × (s .level ≤ 256) × (v .first + 2 ^ (eye .c) ≤ mostWord) ⌝ }
     ensures { λ r. ⌜ (r ≡ turnedOf 256 eye v (now (stack .entry)) s) × (now (stack .exit) ≡ stackedOf 256 eye v (now (stack .entry)) s) ⌝ }
 {
-    turn(stack, 256, v, s, eye)
+    let n = read_node(v);
+    let p = eye.p;
+    let a = s.acc;
+    let c = eye.c;
+    let k = kind(n, eye.q, p, eye.theta2, c);
+    if k == 0 {
+        return onward(stack, 256, s, a);
+    }
+    if k == 1 {
+        let b = body(n, p, c, a);
+        return onward(stack, 256, s, b);
+    }
+    let e: u32 = 1 << c;
+    opened(stack, 256, s, v.first, v.first + e)
 }

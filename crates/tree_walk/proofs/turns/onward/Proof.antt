@@ -1,12 +1,8 @@
 use Rattle.tree_walk.specs.Turn.{onwardOf}
 use borrow.Author.Tests.{eq-eqb, ne-eqb, lt-ltb, le-ltb}
 use borrow.Author.Needs.{needs}
-use native.Mathlib.Omega.{arith}
 use Rattle.tree_walk.proofs.turns.onward.Statement.{statement}
 use Rattle.tree_walk.proofs.turns.onward.Tie as tie
-use Rattle.tree_walk.proofs.turns.onward.Reads as reads
-use Rattle.tree_walk.proofs.turns.onward.Lts as lts
-use Rattle.tree_walk.proofs.turns.standing.Reads as standing-reads
 
 add-next : tie.Need-add-next
 add-next c = search needs

@@ -1,14 +1,10 @@
 use Rattle.tree_walk.specs.Turn.{openedOf, pushedOf}
-use mathlib.Core.Path.{refl}
 use borrow.Author.Tests.{lt-ltb, le-ltb}
 use lib.ListN.{length-set}
 use borrow.Author.Needs.{needs}
 use native.Mathlib.Omega.{arith}
 use Rattle.tree_walk.proofs.turns.opened.Statement.{statement}
 use Rattle.tree_walk.proofs.turns.opened.Tie as tie
-use Rattle.tree_walk.proofs.turns.opened.Reads as reads
-use Rattle.tree_walk.proofs.turns.opened.Lts as lts
-use Rattle.tree_walk.proofs.turns.standing.Reads as standing-reads
 
 add-next : tie.Need-add-next
 add-next c = search needs
