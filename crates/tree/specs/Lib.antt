@@ -1,4 +1,3 @@
 pub mod Insert
 pub mod Box
 pub mod Contents
-pub mod Repel

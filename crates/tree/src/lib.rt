@@ -1,6 +1,5 @@
-// The space-partitioning tree over a node list in flat areas: insertion, the force walk, the contents rule.
+// The space-partitioning tree over a node list in flat areas: insertion, the contents rule.
 pub mod insertion;
-pub mod repulsion;
 pub mod root;
 pub mod wellformed;
 

@@ -46,15 +46,15 @@ module _ (c q : ℕ) (p : List Float) (theta2 : Float) (ns : List Node) where
   abbrev pub kindAt : ℕ → ℕ
   kindAt i = kindOf c q p theta2 (nodeAt ns i)
 
-  skips : (g i : ℕ) (a : Acc) → kindAt i ≡ 0 → walkOf (suc g) c q p theta2 ns i a ≡ a
+  pub skips : (g i : ℕ) (a : Acc) → kindAt i ≡ 0 → walkOf (suc g) c q p theta2 ns i a ≡ a
   unfolding walkOf
   skips g i a k = rw (k, walkOf)
 
-  bodies : (g i : ℕ) (a : Acc) → kindAt i ≡ 1 → walkOf (suc g) c q p theta2 ns i a ≡ bodyOf c p (nodeAt ns i) a
+  pub bodies : (g i : ℕ) (a : Acc) → kindAt i ≡ 1 → walkOf (suc g) c q p theta2 ns i a ≡ bodyOf c p (nodeAt ns i) a
   unfolding walkOf
   bodies g i a k = rw (k, walkOf) (rw k)
 
-  opens : (g i : ℕ) (a : Acc) → (kindAt i ≡ 0 → ⊥) → (kindAt i ≡ 1 → ⊥) → walkOf (suc g) c q p theta2 ns i a ≡ loop (λ b a. walkOf g c q p theta2 ns (nodeAt ns i .first + b) a) (2 ^ c) 0 a
+  pub opens : (g i : ℕ) (a : Acc) → (kindAt i ≡ 0 → ⊥) → (kindAt i ≡ 1 → ⊥) → walkOf (suc g) c q p theta2 ns i a ≡ loop (λ b a. walkOf g c q p theta2 ns (nodeAt ns i .first + b) a) (2 ^ c) 0 a
   unfolding walkOf
   opens g i a h₀ h₁ = rw (ne-eqb (kindAt i) 0 h₀, walkOf) (rw (ne-eqb (kindAt i) 1 h₁))
 

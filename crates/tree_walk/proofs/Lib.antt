@@ -1,5 +1,6 @@
 pub mod Shift
 pub mod Fuel
+pub mod Longer
 pub mod Walked
 pub mod Pending
 pub mod Calls
