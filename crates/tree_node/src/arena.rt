@@ -89,3 +89,22 @@ pub fn put_cell(cells: &mut [Cell], i: usize, v: Cell)
 {
     cells[i] = v;
 }
+
+// The node in cell i.
+pub fn load(cells: &[Cell], i: usize) -> Node
+    requires { ⌜ i < length (now cells) ⌝ }
+    ensures { λ r. ⌜ r ≡ nodeAt (nodesOf (now (cells .entry))) i ⌝ }
+{
+    let x = cell_at(cells, i);
+    let v = read_node(x);
+    v
+}
+
+// A node into cell i.
+pub fn store(cells: &mut [Cell], i: usize, v: Node)
+    requires { ⌜ (i < length (now cells)) × (leafWord (v .leaf) ≤ mostWord) ⌝ }
+    ensures { λ _. ⌜ nodesOf (now (cells .exit)) ≡ set (nodesOf (now (cells .entry))) i v ⌝ }
+{
+    let x = lay_node(v);
+    put_cell(cells, i, x);
+}
