@@ -8,7 +8,7 @@ inv, measure: a loop's invariant and what falls, over {g} and the lists;  start,
 # where the call rule of a function stands, if not in its own crate
 HOME = {'tree_bounds::root::bounding_box': 'tree'}
 # .. and the machine values of a type
-VALUES = {'Contents': 'tree'}
+VALUES = {'Contents': 'tree', 'Run': 'run_entry', 'Settings': 'run_entry'}
 
 WALKS = {
     'tree_node::arena::load': dict(uses=['Told.{load-told}'], req={'cell_at': '{ready}'}, returns=['(load-told cells i r1 e1 r2 e2)']),
@@ -47,4 +47,7 @@ WALKS = {
              'level': '(enters-asks positions n used j c cells (s .g) (s .cells′) (s .inv) r1 e1 yes1 ({ready} .4) ({ready} .0) ({ready} .3) ({ready} .5))',
              'lowered': '(enters-deep positions n used j c cells (s .g) (s .cells′) (s .inv) r1 e1 yes1 ({ready} .4) _ ln-cells (room-cells .0))'},
         returns=['(enters-end positions n used j c cells (s .g) (s .cells′) (s .inv) r1 e1 no1 r4 e4)']),
+    'run_entry::fault_at': dict(uses=['Early.{early-axes, early-asked, early-unasked}'],
+        req={'tree_ok': '(early-axes r p i g₀ a₀ f₀ indices offsets cells _ ln-cells r1 e1 r2 e2 yes1)'},
+        returns=['(early-asked r p i g₀ a₀ f₀ indices offsets cells _ ln-cells r1 e1 r2 e2 yes1 r3 e3 r4 e4)', '(early-unasked r p i g₀ a₀ f₀ indices offsets cells _ ln-cells r1 e1 r2 e2 no1)']),
 }
