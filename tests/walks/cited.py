@@ -50,4 +50,12 @@ WALKS = {
     'run_entry::fault_at': dict(uses=['Early.{early-axes, early-asked, early-unasked}'],
         req={'tree_ok': '(early-axes r p i g₀ a₀ f₀ indices offsets cells _ ln-cells r1 e1 r2 e2 yes1)'},
         returns=['(early-asked r p i g₀ a₀ f₀ indices offsets cells _ ln-cells r1 e1 r2 e2 yes1 r3 e3 r4 e4)', '(early-unasked r p i g₀ a₀ f₀ indices offsets cells _ ln-cells r1 e1 r2 e2 no1)']),
+    'gradient::forces::point_forces': dict(
+        uses=['Told.{walk-asks, forces-told}'],
+        req={
+            'eye_of': '({ready} .0, {ready} .1, {ready} .2, {ready} .3)',
+            'repulsive_force': '(walk-asks cells used positions weights indices offsets n c i exaggeration angle forces {ready} r1 e1)',
+            'place_forces': '({ready} .0, {ready} .1, {ready} .3, {ready} .4, {ready} .9)',
+        },
+        returns=['(forces-told cells used positions weights indices offsets n c i exaggeration angle forces {ready} r1 e1 r2 e2 forces3 e3)']),
 }
