@@ -23,7 +23,7 @@ use Rattle.tree.specs.declared.Step.{Step}
 use Rattle.tree.specs.declared.Answer.{Answer}
 use Rattle.tree.specs.Insert.{Tree, tree, turnAt, levelAt, needsOf, insertion, insertOf, growable}
 use Rattle.tree.specs.Ways.{wayTurn, LevelAsks, enteringOf, goesOn, loweredOf, answered}
-use Rattle.tree.proofs.Inserting.{needs-few, Goes, goes-start, goes-on, goes-in, goes-asks, goes-few, goes-up}
+use Rattle.tree.proofs.Inserting.{needs-few, Sinks, sinks-start, sinks-on, sinks-in, sinks-asks, sinks-few, sinks-up}
 use Rattle.tree.proofs.Whole.{needed, refused, taken}
 
 module _ (y : List Float) (n used j c : ℕ) (ns₀ : List Node) where
@@ -35,7 +35,7 @@ module _ (y : List Float) (n used j c : ℕ) (ns₀ : List Node) where
     pub p-same : w .p ≡ pointOf y c j
     pub c-same : w .c ≡ c
     pub j-same : w .j ≡ j
-    pub on : w .ended ≡ false → (w .full ≡ false) × (whole ≤ nameable (length ns₀)) × Goes n c (mostWord - 1) (length ns₀) whole y (pointOf y c j) j (tree used ns₀) (w .depth) (w .node) (tree (w .used) ns)
+    pub on : w .ended ≡ false → (w .full ≡ false) × (whole ≤ nameable (length ns₀)) × Sinks n c (mostWord - 1) (length ns₀) whole y (pointOf y c j) j (tree used ns₀) (w .depth) (w .node) (tree (w .used) ns)
     pub off : w .ended ≡ true → insertion (w .full) (tree (w .used) ns) ≡ insertOf y c j (tree used ns₀)
 
   abbrev pub levelsLeft : Way → ℕ
@@ -62,7 +62,7 @@ module _ (y : List Float) (n used j c : ℕ) (cs₀ : List Cell) where
           p-same = refl;
           c-same = refl;
           j-same = refl;
-          on = λ _. (f, subst (λ (x : ℕ). used + x ≤ nameable (length ns₀)) em (ltb-false (nameable (length ns₀)) (used + more) f), subst (λ (x : ℕ). Goes n c (mostWord - 1) (length ns₀) (used + x) y (pointOf y c j) j (tree used ns₀) 0 0 (tree used ns₀)) em (goes-start n c (mostWord - 1) y (pointOf y c j) j (tree used ns₀) more em ok some (omega (arith, inside, nodes-length cs₀))));
+          on = λ _. (f, subst (λ (x : ℕ). used + x ≤ nameable (length ns₀)) em (ltb-false (nameable (length ns₀)) (used + more) f), subst (λ (x : ℕ). Sinks n c (mostWord - 1) (length ns₀) (used + x) y (pointOf y c j) j (tree used ns₀) 0 0 (tree used ns₀)) em (sinks-start n c (mostWord - 1) y (pointOf y c j) j (tree used ns₀) more em ok some (omega (arith, inside, nodes-length cs₀))));
           off = λ e. absurd (true≢false (sym e ∙ f));
         })
 
@@ -86,7 +86,7 @@ module _ (y : List Float) (n used j c : ℕ) (cs₀ : List Cell) where
       fit : whole y n used j c ns₀ ≤ length ns₀
       fit = omega (arith, named, nameable-most (length ns₀))
 
-      abbrev goes : Goes n c (mostWord - 1) (length ns₀) (whole y n used j c ns₀) y p j (tree used ns₀) (w .depth) (w .node) t
+      abbrev goes : Sinks n c (mostWord - 1) (length ns₀) (whole y n used j c ns₀) y p j (tree used ns₀) (w .depth) (w .node) t
       goes = k .on going .2
 
       turn-same : wayTurn w (nodeAt (nodesOf cs) (w .node)) ≡ turnAt c p j (w .depth) (w .node) t
@@ -98,8 +98,8 @@ module _ (y : List Float) (n used j c : ℕ) (cs₀ : List Cell) where
       pub enters-asks : Axes c → n * c ≤ length y → n ≤ mostWord → LevelAsks w (length y) (nodesOf cs)
       enters-asks a rows hn =
           let g = goes in
-          let q = goes-asks g hj (omega arith) fit rows hn in
-          let few = goes-few g hj (omega arith) fit in
+          let q = sinks-asks g hj (omega arith) fit rows hn in
+          let few = sinks-few g hj (omega arith) fit in
           let cap : length (nodesOf cs) ≡ length ns₀ = g .ok .nodes in
           record {
             node-in = omega (arith, g .ok .node, g .ok .room, cap);
@@ -115,7 +115,7 @@ module _ (y : List Float) (n used j c : ℕ) (cs₀ : List Cell) where
           }
 
       pub enters-deep : (m : ℕ) → length cs₀ ≡ m → m < 2 ^ 64 → w .depth + 1 < 2 ^ 64
-      enters-deep m e h = omega (arith, goes-up goes hj (omega arith) fit, nodes-length cs₀, e, h)
+      enters-deep m e h = omega (arith, sinks-up goes hj (omega arith) fit, nodes-length cs₀, e, h)
 
       module _ (s : Step) (ds : List Cell)
           (es : (tree (s .used) (nodesOf ds) ≡ levelAt y (w .c) (w .p) (w .j) (w .depth) (w .node) t) × (s .next ≡ wayTurn w (nodeAt (nodesOf cs) (w .node)) .next) × (s .last ≡ wayTurn w (nodeAt (nodesOf cs) (w .node)) .last)) (u : Way) (eu : u ≡ loweredOf w s) where
@@ -131,12 +131,12 @@ module _ (y : List Float) (n used j c : ℕ) (cs₀ : List Cell) where
               p-same = k .p-same;
               c-same = k .c-same;
               j-same = k .j-same;
-              on = λ e. (k .on going .0, named, goes-on goes hj (omega arith) fit (tree (s .used) (nodesOf ds)) (s .next) (s .last) led (es .1 ∙ ap (λ (o : Out). o .next) turn-same) last-same e);
-              off = λ e. rw (k .on going .0) (ap (insertion false) (goes-in goes hj (omega arith) fit (tree (s .used) (nodesOf ds)) (s .last) led last-same e) ∙ sym (taken y c j (tree used ns₀) named));
+              on = λ e. (k .on going .0, named, sinks-on goes hj (omega arith) fit (tree (s .used) (nodesOf ds)) (s .next) (s .last) led (es .1 ∙ ap (λ (o : Out). o .next) turn-same) last-same e);
+              off = λ e. rw (k .on going .0) (ap (insertion false) (sinks-in goes hj (omega arith) fit (tree (s .used) (nodesOf ds)) (s .last) led last-same e) ∙ sym (taken y c j (tree used ns₀) named));
             })
 
         pub enters-nearer : levelsLeft y n used j c ns₀ u < levelsLeft y n used j c ns₀ w
-        enters-nearer = rw (eu, going) (by-bool (cond (s .last) 0 (suc (length ns₀ - (w .depth + 1))) < suc (length ns₀ - w .depth)) (s .last) (λ e. rw e (omega arith)) (λ e. rw e (omega (arith, goes-up goes hj (omega arith) fit))))
+        enters-nearer = rw (eu, going) (by-bool (cond (s .last) 0 (suc (length ns₀ - (w .depth + 1))) < suc (length ns₀ - w .depth)) (s .last) (λ e. rw e (omega arith)) (λ e. rw e (omega (arith, sinks-up goes hj (omega arith) fit))))
 
     pub enters-end : T (not b) → (a : Answer) → a ≡ answered w → insertion (a .full) (tree (a .used) (nodesOf cs)) ≡ insertOf y c j (tree used ns₀)
     enters-end over a ea = rw ea (k .off (not-false (w .ended) (fails-as b (goesOn w) eb over)))
