@@ -17,7 +17,7 @@ use Rattle.run_units.proofs.One.{by-unit}
 use Rattle.run_budget.specs.Budget.{machine}
 use Rattle.run_budget.proofs.Turns.{by-tree}
 use Rattle.run_budget.proofs.Keeps.{unit-settings}
-use Rattle.run_budget.proofs.Loop.{due}
+use Rattle.run_budget.proofs.Spends.{due}
 use Rattle.descent.specs.Descent.{work}
 use Rattle.descent.specs.Honest.{Honest}
 use Rattle.descent.proofs.Lawful.{lawful}

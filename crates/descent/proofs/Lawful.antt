@@ -18,7 +18,7 @@ use Rattle.descent.specs.Honest.{Honest}
 use Rattle.run_budget.proofs.Counters.{units-below}
 use Rattle.run_budget.proofs.Keeps.{unit-counts, unit-settings}
 use Rattle.descent.proofs.Grown.{honest-keeps}
-use Rattle.run_budget.proofs.Loop.{due}
+use Rattle.run_budget.proofs.Spends.{due}
 
 pub rest-live : (s : State) → isEnded (s .run .standing) ≡ false → unitsLeft s ≡ wholeUnits s - s .run .units
 unfolding unitsLeft
@@ -28,8 +28,8 @@ pub rest-most : (s : State) → unitsLeft s ≤ wholeUnits s - s .run .units
 unfolding unitsLeft
 rest-most s = by-bool (unitsLeft s ≤ wholeUnits s - s .run .units) (isEnded (s .run .standing)) (λ e. rw e (omega arith)) (λ e. rw e (omega arith))
 
-pub whole-most : (s : State) → Good s → wholeUnits s ≤ mostUnits
-whole-most s g = mul-le-mul (g .settings .iterations-most) (per-most (s .run .settings .method) (s .run .settings .n) (g .settings .n-most))
+pub whole-units-most : (s : State) → Good s → wholeUnits s ≤ mostUnits
+whole-units-most s g = mul-le-mul (g .settings .iterations-most) (per-most (s .run .settings .method) (s .run .settings .n) (g .settings .n-most))
 
 pub whole-same : (s : State) → isEnded (s .run .standing) ≡ false → wholeUnits (unit s .now) ≡ wholeUnits s
 whole-same s live = rw (unit-settings s live)
@@ -49,5 +49,5 @@ lawful = record {
       let m = rest-most (unit s .now) in
       let w = whole-same s (d .0) in
       omega arith);
-  small = λ s g. (let m = rest-most s in let w = whole-most s (g .good) in omega arith);
+  small = λ s g. (let m = rest-most s in let w = whole-units-most s (g .good) in omega arith);
 }

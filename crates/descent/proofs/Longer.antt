@@ -33,7 +33,7 @@ use Rattle.descent.specs.Honest.{pointsIn, Built, Honest}
 use Rattle.descent.specs.Longer.{longer}
 use Rattle.run_budget.proofs.Turns.{inserting, tree-box, tree-insert, by-tree}
 use Rattle.run_budget.proofs.Keeps.{box-ok}
-use Rattle.run_budget.proofs.Loop.{due}
+use Rattle.run_budget.proofs.Spends.{due}
 use Rattle.descent.proofs.Lawful.{lawful}
 use Rattle.descent.proofs.Theorems.{units-told, call-keeps, demand-three}
 

@@ -17,7 +17,7 @@ use lib.Ieee.Positive.{through}
 use borrow.Author.Tests.{ltb-false}
 use Rattle.laws.specs.Area.{zero64, one64}
 use Rattle.laws.proofs.Numbers.{order}
-use Rattle.elementary.specs.Exp.{ln2, ln2hi, ln2lo, nearUp, signed, wholeNear, within, reduced, series, power, expIn, expOf}
+use Rattle.elementary.specs.Exp.{ln2, ln2hi, ln2lo, nearUp, signed, wholeNear, atMost, reduced, series, power, expIn, expOf}
 use Rattle.elementary.specs.Limits.{upToWhole}
 use Rattle.elementary.proofs.Sizes.{plain, Signed, Most, Least, Held, Sized, sized, sized-more, sized-add, held-whole, neg-round, signed-round, most-round, least-round, most-neg, within-most, bounded, whole-sized, sum-apart, most-add, most-mul, sized-mul, sized-div, whole-signed, whole-least, one-is, one-sized, plain-less}
 use Rattle.elementary.proofs.Range.{NL, ln2-is, near-le, fraction, bottom}
@@ -33,10 +33,10 @@ record Whole (z : Float) : Type 0 where
   whole : ℕ
   is : wholeNear (neg z) ≡ negℤ (pos whole)
   small : whole ≤ 1022
-  least : (j : ℕ) → within z j → whole ≤ j
+  least : (j : ℕ) → atMost z j → whole ≤ j
   most : (j : ℕ) → Least j 1 z → j ≤ whole
 
-whole-of : (z : Float) → plain z → within z 1022 → Whole z
+whole-of : (z : Float) → plain z → atMost z 1022 → Whole z
 unfolding wholeNear signed neg
 whole-of (fin true m e) p w = absurd (true≢false p)
 whole-of (fin false m e) p w = record {
@@ -51,7 +51,7 @@ module _ (A B : ℕ) (h : 0 < B) (k : A ≤ 1022 * B) where
   abbrev rounded : Float
   rounded = round binary64 false A B
 
-  in-range : within rounded 1022
+  in-range : atMost rounded 1022
   in-range = bounded A B 1022 h (lit≤ tt) k
 
   found : Whole rounded

@@ -16,7 +16,7 @@ use lib.Ieee.Fits.{down-pos, and-l, and-r}
 use lib.Ieee.Exact.{HasValue, round-exact}
 use lib.Ieee.Scale.{round-same}
 use lib.Ieee.Nearest.{div-same}
-use Rattle.elementary.specs.Exp.{nearUp, signed, wholeNear, within}
+use Rattle.elementary.specs.Exp.{nearUp, signed, wholeNear, atMost}
 
 -- a value's digits are few, and its exponent is not too low
 digits : (s : Bool) (m : ℕ) (e : ℤ) → T (fits binary64 (fin s m e)) → (m < 2 ^ 53) × (down e ≤ 2 ^ 1074)
@@ -129,14 +129,14 @@ zero-near : (D : ℕ) → 0 < D → nearUp 0 D ≡ 0
 zero-near D h = near-half 0 D h ∙ ap (λ (n : ℕ). (n + 1) / 2) (zero-div D)
 
 -- q is negative: the magnitude k of its whole number, from -(q + q)
-pub near-neg : (q : Float) → T (fits binary64 q) → within q 1023 → lt q (ofBits binary64 0) ≡ true → (k : ℕ) × (wholeNear q ≡ negℤ (pos k)) × Cut (neg (add binary64 q q)) k
+pub near-neg : (q : Float) → T (fits binary64 q) → atMost q 1023 → lt q (ofBits binary64 0) ≡ true → (k : ℕ) × (wholeNear q ≡ negℤ (pos k)) × Cut (neg (add binary64 q q)) k
 unfolding wholeNear signed lt ofBits
 near-neg nan f w t = absurd w
 near-neg (inf s) f w t = absurd w
 near-neg (fin true m e) f w t = (nearUp (m * up e) (down e), refl, made _ (m * up e) (down e) (neg-value _ _ _ (double true m e f w)) (down-pos e) w)
 near-neg (fin false m e) f w t = absurd (not-suc-le-zero (le-trans (ltb-true _ _ t) (le-of-eq (zero-mul (down e)))))
 
-pub near-pos : (q : Float) → T (fits binary64 q) → within q 1023 → lt q (ofBits binary64 0) ≡ false → (k : ℕ) × (wholeNear q ≡ pos k) × Cut (add binary64 q q) k
+pub near-pos : (q : Float) → T (fits binary64 q) → atMost q 1023 → lt q (ofBits binary64 0) ≡ false → (k : ℕ) × (wholeNear q ≡ pos k) × Cut (add binary64 q q) k
 unfolding wholeNear signed lt ofBits
 near-pos nan f w t = absurd w
 near-pos (inf s) f w t = absurd w

@@ -11,11 +11,11 @@ use lib.Ieee.Fits.{down-pos}
 use borrow.Author.Tests.{ltb-false}
 use Rattle.elementary.proofs.Nans.{is-nan, not-nan}
 use Rattle.elementary.proofs.Sizes.{plain, neg-round, signed-round, bounded}
-use Rattle.elementary.specs.Exp.{ln2, low708, high709, nearUp, signed, wholeNear, within, inExp, expOf, expIn}
+use Rattle.elementary.specs.Exp.{ln2, low708, high709, nearUp, signed, wholeNear, atMost, inExp, expOf, expIn}
 
 -- ---- the whole number nearest to a bounded value
 
-within-neg : (z : Float) (n : ℕ) → within z n → within (neg z) n
+within-neg : (z : Float) (n : ℕ) → atMost z n → atMost (neg z) n
 unfolding neg
 within-neg nan n w = w
 within-neg (inf s) n w = w
@@ -29,21 +29,21 @@ in-neg : (k : ℕ) → k ≤ 1022 → inExp (negℤ (pos k))
 in-neg zero h = omega arith
 in-neg (suc k) h = omega arith
 
-in-any : (z : Float) → within z 1022 → inExp (wholeNear z)
+in-any : (z : Float) → atMost z 1022 → inExp (wholeNear z)
 unfolding wholeNear signed
 in-any nan w = absurd w
 in-any (inf s) w = absurd w
 in-any (fin true m e) w = in-neg (nearUp (m * up e) (down e)) (near-le (m * up e) (down e) 1022 (down-pos e) w)
 in-any (fin false m e) w = le-trans (near-le (m * up e) (down e) 1022 (down-pos e) w) (lit≤ tt)
 
-in-plain : (z : Float) → plain z → within z 1023 → inExp (wholeNear z)
+in-plain : (z : Float) → plain z → atMost z 1023 → inExp (wholeNear z)
 unfolding wholeNear signed
 in-plain nan p w = absurd w
 in-plain (inf s) p w = absurd w
 in-plain (fin true m e) p w = absurd (true≢false p)
 in-plain (fin false m e) p w = near-le (m * up e) (down e) 1023 (down-pos e) w
 
-wider : (z : Float) → within z 1022 → within z 1023
+wider : (z : Float) → atMost z 1022 → atMost z 1023
 wider nan w = w
 wider (inf s) w = w
 wider (fin s m e) w = le-trans w (mul-le-mul-right (down e) (lit≤ {m = 1022} {n = 1023} tt))
@@ -67,7 +67,7 @@ fraction m e n k h l =
 pub bottom : (e : ℤ) → 0 < NL * 1 * down e
 bottom e = mul-pos (lit< {m = 0} {n = NL * 1} tt) (down-pos e)
 
-range-of : (x : Float) → ne x x ≡ false → lt x low708 ≡ false → lt high709 x ≡ false → within (div binary64 x (fin false NL (negsuc 52))) 1023 × inExp (wholeNear (div binary64 x (fin false NL (negsuc 52))))
+range-of : (x : Float) → ne x x ≡ false → lt x low708 ≡ false → lt high709 x ≡ false → atMost (div binary64 x (fin false NL (negsuc 52))) 1023 × inExp (wholeNear (div binary64 x (fin false NL (negsuc 52))))
 unfolding div ne eq lt ofBits neg
 range-of nan a b c = absurd (true≢false a)
 range-of (inf true) a b c = absurd (true≢false b)
@@ -80,11 +80,11 @@ range-of (fin true m e) a b c =
     let h : m * up e ≤ 708 * down e = omega (arith, ltb-false (177 * 2 ^ 2 * down e) (m * up e * 1) b) in
     let w = bounded (m * up e * 2 ^ 53) (NL * 1 * down e) 1022 (bottom e) (lit≤ tt) (fraction m e 708 1022 h (lit≤ tt)) in
     let q = round binary64 true (m * up e * 2 ^ 53) (NL * 1 * down e) in
-    let v : within q 1022 = subst (λ (z : Float). within z 1022) (neg-round binary64 (m * up e * 2 ^ 53) (NL * 1 * down e)) (within-neg (round binary64 false (m * up e * 2 ^ 53) (NL * 1 * down e)) 1022 w) in
+    let v : atMost q 1022 = subst (λ (z : Float). atMost z 1022) (neg-round binary64 (m * up e * 2 ^ 53) (NL * 1 * down e)) (within-neg (round binary64 false (m * up e * 2 ^ 53) (NL * 1 * down e)) 1022 w) in
     (wider q v, in-any q v)
 
-pub range : (x : Float) → ne x x ≡ false → lt x low708 ≡ false → lt high709 x ≡ false → within (div binary64 x ln2) 1023 × inExp (wholeNear (div binary64 x ln2))
-range x a b c = subst (λ (l : Float). within (div binary64 x l) 1023 × inExp (wholeNear (div binary64 x l))) (sym ln2-is) (range-of x a b c)
+pub range : (x : Float) → ne x x ≡ false → lt x low708 ≡ false → lt high709 x ≡ false → atMost (div binary64 x ln2) 1023 × inExp (wholeNear (div binary64 x ln2))
+range x a b c = subst (λ (l : Float). atMost (div binary64 x l) 1023 × inExp (wholeNear (div binary64 x l))) (sym ln2-is) (range-of x a b c)
 
 -- ---- the cases of exp
 

@@ -17,7 +17,7 @@ use borrow.Author.Tests.{le-ltb, ne-eqb}
 use denote.Floats.{passes}
 use Rattle.laws.specs.Area.{zero64, one64, two64}
 use Rattle.laws.proofs.Bools.{and-left, and-right}
-use Rattle.elementary.specs.Exp.{within}
+use Rattle.elementary.specs.Exp.{atMost}
 use Rattle.elementary.specs.Limits.{upToWhole, notNegative, unlessAbove, upTo, large, inDomain}
 
 -- ---- the sign of what is rounded
@@ -179,13 +179,13 @@ sized-round s a b n d h k v l = sized s n d (round binary64 s a b) (signed-round
 
 -- ---- bounds by whole numbers, and the values that have them
 
-pub within-most : (n : ℕ) (x : Float) → within x n → Most n 1 x
+pub within-most : (n : ℕ) (x : Float) → atMost x n → Most n 1 x
 within-most n (fin s m e) w = omega (arith, w)
 
-pub most-within : (n : ℕ) (x : Float) → Most n 1 x → within x n
+pub most-within : (n : ℕ) (x : Float) → Most n 1 x → atMost x n
 most-within n (fin s m e) w = omega (arith, w)
 
-pub bounded : (a b n : ℕ) → 0 < b → n ≤ 2 ^ 53 → a ≤ n * b → within (round binary64 false a b) n
+pub bounded : (a b n : ℕ) → 0 < b → n ≤ 2 ^ 53 → a ≤ n * b → atMost (round binary64 false a b) n
 bounded a b n h k l = most-within n (round binary64 false a b) (most-plain a b n 1 h (lit< tt) (held-whole n k) (le-trans (le-of-eq (mul-one a)) l))
 
 pub whole-sized : (n : ℕ) (x : Float) → Sized false n 1 x → upToWhole x n

@@ -69,7 +69,7 @@ inExp (pos n) = n ≤ 1023
 inExp (negsuc n) = n < 1022
 
 -- finite, and of magnitude at most n
-abbrev pub within : Float → ℕ → Type 0
-within nan n = ⊥
-within (inf s) n = ⊥
-within (fin s m e) n = m * up e ≤ n * down e
+abbrev pub atMost : Float → ℕ → Type 0
+atMost nan n = ⊥
+atMost (inf s) n = ⊥
+atMost (fin s m e) n = m * up e ≤ n * down e

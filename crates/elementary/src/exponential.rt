@@ -1,6 +1,6 @@
 // exp: x = k·ln 2 + r, a series in r, and 2^k from its bits. k may be negative, zero or positive.
 ghost use mathlib.Core.Path.{_≡_};
-ghost use Rattle.elementary.specs.Exp.{series, power, inExp, wholeNear, within, expOf};
+ghost use Rattle.elementary.specs.Exp.{series, power, inExp, wholeNear, atMost, expOf};
 ghost use Rattle.laws.specs.Area.{one64};
 
 // t = 1, then for m from 13 down to 1, t = 1 + (r / m) * t.
@@ -26,7 +26,7 @@ fn power_of(k: i64) -> f64
 
 // The whole number nearest to q, halves away from zero: half of the next number up from the whole part of twice its magnitude.
 fn whole_near(q: f64) -> i64
-    requires { ⌜ within q 1023 ⌝ }
+    requires { ⌜ atMost q 1023 ⌝ }
     ensures { λ k. ⌜ k ≡ wholeNear q ⌝ }
 {
     let w = q + q;

@@ -8,7 +8,7 @@ use Rattle.laws.specs.Area.{at, zero64}
 use Rattle.elementary.specs.Limits.{unlessAbove, absOf}
 use Rattle.gradient.specs.Forces.{placeOf}
 use Rattle.gradient_pairs.specs.Exact.{shareFloor}
-use Rattle.gradient.specs.Exact.{four}
+use Rattle.gradient.specs.Exact.{four64}
 
 -- the shares by rising point, from +0.0
 abbrev pub shareStep : List Float → ℕ → ℕ → Float → Float
@@ -25,7 +25,7 @@ spotOf c e = placeOf c (e / c) + e % c
 
 -- 4·(attraction − repulsion/Z); an exact run's stands in its place
 unfoldable pub gradientOf : Bool → List Float → Float → ℕ → ℕ → Float
-gradientOf exact F z c e = cond exact (at F e) (mul binary64 four (sub binary64 (at F (spotOf c e)) (div binary64 (at F (spotOf c e + c)) z)))
+gradientOf exact F z c e = cond exact (at F e) (mul binary64 four64 (sub binary64 (at F (spotOf c e)) (div binary64 (at F (spotOf c e + c)) z)))
 
 -- what the gradients of a whole iteration are read from: no normaliser is worked out for an exact run
 abbrev pub gradientsOf : Bool → List Float → ℕ → ℕ → ℕ → Float

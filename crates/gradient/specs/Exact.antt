@@ -12,8 +12,8 @@ use Rattle.gradient_pairs.specs.declared.Pulls.{Pulls}
 use Rattle.gradient_pairs.specs.Exact.{numOf, numStep, pullsOf}
 
 -- 4
-abbrev pub four : Float
-four = bits 0x4010000000000000
+abbrev pub four64 : Float
+four64 = bits 0x4010000000000000
 
 -- ---- the total, one running sum over all rows
 
@@ -26,7 +26,7 @@ totalRow y n c i F = set F (n * c) (loop (numStep y c i) n 0 (cond (eqb i 0) zer
 
 -- (y·s − Σ w·y)·4 into the places of frame i
 abbrev pub slopeStep : Pulls → List Float → ℕ → ℕ → List Float → List Float
-slopeStep x y a d F = set F (a + d) (mul binary64 (sub binary64 (mul binary64 (at y (a + d)) (x .sum)) (at (x .along) d)) four)
+slopeStep x y a d F = set F (a + d) (mul binary64 (sub binary64 (mul binary64 (at y (a + d)) (x .sum)) (at (x .along) d)) four64)
 
 -- the unit of gradient row i
 unfoldable pub gradientRow : List Float → List Float → Float → ℕ → ℕ → ℕ → List Float → List Float

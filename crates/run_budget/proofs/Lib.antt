@@ -1,4 +1,4 @@
 pub mod Counters
 pub mod Turns
 pub mod Keeps
-pub mod Loop
+pub mod Spends

@@ -92,8 +92,8 @@ module _ (g : ℕ) (y : List Float) (c : ℕ) (p : List Float) (j d i : ℕ) (t 
 -- ---- between two levels
 
 -- node k of a tree whose nodes from i on have not yet been met by the point
-abbrev pub Sound : ℕ → ℕ → ℕ → ℕ → Tree → Type 0
-Sound n c m i t = (k : ℕ) → k < t .used → Facts n c (m + 1) (t .used) k (nodeAt (t .nodes) k) × (i ≤ k → nodeAt (t .nodes) k .count ≤ m)
+abbrev pub Holding : ℕ → ℕ → ℕ → ℕ → Tree → Type 0
+Holding n c m i t = (k : ℕ) → k < t .used → Facts n c (m + 1) (t .used) k (nodeAt (t .nodes) k) × (i ≤ k → nodeAt (t .nodes) k .count ≤ m)
 
 -- the children of a used node lie above it among the used ones
 abbrev pub Rises : ℕ → Tree → Type 0
@@ -105,7 +105,7 @@ pub record Ok (n c m cap N : ℕ) (y p : List Float) (d i : ℕ) (t : Tree) : Ty
   pub node : i < t .used
   pub room : t .used ≤ cap
   pub nodes : length (t .nodes) ≡ cap
-  pub sound : Sound n c m i t
+  pub sound : Holding n c m i t
   pub total : t .used + needsOf (cap - d) y c p d i (t .nodes) ≡ N
 
 -- the facts of a node in a wider tree
@@ -137,7 +137,7 @@ child-facts n c m used k v o q b l h =
 pub level-plain : (y : List Float) (c i : ℕ) (v : Node) (k o : ℕ) (b : Bool) (t : Tree) → levelled y c i (out v k 0 o b) t ≡ tree (t .used) (set (t .nodes) i v)
 level-plain y c i v k o b t = rw (add-zero (t .used), filled-none c v o (pointOf y c o) (set (t .nodes) i v))
 
-stored-sound : (n c m i k : ℕ) (t : Tree) (v : Node) → i < length (t .nodes) → i < k → Facts n c (m + 1) (t .used) i v → Sound n c m i t → Sound n c m k (tree (t .used) (set (t .nodes) i v))
+stored-sound : (n c m i k : ℕ) (t : Tree) (v : Node) → i < length (t .nodes) → i < k → Facts n c (m + 1) (t .used) i v → Holding n c m i t → Holding n c m k (tree (t .used) (set (t .nodes) i v))
 stored-sound n c m i k t v li lk f s x lx =
     elim (ℕ-discrete x i) [
       | yes e ↦ rw (e, getD-set-same (t .nodes) i v blank li) (f, λ z. omega (arith, z, lk))
@@ -211,8 +211,8 @@ module _ (y : List Float) (c : ℕ) (p : List Float) where
 
 -- ---- a level that splits its node
 
-split-sound : (n c m i o : ℕ) (q : List Float) (t : Tree) (a : Node) → i < t .used → t .used + 2 ^ c ≤ length (t .nodes) → a .count ≤ m + 1 → o < n → 1 ≤ m → Sound n c m i t
-    → (k : ℕ) → t .used ≤ k → Sound n c m k (tree (t .used + 2 ^ c) (subdivided c (parent (t .used) a) o q (2 ^ c) (set (t .nodes) i (parent (t .used) a))))
+split-sound : (n c m i o : ℕ) (q : List Float) (t : Tree) (a : Node) → i < t .used → t .used + 2 ^ c ≤ length (t .nodes) → a .count ≤ m + 1 → o < n → 1 ≤ m → Holding n c m i t
+    → (k : ℕ) → t .used ≤ k → Holding n c m k (tree (t .used + 2 ^ c) (subdivided c (parent (t .used) a) o q (2 ^ c) (set (t .nodes) i (parent (t .used) a))))
 split-sound n c m i o q t a li lc hc ho hm s k lk x lx =
     let u = t .used in
     let w = parent u a in
@@ -402,21 +402,21 @@ ok-start n c m y p t e h l =
 
 -- ---- the loop: d levels have led to node i and the tree t
 
-pub record Goes (n c m cap N : ℕ) (y p : List Float) (j : ℕ) (t₀ : Tree) (d i : ℕ) (t : Tree) : Type 0 where
+pub record Sinks (n c m cap N : ℕ) (y p : List Float) (j : ℕ) (t₀ : Tree) (d i : ℕ) (t : Tree) : Type 0 where
   pub ok : Ok n c m cap N y p d i t
   pub same : inserted (cap - d) y c p j d i t ≡ inserted cap y c p j 0 0 t₀
 
-module _ {n c m cap N : ℕ} {y p : List Float} {j : ℕ} {t₀ : Tree} {d i : ℕ} {t : Tree} (g : Goes n c m cap N y p j t₀ d i t) where
+module _ {n c m cap N : ℕ} {y p : List Float} {j : ℕ} {t₀ : Tree} {d i : ℕ} {t : Tree} (g : Sinks n c m cap N y p j t₀ d i t) where
   goes-here : d < cap
   goes-here = omega (arith, g .ok .deep, g .ok .node, g .ok .room)
 
-  pub goes-next : j < n → 1 ≤ m → N ≤ cap → turnAt c p j d i t .last ≡ false → Goes n c m cap N y p j t₀ (d + 1) (turnAt c p j d i t .next) (levelAt y c p j d i t)
+  pub sinks-next : j < n → 1 ≤ m → N ≤ cap → turnAt c p j d i t .last ≡ false → Sinks n c m cap N y p j t₀ (d + 1) (turnAt c p j d i t .next) (levelAt y c p j d i t)
   unfolding inserted
-  goes-next hj hm fit e = record { ok = ok-next n c m cap N y p j hj hm fit d i t (g .ok) e; same = rw (e, inserted) at (rw (left cap d goes-here) at (g .same)) }
+  sinks-next hj hm fit e = record { ok = ok-next n c m cap N y p j hj hm fit d i t (g .ok) e; same = rw (e, inserted) at (rw (left cap d goes-here) at (g .same)) }
 
-  pub goes-last : turnAt c p j d i t .last ≡ true → levelAt y c p j d i t ≡ inserted cap y c p j 0 0 t₀
+  pub sinks-last : turnAt c p j d i t .last ≡ true → levelAt y c p j d i t ≡ inserted cap y c p j 0 0 t₀
   unfolding inserted
-  goes-last e = rw (e, inserted) at (rw (left cap d goes-here) at (g .same))
+  sinks-last e = rw (e, inserted) at (rw (left cap d goes-here) at (g .same))
 
 -- ---- the dry descent: d levels have led to node i
 
@@ -474,22 +474,22 @@ next-in n c m t p e i l z = let a = tree-facts n c m t e i l .above z in (a .0, 
 
 -- ---- the loop, for the code
 
-pub goes-start : (n c m : ℕ) (y p : List Float) (j : ℕ) (t : Tree) (more : ℕ) → more ≡ needsOf (length (t .nodes)) y c p 0 0 (t .nodes) → treeOk n m c t ≡ true → 0 < t .used → t .used ≤ length (t .nodes)
-    → Goes n c m (length (t .nodes)) (t .used + more) y p j t 0 0 t
-goes-start n c m y p j t more e ok h l = rw e (record { ok = ok-start n c m y p t ok h l; same = rw sub-zero })
+pub sinks-start : (n c m : ℕ) (y p : List Float) (j : ℕ) (t : Tree) (more : ℕ) → more ≡ needsOf (length (t .nodes)) y c p 0 0 (t .nodes) → treeOk n m c t ≡ true → 0 < t .used → t .used ≤ length (t .nodes)
+    → Sinks n c m (length (t .nodes)) (t .used + more) y p j t 0 0 t
+sinks-start n c m y p j t more e ok h l = rw e (record { ok = ok-start n c m y p t ok h l; same = rw sub-zero })
 
-module _ {n c m cap N : ℕ} {y p : List Float} {j : ℕ} {t₀ : Tree} {d i : ℕ} {t : Tree} (g : Goes n c m cap N y p j t₀ d i t) (hj : j < n) (hm : 1 ≤ m) (fit : N ≤ cap) where
-  pub goes-on : (t' : Tree) (k : ℕ) (b : Bool) → t' ≡ levelAt y c p j d i t → k ≡ turnAt c p j d i t .next → b ≡ turnAt c p j d i t .last → b ≡ false → Goes n c m cap N y p j t₀ (d + 1) k t'
-  goes-on t' k b e f h x = rw (e, f) (goes-next g hj hm fit (sym h ∙ x))
+module _ {n c m cap N : ℕ} {y p : List Float} {j : ℕ} {t₀ : Tree} {d i : ℕ} {t : Tree} (g : Sinks n c m cap N y p j t₀ d i t) (hj : j < n) (hm : 1 ≤ m) (fit : N ≤ cap) where
+  pub sinks-on : (t' : Tree) (k : ℕ) (b : Bool) → t' ≡ levelAt y c p j d i t → k ≡ turnAt c p j d i t .next → b ≡ turnAt c p j d i t .last → b ≡ false → Sinks n c m cap N y p j t₀ (d + 1) k t'
+  sinks-on t' k b e f h x = rw (e, f) (sinks-next g hj hm fit (sym h ∙ x))
 
-  pub goes-in : (t' : Tree) (b : Bool) → t' ≡ levelAt y c p j d i t → b ≡ turnAt c p j d i t .last → b ≡ true → t' ≡ inserted cap y c p j 0 0 t₀
-  goes-in t' b e h x = e ∙ goes-last g (sym h ∙ x)
+  pub sinks-in : (t' : Tree) (b : Bool) → t' ≡ levelAt y c p j d i t → b ≡ turnAt c p j d i t .last → b ≡ true → t' ≡ inserted cap y c p j 0 0 t₀
+  sinks-in t' b e h x = e ∙ sinks-last g (sym h ∙ x)
 
-  pub goes-asks : n * c ≤ length y → n ≤ mostWord → Asks n c cap y (turnAt c p j d i t)
-  goes-asks = ok-asks n c m cap N y p j hj hm fit d i t (g .ok)
+  pub sinks-asks : n * c ≤ length y → n ≤ mostWord → Asks n c cap y (turnAt c p j d i t)
+  sinks-asks = ok-asks n c m cap N y p j hj hm fit d i t (g .ok)
 
-  pub goes-few : nodeAt (t .nodes) i .count ≤ m
-  goes-few = g .ok .sound i (g .ok .node) .1 (omega arith)
+  pub sinks-few : nodeAt (t .nodes) i .count ≤ m
+  sinks-few = g .ok .sound i (g .ok .node) .1 (omega arith)
 
-  pub goes-up : d < cap
-  goes-up = goes-here g
+  pub sinks-up : d < cap
+  sinks-up = goes-here g

@@ -25,7 +25,7 @@ use Rattle.tree_contents.specs.Contents.{nodeOk}
 use Rattle.tree_bounds.specs.Bounds.{boxOf}
 use Rattle.tree.specs.Box.{boxed}
 use Rattle.tree.specs.Repel.{walkOf, nothing, repelled}
-use Rattle.tree.proofs.Grow.{putStep}
+use Rattle.tree.proofs.Grow.{makeStep}
 use Rattle.tree.proofs.Inserting.{Ok, Rises, needs-agree, needs-fuel, ok-start, ok-room, ok-next, inserted-last, inserted-next, tree-facts}
 use Rattle.tree.proofs.Whole.{needed, taken, taken-fits, taken-ends, built-more, built-full}
 use Rattle.tree.proofs.Opens.{opened, walk-skip, walk-body, walk-open}
@@ -76,7 +76,7 @@ module _ (more : List Node) where
 
   -- ---- one level
 
-  put-longer : (u : ℕ) (f : ℕ → Node) (n k : ℕ) (ns : List Node) → u + k + n ≤ length ns → loop (putStep u f) n k (ns ++ more) ≡ loop (putStep u f) n k ns ++ more
+  put-longer : (u : ℕ) (f : ℕ → Node) (n k : ℕ) (ns : List Node) → u + k + n ≤ length ns → loop (makeStep u f) n k (ns ++ more) ≡ loop (makeStep u f) n k ns ++ more
   unfolding loop
   put-longer u f zero k ns h = refl
   put-longer u f (suc n) k ns h = rw (set-append-left ns more (u + k) (f k) (omega (arith, h))) (put-longer u f n (k + 1) (set ns (u + k) (f k)) (omega (arith, h, length-set ns (u + k) (f k))))

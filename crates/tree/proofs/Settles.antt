@@ -17,7 +17,7 @@ use Rattle.tree_turns.specs.Turns.{childOf, absorbed, occupied, turnOf, out}
 use Rattle.tree_node.specs.Areas.{nodeAt, blank}
 use Rattle.tree.specs.Insert.{tree, subdivided, inserted}
 use Rattle.tree_children.proofs.Below.{child-below}
-use Rattle.tree.proofs.Grow.{putStep, made, length-filled, filled-in, filled-out}
+use Rattle.tree.proofs.Grow.{makeStep, made, length-filled, filled-in, filled-out}
 use Rattle.tree.proofs.Inserting.{level-plain, inserted-last}
 
 module _ (y : List Float) (c : ℕ) (w : Node) (o : ℕ) (ns : List Node) (h : w .first + 2 ^ c ≤ length ns) where
@@ -29,7 +29,7 @@ module _ (y : List Float) (c : ℕ) (w : Node) (o : ℕ) (ns : List Node) (h : w
 
   -- all children empty
   abbrev pub empties : List Node
-  empties = loop (putStep (w .first) (cellOf c w)) (2 ^ c) 0 ns
+  empties = loop (makeStep (w .first) (cellOf c w)) (2 ^ c) 0 ns
 
   abbrev old : Node
   old = occupied o (absorbed c q (cellOf c w k))

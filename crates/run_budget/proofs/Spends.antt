@@ -57,14 +57,14 @@ pub record SameLengths (p₀ p i₀ i g₀ g f₀ f a₀ a : List Float) (w₀ w
 pub keeping : (s : State) → Workable s → stops machine s ≡ false → Workable (unit s .now)
 keeping s g e = workable-keeps s g (due s e .0) (due s e .1)
 
-abbrev pub Loops : ℕ → State → ℕ → State → Type 0
-Loops b y k x = Goes machine Workable keeping b y k x
+abbrev pub Spends : ℕ → State → ℕ → State → Type 0
+Spends b y k x = Goes machine Workable keeping b y k x
 
-pub loop-start : (b : ℕ) (y : State) → Good y → Loops b y 0 y
-loop-start b y g = goes-start machine Workable keeping b y (ordered-looser (y .run .settings .n) (y .run .settings .n + y .run .phase) y (omega arith) g)
+pub spends-start : (b : ℕ) (y : State) → Good y → Spends b y 0 y
+spends-start b y g = goes-start machine Workable keeping b y (ordered-looser (y .run .settings .n) (y .run .settings .n + y .run .phase) y (omega arith) g)
 
-pub loop-good : {b k : ℕ} {y x : State} → Loops b y k x → Workable x
-loop-good r = r .good
+pub spends-good : {b k : ℕ} {y x : State} → Spends b y k x → Workable x
+spends-good r = r .good
 
 told-halt : (b k : ℕ) (x : State) → k < b → told (called x k (kindAt machine b k x)) ≡ worked (haltedOf (x .run .standing) (unit x .why) k) x
 unfolding kindAt answerOf haltedOf
@@ -80,13 +80,13 @@ told-done b k x h = by-standing (x .run .standing) refl
     by-standing Finished e = rw e
 
 module _ {b k : ℕ} {y x : State} where
-  pub loop-more : (t : Turned) → Loops b y k x → k < b → t ≡ unit x → isDone (t .why) ≡ true → Loops b y (k + 1) (t .now)
-  loop-more t r h e d = rw e (goes-more machine Workable keeping r h (goes-done-unit x (rw e at d)))
+  pub spends-more : (t : Turned) → Spends b y k x → k < b → t ≡ unit x → isDone (t .why) ≡ true → Spends b y (k + 1) (t .now)
+  spends-more t r h e d = rw e (goes-more machine Workable keeping r h (goes-done-unit x (rw e at d)))
 
-  pub loop-halt : (t : Turned) → Loops b y k x → k < b → t ≡ unit x → isDone (t .why) ≡ false → worked (haltedOf (t .now .run .standing) (t .why) k) (t .now) ≡ told (go machine b y)
-  loop-halt t r h e d =
+  pub spends-halt : (t : Turned) → Spends b y k x → k < b → t ≡ unit x → isDone (t .why) ≡ false → worked (haltedOf (t .now .run .standing) (t .why) k) (t .now) ≡ told (go machine b y)
+  spends-halt t r h e d =
       let q : isDone (unit x .why) ≡ false = rw e at d in
       rw (e, unit-refused x q) (sym (told-halt b k x h) ∙ ap told (goes-halt machine Workable keeping r h (stops-not-done x q)))
 
-  pub loop-done : Loops b y k x → b ≤ k → worked (standsOf (x .run .standing) k) x ≡ told (go machine b y)
-  loop-done r h = sym (told-done b k x h) ∙ ap told (goes-done machine Workable keeping r h)
+  pub spends-done : Spends b y k x → b ≤ k → worked (standsOf (x .run .standing) k) x ≡ told (go machine b y)
+  spends-done r h = sym (told-done b k x h) ∙ ap told (goes-done machine Workable keeping r h)
