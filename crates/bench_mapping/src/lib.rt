@@ -9,7 +9,7 @@ use frames::Frames;
 use frames::RECORD_BYTES;
 use frames::frame_at;
 use frames::read_frames;
-use laws::MOST_WORD;
+use laws::MOST_BUDGET;
 use prepare::Prepared;
 use run_record::Method;
 use run_record::Settings;
@@ -132,7 +132,7 @@ fn descend(s: Settings, table: &[f64], start: &[f64]) -> Mapped
                 &mut forces,
                 &mut reals,
                 &mut words,
-                MOST_WORD as u32,
+                MOST_BUDGET,
             );
             let answer = w.answer;
             let told = Told::Worked(answer);
