@@ -17,6 +17,9 @@ use run_record::Settings;
 // The most frames that the bench takes.
 pub const BENCH_FRAMES: usize = 64;
 
+// Their bytes.
+const BENCH_BYTES: usize = BENCH_FRAMES * RECORD_BYTES;
+
 // What the bench says of a file.
 pub enum Told {
     // 7: more bytes than the bench takes
@@ -156,7 +159,7 @@ fn map_frames(file: &[u8], n: usize) -> Mapped
 pub fn map_file(file: &[u8]) -> Mapped
     ensures { λ r. ⌜ r ≡ mapOf (now (file .entry)) ⌝ }
 {
-    if file.len() > BENCH_FRAMES * RECORD_BYTES {
+    if file.len() > BENCH_BYTES {
         return Mapped {
             told: Told::Long,
             positions: [0.0; 128],
