@@ -1,5 +1,5 @@
 -- The exact affinities of n frames, as the scope paper (rule 2), `conditional_probabilities` and `symmetrize_probabilities` have them. Definitions only.
--- A table has f features a frame; its distances are those of `near`, the shares those of `sigma`.
+-- A table has f features a frame; its distances are those of `affinity_near`, the shares those of `affinity_sigma`.
 use mathlib.Core.List.{List}
 use mathlib.Core.Bool.{cond}
 use Prim.Native.Nat.{ℕ, min, max}

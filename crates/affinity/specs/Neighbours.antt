@@ -1,5 +1,5 @@
 -- The Barnes-Hut rows and lists of n frames, as the scope paper (rule 2) and `neighbor_probabilities` have them. Definitions only.
--- Each frame names its k nearest, by distance and then index, with its shares of them; the lists that become of the rows are those of `lists`.
+-- Each frame names its k nearest, by distance and then index, with its shares of them; the lists that become of the rows are those of `affinity_lists`.
 use mathlib.Core.List.{List, map}
 use Prim.Native.Nat.{ℕ}
 use lib.Ieee.{Float, binary64, div}

@@ -9,13 +9,16 @@ use frames::Frames;
 use frames::RECORD_BYTES;
 use frames::frame_at;
 use frames::read_frames;
-use laws::MOST_WORD;
+use laws::MOST_BUDGET;
 use prepare::Prepared;
 use run_record::Method;
 use run_record::Settings;
 
 // The most frames that the bench takes.
 pub const BENCH_FRAMES: usize = 64;
+
+// Their bytes.
+const BENCH_BYTES: usize = BENCH_FRAMES * RECORD_BYTES;
 
 // What the bench says of a file.
 pub enum Told {
@@ -132,7 +135,7 @@ fn descend(s: Settings, table: &[f64], start: &[f64]) -> Mapped
                 &mut forces,
                 &mut reals,
                 &mut words,
-                MOST_WORD as u32,
+                MOST_BUDGET,
             );
             let answer = w.answer;
             let told = Told::Worked(answer);
@@ -156,7 +159,7 @@ fn map_frames(file: &[u8], n: usize) -> Mapped
 pub fn map_file(file: &[u8]) -> Mapped
     ensures { λ r. ⌜ r ≡ mapOf (now (file .entry)) ⌝ }
 {
-    if file.len() > BENCH_FRAMES * RECORD_BYTES {
+    if file.len() > BENCH_BYTES {
         return Mapped {
             told: Told::Long,
             positions: [0.0; 128],

@@ -26,11 +26,11 @@ use Rattle.desk_words.specs.Words.{settingsFine, settingsOf, runFine, runOf, ru
 
 pub record Begun : Type 0 where
   pub number : ℕ
-  pub loop : List ℕ
+  pub run : List ℕ
   pub areas : Lent
 
 abbrev pub begun : ℕ → List ℕ → Lent → Begun
-begun k w l = record { number = k; loop = w; areas = l }
+begun k w l = record { number = k; run = w; areas = l }
 
 -- the record's words are written where there is a record
 abbrev pub recorded : Prepared → List ℕ → List ℕ
@@ -50,11 +50,11 @@ hostPrepare s table start nodes l w =
 pub record Told : Type 0 where
   pub number : ℕ
   pub answer : List ℕ
-  pub loop : List ℕ
+  pub run : List ℕ
   pub memory : Memory
 
 abbrev pub tell : ℕ → List ℕ → List ℕ → Memory → Told
-tell k a w m = record { number = k; answer = a; loop = w; memory = m }
+tell k a w m = record { number = k; answer = a; run = w; memory = m }
 
 abbrev pub tellWork : Worked → List ℕ → List ℕ → Told
 tellWork t a w = tell (workNumber (t .answer)) (answerPut (t .answer) a) (runAfter (t .answer) (t .left .run) w) (t .left .memory)

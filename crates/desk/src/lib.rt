@@ -1,4 +1,4 @@
-// The desk's library: what a C or Rust program calls, on numbers and slices. Settings, record and answers are plain words (crate `words`).
+// The desk's library: what a C or Rust program calls, on numbers and slices. Settings, record and answers are plain words (crate `desk_words`).
 ghost use mathlib.Core.Path.{_≡_};
 ghost use Prim.Native.Nat.{_<_};
 ghost use lib.ListN.{length};

@@ -3,6 +3,7 @@
 //! All memory is the caller's. A refusal at entry changes nothing. The library tests whatever it is given, so nothing
 //! here can be called wrongly; a slice brings its own length, and the borrow checker keeps areas from overlapping.
 
+mod labels;
 mod library;
 pub mod map;
 mod picture;

@@ -1,19 +1,21 @@
 //! The map as a picture: a dot for each frame, and a line from each frame to the next one captured.
 
+use crate::labels::{labels, long_lines, Label, RADIUS};
 use crate::map::Map;
 use std::fmt::Write;
 
 /// The sides of the picture, and the margin around the map.
 const SIDE: f64 = 900.0;
 const MARGIN: f64 = 50.0;
-/// Frames with their picture's number beside them, about so many.
-const LABELS: usize = 12;
 
 /// The map as an SVG file. Colours run from blue, the first frame, over green and yellow to red, the last.
 pub fn svg(map: &Map) -> String {
     let dots = dots(map);
+    let cuts = long_lines(&dots);
+    let pictures: Vec<u32> = map.frames.iter().map(|frame| frame.picture).collect();
+    let labels = labels(&dots, &pictures, &cuts);
     let mut text = String::new();
-    let foot = SIDE + 40.0;
+    let foot = SIDE + 50.0;
     // Writing to a String does not fail.
     let _ = writeln!(
         text,
@@ -22,8 +24,9 @@ pub fn svg(map: &Map) -> String {
     let _ = writeln!(text, "<rect width=\"100%\" height=\"100%\" fill=\"white\"/>");
     text += &lines(&dots);
     text += &circles(map, &dots);
-    text += &labels(map, &dots);
+    text += &numbers(&pictures, &labels, &cuts);
     text += &legend(map);
+    text += &cuts_told(&labels, &cuts);
     text + "</svg>\n"
 }
 
@@ -66,20 +69,20 @@ fn circles(map: &Map, dots: &[[f64; 2]]) -> String {
     let circle = |(i, [x, y]): (usize, &[f64; 2])| {
         let (frame, colour) = (&map.frames[i], colour(i, dots.len()));
         let (picture, side) = (frame.picture, frame.side);
-        format!("<circle cx=\"{x:.2}\" cy=\"{y:.2}\" r=\"3\" fill=\"{colour}\"><title>picture {picture}, side {side}</title></circle>\n")
+        format!("<circle cx=\"{x:.2}\" cy=\"{y:.2}\" r=\"{RADIUS}\" fill=\"{colour}\"><title>picture {picture}, side {side}</title></circle>\n")
     };
     dots.iter().enumerate().map(circle).collect()
 }
 
-/// The picture's number beside the first and last frame and some between.
-fn labels(map: &Map, dots: &[[f64; 2]]) -> String {
-    let last = dots.len() - 1;
-    let every = (dots.len() / LABELS).max(1);
-    let label = |i: usize| {
-        let ([x, y], picture) = (dots[i], map.frames[i].picture);
-        format!("<text x=\"{:.2}\" y=\"{:.2}\">{picture}</text>\n", x + 6.0, y - 6.0)
+/// The pictures' numbers, in bold where a long line begins or ends.
+fn numbers(pictures: &[u32], labels: &[Label], cuts: &[usize]) -> String {
+    let number = |label: &Label| {
+        let (x, y, frame) = (label.x, label.y, label.frame);
+        let cut = cuts.iter().any(|&i| frame == i || frame == i + 1);
+        let weight = if cut { " font-weight=\"bold\"" } else { "" };
+        format!("<text x=\"{x:.2}\" y=\"{y:.2}\"{weight}>{}</text>\n", pictures[frame])
     };
-    (0..=last).filter(|&i| i % every == 0 || i == last).map(label).collect()
+    labels.iter().map(number).collect()
 }
 
 /// What the colours say, below the map.
@@ -97,4 +100,17 @@ fn legend(map: &Map) -> String {
     let patches: String = (0..25).map(patch).collect();
     let words = y + 8.0;
     patches + &format!("<text x=\"260\" y=\"{words}\">picture {first} to {last}, {n} frames in capture order</text>\n")
+}
+
+/// How many long lines there are, and how many of them have their pictures' numbers at both ends.
+fn cuts_told(labels: &[Label], cuts: &[usize]) -> String {
+    let named = |frame: usize| labels.iter().any(|label| label.frame == frame);
+    let both = cuts.iter().filter(|&&i| named(i) && named(i + 1)).count();
+    let told = match cuts.len() {
+        0 => "none".to_string(),
+        all if all == both => format!("{all}, both ends in bold"),
+        all => format!("{all}, both ends of {both} in bold"),
+    };
+    let y = SIDE + 34.0;
+    format!("<text x=\"260\" y=\"{y}\">long lines, which are cuts: {told}</text>\n")
 }

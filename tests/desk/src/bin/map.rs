@@ -1,5 +1,5 @@
-//! `map FILE [--seed N] [--out FOLDER] [--progress]`: maps a frame file. Writes FOLDER/NAME.map, a line for each frame, and
-//! FOLDER/NAME.svg, a picture. What is refused gets one line on standard error, and nothing is written.
+//! `map FILE [--seed NUMBER] [--out FOLDER] [--progress]`: maps a frame file, as `help.txt` tells. What goes wrong gets one
+//! line on standard error.
 
 use brothanchor::map::{map, Map, MOST_FRAMES, RECORD};
 use std::fs::{self, File};
@@ -7,22 +7,33 @@ use std::io::Read;
 use std::path::{Path, PathBuf};
 use std::process::ExitCode;
 
-const USAGE: &str = "usage: map [FILE.frames] [--seed NUMBER] [--out FOLDER]";
+/// What `--help` prints, here and in the script `map`.
+const HELP: &str = include_str!("../../help.txt");
+
+/// The exit statuses where there is no map: because of the file or the folder, and because of the command line.
+const NO_MAP: u8 = 1;
+const BAD_WORDS: u8 = 2;
 
 fn main() -> ExitCode {
-    match asked(std::env::args().skip(1)).and_then(|asked| run(&asked)) {
+    let said = match asked(std::env::args().skip(1)) {
+        Ok(Some(asked)) => run(&asked).map_err(|message| (message, NO_MAP)),
+        Ok(None) => Ok(HELP.to_string()),
+        Err(message) => Err((format!("{message} (./map --help explains)"), BAD_WORDS)),
+    };
+    match said {
         Ok(said) => {
-            println!("{said}");
+            print!("{said}");
             ExitCode::SUCCESS
         }
-        Err(message) => {
+        Err((message, status)) => {
             eprintln!("map: {message}");
-            ExitCode::FAILURE
+            ExitCode::from(status)
         }
     }
 }
 
 /// What the command line asks for.
+#[derive(Debug, PartialEq)]
 struct Asked {
     file: PathBuf,
     seed: Option<u64>,
@@ -30,29 +41,30 @@ struct Asked {
     progress: bool,
 }
 
-fn asked(mut words: impl Iterator<Item = String>) -> Result<Asked, String> {
-    let mut asked = Asked {
-        file: PathBuf::new(),
-        seed: None,
-        out: PathBuf::from("maps"),
-        progress: false,
-    };
+/// The words of the command line; nothing where they ask for help.
+fn asked(mut words: impl Iterator<Item = String>) -> Result<Option<Asked>, String> {
+    let (mut file, mut seed, mut out, mut progress) = (None, None, PathBuf::from("maps"), false);
     while let Some(word) = words.next() {
         match word.as_str() {
-            "--progress" => asked.progress = true,
+            "--help" | "-h" => return Ok(None),
+            "--progress" => progress = true,
             "--seed" => {
                 let number = words.next().and_then(|seed| seed.parse().ok());
-                asked.seed = Some(number.ok_or("--seed takes a number from 0 to 2^64 - 1")?);
+                seed = Some(number.ok_or("--seed takes a number from 0 to 2^64 - 1")?);
             }
-            "--out" => asked.out = words.next().map(PathBuf::from).ok_or("--out takes a folder")?,
-            _ if word.starts_with("--") || asked.file.file_name().is_some() => return Err(USAGE.to_string()),
-            _ => asked.file = PathBuf::from(word),
+            "--out" => out = words.next().map(PathBuf::from).ok_or("--out takes a folder")?,
+            _ if word.starts_with('-') => return Err(format!("unknown option {word}")),
+            _ if file.is_some() => return Err(format!("one frame file at a time, so not {word} too")),
+            _ => file = Some(PathBuf::from(word)),
         }
     }
-    match asked.file.file_name() {
-        Some(_) => Ok(asked),
-        None => Err(USAGE.to_string()),
-    }
+    let file = file.ok_or("no frame file is named")?;
+    Ok(Some(Asked {
+        file,
+        seed,
+        out,
+        progress,
+    }))
 }
 
 /// Maps the file and writes the map; what there is to say of it.
@@ -66,7 +78,7 @@ fn run(asked: &Asked) -> Result<String, String> {
     let made = made.map_err(|none| format!("{name}: {none}"))?;
     let (lines, picture) = write(&made, asked)?;
     Ok(format!(
-        "{name}: {} frames, {} after {} iterations ({} units)\nthe map: {}\nits picture: {}",
+        "{name}: {} frames, {} after {} iterations ({} units)\nthe map: {}\nits picture: {}\n",
         made.frames.len(),
         made.ending(),
         made.record.iterations(),
@@ -101,4 +113,59 @@ fn write(made: &Map, asked: &Asked) -> Result<(PathBuf, PathBuf), String> {
     fs::write(&lines, made.lines()).map_err(|error| fault(&lines, error))?;
     fs::write(&picture, made.svg()).map_err(|error| fault(&picture, error))?;
     Ok((lines, picture))
+}
+
+#[cfg(test)]
+mod tests {
+    use super::*;
+
+    fn of(words: &str) -> Result<Option<Asked>, String> {
+        asked(words.split_whitespace().map(String::from))
+    }
+
+    #[test]
+    fn words_in_any_order() {
+        let all = Asked {
+            file: PathBuf::from("disc.frames"),
+            seed: Some(3),
+            out: PathBuf::from("there"),
+            progress: true,
+        };
+        assert_eq!(of("--progress --out there disc.frames --seed 3"), Ok(Some(all)));
+        let bare = of("disc.frames").expect("a file").expect("no help");
+        assert_eq!(
+            (bare.seed, bare.out, bare.progress),
+            (None, PathBuf::from("maps"), false)
+        );
+    }
+
+    #[test]
+    fn help_is_asked_for() {
+        for words in ["--help", "-h", "disc.frames --seed 3 --help", "--help --none"] {
+            assert_eq!(of(words), Ok(None), "{words}");
+        }
+        for option in ["--seed NUMBER", "--out FOLDER", "--progress", "-h, --help"] {
+            assert!(HELP.contains(option), "{option}");
+        }
+        assert!(matches!(of("disc.frames --out --help"), Ok(Some(_))));
+    }
+
+    #[test]
+    fn bad_words() {
+        for (words, why) in [
+            ("", "no frame file is named"),
+            ("--seed 3", "no frame file is named"),
+            ("disc.frames --sead 3", "unknown option --sead"),
+            ("-x disc.frames", "unknown option -x"),
+            ("disc.frames --seed", "--seed takes a number from 0 to 2^64 - 1"),
+            ("disc.frames --seed -1", "--seed takes a number from 0 to 2^64 - 1"),
+            ("disc.frames --out", "--out takes a folder"),
+            (
+                "disc.frames other.frames",
+                "one frame file at a time, so not other.frames too",
+            ),
+        ] {
+            assert_eq!(of(words), Err(why.to_string()), "{words}");
+        }
+    }
 }
