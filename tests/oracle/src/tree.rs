@@ -184,8 +184,8 @@ pub fn insert(nodes: &mut [Node], used: usize, positions: &[f64], c: usize, j: u
     None
 }
 
-/// What the tree does to point j: the repulsion, and its share of the normaliser. The cells still to be looked at wait in
-/// a list, the next one last: a chain of altered nodes can be as deep as there are nodes.
+/// What the tree does to point j: the repulsion, and its share of the normaliser. The cells still to be looked at wait
+/// in a list, the next one last: a chain of altered nodes can be as deep as there are nodes.
 pub fn repulsion(nodes: &[Node], positions: &[f64], c: usize, j: usize, angle: f64) -> ([f64; 3], f64) {
     let p = point(positions, c, j);
     let squared_angle = angle * angle;
@@ -201,7 +201,8 @@ pub fn repulsion(nodes: &[Node], positions: &[f64], c: usize, j: usize, angle: f
     gathered
 }
 
-/// Adds what a leaf or a cell that is far enough does to a point as one body; any other cell opens, and is told by false.
+/// Adds what a leaf or a cell that is far enough does to a point as one body; any other cell opens, and is told by
+/// false.
 fn as_one_body(node: &Node, p: &[f64; 3], c: usize, squared_angle: f64, gathered: &mut ([f64; 3], f64)) -> bool {
     let mut away = [0.0; 3];
     let mut squared = 0.0;
