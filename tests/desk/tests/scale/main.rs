@@ -121,10 +121,13 @@ fn damaged_call(random: &mut Random, both: &mut Both) -> Worked {
     worked
 }
 
-/// Another value or number in one place of an area.
+/// Another value or number in one place of an area; of indices and nodes more often in one that is in use.
 fn damage(random: &mut Random, both: &mut Both) {
     let areas = &mut both.areas;
-    match random.below(14) {
+    let last = areas.offsets.get(both.record.words[0] as usize);
+    let listed = areas.indices.len().min(last.map_or(0, |&last| last as usize));
+    let used = areas.nodes.len().min(both.record.words[13] as usize);
+    match random.below(16) {
         0 => damage_value(random, &mut areas.positions),
         1 => damage_value(random, &mut areas.increments),
         2 => damage_value(random, &mut areas.gains),
@@ -136,13 +139,11 @@ fn damage(random: &mut Random, both: &mut Both) {
                 *affinity = f64::from_bits(word);
             }
         }
-        6 | 7 => damage_number(random, &mut areas.indices),
-        8 | 9 => damage_number(random, &mut areas.offsets),
-        10 => damage_node(random, &mut areas.nodes),
-        _ => {
-            let used = areas.nodes.len().min(both.record.words[13] as usize);
-            damage_node(random, &mut areas.nodes[..used]);
-        }
+        6 => damage_number(random, &mut areas.indices),
+        7..=9 => damage_number(random, &mut areas.indices[..listed]),
+        10 | 11 => damage_number(random, &mut areas.offsets),
+        12 => damage_node(random, &mut areas.nodes),
+        _ => damage_node(random, &mut areas.nodes[..used]),
     }
 }
 
