@@ -3,3 +3,5 @@ pub mod After
 pub mod Again
 pub mod Pass
 pub mod Lies
+pub mod One
+pub mod Local
