@@ -22,7 +22,7 @@ use base.Logic.{ent, sep}
 use base.Fml.{GName, Fml, fsep, fat, fres, flent}
 use prog.Wp.{Heap}
 use ghost.Atoms.{Atoms, sem}
-use types.Kit.{Given, Item, Goal, Soaks, ‵, _⊛_, some, later, Seq, _$_, _∵_, !, qed, by, move, drop, use1, use2, use3, split, rewrite, pick, fsplit, fsplit3, fjoin, fpick, fpack, feqI, feqL, await, done}
+use types.Kit.{Given, Item, Goal, Soaks, ‵, _⊛_, some, later, Seq, Step, step, _$_, _∵_, !, qed, by, move, drop, use1, use2, use3, split, rewrite, pick, fsplit, fsplit3, fjoin, fpick, fpack, feqI, feqL, await, done}
 use types.SemTy.{cells, Arr, Body}
 use types.Share.{arr-parts}
 use types.Tokens.{lft-new, lft-end, lent-back}
@@ -39,6 +39,10 @@ use borrow.Table.Elements.{at, cut-app, join-app, length-take-le, same-len}
 use borrow.Rule.Array.Share.{room-take}
 use Rattle.lent.proofs.Pass.{Seat, ref-at, Mut, Shr, Tok}
 use Rattle.lent.proofs.One.{one-at, One}
+
+-- an array's machine value
+abbrev pub array-val : {X : Type 0} → (X → List Val) → List X → Val
+array-val vals xs = only (array-vals vals xs)
 
 -- where a local that is lent is: at the start of its block
 abbrev pub local-at : (l k ν : ℕ) → GName → Seat
@@ -67,36 +71,36 @@ KeptStruct R l ν δ = flent (ν ∷ []) (Body (mem R) l 0 δ)
 -- ---- a local array's cell is its elements side by side, and back
 module _ {M : Type 1} (𝓤 : URA M) (H : Heap 𝓤) (A : Atoms 𝓤) (W : Given 𝓤 H A) (R : RattleType) (vals : R .Denot → List Val) (n l : ℕ) where
   pub array-cells : Single (R .mir) → Makes 𝓤 H A R (Is R) → (xs : List (R .Denot)) → Is (Array R n) xs (array-vals vals xs)
-      → ent 𝓤 (H .at fullShare (tyArray (lone (R .mir)) n) l 0 (only (array-vals vals xs))) (sem 𝓤 H A (cells (mem R) xs l 0))
+      → ent 𝓤 (H .at fullShare (tyArray (lone (R .mir)) n) l 0 (array-val vals xs)) (sem 𝓤 H A (cells (mem R) xs l 0))
   unfolding partOf
   array-cells one mk xs is =
-      qed W (‵ (fat fullShare (tyArray (lone (R .mir)) n) l 0 (only (array-vals vals xs))) ∷ []) ∵
-      use1 W (‵ (cellAt fullShare (Array R n .mir) (array-vals vals xs) l 0)) (W .laws .at-raw fullShare (tyArray (lone (R .mir)) n) l 0 (only (array-vals vals xs))) $
+      qed W (‵ (fat fullShare (tyArray (lone (R .mir)) n) l 0 (array-val vals xs)) ∷ []) ∵
+      use1 W (‵ (cellAt fullShare (Array R n .mir) (array-vals vals xs) l 0)) (W .laws .at-raw fullShare (tyArray (lone (R .mir)) n) l 0 (array-val vals xs)) $
       owned ! (Array R n) (Is (Array R n)) (array-makes 𝓤 H A W R mk n) xs (array-vals vals xs) is $ move ! (1 ∷ 0 ∷ []) $ fjoin ! $
       fpack ! (List Val) (λ us. fsep (cellAt fullShare (Array R n .mir) us l 0) (Array R n .own xs us)) (array-vals vals xs) $
       use1 W (‵ (arr-parts (shares R) n .part fullShare xs l 0)) (array-apart 𝓤 H A W R fullShare one n xs l 0) $ fsplit ! $ drop ! $ by ! (whole-in 𝓤 H A W R xs l 0)
 
   pub cells-array : Tells R (Is R) vals → (xs : List (R .Denot)) → length xs ≡ n
-      → ent 𝓤 (sem 𝓤 H A (cells (mem R) xs l 0)) (sep 𝓤 (H .at fullShare (tyArray (lone (R .mir)) n) l 0 (only (array-vals vals xs))) (sem 𝓤 H A (Array R n .own xs (array-vals vals xs))))
+      → ent 𝓤 (sem 𝓤 H A (cells (mem R) xs l 0)) (sep 𝓤 (H .at fullShare (tyArray (lone (R .mir)) n) l 0 (array-val vals xs)) (sem 𝓤 H A (Array R n .own xs (array-vals vals xs))))
   unfolding partOf
   cells-array tl xs ln =
       qed W (‵ (cells (mem R) xs l 0) ∷ []) ∵ use1 W (‵ (row R fullShare xs l 0)) (whole-out 𝓤 H A W R xs l 0) $ feqI ! ℕ (length xs) n ln $ fjoin ! $
       use1 W (‵ (partAt (Array R n) fullShare xs l 0)) (array-whole 𝓤 H A W R fullShare n xs l 0) $ fpick ! (λ vs. fsplit ! $ move ! (1 ∷ []) $
       peeks ! (Array R n) (Is (Array R n)) (shows 𝓤 H A (Array R n)) xs vs (λ is. rewrite ! 0 (λ (us : List Val). ‵ (Array R n .own xs us)) (array-tells R vals tl n xs vs is) refl $
       rewrite ! 1 (λ (us : List Val). ‵ (cellAt fullShare (Array R n .mir) us l 0)) (array-tells R vals tl n xs vs is) refl $ move ! (1 ∷ []) $
-      use1 W (‵ (fat fullShare (tyArray (lone (R .mir)) n) l 0 (only (array-vals vals xs)))) (W .laws .raw-at fullShare (tyArray (lone (R .mir)) n) l 0 (only (array-vals vals xs))) $ done !))
+      use1 W (‵ (fat fullShare (tyArray (lone (R .mir)) n) l 0 (array-val vals xs))) (W .laws .raw-at fullShare (tyArray (lone (R .mir)) n) l 0 (array-val vals xs)) $ done !))
 
   -- the first k elements, and the rest
   pub array-front : Single (R .mir) → Makes 𝓤 H A R (Is R) → (k : ℕ) (xs : List (R .Denot)) → Is (Array R n) xs (array-vals vals xs)
-      → ent 𝓤 (H .at fullShare (tyArray (lone (R .mir)) n) l 0 (only (array-vals vals xs))) (sep 𝓤 (sem 𝓤 H A (cells (mem R) (take k xs) l 0)) (sem 𝓤 H A (cells (mem R) (drop-list k xs) l (rest-at R k xs))))
+      → ent 𝓤 (H .at fullShare (tyArray (lone (R .mir)) n) l 0 (array-val vals xs)) (sep 𝓤 (sem 𝓤 H A (cells (mem R) (take k xs) l 0)) (sem 𝓤 H A (cells (mem R) (drop-list k xs) l (rest-at R k xs))))
   array-front one mk k xs is =
-      qed W (‵ (fat fullShare (tyArray (lone (R .mir)) n) l 0 (only (array-vals vals xs))) ∷ []) ∵
+      qed W (‵ (fat fullShare (tyArray (lone (R .mir)) n) l 0 (array-val vals xs)) ∷ []) ∵
       use1 W (‵ (cells (mem R) xs l 0)) (array-cells one mk xs is) $ rewrite ! 0 (λ (ys : List (R .Denot)). ‵ (cells (mem R) ys l 0)) (sym (take-append-drop k xs)) refl $
       by ! (cut-app 𝓤 H A (mem R) (take k xs) (drop-list k xs) l 0)
 
   pub front-array : Tells R (Is R) vals → (k : ℕ) (xs ys : List (R .Denot)) → length xs ≡ n → length ys ≡ length (take k xs)
       → ent 𝓤 (sep 𝓤 (sem 𝓤 H A (cells (mem R) ys l 0)) (sem 𝓤 H A (cells (mem R) (drop-list k xs) l (rest-at R k xs))))
-      (sep 𝓤 (H .at fullShare (tyArray (lone (R .mir)) n) l 0 (only (array-vals vals (ys ++ drop-list k xs)))) (sem 𝓤 H A (Array R n .own (ys ++ drop-list k xs) (array-vals vals (ys ++ drop-list k xs)))))
+      (sep 𝓤 (H .at fullShare (tyArray (lone (R .mir)) n) l 0 (array-val vals (ys ++ drop-list k xs))) (sem 𝓤 H A (Array R n .own (ys ++ drop-list k xs) (array-vals vals (ys ++ drop-list k xs)))))
   front-array tl k xs ys ln le =
       qed W (‵ (cells (mem R) ys l 0) ∷ ‵ (cells (mem R) (drop-list k xs) l (rest-at R k xs)) ∷ []) ∵
       rewrite ! 1 (λ (m : ℕ). ‵ (cells (mem R) (drop-list k xs) l (at 0 (mem R .size) m))) (sym le) refl $
@@ -143,7 +147,7 @@ module _ {M : Type 1} {𝓤 : URA M} {H : Heap 𝓤} {A : Atoms 𝓤} {K : Type 
 module _ {M : Type 1} {𝓤 : URA M} {H : Heap 𝓤} {A : Atoms 𝓤} {K : Type 0} {W : Given 𝓤 H A} {Γ : List (Item 𝓤)} {G : Goal 𝓤 H} where
   pub lend-whole : K → Soaks G → (R : RattleType) → Single (R .mir) → (vals : R .Denot → List Val) → Makes 𝓤 H A R (Is R) → (n l : ℕ) (xs : List (R .Denot)) → Is (Array R n) xs (array-vals vals xs) → Room R n
       → ((ν : ℕ) (δ : GName) → Seq K W (‵ (Mut R (local-at l n ν δ) xs) ∷ ‵ (Tok (local-at l n ν δ)) ∷ ‵ (KeptWhole R l ν δ xs) ∷ Γ) G)
-      → Seq K W (‵ (fat fullShare (tyArray (lone (R .mir)) n) l 0 (only (array-vals vals xs))) ∷ Γ) G
+      → Seq K W (‵ (fat fullShare (tyArray (lone (R .mir)) n) l 0 (array-val vals xs)) ∷ Γ) G
   lend-whole t a R one vals mk n l xs is room f =
       use1 W (‵ (cells (mem R) xs l 0)) (array-cells 𝓤 H A W R vals n l one mk xs is) $ lft-new t a (λ ν. move t (1 ∷ []) $
       use1 W (later (some (λ (δ : GName). ‵ (MutSlice (named 0) (ν ∷ []) R .own (ref-at (local-at l n ν δ) xs) (sliceVal (l, 0) (length xs) ∷ [])) ⊛ ‵ (KeptWhole R l ν δ xs)))) (lends-slice 𝓤 H A W R (named 0) (ν ∷ []) xs l 0 (subst (Room R) (sym (is .1 .0 .1)) room)) $ await t a $ pick t (λ δ. split t $
@@ -151,16 +155,16 @@ module _ {M : Type 1} {𝓤 : URA M} {H : Heap 𝓤} {A : Atoms 𝓤} {K : Type 
       rewrite t 0 (λ (m : ℕ). ‵ (MutSlice (named 0) (ν ∷ []) R .own (ref-at (local-at l n ν δ) xs) (sliceVal (l, 0) m ∷ []))) (is .1 .0 .1) refl $ move t (0 ∷ 2 ∷ []) $ f ν δ))
 
   pub back-whole : K → Soaks G → (R : RattleType) (vals : R .Denot → List Val) → Tells R (Is R) vals → (n l ν : ℕ) (δ : GName) (xs ys : List (R .Denot)) → length xs ≡ n
-      → (Is (Array R n) ys (array-vals vals ys) → Seq K W (‵ (fat fullShare (tyArray (lone (R .mir)) n) l 0 (only (array-vals vals ys))) ∷ Γ) G)
+      → (Is (Array R n) ys (array-vals vals ys) → Seq K W (‵ (fat fullShare (tyArray (lone (R .mir)) n) l 0 (array-val vals ys)) ∷ Γ) G)
       → Seq K W (‵ (Mut R (local-at l n ν δ) ys) ∷ ‵ (Tok (local-at l n ν δ)) ∷ ‵ (KeptWhole R l ν δ xs) ∷ Γ) G
   back-whole t a R vals tl n l ν δ xs ys ln f =
       gives-up t a R l n ν δ (length xs) ys (λ le.
-      use1 W (‵ (fat fullShare (tyArray (lone (R .mir)) n) l 0 (only (array-vals vals ys))) ⊛ ‵ (Array R n .own ys (array-vals vals ys))) (cells-array 𝓤 H A W R vals n l tl ys (le ∙ ln)) $ split t $ move t (1 ∷ []) $
+      use1 W (‵ (fat fullShare (tyArray (lone (R .mir)) n) l 0 (array-val vals ys)) ⊛ ‵ (Array R n .own ys (array-vals vals ys))) (cells-array 𝓤 H A W R vals n l tl ys (le ∙ ln)) $ split t $ move t (1 ∷ []) $
       peeks t (Array R n) (Is (Array R n)) (shows 𝓤 H A (Array R n)) ys (array-vals vals ys) (λ is. drop t $ f is))
 
   pub lend-front : K → Soaks G → (R : RattleType) → Single (R .mir) → (vals : R .Denot → List Val) → Makes 𝓤 H A R (Is R) → (n l k : ℕ) (xs : List (R .Denot)) → Is (Array R n) xs (array-vals vals xs) → Room R n → k ≤ n
       → ((ν : ℕ) (δ : GName) → length (take k xs) ≡ k → Seq K W (‵ (Mut R (local-at l k ν δ) (take k xs)) ∷ ‵ (Tok (local-at l k ν δ)) ∷ ‵ (KeptFront R l k ν δ xs) ∷ Γ) G)
-      → Seq K W (‵ (fat fullShare (tyArray (lone (R .mir)) n) l 0 (only (array-vals vals xs))) ∷ Γ) G
+      → Seq K W (‵ (fat fullShare (tyArray (lone (R .mir)) n) l 0 (array-val vals xs)) ∷ Γ) G
   lend-front t a R one vals mk n l k xs is room le f =
       use1 W (‵ (cells (mem R) (take k xs) l 0) ⊛ ‵ (cells (mem R) (drop-list k xs) l (rest-at R k xs))) (array-front 𝓤 H A W R vals n l one mk k xs is) $ split t $ lft-new t a (λ ν. move t (1 ∷ []) $
       use1 W (later (some (λ (δ : GName). ‵ (MutSlice (named 0) (ν ∷ []) R .own (ref-at (local-at l k ν δ) (take k xs)) (sliceVal (l, 0) (length (take k xs)) ∷ [])) ⊛ ‵ (flent (ν ∷ []) (Held R (length (take k xs)) l 0 δ))))) (lends-slice 𝓤 H A W R (named 0) (ν ∷ []) (take k xs) l 0 (room-take R n k xs (is .1 .0 .1) room)) $ await t a $ pick t (λ δ. split t $
@@ -171,11 +175,11 @@ module _ {M : Type 1} {𝓤 : URA M} {H : Heap 𝓤} {A : Atoms 𝓤} {K : Type 
       count = length-take-le k xs (subst (λ (m : ℕ). k ≤ m) (sym (is .1 .0 .1)) le)
 
   pub back-front : K → Soaks G → (R : RattleType) (vals : R .Denot → List Val) → Tells R (Is R) vals → (n l k ν : ℕ) (δ : GName) (xs ys : List (R .Denot)) → length xs ≡ n
-      → (length ys ≡ length (take k xs) → Is (Array R n) (ys ++ drop-list k xs) (array-vals vals (ys ++ drop-list k xs)) → Seq K W (‵ (fat fullShare (tyArray (lone (R .mir)) n) l 0 (only (array-vals vals (ys ++ drop-list k xs)))) ∷ Γ) G)
+      → (length ys ≡ length (take k xs) → Is (Array R n) (ys ++ drop-list k xs) (array-vals vals (ys ++ drop-list k xs)) → Seq K W (‵ (fat fullShare (tyArray (lone (R .mir)) n) l 0 (array-val vals (ys ++ drop-list k xs))) ∷ Γ) G)
       → Seq K W (‵ (Mut R (local-at l k ν δ) ys) ∷ ‵ (Tok (local-at l k ν δ)) ∷ ‵ (KeptFront R l k ν δ xs) ∷ Γ) G
   back-front t a R vals tl n l k ν δ xs ys ln f =
       move t (2 ∷ []) $ fsplit t $ move t (2 ∷ 3 ∷ 0 ∷ []) $ gives-up t a R l k ν δ (length (take k xs)) ys (λ le.
-      use2 W (‵ (fat fullShare (tyArray (lone (R .mir)) n) l 0 (only (array-vals vals (ys ++ drop-list k xs)))) ⊛ ‵ (Array R n .own (ys ++ drop-list k xs) (array-vals vals (ys ++ drop-list k xs)))) (front-array 𝓤 H A W R vals n l tl k xs ys ln le) $ split t $ move t (1 ∷ []) $
+      use2 W (‵ (fat fullShare (tyArray (lone (R .mir)) n) l 0 (array-val vals (ys ++ drop-list k xs))) ⊛ ‵ (Array R n .own (ys ++ drop-list k xs) (array-vals vals (ys ++ drop-list k xs)))) (front-array 𝓤 H A W R vals n l tl k xs ys ln le) $ split t $ move t (1 ∷ []) $
       peeks t (Array R n) (Is (Array R n)) (shows 𝓤 H A (Array R n)) (ys ++ drop-list k xs) (array-vals vals (ys ++ drop-list k xs)) (λ is. drop t $ f le is))
 
   pub lend-struct : K → Soaks G → (R : RattleType) → Single (R .mir) → (val : R .Denot → Val) → Makes 𝓤 H A R (Is R) → (l : ℕ) (x : R .Denot) → Is R x (val x ∷ [])
@@ -198,22 +202,21 @@ module _ {M : Type 1} {𝓤 : URA M} {H : Heap 𝓤} {A : Atoms 𝓤} {K : Type 
   -- ---- as a `&[T]`
   pub lend-whole-shr : K → Soaks G → (R : RattleType) → Single (R .mir) → (vals : R .Denot → List Val) → Makes 𝓤 H A R (Is R) → (n l : ℕ) (xs : List (R .Denot)) → Is (Array R n) xs (array-vals vals xs) → Room R n
       → ((ν : ℕ) (δ : GName) → Seq K W (‵ (Shr R (local-at l n ν δ) xs) ∷ ‵ (Tok (local-at l n ν δ)) ∷ ‵ (KeptWholeShr R l ν xs) ∷ Γ) G)
-      → Seq K W (‵ (fat fullShare (tyArray (lone (R .mir)) n) l 0 (only (array-vals vals xs))) ∷ Γ) G
+      → Seq K W (‵ (fat fullShare (tyArray (lone (R .mir)) n) l 0 (array-val vals xs)) ∷ Γ) G
   lend-whole-shr t a R one vals mk n l xs is room f =
       use1 W (‵ (cells (mem R) xs l 0)) (array-cells 𝓤 H A W R vals n l one mk xs is) $ use1 W (‵ (row R fullShare xs l 0)) (whole-out 𝓤 H A W R xs l 0) $ feqI t ℕ (length xs) (length xs) refl $ fjoin t $ lft-new t a (λ ν. move t (1 ∷ []) $
       use1 W (later (some (λ (δ : GName). ‵ (ShrSlice (named 0) (ν ∷ []) R .own (ref-at (local-at l n ν δ) xs) (sliceVal (l, 0) (length xs) ∷ [])) ⊛ ‵ (KeptWholeShr R l ν xs)))) (lends-shr-slice 𝓤 H A W R (named 0) (ν ∷ []) fullShare xs l 0 (subst (Room R) (sym (is .1 .0 .1)) room)) $ await t a $ pick t (λ δ. split t $
       rewrite t 0 (λ (m : ℕ). ‵ (ShrSlice (named 0) (ν ∷ []) R .own (ref-at (local-at l n ν δ) xs) (sliceVal (l, 0) m ∷ []))) (is .1 .0 .1) refl $ move t (0 ∷ 2 ∷ []) $ f ν δ))
 
   pub back-whole-shr : K → Soaks G → (R : RattleType) (vals : R .Denot → List Val) → Tells R (Is R) vals → (n l ν : ℕ) (δ : GName) (xs : List (R .Denot)) → length xs ≡ n
-      → Seq K W (‵ (fat fullShare (tyArray (lone (R .mir)) n) l 0 (only (array-vals vals xs))) ∷ Γ) G
-      → Seq K W (‵ (Shr R (local-at l n ν δ) xs) ∷ ‵ (Tok (local-at l n ν δ)) ∷ ‵ (KeptWholeShr R l ν xs) ∷ Γ) G
-  back-whole-shr t a R vals tl n l ν δ xs ln f =
+      → Step K W (‵ (fat fullShare (tyArray (lone (R .mir)) n) l 0 (array-val vals xs)) ∷ Γ) G (‵ (Shr R (local-at l n ν δ) xs) ∷ ‵ (Tok (local-at l n ν δ)) ∷ ‵ (KeptWholeShr R l ν xs) ∷ Γ) G
+  back-whole-shr t a R vals tl n l ν δ xs ln = step (λ f.
       drop t $ lft-end t a $ lent-back t a $ fsplit t $ drop t $ use1 W (‵ (cells (mem R) xs l 0)) (whole-in 𝓤 H A W R xs l 0) $
-      use1 W (‵ (fat fullShare (tyArray (lone (R .mir)) n) l 0 (only (array-vals vals xs))) ⊛ ‵ (Array R n .own xs (array-vals vals xs))) (cells-array 𝓤 H A W R vals n l tl xs ln) $ split t $ move t (1 ∷ []) $ drop t $ f
+      use1 W (‵ (fat fullShare (tyArray (lone (R .mir)) n) l 0 (array-val vals xs)) ⊛ ‵ (Array R n .own xs (array-vals vals xs))) (cells-array 𝓤 H A W R vals n l tl xs ln) $ split t $ move t (1 ∷ []) $ drop t $ f)
 
   pub lend-front-shr : K → Soaks G → (R : RattleType) → Single (R .mir) → (vals : R .Denot → List Val) → Makes 𝓤 H A R (Is R) → (n l k : ℕ) (xs : List (R .Denot)) → Is (Array R n) xs (array-vals vals xs) → Room R n → k ≤ n
       → ((ν : ℕ) (δ : GName) → length (take k xs) ≡ k → Seq K W (‵ (Shr R (local-at l k ν δ) (take k xs)) ∷ ‵ (Tok (local-at l k ν δ)) ∷ ‵ (KeptFrontShr R l k ν xs) ∷ Γ) G)
-      → Seq K W (‵ (fat fullShare (tyArray (lone (R .mir)) n) l 0 (only (array-vals vals xs))) ∷ Γ) G
+      → Seq K W (‵ (fat fullShare (tyArray (lone (R .mir)) n) l 0 (array-val vals xs)) ∷ Γ) G
   lend-front-shr t a R one vals mk n l k xs is room le f =
       use1 W (‵ (cells (mem R) (take k xs) l 0) ⊛ ‵ (cells (mem R) (drop-list k xs) l (rest-at R k xs))) (array-front 𝓤 H A W R vals n l one mk k xs is) $ split t $
       use1 W (‵ (row R fullShare (take k xs) l 0)) (whole-out 𝓤 H A W R (take k xs) l 0) $ feqI t ℕ (length (take k xs)) (length (take k xs)) refl $ fjoin t $ lft-new t a (λ ν. move t (1 ∷ []) $
@@ -224,12 +227,11 @@ module _ {M : Type 1} {𝓤 : URA M} {H : Heap 𝓤} {A : Atoms 𝓤} {K : Type 
       count = length-take-le k xs (subst (λ (m : ℕ). k ≤ m) (sym (is .1 .0 .1)) le)
 
   pub back-front-shr : K → Soaks G → (R : RattleType) (vals : R .Denot → List Val) → Tells R (Is R) vals → (n l k ν : ℕ) (δ : GName) (xs : List (R .Denot)) → length xs ≡ n
-      → Seq K W (‵ (fat fullShare (tyArray (lone (R .mir)) n) l 0 (only (array-vals vals xs))) ∷ Γ) G
-      → Seq K W (‵ (Shr R (local-at l k ν δ) (take k xs)) ∷ ‵ (Tok (local-at l k ν δ)) ∷ ‵ (KeptFrontShr R l k ν xs) ∷ Γ) G
-  back-front-shr t a R vals tl n l k ν δ xs ln f =
+      → Step K W (‵ (fat fullShare (tyArray (lone (R .mir)) n) l 0 (array-val vals xs)) ∷ Γ) G (‵ (Shr R (local-at l k ν δ) (take k xs)) ∷ ‵ (Tok (local-at l k ν δ)) ∷ ‵ (KeptFrontShr R l k ν xs) ∷ Γ) G
+  back-front-shr t a R vals tl n l k ν δ xs ln = step (λ f.
       drop t $ lft-end t a $ move t (1 ∷ []) $ fsplit t $ move t (2 ∷ 0 ∷ []) $ lent-back t a $ fsplit t $ drop t $ use1 W (‵ (cells (mem R) (take k xs) l 0)) (whole-in 𝓤 H A W R (take k xs) l 0) $
       use2 W (‵ (cells (mem R) (take k xs ++ drop-list k xs) l 0)) (join-app 𝓤 H A (mem R) (take k xs) (drop-list k xs) l 0) $ rewrite t 0 (λ (ys : List (R .Denot)). ‵ (cells (mem R) ys l 0)) (take-append-drop k xs) refl $
-      use1 W (‵ (fat fullShare (tyArray (lone (R .mir)) n) l 0 (only (array-vals vals xs))) ⊛ ‵ (Array R n .own xs (array-vals vals xs))) (cells-array 𝓤 H A W R vals n l tl xs ln) $ split t $ move t (1 ∷ []) $ drop t $ f
+      use1 W (‵ (fat fullShare (tyArray (lone (R .mir)) n) l 0 (array-val vals xs)) ⊛ ‵ (Array R n .own xs (array-vals vals xs))) (cells-array 𝓤 H A W R vals n l tl xs ln) $ split t $ move t (1 ∷ []) $ drop t $ f)
 
 -- ---- laws of lists: what a callee says of the part, said of the whole
 module _ {X : Type 0} where
