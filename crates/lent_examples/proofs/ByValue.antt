@@ -30,7 +30,7 @@ use Rattle.lent.proofs.Plain.{calls-plain}
 use denote.Array.{Array, array-vals, array-makes}
 use Rattle.lent.proofs.Local.{array-val}
 use denote.Struct.Laws as LL
-use Rattle.lent_examples.specs.Lending.{Fits, bumpedOf, valued, placedOf}
+use Rattle.lent_examples.specs.Lending.{Fits, bumpedOf, valued, placedOf, notedOf}
 use mathlib.Core.Path.{_≡_}
 use Rattle.tree_node.specs.declared.Cell.{Cell}
 use Rattle.tree_node.proofs.Cell as Cell′
@@ -38,10 +38,13 @@ use Rattle.tree_node.proofs.Cell.Laws as Cell″
 use Rattle.lent_examples.specs.declared.Counter.{Counter}
 use Rattle.lent_examples.proofs.Counter as Counter′
 use Rattle.lent_examples.proofs.Counter.Laws as Counter″
+use Rattle.lent_examples.specs.declared.Noted.{Noted}
+use Rattle.lent_examples.proofs.Noted as Noted′
+use Rattle.lent_examples.proofs.Noted.Laws as Noted″
 use Rattle.lent_examples.specs.declared.Placed.{Placed}
 use Rattle.lent_examples.proofs.Placed as Placed′
 use Rattle.lent_examples.proofs.Placed.Laws as Placed″
-use Rattle.lent_examples.proofs.Values.{val-Counter, IsCounter, val-Placed}
+use Rattle.lent_examples.proofs.Values.{val-Counter, IsCounter, val-Noted, val-Placed}
 use Rattle.tree_node.proofs.Values.{val-Cell, IsCell}
 use Rattle.lent_examples.proofs.counted as counted′
 use Rattle.lent_examples.proofs.counted.Symbol.{name as #lent-examples·counted}
@@ -49,6 +52,8 @@ use Rattle.lent_examples.proofs.with_value as with-value′
 use Rattle.lent_examples.proofs.with_value.Symbol.{name as #lent-examples·with-value}
 use Rattle.lent_examples.proofs.with_mark as with-mark′
 use Rattle.lent_examples.proofs.with_mark.Symbol.{name as #lent-examples·with-mark}
+use Rattle.lent_examples.proofs.note_of as note-of′
+use Rattle.lent_examples.proofs.note_of.Symbol.{name as #lent-examples·note-of}
 
 -- ---- `counted`
 module _ {M : Type 1} (𝓤 : URA M) (H : Heap 𝓤) (A : Atoms 𝓤) (mem : Memory → SProp 𝓤) (run : Routine → Fun 𝓤) where
@@ -127,3 +132,29 @@ module _ {M : Type 1} {𝓤 : URA M} {H : Heap 𝓤} {A : Atoms 𝓤} {K : Type 
   calls-with-mark t fm mem run met mark cells g-mark g-cells os k =
       calls-plain t fm (Contract-with-mark 𝓤 H A mem run) met (to-with-mark 𝓤 H A mem run mark cells) Placed′.the-row (val-Placed) (LL.tells Placed′.the-type Placed″.the-laws) (Said-with-mark 𝓤 H A mem run mark cells) (λ (res : Placed). res ≡ placedOf mark cells) (said-with-mark 𝓤 H A mem run mark cells)
       (λ _. id⊢ 𝓤 _) (goes-with-mark 𝓤 H A mem run W mark cells g-mark g-cells) (os _) k
+
+-- ---- `note_of`
+module _ {M : Type 1} (𝓤 : URA M) (H : Heap 𝓤) (A : Atoms 𝓤) (mem : Memory → SProp 𝓤) (run : Routine → Fun 𝓤) where
+  abbrev pub Contract-note-of : Contract 𝓤
+  Contract-note-of = tripleOf 𝓤 H A note-of′.signature (note-of′.spec 𝓤 H A mem run)
+
+  abbrev to-note-of : Counter → List Cell → Contract-note-of .Ghost
+  to-note-of counter cells = ((tt, tt, tt, (counter, (cells, tt)), (val-Counter counter ∷ [], (array-val (LL.vals Cell′.the-type Cell″.the-laws) cells ∷ [], tt))), tt)
+
+  abbrev Said-note-of : Counter → List Cell → Noted → SProp 𝓤
+  Said-note-of counter cells = ensured 𝓤 H A note-of′.ended (note-of′.clauses 𝓤 H A mem run) tt (counter, (cells, tt)) tt
+
+  said-note-of : (counter : Counter) (cells : List Cell) (res : Noted) → ent 𝓤 (Said-note-of counter cells res) (fact 𝓤 (res ≡ notedOf counter cells))
+  said-note-of counter cells res = exE 𝓤 _ (λ ws. snd∗ 𝓤 (sem 𝓤 H A (lasts note-of′.ended tt (counter, (cells, tt)) ws)) (fact 𝓤 (res ≡ notedOf counter cells)))
+
+  goes-note-of : Given 𝓤 H A → (counter : Counter) (cells : List Cell) → IsCounter counter → Is (Array Cell′.the-row 8) cells (array-vals (LL.vals Cell′.the-type Cell″.the-laws) cells) → ent 𝓤 (emp 𝓤) (Contract-note-of .pre (to-note-of counter cells))
+  goes-note-of W counter cells g-counter g-cells = qed W [] ∵ nothing ! $ nothing ! $ owned ! (Array Cell′.the-row 8) (Is (Array Cell′.the-row 8)) (array-makes 𝓤 H A W Cell′.the-row ((LL.makes Cell′.the-type Cell″.the-plain) 𝓤 H A) 8) cells _ g-cells $ fjoin ! $ owned ! Counter′.the-row (Is Counter′.the-row) ((LL.makes Counter′.the-type Counter″.the-plain) 𝓤 H A) counter _ g-counter $ fjoin ! $ move ! (1 ∷ 0 ∷ []) $ join ! $ frame ! $ nothing ! $ done !
+
+module _ {M : Type 1} {𝓤 : URA M} {H : Heap 𝓤} {A : Atoms 𝓤} {K : Type 0} {W : Given 𝓤 H A} {Γ : List (Item 𝓤)} {E : Env 𝓤 H} {C : Calls 𝓤 H} {Λ : Loops 𝓤 H} {xs : List Operand} {q : After 𝓤 H} {d : Place} {rest : Code} where
+  pub calls-note-of : K → FmC 𝓤 H (W .laws) C → (mem : Memory → SProp 𝓤) (run : Routine → Fun 𝓤) → Triple 𝓤 (C #lent-examples·note-of) (Contract-note-of 𝓤 H A mem run) → (counter : Counter) (cells : List Cell) → IsCounter counter → Is (Array Cell′.the-row 8) cells (array-vals (LL.vals Cell′.the-type Cell″.the-laws) cells)
+      → ((P : Item 𝓤) → Opds K W (P ∷ Γ) E xs (val-Counter counter ∷ array-val (LL.vals Cell′.the-type Cell″.the-laws) cells ∷ []))
+      → ((res : Noted) → res ≡ notedOf counter cells → Is Noted′.the-row res (val-Noted res ∷ []) → Seq K W Γ (lands C Λ E d (val-Noted res) rest q))
+      → Seq K W Γ (runs C Λ E (seq (call #lent-examples·note-of xs d) rest) q)
+  calls-note-of t fm mem run met counter cells g-counter g-cells os k =
+      calls-plain t fm (Contract-note-of 𝓤 H A mem run) met (to-note-of 𝓤 H A mem run counter cells) Noted′.the-row (val-Noted) (LL.tells Noted′.the-type Noted″.the-laws) (Said-note-of 𝓤 H A mem run counter cells) (λ (res : Noted). res ≡ notedOf counter cells) (said-note-of 𝓤 H A mem run counter cells)
+      (λ _. id⊢ 𝓤 _) (goes-note-of 𝓤 H A mem run W counter cells g-counter g-cells) (os _) k

@@ -5,3 +5,4 @@ pub mod CallsValueAt
 pub mod CallsPutMark
 pub mod CallsBump
 pub mod CallsPutFrom
+pub mod CallsNoteFrom

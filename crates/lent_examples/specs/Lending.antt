@@ -6,6 +6,7 @@ use lib.ListN.{getD}
 use Rattle.tree_node.specs.declared.Cell.{Cell}
 use Rattle.lent_examples.specs.declared.Counter.{Counter}
 use Rattle.lent_examples.specs.declared.Placed.{Placed}
+use Rattle.lent_examples.specs.declared.Noted.{Noted}
 
 -- a value of a list, and what stands past its end
 abbrev pub valueAt : List Float → ℕ → Float
@@ -24,3 +25,6 @@ bumpedOf c more mark = record { total = c .total + more; last = mark }
 
 abbrev pub placedOf : ℕ → List Cell → Placed
 placedOf m cs = record { mark = m; cells = cs }
+
+abbrev pub notedOf : Counter → List Cell → Noted
+notedOf c cs = record { counter = c; cells = cs }

@@ -4,7 +4,7 @@ ghost use mathlib.Core.Path.{_≡_};
 ghost use Prim.Native.Nat.{_<_, _≤_};
 ghost use lib.ListN.{length, set};
 ghost use Rattle.tree_node.specs.Arena.{cellAt};
-ghost use Rattle.lent_examples.specs.Lending.{valueAt, valued, Fits, bumpedOf, placedOf};
+ghost use Rattle.lent_examples.specs.Lending.{valueAt, valued, Fits, bumpedOf, placedOf, notedOf};
 use tree_node::Cell;
 use tree_node::arena::cell_at;
 use tree_node::arena::put_cell;
@@ -152,4 +152,48 @@ pub fn put_from_own(
     let mark = put_from(&mut own[..k], values, marks, i, m);
     let p = with_mark(mark, own);
     p
+}
+
+// ---- A local struct and a part of a local array, lent to one callee beside a slice of numbers.
+
+pub fn note_from(c: &mut Counter, cells: &mut [Cell], values: &[f64], i: usize, more: u32)
+    requires { ⌜ (Fits (now c) more) × (i < length (now cells)) × (i < length (now values)) ⌝ }
+    ensures { λ _. ⌜ (now (c .exit) ≡ bumpedOf (now (c .entry)) more (valueAt (now (values .entry)) i)) × (now (cells .exit) ≡ set (now (cells .entry)) i (valued (cellAt (now (cells .entry)) i) (valueAt (now (values .entry)) i))) ⌝ }
+{
+    let old = *c;
+    let y = value_at(values, i);
+    let next = counted(old, more, y);
+    *c = next;
+    let x = cell_at(cells, i);
+    let z = with_value(x, y);
+    put_cell(cells, i, z);
+}
+
+pub struct Noted {
+    pub counter: Counter,
+    pub cells: [Cell; 8],
+}
+
+pub fn note_of(counter: Counter, cells: [Cell; 8]) -> Noted
+    ensures { λ r. ⌜ r ≡ notedOf counter cells ⌝ }
+{
+    Noted { counter, cells }
+}
+
+pub fn note_own(
+    c: Counter,
+    cells: [Cell; 8],
+    k: usize,
+    values: &[f64],
+    i: usize,
+    more: u32,
+) -> Noted
+    requires { ⌜ (Fits c more) × (i < k) × (k ≤ 8) × (i < length (now values)) ⌝ }
+    ensures { λ r. ⌜ r ≡ notedOf (bumpedOf c more (valueAt (now (values .entry)) i)) (set cells i (valued (cellAt cells i) (valueAt (now (values .entry)) i))) ⌝ }
+{
+    let mut counter = c;
+    let mut own = cells;
+    note_from(&mut counter, &mut own[..k], values, i, more);
+    let n = note_of(counter, own);
+    n
 }
