@@ -6,9 +6,45 @@ returns: what each return's `ensures` is shown by, in the order of the MIR
 inv, measure: a loop's invariant and what falls, over {g} and the lists;  start, next, nearer: that the invariant holds first, and after a turn, and that the measure falls"""
 
 # where the call rule of a function stands, if not in its own crate
-HOME = {}
+HOME = {'tree_bounds::root::bounding_box': 'tree'}
+# .. and the machine values of a type
+VALUES = {'Contents': 'tree'}
 
 WALKS = {
-    'tree_node::arena::load': dict(uses=['Told.{load-told}'], req={'cell_at': 'ready'}, returns=['(load-told cells i r1 e1 r2 e2)']),
-    'tree_node::arena::store': dict(uses=['Told.{store-told}'], req={'lay_node': '(ready .1)', 'put_cell': '(ready .0)'}, returns=['(store-told cells i v₀ r1 e1 cells2 e2)']),
+    'tree_node::arena::load': dict(uses=['Told.{load-told}'], req={'cell_at': '{ready}'}, returns=['(load-told cells i r1 e1 r2 e2)']),
+    'tree_node::arena::store': dict(uses=['Told.{store-told}'], req={'lay_node': '({ready} .1)', 'put_cell': '({ready} .0)'}, returns=['(store-told cells i v₀ r1 e1 cells2 e2)']),
+    'tree::root::plant': dict(uses=['Descends.{plant-asks, plant-told}'], req={'bounding_box': '({ready} .0, {ready} .1)', 'store': '(plant-asks cells positions n c r1 e1 ({ready} .2))'}, returns=['(plant-told cells positions n c r1 e1 cells2 e2)']),
+    'tree::wellformed::tree_ok': dict(uses=['Looks.{Looks, looks-start, looks-in, looks-asks, looks-next, looks-nearer, looks-end}'],
+        inv='Looks n c used (nodesOf cells) {g}', measure='used - {g} .i',
+        start='looks-start n c used cells _ ln-cells r1 e1', next='looks-next n c used cells (s .g) (s .inv) r1 e1 yes1 r2 e2 r3 e3', nearer='looks-nearer n c used cells (s .g) (s .inv) r1 e1 yes1 r2 r3 e3',
+        req={'load': '(looks-in n c used cells (s .g) (s .inv) r1 e1 yes1)', 'looked': '(looks-asks n c used cells (s .g) (s .inv) r1 e1 yes1 {ready} _ ln-cells (room-cells .0))'},
+        returns=['(looks-end n c used cells (s .g) (s .inv) r1 e1 no1)']),
+    'tree::insertion::subdivide': dict(uses=['Descends.{Making, making-start, making-axes, making-place, making-few, making-asks, making-next, making-nearer, making-end}'],
+        inv='Making s₀ (nodesOf cells) {g} (nodesOf {cells})', measure='s₀ .out .fresh - {g} .made',
+        start='making-start s₀ (nodesOf cells) ({ready} .3)', next='making-next s₀ (nodesOf cells) (s .g) (s .cells′) (s .inv) r1 e1 yes1 r2 e2 r3 e3 cells4 e4 r5 e5', nearer='making-nearer s₀ (nodesOf cells) (s .g) (s .cells′) (s .inv) r1 e1 yes1 r5 e5',
+        req={'child_on': '(making-axes s₀ (nodesOf cells) (s .g) (s .cells′) (s .inv) r1 e1 yes1 ({ready} .0))',
+             'child_place': '(making-place s₀ (nodesOf cells) (s .g) (s .cells′) (s .inv) r1 e1 yes1 (length cells) (subst (λ (x : ℕ). x < 2 ^ 64) (sym ln-cells) (room-cells .0)) ({ready} .2))',
+             'store': '(making-asks s₀ (nodesOf cells) (s .g) (s .cells′) (s .inv) r1 e1 yes1 r2 e2 r3 e3 ({ready} .1) (length cells) ({len_cells} ∙ sym ln-cells) ({ready} .2))',
+             'made': '(making-few s₀ (nodesOf cells) (s .g) (s .cells′) (s .inv) r1 e1 yes1 (omega (arith, {ready} .2, ln-cells, room-cells .0)))'},
+        returns=['(making-end s₀ (nodesOf cells) (s .g) (s .cells′) (s .inv) r1 e1 no1)']),
+    'tree::insertion::level': dict(uses=['Descends.{level-in, level-met, level-stores, level-splits, level-steps, level-told}'],
+        req={'load': '(level-in w positions cells {ready} _ refl)', 'met': '(level-met w positions cells {ready} r1 e1)', 'store': '(level-stores w positions cells {ready} r1 e1 r2 e2 r3 e3)',
+             'subdivide': '(level-splits w positions cells {ready} r1 e1 r2 e2 cells4 r3 e4)', 'stepped': '(level-steps w positions cells {ready} r1 e1 r2 e2 _ ln-cells (room-cells .1))'},
+        returns=['(level-told w positions cells {ready} r1 e1 r2 e2 r3 e3 cells4 e4 cells5 e5 r6 e6)']),
+    'tree::insertion::needs': dict(uses=['Descends.{Probes, probesLeft, probes-start, probes-in, probes-asks, probes-next, probes-end}', 'Rattle.laws.proofs.Numbers.{row-in}'],
+        inv='Probes positions used j c (nodesOf cells) {g}', measure='probesLeft used {g}',
+        start='probes-start positions used j c (nodesOf cells) ({ready} .1) r1 e1',
+        next='probes-next positions n used j c cells ({ready} .2) ({ready} .3) ({ready} .5) (s .g) (s .inv) r1 e1 yes1 r2 e2 r3 e3 .0', nearer='probes-next positions n used j c cells ({ready} .2) ({ready} .3) ({ready} .5) (s .g) (s .inv) r1 e1 yes1 r2 e2 r3 e3 .1',
+        req={'probing': '({ready} .0, row-in j n c (length positions) ({ready} .4) ({ready} .3))', 'load': '(probes-in positions n used j c cells ({ready} .2) ({ready} .3) ({ready} .5) (s .g) (s .inv) r1 e1 yes1)',
+             'probed': '(probes-asks positions n used j c cells ({ready} .2) ({ready} .3) ({ready} .5) (s .g) (s .inv) r1 e1 yes1 r2 e2 ({ready} .0) _ ln-cells (room-cells .0))'},
+        returns=['(probes-end positions n used j c cells ({ready} .2) ({ready} .3) ({ready} .5) (s .g) (s .inv) r1 e1 no1)']),
+    'tree::insertion::insert': dict(uses=['Enters.{Enters, levelsLeft, needs-asks, enters-start, enters-asks, enters-deep, enters-next, enters-nearer, enters-end}', 'Rattle.laws.proofs.Numbers.{row-in}'],
+        inv='Enters positions n used j c (nodesOf cells) {g} (nodesOf {cells})', measure='levelsLeft positions n used j c (nodesOf cells) {g}',
+        start='enters-start positions n used j c cells r1 e1 ({ready} .6) ({ready} .1) ({ready} .2) _ ln-cells r2 e2',
+        next='enters-next positions n used j c cells (s .g) (s .cells′) (s .inv) r1 e1 yes1 ({ready} .4) r2 cells2 e2 r3 e3', nearer='enters-nearer positions n used j c cells (s .g) (s .cells′) (s .inv) r1 e1 yes1 ({ready} .4) r2 cells2 e2 r3 e3',
+        req={'needs': '({ready} .0, {ready} .1, {ready} .2, {ready} .3, {ready} .4, {ready} .6)',
+             'entering': '({ready} .0, row-in j n c (length positions) ({ready} .4) ({ready} .3), needs-asks positions n used j c cells r1 e1 ({ready} .0) _ ln-cells (room-cells .1) ({ready} .2))',
+             'level': '(enters-asks positions n used j c cells (s .g) (s .cells′) (s .inv) r1 e1 yes1 ({ready} .4) ({ready} .0) ({ready} .3) ({ready} .5))',
+             'lowered': '(enters-deep positions n used j c cells (s .g) (s .cells′) (s .inv) r1 e1 yes1 ({ready} .4) _ ln-cells (room-cells .0))'},
+        returns=['(enters-end positions n used j c cells (s .g) (s .cells′) (s .inv) r1 e1 no1 r4 e4)']),
 }

@@ -1,5 +1,6 @@
 """How types are spelt in a printed proof, the context of a proof as a list of names, and the `use` lines of a printed text."""
 import re
+import cited
 from source import *
 
 LIBRARY = '''mathlib.Core.Path: _≡_ refl sym _∙_ ap subst
@@ -109,8 +110,9 @@ class Types:
             if t in toks: out += 'use %s.{%s}\n' % (module(crate, 'specs', 'declared.' + t, self.here), t)
             if t + '′' in toks: out += 'use %s as %s′\n' % (module(crate, 'proofs', t, self.here), t)
             if t + '″' in toks: out += 'use %s as %s″\n' % (module(crate, 'proofs', t + '.Laws', self.here), t)
-        for crate in sorted({x[0] for x in self.known.values()}):
-            names = [n for t in sorted(self.known) if self.home(t) == crate for n in ('val-' + t, 'Is' + t) if n in toks]
+        spot = lambda t: cited.VALUES.get(t, self.home(t))
+        for crate in sorted({spot(t) for t in self.known}):
+            names = [n for t in sorted(self.known) if spot(t) == crate for n in ('val-' + t, 'Is' + t) if n in toks]
             if names: out += 'use %s.{%s}\n' % (module(crate, 'proofs', 'Values', self.here), ', '.join(names))
         return out
 
@@ -137,5 +139,5 @@ def values(crate, names):
     o = ''
     for n in names: o += 'abbrev pub val-%s : %s → Val\nval-%s = %s.val %s′.the-type %s″.the-laws\n\nabbrev pub Is%s : %s → Type 0\nIs%s x = Is %s′.the-row x (val-%s x ∷ [])\n\n' % (n, n, n, T.laws(n), n, n, n, n, n, n, n)
     head = '-- The machine values of the types of `%s`, and that a value has its own. Printed (tests/walks). Assumes nothing.\n' % crate
-    use = library_uses(o, {}) + ''.join('use %s.{%s}\nuse %s as %s′\nuse %s as %s″\n' % (module(crate, 'specs', 'declared.' + t, crate), t, module(crate, 'proofs', t, crate), t, module(crate, 'proofs', t + '.Laws', crate), t) for t in names)
+    use = library_uses(o, {}) + ''.join('use %s.{%s}\nuse %s as %s′\nuse %s as %s″\n' % (module(T.home(t), 'specs', 'declared.' + t, crate), t, module(T.home(t), 'proofs', t, crate), t, module(T.home(t), 'proofs', t + '.Laws', crate), t) for t in names)
     open('crates/%s/proofs/Values.antt' % crate, 'w').write(head + use + '\n' + o.rstrip('\n') + '\n')

@@ -1,10 +1,10 @@
 """Prints the proof of a function by a walk of its MIR: a function with no loop, or one with one loop over a state by value.
 
 It follows what each local holds. What a call asks and what the returns cite is told in cited.py, by the names that a walk gives:
-    X, ln-X, room-X, g-X    a lent list, its length, its room; what is known of a number X; `ready`: the function's `requires`
+    X, ln-X, room-X, g-X    a lent list, its length, its room; what is known of a number X
     rN, eN, isN             the result of the Nth call, what it ensures, its relation;  XN, l-XN    the list X after it, its length
     yesN, noN               the Nth test holds, fails;      s .g, s .X′, s .inv     in a loop: its state, the lists, its invariant
-{X} is the list X as it is at that place, {len_X} its length."""
+{X} is the list X as it is at that place, {len_X} its length, {ready} the function's `requires`."""
 import os
 from text import *
 from calls import rule_file
@@ -24,8 +24,8 @@ class Walker:
         w.callees = {}                      # path -> (module of its rule, the rules that are used)
         w.cur = {n: n for n, _ in w.sl}; w.len = {n: 'ln-' + n for n, _ in w.sl}
         w.v = {}                            # local -> (type, term, what is known of it)
-        w.nth = w.ret = w.close = w.tests = 0; w.run = None
-    def fill(w, s): return s.format(**w.cur, **{'len_' + n: x for n, x in w.len.items()})
+        w.nth = w.ret = w.close = w.tests = 0; w.run = None; w.ready = 'ready'
+    def fill(w, s): return s.format(ready=w.ready, **w.cur, **{'len_' + n: x for n, x in w.len.items()})
     # ---- what a local holds
     def what(w, t, term, g):
         if slice_of(t): return '(tt, (tt, (record { fits = room-%s .0 }, tt)))' % term
@@ -269,19 +269,19 @@ class Walker:
         turn, rest = s[1][1][1], s[2]
         last = turn[2][2]
         while last[0] == 'seq': last = last[2]
-        k = int(last[1][1]); ty, term, g = w.v[k]
+        k = int(last[1][1]); ty, term, known = w.v[k]
         begin.append(' '.join('forget ! %d refl $' % w.pos(i) for i in sorted(w.v, reverse=True) if i > len(w.P) and i != k))
         wrote = {i: w.v[i] for i in w.v if i <= len(w.P) or i == k}; wrote[k] = (ty, 's .g', w.T.fact(ty, 's .is'))
         w.c.move([x for n, _ in w.sl for x in ('H' + n, 'T' + n)]); begin.append(w.c.text())
-        state = lambda g_, is_, lists, lens, inv: 'record { g = %s; %sis = %s; %sinv = %s }' % (g_, ''.join('%s′ = %s; ' % (n, lists[n]) for n in w.muts), is_, ''.join('l-%s = %s; ' % (n, lens[n]) for n in w.muts), inv)
-        begin.append('keep ! (%s []) $ by ! (loop-from %s (%s))' % (' '.join('%d ∷' % i for i in range(len(w.sl) * 2 + w.n * 2)), w.ls, state(term, 'is' + term[1:], w.cur, w.len, w.fill(hint['start']))) + ')' * (w.close + w.n))
+        state = lambda g_, is_, lists, lens, inv: 'record { g = %s; %sis = %s; %s%sinv = %s }' % (g_, ''.join('%s′ = %s; ' % (n, lists[n]) for n in w.muts), is_, ''.join('l-%s = %s; ' % (n, lens[n]) for n in w.muts), 'ready = %s; ' % w.ready if w.f['req'] else '', inv)
+        begin.append('keep ! (%s []) $ by ! (loop-from %s (%s))' % (' '.join('%d ∷' % i for i in range(len(w.sl) * 2 + w.n * 2)), w.ls, state(term, known, w.cur, w.len, w.fill(hint['start']))) + ')' * (w.close + w.n))
         # a turn
         Inv = hint['inv']
-        o += '  -- what the loop\'s variable and the lists hold, and what is known of it\n  pub record State : Type 0 where\n    pub g : %s\n%s    pub is : Is%s g\n%s    pub inv : %s\n\n' % (ty, ''.join('    pub %s′ : List %s\n' % (n, w.X[n]) for n in w.muts), ty, ''.join('    pub l-%s : length %s′ ≡ s-%s .count\n' % (n, n, n) for n in w.muts), Inv.format(g='g', **{n: n + '′' if n in w.muts else n for n, _ in w.sl}))
+        o += '  -- what the loop\'s variable and the lists hold, and what is known of it\n  pub record State : Type 0 where\n    pub g : %s\n%s    pub is : Is%s g\n%s%s    pub inv : %s\n\n' % (ty, ''.join('    pub %s′ : List %s\n' % (n, w.X[n]) for n in w.muts), ty, ''.join('    pub l-%s : length %s′ ≡ s-%s .count\n' % (n, n, n) for n in w.muts), '    pub ready : %s\n' % w.f['req'] if w.f['req'] else '', Inv.format(g='g', **{n: n + '′' if n in w.muts else n for n, _ in w.sl}))
         cur = {n: '(s .%s′)' % n if n in w.muts else n for n, _ in w.sl}
         o += '  abbrev left : State → ℕ\n  left s = %s\n\n  abbrev Nearer : State → State → Type 0\n  Nearer t s = left t < left s\n\n  Nearer-wf : WellFounded Nearer\n  Nearer-wf = InvImage·wf left (Nat·lt-wfRel .wf)\n\n' % hint['measure'].format(g='(s .g)', **cur)
         w.c = Ctx([x for n, _ in w.sl for x in ('H' + n, 'T' + n)] + [x for i in reversed(range(w.n)) for x in ('L%d' % i, 'D%d' % i)])
-        w.v = dict(wrote); w.cur = dict(cur); w.len = {n: '(s .l-%s)' % n if n in w.muts else 'ln-' + n for n, _ in w.sl}; w.close = 0; w.nth = 0
+        w.ready = '(s .ready)'; w.v = dict(wrote); w.cur = dict(cur); w.len = {n: '(s .l-%s)' % n if n in w.muts else 'ln-' + n for n, _ in w.sl}; w.close = 0; w.nth = 0
         L = w.stmt(turn[1]).split('\n'); test = turn[2]
         L.append('first ! $ branches ! %s' % w.opd(test[1][1], 0)[0])
         keep = (dict(w.v), dict(w.cur), dict(w.len), list(w.c.l), w.close); w.close = 0
@@ -291,8 +291,8 @@ class Walker:
         A.append(w.stmt(b).replace('assigns !', 'assigns-last !'))
         A.append(' '.join('forget ! %d refl $' % w.pos(i) for i in sorted(w.v, reverse=True) if i not in wrote))
         w.c.move([x for n, _ in w.sl for x in ('H' + n, 'T' + n)]); A.append(w.c.text())
-        t_ = w.v[k][1]
-        A.append('again ! Nearer At s (%s) (%s)' % (state(t_, 'is' + t_[1:], w.cur, w.len, w.fill(hint['next'])), w.fill(hint['nearer'])) + ')' * (w.close + 1))
+        _, t_, known = w.v[k]
+        A.append('again ! Nearer At s (%s) (%s)' % (state(t_, known, w.cur, w.len, w.fill(hint['next'])), w.fill(hint['nearer'])) + ')' * (w.close + 1))
         A = [x for x in A if x]
         w.v, w.cur, w.len, w.c.l, w.close = keep; before = w.close; w.close = 0
         B = ['(λ no1. jumps ! $ exec ! C Λ En pieces.t-%d (atRet En Post) $' % (top + 1)]

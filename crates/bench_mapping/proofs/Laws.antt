@@ -15,7 +15,7 @@ use Rattle.laws.specs.Loops.{first}
 use Rattle.frames.specs.Frames.{recordBytes, framesOf, badAt, wholeRecords}
 use Rattle.run_record.specs.declared.Settings.{Settings}
 use Rattle.run_record.specs.declared.Run.{Run}
-use Rattle.tree_node.specs.Areas.{nodesOf}
+use Rattle.tree_node.specs.Arena.{nodesOf}
 use Rattle.run_entry.specs.State.{State, state}
 use Rattle.run_budget.specs.declared.Answer.{Answer}
 use Rattle.run_budget.specs.Budget.{worked}

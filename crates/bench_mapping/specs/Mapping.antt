@@ -13,7 +13,7 @@ use Rattle.frames.specs.declared.Frames.the-variants.{Good, Bad}
 use Rattle.frames.specs.Frames.{recordBytes, framesOf, frameOf}
 use Rattle.run_record.specs.declared.Method.the-variants.{BarnesHut}
 use Rattle.run_record.specs.declared.Settings.{Settings}
-use Rattle.tree_node.specs.Areas.{nodesOf}
+use Rattle.tree_node.specs.Arena.{nodesOf}
 use Rattle.run_entry.specs.State.{state}
 use Rattle.run_budget.specs.declared.Answer.{Answer}
 use Rattle.run_budget.specs.Budget.{Worked}

@@ -10,7 +10,7 @@ use lib.Ieee.{Float, nan}
 use Rattle.laws.specs.Area.{at, num}
 use Rattle.laws.proofs.Changed.{drop-later}
 use Rattle.tree_node.specs.declared.Node.{Node}
-use Rattle.tree_node.specs.Areas.{threeAt, rowAt, nodeCount, nodesOf, nodeAt, blank, Rest, arenaRest}
+use Rattle.tree_node.specs.Arena.{threeAt, rowAt, nodeCount, nodesOf, nodeAt, blank, Rest, arenaRest}
 use Rattle.tree_node.proofs.Flat.{length-nodes, node-row, row-in}
 use Rattle.run_entry.specs.State.{State}
 use Rattle.descent.specs.Descent.{work}

@@ -13,7 +13,7 @@ use Rattle.run_record.specs.declared.Run.{Run}
 use Rattle.run_record.specs.Record.{isTree, isEnded, advancedOf}
 use Rattle.tree_node.specs.declared.Node.{Node}
 use Rattle.tree_bodies.specs.declared.Acc.{Acc}
-use Rattle.tree_node.specs.Areas.{Rest}
+use Rattle.tree_node.specs.Arena.{Rest}
 use Rattle.tree_node.specs.Node.{pointOf}
 use Rattle.tree.specs.Insert.{Tree, tree, Insertion, insertion}
 use Rattle.tree_bounds.specs.Bounds.{boxOf}

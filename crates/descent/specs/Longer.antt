@@ -4,7 +4,7 @@ use mathlib.Core.List.{List, _++_}
 use Prim.Native.Nat.{ℕ}
 use lib.Ieee.{Float}
 use Rattle.tree_node.specs.declared.Node.{Node}
-use Rattle.tree_node.specs.Areas.{Rest, nodesOf, arenaRest}
+use Rattle.tree_node.specs.Arena.{Rest, nodesOf, arenaRest}
 use Rattle.run_entry.specs.State.{State}
 
 -- s with another arena; the record and the other areas are as they are

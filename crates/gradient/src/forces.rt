@@ -7,7 +7,7 @@ ghost use Rattle.laws.specs.Domain.{mostFrames};
 ghost use Rattle.laws.specs.Area.{at, num};
 ghost use Rattle.laws.specs.Loops.{loop};
 ghost use Rattle.tree_node.specs.Node.{Axes, zeros3, pointOf};
-ghost use Rattle.tree_node.specs.Areas.{nodesOf};
+ghost use Rattle.tree_node.specs.Arena.{nodesOf};
 ghost use Rattle.tree.specs.Insert.{tree, shaped};
 ghost use Rattle.gradient_pairs.specs.Links.{pulled};
 ghost use Rattle.gradient.specs.Forces.{linkStep, attractionOf, Below, Linked, placeOf, putStep, stored, forcesOf};

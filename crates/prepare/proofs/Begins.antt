@@ -25,7 +25,7 @@ use Rattle.affinity.proofs.Kept.{weights-kept, indices-kept}
 use Rattle.affinity.proofs.Listed.{not-all-neighbours}
 use Rattle.affinity.proofs.Named.{rows-named}
 use Rattle.run_calls.specs.Machine.{together}
-use Rattle.tree_node.specs.Areas.{nodesOf}
+use Rattle.tree_node.specs.Arena.{nodesOf}
 use Rattle.run_record.specs.declared.Settings.{Settings}
 use Rattle.run_record.specs.declared.Run.{Run}
 use Rattle.run_record.specs.Record.{isTree, stateFits, kOf, sizesOf}

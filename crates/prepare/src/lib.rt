@@ -7,7 +7,7 @@ ghost use Rattle.laws.specs.Joined.{pasted};
 ghost use Rattle.affinity_lists.specs.Lists.{areas, cleared};
 ghost use Rattle.affinity_near.specs.Distances.{squaresOf};
 ghost use Rattle.affinity.specs.Exact.{exactOf};
-ghost use Rattle.tree_node.specs.Areas.{nodesOf};
+ghost use Rattle.tree_node.specs.Arena.{nodesOf};
 ghost use Rattle.run_record.specs.Record.{GoodSettings};
 ghost use Rattle.prepare.specs.Room.{RouteRoom};
 ghost use Rattle.prepare.specs.Prepare.{allIn, lengthsFit, prepareFault, freshRun, routed, lent, outcome, prepared};

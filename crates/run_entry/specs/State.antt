@@ -4,7 +4,7 @@ use Prim.Native.Nat.{ℕ}
 use lib.Ieee.{Float}
 use Rattle.run_record.specs.declared.Run.{Run}
 use Rattle.tree_node.specs.declared.Node.{Node}
-use Rattle.tree_node.specs.Areas.{Rest, nodesOf, arenaRest}
+use Rattle.tree_node.specs.Arena.{Rest, nodesOf, arenaRest}
 
 -- the areas; the arena as the nodes that its two flat areas stand for, and what lies past them: the two tell the flat areas whole
 pub record Memory : Type 0 where

@@ -6,7 +6,7 @@ ghost use lib.ListN.{length};
 ghost use Rattle.laws.specs.Domain.{mostFrames};
 ghost use Rattle.laws.specs.Loops.{first};
 ghost use Rattle.tree_node.specs.Node.{Axes};
-ghost use Rattle.tree_node.specs.Areas.{nodesOf};
+ghost use Rattle.tree_node.specs.Arena.{nodesOf};
 ghost use Rattle.run_record.specs.Record.{GoodSettings, sizesOf};
 ghost use Rattle.run_entry.specs.Entry.{offsetFine, indexFine, treeFits, areasFit, isFine, faultNumber, treeFault, treeFaultAt, contentsFault, recordFault, faultAt, ContentsRoom};
 use run_record::Run;

@@ -9,7 +9,7 @@ use borrow.Author.Tests.{eq-eqb, ne-eqb}
 use Rattle.run_record.specs.declared.Run.{Run}
 use Rattle.run_record.specs.Record.{isEnded, advancedOf}
 use Rattle.tree_node.specs.declared.Node.{Node}
-use Rattle.tree_node.specs.Areas.{Rest}
+use Rattle.tree_node.specs.Arena.{Rest}
 use Rattle.run_entry.specs.State.{State}
 use Rattle.run_units.specs.declared.Why.{Why}
 use Rattle.run_units.specs.declared.Why.the-variants.{Over}

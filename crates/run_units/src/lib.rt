@@ -2,7 +2,7 @@
 ghost use mathlib.Core.Path.{_≡_};
 ghost use Prim.Native.Nat.{_+_, _*_, _≤_};
 ghost use lib.ListN.{length};
-ghost use Rattle.tree_node.specs.Areas.{nodesOf, arenaRest};
+ghost use Rattle.tree_node.specs.Arena.{nodesOf, arenaRest};
 ghost use Rattle.run_record.specs.Record.{advancedOf};
 ghost use Rattle.run_entry.specs.State.{memory, state};
 ghost use Rattle.run_entry.specs.Entry.{Workable};

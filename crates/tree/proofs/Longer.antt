@@ -18,7 +18,8 @@ use Rattle.tree_turns.specs.declared.Out.{Out}
 use Rattle.tree_bodies.specs.declared.Acc.{Acc}
 use Rattle.tree_node.specs.Node.{pointOf}
 use Rattle.tree_turns.specs.Turns.{childOf, turnOf}
-use Rattle.tree_node.specs.Areas.{nodeAt, blank}
+use Rattle.tree_node.specs.Arena.{nodeAt, blank}
+use Rattle.tree_node.proofs.Told.{nameable-most, nameable-longer}
 use Rattle.tree_bodies.specs.Bodies.{kindOf}
 use Rattle.tree.specs.Insert.{Tree, tree, subdivided, turnAt, levelled, levelAt, inserted, Insertion, insertion, insertOf, treeOk, built}
 use Rattle.tree_contents.specs.Contents.{nodeOk}
@@ -44,7 +45,7 @@ pub insert-fits : (y : List Float) (n c m j : ℕ) (t : Tree) → j < n → 1 �
 insert-fits y n c m j t hj hm f e =
     let fit = taken-fits y c j t e in
     let r = taken-ends y c j t n m hj hm (f .sound) (f .some) (f .within) fit in
-    record { some = omega (arith, r .used, f .some); within = omega (arith, r .used, r .nodes, fit); sound = r .tree }
+    record { some = omega (arith, r .used, f .some); within = omega (arith, r .used, r .nodes, fit, nameable-most (length (t .nodes))); sound = r .tree }
 
 module _ (more : List Node) where
   -- the same nodes in use, in an arena with further nodes behind it
@@ -117,8 +118,8 @@ module _ (more : List Node) where
       let p = pointOf y c j in
       let fit = taken-fits y c j t e in
       let ll = length-append ns more in
-      taken y c j (extended t) (omega (arith, fit, needs-longer y n c m j t f, ll))
-      ∙ ap (insertion false) (inserted-longer n c m (length ns) (t .used + needed y c j t) y p j hj hm fit (length ns) (length (ns ++ more)) 0 0 t (ok-start n c m y p t (f .sound) (f .some) (f .within)) (omega arith) (omega (arith, ll))
+      taken y c j (extended t) (omega (arith, fit, needs-longer y n c m j t f, nameable-longer (length ns) (length (ns ++ more)) (omega (arith, ll))))
+      ∙ ap (insertion false) (inserted-longer n c m (length ns) (t .used + needed y c j t) y p j hj hm (omega (arith, fit, nameable-most (length ns))) (length ns) (length (ns ++ more)) 0 0 t (ok-start n c m y p t (f .sound) (f .some) (f .within)) (omega arith) (omega (arith, ll))
       ∙ ap (λ (x : Insertion). extended (x .tree)) (sym (taken y c j t fit)))
 
   -- ---- all points: what was built without a refusal, the longer arena holds too

@@ -13,7 +13,7 @@ use Rattle.tree_node.specs.declared.Node.{Node}
 use Rattle.tree_bodies.specs.declared.Acc.{Acc}
 use Rattle.tree_node.specs.declared.Leaf.{Leaf}
 use Rattle.tree_node.specs.declared.Leaf.the-variants.{Empty, Occupied}
-use Rattle.tree_node.specs.Areas.{nodeAt}
+use Rattle.tree_node.specs.Arena.{nodeAt}
 use Rattle.tree.specs.Insert.{Tree, treeOk}
 use Rattle.tree_bodies.specs.Bodies.{leafKind, kindOf, bodyOf}
 use Rattle.tree.specs.Repel.{walkOf}

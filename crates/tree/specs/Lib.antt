@@ -1,4 +1,5 @@
 pub mod Insert
+pub mod Ways
 pub mod Box
 pub mod Contents
 pub mod Repel

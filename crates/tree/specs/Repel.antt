@@ -10,7 +10,7 @@ use Rattle.tree_node.specs.declared.Node.{Node}
 use Rattle.tree_bodies.specs.declared.Acc.{Acc}
 use Rattle.laws.specs.Area.{zero64}
 use Rattle.tree_node.specs.Node.{zeros3}
-use Rattle.tree_node.specs.Areas.{nodeAt}
+use Rattle.tree_node.specs.Arena.{nodeAt}
 use Rattle.tree_bodies.specs.Bodies.{kindOf, bodyOf}
 
 -- ---- the walk from node i, at most g levels deep, children rising

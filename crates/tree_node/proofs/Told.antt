@@ -1,7 +1,7 @@
 -- Laws of the arena: what the cells say of the nodes, and that the nodes tell the cells whole. Assumes nothing.
 use mathlib.Core.Path.{_≡_, refl, sym, _∙_, ap}
 use mathlib.Core.List.{List, [], _∷_, map, _++_}
-use Prim.Native.Nat.{ℕ, zero, suc, _+_, _-_, _<_, _≤_}
+use Prim.Native.Nat.{ℕ, zero, suc, _+_, _-_, _≤_, min}
 use native.Mathlib.Omega.{arith}
 use lib.ListN.{length, set, length-map}
 use borrow.Author.Tests.{ne-eqb}
@@ -10,7 +10,7 @@ use Rattle.tree_node.specs.declared.Node.{Node}
 use Rattle.tree_node.specs.declared.Cell.{Cell}
 use Rattle.tree_node.specs.declared.Leaf.{Leaf}
 use Rattle.tree_node.specs.declared.Leaf.the-variants.{Empty, Occupied}
-use Rattle.tree_node.specs.Arena.{leafOf, leafWord, nodeOf, laidOf, nodesOf, cellAt, nodeAt}
+use Rattle.tree_node.specs.Arena.{leafOf, leafWord, nodeOf, laidOf, nodesOf, cellAt, nodeAt, nameable}
 
 -- ---- a cell and its node
 
@@ -72,6 +72,23 @@ laid-all (x ∷ cs) = rw (read-laid x, laid-all cs)
 -- an equation between the nodes of two arenas is one between the arenas
 pub cells-told : (cs ds : List Cell) → nodesOf cs ≡ nodesOf ds → cs ≡ ds
 cells-told cs ds e = sym (laid-all cs) ∙ ap (map laidOf) e ∙ laid-all ds
+
+-- ---- what a word can name
+
+pub nameable-most : (n : ℕ) → nameable n ≤ n
+unfolding nameable
+nameable-most n = omega arith
+
+pub nameable-word : (n : ℕ) → nameable n ≤ mostWord
+unfolding nameable
+nameable-word n = omega arith
+
+pub nameable-both : (k n : ℕ) → k ≤ n → k ≤ mostWord → k ≤ nameable n
+unfolding nameable
+nameable-both k n a b = omega (arith, a, b)
+
+pub nameable-longer : (n m : ℕ) → n ≤ m → nameable n ≤ nameable m
+nameable-longer n m h = nameable-both (nameable n) m (omega (arith, h, nameable-most n)) (nameable-word n)
 
 -- ---- what `load` and `store` cite
 

@@ -3,8 +3,8 @@ use Rattle.tree.proofs.Grow.{Splits, splits-few, splits-go, splits-last
 use Prim.Native.Nat.{_-_}
 use borrow.Author.Needs.{needs}
 use native.Mathlib.Omega.{arith}
-use Rattle.tree.proofs.insertion.splits.Statement.{statement}
-use Rattle.tree.proofs.insertion.splits.Tie as tie
+use Rattle.tree.proofs.ways.splits.Statement.{statement}
+use Rattle.tree.proofs.ways.splits.Tie as tie
 
 abbrev Inv-loop : tie.InvT-loop
 Inv-loop q p c depth z₀ h₀ n₀ d₀ z h n d = Splits c q p depth z₀ h₀ z h n d
