@@ -4,3 +4,5 @@ pub mod Again
 pub mod Pass
 pub mod Lies
 pub mod Holds
+pub mod One
+pub mod Local

@@ -1,0 +1,16 @@
+"""What the printed walks of functions that lend locals cite (as tests/walks/cited.py). within: that the count of a part that is lent is at most the array's length."""
+
+HOME = {}
+
+WALKS = {
+    'lent_examples::put_in': dict(req={'put_cell': '(subst (λ (m : ℕ). i < m) (sym {len_own4}) ready)'}, returns=['e1']),
+    'lent_examples::get_from': dict(req={'cell_at': '(subst (λ (m : ℕ). i < m) (sym {len_own3}) ready)'}, returns=['e1']),
+    'lent_examples::put_front': dict(within='(ready .1)', uses=['Parts.{in-part, put-part}'], req={'put_cell': '(in-part {own5} k₀ i {len_own5} (ready .0))'}, returns=['(put-part k₀ i cells v₀ own51 (ready .0) e1)']),
+    'lent_examples::front_at': dict(within='(ready .1)', uses=['Parts.{in-part, at-part}'], req={'cell_at': '(in-part {own4} k₀ i {len_own4} (ready .0))'}, returns=['(e1 ∙ at-part k₀ i cells (ready .0))']),
+    'lent_examples::bump': dict(req={'counted': 'ready'}, returns=['e1']),
+    'lent_examples::bumped': dict(req={'bump': 'ready'}, returns=['e1']),
+    'lent_examples::put_from': dict(uses=['Parts.{from-told}'], req={'cell_at': '(ready .0)', 'value_at': '(ready .1)', 'put_cell': '(ready .0)', 'put_mark': '(ready .2)'}, returns=['(from-told i m cells values marks r1 r2 r3 cells4 marks5 e1 e2 e3 e4 e5)']),
+    'lent_examples::put_from_own': dict(within='(ready .1)', uses=['Parts.{in-part, own-told}'], req={'put_from': '(in-part {own7} k₀ i {len_own7} (ready .0), ready .2, ready .3)'}, returns=['(own-told k₀ i m cells values marks (ready .0) r1 own71 marks1 e1 r2 e2)']),
+    'lent_examples::note_from': dict(uses=['Parts.{note-told}'], req={'value_at': '(ready .2)', 'counted': '(ready .0)', 'cell_at': '(ready .1)', 'put_cell': '(ready .1)'}, returns=['(note-told i more c cells values r1 r2 r3 r4 {cells} e1 e2 e3 e4 e5)']),
+    'lent_examples::note_own': dict(within='(ready .2)', uses=['Parts.{in-part, noted-told}'], req={'note_from': '(ready .0, in-part {own8} k₀ i {len_own8} (ready .1), ready .3)'}, returns=['(noted-told k₀ i more c cells values (ready .1) {own7} own81 e1 r2 e2)']),
+}
