@@ -90,10 +90,10 @@ fn is_short(words: usize) -> bool
 }
 
 // Whether the words are no record.
-fn is_unread(record: &[u64]) -> bool
-    ensures { λ r. ⌜ r ≡ not (runFine (now («record» .entry))) ⌝ }
+fn is_unread(words: &[u64]) -> bool
+    ensures { λ r. ⌜ r ≡ not (runFine (now (words .entry))) ⌝ }
 {
-    !run_fine(record)
+    !run_fine(words)
 }
 
 // What is said of words that are no record: bad counters.
@@ -113,7 +113,7 @@ fn number_of(a: Answer) -> u32
 // Does units of a run. Answers 0, or the number of the refusal, and writes the answer's words. The work call is lent a record of this function's own, made of the words.
 #[no_mangle]
 pub extern "C" fn brothanchor_work(
-    record: &mut [u64],
+    words: &mut [u64],
     positions: &mut [f64],
     increments: &mut [f64],
     gains: &mut [f64],
@@ -125,18 +125,18 @@ pub extern "C" fn brothanchor_work(
     budget: u32,
     answer: &mut [u64],
 ) -> u32
-    ensures { λ k. ⌜ tell k (now (answer .exit)) (now («record» .exit)) (memory (now (positions .exit)) (now (increments .exit)) (now (gains .exit)) (now (affinities .entry)) (now (indices .entry)) (now (offsets .entry)) (now (forces .exit)) (now (cells .exit))) ≡ hostWork budget (now («record» .entry)) (now (answer .entry)) (memory (now (positions .entry)) (now (increments .entry)) (now (gains .entry)) (now (affinities .entry)) (now (indices .entry)) (now (offsets .entry)) (now (forces .entry)) (now (cells .entry))) ⌝ }
+    ensures { λ k. ⌜ tell k (now (answer .exit)) (now (words .exit)) (memory (now (positions .exit)) (now (increments .exit)) (now (gains .exit)) (now (affinities .entry)) (now (indices .entry)) (now (offsets .entry)) (now (forces .exit)) (now (cells .exit))) ≡ hostWork budget (now (words .entry)) (now (answer .entry)) (memory (now (positions .entry)) (now (increments .entry)) (now (gains .entry)) (now (affinities .entry)) (now (indices .entry)) (now (offsets .entry)) (now (forces .entry)) (now (cells .entry))) ⌝ }
 {
     let short = is_short(answer.len());
     if short {
         return 12;
     }
-    let unread = is_unread(record);
+    let unread = is_unread(words);
     if unread {
         put_unread(answer);
         return 13;
     }
-    let mut own = run_of(record);
+    let mut own = run_of(words);
     let a = work(
         &mut own,
         positions,
@@ -150,7 +150,7 @@ pub extern "C" fn brothanchor_work(
         budget,
     );
     let next = own;
-    put_after(record, a, next);
+    put_after(words, a, next);
     put_answer(answer, a);
     let k = number_of(a);
     k
