@@ -47,7 +47,7 @@ def word(n, to, text): return re.sub(r"(?<![\w′₀·.-])(?<! \.)%s(?![\w′₀
 def function(path):
     crate, mods, fn = split(path)
     text = texts(crate)[file_of(crate, mods)]
-    m = re.search(r'^(?:pub )?fn %s\(' % fn, text, re.M)
+    m = re.search(r'^(?:pub )?(?:extern "C" )?fn %s\(' % fn, text, re.M)
     if not m: raise Exception('no function ' + path)
     i = m.end() - 1; j = closing(text, i)
     own = [p.strip().split(': ', 1) for p in re.split(r',(?![^\[]*\])', text[i + 1:j]) if p.strip()]
@@ -60,7 +60,7 @@ def function(path):
             s = m.group(2)
             if m.group(1) and m.group(1) != '_': s = globals()['word'](m.group(1), 'res', s)
             for n, _ in own:
-                s = re.sub(r'\(?now \(%s \.exit\)\)?' % n, n + '′', s) if False else s.replace('now (%s .exit)' % n, n + '′').replace('now (%s .entry)' % n, n)
+                s = s.replace('now (%s .exit)' % n, renamed(n) + '′').replace('now (%s .entry)' % n, n)
                 s = re.sub(r'now %s(?!\w)' % n, n, s)
                 if renamed(n) != n: s = globals()['word'](n, renamed(n), s)
             s = re.sub(r'\((\w+[′₀]*)\)', r'\1', s)
