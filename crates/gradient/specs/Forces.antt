@@ -10,7 +10,7 @@ use Rattle.tree_node.specs.declared.Node.{Node}
 use Rattle.tree_bodies.specs.declared.Acc.{Acc}
 use Rattle.tree_node.specs.Node.{zeros3, pointOf}
 use Rattle.gradient_pairs.specs.Links.{pulled}
-use Rattle.tree.specs.Repel.{repelled}
+use Rattle.tree_walk.specs.Repel.{repelled}
 
 -- the lists as they lie: a link's weight and the frame it names
 abbrev pub linkStep : Float → ℕ → List Float → List Float → List ℕ → List Float → ℕ → ℕ → List Float → List Float

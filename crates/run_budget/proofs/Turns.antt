@@ -18,7 +18,7 @@ use Rattle.tree_node.specs.declared.Node.{Node}
 use Rattle.tree_bodies.specs.declared.Acc.{Acc}
 use Rattle.tree.specs.Insert.{Tree, tree, needsOf, inserted, Insertion, insertion, insertOf}
 use Rattle.gradient.specs.Forces.{stored, placeOf, putStep, attractionOf, forcesOf}
-use Rattle.tree.specs.Repel.{repelled}
+use Rattle.tree_walk.specs.Repel.{repelled}
 use Rattle.tree_node.specs.Node.{pointOf}
 use Rattle.gradient_pairs.specs.Exact.{numStep, pullsOf}
 use Rattle.gradient.specs.Exact.{totalRow, slopeStep, gradientRow}

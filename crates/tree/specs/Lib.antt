@@ -2,4 +2,3 @@ pub mod Insert
 pub mod Ways
 pub mod Box
 pub mod Contents
-pub mod Repel

@@ -2,13 +2,13 @@
 use mathlib.Core.Path.{_≡_}
 use mathlib.Core.List.{List}
 use mathlib.Core.Bool.{true, false}
-use Prim.Native.Nat.{ℕ, zero, suc, _+_, _^_, _≤_}
+use Prim.Native.Nat.{ℕ, zero, suc, _+_, _^_, _<_, _≤_}
 use lib.Dec.{eqb}
 use lib.Ieee.{Float}
 use Rattle.laws.specs.Loops.{loop}
+use Rattle.laws.specs.Area.{zero64}
 use Rattle.tree_node.specs.declared.Node.{Node}
 use Rattle.tree_bodies.specs.declared.Acc.{Acc}
-use Rattle.laws.specs.Area.{zero64}
 use Rattle.tree_node.specs.Node.{zeros3}
 use Rattle.tree_node.specs.Arena.{nodeAt}
 use Rattle.tree_bodies.specs.Bodies.{kindOf, bodyOf}
@@ -27,9 +27,13 @@ walkOf (suc g) c q p theta2 ns i acc =
       ]
     ]
 
--- r is what the walks from the children at f give, one after the other, whatever number of levels is allowed, if it reaches the last used node
-abbrev pub Walked : ℕ → ℕ → ℕ → List Float → Float → List Node → ℕ → Acc → Acc → Type 0
-Walked used c q p theta2 ns f acc r = (g : ℕ) → used ≤ f + g → r ≡ loop (λ b a. walkOf g c q p theta2 ns (f + b) a) (2 ^ c) 0 acc
+-- the walks from n nodes, one after the other, from node f on
+abbrev pub walkedOver : ℕ → ℕ → ℕ → List Float → Float → List Node → ℕ → ℕ → Acc → Acc
+walkedOver used c q p theta2 ns f n acc = loop (λ b a. walkOf used c q p theta2 ns (f + b) a) n 0 acc
+
+-- the children of each used node lie above it, wholly among the used ones: all that the walk asks of an arena
+abbrev pub Blocks : ℕ → ℕ → List Node → Type 0
+Blocks used c ns = (i : ℕ) → i < used → (nodeAt ns i .first ≡ 0 → ⊥) → (i < nodeAt ns i .first) × (nodeAt ns i .first + 2 ^ c ≤ used)
 
 abbrev pub nothing : Acc
 nothing = record { neg = zeros3; sum = zero64 }
