@@ -8,7 +8,7 @@ inv, measure: a loop's invariant and what falls, over {g} and the lists;  start,
 # where the call rule of a function stands, if not in its own crate
 HOME = {'tree_bounds::root::bounding_box': 'tree'}
 # .. and the machine values of a type
-VALUES = {'Contents': 'tree'}
+VALUES = {'Contents': 'tree', 'Acc': 'tree_walk'}
 
 WALKS = {
     'tree_node::arena::load': dict(uses=['Told.{load-told}'], req={'cell_at': '{ready}'}, returns=['(load-told cells i r1 e1 r2 e2)']),
@@ -47,4 +47,12 @@ WALKS = {
              'level': '(enters-asks positions n used j c cells (s .g) (s .cells′) (s .inv) r1 e1 yes1 ({ready} .4) ({ready} .0) ({ready} .3) ({ready} .5))',
              'lowered': '(enters-deep positions n used j c cells (s .g) (s .cells′) (s .inv) r1 e1 yes1 ({ready} .4) _ ln-cells (room-cells .0))'},
         returns=['(enters-end positions n used j c cells (s .g) (s .cells′) (s .inv) r1 e1 no1 r4 e4)']),
+    'gradient::forces::point_forces': dict(
+        uses=['Told.{walk-asks, forces-told}'],
+        req={
+            'eye_of': '(ready .0, ready .1, ready .2, ready .3)',
+            'repulsive_force': '(walk-asks cells used positions weights indices offsets n c i exaggeration angle forces ready r1 e1)',
+            'place_forces': '(ready .0, ready .1, ready .3, ready .4, ready .9)',
+        },
+        returns=['(forces-told cells used positions weights indices offsets n c i exaggeration angle forces ready r1 e1 r2 e2 forces3 e3)']),
 }

@@ -1,1 +1,4 @@
 pub mod Spots
+pub mod Told
+pub mod CallsEyeOf
+pub mod CallsPlaceForces

@@ -39,7 +39,7 @@ use Rattle.tree_node.specs.Arena.{nodesOf}
 use Rattle.tree_walk.specs.Repel.{Blocks}
 use Rattle.tree_walk.proofs.Walked.{over-cells}
 use Rattle.tree_walk.proofs.Calls.{slice, Shr}
-use Rattle.tree_walk.proofs.ByValue.{val-Acc, IsAcc, val-Eye, IsEye}
+use Rattle.tree_walk.proofs.Values.{val-Acc, IsAcc, val-Eye, IsEye}
 use Rattle.tree_node.proofs.Cell as N
 use Rattle.tree_bodies.proofs.Acc as Acc′
 use Rattle.tree_bodies.proofs.Acc.Laws as Acc″

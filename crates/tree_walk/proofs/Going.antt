@@ -23,7 +23,7 @@ use Rattle.tree_walk.specs.declared.Spot.{Spot}
 use Rattle.tree_walk.specs.Turn.{spotOf}
 use Rattle.tree_walk.proofs.Walked.{load, over-cells, first-fits}
 use Rattle.tree_walk.proofs.Pending.{pending, Going, Goes, Deep, going-start, going-first, going-next, going-deep}
-use Rattle.tree_walk.proofs.ByValue.{IsSpot}
+use Rattle.tree_walk.proofs.Values.{IsSpot}
 use Rattle.tree_walk.proofs.Lending.{Asks, Gives}
 use Rattle.tree_walk.proofs.Deepening.{Req, Found}
 

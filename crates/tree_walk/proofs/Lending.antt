@@ -39,7 +39,7 @@ use Rattle.tree_walk.proofs.Eye.Laws as Eye″
 use Rattle.tree_walk.proofs.Spot as Spot′
 use Rattle.tree_walk.proofs.Spot.Laws as Spot″
 use Rattle.tree_walk.proofs.Calls.{val, IsCell}
-use Rattle.tree_walk.proofs.ByValue.{val-Eye, IsEye, val-Spot, IsSpot}
+use Rattle.tree_walk.proofs.Values.{val-Eye, IsEye, val-Spot, IsSpot}
 use Rattle.lent.proofs.Lies.{array-at, Told}
 use Rattle.tree_walk.proofs.turns.short_turn as short
 use Rattle.tree_walk.proofs.turns.long_turn as long

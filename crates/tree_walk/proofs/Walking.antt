@@ -33,7 +33,7 @@ use Rattle.tree_node.specs.declared.Cell.{Cell}
 use Rattle.tree_walk.specs.declared.Eye.{Eye}
 use Rattle.tree_walk.proofs.Calls.{slice, Shr}
 use Rattle.tree_walk.proofs.Deepening.{Req, Found}
-use Rattle.tree_walk.proofs.ByValue.{val-Acc, IsAcc, val-Eye, IsEye}
+use Rattle.tree_walk.proofs.Values.{val-Acc, IsAcc, val-Eye, IsEye}
 use Rattle.tree_node.proofs.Cell as N
 use Rattle.tree_bodies.proofs.Acc as Acc′
 use Rattle.tree_bodies.proofs.Acc.Laws as Acc″

@@ -6,8 +6,9 @@ ghost use lib.ListN.{length};
 ghost use Rattle.laws.specs.Domain.{mostWord};
 ghost use Rattle.tree_node.specs.Node.{Axes};
 ghost use Rattle.tree_node.specs.Arena.{nodesOf};
-ghost use Rattle.tree_walk.specs.Repel.{Blocks, walkedOver, nothing, repelled};
+ghost use Rattle.tree_walk.specs.Repel.{Blocks, walkedOver, repelled};
 use crate::turns::long_turn;
+use crate::turns::nothing_yet;
 use crate::turns::resumed;
 use crate::turns::short_turn;
 use crate::turns::standing;
@@ -88,13 +89,6 @@ fn walk(cells: &[Cell], used: usize, eye: Eye, from: u32, to: u32, acc: Acc) -> 
         }
     }
     s.acc
-}
-
-fn nothing_yet() -> Acc
-    ensures { λ r. ⌜ r ≡ nothing ⌝ }
-{
-    let neg = [0.0, 0.0, 0.0];
-    Acc { neg, sum: 0.0 }
 }
 
 // The repulsion on the point that looks.

@@ -4,6 +4,7 @@ ghost use Prim.Native.Nat.{_+_, _*_, _^_, _<_, _≤_};
 ghost use lib.ListN.{length};
 ghost use Rattle.laws.specs.Domain.{mostWord};
 ghost use Rattle.tree_node.specs.Node.{Axes};
+ghost use Rattle.tree_walk.specs.Repel.{nothing};
 ghost use Rattle.tree_walk.specs.Turn.{spotOf, onwardOf, openedOf, pushedOf, turnedOf, stackedOf};
 use crate::Eye;
 use crate::Spot;
@@ -17,6 +18,13 @@ pub fn wide(x: u32) -> usize
     ensures { λ r. ⌜ r ≡ x ⌝ }
 {
     x as usize
+}
+
+pub fn nothing_yet() -> Acc
+    ensures { λ r. ⌜ r ≡ nothing ⌝ }
+{
+    let neg = [0.0, 0.0, 0.0];
+    Acc { neg, sum: 0.0 }
 }
 
 pub fn standing(acc: Acc, at: u32, end: u32, level: usize) -> Spot

@@ -43,16 +43,17 @@ use Rattle.tree_node.specs.Arena.{nodesOf}
 use Rattle.tree_walk.specs.Repel.{Blocks, repelled}
 use Rattle.tree_walk.proofs.Walked.{from-root}
 use Rattle.tree_walk.proofs.Calls.{slice, Shr}
-use Rattle.tree_walk.proofs.ByValue.{val-Acc, IsAcc, val-Eye, IsEye, typed-acc, typed-eye, NothingYet, calls-nothing-yet}
+use Rattle.tree_walk.proofs.Values.{val-Acc, IsAcc, val-Eye, IsEye}
+use Rattle.tree_walk.proofs.ByValue.{typed-acc, typed-eye, NothingYet, calls-nothing-yet}
 use Rattle.tree_walk.proofs.Walking.{WalkC, to-walk, calls-walk}
 use Rattle.tree_node.proofs.Cell as N
 use Rattle.tree_bodies.proofs.Acc as Acc′
 use Rattle.tree_bodies.proofs.Acc.Laws as Acc″
 use Rattle.tree_walk.proofs.Eye as Eye′
 use Rattle.tree_walk.proofs.Eye.Laws as Eye″
-use Rattle.tree_walk.proofs.nothing_yet.Symbol as nothing-yet-def
-use Rattle.tree_walk.proofs.nothing_yet.Symbol.{name as #tree_walk·nothing-yet}
-use Rattle.tree_walk.proofs.nothing_yet.Met as nothing-yet-thm
+use Rattle.tree_walk.proofs.turns.nothing_yet.Symbol as nothing-yet-def
+use Rattle.tree_walk.proofs.turns.nothing_yet.Symbol.{name as #tree_walk·nothing-yet}
+use Rattle.tree_walk.proofs.turns.nothing_yet.Met as nothing-yet-thm
 use Rattle.tree_walk.proofs.walk.Symbol as walk-def
 use Rattle.tree_walk.proofs.walk.Symbol.{name as #tree_walk·walk}
 use Rattle.tree_walk.proofs.walk.Met as walk-thm
@@ -128,5 +129,5 @@ repulsive-force-spec 𝓤 H 𝓜 𝓖 𝓡 =
     entered 𝓤 H (tripleOf 𝓤 H (𝓖 .A) f.signature (f.spec 𝓤 H (𝓖 .A) (𝓜 .mem) (𝓡 .run)))
     (tables 𝓤 H 𝓜 𝓡 code.env .C) (tables 𝓤 H 𝓜 𝓡 code.env .Λ) #tree_walk·repulsive-force code.function (code.unfolded 𝓤 H 𝓜 𝓡)
     (repulsive-force-meets 𝓤 H (𝓖 .A) (givenOf 𝓤 H 𝓜 𝓖) (𝓜 .mem) (𝓡 .run) (tablesOf 𝓤 H 𝓜 (tables 𝓤 H 𝓜 𝓡 code.env))
-    (cited 𝓤 H (NothingYet 𝓤 H (𝓖 .A) (𝓜 .mem) (𝓡 .run)) 𝓜 𝓡 code.env #tree_walk·nothing-yet nothing-yet-def.routine code.calls-tree-walk·nothing-yet (nothing-yet-thm.met 𝓤 H 𝓜 𝓖 𝓡))
+    (cited 𝓤 H (NothingYet 𝓤 H (𝓖 .A) (𝓜 .mem) (𝓡 .run)) 𝓜 𝓡 code.env #tree_walk·nothing-yet nothing-yet-def.routine code.calls-tree-walk·turns·nothing-yet (nothing-yet-thm.met 𝓤 H 𝓜 𝓖 𝓡))
     (cited 𝓤 H (WalkC 𝓤 H (𝓖 .A) (𝓜 .mem) (𝓡 .run)) 𝓜 𝓡 code.env #tree_walk·walk walk-def.routine code.calls-tree-walk·walk (walk-thm.met 𝓤 H 𝓜 𝓖 𝓡)))

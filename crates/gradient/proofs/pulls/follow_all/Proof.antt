@@ -3,8 +3,8 @@ use Rattle.laws.proofs.Loops.{Loops, loop-start, loop-more, loop-done}
 use Prim.Native.Nat.{_-_}
 use borrow.Author.Needs.{needs}
 use native.Mathlib.Omega.{arith}
-use Rattle.gradient.proofs.forces.follow_all.Statement.{statement}
-use Rattle.gradient.proofs.forces.follow_all.Tie as tie
+use Rattle.gradient.proofs.pulls.follow_all.Statement.{statement}
+use Rattle.gradient.proofs.pulls.follow_all.Tie as tie
 
 abbrev Inv-loop : tie.InvT-loop
 Inv-loop positions weights indices n c exaggeration p a links t₀ k₀ t k = Loops (linkStep exaggeration c positions weights indices p a) links t₀ k t

@@ -2,8 +2,8 @@ use mathlib.Core.Path.{_∙_}
 use lib.ListN.{length-set}
 use Rattle.gradient.specs.Forces.{stored}
 use borrow.Author.Needs.{needs}
-use Rattle.gradient.proofs.forces.store.Statement.{statement}
-use Rattle.gradient.proofs.forces.store.Tie as tie
+use Rattle.gradient.proofs.pulls.store.Statement.{statement}
+use Rattle.gradient.proofs.pulls.store.Tie as tie
 
 mul-a : tie.Need-mul-a
 mul-a c = search needs

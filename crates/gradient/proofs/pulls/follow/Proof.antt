@@ -1,7 +1,7 @@
 use Rattle.laws.proofs.Numbers.{row-in}
 use borrow.Author.Needs.{needs}
-use Rattle.gradient.proofs.forces.follow.Statement.{statement}
-use Rattle.gradient.proofs.forces.follow.Tie as tie
+use Rattle.gradient.proofs.pulls.follow.Statement.{statement}
+use Rattle.gradient.proofs.pulls.follow.Tie as tie
 
 mul-wide : tie.Need-mul-wide
 mul-wide c = search needs

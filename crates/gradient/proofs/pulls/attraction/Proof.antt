@@ -2,8 +2,8 @@ use Rattle.gradient.specs.Forces.{attractionOf}
 use Rattle.laws.proofs.Numbers.{row-in}
 use borrow.Author.Needs.{needs}
 use native.Mathlib.Omega.{arith}
-use Rattle.gradient.proofs.forces.attraction.Statement.{statement}
-use Rattle.gradient.proofs.forces.attraction.Tie as tie
+use Rattle.gradient.proofs.pulls.attraction.Statement.{statement}
+use Rattle.gradient.proofs.pulls.attraction.Tie as tie
 
 point-requires : tie.Need-point-requires
 point-requires c κs = (c .before .before .before .before .pre .0 .0, row-in _ (c .before .before .before .before .args .n) (c .before .before .before .before .args .c) _ (c .before .before .before .before .pre .0 .1) (c .before .before .before .before .pre .0 .2))

@@ -5,8 +5,8 @@ use lib.ListN.{length}
 use Prim.Native.Nat.{_-_}
 use borrow.Author.Needs.{needs}
 use native.Mathlib.Omega.{arith}
-use Rattle.gradient.proofs.forces.put.Statement.{statement}
-use Rattle.gradient.proofs.forces.put.Tie as tie
+use Rattle.gradient.proofs.pulls.put.Statement.{statement}
+use Rattle.gradient.proofs.pulls.put.Tie as tie
 
 abbrev Inv-loop : tie.InvT-loop
 Inv-loop forces₀ a c x d₀ forces d = (length forces ≡ length forces₀) × Loops (putStep x a) c forces₀ d forces
