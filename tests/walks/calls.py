@@ -103,7 +103,7 @@ def slice_rule(path, modes_list, here):
         o += '\n'.join('      ' + x for x in L if x) + '\n\n'
     own = module(crate, 'proofs', '.'.join(f['mods'] + [f['fn']]), here)
     head = '-- How `%s` is called, with %s lent to it: a rule for each way to lend them (m: a `&mut` lent again, s: a `&mut` lent as `&`, c: a `&` passed on). Printed (tests/walks).\n-- Assumes `Given`, and that the callee meets its contract.\n' % (path, 'a slice' if k == 1 else '%d slices' % k)
-    ghost = {n: (placed(m, here), s) for n, (m, s) in f['ghost'].items()}
+    ghost = {n: (placed(m, here), s) for n, (m, s) in f['ghost'].items() if occurs(n, tokens(f['req'] + ' ' + f['ens']))}
     return head + library_uses(o, ghost) + T.uses(o) + 'use %s as callee\nuse %s.Symbol.{name as %s}\n\n' % (own, own, sym) + o.rstrip('\n') + '\n'
 
 def rule_file(fn): return 'Calls' + camel(fn)

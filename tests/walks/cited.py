@@ -8,7 +8,7 @@ inv, measure: a loop's invariant and what falls, over {g} and the lists;  start,
 # where the call rule of a function stands, if not in its own crate
 HOME = {'tree_bounds::root::bounding_box': 'tree'}
 # .. and the machine values of a type
-VALUES = {'Contents': 'tree', 'Acc': 'tree_walk'}
+VALUES = {'Contents': 'tree', 'Acc': 'tree_walk', 'Run': 'run_entry', 'Settings': 'run_entry'}
 
 WALKS = {
     'tree_node::arena::load': dict(uses=['Told.{load-told}'], req={'cell_at': '{ready}'}, returns=['(load-told cells i r1 e1 r2 e2)']),
@@ -47,12 +47,25 @@ WALKS = {
              'level': '(enters-asks positions n used j c cells (s .g) (s .cells′) (s .inv) r1 e1 yes1 ({ready} .4) ({ready} .0) ({ready} .3) ({ready} .5))',
              'lowered': '(enters-deep positions n used j c cells (s .g) (s .cells′) (s .inv) r1 e1 yes1 ({ready} .4) _ ln-cells (room-cells .0))'},
         returns=['(enters-end positions n used j c cells (s .g) (s .cells′) (s .inv) r1 e1 no1 r4 e4)']),
+    'run_entry::fault_at': dict(uses=['Early.{early-axes, early-asked, early-unasked}'],
+        req={'tree_ok': '(early-axes r p i g₀ a₀ f₀ indices offsets cells _ ln-cells r1 e1 r2 e2 yes1)'},
+        returns=['(early-asked r p i g₀ a₀ f₀ indices offsets cells _ ln-cells r1 e1 r2 e2 yes1 r3 e3 r4 e4)', '(early-unasked r p i g₀ a₀ f₀ indices offsets cells _ ln-cells r1 e1 r2 e2 no1)']),
     'gradient::forces::point_forces': dict(
         uses=['Told.{walk-asks, forces-told}'],
         req={
-            'eye_of': '(ready .0, ready .1, ready .2, ready .3)',
-            'repulsive_force': '(walk-asks cells used positions weights indices offsets n c i exaggeration angle forces ready r1 e1)',
-            'place_forces': '(ready .0, ready .1, ready .3, ready .4, ready .9)',
+            'eye_of': '({ready} .0, {ready} .1, {ready} .2, {ready} .3)',
+            'repulsive_force': '(walk-asks cells used positions weights indices offsets n c i exaggeration angle forces {ready} r1 e1)',
+            'place_forces': '({ready} .0, {ready} .1, {ready} .3, {ready} .4, {ready} .9)',
         },
-        returns=['(forces-told cells used positions weights indices offsets n c i exaggeration angle forces ready r1 e1 r2 e2 forces3 e3)']),
+        returns=['(forces-told cells used positions weights indices offsets n c i exaggeration angle forces {ready} r1 e1 r2 e2 forces3 e3)']),
+    'run_units::tree_unit': dict(uses=['Lends.{box-asks, box-told, next-asks, insert-asks, insert-told}'],
+        req={'plant': '(box-asks r positions cells {ready} r1 e1)', 'planted': '({ready} .numbers)', 'point_next': '(next-asks r positions cells {ready} r1 e1 no1)', 'insert': '(insert-asks r positions cells {ready} r1 e1 no1 r4 e4)', 'inserted': '({ready} .numbers)'},
+        returns=['(box-told r positions cells {ready} r1 e1 yes1 cells2 e2 r3 e3)', '(insert-told r positions cells {ready} r1 e1 no1 r4 e4 r5 cells5 e5 r6 e6)']),
+    'run_units::force_unit': dict(uses=['Lends.{run-small, seen-asks, point-asks, point-told, row-asks, row-told}'],
+        req={'point_seen': '(seen-asks r positions affinities indices offsets cells forces {ready} r1 e1 yes1)', 'point_forces': '(point-asks r positions affinities indices offsets cells forces {ready} r1 e1 yes1 r2 e2)', 'row_unit': '(row-asks r positions affinities indices offsets cells forces {ready} r1 e1 no1)', 'advanced': '(run-small r positions affinities indices offsets cells forces {ready} r1 e1)'},
+        returns=['(point-told r positions affinities indices offsets cells forces {ready} r1 e1 yes1 r2 e2 r3 e3 forces4 e4 r5 e5)', '(row-told r positions affinities indices offsets cells forces {ready} r1 e1 no1 forces6 e6 r7 e7)']),
+    'run_units::one_unit': dict(uses=['Lends.{few-frames, over-told, tree-asks, tree-told, force-asks, force-told, finish-asks, finish-told}'],
+        req={'on_tree': '(few-frames r positions increments gains affinities indices offsets forces cells {ready})', 'on_forces': '(few-frames r positions increments gains affinities indices offsets forces cells {ready})', 'tree_unit': '(tree-asks r positions increments gains affinities indices offsets forces cells {ready} r1 e1 no1 r3 e3 yes2)', 'force_unit': '(force-asks r positions increments gains affinities indices offsets forces cells {ready} r1 e1 no1 r3 e3 no2 r5 e5 yes3)', 'finish_unit': '(finish-asks r positions increments gains affinities indices offsets forces cells {ready} r1 e1 no1 r3 e3 no2 r5 e5 no3)'},
+        returns=['(over-told r positions increments gains affinities indices offsets forces cells {ready} r1 e1 yes1 r2 e2)', '(tree-told r positions increments gains affinities indices offsets forces cells {ready} r1 e1 no1 r3 e3 yes2 r4 cells4 e4)', '(force-told r positions increments gains affinities indices offsets forces cells {ready} r1 e1 no1 r3 e3 no2 r5 e5 yes3 r6 forces6 e6 r7 e7)',
+                 '(finish-told r positions increments gains affinities indices offsets forces cells {ready} r1 e1 no1 r3 e3 no2 r5 e5 no3 r8 positions8 increments8 gains8 e8)']),
 }

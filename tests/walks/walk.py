@@ -321,7 +321,8 @@ class Walker:
                 typed += ('%s″.the-field-laws .lawful 𝓤 H A W .typed (%s′.the-type .to v) _ g .0\n\n' if w.T.kind(s) == 'enum' else 'LL.lawful %s′.the-type %s″.the-laws 𝓤 H A W .typed v _ g .0\n\n') % (s, s)
         o = o.replace('@TYPED@', typed)
         own = module(w.crate, 'proofs', '.'.join(w.f['mods'] + [w.fn]), w.crate)
-        more = {n: (placed(m, w.crate), s) for n, (m, s) in w.f['ghost'].items()}
+        said = tokens(' '.join([w.f['req'], w.f['ens']] + [str(x) for x in w.hint.values()]))
+        more = {n: (placed(m, w.crate), s) for n, (m, s) in w.f['ghost'].items() if occurs(n, said)}
         for line in w.hint.get('uses', []):
             m, names = re.match(r'(.*)\.\{(.*)\}$', line).groups()
             if not m.startswith('Rattle·') and m[0].isupper(): m = module(w.crate, 'proofs', m, w.crate)
