@@ -17,4 +17,5 @@ WALKS = {
     'replay_arena::fine_in': dict(within='(ready .1)', req={'tree_ok': '(ready .0)'}, returns=['(e2 ∙ ap contentsFine e1)']),
     'replay_arena::put_in': dict(within='(ready .1)', uses=['Told.{put-asks, put-told}'], req={'insert': '(put-asks n used j c k₀ cells positions ready)'}, returns=['(put-told n used j c k₀ cells positions ready r1 own81 e1 {len_own8} r2 e2)']),
     'replay_arena::force_in': dict(within='(ready .1)', uses=['Told.{force-asks}'], req={'repulsive_force': '(force-asks k₀ used eye cells ready)'}, returns=['e1']),
+    'replay_forces::lending::forces_in': dict(within='(ready .5)', uses=['Told.{forces-asks}'], req={'point_forces': '(forces-asks cells k₀ used positions weights indices offsets n c i forces ready)'}, returns=['e1']),
 }

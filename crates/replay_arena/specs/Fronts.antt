@@ -34,3 +34,7 @@ putOf a cs = record { cells = cs; full = a .full; used = a .used }
 
 abbrev pub toldBy : ℕ → Put → Insertion
 toldBy k p = insertion (p .full) (tree (p .used) (front k (p .cells)))
+
+-- an arena that is not well formed takes nothing
+abbrev pub refusal : List Cell → Put
+refusal cs = record { cells = cs; full = true; used = 0 }

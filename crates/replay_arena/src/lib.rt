@@ -3,7 +3,7 @@
 pub mod marks;
 
 ghost use mathlib.Core.Path.{_≡_};
-ghost use mathlib.Core.Bool.{true};
+ghost use mathlib.Core.Bool.{true, false};
 ghost use Prim.Native.Nat.{_*_, _<_, _≤_};
 ghost use lib.ListN.{length, set};
 ghost use Rattle.laws.specs.Domain.{mostWord};
@@ -13,7 +13,7 @@ ghost use Rattle.tree_bounds.specs.Bounds.{boxOf};
 ghost use Rattle.tree_walk.specs.Repel.{repelled};
 ghost use Rattle.tree.specs.Insert.{tree, insertOf};
 ghost use Rattle.tree.specs.Contents.{contentsFine};
-ghost use Rattle.replay_arena.specs.Fronts.{front, behind, fineOf, Walkable, putOf, toldBy};
+ghost use Rattle.replay_arena.specs.Fronts.{front, behind, fineOf, Walkable, putOf, toldBy, refusal};
 use tree::Answer;
 use tree::insertion::insert;
 use tree::root::plant;
@@ -93,6 +93,29 @@ pub fn put_in(
     let a = insert(&mut own[..k], positions, n, used, j, c);
     let p = put_of(a, own);
     p
+}
+
+// The same with the contents test first: an arena that is not well formed takes nothing, and says that no node is used.
+pub fn put_tested(
+    cells: [Cell; 512],
+    k: usize,
+    positions: &[f64],
+    n: usize,
+    used: usize,
+    j: u32,
+    c: usize,
+) -> Put
+    requires { ⌜ (Axes c) × (k ≤ 512) × (n * c ≤ length (now positions)) × (j < n) × (n < mostWord) ⌝ }
+    ensures { λ r. ⌜ (fineOf k used n c cells ≡ true → toldBy k r ≡ insertOf (now (positions .entry)) c j (tree used (front k cells))) × (fineOf k used n c cells ≡ false → r ≡ refusal cells) × (behind k (r .cells) ≡ behind k cells) ⌝ }
+{
+    if !fine_in(cells, k, used, n, c) {
+        return Put {
+            cells,
+            full: true,
+            used: 0,
+        };
+    }
+    put_in(cells, k, positions, n, used, j, c)
 }
 
 // The repulsion of the tree in the first k cells on the point that looks.

@@ -4,31 +4,30 @@ use elementary::value_of;
 use tree_node::Cell;
 ghost use Prim.Native.Nat.{_≤_};
 
-// Place i of all reals: the value with the bits 4000000000000000 + i.
+// Where a value is to be, at place i: the value with the bits 4000000000000000 + i.
 fn real_mark(i: usize) -> f64 {
     value_of(std::num::wrapping_add_u64(0x4000000000000000, i as u64))
 }
 
-// Place i of all numbers: 40000000 + i, in hex.
+// Where a number is to be: 40000000 + i, in hex.
 fn word_mark(i: usize) -> u32
     requires { ⌜ i ≤ 10000 ⌝ }
 {
     (0x40000000 + i) as u32
 }
 
-// Three reals from place a on.
+// Three values from place a on.
 fn three_marks(a: usize) -> [f64; 3]
     requires { ⌜ a ≤ 10000 ⌝ }
 {
     [real_mark(a), real_mark(a + 1), real_mark(a + 2)]
 }
 
-// Cell i: nine reals and three numbers, each with a mark of its own.
+// Cell i: its nine values and three numbers have the places from 12 i on.
 fn marked_cell(i: usize) -> Cell
     requires { ⌜ i ≤ 512 ⌝ }
 {
-    let a = 9 * i;
-    let b = 3 * i;
+    let a = 12 * i;
     let centre = three_marks(a);
     let half = three_marks(a + 3);
     let mass = three_marks(a + 6);
@@ -36,9 +35,9 @@ fn marked_cell(i: usize) -> Cell
         centre,
         half,
         mass,
-        count: word_mark(b),
-        first: word_mark(b + 1),
-        leaf: word_mark(b + 2),
+        count: word_mark(a + 9),
+        first: word_mark(a + 10),
+        leaf: word_mark(a + 11),
     }
 }
 

@@ -1,11 +1,9 @@
 // Building a tree in an arena, one point after the other, until a point is refused.
-use replay_arena::Put;
-use replay_arena::fine_in;
 use replay_arena::marks::same_cells;
 use replay_arena::plant_in;
-use replay_arena::put_in;
+use replay_arena::put_tested;
 use tree_node::Cell;
-ghost use Prim.Native.Nat.{_*_, _<_, _≤_};
+ghost use Prim.Native.Nat.{_*_, _≤_};
 ghost use lib.ListN.{length};
 ghost use Rattle.tree_node.specs.Node.{Axes};
 
@@ -20,28 +18,6 @@ pub(crate) struct Grown {
     pub(crate) last: u32,
     // the refusal left the arena as it was
     pub(crate) kept: bool,
-}
-
-// Point j goes into the first k cells. An arena that is not well formed takes nothing, and says that no node is used.
-fn put(
-    cells: [Cell; 512],
-    k: usize,
-    positions: &[f64],
-    n: usize,
-    used: usize,
-    j: u32,
-    c: usize,
-) -> Put
-    requires { ⌜ (Axes c) × (k ≤ 512) × (n * c ≤ length (now positions)) × (j < n) × (n ≤ 64) ⌝ }
-{
-    if !fine_in(cells, k, used, n, c) {
-        return Put {
-            cells,
-            full: true,
-            used: 0,
-        };
-    }
-    put_in(cells, k, positions, n, used, j, c)
 }
 
 // Whether an arena in which a nodes are used is the one in which b were, in all its cells.
@@ -61,7 +37,7 @@ fn put_all(cells: [Cell; 512], k: usize, positions: &[f64], n: u32, c: usize) ->
     let mut last = 0;
     let mut j: u32 = 0;
     while j < n {
-        let p = put(old, k, positions, n as usize, used, j, c);
+        let p = put_tested(old, k, positions, n as usize, used, j, c);
         let new = p.cells;
         if p.full {
             return Grown {

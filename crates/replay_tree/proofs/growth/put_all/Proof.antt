@@ -13,8 +13,8 @@ abbrev μ-loop : tie.MeasureT-loop
 loop-holds : tie.Need-loop-holds Inv-loop μ-loop
 loop-holds c = search needs
 
-put-requires : tie.Need-put-requires Inv-loop μ-loop
-put-requires c κs = search needs
+put-tested-requires : tie.Need-put-tested-requires Inv-loop μ-loop
+put-tested-requires c κs = search needs
 
 unchanged-requires : tie.Need-unchanged-requires Inv-loop μ-loop
 unchanged-requires c κs = search needs
@@ -41,7 +41,7 @@ put-all-spec =
     Inv-loop
     μ-loop
     loop-holds
-    put-requires
+    put-tested-requires
     unchanged-requires
     returns
     add-j
