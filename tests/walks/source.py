@@ -60,7 +60,7 @@ def function(path):
             s = m.group(2)
             if m.group(1) and m.group(1) != '_': s = globals()['word'](m.group(1), 'res', s)
             for n, _ in own:
-                s = re.sub(r'\(?now \(%s \.exit\)\)?' % n, n + '′', s) if False else s.replace('now (%s .exit)' % n, n + '′').replace('now (%s .entry)' % n, n)
+                s = s.replace('now (%s .exit)' % n, renamed(n) + '′').replace('now (%s .entry)' % n, n)
                 s = re.sub(r'now %s(?!\w)' % n, n, s)
                 if renamed(n) != n: s = globals()['word'](n, renamed(n), s)
             s = re.sub(r'\((\w+[′₀]*)\)', r'\1', s)
