@@ -8,7 +8,7 @@ inv, measure: a loop's invariant and what falls, over {g} and the lists;  start,
 # where the call rule of a function stands, if not in its own crate
 HOME = {'tree_bounds::root::bounding_box': 'tree'}
 # .. and the machine values of a type
-VALUES = {'Contents': 'tree', 'Run': 'run_entry', 'Settings': 'run_entry'}
+VALUES = {'Contents': 'tree', 'Acc': 'tree_walk', 'Run': 'run_entry', 'Settings': 'run_entry'}
 
 WALKS = {
     'tree_node::arena::load': dict(uses=['Told.{load-told}'], req={'cell_at': '{ready}'}, returns=['(load-told cells i r1 e1 r2 e2)']),

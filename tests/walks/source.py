@@ -47,7 +47,7 @@ def word(n, to, text): return re.sub(r"(?<![\w′₀·.-])(?<! \.)%s(?![\w′₀
 def function(path):
     crate, mods, fn = split(path)
     text = texts(crate)[file_of(crate, mods)]
-    m = re.search(r'^(?:pub )?(?:extern "C" )?fn %s\(' % fn, text, re.M)
+    m = re.search(r'^(?:pub(?:\(crate\))? )?(?:extern "C" )?fn %s\(' % fn, text, re.M)
     if not m: raise Exception('no function ' + path)
     i = m.end() - 1; j = closing(text, i)
     own = [p.strip().split(': ', 1) for p in re.split(r',(?![^\[]*\])', text[i + 1:j]) if p.strip()]

@@ -21,4 +21,9 @@ WALKS = {
         returns=['(short-said budget words answer (memory positions increments gains affinities indices offsets forces cells) _ ln-answer r1 e1 yes1)',
                  '(unread-said budget words answer (memory positions increments gains affinities indices offsets forces cells) _ ln-answer r1 e1 no1 r2 e2 yes2 answer3 e3)',
                  '(work-said budget words answer (memory positions increments gains affinities indices offsets forces cells) _ ln-answer r1 e1 no1 r2 e2 no2 r4 e4 r5 own145 (memory positions5 increments5 gains5 affinities indices offsets forces5 cells5) e5 words6 e6 answer7 e7 r8 e8)']),
+    'replay_arena::plant_in': dict(within='(ready .3)', uses=['Told.{plant-asks, plant-told}'], req={'plant': '(plant-asks n c k₀ cells positions ready count-own6)'}, returns=['(plant-told n c k₀ cells positions ready count-own6 own61 e1)']),
+    'replay_arena::fine_in': dict(within='(ready .1)', req={'tree_ok': '(ready .0)'}, returns=['(e2 ∙ ap contentsFine e1)']),
+    'replay_arena::put_in': dict(within='(ready .1)', uses=['Told.{put-asks, put-told}'], req={'insert': '(put-asks n used j c k₀ cells positions ready)'}, returns=['(put-told n used j c k₀ cells positions ready r1 own81 e1 {len_own8} r2 e2)']),
+    'replay_arena::force_in': dict(within='(ready .1)', uses=['Told.{force-asks}'], req={'repulsive_force': '(force-asks k₀ used eye cells ready)'}, returns=['e1']),
+    'replay_forces::lending::forces_in': dict(within='(ready .5)', uses=['Told.{forces-asks}'], req={'point_forces': '(forces-asks cells k₀ used positions weights indices offsets n c i forces ready)'}, returns=['e1']),
 }
