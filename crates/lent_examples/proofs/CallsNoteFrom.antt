@@ -29,7 +29,7 @@ use denote.Triple.Walked.{says}
 use Rattle.lent.proofs.Pass.{Seat, ref-at, word, Mut, Shr, Tok, lent-to, lend-mut, back-mut, lend-copy}
 use Rattle.lent.proofs.One.{One, one-at, lend-one, back-one}
 use Prim.Native.Nat.{_<_}
-use Rattle.lent_examples.specs.Lending.{valueAt, valued, Fits, bumpedOf}
+use Rattle.lent_examples.specs.Lending.{valueOr, valued, Fits, bumpedOf}
 use Rattle.tree_node.specs.Arena.{cellAt}
 use lib.ListN.{length, set}
 use mathlib.Core.Path.{_≡_}
@@ -45,7 +45,7 @@ unit-val _ = vunit
 
 -- what the callee ensures of its result and of what was lent, at exit
 abbrev pub Ensured-note-from : Counter → List Cell → List Float → ℕ → ℕ → Unit {0} → Counter → List Cell → Type 0
-Ensured-note-from c cells values i more res c′ cells′ = (c′ ≡ bumpedOf c more (valueAt values i)) × (cells′ ≡ set cells i (valued (cellAt cells i) (valueAt values i)))
+Ensured-note-from c cells values i more res c′ cells′ = (c′ ≡ bumpedOf c more (valueOr values i)) × (cells′ ≡ set cells i (valued (cellAt cells i) (valueOr values i)))
 
 module _ {M : Type 1} (𝓤 : URA M) (H : Heap 𝓤) (A : Atoms 𝓤) (mem : Memory → SProp 𝓤) (run : Routine → Fun 𝓤) where
   abbrev pub Contract-note-from : Contract 𝓤

@@ -28,7 +28,7 @@ use denote.Triple.Spec.{tripleOf}
 use denote.Triple.Walked.{says}
 use Rattle.lent.proofs.Pass.{Seat, ref-at, word, Mut, Shr, Tok, lent-to, lend-mut, back-mut, lend-copy}
 use Prim.Native.Nat.{_<_}
-use Rattle.lent_examples.specs.Lending.{valueAt, valued}
+use Rattle.lent_examples.specs.Lending.{valueOr, valued}
 use Rattle.tree_node.specs.Arena.{cellAt}
 use lib.ListN.{length, set}
 use mathlib.Core.Path.{_≡_}
@@ -39,7 +39,7 @@ use Rattle.lent_examples.proofs.put_from.Symbol.{name as #lent-examples
 
 -- what the callee ensures of its result and of what was lent, at exit
 abbrev pub Ensured-put-from : List Cell → List Float → List ℕ → ℕ → ℕ → ℕ → List Cell → List ℕ → Type 0
-Ensured-put-from cells values marks i m res cells′ marks′ = (res ≡ m) × (cells′ ≡ set cells i (valued (cellAt cells i) (valueAt values i))) × (marks′ ≡ set marks i m)
+Ensured-put-from cells values marks i m res cells′ marks′ = (res ≡ m) × (cells′ ≡ set cells i (valued (cellAt cells i) (valueOr values i))) × (marks′ ≡ set marks i m)
 
 module _ {M : Type 1} (𝓤 : URA M) (H : Heap 𝓤) (A : Atoms 𝓤) (mem : Memory → SProp 𝓤) (run : Routine → Fun 𝓤) where
   abbrev pub Contract-put-from : Contract 𝓤

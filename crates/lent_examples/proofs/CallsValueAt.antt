@@ -29,7 +29,7 @@ use denote.Triple.Spec.{tripleOf}
 use denote.Triple.Walked.{says}
 use Rattle.lent.proofs.Pass.{Seat, ref-at, word, Shr, Tok, lend-copy}
 use Prim.Native.Nat.{_<_}
-use Rattle.lent_examples.specs.Lending.{valueAt}
+use Rattle.lent_examples.specs.Lending.{valueOr}
 use lib.ListN.{length}
 use mathlib.Core.Path.{_≡_}
 use Rattle.lent_examples.proofs.value_at as callee
@@ -37,7 +37,7 @@ use Rattle.lent_examples.proofs.value_at.Symbol.{name as #lent-examples
 
 -- what the callee ensures of its result and of what was lent, at exit
 abbrev pub Ensured-value-at : List Float → ℕ → Float → Type 0
-Ensured-value-at values i res = res ≡ valueAt values i
+Ensured-value-at values i res = res ≡ valueOr values i
 
 module _ {M : Type 1} (𝓤 : URA M) (H : Heap 𝓤) (A : Atoms 𝓤) (mem : Memory → SProp 𝓤) (run : Routine → Fun 𝓤) where
   abbrev pub Contract-value-at : Contract 𝓤

@@ -24,7 +24,7 @@ use Rattle.tree_node.specs.Arena.{void, cellAt}
 use Rattle.lent_examples.specs.declared.Counter.{Counter}
 use Rattle.lent_examples.specs.declared.Noted.{Noted}
 use Rattle.lent_examples.specs.declared.Placed.{Placed}
-use Rattle.lent_examples.specs.Lending.{valueAt, valued, bumpedOf, placedOf, notedOf}
+use Rattle.lent_examples.specs.Lending.{valueOr, valued, bumpedOf, placedOf, notedOf}
 
 -- an index below the count is in the part
 pub in-part : {X : Type 0} (ys : List X) (k i : ℕ) → length ys ≡ k → i < k → i < length ys
@@ -38,27 +38,27 @@ put-part k i cs v ds h e = ap (λ (es : List Cell). es ++ drop k cs) e ∙ set-f
 
 -- `put_from`: its five calls, in turn
 pub from-told : (i m : ℕ) (cs : List Cell) (vs : List Float) (ms : List ℕ) (x : Cell) (y : Float) (z : Cell) (ds : List Cell) (ns : List ℕ)
-    → x ≡ cellAt cs i → y ≡ valueAt vs i → z ≡ valued x y → ds ≡ set cs i z → ns ≡ set ms i m
-    → (m ≡ m) × (ds ≡ set cs i (valued (cellAt cs i) (valueAt vs i))) × (ns ≡ set ms i m)
+    → x ≡ cellAt cs i → y ≡ valueOr vs i → z ≡ valued x y → ds ≡ set cs i z → ns ≡ set ms i m
+    → (m ≡ m) × (ds ≡ set cs i (valued (cellAt cs i) (valueOr vs i))) × (ns ≡ set ms i m)
 from-told i m cs vs ms x y z ds ns ex ey ez ed en = (refl, ed ∙ ap (set cs i) (ez ∙ ap (λ (w : Cell). valued w y) ex ∙ ap (valued (cellAt cs i)) ey), en)
 
 -- `put_from_own`: what `put_from` says of the part, and the struct that is made
 pub own-told : (k i m : ℕ) (cs : List Cell) (vs : List Float) (ms : List ℕ) → i < k → (r : ℕ) (ds : List Cell) (ns : List ℕ)
-    → (r ≡ m) × (ds ≡ set (take k cs) i (valued (cellAt (take k cs) i) (valueAt vs i))) × (ns ≡ set ms i m)
+    → (r ≡ m) × (ds ≡ set (take k cs) i (valued (cellAt (take k cs) i) (valueOr vs i))) × (ns ≡ set ms i m)
     → (p : Placed) → p ≡ placedOf r (ds ++ drop k cs)
-    → (p ≡ placedOf m (set cs i (valued (cellAt cs i) (valueAt vs i)))) × (ns ≡ set ms i m)
+    → (p ≡ placedOf m (set cs i (valued (cellAt cs i) (valueOr vs i)))) × (ns ≡ set ms i m)
 own-told k i m cs vs ms h r ds ns e p ep =
-    (ep ∙ ap (λ (q : ℕ). placedOf q (ds ++ drop k cs)) (e .0) ∙ ap (placedOf m) (put-part k i cs (valued (cellAt (take k cs) i) (valueAt vs i)) ds h (e .1) ∙ ap (λ (w : Cell). set cs i (valued w (valueAt vs i))) (at-part k i cs h)), e .2)
+    (ep ∙ ap (λ (q : ℕ). placedOf q (ds ++ drop k cs)) (e .0) ∙ ap (placedOf m) (put-part k i cs (valued (cellAt (take k cs) i) (valueOr vs i)) ds h (e .1) ∙ ap (λ (w : Cell). set cs i (valued w (valueOr vs i))) (at-part k i cs h)), e .2)
 
 -- `note_from`, in the order of its calls
 pub note-told : (i more : ℕ) (c : Counter) (cs : List Cell) (vs : List Float) (y : Float) (d : Counter) (x z : Cell) (ds : List Cell)
-    → y ≡ valueAt vs i → d ≡ bumpedOf c more y → x ≡ cellAt cs i → z ≡ valued x y → ds ≡ set cs i z
-    → (d ≡ bumpedOf c more (valueAt vs i)) × (ds ≡ set cs i (valued (cellAt cs i) (valueAt vs i)))
+    → y ≡ valueOr vs i → d ≡ bumpedOf c more y → x ≡ cellAt cs i → z ≡ valued x y → ds ≡ set cs i z
+    → (d ≡ bumpedOf c more (valueOr vs i)) × (ds ≡ set cs i (valued (cellAt cs i) (valueOr vs i)))
 note-told i more c cs vs y d x z ds ey ec ex ez ed = (ec ∙ ap (bumpedOf c more) ey, ed ∙ ap (set cs i) (ez ∙ ap (λ (w : Cell). valued w y) ex ∙ ap (valued (cellAt cs i)) ey))
 
 pub noted-told : (k i more : ℕ) (c : Counter) (cs : List Cell) (vs : List Float) → i < k → (d : Counter) (ds : List Cell)
-    → (d ≡ bumpedOf c more (valueAt vs i)) × (ds ≡ set (take k cs) i (valued (cellAt (take k cs) i) (valueAt vs i)))
+    → (d ≡ bumpedOf c more (valueOr vs i)) × (ds ≡ set (take k cs) i (valued (cellAt (take k cs) i) (valueOr vs i)))
     → (n : Noted) → n ≡ notedOf d (ds ++ drop k cs)
-    → n ≡ notedOf (bumpedOf c more (valueAt vs i)) (set cs i (valued (cellAt cs i) (valueAt vs i)))
+    → n ≡ notedOf (bumpedOf c more (valueOr vs i)) (set cs i (valued (cellAt cs i) (valueOr vs i)))
 noted-told k i more c cs vs h d ds e n en =
-    en ∙ ap (λ (w : Counter). notedOf w (ds ++ drop k cs)) (e .0) ∙ ap (notedOf (bumpedOf c more (valueAt vs i))) (put-part k i cs (valued (cellAt (take k cs) i) (valueAt vs i)) ds h (e .1) ∙ ap (λ (w : Cell). set cs i (valued w (valueAt vs i))) (at-part k i cs h))
+    en ∙ ap (λ (w : Counter). notedOf w (ds ++ drop k cs)) (e .0) ∙ ap (notedOf (bumpedOf c more (valueOr vs i))) (put-part k i cs (valued (cellAt (take k cs) i) (valueOr vs i)) ds h (e .1) ∙ ap (λ (w : Cell). set cs i (valued w (valueOr vs i))) (at-part k i cs h))

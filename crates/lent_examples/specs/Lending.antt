@@ -9,8 +9,8 @@ use Rattle.lent_examples.specs.declared.Placed.{Placed}
 use Rattle.lent_examples.specs.declared.Noted.{Noted}
 
 -- a value of a list, and what stands past its end
-abbrev pub valueAt : List Float → ℕ → Float
-valueAt vs i = getD vs i nan
+abbrev pub valueOr : List Float → ℕ → Float
+valueOr vs i = getD vs i nan
 
 -- a cell with that value for its widths
 abbrev pub valued : Cell → Float → Cell

@@ -4,7 +4,7 @@ ghost use mathlib.Core.Path.{_≡_};
 ghost use Prim.Native.Nat.{_<_, _≤_};
 ghost use lib.ListN.{length, set};
 ghost use Rattle.tree_node.specs.Arena.{cellAt};
-ghost use Rattle.lent_examples.specs.Lending.{valueAt, valued, Fits, bumpedOf, placedOf, notedOf};
+ghost use Rattle.lent_examples.specs.Lending.{valueOr, valued, Fits, bumpedOf, placedOf, notedOf};
 use tree_node::Cell;
 use tree_node::arena::cell_at;
 use tree_node::arena::put_cell;
@@ -92,7 +92,7 @@ pub fn bumped(c: Counter, more: u32, mark: f64) -> Counter
 
 pub fn value_at(values: &[f64], i: usize) -> f64
     requires { ⌜ i < length (now values) ⌝ }
-    ensures { λ r. ⌜ r ≡ valueAt (now (values .entry)) i ⌝ }
+    ensures { λ r. ⌜ r ≡ valueOr (now (values .entry)) i ⌝ }
 {
     values[i]
 }
@@ -115,7 +115,7 @@ pub fn with_value(x: Cell, y: f64) -> Cell
 // The cell i with the value i in it, and its mark set; the mark that was set.
 pub fn put_from(cells: &mut [Cell], values: &[f64], marks: &mut [u32], i: usize, m: u32) -> u32
     requires { ⌜ (i < length (now cells)) × (i < length (now values)) × (i < length (now marks)) ⌝ }
-    ensures { λ r. ⌜ (r ≡ m) × (now (cells .exit) ≡ set (now (cells .entry)) i (valued (cellAt (now (cells .entry)) i) (valueAt (now (values .entry)) i))) × (now (marks .exit) ≡ set (now (marks .entry)) i m) ⌝ }
+    ensures { λ r. ⌜ (r ≡ m) × (now (cells .exit) ≡ set (now (cells .entry)) i (valued (cellAt (now (cells .entry)) i) (valueOr (now (values .entry)) i))) × (now (marks .exit) ≡ set (now (marks .entry)) i m) ⌝ }
 {
     let old = cell_at(cells, i);
     let y = value_at(values, i);
@@ -146,7 +146,7 @@ pub fn put_from_own(
     m: u32,
 ) -> Placed
     requires { ⌜ (i < k) × (k ≤ 8) × (i < length (now values)) × (i < length (now marks)) ⌝ }
-    ensures { λ r. ⌜ (r ≡ placedOf m (set cells i (valued (cellAt cells i) (valueAt (now (values .entry)) i)))) × (now (marks .exit) ≡ set (now (marks .entry)) i m) ⌝ }
+    ensures { λ r. ⌜ (r ≡ placedOf m (set cells i (valued (cellAt cells i) (valueOr (now (values .entry)) i)))) × (now (marks .exit) ≡ set (now (marks .entry)) i m) ⌝ }
 {
     let mut own = cells;
     let mark = put_from(&mut own[..k], values, marks, i, m);
@@ -158,7 +158,7 @@ pub fn put_from_own(
 
 pub fn note_from(c: &mut Counter, cells: &mut [Cell], values: &[f64], i: usize, more: u32)
     requires { ⌜ (Fits (now c) more) × (i < length (now cells)) × (i < length (now values)) ⌝ }
-    ensures { λ _. ⌜ (now (c .exit) ≡ bumpedOf (now (c .entry)) more (valueAt (now (values .entry)) i)) × (now (cells .exit) ≡ set (now (cells .entry)) i (valued (cellAt (now (cells .entry)) i) (valueAt (now (values .entry)) i))) ⌝ }
+    ensures { λ _. ⌜ (now (c .exit) ≡ bumpedOf (now (c .entry)) more (valueOr (now (values .entry)) i)) × (now (cells .exit) ≡ set (now (cells .entry)) i (valued (cellAt (now (cells .entry)) i) (valueOr (now (values .entry)) i))) ⌝ }
 {
     let old = *c;
     let y = value_at(values, i);
@@ -189,7 +189,7 @@ pub fn note_own(
     more: u32,
 ) -> Noted
     requires { ⌜ (Fits c more) × (i < k) × (k ≤ 8) × (i < length (now values)) ⌝ }
-    ensures { λ r. ⌜ r ≡ notedOf (bumpedOf c more (valueAt (now (values .entry)) i)) (set cells i (valued (cellAt cells i) (valueAt (now (values .entry)) i))) ⌝ }
+    ensures { λ r. ⌜ r ≡ notedOf (bumpedOf c more (valueOr (now (values .entry)) i)) (set cells i (valued (cellAt cells i) (valueOr (now (values .entry)) i))) ⌝ }
 {
     let mut counter = c;
     let mut own = cells;

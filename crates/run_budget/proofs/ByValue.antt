@@ -27,7 +27,7 @@ use denote.Triple.Walked.{says}
 use Rattle.lent.proofs.Plain.{calls-plain}
 use denote.Struct.Laws as LL
 use Prim.Native.Nat.{_+_, _<_, _^_}
-use Rattle.run_budget.specs.Budget.{startedOf, goesOn, onwardOf, endedOf}
+use Rattle.run_budget.specs.Budget.{startedOf, spendsOn, onwardOf, endedOf}
 use mathlib.Core.Path.{_≡_}
 use Rattle.run_budget.specs.declared.Going.{Going}
 use Rattle.run_budget.proofs.Going as Going′
@@ -90,8 +90,8 @@ module _ {M : Type 1} (𝓤 : URA M) (H : Heap 𝓤) (A : Atoms 𝓤) (mem : Mem
   abbrev Said-goes-on : Going → ℕ → Bool → SProp 𝓤
   Said-goes-on g₀ budget = ensured 𝓤 H A goes-on′.ended (goes-on′.clauses 𝓤 H A mem run) tt (g₀, (budget, tt)) tt
 
-  said-goes-on : (g₀ : Going) (budget : ℕ) (res : Bool) → ent 𝓤 (Said-goes-on g₀ budget res) (fact 𝓤 (res ≡ goesOn g₀ budget))
-  said-goes-on g₀ budget res = exE 𝓤 _ (λ ws. snd∗ 𝓤 (sem 𝓤 H A (lasts goes-on′.ended tt (g₀, (budget, tt)) ws)) (fact 𝓤 (res ≡ goesOn g₀ budget)))
+  said-goes-on : (g₀ : Going) (budget : ℕ) (res : Bool) → ent 𝓤 (Said-goes-on g₀ budget res) (fact 𝓤 (res ≡ spendsOn g₀ budget))
+  said-goes-on g₀ budget res = exE 𝓤 _ (λ ws. snd∗ 𝓤 (sem 𝓤 H A (lasts goes-on′.ended tt (g₀, (budget, tt)) ws)) (fact 𝓤 (res ≡ spendsOn g₀ budget)))
 
   goes-goes-on : Given 𝓤 H A → (g₀ : Going) (budget : ℕ) → IsGoing g₀ → budget < 2 ^ 32 → ent 𝓤 (emp 𝓤) (Contract-goes-on .pre (to-goes-on g₀ budget))
   goes-goes-on W g₀ budget g-g₀ g-budget = qed W [] ∵ nothing ! $ nothing ! $ owned ! u32 (Is u32) (uint-makes 𝓤 H A W w32) budget _ (refl, g-budget) $ fjoin ! $ owned ! Going′.the-row (Is Going′.the-row) ((LL.makes Going′.the-type Going″.the-plain) 𝓤 H A) g₀ _ g-g₀ $ fjoin ! $ move ! (1 ∷ 0 ∷ []) $ join ! $ frame ! $ nothing ! $ done !
@@ -99,10 +99,10 @@ module _ {M : Type 1} (𝓤 : URA M) (H : Heap 𝓤) (A : Atoms 𝓤) (mem : Mem
 module _ {M : Type 1} {𝓤 : URA M} {H : Heap 𝓤} {A : Atoms 𝓤} {K : Type 0} {W : Given 𝓤 H A} {Γ : List (Item 𝓤)} {E : Env 𝓤 H} {C : Calls 𝓤 H} {Λ : Loops 𝓤 H} {xs : List Operand} {q : After 𝓤 H} {d : Place} {rest : Code} where
   pub calls-goes-on : K → FmC 𝓤 H (W .laws) C → (mem : Memory → SProp 𝓤) (run : Routine → Fun 𝓤) → Triple 𝓤 (C #run-budget·goes-on) (Contract-goes-on 𝓤 H A mem run) → (g₀ : Going) (budget : ℕ) → IsGoing g₀ → budget < 2 ^ 32
       → ((P : Item 𝓤) → Opds K W (P ∷ Γ) E xs (val-Going g₀ ∷ vint w32 budget ∷ []))
-      → ((res : Bool) → res ≡ goesOn g₀ budget → Is bool res (vbool res ∷ []) → Seq K W Γ (lands C Λ E d (vbool res) rest q))
+      → ((res : Bool) → res ≡ spendsOn g₀ budget → Is bool res (vbool res ∷ []) → Seq K W Γ (lands C Λ E d (vbool res) rest q))
       → Seq K W Γ (runs C Λ E (seq (call #run-budget·goes-on xs d) rest) q)
   calls-goes-on t fm mem run met g₀ budget g-g₀ g-budget os k =
-      calls-plain t fm (Contract-goes-on 𝓤 H A mem run) met (to-goes-on 𝓤 H A mem run g₀ budget) bool (vbool) (bool-tells) (Said-goes-on 𝓤 H A mem run g₀ budget) (λ (res : Bool). res ≡ goesOn g₀ budget) (said-goes-on 𝓤 H A mem run g₀ budget)
+      calls-plain t fm (Contract-goes-on 𝓤 H A mem run) met (to-goes-on 𝓤 H A mem run g₀ budget) bool (vbool) (bool-tells) (Said-goes-on 𝓤 H A mem run g₀ budget) (λ (res : Bool). res ≡ spendsOn g₀ budget) (said-goes-on 𝓤 H A mem run g₀ budget)
       (λ _. id⊢ 𝓤 _) (goes-goes-on 𝓤 H A mem run W g₀ budget g-g₀ g-budget) (os _) k
 
 -- ---- `onward`

@@ -71,8 +71,8 @@ abbrev pub startedOf : Run → Going
 startedOf r = record { run = r; why = Done; k = 0 }
 
 -- the last unit was done, and there is more of the budget
-unfoldable pub goesOn : Going → ℕ → Bool
-goesOn g b = cond (isDone (g .why)) (ltb (g .k) b) false
+unfoldable pub spendsOn : Going → ℕ → Bool
+spendsOn g b = cond (isDone (g .why)) (ltb (g .k) b) false
 
 -- a unit that was done is counted
 unfoldable pub onwardOf : Going → Turn → Going

@@ -4,7 +4,7 @@ ghost use Prim.Native.Nat.{_+_, _<_, _^_};
 ghost use Rattle.run_calls.specs.Machine.{go};
 ghost use Rattle.run_entry.specs.State.{memory, state};
 ghost use Rattle.run_entry.specs.Entry.{Good};
-ghost use Rattle.run_budget.specs.Budget.{machine, standsOf, refusedOf, haltedOf, worked, told, startedOf, goesOn, onwardOf, endedOf};
+ghost use Rattle.run_budget.specs.Budget.{machine, standsOf, refusedOf, haltedOf, worked, told, startedOf, spendsOn, onwardOf, endedOf};
 use run_entry::Fault;
 use run_record::Run;
 use run_record::Standing;
@@ -87,7 +87,7 @@ fn started(r: Run) -> Going
 }
 
 fn goes_on(g: Going, budget: u32) -> bool
-    ensures { λ b. ⌜ b ≡ goesOn g budget ⌝ }
+    ensures { λ b. ⌜ b ≡ spendsOn g budget ⌝ }
 {
     let w = g.why;
     if is_done(w) {

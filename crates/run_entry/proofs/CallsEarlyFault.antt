@@ -27,7 +27,7 @@ use denote.Triple.Spec.{tripleOf}
 use Rattle.lent.proofs.Pass.{Seat, ref-at, word, Shr, Tok, lend-copy}
 use denote.Struct.Laws as LL
 use denote.Enum.Laws as EL
-use Rattle.run_entry.specs.Entry.{earlyFault}
+use Rattle.run_entry.specs.Entry.{faultBeforeTree}
 use mathlib.Core.Path.{_≡_}
 use Rattle.run_entry.specs.declared.Fault.{Fault}
 use Rattle.run_entry.proofs.Fault as Fault′
@@ -41,7 +41,7 @@ use Rattle.run_entry.proofs.early_fault.Symbol.{name as #run-entry·ear
 
 -- what the callee ensures of its result and of the last lists
 abbrev pub Ensured-early-fault : Run → ℕ → ℕ → ℕ → ℕ → ℕ → List ℕ → List ℕ → ℕ → Fault → Type 0
-Ensured-early-fault r p i g₀ a₀ f₀ indices offsets nodes res = res ≡ earlyFault r p i g₀ a₀ f₀ indices offsets nodes
+Ensured-early-fault r p i g₀ a₀ f₀ indices offsets nodes res = res ≡ faultBeforeTree r p i g₀ a₀ f₀ indices offsets nodes
 
 module _ {M : Type 1} (𝓤 : URA M) (H : Heap 𝓤) (A : Atoms 𝓤) (mem : Memory → SProp 𝓤) (run : Routine → Fun 𝓤) where
   abbrev pub Contract-early-fault : Contract 𝓤

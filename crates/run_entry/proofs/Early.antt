@@ -20,7 +20,7 @@ use Rattle.tree.specs.Contents.{contentsOf}
 use Rattle.tree_contents.specs.declared.Contents.{Contents}
 use Rattle.run_entry.specs.declared.Fault.{Fault}
 use Rattle.run_entry.specs.declared.Fault.the-variants.{Fine, Settings as BadSettings, Counters, Areas, Offsets, Index, Tree}
-use Rattle.run_entry.specs.Entry.{areasFit, firstOffset, firstIndex, listed, treeFault, treeFaultAt, contentsFault, isFine, recordFault, listsFault, earlyFault, asksTree, faultAt}
+use Rattle.run_entry.specs.Entry.{areasFit, firstOffset, firstIndex, listed, treeFault, treeFaultAt, contentsFault, isFine, recordFault, listsFault, faultBeforeTree, asksTree, faultAt}
 use Rattle.run_entry.proofs.Laws.{axes, record-fine}
 
 -- the nodes are tested where the lists are fine
@@ -37,10 +37,10 @@ contents-split r xs off ns = by (ltb (firstOffset (r .settings) off) (r .setting
 
 module _ (r : Run) (p i g a f : ℕ) (xs off : List ℕ) (ns : List Node) where
   abbrev early : Fault
-  early = earlyFault r p i g a f xs off (length ns)
+  early = faultBeforeTree r p i g a f xs off (length ns)
 
   record-first : isFine early ≡ true → isFine (recordFault r) ≡ true
-  unfolding earlyFault
+  unfolding faultBeforeTree
   record-first e = by-bool (isFine (recordFault r) ≡ true) (isFine (recordFault r)) (λ t. t) (λ t. rw t at e)
 
   asked-axes : asksTree r early ≡ true → Axes (r .settings .c)
@@ -52,7 +52,7 @@ module _ (r : Run) (p i g a f : ℕ) (xs off : List ℕ) (ns : List Node) where
 
   -- the nodes are asked: what they say
   asked : asksTree r early ≡ true → treeFault (contentsOf (r .settings .n) (r .settings .c) (tree (r .used) ns)) ≡ faultAt r p i g a f xs off ns
-  unfolding asksTree earlyFault faultAt treeFaultAt
+  unfolding asksTree faultBeforeTree faultAt treeFaultAt
   asked e = by-bool (treeFault (contentsOf (r .settings .n) (r .settings .c) (tree (r .used) ns)) ≡ faultAt r p i g a f xs off ns) (isFine (recordFault r))
       (λ u. by-bool (treeFault (contentsOf (r .settings .n) (r .settings .c) (tree (r .used) ns)) ≡ faultAt r p i g a f xs off ns) (areasFit (r .settings) p i g a (length xs) (length off) f (length ns))
       (λ v. by-bool (treeFault (contentsOf (r .settings .n) (r .settings .c) (tree (r .used) ns)) ≡ faultAt r p i g a f xs off ns) (isTree (r .settings .method))
@@ -67,7 +67,7 @@ module _ (r : Run) (p i g a f : ℕ) (xs off : List ℕ) (ns : List Node) where
 
   -- they are not: what was found before
   unasked : asksTree r early ≡ false → early ≡ faultAt r p i g a f xs off ns
-  unfolding asksTree earlyFault faultAt treeFaultAt
+  unfolding asksTree faultBeforeTree faultAt treeFaultAt
   unasked e = by-bool (early ≡ faultAt r p i g a f xs off ns) (isFine (recordFault r))
       (λ u. by-bool (early ≡ faultAt r p i g a f xs off ns) (areasFit (r .settings) p i g a (length xs) (length off) f (length ns))
       (λ v. by-bool (early ≡ faultAt r p i g a f xs off ns) (isTree (r .settings .method))
@@ -91,9 +91,9 @@ module _ (r : Run) (p i g a f : ℕ) (xs off : List ℕ) (ns : List Node) where
 
 -- ---- with the machine's count m of the cells
 
-module _ (r : Run) (p i g a f : ℕ) (xs off : List ℕ) (cs : List Cell) (m : ℕ) (em : length cs ≡ m) (t : Fault) (et : t ≡ earlyFault r p i g a f xs off m) (b : Bool) (eb : b ≡ asksTree r t) where
-  early-is : t ≡ earlyFault r p i g a f xs off (length (nodesOf cs))
-  early-is = et ∙ ap (earlyFault r p i g a f xs off) (sym em ∙ sym (nodes-length cs))
+module _ (r : Run) (p i g a f : ℕ) (xs off : List ℕ) (cs : List Cell) (m : ℕ) (em : length cs ≡ m) (t : Fault) (et : t ≡ faultBeforeTree r p i g a f xs off m) (b : Bool) (eb : b ≡ asksTree r t) where
+  early-is : t ≡ faultBeforeTree r p i g a f xs off (length (nodesOf cs))
+  early-is = et ∙ ap (faultBeforeTree r p i g a f xs off) (sym em ∙ sym (nodes-length cs))
 
   pub early-axes : T b → Axes (r .settings .c)
   early-axes y = asked-axes r p i g a f xs off (nodesOf cs) (subst (λ (x : Fault). asksTree r x ≡ true) early-is (holds-as b (asksTree r t) eb y))

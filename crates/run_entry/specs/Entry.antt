@@ -100,8 +100,8 @@ listsFault r xs off =
     cond (ltb (firstOffset (r .settings) off) (r .settings .n + 1)) (Offsets (firstOffset (r .settings) off - 1))
     (cond (ltb (firstIndex (r .settings) xs off) (listed (r .settings) off)) (Index (firstIndex (r .settings) xs off)) Fine)
 
-unfoldable pub earlyFault : Run → ℕ → ℕ → ℕ → ℕ → ℕ → List ℕ → List ℕ → ℕ → Fault
-earlyFault r p i g a f xs off nodes =
+unfoldable pub faultBeforeTree : Run → ℕ → ℕ → ℕ → ℕ → ℕ → List ℕ → List ℕ → ℕ → Fault
+faultBeforeTree r p i g a f xs off nodes =
     cond (isFine (recordFault r))
     (cond (areasFit (r .settings) p i g a (length xs) (length off) f nodes)
     (cond (isTree (r .settings .method)) (listsFault r xs off) Fine)

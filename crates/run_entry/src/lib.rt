@@ -8,7 +8,7 @@ ghost use Rattle.laws.specs.Loops.{first};
 ghost use Rattle.tree_node.specs.Node.{Axes};
 ghost use Rattle.tree_node.specs.Arena.{nodesOf};
 ghost use Rattle.run_record.specs.Record.{GoodSettings, sizesOf};
-ghost use Rattle.run_entry.specs.Entry.{offsetFine, indexFine, treeFits, areasFit, isFine, faultNumber, treeFault, recordFault, listsFault, earlyFault, asksTree, faultAt, ContentsRoom};
+ghost use Rattle.run_entry.specs.Entry.{offsetFine, indexFine, treeFits, areasFit, isFine, faultNumber, treeFault, recordFault, listsFault, faultBeforeTree, asksTree, faultAt, ContentsRoom};
 use run_record::Run;
 use run_record::Settings;
 use run_record::counters::counters_ok;
@@ -241,7 +241,7 @@ fn early_fault(
     offsets: &[u32],
     nodes: usize,
 ) -> Fault
-    ensures { λ t. ⌜ t ≡ earlyFault r p i g a f (now (indices .entry)) (now (offsets .entry)) nodes ⌝ }
+    ensures { λ t. ⌜ t ≡ faultBeforeTree r p i g a f (now (indices .entry)) (now (offsets .entry)) nodes ⌝ }
 {
     let t = record_fault(r);
     if !is_fine(t) {

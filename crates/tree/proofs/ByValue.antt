@@ -29,7 +29,7 @@ use denote.Struct.Laws as LL
 use Prim.Native.Nat.{_+_, _<_, _^_}
 use Rattle.tree_node.specs.Node.{Axes}
 use Rattle.tree.specs.Contents.{lookingOf, looksOn, lookedOf}
-use Rattle.tree.specs.Ways.{probesOn, splitsOn, childOn, childPlace, madeOf, steppedOf, goesOn, loweredOf, answered}
+use Rattle.tree.specs.Ways.{probesOn, splitsOn, childOn, childPlace, madeOf, steppedOf, notEnded, sunkOf, answered}
 use mathlib.Core.Path.{_≡_}
 use Rattle.tree.specs.declared.Answer.{Answer}
 use Rattle.tree.proofs.Answer as Answer′
@@ -352,8 +352,8 @@ module _ {M : Type 1} (𝓤 : URA M) (H : Heap 𝓤) (A : Atoms 𝓤) (mem : Mem
   abbrev Said-goes-on : Way → Bool → SProp 𝓤
   Said-goes-on w = ensured 𝓤 H A goes-on′.ended (goes-on′.clauses 𝓤 H A mem run) tt (w, tt) tt
 
-  said-goes-on : (w : Way) (res : Bool) → ent 𝓤 (Said-goes-on w res) (fact 𝓤 (res ≡ goesOn w))
-  said-goes-on w res = exE 𝓤 _ (λ ws. snd∗ 𝓤 (sem 𝓤 H A (lasts goes-on′.ended tt (w, tt) ws)) (fact 𝓤 (res ≡ goesOn w)))
+  said-goes-on : (w : Way) (res : Bool) → ent 𝓤 (Said-goes-on w res) (fact 𝓤 (res ≡ notEnded w))
+  said-goes-on w res = exE 𝓤 _ (λ ws. snd∗ 𝓤 (sem 𝓤 H A (lasts goes-on′.ended tt (w, tt) ws)) (fact 𝓤 (res ≡ notEnded w)))
 
   goes-goes-on : Given 𝓤 H A → (w : Way) → IsWay w → ent 𝓤 (emp 𝓤) (Contract-goes-on .pre (to-goes-on w))
   goes-goes-on W w g-w = qed W [] ∵ nothing ! $ nothing ! $ owned ! Way′.the-row (Is Way′.the-row) ((LL.makes Way′.the-type Way″.the-plain) 𝓤 H A) w _ g-w $ fjoin ! $ move ! (1 ∷ 0 ∷ []) $ join ! $ frame ! $ nothing ! $ done !
@@ -361,10 +361,10 @@ module _ {M : Type 1} (𝓤 : URA M) (H : Heap 𝓤) (A : Atoms 𝓤) (mem : Mem
 module _ {M : Type 1} {𝓤 : URA M} {H : Heap 𝓤} {A : Atoms 𝓤} {K : Type 0} {W : Given 𝓤 H A} {Γ : List (Item 𝓤)} {E : Env 𝓤 H} {C : Calls 𝓤 H} {Λ : Loops 𝓤 H} {xs : List Operand} {q : After 𝓤 H} {d : Place} {rest : Code} where
   pub calls-goes-on : K → FmC 𝓤 H (W .laws) C → (mem : Memory → SProp 𝓤) (run : Routine → Fun 𝓤) → Triple 𝓤 (C #tree·ways·goes-on) (Contract-goes-on 𝓤 H A mem run) → (w : Way) → IsWay w
       → ((P : Item 𝓤) → Opds K W (P ∷ Γ) E xs (val-Way w ∷ []))
-      → ((res : Bool) → res ≡ goesOn w → Is bool res (vbool res ∷ []) → Seq K W Γ (lands C Λ E d (vbool res) rest q))
+      → ((res : Bool) → res ≡ notEnded w → Is bool res (vbool res ∷ []) → Seq K W Γ (lands C Λ E d (vbool res) rest q))
       → Seq K W Γ (runs C Λ E (seq (call #tree·ways·goes-on xs d) rest) q)
   calls-goes-on t fm mem run met w g-w os k =
-      calls-plain t fm (Contract-goes-on 𝓤 H A mem run) met (to-goes-on 𝓤 H A mem run w) bool (vbool) (bool-tells) (Said-goes-on 𝓤 H A mem run w) (λ (res : Bool). res ≡ goesOn w) (said-goes-on 𝓤 H A mem run w)
+      calls-plain t fm (Contract-goes-on 𝓤 H A mem run) met (to-goes-on 𝓤 H A mem run w) bool (vbool) (bool-tells) (Said-goes-on 𝓤 H A mem run w) (λ (res : Bool). res ≡ notEnded w) (said-goes-on 𝓤 H A mem run w)
       (λ _. id⊢ 𝓤 _) (goes-goes-on 𝓤 H A mem run W w g-w) (os _) k
 
 -- ---- `lowered`
@@ -378,8 +378,8 @@ module _ {M : Type 1} (𝓤 : URA M) (H : Heap 𝓤) (A : Atoms 𝓤) (mem : Mem
   abbrev Said-lowered : Way → Step → Way → SProp 𝓤
   Said-lowered w s₀ = ensured 𝓤 H A lowered′.ended (lowered′.clauses 𝓤 H A mem run) tt (w, (s₀, tt)) tt
 
-  said-lowered : (w : Way) (s₀ : Step) (res : Way) → ent 𝓤 (Said-lowered w s₀ res) (fact 𝓤 (res ≡ loweredOf w s₀))
-  said-lowered w s₀ res = exE 𝓤 _ (λ ws. snd∗ 𝓤 (sem 𝓤 H A (lasts lowered′.ended tt (w, (s₀, tt)) ws)) (fact 𝓤 (res ≡ loweredOf w s₀)))
+  said-lowered : (w : Way) (s₀ : Step) (res : Way) → ent 𝓤 (Said-lowered w s₀ res) (fact 𝓤 (res ≡ sunkOf w s₀))
+  said-lowered w s₀ res = exE 𝓤 _ (λ ws. snd∗ 𝓤 (sem 𝓤 H A (lasts lowered′.ended tt (w, (s₀, tt)) ws)) (fact 𝓤 (res ≡ sunkOf w s₀)))
 
   goes-lowered : Given 𝓤 H A → (w : Way) (s₀ : Step) → IsWay w → IsStep s₀ → w .depth + 1 < 2 ^ 64 → ent 𝓤 (emp 𝓤) (Contract-lowered .pre (to-lowered w s₀))
   goes-lowered W w s₀ g-w g-s₀ l = qed W [] ∵ says ! l $ nothing ! $ owned ! Step′.the-row (Is Step′.the-row) ((LL.makes Step′.the-type Step″.the-plain) 𝓤 H A) s₀ _ g-s₀ $ fjoin ! $ owned ! Way′.the-row (Is Way′.the-row) ((LL.makes Way′.the-type Way″.the-plain) 𝓤 H A) w _ g-w $ fjoin ! $ nothing ! $ frame ! $ done !
@@ -387,10 +387,10 @@ module _ {M : Type 1} (𝓤 : URA M) (H : Heap 𝓤) (A : Atoms 𝓤) (mem : Mem
 module _ {M : Type 1} {𝓤 : URA M} {H : Heap 𝓤} {A : Atoms 𝓤} {K : Type 0} {W : Given 𝓤 H A} {Γ : List (Item 𝓤)} {E : Env 𝓤 H} {C : Calls 𝓤 H} {Λ : Loops 𝓤 H} {xs : List Operand} {q : After 𝓤 H} {d : Place} {rest : Code} where
   pub calls-lowered : K → FmC 𝓤 H (W .laws) C → (mem : Memory → SProp 𝓤) (run : Routine → Fun 𝓤) → Triple 𝓤 (C #tree·ways·lowered) (Contract-lowered 𝓤 H A mem run) → (w : Way) (s₀ : Step) → IsWay w → IsStep s₀ → w .depth + 1 < 2 ^ 64
       → ((P : Item 𝓤) → Opds K W (P ∷ Γ) E xs (val-Way w ∷ val-Step s₀ ∷ []))
-      → ((res : Way) → res ≡ loweredOf w s₀ → Is Way′.the-row res (val-Way res ∷ []) → Seq K W Γ (lands C Λ E d (val-Way res) rest q))
+      → ((res : Way) → res ≡ sunkOf w s₀ → Is Way′.the-row res (val-Way res ∷ []) → Seq K W Γ (lands C Λ E d (val-Way res) rest q))
       → Seq K W Γ (runs C Λ E (seq (call #tree·ways·lowered xs d) rest) q)
   calls-lowered t fm mem run met w s₀ g-w g-s₀ l os k =
-      calls-plain t fm (Contract-lowered 𝓤 H A mem run) met (to-lowered 𝓤 H A mem run w s₀) Way′.the-row (val-Way) (LL.tells Way′.the-type Way″.the-laws) (Said-lowered 𝓤 H A mem run w s₀) (λ (res : Way). res ≡ loweredOf w s₀) (said-lowered 𝓤 H A mem run w s₀)
+      calls-plain t fm (Contract-lowered 𝓤 H A mem run) met (to-lowered 𝓤 H A mem run w s₀) Way′.the-row (val-Way) (LL.tells Way′.the-type Way″.the-laws) (Said-lowered 𝓤 H A mem run w s₀) (λ (res : Way). res ≡ sunkOf w s₀) (said-lowered 𝓤 H A mem run w s₀)
       (λ _. id⊢ 𝓤 _) (goes-lowered 𝓤 H A mem run W w s₀ g-w g-s₀ l) (os _) k
 
 -- ---- `answer`

@@ -22,7 +22,7 @@ use Rattle.tree.specs.declared.Way.{Way}
 use Rattle.tree.specs.declared.Step.{Step}
 use Rattle.tree.specs.declared.Answer.{Answer}
 use Rattle.tree.specs.Insert.{Tree, tree, turnAt, levelAt, needsOf, insertion, insertOf, growable}
-use Rattle.tree.specs.Ways.{wayTurn, LevelAsks, enteringOf, goesOn, loweredOf, answered}
+use Rattle.tree.specs.Ways.{wayTurn, LevelAsks, enteringOf, notEnded, sunkOf, answered}
 use Rattle.tree.proofs.Inserting.{needs-few, Sinks, sinks-start, sinks-on, sinks-in, sinks-asks, sinks-few, sinks-up}
 use Rattle.tree.proofs.Whole.{needed, refused, taken}
 
@@ -69,7 +69,7 @@ module _ (y : List Float) (n used j c : ℕ) (cs₀ : List Cell) where
     pub enters-start : (m : ℕ) → length cs₀ ≡ m → (w : Way) → w ≡ enteringOf y m used more j c → Enters y n used j c ns₀ w ns₀
     enters-start m e w ew = subst (λ (x : Way). Enters y n used j c ns₀ x ns₀) (sym (ew ∙ ap (λ (x : ℕ). enteringOf y x used more j c) (sym e ∙ sym (nodes-length cs₀)))) enters-first
 
-  module _ (w : Way) (cs : List Cell) (k : Enters y n used j c ns₀ w (nodesOf cs)) (b : Bool) (eb : b ≡ goesOn w) where
+  module _ (w : Way) (cs : List Cell) (k : Enters y n used j c ns₀ w (nodesOf cs)) (b : Bool) (eb : b ≡ notEnded w) where
     abbrev p : List Float
     p = pointOf y c j
 
@@ -78,7 +78,7 @@ module _ (y : List Float) (n used j c : ℕ) (cs₀ : List Cell) where
 
     module _ (on : T b) (hj : j < n) where
       going : w .ended ≡ false
-      going = not-true (w .ended) (holds-as b (goesOn w) eb on)
+      going = not-true (w .ended) (holds-as b (notEnded w) eb on)
 
       abbrev named : whole y n used j c ns₀ ≤ nameable (length ns₀)
       named = k .on going .1
@@ -118,7 +118,7 @@ module _ (y : List Float) (n used j c : ℕ) (cs₀ : List Cell) where
       enters-deep m e h = omega (arith, sinks-up goes hj (omega arith) fit, nodes-length cs₀, e, h)
 
       module _ (s : Step) (ds : List Cell)
-          (es : (tree (s .used) (nodesOf ds) ≡ levelAt y (w .c) (w .p) (w .j) (w .depth) (w .node) t) × (s .next ≡ wayTurn w (nodeAt (nodesOf cs) (w .node)) .next) × (s .last ≡ wayTurn w (nodeAt (nodesOf cs) (w .node)) .last)) (u : Way) (eu : u ≡ loweredOf w s) where
+          (es : (tree (s .used) (nodesOf ds) ≡ levelAt y (w .c) (w .p) (w .j) (w .depth) (w .node) t) × (s .next ≡ wayTurn w (nodeAt (nodesOf cs) (w .node)) .next) × (s .last ≡ wayTurn w (nodeAt (nodesOf cs) (w .node)) .last)) (u : Way) (eu : u ≡ sunkOf w s) where
         led : tree (s .used) (nodesOf ds) ≡ levelAt y c p j (w .depth) (w .node) t
         led = es .0 ∙ level-same
 
@@ -139,4 +139,4 @@ module _ (y : List Float) (n used j c : ℕ) (cs₀ : List Cell) where
         enters-nearer = rw (eu, going) (by-bool (cond (s .last) 0 (suc (length ns₀ - (w .depth + 1))) < suc (length ns₀ - w .depth)) (s .last) (λ e. rw e (omega arith)) (λ e. rw e (omega (arith, sinks-up goes hj (omega arith) fit))))
 
     pub enters-end : T (not b) → (a : Answer) → a ≡ answered w → insertion (a .full) (tree (a .used) (nodesOf cs)) ≡ insertOf y c j (tree used ns₀)
-    enters-end over a ea = rw ea (k .off (not-false (w .ended) (fails-as b (goesOn w) eb over)))
+    enters-end over a ea = rw ea (k .off (not-false (w .ended) (fails-as b (notEnded w) eb over)))

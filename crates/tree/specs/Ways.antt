@@ -87,11 +87,11 @@ steppedOf w s = record { used = w .used + s .out .fresh; next = s .out .next; la
 abbrev pub enteringOf : List Float → ℕ → ℕ → ℕ → ℕ → ℕ → Way
 enteringOf y cells used more j c = record { p = pointOf y c j; c = c; j = j; depth = 0; node = 0; used = used; full = ltb (nameable cells) (used + more); ended = ltb (nameable cells) (used + more) }
 
-abbrev pub goesOn : Way → Bool
-goesOn w = not (w .ended)
+abbrev pub notEnded : Way → Bool
+notEnded w = not (w .ended)
 
-abbrev pub loweredOf : Way → Step → Way
-loweredOf w s = record { p = w .p; c = w .c; j = w .j; depth = w .depth + 1; node = s .next; used = s .used; full = w .full; ended = s .last }
+abbrev pub sunkOf : Way → Step → Way
+sunkOf w s = record { p = w .p; c = w .c; j = w .j; depth = w .depth + 1; node = s .next; used = s .used; full = w .full; ended = s .last }
 
 abbrev pub answered : Way → Answer
 answered w = record { full = w .full; used = w .used }

@@ -5,7 +5,7 @@ ghost use lib.ListN.{length};
 ghost use Rattle.laws.specs.Domain.{deepest, mostWord};
 ghost use Rattle.tree_node.specs.Node.{Axes};
 ghost use Rattle.tree.specs.Insert.{splitsOf, leafNeeds};
-ghost use Rattle.tree.specs.Ways.{LeafIn, MetAsks, probingOf, probesOn, probedOf, metOf, splitsOn, childOn, childPlace, madeOf, steppedOf, enteringOf, goesOn, loweredOf, answered};
+ghost use Rattle.tree.specs.Ways.{LeafIn, MetAsks, probingOf, probesOn, probedOf, metOf, splitsOn, childOn, childPlace, madeOf, steppedOf, enteringOf, notEnded, sunkOf, answered};
 use crate::Answer;
 use crate::Probe;
 use crate::Split;
@@ -218,7 +218,7 @@ pub fn entering(positions: &[f64], cells: usize, used: usize, more: usize, j: u3
 }
 
 pub fn goes_on(w: Way) -> bool
-    ensures { λ r. ⌜ r ≡ goesOn w ⌝ }
+    ensures { λ r. ⌜ r ≡ notEnded w ⌝ }
 {
     !w.ended
 }
@@ -226,7 +226,7 @@ pub fn goes_on(w: Way) -> bool
 // A level lower.
 pub fn lowered(w: Way, s: Step) -> Way
     requires { ⌜ w .depth + 1 < 2 ^ 64 ⌝ }
-    ensures { λ r. ⌜ r ≡ loweredOf w s ⌝ }
+    ensures { λ r. ⌜ r ≡ sunkOf w s ⌝ }
 {
     let p = w.p;
     Way {

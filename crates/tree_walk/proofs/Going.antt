@@ -20,7 +20,7 @@ use Rattle.tree_node.specs.declared.Cell.{Cell}
 use Rattle.tree_node.specs.Arena.{cellAt}
 use Rattle.tree_walk.specs.declared.Eye.{Eye}
 use Rattle.tree_walk.specs.declared.Spot.{Spot}
-use Rattle.tree_walk.specs.Turn.{spotOf}
+use Rattle.tree_walk.specs.Turn.{freshSpot}
 use Rattle.tree_walk.proofs.Walked.{load, over-cells, first-fits}
 use Rattle.tree_walk.proofs.Pending.{pending, Going, Goes, Deep, going-start, going-first, going-next, going-deep}
 use Rattle.tree_walk.proofs.Values.{IsSpot}
@@ -56,7 +56,7 @@ module _ (levels size used : ℕ) (eye : Eye) (ys : List Cell) (low to : ℕ) (a
 
   module _ (req : Req ys used eye to) where
     -- nothing is on the stack yet
-    abbrev pub begins : (st : List ℕ) → length st ≡ 2 * levels → IsStack size st → (s : Spot) → s ≡ spotOf acc low to 0 → IsSpot s → State
+    abbrev pub begins : (st : List ℕ) → length st ≡ 2 * levels → IsStack size st → (s : Spot) → s ≡ freshSpot acc low to 0 → IsSpot s → State
     begins st n gz s e gs = next st s gz gs (subst (Going levels used eye ys low goal st) (sym e) (going-start levels used eye ys low to acc st n (req .1)))
 
     -- a turn, at cell i, gave r, and zs on the stack
@@ -77,7 +77,7 @@ module _ (levels size used : ℕ) (eye : Eye) (ys : List Cell) (low to : ℕ) (a
         deeper : r .deep < r .stop → Deep levels used eye ys low goal (s .st) (s .s) r zs
         deeper l = going-deep levels used eye ys (req .4) (req .0) (s .going) less (gave .0) (gave .1) l
 
-        pub resumes : (l : r .deep < r .stop) (a : Acc) → Found ys used eye (r .deep) (r .stop) (r .acc) a → (w : Spot) → w ≡ spotOf a (r .at) (r .end) (r .level) → Goes levels used eye ys low goal (s .st) (s .s) w zs
+        pub resumes : (l : r .deep < r .stop) (a : Acc) → Found ys used eye (r .deep) (r .stop) (r .acc) a → (w : Spot) → w ≡ freshSpot a (r .at) (r .end) (r .level) → Goes levels used eye ys low goal (s .st) (s .s) w zs
         resumes l a ea w ew = subst (λ (u : Spot). Goes levels used eye ys low goal (s .st) (s .s) u zs) (sym ew) (deeper l .onto a ea)
 
         pub smaller : r .deep < r .stop → used - r .deep < used - low

@@ -24,7 +24,7 @@ use Rattle.tree_bodies.specs.Bodies.{kindOf, bodyOf}
 use Rattle.tree_walk.specs.declared.Eye.{Eye}
 use Rattle.tree_walk.specs.declared.Spot.{Spot}
 use Rattle.tree_walk.specs.Repel.{walkOf, Blocks}
-use Rattle.tree_walk.specs.Turn.{spotOf, onwardOf, openedOf, pushedOf, seenAs, turnedOf, stackedOf}
+use Rattle.tree_walk.specs.Turn.{freshSpot, onwardOf, openedOf, pushedOf, seenAs, turnedOf, stackedOf}
 use Rattle.tree_walk.proofs.Fuel.{block, whole-skip, whole-body, whole-open}
 use Rattle.tree_walk.proofs.Walked.{range, weight, load, load-app, load-block, weight-pos, Inside, inside-app, inside-range, node-at, over-cells, walks, walks-app, walks-range, first-at, some-children, just-added}
 
@@ -76,9 +76,9 @@ module _ (levels : ℕ) where
   -- ---- past a cell
 
   onward-cases : (P : Spot → Type 0) (st : List ℕ) (s : Spot) (a : Acc)
-      → (s .at + 1 < s .end → P (spotOf a (s .at + 1) (s .end) (s .level)))
-      → (s .end ≤ s .at + 1 → s .level ≡ 0 → P (spotOf a (s .at + 1) (s .end) 0))
-      → (s .end ≤ s .at + 1 → (s .level ≡ 0 → ⊥) → P (spotOf a (num st (s .level - 1)) (num st (s .level - 1 + levels)) (s .level - 1)))
+      → (s .at + 1 < s .end → P (freshSpot a (s .at + 1) (s .end) (s .level)))
+      → (s .end ≤ s .at + 1 → s .level ≡ 0 → P (freshSpot a (s .at + 1) (s .end) 0))
+      → (s .end ≤ s .at + 1 → (s .level ≡ 0 → ⊥) → P (freshSpot a (num st (s .level - 1)) (num st (s .level - 1 + levels)) (s .level - 1)))
       → P (onwardOf levels st s a)
   unfolding onwardOf
   onward-cases P st s a f g h =
@@ -110,9 +110,9 @@ module _ (levels : ℕ) where
   -- ---- to the children of a cell, from f to e
 
   opened-cases : (P : Spot → List ℕ → Type 0) (st : List ℕ) (s : Spot) (f e : ℕ)
-      → (s .at + 1 < s .end → s .level < levels → P (spotOf (s .acc) f e (s .level + 1)) (set (set st (s .level) (s .at + 1)) (s .level + levels) (s .end)))
+      → (s .at + 1 < s .end → s .level < levels → P (freshSpot (s .acc) f e (s .level + 1)) (set (set st (s .level) (s .at + 1)) (s .level + levels) (s .end)))
       → (s .at + 1 < s .end → levels ≤ s .level → P (record { acc = s .acc; at = s .at + 1; end = s .end; level = s .level; deep = f; stop = e }) st)
-      → (s .end ≤ s .at + 1 → P (spotOf (s .acc) f e (s .level)) st)
+      → (s .end ≤ s .at + 1 → P (freshSpot (s .acc) f e (s .level)) st)
       → P (openedOf levels s f e) (pushedOf levels st s)
   unfolding openedOf pushedOf
   opened-cases P st s f e g h i =
@@ -173,7 +173,7 @@ module _ (levels : ℕ) where
       pub inside : Inside low used (pending st s)
       pub same : walks used y cs (pending st s) (s .acc) ≡ goal
 
-    pub going-start : (low to : ℕ) (a : Acc) (st : List ℕ) → length st ≡ 2 * levels → to ≤ used → Going low (over-cells used y cs low (to - low) a) st (spotOf a low to 0)
+    pub going-start : (low to : ℕ) (a : Acc) (st : List ℕ) → length st ≡ 2 * levels → to ≤ used → Going low (over-cells used y cs low (to - low) a) st (freshSpot a low to 0)
     going-start low to a st e h = record {
       sound = record { size = e; room = omega arith; live = inr refl; full = λ j m. absurd (none-below j m) };
       inside = inside-app low used (range low (to - low)) [] part tt;
@@ -219,7 +219,7 @@ module _ (levels : ℕ) where
       pub some : t .deep < t .stop
       pub further : low < t .deep
       pub within : t .stop ≤ used
-      pub onto : (a : Acc) → a ≡ over-cells used y cs (t .deep) (t .stop - t .deep) (t .acc) → Goes low goal st s (spotOf a (t .at) (t .end) (t .level)) zs
+      pub onto : (a : Acc) → a ≡ over-cells used y cs (t .deep) (t .stop - t .deep) (t .acc) → Goes low goal st s (freshSpot a (t .at) (t .end) (t .level)) zs
 
     abbrev pub Next : ℕ → Acc → List ℕ → Spot → Spot → List ℕ → Type 0
     Next low goal st s t zs = (None t × Goes low goal st s t zs) ⊎ Deep low goal st s t zs

@@ -12,23 +12,23 @@ use Rattle.tree_node.specs.Arena.{nodeOf}
 use Rattle.tree_walk.specs.declared.Eye.{Eye}
 use Rattle.tree_walk.specs.declared.Spot.{Spot}
 
-abbrev pub spotOf : Acc → ℕ → ℕ → ℕ → Spot
-spotOf a i e l = record { acc = a; at = i; end = e; level = l; deep = 0; stop = 0 }
+abbrev pub freshSpot : Acc → ℕ → ℕ → ℕ → Spot
+freshSpot a i e l = record { acc = a; at = i; end = e; level = l; deep = 0; stop = 0 }
 
 -- past the cell: to the next one, or to what the stack has, or to the end
 unfoldable pub onwardOf : ℕ → List ℕ → Spot → Acc → Spot
 onwardOf levels st s a =
-    cond (ltb (s .at + 1) (s .end)) (spotOf a (s .at + 1) (s .end) (s .level))
-    (cond (eqb (s .level) 0) (spotOf a (s .at + 1) (s .end) 0)
-    (spotOf a (num st (s .level - 1)) (num st (s .level - 1 + levels)) (s .level - 1)))
+    cond (ltb (s .at + 1) (s .end)) (freshSpot a (s .at + 1) (s .end) (s .level))
+    (cond (eqb (s .level) 0) (freshSpot a (s .at + 1) (s .end) 0)
+    (freshSpot a (num st (s .level - 1)) (num st (s .level - 1 + levels)) (s .level - 1)))
 
 -- to the cells from f to e
 unfoldable pub openedOf : ℕ → Spot → ℕ → ℕ → Spot
 openedOf levels s f e =
     cond (ltb (s .at + 1) (s .end))
-    (cond (ltb (s .level) levels) (spotOf (s .acc) f e (s .level + 1))
+    (cond (ltb (s .level) levels) (freshSpot (s .acc) f e (s .level + 1))
     (record { acc = s .acc; at = s .at + 1; end = s .end; level = s .level; deep = f; stop = e }))
-    (spotOf (s .acc) f e (s .level))
+    (freshSpot (s .acc) f e (s .level))
 
 -- what is left beside the cell is on the stack, where there is room
 unfoldable pub pushedOf : ℕ → List ℕ → Spot → List ℕ

@@ -5,7 +5,7 @@ ghost use lib.ListN.{length};
 ghost use Rattle.laws.specs.Domain.{mostWord};
 ghost use Rattle.tree_node.specs.Node.{Axes};
 ghost use Rattle.tree_walk.specs.Repel.{nothing};
-ghost use Rattle.tree_walk.specs.Turn.{spotOf, onwardOf, openedOf, pushedOf, turnedOf, stackedOf};
+ghost use Rattle.tree_walk.specs.Turn.{freshSpot, onwardOf, openedOf, pushedOf, turnedOf, stackedOf};
 use crate::Eye;
 use crate::Spot;
 use tree_bodies::Acc;
@@ -28,7 +28,7 @@ pub fn nothing_yet() -> Acc
 }
 
 pub fn standing(acc: Acc, at: u32, end: u32, level: usize) -> Spot
-    ensures { λ r. ⌜ r ≡ spotOf acc at end level ⌝ }
+    ensures { λ r. ⌜ r ≡ freshSpot acc at end level ⌝ }
 {
     Spot {
         acc,
@@ -42,7 +42,7 @@ pub fn standing(acc: Acc, at: u32, end: u32, level: usize) -> Spot
 
 // On from there, once what came first has been walked.
 pub fn resumed(s: Spot, a: Acc) -> Spot
-    ensures { λ r. ⌜ r ≡ spotOf a (s .at) (s .end) (s .level) ⌝ }
+    ensures { λ r. ⌜ r ≡ freshSpot a (s .at) (s .end) (s .level) ⌝ }
 {
     standing(a, s.at, s.end, s.level)
 }

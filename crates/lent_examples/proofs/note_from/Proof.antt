@@ -43,7 +43,7 @@ use Rattle.lent.proofs.Pass.{Seat, ref-at, word, Mut, Shr, Tok}
 use denote.Struct.Laws as LL
 use Prim.Native.Nat.{_<_}
 use Rattle.lent_examples.proofs.Parts.{note-told}
-use Rattle.lent_examples.specs.Lending.{valueAt, valued, Fits, bumpedOf}
+use Rattle.lent_examples.specs.Lending.{valueOr, valued, Fits, bumpedOf}
 use Rattle.tree_node.specs.Arena.{cellAt}
 use lib.ListN.{length, set}
 use mathlib.Core.Path.{_≡_}
@@ -110,7 +110,7 @@ module _ {M : Type 1} (𝓤 : URA M) (H : Heap 𝓤) (A : Atoms 𝓤) (W : Given
   typed-Counter : (v : Counter) → IsCounter v → T (hasTy Counter″.mir (val-Counter v)) × WT (val-Counter v)
   typed-Counter v g = LL.lawful Counter′.the-type Counter″.the-laws 𝓤 H A W .typed v _ g .0
 
-  exits : (res : Unit {0}) (cells′ : List Cell) (c′ : Counter) → IsCounter c′ → Unit {0} → length cells′ ≡ s-cells .count → (c′ ≡ bumpedOf c more (valueAt values i)) × (cells′ ≡ set cells i (valued (cellAt cells i) (valueAt values i))) → ent 𝓤 (⋆ 𝓤 H A (‵ (fobs (s-c .tag) (Counter′.the-row .coded .code c′)) ∷ ‵ (fbor (s-c .life) (Body (memory-of Counter′.the-row) (s-c .block) (s-c .off) (s-c .tag))) ∷ ‵ (Tok s-c) ∷ ‵ (Mut Cell′.the-row s-cells cells′) ∷ ‵ (Tok s-cells) ∷ ‵ (Shr f64 s-values values) ∷ ‵ (Tok s-values) ∷ [])) (Post (unit-val res))
+  exits : (res : Unit {0}) (cells′ : List Cell) (c′ : Counter) → IsCounter c′ → Unit {0} → length cells′ ≡ s-cells .count → (c′ ≡ bumpedOf c more (valueOr values i)) × (cells′ ≡ set cells i (valued (cellAt cells i) (valueOr values i))) → ent 𝓤 (⋆ 𝓤 H A (‵ (fobs (s-c .tag) (Counter′.the-row .coded .code c′)) ∷ ‵ (fbor (s-c .life) (Body (memory-of Counter′.the-row) (s-c .block) (s-c .off) (s-c .tag))) ∷ ‵ (Tok s-c) ∷ ‵ (Mut Cell′.the-row s-cells cells′) ∷ ‵ (Tok s-cells) ∷ ‵ (Shr f64 s-values values) ∷ ‵ (Tok s-values) ∷ [])) (Post (unit-val res))
   exits res cells′ c′ is-c is le-cells e =
       qed W (‵ (fobs (s-c .tag) (Counter′.the-row .coded .code c′)) ∷ ‵ (fbor (s-c .life) (Body (memory-of Counter′.the-row) (s-c .block) (s-c .off) (s-c .tag))) ∷ ‵ (Tok s-c) ∷ ‵ (Mut Cell′.the-row s-cells cells′) ∷ ‵ (Tok s-cells) ∷ ‵ (Shr f64 s-values values) ∷ ‵ (Tok s-values) ∷ []) ∵
       suffices ! _ (ends-at 𝓤 H A f.ended stayed (f.clauses 𝓤 H A mem run-of) W (((s-c .life, (s-cells .life, (s-values .life, tt))), (s-c .share, (s-cells .share, (s-values .share, tt))), tt, x, at), tt) (unit-val res) res (c′, (cells′, (tt, (tt, (tt, tt))))) (tt, (le-cells ∙ sym ln-cells, (tt, (tt, (tt, tt)))))) $ says ! e $

@@ -41,7 +41,7 @@ use Rattle.lent.proofs.Local.{array-val, local-at, lend-front, back-front, lend
 use denote.Struct.Laws as LL
 use Prim.Native.Nat.{_<_, _≤_}
 use Rattle.lent_examples.proofs.Parts.{in-part, noted-told}
-use Rattle.lent_examples.specs.Lending.{valueAt, valued, Fits, bumpedOf, notedOf}
+use Rattle.lent_examples.specs.Lending.{valueOr, valued, Fits, bumpedOf, notedOf}
 use Rattle.tree_node.specs.Arena.{cellAt}
 use lib.ListN.{length, set}
 use mathlib.Core.Path.{_≡_}
@@ -96,7 +96,7 @@ module _ {M : Type 1} (𝓤 : URA M) (H : Heap 𝓤) (A : Atoms 𝓤) (W : Given
   typed-Noted : (v : Noted) → IsNoted v → T (hasTy Noted″.mir (val-Noted v)) × WT (val-Noted v)
   typed-Noted v g = LL.lawful Noted′.the-type Noted″.the-laws 𝓤 H A W .typed v _ g .0
 
-  exits : (res : Noted) → IsNoted res → res ≡ notedOf (bumpedOf c more (valueAt values i)) (set cells i (valued (cellAt cells i) (valueAt values i))) → ent 𝓤 (⋆ 𝓤 H A (‵ (Shr f64 s-values values) ∷ ‵ (Tok s-values) ∷ [])) (Post (val-Noted res))
+  exits : (res : Noted) → IsNoted res → res ≡ notedOf (bumpedOf c more (valueOr values i)) (set cells i (valued (cellAt cells i) (valueOr values i))) → ent 𝓤 (⋆ 𝓤 H A (‵ (Shr f64 s-values values) ∷ ‵ (Tok s-values) ∷ [])) (Post (val-Noted res))
   exits res is e =
       qed W (‵ (Shr f64 s-values values) ∷ ‵ (Tok s-values) ∷ []) ∵
       suffices ! _ (ends-at 𝓤 H A f.ended stayed (f.clauses 𝓤 H A mem run-of) W (((s-values .life, tt), (s-values .share, tt), tt, x, at), tt) (val-Noted res) res (tt, (tt, (tt, (tt, (tt, (tt, tt)))))) (tt, (tt, (tt, (tt, (tt, (tt, tt))))))) $ says ! e $

@@ -39,7 +39,7 @@ use Rattle.lent.proofs.Pass.{Seat, ref-at, word, Mut, Shr, Tok}
 use denote.Struct.Laws as LL
 use Prim.Native.Nat.{_<_}
 use Rattle.lent_examples.proofs.Parts.{from-told}
-use Rattle.lent_examples.specs.Lending.{valueAt, valued}
+use Rattle.lent_examples.specs.Lending.{valueOr, valued}
 use Rattle.tree_node.specs.Arena.{cellAt}
 use lib.ListN.{length, set}
 use mathlib.Core.Path.{_≡_}
@@ -96,7 +96,7 @@ module _ {M : Type 1} (𝓤 : URA M) (H : Heap 𝓤) (A : Atoms 𝓤) (W : Given
   typed-Cell : (v : Cell) → IsCell v → T (hasTy Cell″.mir (val-Cell v)) × WT (val-Cell v)
   typed-Cell v g = LL.lawful Cell′.the-type Cell″.the-laws 𝓤 H A W .typed v _ g .0
 
-  exits : (res : ℕ) (cells′ : List Cell) (marks′ : List ℕ) → res < 2 ^ 32 → length cells′ ≡ s-cells .count → length marks′ ≡ s-marks .count → (res ≡ m) × (cells′ ≡ set cells i (valued (cellAt cells i) (valueAt values i))) × (marks′ ≡ set marks i m) → ent 𝓤 (⋆ 𝓤 H A (‵ (Mut Cell′.the-row s-cells cells′) ∷ ‵ (Tok s-cells) ∷ ‵ (Shr f64 s-values values) ∷ ‵ (Tok s-values) ∷ ‵ (Mut u32 s-marks marks′) ∷ ‵ (Tok s-marks) ∷ [])) (Post (vint w32 res))
+  exits : (res : ℕ) (cells′ : List Cell) (marks′ : List ℕ) → res < 2 ^ 32 → length cells′ ≡ s-cells .count → length marks′ ≡ s-marks .count → (res ≡ m) × (cells′ ≡ set cells i (valued (cellAt cells i) (valueOr values i))) × (marks′ ≡ set marks i m) → ent 𝓤 (⋆ 𝓤 H A (‵ (Mut Cell′.the-row s-cells cells′) ∷ ‵ (Tok s-cells) ∷ ‵ (Shr f64 s-values values) ∷ ‵ (Tok s-values) ∷ ‵ (Mut u32 s-marks marks′) ∷ ‵ (Tok s-marks) ∷ [])) (Post (vint w32 res))
   exits res cells′ marks′ is le-cells le-marks e =
       qed W (‵ (Mut Cell′.the-row s-cells cells′) ∷ ‵ (Tok s-cells) ∷ ‵ (Shr f64 s-values values) ∷ ‵ (Tok s-values) ∷ ‵ (Mut u32 s-marks marks′) ∷ ‵ (Tok s-marks) ∷ []) ∵
       suffices ! _ (ends-at 𝓤 H A f.ended stayed (f.clauses 𝓤 H A mem run-of) W (((s-cells .life, (s-values .life, (s-marks .life, tt))), (s-cells .share, (s-values .share, (s-marks .share, tt))), tt, x, at), tt) (vint w32 res) res (cells′, (tt, (marks′, (tt, (tt, tt))))) (le-cells ∙ sym ln-cells, (tt, (le-marks ∙ sym ln-marks, (tt, (tt, tt)))))) $ says ! e $

@@ -41,7 +41,7 @@ use Rattle.lent.proofs.Local.{array-val, local-at, lend-front, back-front}
 use denote.Struct.Laws as LL
 use Prim.Native.Nat.{_<_, _≤_}
 use Rattle.lent_examples.proofs.Parts.{in-part, own-told}
-use Rattle.lent_examples.specs.Lending.{valueAt, valued, placedOf}
+use Rattle.lent_examples.specs.Lending.{valueOr, valued, placedOf}
 use Rattle.tree_node.specs.Arena.{cellAt}
 use lib.ListN.{length, set}
 use mathlib.Core.Path.{_≡_}
@@ -90,7 +90,7 @@ module _ {M : Type 1} (𝓤 : URA M) (H : Heap 𝓤) (A : Atoms 𝓤) (W : Given
   typed-Placed : (v : Placed) → IsPlaced v → T (hasTy Placed″.mir (val-Placed v)) × WT (val-Placed v)
   typed-Placed v g = LL.lawful Placed′.the-type Placed″.the-laws 𝓤 H A W .typed v _ g .0
 
-  exits : (res : Placed) (marks′ : List ℕ) → IsPlaced res → length marks′ ≡ s-marks .count → (res ≡ placedOf m (set cells i (valued (cellAt cells i) (valueAt values i)))) × (marks′ ≡ set marks i m) → ent 𝓤 (⋆ 𝓤 H A (‵ (Shr f64 s-values values) ∷ ‵ (Tok s-values) ∷ ‵ (Mut u32 s-marks marks′) ∷ ‵ (Tok s-marks) ∷ [])) (Post (val-Placed res))
+  exits : (res : Placed) (marks′ : List ℕ) → IsPlaced res → length marks′ ≡ s-marks .count → (res ≡ placedOf m (set cells i (valued (cellAt cells i) (valueOr values i)))) × (marks′ ≡ set marks i m) → ent 𝓤 (⋆ 𝓤 H A (‵ (Shr f64 s-values values) ∷ ‵ (Tok s-values) ∷ ‵ (Mut u32 s-marks marks′) ∷ ‵ (Tok s-marks) ∷ [])) (Post (val-Placed res))
   exits res marks′ is le-marks e =
       qed W (‵ (Shr f64 s-values values) ∷ ‵ (Tok s-values) ∷ ‵ (Mut u32 s-marks marks′) ∷ ‵ (Tok s-marks) ∷ []) ∵
       suffices ! _ (ends-at 𝓤 H A f.ended stayed (f.clauses 𝓤 H A mem run-of) W (((s-values .life, (s-marks .life, tt)), (s-values .share, (s-marks .share, tt)), tt, x, at), tt) (val-Placed res) res (tt, (tt, (tt, (marks′, (tt, (tt, tt)))))) (tt, (tt, (tt, (le-marks ∙ sym ln-marks, (tt, (tt, tt))))))) $ says ! e $

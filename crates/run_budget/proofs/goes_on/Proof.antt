@@ -1,4 +1,4 @@
-use Rattle.run_budget.specs.Budget.{goesOn}
+use Rattle.run_budget.specs.Budget.{spendsOn}
 use borrow.Author.Needs.{needs}
 use native.Mathlib.Omega.{arith}
 use borrow.Author.Needs.{needs}
@@ -12,11 +12,11 @@ is-done-requires : tie.Need-is-done-requires
 is-done-requires c κs = search needs
 
 returns : tie.Need-returns
-unfolding goesOn
+unfolding spendsOn
 returns c = rw (rw (c .before .before .is-done .ensures) at (c .before .if1 .taken))
 
 returns-2 : tie.Need-returns-2
-unfolding goesOn
+unfolding spendsOn
 returns-2 c = rw (rw (c .before .is-done .ensures) at (c .if1 .left))
 
 pub goes-on-spec : {M : Type 1} → statement M
