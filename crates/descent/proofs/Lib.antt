@@ -6,3 +6,4 @@ pub mod Theorems
 pub mod Longer
 pub mod Lent
 pub mod ByValue
+pub mod CallsWork

@@ -69,7 +69,7 @@ use Rattle.desk.proofs.CallsRunOf.{Contract-run-of, calls-run-of-s}
 use Rattle.desk_words.proofs.run_of.Symbol as run-of-def
 use Rattle.desk_words.proofs.run_of.Symbol.{name as #desk-words·run-of}
 use Rattle.desk_words.proofs.run_of.Met as run-of-thm
-use Rattle.desk.proofs.CallsWork.{Contract-work, calls-work-rmmmcccmm}
+use Rattle.descent.proofs.CallsWork.{Contract-work, calls-work-rmmmcccmm}
 use Rattle.descent.proofs.work.Symbol as work-def
 use Rattle.descent.proofs.work.Symbol.{name as #descent·work}
 use Rattle.descent.proofs.work.Met as work-thm

@@ -13,8 +13,7 @@ pub(crate) struct Lent {
     pub(crate) indices: usize,
     pub(crate) offsets: usize,
     pub(crate) forces: usize,
-    pub(crate) reals: usize,
-    pub(crate) words: usize,
+    pub(crate) nodes: usize,
 }
 
 // The length at the k-th word behind i, but no more than most.
@@ -24,9 +23,9 @@ pub(crate) fn length_at(list: &[u8], i: usize, k: usize, most: usize) -> usize
     least(word_at(list, plus(i, k)), most)
 }
 
-// The nine lengths from word i on, but no more than each area has.
+// The eight lengths from word i on, but no more than each area has.
 pub(crate) fn lent_at(list: &[u8], i: usize) -> Lent
-    ensures { λ l. ⌜ (l .positions ≤ 132) × (l .increments ≤ 132) × (l .gains ≤ 132) × (l .affinities ≤ 4100) × (l .indices ≤ 2052) × (l .offsets ≤ 70) × (l .forces ≤ 324) × (l .reals ≤ 4608) × (l .words ≤ 1536) ⌝ }
+    ensures { λ l. ⌜ (l .positions ≤ 132) × (l .increments ≤ 132) × (l .gains ≤ 132) × (l .affinities ≤ 4100) × (l .indices ≤ 2052) × (l .offsets ≤ 70) × (l .forces ≤ 324) × (l .nodes ≤ 512) ⌝ }
 {
     Lent {
         positions: length_at(list, i, 0, 132),
@@ -36,7 +35,6 @@ pub(crate) fn lent_at(list: &[u8], i: usize) -> Lent
         indices: length_at(list, i, 4, 2052),
         offsets: length_at(list, i, 5, 70),
         forces: length_at(list, i, 6, 324),
-        reals: length_at(list, i, 7, 4608),
-        words: length_at(list, i, 8, 1536),
+        nodes: length_at(list, i, 7, 512),
     }
 }
