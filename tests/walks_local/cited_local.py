@@ -1,6 +1,6 @@
 """What the printed walks of functions that lend locals cite (as tests/walks/cited.py). within: that the count of a part that is lent is at most the array's length."""
 
-HOME = {'descent::work': 'desk', 'desk_words::run_of': 'desk', 'desk_words::put_after': 'desk', 'desk_words::put_answer': 'desk'}
+HOME = {'desk_words::run_of': 'desk', 'desk_words::put_after': 'desk', 'desk_words::put_answer': 'desk'}
 
 WALKS = {
     'lent_examples::put_in': dict(req={'put_cell': '(subst (λ (m : ℕ). i < m) (sym {len_own4}) ready)'}, returns=['e1']),
