@@ -64,9 +64,6 @@ slice-aggregate-work-on-6 c = search needs
 slice-aggregate-work-on-7 : tie.Need-slice-aggregate-work-on-7
 slice-aggregate-work-on-7 c = search needs
 
-cast-work-on : tie.Need-cast-work-on
-cast-work-on c = search needs
-
 work-on-requires : tie.Need-work-on-requires
 work-on-requires c κs = search needs
 
@@ -103,7 +100,6 @@ descend-spec =
     slice-aggregate-work-on-5
     slice-aggregate-work-on-6
     slice-aggregate-work-on-7
-    cast-work-on
     work-on-requires
     returns
     returns-2)
