@@ -75,20 +75,33 @@ enum {
     BROTHANCHOR_OFFSETS,        /* 0 for an exact run */
     BROTHANCHOR_FORCES,
     BROTHANCHOR_ROWS,           /* row values and row indices, each */
-    BROTHANCHOR_NODES,          /* nodes of an arena with which 14 never comes, 0 for an exact run; one is enough to begin */
+    BROTHANCHOR_NODES,          /* nodes of an arena with which 14 never comes; 0 for an exact run */
     BROTHANCHOR_SIZES_WORDS
 };
 
-/* A node of the arena takes nine reals and three words. */
-#define BROTHANCHOR_NODE_REALS 9
-#define BROTHANCHOR_NODE_WORDS 3
+/* A node of the arena, in which the library keeps its tree: a cell of the map, with the points that lie in it. A caller
+ * lends an array of nodes and need not look at them. Any bits are a node, so whatever an arena holds may be lent; but the
+ * memory must have been initialised once, as by calloc. The four bytes after leaf are padding. */
+struct brothanchor_node {
+    double centre[3]; /* the middle of the cell, by component; of fewer than three components the others are 0 */
+    double half[3];   /* half the cell's width in each component */
+    double mass[3];   /* the mean of the cell's points */
+    uint32_t count;   /* how many points lie in the cell */
+    uint32_t first;   /* the number of the first of the cell's 2^c children, which stand in a row; 0 for a leaf */
+    uint32_t leaf;    /* the point that a leaf holds, and 1; 0 where it holds none */
+};
+
+/* A node has 88 bytes; a compiler that lays it out otherwise stops here. */
+typedef char brothanchor_node_has_88_bytes[sizeof(struct brothanchor_node) == 88 ? 1 : -1];
 
 /* How long the areas must be, in the first seven words of sizes. Answers 0; 13 where the words are no settings, 12 where
- * sizes is shorter than seven words, or the number that 1 to 10 would give of the settings alone. */
+ * sizes is shorter than seven words, or the number that 1 to 10 would give of the settings alone. Of the arena it tells the
+ * number of nodes with which 14 never comes; one node is enough to begin, and more than 2^32 - 1 are never used. */
 uint32_t brothanchor_sizes(const uint64_t *settings, size_t settings_length, uint64_t *sizes, size_t sizes_length);
 
 /* Prepares a run and writes its record. Answers 0 or the number of the refusal; refused, nothing is changed. 13 where the
- * words are no settings or the record area is shorter than fourteen words. Of the arena only its size is looked at. */
+ * words are no settings or the record area is shorter than fourteen words. Of the arena it is told the number of nodes, no
+ * more: preparation reads and writes none. */
 uint32_t brothanchor_prepare(
     const uint64_t *settings, size_t settings_length,
     const double *table, size_t table_length,
@@ -102,8 +115,7 @@ uint32_t brothanchor_prepare(
     double *forces, size_t forces_length,
     double *row_values, size_t row_values_length,
     uint32_t *row_indices, size_t row_indices_length,
-    const double *reals, size_t reals_length,
-    const uint32_t *words, size_t words_length,
+    size_t nodes_length,
     uint64_t *record, size_t record_length);
 
 /* Does units until the budget is done, one is refused or the run has ended. Answers 0 or the number of the refusal, and
@@ -118,8 +130,7 @@ uint32_t brothanchor_work(
     const uint32_t *indices, size_t indices_length,
     const uint32_t *offsets, size_t offsets_length,
     double *forces, size_t forces_length,
-    double *reals, size_t reals_length,
-    uint32_t *words, size_t words_length,
+    struct brothanchor_node *nodes, size_t nodes_length,
     uint32_t budget,
     uint64_t *answer, size_t answer_length);
 

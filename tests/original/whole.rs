@@ -8,7 +8,7 @@ use ndarray::Array2;
 use oracle::descent::{prepare, work, Answer, Areas, Method, Record, Rows, Settings};
 use oracle::elementary::{is_calm, neighbours};
 use oracle::scatter::SplitMix64;
-use oracle::tree::Arena;
+use oracle::tree::Node;
 use rustyml::machine_learning::manifold::t_sne::oracle::{apply_gradient_step, barnes_hut_gradient, Adj};
 use rustyml::machine_learning::manifold::t_sne::TSNE;
 
@@ -102,10 +102,7 @@ fn pair(random: &mut SplitMix64, settings: Settings, kind: usize) -> Pair {
         indices: vec![0; links],
         offsets: vec![0; n + 1],
         forces: vec![0.0; n * (2 * c + 1)],
-        arena: Arena {
-            reals: vec![0.0; 9 * nodes],
-            words: vec![0; 3 * nodes],
-        },
+        nodes: vec![Node::default(); nodes],
     };
     let mut rows = Rows {
         values: vec![0.0; n],

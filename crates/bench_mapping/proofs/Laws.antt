@@ -15,21 +15,20 @@ use Rattle.laws.specs.Loops.{first}
 use Rattle.frames.specs.Frames.{recordBytes, framesOf, badAt, wholeRecords}
 use Rattle.run_record.specs.declared.Settings.{Settings}
 use Rattle.run_record.specs.declared.Run.{Run}
-use Rattle.tree_node.specs.Areas.{nodesOf}
-use Rattle.run_entry.specs.State.{State, state}
+use Rattle.tree_node.specs.declared.Cell.{Cell}
+use Rattle.run_entry.specs.State.{state}
 use Rattle.run_budget.specs.declared.Answer.{Answer}
-use Rattle.run_budget.specs.Budget.{worked}
 use Rattle.descent.specs.Descent.{work}
 use Rattle.prepare.specs.declared.Prepared.{Prepared}
 use Rattle.prepare.specs.declared.Prepared.the-variants.{Refused as Turned, Ready}
 use Rattle.prepare.specs.Prepare.{Lent, Outcome, outcome, prepared, memoryOf}
 use Rattle.bench_mapping.specs.declared.Told.the-variants.{Long, Record, Refused, Worked as Answered}
 use Rattle.bench_mapping.specs.declared.Mapped.{Mapped}
-use Rattle.bench_mapping.specs.Mapping.{benchFrames, benchBytes, zeros, noughts, benchAreas, mappedAs, workedAs, goesOn, descended, mapped, recordsOf, mapOf}
+use Rattle.bench_mapping.specs.Mapping.{benchFrames, benchBytes, zeros, benchAreas, benchCells, mappedAs, workedAs, goesOn, descended, mapped, recordsOf, mapOf}
 
 -- ---- preparation, then the work call
 
-module _ (s : Settings) (table start : List Float) (l : Lent) (p : Prepared) (e : outcome p l ≡ prepared s table start (length (nodesOf (zeros 2304) (noughts 768))) benchAreas) where
+module _ (s : Settings) (table start : List Float) (l : Lent) (p : Prepared) (e : outcome p l ≡ prepared s table start 256 benchAreas) where
   goes-on : goesOn p l ≡ descended s table start
   unfolding descended
   goes-on = ap (λ (o : Outcome). goesOn (o .answer) (o .areas)) e
@@ -37,8 +36,11 @@ module _ (s : Settings) (table start : List Float) (l : Lent) (p : Prepared) (e 
   pub refused-is : (k : ℕ) → p ≡ Turned k → mappedAs (Refused k) (l .positions) ≡ descended s table start
   refused-is k h = ap (λ (x : Prepared). goesOn x l) (sym h) ∙ goes-on
 
-  pub worked-is : (r : Run) (a : Answer) (t : State) → p ≡ Ready r → worked a t ≡ work mostWord (state r (memoryOf l (zeros 2304) (noughts 768))) → mappedAs (Answered a) (t .memory .positions) ≡ descended s table start
-  worked-is r a t h w = ap workedAs w ∙ ap (λ (x : Prepared). goesOn x l) (sym h) ∙ goes-on
+  pub worked-is : (r : Run) (a : Answer) (y : List Float) (cs : List Cell) → p ≡ Ready r → cs ≡ benchCells
+      → (a ≡ work mostWord (state r (memoryOf l cs)) .answer) × (y ≡ work mostWord (state r (memoryOf l cs)) .left .memory .positions) → mappedAs (Answered a) y ≡ descended s table start
+  worked-is r a y cs h q w =
+      ap (λ (b : Answer). mappedAs (Answered b) y) (w .0) ∙ ap (mappedAs (Answered (work mostWord (state r (memoryOf l cs)) .answer))) (w .1)
+      ∙ ap (λ (ds : List Cell). workedAs (work mostWord (state r (memoryOf l ds)))) q ∙ ap (λ (x : Prepared). goesOn x l) (sym h) ∙ goes-on
 
 -- ---- the records of a file
 

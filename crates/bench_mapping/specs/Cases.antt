@@ -12,7 +12,7 @@ use Rattle.elementary.specs.Limits.{upTo, neighboursOf}
 use Rattle.little.specs.Little.{littleOf, valueAt}
 use Rattle.frames.specs.Frames.{pictureFine, sideFine, spareFine, valuesFine, goodAlone, inOrder, badAt, framesOf, featuresAt, startsAt, frameOf}
 use Rattle.affinity.specs.Neighbours.{neighboursListed}
-use Rattle.tree_node.specs.Areas.{nodesOf}
+use Rattle.tree_node.specs.Arena.{nodesOf}
 use Rattle.tree_bounds.specs.Bounds.{boxOf}
 use Rattle.tree.specs.Insert.{insertOf}
 use Rattle.gradient.specs.Element.{normaliserOf, gradientOf}

@@ -13,7 +13,8 @@ use Rattle.frames.specs.declared.Frames.the-variants.{Good, Bad}
 use Rattle.frames.specs.Frames.{recordBytes, framesOf, frameOf}
 use Rattle.run_record.specs.declared.Method.the-variants.{BarnesHut}
 use Rattle.run_record.specs.declared.Settings.{Settings}
-use Rattle.tree_node.specs.Areas.{nodesOf}
+use Rattle.tree_node.specs.declared.Cell.{Cell}
+use Rattle.tree_node.specs.Arena.{void}
 use Rattle.run_entry.specs.State.{state}
 use Rattle.run_budget.specs.declared.Answer.{Answer}
 use Rattle.run_budget.specs.Budget.{Worked}
@@ -69,6 +70,10 @@ benchStart file m = loop (startStep file) m 0 (zeros 128)
 abbrev pub benchAreas : Lent
 benchAreas = lent (zeros 128) (zeros 128) (zeros 128) (zeros 512) (noughts 512) (noughts 65) (zeros 320) (zeros 64) (noughts 64)
 
+-- 256 cells into which nothing has been laid
+abbrev pub benchCells : List Cell
+benchCells = replicate 256 void
+
 -- ---- the answer
 
 abbrev pub mappedAs : Told → List Float → Mapped
@@ -80,12 +85,12 @@ workedAs w = mappedAs (Answered (w .answer)) (w .left .memory .positions)
 -- a run that preparation made is worked, one that it refused is not
 abbrev pub goesOn : Prepared → Lent → Mapped
 goesOn (Turned k) l = mappedAs (Refused k) (l .positions)
-goesOn (Ready r) l = workedAs (work mostWord (state r (memoryOf l (zeros 2304) (noughts 768))))
+goesOn (Ready r) l = workedAs (work mostWord (state r (memoryOf l benchCells)))
 
 -- preparation, then one work call
 unfoldable pub descended : Settings → List Float → List Float → Mapped
 descended s table start =
-    let o = prepared s table start (length (nodesOf (zeros 2304) (noughts 768))) benchAreas in
+    let o = prepared s table start 256 benchAreas in
     goesOn (o .answer) (o .areas)
 
 -- n good frames

@@ -2,7 +2,10 @@
 // then preparation with the bench's settings, then one work call that no run outlasts.
 ghost use mathlib.Core.Path.{_≡_};
 ghost use Prim.Native.Nat.{_≤_};
-ghost use lib.ListN.{length};
+ghost use lib.ListN.{length, replicate};
+ghost use Rattle.tree_node.specs.Arena.{void};
+ghost use Rattle.run_entry.specs.State.{memory, state};
+ghost use Rattle.descent.specs.Descent.{work};
 ghost use Rattle.bench_mapping.specs.Mapping.{benchFrames, benchSettings, benchTable, benchStart, descended, mapped, mapOf, mapNumber};
 use descent::Answer;
 use frames::Frames;
@@ -12,7 +15,9 @@ use frames::read_frames;
 use laws::MOST_BUDGET;
 use prepare::Prepared;
 use run_record::Method;
+use run_record::Run;
 use run_record::Settings;
+use tree_node::Cell;
 
 // The most frames that the bench takes.
 pub const BENCH_FRAMES: usize = 64;
@@ -87,6 +92,54 @@ fn start_of(file: &[u8], m: usize) -> [f64; 128]
     start
 }
 
+// The cells of an arena that nothing has been laid into.
+fn zero_cells() -> [Cell; 256]
+    ensures { λ r. ⌜ r ≡ replicate 256 void ⌝ }
+{
+    let none = [0.0, 0.0, 0.0];
+    let v = Cell {
+        centre: none,
+        half: none,
+        mass: none,
+        count: 0,
+        first: 0,
+        leaf: 0,
+    };
+    [v; 256]
+}
+
+// The work call, with the record and the arena by value; neither is looked at afterwards. Proved by a walk, since it lends both.
+fn work_on(
+    r: Run,
+    positions: &mut [f64],
+    increments: &mut [f64],
+    gains: &mut [f64],
+    affinities: &[f64],
+    indices: &[u32],
+    offsets: &[u32],
+    forces: &mut [f64],
+    cells: [Cell; 256],
+    budget: u32,
+) -> Answer
+    ensures { λ a. ⌜ (a ≡ work budget (state r (memory (now (positions .entry)) (now (increments .entry)) (now (gains .entry)) (now (affinities .entry)) (now (indices .entry)) (now (offsets .entry)) (now (forces .entry)) cells)) .answer) × (now (positions .exit) ≡ work budget (state r (memory (now (positions .entry)) (now (increments .entry)) (now (gains .entry)) (now (affinities .entry)) (now (indices .entry)) (now (offsets .entry)) (now (forces .entry)) cells)) .left .memory .positions) ⌝ }
+{
+    let mut run = r;
+    let mut own = cells;
+    let a = descent::work(
+        &mut run,
+        positions,
+        increments,
+        gains,
+        affinities,
+        indices,
+        offsets,
+        forces,
+        &mut own,
+        budget,
+    );
+    a
+}
+
 // Preparation on areas of zeros, then the work call; 256 nodes.
 fn descend(s: Settings, table: &[f64], start: &[f64]) -> Mapped
     ensures { λ r. ⌜ r ≡ descended s (now (table .entry)) (now (start .entry)) ⌝ }
@@ -100,8 +153,7 @@ fn descend(s: Settings, table: &[f64], start: &[f64]) -> Mapped
     let mut forces = [0.0; 320];
     let mut row_values = [0.0; 64];
     let mut row_indices = [0u32; 64];
-    let mut reals = [0.0; 2304];
-    let mut words = [0u32; 768];
+    let cells = zero_cells();
     let p = prepare::prepare(
         s,
         table,
@@ -115,8 +167,7 @@ fn descend(s: Settings, table: &[f64], start: &[f64]) -> Mapped
         &mut forces,
         &mut row_values,
         &mut row_indices,
-        &reals,
-        &words,
+        256,
     );
     match p {
         Prepared::Refused(k) => {
@@ -124,7 +175,7 @@ fn descend(s: Settings, table: &[f64], start: &[f64]) -> Mapped
             Mapped { told, positions }
         }
         Prepared::Ready(run) => {
-            let w = descent::work(
+            let answer = work_on(
                 run,
                 &mut positions,
                 &mut increments,
@@ -133,11 +184,9 @@ fn descend(s: Settings, table: &[f64], start: &[f64]) -> Mapped
                 &indices,
                 &offsets,
                 &mut forces,
-                &mut reals,
-                &mut words,
+                cells,
                 MOST_BUDGET,
             );
-            let answer = w.answer;
             let told = Told::Worked(answer);
             Mapped { told, positions }
         }

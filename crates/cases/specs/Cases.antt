@@ -16,7 +16,7 @@ use Rattle.affinity.specs.Neighbours.{neighboursListed}
 use Rattle.tree_node.specs.declared.Node.{Node}
 use Rattle.tree_node.specs.Node.{zeros3}
 use Rattle.tree_children.specs.Children.{childIndex}
-use Rattle.tree_node.specs.Areas.{nodeAt, blank}
+use Rattle.tree_node.specs.Arena.{nodeAt, blank}
 use Rattle.tree.specs.Insert.{Insertion, built}
 use Rattle.tree_bounds.specs.Bounds.{boxOf}
 use Rattle.tree.specs.Box.{boxed}

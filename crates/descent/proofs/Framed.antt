@@ -1,4 +1,4 @@
--- No unit changes the number of nodes, what lies past them, or the settings; so no call does. Assumes nothing.
+-- No unit changes the number of nodes or the settings; so no call does. Assumes nothing.
 use mathlib.Core.Path.{_≡_, refl, _∙_}
 use mathlib.Core.Bool.{false}
 use Prim.Native.Nat.{ℕ, _-_}
@@ -7,6 +7,7 @@ use lib.ListN.{length, length-set}
 use Rattle.run_calls.specs.Machine.{Lawful}
 use Rattle.run_calls.proofs.Demand.{good-after, call-state}
 use Rattle.run_record.specs.Record.{isEnded}
+use Rattle.tree_node.proofs.Told.{nameable-most}
 use Rattle.tree.specs.Insert.{tree}
 use Rattle.tree_bounds.specs.Bounds.{boxOf}
 use Rattle.tree.proofs.Whole.{taken-ends, taken-fits}
@@ -23,9 +24,6 @@ use Rattle.descent.specs.Honest.{Honest}
 use Rattle.descent.proofs.Lawful.{lawful}
 
 module _ (s : State) (g : Honest s) (live : isEnded (s .run .standing) ≡ false) where
-  unit-rest : unit s .now .memory .rest ≡ s .memory .rest
-  unit-rest = by-unit s live (λ (t : Turned). t .now .memory .rest ≡ s .memory .rest) (λ z. refl) (λ z. refl) (λ a b. refl)
-
   unit-nodes : length (unit s .now .memory .nodes) ≡ length (s .memory .nodes)
   unit-nodes =
       let r = s .run in
@@ -40,13 +38,13 @@ module _ (s : State) (g : Honest s) (live : isEnded (s .run .standing) ≡ false
       (λ e f. refl)
       (λ p f.
       let t = g .good .contents (k .0) .tree p in
-      taken-ends y (r .settings .c) (r .phase - 1) (tree (r .used) ns) n n (omega (arith, k .1, p)) (omega (arith, g .good .settings .n-some)) (t .each-node) (t .used-some) (t .used-most) (taken-fits y (r .settings .c) (r .phase - 1) (tree (r .used) ns) f) .nodes))
+      taken-ends y (r .settings .c) (r .phase - 1) (tree (r .used) ns) n n (omega (arith, k .1, p)) (omega (arith, g .good .settings .n-some)) (t .each-node) (t .used-some) (omega (arith, t .used-most, nameable-most (length ns))) (taken-fits y (r .settings .c) (r .phase - 1) (tree (r .used) ns) f) .nodes))
       (λ z. refl)
       (λ a b. refl)
 
--- an arena of so many nodes, the same past them, and the same settings
+-- an arena of so many nodes, and the same settings
 abbrev pub Framed : State → State → Type 0
-Framed s t = (length (t .memory .nodes) ≡ length (s .memory .nodes)) × ((t .memory .rest ≡ s .memory .rest) × (t .run .settings ≡ s .run .settings))
+Framed s t = (length (t .memory .nodes) ≡ length (s .memory .nodes)) × (t .run .settings ≡ s .run .settings)
 
 -- the descent is lawful with that kept besides
 unfoldable framed : State → Lawful machine
@@ -56,7 +54,7 @@ framed s = record {
   rest = lawful .rest;
   count = lawful .count;
   passes = λ t g. lawful .passes t (g .0);
-  keeps = λ t g e. (lawful .keeps t (g .0) e, (unit-nodes t (g .0) (due t e .0) ∙ g .1 .0, (unit-rest t (g .0) (due t e .0) ∙ g .1 .1 .0, unit-settings t (due t e .0) ∙ g .1 .1 .1)));
+  keeps = λ t g e. (lawful .keeps t (g .0) e, (unit-nodes t (g .0) (due t e .0) ∙ g .1 .0, unit-settings t (due t e .0) ∙ g .1 .1));
   counts = λ t g e. lawful .counts t (g .0) e;
   lessens = λ t g e. lawful .lessens t (g .0) e;
   small = λ t g. lawful .small t (g .0);
@@ -64,4 +62,4 @@ framed s = record {
 
 pub work-frames : (b : ℕ) (s : State) → Honest s → Framed s (work b s .left)
 unfolding work lawful framed
-work-frames b s g = rw (call-state machine lawful b s g) (good-after machine (framed s) b s (g, (refl, (refl, refl))) .1)
+work-frames b s g = rw (call-state machine lawful b s g) (good-after machine (framed s) b s (g, (refl, refl)) .1)

@@ -13,11 +13,13 @@ use Rattle.run_record.specs.declared.Run.{Run}
 use Rattle.run_record.specs.Record.{isTree, isEnded, advancedOf, closedOf}
 use Rattle.tree_node.specs.declared.Node.{Node}
 use Rattle.tree_node.specs.Node.{zeros3}
+use Rattle.tree_node.specs.Arena.{nameable}
 use Rattle.tree.specs.Insert.{Tree, tree, Insertion, insertion, insertOf, treeOk, built, rooted, enoughNodes}
 use Rattle.tree_bounds.specs.Bounds.{boxOf, middleStep, reachStep}
 use Rattle.tree.specs.Box.{boxed}
-use Rattle.tree.proofs.Whole.{looser, In, first-in, in-all, built-more, room-in, taken}
+use Rattle.tree.proofs.Whole.{looser, In, first-in, in-all, built-more, room-in, taken, enough-named}
 use Rattle.run_entry.specs.State.{Memory, State}
+use Rattle.run_entry.proofs.Laws.{axes}
 use Rattle.run_units.specs.declared.Why.the-variants.{Done, Full, Wild}
 use Rattle.run_plan.specs.Plan.{groupOf}
 use Rattle.run_units.specs.Units.{unit, isDone, TreeTurn, treeTurn, boxTurn, forceUnit, FinishTurn, Turned, withTree, withForces, withFinish}
@@ -49,7 +51,7 @@ module _ (y : List Float) (n c : ℕ) where
       rw (ap (λ (x : Insertion). x .tree) e) (looser n n c (suc k) n (built y c (suc k) (boxed y n c before) .tree) (le-refl n) m (i .tree))
 
   -- with so many nodes the next point finds its own
-  next-in : (k : ℕ) (t : Tree) (before : List Node) → 0 < length before → k < n → insertion false t ≡ built y c k (boxed y n c before) → enoughNodes c n ≤ length (t .nodes) → insertOf y c k t .full ≡ false
+  next-in : (k : ℕ) (t : Tree) (before : List Node) → 0 < length before → k < n → insertion false t ≡ built y c k (boxed y n c before) → enoughNodes c n ≤ nameable (length (t .nodes)) → insertOf y c k t .full ≡ false
   unfolding built loop boxOf
   next-in zero t [] h l e room = absurd (not-suc-le-zero h)
   next-in zero t (v ∷ before) h l e room = rw (ap (λ (x : Insertion). x .tree) e, first-in y c (loop (middleStep y n c) c 0 zeros3) (loop (reachStep y n c) c 0 zeros3) before)
@@ -57,7 +59,7 @@ module _ (y : List Float) (n c : ℕ) where
       let b = built y c (suc k) (boxed y n c before) in
       let i = built-in (suc k) before h (omega arith) (omega (arith, l)) (ap (λ (x : Insertion). x .full) (sym e)) in
       let q : t ≡ b .tree = ap (λ (x : Insertion). x .tree) e in
-      let wide : 1 + (n - 1) * (deepest * 2 ^ c) ≤ length (b .tree .nodes) = rw (mul-comm (n - 1) (deepest * 2 ^ c)) (rw q at room) in
+      let wide : 1 + (n - 1) * (deepest * 2 ^ c) ≤ nameable (length (b .tree .nodes)) = rw (mul-comm (n - 1) (deepest * 2 ^ c)) (rw q at room) in
       rw (q, taken y c (suc k) (b .tree) (room-in y n c (length before) (suc k) b (rw (i .nodes) at wide) l i))
 
 -- so a tree that its insertions built has no count above n
@@ -137,7 +139,8 @@ module _ (s : State) (g : Honest s) (live : isEnded (s .run .standing) ≡ false
       let k = group-zero r z in
       let b = g .grown (k .0) p in
       let j : pointsIn r ≡ r .phase - 1 = omega (arith, k .1) in
-      next-in (s .memory .positions) (r .settings .n) (r .settings .c) (r .phase - 1) (tree (r .used) (s .memory .nodes)) (b .before) (b .some) (omega (arith, k .1, p)) (rw j at (b .same)) room
+      next-in (s .memory .positions) (r .settings .n) (r .settings .c) (r .phase - 1) (tree (r .used) (s .memory .nodes)) (b .before) (b .some) (omega (arith, k .1, p)) (rw j at (b .same))
+      (enough-named (r .settings .c) (r .settings .n) (length (s .memory .nodes)) (axes (r .settings) (g .good .settings) (k .0) .1) (g .good .settings .n-most) room)
 
   pub never-full : unit s .why ≡ Full → ⊥
   never-full = by-unit s live (λ (t : Turned). t .why ≡ Full → ⊥)

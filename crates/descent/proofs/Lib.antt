@@ -5,3 +5,5 @@ pub mod Framed
 pub mod Theorems
 pub mod Longer
 pub mod Lent
+pub mod ByValue
+pub mod CallsWork

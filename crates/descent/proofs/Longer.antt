@@ -4,7 +4,7 @@ use mathlib.Core.List.{List, [], _∷_, _++_}
 use mathlib.Core.Bool.{true, false, true≢false}
 use Prim.Native.Nat.{ℕ, _+_, _-_, _≤_}
 use native.Mathlib.Omega.{arith}
-use lib.ListN.{length-set, length-append}
+use lib.ListN.{length, length-set, length-append}
 use lib.Ieee.{Float, binary64, mul}
 use Rattle.laws.proofs.Bools.{by-bool}
 use Rattle.run_calls.specs.Machine.{stops, after, unitsDone, together, capped}
@@ -13,7 +13,7 @@ use Rattle.run_record.specs.declared.Run.{Run}
 use Rattle.run_record.specs.Record.{isTree, isEnded, advancedOf}
 use Rattle.tree_node.specs.declared.Node.{Node}
 use Rattle.tree_bodies.specs.declared.Acc.{Acc}
-use Rattle.tree_node.specs.Areas.{Rest}
+use Rattle.tree_node.proofs.Told.{nameable-most, nameable-longer}
 use Rattle.tree_node.specs.Node.{pointOf}
 use Rattle.tree.specs.Insert.{Tree, tree, Insertion, insertion}
 use Rattle.tree_bounds.specs.Bounds.{boxOf}
@@ -40,7 +40,7 @@ use Rattle.descent.proofs.Theorems.{units-told, call-keeps, demand-thre
 -- ---- the tree of a state in order, in the tree's own words
 
 tree-fits : {m : ℕ} (r : Run) (ns : List Node) → GoodTree m r ns → Fits (r .settings .n) (r .settings .c) m (tree (r .used) ns)
-tree-fits r ns t = record { some = t .used-some; within = t .used-most; sound = t .each-node }
+tree-fits r ns t = record { some = t .used-some; within = omega (arith, t .used-most, nameable-most (length ns)); sound = t .each-node }
 
 -- a call with b on s, then a call with c on t. Beside it one call on u, whose budget is the units done of b, and c
 pub record GoesOn (b c : ℕ) (s t u : State) : Type 0 where
@@ -74,7 +74,7 @@ module _ (a c : ℕ) (t : State) (h : Honest t) where
       let q : together (a ∷ []) + c ≡ together [] + (a + c) = omega arith in
       demand-three (a ∷ []) c t h hc .kind ∙ ap (λ (k : ℕ). answerKind (work (capped k) t .answer)) q ∙ sym (demand-three [] (a + c) t h (omega (arith, hc)) .kind)
 
-module _ (more : List Node) (rest : Rest) where
+module _ (more : List Node) where
   -- ---- each unit, where counts were at most m: so of good states and of workable ones
 
   module _ (m : ℕ) (s : State) (g : Ordered m s) (live : isEnded (s .run .standing) ≡ false) (some : 1 ≤ m) where
@@ -86,20 +86,20 @@ module _ (more : List Node) (rest : Rest) where
 
     -- the longer arena's
     abbrev L : Memory
-    L = longer more rest s .memory
+    L = longer more s .memory
 
-    box-same : groupOf R ≡ 0 → R .phase ≡ 0 → unit (longer more rest s) ≡ turned (longer more rest (withTree M (boxTurn R (M .positions) (M .nodes)) .now)) Done
+    box-same : groupOf R ≡ 0 → R .phase ≡ 0 → unit (longer more s) ≡ turned (longer more (withTree M (boxTurn R (M .positions) (M .nodes)) .now)) Done
     box-same z e =
-        unit-tree (longer more rest s) live z ∙ ap (λ (t : TreeTurn). withTree L t) (tree-box R (M .positions) (L .nodes) e
+        unit-tree (longer more s) live z ∙ ap (λ (t : TreeTurn). withTree L t) (tree-box R (M .positions) (L .nodes) e
         ∙ ap (λ (t : Tree). treeTurn (advancedOf R 1) (t .nodes) Done) (box-longer more (M .positions) (R .settings .n) (R .settings .c) (M .nodes) (g .areas .tree-long (group-zero R z .0) .nodes-some)))
 
     insert-same : groupOf R ≡ 0 → (R .phase ≡ 0 → ⊥) → inserting R (M .positions) (M .nodes) .full ≡ false
-        → unit (longer more rest s) ≡ turned (longer more rest (withTree M (treeTurn (advancedOf R (inserting R (M .positions) (M .nodes) .tree .used)) (inserting R (M .positions) (M .nodes) .tree .nodes) Done) .now)) Done
+        → unit (longer more s) ≡ turned (longer more (withTree M (treeTurn (advancedOf R (inserting R (M .positions) (M .nodes) .tree .used)) (inserting R (M .positions) (M .nodes) .tree .nodes) Done) .now)) Done
     insert-same z p f =
         let k = group-zero R z in
         let t = g .contents (k .0) .tree p in
         let e = insert-longer more (M .positions) (R .settings .n) (R .settings .c) m (R .phase - 1) (tree (R .used) (M .nodes)) (omega (arith, k .1, p)) some (tree-fits R (M .nodes) t) f in
-        unit-tree (longer more rest s) live z ∙ ap (λ (t : TreeTurn). withTree L t) (tree-insert R (M .positions) (L .nodes) p (ap (λ (x : Insertion). x .full) e)
+        unit-tree (longer more s) live z ∙ ap (λ (t : TreeTurn). withTree L t) (tree-insert R (M .positions) (L .nodes) p (ap (λ (x : Insertion). x .full) e)
         ∙ ap (λ (x : Insertion). treeTurn (advancedOf R (x .tree .used)) (x .tree .nodes) Done) e)
 
     force-same : groupOf R ≡ 1 → forceUnit R (M .positions) (M .affinities) (M .indices) (M .offsets) (L .nodes) (M .forces) ≡ forceUnit R (M .positions) (M .affinities) (M .indices) (M .offsets) (M .nodes) (M .forces)
@@ -115,15 +115,15 @@ module _ (more : List Node) (rest : Rest) where
         (λ t. rw t)
 
     -- a unit that is done is done in the longer arena too, and leaves there what it leaves here
-    pub unit-longer : isDone (unit s .why) ≡ true → unit (longer more rest s) ≡ turned (longer more rest (unit s .now)) (unit s .why)
-    unit-longer = by-unit s live (λ (t : Turned). isDone (t .why) ≡ true → unit (longer more rest s) ≡ turned (longer more rest (t .now)) (t .why))
-        (λ z. by-tree R (M .positions) (M .nodes) (λ (t : TreeTurn). isDone (t .why) ≡ true → unit (longer more rest s) ≡ turned (longer more rest (withTree M t .now)) (t .why)) (λ e d. box-same z e) (λ e f d. absurd (true≢false (sym d))) (λ e f d. insert-same z e f))
-        (λ z d. unit-force (longer more rest s) live z ∙ ap (λ (F : List Float). withForces L (advancedOf R (R .used)) F) (force-same z))
-        (λ a b d. unit-finish (longer more rest s) live a b)
+    pub unit-longer : isDone (unit s .why) ≡ true → unit (longer more s) ≡ turned (longer more (unit s .now)) (unit s .why)
+    unit-longer = by-unit s live (λ (t : Turned). isDone (t .why) ≡ true → unit (longer more s) ≡ turned (longer more (t .now)) (t .why))
+        (λ z. by-tree R (M .positions) (M .nodes) (λ (t : TreeTurn). isDone (t .why) ≡ true → unit (longer more s) ≡ turned (longer more (withTree M t .now)) (t .why)) (λ e d. box-same z e) (λ e f d. absurd (true≢false (sym d))) (λ e f d. insert-same z e f))
+        (λ z d. unit-force (longer more s) live z ∙ ap (λ (F : List Float). withForces L (advancedOf R (R .used)) F) (force-same z))
+        (λ a b d. unit-finish (longer more s) live a b)
 
   -- ---- a longer arena keeps a state honest
 
-  pub ordered-longer : (m : ℕ) (s : State) → Ordered m s → Ordered m (longer more rest s)
+  pub ordered-longer : (m : ℕ) (s : State) → Ordered m s → Ordered m (longer more s)
   ordered-longer m s g =
       let ns = s .memory .nodes in
       let l = length-append ns more in
@@ -142,12 +142,12 @@ module _ (more : List Node) (rest : Rest) where
         contents = λ t. (let c = g .contents t in record {
           each-offset = c .each-offset;
           each-index = c .each-index;
-          tree = λ q. (let x = c .tree q in record { used-some = x .used-some; used-most = omega (arith, x .used-most, l); each-node = longer-ok more (s .run .settings .n) (s .run .settings .c) m (tree (s .run .used) ns) (x .used-most) (x .each-node) });
+          tree = λ q. (let x = c .tree q in record { used-some = x .used-some; used-most = omega (arith, x .used-most, nameable-longer (length ns) (length (ns ++ more)) (omega (arith, l))); each-node = longer-ok more (s .run .settings .n) (s .run .settings .c) m (tree (s .run .used) ns) (omega (arith, x .used-most, nameable-most (length ns))) (x .each-node) });
         });
       }
 
   -- it is what the same insertions build in the longer arena
-  built-same : (s : State) → Built s → Built (longer more rest s)
+  built-same : (s : State) → Built s → Built (longer more s)
   built-same s b =
       let y = s .memory .positions in
       let n = s .run .settings .n in
@@ -162,13 +162,13 @@ module _ (more : List Node) (rest : Rest) where
         same = rw (box-longer more y n c (b .before) (b .some)) (ap (λ (x : Insertion). insertion false (extended more (x .tree))) (b .same) ∙ sym (e .1));
       }
 
-  pub honest-longer : (s : State) → Honest s → Honest (longer more rest s)
+  pub honest-longer : (s : State) → Honest s → Honest (longer more s)
   honest-longer s g = record { good = ordered-longer (s .run .settings .n) s (g .good); grown = λ t q. built-same s (g .grown t q) }
 
   -- ---- THEOREM 4, second half
 
   -- every unit that is done is done in the longer arena too
-  pub grows : Grows machine lawful (longer more rest)
+  pub grows : Grows machine lawful (longer more)
   unfolding stops lawful
   grows = record {
     due = λ s g e. (let d = due s e in rw (unit-longer (s .run .settings .n) s (g .good) (d .0) (omega (arith, g .good .settings .n-some)) (d .1), d .0, d .1));
@@ -177,38 +177,38 @@ module _ (more : List Node) (rest : Rest) where
 
   -- lent a longer arena, a run refused by 14, or any other run, goes on as a run does that had this arena from the start:
   -- with c units more it is where that run is after the units done of b, and c
-  pub goes-on-longer : (b c : ℕ) (s : State) → Honest s → after machine c (longer more rest (after machine b s)) ≡ after machine (unitsDone machine b s + c) (longer more rest s)
+  pub goes-on-longer : (b c : ℕ) (s : State) → Honest s → after machine c (longer more (after machine b s)) ≡ after machine (unitsDone machine b s + c) (longer more s)
   unfolding lawful
-  goes-on-longer b c s g = goes-on machine lawful (longer more rest) grows b c s g
+  goes-on-longer b c s g = goes-on machine lawful (longer more) grows b c s g
 
   -- ---- the same, in the words of the work call
 
   module _ (b : ℕ) (s : State) (g : Honest s) where
     -- the longer run does the units that the other does
-    units-longer : unitsOf (work (unitsOf (work b s .answer)) (longer more rest s) .answer) ≡ unitsOf (work b s .answer)
+    units-longer : unitsOf (work (unitsOf (work b s .answer)) (longer more s) .answer) ≡ unitsOf (work b s .answer)
     unfolding lawful
     units-longer =
         let u = unitsOf (work b s .answer) in
         let e = units-done b s g in
         let here = counted machine lawful b s g in
-        let there = counted machine lawful u (longer more rest s) (honest-longer s g) in
-        let same = ap (λ (x : State). x .run .units) (ap (λ (k : ℕ). after machine k (longer more rest s)) e ∙ grown machine lawful (longer more rest) grows b s g) in
-        omega (arith, e, here, there, same, units-done u (longer more rest s) (honest-longer s g))
+        let there = counted machine lawful u (longer more s) (honest-longer s g) in
+        let same = ap (λ (x : State). x .run .units) (ap (λ (k : ℕ). after machine k (longer more s)) e ∙ grown machine lawful (longer more) grows b s g) in
+        omega (arith, e, here, there, same, units-done u (longer more s) (honest-longer s g))
 
     -- and is then where the other is, but for its arena
-    pub catches-up : work (unitsOf (work b s .answer)) (longer more rest s) .left ≡ longer more rest (work b s .left)
+    pub catches-up : work (unitsOf (work b s .answer)) (longer more s) .left ≡ longer more (work b s .left)
     unfolding work lawful
     catches-up =
-        call-state machine lawful (unitsOf (work b s .answer)) (longer more rest s) (honest-longer s g)
-        ∙ ap (λ (k : ℕ). after machine k (longer more rest s)) (units-done b s g)
-        ∙ grown machine lawful (longer more rest) grows b s g
-        ∙ ap (longer more rest) (sym (call-state machine lawful b s g))
+        call-state machine lawful (unitsOf (work b s .answer)) (longer more s) (honest-longer s g)
+        ∙ ap (λ (k : ℕ). after machine k (longer more s)) (units-done b s g)
+        ∙ grown machine lawful (longer more) grows b s g
+        ∙ ap (longer more) (sym (call-state machine lawful b s g))
 
   -- a run refused by 14, or any other, whose arena is made longer between two calls: the second call does what it does in a run with that arena from the start
-  pub works-on-longer : (b c : ℕ) (s : State) → Honest s → GoesOn b c s (longer more rest (work b s .left)) (longer more rest s)
+  pub works-on-longer : (b c : ℕ) (s : State) → Honest s → GoesOn b c s (longer more (work b s .left)) (longer more s)
   works-on-longer b c s g =
       let u = unitsOf (work b s .answer) in
-      let t = longer more rest s in
+      let t = longer more s in
       let h = honest-longer s g in
       let e = sym (catches-up b s g) in
       record {

@@ -234,11 +234,11 @@ refusal b s g n =
 -- calls one after the other keep the number of nodes and the settings
 works-frames : (bs : List ℕ) (s : State) → Honest s → Framed s (works bs s)
 unfolding works
-works-frames [] s g = (refl, (refl, refl))
+works-frames [] s g = (refl, refl)
 works-frames (b ∷ bs) s g =
     let f = work-frames b s g in
     let h = works-frames bs (work b s .left) (call-keeps b s g) in
-    (h .0 ∙ f .0, (h .1 .0 ∙ f .1 .0, h .1 .1 ∙ f .1 .1))
+    (h .0 ∙ f .0, h .1 ∙ f .1)
 
 -- one call
 never-now : (b : ℕ) (s : State) → Honest s → Roomy (s .run .settings) (length (s .memory .nodes)) → workNumber (work b s .answer) ≡ 14 → ⊥
@@ -246,11 +246,11 @@ never-now b s g room e =
     let t = work b s .left in
     let f = work-frames b s g in
     let n : workNumber (work b s .answer) ≡ 0 → ⊥ = λ z. let q : _≡_ {A = ℕ} 0 14 = sym z ∙ e in omega arith in
-    let here : Roomy (t .run .settings) (length (t .memory .nodes)) = rw (f .1 .1, f .0) room in
+    let here : Roomy (t .run .settings) (length (t .memory .nodes)) = rw (f .1, f .0) room in
     never-full t (call-keeps b s g) (refusal b s g n .not-ended) here (refused-full b s g e)
 
 -- nor any call after others
 pub never-14 : (bs : List ℕ) (b : ℕ) (s : State) → Honest s → Roomy (s .run .settings) (length (s .memory .nodes)) → workNumber (work b (works bs s) .answer) ≡ 14 → ⊥
 never-14 bs b s g room e =
     let f = works-frames bs s g in
-    never-now b (works bs s) (after-each bs s g .honest) (rw (f .1 .1, f .0) room) e
+    never-now b (works bs s) (after-each bs s g .honest) (rw (f .1, f .0) room) e

@@ -1,20 +1,29 @@
 // The work call: entry tests, then units until the budget is done, one is refused or the run has ended.
 ghost use mathlib.Core.Path.{_≡_};
 ghost use Rattle.run_entry.specs.State.{memory, state};
+ghost use Rattle.run_budget.specs.declared.Answer.the-variants.{Bad};
 ghost use Rattle.run_budget.specs.Budget.{worked};
 ghost use Rattle.descent.specs.Descent.{work, workNumber};
 pub use run_budget::Answer;
 pub use run_budget::Worked;
 use run_budget::go_on;
+use run_entry::Fault;
 use run_entry::fault_at;
 use run_entry::fault_number;
 use run_entry::is_fine;
 use run_record::Run;
 use run_record::Standing;
+use tree_node::Cell;
+
+fn bad(f: Fault) -> Answer
+    ensures { λ a. ⌜ a ≡ Bad f ⌝ }
+{
+    Answer::Bad(f)
+}
 
 // A call with a budget: takes any record and any areas.
 pub fn work(
-    r: Run,
+    run: &mut Run,
     positions: &mut [f64],
     increments: &mut [f64],
     gains: &mut [f64],
@@ -22,12 +31,12 @@ pub fn work(
     indices: &[u32],
     offsets: &[u32],
     forces: &mut [f64],
-    reals: &mut [f64],
-    words: &mut [u32],
+    cells: &mut [Cell],
     budget: u32,
-) -> Worked
-    ensures { λ t. ⌜ worked (t .answer) (state (t .run) (memory (now (positions .exit)) (now (increments .exit)) (now (gains .exit)) (now (affinities .entry)) (now (indices .entry)) (now (offsets .entry)) (now (forces .exit)) (now (reals .exit)) (now (words .exit)))) ≡ work budget (state r (memory (now (positions .entry)) (now (increments .entry)) (now (gains .entry)) (now (affinities .entry)) (now (indices .entry)) (now (offsets .entry)) (now (forces .entry)) (now (reals .entry)) (now (words .entry)))) ⌝ }
+) -> Answer
+    ensures { λ a. ⌜ worked a (state (now (run .exit)) (memory (now (positions .exit)) (now (increments .exit)) (now (gains .exit)) (now (affinities .entry)) (now (indices .entry)) (now (offsets .entry)) (now (forces .exit)) (now (cells .exit)))) ≡ work budget (state (now (run .entry)) (memory (now (positions .entry)) (now (increments .entry)) (now (gains .entry)) (now (affinities .entry)) (now (indices .entry)) (now (offsets .entry)) (now (forces .entry)) (now (cells .entry)))) ⌝ }
 {
+    let r = *run;
     let f = fault_at(
         r,
         positions.len(),
@@ -37,26 +46,29 @@ pub fn work(
         forces.len(),
         indices,
         offsets,
-        reals,
-        words,
+        cells,
     );
-    if !is_fine(f) {
-        let answer = Answer::Bad(f);
-        return Worked { run: r, answer };
+    let fine = is_fine(f);
+    if fine {
+        let t = go_on(
+            r,
+            positions,
+            increments,
+            gains,
+            affinities,
+            indices,
+            offsets,
+            forces,
+            cells,
+            budget,
+        );
+        let x = t.run;
+        *run = x;
+        let a = t.answer;
+        return a;
     }
-    go_on(
-        r,
-        positions,
-        increments,
-        gains,
-        affinities,
-        indices,
-        offsets,
-        forces,
-        reals,
-        words,
-        budget,
-    )
+    let a = bad(f);
+    a
 }
 
 // The scope paper's number of an answer; 0: it is no refusal.

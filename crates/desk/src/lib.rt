@@ -1,11 +1,16 @@
 // The desk's library: what a C or Rust program calls, on numbers and slices. Settings, record and answers are plain words (crate `desk_words`).
 ghost use mathlib.Core.Path.{_≡_};
-ghost use Prim.Native.Nat.{_<_};
+ghost use mathlib.Core.Bool.{not};
+ghost use Prim.Native.Nat.{_<_, _≤_};
+ghost use lib.Dec.{ltb};
 ghost use lib.ListN.{length};
-ghost use Rattle.tree_node.specs.Areas.{nodesOf};
 ghost use Rattle.run_entry.specs.State.{memory};
 ghost use Rattle.prepare.specs.Prepare.{lent};
+ghost use Rattle.run_entry.specs.declared.Fault.the-variants.{Counters};
+ghost use Rattle.run_budget.specs.declared.Answer.the-variants.{Bad};
+ghost use Rattle.descent.specs.Descent.{workNumber};
 ghost use Rattle.scatter.specs.Scatter.{scatterOf};
+ghost use Rattle.desk_words.specs.Words.{runFine, answerPut};
 ghost use Rattle.desk.specs.Desk.{begun, hostPrepare, tell, hostWork, orZero, found, hostFrames, hostFrame, sized, hostSizes, saidOf};
 use descent::Answer;
 use descent::work;
@@ -22,6 +27,7 @@ use prepare::Prepared;
 use prepare::prepare;
 use run_entry::Fault;
 use run_record::faults::settings_fault;
+use tree_node::Cell;
 
 // Prepares a run. Answers 0, or the number of the refusal; then nothing is changed.
 #[no_mangle]
@@ -38,11 +44,10 @@ pub extern "C" fn brothanchor_prepare(
     forces: &mut [f64],
     row_values: &mut [f64],
     row_indices: &mut [u32],
-    reals: &[f64],
-    words: &[u32],
+    nodes: usize,
     record: &mut [u64],
 ) -> u32
-    ensures { λ k. ⌜ begun k (now («record» .exit)) (lent (now (positions .exit)) (now (increments .exit)) (now (gains .exit)) (now (affinities .exit)) (now (indices .exit)) (now (offsets .exit)) (now (forces .exit)) (now («row_values» .exit)) (now («row_indices» .exit))) ≡ hostPrepare (now (settings .entry)) (now (table .entry)) (now (start .entry)) (length (nodesOf (now (reals .entry)) (now (words .entry)))) (lent (now (positions .entry)) (now (increments .entry)) (now (gains .entry)) (now (affinities .entry)) (now (indices .entry)) (now (offsets .entry)) (now (forces .entry)) (now («row_values» .entry)) (now («row_indices» .entry))) (now («record» .entry)) ⌝ }
+    ensures { λ k. ⌜ begun k (now («record» .exit)) (lent (now (positions .exit)) (now (increments .exit)) (now (gains .exit)) (now (affinities .exit)) (now (indices .exit)) (now (offsets .exit)) (now (forces .exit)) (now («row_values» .exit)) (now («row_indices» .exit))) ≡ hostPrepare (now (settings .entry)) (now (table .entry)) (now (start .entry)) nodes (lent (now (positions .entry)) (now (increments .entry)) (now (gains .entry)) (now (affinities .entry)) (now (indices .entry)) (now (offsets .entry)) (now (forces .entry)) (now («row_values» .entry)) (now («row_indices» .entry))) (now («record» .entry)) ⌝ }
 {
     if !settings_fine(settings) {
         return 13;
@@ -64,8 +69,7 @@ pub extern "C" fn brothanchor_prepare(
         forces,
         row_values,
         row_indices,
-        reals,
-        words,
+        nodes,
     );
     match p {
         Prepared::Refused(k) => k as u32,
@@ -76,10 +80,40 @@ pub extern "C" fn brothanchor_prepare(
     }
 }
 
-// Does units of a run. Answers 0, or the number of the refusal, and writes the answer's words.
+// ---- the work call
+
+// An answer has five words.
+fn is_short(words: usize) -> bool
+    ensures { λ r. ⌜ r ≡ ltb words 5 ⌝ }
+{
+    words < 5
+}
+
+// Whether the words are no record.
+fn is_unread(words: &[u64]) -> bool
+    ensures { λ r. ⌜ r ≡ not (runFine (now (words .entry))) ⌝ }
+{
+    !run_fine(words)
+}
+
+// What is said of words that are no record: bad counters.
+fn put_unread(answer: &mut [u64])
+    requires { ⌜ 5 ≤ length (now answer) ⌝ }
+    ensures { λ _. ⌜ now (answer .exit) ≡ answerPut (Bad Counters) (now (answer .entry)) ⌝ }
+{
+    put_answer(answer, Answer::Bad(Fault::Counters));
+}
+
+fn number_of(a: Answer) -> u32
+    ensures { λ r. ⌜ r ≡ workNumber a ⌝ }
+{
+    descent::number(a) as u32
+}
+
+// Does units of a run. Answers 0, or the number of the refusal, and writes the answer's words. The work call is lent a record of this function's own, made of the words.
 #[no_mangle]
 pub extern "C" fn brothanchor_work(
-    record: &mut [u64],
+    words: &mut [u64],
     positions: &mut [f64],
     increments: &mut [f64],
     gains: &mut [f64],
@@ -87,23 +121,24 @@ pub extern "C" fn brothanchor_work(
     indices: &[u32],
     offsets: &[u32],
     forces: &mut [f64],
-    reals: &mut [f64],
-    words: &mut [u32],
+    cells: &mut [Cell],
     budget: u32,
     answer: &mut [u64],
 ) -> u32
-    ensures { λ k. ⌜ tell k (now (answer .exit)) (now («record» .exit)) (memory (now (positions .exit)) (now (increments .exit)) (now (gains .exit)) (now (affinities .entry)) (now (indices .entry)) (now (offsets .entry)) (now (forces .exit)) (now (reals .exit)) (now (words .exit))) ≡ hostWork budget (now («record» .entry)) (now (answer .entry)) (memory (now (positions .entry)) (now (increments .entry)) (now (gains .entry)) (now (affinities .entry)) (now (indices .entry)) (now (offsets .entry)) (now (forces .entry)) (now (reals .entry)) (now (words .entry))) ⌝ }
+    ensures { λ k. ⌜ tell k (now (answer .exit)) (now (words .exit)) (memory (now (positions .exit)) (now (increments .exit)) (now (gains .exit)) (now (affinities .entry)) (now (indices .entry)) (now (offsets .entry)) (now (forces .exit)) (now (cells .exit))) ≡ hostWork budget (now (words .entry)) (now (answer .entry)) (memory (now (positions .entry)) (now (increments .entry)) (now (gains .entry)) (now (affinities .entry)) (now (indices .entry)) (now (offsets .entry)) (now (forces .entry)) (now (cells .entry))) ⌝ }
 {
-    if answer.len() < 5 {
+    let short = is_short(answer.len());
+    if short {
         return 12;
     }
-    if !run_fine(record) {
-        put_answer(answer, Answer::Bad(Fault::Counters));
+    let unread = is_unread(words);
+    if unread {
+        put_unread(answer);
         return 13;
     }
-    let r = run_of(record);
-    let t = work(
-        r,
+    let mut own = run_of(words);
+    let a = work(
+        &mut own,
         positions,
         increments,
         gains,
@@ -111,15 +146,14 @@ pub extern "C" fn brothanchor_work(
         indices,
         offsets,
         forces,
-        reals,
-        words,
+        cells,
         budget,
     );
-    let next = t.run;
-    let a = t.answer;
-    put_after(record, a, next);
+    let next = own;
+    put_after(words, a, next);
     put_answer(answer, a);
-    descent::number(a) as u32
+    let k = number_of(a);
+    k
 }
 
 // ---- what a record says

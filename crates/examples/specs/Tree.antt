@@ -7,9 +7,9 @@ use lib.Ieee.{Float, ofBits, binary64, add}
 use Rattle.tree_node.specs.declared.Node.{Node}
 use Rattle.laws.specs.Area.{bits, zero64, one64}
 use Rattle.tree_node.specs.Node.{zeros3}
-use Rattle.tree_node.specs.Areas.{nodeAt, blank}
+use Rattle.tree_node.specs.Arena.{nodeAt, blank}
 use Rattle.tree.specs.Insert.{built, rooted}
-use Rattle.tree.specs.Repel.{repelled}
+use Rattle.tree_walk.specs.Repel.{repelled}
 
 abbrev half : Float
 half = bits 0x3fe0000000000000

@@ -9,7 +9,7 @@ use Rattle.elementary.specs.Limits.{unlessAbove}
 use Rattle.tree.specs.Insert.{built}
 use Rattle.tree_bounds.specs.Bounds.{boxOf}
 use Rattle.tree.specs.Box.{boxed}
-use Rattle.tree_node.specs.Areas.{blank}
+use Rattle.tree_node.specs.Arena.{blank}
 use Rattle.tree_node.specs.declared.Node.{Node}
 use Rattle.gradient.specs.Forces.{forcesOf}
 use Rattle.gradient.specs.Exact.{totalRow, gradientRow}

@@ -10,7 +10,8 @@ use Rattle.tree_node.specs.declared.Node.{Node}
 use Rattle.tree_bodies.specs.declared.Acc.{Acc}
 use Rattle.tree_node.specs.Node.{zeros3, pointOf}
 use Rattle.gradient_pairs.specs.Links.{pulled}
-use Rattle.tree.specs.Repel.{repelled}
+use Rattle.tree_walk.specs.declared.Eye.{Eye}
+use Rattle.tree_walk.specs.Repel.{repelled}
 
 -- the lists as they lie: a link's weight and the frame it names
 abbrev pub linkStep : Float → ℕ → List Float → List Float → List ℕ → List Float → ℕ → ℕ → List Float → List Float
@@ -33,6 +34,10 @@ putStep x a d l = set l (a + d) (at x d)
 unfoldable pub stored : ℕ → ℕ → List Float → Acc → List Float → List Float
 unfolding loop
 stored c i t acc F = let a = placeOf c i in set (loop (putStep (acc .neg) (a + c)) c 0 (loop (putStep t a) c 0 F)) (a + 2 * c) (acc .sum)
+
+-- with what eye point i looks at the tree: a node acts as one body where its width is less than the angle times its distance, both squared
+abbrev pub eyeOf : Float → ℕ → List Float → ℕ → Eye
+eyeOf angle c y i = record { p = pointOf y c i; theta2 = mul binary64 angle angle; q = i; c = c }
 
 -- the forces unit of point i
 unfoldable pub forcesOf : Float → Float → ℕ → List Float → List Float → List ℕ → List ℕ → ℕ → List Node → ℕ → List Float → List Float

@@ -1,120 +1,36 @@
 // A point's forces in a Barnes-Hut run: attraction over its list, repulsion and share from the tree.
 ghost use mathlib.Core.Path.{_≡_};
 ghost use mathlib.Core.Bool.{true};
-ghost use Prim.Native.Nat.{ℕ, _+_, _*_, _<_, _≤_};
+ghost use Prim.Native.Nat.{_+_, _*_, _<_, _≤_};
 ghost use lib.ListN.{length};
-ghost use Rattle.laws.specs.Domain.{mostFrames};
-ghost use Rattle.laws.specs.Area.{at, num};
-ghost use Rattle.laws.specs.Loops.{loop};
-ghost use Rattle.tree_node.specs.Node.{Axes, zeros3, pointOf};
-ghost use Rattle.tree_node.specs.Areas.{nodesOf};
+ghost use Rattle.laws.specs.Domain.{mostFrames, mostWord};
+ghost use Rattle.tree_node.specs.Node.{Axes};
+ghost use Rattle.tree_node.specs.Arena.{nodesOf};
 ghost use Rattle.tree.specs.Insert.{tree, shaped};
-ghost use Rattle.gradient_pairs.specs.Links.{pulled};
-ghost use Rattle.gradient.specs.Forces.{linkStep, attractionOf, Below, Linked, placeOf, putStep, stored, forcesOf};
-use gradient_pairs::links::attract;
-use tree_bodies::Acc;
+ghost use Rattle.gradient.specs.Forces.{Linked, eyeOf, forcesOf};
+use crate::pulls::place_forces;
+use tree_node::Cell;
 use tree_node::cells::point;
+use tree_walk::Eye;
+use tree_walk::repulsive_force;
 
-fn wide(x: u32) -> usize
-    ensures { λ r. ⌜ r ≡ x ⌝ }
-{
-    x as usize
-}
-
-// The attraction so far, with the link at a place of the lists more.
-fn follow(
-    positions: &[f64],
-    weights: &[f64],
-    indices: &[u32],
-    n: usize,
-    c: usize,
-    exaggeration: f64,
-    p: [f64; 3],
-    place: usize,
-    t: [f64; 3],
-) -> [f64; 3]
-    requires { ⌜ (Axes c) × (n * c ≤ length (now positions)) × (place < length (now weights)) × (place < length (now indices)) × (num (now indices) place < n) ⌝ }
-    ensures { λ r. ⌜ r ≡ pulled exaggeration c p (pointOf (now (positions .entry)) c (num (now (indices .entry)) place)) (at (now (weights .entry)) place) t ⌝ }
-{
-    let q = point(positions, wide(indices[place]), c);
-    attract(exaggeration, c, p, q, weights[place], t)
-}
-
-// What the links from place a on pull, by rising place.
-fn follow_all(
-    positions: &[f64],
-    weights: &[f64],
-    indices: &[u32],
-    n: usize,
-    c: usize,
-    exaggeration: f64,
-    p: [f64; 3],
-    a: usize,
-    links: usize,
-) -> [f64; 3]
-    requires { ⌜ (Axes c) × (n * c ≤ length (now positions)) × (a + links ≤ length (now weights)) × (a + links ≤ length (now indices)) ⌝ }
-    requires { ⌜ Below n (a + links) (now indices) ⌝ }
-    ensures { λ r. ⌜ r ≡ loop (linkStep exaggeration c (now (positions .entry)) (now (weights .entry)) (now (indices .entry)) p a) links 0 zeros3 ⌝ }
-{
-    let mut t = [0.0, 0.0, 0.0];
-    let mut k = 0;
-    while k < links {
-        let s = follow(positions, weights, indices, n, c, exaggeration, p, a + k, t);
-        t = s;
-        k += 1;
-    }
-    t
-}
-
-// Point i's attraction over its list.
-fn attraction(
-    positions: &[f64],
-    weights: &[f64],
-    indices: &[u32],
-    offsets: &[u32],
-    n: usize,
-    c: usize,
-    i: usize,
-    exaggeration: f64,
-) -> [f64; 3]
-    requires { ⌜ (Axes c) × (i < n) × (n * c ≤ length (now positions)) ⌝ }
-    requires { ⌜ Linked n (now weights) (now indices) (now offsets) i ⌝ }
-    ensures { λ r. ⌜ r ≡ attractionOf exaggeration c (now (positions .entry)) (now (weights .entry)) (now (indices .entry)) (now (offsets .entry)) i ⌝ }
+// With what eye point i looks at the tree.
+pub fn eye_of(positions: &[f64], n: usize, c: usize, i: usize, angle: f64) -> Eye
+    requires { ⌜ (Axes c) × (i < n) × (n ≤ mostFrames) × (n * c ≤ length (now positions)) ⌝ }
+    ensures { λ r. ⌜ r ≡ eyeOf angle c (now (positions .entry)) i ⌝ }
 {
     let p = point(positions, i, c);
-    let a = wide(offsets[i]);
-    let e = wide(offsets[i + 1]);
-    follow_all(positions, weights, indices, n, c, exaggeration, p, a, e - a)
-}
-
-// c values into the places from a on.
-fn put(forces: &mut [f64], a: usize, x: [f64; 3], c: usize)
-    requires { ⌜ (Axes c) × (a + c ≤ length (now forces)) ⌝ }
-    ensures { λ _. ⌜ now (forces .exit) ≡ loop (putStep x a) c 0 (now (forces .entry)) ⌝ }
-{
-    let mut d = 0;
-    while d < c {
-        forces[a + d] = x[d];
-        d += 1;
+    Eye {
+        p,
+        theta2: angle * angle,
+        q: i as u32,
+        c,
     }
-}
-
-// Attraction, repulsion and share of point i take their places.
-fn store(forces: &mut [f64], c: usize, i: usize, t: [f64; 3], acc: Acc)
-    requires { ⌜ (Axes c) × (placeOf c i + (2 * c + 1) ≤ length (now forces)) ⌝ }
-    ensures { λ _. ⌜ now (forces .exit) ≡ stored c i t acc (now (forces .entry)) ⌝ }
-{
-    let a = i * (2 * c + 1);
-    put(forces, a, t, c);
-    let neg = acc.neg;
-    put(forces, a + c, neg, c);
-    forces[a + 2 * c] = acc.sum;
 }
 
 // The forces unit of point i.
 pub fn point_forces(
-    reals: &[f64],
-    words: &[u32],
+    cells: &[Cell],
     used: usize,
     positions: &[f64],
     weights: &[f64],
@@ -127,12 +43,21 @@ pub fn point_forces(
     angle: f64,
     forces: &mut [f64],
 )
-    requires { ⌜ (Axes c) × (i < n) × (n ≤ mostFrames) × (n * c ≤ length (now positions)) × (n * (2 * c + 1) ≤ length (now forces)) × (0 < used) × (used ≤ length (nodesOf (now reals) (now words))) ⌝ }
-    requires { ⌜ (shaped c (tree used (nodesOf (now reals) (now words))) ≡ true) × Linked n (now weights) (now indices) (now offsets) i ⌝ }
-    ensures { λ _. ⌜ now (forces .exit) ≡ forcesOf exaggeration angle c (now (positions .entry)) (now (weights .entry)) (now (indices .entry)) (now (offsets .entry)) used (nodesOf (now (reals .entry)) (now (words .entry))) i (now (forces .entry)) ⌝ }
+    requires { ⌜ (Axes c) × (i < n) × (n ≤ mostFrames) × (n * c ≤ length (now positions)) × (n * (2 * c + 1) ≤ length (now forces)) × (0 < used) × (used ≤ length (nodesOf (now cells))) × (used ≤ mostWord) × (shaped c (tree used (nodesOf (now cells))) ≡ true) × Linked n (now weights) (now indices) (now offsets) i ⌝ }
+    ensures { λ _. ⌜ now (forces .exit) ≡ forcesOf exaggeration angle c (now (positions .entry)) (now (weights .entry)) (now (indices .entry)) (now (offsets .entry)) used (nodesOf (now (cells .entry))) i (now (forces .entry)) ⌝ }
 {
-    let p = point(positions, i, c);
-    let acc = tree::repulsion::repulsive_force(reals, words, used, c, i as u32, p, angle * angle);
-    let t = attraction(positions, weights, indices, offsets, n, c, i, exaggeration);
-    store(forces, c, i, t, acc);
+    let eye = eye_of(positions, n, c, i, angle);
+    let acc = repulsive_force(cells, used, eye);
+    place_forces(
+        positions,
+        weights,
+        indices,
+        offsets,
+        n,
+        c,
+        i,
+        exaggeration,
+        acc,
+        forces,
+    );
 }

@@ -1,5 +1,5 @@
 -- Preparation that is not refused leaves an honest state: so demand 3 and its kin hold from there on. Assumes nothing.
-use mathlib.Core.Path.{_≡_, refl, sym, _∙_}
+use mathlib.Core.Path.{_≡_, refl, sym, subst, _∙_}
 use mathlib.Core.List.{List, [], _∷_, _++_}
 use mathlib.Core.Bool.{true, false}
 use Prim.Native.Nat.{ℕ, zero, suc, _+_, _-_, _*_, _<_, _≤_}
@@ -25,7 +25,9 @@ use Rattle.affinity.proofs.Kept.{weights-kept, indices-kept}
 use Rattle.affinity.proofs.Listed.{not-all-neighbours}
 use Rattle.affinity.proofs.Named.{rows-named}
 use Rattle.run_calls.specs.Machine.{together}
-use Rattle.tree_node.specs.Areas.{nodesOf}
+use Rattle.tree_node.specs.declared.Cell.{Cell}
+use Rattle.tree_node.specs.Arena.{nodesOf}
+use Rattle.tree_node.proofs.Told.{nodes-length}
 use Rattle.run_record.specs.declared.Settings.{Settings}
 use Rattle.run_record.specs.declared.Run.{Run}
 use Rattle.run_record.specs.Record.{isTree, stateFits, kOf, sizesOf}
@@ -119,9 +121,9 @@ module _ (s : Settings) (t : List Float) (two : 2 ≤ s .n) (a : Areas) where
 
 -- ---- the state
 
-module _ (s : Settings) (table start r : List Float) (w : List ℕ) (l : Lent) where
+module _ (s : Settings) (table start : List Float) (cs : List Cell) (l : Lent) where
   abbrev nodes : ℕ
-  nodes = length (nodesOf r w)
+  nodes = length (nodesOf cs)
 
   abbrev A : Lent
   A = begunAreas s table start l
@@ -130,7 +132,7 @@ module _ (s : Settings) (table start r : List Float) (w : List ℕ) (l : Lent) w
   before = areas (l .affinities) (l .indices) (l .offsets) (l .rowValues) (l .rowIndices)
 
   abbrev first : State
-  first = state (freshRun s) (memoryOf A r w)
+  first = state (freshRun s) (memoryOf A cs)
 
   tree-is : isTree (s .method) ≡ true → routedIn s table l ≡ neighboursListed table (s .n) (s .f) (s .perplexity) before
   tree-is t = sym (routed-tree s table before t)
@@ -178,19 +180,19 @@ module _ (s : Settings) (table start r : List Float) (w : List ℕ) (l : Lent) w
 
 -- ---- THEOREM 1, where a run begins: preparation that is not refused leaves an honest state
 
-module _ (s : Settings) (table start r : List Float) (w : List ℕ) (l : Lent) (run : Run) (ready : prepared s table start (length (nodesOf r w)) l .answer ≡ Ready run) where
+module _ (s : Settings) (table start : List Float) (cs : List Cell) (l : Lent) (run : Run) (ready : prepared s table start (length cs) l .answer ≡ Ready run) where
   -- record and areas as preparation leaves them
   abbrev pub begun : State
-  begun = state run (memoryOf (prepared s table start (length (nodesOf r w)) l .areas) r w)
+  begun = state run (memoryOf (prepared s table start (length cs) l .areas) cs)
 
   pub preparation-honest : Honest begun
   unfolding prepared
   preparation-honest =
-      let fault = prepareFault s table start (lengthsOf l (length (nodesOf r w))) in
+      let fault = prepareFault s table start (lengthsOf l (length cs)) in
       by-bool (Honest begun) (eqb fault 0)
       (λ e. let q : Ready (freshRun s) ≡ Ready run = rw e at ready in
       let same : run ≡ freshRun s = cc in
-      rw (e, same) (honest-begin s table start r w l (passed s table start (lengthsOf l (length (nodesOf r w))) (eqb-true fault 0 e))))
+      rw (e, same) (honest-begin s table start cs l (subst (λ (x : ℕ). Passed s table start (lengthsOf l x)) (sym (nodes-length cs)) (passed s table start (lengthsOf l (length cs)) (eqb-true fault 0 e)))))
       (λ e. absurd (let q : Refused fault ≡ Ready run = rw e at ready in let z : _≡_ {A = ℕ} 0 1 = cc in omega arith))
 
   -- THEOREM 2 from there on: calls one after the other, the last of at least 1, leave everything where one call with the sum leaves it

@@ -16,6 +16,7 @@ use Rattle.run_record.specs.declared.Settings.{Settings}
 use Rattle.run_record.specs.declared.Run.{Run}
 use Rattle.run_record.specs.declared.Standing.the-variants.{Running}
 use Rattle.run_record.specs.Record.{isTree, earlyFault, lateFault}
+use Rattle.tree_node.specs.declared.Cell.{Cell}
 use Rattle.run_entry.specs.State.{Memory, memory}
 use Rattle.run_entry.specs.Entry.{areasFit}
 use Rattle.prepare.specs.declared.Prepared.{Prepared}
@@ -110,8 +111,8 @@ prepared s table start nodes l =
     (outcome (Refused (prepareFault s table start (lengthsOf l nodes))) l)
 
 -- the lent areas and the arena, as the work call has them
-abbrev pub memoryOf : Lent → List Float → List ℕ → Memory
-memoryOf l r w = memory (l .positions) (l .increments) (l .gains) (l .affinities) (l .indices) (l .offsets) (l .forces) r w
+abbrev pub memoryOf : Lent → List Cell → Memory
+memoryOf l cs = memory (l .positions) (l .increments) (l .gains) (l .affinities) (l .indices) (l .offsets) (l .forces) cs
 
 -- the scope paper's number of an answer; 0 where it is no refusal
 unfoldable pub prepareNumber : Prepared → ℕ

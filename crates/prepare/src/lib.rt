@@ -7,7 +7,6 @@ ghost use Rattle.laws.specs.Joined.{pasted};
 ghost use Rattle.affinity_lists.specs.Lists.{areas, cleared};
 ghost use Rattle.affinity_near.specs.Distances.{squaresOf};
 ghost use Rattle.affinity.specs.Exact.{exactOf};
-ghost use Rattle.tree_node.specs.Areas.{nodesOf};
 ghost use Rattle.run_record.specs.Record.{GoodSettings};
 ghost use Rattle.prepare.specs.Room.{RouteRoom};
 ghost use Rattle.prepare.specs.Prepare.{allIn, lengthsFit, prepareFault, freshRun, routed, lent, outcome, prepared};
@@ -202,7 +201,7 @@ fn route(
     affinity_lists::areas::clear_indices(row_indices, s.n);
 }
 
-// Prepares a run: takes any settings and any areas. Of the arena only its size is looked at.
+// Prepares a run: takes any settings and any areas. Of the arena it asks only how many nodes it has.
 pub fn prepare(
     s: Settings,
     table: &[f64],
@@ -216,10 +215,9 @@ pub fn prepare(
     forces: &mut [f64],
     row_values: &mut [f64],
     row_indices: &mut [u32],
-    reals: &[f64],
-    words: &[u32],
+    nodes: usize,
 ) -> Prepared
-    ensures { λ r. ⌜ outcome r (lent (now (positions .exit)) (now (increments .exit)) (now (gains .exit)) (now (affinities .exit)) (now (indices .exit)) (now (offsets .exit)) (now (forces .exit)) (now («row_values» .exit)) (now («row_indices» .exit))) ≡ prepared s (now (table .entry)) (now (start .entry)) (length (nodesOf (now (reals .entry)) (now (words .entry)))) (lent (now (positions .entry)) (now (increments .entry)) (now (gains .entry)) (now (affinities .entry)) (now (indices .entry)) (now (offsets .entry)) (now (forces .entry)) (now («row_values» .entry)) (now («row_indices» .entry))) ⌝ }
+    ensures { λ r. ⌜ outcome r (lent (now (positions .exit)) (now (increments .exit)) (now (gains .exit)) (now (affinities .exit)) (now (indices .exit)) (now (offsets .exit)) (now (forces .exit)) (now («row_values» .exit)) (now («row_indices» .exit))) ≡ prepared s (now (table .entry)) (now (start .entry)) nodes (lent (now (positions .entry)) (now (increments .entry)) (now (gains .entry)) (now (affinities .entry)) (now (indices .entry)) (now (offsets .entry)) (now (forces .entry)) (now («row_values» .entry)) (now («row_indices» .entry))) ⌝ }
 {
     let l = Lengths {
         positions: positions.len(),
@@ -229,7 +227,7 @@ pub fn prepare(
         indices: indices.len(),
         offsets: offsets.len(),
         forces: forces.len(),
-        nodes: tree_node::areas::capacity(reals, words),
+        nodes,
         values: row_values.len(),
         places: row_indices.len(),
     };

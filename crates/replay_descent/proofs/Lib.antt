@@ -1,1 +1,4 @@
 mod Within
+pub mod Told
+pub mod Values
+pub mod ByValue

@@ -1,12 +1,15 @@
-// The areas of a run, one value at a time: altered, and held against their digests.
+// The areas of a run, one word at a time: altered, and held against their digests.
+use crate::nodes::alter_cells;
+use crate::nodes::same_cells;
 use replay::areas::mark;
 use replay::areas::mark_words;
 use replay::areas::plus;
 use replay::word_at;
+use tree_node::Cell;
 ghost use Prim.Native.Nat.{_≤_};
 ghost use lib.ListN.{length};
 
-// The nine areas of a work call, with room for every case.
+// The eight areas of a work call, with room for every case.
 pub(crate) struct Areas {
     pub(crate) positions: [f64; 132],
     pub(crate) increments: [f64; 132],
@@ -15,8 +18,7 @@ pub(crate) struct Areas {
     pub(crate) indices: [u32; 2052],
     pub(crate) offsets: [u32; 70],
     pub(crate) forces: [f64; 324],
-    pub(crate) reals: [f64; 4608],
-    pub(crate) words: [u32; 1536],
+    pub(crate) cells: [Cell; 512],
 }
 
 // The word as a number, but no more than most.
@@ -47,8 +49,6 @@ pub(crate) fn marked() -> Areas {
     let mut indices = [0u32; 2052];
     let mut offsets = [0u32; 70];
     let mut forces = [0.0; 324];
-    let mut reals = [0.0; 4608];
-    let mut words = [0u32; 1536];
     mark(&mut positions);
     mark(&mut increments);
     mark(&mut gains);
@@ -56,8 +56,7 @@ pub(crate) fn marked() -> Areas {
     mark_words(&mut indices);
     mark_words(&mut offsets);
     mark(&mut forces);
-    mark(&mut reals);
-    mark_words(&mut words);
+    let cells = replay_arena::marks::marked();
     Areas {
         positions,
         increments,
@@ -66,8 +65,7 @@ pub(crate) fn marked() -> Areas {
         indices,
         offsets,
         forces,
-        reals,
-        words,
+        cells,
     }
 }
 
@@ -102,8 +100,7 @@ pub(crate) fn altered(s: Areas, list: &[u8], b: usize) -> Areas {
     let mut indices = s.indices;
     let mut offsets = s.offsets;
     let mut forces = s.forces;
-    let mut reals = s.reals;
-    let mut words = s.words;
+    let old = s.cells;
     alter(&mut positions, list, b, 2);
     alter(&mut increments, list, b, 3);
     alter(&mut gains, list, b, 4);
@@ -111,8 +108,7 @@ pub(crate) fn altered(s: Areas, list: &[u8], b: usize) -> Areas {
     alter_words(&mut indices, list, b, 6);
     alter_words(&mut offsets, list, b, 7);
     alter(&mut forces, list, b, 8);
-    alter(&mut reals, list, b, 9);
-    alter_words(&mut words, list, b, 10);
+    let cells = alter_cells(old, list, b, 9);
     Areas {
         positions,
         increments,
@@ -121,13 +117,12 @@ pub(crate) fn altered(s: Areas, list: &[u8], b: usize) -> Areas {
         indices,
         offsets,
         forces,
-        reals,
-        words,
+        cells,
     }
 }
 
 // The digest with one word more.
-fn more(digest: u64, word: u64) -> u64 {
+pub(crate) fn more(digest: u64, word: u64) -> u64 {
     scatter::mix(std::num::wrapping_add_u64(digest, word))
 }
 
@@ -144,7 +139,7 @@ fn digest(area: &[f64], m: usize) -> u64
     d
 }
 
-fn wide(x: u32) -> u64 {
+pub(crate) fn wide(x: u32) -> u64 {
     x as u64
 }
 
@@ -193,28 +188,26 @@ fn same_values(s: Areas, list: &[u8], i: usize, j: usize) -> bool {
     let gains = s.gains;
     let affinities = s.affinities;
     let forces = s.forces;
-    let reals = s.reals;
     let p = same(&positions, list, i, j, 0);
     let q = same(&increments, list, i, j, 1);
     let g = same(&gains, list, i, j, 2);
     let a = same(&affinities, list, i, j, 3);
     let f = same(&forces, list, i, j, 6);
-    let r = same(&reals, list, i, j, 7);
-    both(both(both(p, q), both(g, a)), both(f, r))
+    both(both(both(p, q), both(g, a)), f)
 }
 
-// The areas of numbers.
+// The areas of numbers, and the nodes.
 fn same_numbers(s: Areas, list: &[u8], i: usize, j: usize) -> bool {
     let indices = s.indices;
     let offsets = s.offsets;
-    let words = s.words;
+    let cells = s.cells;
     let x = same_words(&indices, list, i, j, 4);
     let o = same_words(&offsets, list, i, j, 5);
-    let w = same_words(&words, list, i, j, 8);
-    both(both(x, o), w)
+    let n = same_cells(cells, list, i, j, 7);
+    both(both(x, o), n)
 }
 
-// The nine areas have the digests from word j on; the words from i on say how long they are.
+// The eight areas have the digests from word j on; the words from i on say how long they are.
 pub(crate) fn same_areas(s: Areas, list: &[u8], i: usize, j: usize) -> bool {
     both(same_values(s, list, i, j), same_numbers(s, list, i, j))
 }

@@ -1,23 +1,35 @@
 // Replays the lists of whole runs: a preparation and the work calls after it, with what is altered and lent shorter on the way.
 mod areas;
 mod fields;
-mod lent;
+mod lending;
+mod lengths;
+mod nodes;
 mod preparation;
 mod working;
 
 use areas::both;
+use descent::Answer;
 use preparation::answer_place;
 use preparation::begin;
 use replay::areas::plus;
 use replay::word_at;
+use run_record::Run;
+use tree_node::Cell;
 use working::all_calls;
+
+// What a work call leaves: the record, the answer and the arena.
+pub struct Left {
+    pub run: Run,
+    pub answer: Answer,
+    pub cells: [Cell; 512],
+}
 
 // The case from word a on.
 fn case_right(list: &[u8], a: usize) -> bool {
     let begun = begin(list, a);
     let run = begun.run;
     let areas = begun.areas;
-    let first = plus(answer_place(list, a), 13);
+    let first = plus(answer_place(list, a), 12);
     let right = all_calls(list, a, first, begun.calls, run, areas);
     both(begun.right, right)
 }

@@ -7,8 +7,8 @@ use crate::areas::same;
 use crate::areas::same_areas;
 use crate::areas::same_words;
 use crate::fields::settings_at;
-use crate::lent::length_at;
-use crate::lent::lent_at;
+use crate::lengths::length_at;
+use crate::lengths::lent_at;
 use prepare::Prepared;
 use replay::areas::fill;
 use replay::areas::mark;
@@ -25,19 +25,19 @@ ghost use lib.ListN.{length};
 fn table_length(list: &[u8], a: usize) -> usize
     ensures { λ r. ⌜ r ≤ 200 ⌝ }
 {
-    length_at(list, a, 21, 200)
+    length_at(list, a, 20, 200)
 }
 
 fn start_length(list: &[u8], a: usize) -> usize
     ensures { λ r. ⌜ r ≤ 200 ⌝ }
 {
-    length_at(list, a, 22, 200)
+    length_at(list, a, 21, 200)
 }
 
 // The word with the answer of the preparation of the case from word a on.
 pub(crate) fn answer_place(list: &[u8], a: usize) -> usize {
     plus(
-        plus(a, 23),
+        plus(a, 22),
         plus(table_length(list, a), start_length(list, a)),
     )
 }
@@ -70,8 +70,8 @@ fn marked_rows() -> Rows {
 fn same_rows(s: Rows, list: &[u8], i: usize, j: usize) -> bool {
     let values = s.values;
     let indices = s.indices;
-    let x = same(&values, list, i, j, 9);
-    both(x, same_words(&indices, list, i, j, 10))
+    let x = same(&values, list, i, j, 8);
+    both(x, same_words(&indices, list, i, j, 9))
 }
 
 // What a preparation gives: its outcome, the areas and the rows.
@@ -92,8 +92,8 @@ fn prepared(
     r: Rows,
 ) -> Ready {
     let l = lent_at(list, plus(a, 10));
-    let v = length_at(list, a, 19, 68);
-    let k = length_at(list, a, 20, 68);
+    let v = length_at(list, a, 18, 68);
+    let k = length_at(list, a, 19, 68);
     let mut positions = m.positions;
     let mut increments = m.increments;
     let mut gains = m.gains;
@@ -101,8 +101,7 @@ fn prepared(
     let mut indices = m.indices;
     let mut offsets = m.offsets;
     let mut forces = m.forces;
-    let reals = m.reals;
-    let words = m.words;
+    let cells = m.cells;
     let mut row_values = r.values;
     let mut row_indices = r.indices;
     let outcome = prepare::prepare(
@@ -118,8 +117,7 @@ fn prepared(
         &mut forces[..l.forces],
         &mut row_values[..v],
         &mut row_indices[..k],
-        &reals[..l.reals],
-        &words[..l.words],
+        l.nodes,
     );
     let areas = Areas {
         positions,
@@ -129,8 +127,7 @@ fn prepared(
         indices,
         offsets,
         forces,
-        reals,
-        words,
+        cells,
     };
     let rows = Rows {
         values: row_values,
@@ -187,15 +184,15 @@ fn calls_after(k: u64, list: &[u8], i: usize) -> usize
     0
 }
 
-// The case from word a on: its preparation, of which the answer and all eleven digests are compared.
+// The case from word a on: its preparation, of which the answer and all ten digests are compared.
 pub(crate) fn begin(list: &[u8], a: usize) -> Begun
     ensures { λ r. ⌜ r .calls ≤ length (now (list .entry)) ⌝ }
 {
     let s = settings_at(list, plus(a, 1));
     let t = table_length(list, a);
     let u = start_length(list, a);
-    let table = values_at(list, plus(a, 23), t);
-    let start = values_at(list, plus(plus(a, 23), t), u);
+    let table = values_at(list, plus(a, 22), t);
+    let start = values_at(list, plus(plus(a, 22), t), u);
     let p = prepared(
         list,
         a,
@@ -215,7 +212,7 @@ pub(crate) fn begin(list: &[u8], a: usize) -> Begun
     let answered = both(k == word_at(list, b), same_rows(rows, list, i, j));
     let right = both(answered, same_areas(areas, list, i, j));
     let run = run_of(outcome, s);
-    let calls = calls_after(k, list, plus(b, 12));
+    let calls = calls_after(k, list, plus(b, 11));
     Begun {
         run,
         areas,

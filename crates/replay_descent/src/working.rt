@@ -8,7 +8,8 @@ use crate::fields::change_at;
 use crate::fields::changed;
 use crate::fields::same_answer;
 use crate::fields::same_run;
-use crate::lent::lent_at;
+use crate::lending::work_lent;
+use crate::lengths::lent_at;
 use descent::Worked;
 use replay::areas::plus;
 use replay::word_at;
@@ -23,7 +24,7 @@ struct Left {
 // The call at word b, with the areas lent as far as it says.
 fn worked(list: &[u8], b: usize, r: Run, s: Areas) -> Left {
     let l = lent_at(list, plus(b, 3));
-    let budget = narrow(word_at(list, plus(b, 12)));
+    let budget = narrow(word_at(list, plus(b, 11)));
     let mut positions = s.positions;
     let mut increments = s.increments;
     let mut gains = s.gains;
@@ -31,9 +32,8 @@ fn worked(list: &[u8], b: usize, r: Run, s: Areas) -> Left {
     let indices = s.indices;
     let offsets = s.offsets;
     let mut forces = s.forces;
-    let mut reals = s.reals;
-    let mut words = s.words;
-    let worked = descent::work(
+    let old = s.cells;
+    let left = work_lent(
         r,
         &mut positions[..l.positions],
         &mut increments[..l.increments],
@@ -42,10 +42,14 @@ fn worked(list: &[u8], b: usize, r: Run, s: Areas) -> Left {
         &indices[..l.indices],
         &offsets[..l.offsets],
         &mut forces[..l.forces],
-        &mut reals[..l.reals],
-        &mut words[..l.words],
+        old,
+        l.nodes,
         budget,
     );
+    let run = left.run;
+    let answer = left.answer;
+    let cells = left.cells;
+    let worked = Worked { run, answer };
     let areas = Areas {
         positions,
         increments,
@@ -54,8 +58,7 @@ fn worked(list: &[u8], b: usize, r: Run, s: Areas) -> Left {
         indices,
         offsets,
         forces,
-        reals,
-        words,
+        cells,
     };
     Left { worked, areas }
 }
@@ -85,8 +88,8 @@ fn one_call(list: &[u8], a: usize, b: usize, r: Run, s: Areas) -> Called {
     let areas = t.areas;
     let run = w.run;
     let right = both(
-        same_worked(w, list, plus(b, 13)),
-        same_areas(areas, list, plus(a, 10), plus(b, 30)),
+        same_worked(w, list, plus(b, 12)),
+        same_areas(areas, list, plus(a, 10), plus(b, 29)),
     );
     Called { run, areas, right }
 }
@@ -110,7 +113,7 @@ pub(crate) fn all_calls(
         run = t.run;
         areas = t.areas;
         right = both(right, t.right);
-        b = plus(b, 39);
+        b = plus(b, 37);
         k += 1;
     }
     both(right, b == plus(a, word_at(list, a) as usize))

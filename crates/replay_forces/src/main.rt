@@ -1,6 +1,7 @@
 // Replays what the original Rust itself gave: Barnes-Hut gradients with their normaliser, and the step before centring.
 mod areas;
 mod growth;
+mod lending;
 mod links;
 mod moves;
 mod pulls;

@@ -2,23 +2,26 @@
 use crate::areas::numbers_at;
 use crate::areas::times;
 use crate::areas::values_at;
-use crate::growth::fine;
 use crate::growth::grow;
+use crate::lending::forces_in;
 use crate::links::linked;
 use gradient::element::gradient_at;
 use gradient::element::normaliser;
-use gradient::forces::point_forces;
 use replay::areas::mark;
 use replay::areas::plus;
 use replay::areas::same_area;
 use replay::areas::same_value;
 use replay::areas::value_at;
 use replay::word_at;
+use replay_arena::fine_in;
+use replay_arena::marks::marked;
+use tree_node::Cell;
 ghost use mathlib.Core.Path.{_≡_};
 ghost use mathlib.Core.Bool.{true};
 ghost use Prim.Native.Nat.{_+_, _*_, _<_, _≤_};
 ghost use lib.ListN.{length};
 ghost use Rattle.tree_node.specs.Node.{Axes};
+ghost use Rattle.replay_arena.specs.Fronts.{Walkable};
 
 // What a case begins with.
 struct Case {
@@ -35,7 +38,7 @@ struct Case {
     at: usize,
 }
 
-// The forces of point i; false where tree or list is not in order.
+// The forces of point i; false where its list is not in order.
 fn one_point(
     s: Case,
     used: usize,
@@ -44,21 +47,17 @@ fn one_point(
     weights: &[f64],
     indices: &[u32],
     offsets: &[u32],
-    reals: &[f64],
-    words: &[u32],
+    cells: [Cell; 512],
     forces: &mut [f64],
 ) -> bool
-    requires { ⌜ (Axes (s .c)) × (i < s .n) × (s .n ≤ 64) × (s .n * s .c ≤ length (now positions)) × (s .n * (2 * s .c + 1) ≤ length (now forces)) ⌝ }
+    requires { ⌜ (Axes (s .c)) × (i < s .n) × (s .n ≤ 64) × (s .n * s .c ≤ length (now positions)) × (s .n * (2 * s .c + 1) ≤ length (now forces)) × Walkable 512 used (s .c) cells ⌝ }
 {
-    if !fine(reals, words, used, s.n as usize, s.c) {
-        return false;
-    }
     if !linked(weights, indices, offsets, s.n as usize, i) {
         return false;
     }
-    point_forces(
-        reals,
-        words,
+    forces_in(
+        cells,
+        512,
         used,
         positions,
         weights,
@@ -74,7 +73,7 @@ fn one_point(
     true
 }
 
-// The forces of every point.
+// The forces of every point; false where tree or list is not in order.
 fn all_points(
     s: Case,
     used: usize,
@@ -82,13 +81,15 @@ fn all_points(
     weights: &[f64],
     indices: &[u32],
     offsets: &[u32],
-    reals: &[f64],
-    words: &[u32],
+    cells: [Cell; 512],
     forces: &mut [f64],
 ) -> bool
     requires { ⌜ (Axes (s .c)) × (s .n ≤ 64) × (s .n * s .c ≤ length (now positions)) × (s .n * (2 * s .c + 1) ≤ length (now forces)) ⌝ }
 {
     let n = s.n as usize;
+    if !fine_in(cells, 512, used, n, s.c) {
+        return false;
+    }
     let mut i = 0;
     while i < n {
         if !one_point(
@@ -99,8 +100,7 @@ fn all_points(
             weights,
             indices,
             offsets,
-            reals,
-            words,
+            cells,
             forces,
         ) {
             return false;
@@ -140,18 +140,16 @@ fn forces_of(
 ) -> bool
     requires { ⌜ (Axes (s .c)) × (s .n ≤ 64) × (s .n * s .c ≤ length (now positions)) × (s .n * (2 * s .c + 1) ≤ length (now forces)) ⌝ }
 {
-    let mut reals = [0.0; 4608];
-    let mut words = [0u32; 1536];
-    let used = grow(&mut reals, &mut words, positions, s.n, s.c);
+    let g = grow(marked(), positions, s.n, s.c);
+    let cells = g.cells;
     all_points(
         s,
-        used,
+        g.used,
         positions,
         weights,
         indices,
         offsets,
-        &reals,
-        &words,
+        cells,
         forces,
     )
 }

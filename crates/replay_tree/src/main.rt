@@ -1,5 +1,4 @@
 // Replays the lists of trees that the original built: every node, every point's force and share, and what becomes of an arena that is one node short.
-mod arenas;
 mod compare;
 mod forces;
 mod growth;
@@ -11,9 +10,8 @@ use growth::Grown;
 use growth::grow;
 use order::same_tree;
 use replay::areas::fill;
-use replay::areas::mark;
-use replay::areas::mark_words;
 use replay::word_at;
+use replay_arena::marks::marked;
 ghost use mathlib.Core.Path.{_≡_};
 ghost use mathlib.Core.Bool.{true};
 ghost use Prim.Native.Nat.{_*_, _<_, _≤_};
@@ -44,45 +42,37 @@ struct Next {
 fn in_all(list: &[u8], s: Case, positions: &[f64]) -> u32
     requires { ⌜ (Axes (s .c)) × (s .n ≤ 64) × (s .n * s .c ≤ length (now positions)) × (s .count ≤ 1000) × (s .nodes ≤ 200000) × (s .forces ≤ 200000) ⌝ }
 {
-    let mut reals = [0.0; 4608];
-    let mut words = [0u32; 1536];
-    mark(&mut reals);
-    mark_words(&mut words);
-    let g = grow(&mut reals, &mut words, positions, s.n, s.c);
+    let g = grow(marked(), 512, positions, s.n, s.c);
     if g.full {
         return s.n;
     }
     if g.used != s.count {
         return s.n;
     }
-    if !same_tree(&reals, &words, list, s.nodes, s.count, s.c) {
+    let cells = g.cells;
+    if !same_tree(cells, list, s.nodes, s.count, s.c) {
         return s.n;
     }
-    if !same_forces(&reals, &words, g.used, positions, s.n, s.c, list, s.forces) {
+    if !same_forces(cells, g.used, positions, s.n, s.c, list, s.forces) {
         return s.n;
     }
     g.last
 }
 
-// In an arena of count nodes, at the front of the areas; areas that are too short give nothing.
+// In an arena of count nodes, at the front of the cells; cells that are too few give nothing.
 fn grow_in(positions: &[f64], n: u32, c: usize, count: usize) -> Grown
     requires { ⌜ (Axes c) × (n * c ≤ length (now positions)) × (n ≤ 64) ⌝ }
 {
     if count > 512 {
         return Grown {
+            cells: marked(),
             used: 0,
             full: false,
             last: n,
             kept: false,
         };
     }
-    let a = 9 * count;
-    let b = 3 * count;
-    let mut reals = [0.0; 4608];
-    let mut words = [0u32; 1536];
-    mark(&mut reals);
-    mark_words(&mut words);
-    grow(&mut reals[..a], &mut words[..b], positions, n, c)
+    grow(marked(), count, positions, n, c)
 }
 
 // In an arena of just the nodes that the tree needs, all points go in.

@@ -2,8 +2,8 @@
 use crate::compare::children;
 use crate::compare::product;
 use crate::compare::same_node;
-use tree_node::areas::capacity;
-use tree_node::areas::load;
+use tree_node::Cell;
+use tree_node::arena::read_node;
 ghost use Prim.Native.Nat.{_+_, _≤_};
 ghost use lib.ListN.{length};
 ghost use Rattle.tree_node.specs.Node.{Axes};
@@ -28,8 +28,7 @@ fn push(stack: &mut [u32], top: usize, first: u32, n: usize) -> usize
 
 // The nodes of which the top ones are on the stack, and those below them, are the count nodes that the list has from word a on.
 fn same_nodes(
-    reals: &[f64],
-    words: &[u32],
+    cells: [Cell; 512],
     list: &[u8],
     a: usize,
     count: usize,
@@ -48,10 +47,11 @@ fn same_nodes(
             return false;
         }
         let i = number(stack[top - 1]);
-        if i >= capacity(reals, words) {
+        if i >= 512 {
             return false;
         }
-        let v = load(reals, words, i);
+        let x = cells[i];
+        let v = read_node(x);
         if !same_node(v, list, a + product(k, 3 * c + 3), c) {
             return false;
         }
@@ -62,16 +62,9 @@ fn same_nodes(
 }
 
 // The nodes in pre-order are the count nodes that the list has from word a on; at first the root, node 0, is on the stack.
-pub(crate) fn same_tree(
-    reals: &[f64],
-    words: &[u32],
-    list: &[u8],
-    a: usize,
-    count: usize,
-    c: usize,
-) -> bool
+pub(crate) fn same_tree(cells: [Cell; 512], list: &[u8], a: usize, count: usize, c: usize) -> bool
     requires { ⌜ (Axes c) × (a ≤ 200000) × (count ≤ 1000) ⌝ }
 {
     let mut stack = [0u32; 512];
-    same_nodes(reals, words, list, a, count, c, &mut stack)
+    same_nodes(cells, list, a, count, c, &mut stack)
 }

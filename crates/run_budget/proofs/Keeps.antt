@@ -14,6 +14,7 @@ use Rattle.run_record.specs.declared.Run.{Run}
 use Rattle.run_record.specs.Record.{isTree, isEnded, perOf, advancedOf, closedOf}
 use Rattle.run_record.proofs.Laws.{per-some}
 use Rattle.tree_node.specs.declared.Node.{Node}
+use Rattle.tree_node.proofs.Told.{nameable-most, nameable-both}
 use Rattle.tree_contents.specs.Contents.{nodeOk}
 use Rattle.tree.specs.Insert.{tree, treeOk}
 use Rattle.tree_bounds.specs.Bounds.{boxOf}
@@ -88,7 +89,7 @@ module _ (m : ℕ) (s : State) (g : Ordered m s) (live : isEnded (s .run .standi
         contents = λ t. record {
           each-offset = c .each-offset;
           each-index = c .each-index;
-          tree = λ n. record { used-some = omega arith; used-most = rw l (a .nodes-some); each-node = box-ok N (m + 1) C N (M .positions) (M .nodes) (a .nodes-some) };
+          tree = λ n. record { used-some = omega arith; used-most = nameable-both 1 (length (set (M .nodes) 0 (boxOf (M .positions) N C))) (rw l (a .nodes-some)) (omega arith); each-node = box-ok N (m + 1) C N (M .positions) (M .nodes) (a .nodes-some) };
         };
       }
 
@@ -103,7 +104,7 @@ module _ (m : ℕ) (s : State) (g : Ordered m s) (live : isEnded (s .run .standi
       let q = per-some (R .settings .method) N in
       let n2 = g .settings .n-some in
       let fit = taken-fits (M .positions) C (R .phase - 1) (tree (R .used) (M .nodes)) f in
-      let e = taken-ends (M .positions) C (R .phase - 1) (tree (R .used) (M .nodes)) N m (omega (arith, k .1, p)) some (t .each-node) (t .used-some) (t .used-most) fit in
+      let e = taken-ends (M .positions) C (R .phase - 1) (tree (R .used) (M .nodes)) N m (omega (arith, k .1, p)) some (t .each-node) (t .used-some) (omega (arith, t .used-most, nameable-most (length (M .nodes)))) fit in
       record {
         settings = g .settings;
         counters = advanced-good R live (g .counters) (i .tree .used) (omega (arith, k .1));
@@ -111,7 +112,7 @@ module _ (m : ℕ) (s : State) (g : Ordered m s) (live : isEnded (s .run .standi
         contents = λ x. record {
           each-offset = c .each-offset;
           each-index = c .each-index;
-          tree = λ n. record { used-some = omega (arith, e .used, t .used-some); used-most = omega (arith, e .used, e .nodes, fit); each-node = e .tree };
+          tree = λ n. record { used-some = omega (arith, e .used, t .used-some); used-most = rw (e .used, e .nodes) fit; each-node = e .tree };
         };
       }
 

@@ -1,12 +1,9 @@
 -- The budget loop: so many units have led from the state at entry to the present one, which is still workable. Assumes nothing.
-use mathlib.Core.List.{List}
 use mathlib.Core.Path.{_≡_, refl, sym, ap, _∙_}
 use mathlib.Core.Bool.{Bool, true, false, cond, not, true≢false}
 use Prim.Native.Nat.{ℕ, _+_, _<_, _≤_}
 use native.Mathlib.Omega.{arith}
 use lib.Dec.{ltb}
-use lib.ListN.{length}
-use lib.Ieee.{Float}
 use borrow.Author.Tests.{lt-ltb, le-ltb}
 use Rattle.laws.proofs.Bools.{by-bool, or-yes, or-left, or-right}
 use Rattle.run_calls.specs.Machine.{over, refused, running, called, stops, kindAt, go}
@@ -44,15 +41,6 @@ unfolding stops
 goes-done-unit s d = rw (d, live-of-done s d)
 
 -- ---- the loop
-
--- the six areas that a unit may change keep their lengths
-pub record SameLengths (p₀ p i₀ i g₀ g f₀ f a₀ a : List Float) (w₀ w : List ℕ) : Type 0 where
-  pub positions-same : length p ≡ length p₀
-  pub increments-same : length i ≡ length i₀
-  pub gains-same : length g ≡ length g₀
-  pub forces-same : length f ≡ length f₀
-  pub reals-same : length a ≡ length a₀
-  pub words-same : length w ≡ length w₀
 
 pub keeping : (s : State) → Workable s → stops machine s ≡ false → Workable (unit s .now)
 keeping s g e = workable-keeps s g (due s e .0) (due s e .1)

@@ -15,10 +15,11 @@ use Rattle.laws.proofs.Loops.{loop-keeps}
 use Rattle.run_record.specs.declared.Run.{Run}
 use Rattle.run_record.specs.Record.{isTree, advancedOf, closedOf}
 use Rattle.tree_node.specs.declared.Node.{Node}
+use Rattle.tree_node.specs.Arena.{nameable}
 use Rattle.tree_bodies.specs.declared.Acc.{Acc}
 use Rattle.tree.specs.Insert.{Tree, tree, needsOf, inserted, Insertion, insertion, insertOf}
 use Rattle.gradient.specs.Forces.{stored, placeOf, putStep, attractionOf, forcesOf}
-use Rattle.tree.specs.Repel.{repelled}
+use Rattle.tree_walk.specs.Repel.{repelled}
 use Rattle.tree_node.specs.Node.{pointOf}
 use Rattle.gradient_pairs.specs.Exact.{numStep, pullsOf}
 use Rattle.gradient.specs.Exact.{totalRow, slopeStep, gradientRow}
@@ -46,7 +47,7 @@ module _ (r : Run) (y : List Float) (ns : List Node) where
 
   full-same : inserting .full ≡ true → inserting ≡ insertion true (tree (r .used) ns)
   unfolding insertOf
-  full-same e = full-is (ltb (length ns) (r .used + needsOf (length ns) y (r .settings .c) (pointOf y (r .settings .c) (r .phase - 1)) 0 0 ns)) (tree (r .used) ns) (inserted (length ns) y (r .settings .c) (pointOf y (r .settings .c) (r .phase - 1)) (r .phase - 1) 0 0 (tree (r .used) ns)) e
+  full-same e = full-is (ltb (nameable (length ns)) (r .used + needsOf (length ns) y (r .settings .c) (pointOf y (r .settings .c) (r .phase - 1)) 0 0 ns)) (tree (r .used) ns) (inserted (length ns) y (r .settings .c) (pointOf y (r .settings .c) (r .phase - 1)) (r .phase - 1) 0 0 (tree (r .used) ns)) e
 
   tree-full : (r .phase ≡ 0 → ⊥) → inserting .full ≡ true → treeUnit r y ns ≡ treeTurn r ns Full
   unfolding treeUnit insertTurn

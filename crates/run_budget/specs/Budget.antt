@@ -1,7 +1,9 @@
 -- The units of a work call as a machine, and what the call answers. Definitions only.
-use mathlib.Core.Bool.{cond, not}
-use Prim.Native.Nat.{ℕ}
+use mathlib.Core.Bool.{Bool, false, cond, not}
+use Prim.Native.Nat.{ℕ, _+_}
+use lib.Dec.{ltb}
 use Rattle.run_calls.specs.Machine.{Kind, faulty, over, refused, running, Machine, Called}
+use Rattle.run_record.specs.declared.Run.{Run}
 use Rattle.run_record.specs.declared.Standing.{Standing}
 use Rattle.run_record.specs.declared.Standing.the-variants.{Running as Runs, Stopped as Stops, Finished as Ends}
 use Rattle.run_record.specs.Record.{isEnded}
@@ -9,7 +11,10 @@ use Rattle.run_entry.specs.State.{State}
 use Rattle.run_entry.specs.Entry.{isFine, faultOf}
 use Rattle.run_units.specs.declared.Why.{Why}
 use Rattle.run_units.specs.declared.Why.the-variants.{Done, Full as NoNodes, Wild as TooLarge, Over}
+use Rattle.run_units.specs.declared.Turn.{Turn}
 use Rattle.run_units.specs.Units.{unit, isDone}
+use Rattle.run_budget.specs.declared.Going.{Going}
+use Rattle.run_budget.specs.declared.Worked.{Worked as Left}
 use Rattle.run_budget.specs.declared.Answer.{Answer}
 use Rattle.run_budget.specs.declared.Answer.the-variants.{Running, Stopped, Finished, Full, Wild, Bad}
 
@@ -59,3 +64,19 @@ worked a s = record { answer = a; left = s }
 
 abbrev pub told : Called State → Worked
 told k = worked (answerOf (k .kind) (k .state) (k .units)) (k .state)
+
+-- ---- a call as it goes, by value
+
+abbrev pub startedOf : Run → Going
+startedOf r = record { run = r; why = Done; k = 0 }
+
+-- the last unit was done, and there is more of the budget
+unfoldable pub spendsOn : Going → ℕ → Bool
+spendsOn g b = cond (isDone (g .why)) (ltb (g .k) b) false
+
+-- a unit that was done is counted
+unfoldable pub onwardOf : Going → Turn → Going
+onwardOf g t = record { run = t .run; why = t .why; k = cond (isDone (t .why)) (g .k + 1) (g .k) }
+
+unfoldable pub endedOf : Going → Left
+endedOf g = record { run = g .run; answer = cond (isDone (g .why)) (standsOf (g .run .standing) (g .k)) (haltedOf (g .run .standing) (g .why) (g .k)) }

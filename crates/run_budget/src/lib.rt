@@ -1,16 +1,19 @@
 // The units of a work call: until the budget is done, one is refused or the run has ended.
 ghost use mathlib.Core.Path.{_≡_};
+ghost use Prim.Native.Nat.{_+_, _<_, _^_};
 ghost use Rattle.run_calls.specs.Machine.{go};
 ghost use Rattle.run_entry.specs.State.{memory, state};
 ghost use Rattle.run_entry.specs.Entry.{Good};
-ghost use Rattle.run_budget.specs.Budget.{machine, standsOf, refusedOf, haltedOf, worked, told};
+ghost use Rattle.run_budget.specs.Budget.{machine, standsOf, refusedOf, haltedOf, worked, told, startedOf, spendsOn, onwardOf, endedOf};
 use run_entry::Fault;
 use run_record::Run;
 use run_record::Standing;
 use run_record::counters::is_ended;
+use run_units::Turn;
 use run_units::Why;
 use run_units::is_done;
 use run_units::one_unit;
+use tree_node::Cell;
 
 // What a work call answers, with the units done in it.
 pub enum Answer {
@@ -29,6 +32,15 @@ pub enum Answer {
 pub struct Worked {
     pub run: Run,
     pub answer: Answer,
+}
+
+// A call as it goes.
+pub struct Going {
+    pub run: Run,
+    // whether the last unit that was tried was done, and if not, why
+    pub why: Why,
+    // units done in this call
+    pub k: u32,
 }
 
 // How the run stands.
@@ -64,6 +76,58 @@ fn halted(s: Standing, w: Why, k: u32) -> Answer
     turned_down(w, k)
 }
 
+fn started(r: Run) -> Going
+    ensures { λ g. ⌜ g ≡ startedOf r ⌝ }
+{
+    Going {
+        run: r,
+        why: Why::Done,
+        k: 0,
+    }
+}
+
+fn goes_on(g: Going, budget: u32) -> bool
+    ensures { λ b. ⌜ b ≡ spendsOn g budget ⌝ }
+{
+    let w = g.why;
+    if is_done(w) {
+        return g.k < budget;
+    }
+    false
+}
+
+// A unit was tried.
+fn onward(g: Going, t: Turn) -> Going
+    requires { ⌜ g .k + 1 < 2 ^ 32 ⌝ }
+    ensures { λ h. ⌜ h ≡ onwardOf g t ⌝ }
+{
+    let run = t.run;
+    let why = t.why;
+    if is_done(why) {
+        return Going {
+            run,
+            why,
+            k: g.k + 1,
+        };
+    }
+    Going { run, why, k: g.k }
+}
+
+// What the call leaves and answers.
+fn ended(g: Going) -> Worked
+    ensures { λ w. ⌜ w ≡ endedOf g ⌝ }
+{
+    let run = g.run;
+    let s = run.standing;
+    let w = g.why;
+    if is_done(w) {
+        let answer = stands(s, g.k);
+        return Worked { run, answer };
+    }
+    let answer = halted(s, w, g.k);
+    Worked { run, answer }
+}
+
 // Units until the budget is done, one is refused or the run has ended.
 pub fn go_on(
     r: Run,
@@ -74,18 +138,17 @@ pub fn go_on(
     indices: &[u32],
     offsets: &[u32],
     forces: &mut [f64],
-    reals: &mut [f64],
-    words: &mut [u32],
+    cells: &mut [Cell],
     budget: u32,
 ) -> Worked
-    requires { ⌜ Good (state r (memory (now positions) (now increments) (now gains) (now affinities) (now indices) (now offsets) (now forces) (now reals) (now words))) ⌝ }
-    ensures { λ t. ⌜ worked (t .answer) (state (t .run) (memory (now (positions .exit)) (now (increments .exit)) (now (gains .exit)) (now (affinities .entry)) (now (indices .entry)) (now (offsets .entry)) (now (forces .exit)) (now (reals .exit)) (now (words .exit)))) ≡ told (go machine budget (state r (memory (now (positions .entry)) (now (increments .entry)) (now (gains .entry)) (now (affinities .entry)) (now (indices .entry)) (now (offsets .entry)) (now (forces .entry)) (now (reals .entry)) (now (words .entry))))) ⌝ }
+    requires { ⌜ Good (state r (memory (now positions) (now increments) (now gains) (now affinities) (now indices) (now offsets) (now forces) (now cells))) ⌝ }
+    ensures { λ t. ⌜ worked (t .answer) (state (t .run) (memory (now (positions .exit)) (now (increments .exit)) (now (gains .exit)) (now (affinities .entry)) (now (indices .entry)) (now (offsets .entry)) (now (forces .exit)) (now (cells .exit)))) ≡ told (go machine budget (state r (memory (now (positions .entry)) (now (increments .entry)) (now (gains .entry)) (now (affinities .entry)) (now (indices .entry)) (now (offsets .entry)) (now (forces .entry)) (now (cells .entry))))) ⌝ }
 {
-    let mut run = r;
-    let mut k: u32 = 0;
-    while k < budget {
+    let mut g = started(r);
+    while goes_on(g, budget) {
+        let x = g.run;
         let t = one_unit(
-            run,
+            x,
             positions,
             increments,
             gains,
@@ -93,19 +156,11 @@ pub fn go_on(
             indices,
             offsets,
             forces,
-            reals,
-            words,
+            cells,
         );
-        run = t.run;
-        let w = t.why;
-        if !is_done(w) {
-            let s = run.standing;
-            let answer = halted(s, w, k);
-            return Worked { run, answer };
-        }
-        k += 1;
+        let h = onward(g, t);
+        g = h;
     }
-    let s = run.standing;
-    let answer = stands(s, k);
-    Worked { run, answer }
+    let w = ended(g);
+    w
 }

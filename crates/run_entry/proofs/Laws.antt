@@ -16,7 +16,6 @@ use Rattle.run_record.specs.Record.{isTree, angleFine, angleFault as badTree, s
 use Rattle.run_record.proofs.Laws.{settings-fine, settings-good}
 use Rattle.tree_node.specs.declared.Node.{Node}
 use Rattle.tree_node.specs.Node.{Axes}
-use Rattle.tree_node.specs.Areas.{nodesOf}
 use Rattle.tree.specs.Insert.{tree}
 use Rattle.tree.specs.Contents.{contentsOf, contentsFine as isSound}
 use Rattle.tree_contents.specs.declared.Contents.{Contents}

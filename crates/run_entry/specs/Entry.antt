@@ -12,6 +12,7 @@ use Rattle.run_record.specs.declared.Settings.{Settings}
 use Rattle.run_record.specs.declared.Run.{Run}
 use Rattle.run_record.specs.Record.{isTree, settingsFault, countersOk, perOf, stateFits, kOf, sizesOf, GoodSettings}
 use Rattle.tree_node.specs.declared.Node.{Node}
+use Rattle.tree_node.specs.Arena.{nameable}
 use Rattle.tree.specs.Insert.{tree, treeOk}
 use Rattle.tree.specs.Contents.{contentsOf}
 use Rattle.tree_contents.specs.declared.Contents.{Contents}
@@ -93,6 +94,24 @@ faultAt r p i g a f xs off ns =
     Areas)
     (recordFault r)
 
+-- the same tests but those of the nodes, of which there are so many
+unfoldable pub listsFault : Run → List ℕ → List ℕ → Fault
+listsFault r xs off =
+    cond (ltb (firstOffset (r .settings) off) (r .settings .n + 1)) (Offsets (firstOffset (r .settings) off - 1))
+    (cond (ltb (firstIndex (r .settings) xs off) (listed (r .settings) off)) (Index (firstIndex (r .settings) xs off)) Fine)
+
+unfoldable pub faultBeforeTree : Run → ℕ → ℕ → ℕ → ℕ → ℕ → List ℕ → List ℕ → ℕ → Fault
+faultBeforeTree r p i g a f xs off nodes =
+    cond (isFine (recordFault r))
+    (cond (areasFit (r .settings) p i g a (length xs) (length off) f nodes)
+    (cond (isTree (r .settings .method)) (listsFault r xs off) Fine)
+    Areas)
+    (recordFault r)
+
+-- .. which found t: the nodes are to be tested
+unfoldable pub asksTree : Run → Fault → Bool
+asksTree r t = isFine t && isTree (r .settings .method) && not (eqb (r .phase) 0)
+
 unfoldable pub faultOf : State → Fault
 faultOf s =
     let m = s .memory in
@@ -139,7 +158,7 @@ pub record ContentsRoom (r : Run) (x o : ℕ) : Type 0 where
 -- the nodes in use, their counts at most m
 pub record GoodTree (m : ℕ) (r : Run) (ns : List Node) : Type 0 where
   pub used-some : 0 < r .used
-  pub used-most : r .used ≤ length ns
+  pub used-most : r .used ≤ nameable (length ns)
   pub each-node : treeOk (r .settings .n) m (r .settings .c) (tree (r .used) ns) ≡ true
 
 pub record GoodContents (m : ℕ) (r : Run) (xs off : List ℕ) (ns : List Node) : Type 0 where

@@ -4,9 +4,10 @@ use Prim.Native.Nat.{ℕ}
 use lib.Ieee.{Float}
 use Rattle.run_record.specs.declared.Run.{Run}
 use Rattle.tree_node.specs.declared.Node.{Node}
-use Rattle.tree_node.specs.Areas.{Rest, nodesOf, arenaRest}
+use Rattle.tree_node.specs.declared.Cell.{Cell}
+use Rattle.tree_node.specs.Arena.{nodesOf}
 
--- the areas; the arena as the nodes that its two flat areas stand for, and what lies past them: the two tell the flat areas whole
+-- the areas; the arena as the nodes that lie in its cells, which tell the cells whole (`cells-told`)
 pub record Memory : Type 0 where
   pub positions : List Float
   pub increments : List Float
@@ -16,14 +17,13 @@ pub record Memory : Type 0 where
   pub offsets : List ℕ
   pub forces : List Float
   pub nodes : List Node
-  pub rest : Rest
 
 pub record State : Type 0 where
   pub run : Run
   pub memory : Memory
 
-abbrev pub memory : List Float → List Float → List Float → List Float → List ℕ → List ℕ → List Float → List Float → List ℕ → Memory
-memory p i g a x o f r w = record { positions = p; increments = i; gains = g; affinities = a; indices = x; offsets = o; forces = f; nodes = nodesOf r w; rest = arenaRest r w }
+abbrev pub memory : List Float → List Float → List Float → List Float → List ℕ → List ℕ → List Float → List Cell → Memory
+memory p i g a x o f cs = record { positions = p; increments = i; gains = g; affinities = a; indices = x; offsets = o; forces = f; nodes = nodesOf cs }
 
 abbrev pub state : Run → Memory → State
 state r m = record { run = r; memory = m }

@@ -6,9 +6,9 @@ ghost use lib.ListN.{length};
 ghost use Rattle.laws.specs.Domain.{mostFrames};
 ghost use Rattle.laws.specs.Loops.{first};
 ghost use Rattle.tree_node.specs.Node.{Axes};
-ghost use Rattle.tree_node.specs.Areas.{nodesOf};
+ghost use Rattle.tree_node.specs.Arena.{nodesOf};
 ghost use Rattle.run_record.specs.Record.{GoodSettings, sizesOf};
-ghost use Rattle.run_entry.specs.Entry.{offsetFine, indexFine, treeFits, areasFit, isFine, faultNumber, treeFault, treeFaultAt, contentsFault, recordFault, faultAt, ContentsRoom};
+ghost use Rattle.run_entry.specs.Entry.{offsetFine, indexFine, treeFits, areasFit, isFine, faultNumber, treeFault, recordFault, listsFault, faultBeforeTree, asksTree, faultAt, ContentsRoom};
 use run_record::Run;
 use run_record::Settings;
 use run_record::counters::counters_ok;
@@ -16,6 +16,8 @@ use run_record::faults::is_tree;
 use run_record::faults::settings_fault;
 use run_record::faults::sizes_of;
 use tree::Contents;
+use tree::wellformed::tree_ok;
+use tree_node::Cell;
 
 // What the entry tests find, a case for each kind of fault.
 pub enum Fault {
@@ -46,9 +48,8 @@ pub fn is_fine(f: Fault) -> bool
     }
 }
 
-// The scope paper's number of a fault; 0: there is none.
-pub // 12 for an area, 13 for all else that the entry tests find.
-fn fault_number(f: Fault) -> u8
+// The scope paper's number of a fault: 12 for an area, 13 for all else that the entry tests find; 0: there is none.
+pub fn fault_number(f: Fault) -> u8
     ensures { λ r. ⌜ r ≡ faultNumber f ⌝ }
 {
     match f {
@@ -183,22 +184,10 @@ fn tree_fault(t: Contents) -> Fault
     }
 }
 
-// The nodes in use, tested between an iteration's box and its finish.
-fn tree_fault_at(r: Run, reals: &[f64], words: &[u32]) -> Fault
-    requires { ⌜ Axes (r .settings .c) ⌝ }
-    ensures { λ t. ⌜ t ≡ treeFaultAt r (nodesOf (now (reals .entry)) (now (words .entry))) ⌝ }
-{
-    if r.phase == 0 {
-        return Fault::Fine;
-    }
-    let s = r.settings;
-    tree_fault(tree::wellformed::tree_ok(reals, words, r.used, s.n, s.c))
-}
-
-// A Barnes-Hut run's contents.
-fn contents_fault(r: Run, indices: &[u32], offsets: &[u32], reals: &[f64], words: &[u32]) -> Fault
+// A Barnes-Hut run's offsets and indices.
+fn lists_fault(r: Run, indices: &[u32], offsets: &[u32]) -> Fault
     requires { ⌜ ContentsRoom r (length (now indices)) (length (now offsets)) ⌝ }
-    ensures { λ t. ⌜ t ≡ contentsFault r (now (indices .entry)) (now (offsets .entry)) (nodesOf (now (reals .entry)) (now (words .entry))) ⌝ }
+    ensures { λ t. ⌜ t ≡ listsFault r (now (indices .entry)) (now (offsets .entry)) ⌝ }
 {
     let s = r.settings;
     let z = sizes_of(s);
@@ -212,7 +201,7 @@ fn contents_fault(r: Run, indices: &[u32], offsets: &[u32], reals: &[f64], words
     if x < count {
         return Fault::Index(x);
     }
-    tree_fault_at(r, reals, words)
+    Fault::Fine
 }
 
 // One less, and 0 for 0.
@@ -240,6 +229,50 @@ fn record_fault(r: Run) -> Fault
     Fault::Fine
 }
 
+// All but the nodes, of which there are so many: the record, the areas by their lengths, the lists.
+fn early_fault(
+    r: Run,
+    p: usize,
+    i: usize,
+    g: usize,
+    a: usize,
+    f: usize,
+    indices: &[u32],
+    offsets: &[u32],
+    nodes: usize,
+) -> Fault
+    ensures { λ t. ⌜ t ≡ faultBeforeTree r p i g a f (now (indices .entry)) (now (offsets .entry)) nodes ⌝ }
+{
+    let t = record_fault(r);
+    if !is_fine(t) {
+        return t;
+    }
+    let s = r.settings;
+    if !areas_fit(s, p, i, g, a, indices.len(), offsets.len(), f, nodes) {
+        return Fault::Areas;
+    }
+    let m = s.method;
+    if !is_tree(m) {
+        return Fault::Fine;
+    }
+    lists_fault(r, indices, offsets)
+}
+
+// Whether the nodes are to be tested: between an iteration's box and its finish, where nothing else was found.
+fn asks_tree(r: Run, t: Fault) -> bool
+    ensures { λ b. ⌜ b ≡ asksTree r t ⌝ }
+{
+    if !is_fine(t) {
+        return false;
+    }
+    let s = r.settings;
+    let m = s.method;
+    if !is_tree(m) {
+        return false;
+    }
+    r.phase != 0
+}
+
 // The record, the areas (by their lengths), the contents.
 pub fn fault_at(
     r: Run,
@@ -250,23 +283,17 @@ pub fn fault_at(
     f: usize,
     indices: &[u32],
     offsets: &[u32],
-    reals: &[f64],
-    words: &[u32],
+    cells: &[Cell],
 ) -> Fault
-    ensures { λ t. ⌜ t ≡ faultAt r p i g a f (now (indices .entry)) (now (offsets .entry)) (nodesOf (now (reals .entry)) (now (words .entry))) ⌝ }
+    ensures { λ t. ⌜ t ≡ faultAt r p i g a f (now (indices .entry)) (now (offsets .entry)) (nodesOf (now (cells .entry))) ⌝ }
 {
-    let t = record_fault(r);
-    if !is_fine(t) {
-        return t;
+    let t = early_fault(r, p, i, g, a, f, indices, offsets, cells.len());
+    let asks = asks_tree(r, t);
+    if asks {
+        let s = r.settings;
+        let k = tree_ok(cells, r.used, s.n, s.c);
+        let w = tree_fault(k);
+        return w;
     }
-    let s = r.settings;
-    let nodes = tree_node::areas::capacity(reals, words);
-    if !areas_fit(s, p, i, g, a, indices.len(), offsets.len(), f, nodes) {
-        return Fault::Areas;
-    }
-    let m = s.method;
-    if !is_tree(m) {
-        return Fault::Fine;
-    }
-    contents_fault(r, indices, offsets, reals, words)
+    t
 }

@@ -9,7 +9,6 @@ use borrow.Author.Tests.{eq-eqb, ne-eqb}
 use Rattle.run_record.specs.declared.Run.{Run}
 use Rattle.run_record.specs.Record.{isEnded, advancedOf}
 use Rattle.tree_node.specs.declared.Node.{Node}
-use Rattle.tree_node.specs.Areas.{Rest}
 use Rattle.run_entry.specs.State.{State}
 use Rattle.run_units.specs.declared.Why.{Why}
 use Rattle.run_units.specs.declared.Why.the-variants.{Over}
@@ -51,9 +50,9 @@ module _ (s : State) where
 
     -- ---- what the functions leave is the unit
 
-    pub tree-is : (r' : Run) (ns' : List Node) (rest' : Rest) (w : Why) → groupOf (s .run) ≡ 0 → treeTurn r' ns' w ≡ treeUnit (s .run) (s .memory .positions) (s .memory .nodes) → rest' ≡ s .memory .rest
-        → turned (record { run = r'; memory = record { positions = s .memory .positions; increments = s .memory .increments; gains = s .memory .gains; affinities = s .memory .affinities; indices = s .memory .indices; offsets = s .memory .offsets; forces = s .memory .forces; nodes = ns'; rest = rest' } }) w ≡ unit s
-    tree-is r' ns' rest' w z e q = rw q (ap (λ (t : TreeTurn). withTree (s .memory) t) e ∙ sym (unit-tree z))
+    pub tree-is : (r' : Run) (ns' : List Node) (w : Why) → groupOf (s .run) ≡ 0 → treeTurn r' ns' w ≡ treeUnit (s .run) (s .memory .positions) (s .memory .nodes)
+        → turned (record { run = r'; memory = record { positions = s .memory .positions; increments = s .memory .increments; gains = s .memory .gains; affinities = s .memory .affinities; indices = s .memory .indices; offsets = s .memory .offsets; forces = s .memory .forces; nodes = ns' } }) w ≡ unit s
+    tree-is r' ns' w z e = ap (λ (t : TreeTurn). withTree (s .memory) t) e ∙ sym (unit-tree z)
 
     pub force-is : (r' : Run) (F : List Float) → groupOf (s .run) ≡ 1 → (r' ≡ advancedOf (s .run) (s .run .used)) × (F ≡ forceUnit (s .run) (s .memory .positions) (s .memory .affinities) (s .memory .indices) (s .memory .offsets) (s .memory .nodes) (s .memory .forces))
         → withForces (s .memory) r' F ≡ unit s

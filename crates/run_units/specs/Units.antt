@@ -21,6 +21,7 @@ use Rattle.step_passes.specs.Passes.{Before, paced}
 use Rattle.step.specs.Step.{Outcome, finishOf}
 use Rattle.run_entry.specs.State.{Memory, State}
 use Rattle.run_units.specs.declared.Why.{Why}
+use Rattle.run_units.specs.declared.Turn.{Turn}
 use Rattle.run_units.specs.declared.Why.the-variants.{Done, Full, Wild, Over}
 
 abbrev pub isDone : Why → Bool
@@ -28,6 +29,15 @@ isDone Done = true
 isDone Full = false
 isDone Wild = false
 isDone Over = false
+
+-- ---- the record after a unit, by value
+
+abbrev pub turnAs : Run → Why → Turn
+turnAs r y = record { run = r; why = y }
+
+-- an insertion that is refused, or leaves so many nodes in use
+unfoldable pub insertedOf : Run → Bool → ℕ → Turn
+insertedOf r full used = cond full (turnAs r Full) (turnAs (advancedOf r used) Done)
 
 -- ---- box and insertion
 
@@ -58,6 +68,12 @@ forceUnit r y P xs off ns F =
     let s = r .settings in
     cond (isTree (s .method)) (forcesOf (exaggerationOf r) (s .angle) (s .c) y P xs off (r .used) ns (r .phase - s .n - 1) F)
     (cond (ltb (r .phase) (s .n)) (totalRow y (s .n) (s .c) (r .phase) F) (gradientRow y P (exaggerationOf r) (s .n) (s .c) (r .phase - s .n) F))
+
+-- of an exact run
+unfoldable pub rowUnit : Run → List Float → List Float → List Float → List Float
+rowUnit r y P F =
+    let s = r .settings in
+    cond (ltb (r .phase) (s .n)) (totalRow y (s .n) (s .c) (r .phase) F) (gradientRow y P (exaggerationOf r) (s .n) (s .c) (r .phase - s .n) F)
 
 -- ---- the finish
 
@@ -99,13 +115,13 @@ abbrev pub turned : State → Why → Turned
 turned s y = record { now = s; why = y }
 
 abbrev pub withTree : Memory → TreeTurn → Turned
-withTree m t = turned (record { run = t .run; memory = record { positions = m .positions; increments = m .increments; gains = m .gains; affinities = m .affinities; indices = m .indices; offsets = m .offsets; forces = m .forces; nodes = t .nodes; rest = m .rest } }) (t .why)
+withTree m t = turned (record { run = t .run; memory = record { positions = m .positions; increments = m .increments; gains = m .gains; affinities = m .affinities; indices = m .indices; offsets = m .offsets; forces = m .forces; nodes = t .nodes } }) (t .why)
 
 abbrev pub withForces : Memory → Run → List Float → Turned
-withForces m r F = turned (record { run = r; memory = record { positions = m .positions; increments = m .increments; gains = m .gains; affinities = m .affinities; indices = m .indices; offsets = m .offsets; forces = F; nodes = m .nodes; rest = m .rest } }) Done
+withForces m r F = turned (record { run = r; memory = record { positions = m .positions; increments = m .increments; gains = m .gains; affinities = m .affinities; indices = m .indices; offsets = m .offsets; forces = F; nodes = m .nodes } }) Done
 
 abbrev pub withFinish : Memory → FinishTurn → Turned
-withFinish m t = turned (record { run = t .run; memory = record { positions = t .positions; increments = t .increments; gains = t .gains; affinities = m .affinities; indices = m .indices; offsets = m .offsets; forces = m .forces; nodes = m .nodes; rest = m .rest } }) (t .why)
+withFinish m t = turned (record { run = t .run; memory = record { positions = t .positions; increments = t .increments; gains = t .gains; affinities = m .affinities; indices = m .indices; offsets = m .offsets; forces = m .forces; nodes = m .nodes } }) (t .why)
 
 unfoldable pub unit : State → Turned
 unit s =

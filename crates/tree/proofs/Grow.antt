@@ -16,7 +16,7 @@ use Rattle.laws.proofs.Numbers.{left, none}
 use Rattle.tree_node.specs.declared.Node.{Node}
 use Rattle.tree_children.specs.Children.{childIndex, childCentre, childHalf}
 use Rattle.tree_turns.specs.Turns.{childOf}
-use Rattle.tree_node.specs.Areas.{nodeAt, blank}
+use Rattle.tree_node.specs.Arena.{nodeAt, blank}
 use Rattle.tree.specs.Insert.{subdivided, splitsOf}
 
 -- ---- the splits counted: n so far, and those that are left, are the whole

@@ -23,7 +23,7 @@ use Rattle.tree_node.specs.declared.Leaf.the-variants.{Empty, Occupied}
 use Rattle.tree_node.specs.Node.{pointOf}
 use Rattle.tree_children.specs.Children.{childIndex, cellOf}
 use Rattle.tree_turns.specs.Turns.{childOf, absorbed, occupied, parent, out, leafTurn, turnOf}
-use Rattle.tree_node.specs.Areas.{leafWord, nodeAt, blank}
+use Rattle.tree_node.specs.Arena.{leafWord, nodeAt, blank}
 use Rattle.tree.specs.Insert.{Tree, tree, subdivided, turnAt, levelled, levelAt, inserted, splitsOf, leafNeeds, needsOf, treeOk}
 use Rattle.tree_contents.specs.Contents.{pointOk, blockOk, nodeOk}
 use Rattle.tree_children.proofs.Below.{child-below}

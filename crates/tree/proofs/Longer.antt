@@ -2,33 +2,31 @@
 use mathlib.Core.Path.{_≡_, refl, sym, ap, subst, _∙_}
 use mathlib.Core.List.{List, _++_}
 use mathlib.Core.Bool.{true, false, true≢false}
-use Prim.Native.Nat.{ℕ, zero, suc, _+_, _-_, _^_, _<_, _≤_}
+use Prim.Native.Nat.{ℕ, zero, suc, _+_, _-_, _<_, _≤_}
 use native.Mathlib.Omega.{arith}
 use native.Mathlib.Nat.{add-zero}
-use native.Mathlib.Decide.{ℕ-discrete}
 use lib.ListN.{length, set, length-set, length-append, List·getD-append}
 use lib.Seq.{set-append-left}
 use lib.Ieee.{Float}
 use Rattle.laws.specs.Loops.{loop}
 use Rattle.laws.proofs.Bools.{by-bool}
 use Rattle.laws.proofs.Every.{every-at, every-all}
-use Rattle.laws.proofs.Loops.{loop-same}
 use Rattle.tree_node.specs.declared.Node.{Node}
 use Rattle.tree_turns.specs.declared.Out.{Out}
-use Rattle.tree_bodies.specs.declared.Acc.{Acc}
 use Rattle.tree_node.specs.Node.{pointOf}
 use Rattle.tree_turns.specs.Turns.{childOf, turnOf}
-use Rattle.tree_node.specs.Areas.{nodeAt, blank}
-use Rattle.tree_bodies.specs.Bodies.{kindOf}
+use Rattle.tree_node.specs.Arena.{nodeAt, blank}
+use Rattle.tree_node.proofs.Told.{nameable-most, nameable-longer}
 use Rattle.tree.specs.Insert.{Tree, tree, subdivided, turnAt, levelled, levelAt, inserted, Insertion, insertion, insertOf, treeOk, built}
 use Rattle.tree_contents.specs.Contents.{nodeOk}
 use Rattle.tree_bounds.specs.Bounds.{boxOf}
 use Rattle.tree.specs.Box.{boxed}
-use Rattle.tree.specs.Repel.{walkOf, nothing, repelled}
+use Rattle.tree_walk.specs.Repel.{repelled}
+use Rattle.tree_walk.proofs.Longer.{repelled-longer as walked-longer}
 use Rattle.tree.proofs.Grow.{makeStep}
 use Rattle.tree.proofs.Inserting.{Ok, Rises, needs-agree, needs-fuel, ok-start, ok-room, ok-next, inserted-last, inserted-next, tree-facts}
 use Rattle.tree.proofs.Whole.{needed, taken, taken-fits, taken-ends, built-more, built-full}
-use Rattle.tree.proofs.Opens.{opened, walk-skip, walk-body, walk-open}
+use Rattle.tree.proofs.Opens.{blocks-in}
 
 -- a well-formed tree within its arena
 pub record Fits (n c m : ℕ) (t : Tree) : Type 0 where
@@ -44,7 +42,7 @@ pub insert-fits : (y : List Float) (n c m j : ℕ) (t : Tree) → j < n → 1 �
 insert-fits y n c m j t hj hm f e =
     let fit = taken-fits y c j t e in
     let r = taken-ends y c j t n m hj hm (f .sound) (f .some) (f .within) fit in
-    record { some = omega (arith, r .used, f .some); within = omega (arith, r .used, r .nodes, fit); sound = r .tree }
+    record { some = omega (arith, r .used, f .some); within = omega (arith, r .used, r .nodes, fit, nameable-most (length (t .nodes))); sound = r .tree }
 
 module _ (more : List Node) where
   -- the same nodes in use, in an arena with further nodes behind it
@@ -117,8 +115,8 @@ module _ (more : List Node) where
       let p = pointOf y c j in
       let fit = taken-fits y c j t e in
       let ll = length-append ns more in
-      taken y c j (extended t) (omega (arith, fit, needs-longer y n c m j t f, ll))
-      ∙ ap (insertion false) (inserted-longer n c m (length ns) (t .used + needed y c j t) y p j hj hm fit (length ns) (length (ns ++ more)) 0 0 t (ok-start n c m y p t (f .sound) (f .some) (f .within)) (omega arith) (omega (arith, ll))
+      taken y c j (extended t) (omega (arith, fit, needs-longer y n c m j t f, nameable-longer (length ns) (length (ns ++ more)) (omega (arith, ll))))
+      ∙ ap (insertion false) (inserted-longer n c m (length ns) (t .used + needed y c j t) y p j hj hm (omega (arith, fit, nameable-most (length ns))) (length ns) (length (ns ++ more)) 0 0 t (ok-start n c m y p t (f .sound) (f .some) (f .within)) (omega arith) (omega (arith, ll))
       ∙ ap (λ (x : Insertion). extended (x .tree)) (sym (taken y c j t fit)))
 
   -- ---- all points: what was built without a refusal, the longer arena holds too
@@ -145,30 +143,6 @@ module _ (more : List Node) where
 
   -- ---- the walk
 
-  module _ (n c m : ℕ) (t : Tree) (f : Fits n c m t) (q : ℕ) (p : List Float) (theta2 : Float) where
-    walk-longer : (g i : ℕ) (acc : Acc) → i < t .used → walkOf g c q p theta2 (t .nodes ++ more) i acc ≡ walkOf g c q p theta2 (t .nodes) i acc
-    unfolding walkOf
-    walk-longer zero i acc l = refl
-    walk-longer (suc g) i acc l =
-        let ns = t .nodes in
-        let v = nodeAt ns i in
-        let k = kindOf c q p theta2 v in
-        let e : v ≡ nodeAt (ns ++ more) i = sym (node-same ns i (omega (arith, l, f .within))) in
-        let some : suc g ≡ 0 → ⊥ = λ z. omega (arith, z) in
-        let pred : suc g - 1 ≡ g = omega arith in
-        elim (ℕ-discrete k 0) [
-          | yes x ↦ sym (walk-skip c q p theta2 (ns ++ more) i acc v e (suc g) some x) ∙ walk-skip c q p theta2 ns i acc v refl (suc g) some x
-          | no a ↦ elim (ℕ-discrete k 1) [
-            | yes x ↦ sym (walk-body c q p theta2 (ns ++ more) i acc v e (suc g) some x) ∙ walk-body c q p theta2 ns i acc v refl (suc g) some x
-            | no b ↦
-                let h = tree-facts n c m t (f .sound) i l .above (opened c q p theta2 v k refl a b) in
-                walk-open c q p theta2 (ns ++ more) i acc v e (suc g) k some refl a b
-                ∙ rw pred (loop-same (λ x a. walkOf g c q p theta2 (ns ++ more) (v .first + x) a) (λ x a. walkOf g c q p theta2 ns (v .first + x) a) (2 ^ c) 0 acc (λ x a _ lx. walk-longer g (v .first + x) a (omega (arith, h, lx))))
-                ∙ sym (walk-open c q p theta2 ns i acc v refl (suc g) k some refl a b)
-          ]
-        ]
-
-    -- repulsion looks at no node past those in use
-    pub repelled-longer : repelled (t .used) c q p theta2 (t .nodes ++ more) ≡ repelled (t .used) c q p theta2 (t .nodes)
-    unfolding repelled
-    repelled-longer = walk-longer (t .used) 0 nothing (f .some)
+  -- repulsion looks at no node past those in use
+  pub repelled-longer : (n c m : ℕ) (t : Tree) → Fits n c m t → (q : ℕ) (p : List Float) (theta2 : Float) → repelled (t .used) c q p theta2 (t .nodes ++ more) ≡ repelled (t .used) c q p theta2 (t .nodes)
+  repelled-longer n c m t f q p theta2 = walked-longer (t .nodes) more (t .used) c (f .within) (blocks-in n c m t (f .sound)) q p theta2 (f .some)

@@ -14,7 +14,7 @@ use Rattle.tree_node.specs.declared.Node.{Node}
 use Rattle.tree_node.specs.Node.{pointOf}
 use Rattle.tree_children.specs.Children.{childIndex, cellOf}
 use Rattle.tree_turns.specs.Turns.{childOf, absorbed, occupied, turnOf, out}
-use Rattle.tree_node.specs.Areas.{nodeAt, blank}
+use Rattle.tree_node.specs.Arena.{nodeAt, blank}
 use Rattle.tree.specs.Insert.{tree, subdivided, inserted}
 use Rattle.tree_children.proofs.Below.{child-below}
 use Rattle.tree.proofs.Grow.{makeStep, made, length-filled, filled-in, filled-out}

@@ -11,7 +11,7 @@ use Rattle.laws.specs.Loops.{first}
 use Rattle.laws.proofs.First.{Seeks, seek-stop, seek-done, first-none, first-all}
 use Rattle.laws.proofs.Every.{every-at, every-all}
 use Rattle.tree_node.specs.declared.Node.{Node}
-use Rattle.tree_node.specs.Areas.{nodeAt}
+use Rattle.tree_node.specs.Arena.{nodeAt, nameable}
 use Rattle.tree_contents.specs.declared.Contents.the-variants.{Fine, Used, Count, Point, Block}
 use Rattle.tree_contents.specs.Contents.{pointOk, nodeOk, nodeFault}
 use Rattle.tree.specs.Insert.{Tree, treeOk}
@@ -22,14 +22,14 @@ module _ (n c : ℕ) (t : Tree) where
   unfolding contentsOf
   none-used e = rw (eq-eqb (t .used) 0 e)
 
-  pub too-many : (t .used ≡ 0 → ⊥) → length (t .nodes) < t .used → Used ≡ contentsOf n c t
+  pub too-many : (t .used ≡ 0 → ⊥) → nameable (length (t .nodes)) < t .used → Used ≡ contentsOf n c t
   unfolding contentsOf
-  too-many z l = rw (ne-eqb (t .used) 0 z, lt-ltb (length (t .nodes)) (t .used) l)
+  too-many z l = rw (ne-eqb (t .used) 0 z, lt-ltb (nameable (length (t .nodes))) (t .used) l)
 
-  module _ (z : t .used ≡ 0 → ⊥) (l : t .used ≤ length (t .nodes)) where
+  module _ (z : t .used ≡ 0 → ⊥) (l : t .used ≤ nameable (length (t .nodes))) where
     lowest : first (faulty n c t) (t .used) < t .used → nodeFault n (first (faulty n c t) (t .used)) (nodeAt (t .nodes) (first (faulty n c t) (t .used))) ≡ contentsOf n c t
     unfolding contentsOf
-    lowest h = rw (ne-eqb (t .used) 0 z, le-ltb (length (t .nodes)) (t .used) l, lt-ltb (first (faulty n c t) (t .used)) (t .used) h)
+    lowest h = rw (ne-eqb (t .used) 0 z, le-ltb (nameable (length (t .nodes))) (t .used) l, lt-ltb (first (faulty n c t) (t .used)) (t .used) h)
 
     pub a-fault : (i : ℕ) → Seeks (faulty n c t) (t .used) i → i < t .used → nodeOk n n c (t .used) i (nodeAt (t .nodes) i) ≡ false → nodeFault n i (nodeAt (t .nodes) i) ≡ contentsOf n c t
     a-fault i s h e =
@@ -38,7 +38,7 @@ module _ (n c : ℕ) (t : Tree) where
 
     all-passed : t .used ≤ first (faulty n c t) (t .used) → Fine ≡ contentsOf n c t
     unfolding contentsOf
-    all-passed h = rw (ne-eqb (t .used) 0 z, le-ltb (length (t .nodes)) (t .used) l, le-ltb (first (faulty n c t) (t .used)) (t .used) h)
+    all-passed h = rw (ne-eqb (t .used) 0 z, le-ltb (nameable (length (t .nodes))) (t .used) l, le-ltb (first (faulty n c t) (t .used)) (t .used) h)
 
     pub no-fault : (i : ℕ) → Seeks (faulty n c t) (t .used) i → t .used ≤ i → Fine ≡ contentsOf n c t
     no-fault i s h = all-passed (subst (λ (k : ℕ). t .used ≤ k) (seek-done s h) h)
@@ -48,10 +48,10 @@ module _ (n c : ℕ) (t : Tree) where
   -- what the contents rule asks
   pub record Sound : Type 0 where
     pub some : 0 < t .used
-    pub within : t .used ≤ length (t .nodes)
+    pub within : t .used ≤ nameable (length (t .nodes))
     pub nodes : treeOk n n c t ≡ true
 
-  fault-tells : (i : ℕ) (v : Node) → contentsFine (nodeFault n i v) ≡ false
+  pub fault-tells : (i : ℕ) (v : Node) → contentsFine (nodeFault n i v) ≡ false
   unfolding nodeFault
   fault-tells i v = by (ltb n (v .count)) (pointOk n (v .leaf))
     where
@@ -68,7 +68,7 @@ module _ (n c : ℕ) (t : Tree) where
       positive : t .used ≡ 0 → 0 < t .used → ⊥
       positive q h = omega arith
 
-  inside : contentsFine (contentsOf n c t) ≡ true → (t .used ≡ 0 → ⊥) → t .used ≤ length (t .nodes) → Sound
+  inside : contentsFine (contentsOf n c t) ≡ true → (t .used ≡ 0 → ⊥) → t .used ≤ nameable (length (t .nodes)) → Sound
   inside e z l =
       elim (decLt (first (faulty n c t) (t .used)) (t .used)) [
         | yes h ↦ absurd (true≢false (sym e ∙ ap contentsFine (sym (lowest z l h)) ∙ fault-tells (first (faulty n c t) (t .used)) (nodeAt (t .nodes) (first (faulty n c t) (t .used)))))
@@ -83,7 +83,7 @@ module _ (n c : ℕ) (t : Tree) where
   fine-sound e =
       elim (ℕ-discrete (t .used) 0) [
         | yes q ↦ absurd (true≢false (sym e ∙ ap contentsFine (sym (none-used q))))
-        | no z ↦ elim (decLt (length (t .nodes)) (t .used)) [
+        | no z ↦ elim (decLt (nameable (length (t .nodes))) (t .used)) [
           | yes l ↦ absurd (true≢false (sym e ∙ ap contentsFine (sym (too-many z l))))
           | no m ↦ inside e z (omega arith)
         ]

@@ -14,7 +14,7 @@ use Rattle.tree_node.specs.declared.Leaf.the-variants.{Empty, Occupied}
 use Rattle.tree_node.specs.Node.{pointOf, freshOf}
 use Rattle.tree_children.specs.Children.{childIndex, childCentre, childHalf}
 use Rattle.tree_turns.specs.Turns.{childOf, turnOf}
-use Rattle.tree_node.specs.Areas.{nodeAt}
+use Rattle.tree_node.specs.Arena.{nodeAt, nameable}
 use Rattle.tree_contents.specs.Contents.{nodeOk}
 
 -- the nodes, of which the first `used` are in use
@@ -83,7 +83,7 @@ needsOf (suc g) y c p depth i ns =
       | false ↦ needsOf g y c p (depth + 1) (nodeAt ns i .first + childIndex c (nodeAt ns i .centre) p) ns
     ]
 
--- ---- insertion, with its refusal: nothing changes where the nodes are not there
+-- ---- insertion, with its refusal: nothing changes where the nodes are not there, or no word can name them
 
 pub record Insertion : Type 0 where
   pub full : Bool
@@ -93,9 +93,9 @@ abbrev pub insertion : Bool → Tree → Insertion
 insertion b t = record { full = b; tree = t }
 
 unfoldable pub insertOf : List Float → ℕ → ℕ → Tree → Insertion
-unfolding inserted needsOf
+unfolding inserted needsOf nameable
 insertOf y c j t =
-    cond (ltb (length (t .nodes)) (t .used + needsOf (length (t .nodes)) y c (pointOf y c j) 0 0 (t .nodes)))
+    cond (ltb (nameable (length (t .nodes))) (t .used + needsOf (length (t .nodes)) y c (pointOf y c j) 0 0 (t .nodes)))
     (insertion true t)
     (insertion false (inserted (length (t .nodes)) y c (pointOf y c j) j 0 0 t))
 

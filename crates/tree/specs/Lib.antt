@@ -1,4 +1,4 @@
 pub mod Insert
+pub mod Ways
 pub mod Box
 pub mod Contents
-pub mod Repel

@@ -1,10 +1,11 @@
-// The space-partitioning tree over a node list in flat areas: insertion, the force walk, the contents rule.
+// The space-partitioning tree over an arena of cells: the root, insertion, the contents rule.
 pub mod insertion;
-pub mod repulsion;
 pub mod root;
+pub mod ways;
 pub mod wellformed;
 
 pub use tree_contents::Contents;
+use tree_turns::Out;
 
 // Where a level leads.
 pub struct Step {
@@ -22,4 +23,57 @@ pub struct Answer {
     pub full: bool,
     // nodes in use
     pub used: usize,
+}
+
+// The dry descent of a point.
+pub struct Probe {
+    // the point's coordinates, in c components
+    pub p: [f64; 3],
+    pub c: usize,
+    // how many levels have led to which node
+    pub depth: usize,
+    pub node: usize,
+    // whether a leaf has been reached, and how many nodes it needs then
+    pub ended: bool,
+    pub more: usize,
+}
+
+// A point on its way down the tree.
+pub struct Way {
+    // its coordinates in c components, and its number
+    pub p: [f64; 3],
+    pub c: usize,
+    pub j: u32,
+    // how many levels have led to which node
+    pub depth: usize,
+    pub node: usize,
+    // nodes in use
+    pub used: usize,
+    // the nodes that it needs are not there
+    pub full: bool,
+    // it goes no further
+    pub ended: bool,
+}
+
+// A node that a point has come to, and the children that are made of it.
+pub struct Split {
+    // what becomes of the node
+    pub out: Out,
+    // the coordinates of the point that goes down first, in c components
+    pub q: [f64; 3],
+    pub c: usize,
+    // how many children are made
+    pub made: usize,
+}
+
+// How far the contents test has come.
+pub struct Look {
+    // points, components, nodes in use
+    pub n: usize,
+    pub c: usize,
+    pub used: usize,
+    // the node to look at next
+    pub i: usize,
+    // what was found
+    pub found: Contents,
 }

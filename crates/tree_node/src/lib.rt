@@ -1,5 +1,5 @@
-// A cell of the tree, by value, and the two flat areas that hold cells.
-pub mod areas;
+// A node of the tree by value, and the cell in which it lies in memory.
+pub mod arena;
 pub mod cells;
 
 // What a leaf holds.
@@ -9,7 +9,7 @@ pub enum Leaf {
     Occupied(u32),
 }
 
-// A cell of the tree.
+// A node of the tree, by value.
 pub struct Node {
     // the middle of the cell; components from c up are not looked at
     pub centre: [f64; 3],
@@ -23,4 +23,17 @@ pub struct Node {
     pub first: u32,
     // what it holds while it has no children
     pub leaf: Leaf,
+}
+
+// A node as it lies in memory: plain numbers, in this order, 88 bytes; every bit pattern is one.
+#[repr(C)]
+pub struct Cell {
+    // as those of `Node`
+    pub centre: [f64; 3],
+    pub half: [f64; 3],
+    pub mass: [f64; 3],
+    pub count: u32,
+    pub first: u32,
+    // 0 where it is empty, else the number of its point and one
+    pub leaf: u32,
 }

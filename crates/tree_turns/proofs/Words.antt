@@ -7,7 +7,7 @@ use lib.Ieee.{Float}
 use borrow.Author.Tests.{eq-eqb, ne-eqb}
 use Rattle.laws.specs.Domain.{mostWord}
 use Rattle.tree_node.specs.declared.Node.{Node}
-use Rattle.tree_node.specs.Areas.{leafWord}
+use Rattle.tree_node.specs.Arena.{leafWord}
 use Rattle.tree_children.specs.Children.{childIndex}
 use Rattle.tree_turns.specs.Turns.{childOf}
 

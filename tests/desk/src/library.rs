@@ -1,5 +1,7 @@
 //! The functions of libdesk.a as `include/brothanchor.h` declares them.
 
+use crate::run::Node;
+
 extern "C" {
     pub fn brothanchor_sizes(settings: *const u64, settings_length: usize, sizes: *mut u64, sizes_length: usize)
         -> u32;
@@ -29,10 +31,7 @@ extern "C" {
         row_values_length: usize,
         row_indices: *mut u32,
         row_indices_length: usize,
-        reals: *const f64,
-        reals_length: usize,
-        words: *const u32,
-        words_length: usize,
+        nodes_length: usize,
         record: *mut u64,
         record_length: usize,
     ) -> u32;
@@ -54,10 +53,8 @@ extern "C" {
         offsets_length: usize,
         forces: *mut f64,
         forces_length: usize,
-        reals: *mut f64,
-        reals_length: usize,
-        words: *mut u32,
-        words_length: usize,
+        nodes: *mut Node,
+        nodes_length: usize,
         budget: u32,
         answer: *mut u64,
         answer_length: usize,

@@ -2,6 +2,7 @@
 
 use crate::library;
 use crate::Refusal;
+use std::mem::size_of;
 
 /// Which gradient a run goes by.
 #[derive(Clone, Copy, Debug, PartialEq, Eq)]
@@ -137,6 +138,28 @@ pub fn sizes(settings: &Settings) -> Result<Sizes, Refusal> {
     })
 }
 
+/// A node of the arena as it lies in memory, `struct brothanchor_node` of the header: plain numbers, so that any bits
+/// are a node.
+#[repr(C)]
+#[derive(Clone, Copy, Debug, Default, PartialEq)]
+pub struct Node {
+    /// The middle of the cell, by component.
+    pub centre: [f64; 3],
+    /// Half the cell's width in each component.
+    pub half: [f64; 3],
+    /// The mean of the cell's points.
+    pub mass: [f64; 3],
+    /// How many points lie in the cell.
+    pub count: u32,
+    /// The number of the first child; 0 for a leaf.
+    pub first: u32,
+    /// The leaf's point and 1; 0 where it holds none.
+    pub leaf: u32,
+}
+
+// The library and the header have 88 bytes too.
+const _: () = assert!(size_of::<Node>() == 88);
+
 /// What is lent to every call of a run.
 #[derive(Clone, Debug, PartialEq)]
 pub struct Areas {
@@ -154,10 +177,8 @@ pub struct Areas {
     pub offsets: Vec<u32>,
     /// n·(2c + 1).
     pub forces: Vec<f64>,
-    /// The arena: nine a node.
-    pub reals: Vec<f64>,
-    /// The arena: three a node.
-    pub words: Vec<u32>,
+    /// The arena.
+    pub nodes: Vec<Node>,
 }
 
 impl Areas {
@@ -171,8 +192,7 @@ impl Areas {
             indices: vec![0; sizes.indices],
             offsets: vec![0; sizes.offsets],
             forces: vec![0.0; sizes.forces],
-            reals: vec![0.0; 9 * nodes],
-            words: vec![0; 3 * nodes],
+            nodes: vec![Node::default(); nodes],
         }
     }
 }
@@ -231,10 +251,7 @@ pub fn prepare(
             rows.values.len(),
             rows.indices.as_mut_ptr(),
             rows.indices.len(),
-            areas.reals.as_ptr(),
-            areas.reals.len(),
-            areas.words.as_ptr(),
-            areas.words.len(),
+            areas.nodes.len(),
             record.words.as_mut_ptr(),
             record.words.len(),
         )
@@ -264,11 +281,11 @@ pub enum Fault {
     Counters,
     /// An area is too short.
     Areas,
-    /// The offsets of a frame.
+    /// An offset, by the frame whose list it ends; 0 for the first one, which ends none.
     Offsets(u64),
     /// A listed index, by its place.
     Index(u64),
-    /// The tree, by a node.
+    /// The tree, by its lowest faulty node; 0 where the number of nodes in use is bad.
     Tree(u64),
 }
 
@@ -281,11 +298,14 @@ pub struct Worked {
     pub units: u64,
     /// What was found bad at the entry, if anything.
     pub fault: Option<Fault>,
+    /// The five words that say so: kind, number, units, fault and its value.
+    pub words: [u64; 5],
 }
 
 impl Worked {
-    /// An answer's five words: kind, number, units, fault and its value.
-    fn of([kind, number, units, fault, value]: [u64; 5]) -> Worked {
+    /// An answer by its five words.
+    fn of(words: [u64; 5]) -> Worked {
+        let [kind, number, units, fault, value] = words;
         let kind = match kind {
             0 => Kind::Running,
             1 => Kind::Stopped,
@@ -301,7 +321,12 @@ impl Worked {
             6 => Some(Fault::Tree(value)),
             _ => None,
         };
-        Worked { kind, units, fault }
+        Worked {
+            kind,
+            units,
+            fault,
+            words,
+        }
     }
 }
 
@@ -326,10 +351,8 @@ pub fn work(record: &mut Record, areas: &mut Areas, budget: u32) -> Worked {
             areas.offsets.len(),
             areas.forces.as_mut_ptr(),
             areas.forces.len(),
-            areas.reals.as_mut_ptr(),
-            areas.reals.len(),
-            areas.words.as_mut_ptr(),
-            areas.words.len(),
+            areas.nodes.as_mut_ptr(),
+            areas.nodes.len(),
             budget,
             answer.as_mut_ptr(),
             answer.len(),

@@ -1,7 +1,8 @@
 //! The small calls of the library: starting positions, the frame file, sizes, what a record says and how it is kept.
 
 use brothanchor::{
-    frame, frames, prepare, scatter, sizes, work, Areas, Kind, Method, Record, Refusal, Rows, Settings, State,
+    frame, frames, prepare, scatter, sizes, work, Areas, Fault, Kind, Method, Node, Record, Refusal, Rows, Settings,
+    State,
 };
 use oracle::frames::{check, fetch, Checked, RECORD};
 use oracle::scatter::{self as rules, SplitMix64};
@@ -140,6 +141,24 @@ fn sizes_are_just_enough() {
 }
 
 #[test]
+fn an_arena_has_at_least_one_node() {
+    for (method, least) in [(Method::Exact, 0), (Method::BarnesHut, 1)] {
+        let settings = settings(method, 3);
+        let sizes = sizes(&settings).expect("good settings");
+        for nodes in 0..2 {
+            let (mut areas, mut rows) = (Areas::new(&sizes, nodes), Rows::new(&sizes));
+            let prepared = prepare(&settings.words(), &[1.0; 6], &[2.0; 6], &mut areas, &mut rows);
+            assert_eq!(prepared.err(), (nodes < least).then_some(Refusal(12)));
+            assert_eq!(
+                areas.nodes,
+                vec![Node::default(); nodes],
+                "preparation leaves the nodes as they are"
+            );
+        }
+    }
+}
+
+#[test]
 fn fourteen_never_comes_with_all_the_nodes() {
     let settings = settings(Method::BarnesHut, 30);
     let (mut record, mut areas) = begun(&settings);
@@ -171,6 +190,32 @@ fn a_record_is_kept_as_words() {
         }
         assert!(words == whole.words && areas == one_call);
     }
+}
+
+/// What a work call finds bad in a run that is at its insertions, after a change.
+fn found(change: fn(&mut Record, &mut Areas)) -> Option<Fault> {
+    let (mut record, mut areas) = begun(&settings(Method::BarnesHut, 5));
+    assert_eq!(work(&mut record, &mut areas, 4).fault, None);
+    change(&mut record, &mut areas);
+    let worked = work(&mut record, &mut areas, 9);
+    let number = if worked.fault == Some(Fault::Areas) { 12 } else { 13 };
+    assert_eq!((worked.kind, worked.units), (Kind::Refused(Refusal(number)), 0));
+    worked.fault
+}
+
+#[test]
+fn what_is_found_bad() {
+    assert_eq!(found(|record, _| record.words[2] = 4), Some(Fault::Settings(6)));
+    assert_eq!(found(|record, _| record.words[3] = 2), Some(Fault::Counters));
+    assert_eq!(found(|record, _| record.words[12] += 1), Some(Fault::Counters));
+    assert_eq!(found(|_, areas| areas.forces.clear()), Some(Fault::Areas));
+    assert_eq!(found(|_, areas| areas.nodes.clear()), Some(Fault::Areas));
+    assert_eq!(found(|_, areas| areas.offsets[3] = u32::MAX), Some(Fault::Offsets(2)));
+    assert_eq!(found(|_, areas| areas.indices[1] = 5), Some(Fault::Index(1)));
+    assert_eq!(found(|_, areas| areas.nodes[2].count = 6), Some(Fault::Tree(2)));
+    assert_eq!(found(|_, areas| areas.nodes[3].first = 3), Some(Fault::Tree(3)));
+    assert_eq!(found(|_, areas| areas.nodes[1].leaf = u32::MAX), Some(Fault::Tree(1)));
+    assert_eq!(found(|record, _| record.words[13] = u64::MAX), Some(Fault::Tree(0)));
 }
 
 #[test]

@@ -6,7 +6,7 @@ use oracle::descent::{self, Areas, Method, Rows};
 use oracle::frames::fetch;
 use oracle::lists::sample;
 use oracle::scatter::scatter;
-use oracle::tree::Arena;
+use oracle::tree::Node;
 
 /// The positions that the rules give, from the file's starts or by a seed.
 fn by_the_rules(file: &[u8], seed: Option<u64>, iterations: usize) -> Vec<f64> {
@@ -26,10 +26,7 @@ fn by_the_rules(file: &[u8], seed: Option<u64>, iterations: usize) -> Vec<f64> {
         indices: vec![0; sizes.indices],
         offsets: vec![0; sizes.offsets],
         forces: vec![0.0; sizes.forces],
-        arena: Arena {
-            reals: vec![0.0; 9 * sizes.nodes],
-            words: vec![0; 3 * sizes.nodes],
-        },
+        nodes: vec![Node::default(); sizes.nodes],
     };
     let mut rows = Rows {
         values: vec![0.0; n],

@@ -2,7 +2,7 @@
 
 use crate::descent::{prepare, work, Answer, Areas, Method, Rows, Settings};
 use crate::frames::{check, fetch, Checked, Frame, FEATURES, STARTS};
-use crate::tree::Arena;
+use crate::tree::Node;
 
 /// The most bytes that the bench takes.
 const MOST_BYTES: usize = 4608;
@@ -48,10 +48,7 @@ fn areas(n: usize) -> Areas {
         indices: vec![0; 8 * n],
         offsets: vec![0; n + 1],
         forces: vec![0.0; 5 * n],
-        arena: Arena {
-            reals: vec![0.0; 9 * NODES],
-            words: vec![0; 3 * NODES],
-        },
+        nodes: vec![Node::default(); NODES],
     }
 }
 

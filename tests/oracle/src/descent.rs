@@ -4,7 +4,7 @@ use crate::elementary::{absolute, at_least, in_domain, neighbours};
 use crate::preparation::Table;
 use crate::scatter::{MOST_COMPONENTS, MOST_SAMPLES};
 use crate::step::{Moving, REFUSED};
-use crate::tree::Arena;
+use crate::tree::{self, Node};
 
 /// The most features, the most iterations, the most components of a Barnes-Hut run.
 const MOST_FEATURES: usize = 256;
@@ -161,8 +161,8 @@ pub struct Areas {
     pub offsets: Vec<u32>,
     /// n·(2c + 1).
     pub forces: Vec<f64>,
-    /// At least one node.
-    pub arena: Arena,
+    /// The arena: at least one node.
+    pub nodes: Vec<Node>,
 }
 
 /// What is lent to preparation besides.
@@ -172,6 +172,33 @@ pub struct Rows {
     pub values: Vec<f64>,
     /// n indices.
     pub indices: Vec<u32>,
+}
+
+/// What a work call finds bad before it does any unit.
+#[derive(Clone, Copy, Debug, PartialEq, Eq)]
+pub enum Fault {
+    /// The settings, by the number that they would have had.
+    Settings(u64),
+    /// The counters.
+    Counters,
+    /// An area is too short.
+    Areas,
+    /// An offset, by the frame whose list it ends; 0 for the first offset, which ends none.
+    Offsets(usize),
+    /// A listed index, by its place.
+    Index(usize),
+    /// The tree, by its lowest faulty node; 0 where the number of nodes in use is bad.
+    Tree(usize),
+}
+
+impl Fault {
+    /// The number that a call is refused by.
+    pub fn number(self) -> u64 {
+        match self {
+            Fault::Areas => 12,
+            _ => 13,
+        }
+    }
 }
 
 /// What a work call answers: a state with the units done, or the number of a refusal with the units done before it.
@@ -197,7 +224,7 @@ impl Areas {
                 self.affinities.len() >= settings.links()
                     && self.indices.len() >= settings.links()
                     && self.offsets.len() > settings.n
-                    && self.arena.capacity() > 0
+                    && tree::room(&self.nodes) > 0
             }
         };
         self.positions.len() >= cells
@@ -207,18 +234,24 @@ impl Areas {
             && of_the_method
     }
 
-    /// Whether a Barnes-Hut run's contents are in order.
-    fn hold(&self, record: &Record) -> bool {
-        let settings = &record.settings;
-        let n = settings.n;
-        let offsets = &self.offsets[..=n];
-        let rising = offsets.windows(2).all(|pair| pair[0] <= pair[1]);
-        if offsets[0] != 0 || !rising || offsets[n] as usize > settings.links() {
-            return false;
+    /// The first thing in a Barnes-Hut run's contents that is not in order.
+    fn fault(&self, record: &Record) -> Option<Fault> {
+        let Settings { n, c, .. } = record.settings;
+        let offsets: Vec<usize> = self.offsets[..=n].iter().map(|&offset| offset as usize).collect();
+        let most = record.settings.links();
+        if offsets[0] != 0 {
+            return Some(Fault::Offsets(0));
         }
-        let listed = &self.indices[..offsets[n] as usize];
-        listed.iter().all(|&j| (j as usize) < n)
-            && (record.phase == 0 || self.arena.is_well_formed(record.used, n, settings.c))
+        if let Some(i) = (0..n).find(|&i| offsets[i + 1] < offsets[i] || offsets[i + 1] > most) {
+            return Some(Fault::Offsets(i));
+        }
+        if let Some(place) = self.indices[..offsets[n]].iter().position(|&j| j as usize >= n) {
+            return Some(Fault::Index(place));
+        }
+        if record.phase == 0 {
+            return None;
+        }
+        tree::fault(&self.nodes, record.used, n, c).map(Fault::Tree)
     }
 }
 
@@ -287,17 +320,29 @@ fn refusal(settings: &Settings, table: &[f64], start: &[f64], areas: &Areas, row
     (!areas.fit(settings) || !rows_fit).then_some(12)
 }
 
+/// What a work call would be refused by at its entry: the record first, then the areas, then the contents.
+pub fn fault(record: &Record, areas: &Areas) -> Option<Fault> {
+    let settings = &record.settings;
+    if let Some(number) = settings.early_fault().or_else(|| settings.late_fault()) {
+        return Some(Fault::Settings(number));
+    }
+    if !record.counters_fit() {
+        return Some(Fault::Counters);
+    }
+    if !areas.fit(settings) {
+        return Some(Fault::Areas);
+    }
+    match settings.method {
+        Method::Exact => None,
+        Method::BarnesHut => areas.fault(record),
+    }
+}
+
 /// A work call.
 pub fn work(record: &mut Record, areas: &mut Areas, budget: u32) -> Answer {
     let settings = record.settings;
-    if settings.early_fault().or_else(|| settings.late_fault()).is_some() || !record.counters_fit() {
-        return Answer::Refused(13, 0);
-    }
-    if !areas.fit(&settings) {
-        return Answer::Refused(12, 0);
-    }
-    if settings.method == Method::BarnesHut && !areas.hold(record) {
-        return Answer::Refused(13, 0);
+    if let Some(fault) = fault(record, areas) {
+        return Answer::Refused(fault.number(), 0);
     }
     let mut units = 0;
     while record.standing == Standing::Running && units < u64::from(budget) {
@@ -348,14 +393,14 @@ fn tree_unit(record: &mut Record, areas: &mut Areas) -> Result<(), u64> {
     let Settings { n, c, angle, .. } = record.settings;
     let phase = record.phase;
     if phase == 0 {
-        areas.arena.plant(&areas.positions, n, c);
+        tree::plant(&mut areas.nodes, &areas.positions, n, c);
         record.used = 1;
     } else if phase <= n {
-        let grown = areas.arena.insert(record.used, &areas.positions, c, phase - 1);
+        let grown = tree::insert(&mut areas.nodes, record.used, &areas.positions, c, phase - 1);
         record.used = grown.ok_or(14_u64)?;
     } else if phase <= 2 * n {
         let i = phase - n - 1;
-        let (repulsion, share) = areas.arena.repulsion(&areas.positions, c, i, angle);
+        let (repulsion, share) = tree::repulsion(&areas.nodes, &areas.positions, c, i, angle);
         let attraction = attraction(areas, c, i, record.exaggeration());
         let forces = &mut areas.forces[i * (2 * c + 1)..(i + 1) * (2 * c + 1)];
         forces[..c].copy_from_slice(&attraction[..c]);

@@ -2,7 +2,7 @@
 
 use oracle::descent::{prepare, work, Answer, Areas, Method, Record, Rows, Settings, Standing};
 use oracle::scatter::{mix, SplitMix64};
-use oracle::tree::Arena;
+use oracle::tree::Node;
 use oracle::{lists, words};
 
 /// The words of a list, one after the other.
@@ -53,8 +53,24 @@ fn marked_numbers(length: usize) -> Vec<u32> {
     (0..length).map(|i| (1 << 30) + i as u32).collect()
 }
 
-fn digest(words: Vec<u64>) -> u64 {
-    let mut digest = words.len() as u64;
+/// Of a node's twelve words nine are values, the marks as in an area of values; three are numbers.
+fn marked_nodes(length: usize) -> Vec<Node> {
+    let value = |place: usize| f64::from_bits((1 << 62) + place as u64);
+    let three = |place: usize| [value(place), value(place + 1), value(place + 2)];
+    let number = |place: usize| (1 << 30) + place as u32;
+    let node = |i: usize| Node {
+        centre: three(12 * i),
+        half: three(12 * i + 3),
+        mass: three(12 * i + 6),
+        count: number(12 * i + 9),
+        first: number(12 * i + 10),
+        leaf: number(12 * i + 11),
+    };
+    (0..length).map(node).collect()
+}
+
+fn digest(elements: usize, words: Vec<u64>) -> u64 {
+    let mut digest = elements as u64;
     for word in words {
         digest = mix(digest.wrapping_add(word));
     }
@@ -62,11 +78,21 @@ fn digest(words: Vec<u64>) -> u64 {
 }
 
 fn of_values(values: &[f64]) -> u64 {
-    digest(values.iter().map(|&v| listed(v)).collect())
+    digest(values.len(), values.iter().map(|&v| listed(v)).collect())
 }
 
 fn of_numbers(numbers: &[u32]) -> u64 {
-    digest(numbers.iter().map(|&v| u64::from(v)).collect())
+    digest(numbers.len(), numbers.iter().map(|&v| u64::from(v)).collect())
+}
+
+fn of_nodes(nodes: &[Node]) -> u64 {
+    let mut words = Vec::new();
+    for node in nodes {
+        let values = [node.centre, node.half, node.mass].concat();
+        words.extend(values.iter().map(|&v| listed(v)));
+        words.extend([node.count, node.first, node.leaf].map(u64::from));
+    }
+    digest(nodes.len(), words)
 }
 
 fn digests(areas: &Areas) -> Vec<u64> {
@@ -78,8 +104,7 @@ fn digests(areas: &Areas) -> Vec<u64> {
         of_numbers(&areas.indices),
         of_numbers(&areas.offsets),
         of_values(&areas.forces),
-        of_values(&areas.arena.reals),
-        of_numbers(&areas.arena.words),
+        of_nodes(&areas.nodes),
     ]
 }
 
@@ -141,8 +166,19 @@ fn alter_area(areas: &mut Areas, area: usize, place: usize, word: u64) {
         4 => areas.indices[place] = word as u32,
         5 => areas.offsets[place] = word as u32,
         6 => areas.forces[place] = value,
-        7 => areas.arena.reals[place] = value,
-        _ => areas.arena.words[place] = word as u32,
+        _ => alter_node(&mut areas.nodes[place / 12], place % 12, word),
+    }
+}
+
+fn alter_node(node: &mut Node, field: usize, word: u64) {
+    let value = f64::from_bits(word);
+    match field {
+        0..=2 => node.centre[field] = value,
+        3..=5 => node.half[field - 3] = value,
+        6..=8 => node.mass[field - 6] = value,
+        9 => node.count = word as u32,
+        10 => node.first = word as u32,
+        _ => node.leaf = word as u32,
     }
 }
 
@@ -156,10 +192,7 @@ fn lend(areas: &Areas, lengths: &[usize]) -> Areas {
         indices: areas.indices[..lengths[4]].to_vec(),
         offsets: areas.offsets[..lengths[5]].to_vec(),
         forces: areas.forces[..lengths[6]].to_vec(),
-        arena: Arena {
-            reals: areas.arena.reals[..lengths[7]].to_vec(),
-            words: areas.arena.words[..lengths[8]].to_vec(),
-        },
+        nodes: areas.nodes[..lengths[7]].to_vec(),
     }
 }
 
@@ -171,8 +204,7 @@ fn take_back(areas: &mut Areas, lent: &Areas) {
     areas.indices[..lent.indices.len()].copy_from_slice(&lent.indices);
     areas.offsets[..lent.offsets.len()].copy_from_slice(&lent.offsets);
     areas.forces[..lent.forces.len()].copy_from_slice(&lent.forces);
-    areas.arena.reals[..lent.arena.reals.len()].copy_from_slice(&lent.arena.reals);
-    areas.arena.words[..lent.arena.words.len()].copy_from_slice(&lent.arena.words);
+    areas.nodes[..lent.nodes.len()].copy_from_slice(&lent.nodes);
 }
 
 /// A call and what comes of it.
@@ -183,7 +215,7 @@ fn call_right(list: &mut Words, record: &mut Record, areas: &mut Areas) -> bool 
         1 => alter_record(record, place, word),
         _ => alter_area(areas, part - 2, place, word),
     }
-    let mut lent = lend(areas, &list.numbers(9));
+    let mut lent = lend(areas, &list.numbers(8));
     let budget = list.one() as u32;
     let answer = match work(record, &mut lent, budget) {
         Answer::Running(units) => [0, 0, units],
@@ -194,6 +226,26 @@ fn call_right(list: &mut Words, record: &mut Record, areas: &mut Areas) -> bool 
     take_back(areas, &lent);
     let same = [list.are(&answer), list.are(&fields(record)), list.are(&digests(areas))];
     same == [true; 3]
+}
+
+fn marked_areas(lengths: &[usize]) -> Areas {
+    Areas {
+        positions: marked(lengths[0]),
+        increments: marked(lengths[1]),
+        gains: marked(lengths[2]),
+        affinities: marked(lengths[3]),
+        indices: marked_numbers(lengths[4]),
+        offsets: marked_numbers(lengths[5]),
+        forces: marked(lengths[6]),
+        nodes: marked_nodes(lengths[7]),
+    }
+}
+
+fn marked_rows(lengths: &[usize]) -> Rows {
+    Rows {
+        values: marked(lengths[8]),
+        indices: marked_numbers(lengths[9]),
+    }
 }
 
 /// One case, whose words these are.
@@ -211,26 +263,10 @@ fn case_right(case: &[u64]) -> bool {
         angle: list.value(),
         minimum: list.value(),
     };
-    let lengths = list.numbers(11);
+    let lengths = list.numbers(10);
     let (table, start) = (list.number(), list.number());
     let (table, start) = (list.values(table), list.values(start));
-    let mut areas = Areas {
-        positions: marked(lengths[0]),
-        increments: marked(lengths[1]),
-        gains: marked(lengths[2]),
-        affinities: marked(lengths[3]),
-        indices: marked_numbers(lengths[4]),
-        offsets: marked_numbers(lengths[5]),
-        forces: marked(lengths[6]),
-        arena: Arena {
-            reals: marked(lengths[7]),
-            words: marked_numbers(lengths[8]),
-        },
-    };
-    let mut rows = Rows {
-        values: marked(lengths[9]),
-        indices: marked_numbers(lengths[10]),
-    };
+    let (mut areas, mut rows) = (marked_areas(&lengths), marked_rows(&lengths));
     let prepared = prepare(settings, &table, &start, &mut areas, &mut rows);
     let answer = prepared.as_ref().err().copied().unwrap_or(0);
     let rows = [of_values(&rows.values), of_numbers(&rows.indices)];
@@ -279,11 +315,11 @@ fn every_case_comes_out_right() {
 fn a_flipped_answer_is_noticed() {
     let mut random = SplitMix64::new(131);
     for case in committed() {
-        let before = 23 + (case[21] + case[22]) as usize;
-        let mut places: Vec<usize> = (before..before + 12).collect();
-        for call in 0..case[before + 12] as usize {
-            let first = before + 13 + 39 * call;
-            places.extend(first + 13..first + 39);
+        let before = 22 + (case[20] + case[21]) as usize;
+        let mut places: Vec<usize> = (before..before + 11).collect();
+        for call in 0..case[before + 11] as usize {
+            let first = before + 12 + 37 * call;
+            places.extend(first + 12..first + 37);
         }
         for _ in 0..8 {
             let mut damaged = case.clone();

@@ -2,9 +2,9 @@
 //! afterwards has to be the same, bit for bit.
 
 use crate::case::Case;
-use brothanchor::{prepare, work, Areas, Fault, Kind, Method, Record, Rows, Worked};
+use brothanchor::{prepare, work, Areas, Kind, Method, Node, Record, Rows, Worked};
 use oracle::descent::{self, Standing};
-use oracle::tree::Arena;
+use oracle::tree;
 
 /// The library's memory, and the record if there is one. The other side's is made of it for each call.
 #[derive(Clone)]
@@ -38,22 +38,26 @@ impl Both {
         ours.map(|record| Both { areas, record })
     }
 
-    /// A work call on both sides.
+    /// A work call on both sides: all words of the answer, the record and every area have to be the same.
     pub fn work(&mut self, budget: u32) -> Worked {
         let mut theirs = other_side(&self.areas);
         let before = self.record;
         let worked = work(&mut self.record, &mut self.areas, budget);
         if before.words[3] > 1 || before.words[9] > 2 {
-            assert_eq!(
-                (number(&worked), worked.units, worked.fault),
-                (13, 0, Some(Fault::Counters))
-            );
+            // No method or no state: the words are no record, which is told as bad counters.
+            assert_eq!(worked.words, [3, 13, 0, 2, 0]);
             assert_eq!(self.record, before);
         } else {
             let mut record = record_of(&before.words);
+            let fault = descent::fault(&record, &theirs);
             let answer = descent::work(&mut record, &mut theirs, budget);
-            assert_eq!((kind(&worked), number(&worked), worked.units), parts(answer));
-            assert_eq!(self.record.words, words_of(&record));
+            assert_eq!(worked.words, answer_words(answer, fault));
+            let wanted = if fault.is_some() {
+                before.words
+            } else {
+                words_of(&record)
+            };
+            assert_eq!(self.record.words, wanted);
         }
         same_areas(&self.areas, &theirs);
         worked
@@ -68,23 +72,24 @@ pub fn number(worked: &Worked) -> u64 {
     }
 }
 
-fn kind(worked: &Worked) -> u64 {
-    match worked.kind {
-        Kind::Running => 0,
-        Kind::Stopped => 1,
-        Kind::Finished => 2,
-        Kind::Refused(_) => 3,
-    }
-}
-
-/// Kind, number and units of the other side's answer.
-fn parts(answer: descent::Answer) -> (u64, u64, u64) {
-    match answer {
+/// The other side's answer, and what it found bad, as the five words of the library: kind, number, units, fault, value.
+fn answer_words(answer: descent::Answer, fault: Option<descent::Fault>) -> [u64; 5] {
+    let (kind, number, units) = match answer {
         descent::Answer::Running(units) => (0, 0, units),
         descent::Answer::Stopped(units) => (1, 0, units),
         descent::Answer::Finished(units) => (2, 0, units),
         descent::Answer::Refused(number, units) => (3, number, units),
-    }
+    };
+    let (fault, value) = match fault {
+        None => (0, 0),
+        Some(descent::Fault::Settings(number)) => (1, number),
+        Some(descent::Fault::Counters) => (2, 0),
+        Some(descent::Fault::Areas) => (3, 0),
+        Some(descent::Fault::Offsets(frame)) => (4, frame as u64),
+        Some(descent::Fault::Index(place)) => (5, place as u64),
+        Some(descent::Fault::Tree(node)) => (6, node as u64),
+    };
+    [kind, number, units, fault, value]
 }
 
 fn settings_of(words: &[u64]) -> descent::Settings {
@@ -153,10 +158,18 @@ fn other_side(areas: &Areas) -> descent::Areas {
         indices: areas.indices.clone(),
         offsets: areas.offsets.clone(),
         forces: areas.forces.clone(),
-        arena: Arena {
-            reals: areas.reals.clone(),
-            words: areas.words.clone(),
-        },
+        nodes: areas.nodes.iter().map(other_node).collect(),
+    }
+}
+
+fn other_node(node: &Node) -> tree::Node {
+    tree::Node {
+        centre: node.centre,
+        half: node.half,
+        mass: node.mass,
+        count: node.count,
+        first: node.first,
+        leaf: node.leaf,
     }
 }
 
@@ -169,8 +182,18 @@ fn same_areas(ours: &Areas, theirs: &descent::Areas) {
     assert!(ours.indices == theirs.indices, "indices");
     assert!(ours.offsets == theirs.offsets, "offsets");
     same_values("forces", &ours.forces, &theirs.forces);
-    same_values("reals", &ours.reals, &theirs.arena.reals);
-    assert!(ours.words == theirs.arena.words, "words");
+    assert_eq!(ours.nodes.len(), theirs.nodes.len(), "nodes");
+    for (i, (ours, theirs)) in ours.nodes.iter().zip(&theirs.nodes).enumerate() {
+        let same = three_bits(&ours.centre) == three_bits(&theirs.centre)
+            && three_bits(&ours.half) == three_bits(&theirs.half)
+            && three_bits(&ours.mass) == three_bits(&theirs.mass)
+            && [ours.count, ours.first, ours.leaf] == [theirs.count, theirs.first, theirs.leaf];
+        assert!(same, "node {i}: {ours:?} and {theirs:?}");
+    }
+}
+
+fn three_bits(values: &[f64; 3]) -> [u64; 3] {
+    values.map(bits)
 }
 
 fn same_rows(ours: &Rows, theirs: &descent::Rows) {

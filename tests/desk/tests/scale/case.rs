@@ -1,7 +1,7 @@
 //! A case: settings, table, start, and areas that are long enough or not quite.
 
 use crate::random::Random;
-use brothanchor::{sizes, Areas, Method, Rows, Settings, Sizes};
+use brothanchor::{sizes, Areas, Method, Node, Rows, Settings, Sizes};
 
 /// What one run starts from.
 pub struct Case {
@@ -81,7 +81,7 @@ impl Case {
             8 => put(&mut self.table, random),
             9 => put(&mut self.start, random),
             10 => drop(self.table.pop()),
-            _ => shorten(&mut self.areas, random.below(9)),
+            _ => shorten(&mut self.areas, random.below(8)),
         }
     }
 }
@@ -92,7 +92,7 @@ fn put(values: &mut [f64], random: &mut Random) {
     values[place] = random.odd_value();
 }
 
-/// Takes the last element of one of the nine areas.
+/// Takes the last element of one of the eight areas.
 pub fn shorten(areas: &mut Areas, which: usize) {
     match which {
         0 => drop(areas.positions.pop()),
@@ -102,8 +102,7 @@ pub fn shorten(areas: &mut Areas, which: usize) {
         4 => drop(areas.indices.pop()),
         5 => drop(areas.offsets.pop()),
         6 => drop(areas.forces.pop()),
-        7 => drop(areas.reals.pop()),
-        _ => drop(areas.words.pop()),
+        _ => drop(areas.nodes.pop()),
     }
 }
 
@@ -182,8 +181,7 @@ fn areas(random: &mut Random, sizes: &Sizes, nodes: usize) -> (Areas, Rows) {
         indices: numbers(more(sizes.indices)),
         offsets: numbers(more(sizes.offsets)),
         forces: values(more(sizes.forces)),
-        reals: values(more(9 * nodes)),
-        words: numbers(more(3 * nodes)),
+        nodes: marked_nodes(more(nodes)),
     };
     let rows = Rows {
         values: values(more(sizes.rows)),
@@ -193,12 +191,32 @@ fn areas(random: &mut Random, sizes: &Sizes, nodes: usize) -> (Areas, Rows) {
 }
 
 /// A mark for each place.
-pub fn values(length: usize) -> Vec<f64> {
-    (0..length)
-        .map(|i| f64::from_bits(0x4000_0000_0000_0000 + i as u64))
-        .collect()
+fn values(length: usize) -> Vec<f64> {
+    (0..length).map(value).collect()
 }
 
-pub fn numbers(length: usize) -> Vec<u32> {
-    (0..length).map(|i| 0x4000_0000 + i as u32).collect()
+fn numbers(length: usize) -> Vec<u32> {
+    (0..length).map(number).collect()
+}
+
+/// A mark for each of the twelve words of each node.
+pub fn marked_nodes(length: usize) -> Vec<Node> {
+    let three = |place: usize| [value(place), value(place + 1), value(place + 2)];
+    let node = |i: usize| Node {
+        centre: three(12 * i),
+        half: three(12 * i + 3),
+        mass: three(12 * i + 6),
+        count: number(12 * i + 9),
+        first: number(12 * i + 10),
+        leaf: number(12 * i + 11),
+    };
+    (0..length).map(node).collect()
+}
+
+fn value(place: usize) -> f64 {
+    f64::from_bits(0x4000_0000_0000_0000 + place as u64)
+}
+
+fn number(place: usize) -> u32 {
+    0x4000_0000 + place as u32
 }

@@ -3,15 +3,16 @@
 //!
 //! A run is a preparation and the calls after it: budgets at random with zeros among them, records, areas and lengths
 //! damaged now and then, an arena that grows when 14 comes. Each failure names its seed; BROTHANCHOR_SEED and
-//! BROTHANCHOR_RUNS choose others than the gate's few.
+//! BROTHANCHOR_RUNS choose others than the gate's few. The module `deep` has the force walk over altered arenas.
 
 mod both;
 mod case;
+mod deep;
 mod random;
 
 use both::{number, Both};
-use brothanchor::{Areas, Kind, Method, State, Worked};
-use case::{numbers, shorten, values, Case, Scope};
+use brothanchor::{Kind, Method, Node, State, Worked};
+use case::{marked_nodes, shorten, Case, Scope};
 use random::Random;
 use std::env;
 use std::panic::{catch_unwind, AssertUnwindSafe};
@@ -30,6 +31,8 @@ struct Met {
     ended: usize,
     /// Refusals by their number.
     refused: [usize; 17],
+    /// What was found bad at an entry, by its number.
+    faults: [usize; 7],
 }
 
 impl Met {
@@ -37,6 +40,7 @@ impl Met {
         self.calls += 1;
         self.units += worked.units;
         self.refused[number(worked) as usize] += 1;
+        self.faults[worked.words[3] as usize] += 1;
     }
 }
 
@@ -73,7 +77,7 @@ fn run(random: &mut Random, scope: Scope, met: &mut Met) {
         };
         met.call(&worked);
         match number(&worked) {
-            14 => grow(&mut both.areas, random.within(1, 400)),
+            14 => both.areas.nodes.extend(marked_nodes(random.within(1, 400))),
             15 => return,
             _ => {}
         }
@@ -96,12 +100,6 @@ fn budget(random: &mut Random, case: &Case) -> u32 {
     }
 }
 
-/// More nodes, of marks.
-fn grow(areas: &mut Areas, nodes: usize) {
-    areas.reals.extend(values(9 * nodes));
-    areas.words.extend(numbers(3 * nodes));
-}
-
 /// A call on a damaged record or area; afterwards all is as it was before the damage.
 fn damaged_call(random: &mut Random, both: &mut Both) -> Worked {
     let before = both.clone();
@@ -114,8 +112,8 @@ fn damaged_call(random: &mut Random, both: &mut Both) -> Worked {
                 _ => random.odd_number(word),
             };
         }
-        1 => shorten(&mut both.areas, random.below(9)),
-        _ => damage(random, &mut both.areas),
+        1 => shorten(&mut both.areas, random.below(8)),
+        _ => damage(random, both),
     }
     let budget = random.below(40) as u32;
     let worked = both.work(budget);
@@ -123,30 +121,63 @@ fn damaged_call(random: &mut Random, both: &mut Both) -> Worked {
     worked
 }
 
-/// Another value or number in one place of an area.
-fn damage(random: &mut Random, areas: &mut Areas) {
-    let values = [
-        &mut areas.positions,
-        &mut areas.increments,
-        &mut areas.gains,
-        &mut areas.forces,
-        &mut areas.reals,
-    ];
-    let numbers = [&mut areas.indices, &mut areas.offsets, &mut areas.words];
-    let which = random.below(values.len() + 2 * numbers.len());
-    if which < values.len() {
-        for (i, area) in values.into_iter().enumerate() {
-            if i == which && !area.is_empty() {
-                let place = random.below(area.len());
-                area[place] = random.odd_value();
+/// Another value or number in one place of an area; of indices and nodes more often in one that is in use.
+fn damage(random: &mut Random, both: &mut Both) {
+    let areas = &mut both.areas;
+    let last = areas.offsets.get(both.record.words[0] as usize);
+    let listed = areas.indices.len().min(last.map_or(0, |&last| last as usize));
+    let used = areas.nodes.len().min(both.record.words[13] as usize);
+    match random.below(16) {
+        0 => damage_value(random, &mut areas.positions),
+        1 => damage_value(random, &mut areas.increments),
+        2 => damage_value(random, &mut areas.gains),
+        3 => damage_value(random, &mut areas.forces),
+        4 => damage_value(random, &mut areas.affinities),
+        5 => {
+            let word = random.word();
+            if let Some(affinity) = any(random, &mut areas.affinities) {
+                *affinity = f64::from_bits(word);
             }
         }
-        return;
+        6 => damage_number(random, &mut areas.indices),
+        7..=9 => damage_number(random, &mut areas.indices[..listed]),
+        10 | 11 => damage_number(random, &mut areas.offsets),
+        12 => damage_node(random, &mut areas.nodes),
+        _ => damage_node(random, &mut areas.nodes[..used]),
     }
-    for (i, area) in numbers.into_iter().enumerate() {
-        if i == (which - 5) / 2 && !area.is_empty() {
-            let place = random.below(area.len());
-            area[place] = random.odd_number(u64::from(area[place])) as u32;
+}
+
+/// A place of an area, if it has any.
+fn any<'a, T>(random: &mut Random, area: &'a mut [T]) -> Option<&'a mut T> {
+    match area.len() {
+        0 => None,
+        length => area.get_mut(random.below(length)),
+    }
+}
+
+fn damage_value(random: &mut Random, area: &mut [f64]) {
+    let odd = random.odd_value();
+    if let Some(value) = any(random, area) {
+        *value = odd;
+    }
+}
+
+fn damage_number(random: &mut Random, area: &mut [u32]) {
+    if let Some(number) = any(random, area) {
+        *number = random.odd_number(u64::from(*number)) as u32;
+    }
+}
+
+/// One field of a node; as often one of its three numbers as one of its nine values.
+fn damage_node(random: &mut Random, nodes: &mut [Node]) {
+    if let Some(node) = any(random, nodes) {
+        match random.below(6) {
+            0 => damage_value(random, &mut node.centre),
+            1 => damage_value(random, &mut node.half),
+            2 => damage_value(random, &mut node.mass),
+            3 => node.count = random.odd_number(u64::from(node.count)) as u32,
+            4 => node.first = random.odd_number(u64::from(node.first)) as u32,
+            _ => node.leaf = random.odd_number(u64::from(node.leaf)) as u32,
         }
     }
 }
@@ -156,6 +187,9 @@ fn small_runs() {
     let met = runs("small", setting("BROTHANCHOR_RUNS", 300), Scope { exact: 24, tree: 40 });
     for number in [12, 13, 14, 15] {
         assert!(met.refused[number] > 0, "no run met {number}");
+    }
+    for fault in 1..=6 {
+        assert!(met.faults[fault] > 0, "no run met the fault {fault}");
     }
     assert!(met.ended > 0, "no run ended");
 }

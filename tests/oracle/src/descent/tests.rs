@@ -9,6 +9,14 @@ fn areas(settings: &Settings, nodes: usize) -> (Areas, Rows) {
     let Settings { n, c, .. } = *settings;
     let marks = |length: usize| vec![7.5; length + 3];
     let numbers = |length: usize| vec![9; length + 3];
+    let node = Node {
+        centre: [7.5; 3],
+        half: [7.5; 3],
+        mass: [7.5; 3],
+        count: 9,
+        first: 9,
+        leaf: 9,
+    };
     let areas = Areas {
         positions: marks(n * c),
         increments: marks(n * c),
@@ -17,10 +25,7 @@ fn areas(settings: &Settings, nodes: usize) -> (Areas, Rows) {
         indices: numbers(settings.links()),
         offsets: numbers(n + 1),
         forces: marks(n * (2 * c + 1)),
-        arena: Arena {
-            reals: vec![7.5; 9 * nodes],
-            words: vec![9; 3 * nodes],
-        },
+        nodes: vec![node; nodes],
     };
     let rows = Rows {
         values: marks(n),
@@ -65,16 +70,13 @@ fn an_arena_of_100_is_refused_and_101_goes_on() {
     let settings = Settings { c: 1, f: 1, ..bench() };
     let (mut areas, mut rows) = areas(&settings, 101);
     let mut record = prepare(settings, &[0.0, 1.0], &[5.0, 5.0], &mut areas, &mut rows).expect("a good run");
-    let whole = areas.arena.clone();
-    areas.arena.reals.truncate(900);
-    areas.arena.words.truncate(300);
+    let last = areas.nodes.pop().expect("101 nodes");
     assert_eq!(work(&mut record, &mut areas, 100), Answer::Refused(14, 2));
     let (kept, before) = (record, areas.clone());
     assert_eq!(work(&mut record, &mut areas, 0), Answer::Running(0));
     assert_eq!(work(&mut record, &mut areas, 1), Answer::Refused(14, 0));
     assert_eq!((record, &areas), (kept, &before));
-    areas.arena.reals.extend(&whole.reals[900..]);
-    areas.arena.words.extend(&whole.words[300..]);
+    areas.nodes.push(last);
     assert_eq!(work(&mut record, &mut areas, 100), Answer::Finished(4));
     assert_eq!(record.used, 101);
 }
@@ -256,8 +258,8 @@ fn preparations_are_refused_in_order() {
     assert_eq!(refused(good, &table, &start, 0), 12);
 }
 
-#[test]
-fn records_and_contents_are_tested_in_order() {
+/// What a run inside an iteration is refused by after a change. The call names it by its number, and changes nothing.
+fn refused_by(change: fn(&mut Record, &mut Areas)) -> Fault {
     let settings = Settings {
         n: 5,
         perplexity: 1.5,
@@ -266,42 +268,60 @@ fn records_and_contents_are_tested_in_order() {
     };
     let (mut record, mut areas) = random_run(settings, 300, 15);
     assert_eq!(work(&mut record, &mut areas, 20), Answer::Running(20));
-    let refused = |change: &dyn Fn(&mut Record, &mut Areas)| {
-        let (mut record, mut areas) = (record, areas.clone());
-        change(&mut record, &mut areas);
-        let before = (record, areas.clone());
-        let answer = work(&mut record, &mut areas, 4);
-        assert_eq!((record, areas), before);
-        match answer {
-            Answer::Refused(number, 0) => number,
-            answer => panic!("{answer:?}"),
-        }
-    };
-    assert_eq!(refused(&|record, _| record.units += 1), 13);
-    assert_eq!(refused(&|record, _| record.phase += 1), 13);
-    assert_eq!(refused(&|record, _| record.done += 1), 13);
-    assert_eq!(refused(&|record, _| record.standing = Standing::Finished), 13);
-    assert_eq!(refused(&|record, _| record.settings.c = 4), 13);
-    assert_eq!(refused(&|_, areas| areas.gains.truncate(9)), 12);
-    // The record comes before the areas, the areas before the contents.
+    assert_eq!(fault(&record, &areas), None);
+    change(&mut record, &mut areas);
+    let before = (record, areas.clone());
+    let found = fault(&record, &areas).expect("a fault");
+    assert_eq!(work(&mut record, &mut areas, 4), Answer::Refused(found.number(), 0));
+    assert_eq!((record, areas), before);
+    found
+}
+
+#[test]
+fn the_record_is_tested_first() {
+    assert_eq!(refused_by(|record, _| record.units += 1), Fault::Counters);
+    assert_eq!(refused_by(|record, _| record.phase += 1), Fault::Counters);
+    assert_eq!(refused_by(|record, _| record.done += 1), Fault::Counters);
     assert_eq!(
-        refused(&|record, areas| {
-            record.units += 1;
-            areas.gains.truncate(9);
-        }),
-        13
+        refused_by(|record, _| record.standing = Standing::Finished),
+        Fault::Counters
     );
+    assert_eq!(refused_by(|record, _| record.settings.c = 4), Fault::Settings(6));
     assert_eq!(
-        refused(&|_, areas| {
-            areas.offsets[0] = 1;
-            areas.forces.clear();
-        }),
-        12
+        refused_by(|record, _| record.settings.perplexity = 5.0),
+        Fault::Settings(10)
     );
-    assert_eq!(refused(&|_, areas| areas.offsets[0] = 1), 13);
-    assert_eq!(refused(&|_, areas| areas.offsets[2] = 1000), 13);
-    assert_eq!(refused(&|_, areas| areas.indices[3] = 5), 13);
-    assert_eq!(refused(&|record, _| record.used = 0), 13);
-    assert_eq!(refused(&|_, areas| areas.arena.words[0] = 6), 13);
-    assert_eq!(refused(&|_, areas| areas.arena.words.truncate(3)), 13);
+    let before_the_areas = refused_by(|record, areas| {
+        record.units += 1;
+        areas.gains.truncate(9);
+    });
+    assert_eq!((before_the_areas, Fault::Counters.number()), (Fault::Counters, 13));
+}
+
+#[test]
+fn the_areas_are_tested_next() {
+    assert_eq!(refused_by(|_, areas| areas.gains.truncate(9)), Fault::Areas);
+    assert_eq!(refused_by(|_, areas| areas.nodes.clear()), Fault::Areas);
+    let before_the_contents = refused_by(|_, areas| {
+        areas.offsets[0] = 1;
+        areas.forces.clear();
+    });
+    assert_eq!((before_the_contents, Fault::Areas.number()), (Fault::Areas, 12));
+}
+
+#[test]
+fn the_contents_are_tested_last() {
+    assert_eq!(refused_by(|_, areas| areas.offsets[0] = 1), Fault::Offsets(0));
+    assert_eq!(refused_by(|_, areas| areas.offsets[2] = 1000), Fault::Offsets(1));
+    assert_eq!(refused_by(|_, areas| areas.offsets[3] = 0), Fault::Offsets(2));
+    assert_eq!(refused_by(|_, areas| areas.indices[3] = 5), Fault::Index(3));
+    assert_eq!(refused_by(|record, _| record.used = 0), Fault::Tree(0));
+    assert_eq!(refused_by(|_, areas| areas.nodes[3].count = 6), Fault::Tree(3));
+    assert_eq!(refused_by(|_, areas| areas.nodes.truncate(1)), Fault::Tree(0));
+    let all = refused_by(|_, areas| {
+        areas.nodes[0].count = 6;
+        areas.indices[1] = 9;
+        areas.offsets[4] = 0;
+    });
+    assert_eq!((all, Fault::Tree(3).number()), (Fault::Offsets(3), 13));
 }

@@ -5,7 +5,7 @@
 use super::gradient::listed;
 use crate::descent::{prepare, work, Answer, Areas, Method, Record, Rows, Settings, Standing};
 use crate::scatter::mix;
-use crate::tree::Arena;
+use crate::tree::Node;
 
 mod faults;
 mod runs;
@@ -14,7 +14,7 @@ pub use faults::cases as fault_cases;
 pub use runs::cases as run_cases;
 
 /// How many areas a work call is lent.
-const LENT: usize = 9;
+const LENT: usize = 8;
 /// How many words a call has.
 pub const CALL_WORDS: usize = 3 + LENT + 1 + 3 + FIELDS + LENT;
 /// How many fields a record has.
@@ -27,8 +27,12 @@ const AFFINITIES: usize = 3;
 const INDICES: usize = 4;
 const OFFSETS: usize = 5;
 const FORCES: usize = 6;
-const REALS: usize = 7;
-const WORDS: usize = 8;
+const NODES: usize = 7;
+/// How many words a node has, and which of them are its numbers; the values come before them.
+const NODE_WORDS: usize = 12;
+const COUNT: usize = 9;
+const FIRST: usize = 10;
+const LEAF: usize = 11;
 
 /// The record's fields by their numbers.
 const N: usize = 0;
@@ -52,7 +56,7 @@ enum Alteration {
     Nothing,
     /// A field of the record becomes the value with these bits.
     Field(usize, u64),
-    /// A place of an area does.
+    /// A place of an area does; the places of the nodes are their words.
     Place(usize, usize, u64),
 }
 
@@ -71,7 +75,7 @@ struct Start {
     settings: Settings,
     table: Vec<f64>,
     start: Vec<f64>,
-    /// The lengths of the nine areas, then of the two preparation rows.
+    /// The lengths of the eight areas, then of the two preparation rows.
     lengths: [usize; LENT + 2],
 }
 
@@ -88,20 +92,24 @@ struct Case {
 }
 
 /// The digest of an area: it starts as the number of elements, and each element's word is added and mixed in.
-fn digest(words: impl ExactSizeIterator<Item = u64>) -> u64 {
-    let length = words.len() as u64;
-    words.fold(length, |digest, word| mix(digest.wrapping_add(word)))
+fn digest(length: usize, words: impl Iterator<Item = u64>) -> u64 {
+    words.fold(length as u64, |digest, word| mix(digest.wrapping_add(word)))
 }
 
 fn digest_values(values: &[f64]) -> u64 {
-    digest(values.iter().map(|&v| listed(v)))
+    digest(values.len(), values.iter().map(|&v| listed(v)))
 }
 
 fn digest_numbers(numbers: &[u32]) -> u64 {
-    digest(numbers.iter().map(|&v| u64::from(v)))
+    digest(numbers.len(), numbers.iter().map(|&v| u64::from(v)))
 }
 
-/// The digests of the nine areas.
+/// A node is an element of twelve words.
+fn digest_nodes(nodes: &[Node]) -> u64 {
+    digest(nodes.len(), nodes.iter().flat_map(|node| node.words()))
+}
+
+/// The digests of the eight areas.
 fn digests(areas: &Areas) -> [u64; LENT] {
     [
         digest_values(&areas.positions),
@@ -111,8 +119,7 @@ fn digests(areas: &Areas) -> [u64; LENT] {
         digest_numbers(&areas.indices),
         digest_numbers(&areas.offsets),
         digest_values(&areas.forces),
-        digest_values(&areas.arena.reals),
-        digest_numbers(&areas.arena.words),
+        digest_nodes(&areas.nodes),
     ]
 }
 
@@ -126,6 +133,46 @@ fn marks(length: usize) -> Vec<f64> {
 /// Place i holds 40000000 + i, in hex.
 fn marked_numbers(length: usize) -> Vec<u32> {
     (0..length as u32).map(|i| 0x4000_0000 + i).collect()
+}
+
+/// Each word of the nodes holds its mark by its place among them, as in an area of its kind.
+fn marked_nodes(length: usize) -> Vec<Node> {
+    let mut nodes = vec![Node::default(); length];
+    for place in 0..NODE_WORDS * length {
+        let (node, field) = (place / NODE_WORDS, place % NODE_WORDS);
+        let mark = if field < COUNT {
+            0x4000_0000_0000_0000
+        } else {
+            0x4000_0000
+        };
+        nodes[node].alter(field, mark + place as u64);
+    }
+    nodes
+}
+
+impl Node {
+    /// The node as words: centre, half and mass by their bits, then count, first child and leaf.
+    fn words(&self) -> [u64; NODE_WORDS] {
+        let mut words = [0; NODE_WORDS];
+        let values = self.centre.iter().chain(&self.half).chain(&self.mass);
+        for (word, &value) in words.iter_mut().zip(values) {
+            *word = listed(value);
+        }
+        words[COUNT] = u64::from(self.count);
+        words[FIRST] = u64::from(self.first);
+        words[LEAF] = u64::from(self.leaf);
+        words
+    }
+
+    /// One of the words becomes another.
+    fn alter(&mut self, field: usize, bits: u64) {
+        match field {
+            COUNT => self.count = bits as u32,
+            FIRST => self.first = bits as u32,
+            LEAF => self.leaf = bits as u32,
+            _ => [&mut self.centre, &mut self.half, &mut self.mass][field / 3][field % 3] = f64::from_bits(bits),
+        }
+    }
 }
 
 impl Settings {
@@ -189,10 +236,11 @@ impl Record {
     }
 }
 
-/// The values of an area of values, the numbers of one of numbers.
+/// The values of an area of values, the numbers of one of numbers, the nodes of the arena.
 enum Part<'a> {
     Values(&'a mut Vec<f64>),
     Numbers(&'a mut Vec<u32>),
+    Nodes(&'a mut Vec<Node>),
 }
 
 /// An area by its number.
@@ -205,8 +253,7 @@ fn part(areas: &mut Areas, area: usize) -> Part<'_> {
         INDICES => Part::Numbers(&mut areas.indices),
         OFFSETS => Part::Numbers(&mut areas.offsets),
         FORCES => Part::Values(&mut areas.forces),
-        REALS => Part::Values(&mut areas.arena.reals),
-        WORDS => Part::Numbers(&mut areas.arena.words),
+        NODES => Part::Nodes(&mut areas.nodes),
         _ => panic!("no such area: {area}"),
     }
 }
@@ -216,6 +263,16 @@ fn held(areas: &mut Areas, area: usize, place: usize) -> u64 {
     match part(areas, area) {
         Part::Values(values) => listed(values[place]),
         Part::Numbers(numbers) => u64::from(numbers[place]),
+        Part::Nodes(nodes) => nodes[place / NODE_WORDS].words()[place % NODE_WORDS],
+    }
+}
+
+/// A place holds another word.
+fn alter(areas: &mut Areas, area: usize, place: usize, bits: u64) {
+    match part(areas, area) {
+        Part::Values(values) => values[place] = f64::from_bits(bits),
+        Part::Numbers(numbers) => numbers[place] = bits as u32,
+        Part::Nodes(nodes) => nodes[place / NODE_WORDS].alter(place % NODE_WORDS, bits),
     }
 }
 
@@ -226,6 +283,7 @@ fn cut(areas: &Areas, lengths: &[usize; LENT]) -> Areas {
         match part(&mut lent, area) {
             Part::Values(values) => values.truncate(length),
             Part::Numbers(numbers) => numbers.truncate(length),
+            Part::Nodes(nodes) => nodes.truncate(length),
         }
     }
     lent
@@ -237,6 +295,7 @@ fn put_back(areas: &mut Areas, lent: &mut Areas) {
         match (part(areas, area), part(lent, area)) {
             (Part::Values(whole), Part::Values(cut)) => whole[..cut.len()].copy_from_slice(cut),
             (Part::Numbers(whole), Part::Numbers(cut)) => whole[..cut.len()].copy_from_slice(cut),
+            (Part::Nodes(whole), Part::Nodes(cut)) => whole[..cut.len()].copy_from_slice(cut),
             _ => unreachable!("an area keeps its kind"),
         }
     }
@@ -254,10 +313,7 @@ impl Case {
             indices: marked_numbers(lengths[INDICES]),
             offsets: marked_numbers(lengths[OFFSETS]),
             forces: marks(lengths[FORCES]),
-            arena: Arena {
-                reals: marks(lengths[REALS]),
-                words: marked_numbers(lengths[WORDS]),
-            },
+            nodes: marked_nodes(lengths[NODES]),
         };
         let mut rows = Rows {
             values: marks(lengths[LENT]),
@@ -301,10 +357,7 @@ impl Case {
         match call.alteration {
             Alteration::Nothing => {}
             Alteration::Field(field, bits) => record.alter(field, bits),
-            Alteration::Place(area, place, bits) => match part(&mut self.areas, area) {
-                Part::Values(values) => values[place] = f64::from_bits(bits),
-                Part::Numbers(numbers) => numbers[place] = bits as u32,
-            },
+            Alteration::Place(area, place, bits) => alter(&mut self.areas, area, place, bits),
         }
         self.words.extend([part_number as u64, place as u64, bits]);
         self.words.extend(call.lengths.iter().map(|&length| length as u64));
@@ -386,22 +439,10 @@ fn tight(settings: &Settings, nodes: usize) -> [usize; LENT + 2] {
     let cells = n * c;
     let forces = n * (2 * c + 1);
     match settings.method {
-        Method::Exact => [cells, cells, cells, n * n, 0, 0, forces, 0, 0, n, n],
+        Method::Exact => [cells, cells, cells, n * n, 0, 0, forces, 0, n, n],
         Method::BarnesHut => {
             let links = 2 * n * crate::elementary::neighbours(settings.perplexity, n);
-            [
-                cells,
-                cells,
-                cells,
-                links,
-                links,
-                n + 1,
-                forces,
-                9 * nodes,
-                3 * nodes,
-                n,
-                n,
-            ]
+            [cells, cells, cells, links, links, n + 1, forces, nodes, n, n]
         }
     }
 }
@@ -421,23 +462,55 @@ mod tests {
         assert_eq!(digest_numbers(&[5]), mix(6));
     }
 
+    #[test]
+    fn a_node_is_twelve_words() {
+        let nodes = marked_nodes(2);
+        let marks = |from: u64| (0..NODE_WORDS as u64).map(move |i| from + i + if i < 9 { 1 << 62 } else { 1 << 30 });
+        assert!(nodes[0].words().into_iter().eq(marks(0)) && nodes[1].words().into_iter().eq(marks(12)));
+        assert_eq!(
+            (nodes[1].mass[2].to_bits(), nodes[1].leaf),
+            ((1 << 62) + 20, (1 << 30) + 23)
+        );
+        let all = marks(0).chain(marks(12));
+        assert_eq!(
+            digest_nodes(&nodes),
+            all.fold(2_u64, |digest, word| mix(digest.wrapping_add(word)))
+        );
+        for field in 0..NODE_WORDS {
+            let mut node = nodes[0];
+            node.alter(field, 5);
+            let mut words = nodes[0].words();
+            words[field] = 5;
+            assert_eq!(node.words(), words);
+        }
+    }
+
+    /// Where a case has preparation's answer: after its length, the settings, the lengths, the table and the start.
+    fn prepared(case: &[u64]) -> usize {
+        let table = 1 + 9 + LENT + 2;
+        table + 2 + (case[table] + case[table + 1]) as usize
+    }
+
     /// The cases follow each other, and each has the calls that it says.
     fn is_well_made(cases: &[Vec<u64>]) {
         assert!(8 * cases.concat().len() < 275_000);
         for case in cases {
             assert_eq!(case[0], case.len() as u64);
-            let before = 23 + (case[21] + case[22]) as usize + 12;
-            let calls = case[before] as usize;
-            assert_eq!(case.len(), before + 1 + calls * CALL_WORDS);
-            assert_eq!(case[before - 12] == 0, calls > 0);
+            let answer = prepared(case);
+            let calls = case[answer + 1 + LENT + 2] as usize;
+            assert_eq!(case.len(), answer + 1 + LENT + 2 + 1 + calls * CALL_WORDS);
+            assert_eq!(case[answer] == 0, calls > 0);
         }
     }
 
     /// How many calls there are with the given kind and number.
     fn calls(cases: &[Vec<u64>], kind: u64, number: u64) -> usize {
         let answers = cases.iter().flat_map(|case| {
-            let first = 23 + (case[21] + case[22]) as usize + 13;
-            case[first..].chunks(CALL_WORDS).map(|call| (call[13], call[14]))
+            let first = prepared(case) + 1 + LENT + 2 + 1;
+            let answer = 3 + LENT + 1;
+            case[first..]
+                .chunks(CALL_WORDS)
+                .map(move |call| (call[answer], call[answer + 1]))
         });
         answers.filter(|&answer| answer == (kind, number)).count()
     }
@@ -463,10 +536,7 @@ mod tests {
         is_well_made(&cases);
         assert!(calls(&cases, 3, 12) > 10 && calls(&cases, 3, 13) > 50);
         for number in 1..=12 {
-            let refused = cases.iter().filter(|case| {
-                let at = 23 + (case[21] + case[22]) as usize;
-                case[at] == number
-            });
+            let refused = cases.iter().filter(|case| case[prepared(case)] == number);
             assert!(refused.count() > 0, "{number}");
         }
     }

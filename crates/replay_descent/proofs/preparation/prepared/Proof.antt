@@ -1,3 +1,4 @@
+-- `prepared`: each part that is lent is within its area. Assumes nothing.
 use borrow.Author.Needs.{needs}
 use Rattle.replay_descent.proofs.Within.{within, part}
 use Rattle.replay_descent.proofs.preparation.prepared.Statement.{statement}
@@ -16,70 +17,58 @@ length-at-requires-2 : tie.Need-length-at-requires-2
 length-at-requires-2 c κs = search needs
 
 array-borrow-prefix-positions : tie.Need-array-borrow-prefix-positions
-array-borrow-prefix-positions c = within (c .before .before .before .before .before .before .before .before .before .before .before .before .before .before .before .before .before .before .args .m .positions) (c .before .before .before .before .before .before .before .before .before .before .before .before .before .lent-at .result .positions) 132 (c .before .before .before .before .before .before .before .before .before .before .before .before .before .before .before .before .before .before .good .1 .1 .1 .1 .1 .0 .1 .1 .0 .1 .0 .1) (c .before .before .before .before .before .before .before .before .before .before .before .before .before .lent-at .ensures .0)
+array-borrow-prefix-positions c = within (c .before .before .before .before .before .before .before .before .before .before .before .before .before .before .before .before .before .args .m .positions) (c .before .before .before .before .before .before .before .before .before .before .before .before .lent-at .result .positions) 132 (c .before .before .before .before .before .before .before .before .before .before .before .before .before .before .before .before .before .good .1 .1 .1 .1 .1 .0 .1 .1 .0 .1 .0 .1) (c .before .before .before .before .before .before .before .before .before .before .before .before .lent-at .ensures .0)
 
 slice-aggregate-prepare : tie.Need-slice-aggregate-prepare
-slice-aggregate-prepare c = part (c .before .before .before .before .before .before .before .before .before .before .before .before .before .before .before .before .before .before .before .args .m .positions) (c .before .before .before .before .before .before .before .before .before .before .before .before .before .before .lent-at .result .positions) 132 (c .before .before .before .before .before .before .before .before .before .before .before .before .before .before .before .before .before .before .before .good .1 .1 .1 .1 .1 .0 .1 .1 .0 .1 .0 .1) (c .before .before .before .before .before .before .before .before .before .before .before .before .before .before .lent-at .ensures .0)
+slice-aggregate-prepare c = part (c .before .before .before .before .before .before .before .before .before .before .before .before .before .before .before .before .before .before .args .m .positions) (c .before .before .before .before .before .before .before .before .before .before .before .before .before .lent-at .result .positions) 132 (c .before .before .before .before .before .before .before .before .before .before .before .before .before .before .before .before .before .before .good .1 .1 .1 .1 .1 .0 .1 .1 .0 .1 .0 .1) (c .before .before .before .before .before .before .before .before .before .before .before .before .before .lent-at .ensures .0)
 
 array-borrow-prefix-increments : tie.Need-array-borrow-prefix-increments
-array-borrow-prefix-increments c = within (c .before .before .before .before .before .before .before .before .before .before .before .before .before .before .before .before .before .before .before .args .m .increments) (c .before .before .before .before .before .before .before .before .before .before .before .before .before .before .lent-at .result .increments) 132 (c .before .before .before .before .before .before .before .before .before .before .before .before .before .before .before .before .before .before .before .good .1 .1 .1 .1 .1 .0 .1 .1 .1 .0 .1 .0 .1) (c .before .before .before .before .before .before .before .before .before .before .before .before .before .before .lent-at .ensures .1)
+array-borrow-prefix-increments c = within (c .before .before .before .before .before .before .before .before .before .before .before .before .before .before .before .before .before .before .args .m .increments) (c .before .before .before .before .before .before .before .before .before .before .before .before .before .lent-at .result .increments) 132 (c .before .before .before .before .before .before .before .before .before .before .before .before .before .before .before .before .before .before .good .1 .1 .1 .1 .1 .0 .1 .1 .1 .0 .1 .0 .1) (c .before .before .before .before .before .before .before .before .before .before .before .before .before .lent-at .ensures .1)
 
 slice-aggregate-prepare-2 : tie.Need-slice-aggregate-prepare-2
-slice-aggregate-prepare-2 c = part (c .before .before .before .before .before .before .before .before .before .before .before .before .before .before .before .before .before .before .before .before .args .m .increments) (c .before .before .before .before .before .before .before .before .before .before .before .before .before .before .before .lent-at .result .increments) 132 (c .before .before .before .before .before .before .before .before .before .before .before .before .before .before .before .before .before .before .before .before .good .1 .1 .1 .1 .1 .0 .1 .1 .1 .0 .1 .0 .1) (c .before .before .before .before .before .before .before .before .before .before .before .before .before .before .before .lent-at .ensures .1)
+slice-aggregate-prepare-2 c = part (c .before .before .before .before .before .before .before .before .before .before .before .before .before .before .before .before .before .before .before .args .m .increments) (c .before .before .before .before .before .before .before .before .before .before .before .before .before .before .lent-at .result .increments) 132 (c .before .before .before .before .before .before .before .before .before .before .before .before .before .before .before .before .before .before .before .good .1 .1 .1 .1 .1 .0 .1 .1 .1 .0 .1 .0 .1) (c .before .before .before .before .before .before .before .before .before .before .before .before .before .before .lent-at .ensures .1)
 
 array-borrow-prefix-gains : tie.Need-array-borrow-prefix-gains
-array-borrow-prefix-gains c = within (c .before .before .before .before .before .before .before .before .before .before .before .before .before .before .before .before .before .before .before .before .args .m .gains) (c .before .before .before .before .before .before .before .before .before .before .before .before .before .before .before .lent-at .result .gains) 132 (c .before .before .before .before .before .before .before .before .before .before .before .before .before .before .before .before .before .before .before .before .good .1 .1 .1 .1 .1 .0 .1 .1 .1 .1 .0 .1 .0 .1) (c .before .before .before .before .before .before .before .before .before .before .before .before .before .before .before .lent-at .ensures .2)
+array-borrow-prefix-gains c = within (c .before .before .before .before .before .before .before .before .before .before .before .before .before .before .before .before .before .before .before .args .m .gains) (c .before .before .before .before .before .before .before .before .before .before .before .before .before .before .lent-at .result .gains) 132 (c .before .before .before .before .before .before .before .before .before .before .before .before .before .before .before .before .before .before .before .good .1 .1 .1 .1 .1 .0 .1 .1 .1 .1 .0 .1 .0 .1) (c .before .before .before .before .before .before .before .before .before .before .before .before .before .before .lent-at .ensures .2)
 
 slice-aggregate-prepare-3 : tie.Need-slice-aggregate-prepare-3
-slice-aggregate-prepare-3 c = part (c .before .before .before .before .before .before .before .before .before .before .before .before .before .before .before .before .before .before .before .before .before .args .m .gains) (c .before .before .before .before .before .before .before .before .before .before .before .before .before .before .before .before .lent-at .result .gains) 132 (c .before .before .before .before .before .before .before .before .before .before .before .before .before .before .before .before .before .before .before .before .before .good .1 .1 .1 .1 .1 .0 .1 .1 .1 .1 .0 .1 .0 .1) (c .before .before .before .before .before .before .before .before .before .before .before .before .before .before .before .before .lent-at .ensures .2)
+slice-aggregate-prepare-3 c = part (c .before .before .before .before .before .before .before .before .before .before .before .before .before .before .before .before .before .before .before .before .args .m .gains) (c .before .before .before .before .before .before .before .before .before .before .before .before .before .before .before .lent-at .result .gains) 132 (c .before .before .before .before .before .before .before .before .before .before .before .before .before .before .before .before .before .before .before .before .good .1 .1 .1 .1 .1 .0 .1 .1 .1 .1 .0 .1 .0 .1) (c .before .before .before .before .before .before .before .before .before .before .before .before .before .before .before .lent-at .ensures .2)
 
 array-borrow-prefix-affinities : tie.Need-array-borrow-prefix-affinities
-array-borrow-prefix-affinities c = within (c .before .before .before .before .before .before .before .before .before .before .before .before .before .before .before .before .before .before .before .before .before .args .m .affinities) (c .before .before .before .before .before .before .before .before .before .before .before .before .before .before .before .before .lent-at .result .affinities) 4100 (c .before .before .before .before .before .before .before .before .before .before .before .before .before .before .before .before .before .before .before .before .before .good .1 .1 .1 .1 .1 .0 .1 .1 .1 .1 .1 .0 .1 .0 .1) (c .before .before .before .before .before .before .before .before .before .before .before .before .before .before .before .before .lent-at .ensures .3)
+array-borrow-prefix-affinities c = within (c .before .before .before .before .before .before .before .before .before .before .before .before .before .before .before .before .before .before .before .before .args .m .affinities) (c .before .before .before .before .before .before .before .before .before .before .before .before .before .before .before .lent-at .result .affinities) 4100 (c .before .before .before .before .before .before .before .before .before .before .before .before .before .before .before .before .before .before .before .before .good .1 .1 .1 .1 .1 .0 .1 .1 .1 .1 .1 .0 .1 .0 .1) (c .before .before .before .before .before .before .before .before .before .before .before .before .before .before .before .lent-at .ensures .3)
 
 slice-aggregate-prepare-4 : tie.Need-slice-aggregate-prepare-4
-slice-aggregate-prepare-4 c = part (c .before .before .before .before .before .before .before .before .before .before .before .before .before .before .before .before .before .before .before .before .before .before .args .m .affinities) (c .before .before .before .before .before .before .before .before .before .before .before .before .before .before .before .before .before .lent-at .result .affinities) 4100 (c .before .before .before .before .before .before .before .before .before .before .before .before .before .before .before .before .before .before .before .before .before .before .good .1 .1 .1 .1 .1 .0 .1 .1 .1 .1 .1 .0 .1 .0 .1) (c .before .before .before .before .before .before .before .before .before .before .before .before .before .before .before .before .before .lent-at .ensures .3)
+slice-aggregate-prepare-4 c = part (c .before .before .before .before .before .before .before .before .before .before .before .before .before .before .before .before .before .before .before .before .before .args .m .affinities) (c .before .before .before .before .before .before .before .before .before .before .before .before .before .before .before .before .lent-at .result .affinities) 4100 (c .before .before .before .before .before .before .before .before .before .before .before .before .before .before .before .before .before .before .before .before .before .good .1 .1 .1 .1 .1 .0 .1 .1 .1 .1 .1 .0 .1 .0 .1) (c .before .before .before .before .before .before .before .before .before .before .before .before .before .before .before .before .lent-at .ensures .3)
 
 array-borrow-prefix-indices : tie.Need-array-borrow-prefix-indices
-array-borrow-prefix-indices c = within (c .before .before .before .before .before .before .before .before .before .before .before .before .before .before .before .before .before .before .before .before .before .before .args .m .indices) (c .before .before .before .before .before .before .before .before .before .before .before .before .before .before .before .before .before .lent-at .result .indices) 2052 (c .before .before .before .before .before .before .before .before .before .before .before .before .before .before .before .before .before .before .before .before .before .before .good .1 .1 .1 .1 .1 .0 .1 .1 .1 .1 .1 .1 .0 .1 .0 .1) (c .before .before .before .before .before .before .before .before .before .before .before .before .before .before .before .before .before .lent-at .ensures .4)
+array-borrow-prefix-indices c = within (c .before .before .before .before .before .before .before .before .before .before .before .before .before .before .before .before .before .before .before .before .before .args .m .indices) (c .before .before .before .before .before .before .before .before .before .before .before .before .before .before .before .before .lent-at .result .indices) 2052 (c .before .before .before .before .before .before .before .before .before .before .before .before .before .before .before .before .before .before .before .before .before .good .1 .1 .1 .1 .1 .0 .1 .1 .1 .1 .1 .1 .0 .1 .0 .1) (c .before .before .before .before .before .before .before .before .before .before .before .before .before .before .before .before .lent-at .ensures .4)
 
 slice-aggregate-prepare-5 : tie.Need-slice-aggregate-prepare-5
-slice-aggregate-prepare-5 c = part (c .before .before .before .before .before .before .before .before .before .before .before .before .before .before .before .before .before .before .before .before .before .before .before .args .m .indices) (c .before .before .before .before .before .before .before .before .before .before .before .before .before .before .before .before .before .before .lent-at .result .indices) 2052 (c .before .before .before .before .before .before .before .before .before .before .before .before .before .before .before .before .before .before .before .before .before .before .before .good .1 .1 .1 .1 .1 .0 .1 .1 .1 .1 .1 .1 .0 .1 .0 .1) (c .before .before .before .before .before .before .before .before .before .before .before .before .before .before .before .before .before .before .lent-at .ensures .4)
+slice-aggregate-prepare-5 c = part (c .before .before .before .before .before .before .before .before .before .before .before .before .before .before .before .before .before .before .before .before .before .before .args .m .indices) (c .before .before .before .before .before .before .before .before .before .before .before .before .before .before .before .before .before .lent-at .result .indices) 2052 (c .before .before .before .before .before .before .before .before .before .before .before .before .before .before .before .before .before .before .before .before .before .before .good .1 .1 .1 .1 .1 .0 .1 .1 .1 .1 .1 .1 .0 .1 .0 .1) (c .before .before .before .before .before .before .before .before .before .before .before .before .before .before .before .before .before .lent-at .ensures .4)
 
 array-borrow-prefix-offsets : tie.Need-array-borrow-prefix-offsets
-array-borrow-prefix-offsets c = within (c .before .before .before .before .before .before .before .before .before .before .before .before .before .before .before .before .before .before .before .before .before .before .before .args .m .offsets) (c .before .before .before .before .before .before .before .before .before .before .before .before .before .before .before .before .before .before .lent-at .result .offsets) 70 (c .before .before .before .before .before .before .before .before .before .before .before .before .before .before .before .before .before .before .before .before .before .before .before .good .1 .1 .1 .1 .1 .0 .1 .1 .1 .1 .1 .1 .1 .0 .1 .0 .1) (c .before .before .before .before .before .before .before .before .before .before .before .before .before .before .before .before .before .before .lent-at .ensures .5)
+array-borrow-prefix-offsets c = within (c .before .before .before .before .before .before .before .before .before .before .before .before .before .before .before .before .before .before .before .before .before .before .args .m .offsets) (c .before .before .before .before .before .before .before .before .before .before .before .before .before .before .before .before .before .lent-at .result .offsets) 70 (c .before .before .before .before .before .before .before .before .before .before .before .before .before .before .before .before .before .before .before .before .before .before .good .1 .1 .1 .1 .1 .0 .1 .1 .1 .1 .1 .1 .1 .0 .1 .0 .1) (c .before .before .before .before .before .before .before .before .before .before .before .before .before .before .before .before .before .lent-at .ensures .5)
 
 slice-aggregate-prepare-6 : tie.Need-slice-aggregate-prepare-6
-slice-aggregate-prepare-6 c = part (c .before .before .before .before .before .before .before .before .before .before .before .before .before .before .before .before .before .before .before .before .before .before .before .before .args .m .offsets) (c .before .before .before .before .before .before .before .before .before .before .before .before .before .before .before .before .before .before .before .lent-at .result .offsets) 70 (c .before .before .before .before .before .before .before .before .before .before .before .before .before .before .before .before .before .before .before .before .before .before .before .before .good .1 .1 .1 .1 .1 .0 .1 .1 .1 .1 .1 .1 .1 .0 .1 .0 .1) (c .before .before .before .before .before .before .before .before .before .before .before .before .before .before .before .before .before .before .before .lent-at .ensures .5)
+slice-aggregate-prepare-6 c = part (c .before .before .before .before .before .before .before .before .before .before .before .before .before .before .before .before .before .before .before .before .before .before .before .args .m .offsets) (c .before .before .before .before .before .before .before .before .before .before .before .before .before .before .before .before .before .before .lent-at .result .offsets) 70 (c .before .before .before .before .before .before .before .before .before .before .before .before .before .before .before .before .before .before .before .before .before .before .before .good .1 .1 .1 .1 .1 .0 .1 .1 .1 .1 .1 .1 .1 .0 .1 .0 .1) (c .before .before .before .before .before .before .before .before .before .before .before .before .before .before .before .before .before .before .lent-at .ensures .5)
 
 array-borrow-prefix-forces : tie.Need-array-borrow-prefix-forces
-array-borrow-prefix-forces c = within (c .before .before .before .before .before .before .before .before .before .before .before .before .before .before .before .before .before .before .before .before .before .before .before .before .args .m .forces) (c .before .before .before .before .before .before .before .before .before .before .before .before .before .before .before .before .before .before .before .lent-at .result .forces) 324 (c .before .before .before .before .before .before .before .before .before .before .before .before .before .before .before .before .before .before .before .before .before .before .before .before .good .1 .1 .1 .1 .1 .0 .1 .1 .1 .1 .1 .1 .1 .1 .0 .1 .0 .1) (c .before .before .before .before .before .before .before .before .before .before .before .before .before .before .before .before .before .before .before .lent-at .ensures .6)
+array-borrow-prefix-forces c = within (c .before .before .before .before .before .before .before .before .before .before .before .before .before .before .before .before .before .before .before .before .before .before .before .args .m .forces) (c .before .before .before .before .before .before .before .before .before .before .before .before .before .before .before .before .before .before .lent-at .result .forces) 324 (c .before .before .before .before .before .before .before .before .before .before .before .before .before .before .before .before .before .before .before .before .before .before .before .good .1 .1 .1 .1 .1 .0 .1 .1 .1 .1 .1 .1 .1 .1 .0 .1 .0 .1) (c .before .before .before .before .before .before .before .before .before .before .before .before .before .before .before .before .before .before .lent-at .ensures .6)
 
 slice-aggregate-prepare-7 : tie.Need-slice-aggregate-prepare-7
-slice-aggregate-prepare-7 c = part (c .before .before .before .before .before .before .before .before .before .before .before .before .before .before .before .before .before .before .before .before .before .before .before .before .before .args .m .forces) (c .before .before .before .before .before .before .before .before .before .before .before .before .before .before .before .before .before .before .before .before .lent-at .result .forces) 324 (c .before .before .before .before .before .before .before .before .before .before .before .before .before .before .before .before .before .before .before .before .before .before .before .before .before .good .1 .1 .1 .1 .1 .0 .1 .1 .1 .1 .1 .1 .1 .1 .0 .1 .0 .1) (c .before .before .before .before .before .before .before .before .before .before .before .before .before .before .before .before .before .before .before .before .lent-at .ensures .6)
+slice-aggregate-prepare-7 c = part (c .before .before .before .before .before .before .before .before .before .before .before .before .before .before .before .before .before .before .before .before .before .before .before .before .args .m .forces) (c .before .before .before .before .before .before .before .before .before .before .before .before .before .before .before .before .before .before .before .lent-at .result .forces) 324 (c .before .before .before .before .before .before .before .before .before .before .before .before .before .before .before .before .before .before .before .before .before .before .before .before .good .1 .1 .1 .1 .1 .0 .1 .1 .1 .1 .1 .1 .1 .1 .0 .1 .0 .1) (c .before .before .before .before .before .before .before .before .before .before .before .before .before .before .before .before .before .before .before .lent-at .ensures .6)
 
 array-borrow-prefix-row-values : tie.Need-array-borrow-prefix-row-values
-array-borrow-prefix-row-values c = within (c .before .before .before .before .before .before .before .before .before .before .before .before .before .before .before .before .before .before .before .before .before .before .before .before .before .args .r .values) (c .before .before .before .before .before .before .before .before .before .before .before .before .before .before .before .before .before .before .before .length-at .result) 68 (c .before .before .before .before .before .before .before .before .before .before .before .before .before .before .before .before .before .before .before .before .before .before .before .before .before .good .1 .1 .1 .1 .1 .1 .0 .1 .1 .0 .1 .0 .1) (c .before .before .before .before .before .before .before .before .before .before .before .before .before .before .before .before .before .before .before .length-at .ensures)
+array-borrow-prefix-row-values c = within (c .before .before .before .before .before .before .before .before .before .before .before .before .before .before .before .before .before .before .before .before .before .before .before .before .args .r .values) (c .before .before .before .before .before .before .before .before .before .before .before .before .before .before .before .before .before .before .length-at .result) 68 (c .before .before .before .before .before .before .before .before .before .before .before .before .before .before .before .before .before .before .before .before .before .before .before .before .good .1 .1 .1 .1 .1 .1 .0 .1 .1 .0 .1 .0 .1) (c .before .before .before .before .before .before .before .before .before .before .before .before .before .before .before .before .before .before .length-at .ensures)
 
 slice-aggregate-prepare-8 : tie.Need-slice-aggregate-prepare-8
-slice-aggregate-prepare-8 c = part (c .before .before .before .before .before .before .before .before .before .before .before .before .before .before .before .before .before .before .before .before .before .before .before .before .before .before .args .r .values) (c .before .before .before .before .before .before .before .before .before .before .before .before .before .before .before .before .before .before .before .before .length-at .result) 68 (c .before .before .before .before .before .before .before .before .before .before .before .before .before .before .before .before .before .before .before .before .before .before .before .before .before .before .good .1 .1 .1 .1 .1 .1 .0 .1 .1 .0 .1 .0 .1) (c .before .before .before .before .before .before .before .before .before .before .before .before .before .before .before .before .before .before .before .before .length-at .ensures)
+slice-aggregate-prepare-8 c = part (c .before .before .before .before .before .before .before .before .before .before .before .before .before .before .before .before .before .before .before .before .before .before .before .before .before .args .r .values) (c .before .before .before .before .before .before .before .before .before .before .before .before .before .before .before .before .before .before .before .length-at .result) 68 (c .before .before .before .before .before .before .before .before .before .before .before .before .before .before .before .before .before .before .before .before .before .before .before .before .before .good .1 .1 .1 .1 .1 .1 .0 .1 .1 .0 .1 .0 .1) (c .before .before .before .before .before .before .before .before .before .before .before .before .before .before .before .before .before .before .before .length-at .ensures)
 
 array-borrow-prefix-row-indices : tie.Need-array-borrow-prefix-row-indices
-array-borrow-prefix-row-indices c = within (c .before .before .before .before .before .before .before .before .before .before .before .before .before .before .before .before .before .before .before .before .before .before .before .before .before .before .args .r .indices) (c .before .before .before .before .before .before .before .before .before .before .before .before .before .before .before .before .before .before .before .length-at2 .result) 68 (c .before .before .before .before .before .before .before .before .before .before .before .before .before .before .before .before .before .before .before .before .before .before .before .before .before .before .good .1 .1 .1 .1 .1 .1 .0 .1 .1 .1 .0 .1 .0 .1) (c .before .before .before .before .before .before .before .before .before .before .before .before .before .before .before .before .before .before .before .length-at2 .ensures)
+array-borrow-prefix-row-indices c = within (c .before .before .before .before .before .before .before .before .before .before .before .before .before .before .before .before .before .before .before .before .before .before .before .before .before .args .r .indices) (c .before .before .before .before .before .before .before .before .before .before .before .before .before .before .before .before .before .before .length-at2 .result) 68 (c .before .before .before .before .before .before .before .before .before .before .before .before .before .before .before .before .before .before .before .before .before .before .before .before .before .good .1 .1 .1 .1 .1 .1 .0 .1 .1 .1 .0 .1 .0 .1) (c .before .before .before .before .before .before .before .before .before .before .before .before .before .before .before .before .before .before .length-at2 .ensures)
 
 slice-aggregate-prepare-9 : tie.Need-slice-aggregate-prepare-9
-slice-aggregate-prepare-9 c = part (c .before .before .before .before .before .before .before .before .before .before .before .before .before .before .before .before .before .before .before .before .before .before .before .before .before .before .before .args .r .indices) (c .before .before .before .before .before .before .before .before .before .before .before .before .before .before .before .before .before .before .before .before .length-at2 .result) 68 (c .before .before .before .before .before .before .before .before .before .before .before .before .before .before .before .before .before .before .before .before .before .before .before .before .before .before .before .good .1 .1 .1 .1 .1 .1 .0 .1 .1 .1 .0 .1 .0 .1) (c .before .before .before .before .before .before .before .before .before .before .before .before .before .before .before .before .before .before .before .before .length-at2 .ensures)
-
-array-share-prefix-reals : tie.Need-array-share-prefix-reals
-array-share-prefix-reals c = within (c .before .before .before .before .before .before .before .before .before .before .before .before .before .before .before .before .before .before .before .before .before .before .before .before .before .before .before .args .m .reals) (c .before .before .before .before .before .before .before .before .before .before .before .before .before .before .before .before .before .before .before .before .before .before .lent-at .result .reals) 4608 (c .before .before .before .before .before .before .before .before .before .before .before .before .before .before .before .before .before .before .before .before .before .before .before .before .before .before .before .good .1 .1 .1 .1 .1 .0 .1 .1 .1 .1 .1 .1 .1 .1 .1 .0 .1 .0 .1) (c .before .before .before .before .before .before .before .before .before .before .before .before .before .before .before .before .before .before .before .before .before .before .lent-at .ensures .7)
-
-slice-aggregate-prepare-10 : tie.Need-slice-aggregate-prepare-10
-slice-aggregate-prepare-10 c = part (c .before .before .before .before .before .before .before .before .before .before .before .before .before .before .before .before .before .before .before .before .before .before .before .before .before .before .before .before .args .m .reals) (c .before .before .before .before .before .before .before .before .before .before .before .before .before .before .before .before .before .before .before .before .before .before .before .lent-at .result .reals) 4608 (c .before .before .before .before .before .before .before .before .before .before .before .before .before .before .before .before .before .before .before .before .before .before .before .before .before .before .before .before .good .1 .1 .1 .1 .1 .0 .1 .1 .1 .1 .1 .1 .1 .1 .1 .0 .1 .0 .1) (c .before .before .before .before .before .before .before .before .before .before .before .before .before .before .before .before .before .before .before .before .before .before .before .lent-at .ensures .7)
-
-array-share-prefix-words : tie.Need-array-share-prefix-words
-array-share-prefix-words c = within (c .before .before .before .before .before .before .before .before .before .before .before .before .before .before .before .before .before .before .before .before .before .before .before .before .before .before .before .before .args .m .words) (c .before .before .before .before .before .before .before .before .before .before .before .before .before .before .before .before .before .before .before .before .before .before .before .lent-at .result .words) 1536 (c .before .before .before .before .before .before .before .before .before .before .before .before .before .before .before .before .before .before .before .before .before .before .before .before .before .before .before .before .good .1 .1 .1 .1 .1 .0 .1 .1 .1 .1 .1 .1 .1 .1 .1 .1 .0 .1 .0 .1) (c .before .before .before .before .before .before .before .before .before .before .before .before .before .before .before .before .before .before .before .before .before .before .before .lent-at .ensures .8)
-
-slice-aggregate-prepare-11 : tie.Need-slice-aggregate-prepare-11
-slice-aggregate-prepare-11 c = part (c .before .before .before .before .before .before .before .before .before .before .before .before .before .before .before .before .before .before .before .before .before .before .before .before .before .before .before .before .before .args .m .words) (c .before .before .before .before .before .before .before .before .before .before .before .before .before .before .before .before .before .before .before .before .before .before .before .before .lent-at .result .words) 1536 (c .before .before .before .before .before .before .before .before .before .before .before .before .before .before .before .before .before .before .before .before .before .before .before .before .before .before .before .before .before .good .1 .1 .1 .1 .1 .0 .1 .1 .1 .1 .1 .1 .1 .1 .1 .1 .0 .1 .0 .1) (c .before .before .before .before .before .before .before .before .before .before .before .before .before .before .before .before .before .before .before .before .before .before .before .before .lent-at .ensures .8)
+slice-aggregate-prepare-9 c = part (c .before .before .before .before .before .before .before .before .before .before .before .before .before .before .before .before .before .before .before .before .before .before .before .before .before .before .args .r .indices) (c .before .before .before .before .before .before .before .before .before .before .before .before .before .before .before .before .before .before .before .length-at2 .result) 68 (c .before .before .before .before .before .before .before .before .before .before .before .before .before .before .before .before .before .before .before .before .before .before .before .before .before .before .good .1 .1 .1 .1 .1 .1 .0 .1 .1 .1 .0 .1 .0 .1) (c .before .before .before .before .before .before .before .before .before .before .before .before .before .before .before .before .before .before .before .length-at2 .ensures)
 
 prepare-requires : tie.Need-prepare-requires
 prepare-requires c κs = search needs
@@ -113,9 +102,5 @@ prepared-spec =
     slice-aggregate-prepare-8
     array-borrow-prefix-row-indices
     slice-aggregate-prepare-9
-    array-share-prefix-reals
-    slice-aggregate-prepare-10
-    array-share-prefix-words
-    slice-aggregate-prepare-11
     prepare-requires
     returns)

@@ -1,3 +1,4 @@
+-- `worked`: each part that is lent is within its area. Assumes nothing.
 use borrow.Author.Needs.{needs}
 use Rattle.replay_descent.proofs.Within.{within, part}
 use Rattle.replay_descent.proofs.working.worked.Statement.{statement}
@@ -19,61 +20,49 @@ narrow-requires : tie.Need-narrow-requires
 narrow-requires c κs = search needs
 
 array-borrow-prefix-positions : tie.Need-array-borrow-prefix-positions
-array-borrow-prefix-positions c = within (c .before .before .before .before .before .before .before .before .before .before .before .before .before .before .before .args .s .positions) (c .before .before .before .before .before .before .before .before .before .before .before .before .lent-at .result .positions) 132 (c .before .before .before .before .before .before .before .before .before .before .before .before .before .before .before .good .1 .1 .1 .0 .1 .1 .0 .1 .0 .1) (c .before .before .before .before .before .before .before .before .before .before .before .before .lent-at .ensures .0)
+array-borrow-prefix-positions c = within (c .before .before .before .before .before .before .before .before .before .before .before .before .before .before .args .s .positions) (c .before .before .before .before .before .before .before .before .before .before .before .lent-at .result .positions) 132 (c .before .before .before .before .before .before .before .before .before .before .before .before .before .before .good .1 .1 .1 .0 .1 .1 .0 .1 .0 .1) (c .before .before .before .before .before .before .before .before .before .before .before .lent-at .ensures .0)
 
-slice-aggregate-work : tie.Need-slice-aggregate-work
-slice-aggregate-work c = part (c .before .before .before .before .before .before .before .before .before .before .before .before .before .before .before .before .args .s .positions) (c .before .before .before .before .before .before .before .before .before .before .before .before .before .lent-at .result .positions) 132 (c .before .before .before .before .before .before .before .before .before .before .before .before .before .before .before .before .good .1 .1 .1 .0 .1 .1 .0 .1 .0 .1) (c .before .before .before .before .before .before .before .before .before .before .before .before .before .lent-at .ensures .0)
+slice-aggregate-work-lent : tie.Need-slice-aggregate-work-lent
+slice-aggregate-work-lent c = part (c .before .before .before .before .before .before .before .before .before .before .before .before .before .before .before .args .s .positions) (c .before .before .before .before .before .before .before .before .before .before .before .before .lent-at .result .positions) 132 (c .before .before .before .before .before .before .before .before .before .before .before .before .before .before .before .good .1 .1 .1 .0 .1 .1 .0 .1 .0 .1) (c .before .before .before .before .before .before .before .before .before .before .before .before .lent-at .ensures .0)
 
 array-borrow-prefix-increments : tie.Need-array-borrow-prefix-increments
-array-borrow-prefix-increments c = within (c .before .before .before .before .before .before .before .before .before .before .before .before .before .before .before .before .args .s .increments) (c .before .before .before .before .before .before .before .before .before .before .before .before .before .lent-at .result .increments) 132 (c .before .before .before .before .before .before .before .before .before .before .before .before .before .before .before .before .good .1 .1 .1 .0 .1 .1 .1 .0 .1 .0 .1) (c .before .before .before .before .before .before .before .before .before .before .before .before .before .lent-at .ensures .1)
+array-borrow-prefix-increments c = within (c .before .before .before .before .before .before .before .before .before .before .before .before .before .before .before .args .s .increments) (c .before .before .before .before .before .before .before .before .before .before .before .before .lent-at .result .increments) 132 (c .before .before .before .before .before .before .before .before .before .before .before .before .before .before .before .good .1 .1 .1 .0 .1 .1 .1 .0 .1 .0 .1) (c .before .before .before .before .before .before .before .before .before .before .before .before .lent-at .ensures .1)
 
-slice-aggregate-work-2 : tie.Need-slice-aggregate-work-2
-slice-aggregate-work-2 c = part (c .before .before .before .before .before .before .before .before .before .before .before .before .before .before .before .before .before .args .s .increments) (c .before .before .before .before .before .before .before .before .before .before .before .before .before .before .lent-at .result .increments) 132 (c .before .before .before .before .before .before .before .before .before .before .before .before .before .before .before .before .before .good .1 .1 .1 .0 .1 .1 .1 .0 .1 .0 .1) (c .before .before .before .before .before .before .before .before .before .before .before .before .before .before .lent-at .ensures .1)
+slice-aggregate-work-lent-2 : tie.Need-slice-aggregate-work-lent-2
+slice-aggregate-work-lent-2 c = part (c .before .before .before .before .before .before .before .before .before .before .before .before .before .before .before .before .args .s .increments) (c .before .before .before .before .before .before .before .before .before .before .before .before .before .lent-at .result .increments) 132 (c .before .before .before .before .before .before .before .before .before .before .before .before .before .before .before .before .good .1 .1 .1 .0 .1 .1 .1 .0 .1 .0 .1) (c .before .before .before .before .before .before .before .before .before .before .before .before .before .lent-at .ensures .1)
 
 array-borrow-prefix-gains : tie.Need-array-borrow-prefix-gains
-array-borrow-prefix-gains c = within (c .before .before .before .before .before .before .before .before .before .before .before .before .before .before .before .before .before .args .s .gains) (c .before .before .before .before .before .before .before .before .before .before .before .before .before .before .lent-at .result .gains) 132 (c .before .before .before .before .before .before .before .before .before .before .before .before .before .before .before .before .before .good .1 .1 .1 .0 .1 .1 .1 .1 .0 .1 .0 .1) (c .before .before .before .before .before .before .before .before .before .before .before .before .before .before .lent-at .ensures .2)
+array-borrow-prefix-gains c = within (c .before .before .before .before .before .before .before .before .before .before .before .before .before .before .before .before .args .s .gains) (c .before .before .before .before .before .before .before .before .before .before .before .before .before .lent-at .result .gains) 132 (c .before .before .before .before .before .before .before .before .before .before .before .before .before .before .before .before .good .1 .1 .1 .0 .1 .1 .1 .1 .0 .1 .0 .1) (c .before .before .before .before .before .before .before .before .before .before .before .before .before .lent-at .ensures .2)
 
-slice-aggregate-work-3 : tie.Need-slice-aggregate-work-3
-slice-aggregate-work-3 c = part (c .before .before .before .before .before .before .before .before .before .before .before .before .before .before .before .before .before .before .args .s .gains) (c .before .before .before .before .before .before .before .before .before .before .before .before .before .before .before .lent-at .result .gains) 132 (c .before .before .before .before .before .before .before .before .before .before .before .before .before .before .before .before .before .before .good .1 .1 .1 .0 .1 .1 .1 .1 .0 .1 .0 .1) (c .before .before .before .before .before .before .before .before .before .before .before .before .before .before .before .lent-at .ensures .2)
+slice-aggregate-work-lent-3 : tie.Need-slice-aggregate-work-lent-3
+slice-aggregate-work-lent-3 c = part (c .before .before .before .before .before .before .before .before .before .before .before .before .before .before .before .before .before .args .s .gains) (c .before .before .before .before .before .before .before .before .before .before .before .before .before .before .lent-at .result .gains) 132 (c .before .before .before .before .before .before .before .before .before .before .before .before .before .before .before .before .before .good .1 .1 .1 .0 .1 .1 .1 .1 .0 .1 .0 .1) (c .before .before .before .before .before .before .before .before .before .before .before .before .before .before .lent-at .ensures .2)
 
 array-share-prefix-affinities : tie.Need-array-share-prefix-affinities
-array-share-prefix-affinities c = within (c .before .before .before .before .before .before .before .before .before .before .before .before .before .before .before .before .before .before .args .s .affinities) (c .before .before .before .before .before .before .before .before .before .before .before .before .before .before .before .lent-at .result .affinities) 4100 (c .before .before .before .before .before .before .before .before .before .before .before .before .before .before .before .before .before .before .good .1 .1 .1 .0 .1 .1 .1 .1 .1 .0 .1 .0 .1) (c .before .before .before .before .before .before .before .before .before .before .before .before .before .before .before .lent-at .ensures .3)
+array-share-prefix-affinities c = within (c .before .before .before .before .before .before .before .before .before .before .before .before .before .before .before .before .before .args .s .affinities) (c .before .before .before .before .before .before .before .before .before .before .before .before .before .before .lent-at .result .affinities) 4100 (c .before .before .before .before .before .before .before .before .before .before .before .before .before .before .before .before .before .good .1 .1 .1 .0 .1 .1 .1 .1 .1 .0 .1 .0 .1) (c .before .before .before .before .before .before .before .before .before .before .before .before .before .before .lent-at .ensures .3)
 
-slice-aggregate-work-4 : tie.Need-slice-aggregate-work-4
-slice-aggregate-work-4 c = part (c .before .before .before .before .before .before .before .before .before .before .before .before .before .before .before .before .before .before .before .args .s .affinities) (c .before .before .before .before .before .before .before .before .before .before .before .before .before .before .before .before .lent-at .result .affinities) 4100 (c .before .before .before .before .before .before .before .before .before .before .before .before .before .before .before .before .before .before .before .good .1 .1 .1 .0 .1 .1 .1 .1 .1 .0 .1 .0 .1) (c .before .before .before .before .before .before .before .before .before .before .before .before .before .before .before .before .lent-at .ensures .3)
+slice-aggregate-work-lent-4 : tie.Need-slice-aggregate-work-lent-4
+slice-aggregate-work-lent-4 c = part (c .before .before .before .before .before .before .before .before .before .before .before .before .before .before .before .before .before .before .args .s .affinities) (c .before .before .before .before .before .before .before .before .before .before .before .before .before .before .before .lent-at .result .affinities) 4100 (c .before .before .before .before .before .before .before .before .before .before .before .before .before .before .before .before .before .before .good .1 .1 .1 .0 .1 .1 .1 .1 .1 .0 .1 .0 .1) (c .before .before .before .before .before .before .before .before .before .before .before .before .before .before .before .lent-at .ensures .3)
 
 array-share-prefix-indices : tie.Need-array-share-prefix-indices
-array-share-prefix-indices c = within (c .before .before .before .before .before .before .before .before .before .before .before .before .before .before .before .before .before .before .before .args .s .indices) (c .before .before .before .before .before .before .before .before .before .before .before .before .before .before .before .before .lent-at .result .indices) 2052 (c .before .before .before .before .before .before .before .before .before .before .before .before .before .before .before .before .before .before .before .good .1 .1 .1 .0 .1 .1 .1 .1 .1 .1 .0 .1 .0 .1) (c .before .before .before .before .before .before .before .before .before .before .before .before .before .before .before .before .lent-at .ensures .4)
+array-share-prefix-indices c = within (c .before .before .before .before .before .before .before .before .before .before .before .before .before .before .before .before .before .before .args .s .indices) (c .before .before .before .before .before .before .before .before .before .before .before .before .before .before .before .lent-at .result .indices) 2052 (c .before .before .before .before .before .before .before .before .before .before .before .before .before .before .before .before .before .before .good .1 .1 .1 .0 .1 .1 .1 .1 .1 .1 .0 .1 .0 .1) (c .before .before .before .before .before .before .before .before .before .before .before .before .before .before .before .lent-at .ensures .4)
 
-slice-aggregate-work-5 : tie.Need-slice-aggregate-work-5
-slice-aggregate-work-5 c = part (c .before .before .before .before .before .before .before .before .before .before .before .before .before .before .before .before .before .before .before .before .args .s .indices) (c .before .before .before .before .before .before .before .before .before .before .before .before .before .before .before .before .before .lent-at .result .indices) 2052 (c .before .before .before .before .before .before .before .before .before .before .before .before .before .before .before .before .before .before .before .before .good .1 .1 .1 .0 .1 .1 .1 .1 .1 .1 .0 .1 .0 .1) (c .before .before .before .before .before .before .before .before .before .before .before .before .before .before .before .before .before .lent-at .ensures .4)
+slice-aggregate-work-lent-5 : tie.Need-slice-aggregate-work-lent-5
+slice-aggregate-work-lent-5 c = part (c .before .before .before .before .before .before .before .before .before .before .before .before .before .before .before .before .before .before .before .args .s .indices) (c .before .before .before .before .before .before .before .before .before .before .before .before .before .before .before .before .lent-at .result .indices) 2052 (c .before .before .before .before .before .before .before .before .before .before .before .before .before .before .before .before .before .before .before .good .1 .1 .1 .0 .1 .1 .1 .1 .1 .1 .0 .1 .0 .1) (c .before .before .before .before .before .before .before .before .before .before .before .before .before .before .before .before .lent-at .ensures .4)
 
 array-share-prefix-offsets : tie.Need-array-share-prefix-offsets
-array-share-prefix-offsets c = within (c .before .before .before .before .before .before .before .before .before .before .before .before .before .before .before .before .before .before .before .before .args .s .offsets) (c .before .before .before .before .before .before .before .before .before .before .before .before .before .before .before .before .before .lent-at .result .offsets) 70 (c .before .before .before .before .before .before .before .before .before .before .before .before .before .before .before .before .before .before .before .before .good .1 .1 .1 .0 .1 .1 .1 .1 .1 .1 .1 .0 .1 .0 .1) (c .before .before .before .before .before .before .before .before .before .before .before .before .before .before .before .before .before .lent-at .ensures .5)
+array-share-prefix-offsets c = within (c .before .before .before .before .before .before .before .before .before .before .before .before .before .before .before .before .before .before .before .args .s .offsets) (c .before .before .before .before .before .before .before .before .before .before .before .before .before .before .before .before .lent-at .result .offsets) 70 (c .before .before .before .before .before .before .before .before .before .before .before .before .before .before .before .before .before .before .before .good .1 .1 .1 .0 .1 .1 .1 .1 .1 .1 .1 .0 .1 .0 .1) (c .before .before .before .before .before .before .before .before .before .before .before .before .before .before .before .before .lent-at .ensures .5)
 
-slice-aggregate-work-6 : tie.Need-slice-aggregate-work-6
-slice-aggregate-work-6 c = part (c .before .before .before .before .before .before .before .before .before .before .before .before .before .before .before .before .before .before .before .before .before .args .s .offsets) (c .before .before .before .before .before .before .before .before .before .before .before .before .before .before .before .before .before .before .lent-at .result .offsets) 70 (c .before .before .before .before .before .before .before .before .before .before .before .before .before .before .before .before .before .before .before .before .before .good .1 .1 .1 .0 .1 .1 .1 .1 .1 .1 .1 .0 .1 .0 .1) (c .before .before .before .before .before .before .before .before .before .before .before .before .before .before .before .before .before .before .lent-at .ensures .5)
+slice-aggregate-work-lent-6 : tie.Need-slice-aggregate-work-lent-6
+slice-aggregate-work-lent-6 c = part (c .before .before .before .before .before .before .before .before .before .before .before .before .before .before .before .before .before .before .before .before .args .s .offsets) (c .before .before .before .before .before .before .before .before .before .before .before .before .before .before .before .before .before .lent-at .result .offsets) 70 (c .before .before .before .before .before .before .before .before .before .before .before .before .before .before .before .before .before .before .before .before .good .1 .1 .1 .0 .1 .1 .1 .1 .1 .1 .1 .0 .1 .0 .1) (c .before .before .before .before .before .before .before .before .before .before .before .before .before .before .before .before .before .lent-at .ensures .5)
 
 array-borrow-prefix-forces : tie.Need-array-borrow-prefix-forces
-array-borrow-prefix-forces c = within (c .before .before .before .before .before .before .before .before .before .before .before .before .before .before .before .before .before .before .before .before .before .args .s .forces) (c .before .before .before .before .before .before .before .before .before .before .before .before .before .before .before .before .before .before .lent-at .result .forces) 324 (c .before .before .before .before .before .before .before .before .before .before .before .before .before .before .before .before .before .before .before .before .before .good .1 .1 .1 .0 .1 .1 .1 .1 .1 .1 .1 .1 .0 .1 .0 .1) (c .before .before .before .before .before .before .before .before .before .before .before .before .before .before .before .before .before .before .lent-at .ensures .6)
+array-borrow-prefix-forces c = within (c .before .before .before .before .before .before .before .before .before .before .before .before .before .before .before .before .before .before .before .before .args .s .forces) (c .before .before .before .before .before .before .before .before .before .before .before .before .before .before .before .before .before .lent-at .result .forces) 324 (c .before .before .before .before .before .before .before .before .before .before .before .before .before .before .before .before .before .before .before .before .good .1 .1 .1 .0 .1 .1 .1 .1 .1 .1 .1 .1 .0 .1 .0 .1) (c .before .before .before .before .before .before .before .before .before .before .before .before .before .before .before .before .before .lent-at .ensures .6)
 
-slice-aggregate-work-7 : tie.Need-slice-aggregate-work-7
-slice-aggregate-work-7 c = part (c .before .before .before .before .before .before .before .before .before .before .before .before .before .before .before .before .before .before .before .before .before .before .args .s .forces) (c .before .before .before .before .before .before .before .before .before .before .before .before .before .before .before .before .before .before .before .lent-at .result .forces) 324 (c .before .before .before .before .before .before .before .before .before .before .before .before .before .before .before .before .before .before .before .before .before .before .good .1 .1 .1 .0 .1 .1 .1 .1 .1 .1 .1 .1 .0 .1 .0 .1) (c .before .before .before .before .before .before .before .before .before .before .before .before .before .before .before .before .before .before .before .lent-at .ensures .6)
+slice-aggregate-work-lent-7 : tie.Need-slice-aggregate-work-lent-7
+slice-aggregate-work-lent-7 c = part (c .before .before .before .before .before .before .before .before .before .before .before .before .before .before .before .before .before .before .before .before .before .args .s .forces) (c .before .before .before .before .before .before .before .before .before .before .before .before .before .before .before .before .before .before .lent-at .result .forces) 324 (c .before .before .before .before .before .before .before .before .before .before .before .before .before .before .before .before .before .before .before .before .before .good .1 .1 .1 .0 .1 .1 .1 .1 .1 .1 .1 .1 .0 .1 .0 .1) (c .before .before .before .before .before .before .before .before .before .before .before .before .before .before .before .before .before .before .lent-at .ensures .6)
 
-array-borrow-prefix-reals : tie.Need-array-borrow-prefix-reals
-array-borrow-prefix-reals c = within (c .before .before .before .before .before .before .before .before .before .before .before .before .before .before .before .before .before .before .before .before .before .before .args .s .reals) (c .before .before .before .before .before .before .before .before .before .before .before .before .before .before .before .before .before .before .before .lent-at .result .reals) 4608 (c .before .before .before .before .before .before .before .before .before .before .before .before .before .before .before .before .before .before .before .before .before .before .good .1 .1 .1 .0 .1 .1 .1 .1 .1 .1 .1 .1 .1 .0 .1 .0 .1) (c .before .before .before .before .before .before .before .before .before .before .before .before .before .before .before .before .before .before .before .lent-at .ensures .7)
-
-slice-aggregate-work-8 : tie.Need-slice-aggregate-work-8
-slice-aggregate-work-8 c = part (c .before .before .before .before .before .before .before .before .before .before .before .before .before .before .before .before .before .before .before .before .before .before .before .args .s .reals) (c .before .before .before .before .before .before .before .before .before .before .before .before .before .before .before .before .before .before .before .before .lent-at .result .reals) 4608 (c .before .before .before .before .before .before .before .before .before .before .before .before .before .before .before .before .before .before .before .before .before .before .before .good .1 .1 .1 .0 .1 .1 .1 .1 .1 .1 .1 .1 .1 .0 .1 .0 .1) (c .before .before .before .before .before .before .before .before .before .before .before .before .before .before .before .before .before .before .before .before .lent-at .ensures .7)
-
-array-borrow-prefix-words : tie.Need-array-borrow-prefix-words
-array-borrow-prefix-words c = within (c .before .before .before .before .before .before .before .before .before .before .before .before .before .before .before .before .before .before .before .before .before .before .before .args .s .words) (c .before .before .before .before .before .before .before .before .before .before .before .before .before .before .before .before .before .before .before .before .lent-at .result .words) 1536 (c .before .before .before .before .before .before .before .before .before .before .before .before .before .before .before .before .before .before .before .before .before .before .before .good .1 .1 .1 .0 .1 .1 .1 .1 .1 .1 .1 .1 .1 .1 .0 .1 .0 .1) (c .before .before .before .before .before .before .before .before .before .before .before .before .before .before .before .before .before .before .before .before .lent-at .ensures .8)
-
-slice-aggregate-work-9 : tie.Need-slice-aggregate-work-9
-slice-aggregate-work-9 c = part (c .before .before .before .before .before .before .before .before .before .before .before .before .before .before .before .before .before .before .before .before .before .before .before .before .args .s .words) (c .before .before .before .before .before .before .before .before .before .before .before .before .before .before .before .before .before .before .before .before .before .lent-at .result .words) 1536 (c .before .before .before .before .before .before .before .before .before .before .before .before .before .before .before .before .before .before .before .before .before .before .before .before .good .1 .1 .1 .0 .1 .1 .1 .1 .1 .1 .1 .1 .1 .1 .0 .1 .0 .1) (c .before .before .before .before .before .before .before .before .before .before .before .before .before .before .before .before .before .before .before .before .before .lent-at .ensures .8)
-
-work-requires : tie.Need-work-requires
-work-requires c κs = search needs
+work-lent-requires : tie.Need-work-lent-requires
+work-lent-requires c κs = search needs
 
 returns : tie.Need-returns
 returns c = search needs
@@ -88,22 +77,18 @@ worked-spec =
     word-at-requires
     narrow-requires
     array-borrow-prefix-positions
-    slice-aggregate-work
+    slice-aggregate-work-lent
     array-borrow-prefix-increments
-    slice-aggregate-work-2
+    slice-aggregate-work-lent-2
     array-borrow-prefix-gains
-    slice-aggregate-work-3
+    slice-aggregate-work-lent-3
     array-share-prefix-affinities
-    slice-aggregate-work-4
+    slice-aggregate-work-lent-4
     array-share-prefix-indices
-    slice-aggregate-work-5
+    slice-aggregate-work-lent-5
     array-share-prefix-offsets
-    slice-aggregate-work-6
+    slice-aggregate-work-lent-6
     array-borrow-prefix-forces
-    slice-aggregate-work-7
-    array-borrow-prefix-reals
-    slice-aggregate-work-8
-    array-borrow-prefix-words
-    slice-aggregate-work-9
-    work-requires
+    slice-aggregate-work-lent-7
+    work-lent-requires
     returns)

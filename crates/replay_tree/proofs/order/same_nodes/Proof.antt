@@ -1,15 +1,16 @@
+-- `same_nodes`: its loop ends, and the stack keeps its length. Assumes nothing.
+use borrow.Author.Needs.{needs}
 use mathlib.Core.Path.{_≡_}
 use lib.ListN.{length}
 use Prim.Native.Nat.{_≤_, _-_}
-use borrow.Author.Needs.{needs}
 use Rattle.replay_tree.proofs.order.same_nodes.Statement.{statement}
 use Rattle.replay_tree.proofs.order.same_nodes.Tie as tie
 
 abbrev Inv-loop : tie.InvT-loop
-Inv-loop reals words list a count c stack₀ top₀ k₀ stack top k = (length stack ≡ length stack₀) × (k ≤ count)
+Inv-loop list a count c stack₀ cells top₀ k₀ stack top k = (length stack ≡ length stack₀) × (k ≤ count)
 
 abbrev μ-loop : tie.MeasureT-loop
-μ-loop reals words list a count c stack₀ top₀ k₀ stack top k = count - k
+μ-loop list a count c stack₀ cells top₀ k₀ stack top k = count - k
 
 loop-holds : tie.Need-loop-holds Inv-loop μ-loop
 loop-holds c = search needs
@@ -38,17 +39,20 @@ slice-read-number c = search needs
 number-requires : tie.Need-number-requires Inv-loop μ-loop
 number-requires c κs = search needs
 
-capacity-requires : tie.Need-capacity-requires Inv-loop μ-loop
-capacity-requires c κs = search needs
-
 same-length-3 : tie.Need-same-length-3 Inv-loop μ-loop
 same-length-3 c = search needs
 
 returns-3 : tie.Need-returns-3 Inv-loop μ-loop
 returns-3 c = search needs
 
-load-requires : tie.Need-load-requires Inv-loop μ-loop
-load-requires c κs = rw (c .before .capacity .ensures) at (c .if3 .left)
+mul-x : tie.Need-mul-x Inv-loop μ-loop
+mul-x c = search needs
+
+array-copy-out-x : tie.Need-array-copy-out-x Inv-loop μ-loop
+array-copy-out-x c = search needs
+
+read-node-requires : tie.Need-read-node-requires Inv-loop μ-loop
+read-node-requires c κs = search needs
 
 mul-product : tie.Need-mul-product Inv-loop μ-loop
 mul-product c = search needs
@@ -110,10 +114,11 @@ same-nodes-spec =
     mul-number
     slice-read-number
     number-requires
-    capacity-requires
     same-length-3
     returns-3
-    load-requires
+    mul-x
+    array-copy-out-x
+    read-node-requires
     mul-product
     add-product
     product-requires

@@ -107,8 +107,7 @@ fn refused_contents(random: &mut SplitMix64) -> Vec<Vec<u64>> {
         .collect()
 }
 
-/// 12 for each area that is one place short, for an arena of no node by either of its areas, and none for the other
-/// method's areas.
+/// 12 for each area that is one place short, for an arena of no node, and none for the other method's areas.
 fn refused_areas(random: &mut SplitMix64) -> Vec<Vec<u64>> {
     let mut found = Vec::new();
     for method in [Method::Exact, Method::BarnesHut] {
@@ -262,35 +261,36 @@ fn bad_lists(random: &mut SplitMix64) -> Vec<Vec<u64>> {
     vec![case.done()]
 }
 
-/// Nodes in use, counts, points and child blocks; outside an iteration none of them is looked at.
+/// Nodes in use, counts, points and child blocks; outside an iteration none of them is looked at. A node's values are
+/// never looked at here, each of the nine once.
 fn bad_trees(random: &mut SplitMix64) -> Vec<Vec<u64>> {
     let mut found = Vec::new();
     for c in 1..=3 {
         let settings = small(Method::BarnesHut, 5, c);
         let mut case = Case::new(&start(random, settings, 120));
-        for units in [0, 4, 7] {
+        for (turn, units) in [0, 4, 7].into_iter().enumerate() {
             case.plain(units);
             let used = case.record().used as u64;
             let last = (used.max(1) - 1) as usize;
-            for (place, word) in [
-                (0, 6),
-                (0, 5),
-                (2, 6),
-                (2, 5),
-                (1, 0),
-                (1, used),
-                (3 * last, 6),
-                (3 * last + 1, used - used.min(1)),
-                (3 * last + 1, 1),
-                (3 * last + 2, 7),
-                (3 * last + 3, 77),
+            for (node, field, word) in [
+                (0, COUNT, 6),
+                (0, COUNT, 5),
+                (0, LEAF, 6),
+                (0, LEAF, 5),
+                (0, FIRST, 0),
+                (0, FIRST, used),
+                (last, COUNT, 6),
+                (last, FIRST, used - used.min(1)),
+                (last, FIRST, 1),
+                (last, LEAF, 7),
+                (last + 1, COUNT, 77),
             ] {
-                case.there_and_back(Alteration::Place(WORDS, place, word), 0);
+                case.there_and_back(Alteration::Place(NODES, NODE_WORDS * node + field, word), 0);
             }
             for word in [0, 1, used + 1, 121] {
                 case.there_and_back(Alteration::Field(USED, word), 0);
             }
-            case.there_and_back(Alteration::Place(REALS, 7, f64::NAN.to_bits()), 0);
+            case.there_and_back(Alteration::Place(NODES, 3 * (c - 1) + turn, f64::NAN.to_bits()), 0);
         }
         case.plain(u32::MAX);
         found.push(case.done());

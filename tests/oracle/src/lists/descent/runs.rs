@@ -1,6 +1,6 @@
 //! Runs that go well, or are refused by 14 or 15 and go on.
 
-use super::{roomy, tight, Alteration, Call, Case, Start, POSITIONS, RATE, REALS, WORDS};
+use super::{roomy, tight, Alteration, Call, Case, Start, NODES, POSITIONS, RATE};
 use crate::descent::{Answer, Method, Settings};
 use crate::scatter::SplitMix64;
 
@@ -168,8 +168,7 @@ fn short_arenas(random: &mut SplitMix64) -> Vec<Vec<u64>> {
         let mut nodes = 1;
         loop {
             let mut lengths = case.lengths;
-            lengths[REALS] = (9 * nodes + 2).min(lengths[REALS]);
-            lengths[WORDS] = (3 * nodes + 1).min(lengths[WORDS]);
+            lengths[NODES] = nodes.min(lengths[NODES]);
             let call = Call {
                 alteration: Alteration::Nothing,
                 lengths,

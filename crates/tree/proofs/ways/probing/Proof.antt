@@ -1,0 +1,17 @@
+use borrow.Author.Needs.{needs}
+use native.Mathlib.Omega.{arith}
+use borrow.Author.Needs.{needs}
+use Rattle.tree.proofs.ways.probing.Statement.{statement}
+use Rattle.tree.proofs.ways.probing.Tie as tie
+use Rattle.tree.proofs.ways.probing.Reads as reads
+use Rattle.tree.proofs.ways.probing.Lts as lts
+use Rattle.tree_node.proofs.cells.point.Reads as point-reads
+
+point-requires : tie.Need-point-requires
+point-requires c κs = search needs
+
+returns : tie.Need-returns
+returns c = rw (c .point .ensures)
+
+pub probing-spec : {M : Type 1} → statement M
+probing-spec = tie.close (tie.spec point-requires returns)

@@ -1,0 +1,2 @@
+pub mod Repel
+pub mod Turn
