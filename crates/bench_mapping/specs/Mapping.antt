@@ -21,7 +21,7 @@ use Rattle.run_budget.specs.Budget.{Worked}
 use Rattle.descent.specs.Descent.{work, workNumber}
 use Rattle.prepare.specs.declared.Prepared.{Prepared}
 use Rattle.prepare.specs.declared.Prepared.the-variants.{Refused as Turned, Ready}
-use Rattle.prepare.specs.Prepare.{Lent, lent, Outcome, prepared, memoryOf}
+use Rattle.prepare.specs.Prepare.{Lent, lent, PrepareOutcome, prepared, memoryOf}
 use Rattle.bench_mapping.specs.declared.Told.{Told}
 use Rattle.bench_mapping.specs.declared.Told.the-variants.{Long, Record, Refused, Worked as Answered}
 use Rattle.bench_mapping.specs.declared.Mapped.{Mapped}

@@ -18,7 +18,7 @@ use Rattle.tree_node.specs.Node.{pointOf}
 use Rattle.tree.specs.Insert.{Tree, tree, Insertion, insertion}
 use Rattle.tree_bounds.specs.Bounds.{boxOf}
 use Rattle.tree.specs.Box.{boxed}
-use Rattle.tree.proofs.Longer.{Fits, extended, longer-ok, box-longer, insert-longer, built-longer, repelled-longer}
+use Rattle.tree.proofs.Longer.{Fits, extended, longer-ok, box-longer, insert-longer, built-longer, repels-on-longer}
 use Rattle.gradient.specs.Forces.{stored, attractionOf, forcesOf}
 use Rattle.run_entry.specs.State.{Memory, State}
 use Rattle.run_entry.specs.Entry.{GoodTree, Ordered}
@@ -111,7 +111,7 @@ module _ (more : List Node) where
         (λ t.
         let o = group-one R e .tree t in
         let f = tree-fits R (M .nodes) (g .contents t .tree (λ z. omega (arith, z, o .0))) in
-        rw t (ap (λ (a : Acc). stored c i (attractionOf (exaggerationOf R) c (M .positions) (M .affinities) (M .indices) (M .offsets) i) a (M .forces)) (repelled-longer more (R .settings .n) c m (tree (R .used) (M .nodes)) f i (pointOf (M .positions) c i) (mul binary64 (R .settings .angle) (R .settings .angle)))))
+        rw t (ap (λ (a : Acc). stored c i (attractionOf (exaggerationOf R) c (M .positions) (M .affinities) (M .indices) (M .offsets) i) a (M .forces)) (repels-on-longer more (R .settings .n) c m (tree (R .used) (M .nodes)) f i (pointOf (M .positions) c i) (mul binary64 (R .settings .angle) (R .settings .angle)))))
         (λ t. rw t)
 
     -- a unit that is done is done in the longer arena too, and leaves there what it leaves here

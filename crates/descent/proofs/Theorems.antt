@@ -26,7 +26,7 @@ use Rattle.descent.specs.Descent.{work, workNumber, unitsOf, answerKind,
 use Rattle.descent.specs.Honest.{Honest, Roomy}
 use Rattle.run_units.proofs.Rooms.{small-of}
 use Rattle.run_budget.proofs.Keeps.{ordered-looser}
-use Rattle.descent.proofs.Grown.{never-full}
+use Rattle.descent.proofs.Grown.{unit-never-full}
 use Rattle.descent.proofs.Lawful.{lawful, rest-most}
 use Rattle.descent.proofs.Framed.{Framed, work-frames}
 
@@ -247,7 +247,7 @@ never-now b s g room e =
     let f = work-frames b s g in
     let n : workNumber (work b s .answer) ≡ 0 → ⊥ = λ z. let q : _≡_ {A = ℕ} 0 14 = sym z ∙ e in omega arith in
     let here : Roomy (t .run .settings) (length (t .memory .nodes)) = rw (f .1, f .0) room in
-    never-full t (call-keeps b s g) (refusal b s g n .not-ended) here (refused-full b s g e)
+    unit-never-full t (call-keeps b s g) (refusal b s g n .not-ended) here (refused-full b s g e)
 
 -- nor any call after others
 pub never-14 : (bs : List ℕ) (b : ℕ) (s : State) → Honest s → Roomy (s .run .settings) (length (s .memory .nodes)) → workNumber (work b (works bs s) .answer) ≡ 14 → ⊥

@@ -15,9 +15,9 @@ use Rattle.run_budget.specs.declared.Answer.the-variants.{Bad}
 use Rattle.run_budget.specs.Budget.{Worked, worked}
 use Rattle.descent.specs.Descent.{work, workNumber}
 use Rattle.prepare.specs.declared.Prepared.{Prepared}
-use Rattle.prepare.specs.Prepare.{Lent, Outcome, outcome, prepared, prepareNumber}
+use Rattle.prepare.specs.Prepare.{Lent, PrepareOutcome, prepareOutcome, prepared, prepareNumber}
 use Rattle.scatter.specs.declared.Scattered.{Scattered}
-use Rattle.scatter.specs.Scatter.{Outcome as Start, outcome as startOutcome, scatterNumber as startNumber}
+use Rattle.scatter.specs.Scatter.{ScatterOutcome as Start, scatterOutcome as startOutcome, scatterNumber as startNumber}
 use Rattle.desk_words.specs.Words.{settingsFine, settingsOf, runFine, runOf, runAfter, answerPut}
 use Rattle.desk.specs.Desk.{begun, recorded, begunWith, hostPrepare, tell, tellWork, hostWork, orZero}
 
@@ -32,12 +32,12 @@ module _ (s : List ℕ) (table start : List Float) (nodes : ℕ) (l : Lent) (w :
   unfolding hostPrepare
   short-begun e h = rw (e, lt-leb 14 (length w) h)
 
-  module _ {p : Prepared} {l' : Lent} {t : Settings} (e : settingsFine s ≡ true) (h : 14 ≤ length w) (q : t ≡ settingsOf s) (o : outcome p l' ≡ prepared t table start nodes l) where
+  module _ {p : Prepared} {l' : Lent} {t : Settings} (e : settingsFine s ≡ true) (h : 14 ≤ length w) (q : t ≡ settingsOf s) (o : prepareOutcome p l' ≡ prepared t table start nodes l) where
     pub begun-is : {k : ℕ} {w' : List ℕ} → k ≡ prepareNumber p → w' ≡ recorded p w → begun k w' l' ≡ hostPrepare s table start nodes l w
     unfolding hostPrepare
     begun-is ek ew =
-        let o' : outcome p l' ≡ prepared (settingsOf s) table start nodes l = rw q at o in
-        rw (e, le-leb 14 (length w) h, ek, ew) (ap (λ (x : Outcome). begunWith x w) o')
+        let o' : prepareOutcome p l' ≡ prepared (settingsOf s) table start nodes l = rw q at o in
+        rw (e, le-leb 14 (length w) h, ek, ew) (ap (λ (x : PrepareOutcome). begunWith x w) o')
 
 -- ---- the work call
 

@@ -19,7 +19,7 @@ use Rattle.run_budget.specs.Budget.{Worked}
 use Rattle.descent.specs.Descent.{work, workNumber}
 use Rattle.prepare.specs.declared.Prepared.{Prepared}
 use Rattle.prepare.specs.declared.Prepared.the-variants.{Refused, Ready}
-use Rattle.prepare.specs.Prepare.{Lent, Outcome, prepared, prepareNumber}
+use Rattle.prepare.specs.Prepare.{Lent, PrepareOutcome, prepared, prepareNumber}
 use Rattle.desk_words.specs.Words.{settingsFine, settingsOf, runFine, runOf, runPut, runAfter, answerPut, framePut, lengthsPut}
 
 -- ---- preparation
@@ -37,7 +37,7 @@ abbrev pub recorded : Prepared → List ℕ → List ℕ
 recorded (Refused k) w = w
 recorded (Ready r) w = runPut r w
 
-abbrev pub begunWith : Outcome → List ℕ → Begun
+abbrev pub begunWith : PrepareOutcome → List ℕ → Begun
 begunWith o w = begun (prepareNumber (o .answer)) (recorded (o .answer) w) (o .areas)
 
 -- settings in words s that cannot be read, or a record area w of fewer than 14 words: 13, and nothing is changed; else as preparation has it

@@ -182,23 +182,23 @@ module _ (s : Settings) (table start : List Float) (cs : List Cell) (l : Lent) w
 
 module _ (s : Settings) (table start : List Float) (cs : List Cell) (l : Lent) (run : Run) (ready : prepared s table start (length cs) l .answer ≡ Ready run) where
   -- record and areas as preparation leaves them
-  abbrev pub begun : State
-  begun = state run (memoryOf (prepared s table start (length cs) l .areas) cs)
+  abbrev pub begunState : State
+  begunState = state run (memoryOf (prepared s table start (length cs) l .areas) cs)
 
-  pub preparation-honest : Honest begun
+  pub preparation-honest : Honest begunState
   unfolding prepared
   preparation-honest =
       let fault = prepareFault s table start (lengthsOf l (length cs)) in
-      by-bool (Honest begun) (eqb fault 0)
+      by-bool (Honest begunState) (eqb fault 0)
       (λ e. let q : Ready (freshRun s) ≡ Ready run = rw e at ready in
       let same : run ≡ freshRun s = cc in
       rw (e, same) (honest-begin s table start cs l (subst (λ (x : ℕ). Passed s table start (lengthsOf l x)) (sym (nodes-length cs)) (passed s table start (lengthsOf l (length cs)) (eqb-true fault 0 e)))))
       (λ e. absurd (let q : Refused fault ≡ Ready run = rw e at ready in let z : _≡_ {A = ℕ} 0 1 = cc in omega arith))
 
   -- THEOREM 2 from there on: calls one after the other, the last of at least 1, leave everything where one call with the sum leaves it
-  pub demand-three-begun : (bs : List ℕ) (b : ℕ) → 1 ≤ b → OneCall bs b begun
-  demand-three-begun bs b h = demand-three bs b begun preparation-honest h
+  pub demand-three-begun : (bs : List ℕ) (b : ℕ) → 1 ≤ b → OneCall bs b begunState
+  demand-three-begun bs b h = demand-three bs b begunState preparation-honest h
 
   -- and after each call record and memory are those of so many units
-  pub after-each-begun : (bs : List ℕ) → SoMany bs begun
-  after-each-begun bs = after-each bs begun preparation-honest
+  pub after-each-begun : (bs : List ℕ) → SoMany bs begunState
+  after-each-begun bs = after-each bs begunState preparation-honest

@@ -9,9 +9,9 @@ use borrow.Author.Tests.{eq-eqb, ne-eqb}
 use Rattle.run_record.specs.declared.Run.{Run}
 use Rattle.run_record.specs.Record.{advancedOf, closedOf}
 use Rattle.gradient.specs.Element.{normOf}
-use Rattle.step.specs.declared.Answer.{Answer}
-use Rattle.step.specs.declared.Answer.the-variants.{Moved, Refused}
-use Rattle.step.specs.Step.{outcome, finishOf}
+use Rattle.step.specs.declared.Stepped.{Stepped}
+use Rattle.step.specs.declared.Stepped.the-variants.{Moved, Refused}
+use Rattle.step.specs.Step.{stepOutcome, finishOf}
 use Rattle.tree_node.specs.declared.Node.{Node}
 use Rattle.tree.specs.Insert.{tree, insertion, insertOf}
 use Rattle.tree_bounds.specs.Bounds.{boxOf}
@@ -34,7 +34,7 @@ module _ (r : Run) (y : List Float) (ns ns' : List Node) where
 
 -- ---- the finish
 
-module _ (r : Run) (y v g F y' v' g' : List Float) (a : Answer) (q : outcome a y' v' g' ≡ finishOf (beforeOf r y v g F) (r .settings .n) (r .settings .c)) where
+module _ (r : Run) (y v g F y' v' g' : List Float) (a : Stepped) (q : stepOutcome a y' v' g' ≡ finishOf (beforeOf r y v g F) (r .settings .n) (r .settings .c)) where
   pub finish-moved : {t : Run} {norm : Float} → a ≡ Moved → norm ≡ normOf (beforeOf r y v g F .gradients) (r .settings .n * r .settings .c) → t ≡ closedOf r norm → finishTurn t y' v' g' Done ≡ finishUnit r y v g F
   unfolding finishUnit
   finish-moved e m t = rw (sym q, e, t, m)

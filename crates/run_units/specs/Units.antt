@@ -14,11 +14,11 @@ use Rattle.tree.specs.Box.{boxed}
 use Rattle.gradient.specs.Forces.{forcesOf}
 use Rattle.gradient.specs.Exact.{totalRow, gradientRow}
 use Rattle.gradient.specs.Element.{normaliserOf, normOf}
-use Rattle.step.specs.declared.Answer.{Answer}
-use Rattle.step.specs.declared.Answer.the-variants.{Moved, Refused}
+use Rattle.step.specs.declared.Stepped.{Stepped}
+use Rattle.step.specs.declared.Stepped.the-variants.{Moved, Refused}
 use Rattle.step_passes.specs.declared.Pace.{Pace}
 use Rattle.step_passes.specs.Passes.{Before, paced}
-use Rattle.step.specs.Step.{Outcome, finishOf}
+use Rattle.step.specs.Step.{StepOutcome, finishOf}
 use Rattle.run_entry.specs.State.{Memory, State}
 use Rattle.run_units.specs.declared.Why.{Why}
 use Rattle.run_units.specs.declared.Turn.{Turn}
@@ -95,7 +95,7 @@ abbrev pub finishTurn : Run → List Float → List Float → List Float → Why
 finishTurn r y v g w = record { run = r; positions = y; increments = v; gains = g; why = w }
 
 -- the step, then the stop test by the largest gradient; refused, nothing changes
-abbrev pub finishAs : Run → Float → Outcome → Answer → FinishTurn
+abbrev pub finishAs : Run → Float → StepOutcome → Stepped → FinishTurn
 finishAs r norm o Moved = finishTurn (closedOf r norm) (o .positions) (o .increments) (o .gains) Done
 finishAs r norm o (Refused k) = finishTurn r (o .positions) (o .increments) (o .gains) Wild
 
