@@ -22,7 +22,7 @@ use Rattle.tree_contents.specs.Contents.{nodeOk}
 use Rattle.tree_bounds.specs.Bounds.{boxOf}
 use Rattle.tree.specs.Box.{boxed}
 use Rattle.tree_walk.specs.Repel.{repelled}
-use Rattle.tree_walk.proofs.Longer.{repels-on-longer as walked-longer}
+use Rattle.tree_walk.proofs.Longer.{repelled-longer as walked-longer}
 use Rattle.tree.proofs.Grow.{makeStep}
 use Rattle.tree.proofs.Inserting.{Ok, Rises, needs-agree, needs-fuel, ok-start, ok-room, ok-next, inserted-last, inserted-next, tree-facts}
 use Rattle.tree.proofs.Whole.{needed, taken, taken-fits, taken-ends, built-more, built-full}
