@@ -89,7 +89,7 @@ pub fn number(a: Answer) -> u8
         Answer::Finished(_) => 0,
         Answer::Full(_) => 14,
         Answer::Wild(_) => 15,
-        Answer::Bad(f) => fault_number(f),
+        Answer::Bad(t) => fault_number(t),
     }
 }
 
