@@ -88,7 +88,7 @@ range x a b c = subst (λ (l : Float). atMost (div binary64 x l) 1023 × inExp (
 
 -- ---- the cases of exp
 
-pub exp-nan : (x : Float) → ne x x ≡ true → x ≡ expOf x
+pub exp-nan : (x : Float) → ne x x ≡ true → nan ≡ expOf x
 unfolding expOf isNan
 exp-nan x e = rw (is-nan x e)
 
