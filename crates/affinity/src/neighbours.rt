@@ -11,23 +11,10 @@ ghost use Rattle.laws.specs.Area.{zero64};
 ghost use Rattle.elementary.specs.Limits.{neighboursOf};
 ghost use Rattle.affinity_near.specs.Distances.{squaresOf, Squared};
 ghost use Rattle.affinity_near.specs.Near.{valuesOver, indicesOver};
-ghost use Rattle.affinity_sigma.specs.Sigma.{divideStep};
 ghost use Rattle.affinity_lists.specs.Lists.{areas};
 ghost use Rattle.affinity.specs.Laid.{laid};
 ghost use Rattle.affinity.specs.Steps.{sharesLeft, framesLeft};
 ghost use Rattle.affinity.specs.Neighbours.{valuesIn, framesIn, neighbourRow, neighboursListed};
-
-// The first k values, each divided by the norm.
-fn divide_shares(values: &mut [f64], k: usize, norm: f64)
-    requires { ⌜ k ≤ length (now values) ⌝ }
-    ensures { λ _. ⌜ now (values .exit) ≡ loop (divideStep norm) k 0 (now (values .entry)) ⌝ }
-{
-    let mut t = 0;
-    while t < k {
-        values[t] = values[t] / norm;
-        t += 1;
-    }
-}
 
 // The row of frame i, in the first k places of the two areas of a row.
 fn neighbor_row(
@@ -54,7 +41,7 @@ fn neighbor_row(
     affinity_near::distances::distance_row(table, n, f, squares, i, row_values);
     affinity_near::neighbours::nearest(row_values, n, k, i, weights, row_indices);
     affinity_sigma::binary_search_sigma(weights, k, perplexity, row_values);
-    divide_shares(row_values, k, 2.0 * n as f64);
+    affinity_sigma::divide(row_values, k, 2.0 * n as f64);
     affinity_near::neighbours::by_index(row_values, row_indices, k, weights, indices);
 }
 

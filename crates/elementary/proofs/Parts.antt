@@ -215,7 +215,7 @@ ln-whole m k h = rw h
 abbrev zero64 : Float
 zero64 = fin false 0 (pos 0)
 
-pub ln-nan : (v : Float) → ne v v ≡ true → v ≡ lnOf v
+pub ln-nan : (v : Float) → ne v v ≡ true → nan ≡ lnOf v
 unfolding lnOf
 ln-nan v e = rw (is-nan v e)
 

@@ -88,7 +88,7 @@ exp-range x a b c = subst (λ (l : Float). atMost (div binary64 x l) 1023 × inE
 
 -- ---- the cases of exp
 
-pub exp-nan : (x : Float) → ne x x ≡ true → x ≡ expOf x
+pub exp-nan : (x : Float) → ne x x ≡ true → nan ≡ expOf x
 unfolding expOf isNan
 exp-nan x e = rw (is-nan x e)
 

@@ -8,6 +8,7 @@ use Rattle.elementary.proofs.exponential.exp.Statement.{statement}
 use Rattle.elementary.proofs.exponential.exp.Tie as tie
 
 returns : tie.Need-returns
+unfolding ofBits div
 returns c = exp-nan _ (c .if1 .taken)
 
 returns-2 : tie.Need-returns-2

@@ -9,6 +9,7 @@ use Rattle.elementary.proofs.logarithm.ln.Statement.{statement}
 use Rattle.elementary.proofs.logarithm.ln.Tie as tie
 
 returns : tie.Need-returns
+unfolding ofBits div
 returns c = ln-nan _ (c .if1 .taken)
 
 returns-2 : tie.Need-returns-2
