@@ -6,14 +6,9 @@ use Rattle.laws.specs.Loops.{loop, every}
 use Rattle.laws.specs.Area.{at, bits, zero64, one64}
 use Rattle.elementary.specs.Limits.{upTo}
 use Rattle.step.specs.declared.Stepped.the-variants.{Moved, Refused}
-use Rattle.step_gains.specs.Gains.{gainOf, floor64}
+use Rattle.step_gains.specs.Gains.{gainOf}
 use Rattle.step_passes.specs.Passes.{before, centredBy}
 use Rattle.step.specs.Step.{stepOutcome, finishOf}
-
--- j) a gain of 0.012 with agreeing signs becomes 0.01
-pub gain-floor : gainOf (bits 0x3f889374bc6a7efa) one64 one64 ≡ floor64
-unfolding gainOf mul lt add ofBits
-gain-floor = refl
 
 -- a product of zero does not shrink the gain: 1 becomes 1.2
 pub gain-zero : gainOf one64 one64 zero64 ≡ bits 0x3ff3333333333333
