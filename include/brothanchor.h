@@ -23,6 +23,25 @@
  *  15  the step would give a value that is NaN or above 2^100 in magnitude
  *  16  a record of a frame file is bad
  */
+
+/* What areas may hold: any bits, NaNs of every kind among them. A call tests whatever it goes by, so no contents can lead it
+ * outside what is lent. But the memory must have been initialised once, as by calloc: C gives no meaning to reading what never
+ * was. Pointers must fit their elements' alignment, and a pointer and its length must belong together.
+ *
+ * What a refused call writes:
+ *   sizes, prepare, scatter, frame   nothing
+ *   frames                           with 16 the place of the bad record; with 12 nothing
+ *   work, refused at its entry       (12, 13) the answer and nothing else; with an answer area that is too short nothing
+ *   work, refused by a unit          (14, 15) all that the units before it wrote: record and memory are as after these units,
+ *                                    which the answer counts, and the refused unit has changed nothing
+ * After 14 or 15 the run is still running, and the next call begins with the refused unit. After 14 it goes on where the nodes
+ * are moved to a longer arena, those in use with their contents.
+ *
+ * Stack: a call takes less than 16 KiB where the nodes are those that the library wrote; such trees are at most 51 levels deep.
+ * Altered nodes can hang below each other as deep as there are nodes in use. Then a work call takes about 2.4 KiB more for each
+ * 256 levels: 2 MiB are enough for every arena as long as brothanchor_sizes tells, 8 MiB for 800,000 levels. No other call
+ * grows with what it is lent. A work call over altered nodes ends too, but where they share children it may visit twice as many
+ * at each level. */
 #ifndef BROTHANCHOR_H
 #define BROTHANCHOR_H
 

@@ -64,6 +64,61 @@ impl Both {
     }
 }
 
+/// What a call is lent, by parts.
+pub const PARTS: [&str; 10] = [
+    "lengths",
+    "record",
+    "positions",
+    "increments",
+    "gains",
+    "affinities",
+    "indices",
+    "offsets",
+    "forces",
+    "nodes",
+];
+
+impl Both {
+    /// The first part that has other bits than the other's, but for one that is not looked at. Of areas of two lengths the
+    /// common places are compared.
+    pub fn difference(&self, other: &Both, but: Option<usize>) -> Option<usize> {
+        let (a, b) = (&self.areas, &other.areas);
+        let values = |a: &[f64], b: &[f64]| a.iter().zip(b).all(|(a, b)| a.to_bits() == b.to_bits());
+        let numbers = |a: &[u32], b: &[u32]| a.iter().zip(b).all(|(a, b)| a == b);
+        let same = [
+            lengths(a) == lengths(b),
+            self.record == other.record,
+            values(&a.positions, &b.positions),
+            values(&a.increments, &b.increments),
+            values(&a.gains, &b.gains),
+            values(&a.affinities, &b.affinities),
+            numbers(&a.indices, &b.indices),
+            numbers(&a.offsets, &b.offsets),
+            values(&a.forces, &b.forces),
+            a.nodes.iter().zip(&b.nodes).all(|(a, b)| node_bits(a) == node_bits(b)),
+        ];
+        (0..PARTS.len()).find(|&part| !same[part] && Some(part) != but)
+    }
+}
+
+fn lengths(areas: &Areas) -> [usize; 8] {
+    [
+        areas.positions.len(),
+        areas.increments.len(),
+        areas.gains.len(),
+        areas.affinities.len(),
+        areas.indices.len(),
+        areas.offsets.len(),
+        areas.forces.len(),
+        areas.nodes.len(),
+    ]
+}
+
+fn node_bits(node: &Node) -> ([[u64; 3]; 3], [u32; 3]) {
+    let values = [node.centre, node.half, node.mass].map(|three| three.map(f64::to_bits));
+    (values, [node.count, node.first, node.leaf])
+}
+
 /// The number of a refusal, or 0.
 pub fn number(worked: &Worked) -> u64 {
     match worked.kind {
