@@ -139,3 +139,13 @@ lengthsPut s w =
     cond (isTree (s .method))
     (set (set (set (set v 1 (sizesOf s .links)) 2 (sizesOf s .links)) 3 (s .n + 1)) 6 (enoughNodes (s .c) (s .n)))
     (set (set (set (set v 1 (sizesOf s .square)) 2 0) 3 0) 6 0)
+
+-- ---- a call that writes words
+
+-- its answer's number, and the words as it leaves them
+pub record Worded : Type 0 where
+  pub number : ℕ
+  pub words : List ℕ
+
+abbrev pub worded : ℕ → List ℕ → Worded
+worded k w = record { number = k; words = w }
