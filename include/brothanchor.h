@@ -82,7 +82,8 @@ enum {
     BROTHANCHOR_NUMBER, /* of the refusal, or 0 */
     BROTHANCHOR_UNITS,  /* units done in this call */
     BROTHANCHOR_FAULT,  /* 0 none, 1 settings, 2 counters, 3 areas, 4 offsets, 5 listed index, 6 tree */
-    BROTHANCHOR_VALUE,  /* with it: the number that the settings would have had, the frame, the place, the node */
+    BROTHANCHOR_VALUE,  /* with it: the number that the settings would have had (13 for a method that there is not), the frame,
+                           the place, the node */
     BROTHANCHOR_ANSWER_WORDS
 };
 
@@ -119,8 +120,8 @@ typedef char brothanchor_node_has_88_bytes[sizeof(struct brothanchor_node) == 88
 uint32_t brothanchor_sizes(const uint64_t *settings, size_t settings_length, uint64_t *sizes, size_t sizes_length);
 
 /* Prepares a run and writes its record. Answers 0 or the number of the refusal; refused, nothing is changed. 13 where the
- * words are no settings or the record area is shorter than fourteen words. Of the arena it is told the number of nodes, no
- * more: preparation reads and writes none. */
+ * words are no settings, before all else; then 1 to 12 in their order. A record area shorter than fourteen words is 12, as
+ * any other area. Of the arena it is told the number of nodes, no more: preparation reads and writes none. */
 uint32_t brothanchor_prepare(
     const uint64_t *settings, size_t settings_length,
     const double *table, size_t table_length,
@@ -138,8 +139,10 @@ uint32_t brothanchor_prepare(
     uint64_t *record, size_t record_length);
 
 /* Does units until the budget is done, one is refused or the run has ended. Answers 0 or the number of the refusal, and
- * writes record and answer. Refused at its entry (12, 13) it writes the answer alone, and leaves the record to the last bit.
- * 12 where the answer area is shorter than five words: then nothing is changed at all. */
+ * writes the answer and, of the record, the five words after the settings: the settings keep their bits. Refused at its
+ * entry (12, 13) it writes the answer alone. An answer area shorter than five words is 12 before all else, and nothing is
+ * changed: without it nothing can be told. Then words that are no record are 13: too few of them, told as counters; a
+ * method that there is not, told as settings with the value 13; a state that there is not, told as counters. */
 uint32_t brothanchor_work(
     uint64_t *record, size_t record_length,
     double *positions, size_t positions_length,

@@ -1,0 +1,8 @@
+pub mod Laws
+pub mod Lends
+pub mod ByValue
+pub mod CallsIsUnread
+pub mod CallsPutUnread
+pub mod CallsRunOf
+pub mod CallsPutAfter
+pub mod CallsPutAnswer
