@@ -101,8 +101,19 @@ pub fn neighbor_probabilities(
     row_indices: &mut [u32],
 )
     requires { ⌜ (2 ≤ n) × (n ≤ mostFrames) × (lt zero64 perplexity ≡ true) × (lt perplexity (ofInt binary64 (pos n)) ≡ true) ⌝ }
-    requires { ⌜ (n * f ≤ length (now table)) × (2 * (n * neighboursOf perplexity n) ≤ length (now weights)) × (2 * (n * neighboursOf perplexity n) ≤ length (now indices)) × (n + 1 ≤ length (now offsets)) × (n ≤ length (now squares)) × (n ≤ length (now «row_values»)) × (n ≤ length (now «row_indices»)) ⌝ }
-    ensures { λ _. ⌜ areas (now (weights .exit)) (now (indices .exit)) (now (offsets .exit)) (now («row_values» .exit)) (now («row_indices» .exit)) ≡ neighboursListed (now (table .entry)) n f perplexity (areas (now (weights .entry)) (now (indices .entry)) (now (offsets .entry)) (now («row_values» .entry)) (now («row_indices» .entry))) ⌝ }
+    requires { ⌜
+        (n * f ≤ length (now table))
+        × (2 * (n * neighboursOf perplexity n) ≤ length (now weights))
+        × (2 * (n * neighboursOf perplexity n) ≤ length (now indices))
+        × (n + 1 ≤ length (now offsets))
+        × (n ≤ length (now squares))
+        × (n ≤ length (now «row_values»))
+        × (n ≤ length (now «row_indices»))
+        ⌝ }
+    ensures { λ _. ⌜
+        areas (now (weights .exit)) (now (indices .exit)) (now (offsets .exit)) (now («row_values» .exit)) (now («row_indices» .exit))
+        ≡ neighboursListed (now (table .entry)) n f perplexity (areas (now (weights .entry)) (now (indices .entry)) (now (offsets .entry)) (now («row_values» .entry)) (now («row_indices» .entry)))
+        ⌝ }
     ensures { λ _. ⌜ now (squares .exit) ≡ squaresOf (now (table .entry)) n f (now (squares .entry)) ⌝ }
 {
     let k = elementary::limits::neighbours(perplexity, n as u64) as usize;

@@ -4,7 +4,6 @@ use mathlib.Core.Bool.{Bool, true, false, cond, not}
 use Prim.Native.Nat.{ℕ, _-_, _*_}
 use lib.Dec.{eqb, ltb}
 use lib.Ieee.{Float}
-use Rattle.laws.specs.Area.{zero64}
 use Rattle.run_record.specs.declared.Run.{Run}
 use Rattle.run_record.specs.Record.{isTree, isEnded, advancedOf, closedOf}
 use Rattle.run_plan.specs.Plan.{exaggerationOf, momentumOf, groupOf}

@@ -70,7 +70,10 @@ pub fn sum_moves(
     sums: &mut [f64; 8],
 ) -> bool
     requires { ⌜ (0 < c) × (c ≤ 8) × (m ≡ n * c) × (n * (2 * c + 1) ≤ length (now forces)) × (n * c ≤ length (now positions)) × (n * c ≤ length (now increments)) × (n * c ≤ length (now gains)) ⌝ }
-    ensures { λ r. ⌜ (r ≡ calmMoves (paced pace c (now (forces .entry)) (now (positions .entry)) (now (increments .entry)) (now (gains .entry))) m) × (now (sums .exit) ≡ loop (sumStep (paced pace c (now (forces .entry)) (now (positions .entry)) (now (increments .entry)) (now (gains .entry))) c) m 0 (now (sums .entry))) ⌝ }
+    ensures { λ r. ⌜
+        (r ≡ calmMoves (paced pace c (now (forces .entry)) (now (positions .entry)) (now (increments .entry)) (now (gains .entry))) m)
+        × (now (sums .exit) ≡ loop (sumStep (paced pace c (now (forces .entry)) (now (positions .entry)) (now (increments .entry)) (now (gains .entry))) c) m 0 (now (sums .entry)))
+        ⌝ }
 {
     let mut calm = true;
     let mut e = 0;
@@ -136,7 +139,11 @@ pub fn write_moves(
     means: &[f64; 8],
 )
     requires { ⌜ (0 < c) × (c ≤ 8) × (m ≡ n * c) × (n * (2 * c + 1) ≤ length (now forces)) × (n * c ≤ length (now positions)) × (n * c ≤ length (now increments)) × (n * c ≤ length (now gains)) ⌝ }
-    ensures { λ _. ⌜ (now (positions .exit) ≡ loop (positionStep (now (means .entry)) (paced pace c (now (forces .entry)) (now (positions .entry)) (now (increments .entry)) (now (gains .entry))) c) m 0 (now (positions .entry))) × (now (increments .exit) ≡ loop (incrementStep (paced pace c (now (forces .entry)) (now (positions .entry)) (now (increments .entry)) (now (gains .entry)))) m 0 (now (increments .entry))) × (now (gains .exit) ≡ loop (gainStep (paced pace c (now (forces .entry)) (now (positions .entry)) (now (increments .entry)) (now (gains .entry)))) m 0 (now (gains .entry))) ⌝ }
+    ensures { λ _. ⌜
+        (now (positions .exit) ≡ loop (positionStep (now (means .entry)) (paced pace c (now (forces .entry)) (now (positions .entry)) (now (increments .entry)) (now (gains .entry))) c) m 0 (now (positions .entry)))
+        × (now (increments .exit) ≡ loop (incrementStep (paced pace c (now (forces .entry)) (now (positions .entry)) (now (increments .entry)) (now (gains .entry)))) m 0 (now (increments .entry)))
+        × (now (gains .exit) ≡ loop (gainStep (paced pace c (now (forces .entry)) (now (positions .entry)) (now (increments .entry)) (now (gains .entry)))) m 0 (now (gains .entry)))
+        ⌝ }
 {
     let mut e = 0;
     while e < m {
