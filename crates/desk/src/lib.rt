@@ -10,8 +10,10 @@ ghost use Rattle.desk_runs.specs.Runs.{hostPrepared, hostPrepare, hostWorked, h
 use desk_files::host_frame;
 use desk_files::host_frames;
 use desk_files::host_scatter;
+use desk_record::host_iterations;
 use desk_record::host_sizes;
-use desk_record::said;
+use desk_record::host_state;
+use desk_record::host_units;
 use desk_runs::host_prepare;
 use desk_runs::host_work;
 use tree_node::Cell;
@@ -94,7 +96,7 @@ pub extern "C" fn brothanchor_work(
 pub extern "C" fn brothanchor_state(record: &[u64]) -> u64
     ensures { λ k. ⌜ k ≡ saidOf 9 3 (now («record» .entry)) ⌝ }
 {
-    said(record, 9, 3)
+    host_state(record)
 }
 
 // Iterations done; 0 where the words are no record.
@@ -102,7 +104,7 @@ pub extern "C" fn brothanchor_state(record: &[u64]) -> u64
 pub extern "C" fn brothanchor_iterations(record: &[u64]) -> u64
     ensures { λ k. ⌜ k ≡ saidOf 10 0 (now («record» .entry)) ⌝ }
 {
-    said(record, 10, 0)
+    host_iterations(record)
 }
 
 // Units done in all; 0 where the words are no record.
@@ -110,7 +112,7 @@ pub extern "C" fn brothanchor_iterations(record: &[u64]) -> u64
 pub extern "C" fn brothanchor_units(record: &[u64]) -> u64
     ensures { λ k. ⌜ k ≡ saidOf 12 0 (now («record» .entry)) ⌝ }
 {
-    said(record, 12, 0)
+    host_units(record)
 }
 
 // ---- starting positions and the frame file

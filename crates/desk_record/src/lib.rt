@@ -28,8 +28,10 @@ pub fn host_sizes(settings: &[u64], sizes: &mut [u64]) -> u32
     0
 }
 
+// ---- what a record says
+
 // Word i of a record, or another number where the words are no record.
-pub fn said(record: &[u64], i: usize, other: u64) -> u64
+fn said(record: &[u64], i: usize, other: u64) -> u64
     requires { ⌜ i < 14 ⌝ }
     ensures { λ k. ⌜ k ≡ saidOf i other (now («record» .entry)) ⌝ }
 {
@@ -37,4 +39,25 @@ pub fn said(record: &[u64], i: usize, other: u64) -> u64
         return other;
     }
     record[i]
+}
+
+// 0 running, 1 stopped, 2 finished; 3 where the words are no record.
+pub fn host_state(record: &[u64]) -> u64
+    ensures { λ k. ⌜ k ≡ saidOf 9 3 (now («record» .entry)) ⌝ }
+{
+    said(record, 9, 3)
+}
+
+// Iterations done; 0 where the words are no record.
+pub fn host_iterations(record: &[u64]) -> u64
+    ensures { λ k. ⌜ k ≡ saidOf 10 0 (now («record» .entry)) ⌝ }
+{
+    said(record, 10, 0)
+}
+
+// Units done in all; 0 where the words are no record.
+pub fn host_units(record: &[u64]) -> u64
+    ensures { λ k. ⌜ k ≡ saidOf 12 0 (now («record» .entry)) ⌝ }
+{
+    said(record, 12, 0)
 }

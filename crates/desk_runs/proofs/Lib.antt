@@ -1,5 +1,6 @@
 pub mod Laws
 pub mod Lends
+pub mod Theorems
 pub mod ByValue
 pub mod CallsIsUnread
 pub mod CallsPutUnread

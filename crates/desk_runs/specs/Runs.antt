@@ -1,5 +1,5 @@
 -- What preparation and the work call leave and answer, with settings, record and answer as plain words. Definitions only.
-use mathlib.Core.List.{List}
+use mathlib.Core.List.{List, [], _∷_}
 use mathlib.Core.Bool.{cond}
 use Prim.Native.Nat.{ℕ}
 use lib.Dec.{eqb, ltb}
@@ -7,7 +7,7 @@ use lib.ListN.{length}
 use lib.Ieee.{Float}
 use Rattle.run_entry.specs.declared.Fault.{Fault}
 use Rattle.run_entry.specs.declared.Fault.the-variants.{Settings as BadSettings, Counters}
-use Rattle.run_entry.specs.State.{Memory, state}
+use Rattle.run_entry.specs.State.{Memory, State, state}
 use Rattle.run_budget.specs.declared.Answer.the-variants.{Bad}
 use Rattle.run_budget.specs.Budget.{Worked}
 use Rattle.descent.specs.Descent.{work, workNumber}
@@ -72,3 +72,16 @@ unfoldable pub hostWork : ℕ → List ℕ → List ℕ → Memory → HostWorke
 hostWork b w a m =
     cond (ltb (length a) 5) (hostWorked 12 a w m)
     (cond (runFine w) (workedIn (work b (state (runOf w) m)) a w) (hostWorked 13 (answerPut (Bad (unreadFault w)) a) w m))
+
+-- ---- calls one after the other, from what a call has left
+
+-- what is worked on, as the words say it
+abbrev pub hostState : HostWorked → State
+hostState h = state (runOf (h .run)) (h .memory)
+
+abbrev pub hostNext : ℕ → HostWorked → HostWorked
+hostNext b h = hostWork b (h .run) (h .answer) (h .memory)
+
+unfoldable pub hostWorks : List ℕ → HostWorked → HostWorked
+hostWorks [] h = h
+hostWorks (b ∷ bs) h = hostWorks bs (hostNext b h)

@@ -44,19 +44,24 @@ impl Both {
         let before = self.record;
         let worked = work(&mut self.record, &mut self.areas, budget);
         if before.words[3] > 1 || before.words[9] > 2 {
-            // No method or no state: the words are no record, which is told as bad counters.
-            assert_eq!(worked.words, [3, 13, 0, 2, 0]);
+            // The words are no record: a method that there is not is told as settings, a state as counters.
+            let told = if before.words[3] > 1 {
+                [3, 13, 0, 1, 13]
+            } else {
+                [3, 13, 0, 2, 0]
+            };
+            assert_eq!(worked.words, told);
             assert_eq!(self.record, before);
         } else {
             let mut record = record_of(&before.words);
             let fault = descent::fault(&record, &theirs);
             let answer = descent::work(&mut record, &mut theirs, budget);
             assert_eq!(worked.words, answer_words(answer, fault));
-            let wanted = if fault.is_some() {
-                before.words
-            } else {
-                words_of(&record)
-            };
+            // A call that is refused at its entry changes no word, any other the five after the settings.
+            let mut wanted = before.words;
+            if fault.is_none() {
+                wanted[9..].copy_from_slice(&words_of(&record)[9..]);
+            }
             assert_eq!(self.record.words, wanted);
         }
         same_areas(&self.areas, &theirs);
