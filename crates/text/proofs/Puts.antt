@@ -1,12 +1,13 @@
 -- Text put into an area: the loop that puts a string, and texts put one after the other. Assumes nothing.
 use mathlib.Core.Path.{_≡_, refl, sym, ap, _∙_}
-use mathlib.Core.List.{List, _++_, append-assoc}
+use mathlib.Core.List.{List, [], _++_, append-assoc}
 use Prim.Native.Nat.{ℕ, _+_, _-_, _<_, _≤_}
 use native.Mathlib.Omega.{arith}
 use native.Mathlib.Numerals.{add-one}
-use native.Mathlib.Nat.{le-antisymm}
+use native.Mathlib.Nat.{le-antisymm, zero-add}
 use lib.ListN.{length, getD, set, take, drop, length-set, length-append, length-drop}
 use lib.Seq.{paste, paste-zero, paste-suc, take-length, length-take-le, take-at, drop-at, drop-drop}
+use Rattle.io.specs.Counts.{Counts}
 use Rattle.text.specs.Text.{written, Puts}
 
 -- ---- the loop: i bytes of w are put at place a
@@ -40,6 +41,10 @@ module _ {w l₀ : List ℕ} {a : ℕ} where
       }
 
 -- ---- texts one after the other
+
+-- nothing
+pub puts-none : (a : ℕ) (l : List ℕ) → a ≤ length l → Puts [] a l a l
+puts-none a l h = record { place = omega arith; room = h; area = paste-zero l a [] }
 
 module _ {w : List ℕ} {a b : ℕ} {l m : List ℕ} (p : Puts w a l b m) where
   -- the front, up to the place after w
@@ -77,3 +82,9 @@ module _ {w : List ℕ} {a b : ℕ} {l m : List ℕ} (p : Puts w a l b m) where
           ∙ ap (drop (length v)) (drop-at (take a l ++ w) (drop b l) b front)
           ∙ drop-drop (length v) b l
           ∙ ap (λ (x : ℕ). drop x l) (sum (length w) (length v) (p .place) refl (length-append w v))
+
+-- a text at the start of an area
+pub puts-front : {w l m : List ℕ} {b : ℕ} → Puts w 0 l b m → Counts b m × ((b ≡ length w) × (m ≡ written w 0 l))
+puts-front {w} {l} {m} {b} p =
+    let e : b ≤ length m = omega (arith, p .room, puts-size p) in
+    ((e, sym (length-take-le b m e)), (p .place ∙ zero-add (length w), p .area))

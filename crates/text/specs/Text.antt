@@ -1,11 +1,18 @@
 -- Numbers as text, and text in a lent area of bytes. Definitions only.
 use mathlib.Core.Path.{_≡_}
-use mathlib.Core.List.{List, _++_}
+use mathlib.Core.List.{List, [], _∷_, _++_}
 use Prim.Native.Nat.{ℕ, _+_, _^_, _≤_}
 use lib.Dec.{ltb}
 use lib.ListN.{length, take, drop}
 use Rattle.io.specs.Digits.{digits}
 use Rattle.laws.specs.Loops.{first}
+
+-- a space, and the end of a line
+abbrev pub space : List ℕ
+space = 32 ∷ []
+
+abbrev pub lineEnd : List ℕ
+lineEnd = 10 ∷ []
 
 -- how many decimal digits a number below 2^64 takes, at least one
 unfoldable pub decimals : ℕ → ℕ

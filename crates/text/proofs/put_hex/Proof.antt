@@ -1,13 +1,8 @@
 use borrow.Author.Needs.{needs}
 use native.Mathlib.Omega.{arith}
 use Rattle.text.proofs.Fewest.{hex-room, hex-put}
-use borrow.Author.Needs.{needs}
 use Rattle.text.proofs.put_hex.Statement.{statement}
 use Rattle.text.proofs.put_hex.Tie as tie
-use Rattle.text.proofs.put_hex.Reads as reads
-use Rattle.text.proofs.put_hex.Lts as lts
-use Rattle.io.proofs.hex.Reads as hex-reads
-use Rattle.text.proofs.put.Reads as put-reads
 
 hex-requires : tie.Need-hex-requires
 hex-requires c κs = search needs
