@@ -1,5 +1,5 @@
 -- What is so of every run, with its record as words: the theorems on records as values (descent, Theorems; prepare, Begins) over the two calls that a host makes. Assumes nothing.
-use mathlib.Core.List.{List, [], _∷_}
+use mathlib.Core.List.{List, [], _∷_, _++_}
 use mathlib.Core.Path.{_≡_, refl, sym, ap, subst, _∙_}
 use mathlib.Core.Bool.{Bool, true, false, true≢false}
 use Prim.Native.Nat.{ℕ, zero, suc, _+_, _<_, _≤_}
@@ -19,17 +19,20 @@ use Rattle.run_record.specs.declared.Run.{Run}
 use Rattle.run_record.specs.declared.Settings.{Settings}
 use Rattle.run_record.specs.Record.{isEnded}
 use Rattle.run_entry.specs.State.{Memory, State, state}
-use Rattle.run_entry.specs.Entry.{faultOf, isFine}
+use Rattle.run_entry.specs.Entry.{faultOf, isFine, Good}
 use Rattle.run_units.specs.declared.Why.{Why}
 use Rattle.run_units.specs.declared.Why.the-variants.{Done, Full as NoNodes, Wild as TooLarge, Over}
 use Rattle.run_units.specs.Units.{unit}
 use Rattle.run_budget.specs.declared.Answer.{Answer}
+use Rattle.run_budget.specs.declared.Answer.the-variants.{Running, Stopped, Finished, Full, Wild, Bad}
 use Rattle.run_budget.specs.Budget.{machine, Worked, answerOf, standsOf, refusedOf}
 use Rattle.run_budget.proofs.Keeps.{unit-settings}
 use Rattle.run_budget.proofs.Spends.{due}
-use Rattle.descent.specs.Descent.{work, workNumber, works, toldAll}
+use Rattle.descent.specs.Descent.{work, workNumber, unitsOf, answerKind, isLast, wholeUnits, works, toldAll}
 use Rattle.descent.specs.Honest.{Honest, Roomy}
-use Rattle.descent.proofs.Theorems.{demand-three, after-each, never-14, Refused, refusal}
+use Rattle.descent.specs.Longer.{Holds, lentArena}
+use Rattle.descent.proofs.Theorems.{demand-three, after-each, stays-honest, ends-in-time, never-14, Refused, refusal}
+use Rattle.descent.proofs.Lent.{goes-on-lent}
 use Rattle.prepare.specs.declared.Prepared.{Prepared}
 use Rattle.prepare.specs.declared.Prepared.the-variants.{Ready}
 use Rattle.prepare.specs.Prepare.{Lent, lengthsOf, prepareFault, freshRun, prepared, memoryOf, prepareNumber}
@@ -37,7 +40,7 @@ use Rattle.prepare.proofs.Begins.{preparation-honest}
 use Rattle.desk_words.specs.Words.{settingsFine, settingsOf, runFine, runOf, runPut, isBad, runAfter, answerPut}
 use Rattle.desk_words.proofs.Laws.{run-long}
 use Rattle.desk_words.proofs.Roundtrip.{read-sayable, run-back, run-back-fine, progress-back, progress-fine}
-use Rattle.desk_runs.specs.Runs.{HostPrepared, recorded, preparedIn, shortNumber, hostPrepare, HostWorked, hostWorked, workedIn, hostWork, hostState, hostNext, hostWorks}
+use Rattle.desk_runs.specs.Runs.{HostPrepared, recorded, preparedIn, shortNumber, hostPrepare, HostWorked, hostWorked, workedIn, hostWork, hostState, hostNext, hostWorks, inCells}
 
 -- ---- no call changes the settings, and one that is refused at its entry changes nothing
 
@@ -135,26 +138,79 @@ unfolding hostWorks works
 works-state [] h g = refl
 works-state (b ∷ bs) h g = works-state bs (hostNext b h) (next-readable b h g) ∙ ap (works bs) (next-state b h g)
 
--- ---- the theorems, of an honest state that words say
+-- ---- the theorems over words
+
+module _ (h : HostWorked) (g : Readable h) where
+  -- after each call, whatever was lent, record and memory are those of so many units as the answers tell
+  pub host-after-each : (bs : List ℕ) → hostState (hostWorks bs h) ≡ times (λ (x : State). unit x .now) (toldAll bs (hostState h)) (hostState h)
+  host-after-each bs = works-state bs h g ∙ after-each bs (hostState h) .left
+
+  -- whatever was lent, where the entry tests pass: a call that answers a number leaves record and memory as after the units that it tells, and there the next unit is refused
+  pub host-refusal : Good (hostState h) → (b : ℕ) → (hostNext b h .number ≡ 0 → ⊥) → (hostState (hostNext b h) ≡ work b (hostState h) .left) × Refused b (hostState h)
+  host-refusal good b n = (next-state b h g, refusal b (hostState h) good (λ e. n (next-number b h g ∙ e)))
+
+-- the number says which kind of answer it is, units aside
+number-kind : (a : Answer) → workNumber (answerKind a) ≡ workNumber a
+unfolding workNumber answerKind
+number-kind (Running d) = refl
+number-kind (Stopped d) = refl
+number-kind (Finished d) = refl
+number-kind (Full d) = refl
+number-kind (Wild d) = refl
+number-kind (Bad f) = refl
+
+same-number : (a b : Answer) → answerKind a ≡ answerKind b → workNumber a ≡ workNumber b
+same-number a b e = sym (number-kind a) ∙ ap workNumber e ∙ number-kind b
+
+-- demand 3 over words: calls with bs and then b, beside one call with B
+pub record HostOneCall (bs : List ℕ) (b B : ℕ) (h : HostWorked) : Type 0 where
+  -- the record that the words say and every area are left the same
+  pub left : hostState (hostNext b (hostWorks bs h)) ≡ hostState (hostNext B h)
+  -- the number answered is the same
+  pub number : hostNext b (hostWorks bs h) .number ≡ hostNext B h .number
+  -- the words of the last answer are put from an answer of the same kind
+  pub told : hostNext b (hostWorks bs h) .answer ≡ answerPut (work b (hostState (hostWorks bs h)) .answer) (hostWorks bs h .answer)
+  pub told-once : hostNext B h .answer ≡ answerPut (work B (hostState h) .answer) (h .answer)
+  pub kind : answerKind (work b (hostState (hostWorks bs h)) .answer) ≡ answerKind (work B (hostState h) .answer)
+  -- and its units, with those told before, are that call's
+  pub units : toldAll bs (hostState h) + unitsOf (work b (hostState (hostWorks bs h)) .answer) ≡ unitsOf (work B (hostState h) .answer)
 
 module _ (h : HostWorked) (g : Readable h) (honest : Honest (hostState h)) where
-  -- demand 3: calls one after the other, the last of at least 1, leave record and memory where one call with the sum, or 2^32 − 1, leaves them
-  pub host-demand-three : (bs : List ℕ) (b : ℕ) → 1 ≤ b → hostState (hostNext b (hostWorks bs h)) ≡ hostState (hostNext (capped (together bs + b)) h)
+  -- for any budgets whose last is at least 1, and one call with their sum, or 2^32 − 1
+  pub host-demand-three : (bs : List ℕ) (b : ℕ) → 1 ≤ b → HostOneCall bs b (capped (together bs + b)) h
   host-demand-three bs b l =
-      next-state b (hostWorks bs h) (works-readable bs h g) ∙ ap (λ (s : State). work b s .left) (works-state bs h g) ∙ demand-three bs b (hostState h) honest l .left ∙ sym (next-state (capped (together bs + b)) h g)
-
-  -- after each call record and memory are those of so many units as the answers tell
-  pub host-after-each : (bs : List ℕ) → hostState (hostWorks bs h) ≡ times (λ (x : State). unit x .now) (toldAll bs (hostState h)) (hostState h)
-  host-after-each bs = works-state bs h g ∙ after-each bs (hostState h) honest .left
+      let B = capped (together bs + b) in
+      let d = demand-three bs b (hostState h) honest l in
+      let r = works-readable bs h g in
+      let e : hostState (hostWorks bs h) ≡ works bs (hostState h) = works-state bs h g in
+      let k : answerKind (work b (hostState (hostWorks bs h)) .answer) ≡ answerKind (work B (hostState h) .answer) = rw e (d .kind) in
+      record {
+        left = next-state b (hostWorks bs h) r ∙ ap (λ (s : State). work b s .left) e ∙ d .left ∙ sym (next-state B h g);
+        number = next-number b (hostWorks bs h) r ∙ same-number (work b (hostState (hostWorks bs h)) .answer) (work B (hostState h) .answer) k ∙ sym (next-number B h g);
+        told = ap (λ (x : HostWorked). x .answer) (next-is b (hostWorks bs h) r);
+        told-once = ap (λ (x : HostWorked). x .answer) (next-is B h g);
+        kind = k;
+        units = rw e (d .units);
+      }
 
   -- with room for all splits no call answers 14
   pub host-never-14 : (bs : List ℕ) (b : ℕ) → Roomy (hostState h .run .settings) (length (h .memory .nodes)) → hostNext b (hostWorks bs h) .number ≡ 14 → ⊥
   host-never-14 bs b room e =
       never-14 bs b (hostState h) honest room (ap (λ (s : State). workNumber (work b s .answer)) (sym (works-state bs h g)) ∙ sym (next-number b (hostWorks bs h) (works-readable bs h g)) ∙ e)
 
-  -- a call that answers a number leaves record and memory as after the units that it tells, and there the next unit is refused
-  pub host-refusal : (b : ℕ) → (hostNext b h .number ≡ 0 → ⊥) → (hostState (hostNext b h) ≡ work b (hostState h) .left) × Refused b (hostState h)
-  host-refusal b n = (next-state b h g, refusal b (hostState h) honest (λ e. n (next-number b h g ∙ e)))
+  -- a call with all units answers stopped, finished, 14 or 15
+  pub host-ends-in-time : (b : ℕ) → wholeUnits (hostState h) ≤ b → (hostNext b h .answer ≡ answerPut (work b (hostState h) .answer) (h .answer)) × (isLast (work b (hostState h) .answer) ≡ true)
+  host-ends-in-time b l = (ap (λ (x : HostWorked). x .answer) (next-is b h g), ends-in-time b (hostState h) honest l)
+
+  -- a call leaves the arena in the cells ds; further cells are put behind them, and the run goes on as one does that had them from the start
+  pub host-goes-on-lent : (more : List Cell) (b c : ℕ) (cs ds : List Cell) → Holds cs (hostState h) → Holds ds (hostState (hostNext b h)) → hostState (hostNext c (inCells (ds ++ more) (hostNext b h))) ≡ hostState (hostNext (unitsOf (work b (hostState h) .answer) + c) (inCells (cs ++ more) h))
+  host-goes-on-lent more b c cs ds e e' =
+      let n = next-state b h g in
+      let there = next-readable b h g in
+      let first = next-state c (inCells (ds ++ more) (hostNext b h)) (record { fine = there .fine; room = there .room }) in
+      let second = next-state (unitsOf (work b (hostState h) .answer) + c) (inCells (cs ++ more) h) (record { fine = g .fine; room = g .room }) in
+      let on = goes-on-lent more b c (hostState h) honest cs ds e (subst (Holds ds) n e') in
+      first ∙ ap (λ (s : State). work c (lentArena (ds ++ more) s) .left) n ∙ on .left ∙ sym second
 
 -- ---- from preparation on
 
@@ -212,15 +268,21 @@ module _ (s : List ℕ) (table start : List Float) (cs : List Cell) (l : Lent) (
     host-begun-honest =
         rw (read-fresh, prepared-is) (preparation-honest (settingsOf s) table start cs l fresh answer-is)
 
-    pub begun-demand-three : (bs : List ℕ) (b : ℕ) → 1 ≤ b → hostState (hostNext b (hostWorks bs hostBegun)) ≡ hostState (hostNext (capped (together bs + b)) hostBegun)
+    pub begun-demand-three : (bs : List ℕ) (b : ℕ) → 1 ≤ b → HostOneCall bs b (capped (together bs + b)) hostBegun
     begun-demand-three = host-demand-three hostBegun begun-readable host-begun-honest
 
     pub begun-after-each : (bs : List ℕ) → hostState (hostWorks bs hostBegun) ≡ times (λ (x : State). unit x .now) (toldAll bs (hostState hostBegun)) (hostState hostBegun)
-    begun-after-each = host-after-each hostBegun begun-readable host-begun-honest
+    begun-after-each = host-after-each hostBegun begun-readable
 
     pub begun-never-14 : (bs : List ℕ) (b : ℕ) → Roomy (hostState hostBegun .run .settings) (length (hostBegun .memory .nodes)) → hostNext b (hostWorks bs hostBegun) .number ≡ 14 → ⊥
     begun-never-14 = host-never-14 hostBegun begun-readable host-begun-honest
 
+    pub begun-ends-in-time : (b : ℕ) → wholeUnits (hostState hostBegun) ≤ b → (hostNext b hostBegun .answer ≡ answerPut (work b (hostState hostBegun) .answer) a) × (isLast (work b (hostState hostBegun) .answer) ≡ true)
+    begun-ends-in-time = host-ends-in-time hostBegun begun-readable host-begun-honest
+
+    pub begun-goes-on-lent : (more : List Cell) (b c : ℕ) (ds : List Cell) → Holds ds (hostState (hostNext b hostBegun)) → hostState (hostNext c (inCells (ds ++ more) (hostNext b hostBegun))) ≡ hostState (hostNext (unitsOf (work b (hostState hostBegun) .answer) + c) (inCells (cs ++ more) hostBegun))
+    begun-goes-on-lent more b c ds = host-goes-on-lent hostBegun begun-readable host-begun-honest more b c cs ds refl
+
     -- after any calls
     pub begun-refusal : (bs : List ℕ) (b : ℕ) → (hostNext b (hostWorks bs hostBegun) .number ≡ 0 → ⊥) → (hostState (hostNext b (hostWorks bs hostBegun)) ≡ work b (hostState (hostWorks bs hostBegun)) .left) × Refused b (hostState (hostWorks bs hostBegun))
-    begun-refusal bs b = host-refusal (hostWorks bs hostBegun) (works-readable bs hostBegun begun-readable) (subst Honest (sym (works-state bs hostBegun begun-readable)) (after-each bs (hostState hostBegun) host-begun-honest .honest)) b
+    begun-refusal bs b = host-refusal (hostWorks bs hostBegun) (works-readable bs hostBegun begun-readable) (subst Honest (sym (works-state bs hostBegun begun-readable)) (stays-honest bs (hostState hostBegun) host-begun-honest) .good) b

@@ -5,12 +5,14 @@ use Prim.Native.Nat.{ℕ}
 use lib.Dec.{eqb, ltb}
 use lib.ListN.{length}
 use lib.Ieee.{Float}
+use Rattle.tree_node.specs.declared.Cell.{Cell}
 use Rattle.run_entry.specs.declared.Fault.{Fault}
 use Rattle.run_entry.specs.declared.Fault.the-variants.{Settings as BadSettings, Counters}
 use Rattle.run_entry.specs.State.{Memory, State, state}
 use Rattle.run_budget.specs.declared.Answer.the-variants.{Bad}
 use Rattle.run_budget.specs.Budget.{Worked}
 use Rattle.descent.specs.Descent.{work, workNumber}
+use Rattle.descent.specs.Longer.{lentArena}
 use Rattle.prepare.specs.declared.Prepared.{Prepared}
 use Rattle.prepare.specs.declared.Prepared.the-variants.{Refused, Ready}
 use Rattle.prepare.specs.Prepare.{Lent, lengthsOf, prepareFault, PrepareOutcome, prepared, prepareNumber}
@@ -85,3 +87,7 @@ hostNext b h = hostWork b (h .run) (h .answer) (h .memory)
 unfoldable pub hostWorks : List ℕ → HostWorked → HostWorked
 hostWorks [] h = h
 hostWorks (b ∷ bs) h = hostWorks bs (hostNext b h)
+
+-- the same with other cells lent as the arena
+abbrev pub inCells : List Cell → HostWorked → HostWorked
+inCells cs h = hostWorked (h .number) (h .answer) (h .run) (lentArena cs (hostState h) .memory)
