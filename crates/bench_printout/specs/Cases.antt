@@ -11,7 +11,7 @@ use Rattle.text.specs.Text.{decimals, decimalOf, hexOf}
 use Rattle.frames.specs.Frames.{frameOf, featuresAt, startsAt}
 use Rattle.bench_mapping.specs.declared.Mapped.{Mapped}
 use Rattle.bench_mapping.specs.Cases.{example}
-use Rattle.bench_printout.specs.Printed.{namesText, placeText, mapText, answerText, toldText, printed}
+use Rattle.bench_printout.specs.Printed.{labelText, positionText, mapText, answerText, toldText, printed}
 
 -- so many bytes of zero
 abbrev none : ℕ → List ℕ
@@ -36,5 +36,5 @@ abbrev thirdLine : List ℕ
 thirdLine = 49 ∷ 48 ∷ 50 ∷ 32 ∷ 49 ∷ 32 ∷ 99 ∷ 48 ∷ 53 ∷ 48 ∷ 54 ∷ 48 ∷ 48 ∷ 48 ∷ 48 ∷ 48 ∷ 48 ∷ 48 ∷ 48 ∷ 48 ∷ 48 ∷ 48 ∷ 32 ∷ 48 ∷ 48 ∷ 48 ∷ 48 ∷ 48 ∷ 48 ∷ 48 ∷ 48 ∷ 48 ∷ 48 ∷ 48 ∷ 48 ∷ 48 ∷ 48 ∷ 48 ∷ 48 ∷ 10 ∷ []
 
 pub example-text : printed sample ≡ firstLine ++ secondLine ++ thirdLine
-unfolding printed toldText answerText mapText joined namesText placeText decimalOf decimals hexOf seek frameOf littleOf ofBits toBits
+unfolding printed toldText answerText mapText joined labelText positionText decimalOf decimals hexOf seek frameOf littleOf ofBits toBits
 example-text = ap (λ (m : Mapped). toldText (m .told) sample (m .positions)) example ∙ refl

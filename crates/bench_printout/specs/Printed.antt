@@ -40,18 +40,18 @@ abbrev pub valueText : Float → List ℕ
 valueText v = hexOf (toBits binary64 v)
 
 -- picture and side, each with a space after it
-unfoldable pub namesText : Frame → List ℕ
-namesText f = decimalOf (f .picture) ++ space ++ decimalOf (f .side) ++ space
+unfoldable pub labelText : Frame → List ℕ
+labelText f = decimalOf (f .picture) ++ space ++ decimalOf (f .side) ++ space
 
 -- the two coordinates, to the end of the line
-unfoldable pub placeText : Float → Float → List ℕ
-placeText x y = valueText x ++ space ++ valueText y ++ lineEnd
+unfoldable pub positionText : Float → Float → List ℕ
+positionText x y = valueText x ++ space ++ valueText y ++ lineEnd
 
 -- the line of frame i
 abbrev pub frameText : List ℕ → List Float → ℕ → List ℕ
-frameText file p i = namesText (frameOf file i) ++ placeText (at p (2 * i)) (at p (2 * i + 1))
+frameText file p i = labelText (frameOf file i) ++ positionText (at p (2 * i)) (at p (2 * i + 1))
 
--- the file's whole records; more than 64 never have a map
+-- the file's whole records, 64 at most; a file with a map has no more (`all-shown`)
 abbrev pub framesShown : List ℕ → ℕ
 framesShown file = min (wholeRecords file) benchFrames
 

@@ -8,7 +8,7 @@ ghost use Rattle.text.specs.Text.{written, Puts};
 ghost use Rattle.frames.specs.Frames.{frameOf};
 ghost use Rattle.descent.specs.Descent.{workNumber};
 ghost use Rattle.bench_mapping.specs.Mapping.{benchFrames, mapNumber};
-ghost use Rattle.bench_printout.specs.Printed.{namesText, placeText, frameText, framesShown, mapText, refusalText, recordText, answerText, toldText, printed};
+ghost use Rattle.bench_printout.specs.Printed.{labelText, positionText, frameText, framesShown, mapText, refusalText, recordText, answerText, toldText, printed};
 use bench_mapping::BENCH_FRAMES;
 use bench_mapping::Told;
 use bench_mapping::map_file;
@@ -21,9 +21,9 @@ use text::put_decimal;
 use text::put_hex;
 
 // Picture and side of a frame.
-fn put_names(out: &mut [u8], at: usize, f: Frame) -> usize
+fn put_label(out: &mut [u8], at: usize, f: Frame) -> usize
     requires { ⌜ at + 42 ≤ length (now out) ⌝ }
-    ensures { λ r. ⌜ Puts (namesText f) at (now (out .entry)) r (now (out .exit)) ⌝ }
+    ensures { λ r. ⌜ Puts (labelText f) at (now (out .entry)) r (now (out .exit)) ⌝ }
     ensures { λ r. ⌜ r ≤ at + 42 ⌝ }
 {
     let p = put_decimal(out, at, f.picture as u64);
@@ -33,9 +33,9 @@ fn put_names(out: &mut [u8], at: usize, f: Frame) -> usize
 }
 
 // The bits of both coordinates.
-fn put_place(out: &mut [u8], at: usize, x: f64, y: f64) -> usize
+fn put_position(out: &mut [u8], at: usize, x: f64, y: f64) -> usize
     requires { ⌜ at + 34 ≤ length (now out) ⌝ }
-    ensures { λ r. ⌜ Puts (placeText x y) at (now (out .entry)) r (now (out .exit)) ⌝ }
+    ensures { λ r. ⌜ Puts (positionText x y) at (now (out .entry)) r (now (out .exit)) ⌝ }
     ensures { λ r. ⌜ r ≤ at + 34 ⌝ }
 {
     let p = put_hex(out, at, elementary::bits_of(x));
@@ -66,8 +66,8 @@ fn put_frames(out: &mut [u8], from: usize, file: &[u8], positions: [f64; 128]) -
     let mut i = 0;
     while i < n {
         let f = frame_at(file, i);
-        let a = put_names(out, at, f);
-        at = put_place(out, a, positions[2 * i], positions[2 * i + 1]);
+        let a = put_label(out, at, f);
+        at = put_position(out, a, positions[2 * i], positions[2 * i + 1]);
         i += 1;
     }
     at

@@ -22,32 +22,32 @@ loop-holds c = lines-start (omega (arith, c .before .before .before .pre))
 frame-at-requires : tie.Need-frame-at-requires Inv-loop μ-loop
 frame-at-requires c κs = search needs
 
-put-names-requires : tie.Need-put-names-requires Inv-loop μ-loop
-put-names-requires c κs = omega (arith, c .before .before .before .loop .inv .small, c .before .before .before .loop .inv .size, c .before .before .loop-test .taken, c .before .before .before .before .count .ensures .1, c .before .before .before .before .before .before .before .pre)
+put-label-requires : tie.Need-put-label-requires Inv-loop μ-loop
+put-label-requires c κs = omega (arith, c .before .before .before .loop .inv .small, c .before .before .before .loop .inv .size, c .before .before .loop-test .taken, c .before .before .before .before .count .ensures .1, c .before .before .before .before .before .before .before .pre)
 
-mul-put-place : tie.Need-mul-put-place Inv-loop μ-loop
-mul-put-place c = search needs
+mul-put-position : tie.Need-mul-put-position Inv-loop μ-loop
+mul-put-position c = search needs
 
-mul-put-place-2 : tie.Need-mul-put-place-2 Inv-loop μ-loop
-mul-put-place-2 c = search needs
+mul-put-position-2 : tie.Need-mul-put-position-2 Inv-loop μ-loop
+mul-put-position-2 c = search needs
 
-array-read-put-place : tie.Need-array-read-put-place Inv-loop μ-loop
-array-read-put-place c = search needs
+array-read-put-position : tie.Need-array-read-put-position Inv-loop μ-loop
+array-read-put-position c = search needs
 
-mul-put-place-3 : tie.Need-mul-put-place-3 Inv-loop μ-loop
-mul-put-place-3 c = search needs
+mul-put-position-3 : tie.Need-mul-put-position-3 Inv-loop μ-loop
+mul-put-position-3 c = search needs
 
-add-put-place : tie.Need-add-put-place Inv-loop μ-loop
-add-put-place c = search needs
+add-put-position : tie.Need-add-put-position Inv-loop μ-loop
+add-put-position c = search needs
 
-mul-put-place-4 : tie.Need-mul-put-place-4 Inv-loop μ-loop
-mul-put-place-4 c = search needs
+mul-put-position-4 : tie.Need-mul-put-position-4 Inv-loop μ-loop
+mul-put-position-4 c = search needs
 
-array-read-put-place-2 : tie.Need-array-read-put-place-2 Inv-loop μ-loop
-array-read-put-place-2 c = search needs
+array-read-put-position-2 : tie.Need-array-read-put-position-2 Inv-loop μ-loop
+array-read-put-position-2 c = search needs
 
-put-place-requires : tie.Need-put-place-requires Inv-loop μ-loop
-put-place-requires c κs = omega (arith, c .before .before .before .put-names .ensures .1, c .before .before .before .put-names .kept .0, c .before .before .before .before .before .before .before .loop .inv .small, c .before .before .before .before .before .before .before .loop .inv .size, c .before .before .before .before .before .before .loop-test .taken, c .before .before .before .before .before .before .before .before .count .ensures .1, c .before .before .before .before .before .before .before .before .before .before .before .pre)
+put-position-requires : tie.Need-put-position-requires Inv-loop μ-loop
+put-position-requires c κs = omega (arith, c .before .before .before .put-label .ensures .1, c .before .before .before .put-label .kept .0, c .before .before .before .before .before .before .before .loop .inv .small, c .before .before .before .before .before .before .before .loop .inv .size, c .before .before .before .before .before .before .loop-test .taken, c .before .before .before .before .before .before .before .before .count .ensures .1, c .before .before .before .before .before .before .before .before .before .before .before .pre)
 
 add-i : tie.Need-add-i Inv-loop μ-loop
 add-i c = search needs
@@ -56,7 +56,7 @@ loop-less : tie.Need-loop-less Inv-loop μ-loop
 loop-less c = search needs
 
 loop-again : tie.Need-loop-again Inv-loop μ-loop
-loop-again c = lines-more (c .before .before .before .before .before .before .before .before .before .loop-test .taken) (c .before .before .before .before .before .before .before .before .before .before .loop .inv) (puts-then (rw (c .before .before .before .before .before .before .before .before .frame-at .ensures) at (c .before .before .before .before .before .before .put-names .ensures .0)) (c .before .before .put-place .ensures .0)) (omega (arith, c .before .before .before .before .before .before .put-names .ensures .1, c .before .before .put-place .ensures .1))
+loop-again c = lines-more (c .before .before .before .before .before .before .before .before .before .loop-test .taken) (c .before .before .before .before .before .before .before .before .before .before .loop .inv) (puts-then (rw (c .before .before .before .before .before .before .before .before .frame-at .ensures) at (c .before .before .before .before .before .before .put-label .ensures .0)) (c .before .before .put-position .ensures .0)) (omega (arith, c .before .before .before .before .before .before .put-label .ensures .1, c .before .before .put-position .ensures .1))
 
 same-length : tie.Need-same-length Inv-loop μ-loop
 same-length c = search needs
@@ -73,15 +73,15 @@ put-frames-spec =
     count-requires
     loop-holds
     frame-at-requires
-    put-names-requires
-    mul-put-place
-    mul-put-place-2
-    array-read-put-place
-    mul-put-place-3
-    add-put-place
-    mul-put-place-4
-    array-read-put-place-2
-    put-place-requires
+    put-label-requires
+    mul-put-position
+    mul-put-position-2
+    array-read-put-position
+    mul-put-position-3
+    add-put-position
+    mul-put-position-4
+    array-read-put-position-2
+    put-position-requires
     add-i
     loop-less
     loop-again

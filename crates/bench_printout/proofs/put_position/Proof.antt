@@ -1,9 +1,9 @@
-use Rattle.bench_printout.specs.Printed.{placeText}
+use Rattle.bench_printout.specs.Printed.{positionText}
 use Rattle.text.proofs.Puts.{puts-then}
 use borrow.Author.Needs.{needs}
 use native.Mathlib.Omega.{arith}
-use Rattle.bench_printout.proofs.put_place.Statement.{statement}
-use Rattle.bench_printout.proofs.put_place.Tie as tie
+use Rattle.bench_printout.proofs.put_position.Statement.{statement}
+use Rattle.bench_printout.proofs.put_position.Tie as tie
 
 bits-of-requires : tie.Need-bits-of-requires
 bits-of-requires c κs = search needs
@@ -33,11 +33,11 @@ same-length : tie.Need-same-length
 same-length c = search needs
 
 returns : tie.Need-returns
-unfolding placeText
+unfolding positionText
 returns c = (puts-then (puts-then (puts-then ((rw (c .before .before .before .before .before .before .before .before .before .before .before .before .before .before .before .before .before .before .bits-of .ensures) at (c .before .before .before .before .before .before .before .before .before .before .before .before .before .before .before .before .before .put-hex .ensures .0))) (c .before .before .before .before .before .before .before .before .before .before .before .before .put .ensures)) (rw (c .before .before .before .before .before .before .before .before .bits-of2 .ensures) at (c .before .before .before .before .before .before .before .put-hex2 .ensures .0))) (c .before .before .put2 .ensures), omega (arith, c .before .before .before .before .before .before .before .before .before .before .before .before .before .before .before .before .before .put-hex .ensures .1, c .before .before .before .before .before .before .before .before .before .before .before .before .put .ensures .place, c .before .before .before .before .before .before .before .put-hex2 .ensures .1, c .before .before .put2 .ensures .place))
 
-pub put-place-spec : {M : Type 1} → statement M
-put-place-spec =
+pub put-position-spec : {M : Type 1} → statement M
+put-position-spec =
     tie.close
     (tie.spec
     bits-of-requires

@@ -1,9 +1,9 @@
-use Rattle.bench_printout.specs.Printed.{namesText}
+use Rattle.bench_printout.specs.Printed.{labelText}
 use Rattle.text.proofs.Puts.{puts-then}
 use borrow.Author.Needs.{needs}
 use native.Mathlib.Omega.{arith}
-use Rattle.bench_printout.proofs.put_names.Statement.{statement}
-use Rattle.bench_printout.proofs.put_names.Tie as tie
+use Rattle.bench_printout.proofs.put_label.Statement.{statement}
+use Rattle.bench_printout.proofs.put_label.Tie as tie
 
 cast-put-decimal : tie.Need-cast-put-decimal
 cast-put-decimal c = search needs
@@ -33,11 +33,11 @@ same-length : tie.Need-same-length
 same-length c = search needs
 
 returns : tie.Need-returns
-unfolding namesText
+unfolding labelText
 returns c = (puts-then (puts-then (puts-then ((c .before .before .before .before .before .before .before .before .before .before .before .before .before .before .before .before .before .put-decimal .ensures .0)) (c .before .before .before .before .before .before .before .before .before .before .before .before .put .ensures)) (c .before .before .before .before .before .before .before .put-decimal2 .ensures .0)) (c .before .before .put2 .ensures), omega (arith, c .before .before .before .before .before .before .before .before .before .before .before .before .before .before .before .before .before .put-decimal .ensures .1, c .before .before .before .before .before .before .before .before .before .before .before .before .put .ensures .place, c .before .before .before .before .before .before .before .put-decimal2 .ensures .1, c .before .before .put2 .ensures .place))
 
-pub put-names-spec : {M : Type 1} → statement M
-put-names-spec =
+pub put-label-spec : {M : Type 1} → statement M
+put-label-spec =
     tie.close
     (tie.spec
     cast-put-decimal
