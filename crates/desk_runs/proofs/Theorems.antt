@@ -8,6 +8,7 @@ use lib.Dec.{eqb, ltb}
 use lib.ListN.{length, length-set}
 use lib.Ieee.{Float}
 use borrow.Author.Tests.{le-ltb, ltb-false, eq-eqb, eqb-true}
+use Rattle.laws.specs.Area.{num}
 use Rattle.laws.specs.Loops.{until}
 use Rattle.laws.proofs.Bools.{by-bool}
 use Rattle.laws.proofs.Untils.{until-end}
@@ -24,20 +25,21 @@ use Rattle.run_units.specs.declared.Why.{Why}
 use Rattle.run_units.specs.declared.Why.the-variants.{Done, Full as NoNodes, Wild as TooLarge, Over}
 use Rattle.run_units.specs.Units.{unit}
 use Rattle.run_budget.specs.declared.Answer.{Answer}
+use Rattle.run_budget.specs.declared.Answer.the-variants.{Running, Stopped, Finished, Full, Wild, Bad}
 use Rattle.run_budget.specs.Budget.{machine, Worked, answerOf, standsOf, refusedOf}
 use Rattle.run_budget.proofs.Keeps.{unit-settings}
 use Rattle.run_budget.proofs.Spends.{due}
-use Rattle.descent.specs.Descent.{work, workNumber, works, toldAll}
+use Rattle.descent.specs.Descent.{work, workNumber, unitsOf, answerKind, works, toldAll}
 use Rattle.descent.specs.Honest.{Honest, Roomy}
 use Rattle.descent.proofs.Theorems.{demand-three, after-each, never-14, Refused, refusal}
 use Rattle.prepare.specs.declared.Prepared.{Prepared}
 use Rattle.prepare.specs.declared.Prepared.the-variants.{Ready}
 use Rattle.prepare.specs.Prepare.{Lent, lengthsOf, prepareFault, freshRun, prepared, memoryOf, prepareNumber}
 use Rattle.prepare.proofs.Begins.{preparation-honest}
-use Rattle.desk_words.specs.Words.{settingsFine, settingsOf, runFine, runOf, runPut, isBad, runAfter, answerPut}
+use Rattle.desk_words.specs.Words.{settingsFine, settingsOf, runFine, runOf, progressPut, runPut, kindWord, isBad, runAfter, answerPut}
 use Rattle.desk_words.proofs.Laws.{run-long}
-use Rattle.desk_words.proofs.Roundtrip.{read-sayable, run-back, run-back-fine, progress-back, progress-fine}
-use Rattle.desk_runs.specs.Runs.{HostPrepared, recorded, preparedIn, shortNumber, hostPrepare, HostWorked, hostWorked, workedIn, hostWork, hostState, hostNext, hostWorks}
+use Rattle.desk_words.proofs.Roundtrip.{answer-back, read-sayable, run-back, run-back-fine, progress-back, progress-fine, progress-again, progress-same}
+use Rattle.desk_runs.specs.Runs.{HostPrepared, recorded, preparedIn, shortNumber, hostPrepare, HostWorked, hostWorked, workedIn, hostWork, hostState, hostNext, hostWorks, hostTold}
 
 -- ---- no call changes the settings, and one that is refused at its entry changes nothing
 
@@ -100,6 +102,10 @@ module _ (w : List ℕ) (fine : runFine w ≡ true) (t : Answer) (r : Run) (kept
   unfolding runAfter
   after-fine = by-bool (runFine (runAfter t r w) ≡ true) (isBad t) (λ e. rw e fine) (λ e. rw e (progress-fine r w fine))
 
+  after-put : runAfter t r w ≡ progressPut r w
+  unfolding runAfter
+  after-put = by-bool (runAfter t r w ≡ progressPut r w) (isBad t) (λ e. rw e (sym (ap (λ (q : Run). progressPut q w) (kept e) ∙ progress-same w fine))) (λ e. rw e)
+
 module _ (b : ℕ) (h : HostWorked) (g : Readable h) where
   next-is : hostNext b h ≡ workedIn (work b (hostState h)) (h .answer) (h .run)
   unfolding hostWork
@@ -113,6 +119,16 @@ module _ (b : ℕ) (h : HostWorked) (g : Readable h) where
   next-state =
       let t = work b (hostState h) in
       ap hostState next-is ∙ ap (λ (r : Run). state r (t .left .memory)) (after-back (h .run) (g .fine) (t .answer) (t .left .run) (λ e. ap (λ (s : State). s .run) (work-kept b (hostState h) e)) settings-kept)
+
+  -- the words that it leaves
+  pub next-run : hostNext b h .run ≡ progressPut (work b (hostState h) .left .run) (h .run)
+  next-run =
+      let t = work b (hostState h) in
+      ap (λ (x : HostWorked). x .run) next-is ∙ after-put (h .run) (g .fine) (t .answer) (t .left .run) (λ e. ap (λ (s : State). s .run) (work-kept b (hostState h) e)) settings-kept
+
+  -- the first three words of its answer
+  pub next-answer : (num (hostNext b h .answer) 0 ≡ kindWord (work b (hostState h) .answer)) × (num (hostNext b h .answer) 1 ≡ workNumber (work b (hostState h) .answer)) × (num (hostNext b h .answer) 2 ≡ unitsOf (work b (hostState h) .answer))
+  next-answer = rw next-is (answer-back (work b (hostState h) .answer) (h .answer) (g .room))
 
   pub next-number : hostNext b h .number ≡ workNumber (work b (hostState h) .answer)
   next-number = ap (λ (x : HostWorked). x .number) next-is
@@ -135,17 +151,76 @@ unfolding hostWorks works
 works-state [] h g = refl
 works-state (b ∷ bs) h g = works-state bs (hostNext b h) (next-readable b h g) ∙ ap (works bs) (next-state b h g)
 
+pub works-run : (bs : List ℕ) (h : HostWorked) → Readable h → hostWorks bs h .run ≡ progressPut (works bs (hostState h) .run) (h .run)
+unfolding hostWorks works
+works-run [] h g = sym (progress-same (h .run) (g .fine))
+works-run (b ∷ bs) h g =
+    let n = hostNext b h in
+    works-run bs n (next-readable b h g)
+    ∙ ap (λ (w : List ℕ). progressPut (works bs (hostState n) .run) w) (next-run b h g)
+    ∙ progress-again (works bs (hostState n) .run) (work b (hostState h) .left .run) (h .run) (run-long (h .run) (g .fine))
+    ∙ ap (λ (s : State). progressPut (works bs s .run) (h .run)) (next-state b h g)
+
+told-is : (bs : List ℕ) (h : HostWorked) → Readable h → hostTold bs h ≡ toldAll bs (hostState h)
+unfolding hostTold toldAll
+told-is [] h g = refl
+told-is (b ∷ bs) h g =
+    ap (λ (k : ℕ). k + hostTold bs (hostNext b h)) (next-answer b h g .2)
+    ∙ ap (λ (k : ℕ). unitsOf (work b (hostState h) .answer) + k) (told-is bs (hostNext b h) (next-readable b h g) ∙ ap (toldAll bs) (next-state b h g))
+
+kind-word : (t : Answer) → kindWord (answerKind t) ≡ kindWord t
+unfolding answerKind
+kind-word (Running d) = refl
+kind-word (Stopped d) = refl
+kind-word (Finished d) = refl
+kind-word (Full d) = refl
+kind-word (Wild d) = refl
+kind-word (Bad f) = refl
+
+kind-number : (t : Answer) → workNumber (answerKind t) ≡ workNumber t
+unfolding answerKind workNumber
+kind-number (Running d) = refl
+kind-number (Stopped d) = refl
+kind-number (Finished d) = refl
+kind-number (Full d) = refl
+kind-number (Wild d) = refl
+kind-number (Bad f) = refl
+
 -- ---- the theorems, of an honest state that words say
 
+-- calls with the budgets bs, then one with b, against one call with the sum, or 2^32 − 1
+pub record HostOneCall (bs : List ℕ) (b : ℕ) (h : HostWorked) : Type 0 where
+  -- the record's words and every area are the same
+  pub run : hostNext b (hostWorks bs h) .run ≡ hostNext (capped (together bs + b)) h .run
+  pub memory : hostNext b (hostWorks bs h) .memory ≡ hostNext (capped (together bs + b)) h .memory
+  -- the units told add up
+  pub units : hostTold bs h + num (hostNext b (hostWorks bs h) .answer) 2 ≡ num (hostNext (capped (together bs + b)) h .answer) 2
+  -- the last answer is of its kind, with its number
+  pub kind : num (hostNext b (hostWorks bs h) .answer) 0 ≡ num (hostNext (capped (together bs + b)) h .answer) 0
+  pub number : hostNext b (hostWorks bs h) .number ≡ hostNext (capped (together bs + b)) h .number
+
 module _ (h : HostWorked) (g : Readable h) (honest : Honest (hostState h)) where
-  -- demand 3: calls one after the other, the last of at least 1, leave record and memory where one call with the sum, or 2^32 − 1, leaves them
-  pub host-demand-three : (bs : List ℕ) (b : ℕ) → 1 ≤ b → hostState (hostNext b (hostWorks bs h)) ≡ hostState (hostNext (capped (together bs + b)) h)
+  -- demand 3: the last call is of at least 1
+  pub host-demand-three : (bs : List ℕ) (b : ℕ) → 1 ≤ b → HostOneCall bs b h
   host-demand-three bs b l =
-      next-state b (hostWorks bs h) (works-readable bs h g) ∙ ap (λ (s : State). work b s .left) (works-state bs h g) ∙ demand-three bs b (hostState h) honest l .left ∙ sym (next-state (capped (together bs + b)) h g)
+      let d = demand-three bs b (hostState h) honest l in
+      let B = capped (together bs + b) in
+      let z = hostWorks bs h in
+      let gz = works-readable bs h g in
+      let at = works-state bs h g in
+      let long = run-long (h .run) (g .fine) in
+      let k : answerKind (work b (hostState z) .answer) ≡ answerKind (work B (hostState h) .answer) = ap (λ (s : State). answerKind (work b s .answer)) at ∙ d .kind in
+      record {
+        run = next-run b z gz ∙ ap (λ (w : List ℕ). progressPut (work b (hostState z) .left .run) w) (works-run bs h g) ∙ progress-again (work b (hostState z) .left .run) (works bs (hostState h) .run) (h .run) long ∙ ap (λ (s : State). progressPut (work b s .left .run) (h .run)) at ∙ ap (λ (s : State). progressPut (s .run) (h .run)) (d .left) ∙ sym (next-run B h g);
+        memory = ap (λ (s : State). s .memory) (next-state b z gz ∙ ap (λ (s : State). work b s .left) at ∙ d .left ∙ sym (next-state B h g));
+        units = rw (told-is bs h g, next-answer b z gz .2, next-answer B h g .2, at) (d .units);
+        kind = next-answer b z gz .0 ∙ sym (kind-word (work b (hostState z) .answer)) ∙ ap kindWord k ∙ kind-word (work B (hostState h) .answer) ∙ sym (next-answer B h g .0);
+        number = next-number b z gz ∙ sym (kind-number (work b (hostState z) .answer)) ∙ ap workNumber k ∙ kind-number (work B (hostState h) .answer) ∙ sym (next-number B h g);
+      }
 
   -- after each call record and memory are those of so many units as the answers tell
-  pub host-after-each : (bs : List ℕ) → hostState (hostWorks bs h) ≡ times (λ (x : State). unit x .now) (toldAll bs (hostState h)) (hostState h)
-  host-after-each bs = works-state bs h g ∙ after-each bs (hostState h) honest .left
+  pub host-after-each : (bs : List ℕ) → hostState (hostWorks bs h) ≡ times (λ (x : State). unit x .now) (hostTold bs h) (hostState h)
+  host-after-each bs = rw (told-is bs h g) (works-state bs h g ∙ after-each bs (hostState h) honest .left)
 
   -- with room for all splits no call answers 14
   pub host-never-14 : (bs : List ℕ) (b : ℕ) → Roomy (hostState h .run .settings) (length (h .memory .nodes)) → hostNext b (hostWorks bs h) .number ≡ 14 → ⊥
@@ -212,10 +287,10 @@ module _ (s : List ℕ) (table start : List Float) (cs : List Cell) (l : Lent) (
     host-begun-honest =
         rw (read-fresh, prepared-is) (preparation-honest (settingsOf s) table start cs l fresh answer-is)
 
-    pub begun-demand-three : (bs : List ℕ) (b : ℕ) → 1 ≤ b → hostState (hostNext b (hostWorks bs hostBegun)) ≡ hostState (hostNext (capped (together bs + b)) hostBegun)
+    pub begun-demand-three : (bs : List ℕ) (b : ℕ) → 1 ≤ b → HostOneCall bs b hostBegun
     begun-demand-three = host-demand-three hostBegun begun-readable host-begun-honest
 
-    pub begun-after-each : (bs : List ℕ) → hostState (hostWorks bs hostBegun) ≡ times (λ (x : State). unit x .now) (toldAll bs (hostState hostBegun)) (hostState hostBegun)
+    pub begun-after-each : (bs : List ℕ) → hostState (hostWorks bs hostBegun) ≡ times (λ (x : State). unit x .now) (hostTold bs hostBegun) (hostState hostBegun)
     begun-after-each = host-after-each hostBegun begun-readable host-begun-honest
 
     pub begun-never-14 : (bs : List ℕ) (b : ℕ) → Roomy (hostState hostBegun .run .settings) (length (hostBegun .memory .nodes)) → hostNext b (hostWorks bs hostBegun) .number ≡ 14 → ⊥
