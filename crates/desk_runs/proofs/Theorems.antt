@@ -8,6 +8,7 @@ use lib.Dec.{eqb, ltb}
 use lib.ListN.{length, length-set}
 use lib.Ieee.{Float}
 use borrow.Author.Tests.{le-ltb, ltb-false, eq-eqb, eqb-true}
+use Rattle.laws.specs.Area.{num}
 use Rattle.laws.specs.Loops.{until}
 use Rattle.laws.proofs.Bools.{by-bool}
 use Rattle.laws.proofs.Untils.{until-end}
@@ -37,10 +38,10 @@ use Rattle.prepare.specs.declared.Prepared.{Prepared}
 use Rattle.prepare.specs.declared.Prepared.the-variants.{Ready}
 use Rattle.prepare.specs.Prepare.{Lent, lengthsOf, prepareFault, freshRun, prepared, memoryOf, prepareNumber}
 use Rattle.prepare.proofs.Begins.{preparation-honest}
-use Rattle.desk_words.specs.Words.{settingsFine, settingsOf, runFine, runOf, runPut, isBad, runAfter, answerPut}
+use Rattle.desk_words.specs.Words.{settingsFine, settingsOf, runFine, runOf, progressPut, runPut, kindWord, isBad, runAfter, answerPut}
 use Rattle.desk_words.proofs.Laws.{run-long}
-use Rattle.desk_words.proofs.Roundtrip.{read-sayable, run-back, run-back-fine, progress-back, progress-fine}
-use Rattle.desk_runs.specs.Runs.{HostPrepared, recorded, preparedIn, shortNumber, hostPrepare, HostWorked, hostWorked, workedIn, hostWork, hostState, hostNext, hostWorks, inCells}
+use Rattle.desk_words.proofs.Roundtrip.{answer-back, read-sayable, run-back, run-back-fine, progress-back, progress-fine, progress-again, progress-same}
+use Rattle.desk_runs.specs.Runs.{HostPrepared, recorded, preparedIn, shortNumber, hostPrepare, HostWorked, hostWorked, workedIn, hostWork, hostState, hostNext, hostWorks, hostTold, inCells}
 
 -- ---- no call changes the settings, and one that is refused at its entry changes nothing
 
@@ -103,6 +104,10 @@ module _ (w : List ℕ) (fine : runFine w ≡ true) (t : Answer) (r : Run) (kept
   unfolding runAfter
   after-fine = by-bool (runFine (runAfter t r w) ≡ true) (isBad t) (λ e. rw e fine) (λ e. rw e (progress-fine r w fine))
 
+  after-put : runAfter t r w ≡ progressPut r w
+  unfolding runAfter
+  after-put = by-bool (runAfter t r w ≡ progressPut r w) (isBad t) (λ e. rw e (sym (ap (λ (q : Run). progressPut q w) (kept e) ∙ progress-same w fine))) (λ e. rw e)
+
 module _ (b : ℕ) (h : HostWorked) (g : Readable h) where
   next-is : hostNext b h ≡ workedIn (work b (hostState h)) (h .answer) (h .run)
   unfolding hostWork
@@ -116,6 +121,16 @@ module _ (b : ℕ) (h : HostWorked) (g : Readable h) where
   next-state =
       let t = work b (hostState h) in
       ap hostState next-is ∙ ap (λ (r : Run). state r (t .left .memory)) (after-back (h .run) (g .fine) (t .answer) (t .left .run) (λ e. ap (λ (s : State). s .run) (work-kept b (hostState h) e)) settings-kept)
+
+  -- the words that it leaves
+  pub next-run : hostNext b h .run ≡ progressPut (work b (hostState h) .left .run) (h .run)
+  next-run =
+      let t = work b (hostState h) in
+      ap (λ (x : HostWorked). x .run) next-is ∙ after-put (h .run) (g .fine) (t .answer) (t .left .run) (λ e. ap (λ (s : State). s .run) (work-kept b (hostState h) e)) settings-kept
+
+  -- the first three words of its answer
+  pub next-answer : (num (hostNext b h .answer) 0 ≡ kindWord (work b (hostState h) .answer)) × (num (hostNext b h .answer) 1 ≡ workNumber (work b (hostState h) .answer)) × (num (hostNext b h .answer) 2 ≡ unitsOf (work b (hostState h) .answer))
+  next-answer = rw next-is (answer-back (work b (hostState h) .answer) (h .answer) (g .room))
 
   pub next-number : hostNext b h .number ≡ workNumber (work b (hostState h) .answer)
   next-number = ap (λ (x : HostWorked). x .number) next-is
@@ -138,59 +153,79 @@ unfolding hostWorks works
 works-state [] h g = refl
 works-state (b ∷ bs) h g = works-state bs (hostNext b h) (next-readable b h g) ∙ ap (works bs) (next-state b h g)
 
+pub works-run : (bs : List ℕ) (h : HostWorked) → Readable h → hostWorks bs h .run ≡ progressPut (works bs (hostState h) .run) (h .run)
+unfolding hostWorks works
+works-run [] h g = sym (progress-same (h .run) (g .fine))
+works-run (b ∷ bs) h g =
+    let n = hostNext b h in
+    works-run bs n (next-readable b h g)
+    ∙ ap (λ (w : List ℕ). progressPut (works bs (hostState n) .run) w) (next-run b h g)
+    ∙ progress-again (works bs (hostState n) .run) (work b (hostState h) .left .run) (h .run) (run-long (h .run) (g .fine))
+    ∙ ap (λ (s : State). progressPut (works bs s .run) (h .run)) (next-state b h g)
+
+told-is : (bs : List ℕ) (h : HostWorked) → Readable h → hostTold bs h ≡ toldAll bs (hostState h)
+unfolding hostTold toldAll
+told-is [] h g = refl
+told-is (b ∷ bs) h g =
+    ap (λ (k : ℕ). k + hostTold bs (hostNext b h)) (next-answer b h g .2)
+    ∙ ap (λ (k : ℕ). unitsOf (work b (hostState h) .answer) + k) (told-is bs (hostNext b h) (next-readable b h g) ∙ ap (toldAll bs) (next-state b h g))
+
+kind-word : (t : Answer) → kindWord (answerKind t) ≡ kindWord t
+unfolding answerKind
+kind-word (Running d) = refl
+kind-word (Stopped d) = refl
+kind-word (Finished d) = refl
+kind-word (Full d) = refl
+kind-word (Wild d) = refl
+kind-word (Bad f) = refl
+
+kind-number : (t : Answer) → workNumber (answerKind t) ≡ workNumber t
+unfolding answerKind workNumber
+kind-number (Running d) = refl
+kind-number (Stopped d) = refl
+kind-number (Finished d) = refl
+kind-number (Full d) = refl
+kind-number (Wild d) = refl
+kind-number (Bad f) = refl
+
 -- ---- the theorems over words
 
-module _ (h : HostWorked) (g : Readable h) where
-  -- after each call, whatever was lent, record and memory are those of so many units as the answers tell
-  pub host-after-each : (bs : List ℕ) → hostState (hostWorks bs h) ≡ times (λ (x : State). unit x .now) (toldAll bs (hostState h)) (hostState h)
-  host-after-each bs = works-state bs h g ∙ after-each bs (hostState h) .left
+-- after each call, whatever was lent, record and memory are those of so many units as the answers tell
+pub host-after-each : (h : HostWorked) → Readable h → (bs : List ℕ) → hostState (hostWorks bs h) ≡ times (λ (x : State). unit x .now) (hostTold bs h) (hostState h)
+host-after-each h g bs = rw (told-is bs h g) (works-state bs h g ∙ after-each bs (hostState h) .left)
 
-  -- whatever was lent, where the entry tests pass: a call that answers a number leaves record and memory as after the units that it tells, and there the next unit is refused
-  pub host-refusal : Good (hostState h) → (b : ℕ) → (hostNext b h .number ≡ 0 → ⊥) → (hostState (hostNext b h) ≡ work b (hostState h) .left) × Refused b (hostState h)
-  host-refusal good b n = (next-state b h g, refusal b (hostState h) good (λ e. n (next-number b h g ∙ e)))
+-- whatever was lent, where the entry tests pass: a call that answers a number leaves record and memory as after the units that it tells, and there the next unit is refused
+pub host-refusal : (h : HostWorked) → Readable h → Good (hostState h) → (b : ℕ) → (hostNext b h .number ≡ 0 → ⊥) → (hostState (hostNext b h) ≡ work b (hostState h) .left) × Refused b (hostState h)
+host-refusal h g good b n = (next-state b h g, refusal b (hostState h) good (λ e. n (next-number b h g ∙ e)))
 
--- the number says which kind of answer it is, units aside
-number-kind : (a : Answer) → workNumber (answerKind a) ≡ workNumber a
-unfolding workNumber answerKind
-number-kind (Running d) = refl
-number-kind (Stopped d) = refl
-number-kind (Finished d) = refl
-number-kind (Full d) = refl
-number-kind (Wild d) = refl
-number-kind (Bad f) = refl
-
-same-number : (a b : Answer) → answerKind a ≡ answerKind b → workNumber a ≡ workNumber b
-same-number a b e = sym (number-kind a) ∙ ap workNumber e ∙ number-kind b
-
--- demand 3 over words: calls with bs and then b, beside one call with B
-pub record HostOneCall (bs : List ℕ) (b B : ℕ) (h : HostWorked) : Type 0 where
-  -- the record that the words say and every area are left the same
-  pub left : hostState (hostNext b (hostWorks bs h)) ≡ hostState (hostNext B h)
-  -- the number answered is the same
-  pub number : hostNext b (hostWorks bs h) .number ≡ hostNext B h .number
-  -- the words of the last answer are put from an answer of the same kind
-  pub told : hostNext b (hostWorks bs h) .answer ≡ answerPut (work b (hostState (hostWorks bs h)) .answer) (hostWorks bs h .answer)
-  pub told-once : hostNext B h .answer ≡ answerPut (work B (hostState h) .answer) (h .answer)
-  pub kind : answerKind (work b (hostState (hostWorks bs h)) .answer) ≡ answerKind (work B (hostState h) .answer)
-  -- and its units, with those told before, are that call's
-  pub units : toldAll bs (hostState h) + unitsOf (work b (hostState (hostWorks bs h)) .answer) ≡ unitsOf (work B (hostState h) .answer)
+-- calls with the budgets bs, then one with b, against one call with the sum, or 2^32 − 1
+pub record HostOneCall (bs : List ℕ) (b : ℕ) (h : HostWorked) : Type 0 where
+  -- the record's words and every area are the same
+  pub run : hostNext b (hostWorks bs h) .run ≡ hostNext (capped (together bs + b)) h .run
+  pub memory : hostNext b (hostWorks bs h) .memory ≡ hostNext (capped (together bs + b)) h .memory
+  -- the units told add up
+  pub units : hostTold bs h + num (hostNext b (hostWorks bs h) .answer) 2 ≡ num (hostNext (capped (together bs + b)) h .answer) 2
+  -- the last answer is of its kind, with its number
+  pub kind : num (hostNext b (hostWorks bs h) .answer) 0 ≡ num (hostNext (capped (together bs + b)) h .answer) 0
+  pub number : hostNext b (hostWorks bs h) .number ≡ hostNext (capped (together bs + b)) h .number
 
 module _ (h : HostWorked) (g : Readable h) (honest : Honest (hostState h)) where
-  -- for any budgets whose last is at least 1, and one call with their sum, or 2^32 − 1
-  pub host-demand-three : (bs : List ℕ) (b : ℕ) → 1 ≤ b → HostOneCall bs b (capped (together bs + b)) h
+  -- demand 3: the last call is of at least 1
+  pub host-demand-three : (bs : List ℕ) (b : ℕ) → 1 ≤ b → HostOneCall bs b h
   host-demand-three bs b l =
-      let B = capped (together bs + b) in
       let d = demand-three bs b (hostState h) honest l in
-      let r = works-readable bs h g in
-      let e : hostState (hostWorks bs h) ≡ works bs (hostState h) = works-state bs h g in
-      let k : answerKind (work b (hostState (hostWorks bs h)) .answer) ≡ answerKind (work B (hostState h) .answer) = rw e (d .kind) in
+      let B = capped (together bs + b) in
+      let z = hostWorks bs h in
+      let gz = works-readable bs h g in
+      let at = works-state bs h g in
+      let long = run-long (h .run) (g .fine) in
+      let k : answerKind (work b (hostState z) .answer) ≡ answerKind (work B (hostState h) .answer) = ap (λ (s : State). answerKind (work b s .answer)) at ∙ d .kind in
       record {
-        left = next-state b (hostWorks bs h) r ∙ ap (λ (s : State). work b s .left) e ∙ d .left ∙ sym (next-state B h g);
-        number = next-number b (hostWorks bs h) r ∙ same-number (work b (hostState (hostWorks bs h)) .answer) (work B (hostState h) .answer) k ∙ sym (next-number B h g);
-        told = ap (λ (x : HostWorked). x .answer) (next-is b (hostWorks bs h) r);
-        told-once = ap (λ (x : HostWorked). x .answer) (next-is B h g);
-        kind = k;
-        units = rw e (d .units);
+        run = next-run b z gz ∙ ap (λ (w : List ℕ). progressPut (work b (hostState z) .left .run) w) (works-run bs h g) ∙ progress-again (work b (hostState z) .left .run) (works bs (hostState h) .run) (h .run) long ∙ ap (λ (s : State). progressPut (work b s .left .run) (h .run)) at ∙ ap (λ (s : State). progressPut (s .run) (h .run)) (d .left) ∙ sym (next-run B h g);
+        memory = ap (λ (s : State). s .memory) (next-state b z gz ∙ ap (λ (s : State). work b s .left) at ∙ d .left ∙ sym (next-state B h g));
+        units = rw (told-is bs h g, next-answer b z gz .2, next-answer B h g .2, at) (d .units);
+        kind = next-answer b z gz .0 ∙ sym (kind-word (work b (hostState z) .answer)) ∙ ap kindWord k ∙ kind-word (work B (hostState h) .answer) ∙ sym (next-answer B h g .0);
+        number = next-number b z gz ∙ sym (kind-number (work b (hostState z) .answer)) ∙ ap workNumber k ∙ kind-number (work B (hostState h) .answer) ∙ sym (next-number B h g);
       }
 
   -- with room for all splits no call answers 14
@@ -203,14 +238,15 @@ module _ (h : HostWorked) (g : Readable h) (honest : Honest (hostState h)) where
   host-ends-in-time b l = (ap (λ (x : HostWorked). x .answer) (next-is b h g), ends-in-time b (hostState h) honest l)
 
   -- a call leaves the arena in the cells ds; further cells are put behind them, and the run goes on as one does that had them from the start
-  pub host-goes-on-lent : (more : List Cell) (b c : ℕ) (cs ds : List Cell) → Holds cs (hostState h) → Holds ds (hostState (hostNext b h)) → hostState (hostNext c (inCells (ds ++ more) (hostNext b h))) ≡ hostState (hostNext (unitsOf (work b (hostState h) .answer) + c) (inCells (cs ++ more) h))
+  pub host-goes-on-lent : (more : List Cell) (b c : ℕ) (cs ds : List Cell) → Holds cs (hostState h) → Holds ds (hostState (hostNext b h)) → hostState (hostNext c (inCells (ds ++ more) (hostNext b h))) ≡ hostState (hostNext (num (hostNext b h .answer) 2 + c) (inCells (cs ++ more) h))
   host-goes-on-lent more b c cs ds e e' =
+      let u = unitsOf (work b (hostState h) .answer) in
       let n = next-state b h g in
       let there = next-readable b h g in
       let first = next-state c (inCells (ds ++ more) (hostNext b h)) (record { fine = there .fine; room = there .room }) in
-      let second = next-state (unitsOf (work b (hostState h) .answer) + c) (inCells (cs ++ more) h) (record { fine = g .fine; room = g .room }) in
+      let second = next-state (u + c) (inCells (cs ++ more) h) (record { fine = g .fine; room = g .room }) in
       let on = goes-on-lent more b c (hostState h) honest cs ds e (subst (Holds ds) n e') in
-      first ∙ ap (λ (s : State). work c (lentArena (ds ++ more) s) .left) n ∙ on .left ∙ sym second
+      first ∙ ap (λ (s : State). work c (lentArena (ds ++ more) s) .left) n ∙ on .left ∙ sym second ∙ ap (λ (k : ℕ). hostState (hostNext (k + c) (inCells (cs ++ more) h))) (sym (next-answer b h g .2))
 
 -- ---- from preparation on
 
@@ -268,10 +304,10 @@ module _ (s : List ℕ) (table start : List Float) (cs : List Cell) (l : Lent) (
     host-begun-honest =
         rw (read-fresh, prepared-is) (preparation-honest (settingsOf s) table start cs l fresh answer-is)
 
-    pub begun-demand-three : (bs : List ℕ) (b : ℕ) → 1 ≤ b → HostOneCall bs b (capped (together bs + b)) hostBegun
+    pub begun-demand-three : (bs : List ℕ) (b : ℕ) → 1 ≤ b → HostOneCall bs b hostBegun
     begun-demand-three = host-demand-three hostBegun begun-readable host-begun-honest
 
-    pub begun-after-each : (bs : List ℕ) → hostState (hostWorks bs hostBegun) ≡ times (λ (x : State). unit x .now) (toldAll bs (hostState hostBegun)) (hostState hostBegun)
+    pub begun-after-each : (bs : List ℕ) → hostState (hostWorks bs hostBegun) ≡ times (λ (x : State). unit x .now) (hostTold bs hostBegun) (hostState hostBegun)
     begun-after-each = host-after-each hostBegun begun-readable
 
     pub begun-never-14 : (bs : List ℕ) (b : ℕ) → Roomy (hostState hostBegun .run .settings) (length (hostBegun .memory .nodes)) → hostNext b (hostWorks bs hostBegun) .number ≡ 14 → ⊥
@@ -280,7 +316,7 @@ module _ (s : List ℕ) (table start : List Float) (cs : List Cell) (l : Lent) (
     pub begun-ends-in-time : (b : ℕ) → wholeUnits (hostState hostBegun) ≤ b → (hostNext b hostBegun .answer ≡ answerPut (work b (hostState hostBegun) .answer) a) × (isLast (work b (hostState hostBegun) .answer) ≡ true)
     begun-ends-in-time = host-ends-in-time hostBegun begun-readable host-begun-honest
 
-    pub begun-goes-on-lent : (more : List Cell) (b c : ℕ) (ds : List Cell) → Holds ds (hostState (hostNext b hostBegun)) → hostState (hostNext c (inCells (ds ++ more) (hostNext b hostBegun))) ≡ hostState (hostNext (unitsOf (work b (hostState hostBegun) .answer) + c) (inCells (cs ++ more) hostBegun))
+    pub begun-goes-on-lent : (more : List Cell) (b c : ℕ) (ds : List Cell) → Holds ds (hostState (hostNext b hostBegun)) → hostState (hostNext c (inCells (ds ++ more) (hostNext b hostBegun))) ≡ hostState (hostNext (num (hostNext b hostBegun .answer) 2 + c) (inCells (cs ++ more) hostBegun))
     begun-goes-on-lent more b c ds = host-goes-on-lent hostBegun begun-readable host-begun-honest more b c cs ds refl
 
     -- after any calls

@@ -1,11 +1,12 @@
 -- What preparation and the work call leave and answer, with settings, record and answer as plain words. Definitions only.
 use mathlib.Core.List.{List, [], _∷_}
 use mathlib.Core.Bool.{cond}
-use Prim.Native.Nat.{ℕ}
+use Prim.Native.Nat.{ℕ, _+_}
 use lib.Dec.{eqb, ltb}
 use lib.ListN.{length}
 use lib.Ieee.{Float}
 use Rattle.tree_node.specs.declared.Cell.{Cell}
+use Rattle.laws.specs.Area.{num}
 use Rattle.run_entry.specs.declared.Fault.{Fault}
 use Rattle.run_entry.specs.declared.Fault.the-variants.{Settings as BadSettings, Counters}
 use Rattle.run_entry.specs.State.{Memory, State, state}
@@ -91,3 +92,8 @@ hostWorks (b ∷ bs) h = hostWorks bs (hostNext b h)
 -- the same with other cells lent as the arena
 abbrev pub inCells : List Cell → HostWorked → HostWorked
 inCells cs h = hostWorked (h .number) (h .answer) (h .run) (lentArena cs (hostState h) .memory)
+
+-- the units that their answers tell, together
+unfoldable pub hostTold : List ℕ → HostWorked → ℕ
+hostTold [] h = 0
+hostTold (b ∷ bs) h = num (hostNext b h .answer) 2 + hostTold bs (hostNext b h)

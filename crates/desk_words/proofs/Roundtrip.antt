@@ -2,14 +2,15 @@
 use mathlib.Core.Path.{_≡_, refl, sym, ap}
 use mathlib.Core.List.{List, [], _∷_}
 use mathlib.Core.Bool.{Bool, true, _&&_}
-use Prim.Native.Nat.{ℕ, suc, _≤_}
+use Prim.Native.Nat.{ℕ, zero, suc, _≤_}
 use native.Mathlib.Omega.{arith}
 use native.Mathlib.Nat.{not-suc-le-zero, le-of-suc-le-suc}
 use lib.Dec.{T, leb}
 use lib.ListN.{length}
 use lib.Ieee.{binary64, fits}
 use lib.Ieee.Bits.{ofBits-toBits, ofBits-fits}
-use borrow.Author.Tests.{le-leb}
+use borrow.Author.Tests.{le-leb, leb-true}
+use Rattle.laws.specs.Area.{num}
 use Rattle.laws.proofs.Bools.{and-left, and-right}
 use Rattle.run_record.specs.declared.Method.{Method}
 use Rattle.run_record.specs.declared.Method.the-variants.{Exact, BarnesHut}
@@ -17,7 +18,9 @@ use Rattle.run_record.specs.declared.Standing.{Standing}
 use Rattle.run_record.specs.declared.Standing.the-variants.{Running, Stopped, Finished}
 use Rattle.run_record.specs.declared.Settings.{Settings}
 use Rattle.run_record.specs.declared.Run.{Run}
-use Rattle.desk_words.specs.Words.{methodOf, methodWord, settingsFine, settingsOf, settingsPut, standingOf, standingWord, runFine, runOf, progressPut, runPut}
+use Rattle.run_budget.specs.declared.Answer.{Answer}
+use Rattle.descent.specs.Descent.{workNumber, unitsOf}
+use Rattle.desk_words.specs.Words.{kindWord, answerPut, methodOf, methodWord, settingsFine, settingsOf, settingsPut, standingOf, standingWord, runFine, runOf, progressPut, runPut}
 use Rattle.desk_words.proofs.Laws.{run-long}
 
 -- ---- words one by one
@@ -30,6 +33,16 @@ peel P n f (x ∷ xs) h = f x xs (le-of-suc-le-suc h)
 fourteen : (P : List ℕ → Type 0) → ((n f c m p r i a g s d h u o : ℕ) (rest : List ℕ) → P (n ∷ f ∷ c ∷ m ∷ p ∷ r ∷ i ∷ a ∷ g ∷ s ∷ d ∷ h ∷ u ∷ o ∷ rest)) → (w : List ℕ) → 14 ≤ length w → P w
 fourteen P k =
     peel _ 13 (λ n. peel _ 12 (λ f. peel _ 11 (λ c. peel _ 10 (λ m. peel _ 9 (λ p. peel _ 8 (λ r. peel _ 7 (λ i. peel _ 6 (λ a. peel _ 5 (λ g. peel _ 4 (λ s. peel _ 3 (λ d. peel _ 2 (λ h. peel _ 1 (λ u. peel _ 0 (λ o rest l. k n f c m p r i a g s d h u o rest))))))))))))))
+
+five : (P : List ℕ → Type 0) → ((k n u f v : ℕ) (rest : List ℕ) → P (k ∷ n ∷ u ∷ f ∷ v ∷ rest)) → (w : List ℕ) → 5 ≤ length w → P w
+five P z = peel _ 4 (λ k. peel _ 3 (λ n. peel _ 2 (λ u. peel _ 1 (λ f. peel _ 0 (λ v rest l. z k n u f v rest)))))
+
+-- ---- an answer
+
+-- its first three words
+pub answer-back : (t : Answer) (a : List ℕ) → 5 ≤ length a → (num (answerPut t a) 0 ≡ kindWord t) × (num (answerPut t a) 1 ≡ workNumber t) × (num (answerPut t a) 2 ≡ unitsOf t)
+unfolding answerPut
+answer-back t = five (λ (a : List ℕ). (num (answerPut t a) 0 ≡ kindWord t) × (num (answerPut t a) 1 ≡ workNumber t) × (num (answerPut t a) 2 ≡ unitsOf t)) (λ k n u f v rest. (refl, refl, refl))
 
 -- ---- method, state, values
 
@@ -47,6 +60,13 @@ unfolding standingOf
 standing-back Running = refl
 standing-back Stopped = refl
 standing-back Finished = refl
+
+word-back : (x : ℕ) → x ≤ 2 → standingWord (standingOf x) ≡ x
+unfolding standingOf
+word-back zero h = refl
+word-back (suc zero) h = refl
+word-back (suc (suc zero)) h = refl
+word-back (suc (suc (suc x))) h = absurd (omega (arith, h))
 
 standing-fine : (s : Standing) → leb (standingWord s) 2 ≡ true
 standing-fine Running = refl
@@ -104,3 +124,18 @@ module _ (r : Run) where
       w
       (run-long w e)
       e
+
+  -- written twice, the later counts
+  pub progress-again : (q : Run) (w : List ℕ) → 14 ≤ length w → progressPut r (progressPut q w) ≡ progressPut r w
+  unfolding progressPut
+  progress-again q = fourteen (λ (w : List ℕ). progressPut r (progressPut q w) ≡ progressPut r w) (λ n f c m p e i a g s d h u o rest. refl)
+
+-- a record that is written where it was read changes no word
+pub progress-same : (w : List ℕ) → runFine w ≡ true → progressPut (runOf w) w ≡ w
+unfolding runFine settingsFine progressPut runOf
+progress-same w e =
+    fourteen (λ (w : List ℕ). runFine w ≡ true → progressPut (runOf w) w ≡ w)
+    (λ n f c m p e i a g s d h u o rest q. rw (word-back s (leb-true s 2 (and-right (leb 14 (past (length rest)) && (leb 9 (past (length rest)) && leb m 1)) (leb s 2) q))))
+    w
+    (run-long w e)
+    e
