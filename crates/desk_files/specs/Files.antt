@@ -1,26 +1,17 @@
--- Starting positions and the frame file, with plain words. Definitions only.
+-- The frame file, with plain words. Definitions only.
 use mathlib.Core.List.{List}
-use mathlib.Core.Option.{Option, none, some}
 use mathlib.Core.Bool.{cond}
 use Prim.Native.Nat.{ℕ}
 use lib.Dec.{eqb, ltb}
 use lib.ListN.{length, set}
 use Rattle.frames.specs.declared.Frames.{Frames}
 use Rattle.frames.specs.declared.Frames.the-variants.{Good, Bad}
-use Rattle.frames.specs.Frames.{framesOf, frameOf}
+use Rattle.frames.specs.Frames.{framesOf, frameOf, framesNumber, orZero}
 use Rattle.desk_words.specs.Words.{framePut, Worded, worded}
 
--- ---- starting positions
-
-abbrev pub orZero : Option ℕ → ℕ
-orZero none = 0
-orZero (some k) = k
-
--- ---- the frame file
-
 abbrev pub framesWorded : Frames → List ℕ → Worded
-framesWorded (Good n) w = worded 0 (set w 0 n)
-framesWorded (Bad p) w = worded 16 (set w 0 p)
+framesWorded (Good n) w = worded (orZero (framesNumber (Good n))) (set w 0 n)
+framesWorded (Bad p) w = worded (orZero (framesNumber (Bad p))) (set w 0 p)
 
 -- the count of the records, or 16 and the place of the first bad one; 12 where the area has no word
 unfoldable pub hostFrames : List ℕ → List ℕ → Worded

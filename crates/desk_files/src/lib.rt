@@ -2,7 +2,8 @@
 ghost use mathlib.Core.Path.{_≡_};
 ghost use Rattle.scatter.specs.Scatter.{scatterOf};
 ghost use Rattle.desk_words.specs.Words.{worded};
-ghost use Rattle.desk_files.specs.Files.{orZero, hostFrames, hostFrame};
+ghost use Rattle.frames.specs.Frames.{orZero};
+ghost use Rattle.desk_files.specs.Files.{hostFrames, hostFrame};
 use desk_words::put_frame;
 
 // Starting positions from a seed. Answers 0, or 1, 7 or 12; then nothing is changed.

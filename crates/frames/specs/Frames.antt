@@ -74,6 +74,11 @@ abbrev pub framesNumber : Frames → Option ℕ
 framesNumber (Good n) = none
 framesNumber (Bad p) = some 16
 
+-- a number as a call answers it: 0 where there is none
+abbrev pub orZero : Option ℕ → ℕ
+orZero none = 0
+orZero (some k) = k
+
 -- ---- frame i
 
 unfoldable pub featuresAt : List ℕ → ℕ → List Float
