@@ -23,6 +23,25 @@
  *  15  the step would give a value that is NaN or above 2^100 in magnitude
  *  16  a record of a frame file is bad
  */
+
+/* What areas may hold: any bits, NaNs of every kind among them. A call tests whatever it goes by, so no contents can lead it
+ * outside what is lent. But the memory must have been initialised once, as by calloc: C gives no meaning to reading what never
+ * was. Pointers must fit their elements' alignment, and a pointer and its length must belong together.
+ *
+ * What a refused call writes:
+ *   sizes, prepare, scatter, frame   nothing
+ *   frames                           with 16 the place of the bad record; with 12 nothing
+ *   work, refused at its entry       (12, 13) the answer and nothing else; with an answer area that is too short nothing
+ *   work, refused by a unit          (14, 15) all that the units before it wrote: record and memory are as after these units,
+ *                                    which the answer counts, and the refused unit has changed nothing
+ * After 14 or 15 the run is still running, and the next call begins with the refused unit. After 14 it goes on where the nodes
+ * are moved to a longer arena, those in use with their contents.
+ *
+ * Stack: a call takes less than 16 KiB where the nodes are those that the library wrote; such trees are at most 51 levels deep.
+ * Altered nodes can hang below each other as deep as there are nodes in use. Then a work call takes about 2.4 KiB more for each
+ * 256 levels: 2 MiB are enough for every arena as long as brothanchor_sizes tells, 8 MiB for 800,000 levels. No other call
+ * grows with what it is lent. A work call over altered nodes ends too, but where they share children it may visit twice as many
+ * at each level. */
 #ifndef BROTHANCHOR_H
 #define BROTHANCHOR_H
 
@@ -63,7 +82,8 @@ enum {
     BROTHANCHOR_NUMBER, /* of the refusal, or 0 */
     BROTHANCHOR_UNITS,  /* units done in this call */
     BROTHANCHOR_FAULT,  /* 0 none, 1 settings, 2 counters, 3 areas, 4 offsets, 5 listed index, 6 tree */
-    BROTHANCHOR_VALUE,  /* with it: the number that the settings would have had, the frame, the place, the node */
+    BROTHANCHOR_VALUE,  /* with it: the number that the settings would have had (13 for a method that there is not), the frame,
+                           the place, the node */
     BROTHANCHOR_ANSWER_WORDS
 };
 
@@ -100,8 +120,8 @@ typedef char brothanchor_node_has_88_bytes[sizeof(struct brothanchor_node) == 88
 uint32_t brothanchor_sizes(const uint64_t *settings, size_t settings_length, uint64_t *sizes, size_t sizes_length);
 
 /* Prepares a run and writes its record. Answers 0 or the number of the refusal; refused, nothing is changed. 13 where the
- * words are no settings or the record area is shorter than fourteen words. Of the arena it is told the number of nodes, no
- * more: preparation reads and writes none. */
+ * words are no settings, before all else; then 1 to 12 in their order. A record area shorter than fourteen words is 12, as
+ * any other area. Of the arena it is told the number of nodes, no more: preparation reads and writes none. */
 uint32_t brothanchor_prepare(
     const uint64_t *settings, size_t settings_length,
     const double *table, size_t table_length,
@@ -119,8 +139,10 @@ uint32_t brothanchor_prepare(
     uint64_t *record, size_t record_length);
 
 /* Does units until the budget is done, one is refused or the run has ended. Answers 0 or the number of the refusal, and
- * writes record and answer. Refused at its entry (12, 13) it writes the answer alone, and leaves the record to the last bit.
- * 12 where the answer area is shorter than five words: then nothing is changed at all. */
+ * writes the answer and, of the record, the five words after the settings: the settings keep their bits. Refused at its
+ * entry (12, 13) it writes the answer alone. An answer area shorter than five words is 12 before all else, and nothing is
+ * changed: without it nothing can be told. Then words that are no record are 13: too few of them, told as counters; a
+ * method that there is not, told as settings with the value 13; a state that there is not, told as counters. */
 uint32_t brothanchor_work(
     uint64_t *record, size_t record_length,
     double *positions, size_t positions_length,

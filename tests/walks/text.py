@@ -49,7 +49,7 @@ denote.Triple.Spec: Meets tripleOf
 denote.Triple.Table: entered cited
 denote.Triple.Walked: says needs Stays stay-ref stay-slice stay-none stay-none-slice walkOf goes-ref goes-slice goes-none goes-none-slice Walks ends-at walked walk-meets
 denote.Exit: yes
-Rattle.lent.proofs.After: after type-of
+Rattle.lent.proofs.After: bodyAfter type-of
 Rattle.lent.proofs.Plain: calls-plain
 Rattle.lent.proofs.Pass: Seat ref-at word Mut Shr Tok lent-to lend-mut back-mut lend-shr back-shr lend-copy'''
 

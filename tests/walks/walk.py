@@ -285,7 +285,7 @@ class Walker:
         L = w.stmt(turn[1]).split('\n'); test = turn[2]
         L.append('first ! $ branches ! %s' % w.opd(test[1][1], 0)[0])
         keep = (dict(w.v), dict(w.cur), dict(w.len), list(w.c.l), w.close); w.close = 0
-        A = ['(λ yes1. skips ! $ exec ! C Λ En (after (after pieces.turn-1)) (anyQ (Turned s)) $']
+        A = ['(λ yes1. skips ! $ exec ! C Λ En (bodyAfter (bodyAfter pieces.turn-1)) (anyQ (Turned s)) $']
         b = test[2]
         while b[0] == 'seq': A += w.stmt(b[1]).split('\n'); b = b[2]
         A.append(w.stmt(b).replace('assigns !', 'assigns-last !'))

@@ -11,6 +11,7 @@ ghost use Rattle.affinity.specs.Exact.{exactOf};
 ghost use Rattle.affinity.specs.Laid.{laid};
 ghost use Rattle.affinity.specs.Steps.{conditionals, distancesLeft};
 use affinity_joins::symmetrize_probabilities;
+use affinity_lists::areas::clear_values;
 
 // The distances of frame i in the row, and its shares of the n frames in row i of the affinities.
 fn conditional_row(
@@ -56,18 +57,6 @@ fn conditional_probabilities(
     }
 }
 
-// The first n places become +0.0.
-fn clear_row(row: &mut [f64], n: usize)
-    requires { ⌜ n ≤ length (now row) ⌝ }
-    ensures { λ _. ⌜ now (row .exit) ≡ cleared zero64 n (now (row .entry)) ⌝ }
-{
-    let mut j = 0;
-    while j < n {
-        row[j] = 0.0;
-        j += 1;
-    }
-}
-
 // The affinities of n frames, by rows, in the first n·n places; on the way the squares of the frames and a row of distances, which is zeros again afterwards.
 pub fn exact_affinities(
     table: &[f64],
@@ -86,5 +75,5 @@ pub fn exact_affinities(
     affinity_near::distances::square_frames(table, n, f, squares);
     conditional_probabilities(table, n, f, perplexity, squares, affinities, row);
     symmetrize_probabilities(affinities, n);
-    clear_row(row, n);
+    clear_values(row, n);
 }

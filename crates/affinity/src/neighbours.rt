@@ -11,23 +11,10 @@ ghost use Rattle.laws.specs.Area.{zero64};
 ghost use Rattle.elementary.specs.Limits.{neighboursOf};
 ghost use Rattle.affinity_near.specs.Distances.{squaresOf, Squared};
 ghost use Rattle.affinity_near.specs.Near.{valuesOver, indicesOver};
-ghost use Rattle.affinity_sigma.specs.Sigma.{divideStep};
 ghost use Rattle.affinity_lists.specs.Lists.{areas};
 ghost use Rattle.affinity.specs.Laid.{laid};
 ghost use Rattle.affinity.specs.Steps.{sharesLeft, framesLeft};
 ghost use Rattle.affinity.specs.Neighbours.{valuesIn, framesIn, neighbourRow, neighboursListed};
-
-// The first k values, each divided by the norm.
-fn divide_shares(values: &mut [f64], k: usize, norm: f64)
-    requires { ⌜ k ≤ length (now values) ⌝ }
-    ensures { λ _. ⌜ now (values .exit) ≡ loop (divideStep norm) k 0 (now (values .entry)) ⌝ }
-{
-    let mut t = 0;
-    while t < k {
-        values[t] = values[t] / norm;
-        t += 1;
-    }
-}
 
 // The row of frame i, in the first k places of the two areas of a row.
 fn neighbor_row(
@@ -54,7 +41,7 @@ fn neighbor_row(
     affinity_near::distances::distance_row(table, n, f, squares, i, row_values);
     affinity_near::neighbours::nearest(row_values, n, k, i, weights, row_indices);
     affinity_sigma::binary_search_sigma(weights, k, perplexity, row_values);
-    divide_shares(row_values, k, 2.0 * n as f64);
+    affinity_sigma::divide(row_values, k, 2.0 * n as f64);
     affinity_near::neighbours::by_index(row_values, row_indices, k, weights, indices);
 }
 
@@ -114,8 +101,19 @@ pub fn neighbor_probabilities(
     row_indices: &mut [u32],
 )
     requires { ⌜ (2 ≤ n) × (n ≤ mostFrames) × (lt zero64 perplexity ≡ true) × (lt perplexity (ofInt binary64 (pos n)) ≡ true) ⌝ }
-    requires { ⌜ (n * f ≤ length (now table)) × (2 * (n * neighboursOf perplexity n) ≤ length (now weights)) × (2 * (n * neighboursOf perplexity n) ≤ length (now indices)) × (n + 1 ≤ length (now offsets)) × (n ≤ length (now squares)) × (n ≤ length (now «row_values»)) × (n ≤ length (now «row_indices»)) ⌝ }
-    ensures { λ _. ⌜ areas (now (weights .exit)) (now (indices .exit)) (now (offsets .exit)) (now («row_values» .exit)) (now («row_indices» .exit)) ≡ neighboursListed (now (table .entry)) n f perplexity (areas (now (weights .entry)) (now (indices .entry)) (now (offsets .entry)) (now («row_values» .entry)) (now («row_indices» .entry))) ⌝ }
+    requires { ⌜
+        (n * f ≤ length (now table))
+        × (2 * (n * neighboursOf perplexity n) ≤ length (now weights))
+        × (2 * (n * neighboursOf perplexity n) ≤ length (now indices))
+        × (n + 1 ≤ length (now offsets))
+        × (n ≤ length (now squares))
+        × (n ≤ length (now «row_values»))
+        × (n ≤ length (now «row_indices»))
+        ⌝ }
+    ensures { λ _. ⌜
+        areas (now (weights .exit)) (now (indices .exit)) (now (offsets .exit)) (now («row_values» .exit)) (now («row_indices» .exit))
+        ≡ neighboursListed (now (table .entry)) n f perplexity (areas (now (weights .entry)) (now (indices .entry)) (now (offsets .entry)) (now («row_values» .entry)) (now («row_indices» .entry)))
+        ⌝ }
     ensures { λ _. ⌜ now (squares .exit) ≡ squaresOf (now (table .entry)) n f (now (squares .entry)) ⌝ }
 {
     let k = elementary::limits::neighbours(perplexity, n as u64) as usize;

@@ -19,7 +19,7 @@ use Rattle.laws.specs.Joined.{joined, pasted, ending}
 use Rattle.laws.proofs.Numbers.{row-in}
 use Rattle.laws.proofs.Bools.{two}
 use Rattle.laws.proofs.First.{first-same}
-use Rattle.laws.proofs.Joined.{those-rise, those-same, map-those, spot, spot-yes, spot-no, spot-at, joined-none, joined-more, joined-grow, joined-mono, joined-at, tail-at, length-singles, singles-at, length-map, getD-map-in}
+use Rattle.laws.proofs.Joined.{those-rise, those-same, map-those, placeIn, spot-yes, spot-no, spot-at, joined-none, joined-more, joined-grow, joined-mono, joined-at, tail-at, length-singles, singles-at, length-map, getD-map-in}
 use Rattle.laws.proofs.Parts.{length-pasted, drop-put, getD-pasted}
 use Rattle.affinity_links.specs.Links.{found, plusOf, span, soughtYes, soughtWeight, Sought}
 use Rattle.affinity_links.proofs.Search.{found-same}
@@ -85,7 +85,7 @@ module _ (n k : ℕ) (J : List ℕ) (S : List Float) (Q : List ℕ) (ok : Rows n
 
 -- ---- the same, and X and R hold row i
 
-pub record Ready (n k : ℕ) (J : List ℕ) (S : List Float) (Q : List ℕ) (i q : ℕ) (W : List Float) (I O : List ℕ) (X : List Float) (R : List ℕ) : Type 0 where
+pub record RowReady (n k : ℕ) (J : List ℕ) (S : List Float) (Q : List ℕ) (i q : ℕ) (W : List Float) (I O : List ℕ) (X : List Float) (R : List ℕ) : Type 0 where
   pub filled : Filled n k J S Q (i + 1) q W I O
   pub rowI : (t : ℕ) → t < k → num R (0 + t) ≡ num J (i * k + t)
   pub rowW : (t : ℕ) → t < k → at X (0 + t) ≡ at S (i * k + t)
@@ -94,7 +94,7 @@ pub record Ready (n k : ℕ) (J : List ℕ) (S : List Float) (Q : List ℕ) (i q
 
 module _ {n k : ℕ} {J : List ℕ} {S : List Float} {Q : List ℕ} (big : (2 * (n * k) ≤ length S) × (2 * (n * k) ≤ length J)) where
   ready : {i q : ℕ} {W : List Float} {I O : List ℕ} (X : List Float) (R : List ℕ) → k ≤ length X → k ≤ length R
-      → Filled n k J S Q (i + 1) q W I O → Ready n k J S Q i q W I O (pasted W (i * k) k X) (pasted I (i * k) k R)
+      → Filled n k J S Q (i + 1) q W I O → RowReady n k J S Q i q W I O (pasted W (i * k) k X) (pasted I (i * k) k R)
   ready {i} {q} {W} {I} X R hX hR f =
       let more : (i + 1) * k ≡ i * k + k = rw (add-mul i 1 k, one-mul k) in
       let rows : i * k + k ≤ n * k = row-in i n k (n * k) (omega (arith, f .within)) (le-refl (n * k)) in
@@ -115,10 +115,10 @@ module _ {n k : ℕ} {J : List ℕ} {S : List Float} {Q : List ℕ} (big : (2 * 
   -- row i is copied
   pub ready-of : {i i' q : ℕ} {W : List Float} {I O : List ℕ} {X' : List Float} {R' : List ℕ} (X : List Float) (R : List ℕ) → i' ≡ i + 1
       → k ≤ length X → k ≤ length R → X' ≡ pasted W (i * k) k X → R' ≡ pasted I (i * k) k R
-      → Filled n k J S Q i' q W I O → Ready n k J S Q i q W I O X' R'
+      → Filled n k J S Q i' q W I O → RowReady n k J S Q i q W I O X' R'
   ready-of {i} {i'} {q} {W} {I} {O} X R e hX hR eX eR f = rw (eX, eR) (ready X R hX hR (rw e at f))
 
-  module _ (ok : Rows n k J) {i q : ℕ} {W : List Float} {I O : List ℕ} {X : List Float} {R : List ℕ} (g : Ready n k J S Q i q W I O X R) where
+  module _ (ok : Rows n k J) {i q : ℕ} {W : List Float} {I O : List ℕ} {X : List Float} {R : List ℕ} (g : RowReady n k J S Q i q W I O X R) where
     f : Filled n k J S Q (i + 1) q W I O
     f = g .filled
 
@@ -190,7 +190,7 @@ module _ {n k : ℕ} {J : List ℕ} {S : List Float} {Q : List ℕ} (big : (2 * 
       below-found : j < i → found I (j * k) k i ≡ place k J j i
       below-found m = found-same I J (j * k) (j * k) k i (λ t b. f .keptI (j * k + t) (row-at j t m b))
 
-      above-found : i < j → found I (num O j) (span O j) i ≡ spot (linked k J j) n i
+      above-found : i < j → found I (num O j) (span O j) i ≡ placeIn (linked k J j) n i
       above-found m =
           ap (λ (x : ℕ). first (λ t. eqb (num I (num O j + t)) i) x) (span-is j m l)
           ∙ first-same (λ t. eqb (num I (num O j + t)) i) (λ t. eqb (num (listOf n k J j) t) i) (length (listOf n k J j)) (λ t b. ap (λ (x : ℕ). eqb x i) (ap (λ (x : ℕ). num I (x + t)) (start-at j m (omega arith)) ∙ list-at j t m l b))
@@ -224,8 +224,8 @@ module _ {n k : ℕ} {J : List ℕ} {S : List Float} {Q : List ℕ} (big : (2 * 
           | no d ↦ rw (le-ltb j i (omega arith), ne-eqb j i d, above-found (omega arith), span-is j (omega arith) l)
               (⊎-elim
               (λ b. rw (lt-ltb _ _ (spot-yes (linked k J j) n i frame b))
-              (ap (λ (x : ℕ). at W (x + spot (linked k J j) n i)) (start-at j (omega arith) (omega arith))
-              ∙ weight-at j (spot (linked k J j) n i) (omega arith) l (spot-yes (linked k J j) n i frame b)
+              (ap (λ (x : ℕ). at W (x + placeIn (linked k J j) n i)) (start-at j (omega arith) (omega arith))
+              ∙ weight-at j (placeIn (linked k J j) n i) (omega arith) l (spot-yes (linked k J j) n i frame b)
               ∙ ap (weight k J S j) (spot-at (linked k J j) n i frame b) ∙ weight-comm k J S j i))
               (λ b. rw (le-ltb _ _ (le-from (spot-no (linked k J j) n i b))) (sym (weight-none k J S i j (linked-comm k J S i j ∙ b))))
               (two (linked k J j i)))

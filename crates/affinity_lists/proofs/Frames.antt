@@ -13,7 +13,7 @@ use Rattle.laws.proofs.Numbers.{row-in}
 use Rattle.laws.proofs.Parts.{Scratch, scratch-start, scratch-copy, scratch-clear}
 use Rattle.affinity_lists.specs.Lists.{linksOf, cleared, Areas, areas, listsMade, Prepared}
 use Rattle.affinity_lists.specs.Steps.{listSought, weightsSought, Room}
-use Rattle.affinity_lists.proofs.Filled.{Filled, filled-start, filled-small, filled-end, filled-more, offsets-same, Ready, ready-of, ready-room}
+use Rattle.affinity_lists.proofs.Filled.{Filled, filled-start, filled-small, filled-end, filled-more, offsets-same, RowReady, ready-of, ready-room}
 
 -- b: the areas at first, a: the areas now
 pub record Frames (n k : ℕ) (b : Areas) (i q : ℕ) (a : Areas) : Type 0 where
@@ -40,7 +40,7 @@ module _ {n k : ℕ} {b : Areas} (ok : Prepared n k b) where
 
     -- it is copied, and list i - 1 is written
     module _ (h : 0 < i) {X' : List Float} {R' : List ℕ} (eX : X' ≡ pasted W ((i - 1) * k) k X) (eR : R' ≡ pasted I ((i - 1) * k) k R) where
-      copied : Ready n k (b .indices) (b .weights) Q (i - 1) q W I O X' R'
+      copied : RowReady n k (b .indices) (b .weights) Q (i - 1) q W I O X' R'
       copied = ready-of (ok .weights, ok .indices) X R (omega arith) (frames-row h .0) (frames-row h .1) eX eR (f .lists)
 
       pub frames-room : Room W I O X' R' n k (i - 1) q

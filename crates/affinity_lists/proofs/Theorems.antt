@@ -8,7 +8,7 @@ use lib.Ieee.{nan}
 use lib.ListN.{length, drop, List·getD-append}
 use Rattle.laws.specs.Area.{num, at}
 use Rattle.laws.specs.Joined.{joined}
-use Rattle.laws.proofs.Joined.{those-below, those-holds, those-rise, spot, spot-yes, spot-at, joined-none, joined-grow, joined-at, joined-all, singles-at, length-map, getD-map-in}
+use Rattle.laws.proofs.Joined.{those-below, those-holds, those-rise, placeIn, spot-yes, spot-at, joined-none, joined-grow, joined-at, joined-all, singles-at, length-map, getD-map-in}
 use Rattle.affinity_lists.specs.Lists.{Rows, InList, linked, weight, listOf, weightsOf, listStart, linksOf, Areas, listsMade}
 use Rattle.affinity_lists.proofs.Linked.{linked-comm, weight-comm, linked-self, length-weights, degree-least, links-least, links-most}
 
@@ -66,7 +66,7 @@ module _ (n k : ℕ) (b : Areas) (ok : Rows n k (b .indices)) where
   pub listed-all : (i j : ℕ) → i < n → j < n → linked k (b .indices) i j ≡ true
       → (p : ℕ) × (InList (made .offsets) i p × (num (made .indices) p ≡ j) × (at (made .weights) p ≡ weight k (b .indices) (b .weights) i j))
   listed-all i j h l e =
-      let s = spot (linked k (b .indices) i) n j in
+      let s = placeIn (linked k (b .indices) i) n j in
       let m : s < length (list i) = spot-yes (linked k (b .indices) i) n j l e in
       let named : num (list i) s ≡ j = spot-at (linked k (b .indices) i) n j l e in
       let here : InList (made .offsets) i (start i + s) = omega (arith, m, offset-is i (omega arith), offset-is (i + 1) (omega arith), joined-grow list i) in
@@ -112,5 +112,5 @@ module _ (n k : ℕ) (b : Areas) (ok : Rows n k (b .indices)) where
   listed-rises i p r h u v l = omega (arith, index-is i p h u, index-is i r h v, those-rise (linked k (b .indices) i) n (p - start i) (r - start i) (omega (arith, u, offset-is i (omega arith))) (place-is i r h v .1))
 
 -- the contract of `symmetrise` allows one outcome
-pub tight : (a b : Areas) → a ≡ b → (a .weights ≡ b .weights) × (a .indices ≡ b .indices) × (a .offsets ≡ b .offsets) × (a .rowValues ≡ b .rowValues) × (a .rowIndices ≡ b .rowIndices)
-tight a b e = (ap (λ (x : Areas). x .weights) e, ap (λ (x : Areas). x .indices) e, ap (λ (x : Areas). x .offsets) e, ap (λ (x : Areas). x .rowValues) e, ap (λ (x : Areas). x .rowIndices) e)
+pub one-outcome : (a b : Areas) → a ≡ b → (a .weights ≡ b .weights) × (a .indices ≡ b .indices) × (a .offsets ≡ b .offsets) × (a .rowValues ≡ b .rowValues) × (a .rowIndices ≡ b .rowIndices)
+one-outcome a b e = (ap (λ (x : Areas). x .weights) e, ap (λ (x : Areas). x .indices) e, ap (λ (x : Areas). x .offsets) e, ap (λ (x : Areas). x .rowValues) e, ap (λ (x : Areas). x .rowIndices) e)

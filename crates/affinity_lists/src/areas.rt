@@ -31,7 +31,7 @@ pub(crate) fn copy_indices(to: &mut [u32], from: &[u32], a: usize, k: usize)
 }
 
 // The first n places become +0.0.
-pub(crate) fn clear_values(p: &mut [f64], n: usize)
+pub fn clear_values(p: &mut [f64], n: usize)
     requires { ⌜ n ≤ length (now p) ⌝ }
     ensures { λ _. ⌜ now (p .exit) ≡ cleared zero64 n (now (p .entry)) ⌝ }
 {

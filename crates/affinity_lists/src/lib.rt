@@ -23,7 +23,10 @@ pub fn symmetrise(
     k: usize,
 )
     requires { ⌜ Prepared n k (areas (now weights) (now indices) (now offsets) (now «row_values») (now «row_indices»)) ⌝ }
-    ensures { λ _. ⌜ areas (now (weights .exit)) (now (indices .exit)) (now (offsets .exit)) (now («row_values» .exit)) (now («row_indices» .exit)) ≡ listsMade n k (areas (now (weights .entry)) (now (indices .entry)) (now (offsets .entry)) (now («row_values» .entry)) (now («row_indices» .entry))) ⌝ }
+    ensures { λ _. ⌜
+        areas (now (weights .exit)) (now (indices .exit)) (now (offsets .exit)) (now («row_values» .exit)) (now («row_indices» .exit))
+        ≡ listsMade n k (areas (now (weights .entry)) (now (indices .entry)) (now (offsets .entry)) (now («row_values» .entry)) (now («row_indices» .entry)))
+        ⌝ }
 {
     let links = total(indices, n, k);
     offsets[n] = links as u32;

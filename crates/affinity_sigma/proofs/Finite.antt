@@ -22,7 +22,7 @@ use Rattle.laws.proofs.Written.{written-at}
 use Rattle.laws.proofs.Changed.{changed-at}
 use Rattle.elementary.specs.Exp.{expOf}
 use Rattle.elementary.specs.Limits.{upToWhole, notNegative}
-use Rattle.elementary.proofs.Sizes.{plain, Signed, Least, Sized, held-whole, signed-round, sized-signed, sized-round, zero-whole, sized-more, sized-add, sized-div, whole-sized, sized-whole, whole-not-negative, whole-signed, whole-least, one-sized, two-is, plain-add}
+use Rattle.elementary.proofs.Sizes.{signPlus, Signed, Least, Sized, held-whole, signed-round, sized-signed, sized-round, zero-whole, sized-more, sized-add, sized-div, whole-sized, sized-whole, whole-not-negative, whole-signed, whole-least, one-sized, two-is, plain-add}
 use Rattle.elementary.proofs.Falling.{exp-falling}
 use Rattle.affinity_sigma.specs.declared.Bounds.{Bounds}
 use Rattle.affinity_sigma.specs.Sigma.{weightOf, weighed, weightStep, weightSum, smallest, fillStep, divideStep, sharedBy, rowOf, excess, close, narrowed, Search, searched, isMet, roundOf, openBounds, sigmaShares, mostRounds}
@@ -30,17 +30,17 @@ use Rattle.affinity_sigma.proofs.Alone.{until-on, weighed-size, row-siz
 
 -- ---- one weight
 
-times-some : (z : Float) (m : ℕ) (e : ℤ) → plain z → plain (mul binary64 z (fin false (suc m) e))
+times-some : (z : Float) (m : ℕ) (e : ℤ) → signPlus z → signPlus (mul binary64 z (fin false (suc m) e))
 unfolding mul
 times-some (inf s) m e p = rw (p, ne-eqb (suc m) 0 (λ q. omega arith)) refl
 times-some (fin s k g) m e p = rw p (signed-round binary64 false (k * up g * (suc m * up e)) (down g * down e))
 
-times-none : (z : Float) (e : ℤ) → Sized false 0 1 z → plain (mul binary64 z (fin false 0 e))
+times-none : (z : Float) (e : ℤ) → Sized false 0 1 z → signPlus (mul binary64 z (fin false 0 e))
 unfolding mul
 times-none (fin s k g) e p = rw (p .0) (signed-round binary64 false (k * up g * (0 * up e)) (down g * down e))
 
 -- (2·sigma)·sigma: the zero and the infinite sigma never meet
-spread-of : (sigma : Float) → plain sigma → plain (mul binary64 (mul binary64 (fin false 1 (pos 1)) sigma) sigma)
+spread-of : (sigma : Float) → signPlus sigma → signPlus (mul binary64 (mul binary64 (fin false 1 (pos 1)) sigma) sigma)
 unfolding mul
 spread-of (inf s) p = rw p refl
 spread-of (fin true m e) p = absurd (true≢false p)
@@ -48,11 +48,11 @@ spread-of (fin false zero e) p = times-none (round binary64 false (1 * 2 ^ 1 * (
     (sized-round false (1 * 2 ^ 1 * (0 * up e)) (1 * down e) 0 1 (omega (arith, down-pos e)) (lit< tt) (held-whole 0 (lit≤ tt)) (rw (zero-mul (up e)) (omega arith)))
 spread-of (fin false (suc m) e) p = times-some (round binary64 false (1 * 2 ^ 1 * (suc m * up e)) (1 * down e)) m e (signed-round binary64 false (1 * 2 ^ 1 * (suc m * up e)) (1 * down e))
 
-spread : (sigma : Float) → plain sigma → plain (mul binary64 (mul binary64 two64 sigma) sigma)
-spread sigma p = subst (λ (t : Float). plain (mul binary64 (mul binary64 t sigma) sigma)) (sym two-is) (spread-of sigma p)
+spread : (sigma : Float) → signPlus sigma → signPlus (mul binary64 (mul binary64 two64 sigma) sigma)
+spread sigma p = subst (λ (t : Float). signPlus (mul binary64 (mul binary64 t sigma) sigma)) (sym two-is) (spread-of sigma p)
 
 -- a distance above 0 with its sign turned, divided by what is not negative
-falls : (m : ℕ) (e : ℤ) (v : Float) → plain v → Signed true (div binary64 (fin true (suc m) e) v)
+falls : (m : ℕ) (e : ℤ) (v : Float) → signPlus v → Signed true (div binary64 (fin true (suc m) e) v)
 unfolding div
 falls m e (inf s) p = rw p refl
 falls m e (fin s n g) p = rw (p, ne-eqb (suc m) 0 (λ q. omega arith)) (go (eqb n 0))
@@ -65,7 +65,7 @@ zero-equal : (e : ℤ) → eq (fin false 0 e) zero64 ≡ true
 unfolding eq ofBits
 zero-equal e = rw (zero-mul (up e), zero-mul (down e))
 
-weight-small : (sigma d : Float) → plain sigma → notNegative d → upToWhole (weightOf sigma d) 14
+weight-small : (sigma d : Float) → signPlus sigma → notNegative d → upToWhole (weightOf sigma d) 14
 unfolding weightOf neg
 weight-small sigma (fin true m e) p q = absurd (true≢false q)
 weight-small sigma (fin false zero e) p q = rw (zero-equal e) (zero-whole 14)
@@ -78,26 +78,26 @@ weight-small sigma (fin false (suc m) e) p q = go (eq (fin false (suc m) e) zero
 -- ---- the bounds of the search are never NaN and never negative
 
 record PlainBounds (b : Bounds) : Type 0 where
-  low : plain (b .low)
-  high : plain (b .high)
-  sigma : plain (b .sigma)
+  low : signPlus (b .low)
+  high : signPlus (b .high)
+  sigma : signPlus (b .sigma)
 
-half-of : (z : Float) → plain z → plain (div binary64 z (fin false 1 (pos 1)))
+half-of : (z : Float) → signPlus z → signPlus (div binary64 z (fin false 1 (pos 1)))
 unfolding div
 half-of (inf s) p = rw p refl
 half-of (fin s m e) p = rw p (signed-round binary64 false (m * up e * 1) (1 * 2 ^ 1 * down e))
 
-middle : (x y : Float) → plain x → plain y → plain (div binary64 (add binary64 x y) two64)
-middle x y p q = subst (λ (t : Float). plain (div binary64 (add binary64 x y) t)) (sym two-is) (half-of (add binary64 x y) (plain-add x y p q))
+middle : (x y : Float) → signPlus x → signPlus y → signPlus (div binary64 (add binary64 x y) two64)
+middle x y p q = subst (λ (t : Float). signPlus (div binary64 (add binary64 x y) t)) (sym two-is) (half-of (add binary64 x y) (plain-add x y p q))
 
-double : (z : Float) → plain z → plain (mul binary64 z two64)
-double z p = subst (λ (t : Float). plain (mul binary64 z t)) (sym two-is) (times-some z 0 (pos 1) p)
+double : (z : Float) → signPlus z → signPlus (mul binary64 z two64)
+double z p = subst (λ (t : Float). signPlus (mul binary64 z t)) (sym two-is) (times-some z 0 (pos 1) p)
 
 next-plain : (b : Bounds) (diff : Float) → PlainBounds b → PlainBounds (narrowed b diff)
 unfolding narrowed
 next-plain b diff p = go (lt zero64 diff)
   where
-    higher : (c : Bool) → plain (cond c (mul binary64 (b .sigma) two64) (div binary64 (add binary64 (b .sigma) (b .high)) two64))
+    higher : (c : Bool) → signPlus (cond c (mul binary64 (b .sigma) two64) (div binary64 (add binary64 (b .sigma) (b .high)) two64))
     higher true = double (b .sigma) (p .sigma)
     higher false = middle (b .sigma) (b .high) (p .sigma) (p .high)
 
@@ -142,7 +142,7 @@ module _ (ds : List Float) (n : ℕ) (some : 0 < n) (few : n ≤ mostFrames) (fa
       whole-sized mostShare q (sized-more false 1 mostShare 1 q (lit≤ tt)
       (sized-div false false 1 1 1 1 1 1 one64 (ofInt binary64 (pos n)) (lit< tt) (lit< tt) (lit< tt) (held-whole 1 (lit≤ tt)) (lit≤ tt) one-sized (whole-signed n) (whole-least n some (le-trans few (lit≤ tt)))))
 
-  module _ (sigma : Float) (up-sigma : plain sigma) (l : List Float) (room : n ≤ length l) where
+  module _ (sigma : Float) (up-sigma : signPlus sigma) (l : List Float) (room : n ≤ length l) where
     abbrev w : List Float
     w = weighed ds n sigma l
 

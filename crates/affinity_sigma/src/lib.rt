@@ -64,8 +64,8 @@ fn fill(shares: &mut [f64], n: usize, x: f64)
     }
 }
 
-// The first n, each divided by their sum.
-fn divide(shares: &mut [f64], n: usize, sum: f64)
+// The first n, each divided by a sum.
+pub fn divide(shares: &mut [f64], n: usize, sum: f64)
     requires { ⌜ n ≤ length (now shares) ⌝ }
     ensures { λ _. ⌜ now (shares .exit) ≡ loop (divideStep sum) n 0 (now (shares .entry)) ⌝ }
 {

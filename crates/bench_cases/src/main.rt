@@ -8,6 +8,12 @@ fn print_case(k: u64) {
     io::write_all(STDOUT_FILENO, b"\n");
 }
 
+fn print_file(file: &[u8]) {
+    let mut text = [0u8; 5000];
+    let k = bench_printout::text_of(file, &mut text);
+    io::write_all(STDOUT_FILENO, &text[..k]);
+}
+
 // A case is its length in bytes, then the bytes filled up to whole words. A length that does not fit the list ends the program.
 fn map_cases(list: &[u8]) {
     let words = list.len() / 8;
@@ -24,7 +30,7 @@ fn map_cases(list: &[u8]) {
             return;
         }
         print_case(k);
-        bench_printout::print_file(&list[from..end]);
+        print_file(&list[from..end]);
         k = std::num::wrapping_add_u64(k, 1);
         a = a + 1 + (length as usize + 7) / 8;
     }

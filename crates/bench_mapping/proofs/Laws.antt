@@ -21,20 +21,20 @@ use Rattle.run_budget.specs.declared.Answer.{Answer}
 use Rattle.descent.specs.Descent.{work}
 use Rattle.prepare.specs.declared.Prepared.{Prepared}
 use Rattle.prepare.specs.declared.Prepared.the-variants.{Refused as Turned, Ready}
-use Rattle.prepare.specs.Prepare.{Lent, Outcome, outcome, prepared, memoryOf}
+use Rattle.prepare.specs.Prepare.{Lent, PrepareOutcome, prepareOutcome, prepared, memoryOf}
 use Rattle.bench_mapping.specs.declared.Told.the-variants.{Long, Record, Refused, Worked as Answered}
 use Rattle.bench_mapping.specs.declared.Mapped.{Mapped}
 use Rattle.bench_mapping.specs.Mapping.{benchFrames, benchBytes, zeros, benchAreas, benchCells, mappedAs, workedAs, goesOn, descended, mapped, recordsOf, mapOf}
 
 -- ---- preparation, then the work call
 
-module _ (s : Settings) (table start : List Float) (l : Lent) (p : Prepared) (e : outcome p l ≡ prepared s table start 256 benchAreas) where
+module _ (s : Settings) (table start : List Float) (l : Lent) (p : Prepared) (e : prepareOutcome p l ≡ prepared s table start 256 benchAreas) where
   goes-on : goesOn p l ≡ descended s table start
   unfolding descended
-  goes-on = ap (λ (o : Outcome). goesOn (o .answer) (o .areas)) e
+  goes-on = ap (λ (o : PrepareOutcome). goesOn (o .answer) (o .areas)) e
 
-  pub refused-is : (k : ℕ) → p ≡ Turned k → mappedAs (Refused k) (l .positions) ≡ descended s table start
-  refused-is k h = ap (λ (x : Prepared). goesOn x l) (sym h) ∙ goes-on
+  pub refused-map : (k : ℕ) → p ≡ Turned k → mappedAs (Refused k) (l .positions) ≡ descended s table start
+  refused-map k h = ap (λ (x : Prepared). goesOn x l) (sym h) ∙ goes-on
 
   pub worked-is : (r : Run) (a : Answer) (y : List Float) (cs : List Cell) → p ≡ Ready r → cs ≡ benchCells
       → (a ≡ work mostWord (state r (memoryOf l cs)) .answer) × (y ≡ work mostWord (state r (memoryOf l cs)) .left .memory .positions) → mappedAs (Answered a) y ≡ descended s table start
@@ -65,9 +65,9 @@ unfolding framesOf
 count-in f = count-most (ltb (first (badAt f) (wholeRecords f)) (wholeRecords f)) (eqb (length f % recordBytes) 0) (first (badAt f) (wholeRecords f)) (wholeRecords f)
 
 -- a file of at most 4,608 bytes has at most 64 good records
-pub few : (f : List ℕ) (n : ℕ) → length f ≤ benchBytes → framesOf f ≡ Good n → n ≤ benchFrames
+pub frames-few : (f : List ℕ) (n : ℕ) → length f ≤ benchBytes → framesOf f ≡ Good n → n ≤ benchFrames
 unfolding countOf
-few f n h e = omega (arith, subst (λ (r : Frames). countOf r ≤ length f / recordBytes) e (count-in f))
+frames-few f n h e = omega (arith, subst (λ (r : Frames). countOf r ≤ length f / recordBytes) e (count-in f))
 
 -- ---- the whole file
 
@@ -83,5 +83,5 @@ module _ (f : List ℕ) (h : length f ≤ benchBytes) where
   pub bad-record : (p : ℕ) → framesOf f ≡ Bad p → mappedAs (Record p) (zeros 128) ≡ mapOf f
   bad-record p e = ap (recordsOf f) (sym e) ∙ within
 
-  pub all-good : (n : ℕ) (m : Mapped) → framesOf f ≡ Good n → m ≡ mapped f n → m ≡ mapOf f
-  all-good n m e q = q ∙ ap (recordsOf f) (sym e) ∙ within
+  pub all-mapped : (n : ℕ) (m : Mapped) → framesOf f ≡ Good n → m ≡ mapped f n → m ≡ mapOf f
+  all-mapped n m e q = q ∙ ap (recordsOf f) (sym e) ∙ within

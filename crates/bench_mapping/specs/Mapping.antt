@@ -10,7 +10,7 @@ use Rattle.laws.specs.Loops.{loop}
 use Rattle.laws.specs.Area.{at, bits, zero64, one64}
 use Rattle.frames.specs.declared.Frames.{Frames}
 use Rattle.frames.specs.declared.Frames.the-variants.{Good, Bad}
-use Rattle.frames.specs.Frames.{recordBytes, framesOf, frameOf}
+use Rattle.frames.specs.Frames.{recordBytes, framesOf, frameOf, framesNumber, orZero}
 use Rattle.run_record.specs.declared.Method.the-variants.{BarnesHut}
 use Rattle.run_record.specs.declared.Settings.{Settings}
 use Rattle.tree_node.specs.declared.Cell.{Cell}
@@ -21,7 +21,7 @@ use Rattle.run_budget.specs.Budget.{Worked}
 use Rattle.descent.specs.Descent.{work, workNumber}
 use Rattle.prepare.specs.declared.Prepared.{Prepared}
 use Rattle.prepare.specs.declared.Prepared.the-variants.{Refused as Turned, Ready}
-use Rattle.prepare.specs.Prepare.{Lent, lent, Outcome, prepared, memoryOf}
+use Rattle.prepare.specs.Prepare.{Lent, lent, PrepareOutcome, prepared, memoryOf}
 use Rattle.bench_mapping.specs.declared.Told.{Told}
 use Rattle.bench_mapping.specs.declared.Told.the-variants.{Long, Record, Refused, Worked as Answered}
 use Rattle.bench_mapping.specs.declared.Mapped.{Mapped}
@@ -108,6 +108,6 @@ mapOf file = cond (ltb benchBytes (length file)) (mappedAs Long (zeros 128)) (re
 -- the scope paper's number of an answer; 0 where it is no refusal
 unfoldable pub mapNumber : Told → ℕ
 mapNumber Long = 7
-mapNumber (Record p) = 16
+mapNumber (Record p) = orZero (framesNumber (Bad p))
 mapNumber (Refused k) = k
 mapNumber (Answered a) = workNumber a

@@ -1,42 +1,52 @@
 // What the bench prints of a frame file: the answer with its units and a line for each frame, or the refusal.
-ghost use Prim.Native.Nat.{_≤_};
-ghost use Rattle.bench_mapping.specs.Mapping.{benchFrames};
+ghost use mathlib.Core.Path.{_≡_};
+ghost use Prim.Native.Nat.{_+_, _≤_};
+ghost use lib.ListN.{length};
+ghost use Rattle.io.specs.Counts.{Counts};
+ghost use Rattle.laws.specs.Joined.{joined};
+ghost use Rattle.text.specs.Text.{written, Puts};
+ghost use Rattle.frames.specs.Frames.{frameOf};
+ghost use Rattle.descent.specs.Descent.{workNumber};
+ghost use Rattle.bench_mapping.specs.Mapping.{benchFrames, mapNumber};
+ghost use Rattle.bench_printout.specs.Printed.{labelText, positionText, frameText, framesShown, mapText, refusalText, recordText, answerText, toldText, printed};
 use bench_mapping::BENCH_FRAMES;
 use bench_mapping::Told;
 use bench_mapping::map_file;
 use descent::Answer;
+use frames::Frame;
 use frames::RECORD_BYTES;
 use frames::frame_at;
-use libc::STDOUT_FILENO;
+use text::put;
+use text::put_decimal;
+use text::put_hex;
 
-fn print_space() {
-    io::write_all(STDOUT_FILENO, b" ");
+// Picture and side of a frame.
+fn put_label(out: &mut [u8], at: usize, f: Frame) -> usize
+    requires { ⌜ at + 42 ≤ length (now out) ⌝ }
+    ensures { λ r. ⌜ Puts (labelText f) at (now (out .entry)) r (now (out .exit)) ⌝ }
+    ensures { λ r. ⌜ r ≤ at + 42 ⌝ }
+{
+    let p = put_decimal(out, at, f.picture as u64);
+    let q = put(out, p, b" ");
+    let s = put_decimal(out, q, f.side as u64);
+    put(out, s, b" ")
 }
 
-fn print_end() {
-    io::write_all(STDOUT_FILENO, b"\n");
-}
-
-// The bits of a value, as 16 hex digits.
-fn print_bits(v: f64) {
-    io::print_hex(STDOUT_FILENO, elementary::bits_of(v), 16);
-}
-
-// Picture, side and the two coordinates of frame i.
-fn print_frame(file: &[u8], i: usize, x: f64, y: f64) {
-    let f = frame_at(file, i);
-    io::print_decimal(STDOUT_FILENO, f.picture as u64);
-    print_space();
-    io::print_decimal(STDOUT_FILENO, f.side as u64);
-    print_space();
-    print_bits(x);
-    print_space();
-    print_bits(y);
-    print_end();
+// The bits of both coordinates.
+fn put_position(out: &mut [u8], at: usize, x: f64, y: f64) -> usize
+    requires { ⌜ at + 34 ≤ length (now out) ⌝ }
+    ensures { λ r. ⌜ Puts (positionText x y) at (now (out .entry)) r (now (out .exit)) ⌝ }
+    ensures { λ r. ⌜ r ≤ at + 34 ⌝ }
+{
+    let p = put_hex(out, at, elementary::bits_of(x));
+    let q = put(out, p, b" ");
+    let s = put_hex(out, q, elementary::bits_of(y));
+    put(out, s, b"\n")
 }
 
 // The whole records of the file, as far as the map has room for them.
 fn count(file: &[u8]) -> usize
+    ensures { λ r. ⌜ r ≡ framesShown (now (file .entry)) ⌝ }
     ensures { λ r. ⌜ r ≤ benchFrames ⌝ }
 {
     let whole = file.len() / RECORD_BYTES;
@@ -46,58 +56,92 @@ fn count(file: &[u8]) -> usize
     whole
 }
 
-fn print_frames(file: &[u8], positions: [f64; 128]) {
+// A line for each frame.
+fn put_frames(out: &mut [u8], from: usize, file: &[u8], positions: [f64; 128]) -> usize
+    requires { ⌜ from + 4864 ≤ length (now out) ⌝ }
+    ensures { λ r. ⌜ Puts (joined (frameText (now (file .entry)) positions) (framesShown (now (file .entry)))) from (now (out .entry)) r (now (out .exit)) ⌝ }
+{
     let n = count(file);
+    let mut at = from;
     let mut i = 0;
     while i < n {
-        print_frame(file, i, positions[2 * i], positions[2 * i + 1]);
+        let f = frame_at(file, i);
+        let a = put_label(out, at, f);
+        at = put_position(out, a, positions[2 * i], positions[2 * i + 1]);
         i += 1;
     }
+    at
 }
 
 // How the run stands, and the map.
-fn print_map(name: &[u8], units: u32, file: &[u8], positions: [f64; 128]) {
-    io::write_all(STDOUT_FILENO, name);
-    print_space();
-    io::print_decimal(STDOUT_FILENO, units as u64);
-    print_end();
-    print_frames(file, positions);
+fn put_map(out: &mut [u8], word: &[u8], units: u32, file: &[u8], positions: [f64; 128]) -> usize
+    requires { ⌜ (5000 ≤ length (now out)) × (length (now word) ≤ 8) ⌝ }
+    ensures { λ r. ⌜ Puts (mapText (now (word .entry)) units (now (file .entry)) positions) 0 (now (out .entry)) r (now (out .exit)) ⌝ }
+{
+    let a = put(out, 0, word);
+    let b = put(out, a, b" ");
+    let c = put_decimal(out, b, units as u64);
+    let d = put(out, c, b"\n");
+    put_frames(out, d, file, positions)
 }
 
-// The refusal's number, and for a bad record its place.
-fn print_refusal(number: u64, t: Told) {
-    io::write_all(STDOUT_FILENO, b"refused ");
-    io::print_decimal(STDOUT_FILENO, number);
-    if let Told::Record(p) = t {
-        io::write_all(STDOUT_FILENO, b" record ");
-        io::print_decimal(STDOUT_FILENO, p as u64);
-    }
-    print_end();
+// The refusal's number.
+fn put_refusal(out: &mut [u8], number: u8) -> usize
+    requires { ⌜ 5000 ≤ length (now out) ⌝ }
+    ensures { λ r. ⌜ Puts (refusalText number) 0 (now (out .entry)) r (now (out .exit)) ⌝ }
+{
+    let a = put(out, 0, b"refused ");
+    let b = put_decimal(out, a, number as u64);
+    put(out, b, b"\n")
 }
 
-fn print_answer(a: Answer, file: &[u8], positions: [f64; 128]) {
+// The number and the place of a bad record.
+fn put_record(out: &mut [u8], number: u8, place: usize) -> usize
+    requires { ⌜ 5000 ≤ length (now out) ⌝ }
+    ensures { λ r. ⌜ Puts (recordText number place) 0 (now (out .entry)) r (now (out .exit)) ⌝ }
+{
+    let a = put(out, 0, b"refused ");
+    let b = put_decimal(out, a, number as u64);
+    let c = put(out, b, b" record ");
+    let d = put_decimal(out, c, place as u64);
+    put(out, d, b"\n")
+}
+
+fn put_answer(out: &mut [u8], a: Answer, file: &[u8], positions: [f64; 128]) -> usize
+    requires { ⌜ 5000 ≤ length (now out) ⌝ }
+    ensures { λ r. ⌜ Puts (answerText a (now (file .entry)) positions) 0 (now (out .entry)) r (now (out .exit)) ⌝ }
+{
     match a {
-        Answer::Running(k) => print_map(b"running", k, file, positions),
-        Answer::Stopped(k) => print_map(b"stopped", k, file, positions),
-        Answer::Finished(k) => print_map(b"finished", k, file, positions),
-        Answer::Full(_) => {}
-        Answer::Wild(_) => {}
-        Answer::Bad(_) => {}
+        Answer::Running(k) => put_map(out, b"running", k, file, positions),
+        Answer::Stopped(k) => put_map(out, b"stopped", k, file, positions),
+        Answer::Finished(k) => put_map(out, b"finished", k, file, positions),
+        Answer::Full(_) => put_refusal(out, descent::number(a)),
+        Answer::Wild(_) => put_refusal(out, descent::number(a)),
+        Answer::Bad(_) => put_refusal(out, descent::number(a)),
     }
 }
 
-// What the bench says of the file.
-pub fn print_file(file: &[u8]) {
-    let m = map_file(file);
-    let t = m.told;
+fn put_told(out: &mut [u8], t: Told, file: &[u8], positions: [f64; 128]) -> usize
+    requires { ⌜ 5000 ≤ length (now out) ⌝ }
+    ensures { λ r. ⌜ Puts (toldText t (now (file .entry)) positions) 0 (now (out .entry)) r (now (out .exit)) ⌝ }
+{
     let k = bench_mapping::number(t);
-    if k != 0 {
-        print_refusal(k as u64, t);
-        return;
+    match t {
+        Told::Long => put_refusal(out, k),
+        Told::Record(p) => put_record(out, k, p),
+        Told::Refused(_) => put_refusal(out, k),
+        Told::Worked(a) => put_answer(out, a, file, positions),
     }
-    let Told::Worked(a) = t else {
-        return;
-    };
+}
+
+// What the bench says of the file, at the start of `out`; answers how many bytes it has.
+pub fn text_of(file: &[u8], out: &mut [u8; 5000]) -> usize
+    ensures { λ r. ⌜ Counts r (now (out .exit)) ⌝ }
+    ensures { λ r. ⌜ r ≡ length (printed (now (file .entry))) ⌝ }
+    ensures { λ _. ⌜ now (out .exit) ≡ written (printed (now (file .entry))) 0 (now (out .entry)) ⌝ }
+{
+    let m = map_file(file);
+    let told = m.told;
     let positions = m.positions;
-    print_answer(a, file, positions);
+    put_told(out, told, file, positions)
 }

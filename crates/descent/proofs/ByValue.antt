@@ -34,36 +34,36 @@ use Rattle.run_entry.proofs.Fault as Fault′
 use Rattle.run_entry.proofs.Fault.Laws as Fault″
 use Rattle.run_budget.proofs.Values.{val-Answer}
 use Rattle.run_entry.proofs.Values.{val-Fault, IsFault}
-use Rattle.run_entry.proofs.is_fine as is-fine′
-use Rattle.run_entry.proofs.is_fine.Symbol.{name as #run-entry·is-fine}
+use Rattle.descent.proofs.passes as passes′
+use Rattle.descent.proofs.passes.Symbol.{name as #descent·passes}
 use Rattle.descent.proofs.bad as bad′
 use Rattle.descent.proofs.bad.Symbol.{name as #descent·bad}
 
--- ---- `is_fine`
+-- ---- `passes`
 module _ {M : Type 1} (𝓤 : URA M) (H : Heap 𝓤) (A : Atoms 𝓤) (mem : Memory → SProp 𝓤) (run : Routine → Fun 𝓤) where
-  abbrev pub Contract-is-fine : Contract 𝓤
-  Contract-is-fine = tripleOf 𝓤 H A is-fine′.signature (is-fine′.spec 𝓤 H A mem run)
+  abbrev pub Contract-passes : Contract 𝓤
+  Contract-passes = tripleOf 𝓤 H A passes′.signature (passes′.spec 𝓤 H A mem run)
 
-  abbrev to-is-fine : Fault → Contract-is-fine .Ghost
-  to-is-fine f₀ = ((tt, tt, tt, (f₀, tt), (val-Fault f₀ ∷ [], tt)), tt)
+  abbrev to-passes : Fault → Contract-passes .Ghost
+  to-passes f₀ = ((tt, tt, tt, (f₀, tt), (val-Fault f₀ ∷ [], tt)), tt)
 
-  abbrev Said-is-fine : Fault → Bool → SProp 𝓤
-  Said-is-fine f₀ = ensured 𝓤 H A is-fine′.ended (is-fine′.clauses 𝓤 H A mem run) tt (f₀, tt) tt
+  abbrev Said-passes : Fault → Bool → SProp 𝓤
+  Said-passes f₀ = ensured 𝓤 H A passes′.ended (passes′.clauses 𝓤 H A mem run) tt (f₀, tt) tt
 
-  said-is-fine : (f₀ : Fault) (res : Bool) → ent 𝓤 (Said-is-fine f₀ res) (fact 𝓤 (res ≡ isFine f₀))
-  said-is-fine f₀ res = exE 𝓤 _ (λ ws. snd∗ 𝓤 (sem 𝓤 H A (lasts is-fine′.ended tt (f₀, tt) ws)) (fact 𝓤 (res ≡ isFine f₀)))
+  said-passes : (f₀ : Fault) (res : Bool) → ent 𝓤 (Said-passes f₀ res) (fact 𝓤 (res ≡ isFine f₀))
+  said-passes f₀ res = exE 𝓤 _ (λ ws. snd∗ 𝓤 (sem 𝓤 H A (lasts passes′.ended tt (f₀, tt) ws)) (fact 𝓤 (res ≡ isFine f₀)))
 
-  goes-is-fine : Given 𝓤 H A → (f₀ : Fault) → IsFault f₀ → ent 𝓤 (emp 𝓤) (Contract-is-fine .pre (to-is-fine f₀))
-  goes-is-fine W f₀ g-f₀ = qed W [] ∵ nothing ! $ nothing ! $ owned ! Fault′.the-row (Is Fault′.the-row) ((EL.makes Fault′.the-type Fault″.the-plain) 𝓤 H A) f₀ _ g-f₀ $ fjoin ! $ move ! (1 ∷ 0 ∷ []) $ join ! $ frame ! $ nothing ! $ done !
+  goes-passes : Given 𝓤 H A → (f₀ : Fault) → IsFault f₀ → ent 𝓤 (emp 𝓤) (Contract-passes .pre (to-passes f₀))
+  goes-passes W f₀ g-f₀ = qed W [] ∵ nothing ! $ nothing ! $ owned ! Fault′.the-row (Is Fault′.the-row) ((EL.makes Fault′.the-type Fault″.the-plain) 𝓤 H A) f₀ _ g-f₀ $ fjoin ! $ move ! (1 ∷ 0 ∷ []) $ join ! $ frame ! $ nothing ! $ done !
 
 module _ {M : Type 1} {𝓤 : URA M} {H : Heap 𝓤} {A : Atoms 𝓤} {K : Type 0} {W : Given 𝓤 H A} {Γ : List (Item 𝓤)} {E : Env 𝓤 H} {C : Calls 𝓤 H} {Λ : Loops 𝓤 H} {xs : List Operand} {q : After 𝓤 H} {d : Place} {rest : Code} where
-  pub calls-is-fine : K → FmC 𝓤 H (W .laws) C → (mem : Memory → SProp 𝓤) (run : Routine → Fun 𝓤) → Triple 𝓤 (C #run-entry·is-fine) (Contract-is-fine 𝓤 H A mem run) → (f₀ : Fault) → IsFault f₀
+  pub calls-passes : K → FmC 𝓤 H (W .laws) C → (mem : Memory → SProp 𝓤) (run : Routine → Fun 𝓤) → Triple 𝓤 (C #descent·passes) (Contract-passes 𝓤 H A mem run) → (f₀ : Fault) → IsFault f₀
       → ((P : Item 𝓤) → Opds K W (P ∷ Γ) E xs (val-Fault f₀ ∷ []))
       → ((res : Bool) → res ≡ isFine f₀ → Is bool res (vbool res ∷ []) → Seq K W Γ (lands C Λ E d (vbool res) rest q))
-      → Seq K W Γ (runs C Λ E (seq (call #run-entry·is-fine xs d) rest) q)
-  calls-is-fine t fm mem run met f₀ g-f₀ os k =
-      calls-plain t fm (Contract-is-fine 𝓤 H A mem run) met (to-is-fine 𝓤 H A mem run f₀) bool (vbool) (bool-tells) (Said-is-fine 𝓤 H A mem run f₀) (λ (res : Bool). res ≡ isFine f₀) (said-is-fine 𝓤 H A mem run f₀)
-      (λ _. id⊢ 𝓤 _) (goes-is-fine 𝓤 H A mem run W f₀ g-f₀) (os _) k
+      → Seq K W Γ (runs C Λ E (seq (call #descent·passes xs d) rest) q)
+  calls-passes t fm mem run met f₀ g-f₀ os k =
+      calls-plain t fm (Contract-passes 𝓤 H A mem run) met (to-passes 𝓤 H A mem run f₀) bool (vbool) (bool-tells) (Said-passes 𝓤 H A mem run f₀) (λ (res : Bool). res ≡ isFine f₀) (said-passes 𝓤 H A mem run f₀)
+      (λ _. id⊢ 𝓤 _) (goes-passes 𝓤 H A mem run W f₀ g-f₀) (os _) k
 
 -- ---- `bad`
 module _ {M : Type 1} (𝓤 : URA M) (H : Heap 𝓤) (A : Atoms 𝓤) (mem : Memory → SProp 𝓤) (run : Routine → Fun 𝓤) where

@@ -52,10 +52,8 @@ unfolding lawful
 framed s = record {
   Good = λ t. Honest t × Framed s t;
   rest = lawful .rest;
-  count = lawful .count;
   passes = λ t g. lawful .passes t (g .0);
   keeps = λ t g e. (lawful .keeps t (g .0) e, (unit-nodes t (g .0) (due t e .0) ∙ g .1 .0, unit-settings t (due t e .0) ∙ g .1 .1));
-  counts = λ t g e. lawful .counts t (g .0) e;
   lessens = λ t g e. lawful .lessens t (g .0) e;
   small = λ t g. lawful .small t (g .0);
 }

@@ -142,8 +142,8 @@ module _ (s : State) (g : Honest s) (live : isEnded (s .run .standing) ≡ false
       next-in (s .memory .positions) (r .settings .n) (r .settings .c) (r .phase - 1) (tree (r .used) (s .memory .nodes)) (b .before) (b .some) (omega (arith, k .1, p)) (rw j at (b .same))
       (enough-named (r .settings .c) (r .settings .n) (length (s .memory .nodes)) (axes (r .settings) (g .good .settings) (k .0) .1) (g .good .settings .n-most) room)
 
-  pub never-full : unit s .why ≡ Full → ⊥
-  never-full = by-unit s live (λ (t : Turned). t .why ≡ Full → ⊥)
+  pub unit-never-full : unit s .why ≡ Full → ⊥
+  unit-never-full = by-unit s live (λ (t : Turned). t .why ≡ Full → ⊥)
       (λ z. by-tree (s .run) (s .memory .positions) (s .memory .nodes) (λ (t : TreeTurn). t .why ≡ Full → ⊥) (λ e q. apart-done q) (λ e f q. true≢false (sym f ∙ insert-room z e)) (λ e f q. apart-done q))
       (λ z q. apart-done q)
       (λ a b. by-finish (s .run) (s .memory .positions) (s .memory .increments) (s .memory .gains) (s .memory .forces) (λ (t : FinishTurn). t .why ≡ Full → ⊥) (λ q. apart-done q) (λ q. apart-wild q))

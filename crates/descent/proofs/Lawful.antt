@@ -1,11 +1,11 @@
 -- The descent is a lawful machine, and honest states are its good ones. Assumes nothing.
 use mathlib.Core.Path.{_≡_}
 use mathlib.Core.Bool.{false}
-use Prim.Native.Nat.{_-_, _≤_}
+use Prim.Native.Nat.{_+_, _-_, _≤_}
 use native.Mathlib.Omega.{arith}
 use native.Mathlib.Nat.{mul-le-mul}
 use Rattle.laws.proofs.Bools.{by-bool}
-use Rattle.run_calls.specs.Machine.{Lawful}
+use Rattle.run_calls.specs.Machine.{Lawful, stops}
 use Rattle.run_record.specs.Record.{isEnded, mostUnits}
 use Rattle.run_record.proofs.Laws.{per-most}
 use Rattle.run_entry.specs.State.{State}
@@ -34,14 +34,16 @@ whole-units-most s g = mul-le-mul (g .settings .iterations-most) (per-most (s .r
 pub whole-same : (s : State) → isEnded (s .run .standing) ≡ false → wholeUnits (unit s .now) ≡ wholeUnits s
 whole-same s live = rw (unit-settings s live)
 
+-- a unit that is done is counted by the record
+pub due-counts : (s : State) → stops machine s ≡ false → unit s .now .run .units ≡ s .run .units + 1
+due-counts s e = unit-counts s (due s e .0) (due s e .1)
+
 unfoldable pub lawful : Lawful machine
 lawful = record {
   Good = Honest;
   rest = unitsLeft;
-  count = λ s. s .run .units;
   passes = λ s g. rw (fault-good s (g .good));
   keeps = λ s g e. honest-keeps s g (due s e .0) (due s e .1);
-  counts = λ s g e. unit-counts s (due s e .0) (due s e .1);
   lessens = λ s g e. (let d = due s e in
       let c = unit-counts s (d .0) (d .1) in
       let b = units-below (s .run) (d .0) (g .good .counters) in

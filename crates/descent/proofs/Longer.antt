@@ -8,7 +8,7 @@ use lib.ListN.{length, length-set, length-append}
 use lib.Ieee.{Float, binary64, mul}
 use Rattle.laws.proofs.Bools.{by-bool}
 use Rattle.run_calls.specs.Machine.{stops, after, unitsDone, together, capped}
-use Rattle.run_calls.proofs.Demand.{Grows, grown, goes-on, after-add, done-add, call-state, call-units, counted}
+use Rattle.run_calls.proofs.Demand.{Grows, grown, goes-on, after-add, done-add, call-state, call-units, after-counts}
 use Rattle.run_record.specs.declared.Run.{Run}
 use Rattle.run_record.specs.Record.{isTree, isEnded, advancedOf}
 use Rattle.tree_node.specs.declared.Node.{Node}
@@ -18,7 +18,7 @@ use Rattle.tree_node.specs.Node.{pointOf}
 use Rattle.tree.specs.Insert.{Tree, tree, Insertion, insertion}
 use Rattle.tree_bounds.specs.Bounds.{boxOf}
 use Rattle.tree.specs.Box.{boxed}
-use Rattle.tree.proofs.Longer.{Fits, extended, longer-ok, box-longer, insert-longer, built-longer, repelled-longer}
+use Rattle.tree.proofs.Longer.{Fits, extended, longer-ok, box-longer, insert-longer, built-longer, repels-on-longer}
 use Rattle.gradient.specs.Forces.{stored, attractionOf, forcesOf}
 use Rattle.run_entry.specs.State.{Memory, State}
 use Rattle.run_entry.specs.Entry.{GoodTree, Ordered}
@@ -34,7 +34,7 @@ use Rattle.descent.specs.Longer.{longer}
 use Rattle.run_budget.proofs.Turns.{inserting, tree-box, tree-insert, by-tree}
 use Rattle.run_budget.proofs.Keeps.{box-ok}
 use Rattle.run_budget.proofs.Spends.{due}
-use Rattle.descent.proofs.Lawful.{lawful}
+use Rattle.descent.proofs.Lawful.{lawful, due-counts}
 use Rattle.descent.proofs.Theorems.{units-told, call-keeps, demand-three}
 
 -- ---- the tree of a state in order, in the tree's own words
@@ -111,7 +111,7 @@ module _ (more : List Node) where
         (λ t.
         let o = group-one R e .tree t in
         let f = tree-fits R (M .nodes) (g .contents t .tree (λ z. omega (arith, z, o .0))) in
-        rw t (ap (λ (a : Acc). stored c i (attractionOf (exaggerationOf R) c (M .positions) (M .affinities) (M .indices) (M .offsets) i) a (M .forces)) (repelled-longer more (R .settings .n) c m (tree (R .used) (M .nodes)) f i (pointOf (M .positions) c i) (mul binary64 (R .settings .angle) (R .settings .angle)))))
+        rw t (ap (λ (a : Acc). stored c i (attractionOf (exaggerationOf R) c (M .positions) (M .affinities) (M .indices) (M .offsets) i) a (M .forces)) (repels-on-longer more (R .settings .n) c m (tree (R .used) (M .nodes)) f i (pointOf (M .positions) c i) (mul binary64 (R .settings .angle) (R .settings .angle)))))
         (λ t. rw t)
 
     -- a unit that is done is done in the longer arena too, and leaves there what it leaves here
@@ -190,8 +190,8 @@ module _ (more : List Node) where
     units-longer =
         let u = unitsOf (work b s .answer) in
         let e = units-done b s g in
-        let here = counted machine lawful b s g in
-        let there = counted machine lawful u (longer more s) (honest-longer s g) in
+        let here = after-counts machine (λ (x : State). x .run .units) due-counts b s in
+        let there = after-counts machine (λ (x : State). x .run .units) due-counts u (longer more s) in
         let same = ap (λ (x : State). x .run .units) (ap (λ (k : ℕ). after machine k (longer more s)) e ∙ grown machine lawful (longer more) grows b s g) in
         omega (arith, e, here, there, same, units-done u (longer more s) (honest-longer s g))
 

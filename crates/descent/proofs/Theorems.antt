@@ -2,15 +2,16 @@
 use mathlib.Core.List.{List, [], _∷_}
 use mathlib.Core.Path.{_≡_, refl, sym, ap, _∙_}
 use mathlib.Core.Logic.{_⊎_, inl, inr}
-use mathlib.Core.Bool.{true, false, cond}
+use mathlib.Core.Bool.{true, false, cond, true≢false}
 use Prim.Native.Nat.{ℕ, _+_, _<_, _≤_}
 use native.Mathlib.Omega.{arith}
 use lib.Dec.{ltb}
+use borrow.Author.Tests.{lt-ltb}
 use lib.ListN.{length}
 use Rattle.laws.specs.Domain.{mostWord}
 use Rattle.laws.proofs.Bools.{by-bool}
 use Rattle.run_calls.specs.Machine.{Kind, faulty, over, refused, running, times, stops, after, unitsDone, kindAt, go, call, left-by, told-by, together, capped}
-use Rattle.run_calls.proofs.Demand.{calls-follow, demand-3, good-after, call-goes, call-state, call-units, call-kind, ends-within, done-rest, refusal-leaves}
+use Rattle.run_calls.proofs.Demand.{calls-so-many, calls-count, not-ok-of, calls-follow, demand-3, good-after, call-goes, call-state, call-units, ends-within, done-rest, refusal-leaves}
 use Rattle.run_record.specs.declared.Settings.{Settings}
 use Rattle.run_record.specs.declared.Standing.{Standing}
 use Rattle.run_record.specs.declared.Standing.the-variants.{Running as Runs, Stopped as Stops, Finished as Ends}
@@ -22,12 +23,13 @@ use Rattle.run_units.specs.declared.Why.{Why}
 use Rattle.run_units.specs.declared.Why.the-variants.{Done, Full as NoNodes, Wild as TooLarge, Over}
 use Rattle.run_units.specs.Units.{unit, isDone}
 use Rattle.run_budget.specs.Budget.{machine, answerOf, standsOf, refusedOf}
-use Rattle.descent.specs.Descent.{work, workNumber, unitsOf, answerKind, wholeUnits, works, toldAll}
+use Rattle.descent.specs.Descent.{work, workNumber, unitsOf, answerKind, isLast, wholeUnits, unitsLeft, works, toldAll}
 use Rattle.descent.specs.Honest.{Honest, Roomy}
 use Rattle.run_units.proofs.Rooms.{small-of}
-use Rattle.run_budget.proofs.Keeps.{ordered-looser}
-use Rattle.descent.proofs.Grown.{never-full}
-use Rattle.descent.proofs.Lawful.{lawful, rest-most}
+use Rattle.run_budget.proofs.Counters.{units-below}
+use Rattle.run_budget.proofs.Keeps.{ordered-looser, unit-not-over}
+use Rattle.descent.proofs.Grown.{unit-never-full}
+use Rattle.descent.proofs.Lawful.{lawful, rest-live, rest-most, due-counts}
 use Rattle.descent.proofs.Framed.{Framed, work-frames}
 
 -- ---- the answer tells the units of the call
@@ -126,10 +128,15 @@ pub call-keeps : (b : ℕ) (s : State) → Honest s → Honest (work b s .left)
 unfolding work lawful
 call-keeps b s g = rw (call-state machine lawful b s g) (good-after machine lawful b s g)
 
--- of an honest state no call gives another number than 14 or 15
-pub only-14-or-15 : (b : ℕ) (s : State) → Honest s → (workNumber (work b s .answer) ≡ 0) ⊎ ((workNumber (work b s .answer) ≡ 14) ⊎ (workNumber (work b s .answer) ≡ 15))
-unfolding work lawful go
-only-14-or-15 b s g = rw (call-goes machine lawful b s g) (numbered b (unitsDone machine b s) (after machine b s))
+-- a call whose entry tests pass goes on to its units
+goes : (b : ℕ) (s : State) → Good s → call machine b s ≡ go machine b s
+unfolding call
+goes b s g = rw (fault-good s g)
+
+-- and gives no other number than 14 or 15
+pub only-14-or-15 : (b : ℕ) (s : State) → Good s → (workNumber (work b s .answer) ≡ 0) ⊎ ((workNumber (work b s .answer) ≡ 14) ⊎ (workNumber (work b s .answer) ≡ 15))
+unfolding work go
+only-14-or-15 b s g = rw (goes b s g) (numbered b (unitsDone machine b s) (after machine b s))
 
 -- ---- THEOREM 2, demand 3: from any honest state, for any budgets whose last is at least 1
 
@@ -153,45 +160,76 @@ demand-three bs b s g h =
       kind = rw (works-left bs s) (rw (d .kind, d .state) (kind-same (call machine B s .kind) (call machine B s .state) (call machine b t .units) (call machine B s .units)));
     }
 
--- after EACH call record and memory are those of so many units as were told, the state is honest, and the record's total has grown by them
+-- after EACH call, whatever record and memory were lent: they are those of so many units as were told, and the record's total has grown by them
 pub record SoMany (bs : List ℕ) (s : State) : Type 0 where
-  pub honest : Honest (works bs s)
   pub left : works bs s ≡ times (λ (x : State). unit x .now) (toldAll bs s) s
   pub total : works bs s .run .units ≡ s .run .units + toldAll bs s
 
-pub after-each : (bs : List ℕ) (s : State) → Honest s → SoMany bs s
+pub after-each : (bs : List ℕ) (s : State) → SoMany bs s
+after-each bs s = record {
+  left = rw (works-left bs s, works-told bs s) (calls-so-many machine bs s);
+  total = rw (works-left bs s, works-told bs s) (calls-count machine (λ (x : State). x .run .units) due-counts bs s);
+}
+
+-- and an honest state is honest again
+pub stays-honest : (bs : List ℕ) (s : State) → Honest s → Honest (works bs s)
 unfolding lawful
-after-each bs s g =
-    let f = calls-follow machine lawful bs s g in
-    record {
-      honest = rw (works-left bs s) (f .good);
-      left = rw (works-left bs s, works-told bs s) (f .so-many);
-      total = rw (works-left bs s, works-told bs s) (f .counting);
-    }
+stays-honest bs s g = rw (works-left bs s) (calls-follow machine lawful bs s g .good)
 
 -- ---- THEOREM 3: no run has 2^32 − 1 units, and each ends or is refused within its iterations' units
 
 pub never-so-many : (s : State) → Good s → s .run .units < mostWord
 never-so-many s g = let h = small-of s (ordered-looser (s .run .settings .n) (s .run .settings .n + s .run .phase) s (omega arith) g) .units-small in omega arith
 
--- with the units of all iterations as budget, the run has ended there or its next unit is refused
-pub ends-in-time : (b : ℕ) (s : State) → Honest s → wholeUnits s ≤ b → stops machine (work b s .left) ≡ true
-unfolding work lawful
-ends-in-time b s g h = rw (call-state machine lawful b s g) (ends-within machine lawful b s g (let m = rest-most s in omega arith))
+last-stands : (t : Standing) (d : ℕ) → isEnded t ≡ true → isLast (standsOf t d) ≡ true
+unfolding isLast
+last-stands Runs d e = absurd (true≢false (sym e))
+last-stands Stops d e = refl
+last-stands Ends d e = refl
+
+last-refused : (w : Why) (d : ℕ) → isDone w ≡ false → (w ≡ Over → ⊥) → isLast (refusedOf w d) ≡ true
+unfolding isLast
+last-refused Done d e n = absurd (true≢false e)
+last-refused NoNodes d e n = refl
+last-refused TooLarge d e n = refl
+last-refused Over d e n = absurd (n refl)
+
+-- where the run has not ended, fewer units are done than it has in all
+short-of : (b : ℕ) (s : State) → Honest s → isEnded (after machine b s .run .standing) ≡ false → unitsDone machine b s < wholeUnits s
+unfolding lawful
+short-of b s g e =
+    let t : State = after machine b s in
+    let d : unitsDone machine b s + unitsLeft t ≤ unitsLeft s = done-rest machine lawful b s g in
+    let k : Honest t = good-after machine lawful b s g in
+    let l = rest-live t e in
+    let m = rest-most s in
+    let u = units-below (t .run) e (k .good .counters) in
+    omega arith
+
+-- with the units of all iterations as budget, the answer is that the run has stopped or finished, or 14 or 15
+pub ends-in-time : (b : ℕ) (s : State) → Honest s → wholeUnits s ≤ b → isLast (work b s .answer) ≡ true
+unfolding work lawful go kindAt answerOf
+ends-in-time b s g h =
+    let t : State = after machine b s in
+    let d : ℕ = unitsDone machine b s in
+    let over-there = ends-within machine lawful b s g (let m = rest-most s in omega arith) in
+    rw (call-goes machine lawful b s g) (by-bool (isLast (answerOf (kindAt machine b d t) t d) ≡ true) (isEnded (t .run .standing))
+    (λ e. rw e (last-stands (t .run .standing) d e))
+    (λ e. rw (e, lt-ltb d b (let z = short-of b s g e in omega arith)) (last-refused (unit t .why) d (not-ok-of machine t e over-there) (unit-not-over t e))))
 
 -- and no more units than that are done
 pub units-in-time : (b : ℕ) (s : State) → Honest s → unitsOf (work b s .answer) ≤ wholeUnits s
 unfolding lawful
 units-in-time b s g = rw (units-told b s, call-units machine lawful b s g) (let d = done-rest machine lawful b s g in let m = rest-most s in omega arith)
 
--- a call of an honest state whose answer has a number ended with a unit that was refused
-refused-kind : (b : ℕ) (s : State) → Honest s → (workNumber (work b s .answer) ≡ 0 → ⊥) → call machine b s .kind ≡ refused
-unfolding work lawful go
-refused-kind b s g n = call-kind machine lawful b s g ∙ refused-is b (unitsDone machine b s) (after machine b s) (λ z. n (rw (call-goes machine lawful b s g) z))
+-- a call whose entry tests pass and whose answer has a number ended with a unit that was refused
+refused-kind : (b : ℕ) (s : State) → Good s → (workNumber (work b s .answer) ≡ 0 → ⊥) → call machine b s .kind ≡ refused
+unfolding work go
+refused-kind b s g n = rw (goes b s g) (refused-is b (unitsDone machine b s) (after machine b s) (λ z. n (rw (goes b s g) z)))
 
 -- the answer of a refused call is the reason why its next unit is not done
-refused-why : (b : ℕ) (s : State) → Honest s → (workNumber (work b s .answer) ≡ 0 → ⊥) → work b s .answer ≡ refusedOf (unit (work b s .left) .why) (call machine b s .units)
-unfolding work lawful go answerOf
+refused-why : (b : ℕ) (s : State) → Good s → (workNumber (work b s .answer) ≡ 0 → ⊥) → work b s .answer ≡ refusedOf (unit (work b s .left) .why) (call machine b s .units)
+unfolding work go answerOf
 refused-why b s g n =
     let e = refused-kind b s g n in
     rw e
@@ -204,12 +242,12 @@ full-why TooLarge d e = absurd (let z : _≡_ {A = ℕ} 15 14 = e in omega arith
 full-why Over d e = absurd (let z : _≡_ {A = ℕ} 0 14 = e in omega arith)
 
 -- a call refused by 14 stands before an insertion that lacks nodes
-pub refused-full : (b : ℕ) (s : State) → Honest s → workNumber (work b s .answer) ≡ 14 → unit (work b s .left) .why ≡ NoNodes
+pub refused-full : (b : ℕ) (s : State) → Good s → workNumber (work b s .answer) ≡ 14 → unit (work b s .left) .why ≡ NoNodes
 refused-full b s g e =
     let n : workNumber (work b s .answer) ≡ 0 → ⊥ = λ z. let q : _≡_ {A = ℕ} 0 14 = sym z ∙ e in omega arith in
     full-why (unit (work b s .left) .why) (call machine b s .units) (ap workNumber (sym (refused-why b s g n)) ∙ e)
 
--- ---- THEOREM 5: a refusal by 14 or 15 leaves record and memory as after the units that the call tells, fewer than its budget, and there the next unit is refused
+-- ---- THEOREM 5: whatever memory was lent, where its entry tests passed: a refusal by 14 or 15 leaves record and memory as after the units that the call tells, fewer than its budget, and there the next unit is refused
 
 pub record Refused (b : ℕ) (s : State) : Type 0 where
   pub left : work b s .left ≡ times (λ (x : State). unit x .now) (unitsOf (work b s .answer)) s
@@ -217,11 +255,11 @@ pub record Refused (b : ℕ) (s : State) : Type 0 where
   pub not-ended : isEnded (work b s .left .run .standing) ≡ false
   pub not-done : isDone (unit (work b s .left) .why) ≡ false
 
-pub refusal : (b : ℕ) (s : State) → Honest s → (workNumber (work b s .answer) ≡ 0 → ⊥) → Refused b s
-unfolding work lawful go
+pub refusal : (b : ℕ) (s : State) → Good s → (workNumber (work b s .answer) ≡ 0 → ⊥) → Refused b s
+unfolding work go
 refusal b s g n =
     let e = refused-kind b s g n in
-    let r = refusal-leaves machine lawful b s g e in
+    let r = refusal-leaves machine b s e in
     record {
       left = rw (units-told b s) (r .so-many);
       fewer = rw (units-told b s) (r .fewer);
@@ -247,10 +285,10 @@ never-now b s g room e =
     let f = work-frames b s g in
     let n : workNumber (work b s .answer) ≡ 0 → ⊥ = λ z. let q : _≡_ {A = ℕ} 0 14 = sym z ∙ e in omega arith in
     let here : Roomy (t .run .settings) (length (t .memory .nodes)) = rw (f .1, f .0) room in
-    never-full t (call-keeps b s g) (refusal b s g n .not-ended) here (refused-full b s g e)
+    unit-never-full t (call-keeps b s g) (refusal b s (g .good) n .not-ended) here (refused-full b s (g .good) e)
 
 -- nor any call after others
 pub never-14 : (bs : List ℕ) (b : ℕ) (s : State) → Honest s → Roomy (s .run .settings) (length (s .memory .nodes)) → workNumber (work b (works bs s) .answer) ≡ 14 → ⊥
 never-14 bs b s g room e =
     let f = works-frames bs s g in
-    never-now b (works bs s) (after-each bs s g .honest) (rw (f .1, f .0) room) e
+    never-now b (works bs s) (stays-honest bs s g) (rw (f .1, f .0) room) e

@@ -1,5 +1,5 @@
 -- The descent: a work call over the units, and what its answer says. Definitions only.
-use mathlib.Core.Bool.{cond}
+use mathlib.Core.Bool.{Bool, true, false, cond}
 use mathlib.Core.List.{List, [], _∷_}
 use Prim.Native.Nat.{ℕ, _+_, _*_, _-_}
 use Rattle.run_calls.specs.Machine.{call}
@@ -42,6 +42,15 @@ answerKind (Finished d) = Finished 0
 answerKind (Full d) = Full 0
 answerKind (Wild d) = Wild 0
 answerKind (Bad f) = Bad f
+
+-- the run goes no further: it has stopped or finished, or its next unit is refused by 14 or 15
+unfoldable pub isLast : Answer → Bool
+isLast (Running d) = false
+isLast (Stopped d) = true
+isLast (Finished d) = true
+isLast (Full d) = true
+isLast (Wild d) = true
+isLast (Bad f) = false
 
 -- ---- a whole run
 

@@ -1,5 +1,6 @@
 // The work call: entry tests, then units until the budget is done, one is refused or the run has ended.
 ghost use mathlib.Core.Path.{_≡_};
+ghost use Rattle.run_entry.specs.Entry.{isFine};
 ghost use Rattle.run_entry.specs.State.{memory, state};
 ghost use Rattle.run_budget.specs.declared.Answer.the-variants.{Bad};
 ghost use Rattle.run_budget.specs.Budget.{worked};
@@ -14,6 +15,13 @@ use run_entry::is_fine;
 use run_record::Run;
 use run_record::Standing;
 use tree_node::Cell;
+
+// Whether the call goes on to its units.
+fn passes(f: Fault) -> bool
+    ensures { λ r. ⌜ r ≡ isFine f ⌝ }
+{
+    is_fine(f)
+}
 
 fn bad(f: Fault) -> Answer
     ensures { λ a. ⌜ a ≡ Bad f ⌝ }
@@ -48,7 +56,7 @@ pub fn work(
         offsets,
         cells,
     );
-    let fine = is_fine(f);
+    let fine = passes(f);
     if fine {
         let t = go_on(
             r,
@@ -81,7 +89,7 @@ pub fn number(a: Answer) -> u8
         Answer::Finished(_) => 0,
         Answer::Full(_) => 14,
         Answer::Wild(_) => 15,
-        Answer::Bad(f) => fault_number(f),
+        Answer::Bad(t) => fault_number(t),
     }
 }
 

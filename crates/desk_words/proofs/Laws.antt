@@ -17,7 +17,7 @@ use Rattle.run_record.specs.Record.{isTree, GoodSettings}
 use Rattle.tree.proofs.Inserting.{few-nodes}
 use Rattle.run_entry.proofs.Laws.{axes}
 use Rattle.run_budget.specs.declared.Answer.{Answer}
-use Rattle.desk_words.specs.Words.{settingsFine, runFine, runPut, isBad, runAfter}
+use Rattle.desk_words.specs.Words.{settingsFine, runFine, progressPut, isBad, runAfter}
 
 -- ---- words that can be read are there
 
@@ -36,7 +36,7 @@ module _ (a : Answer) (r : Run) (w : List ℕ) where
   unfolding runAfter
   bad-after e = rw e
 
-  pub fine-after : {w' : List ℕ} → isBad a ≡ false → w' ≡ runPut r w → w' ≡ runAfter a r w
+  pub fine-after : {w' : List ℕ} → isBad a ≡ false → w' ≡ progressPut r w → w' ≡ runAfter a r w
   unfolding runAfter
   fine-after e q = rw (e, q)
 

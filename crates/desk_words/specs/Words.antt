@@ -57,8 +57,12 @@ runFine w = leb 14 (length w) && settingsFine w && leb (num w 9) 2
 unfoldable pub runOf : List ℕ → Run
 runOf w = record { settings = settingsOf w; standing = standingOf (num w 9); done = num w 10; phase = num w 11; units = num w 12; used = num w 13 }
 
+-- the five words that a unit can change
+unfoldable pub progressPut : Run → List ℕ → List ℕ
+progressPut r w = set (set (set (set (set w 9 (standingWord (r .standing))) 10 (r .done)) 11 (r .phase)) 12 (r .units)) 13 (r .used)
+
 unfoldable pub runPut : Run → List ℕ → List ℕ
-runPut r w = set (set (set (set (set (settingsPut (r .settings) w) 9 (standingWord (r .standing))) 10 (r .done)) 11 (r .phase)) 12 (r .units)) 13 (r .used)
+runPut r w = progressPut r (settingsPut (r .settings) w)
 
 -- ---- an answer: kind, number, units, fault and its value
 
@@ -111,9 +115,9 @@ isBad (Full d) = false
 isBad (Wild d) = false
 isBad (Bad f) = true
 
--- the record's words after an answer: a call that is refused at its entry leaves them as they are
+-- the record's words after an answer: a call that is refused at its entry leaves them as they are, any other writes the five that a unit can change
 unfoldable pub runAfter : Answer → Run → List ℕ → List ℕ
-runAfter a r w = cond (isBad a) w (runPut r w)
+runAfter a r w = cond (isBad a) w (progressPut r w)
 
 -- ---- a frame: picture, side, six features, two starts
 
@@ -135,3 +139,13 @@ lengthsPut s w =
     cond (isTree (s .method))
     (set (set (set (set v 1 (sizesOf s .links)) 2 (sizesOf s .links)) 3 (s .n + 1)) 6 (enoughNodes (s .c) (s .n)))
     (set (set (set (set v 1 (sizesOf s .square)) 2 0) 3 0) 6 0)
+
+-- ---- a call that writes words
+
+-- its answer's number, and the words as it leaves them
+pub record Worded : Type 0 where
+  pub number : ℕ
+  pub words : List ℕ
+
+abbrev pub worded : ℕ → List ℕ → Worded
+worded k w = record { number = k; words = w }

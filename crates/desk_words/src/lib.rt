@@ -3,7 +3,7 @@ ghost use mathlib.Core.Path.{_≡_};
 ghost use Prim.Native.Nat.{_≤_, _^_};
 ghost use lib.ListN.{length};
 ghost use Rattle.descent.specs.Descent.{unitsOf};
-ghost use Rattle.desk_words.specs.Words.{methodOf, methodWord, settingsFine, settingsOf, settingsPut, standingOf, standingWord, runFine, runOf, runPut, isBad, runAfter, kindWord, faultWord, faultValue, faultIn, answerPut, featuresPut, startsPut, framePut, lengthsPut};
+ghost use Rattle.desk_words.specs.Words.{methodOf, methodWord, settingsFine, settingsOf, settingsPut, standingOf, standingWord, runFine, runOf, progressPut, runPut, isBad, runAfter, kindWord, faultWord, faultValue, faultIn, answerPut, featuresPut, startsPut, framePut, lengthsPut};
 ghost use Rattle.tree_node.specs.Node.{Axes};
 ghost use Rattle.run_record.specs.Record.{GoodSettings};
 use descent::Answer;
@@ -134,18 +134,26 @@ pub fn run_of(words: &[u64]) -> Run
     }
 }
 
-pub fn put_run(words: &mut [u64], r: Run)
+// What a unit can change: state, counters and nodes in use.
+pub fn put_progress(words: &mut [u64], r: Run)
     requires { ⌜ 14 ≤ length (now words) ⌝ }
-    ensures { λ _. ⌜ now (words .exit) ≡ runPut r (now (words .entry)) ⌝ }
+    ensures { λ _. ⌜ now (words .exit) ≡ progressPut r (now (words .entry)) ⌝ }
 {
-    let s = r.settings;
     let t = r.standing;
-    put_settings(words, s);
     words[9] = standing_word(t);
     words[10] = r.done as u64;
     words[11] = r.phase as u64;
     words[12] = r.units as u64;
     words[13] = r.used as u64;
+}
+
+pub fn put_run(words: &mut [u64], r: Run)
+    requires { ⌜ 14 ≤ length (now words) ⌝ }
+    ensures { λ _. ⌜ now (words .exit) ≡ runPut r (now (words .entry)) ⌝ }
+{
+    let s = r.settings;
+    put_settings(words, s);
+    put_progress(words, r);
 }
 
 fn kind_word(a: Answer) -> u64
@@ -174,7 +182,7 @@ fn is_bad(a: Answer) -> bool
     }
 }
 
-// The record after a call; one that is refused at its entry leaves the words as they are, to the last bit of a NaN.
+// The record after a call. The settings' words keep their bits, those of a NaN too; a call that is refused at its entry leaves all words as they are.
 pub fn put_after(words: &mut [u64], a: Answer, r: Run)
     requires { ⌜ 14 ≤ length (now words) ⌝ }
     ensures { λ _. ⌜ now (words .exit) ≡ runAfter a r (now (words .entry)) ⌝ }
@@ -182,7 +190,7 @@ pub fn put_after(words: &mut [u64], a: Answer, r: Run)
     if is_bad(a) {
         return;
     }
-    put_run(words, r);
+    put_progress(words, r);
 }
 
 fn units_word(a: Answer) -> u64

@@ -15,7 +15,7 @@ use borrow.Author.Tests.{ltb-true, ltb-false, lt-ltb, le-ltb}
 use Rattle.laws.specs.Domain.{mostFrames}
 use Rattle.laws.proofs.Numbers.{order}
 use Rattle.elementary.specs.Exp.{atMost}
-use Rattle.elementary.proofs.Sizes.{plain, signed-round, bounded}
+use Rattle.elementary.proofs.Sizes.{signPlus, signed-round, bounded}
 use Rattle.elementary.specs.Limits.{ceilOf, three64, upToWhole}
 
 -- ---- a whole number against a value
@@ -102,7 +102,7 @@ under-n (fin false m e) n h a b = (refl, value (round binary64 false n 1) (round
         let k : m * up e * down d ≤ n * down e * down d = le-trans (le-of-lt l) (le-of-eq (ap (λ (x : ℕ). x * down e) (sym (mul-one (a * up d)) ∙ v .1) ∙ mul-right-comm n (down d) (down e))) in
         le-trans (le-of-mul-le-mul-right {k = down d} k (down-pos d)) (mul-le-mul-right (down e) h)
 
-both : (z : Float) → plain z → atMost z (3 * mostFrames) → upToWhole z (3 * mostFrames)
+both : (z : Float) → signPlus z → atMost z (3 * mostFrames) → upToWhole z (3 * mostFrames)
 both nan p w = w
 both (inf s) p w = w
 both (fin s m e) p w = (p, w)
@@ -129,8 +129,8 @@ ceil-small q h = go (cut q h) (lt (ofInt binary64 (pos (toUnsigned 64 q))) q) re
     go k true t = omega (arith, k .more t, k .small)
     go k false t = omega (arith, k .even t, k .small)
 
-pub few : (k n : ℕ) → n < 3 → 1 ≡ max 1 (min (k + 1) (n - 1))
-few k n h = omega arith
+pub one-neighbour : (k n : ℕ) → n < 3 → 1 ≡ max 1 (min (k + 1) (n - 1))
+one-neighbour k n h = omega arith
 
 pub all-others : (k n : ℕ) → 3 ≤ n → n - 1 < k + 1 → n - 1 ≡ max 1 (min (k + 1) (n - 1))
 all-others k n h l = omega arith

@@ -19,7 +19,7 @@ use Rattle.laws.specs.Area.{zero64, one64}
 use Rattle.laws.proofs.Numbers.{order}
 use Rattle.elementary.specs.Exp.{ln2, ln2hi, ln2lo, nearUp, signed, wholeNear, atMost, reduced, series, power, expIn, expOf}
 use Rattle.elementary.specs.Limits.{upToWhole}
-use Rattle.elementary.proofs.Sizes.{plain, Signed, Most, Least, Held, Sized, sized, sized-more, sized-add, held-whole, neg-round, signed-round, most-round, least-round, most-neg, within-most, bounded, whole-sized, sum-apart, most-add, most-mul, sized-mul, sized-div, whole-signed, whole-least, one-is, one-sized, plain-less}
+use Rattle.elementary.proofs.Sizes.{signPlus, Signed, Most, Least, Held, Sized, sized, sized-more, sized-add, held-whole, neg-round, signed-round, most-round, least-round, most-neg, within-most, bounded, whole-sized, sum-apart, most-add, most-mul, sized-mul, sized-div, whole-signed, whole-least, one-is, one-sized, plain-less}
 use Rattle.elementary.proofs.Range.{NL, ln2-is, near-le, fraction, bottom}
 
 -- ---- the whole number nearest to a quotient A / B once it is rounded: A / B is at most 1 away from it
@@ -36,7 +36,7 @@ record Whole (z : Float) : Type 0 where
   least : (j : ℕ) → atMost z j → whole ≤ j
   most : (j : ℕ) → Least j 1 z → j ≤ whole
 
-whole-of : (z : Float) → plain z → atMost z 1022 → Whole z
+whole-of : (z : Float) → signPlus z → atMost z 1022 → Whole z
 unfolding wholeNear signed neg
 whole-of (fin true m e) p w = absurd (true≢false p)
 whole-of (fin false m e) p w = record {

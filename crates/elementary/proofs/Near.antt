@@ -109,13 +109,13 @@ neg-value (inf s) a c v = v
 neg-value (fin s m e) a c v = (ap not (v .0), v .1)
 
 -- what a cut of z asks, and gives: the whole number that q is nearest to, but for the sign
-pub record Cut (z : Float) (k : ℕ) : Type 0 where
+pub record NearCut (z : Float) (k : ℕ) : Type 0 where
   pub above : T (lt minus-one z)
   pub below : T (lt z two-64)
   pub small : toUnsigned 64 z ≤ 2046
   pub whole : (toUnsigned 64 z + 1) / 2 ≡ k
 
-made : (z : Float) (M D : ℕ) → HasValue z false (2 * M) D → 0 < D → M ≤ 1023 * D → Cut z (nearUp M D)
+made : (z : Float) (M D : ℕ) → HasValue z false (2 * M) D → 0 < D → M ≤ 1023 * D → NearCut z (nearUp M D)
 made z M D v h l =
     let r = cut z (2 * M) D v h (omega (arith, l)) in
     record {
@@ -129,14 +129,14 @@ zero-near : (D : ℕ) → 0 < D → nearUp 0 D ≡ 0
 zero-near D h = near-half 0 D h ∙ ap (λ (n : ℕ). (n + 1) / 2) (zero-div D)
 
 -- q is negative: the magnitude k of its whole number, from -(q + q)
-pub near-neg : (q : Float) → T (fits binary64 q) → atMost q 1023 → lt q (ofBits binary64 0) ≡ true → (k : ℕ) × (wholeNear q ≡ negℤ (pos k)) × Cut (neg (add binary64 q q)) k
+pub near-neg : (q : Float) → T (fits binary64 q) → atMost q 1023 → lt q (ofBits binary64 0) ≡ true → (k : ℕ) × (wholeNear q ≡ negℤ (pos k)) × NearCut (neg (add binary64 q q)) k
 unfolding wholeNear signed lt ofBits
 near-neg nan f w t = absurd w
 near-neg (inf s) f w t = absurd w
 near-neg (fin true m e) f w t = (nearUp (m * up e) (down e), refl, made _ (m * up e) (down e) (neg-value _ _ _ (double true m e f w)) (down-pos e) w)
 near-neg (fin false m e) f w t = absurd (not-suc-le-zero (le-trans (ltb-true _ _ t) (le-of-eq (zero-mul (down e)))))
 
-pub near-pos : (q : Float) → T (fits binary64 q) → atMost q 1023 → lt q (ofBits binary64 0) ≡ false → (k : ℕ) × (wholeNear q ≡ pos k) × Cut (add binary64 q q) k
+pub near-pos : (q : Float) → T (fits binary64 q) → atMost q 1023 → lt q (ofBits binary64 0) ≡ false → (k : ℕ) × (wholeNear q ≡ pos k) × NearCut (add binary64 q q) k
 unfolding wholeNear signed lt ofBits
 near-pos nan f w t = absurd w
 near-pos (inf s) f w t = absurd w

@@ -215,7 +215,7 @@ ln-whole m k h = rw h
 abbrev zero64 : Float
 zero64 = fin false 0 (pos 0)
 
-pub ln-nan : (v : Float) → ne v v ≡ true → v ≡ lnOf v
+pub ln-nan : (v : Float) → ne v v ≡ true → nan ≡ lnOf v
 unfolding lnOf
 ln-nan v e = rw (is-nan v e)
 
@@ -310,9 +310,9 @@ bits-above zero m e h = absurd (not-zero h)
     not-zero q = lt-irrefl 0 (subst (λ (y : ℕ). 0 < y) (sym (ap digits q)) (zero-lt-suc m))
 bits-above (suc b) m e h = zero-lt-suc b
 
-pub positive : (v : Float) → T (fits binary64 v) → ne v v ≡ false → le v zero64 ≡ false → eq v (inf false) ≡ false → (0 < toBits binary64 v) × (toBits binary64 v < 2047 * 2 ^ 52)
+pub positive-bits : (v : Float) → T (fits binary64 v) → ne v v ≡ false → le v zero64 ≡ false → eq v (inf false) ≡ false → (0 < toBits binary64 v) × (toBits binary64 v < 2047 * 2 ^ 52)
 unfolding signed
-positive v f a b c =
+positive-bits v f a b c =
     let w = fin-only v a b c in
     let back = ofBits-toBits binary64 v f ∙ w .2 in
     (bits-above (toBits binary64 v) (w .0) (w .1) back, bits-under (toBits binary64 v) (toBits-lt binary64 v f) (ap signed back))

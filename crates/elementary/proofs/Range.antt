@@ -10,7 +10,7 @@ use lib.Ieee.{Float, nan, inf, fin, binary64, up, down, round, neg, div, lt, ne,
 use lib.Ieee.Fits.{down-pos}
 use borrow.Author.Tests.{ltb-false}
 use Rattle.elementary.proofs.Nans.{is-nan, not-nan}
-use Rattle.elementary.proofs.Sizes.{plain, neg-round, signed-round, bounded}
+use Rattle.elementary.proofs.Sizes.{signPlus, neg-round, signed-round, bounded}
 use Rattle.elementary.specs.Exp.{ln2, low708, high709, nearUp, signed, wholeNear, atMost, inExp, expOf, expIn}
 
 -- ---- the whole number nearest to a bounded value
@@ -36,7 +36,7 @@ in-any (inf s) w = absurd w
 in-any (fin true m e) w = in-neg (nearUp (m * up e) (down e)) (near-le (m * up e) (down e) 1022 (down-pos e) w)
 in-any (fin false m e) w = le-trans (near-le (m * up e) (down e) 1022 (down-pos e) w) (lit≤ tt)
 
-in-plain : (z : Float) → plain z → atMost z 1023 → inExp (wholeNear z)
+in-plain : (z : Float) → signPlus z → atMost z 1023 → inExp (wholeNear z)
 unfolding wholeNear signed
 in-plain nan p w = absurd w
 in-plain (inf s) p w = absurd w
@@ -83,12 +83,12 @@ range-of (fin true m e) a b c =
     let v : atMost q 1022 = subst (λ (z : Float). atMost z 1022) (neg-round binary64 (m * up e * 2 ^ 53) (NL * 1 * down e)) (within-neg (round binary64 false (m * up e * 2 ^ 53) (NL * 1 * down e)) 1022 w) in
     (wider q v, in-any q v)
 
-pub range : (x : Float) → ne x x ≡ false → lt x low708 ≡ false → lt high709 x ≡ false → atMost (div binary64 x ln2) 1023 × inExp (wholeNear (div binary64 x ln2))
-range x a b c = subst (λ (l : Float). atMost (div binary64 x l) 1023 × inExp (wholeNear (div binary64 x l))) (sym ln2-is) (range-of x a b c)
+pub exp-range : (x : Float) → ne x x ≡ false → lt x low708 ≡ false → lt high709 x ≡ false → atMost (div binary64 x ln2) 1023 × inExp (wholeNear (div binary64 x ln2))
+exp-range x a b c = subst (λ (l : Float). atMost (div binary64 x l) 1023 × inExp (wholeNear (div binary64 x l))) (sym ln2-is) (range-of x a b c)
 
 -- ---- the cases of exp
 
-pub exp-nan : (x : Float) → ne x x ≡ true → x ≡ expOf x
+pub exp-nan : (x : Float) → ne x x ≡ true → nan ≡ expOf x
 unfolding expOf isNan
 exp-nan x e = rw (is-nan x e)
 

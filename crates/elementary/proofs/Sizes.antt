@@ -45,8 +45,8 @@ Signed s (inf t) = t ≡ s
 Signed s (fin t m e) = t ≡ s
 
 -- with the sign +
-abbrev pub plain : Float → Type 0
-plain x = Signed false x
+abbrev pub signPlus : Float → Type 0
+signPlus x = Signed false x
 
 signed-odd : (d : ℕ) (s : Bool) (q k l : ℕ) → Signed s (odd d s q k l)
 unfolding odd
@@ -111,14 +111,14 @@ unfolding le lt eq
 infinite-above true m e p t = true≢false p
 infinite-above false m e p t = t
 
-under : (z y : Float) (n d : ℕ) → plain z → HasValue y false n d → T (le z y) → Most n d z
+under : (z y : Float) (n d : ℕ) → signPlus z → HasValue y false n d → T (le z y) → Most n d z
 under (inf s) (fin true k g) n d p v t = absurd (true≢false (v .0))
 under (inf s) (fin false k g) n d p v t = infinite-above s k g p t
 under (fin true m e) y n d p v t = absurd (true≢false p)
 under (fin false m e) (fin true k g) n d p v t = absurd (true≢false (v .0))
 under (fin false m e) (fin false k g) n d p v t = through (m * up e) (k * up g) n (down e) (down g) d (down-pos g) (ordered m e k g t) (le-of-eq (v .1))
 
-above : (z y : Float) (n N d D : ℕ) → plain z → Most N D z → HasValue y false n d → T (le y z) → Least n d z
+above : (z y : Float) (n N d D : ℕ) → signPlus z → Most N D z → HasValue y false n d → T (le y z) → Least n d z
 above (fin true m e) y n N d D p w v t = absurd (true≢false p)
 above (fin false m e) (fin true k g) n N d D p w v t = absurd (true≢false (v .0))
 above (fin false m e) (fin false k g) n N d D p w v t = through n (k * up g) (m * up e) d (down g) (down e) (down-pos g) (le-of-eq (sym (v .1))) (ordered k g m e t)
@@ -292,7 +292,7 @@ most-add a b d (fin s m e) (fin t n g) k v p q =
           ]
         ]
 
-pub plain-add : (x y : Float) → plain x → plain y → plain (add binary64 x y)
+pub plain-add : (x y : Float) → signPlus x → signPlus y → signPlus (add binary64 x y)
 unfolding add sum
 plain-add (inf t) (inf u) p q = rw (p, q) refl
 plain-add (inf t) (fin u n g) p q = p
@@ -300,7 +300,7 @@ plain-add (fin t m e) (inf u) p q = q
 plain-add (fin t m e) (fin u n g) p q = rw (p, q) (signed-round binary64 false (m * up e * down g + n * up g * down e) (down e * down g))
 
 -- what is taken away is no more than what it is taken from
-pub plain-less : (a b c : ℕ) → b ≤ a → plain (sum binary64 false a true b c)
+pub plain-less : (a b c : ℕ) → b ≤ a → signPlus (sum binary64 false a true b c)
 unfolding sum
 plain-less a b c h = rw (le-ltb a b h) (signed-round binary64 false (a - b) c)
 
@@ -327,7 +327,7 @@ sized-mul s t a c b d p q (fin u m e) (fin w n g) C D Q v l x y =
     subst (λ (z : Bool). Sized z p q (round binary64 (unlike u w) (M * N) (down e * down g))) (λ i. unlike (x .0 i) (y .0 i))
     (sized-round (unlike u w) (M * N) (down e * down g) p q (mul-pos (down-pos e) (down-pos g)) Q v (product M (down e) N (down g) a c b d p q C D (x .1) (y .1) l))
 
-pub least-mul : (a c b d p q n k : ℕ) (x y : Float) → 0 < c → 0 < d → 0 < q → Held p q → p * (c * d) ≤ a * b * q → plain x → plain y → Least a c x → Least b d y → Most n k (mul binary64 x y) → Least p q (mul binary64 x y)
+pub least-mul : (a c b d p q n k : ℕ) (x y : Float) → 0 < c → 0 < d → 0 < q → Held p q → p * (c * d) ≤ a * b * q → signPlus x → signPlus y → Least a c x → Least b d y → Most n k (mul binary64 x y) → Least p q (mul binary64 x y)
 unfolding mul
 least-mul a c b d p q n k (fin true m e) y C D Q v l s t x z w = absurd (true≢false s)
 least-mul a c b d p q n k (fin false m e) (fin true i g) C D Q v l s t x z w = absurd (true≢false t)

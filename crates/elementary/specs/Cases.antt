@@ -3,16 +3,12 @@ use mathlib.Core.Path.{_≡_, refl}
 use mathlib.Core.Bool.{false}
 use lib.Ieee.{ofBits, toBits, binary64, nan, inf, size, lt, isNan, neg, add, sub, mul, div, ofInt}
 use Rattle.laws.specs.Loops.{loop}
-use Rattle.laws.specs.Area.{bits, zero64, one64, two64}
+use Rattle.laws.specs.Area.{bits, one64, two64}
 use Rattle.elementary.specs.Exp.{expOf}
 use Rattle.elementary.specs.Ln.{lnOf}
 use Rattle.elementary.specs.Limits.{neighboursOf}
 
 -- ---- exp
-
-pub exp-zero : expOf zero64 ≡ one64
-unfolding expOf ofBits lt isNan add mul div sub ofInt neg
-exp-zero = refl
 
 pub exp-one : toBits binary64 (expOf one64) ≡ 0x4005bf0a8b14576a
 unfolding expOf ofBits lt isNan add mul div sub ofInt neg toBits
@@ -28,10 +24,6 @@ unfolding expOf ofBits lt isNan add mul div sub ofInt neg toBits
 exp-lowest = refl
 
 -- ---- ln
-
-pub ln-one : lnOf one64 ≡ zero64
-unfolding lnOf loop size lt add sub mul div ofInt ofBits
-ln-one = refl
 
 pub ln-two : toBits binary64 (lnOf two64) ≡ 0x3fe62e42fefa39ef
 unfolding lnOf loop size lt add sub mul div ofInt ofBits toBits

@@ -43,7 +43,7 @@ pub fn exp(x: f64) -> f64
     ensures { λ r. ⌜ r ≡ expOf x ⌝ }
 {
     if x != x {
-        return x;
+        return 0.0 / 0.0;
     }
     if x < -708.0 {
         return 0.0;

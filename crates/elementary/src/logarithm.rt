@@ -66,7 +66,7 @@ pub fn ln(v: f64) -> f64
     ensures { λ r. ⌜ r ≡ lnOf v ⌝ }
 {
     if v != v {
-        return v;
+        return 0.0 / 0.0;
     }
     if v <= 0.0 {
         return 0.0 / 0.0;

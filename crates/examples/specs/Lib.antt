@@ -1,3 +1,2 @@
 pub mod Sigma
 pub mod Affinity
-pub mod Tree

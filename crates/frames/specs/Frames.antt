@@ -1,5 +1,6 @@
 -- The frame file, as the scope paper has it: 72-byte records, no header, little-endian. Definitions only.
 use mathlib.Core.List.{List, [], _∷_}
+use mathlib.Core.Option.{Option, none, some}
 use mathlib.Core.Bool.{Bool, cond, not, _&&_, _||_}
 use Prim.Native.Nat.{ℕ, _+_, _-_, _*_, _/_, _%_}
 use lib.Dec.{eqb, ltb, leb}
@@ -68,10 +69,15 @@ framesOf f =
     cond (ltb (first (badAt f) (wholeRecords f)) (wholeRecords f)) (Bad (first (badAt f) (wholeRecords f)))
     (cond (eqb (length f % recordBytes) 0) (Good (wholeRecords f)) (Bad (wholeRecords f)))
 
--- the scope paper's number for what the reader says: 16 for a bad record, none for a good file
-unfoldable pub framesNumber : Frames → ℕ
-framesNumber (Good n) = 0
-framesNumber (Bad p) = 16
+-- the scope paper's number for what the reader says: a good file has none, a bad record is refused by 16
+abbrev pub framesNumber : Frames → Option ℕ
+framesNumber (Good n) = none
+framesNumber (Bad p) = some 16
+
+-- a number as a call answers it: 0 where there is none
+abbrev pub orZero : Option ℕ → ℕ
+orZero none = 0
+orZero (some k) = k
 
 -- ---- frame i
 

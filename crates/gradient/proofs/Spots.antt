@@ -12,8 +12,8 @@ pub record Spot (c e l : ℕ) : Type 0 where
   -- its own number
   pub own : e < l
 
-pub spot : (n c e l : ℕ) → 0 < c → e < n * c → n * (2 * c + 1) ≤ l → Spot c e l
-spot n c e l h m r =
+pub spot-of : (n c e l : ℕ) → 0 < c → e < n * c → n * (2 * c + 1) ≤ l → Spot c e l
+spot-of n c e l h m r =
     let q : e / c < n = div-lt-iff-lt-mul {k = c} {x = e} {y = n} h .1 m in
     let w : n * c ≤ n * (2 * c + 1) = mul-le-mul-left n (omega arith) in
     record { row = row-in (e / c) n (2 * c + 1) l q r; part = mod-lt e h; own = lt-of-lt-of-le m (le-trans w r) }

@@ -19,10 +19,10 @@ use Rattle.gradient.specs.Forces.{attractionOf, Linked, stored, eyeOf, f
 
 module _ (cells : List Cell) (used : ℕ) (positions weights : List Float) (indices offsets : List ℕ) (n c i : ℕ) (exaggeration angle : Float) (forces : List Float) where
   -- what `point_forces` asks
-  abbrev pub Ready : Type 0
-  Ready = (Axes c) × (i < n) × (n ≤ mostFrames) × (n * c ≤ length positions) × (n * (2 * c + 1) ≤ length forces) × (0 < used) × (used ≤ length (nodesOf cells)) × (used ≤ mostWord) × (shaped c (tree used (nodesOf cells)) ≡ true) × Linked n weights indices offsets i
+  abbrev pub ForcesAsked : Type 0
+  ForcesAsked = (Axes c) × (i < n) × (n ≤ mostFrames) × (n * c ≤ length positions) × (n * (2 * c + 1) ≤ length forces) × (0 < used) × (used ≤ length (nodesOf cells)) × (used ≤ mostWord) × (shaped c (tree used (nodesOf cells)) ≡ true) × Linked n weights indices offsets i
 
-  module _ (ready : Ready) (eye : Eye) (is : eye ≡ eyeOf angle c positions i) where
+  module _ (ready : ForcesAsked) (eye : Eye) (is : eye ≡ eyeOf angle c positions i) where
     pub walk-asks : (Axes (eye .c)) × (0 < used) × (used ≤ length cells) × (used ≤ mostWord) × Blocks used (eye .c) (nodesOf cells)
     walk-asks =
         subst (λ (y : Eye). (Axes (y .c)) × (0 < used) × (used ≤ length cells) × (used ≤ mostWord) × Blocks used (y .c) (nodesOf cells)) (sym is)

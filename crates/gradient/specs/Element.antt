@@ -27,9 +27,13 @@ spotOf c e = placeOf c (e / c) + e % c
 unfoldable pub gradientOf : Bool → List Float → Float → ℕ → ℕ → Float
 gradientOf exact F z c e = cond exact (at F e) (mul binary64 four64 (sub binary64 (at F (spotOf c e)) (div binary64 (at F (spotOf c e + c)) z)))
 
--- what the gradients of a whole iteration are read from: no normaliser is worked out for an exact run
+-- no normaliser is worked out for an exact run
+abbrev pub normaliserFor : Bool → List Float → ℕ → ℕ → Float
+normaliserFor exact F n c = cond exact zero64 (normaliserOf F n c)
+
+-- the gradients of a whole iteration
 abbrev pub gradientsOf : Bool → List Float → ℕ → ℕ → ℕ → Float
-gradientsOf exact F n c e = gradientOf exact F (cond exact zero64 (normaliserOf F n c)) c e
+gradientsOf exact F n c e = gradientOf exact F (normaliserFor exact F n c) c e
 
 -- the largest absolute element, from +0.0
 abbrev pub normStep : (ℕ → Float) → ℕ → Float → Float

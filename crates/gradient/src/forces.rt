@@ -15,7 +15,7 @@ use tree_walk::Eye;
 use tree_walk::repulsive_force;
 
 // With what eye point i looks at the tree.
-pub fn eye_of(positions: &[f64], n: usize, c: usize, i: usize, angle: f64) -> Eye
+pub(crate) fn eye_of(positions: &[f64], n: usize, c: usize, i: usize, angle: f64) -> Eye
     requires { ⌜ (Axes c) × (i < n) × (n ≤ mostFrames) × (n * c ≤ length (now positions)) ⌝ }
     ensures { λ r. ⌜ r ≡ eyeOf angle c (now (positions .entry)) i ⌝ }
 {
@@ -43,7 +43,13 @@ pub fn point_forces(
     angle: f64,
     forces: &mut [f64],
 )
-    requires { ⌜ (Axes c) × (i < n) × (n ≤ mostFrames) × (n * c ≤ length (now positions)) × (n * (2 * c + 1) ≤ length (now forces)) × (0 < used) × (used ≤ length (nodesOf (now cells))) × (used ≤ mostWord) × (shaped c (tree used (nodesOf (now cells))) ≡ true) × Linked n (now weights) (now indices) (now offsets) i ⌝ }
+    requires { ⌜
+        (Axes c) × (i < n) × (n ≤ mostFrames)
+        × (n * c ≤ length (now positions)) × (n * (2 * c + 1) ≤ length (now forces))
+        × (0 < used) × (used ≤ length (nodesOf (now cells))) × (used ≤ mostWord)
+        × (shaped c (tree used (nodesOf (now cells))) ≡ true)
+        × Linked n (now weights) (now indices) (now offsets) i
+        ⌝ }
     ensures { λ _. ⌜ now (forces .exit) ≡ forcesOf exaggeration angle c (now (positions .entry)) (now (weights .entry)) (now (indices .entry)) (now (offsets .entry)) used (nodesOf (now (cells .entry))) i (now (forces .entry)) ⌝ }
 {
     let eye = eye_of(positions, n, c, i, angle);

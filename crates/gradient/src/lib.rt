@@ -1,5 +1,5 @@
 // What moves the dots: a point's forces and the exact gradient's rows, as the units of the descent need them, and one element of the gradient.
 pub mod element;
 pub mod forces;
-pub mod pulls;
+mod pulls;
 pub mod rows;

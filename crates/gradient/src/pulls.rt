@@ -108,7 +108,7 @@ fn store(forces: &mut [f64], c: usize, i: usize, t: [f64; 3], acc: Acc)
 }
 
 // Point i's forces take their places, once it is known what the tree does to it.
-pub fn place_forces(
+pub(crate) fn place_forces(
     positions: &[f64],
     weights: &[f64],
     indices: &[u32],

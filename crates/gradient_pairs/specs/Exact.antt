@@ -8,6 +8,7 @@ use lib.Ieee.{Float, binary64, add, sub, mul, div}
 use Rattle.laws.specs.Loops.{loop}
 use Rattle.laws.specs.Area.{at, bits, zero64, one64, zeros8}
 use Rattle.elementary.specs.Limits.{unlessAbove}
+use Rattle.tree_bodies.specs.Bodies.{gapOf}
 use Rattle.gradient_pairs.specs.declared.Pulls.{Pulls}
 
 -- 2^-52, below which no share of the total goes
@@ -16,18 +17,14 @@ shareFloor = bits 0x3cb0000000000000
 
 -- ---- the numerators
 
--- the squared distance of frames i and j on the map, by rising component from +0.0
-abbrev pub apartStep : List Float → ℕ → ℕ → ℕ → Float → Float
-apartStep y a b d s = add binary64 s (mul binary64 (sub binary64 (at y (a + d)) (at y (b + d))) (sub binary64 (at y (a + d)) (at y (b + d))))
-
-unfoldable pub apartOf : List Float → ℕ → ℕ → ℕ → Float
-unfolding loop
-apartOf y c i j = loop (apartStep y (i * c) (j * c)) c 0 zero64
+-- the coordinates of frame i on the map
+abbrev pub onMap : List Float → ℕ → ℕ → ℕ → Float
+onMap y c i d = at y (i * c + d)
 
 -- 1 / (1 + d²), and 0 on the diagonal
 unfoldable pub numOf : List Float → ℕ → ℕ → ℕ → Float
-unfolding apartOf
-numOf y c i j = cond (eqb i j) zero64 (div binary64 one64 (add binary64 one64 (apartOf y c i j)))
+unfolding gapOf
+numOf y c i j = cond (eqb i j) zero64 (div binary64 one64 (add binary64 one64 (gapOf c (onMap y c i) (onMap y c j))))
 
 -- one numerator more of row i
 abbrev pub numStep : List Float → ℕ → ℕ → ℕ → Float → Float

@@ -3,13 +3,14 @@ ghost use mathlib.Core.Path.{_≡_};
 ghost use Prim.Native.Nat.{_+_, _*_, _<_, _≤_};
 ghost use lib.ListN.{length};
 ghost use Rattle.laws.specs.Loops.{loop};
-ghost use Rattle.gradient_pairs.specs.Exact.{apartOf, numOf, numStep, pushOf, alongStep, pullBy, pushAt, pullsOf};
+ghost use Rattle.tree_bodies.specs.Bodies.{gapOf};
+ghost use Rattle.gradient_pairs.specs.Exact.{onMap, numOf, numStep, pushOf, alongStep, pullBy, pushAt, pullsOf};
 use crate::Pulls;
 
 // The squared distance of frames i and j on the map.
 fn apart(positions: &[f64], c: usize, i: usize, j: usize) -> f64
     requires { ⌜ (i * c + c ≤ length (now positions)) × (j * c + c ≤ length (now positions)) ⌝ }
-    ensures { λ r. ⌜ r ≡ apartOf (now (positions .entry)) c i j ⌝ }
+    ensures { λ r. ⌜ r ≡ gapOf c (onMap (now (positions .entry)) c i) (onMap (now (positions .entry)) c j) ⌝ }
 {
     let a = i * c;
     let b = j * c;

@@ -1,7 +1,7 @@
 -- A test of all numbers below n: the loop that makes it, and what it says. Assumes nothing.
 use mathlib.Core.Path.{_≡_, refl, sym, _∙_}
 use mathlib.Core.Logic.{⊎-elim}
-use mathlib.Core.Bool.{Bool, true, false, true≢false}
+use mathlib.Core.Bool.{Bool, true, false, _&&_, true≢false}
 use Prim.Native.Nat.{ℕ, zero, suc, _+_, _<_, _≤_}
 use native.Mathlib.Omega.{arith}
 use native.Mathlib.Numerals.{add-one}
@@ -12,6 +12,11 @@ use Rattle.laws.proofs.Bools.{and-left, and-right, not-true-is}
 pub every-none : (p : ℕ → Bool) → every p 0 ≡ true
 unfolding every
 every-none p = refl
+
+-- one number more
+pub every-next : (p : ℕ → Bool) (n : ℕ) → every p (n + 1) ≡ every p n && p n
+unfolding every
+every-next p n = rw (add-one n)
 
 pub every-more : (p : ℕ → Bool) (n : ℕ) → every p n ≡ true → p n ≡ true → every p (n + 1) ≡ true
 unfolding every

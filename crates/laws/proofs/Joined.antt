@@ -109,16 +109,16 @@ module _ (p : ℕ → Bool) where
       last i n l m = omega arith
 
   -- so a search in it says whether the test holds
-  abbrev pub spot : ℕ → ℕ → ℕ
-  spot n i = first (λ t. eqb (num (those p n) t) i) (length (those p n))
+  abbrev pub placeIn : ℕ → ℕ → ℕ
+  placeIn n i = first (λ t. eqb (num (those p n) t) i) (length (those p n))
 
-  pub spot-yes : (n i : ℕ) → i < n → p i ≡ true → spot n i < length (those p n)
+  pub spot-yes : (n i : ℕ) → i < n → p i ≡ true → placeIn n i < length (those p n)
   spot-yes n i l e = first-some (λ t. eqb (num (those p n) t) i) (length (those p n)) (length (those p i)) (those-at n i l e .0) (eq-eqb _ _ (those-at n i l e .1))
 
-  pub spot-no : (n i : ℕ) → p i ≡ false → spot n i ≡ length (those p n)
+  pub spot-no : (n i : ℕ) → p i ≡ false → placeIn n i ≡ length (those p n)
   spot-no n i e = first-none (λ t. eqb (num (those p n) t) i) (length (those p n)) (λ t l. ne-eqb (num (those p n) t) i (λ x. true≢false (sym (those-holds n t l) ∙ ap p x ∙ e)))
 
-  pub spot-at : (n i : ℕ) → i < n → p i ≡ true → num (those p n) (spot n i) ≡ i
+  pub spot-at : (n i : ℕ) → i < n → p i ≡ true → num (those p n) (placeIn n i) ≡ i
   spot-at n i l e = eqb-true _ _ (first-holds (λ t. eqb (num (those p n) t) i) (length (those p n)) (spot-yes n i l e))
 
 module _ {A : Type 0} where

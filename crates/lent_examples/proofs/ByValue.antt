@@ -30,7 +30,7 @@ use Rattle.lent.proofs.Plain.{calls-plain}
 use denote.Array.{Array, array-vals, array-makes}
 use Rattle.lent.proofs.Local.{array-val}
 use denote.Struct.Laws as LL
-use Rattle.lent_examples.specs.Lending.{Fits, bumpedOf, valued, placedOf, notedOf}
+use Rattle.lent_examples.specs.Lending.{CountFits, bumpedOf, valued, placedOf, notedOf}
 use mathlib.Core.Path.{_≡_}
 use Rattle.tree_node.specs.declared.Cell.{Cell}
 use Rattle.tree_node.proofs.Cell as Cell′
@@ -69,11 +69,11 @@ module _ {M : Type 1} (𝓤 : URA M) (H : Heap 𝓤) (A : Atoms 𝓤) (mem : Mem
   said-counted : (c : Counter) (more : ℕ) (mark : Float) (res : Counter) → ent 𝓤 (Said-counted c more mark res) (fact 𝓤 (res ≡ bumpedOf c more mark))
   said-counted c more mark res = exE 𝓤 _ (λ ws. snd∗ 𝓤 (sem 𝓤 H A (lasts counted′.ended tt (c, (more, (mark, tt))) ws)) (fact 𝓤 (res ≡ bumpedOf c more mark)))
 
-  goes-counted : Given 𝓤 H A → (c : Counter) (more : ℕ) (mark : Float) → IsCounter c → more < 2 ^ 32 → fits binary64 mark ≡ true → Fits c more → ent 𝓤 (emp 𝓤) (Contract-counted .pre (to-counted c more mark))
+  goes-counted : Given 𝓤 H A → (c : Counter) (more : ℕ) (mark : Float) → IsCounter c → more < 2 ^ 32 → fits binary64 mark ≡ true → CountFits c more → ent 𝓤 (emp 𝓤) (Contract-counted .pre (to-counted c more mark))
   goes-counted W c more mark g-c g-more g-mark l = qed W [] ∵ says ! l $ nothing ! $ owned ! f64 (Is f64) (float-makes 𝓤 H A W binary64) mark _ (refl, g-mark) $ fjoin ! $ owned ! u32 (Is u32) (uint-makes 𝓤 H A W w32) more _ (refl, g-more) $ fjoin ! $ owned ! Counter′.the-row (Is Counter′.the-row) ((LL.makes Counter′.the-type Counter″.the-plain) 𝓤 H A) c _ g-c $ fjoin ! $ nothing ! $ frame ! $ done !
 
 module _ {M : Type 1} {𝓤 : URA M} {H : Heap 𝓤} {A : Atoms 𝓤} {K : Type 0} {W : Given 𝓤 H A} {Γ : List (Item 𝓤)} {E : Env 𝓤 H} {C : Calls 𝓤 H} {Λ : Loops 𝓤 H} {xs : List Operand} {q : After 𝓤 H} {d : Place} {rest : Code} where
-  pub calls-counted : K → FmC 𝓤 H (W .laws) C → (mem : Memory → SProp 𝓤) (run : Routine → Fun 𝓤) → Triple 𝓤 (C #lent-examples·counted) (Contract-counted 𝓤 H A mem run) → (c : Counter) (more : ℕ) (mark : Float) → IsCounter c → more < 2 ^ 32 → fits binary64 mark ≡ true → Fits c more
+  pub calls-counted : K → FmC 𝓤 H (W .laws) C → (mem : Memory → SProp 𝓤) (run : Routine → Fun 𝓤) → Triple 𝓤 (C #lent-examples·counted) (Contract-counted 𝓤 H A mem run) → (c : Counter) (more : ℕ) (mark : Float) → IsCounter c → more < 2 ^ 32 → fits binary64 mark ≡ true → CountFits c more
       → ((P : Item 𝓤) → Opds K W (P ∷ Γ) E xs (val-Counter c ∷ vint w32 more ∷ vfloat binary64 mark ∷ []))
       → ((res : Counter) → res ≡ bumpedOf c more mark → Is Counter′.the-row res (val-Counter res ∷ []) → Seq K W Γ (lands C Λ E d (val-Counter res) rest q))
       → Seq K W Γ (runs C Λ E (seq (call #lent-examples·counted xs d) rest) q)

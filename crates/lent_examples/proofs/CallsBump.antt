@@ -31,7 +31,7 @@ use denote.Triple.Walked.{says}
 use Rattle.lent.proofs.Pass.{Seat, Tok, lent-to}
 use Rattle.lent.proofs.One.{One, one-at, lend-one, back-one}
 use Prim.Native.Nat.{_<_}
-use Rattle.lent_examples.specs.Lending.{Fits, bumpedOf}
+use Rattle.lent_examples.specs.Lending.{CountFits, bumpedOf}
 use mathlib.Core.Path.{_≡_}
 use Rattle.lent_examples.specs.declared.Counter.{Counter}
 use Rattle.lent_examples.proofs.Counter as Counter′
@@ -52,12 +52,12 @@ module _ {M : Type 1} (𝓤 : URA M) (H : Heap 𝓤) (A : Atoms 𝓤) (mem : Mem
   abbrev to : Seat → Counter → ℕ → Float → Contract-bump .Ghost
   to s-c c more mark = (((s-c .life, tt), (s-c .share, tt), tt, (one-at s-c c, (more, (mark, tt))), (vptr (s-c .block) (s-c .off) ∷ [], (vint w32 more ∷ [], (vfloat binary64 mark ∷ [], tt)))), tt)
 
-  goes : Given 𝓤 H A → (s-c : Seat) (c : Counter) (more : ℕ) (mark : Float) → more < 2 ^ 32 → fits binary64 mark ≡ true → Fits c more → ent 𝓤 (⋆ 𝓤 H A (‵ (Tok s-c) ∷ ‵ (One Counter′.the-row s-c c) ∷ [])) (Contract-bump .pre (to s-c c more mark))
+  goes : Given 𝓤 H A → (s-c : Seat) (c : Counter) (more : ℕ) (mark : Float) → more < 2 ^ 32 → fits binary64 mark ≡ true → CountFits c more → ent 𝓤 (⋆ 𝓤 H A (‵ (Tok s-c) ∷ ‵ (One Counter′.the-row s-c c) ∷ [])) (Contract-bump .pre (to s-c c more mark))
   goes W s-c c more mark g-more g-mark l = qed W (‵ (Tok s-c) ∷ ‵ (One Counter′.the-row s-c c) ∷ []) ∵ says ! l $ nothing ! $ move ! (1 ∷ 0 ∷ []) $ join ! $ frame ! $ nothing ! $ owned ! f64 (Is f64) (float-makes 𝓤 H A W binary64) mark _ (refl, g-mark) $ fjoin ! $ owned ! u32 (Is u32) (uint-makes 𝓤 H A W w32) more _ (refl, g-more) $ fjoin ! $ move ! (1 ∷ 0 ∷ []) $ fjoin ! $ done !
 
 module _ {M : Type 1} {𝓤 : URA M} {H : Heap 𝓤} {A : Atoms 𝓤} {K : Type 0} {W : Given 𝓤 H A} {Γ : List (Item 𝓤)} {E : Env 𝓤 H} {C : Calls 𝓤 H} {Λ : Loops 𝓤 H} {xs : List Operand} {q : After 𝓤 H} {d : Place} {rest : Code} where
   pub calls-bump-r : K → FmC 𝓤 H (W .laws) C → (mem : Memory → SProp 𝓤) (run : Routine → Fun 𝓤) → Triple 𝓤 (C #lent-examples·bump) (Contract-bump 𝓤 H A mem run)
-      → (s-c : Seat) (c : Counter) (more : ℕ) (mark : Float) → more < 2 ^ 32 → fits binary64 mark ≡ true → Fits c more
+      → (s-c : Seat) (c : Counter) (more : ℕ) (mark : Float) → more < 2 ^ 32 → fits binary64 mark ≡ true → CountFits c more
       → ((P Ω0 : Item 𝓤) → Opds K W (P ∷ Ω0 ∷ Γ) E xs (vptr (s-c .block) (s-c .off) ∷ vint w32 more ∷ vfloat binary64 mark ∷ []))
       → ((res : Unit {0}) (c′ : Counter) → Ensured-bump c more mark res c′ → Is Nothing res (unit-val res ∷ []) → Seq K W (‵ (One Counter′.the-row s-c c′) ∷ ‵ (Tok s-c) ∷ Γ) (lands C Λ E d (unit-val res) rest q))
       → Seq K W (‵ (One Counter′.the-row s-c c) ∷ ‵ (Tok s-c) ∷ Γ) (runs C Λ E (seq (call #lent-examples·bump xs d) rest) q)

@@ -29,7 +29,7 @@ use denote.Triple.Walked.{says}
 use Rattle.lent.proofs.Pass.{Seat, ref-at, word, Mut, Shr, Tok, lent-to, lend-mut, back-mut, lend-copy}
 use Rattle.lent.proofs.One.{One, one-at, lend-one, back-one}
 use Prim.Native.Nat.{_<_}
-use Rattle.lent_examples.specs.Lending.{valueOr, valued, Fits, bumpedOf}
+use Rattle.lent_examples.specs.Lending.{valueOr, valued, CountFits, bumpedOf}
 use Rattle.tree_node.specs.Arena.{cellAt}
 use lib.ListN.{length, set}
 use mathlib.Core.Path.{_≡_}
@@ -54,12 +54,12 @@ module _ {M : Type 1} (𝓤 : URA M) (H : Heap 𝓤) (A : Atoms 𝓤) (mem : Mem
   abbrev to : Seat → Counter → Seat → List Cell → Seat → List Float → ℕ → ℕ → Contract-note-from .Ghost
   to s-c c s-cells cells s-values values i more = (((s-c .life, (s-cells .life, (s-values .life, tt))), (s-c .share, (s-cells .share, (s-values .share, tt))), tt, (one-at s-c c, (ref-at s-cells cells, (ref-at s-values values, (i, (more, tt))))), (vptr (s-c .block) (s-c .off) ∷ [], (word s-cells ∷ [], (word s-values ∷ [], (vint w64 i ∷ [], (vint w32 more ∷ [], tt)))))), tt)
 
-  goes : Given 𝓤 H A → (s-c : Seat) (c : Counter) (s-cells : Seat) (cells : List Cell) (s-values : Seat) (values : List Float) (i : ℕ) (more : ℕ) → i < 2 ^ 64 → more < 2 ^ 32 → (Fits c more) × (i < length cells) × (i < length values) → ent 𝓤 (⋆ 𝓤 H A (‵ (Tok s-c) ∷ ‵ (Tok s-cells) ∷ ‵ (Tok s-values) ∷ ‵ (One Counter′.the-row s-c c) ∷ ‵ (Mut Cell′.the-row s-cells cells) ∷ ‵ (Shr f64 s-values values) ∷ [])) (Contract-note-from .pre (to s-c c s-cells cells s-values values i more))
+  goes : Given 𝓤 H A → (s-c : Seat) (c : Counter) (s-cells : Seat) (cells : List Cell) (s-values : Seat) (values : List Float) (i : ℕ) (more : ℕ) → i < 2 ^ 64 → more < 2 ^ 32 → (CountFits c more) × (i < length cells) × (i < length values) → ent 𝓤 (⋆ 𝓤 H A (‵ (Tok s-c) ∷ ‵ (Tok s-cells) ∷ ‵ (Tok s-values) ∷ ‵ (One Counter′.the-row s-c c) ∷ ‵ (Mut Cell′.the-row s-cells cells) ∷ ‵ (Shr f64 s-values values) ∷ [])) (Contract-note-from .pre (to s-c c s-cells cells s-values values i more))
   goes W s-c c s-cells cells s-values values i more g-i g-more l = qed W (‵ (Tok s-c) ∷ ‵ (Tok s-cells) ∷ ‵ (Tok s-values) ∷ ‵ (One Counter′.the-row s-c c) ∷ ‵ (Mut Cell′.the-row s-cells cells) ∷ ‵ (Shr f64 s-values values) ∷ []) ∵ says ! l $ nothing ! $ move ! (3 ∷ 0 ∷ []) $ join ! $ move ! (2 ∷ 0 ∷ []) $ join ! $ move ! (1 ∷ 0 ∷ []) $ join ! $ frame ! $ nothing ! $ owned ! u32 (Is u32) (uint-makes 𝓤 H A W w32) more _ (refl, g-more) $ fjoin ! $ owned ! usize (Is usize) (uint-makes 𝓤 H A W w64) i _ (refl, g-i) $ fjoin ! $ move ! (3 ∷ 0 ∷ []) $ fjoin ! $ move ! (2 ∷ 0 ∷ []) $ fjoin ! $ move ! (1 ∷ 0 ∷ []) $ fjoin ! $ done !
 
 module _ {M : Type 1} {𝓤 : URA M} {H : Heap 𝓤} {A : Atoms 𝓤} {K : Type 0} {W : Given 𝓤 H A} {Γ : List (Item 𝓤)} {E : Env 𝓤 H} {C : Calls 𝓤 H} {Λ : Loops 𝓤 H} {xs : List Operand} {q : After 𝓤 H} {d : Place} {rest : Code} where
   pub calls-note-from-rmc : K → FmC 𝓤 H (W .laws) C → (mem : Memory → SProp 𝓤) (run : Routine → Fun 𝓤) → Triple 𝓤 (C #lent-examples·note-from) (Contract-note-from 𝓤 H A mem run)
-      → (s-c : Seat) (c : Counter) (s-cells : Seat) (cells : List Cell) (s-values : Seat) (values : List Float) (i : ℕ) (more : ℕ) → length cells ≡ s-cells .count → i < 2 ^ 64 → more < 2 ^ 32 → (Fits c more) × (i < length cells) × (i < length values)
+      → (s-c : Seat) (c : Counter) (s-cells : Seat) (cells : List Cell) (s-values : Seat) (values : List Float) (i : ℕ) (more : ℕ) → length cells ≡ s-cells .count → i < 2 ^ 64 → more < 2 ^ 32 → (CountFits c more) × (i < length cells) × (i < length values)
       → ((P Ω0 Ω1 Ω2 : Item 𝓤) → Opds K W (P ∷ Ω0 ∷ Ω1 ∷ Ω2 ∷ Γ) E xs (vptr (s-c .block) (s-c .off) ∷ word s-cells ∷ word s-values ∷ vint w64 i ∷ vint w32 more ∷ []))
       → ((res : Unit {0}) (c′ : Counter) (cells′ : List Cell) → Ensured-note-from c cells values i more res c′ cells′ → Is Nothing res (unit-val res ∷ []) → length cells′ ≡ s-cells .count → Seq K W (‵ (One Counter′.the-row s-c c′) ∷ ‵ (Tok s-c) ∷ ‵ (Mut Cell′.the-row s-cells cells′) ∷ ‵ (Tok s-cells) ∷ ‵ (Shr f64 s-values values) ∷ ‵ (Tok s-values) ∷ Γ) (lands C Λ E d (unit-val res) rest q))
       → Seq K W (‵ (One Counter′.the-row s-c c) ∷ ‵ (Tok s-c) ∷ ‵ (Mut Cell′.the-row s-cells cells) ∷ ‵ (Tok s-cells) ∷ ‵ (Shr f64 s-values values) ∷ ‵ (Tok s-values) ∷ Γ) (runs C Λ E (seq (call #lent-examples·note-from xs d) rest) q)

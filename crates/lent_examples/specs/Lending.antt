@@ -17,8 +17,8 @@ abbrev pub valued : Cell → Float → Cell
 valued x y = record { centre = x .centre; half = y ∷ y ∷ y ∷ []; mass = x .mass; count = x .count; first = x .first; leaf = x .leaf }
 
 -- a counter has room for so many more, and is what it is after them
-abbrev pub Fits : Counter → ℕ → Type 0
-Fits c more = c .total + more < 2 ^ 64
+abbrev pub CountFits : Counter → ℕ → Type 0
+CountFits c more = c .total + more < 2 ^ 64
 
 abbrev pub bumpedOf : Counter → ℕ → Float → Counter
 bumpedOf c more mark = record { total = c .total + more; last = mark }

@@ -4,7 +4,7 @@ ghost use mathlib.Core.Path.{_≡_};
 ghost use Prim.Native.Nat.{_<_, _≤_};
 ghost use lib.ListN.{length, set};
 ghost use Rattle.tree_node.specs.Arena.{cellAt};
-ghost use Rattle.lent_examples.specs.Lending.{valueOr, valued, Fits, bumpedOf, placedOf, notedOf};
+ghost use Rattle.lent_examples.specs.Lending.{valueOr, valued, CountFits, bumpedOf, placedOf, notedOf};
 use tree_node::Cell;
 use tree_node::arena::cell_at;
 use tree_node::arena::put_cell;
@@ -60,7 +60,7 @@ pub struct Counter {
 
 // By value: all that `bump` does but for the reference.
 pub fn counted(c: Counter, more: u32, mark: f64) -> Counter
-    requires { ⌜ Fits c more ⌝ }
+    requires { ⌜ CountFits c more ⌝ }
     ensures { λ r. ⌜ r ≡ bumpedOf c more mark ⌝ }
 {
     let wide = more as u64;
@@ -71,7 +71,7 @@ pub fn counted(c: Counter, more: u32, mark: f64) -> Counter
 }
 
 pub fn bump(c: &mut Counter, more: u32, mark: f64)
-    requires { ⌜ Fits (now c) more ⌝ }
+    requires { ⌜ CountFits (now c) more ⌝ }
     ensures { λ _. ⌜ now (c .exit) ≡ bumpedOf (now (c .entry)) more mark ⌝ }
 {
     let old = *c;
@@ -80,7 +80,7 @@ pub fn bump(c: &mut Counter, more: u32, mark: f64)
 }
 
 pub fn bumped(c: Counter, more: u32, mark: f64) -> Counter
-    requires { ⌜ Fits c more ⌝ }
+    requires { ⌜ CountFits c more ⌝ }
     ensures { λ r. ⌜ r ≡ bumpedOf c more mark ⌝ }
 {
     let mut own = c;
@@ -157,7 +157,7 @@ pub fn put_from_own(
 // ---- A local struct and a part of a local array, lent to one callee beside a slice of numbers.
 
 pub fn note_from(c: &mut Counter, cells: &mut [Cell], values: &[f64], i: usize, more: u32)
-    requires { ⌜ (Fits (now c) more) × (i < length (now cells)) × (i < length (now values)) ⌝ }
+    requires { ⌜ (CountFits (now c) more) × (i < length (now cells)) × (i < length (now values)) ⌝ }
     ensures { λ _. ⌜ (now (c .exit) ≡ bumpedOf (now (c .entry)) more (valueOr (now (values .entry)) i)) × (now (cells .exit) ≡ set (now (cells .entry)) i (valued (cellAt (now (cells .entry)) i) (valueOr (now (values .entry)) i))) ⌝ }
 {
     let old = *c;
@@ -188,7 +188,7 @@ pub fn note_own(
     i: usize,
     more: u32,
 ) -> Noted
-    requires { ⌜ (Fits c more) × (i < k) × (k ≤ 8) × (i < length (now values)) ⌝ }
+    requires { ⌜ (CountFits c more) × (i < k) × (k ≤ 8) × (i < length (now values)) ⌝ }
     ensures { λ r. ⌜ r ≡ notedOf (bumpedOf c more (valueOr (now (values .entry)) i)) (set cells i (valued (cellAt cells i) (valueOr (now (values .entry)) i))) ⌝ }
 {
     let mut counter = c;

@@ -35,8 +35,12 @@ use Rattle.run_record.proofs.Laws.{per-some}
 use Rattle.run_entry.specs.State.{State, state}
 use Rattle.run_entry.specs.Entry.{offsetFine, indexFine, GoodAreas, Good}
 use Rattle.run_entry.proofs.Laws.{links-is}
-use Rattle.descent.specs.Honest.{Honest}
-use Rattle.descent.proofs.Theorems.{OneCall, demand-three, SoMany, after-each}
+use Rattle.descent.specs.Descent.{work, workNumber, isLast, wholeUnits, works}
+use Rattle.descent.specs.Honest.{Honest, Roomy}
+use Rattle.descent.specs.Longer.{Holds, lentArena}
+use Rattle.descent.proofs.Theorems.{OneCall, demand-three, SoMany, after-each, stays-honest, ends-in-time, never-14, Refused as RefusedCall, refusal}
+use Rattle.descent.proofs.Longer.{GoesOn}
+use Rattle.descent.proofs.Lent.{goes-on-lent}
 use Rattle.prepare.specs.declared.Prepared.the-variants.{Refused, Ready}
 use Rattle.prepare.specs.Prepare.{Lent, lengthsOf, prepareFault, freshRun, routedIn, begunAreas, prepared, memoryOf}
 use Rattle.prepare.proofs.Laws.{Passed, passed, twice, routed-tree, routed-exact}
@@ -182,23 +186,39 @@ module _ (s : Settings) (table start : List Float) (cs : List Cell) (l : Lent) w
 
 module _ (s : Settings) (table start : List Float) (cs : List Cell) (l : Lent) (run : Run) (ready : prepared s table start (length cs) l .answer ≡ Ready run) where
   -- record and areas as preparation leaves them
-  abbrev pub begun : State
-  begun = state run (memoryOf (prepared s table start (length cs) l .areas) cs)
+  abbrev pub begunState : State
+  begunState = state run (memoryOf (prepared s table start (length cs) l .areas) cs)
 
-  pub preparation-honest : Honest begun
+  pub preparation-honest : Honest begunState
   unfolding prepared
   preparation-honest =
       let fault = prepareFault s table start (lengthsOf l (length cs)) in
-      by-bool (Honest begun) (eqb fault 0)
+      by-bool (Honest begunState) (eqb fault 0)
       (λ e. let q : Ready (freshRun s) ≡ Ready run = rw e at ready in
       let same : run ≡ freshRun s = cc in
       rw (e, same) (honest-begin s table start cs l (subst (λ (x : ℕ). Passed s table start (lengthsOf l x)) (sym (nodes-length cs)) (passed s table start (lengthsOf l (length cs)) (eqb-true fault 0 e)))))
       (λ e. absurd (let q : Refused fault ≡ Ready run = rw e at ready in let z : _≡_ {A = ℕ} 0 1 = cc in omega arith))
 
   -- THEOREM 2 from there on: calls one after the other, the last of at least 1, leave everything where one call with the sum leaves it
-  pub demand-three-begun : (bs : List ℕ) (b : ℕ) → 1 ≤ b → OneCall bs b begun
-  demand-three-begun bs b h = demand-three bs b begun preparation-honest h
+  pub demand-three-begun : (bs : List ℕ) (b : ℕ) → 1 ≤ b → OneCall bs b begunState
+  demand-three-begun bs b h = demand-three bs b begunState preparation-honest h
 
   -- and after each call record and memory are those of so many units
-  pub after-each-begun : (bs : List ℕ) → SoMany bs begun
-  after-each-begun bs = after-each bs begun preparation-honest
+  pub after-each-begun : (bs : List ℕ) → SoMany bs begunState
+  after-each-begun bs = after-each bs begunState
+
+  -- THEOREM 3 from there on: one call with all units gives stopped, finished, 14 or 15
+  pub ends-in-time-begun : (b : ℕ) → wholeUnits begunState ≤ b → isLast (work b begunState .answer) ≡ true
+  ends-in-time-begun b h = ends-in-time b begunState preparation-honest h
+
+  -- THEOREM 4 from there on: with room for all splits no call is refused by 14
+  pub never-14-begun : Roomy (run .settings) (length cs) → (bs : List ℕ) (b : ℕ) → workNumber (work b (works bs begunState) .answer) ≡ 14 → ⊥
+  never-14-begun room bs b e = never-14 bs b begunState preparation-honest (rw (nodes-length cs) room) e
+
+  -- a call leaves the arena in the cells ds; with further cells behind them the run goes on as one does that had them from the start
+  pub goes-on-lent-begun : (more : List Cell) (b c : ℕ) (ds : List Cell) → Holds ds (work b begunState .left) → GoesOn b c begunState (lentArena (ds ++ more) (work b begunState .left)) (lentArena (cs ++ more) begunState)
+  goes-on-lent-begun more b c ds h = goes-on-lent more b c begunState preparation-honest cs ds refl h
+
+  -- THEOREM 5 from there on: a call that is refused leaves the state of the units that it tells
+  pub refusal-begun : (bs : List ℕ) (b : ℕ) → (workNumber (work b (works bs begunState) .answer) ≡ 0 → ⊥) → RefusedCall b (works bs begunState)
+  refusal-begun bs b n = refusal b (works bs begunState) (stays-honest bs begunState preparation-honest .good) n

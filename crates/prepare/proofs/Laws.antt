@@ -27,7 +27,7 @@ use Rattle.run_entry.proofs.Laws.{areas-fine}
 use Rattle.run_units.proofs.Rooms.{cells-forces}
 use Rattle.prepare.specs.declared.Lengths.{Lengths}
 use Rattle.prepare.specs.declared.Prepared.the-variants.{Refused, Ready}
-use Rattle.prepare.specs.Prepare.{Lent, lent, lengthsOf, allIn, lengthsFit, prepareFault, freshRun, routed, routedIn, outcome, prepared}
+use Rattle.prepare.specs.Prepare.{Lent, lent, lengthsOf, allIn, lengthsFit, prepareFault, freshRun, routed, routedIn, prepareOutcome, prepared}
 use Rattle.run_record.specs.declared.Run.{Run}
 use Rattle.prepare.specs.Room.{RouteRoom}
 
@@ -136,14 +136,14 @@ squares-gone t n f m z F h = ap (λ (l : List Float). replicate m z ++ l) (drop-
 -- ---- the answer
 
 module _ (s : Settings) (table start : List Float) (nodes : ℕ) (l : Lent) {k : ℕ} (q : k ≡ prepareFault s table start (lengthsOf l nodes)) where
-  pub refused-is : (k ≡ 0 → ⊥) → outcome (Refused k) l ≡ prepared s table start nodes l
+  pub refused-outcome : (k ≡ 0 → ⊥) → prepareOutcome (Refused k) l ≡ prepared s table start nodes l
   unfolding prepared
-  refused-is n = rw (ne-eqb (prepareFault s table start (lengthsOf l nodes)) 0 (λ e. n (q ∙ e)), q)
+  refused-outcome n = rw (ne-eqb (prepareFault s table start (lengthsOf l nodes)) 0 (λ e. n (q ∙ e)), q)
 
   pub ready-is : {r : Run} {p i g a F F₁ v : List Float} {x o w : List ℕ} → k ≡ 0 → r ≡ freshRun s → areas a x o v w ≡ routedIn s table l
       → p ≡ pasted start 0 (s .n * s .c) (l .positions) → i ≡ cleared zero64 (s .n * s .c) (l .increments) → g ≡ cleared one64 (s .n * s .c) (l .gains)
       → F₁ ≡ squaresOf table (s .n) (s .f) (l .forces) → F ≡ cleared zero64 (s .n * (2 * s .c + 1)) F₁
-      → outcome (Ready r) (lent p i g a x o F v w) ≡ prepared s table start nodes l
+      → prepareOutcome (Ready r) (lent p i g a x o F v w) ≡ prepared s table start nodes l
   unfolding prepared
   ready-is {r} {p} {i} {g} {a} {F} {F₁} {v} {x} {o} {w} e er ea ep ei eg ef eF =
       let R = routedIn s table l in

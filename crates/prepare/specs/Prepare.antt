@@ -96,19 +96,19 @@ begunAreas s table start l =
 
 -- ---- preparation
 
-pub record Outcome : Type 0 where
+pub record PrepareOutcome : Type 0 where
   pub answer : Prepared
   pub areas : Lent
 
-abbrev pub outcome : Prepared → Lent → Outcome
-outcome a l = record { answer = a; areas = l }
+abbrev pub prepareOutcome : Prepared → Lent → PrepareOutcome
+prepareOutcome a l = record { answer = a; areas = l }
 
 -- refused, nothing is changed and there is no record
-unfoldable pub prepared : Settings → List Float → List Float → ℕ → Lent → Outcome
+unfoldable pub prepared : Settings → List Float → List Float → ℕ → Lent → PrepareOutcome
 prepared s table start nodes l =
     cond (eqb (prepareFault s table start (lengthsOf l nodes)) 0)
-    (outcome (Ready (freshRun s)) (begunAreas s table start l))
-    (outcome (Refused (prepareFault s table start (lengthsOf l nodes))) l)
+    (prepareOutcome (Ready (freshRun s)) (begunAreas s table start l))
+    (prepareOutcome (Refused (prepareFault s table start (lengthsOf l nodes))) l)
 
 -- the lent areas and the arena, as the work call has them
 abbrev pub memoryOf : Lent → List Cell → Memory

@@ -9,7 +9,7 @@ ghost use Rattle.affinity_near.specs.Distances.{squaresOf};
 ghost use Rattle.affinity.specs.Exact.{exactOf};
 ghost use Rattle.run_record.specs.Record.{GoodSettings};
 ghost use Rattle.prepare.specs.Room.{RouteRoom};
-ghost use Rattle.prepare.specs.Prepare.{allIn, lengthsFit, prepareFault, freshRun, routed, lent, outcome, prepared};
+ghost use Rattle.prepare.specs.Prepare.{allIn, lengthsFit, prepareFault, freshRun, routed, lent, prepareOutcome, prepared};
 use elementary::in_domain;
 use run_entry::areas_fit;
 use run_record::Run;
@@ -217,7 +217,7 @@ pub fn prepare(
     row_indices: &mut [u32],
     nodes: usize,
 ) -> Prepared
-    ensures { λ r. ⌜ outcome r (lent (now (positions .exit)) (now (increments .exit)) (now (gains .exit)) (now (affinities .exit)) (now (indices .exit)) (now (offsets .exit)) (now (forces .exit)) (now («row_values» .exit)) (now («row_indices» .exit))) ≡ prepared s (now (table .entry)) (now (start .entry)) nodes (lent (now (positions .entry)) (now (increments .entry)) (now (gains .entry)) (now (affinities .entry)) (now (indices .entry)) (now (offsets .entry)) (now (forces .entry)) (now («row_values» .entry)) (now («row_indices» .entry))) ⌝ }
+    ensures { λ r. ⌜ prepareOutcome r (lent (now (positions .exit)) (now (increments .exit)) (now (gains .exit)) (now (affinities .exit)) (now (indices .exit)) (now (offsets .exit)) (now (forces .exit)) (now («row_values» .exit)) (now («row_indices» .exit))) ≡ prepared s (now (table .entry)) (now (start .entry)) nodes (lent (now (positions .entry)) (now (increments .entry)) (now (gains .entry)) (now (affinities .entry)) (now (indices .entry)) (now (offsets .entry)) (now (forces .entry)) (now («row_values» .entry)) (now («row_indices» .entry))) ⌝ }
 {
     let l = Lengths {
         positions: positions.len(),

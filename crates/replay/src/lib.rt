@@ -2,11 +2,15 @@
 pub mod areas;
 
 ghost use mathlib.Core.Path.{_≡_};
-ghost use Prim.Native.Nat.{_≤_};
-ghost use lib.ListN.{length};
+ghost use Prim.Native.Nat.{_+_, _≤_};
+ghost use lib.ListN.{length, take};
 ghost use Rattle.io.specs.Counts.{Counts};
-ghost use Rattle.replay.specs.Replay.{wordOf, tallied, noTally};
+ghost use Rattle.text.specs.Text.{written, Puts};
+ghost use Rattle.replay.specs.Replay.{wordOf, tallied, noTally, Unread};
+ghost use Rattle.replay.specs.Line.{countsText, firstText, talliedText};
 use libc::STDOUT_FILENO;
+use text::put;
+use text::put_decimal;
 
 // How a replay went so far.
 pub struct Tally {
@@ -66,11 +70,11 @@ pub fn word_at(list: &[u8], i: usize) -> u64
     0
 }
 
-// Reads the file into the list, and answers how many bytes it has; 0 where it cannot be read.
-pub fn load(path: &[u8], list: &mut [u8]) -> usize
+// Reads into the list what is open as fd, and closes it. Where fd is below 0 nothing is open: 0, and the list is as it was.
+fn read_open(fd: i32, list: &mut [u8]) -> usize
     ensures { λ r. ⌜ Counts r (now (list .exit)) ⌝ }
+    ensures { λ r. ⌜ Unread fd r (now (list .entry)) (now (list .exit)) ⌝ }
 {
-    let fd = os::open_read(path);
     if fd < 0 {
         return 0;
     }
@@ -79,17 +83,73 @@ pub fn load(path: &[u8], list: &mut [u8]) -> usize
     n
 }
 
-// Prints the name, the cases and how many of them are wrong, as a line.
-pub fn print(name: &[u8], t: Tally) {
-    io::write_all(STDOUT_FILENO, name);
-    io::write_all(STDOUT_FILENO, b": ");
-    io::print_decimal(STDOUT_FILENO, t.cases);
-    io::write_all(STDOUT_FILENO, b" cases, ");
-    io::print_decimal(STDOUT_FILENO, t.wrong);
-    io::write_all(STDOUT_FILENO, b" wrong");
-    if t.wrong > 0 {
-        io::write_all(STDOUT_FILENO, b", the first is case ");
-        io::print_decimal(STDOUT_FILENO, t.first);
+// Reads the file into the list, and answers how many bytes it has; 0 where it cannot be read.
+pub fn load(path: &[u8], list: &mut [u8]) -> usize
+    ensures { λ r. ⌜ Counts r (now (list .exit)) ⌝ }
+{
+    read_open(os::open_read(path), list)
+}
+
+// ---- the line of a tally
+
+// How many bytes of the name are shown.
+fn shown(name: &[u8]) -> usize
+    ensures { λ r. ⌜ Counts r (now (name .entry)) ⌝ }
+    ensures { λ r. ⌜ r ≤ 64 ⌝ }
+    ensures { λ r. ⌜ take r (now (name .entry)) ≡ take 64 (now (name .entry)) ⌝ }
+{
+    if name.len() < 64 {
+        return name.len();
     }
-    io::write_all(STDOUT_FILENO, b"\n");
+    64
+}
+
+fn put_counts(out: &mut [u8], at: usize, cases: u64, wrong: u64) -> usize
+    requires { ⌜ at + 56 ≤ length (now out) ⌝ }
+    ensures { λ r. ⌜ Puts (countsText cases wrong) at (now (out .entry)) r (now (out .exit)) ⌝ }
+    ensures { λ r. ⌜ r ≤ at + 56 ⌝ }
+{
+    let a = put(out, at, b": ");
+    let b = put_decimal(out, a, cases);
+    let c = put(out, b, b" cases, ");
+    let d = put_decimal(out, c, wrong);
+    put(out, d, b" wrong")
+}
+
+fn put_first(out: &mut [u8], at: usize, wrong: u64, first: u64) -> usize
+    requires { ⌜ at + 41 ≤ length (now out) ⌝ }
+    ensures { λ r. ⌜ Puts (firstText wrong first) at (now (out .entry)) r (now (out .exit)) ⌝ }
+{
+    if wrong == 0 {
+        return put(out, at, b"\n");
+    }
+    let a = put(out, at, b", the first is case ");
+    let b = put_decimal(out, a, first);
+    put(out, b, b"\n")
+}
+
+fn put_tally(out: &mut [u8], name: &[u8], t: Tally) -> usize
+    requires { ⌜ 200 ≤ length (now out) ⌝ }
+    ensures { λ r. ⌜ Puts (talliedText (now (name .entry)) t) 0 (now (out .entry)) r (now (out .exit)) ⌝ }
+{
+    let n = shown(name);
+    let a = put(out, 0, &name[..n]);
+    let b = put_counts(out, a, t.cases, t.wrong);
+    put_first(out, b, t.wrong, t.first)
+}
+
+// The name, the cases and how many of them are wrong, as a line at the start of `out`; answers how many bytes it has.
+pub fn tally_text(name: &[u8], t: Tally, out: &mut [u8; 200]) -> usize
+    ensures { λ r. ⌜ Counts r (now (out .exit)) ⌝ }
+    ensures { λ r. ⌜ r ≡ length (talliedText (now (name .entry)) t) ⌝ }
+    ensures { λ _. ⌜ now (out .exit) ≡ written (talliedText (now (name .entry)) t) 0 (now (out .entry)) ⌝ }
+{
+    put_tally(out, name, t)
+}
+
+// Prints that line.
+pub fn print(name: &[u8], t: Tally) {
+    let mut out = [0u8; 200];
+    let n = tally_text(name, t, &mut out);
+    io::write_all(STDOUT_FILENO, &out[..n]);
 }

@@ -29,9 +29,9 @@ use denote.Enum.Laws as EL
 use Rattle.replay_arena.specs.Fronts.{putOf}
 use Rattle.tree.specs.Contents.{contentsFine}
 use mathlib.Core.Path.{_≡_}
-use Rattle.tree.specs.declared.Answer.{Answer}
-use Rattle.tree.proofs.Answer as Answer′
-use Rattle.tree.proofs.Answer.Laws as Answer″
+use Rattle.tree.specs.declared.Inserted.{Inserted}
+use Rattle.tree.proofs.Inserted as Inserted′
+use Rattle.tree.proofs.Inserted.Laws as Inserted″
 use Rattle.tree_node.specs.declared.Cell.{Cell}
 use Rattle.tree_node.proofs.Cell as Cell′
 use Rattle.tree_node.proofs.Cell.Laws as Cell″
@@ -42,7 +42,7 @@ use Rattle.replay_arena.specs.declared.Put.{Put}
 use Rattle.replay_arena.proofs.Put as Put′
 use Rattle.replay_arena.proofs.Put.Laws as Put″
 use Rattle.replay_arena.proofs.Values.{val-Put}
-use Rattle.tree.proofs.Values.{val-Answer, IsAnswer, val-Contents, IsContents}
+use Rattle.tree.proofs.Values.{val-Inserted, IsInserted, val-Contents, IsContents}
 use Rattle.replay_arena.proofs.put_of as put-of′
 use Rattle.replay_arena.proofs.put_of.Symbol.{name as #replay-arena·put-of}
 use Rattle.replay_arena.proofs.is_fine as is-fine′
@@ -53,21 +53,21 @@ module _ {M : Type 1} (𝓤 : URA M) (H : Heap 𝓤) (A : Atoms 𝓤) (mem : Mem
   abbrev pub Contract-put-of : Contract 𝓤
   Contract-put-of = tripleOf 𝓤 H A put-of′.signature (put-of′.spec 𝓤 H A mem run)
 
-  abbrev to-put-of : Answer → List Cell → Contract-put-of .Ghost
-  to-put-of a₀ cells = ((tt, tt, tt, (a₀, (cells, tt)), (val-Answer a₀ ∷ [], (array-val (LL.vals Cell′.the-type Cell″.the-laws) cells ∷ [], tt))), tt)
+  abbrev to-put-of : Inserted → List Cell → Contract-put-of .Ghost
+  to-put-of a₀ cells = ((tt, tt, tt, (a₀, (cells, tt)), (val-Inserted a₀ ∷ [], (array-val (LL.vals Cell′.the-type Cell″.the-laws) cells ∷ [], tt))), tt)
 
-  abbrev Said-put-of : Answer → List Cell → Put → SProp 𝓤
+  abbrev Said-put-of : Inserted → List Cell → Put → SProp 𝓤
   Said-put-of a₀ cells = ensured 𝓤 H A put-of′.ended (put-of′.clauses 𝓤 H A mem run) tt (a₀, (cells, tt)) tt
 
-  said-put-of : (a₀ : Answer) (cells : List Cell) (res : Put) → ent 𝓤 (Said-put-of a₀ cells res) (fact 𝓤 (res ≡ putOf a₀ cells))
+  said-put-of : (a₀ : Inserted) (cells : List Cell) (res : Put) → ent 𝓤 (Said-put-of a₀ cells res) (fact 𝓤 (res ≡ putOf a₀ cells))
   said-put-of a₀ cells res = exE 𝓤 _ (λ ws. snd∗ 𝓤 (sem 𝓤 H A (lasts put-of′.ended tt (a₀, (cells, tt)) ws)) (fact 𝓤 (res ≡ putOf a₀ cells)))
 
-  goes-put-of : Given 𝓤 H A → (a₀ : Answer) (cells : List Cell) → IsAnswer a₀ → Is (Array Cell′.the-row 512) cells (array-vals (LL.vals Cell′.the-type Cell″.the-laws) cells) → ent 𝓤 (emp 𝓤) (Contract-put-of .pre (to-put-of a₀ cells))
-  goes-put-of W a₀ cells g-a₀ g-cells = qed W [] ∵ nothing ! $ nothing ! $ owned ! (Array Cell′.the-row 512) (Is (Array Cell′.the-row 512)) (array-makes 𝓤 H A W Cell′.the-row ((LL.makes Cell′.the-type Cell″.the-plain) 𝓤 H A) 512) cells _ g-cells $ fjoin ! $ owned ! Answer′.the-row (Is Answer′.the-row) ((LL.makes Answer′.the-type Answer″.the-plain) 𝓤 H A) a₀ _ g-a₀ $ fjoin ! $ move ! (1 ∷ 0 ∷ []) $ join ! $ frame ! $ nothing ! $ done !
+  goes-put-of : Given 𝓤 H A → (a₀ : Inserted) (cells : List Cell) → IsInserted a₀ → Is (Array Cell′.the-row 512) cells (array-vals (LL.vals Cell′.the-type Cell″.the-laws) cells) → ent 𝓤 (emp 𝓤) (Contract-put-of .pre (to-put-of a₀ cells))
+  goes-put-of W a₀ cells g-a₀ g-cells = qed W [] ∵ nothing ! $ nothing ! $ owned ! (Array Cell′.the-row 512) (Is (Array Cell′.the-row 512)) (array-makes 𝓤 H A W Cell′.the-row ((LL.makes Cell′.the-type Cell″.the-plain) 𝓤 H A) 512) cells _ g-cells $ fjoin ! $ owned ! Inserted′.the-row (Is Inserted′.the-row) ((LL.makes Inserted′.the-type Inserted″.the-plain) 𝓤 H A) a₀ _ g-a₀ $ fjoin ! $ move ! (1 ∷ 0 ∷ []) $ join ! $ frame ! $ nothing ! $ done !
 
 module _ {M : Type 1} {𝓤 : URA M} {H : Heap 𝓤} {A : Atoms 𝓤} {K : Type 0} {W : Given 𝓤 H A} {Γ : List (Item 𝓤)} {E : Env 𝓤 H} {C : Calls 𝓤 H} {Λ : Loops 𝓤 H} {xs : List Operand} {q : After 𝓤 H} {d : Place} {rest : Code} where
-  pub calls-put-of : K → FmC 𝓤 H (W .laws) C → (mem : Memory → SProp 𝓤) (run : Routine → Fun 𝓤) → Triple 𝓤 (C #replay-arena·put-of) (Contract-put-of 𝓤 H A mem run) → (a₀ : Answer) (cells : List Cell) → IsAnswer a₀ → Is (Array Cell′.the-row 512) cells (array-vals (LL.vals Cell′.the-type Cell″.the-laws) cells)
-      → ((P : Item 𝓤) → Opds K W (P ∷ Γ) E xs (val-Answer a₀ ∷ array-val (LL.vals Cell′.the-type Cell″.the-laws) cells ∷ []))
+  pub calls-put-of : K → FmC 𝓤 H (W .laws) C → (mem : Memory → SProp 𝓤) (run : Routine → Fun 𝓤) → Triple 𝓤 (C #replay-arena·put-of) (Contract-put-of 𝓤 H A mem run) → (a₀ : Inserted) (cells : List Cell) → IsInserted a₀ → Is (Array Cell′.the-row 512) cells (array-vals (LL.vals Cell′.the-type Cell″.the-laws) cells)
+      → ((P : Item 𝓤) → Opds K W (P ∷ Γ) E xs (val-Inserted a₀ ∷ array-val (LL.vals Cell′.the-type Cell″.the-laws) cells ∷ []))
       → ((res : Put) → res ≡ putOf a₀ cells → Is Put′.the-row res (val-Put res ∷ []) → Seq K W Γ (lands C Λ E d (val-Put res) rest q))
       → Seq K W Γ (runs C Λ E (seq (call #replay-arena·put-of xs d) rest) q)
   calls-put-of t fm mem run met a₀ cells g-a₀ g-cells os k =

@@ -16,7 +16,7 @@ use Rattle.tree_node.proofs.Told.{nodes-length, nodes-append, nameable-most, na
 use Rattle.tree_bounds.specs.Bounds.{boxOf}
 use Rattle.tree_walk.specs.declared.Eye.{Eye}
 use Rattle.tree_walk.specs.Repel.{Blocks}
-use Rattle.tree.specs.declared.Answer.{Answer}
+use Rattle.tree.specs.declared.Inserted.{Inserted}
 use Rattle.tree.specs.Insert.{tree, insertion, insertOf, growable, shaped}
 use Rattle.tree.proofs.Tested.{Sound, fine-sound}
 use Rattle.tree.proofs.Whole.{looser}
@@ -59,7 +59,7 @@ module _ (n used j c k : ℕ) (cs : List Cell) (y : List Float) (ready : (Axes c
       let u = fine-used k used n c cs (ready .5) in
       (ready .0, u .0, u .1, ready .2, ready .3, omega (arith, ready .4), looser n n c n (mostWord - 1) (tree used (front k cs)) (omega arith) (omega (arith, ready .4)) (fine-sound n c (tree used (front k cs)) (ready .5) .nodes))
 
-  pub put-told : (a : Answer) (ds : List Cell) → insertion (a .full) (tree (a .used) (nodesOf ds)) ≡ insertOf y c j (tree used (nodesOf (take k cs))) → length ds ≡ k
+  pub put-told : (a : Inserted) (ds : List Cell) → insertion (a .full) (tree (a .used) (nodesOf ds)) ≡ insertOf y c j (tree used (nodesOf (take k cs))) → length ds ≡ k
       → (p : Put) → p ≡ putOf a (ds ++ drop k cs) → (toldBy k p ≡ insertOf y c j (tree used (front k cs))) × (behind k (p .cells) ≡ behind k cs)
   put-told a ds e l p ep =
       (ap (toldBy k) ep ∙ ap (λ (es : List Cell). insertion (a .full) (tree (a .used) (nodesOf es))) (take-at ds (drop k cs) k l) ∙ e, ap (λ (q : Put). behind k (q .cells)) ep ∙ drop-at ds (drop k cs) k l)

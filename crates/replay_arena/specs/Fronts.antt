@@ -8,7 +8,7 @@ use Rattle.laws.specs.Domain.{mostWord}
 use Rattle.tree_node.specs.declared.Node.{Node}
 use Rattle.tree_node.specs.declared.Cell.{Cell}
 use Rattle.tree_node.specs.Arena.{nodesOf}
-use Rattle.tree.specs.declared.Answer.{Answer}
+use Rattle.tree.specs.declared.Inserted.{Inserted}
 use Rattle.tree.specs.Insert.{tree, Insertion, insertion, shaped}
 use Rattle.tree.specs.Contents.{contentsOf, contentsFine}
 use Rattle.replay_arena.specs.declared.Put.{Put}
@@ -29,12 +29,12 @@ abbrev pub Walkable : ℕ → ℕ → ℕ → List Cell → Type 0
 Walkable k used c cs = (0 < used) × (used ≤ length (take k cs)) × (used ≤ mostWord) × (shaped c (tree used (front k cs)) ≡ true)
 
 -- what an insertion answered, with the cells, and the insertion that it tells of
-abbrev pub putOf : Answer → List Cell → Put
+abbrev pub putOf : Inserted → List Cell → Put
 putOf a cs = record { cells = cs; full = a .full; used = a .used }
 
 abbrev pub toldBy : ℕ → Put → Insertion
 toldBy k p = insertion (p .full) (tree (p .used) (front k (p .cells)))
 
 -- an arena that is not well formed takes nothing
-abbrev pub refusal : List Cell → Put
-refusal cs = record { cells = cs; full = true; used = 0 }
+abbrev pub nothingPut : List Cell → Put
+nothingPut cs = record { cells = cs; full = true; used = 0 }

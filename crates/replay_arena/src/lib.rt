@@ -13,8 +13,8 @@ ghost use Rattle.tree_bounds.specs.Bounds.{boxOf};
 ghost use Rattle.tree_walk.specs.Repel.{repelled};
 ghost use Rattle.tree.specs.Insert.{tree, insertOf};
 ghost use Rattle.tree.specs.Contents.{contentsFine};
-ghost use Rattle.replay_arena.specs.Fronts.{front, behind, fineOf, Walkable, putOf, toldBy, refusal};
-use tree::Answer;
+ghost use Rattle.replay_arena.specs.Fronts.{front, behind, fineOf, Walkable, putOf, toldBy, nothingPut};
+use tree::Inserted;
 use tree::insertion::insert;
 use tree::root::plant;
 use tree::wellformed::tree_ok;
@@ -33,7 +33,7 @@ pub struct Put {
     pub used: usize,
 }
 
-pub fn put_of(a: Answer, cells: [Cell; 512]) -> Put
+pub fn put_of(a: Inserted, cells: [Cell; 512]) -> Put
     ensures { λ r. ⌜ r ≡ putOf a cells ⌝ }
 {
     Put {
@@ -106,7 +106,7 @@ pub fn put_tested(
     c: usize,
 ) -> Put
     requires { ⌜ (Axes c) × (k ≤ 512) × (n * c ≤ length (now positions)) × (j < n) × (n < mostWord) ⌝ }
-    ensures { λ r. ⌜ (fineOf k used n c cells ≡ true → toldBy k r ≡ insertOf (now (positions .entry)) c j (tree used (front k cells))) × (fineOf k used n c cells ≡ false → r ≡ refusal cells) × (behind k (r .cells) ≡ behind k cells) ⌝ }
+    ensures { λ r. ⌜ (fineOf k used n c cells ≡ true → toldBy k r ≡ insertOf (now (positions .entry)) c j (tree used (front k cells))) × (fineOf k used n c cells ≡ false → r ≡ nothingPut cells) × (behind k (r .cells) ≡ behind k cells) ⌝ }
 {
     if !fine_in(cells, k, used, n, c) {
         return Put {

@@ -6,8 +6,8 @@ use replay::areas::same_area;
 use replay::areas::same_value;
 use replay::areas::value_at;
 use replay::word_at;
-use step::Answer;
 use step::Pace;
+use step::Stepped;
 ghost use mathlib.Core.Path.{_≡_};
 ghost use Prim.Native.Nat.{_+_, _*_, _<_, _≤_};
 ghost use lib.ListN.{length};
@@ -119,10 +119,10 @@ fn exact_cases(list: &[u8]) -> replay::Tally {
     t
 }
 
-fn number(r: Answer) -> u64 {
+fn number(r: Stepped) -> u64 {
     match r {
-        Answer::Moved => 0,
-        Answer::Refused(r) => r as u64,
+        Stepped::Moved => 0,
+        Stepped::Refused(r) => r as u64,
     }
 }
 

@@ -27,7 +27,7 @@ use denote.Triple.Walked.{says}
 use Rattle.lent.proofs.Plain.{calls-plain}
 use denote.Struct.Laws as LL
 use Prim.Native.Nat.{_+_, _<_, _^_}
-use Rattle.run_budget.specs.Budget.{startedOf, spendsOn, onwardOf, endedOf}
+use Rattle.run_budget.specs.Budget.{startedOf, spendsOn, countedOn, endedOf}
 use mathlib.Core.Path.{_≡_}
 use Rattle.run_budget.specs.declared.Going.{Going}
 use Rattle.run_budget.proofs.Going as Going′
@@ -116,8 +116,8 @@ module _ {M : Type 1} (𝓤 : URA M) (H : Heap 𝓤) (A : Atoms 𝓤) (mem : Mem
   abbrev Said-onward : Going → Turn → Going → SProp 𝓤
   Said-onward g₀ t₀ = ensured 𝓤 H A onward′.ended (onward′.clauses 𝓤 H A mem run) tt (g₀, (t₀, tt)) tt
 
-  said-onward : (g₀ : Going) (t₀ : Turn) (res : Going) → ent 𝓤 (Said-onward g₀ t₀ res) (fact 𝓤 (res ≡ onwardOf g₀ t₀))
-  said-onward g₀ t₀ res = exE 𝓤 _ (λ ws. snd∗ 𝓤 (sem 𝓤 H A (lasts onward′.ended tt (g₀, (t₀, tt)) ws)) (fact 𝓤 (res ≡ onwardOf g₀ t₀)))
+  said-onward : (g₀ : Going) (t₀ : Turn) (res : Going) → ent 𝓤 (Said-onward g₀ t₀ res) (fact 𝓤 (res ≡ countedOn g₀ t₀))
+  said-onward g₀ t₀ res = exE 𝓤 _ (λ ws. snd∗ 𝓤 (sem 𝓤 H A (lasts onward′.ended tt (g₀, (t₀, tt)) ws)) (fact 𝓤 (res ≡ countedOn g₀ t₀)))
 
   goes-onward : Given 𝓤 H A → (g₀ : Going) (t₀ : Turn) → IsGoing g₀ → IsTurn t₀ → g₀ .k + 1 < 2 ^ 32 → ent 𝓤 (emp 𝓤) (Contract-onward .pre (to-onward g₀ t₀))
   goes-onward W g₀ t₀ g-g₀ g-t₀ l = qed W [] ∵ says ! l $ nothing ! $ owned ! Turn′.the-row (Is Turn′.the-row) ((LL.makes Turn′.the-type Turn″.the-plain) 𝓤 H A) t₀ _ g-t₀ $ fjoin ! $ owned ! Going′.the-row (Is Going′.the-row) ((LL.makes Going′.the-type Going″.the-plain) 𝓤 H A) g₀ _ g-g₀ $ fjoin ! $ nothing ! $ frame ! $ done !
@@ -125,10 +125,10 @@ module _ {M : Type 1} (𝓤 : URA M) (H : Heap 𝓤) (A : Atoms 𝓤) (mem : Mem
 module _ {M : Type 1} {𝓤 : URA M} {H : Heap 𝓤} {A : Atoms 𝓤} {K : Type 0} {W : Given 𝓤 H A} {Γ : List (Item 𝓤)} {E : Env 𝓤 H} {C : Calls 𝓤 H} {Λ : Loops 𝓤 H} {xs : List Operand} {q : After 𝓤 H} {d : Place} {rest : Code} where
   pub calls-onward : K → FmC 𝓤 H (W .laws) C → (mem : Memory → SProp 𝓤) (run : Routine → Fun 𝓤) → Triple 𝓤 (C #run-budget·onward) (Contract-onward 𝓤 H A mem run) → (g₀ : Going) (t₀ : Turn) → IsGoing g₀ → IsTurn t₀ → g₀ .k + 1 < 2 ^ 32
       → ((P : Item 𝓤) → Opds K W (P ∷ Γ) E xs (val-Going g₀ ∷ val-Turn t₀ ∷ []))
-      → ((res : Going) → res ≡ onwardOf g₀ t₀ → Is Going′.the-row res (val-Going res ∷ []) → Seq K W Γ (lands C Λ E d (val-Going res) rest q))
+      → ((res : Going) → res ≡ countedOn g₀ t₀ → Is Going′.the-row res (val-Going res ∷ []) → Seq K W Γ (lands C Λ E d (val-Going res) rest q))
       → Seq K W Γ (runs C Λ E (seq (call #run-budget·onward xs d) rest) q)
   calls-onward t fm mem run met g₀ t₀ g-g₀ g-t₀ l os k =
-      calls-plain t fm (Contract-onward 𝓤 H A mem run) met (to-onward 𝓤 H A mem run g₀ t₀) Going′.the-row (val-Going) (LL.tells Going′.the-type Going″.the-laws) (Said-onward 𝓤 H A mem run g₀ t₀) (λ (res : Going). res ≡ onwardOf g₀ t₀) (said-onward 𝓤 H A mem run g₀ t₀)
+      calls-plain t fm (Contract-onward 𝓤 H A mem run) met (to-onward 𝓤 H A mem run g₀ t₀) Going′.the-row (val-Going) (LL.tells Going′.the-type Going″.the-laws) (Said-onward 𝓤 H A mem run g₀ t₀) (λ (res : Going). res ≡ countedOn g₀ t₀) (said-onward 𝓤 H A mem run g₀ t₀)
       (λ _. id⊢ 𝓤 _) (goes-onward 𝓤 H A mem run W g₀ t₀ g-g₀ g-t₀ l) (os _) k
 
 -- ---- `ended`

@@ -21,7 +21,7 @@ use Rattle.tree_bounds.specs.Bounds.{boxOf}
 use Rattle.tree.proofs.Whole.{looser, taken-ends, taken-fits}
 use Rattle.run_entry.specs.State.{Memory, State}
 use Rattle.run_entry.specs.Entry.{GoodTree, Ordered, Workable}
-use Rattle.run_units.specs.declared.Why.the-variants.{Done}
+use Rattle.run_units.specs.declared.Why.the-variants.{Done, Full as NoNodes, Wild as TooLarge, Over}
 use Rattle.run_plan.specs.Plan.{groupOf}
 use Rattle.run_units.specs.Units.{unit, isDone, TreeTurn, treeTurn, boxTurn, forceUnit, FinishTurn, finishTurn, Turned, withTree, withForces, withFinish}
 use Rattle.run_units.proofs.Rooms.{group-zero, group-one, group-two}
@@ -163,6 +163,16 @@ module _ (s : State) (live : isEnded (s .run .standing) ≡ false) where
       (λ z. by-tree (s .run) (s .memory .positions) (s .memory .nodes) (λ (t : TreeTurn). isDone (t .why) ≡ true → t .run .units ≡ s .run .units + 1) (λ e d. refl) (λ e f d. absurd (true≢false (sym d))) (λ e f d. refl))
       (λ z d. refl)
       (λ a b. by-finish (s .run) (s .memory .positions) (s .memory .increments) (s .memory .gains) (s .memory .forces) (λ (t : FinishTurn). isDone (t .why) ≡ true → t .run .units ≡ s .run .units + 1) (λ d. refl) (λ d. absurd (true≢false (sym d))))
+
+  -- it is done, or lacks nodes, or finds a value too large
+  pub unit-not-over : unit s .why ≡ Over → ⊥
+  unit-not-over = by-unit s live (λ (t : Turned). t .why ≡ Over → ⊥)
+      (λ z. by-tree (s .run) (s .memory .positions) (s .memory .nodes) (λ (t : TreeTurn). t .why ≡ Over → ⊥) (λ e. done) (λ e f d. absurd (let q : NoNodes ≡ Over = d in let u : _≡_ {A = ℕ} 0 1 = cc in omega arith)) (λ e f. done))
+      (λ z. done)
+      (λ a b. by-finish (s .run) (s .memory .positions) (s .memory .increments) (s .memory .gains) (s .memory .forces) (λ (t : FinishTurn). t .why ≡ Over → ⊥) done (λ d. absurd (let q : TooLarge ≡ Over = d in let u : _≡_ {A = ℕ} 0 1 = cc in omega arith)))
+    where
+      done : Done ≡ Over → ⊥
+      done d = let u : _≡_ {A = ℕ} 0 1 = cc in omega arith
 
   -- settings stay as they are
   pub unit-settings : unit s .now .run .settings ≡ s .run .settings

@@ -15,7 +15,7 @@ use Rattle.run_units.specs.declared.Turn.{Turn}
 use Rattle.run_units.specs.Units.{isDone, turned, Turned, unit}
 use Rattle.run_budget.specs.declared.Going.{Going}
 use Rattle.run_budget.specs.declared.Worked.{Worked as Left}
-use Rattle.run_budget.specs.Budget.{machine, standsOf, haltedOf, worked, told, startedOf, spendsOn, onwardOf, endedOf}
+use Rattle.run_budget.specs.Budget.{machine, standsOf, haltedOf, worked, told, startedOf, spendsOn, countedOn, endedOf}
 use Rattle.run_budget.proofs.Spends.{Spends, spends-start, spends-good, spends-more, spends-halt, spends-done}
 
 -- the units so far have led from y to the present state; or one was not done, and what the call leaves is known
@@ -46,12 +46,12 @@ module _ (b : ℕ) (y : State) (g : Going) (m : Memory) (k : Leads b y g m) (t :
     pub calls-fits : b < 2 ^ 32 → g .k + 1 < 2 ^ 32
     calls-fits h = omega (arith, less, h)
 
-    module _ (u : Turn) (m′ : Memory) (eu : turned (state (u .run) m′) (u .why) ≡ unit (state (g .run) m)) (h : Going) (eh : h ≡ onwardOf g u) where
+    module _ (u : Turn) (m′ : Memory) (eu : turned (state (u .run) m′) (u .why) ≡ unit (state (g .run) m)) (h : Going) (eh : h ≡ countedOn g u) where
       abbrev here : Turned
       here = turned (state (u .run) m′) (u .why)
 
       pub calls-next : Leads b y h m′
-      unfolding onwardOf
+      unfolding countedOn
       calls-next = subst (λ (x : Going). Leads b y x m′) (sym eh)
           (record {
             on = λ e. rw e (spends-more here (k .on done) less eu e);
@@ -59,7 +59,7 @@ module _ (b : ℕ) (y : State) (g : Going) (m : Memory) (k : Leads b y g m) (t :
           })
 
       pub calls-nearer : callsLeft b h < callsLeft b g
-      unfolding onwardOf
+      unfolding countedOn
       calls-nearer = rw (eh, done) (by-bool (cond (isDone (u .why)) (suc (b - cond (isDone (u .why)) (g .k + 1) (g .k))) 0 < suc (b - g .k)) (isDone (u .why)) (λ e. rw e (omega (arith, less))) (λ e. rw e (omega arith)))
 
   pub calls-end : T (not t) → (w : Left) → w ≡ endedOf g → worked (w .answer) (state (w .run) m) ≡ told (go machine b y)

@@ -75,8 +75,8 @@ unfoldable pub spendsOn : Going → ℕ → Bool
 spendsOn g b = cond (isDone (g .why)) (ltb (g .k) b) false
 
 -- a unit that was done is counted
-unfoldable pub onwardOf : Going → Turn → Going
-onwardOf g t = record { run = t .run; why = t .why; k = cond (isDone (t .why)) (g .k + 1) (g .k) }
+unfoldable pub countedOn : Going → Turn → Going
+countedOn g t = record { run = t .run; why = t .why; k = cond (isDone (t .why)) (g .k + 1) (g .k) }
 
 unfoldable pub endedOf : Going → Left
 endedOf g = record { run = g .run; answer = cond (isDone (g .why)) (standsOf (g .run .standing) (g .k)) (haltedOf (g .run .standing) (g .why) (g .k)) }

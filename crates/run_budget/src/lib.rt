@@ -4,7 +4,7 @@ ghost use Prim.Native.Nat.{_+_, _<_, _^_};
 ghost use Rattle.run_calls.specs.Machine.{go};
 ghost use Rattle.run_entry.specs.State.{memory, state};
 ghost use Rattle.run_entry.specs.Entry.{Good};
-ghost use Rattle.run_budget.specs.Budget.{machine, standsOf, refusedOf, haltedOf, worked, told, startedOf, spendsOn, onwardOf, endedOf};
+ghost use Rattle.run_budget.specs.Budget.{machine, standsOf, refusedOf, haltedOf, worked, told, startedOf, spendsOn, countedOn, endedOf};
 use run_entry::Fault;
 use run_record::Run;
 use run_record::Standing;
@@ -99,7 +99,7 @@ fn goes_on(g: Going, budget: u32) -> bool
 // A unit was tried.
 fn onward(g: Going, t: Turn) -> Going
     requires { ⌜ g .k + 1 < 2 ^ 32 ⌝ }
-    ensures { λ h. ⌜ h ≡ onwardOf g t ⌝ }
+    ensures { λ h. ⌜ h ≡ countedOn g t ⌝ }
 {
     let run = t.run;
     let why = t.why;

@@ -13,7 +13,7 @@ use Rattle.laws.specs.Loops.{until}
 use Rattle.laws.proofs.Bools.{by-bool}
 use Rattle.laws.proofs.Untils.{until-add}
 use Rattle.laws.proofs.Numbers.{left, none}
-use Rattle.run_calls.specs.Machine.{over, refused, running, Machine, called, times, stops, after, unitsDone, kindAt, go, call, left-by, told-by, together, capped, Lawful}
+use Rattle.run_calls.specs.Machine.{faulty, over, refused, running, Machine, called, times, stops, after, unitsDone, kindAt, go, call, left-by, told-by, together, capped, Lawful}
 
 module _ {S : Type 0} (m : Machine S) where
   -- ---- one step of the definitions
@@ -76,6 +76,77 @@ module _ {S : Type 0} (m : Machine S) where
 
   pub after-add : (a b : ℕ) (s : S) → after m (a + b) s ≡ after m b (after m a s)
   after-add a b s = until-add (stops m) (m .next) a b s
+
+  -- ---- calls from any state at all, the entry tests passed or not
+
+  times-add : (a b : ℕ) (s : S) → times (m .next) (a + b) s ≡ times (m .next) b (times (m .next) a s)
+  unfolding times
+  times-add zero b s = rw (zero-add b)
+  times-add (suc a) b s = rw (suc-add a b) (times-add a b (m .next s))
+
+  -- a call leaves the state of so many units as it tells
+  pub call-so-many : (b : ℕ) (s : S) → call m b s .state ≡ times (m .next) (call m b s .units) s
+  unfolding call go times
+  call-so-many b s = by-bool (call m b s .state ≡ times (m .next) (call m b s .units) s) (m .bad s) (λ e. rw e) (λ e. rw e (after-times b s))
+
+  -- and so do calls one after the other
+  pub calls-so-many : (bs : List ℕ) (s : S) → left-by m bs s ≡ times (m .next) (told-by m bs s) s
+  unfolding left-by told-by times
+  calls-so-many [] s = refl
+  calls-so-many (b ∷ bs) s =
+      let t : S = call m b s .state in
+      calls-so-many bs t ∙ ap (λ (x : S). times (m .next) (told-by m bs t) x) (call-so-many b s) ∙ sym (times-add (call m b s .units) (told-by m bs t) s)
+
+  -- what each unit that is done counts up is counted up by so many
+  module _ (count : S → ℕ) (counts : (s : S) → stops m s ≡ false → count (m .next s) ≡ count s + 1) where
+    pub after-counts : (b : ℕ) (s : S) → count (after m b s) ≡ count s + unitsDone m b s
+    unfolding until unitsDone
+    after-counts zero s = omega arith
+    after-counts (suc b) s = by-stop (count (after m (suc b) s) ≡ count s + unitsDone m (suc b) s) s
+        (λ e. rw (after-stop (suc b) s e, done-stop (suc b) s e) (omega arith))
+        (λ e. rw (after-go b s e, done-go b s e) (let h = after-counts b (m .next s) in let k = counts s e in omega arith))
+
+    call-counts : (b : ℕ) (s : S) → count (call m b s .state) ≡ count s + call m b s .units
+    unfolding call go
+    call-counts b s = by-bool (count (call m b s .state) ≡ count s + call m b s .units) (m .bad s) (λ e. rw e (omega arith)) (λ e. rw e (after-counts b s))
+
+    pub calls-count : (bs : List ℕ) (s : S) → count (left-by m bs s) ≡ count s + told-by m bs s
+    unfolding left-by told-by
+    calls-count [] s = omega arith
+    calls-count (b ∷ bs) s = let h = calls-count bs (call m b s .state) in let k = call-counts b s in omega arith
+
+  -- ---- a refusal
+
+  -- what a call that answers "refused" leaves: the state of the units that it tells, and there the next unit is refused
+  pub record Refusal (b : ℕ) (s : S) : Type 0 where
+    pub so-many : call m b s .state ≡ times (m .next) (call m b s .units) s
+    pub fewer : call m b s .units < b
+    pub not-over : m .ended (call m b s .state) ≡ false
+    pub not-ok : m .ok (call m b s .state) ≡ false
+
+  refused-kind : (b d : ℕ) (t : S) → kindAt m b d t ≡ refused → (m .ended t ≡ false) × (d < b)
+  unfolding kindAt
+  refused-kind b d t e = by-bool ((m .ended t ≡ false) × (d < b)) (m .ended t)
+      (λ x. absurd (let q : over ≡ refused = rw x at e in let z : _≡_ {A = ℕ} 0 1 = cc in omega arith))
+      (λ x. by-bool ((m .ended t ≡ false) × (d < b)) (ltb d b)
+      (λ y. (x, ltb-true d b y))
+      (λ y. absurd (let q : running ≡ refused = rw (x, y) at e in let z : _≡_ {A = ℕ} 0 1 = cc in omega arith)))
+
+  pub not-ok-of : (t : S) → m .ended t ≡ false → stops m t ≡ true → m .ok t ≡ false
+  unfolding stops
+  not-ok-of t x y = by-bool (m .ok t ≡ false) (m .ok t) (λ o. absurd (true≢false (sym (rw (x, o) at y)))) (λ o. o)
+
+  pub refusal-leaves : (b : ℕ) (s : S) → call m b s .kind ≡ refused → Refusal b s
+  unfolding call go
+  refusal-leaves b s q = by-bool (Refusal b s) (m .bad s)
+      (λ e. absurd (let f : faulty ≡ refused = rw e at q in let z : _≡_ {A = ℕ} 0 1 = cc in omega arith))
+      (λ e. let k = refused-kind b (unitsDone m b s) (after m b s) (rw e at q) in
+      record {
+        so-many = call-so-many b s;
+        fewer = rw e (k .1);
+        not-over = rw e (k .0);
+        not-ok = rw e (not-ok-of (after m b s) (k .0) (short-stops b s (k .1)));
+      })
 
   -- ---- the budget loop: k units have led from y to x, and what every unit keeps still holds
 
@@ -147,14 +218,6 @@ module _ {S : Type 0} (m : Machine S) where
     unfolding go
     call-kind b s g = rw (call-goes b s g)
 
-    -- the record counts the units
-    pub counted : (b : ℕ) (s : S) → Good s → w .count (after m b s) ≡ w .count s + unitsDone m b s
-    unfolding until unitsDone
-    counted zero s g = omega arith
-    counted (suc b) s g = by-stop (w .count (after m (suc b) s) ≡ w .count s + unitsDone m (suc b) s) s
-        (λ e. rw (after-stop (suc b) s e, done-stop (suc b) s e) (omega arith))
-        (λ e. rw (after-go b s e, done-go b s e) (let h = counted b (m .next s) (w .keeps s g e) in let k = w .counts s g e in omega arith))
-
     -- no more units than there were left
     pub done-rest : (b : ℕ) (s : S) → Good s → unitsDone m b s + w .rest (after m b s) ≤ w .rest s
     unfolding until unitsDone
@@ -180,14 +243,11 @@ module _ {S : Type 0} (m : Machine S) where
 
     -- ---- calls one after the other
 
-    -- after each call of a list: the state is good again and that of so many units, which are those that the calls told;
-    -- they are the units of one call with the sum of the budgets
+    -- after each call of a list the state is good again; it is where one call with the sum of the budgets leads, and so are the units told
     pub record Followed (bs : List ℕ) (s : S) : Type 0 where
       pub good : Good (left-by m bs s)
       pub state : left-by m bs s ≡ after m (together bs) s
       pub units : told-by m bs s ≡ unitsDone m (together bs) s
-      pub so-many : left-by m bs s ≡ times (m .next) (told-by m bs s) s
-      pub counting : w .count (left-by m bs s) ≡ w .count s + told-by m bs s
 
     left-sum : (bs : List ℕ) (s : S) → Good s → left-by m bs s ≡ after m (together bs) s
     unfolding left-by together until
@@ -204,8 +264,6 @@ module _ {S : Type 0} (m : Machine S) where
       good = rw e (good-after (together bs) s g);
       state = e;
       units = u;
-      so-many = rw (e, u) (after-times (together bs) s);
-      counting = rw (e, u) (counted (together bs) s g);
     }
 
     -- the last call, at least 1, ends as one call with both budgets does
@@ -253,37 +311,6 @@ module _ {S : Type 0} (m : Machine S) where
           state = rw (one, last, f .state) (sym (after-add (together bs) b s));
           units = rw (one, last, f .units, f .state) (sym (done-add (together bs) b s));
           kind = rw (one, last, f .state) (kind-add (together bs) b s h);
-        }
-
-    -- ---- a refusal
-
-    -- what a call that answers "refused" leaves: the state of the units that it tells, and there the next unit is refused
-    pub record Refusal (b : ℕ) (s : S) : Type 0 where
-      pub so-many : call m b s .state ≡ times (m .next) (call m b s .units) s
-      pub fewer : call m b s .units < b
-      pub not-over : m .ended (call m b s .state) ≡ false
-      pub not-ok : m .ok (call m b s .state) ≡ false
-
-    refused-kind : (b d : ℕ) (t : S) → kindAt m b d t ≡ refused → (m .ended t ≡ false) × (d < b)
-    unfolding kindAt
-    refused-kind b d t e = by-bool ((m .ended t ≡ false) × (d < b)) (m .ended t)
-        (λ x. absurd (let q : over ≡ refused = rw x at e in let z : _≡_ {A = ℕ} 0 1 = cc in omega arith))
-        (λ x. by-bool ((m .ended t ≡ false) × (d < b)) (ltb d b)
-        (λ y. (x, ltb-true d b y))
-        (λ y. absurd (let q : running ≡ refused = rw (x, y) at e in let z : _≡_ {A = ℕ} 0 1 = cc in omega arith)))
-
-    not-ok-of : (t : S) → m .ended t ≡ false → stops m t ≡ true → m .ok t ≡ false
-    unfolding stops
-    not-ok-of t x y = by-bool (m .ok t ≡ false) (m .ok t) (λ o. absurd (true≢false (sym (rw (x, o) at y)))) (λ o. o)
-
-    pub refusal-leaves : (b : ℕ) (s : S) → Good s → call m b s .kind ≡ refused → Refusal b s
-    refusal-leaves b s g e =
-        let k = refused-kind b (unitsDone m b s) (after m b s) (sym (call-kind b s g) ∙ e) in
-        record {
-          so-many = rw (call-state b s g, call-units b s g) (after-times b s);
-          fewer = rw (call-units b s g) (k .1);
-          not-over = rw (call-state b s g) (k .0);
-          not-ok = rw (call-state b s g) (not-ok-of (after m b s) (k .0) (short-stops b s (k .1)));
         }
 
     -- ---- a longer arena

@@ -86,11 +86,8 @@ pub record Lawful {S : Type 0} (m : Machine S) : Type 1 where
   pub Good : S → Type 0
   -- units that may yet be done
   pub rest : S → ℕ
-  -- units done since the start, as the record has it
-  pub count : S → ℕ
   -- the entry tests pass
   pub passes : (s : S) → Good s → m .bad s ≡ false
   pub keeps : (s : S) → Good s → stops m s ≡ false → Good (m .next s)
-  pub counts : (s : S) → Good s → stops m s ≡ false → count (m .next s) ≡ count s + 1
   pub lessens : (s : S) → Good s → stops m s ≡ false → rest (m .next s) < rest s
   pub small : (s : S) → Good s → rest s < mostWord

@@ -19,7 +19,7 @@ use Rattle.tree_node.specs.Node.{Axes}
 use Rattle.tree_node.specs.Arena.{nodesOf}
 use Rattle.tree_node.proofs.Told.{nodes-length, nameable-most, nameable-word}
 use Rattle.tree_bounds.specs.Bounds.{boxOf}
-use Rattle.tree.specs.declared.Answer.{Answer}
+use Rattle.tree.specs.declared.Inserted.{Inserted}
 use Rattle.tree.specs.Insert.{tree, insertion, insertOf, growable, shaped}
 use Rattle.gradient.specs.Forces.{Linked, forcesOf}
 use Rattle.run_entry.specs.State.{memory, state}
@@ -61,7 +61,7 @@ module _ (r : Run) (y : List Float) (cs : List Cell) (k : TreeRoom r (length y) 
         k .sound later,
       )
 
-      pub insert-told : (a : Answer) (ds : List Cell) → insertion (a .full) (tree (a .used) (nodesOf ds)) ≡ insertOf y (r .settings .c) j (tree (r .used) (nodesOf cs))
+      pub insert-told : (a : Inserted) (ds : List Cell) → insertion (a .full) (tree (a .used) (nodesOf ds)) ≡ insertOf y (r .settings .c) j (tree (r .used) (nodesOf cs))
           → (t : Turn) → t ≡ insertedOf r (a .full) (a .used) → treeTurn (t .run) (nodesOf ds) (t .why) ≡ treeUnit r y (nodesOf cs)
       unfolding insertedOf
       insert-told a ds ed t et =

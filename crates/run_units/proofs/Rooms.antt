@@ -45,12 +45,12 @@ group-zero r e =
     (λ b. by-bool P (leb (r .phase) (2 * n)) (λ d. absurd (let z : _≡_ {A = ℕ} 1 0 = rw (b, d) at q in omega arith)) (λ d. absurd (let z : _≡_ {A = ℕ} 2 0 = rw (b, d) at q in omega arith))))
     (λ t. let q = sym (group-exact r t) ∙ e in by-bool P (ltb (r .phase) (2 * n)) (λ d. absurd (let z : _≡_ {A = ℕ} 1 0 = rw d at q in omega arith)) (λ d. absurd (let z : _≡_ {A = ℕ} 2 0 = rw d at q in omega arith)))
 
-pub record One (r : Run) : Type 0 where
+pub record OneUnit (r : Run) : Type 0 where
   pub tree : isTree (r .settings .method) ≡ true → (r .settings .n < r .phase) × (r .phase ≤ 2 * r .settings .n)
   pub exact : isTree (r .settings .method) ≡ false → r .phase < 2 * r .settings .n
 
 -- a unit of the forces
-pub group-one : (r : Run) → groupOf r ≡ 1 → One r
+pub group-one : (r : Run) → groupOf r ≡ 1 → OneUnit r
 group-one r e =
     let n = r .settings .n in
     record {

@@ -2,21 +2,21 @@
 use mathlib.Core.Path.{_≡_, sym}
 use mathlib.Core.List.{List}
 use mathlib.Core.Bool.{Bool, true, false}
-use Prim.Native.Nat.{ℕ, _-_, _*_}
+use Prim.Native.Nat.{ℕ, _-_}
 use lib.ListN.{set}
 use lib.Ieee.{Float}
 use borrow.Author.Tests.{eq-eqb, ne-eqb}
 use Rattle.run_record.specs.declared.Run.{Run}
 use Rattle.run_record.specs.Record.{advancedOf, closedOf}
-use Rattle.gradient.specs.Element.{normOf}
-use Rattle.step.specs.declared.Answer.{Answer}
-use Rattle.step.specs.declared.Answer.the-variants.{Moved, Refused}
-use Rattle.step.specs.Step.{outcome, finishOf}
+use Rattle.step.specs.declared.Stepped.{Stepped}
+use Rattle.step.specs.declared.Stepped.the-variants.{Moved, Refused}
+use Rattle.step_passes.specs.Passes.{Before}
+use Rattle.step.specs.Step.{stepOutcome, finishOf}
 use Rattle.tree_node.specs.declared.Node.{Node}
 use Rattle.tree.specs.Insert.{tree, insertion, insertOf}
 use Rattle.tree_bounds.specs.Bounds.{boxOf}
 use Rattle.run_units.specs.declared.Why.the-variants.{Done, Full, Wild}
-use Rattle.run_units.specs.Units.{treeTurn, insertTurn, treeUnit, beforeOf, finishTurn, finishUnit}
+use Rattle.run_units.specs.Units.{treeTurn, insertTurn, treeUnit, finishTurn, finishAs}
 
 module _ (r : Run) (y : List Float) (ns ns' : List Node) where
   pub box-is : {t : Run} → r .phase ≡ 0 → t ≡ advancedOf r 1 → ns' ≡ set ns 0 (boxOf y (r .settings .n) (r .settings .c)) → treeTurn t ns' Done ≡ treeUnit r y ns
@@ -34,11 +34,9 @@ module _ (r : Run) (y : List Float) (ns ns' : List Node) where
 
 -- ---- the finish
 
-module _ (r : Run) (y v g F y' v' g' : List Float) (a : Answer) (q : outcome a y' v' g' ≡ finishOf (beforeOf r y v g F) (r .settings .n) (r .settings .c)) where
-  pub finish-moved : {t : Run} {norm : Float} → a ≡ Moved → norm ≡ normOf (beforeOf r y v g F .gradients) (r .settings .n * r .settings .c) → t ≡ closedOf r norm → finishTurn t y' v' g' Done ≡ finishUnit r y v g F
-  unfolding finishUnit
+module _ (r : Run) (b : Before) (n c : ℕ) (y v g : List Float) (a : Stepped) (q : stepOutcome a y v g ≡ finishOf b n c) where
+  pub finish-moved : {t : Run} {norm top : Float} → a ≡ Moved → norm ≡ top → t ≡ closedOf r norm → finishTurn t y v g Done ≡ finishAs r top (finishOf b n c) (finishOf b n c .answer)
   finish-moved e m t = rw (sym q, e, t, m)
 
-  pub finish-wild : (k : ℕ) → a ≡ Refused k → finishTurn r y' v' g' Wild ≡ finishUnit r y v g F
-  unfolding finishUnit
-  finish-wild k e = rw (sym q, e)
+  pub finish-wild : (top : Float) (k : ℕ) → a ≡ Refused k → finishTurn r y v g Wild ≡ finishAs r top (finishOf b n c) (finishOf b n c .answer)
+  finish-wild top k e = rw (sym q, e)

@@ -4,7 +4,6 @@ use mathlib.Core.Bool.{Bool, true, false, cond, not}
 use Prim.Native.Nat.{ℕ, _-_, _*_}
 use lib.Dec.{eqb, ltb}
 use lib.Ieee.{Float}
-use Rattle.laws.specs.Area.{zero64}
 use Rattle.run_record.specs.declared.Run.{Run}
 use Rattle.run_record.specs.Record.{isTree, isEnded, advancedOf, closedOf}
 use Rattle.run_plan.specs.Plan.{exaggerationOf, momentumOf, groupOf}
@@ -13,12 +12,12 @@ use Rattle.tree.specs.Insert.{tree, Insertion, insertOf}
 use Rattle.tree.specs.Box.{boxed}
 use Rattle.gradient.specs.Forces.{forcesOf}
 use Rattle.gradient.specs.Exact.{totalRow, gradientRow}
-use Rattle.gradient.specs.Element.{normaliserOf, normOf}
-use Rattle.step.specs.declared.Answer.{Answer}
-use Rattle.step.specs.declared.Answer.the-variants.{Moved, Refused}
+use Rattle.gradient.specs.Element.{normaliserFor, gradientsOf, normOf}
+use Rattle.step.specs.declared.Stepped.{Stepped}
+use Rattle.step.specs.declared.Stepped.the-variants.{Moved, Refused}
 use Rattle.step_passes.specs.declared.Pace.{Pace}
-use Rattle.step_passes.specs.Passes.{Before, paced}
-use Rattle.step.specs.Step.{Outcome, finishOf}
+use Rattle.step_passes.specs.Passes.{Before, before}
+use Rattle.step.specs.Step.{StepOutcome, finishOf}
 use Rattle.run_entry.specs.State.{Memory, State}
 use Rattle.run_units.specs.declared.Why.{Why}
 use Rattle.run_units.specs.declared.Turn.{Turn}
@@ -77,12 +76,17 @@ rowUnit r y P F =
 
 -- ---- the finish
 
--- what the step goes by; no normaliser is worked out for an exact run
-unfoldable pub paceOf : Run → List Float → Pace
-paceOf r F = record { exact = not (isTree (r .settings .method)); z = cond (isTree (r .settings .method)) (normaliserOf F (r .settings .n) (r .settings .c)) zero64; momentum = momentumOf r; rate = r .settings .rate }
+-- an exact run's forces area holds the gradients themselves
+abbrev pub isExact : Run → Bool
+isExact r = not (isTree (r .settings .method))
 
+-- what the step goes by
+unfoldable pub paceOf : Run → List Float → Pace
+paceOf r F = record { exact = isExact r; z = normaliserFor (isExact r) F (r .settings .n) (r .settings .c); momentum = momentumOf r; rate = r .settings .rate }
+
+-- the areas before the step, with the gradients of the iteration
 abbrev pub beforeOf : Run → List Float → List Float → List Float → List Float → Before
-beforeOf r y v g F = paced (paceOf r F) (r .settings .c) F y v g
+beforeOf r y v g F = before (momentumOf r) (r .settings .rate) (gradientsOf (isExact r) F (r .settings .n) (r .settings .c)) y v g
 
 pub record FinishTurn : Type 0 where
   pub run : Run
@@ -95,7 +99,7 @@ abbrev pub finishTurn : Run → List Float → List Float → List Float → Why
 finishTurn r y v g w = record { run = r; positions = y; increments = v; gains = g; why = w }
 
 -- the step, then the stop test by the largest gradient; refused, nothing changes
-abbrev pub finishAs : Run → Float → Outcome → Answer → FinishTurn
+abbrev pub finishAs : Run → Float → StepOutcome → Stepped → FinishTurn
 finishAs r norm o Moved = finishTurn (closedOf r norm) (o .positions) (o .increments) (o .gains) Done
 finishAs r norm o (Refused k) = finishTurn r (o .positions) (o .increments) (o .gains) Wild
 

@@ -21,8 +21,8 @@ use run_record::counters::is_ended;
 use run_record::faults::is_tree;
 use run_record::progress::advanced;
 use run_record::progress::closed;
-use step::Answer;
 use step::Pace;
+use step::Stepped;
 use tree::insertion::insert;
 use tree::root::plant;
 use tree_node::Cell;
@@ -240,7 +240,7 @@ pub fn finish_unit(
     let s = r.settings;
     let p = pace(r, forces);
     let a = step::finish(p, s.n, s.c, forces, positions, increments, gains);
-    let Answer::Moved = a else {
+    let Stepped::Moved = a else {
         return Turn {
             run: r,
             why: Why::Wild,

@@ -68,18 +68,18 @@ scatterNumber Done = none
 scatterNumber (Refused r) = some r
 
 -- the answer's number and the positions afterwards
-pub record Outcome : Type 0 where
+pub record ScatterOutcome : Type 0 where
   pub number : Option ℕ
   pub positions : List Float
 
 -- an answer with the positions it leaves
-abbrev pub outcome : Scattered → List Float → Outcome
-outcome a p = record { number = scatterNumber a; positions = p }
+abbrev pub scatterOutcome : Scattered → List Float → ScatterOutcome
+scatterOutcome a p = record { number = scatterNumber a; positions = p }
 
 -- the refusals in the scope paper's order, which write nothing; else n rows of c coordinates
-unfoldable pub scatterOf : ℕ → ℕ → ℕ → List Float → Outcome
+unfoldable pub scatterOf : ℕ → ℕ → ℕ → List Float → ScatterOutcome
 scatterOf n c seed p =
-    cond (eqb c 0 || ltb mostComponents c) (outcome (Refused 1) p)
-    (cond (eqb n 0 || ltb mostFrames n) (outcome (Refused 7) p)
-    (cond (ltb (length p) (n * c)) (outcome (Refused 12) p)
-    (outcome Done (scattered (n * c) seed p))))
+    cond (eqb c 0 || ltb mostComponents c) (scatterOutcome (Refused 1) p)
+    (cond (eqb n 0 || ltb mostFrames n) (scatterOutcome (Refused 7) p)
+    (cond (ltb (length p) (n * c)) (scatterOutcome (Refused 12) p)
+    (scatterOutcome Done (scattered (n * c) seed p))))

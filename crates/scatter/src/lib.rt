@@ -2,7 +2,7 @@
 ghost use mathlib.Core.Path.{_≡_};
 ghost use Prim.Native.Nat.{_*_, _%_, _^_, _<_, _≤_};
 ghost use lib.ListN.{length};
-ghost use Rattle.scatter.specs.Scatter.{foldOf, mixOf, coordinateOf, scattered, outcome, scatterOf};
+ghost use Rattle.scatter.specs.Scatter.{foldOf, mixOf, coordinateOf, scattered, scatterOutcome, scatterOf};
 use laws::MOST_COMPONENTS;
 use laws::MOST_FRAMES;
 
@@ -64,7 +64,7 @@ fn random_init(positions: &mut [f64], m: usize, seed: u64)
 
 // Writes n rows of c coordinates, or refuses and writes nothing.
 pub fn scatter(positions: &mut [f64], n: u32, c: u32, seed: u64) -> Scattered
-    ensures { λ r. ⌜ outcome r (now (positions .exit)) ≡ scatterOf n c seed (now (positions .entry)) ⌝ }
+    ensures { λ r. ⌜ scatterOutcome r (now (positions .exit)) ≡ scatterOf n c seed (now (positions .entry)) ⌝ }
 {
     if c == 0 {
         return Scattered::Refused(1);

@@ -1,18 +1,17 @@
 -- What the three passes of the step keep, a record each: a turn, and the ends. Assumes nothing.
-use mathlib.Core.Path.{_≡_, sym, _∙_}
+use mathlib.Core.Path.{_≡_, sym, _∙_, ap}
 use mathlib.Core.List.{List}
-use mathlib.Core.Bool.{true, false}
+use mathlib.Core.Bool.{Bool, true, false, _&&_}
 use Prim.Native.Nat.{ℕ, _+_, _%_, _<_, _≤_}
 use native.Mathlib.Omega.{arith}
-use native.Mathlib.Nat.{mod-lt, lt-of-lt-of-le}
+use native.Mathlib.Nat.{mod-lt, lt-of-lt-of-le, le-antisymm}
 use lib.ListN.{set}
 use lib.Ieee.{Float, nan, binary64, add, sub}
 use Rattle.laws.specs.Loops.{loop, every}
-use Rattle.laws.proofs.Bools.{and-no}
 use Rattle.laws.proofs.Ahead.{Ahead, ahead-start, ahead-more}
 use Rattle.laws.specs.Area.{at}
 use Rattle.laws.proofs.Loops.{Loops, loop-start, loop-more, loop-done}
-use Rattle.laws.proofs.Every.{every-none, every-more, every-no, every-done}
+use Rattle.laws.proofs.Every.{every-none, every-next, every-more, every-no, every-done}
 use Rattle.elementary.specs.Limits.{calm}
 use Rattle.step_gains.specs.declared.Element.{Element}
 use Rattle.step_passes.specs.Passes.{Before, before, elementAt, centredBy, sumStep, calmAt, calmMoves, calmCentred, positionStep, incrementStep, gainStep}
@@ -22,28 +21,22 @@ component-in e c h l = lt-of-lt-of-le (mod-lt e h) l
 
 -- ---- pass 1
 
-pub record Summed (b : Before) (c m : ℕ) (s₀ : List Float) (e : ℕ) (s : List Float) : Type 0 where
-  pub calmly : every (calmAt b) e ≡ true
+pub record Summed (b : Before) (c m : ℕ) (s₀ : List Float) (e : ℕ) (s : List Float) (so-far : Bool) : Type 0 where
+  pub calmly : so-far ≡ every (calmAt b) e
   pub sums : Loops (sumStep b c) m s₀ e s
 
-pub summed-start : (b : Before) (c m : ℕ) (s : List Float) → Summed b c m s 0 s
-summed-start b c m s = record { calmly = every-none _; sums = loop-start _ _ _ }
+pub summed-start : (b : Before) (c m : ℕ) (s : List Float) → Summed b c m s 0 s true
+summed-start b c m s = record { calmly = sym (every-none _); sums = loop-start _ _ _ }
 
-pub summed-more : {b : Before} {c m : ℕ} {s₀ s : List Float} {e : ℕ} {x : Element} → Summed b c m s₀ e s → e < m → x ≡ elementAt b e
-    → calm (x .gain) ≡ true → calm (x .increment) ≡ true → Summed b c m s₀ (e + 1) (set s (e % c) (add binary64 (at s (e % c)) (x .moved)))
-summed-more {b} {c} {m} {s₀} {s} {e} r l p cg cv = record {
-  calmly = every-more (calmAt b) e (r .calmly) (rw (sym p, cg, cv));
+pub summed-more : {b : Before} {c m : ℕ} {s₀ s : List Float} {e : ℕ} {so-far t : Bool} {x : Element} → Summed b c m s₀ e s so-far → e < m → x ≡ elementAt b e
+    → t ≡ so-far && (calm (x .gain) && calm (x .increment)) → Summed b c m s₀ (e + 1) (set s (e % c) (add binary64 (at s (e % c)) (x .moved))) t
+summed-more {b} {c} {m} {s₀} {s} {e} {so-far} {t} {x} r l p q = record {
+  calmly = rw (every-next (calmAt b) e, sym p, sym (r .calmly)) q;
   sums = rw p (loop-more (r .sums) l);
 }
 
-pub summed-no-gain : {b : Before} {c m : ℕ} {s₀ s : List Float} {e : ℕ} {x : Element} → Summed b c m s₀ e s → e < m → x ≡ elementAt b e → calm (x .gain) ≡ false → false ≡ calmMoves b m
-summed-no-gain {b} {c} {m} {s₀} {s} {e} r l p h = sym (every-no (calmAt b) m e l (rw (sym p, h)))
-
-pub summed-no-increment : {b : Before} {c m : ℕ} {s₀ s : List Float} {e : ℕ} {x : Element} → Summed b c m s₀ e s → e < m → x ≡ elementAt b e → calm (x .increment) ≡ false → false ≡ calmMoves b m
-summed-no-increment {b} {c} {m} {s₀} {s} {e} {x} r l p h = sym (every-no (calmAt b) m e l (rw (sym p, h) (and-no (calm (x .gain)))))
-
-pub summed-done : {b : Before} {c m : ℕ} {s₀ s : List Float} {e : ℕ} → Summed b c m s₀ e s → m ≤ e → (true ≡ calmMoves b m) × (true ≡ true → s ≡ loop (sumStep b c) m 0 s₀)
-summed-done {b} {c} {m} {s₀} {s} {e} r l = (every-done (calmAt b) m e (r .calmly) (r .sums .within) l, λ _. loop-done (r .sums) l)
+pub summed-done : {b : Before} {c m : ℕ} {s₀ s : List Float} {e : ℕ} {so-far : Bool} → Summed b c m s₀ e s so-far → m ≤ e → (so-far ≡ calmMoves b m) × (s ≡ loop (sumStep b c) m 0 s₀)
+summed-done {b} {c} {m} {s₀} {s} {e} r l = (r .calmly ∙ ap (every (calmAt b)) (le-antisymm (r .sums .within) l), loop-done (r .sums) l)
 
 -- ---- pass 2
 

@@ -1,9 +1,10 @@
 // The three passes of a step over the areas: the sums of the moved positions, the test of the centred ones, and the writing.
 ghost use mathlib.Core.Path.{_≡_};
-ghost use mathlib.Core.Bool.{true};
+ghost use mathlib.Core.Bool.{_&&_};
 ghost use Prim.Native.Nat.{_+_, _*_, _<_, _≤_};
 ghost use lib.ListN.{length};
 ghost use Rattle.laws.specs.Loops.{loop};
+ghost use Rattle.elementary.specs.Limits.{calm};
 ghost use Rattle.step_passes.specs.Passes.{elementAt, paced, sumStep, meanStep, calmMoves, calmCentred, positionStep, incrementStep, gainStep};
 use step_gains::Element;
 use step_gains::new_element;
@@ -43,6 +44,19 @@ pub fn element_at(
     )
 }
 
+// Whether all was calm so far, and this element's gain and increment are.
+fn still_calm(sofar: bool, x: Element) -> bool
+    ensures { λ r. ⌜ r ≡ sofar && (calm (x .gain) && calm (x .increment)) ⌝ }
+{
+    if !sofar {
+        return false;
+    }
+    if !elementary::is_calm(x.gain) {
+        return false;
+    }
+    elementary::is_calm(x.increment)
+}
+
 // Adds each moved position to its component's sum; false where a gain or an increment is not calm.
 pub fn sum_moves(
     pace: Pace,
@@ -56,22 +70,21 @@ pub fn sum_moves(
     sums: &mut [f64; 8],
 ) -> bool
     requires { ⌜ (0 < c) × (c ≤ 8) × (m ≡ n * c) × (n * (2 * c + 1) ≤ length (now forces)) × (n * c ≤ length (now positions)) × (n * c ≤ length (now increments)) × (n * c ≤ length (now gains)) ⌝ }
-    ensures { λ r. ⌜ (r ≡ calmMoves (paced pace c (now (forces .entry)) (now (positions .entry)) (now (increments .entry)) (now (gains .entry))) m) × (r ≡ true → now (sums .exit) ≡ loop (sumStep (paced pace c (now (forces .entry)) (now (positions .entry)) (now (increments .entry)) (now (gains .entry))) c) m 0 (now (sums .entry))) ⌝ }
+    ensures { λ r. ⌜
+        (r ≡ calmMoves (paced pace c (now (forces .entry)) (now (positions .entry)) (now (increments .entry)) (now (gains .entry))) m)
+        × (now (sums .exit) ≡ loop (sumStep (paced pace c (now (forces .entry)) (now (positions .entry)) (now (increments .entry)) (now (gains .entry))) c) m 0 (now (sums .entry)))
+        ⌝ }
 {
+    let mut calm = true;
     let mut e = 0;
     while e < m {
         let x = element_at(pace, n, c, forces, positions, increments, gains, e);
-        if !elementary::is_calm(x.gain) {
-            return false;
-        }
-        if !elementary::is_calm(x.increment) {
-            return false;
-        }
+        calm = still_calm(calm, x);
         let d = e % c;
         sums[d] = sums[d] + x.moved;
         e += 1;
     }
-    true
+    calm
 }
 
 // Divides the first c sums by the count.
@@ -126,7 +139,11 @@ pub fn write_moves(
     means: &[f64; 8],
 )
     requires { ⌜ (0 < c) × (c ≤ 8) × (m ≡ n * c) × (n * (2 * c + 1) ≤ length (now forces)) × (n * c ≤ length (now positions)) × (n * c ≤ length (now increments)) × (n * c ≤ length (now gains)) ⌝ }
-    ensures { λ _. ⌜ (now (positions .exit) ≡ loop (positionStep (now (means .entry)) (paced pace c (now (forces .entry)) (now (positions .entry)) (now (increments .entry)) (now (gains .entry))) c) m 0 (now (positions .entry))) × (now (increments .exit) ≡ loop (incrementStep (paced pace c (now (forces .entry)) (now (positions .entry)) (now (increments .entry)) (now (gains .entry)))) m 0 (now (increments .entry))) × (now (gains .exit) ≡ loop (gainStep (paced pace c (now (forces .entry)) (now (positions .entry)) (now (increments .entry)) (now (gains .entry)))) m 0 (now (gains .entry))) ⌝ }
+    ensures { λ _. ⌜
+        (now (positions .exit) ≡ loop (positionStep (now (means .entry)) (paced pace c (now (forces .entry)) (now (positions .entry)) (now (increments .entry)) (now (gains .entry))) c) m 0 (now (positions .entry)))
+        × (now (increments .exit) ≡ loop (incrementStep (paced pace c (now (forces .entry)) (now (positions .entry)) (now (increments .entry)) (now (gains .entry)))) m 0 (now (increments .entry)))
+        × (now (gains .exit) ≡ loop (gainStep (paced pace c (now (forces .entry)) (now (positions .entry)) (now (increments .entry)) (now (gains .entry)))) m 0 (now (gains .entry)))
+        ⌝ }
 {
     let mut e = 0;
     while e < m {

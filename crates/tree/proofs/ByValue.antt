@@ -31,9 +31,9 @@ use Rattle.tree_node.specs.Node.{Axes}
 use Rattle.tree.specs.Contents.{lookingOf, looksOn, lookedOf}
 use Rattle.tree.specs.Ways.{probesOn, splitsOn, childOn, childPlace, madeOf, steppedOf, notEnded, sunkOf, answered}
 use mathlib.Core.Path.{_≡_}
-use Rattle.tree.specs.declared.Answer.{Answer}
-use Rattle.tree.proofs.Answer as Answer′
-use Rattle.tree.proofs.Answer.Laws as Answer″
+use Rattle.tree.specs.declared.Inserted.{Inserted}
+use Rattle.tree.proofs.Inserted as Inserted′
+use Rattle.tree.proofs.Inserted.Laws as Inserted″
 use Rattle.tree.specs.declared.Look.{Look}
 use Rattle.tree.proofs.Look as Look′
 use Rattle.tree.proofs.Look.Laws as Look″
@@ -52,7 +52,7 @@ use Rattle.tree.proofs.Step.Laws as Step″
 use Rattle.tree.specs.declared.Way.{Way}
 use Rattle.tree.proofs.Way as Way′
 use Rattle.tree.proofs.Way.Laws as Way″
-use Rattle.tree.proofs.Values.{val-Answer, val-Look, IsLook, val-Probe, IsProbe, val-Split, IsSplit, val-Step, IsStep, val-Way, IsWay}
+use Rattle.tree.proofs.Values.{val-Inserted, val-Look, IsLook, val-Probe, IsProbe, val-Split, IsSplit, val-Step, IsStep, val-Way, IsWay}
 use Rattle.tree_node.proofs.Values.{val-Node, IsNode}
 use Rattle.tree.proofs.wellformed.looking as looking′
 use Rattle.tree.proofs.wellformed.looking.Symbol.{name as #tree·wellformed·looking}
@@ -401,10 +401,10 @@ module _ {M : Type 1} (𝓤 : URA M) (H : Heap 𝓤) (A : Atoms 𝓤) (mem : Mem
   abbrev to-answer : Way → Contract-answer .Ghost
   to-answer w = ((tt, tt, tt, (w, tt), (val-Way w ∷ [], tt)), tt)
 
-  abbrev Said-answer : Way → Answer → SProp 𝓤
+  abbrev Said-answer : Way → Inserted → SProp 𝓤
   Said-answer w = ensured 𝓤 H A answer′.ended (answer′.clauses 𝓤 H A mem run) tt (w, tt) tt
 
-  said-answer : (w : Way) (res : Answer) → ent 𝓤 (Said-answer w res) (fact 𝓤 (res ≡ answered w))
+  said-answer : (w : Way) (res : Inserted) → ent 𝓤 (Said-answer w res) (fact 𝓤 (res ≡ answered w))
   said-answer w res = exE 𝓤 _ (λ ws. snd∗ 𝓤 (sem 𝓤 H A (lasts answer′.ended tt (w, tt) ws)) (fact 𝓤 (res ≡ answered w)))
 
   goes-answer : Given 𝓤 H A → (w : Way) → IsWay w → ent 𝓤 (emp 𝓤) (Contract-answer .pre (to-answer w))
@@ -413,8 +413,8 @@ module _ {M : Type 1} (𝓤 : URA M) (H : Heap 𝓤) (A : Atoms 𝓤) (mem : Mem
 module _ {M : Type 1} {𝓤 : URA M} {H : Heap 𝓤} {A : Atoms 𝓤} {K : Type 0} {W : Given 𝓤 H A} {Γ : List (Item 𝓤)} {E : Env 𝓤 H} {C : Calls 𝓤 H} {Λ : Loops 𝓤 H} {xs : List Operand} {q : After 𝓤 H} {d : Place} {rest : Code} where
   pub calls-answer : K → FmC 𝓤 H (W .laws) C → (mem : Memory → SProp 𝓤) (run : Routine → Fun 𝓤) → Triple 𝓤 (C #tree·ways·answer) (Contract-answer 𝓤 H A mem run) → (w : Way) → IsWay w
       → ((P : Item 𝓤) → Opds K W (P ∷ Γ) E xs (val-Way w ∷ []))
-      → ((res : Answer) → res ≡ answered w → Is Answer′.the-row res (val-Answer res ∷ []) → Seq K W Γ (lands C Λ E d (val-Answer res) rest q))
+      → ((res : Inserted) → res ≡ answered w → Is Inserted′.the-row res (val-Inserted res ∷ []) → Seq K W Γ (lands C Λ E d (val-Inserted res) rest q))
       → Seq K W Γ (runs C Λ E (seq (call #tree·ways·answer xs d) rest) q)
   calls-answer t fm mem run met w g-w os k =
-      calls-plain t fm (Contract-answer 𝓤 H A mem run) met (to-answer 𝓤 H A mem run w) Answer′.the-row (val-Answer) (LL.tells Answer′.the-type Answer″.the-laws) (Said-answer 𝓤 H A mem run w) (λ (res : Answer). res ≡ answered w) (said-answer 𝓤 H A mem run w)
+      calls-plain t fm (Contract-answer 𝓤 H A mem run) met (to-answer 𝓤 H A mem run w) Inserted′.the-row (val-Inserted) (LL.tells Inserted′.the-type Inserted″.the-laws) (Said-answer 𝓤 H A mem run w) (λ (res : Inserted). res ≡ answered w) (said-answer 𝓤 H A mem run w)
       (λ _. id⊢ 𝓤 _) (goes-answer 𝓤 H A mem run W w g-w) (os _) k

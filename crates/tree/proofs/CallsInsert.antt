@@ -36,17 +36,17 @@ use Rattle.tree.specs.Insert.{tree, insertOf, insertion, growable}
 use lib.ListN.{length}
 use mathlib.Core.Bool.{true}
 use mathlib.Core.Path.{_≡_}
-use Rattle.tree.specs.declared.Answer.{Answer}
-use Rattle.tree.proofs.Answer as Answer′
-use Rattle.tree.proofs.Answer.Laws as Answer″
+use Rattle.tree.specs.declared.Inserted.{Inserted}
+use Rattle.tree.proofs.Inserted as Inserted′
+use Rattle.tree.proofs.Inserted.Laws as Inserted″
 use Rattle.tree_node.specs.declared.Cell.{Cell}
 use Rattle.tree_node.proofs.Cell as Cell′
-use Rattle.tree.proofs.Values.{val-Answer}
+use Rattle.tree.proofs.Values.{val-Inserted}
 use Rattle.tree.proofs.insertion.insert as callee
 use Rattle.tree.proofs.insertion.insert.Symbol.{name as #tree·insertion·insert}
 
 -- what the callee ensures of its result and of the last lists
-abbrev pub Ensured-insert : List Cell → List Float → ℕ → ℕ → ℕ → ℕ → Answer → List Cell → Type 0
+abbrev pub Ensured-insert : List Cell → List Float → ℕ → ℕ → ℕ → ℕ → Inserted → List Cell → Type 0
 Ensured-insert cells positions n used j c res cells′ = insertion (res .full) (tree (res .used) (nodesOf cells′)) ≡ insertOf positions c j (tree used (nodesOf cells))
 
 module _ {M : Type 1} (𝓤 : URA M) (H : Heap 𝓤) (A : Atoms 𝓤) (mem : Memory → SProp 𝓤) (run : Routine → Fun 𝓤) where
@@ -63,15 +63,15 @@ module _ {M : Type 1} {𝓤 : URA M} {H : Heap 𝓤} {A : Atoms 𝓤} {K : Type 
   pub calls-insert-mc : K → FmC 𝓤 H (W .laws) C → (mem : Memory → SProp 𝓤) (run : Routine → Fun 𝓤) → Triple 𝓤 (C #tree·insertion·insert) (Contract-insert 𝓤 H A mem run)
       → (s-cells : Seat) (cells : List Cell) (s-positions : Seat) (positions : List Float) (n : ℕ) (used : ℕ) (j : ℕ) (c : ℕ) → length cells ≡ s-cells .count → n < 2 ^ 64 → used < 2 ^ 64 → j < 2 ^ 32 → c < 2 ^ 64 → (Axes c) × (0 < used) × (used ≤ length cells) × (n * c ≤ length positions) × (j < n) × (n ≤ mostWord) × (growable n c (tree used (nodesOf cells)) ≡ true)
       → ((P Ω0 Ω1 : Item 𝓤) → Opds K W (P ∷ Ω0 ∷ Ω1 ∷ Γ) E xs (word s-cells ∷ word s-positions ∷ vint w64 n ∷ vint w64 used ∷ vint w32 j ∷ vint w64 c ∷ []))
-      → ((res : Answer) (cells′ : List Cell) → Ensured-insert cells positions n used j c res cells′ → Is Answer′.the-row res (val-Answer res ∷ []) → length cells′ ≡ s-cells .count → Seq K W (‵ (Mut Cell′.the-row s-cells cells′) ∷ ‵ (Tok s-cells) ∷ ‵ (Shr f64 s-positions positions) ∷ ‵ (Tok s-positions) ∷ Γ) (lands C Λ E d (val-Answer res) rest q))
+      → ((res : Inserted) (cells′ : List Cell) → Ensured-insert cells positions n used j c res cells′ → Is Inserted′.the-row res (val-Inserted res ∷ []) → length cells′ ≡ s-cells .count → Seq K W (‵ (Mut Cell′.the-row s-cells cells′) ∷ ‵ (Tok s-cells) ∷ ‵ (Shr f64 s-positions positions) ∷ ‵ (Tok s-positions) ∷ Γ) (lands C Λ E d (val-Inserted res) rest q))
       → Seq K W (‵ (Mut Cell′.the-row s-cells cells) ∷ ‵ (Tok s-cells) ∷ ‵ (Shr f64 s-positions positions) ∷ ‵ (Tok s-positions) ∷ Γ) (runs C Λ E (seq (call #tree·insertion·insert xs d) rest) q)
   calls-insert-mc t fm mem run met s-cells cells s-positions positions n used j c ln-cells g-n g-used g-j g-c l os k =
       lend-mut t tt Cell′.the-row s-cells cells ln-cells (λ ν-cells δ-cells w-cells.
       move t (3 ∷ 4 ∷ []) $ lend-copy t f64 s-positions positions $
       move t (3 ∷ 0 ∷ 4 ∷ 1 ∷ []) $ group t 4 $ use1 W (raw (Contract-insert 𝓤 H A mem run .pre (to 𝓤 H A mem run (lent-to s-cells ν-cells δ-cells) cells s-positions positions n used j c))) (goes 𝓤 H A mem run W (lent-to s-cells ν-cells δ-cells) cells s-positions positions n used j c g-n g-used g-j g-c l) $
       calls-at t fm (Contract-insert 𝓤 H A mem run) met (to 𝓤 H A mem run (lent-to s-cells ν-cells δ-cells) cells s-positions positions n used j c) (os _ _ _) (λ out.
-      use1 W (later (some (λ (res : Answer). ((‵ (Tok (lent-to s-cells ν-cells δ-cells)) ⊛ ‵ (Tok s-positions) ⊛ ‵ ftrue) ⊛ ‵ (Answer′.the-row .own res (out ∷ []))) ⊛ raw (ensured 𝓤 H A callee.ended (callee.clauses 𝓤 H A mem run) (ν-cells ∷ [], (s-positions .life, tt)) (ref-at (lent-to s-cells ν-cells δ-cells) cells, (ref-at s-positions positions, (n, (used, (j, (c, tt)))))) tt res)))) (id⊢ 𝓤 _) $ await t tt $ pick t (λ res.
-      split t $ move t (1 ∷ []) $ use1 W (some (λ (ws : List Cell × (Unit {0} × (Unit {0} × (Unit {0} × (Unit {0} × (Unit {0} × (Unit {0}))))))). ‵ (lasts callee.ended (ν-cells ∷ [], (s-positions .life, tt)) (ref-at (lent-to s-cells ν-cells δ-cells) cells, (ref-at s-positions positions, (n, (used, (j, (c, tt)))))) ws) ⊛ raw (fact 𝓤 (Ensured-insert cells positions n used j c res (ws .0))))) (id⊢ 𝓤 _) $ pick t (λ ws. split t $ move t (1 ∷ []) $ heard t (Ensured-insert cells positions n used j c res (ws .0)) (λ e. fsplit t $ fsplit t $ move t (1 ∷ []) $ feqL t (λ le-cells. move t (1 ∷ []) $ fsplit t $ drop t $ fsplit t $ drop t $ fsplit t $ drop t $ fsplit t $ drop t $ fsplit t $ drop t $ drop t $ move t (1 ∷ []) $ split t $ move t (1 ∷ []) $ peeks t Answer′.the-row (Is Answer′.the-row) (shows 𝓤 H A Answer′.the-row) res (out ∷ []) (λ is. drop t $ split t $ move t (1 ∷ []) $ split t $ move t (1 ∷ []) $ drop t $
+      use1 W (later (some (λ (res : Inserted). ((‵ (Tok (lent-to s-cells ν-cells δ-cells)) ⊛ ‵ (Tok s-positions) ⊛ ‵ ftrue) ⊛ ‵ (Inserted′.the-row .own res (out ∷ []))) ⊛ raw (ensured 𝓤 H A callee.ended (callee.clauses 𝓤 H A mem run) (ν-cells ∷ [], (s-positions .life, tt)) (ref-at (lent-to s-cells ν-cells δ-cells) cells, (ref-at s-positions positions, (n, (used, (j, (c, tt)))))) tt res)))) (id⊢ 𝓤 _) $ await t tt $ pick t (λ res.
+      split t $ move t (1 ∷ []) $ use1 W (some (λ (ws : List Cell × (Unit {0} × (Unit {0} × (Unit {0} × (Unit {0} × (Unit {0} × (Unit {0}))))))). ‵ (lasts callee.ended (ν-cells ∷ [], (s-positions .life, tt)) (ref-at (lent-to s-cells ν-cells δ-cells) cells, (ref-at s-positions positions, (n, (used, (j, (c, tt)))))) ws) ⊛ raw (fact 𝓤 (Ensured-insert cells positions n used j c res (ws .0))))) (id⊢ 𝓤 _) $ pick t (λ ws. split t $ move t (1 ∷ []) $ heard t (Ensured-insert cells positions n used j c res (ws .0)) (λ e. fsplit t $ fsplit t $ move t (1 ∷ []) $ feqL t (λ le-cells. move t (1 ∷ []) $ fsplit t $ drop t $ fsplit t $ drop t $ fsplit t $ drop t $ fsplit t $ drop t $ fsplit t $ drop t $ drop t $ move t (1 ∷ []) $ split t $ move t (1 ∷ []) $ peeks t Inserted′.the-row (Is Inserted′.the-row) (shows 𝓤 H A Inserted′.the-row) res (out ∷ []) (λ is. drop t $ split t $ move t (1 ∷ []) $ split t $ move t (1 ∷ []) $ drop t $
       move t (1 ∷ 2 ∷ 4 ∷ []) $ back-mut t tt Cell′.the-row s-cells ν-cells δ-cells cells (ws .0) ln-cells w-cells le-cells $
       move t (0 ∷ 1 ∷ 3 ∷ 2 ∷ []) $
-      subst (λ (u : Val). Seq K W (‵ (Mut Cell′.the-row s-cells (ws .0)) ∷ ‵ (Tok s-cells) ∷ ‵ (Shr f64 s-positions positions) ∷ ‵ (Tok s-positions) ∷ Γ) (lands C Λ E d u rest q)) (sym (ap only (LL.tells Answer′.the-type Answer″.the-laws res (out ∷ []) is))) (k res (ws .0) e (subst (Is Answer′.the-row res) (LL.tells Answer′.the-type Answer″.the-laws res (out ∷ []) is) is) (le-cells ∙ ln-cells)))))))))
+      subst (λ (u : Val). Seq K W (‵ (Mut Cell′.the-row s-cells (ws .0)) ∷ ‵ (Tok s-cells) ∷ ‵ (Shr f64 s-positions positions) ∷ ‵ (Tok s-positions) ∷ Γ) (lands C Λ E d u rest q)) (sym (ap only (LL.tells Inserted′.the-type Inserted″.the-laws res (out ∷ []) is))) (k res (ws .0) e (subst (Is Inserted′.the-row res) (LL.tells Inserted′.the-type Inserted″.the-laws res (out ∷ []) is) is) (le-cells ∙ ln-cells)))))))))

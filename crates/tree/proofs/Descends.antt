@@ -33,12 +33,12 @@ use Rattle.tree.proofs.Inserting.{Dry, dry-start, dry-next, dry-leaf, t
 -- ---- the root
 
 module _ (cs : List Cell) (y : List Float) (n c : ℕ) (v : Node) (ev : v ≡ boxOf y n c) where
-  pub plant-asks : 0 < length cs → (0 < length cs) × (leafWord (v .leaf) ≤ mostWord)
+  pub root-asks : 0 < length cs → (0 < length cs) × (leafWord (v .leaf) ≤ mostWord)
   unfolding boxOf
-  plant-asks h = (h, rw ev (omega arith))
+  root-asks h = (h, rw ev (omega arith))
 
-  pub plant-told : (ds : List Cell) → nodesOf ds ≡ set (nodesOf cs) 0 v → nodesOf ds ≡ set (nodesOf cs) 0 (boxOf y n c)
-  plant-told ds e = e ∙ ap (λ (x : Node). set (nodesOf cs) 0 x) ev
+  pub root-told : (ds : List Cell) → nodesOf ds ≡ set (nodesOf cs) 0 v → nodesOf ds ≡ set (nodesOf cs) 0 (boxOf y n c)
+  root-told ds e = e ∙ ap (λ (x : Node). set (nodesOf cs) 0 x) ev
 
 -- ---- the children of a split node
 

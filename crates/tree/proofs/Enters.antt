@@ -20,7 +20,7 @@ use Rattle.tree_node.proofs.Told.{nodes-length, nameable-most, nameable-word}
 use Rattle.tree_turns.specs.declared.Out.{Out}
 use Rattle.tree.specs.declared.Way.{Way}
 use Rattle.tree.specs.declared.Step.{Step}
-use Rattle.tree.specs.declared.Answer.{Answer}
+use Rattle.tree.specs.declared.Inserted.{Inserted}
 use Rattle.tree.specs.Insert.{Tree, tree, turnAt, levelAt, needsOf, insertion, insertOf, growable}
 use Rattle.tree.specs.Ways.{wayTurn, LevelAsks, enteringOf, notEnded, sunkOf, answered}
 use Rattle.tree.proofs.Inserting.{needs-few, Sinks, sinks-start, sinks-on, sinks-in, sinks-asks, sinks-few, sinks-up}
@@ -31,7 +31,7 @@ module _ (y : List Float) (n used j c : ℕ) (ns₀ : List Node) where
   whole = used + needed y c j (tree used ns₀)
 
   -- what the loop holds on to: until it ends, the levels so far have led to this node; then, what insertion is
-  pub record Enters (w : Way) (ns : List Node) : Type 0 where
+  pub record Entered (w : Way) (ns : List Node) : Type 0 where
     pub p-same : w .p ≡ pointOf y c j
     pub c-same : w .c ≡ c
     pub j-same : w .j ≡ j
@@ -49,8 +49,8 @@ module _ (y : List Float) (n used j c : ℕ) (cs₀ : List Cell) where
   needs-asks more e a m em h l = omega (arith, e, needs-few (length ns₀) y c (pointOf y c j) 0 0 ns₀, pow-mono {i = c} {j = 3} (a .1), em, h, l)
 
   module _ (more : ℕ) (em : more ≡ needsOf (length ns₀) y c (pointOf y c j) 0 0 ns₀) (ok : growable n c (tree used ns₀) ≡ true) (some : 0 < used) (inside : used ≤ length cs₀) where
-    enters-first : Enters y n used j c ns₀ (enteringOf y (length ns₀) used more j c) ns₀
-    enters-first = by-bool (Enters y n used j c ns₀ (enteringOf y (length ns₀) used more j c) ns₀) (ltb (nameable (length ns₀)) (used + more))
+    enters-first : Entered y n used j c ns₀ (enteringOf y (length ns₀) used more j c) ns₀
+    enters-first = by-bool (Entered y n used j c ns₀ (enteringOf y (length ns₀) used more j c) ns₀) (ltb (nameable (length ns₀)) (used + more))
         (λ f. record {
           p-same = refl;
           c-same = refl;
@@ -66,10 +66,10 @@ module _ (y : List Float) (n used j c : ℕ) (cs₀ : List Cell) where
           off = λ e. absurd (true≢false (sym e ∙ f));
         })
 
-    pub enters-start : (m : ℕ) → length cs₀ ≡ m → (w : Way) → w ≡ enteringOf y m used more j c → Enters y n used j c ns₀ w ns₀
-    enters-start m e w ew = subst (λ (x : Way). Enters y n used j c ns₀ x ns₀) (sym (ew ∙ ap (λ (x : ℕ). enteringOf y x used more j c) (sym e ∙ sym (nodes-length cs₀)))) enters-first
+    pub enters-start : (m : ℕ) → length cs₀ ≡ m → (w : Way) → w ≡ enteringOf y m used more j c → Entered y n used j c ns₀ w ns₀
+    enters-start m e w ew = subst (λ (x : Way). Entered y n used j c ns₀ x ns₀) (sym (ew ∙ ap (λ (x : ℕ). enteringOf y x used more j c) (sym e ∙ sym (nodes-length cs₀)))) enters-first
 
-  module _ (w : Way) (cs : List Cell) (k : Enters y n used j c ns₀ w (nodesOf cs)) (b : Bool) (eb : b ≡ notEnded w) where
+  module _ (w : Way) (cs : List Cell) (k : Entered y n used j c ns₀ w (nodesOf cs)) (b : Bool) (eb : b ≡ notEnded w) where
     abbrev p : List Float
     p = pointOf y c j
 
@@ -125,8 +125,8 @@ module _ (y : List Float) (n used j c : ℕ) (cs₀ : List Cell) where
         last-same : s .last ≡ turnAt c p j (w .depth) (w .node) t .last
         last-same = es .2 ∙ ap (λ (o : Out). o .last) turn-same
 
-        pub enters-next : Enters y n used j c ns₀ u (nodesOf ds)
-        enters-next = subst (λ (x : Way). Enters y n used j c ns₀ x (nodesOf ds)) (sym eu)
+        pub enters-next : Entered y n used j c ns₀ u (nodesOf ds)
+        enters-next = subst (λ (x : Way). Entered y n used j c ns₀ x (nodesOf ds)) (sym eu)
             (record {
               p-same = k .p-same;
               c-same = k .c-same;
@@ -138,5 +138,5 @@ module _ (y : List Float) (n used j c : ℕ) (cs₀ : List Cell) where
         pub enters-nearer : levelsLeft y n used j c ns₀ u < levelsLeft y n used j c ns₀ w
         enters-nearer = rw (eu, going) (by-bool (cond (s .last) 0 (suc (length ns₀ - (w .depth + 1))) < suc (length ns₀ - w .depth)) (s .last) (λ e. rw e (omega arith)) (λ e. rw e (omega (arith, sinks-up goes hj (omega arith) fit))))
 
-    pub enters-end : T (not b) → (a : Answer) → a ≡ answered w → insertion (a .full) (tree (a .used) (nodesOf cs)) ≡ insertOf y c j (tree used ns₀)
+    pub enters-end : T (not b) → (a : Inserted) → a ≡ answered w → insertion (a .full) (tree (a .used) (nodesOf cs)) ≡ insertOf y c j (tree used ns₀)
     enters-end over a ea = rw ea (k .off (not-false (w .ended) (fails-as b (notEnded w) eb over)))

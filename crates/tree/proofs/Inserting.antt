@@ -31,7 +31,7 @@ use Rattle.tree.proofs.Grow.{splits-same, splits-apart, splits-le, leng
 
 -- ---- a well-formed node, in numbers
 
-pub record Facts (n c m used k : ℕ) (v : Node) : Type 0 where
+pub record NodeFacts (n c m used k : ℕ) (v : Node) : Type 0 where
   pub few : v .count ≤ m
   pub point : pointOk n (v .leaf) ≡ true
   pub above : (v .first ≡ 0 → ⊥) → (k < v .first) × (v .first + 2 ^ c ≤ used)
@@ -44,14 +44,14 @@ block-facts c used k f e z =
 block-ok : (c used k f : ℕ) → ((f ≡ 0 → ⊥) → (k < f) × (f + 2 ^ c ≤ used)) → blockOk c used k f ≡ true
 block-ok c used k f h = elim (ℕ-discrete f 0) [ yes e ↦ rw (eq-eqb f 0 e) | no z ↦ rw (ne-eqb f 0 z, lt-ltb k f (h z .0), le-leb (f + 2 ^ c) used (h z .1)) ]
 
-pub node-facts : (n c m used k : ℕ) (v : Node) → nodeOk n m c used k v ≡ true → Facts n c m used k v
+pub node-facts : (n c m used k : ℕ) (v : Node) → nodeOk n m c used k v ≡ true → NodeFacts n c m used k v
 unfolding nodeOk
 node-facts n c m used k v e =
     let b = blockOk c used k (v .first) in
     let r = and-right (leb (v .count) m) (pointOk n (v .leaf) && b) e in
     record { few = leb-true (v .count) m (and-left (leb (v .count) m) (pointOk n (v .leaf) && b) e); point = and-left (pointOk n (v .leaf)) b r; above = block-facts c used k (v .first) (and-right (pointOk n (v .leaf)) b r) }
 
-pub node-ok : (n c m used k : ℕ) (v : Node) → Facts n c m used k v → nodeOk n m c used k v ≡ true
+pub node-ok : (n c m used k : ℕ) (v : Node) → NodeFacts n c m used k v → nodeOk n m c used k v ≡ true
 unfolding nodeOk
 node-ok n c m used k v f = rw (le-leb (v .count) m (f .few), f .point, block-ok c used k (v .first) (f .above))
 
@@ -93,7 +93,7 @@ module _ (g : ℕ) (y : List Float) (c : ℕ) (p : List Float) (j d i : ℕ) (t 
 
 -- node k of a tree whose nodes from i on have not yet been met by the point
 abbrev pub Holding : ℕ → ℕ → ℕ → ℕ → Tree → Type 0
-Holding n c m i t = (k : ℕ) → k < t .used → Facts n c (m + 1) (t .used) k (nodeAt (t .nodes) k) × (i ≤ k → nodeAt (t .nodes) k .count ≤ m)
+Holding n c m i t = (k : ℕ) → k < t .used → NodeFacts n c (m + 1) (t .used) k (nodeAt (t .nodes) k) × (i ≤ k → nodeAt (t .nodes) k .count ≤ m)
 
 -- the children of a used node lie above it among the used ones
 abbrev pub Rises : ℕ → Tree → Type 0
@@ -109,22 +109,22 @@ pub record Ok (n c m cap N : ℕ) (y p : List Float) (d i : ℕ) (t : Tree) : Ty
   pub total : t .used + needsOf (cap - d) y c p d i (t .nodes) ≡ N
 
 -- the facts of a node in a wider tree
-wider : (n c m used used' k : ℕ) (v : Node) → used ≤ used' → Facts n c m used k v → Facts n c m used' k v
+wider : (n c m used used' k : ℕ) (v : Node) → used ≤ used' → NodeFacts n c m used k v → NodeFacts n c m used' k v
 wider n c m used used' k v l f = record { few = f .few; point = f .point; above = λ z. (f .above z .0, omega (arith, l, f .above z)) }
 
-fewer : (n c m m' used k : ℕ) (v : Node) → m ≤ m' → Facts n c m used k v → Facts n c m' used k v
+fewer : (n c m m' used k : ℕ) (v : Node) → m ≤ m' → NodeFacts n c m used k v → NodeFacts n c m' used k v
 fewer n c m m' used k v l f = record { few = omega (arith, l, f .few); point = f .point; above = f .above }
 
 -- a node that has taken a point in
-absorbed-facts : (n c m used k : ℕ) (p : List Float) (v : Node) → v .count ≤ m → Facts n c (m + 1) used k v → Facts n c (m + 1) used k (absorbed c p v)
+absorbed-facts : (n c m used k : ℕ) (p : List Float) (v : Node) → v .count ≤ m → NodeFacts n c (m + 1) used k v → NodeFacts n c (m + 1) used k (absorbed c p v)
 unfolding absorbed
 absorbed-facts n c m used k p v l f = record { few = omega (arith, l); point = f .point; above = f .above }
 
-occupied-facts : (n c m used k j : ℕ) (v : Node) → j < n → Facts n c m used k v → Facts n c m used k (occupied j v)
+occupied-facts : (n c m used k j : ℕ) (v : Node) → j < n → NodeFacts n c m used k v → NodeFacts n c m used k (occupied j v)
 occupied-facts n c m used k j v l f = record { few = f .few; point = lt-ltb j n l; above = f .above }
 
 -- a made child
-child-facts : (n c m used k : ℕ) (v : Node) (o : ℕ) (q : List Float) (b : ℕ) → o < n → 1 ≤ m → Facts n c m used k (childOf c v o q b)
+child-facts : (n c m used k : ℕ) (v : Node) (o : ℕ) (q : List Float) (b : ℕ) → o < n → 1 ≤ m → NodeFacts n c m used k (childOf c v o q b)
 unfolding childOf absorbed
 child-facts n c m used k v o q b l h =
     elim (ℕ-discrete b (childIndex c (v .centre) q)) [
@@ -137,7 +137,7 @@ child-facts n c m used k v o q b l h =
 pub level-plain : (y : List Float) (c i : ℕ) (v : Node) (k o : ℕ) (b : Bool) (t : Tree) → levelled y c i (out v k 0 o b) t ≡ tree (t .used) (set (t .nodes) i v)
 level-plain y c i v k o b t = rw (add-zero (t .used), filled-none c v o (pointOf y c o) (set (t .nodes) i v))
 
-stored-sound : (n c m i k : ℕ) (t : Tree) (v : Node) → i < length (t .nodes) → i < k → Facts n c (m + 1) (t .used) i v → Holding n c m i t → Holding n c m k (tree (t .used) (set (t .nodes) i v))
+stored-sound : (n c m i k : ℕ) (t : Tree) (v : Node) → i < length (t .nodes) → i < k → NodeFacts n c (m + 1) (t .used) i v → Holding n c m i t → Holding n c m k (tree (t .used) (set (t .nodes) i v))
 stored-sound n c m i k t v li lk f s x lx =
     elim (ℕ-discrete x i) [
       | yes e ↦ rw (e, getD-set-same (t .nodes) i v blank li) (f, λ z. omega (arith, z, lk))
@@ -344,7 +344,7 @@ module _ (n c m cap N : ℕ) (y p : List Float) (j : ℕ) (hj : j < n) (hm : 1 �
         (sym (add-zero (t .used)) ∙ ap (λ (x : ℕ). t .used + x) (sym (no-splits (splitsOf (deepest - d) c (v .centre) (v .half) (pointOf y c o) p) d (2 ^ c) (splits-le (deepest - d) c (v .centre) (v .half) (pointOf y c o) p) l)) ∙ split-total o z e))
         (λ o z e l x. absurd (true≢false (sym x)))
       where
-        stored-ends : (a : Node) (x o : ℕ) → Facts n c (m + 1) (t .used) i a → t .used ≡ N → Ended n c m cap N (levelled y c i (out a x 0 o true) t)
+        stored-ends : (a : Node) (x o : ℕ) → NodeFacts n c (m + 1) (t .used) i a → t .used ≡ N → Ended n c m cap N (levelled y c i (out a x 0 o true) t)
         stored-ends a x o f e =
             subst (λ (z : Tree). Ended n c m cap N z) (sym (level-plain y c i a x o true t))
             (record {
@@ -438,7 +438,7 @@ module _ {y : List Float} {c : ℕ} {p : List Float} {ns : List Node} {d i : ℕ
   dry-leaf l z e = sym (dry-same ∙ needs-leaf y c p (length ns - (d + 1)) d i ns l z e)
 
 -- a used node's facts
-pub tree-facts : (n c m : ℕ) (t : Tree) → treeOk n m c t ≡ true → (i : ℕ) → i < t .used → Facts n c m (t .used) i (nodeAt (t .nodes) i)
+pub tree-facts : (n c m : ℕ) (t : Tree) → treeOk n m c t ≡ true → (i : ℕ) → i < t .used → NodeFacts n c m (t .used) i (nodeAt (t .nodes) i)
 tree-facts n c m t e i l = node-facts n c m (t .used) i (nodeAt (t .nodes) i) (every-at (λ k. nodeOk n m c (t .used) k (nodeAt (t .nodes) k)) (t .used) e i l)
 
 pub tree-point : (n c m : ℕ) (t : Tree) → treeOk n m c t ≡ true → (i o : ℕ) → i < t .used → nodeAt (t .nodes) i .leaf ≡ Occupied o → o < n

@@ -144,5 +144,5 @@ module _ (more : List Node) where
   -- ---- the walk
 
   -- repulsion looks at no node past those in use
-  pub repelled-longer : (n c m : ℕ) (t : Tree) → Fits n c m t → (q : ℕ) (p : List Float) (theta2 : Float) → repelled (t .used) c q p theta2 (t .nodes ++ more) ≡ repelled (t .used) c q p theta2 (t .nodes)
-  repelled-longer n c m t f q p theta2 = walked-longer (t .nodes) more (t .used) c (f .within) (blocks-in n c m t (f .sound)) q p theta2 (f .some)
+  pub repels-on-longer : (n c m : ℕ) (t : Tree) → Fits n c m t → (q : ℕ) (p : List Float) (theta2 : Float) → repelled (t .used) c q p theta2 (t .nodes ++ more) ≡ repelled (t .used) c q p theta2 (t .nodes)
+  repels-on-longer n c m t f q p theta2 = walked-longer (t .nodes) more (t .used) c (f .within) (blocks-in n c m t (f .sound)) q p theta2 (f .some)

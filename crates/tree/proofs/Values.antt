@@ -7,9 +7,9 @@ use denote.Enum.Laws as EL
 use Rattle.tree.specs.declared.Step.{Step}
 use Rattle.tree.proofs.Step as Step′
 use Rattle.tree.proofs.Step.Laws as Step″
-use Rattle.tree.specs.declared.Answer.{Answer}
-use Rattle.tree.proofs.Answer as Answer′
-use Rattle.tree.proofs.Answer.Laws as Answer″
+use Rattle.tree.specs.declared.Inserted.{Inserted}
+use Rattle.tree.proofs.Inserted as Inserted′
+use Rattle.tree.proofs.Inserted.Laws as Inserted″
 use Rattle.tree.specs.declared.Probe.{Probe}
 use Rattle.tree.proofs.Probe as Probe′
 use Rattle.tree.proofs.Probe.Laws as Probe″
@@ -32,11 +32,11 @@ val-Step = LL.val Step′.the-type Step″.the-laws
 abbrev pub IsStep : Step → Type 0
 IsStep x = Is Step′.the-row x (val-Step x ∷ [])
 
-abbrev pub val-Answer : Answer → Val
-val-Answer = LL.val Answer′.the-type Answer″.the-laws
+abbrev pub val-Inserted : Inserted → Val
+val-Inserted = LL.val Inserted′.the-type Inserted″.the-laws
 
-abbrev pub IsAnswer : Answer → Type 0
-IsAnswer x = Is Answer′.the-row x (val-Answer x ∷ [])
+abbrev pub IsInserted : Inserted → Type 0
+IsInserted x = Is Inserted′.the-row x (val-Inserted x ∷ [])
 
 abbrev pub val-Probe : Probe → Val
 val-Probe = LL.val Probe′.the-type Probe″.the-laws

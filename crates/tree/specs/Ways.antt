@@ -19,7 +19,7 @@ use Rattle.tree.specs.declared.Probe.{Probe}
 use Rattle.tree.specs.declared.Way.{Way}
 use Rattle.tree.specs.declared.Split.{Split}
 use Rattle.tree.specs.declared.Step.{Step}
-use Rattle.tree.specs.declared.Answer.{Answer}
+use Rattle.tree.specs.declared.Inserted.{Inserted}
 use Rattle.tree.specs.Insert.{leafNeeds}
 
 -- ---- the dry descent
@@ -93,5 +93,5 @@ notEnded w = not (w .ended)
 abbrev pub sunkOf : Way → Step → Way
 sunkOf w s = record { p = w .p; c = w .c; j = w .j; depth = w .depth + 1; node = s .next; used = s .used; full = w .full; ended = s .last }
 
-abbrev pub answered : Way → Answer
+abbrev pub answered : Way → Inserted
 answered w = record { full = w .full; used = w .used }

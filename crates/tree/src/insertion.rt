@@ -8,7 +8,7 @@ ghost use Rattle.tree_node.specs.Node.{Axes, pointOf};
 ghost use Rattle.tree_node.specs.Arena.{nodesOf, nodeAt};
 ghost use Rattle.tree.specs.Insert.{tree, subdivided, levelAt, needsOf, insertOf, insertion, growable};
 ghost use Rattle.tree.specs.Ways.{LevelAsks, wayTurn};
-use crate::Answer;
+use crate::Inserted;
 use crate::Probe;
 use crate::Split;
 use crate::Step;
@@ -83,7 +83,7 @@ pub fn insert(
     used: usize,
     j: u32,
     c: usize,
-) -> Answer
+) -> Inserted
     requires { ⌜ (Axes c) × (0 < used) × (used ≤ length (now cells)) × (n * c ≤ length (now positions)) × (j < n) × (n ≤ mostWord) × (growable n c (tree used (nodesOf (now cells))) ≡ true) ⌝ }
     ensures { λ r. ⌜ insertion (r .full) (tree (r .used) (nodesOf (now (cells .exit)))) ≡ insertOf (now (positions .entry)) c j (tree used (nodesOf (now (cells .entry)))) ⌝ }
 {

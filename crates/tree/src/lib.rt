@@ -18,7 +18,7 @@ pub struct Step {
 }
 
 // What an insertion answers.
-pub struct Answer {
+pub struct Inserted {
     // the nodes it needs are not there, and nothing has changed
     pub full: bool,
     // nodes in use

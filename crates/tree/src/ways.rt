@@ -6,7 +6,7 @@ ghost use Rattle.laws.specs.Domain.{deepest, mostWord};
 ghost use Rattle.tree_node.specs.Node.{Axes};
 ghost use Rattle.tree.specs.Insert.{splitsOf, leafNeeds};
 ghost use Rattle.tree.specs.Ways.{LeafIn, MetAsks, probingOf, probesOn, probedOf, metOf, splitsOn, childOn, childPlace, madeOf, steppedOf, enteringOf, notEnded, sunkOf, answered};
-use crate::Answer;
+use crate::Inserted;
 use crate::Probe;
 use crate::Split;
 use crate::Step;
@@ -241,10 +241,10 @@ pub fn lowered(w: Way, s: Step) -> Way
     }
 }
 
-pub fn answer(w: Way) -> Answer
+pub fn answer(w: Way) -> Inserted
     ensures { λ r. ⌜ r ≡ answered w ⌝ }
 {
-    Answer {
+    Inserted {
         full: w.full,
         used: w.used,
     }

@@ -13,14 +13,16 @@ use Rattle.tree_bodies.specs.declared.Acc.{Acc}
 use Rattle.tree_node.specs.declared.Leaf.{Leaf}
 use Rattle.tree_node.specs.declared.Leaf.the-variants.{Empty, Occupied}
 
--- ---- the squared distance from a node's mass, and its largest side
+-- ---- the squared distance of two points, and a node's largest side
 
-abbrev pub gapStep : List Float → List Float → ℕ → Float → Float
-gapStep p m d s = add binary64 s (mul binary64 (sub binary64 (at p d) (at m d)) (sub binary64 (at p d) (at m d)))
+-- a point is given by its coordinates: p d is the one in component d
+abbrev pub gapStep : (ℕ → Float) → (ℕ → Float) → ℕ → Float → Float
+gapStep p q d s = add binary64 s (mul binary64 (sub binary64 (p d) (q d)) (sub binary64 (p d) (q d)))
 
-unfoldable pub gapOf : ℕ → List Float → List Float → Float
+-- by rising component from +0.0
+unfoldable pub gapOf : ℕ → (ℕ → Float) → (ℕ → Float) → Float
 unfolding loop add sub mul
-gapOf c p m = loop (gapStep p m) c 0 zero64
+gapOf c p q = loop (gapStep p q) c 0 zero64
 
 unfoldable pub wider : Float → Float → Float
 unfolding lt mul
@@ -41,7 +43,7 @@ pushStep p m force d t = set t d (add binary64 (at t d) (mul binary64 force (sub
 unfoldable pub bodyOf : ℕ → List Float → Node → Acc → Acc
 unfolding loop gapOf add sub mul div ofInt
 bodyOf c p v acc =
-    let inv = div binary64 one64 (add binary64 one64 (gapOf c p (v .mass))) in
+    let inv = div binary64 one64 (add binary64 one64 (gapOf c (at p) (at (v .mass)))) in
     let mult = mul binary64 (ofInt binary64 (pos (v .count))) inv in
     record { neg = loop (pushStep p (v .mass) (mul binary64 mult inv)) c 0 (acc .neg); sum = add binary64 (acc .sum) mult }
 
@@ -57,4 +59,4 @@ unfolding widthOf gapOf lt mul
 kindOf c q p theta2 v =
     cond (eqb (v .count) 0) 0
     (cond (eqb (v .first) 0) (leafKind q (v .count) (v .leaf))
-    (cond (lt (mul binary64 (widthOf c (v .half)) (widthOf c (v .half))) (mul binary64 theta2 (gapOf c p (v .mass)))) 1 2))
+    (cond (lt (mul binary64 (widthOf c (v .half)) (widthOf c (v .half))) (mul binary64 theta2 (gapOf c (at p) (at (v .mass))))) 1 2))

@@ -1,5 +1,6 @@
 // A node as seen from a point: its distance, its width, and what it adds where it acts as one body.
 ghost use mathlib.Core.Path.{_≡_};
+ghost use Rattle.laws.specs.Area.{at};
 ghost use Rattle.laws.specs.Loops.{loop};
 ghost use Rattle.tree_node.specs.Node.{Axes};
 ghost use Rattle.tree_bodies.specs.Bodies.{gapOf, wider, widthOf, pushStep, bodyOf, leafKind, kindOf};
@@ -15,7 +16,7 @@ pub struct Acc {
 // The squared distance of p from m.
 pub fn gap(p: [f64; 3], m: [f64; 3], c: usize) -> f64
     requires { ⌜ Axes c ⌝ }
-    ensures { λ r. ⌜ r ≡ gapOf c p m ⌝ }
+    ensures { λ r. ⌜ r ≡ gapOf c (at p) (at m) ⌝ }
 {
     let x = p[0] - m[0];
     let s = 0.0 + x * x;

@@ -43,32 +43,32 @@ nowhere : (i used : ℕ) → i < used → used ≤ i + 0 → ⊥
 nowhere i used l m = omega arith
 
 module _ (c q : ℕ) (p : List Float) (theta2 : Float) (ns : List Node) where
-  abbrev pub kindAt : ℕ → ℕ
-  kindAt i = kindOf c q p theta2 (nodeAt ns i)
+  abbrev pub turnKind : ℕ → ℕ
+  turnKind i = kindOf c q p theta2 (nodeAt ns i)
 
-  pub skips : (g i : ℕ) (a : Acc) → kindAt i ≡ 0 → walkOf (suc g) c q p theta2 ns i a ≡ a
+  pub skips : (g i : ℕ) (a : Acc) → turnKind i ≡ 0 → walkOf (suc g) c q p theta2 ns i a ≡ a
   unfolding walkOf
   skips g i a k = rw (k, walkOf)
 
-  pub bodies : (g i : ℕ) (a : Acc) → kindAt i ≡ 1 → walkOf (suc g) c q p theta2 ns i a ≡ bodyOf c p (nodeAt ns i) a
+  pub bodies : (g i : ℕ) (a : Acc) → turnKind i ≡ 1 → walkOf (suc g) c q p theta2 ns i a ≡ bodyOf c p (nodeAt ns i) a
   unfolding walkOf
   bodies g i a k = rw (k, walkOf) (rw k)
 
-  pub opens : (g i : ℕ) (a : Acc) → (kindAt i ≡ 0 → ⊥) → (kindAt i ≡ 1 → ⊥) → walkOf (suc g) c q p theta2 ns i a ≡ loop (λ b a. walkOf g c q p theta2 ns (nodeAt ns i .first + b) a) (2 ^ c) 0 a
+  pub opens : (g i : ℕ) (a : Acc) → (turnKind i ≡ 0 → ⊥) → (turnKind i ≡ 1 → ⊥) → walkOf (suc g) c q p theta2 ns i a ≡ loop (λ b a. walkOf g c q p theta2 ns (nodeAt ns i .first + b) a) (2 ^ c) 0 a
   unfolding walkOf
-  opens g i a h₀ h₁ = rw (ne-eqb (kindAt i) 0 h₀, walkOf) (rw (ne-eqb (kindAt i) 1 h₁))
+  opens g i a h₀ h₁ = rw (ne-eqb (turnKind i) 0 h₀, walkOf) (rw (ne-eqb (turnKind i) 1 h₁))
 
   module _ (used : ℕ) (ok : Blocks used c ns) where
-    pub block : (i : ℕ) → i < used → (kindAt i ≡ 0 → ⊥) → (kindAt i ≡ 1 → ⊥) → (i < nodeAt ns i .first) × (nodeAt ns i .first + 2 ^ c ≤ used)
-    block i l h₀ h₁ = ok i l (opened c q p theta2 (nodeAt ns i) (kindAt i) refl h₀ h₁)
+    pub block : (i : ℕ) → i < used → (turnKind i ≡ 0 → ⊥) → (turnKind i ≡ 1 → ⊥) → (i < nodeAt ns i .first) × (nodeAt ns i .first + 2 ^ c ≤ used)
+    block i l h₀ h₁ = ok i l (opened c q p theta2 (nodeAt ns i) (turnKind i) refl h₀ h₁)
 
     enough : (g h i : ℕ) (a : Acc) → i < used → used ≤ i + g → used ≤ i + h → walkOf g c q p theta2 ns i a ≡ walkOf h c q p theta2 ns i a
     enough zero h i a l m n = absurd (nowhere i used l m)
     enough (suc g) zero i a l m n = absurd (nowhere i used l n)
     enough (suc g) (suc h) i a l m n =
-        elim (ℕ-discrete (kindAt i) 0) [
+        elim (ℕ-discrete (turnKind i) 0) [
           | yes e ↦ skips g i a e ∙ sym (skips h i a e)
-          | no h₀ ↦ elim (ℕ-discrete (kindAt i) 1) [
+          | no h₀ ↦ elim (ℕ-discrete (turnKind i) 1) [
             | yes e ↦ bodies g i a e ∙ sym (bodies h i a e)
             | no h₁ ↦ opens g i a h₀ h₁ ∙ loop-same (λ b a. walkOf g c q p theta2 ns (nodeAt ns i .first + b) a) (λ b a. walkOf h c q p theta2 ns (nodeAt ns i .first + b) a) (2 ^ c) 0 a
                 (λ j y x z. enough g h (nodeAt ns i .first + j) y (omega (arith, z, block i l h₀ h₁)) (omega (arith, m, block i l h₀ h₁)) (omega (arith, n, block i l h₀ h₁)))
@@ -79,11 +79,11 @@ module _ (c q : ℕ) (p : List Float) (theta2 : Float) (ns : List Node) where
     more : (i : ℕ) (a : Acc) → i < used → walkOf used c q p theta2 ns i a ≡ walkOf (suc used) c q p theta2 ns i a
     more i a l = enough used (suc used) i a l (omega arith) (omega arith)
 
-    pub whole-skip : (i : ℕ) (a : Acc) → i < used → kindAt i ≡ 0 → walkOf used c q p theta2 ns i a ≡ a
+    pub whole-skip : (i : ℕ) (a : Acc) → i < used → turnKind i ≡ 0 → walkOf used c q p theta2 ns i a ≡ a
     whole-skip i a l k = more i a l ∙ skips used i a k
 
-    pub whole-body : (i : ℕ) (a : Acc) → i < used → kindAt i ≡ 1 → walkOf used c q p theta2 ns i a ≡ bodyOf c p (nodeAt ns i) a
+    pub whole-body : (i : ℕ) (a : Acc) → i < used → turnKind i ≡ 1 → walkOf used c q p theta2 ns i a ≡ bodyOf c p (nodeAt ns i) a
     whole-body i a l k = more i a l ∙ bodies used i a k
 
-    pub whole-open : (i : ℕ) (a : Acc) → i < used → (kindAt i ≡ 0 → ⊥) → (kindAt i ≡ 1 → ⊥) → walkOf used c q p theta2 ns i a ≡ walkedOver used c q p theta2 ns (nodeAt ns i .first) (2 ^ c) a
+    pub whole-open : (i : ℕ) (a : Acc) → i < used → (turnKind i ≡ 0 → ⊥) → (turnKind i ≡ 1 → ⊥) → walkOf used c q p theta2 ns i a ≡ walkedOver used c q p theta2 ns (nodeAt ns i .first) (2 ^ c) a
     whole-open i a l h₀ h₁ = more i a l ∙ opens used i a h₀ h₁

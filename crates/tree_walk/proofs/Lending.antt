@@ -1,5 +1,5 @@
 -- `short_turn` and `long_turn`, to which a stack is lent: their contracts, and what the rule `calls-array` of `Lies.antt` asks of them, a section for each.
---     Asks, Gives      what a turn asks, and what it ensures of its result and of the stack
+--     TurnAsks, Gives      what a turn asks, and what it ensures of its result and of the stack
 -- Assumes `Given`.
 use mathlib.Core.Path.{_≡_, ap, subst}
 use Prim.Native.Nat.{ℕ, _+_, _<_, _≤_, _^_}
@@ -38,14 +38,14 @@ use Rattle.tree_walk.proofs.Eye as Eye′
 use Rattle.tree_walk.proofs.Eye.Laws as Eye″
 use Rattle.tree_walk.proofs.Spot as Spot′
 use Rattle.tree_walk.proofs.Spot.Laws as Spot″
-use Rattle.tree_walk.proofs.Calls.{val, IsCell}
+use Rattle.tree_walk.proofs.Calls.{val, CellIs}
 use Rattle.tree_walk.proofs.Values.{val-Eye, IsEye, val-Spot, IsSpot}
 use Rattle.lent.proofs.Lies.{array-at, Told}
 use Rattle.tree_walk.proofs.turns.short_turn as short
 use Rattle.tree_walk.proofs.turns.long_turn as long
 
-abbrev pub Asks : ℕ → Cell → Spot → Eye → Type 0
-Asks levels v s y = (Axes (y .c)) × (s .at < s .end) × (s .level ≤ levels) × (v .first + 2 ^ (y .c) ≤ mostWord)
+abbrev pub TurnAsks : ℕ → Cell → Spot → Eye → Type 0
+TurnAsks levels v s y = (Axes (y .c)) × (s .at < s .end) × (s .level ≤ levels) × (v .first + 2 ^ (y .c) ≤ mostWord)
 
 abbrev pub Gives : ℕ → List ℕ → Cell → Spot → Eye → Spot → List ℕ → Type 0
 Gives levels st v s y r zs = (r ≡ turnedOf levels y v st s) × (zs ≡ stackedOf levels y v st s)
@@ -58,7 +58,7 @@ module _ {M : Type 1} (𝓤 : URA M) (H : Heap 𝓤) (A : Atoms 𝓤) (mem : Mem
   abbrev pub to-short : ℕ → List ℕ → Cell → Spot → Eye → ℕ → GName → ShortTurn .Ghost
   to-short b st v s y ν δ = (((ν ∷ [], tt), (fullShare, tt), tt, (array-at b δ st, (v, (s, (y, tt)))), (vptr b 0 ∷ [], (val v ∷ [], (val-Spot s ∷ [], (val-Eye y ∷ [], tt))))), tt)
 
-  pub goes-short : Given 𝓤 H A → (b : ℕ) (st : List ℕ) (v : Cell) (s : Spot) (y : Eye) → IsCell v → IsSpot s → IsEye y → Asks 32 v s y → (ν : ℕ) (δ : GName)
+  pub goes-short : Given 𝓤 H A → (b : ℕ) (st : List ℕ) (v : Cell) (s : Spot) (y : Eye) → CellIs v → IsSpot s → IsEye y → TurnAsks 32 v s y → (ν : ℕ) (δ : GName)
       → ent 𝓤 (sep 𝓤 (A .lft (ν ∷ []) fullShare) (sem 𝓤 H A (MutRef (named 0) (ν ∷ []) (Array u32 64) .own (array-at b δ st) (vptr b 0 ∷ [])))) (ShortTurn .pre (to-short b st v s y ν δ))
   goes-short W b st v s y gv gs gy l ν δ =
       qed W (‵ (flft (ν ∷ []) fullShare) ∷ ‵ (MutRef (named 0) (ν ∷ []) (Array u32 64) .own (array-at b δ st) (vptr b 0 ∷ [])) ∷ []) ∵ says ! l $ nothing ! $ move ! (1 ∷ 0 ∷ []) $ join ! $ frame ! $
@@ -85,7 +85,7 @@ module _ {M : Type 1} (𝓤 : URA M) (H : Heap 𝓤) (A : Atoms 𝓤) (mem : Mem
   abbrev pub to-long : ℕ → List ℕ → Cell → Spot → Eye → ℕ → GName → LongTurn .Ghost
   to-long b st v s y ν δ = (((ν ∷ [], tt), (fullShare, tt), tt, (array-at b δ st, (v, (s, (y, tt)))), (vptr b 0 ∷ [], (val v ∷ [], (val-Spot s ∷ [], (val-Eye y ∷ [], tt))))), tt)
 
-  pub goes-long : Given 𝓤 H A → (b : ℕ) (st : List ℕ) (v : Cell) (s : Spot) (y : Eye) → IsCell v → IsSpot s → IsEye y → Asks 256 v s y → (ν : ℕ) (δ : GName)
+  pub goes-long : Given 𝓤 H A → (b : ℕ) (st : List ℕ) (v : Cell) (s : Spot) (y : Eye) → CellIs v → IsSpot s → IsEye y → TurnAsks 256 v s y → (ν : ℕ) (δ : GName)
       → ent 𝓤 (sep 𝓤 (A .lft (ν ∷ []) fullShare) (sem 𝓤 H A (MutRef (named 0) (ν ∷ []) (Array u32 512) .own (array-at b δ st) (vptr b 0 ∷ [])))) (LongTurn .pre (to-long b st v s y ν δ))
   goes-long W b st v s y gv gs gy l ν δ =
       qed W (‵ (flft (ν ∷ []) fullShare) ∷ ‵ (MutRef (named 0) (ν ∷ []) (Array u32 512) .own (array-at b δ st) (vptr b 0 ∷ [])) ∷ []) ∵ says ! l $ nothing ! $ move ! (1 ∷ 0 ∷ []) $ join ! $ frame ! $

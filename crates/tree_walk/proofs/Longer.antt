@@ -13,7 +13,7 @@ use Rattle.tree_node.specs.Arena.{nodeAt, blank}
 use Rattle.tree_bodies.specs.declared.Acc.{Acc}
 use Rattle.tree_bodies.specs.Bodies.{kindOf, bodyOf}
 use Rattle.tree_walk.specs.Repel.{walkOf, Blocks, nothing, repelled}
-use Rattle.tree_walk.proofs.Fuel.{kindAt, skips, bodies, opens, block}
+use Rattle.tree_walk.proofs.Fuel.{turnKind, skips, bodies, opens, block}
 
 module _ (ns more : List Node) (used c : ℕ) (within : used ≤ length ns) (ok : Blocks used c ns) (q : ℕ) (p : List Float) (theta2 : Float) where
   walk-longer : (g i : ℕ) (a : Acc) → i < used → walkOf g c q p theta2 (ns ++ more) i a ≡ walkOf g c q p theta2 ns i a
@@ -21,10 +21,10 @@ module _ (ns more : List Node) (used c : ℕ) (within : used ≤ length ns) (ok 
   walk-longer zero i a l = refl
   walk-longer (suc g) i a l =
       let e : nodeAt (ns ++ more) i ≡ nodeAt ns i = List·getD-append ns more blank i (omega (arith, l, within)) in
-      let k : kindAt c q p theta2 (ns ++ more) i ≡ kindAt c q p theta2 ns i = ap (kindOf c q p theta2) e in
-      elim (ℕ-discrete (kindAt c q p theta2 ns i) 0) [
+      let k : turnKind c q p theta2 (ns ++ more) i ≡ turnKind c q p theta2 ns i = ap (kindOf c q p theta2) e in
+      elim (ℕ-discrete (turnKind c q p theta2 ns i) 0) [
         | yes x ↦ skips c q p theta2 (ns ++ more) g i a (k ∙ x) ∙ sym (skips c q p theta2 ns g i a x)
-        | no h₀ ↦ elim (ℕ-discrete (kindAt c q p theta2 ns i) 1) [
+        | no h₀ ↦ elim (ℕ-discrete (turnKind c q p theta2 ns i) 1) [
           | yes x ↦ bodies c q p theta2 (ns ++ more) g i a (k ∙ x) ∙ ap (λ (v : Node). bodyOf c p v a) e ∙ sym (bodies c q p theta2 ns g i a x)
           | no h₁ ↦
               let b = block c q p theta2 ns used ok i l h₀ h₁ in

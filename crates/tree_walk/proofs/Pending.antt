@@ -24,9 +24,9 @@ use Rattle.tree_bodies.specs.Bodies.{kindOf, bodyOf}
 use Rattle.tree_walk.specs.declared.Eye.{Eye}
 use Rattle.tree_walk.specs.declared.Spot.{Spot}
 use Rattle.tree_walk.specs.Repel.{walkOf, Blocks}
-use Rattle.tree_walk.specs.Turn.{freshSpot, onwardOf, openedOf, pushedOf, seenAs, turnedOf, stackedOf}
+use Rattle.tree_walk.specs.Turn.{freshSpot, pastCell, openedOf, pushedOf, seenAs, turnedOf, stackedOf}
 use Rattle.tree_walk.proofs.Fuel.{block, whole-skip, whole-body, whole-open}
-use Rattle.tree_walk.proofs.Walked.{range, weight, load, load-app, load-block, weight-pos, Inside, inside-app, inside-range, node-at, over-cells, walks, walks-app, walks-range, first-at, some-children, just-added}
+use Rattle.tree_walk.proofs.Walked.{numbersFrom, visitsOf, load, load-app, load-block, weight-pos, Inside, inside-app, inside-range, node-at, over-cells, walks, walks-app, walks-range, cell-first, some-children, just-added}
 
 -- no cells are left to a walk of their own
 abbrev None : Spot → Type 0
@@ -39,17 +39,17 @@ module _ (levels : ℕ) where
   -- what the first l levels of the stack hold, the highest first
   abbrev pub frames : List ℕ → ℕ → List ℕ
   frames st zero = []
-  frames st (suc l) = range (num st l) (num st (l + levels) - num st l) ++ frames st l
+  frames st (suc l) = numbersFrom (num st l) (num st (l + levels) - num st l) ++ frames st l
 
   -- what is still to be walked, and what is left of it without the first
   abbrev pub pending : List ℕ → Spot → List ℕ
-  pending st s = range (s .at) (s .end - s .at) ++ frames st (s .level)
+  pending st s = numbersFrom (s .at) (s .end - s .at) ++ frames st (s .level)
 
-  abbrev pub rest : List ℕ → Spot → List ℕ
-  rest st s = range (s .at + 1) (s .end - (s .at + 1)) ++ frames st (s .level)
+  abbrev pub restOnStack : List ℕ → Spot → List ℕ
+  restOnStack st s = numbersFrom (s .at + 1) (s .end - (s .at + 1)) ++ frames st (s .level)
 
-  pub pending-first : (st : List ℕ) (s : Spot) → s .at < s .end → pending st s ≡ s .at ∷ rest st s
-  pending-first st s l = ap (λ (n : ℕ). range (s .at) n ++ frames st (s .level)) (left (s .end) (s .at) l)
+  pub pending-first : (st : List ℕ) (s : Spot) → s .at < s .end → pending st s ≡ s .at ∷ restOnStack st s
+  pending-first st s l = ap (λ (n : ℕ). numbersFrom (s .at) n ++ frames st (s .level)) (left (s .end) (s .at) l)
 
   -- a stack that is written at a level keeps the levels below
   frames-set : (st : List ℕ) (l x y k : ℕ) → k ≤ l → l < levels → frames (set (set st l x) (l + levels) y) k ≡ frames st k
@@ -57,11 +57,11 @@ module _ (levels : ℕ) where
   frames-set st l x y (suc k) h m =
       let low : num (set (set st l x) (l + levels) y) k ≡ num st k = getD-set-other (set st l x) (l + levels) k y 0 (λ q. omega (arith, q)) ∙ getD-set-other st l k x 0 (λ q. omega (arith, q)) in
       let high : num (set (set st l x) (l + levels) y) (k + levels) ≡ num st (k + levels) = getD-set-other (set st l x) (l + levels) (k + levels) y 0 (λ q. omega (arith, q)) ∙ getD-set-other st l (k + levels) x 0 (λ q. omega (arith, q)) in
-      rw (low, high) (ap (λ (r : List ℕ). range (num st k) (num st (k + levels) - num st k) ++ r) (frames-set st l x y k (omega arith) m))
+      rw (low, high) (ap (λ (r : List ℕ). numbersFrom (num st k) (num st (k + levels) - num st k) ++ r) (frames-set st l x y k (omega arith) m))
 
   -- ---- the stack is in order: no level is empty, and where the walk is at the end of a block, none is left
 
-  pub record Sound (st : List ℕ) (s : Spot) : Type 0 where
+  pub record SoundStack (st : List ℕ) (s : Spot) : Type 0 where
     pub size : length st ≡ 2 * levels
     pub room : s .level ≤ levels
     pub live : (s .at < s .end) ⊎ (s .level ≡ 0)
@@ -69,7 +69,7 @@ module _ (levels : ℕ) where
 
   -- at r, with the stack st, the cells xs are to be walked, from a
   pub record Stands (st : List ℕ) (xs : List ℕ) (a : Acc) (r : Spot) : Type 0 where
-    pub sound : Sound st r
+    pub sound : SoundStack st r
     pub ahead : pending st r ≡ xs
     pub gives : r .acc ≡ a
 
@@ -79,29 +79,29 @@ module _ (levels : ℕ) where
       → (s .at + 1 < s .end → P (freshSpot a (s .at + 1) (s .end) (s .level)))
       → (s .end ≤ s .at + 1 → s .level ≡ 0 → P (freshSpot a (s .at + 1) (s .end) 0))
       → (s .end ≤ s .at + 1 → (s .level ≡ 0 → ⊥) → P (freshSpot a (num st (s .level - 1)) (num st (s .level - 1 + levels)) (s .level - 1)))
-      → P (onwardOf levels st s a)
-  unfolding onwardOf
+      → P (pastCell levels st s a)
+  unfolding pastCell
   onward-cases P st s a f g h =
       elim (decLt (s .at + 1) (s .end)) [
-        | yes l ↦ rw (lt-ltb (s .at + 1) (s .end) l, onwardOf) (f l)
+        | yes l ↦ rw (lt-ltb (s .at + 1) (s .end) l, pastCell) (f l)
         | no m ↦ elim (ℕ-discrete (s .level) 0) [
-          | yes e ↦ rw (le-ltb (s .at + 1) (s .end) (omega arith), onwardOf) (rw (eq-eqb (s .level) 0 e) (g (omega arith) e))
-          | no n ↦ rw (le-ltb (s .at + 1) (s .end) (omega arith), onwardOf) (rw (ne-eqb (s .level) 0 n) (h (omega arith) n))
+          | yes e ↦ rw (le-ltb (s .at + 1) (s .end) (omega arith), pastCell) (rw (eq-eqb (s .level) 0 e) (g (omega arith) e))
+          | no n ↦ rw (le-ltb (s .at + 1) (s .end) (omega arith), pastCell) (rw (ne-eqb (s .level) 0 n) (h (omega arith) n))
         ]
       ]
 
-  rest-over : (st : List ℕ) (s : Spot) → s .end ≤ s .at + 1 → rest st s ≡ frames st (s .level)
-  rest-over st s m = ap (λ (n : ℕ). range (s .at + 1) n ++ frames st (s .level)) (none (s .end) (s .at + 1) m)
+  rest-over : (st : List ℕ) (s : Spot) → s .end ≤ s .at + 1 → restOnStack st s ≡ frames st (s .level)
+  rest-over st s m = ap (λ (n : ℕ). numbersFrom (s .at + 1) n ++ frames st (s .level)) (none (s .end) (s .at + 1) m)
 
-  frames-top : (st : List ℕ) (l : ℕ) → (l ≡ 0 → ⊥) → frames st l ≡ range (num st (l - 1)) (num st (l - 1 + levels) - num st (l - 1)) ++ frames st (l - 1)
+  frames-top : (st : List ℕ) (l : ℕ) → (l ≡ 0 → ⊥) → frames st l ≡ numbersFrom (num st (l - 1)) (num st (l - 1 + levels) - num st (l - 1)) ++ frames st (l - 1)
   frames-top st zero n = absurd (n refl)
   frames-top st (suc l) n = let e : suc l - 1 ≡ l = omega arith in rw e
 
-  pub onward-stands : (st : List ℕ) (s : Spot) (a : Acc) → Sound st s → s .at < s .end → Stands st (rest st s) a (onwardOf levels st s a) × None (onwardOf levels st s a)
+  pub onward-stands : (st : List ℕ) (s : Spot) (a : Acc) → SoundStack st s → s .at < s .end → Stands st (restOnStack st s) a (pastCell levels st s a) × None (pastCell levels st s a)
   onward-stands st s a k l =
-      onward-cases (λ r. Stands st (rest st s) a r × None r) st s a
+      onward-cases (λ r. Stands st (restOnStack st s) a r × None r) st s a
       (λ m. (record { sound = record { size = k .size; room = k .room; live = inl m; full = k .full }; ahead = refl; gives = refl }, none-zero))
-      (λ m e. (record { sound = record { size = k .size; room = omega arith; live = inr refl; full = λ j h. absurd (none-below j h) }; ahead = ap (λ (n : ℕ). range (s .at + 1) n ++ []) (none (s .end) (s .at + 1) m) ∙ sym (rest-over st s m ∙ ap (frames st) e); gives = refl }, none-zero))
+      (λ m e. (record { sound = record { size = k .size; room = omega arith; live = inr refl; full = λ j h. absurd (none-below j h) }; ahead = ap (λ (n : ℕ). numbersFrom (s .at + 1) n ++ []) (none (s .end) (s .at + 1) m) ∙ sym (rest-over st s m ∙ ap (frames st) e); gives = refl }, none-zero))
       (λ m n. (record { sound = record { size = k .size; room = omega (arith, k .room); live = inl (k .full (s .level - 1) (omega arith)); full = λ j h. k .full j (omega arith) }; ahead = sym (rest-over st s m ∙ frames-top st (s .level) n); gives = refl }, none-zero))
     where
       none-below : (j : ℕ) → j < 0 → ⊥
@@ -126,7 +126,7 @@ module _ (levels : ℕ) where
 
   -- the children come first; or the stack has no room, and they are left to a walk of their own
   abbrev pub Opens : List ℕ → Spot → ℕ → ℕ → Spot → List ℕ → Type 0
-  Opens st s f e r zs = (Stands zs (range f (e - f) ++ rest st s) (s .acc) r × None r) ⊎ ((r .deep ≡ f) × (r .stop ≡ e) × Stands zs (rest st s) (s .acc) r)
+  Opens st s f e r zs = (Stands zs (numbersFrom f (e - f) ++ restOnStack st s) (s .acc) r × None r) ⊎ ((r .deep ≡ f) × (r .stop ≡ e) × Stands zs (restOnStack st s) (s .acc) r)
 
   abbrev over : List ℕ → Spot → List ℕ
   over st s = set (set st (s .level) (s .at + 1)) (s .level + levels) (s .end)
@@ -137,10 +137,10 @@ module _ (levels : ℕ) where
       let high : num (over st s) (j + levels) ≡ num st (j + levels) = getD-set-other (set st (s .level) (s .at + 1)) (s .level + levels) (j + levels) (s .end) 0 (λ q. omega (arith, q)) ∙ getD-set-other st (s .level) (j + levels) (s .at + 1) 0 (λ q. omega (arith, q)) in
       rw (low, high) f
 
-  top : (l m : ℕ) → m ≡ suc l → (zs : List ℕ) → frames zs m ≡ range (num zs l) (num zs (l + levels) - num zs l) ++ frames zs l
+  top : (l m : ℕ) → m ≡ suc l → (zs : List ℕ) → frames zs m ≡ numbersFrom (num zs l) (num zs (l + levels) - num zs l) ++ frames zs l
   top l m q zs = rw q
 
-  pub opened-stands : (st : List ℕ) (s : Spot) (f e : ℕ) → Sound st s → s .at < s .end → f < e → Opens st s f e (openedOf levels s f e) (pushedOf levels st s)
+  pub opened-stands : (st : List ℕ) (s : Spot) (f e : ℕ) → SoundStack st s → s .at < s .end → f < e → Opens st s f e (openedOf levels s f e) (pushedOf levels st s)
   opened-stands st s f e k l fe =
       opened-cases (Opens st s f e) st s f e
       (λ m n. let low : num (over st s) (s .level) ≡ s .at + 1 = getD-set-other (set st (s .level) (s .at + 1)) (s .level + levels) (s .level) (s .end) 0 (λ q. omega (arith, q)) ∙ getD-set-same st (s .level) (s .at + 1) 0 (omega (arith, k .size)) in
@@ -156,47 +156,47 @@ module _ (levels : ℕ) where
               | no q ↦ over-below st s j (omega arith) n (k .full j (omega arith))
             ];
           };
-          ahead = ap (λ (r : List ℕ). range f (e - f) ++ r) (top (s .level) (s .level + 1) (omega arith) (over st s) ∙ rw (low, high) (ap (λ (r : List ℕ). range (s .at + 1) (s .end - (s .at + 1)) ++ r) (frames-set st (s .level) (s .at + 1) (s .end) (s .level) (omega arith) n)));
+          ahead = ap (λ (r : List ℕ). numbersFrom f (e - f) ++ r) (top (s .level) (s .level + 1) (omega arith) (over st s) ∙ rw (low, high) (ap (λ (r : List ℕ). numbersFrom (s .at + 1) (s .end - (s .at + 1)) ++ r) (frames-set st (s .level) (s .at + 1) (s .end) (s .level) (omega arith) n)));
           gives = refl;
         },
         none-zero,
       ))
       (λ m n. inr (refl, refl, record { sound = record { size = k .size; room = k .room; live = inl m; full = k .full }; ahead = refl; gives = refl }))
-      (λ m. inl (record { sound = record { size = k .size; room = k .room; live = inl fe; full = k .full }; ahead = ap (λ (r : List ℕ). range f (e - f) ++ r) (sym (rest-over st s m)); gives = refl }, none-zero))
+      (λ m. inl (record { sound = record { size = k .size; room = k .room; live = inl fe; full = k .full }; ahead = ap (λ (r : List ℕ). numbersFrom f (e - f) ++ r) (sym (rest-over st s m)); gives = refl }, none-zero))
 
   -- ---- the invariant
 
   module _ (used : ℕ) (y : Eye) (cs : List Cell) where
     -- the loop that began at cell `low`, and whose result is to be `goal`, is at s, with st on its stack
     pub record Going (low : ℕ) (goal : Acc) (st : List ℕ) (s : Spot) : Type 0 where
-      pub sound : Sound st s
+      pub sound : SoundStack st s
       pub inside : Inside low used (pending st s)
       pub same : walks used y cs (pending st s) (s .acc) ≡ goal
 
     pub going-start : (low to : ℕ) (a : Acc) (st : List ℕ) → length st ≡ 2 * levels → to ≤ used → Going low (over-cells used y cs low (to - low) a) st (freshSpot a low to 0)
     going-start low to a st e h = record {
       sound = record { size = e; room = omega arith; live = inr refl; full = λ j m. absurd (none-below j m) };
-      inside = inside-app low used (range low (to - low)) [] part tt;
-      same = walks-app used y cs (range low (to - low)) [] a ∙ walks-range used y cs low (to - low) a;
+      inside = inside-app low used (numbersFrom low (to - low)) [] part tt;
+      same = walks-app used y cs (numbersFrom low (to - low)) [] a ∙ walks-range used y cs low (to - low) a;
     }
       where
         none-below : (j : ℕ) → j < 0 → ⊥
         none-below j h = omega arith
 
-        part : Inside low used (range low (to - low))
+        part : Inside low used (numbersFrom low (to - low))
         part = elim (decLt low to) [ yes l ↦ inside-range low used (to - low) low (omega arith) (omega arith) | no m ↦ rw (none to low (omega arith)) tt ]
 
     pub going-done : {low : ℕ} {goal : Acc} {st : List ℕ} {s : Spot} → Going low goal st s → s .end ≤ s .at → s .acc ≡ goal
     going-done {st} {s} g m =
         let z : s .level ≡ 0 = ⊎-elim (λ l. omega (arith, l)) (λ e. e) (g .sound .live) in
-        let e : pending st s ≡ [] = ap (λ (n : ℕ). range (s .at) n ++ frames st (s .level)) (none (s .end) (s .at) m) ∙ ap (frames st) z in
+        let e : pending st s ≡ [] = ap (λ (n : ℕ). numbersFrom (s .at) n ++ frames st (s .level)) (none (s .end) (s .at) m) ∙ ap (frames st) z in
         sym (ap (λ (xs : List ℕ). walks used y cs xs (s .acc)) e) ∙ g .same
 
   -- ---- a turn
 
   turned-cases : (P : Spot → List ℕ → Type 0) (y : Eye) (v : Cell) (st : List ℕ) (s : Spot)
-      → (seenAs y v ≡ 0 → P (onwardOf levels st s (s .acc)) st)
-      → (seenAs y v ≡ 1 → P (onwardOf levels st s (bodyOf (y .c) (y .p) (nodeOf v) (s .acc))) st)
+      → (seenAs y v ≡ 0 → P (pastCell levels st s (s .acc)) st)
+      → (seenAs y v ≡ 1 → P (pastCell levels st s (bodyOf (y .c) (y .p) (nodeOf v) (s .acc))) st)
       → ((seenAs y v ≡ 0 → ⊥) → (seenAs y v ≡ 1 → ⊥) → P (openedOf levels s (v .first) (v .first + 2 ^ (y .c))) (pushedOf levels st s))
       → P (turnedOf levels y v st s) (stackedOf levels y v st s)
   unfolding turnedOf stackedOf
@@ -224,7 +224,7 @@ module _ (levels : ℕ) where
     abbrev pub Next : ℕ → Acc → List ℕ → Spot → Spot → List ℕ → Type 0
     Next low goal st s t zs = (None t × Goes low goal st s t zs) ⊎ Deep low goal st s t zs
 
-    from-stands : (st : List ℕ) (s : Spot) {low : ℕ} {goal : Acc} {zs xs : List ℕ} {r : Spot} {a : Acc} → Stands zs xs a r → s .at < s .end → Inside low used xs → walks used y cs xs a ≡ goal → load used xs < weight used (s .at) + load used (rest st s) → Goes low goal st s r zs
+    from-stands : (st : List ℕ) (s : Spot) {low : ℕ} {goal : Acc} {zs xs : List ℕ} {r : Spot} {a : Acc} → Stands zs xs a r → s .at < s .end → Inside low used xs → walks used y cs xs a ≡ goal → load used xs < visitsOf used (s .at) + load used (restOnStack st s) → Goes low goal st s r zs
     from-stands st s {low} {goal} {zs} {xs} {r} w l i e h = (
       record {
         sound = w .sound;
@@ -237,37 +237,37 @@ module _ (levels : ℕ) where
     module _ (ok : Blocks used (y .c) (nodesOf cs)) (ax : Axes (y .c)) where
       pub going-turn : {low : ℕ} {goal : Acc} {st : List ℕ} {s : Spot} → Going used y cs low goal st s → s .at < s .end → Next low goal st s (turnedOf levels y (cellAt cs (s .at)) st s) (stackedOf levels y (cellAt cs (s .at)) st s)
       going-turn {low} {goal} {st} {s} g l =
-          let i : ((low ≤ s .at) × (s .at < used)) × Inside low used (rest st s) = subst (Inside low used) (pending-first st s l) (g .inside) in
-          let e : walks used y cs (rest st s) (walkOf used (y .c) (y .q) (y .p) (y .theta2) (nodesOf cs) (s .at) (s .acc)) ≡ goal = sym (ap (λ (xs : List ℕ). walks used y cs xs (s .acc)) (pending-first st s l)) ∙ g .same in
+          let i : ((low ≤ s .at) × (s .at < used)) × Inside low used (restOnStack st s) = subst (Inside low used) (pending-first st s l) (g .inside) in
+          let e : walks used y cs (restOnStack st s) (walkOf used (y .c) (y .q) (y .p) (y .theta2) (nodesOf cs) (s .at) (s .acc)) ≡ goal = sym (ap (λ (xs : List ℕ). walks used y cs xs (s .acc)) (pending-first st s l)) ∙ g .same in
           let k : kindOf (y .c) (y .q) (y .p) (y .theta2) (nodeAt (nodesOf cs) (s .at)) ≡ seenAs y (cellAt cs (s .at)) = ap (kindOf (y .c) (y .q) (y .p) (y .theta2)) (node-at cs (s .at)) in
-          let u : load used (rest st s) < weight used (s .at) + load used (rest st s) = omega (arith, weight-pos used (s .at)) in
+          let u : load used (restOnStack st s) < visitsOf used (s .at) + load used (restOnStack st s) = omega (arith, weight-pos used (s .at)) in
           turned-cases (Next low goal st s) y (cellAt cs (s .at)) st s
-          (λ z. let w : Stands st (rest st s) (s .acc) (onwardOf levels st s (s .acc)) × None (onwardOf levels st s (s .acc)) = onward-stands st s (s .acc) (g .sound) l in
-          inl (w .1, from-stands st s (w .0) l (i .1) (ap (walks used y cs (rest st s)) (sym (whole-skip (y .c) (y .q) (y .p) (y .theta2) (nodesOf cs) used ok (s .at) (s .acc) (i .0 .1) (k ∙ z))) ∙ e) u))
-          (λ z. let w : Stands st (rest st s) (bodyOf (y .c) (y .p) (nodeOf (cellAt cs (s .at))) (s .acc)) (onwardOf levels st s (bodyOf (y .c) (y .p) (nodeOf (cellAt cs (s .at))) (s .acc))) × None (onwardOf levels st s (bodyOf (y .c) (y .p) (nodeOf (cellAt cs (s .at))) (s .acc))) = onward-stands st s (bodyOf (y .c) (y .p) (nodeOf (cellAt cs (s .at))) (s .acc)) (g .sound) l in
-          inl (w .1, from-stands st s (w .0) l (i .1) (ap (walks used y cs (rest st s)) (ap (λ (n : Node). bodyOf (y .c) (y .p) n (s .acc)) (sym (node-at cs (s .at))) ∙ sym (whole-body (y .c) (y .q) (y .p) (y .theta2) (nodesOf cs) used ok (s .at) (s .acc) (i .0 .1) (k ∙ z))) ∙ e) u))
-          (λ z₀ z₁. let b : (s .at < cellAt cs (s .at) .first) × (cellAt cs (s .at) .first + 2 ^ (y .c) ≤ used) = subst (λ (f : ℕ). (s .at < f) × (f + 2 ^ (y .c) ≤ used)) (first-at cs (s .at)) (block (y .c) (y .q) (y .p) (y .theta2) (nodesOf cs) used ok (s .at) (i .0 .1) (λ x. z₀ (sym k ∙ x)) (λ x. z₁ (sym k ∙ x))) in
-          let o : walkOf used (y .c) (y .q) (y .p) (y .theta2) (nodesOf cs) (s .at) (s .acc) ≡ over-cells used y cs (cellAt cs (s .at) .first) (2 ^ (y .c)) (s .acc) = whole-open (y .c) (y .q) (y .p) (y .theta2) (nodesOf cs) used ok (s .at) (s .acc) (i .0 .1) (λ x. z₀ (sym k ∙ x)) (λ x. z₁ (sym k ∙ x)) ∙ ap (λ (f : ℕ). over-cells used y cs f (2 ^ (y .c)) (s .acc)) (first-at cs (s .at)) in
+          (λ z. let w : Stands st (restOnStack st s) (s .acc) (pastCell levels st s (s .acc)) × None (pastCell levels st s (s .acc)) = onward-stands st s (s .acc) (g .sound) l in
+          inl (w .1, from-stands st s (w .0) l (i .1) (ap (walks used y cs (restOnStack st s)) (sym (whole-skip (y .c) (y .q) (y .p) (y .theta2) (nodesOf cs) used ok (s .at) (s .acc) (i .0 .1) (k ∙ z))) ∙ e) u))
+          (λ z. let w : Stands st (restOnStack st s) (bodyOf (y .c) (y .p) (nodeOf (cellAt cs (s .at))) (s .acc)) (pastCell levels st s (bodyOf (y .c) (y .p) (nodeOf (cellAt cs (s .at))) (s .acc))) × None (pastCell levels st s (bodyOf (y .c) (y .p) (nodeOf (cellAt cs (s .at))) (s .acc))) = onward-stands st s (bodyOf (y .c) (y .p) (nodeOf (cellAt cs (s .at))) (s .acc)) (g .sound) l in
+          inl (w .1, from-stands st s (w .0) l (i .1) (ap (walks used y cs (restOnStack st s)) (ap (λ (n : Node). bodyOf (y .c) (y .p) n (s .acc)) (sym (node-at cs (s .at))) ∙ sym (whole-body (y .c) (y .q) (y .p) (y .theta2) (nodesOf cs) used ok (s .at) (s .acc) (i .0 .1) (k ∙ z))) ∙ e) u))
+          (λ z₀ z₁. let b : (s .at < cellAt cs (s .at) .first) × (cellAt cs (s .at) .first + 2 ^ (y .c) ≤ used) = subst (λ (f : ℕ). (s .at < f) × (f + 2 ^ (y .c) ≤ used)) (cell-first cs (s .at)) (block (y .c) (y .q) (y .p) (y .theta2) (nodesOf cs) used ok (s .at) (i .0 .1) (λ x. z₀ (sym k ∙ x)) (λ x. z₁ (sym k ∙ x))) in
+          let o : walkOf used (y .c) (y .q) (y .p) (y .theta2) (nodesOf cs) (s .at) (s .acc) ≡ over-cells used y cs (cellAt cs (s .at) .first) (2 ^ (y .c)) (s .acc) = whole-open (y .c) (y .q) (y .p) (y .theta2) (nodesOf cs) used ok (s .at) (s .acc) (i .0 .1) (λ x. z₀ (sym k ∙ x)) (λ x. z₁ (sym k ∙ x)) ∙ ap (λ (f : ℕ). over-cells used y cs f (2 ^ (y .c)) (s .acc)) (cell-first cs (s .at)) in
           let d : cellAt cs (s .at) .first + 2 ^ (y .c) - cellAt cs (s .at) .first ≡ 2 ^ (y .c) = just-added (cellAt cs (s .at) .first) (2 ^ (y .c)) in
           ⊎-elim
           (λ w. inl (
             w .1,
-            from-stands st s (w .0) l (rw d (inside-app low used (range (cellAt cs (s .at) .first) (2 ^ (y .c))) (rest st s) (inside-range low used (2 ^ (y .c)) (cellAt cs (s .at) .first) (omega (arith, b, i .0)) (b .1)) (i .1)))
-                (rw d (walks-app used y cs (range (cellAt cs (s .at) .first) (2 ^ (y .c))) (rest st s) (s .acc) ∙ ap (walks used y cs (rest st s)) (walks-range used y cs (cellAt cs (s .at) .first) (2 ^ (y .c)) (s .acc) ∙ sym o) ∙ e))
-                (rw d (rw (load-app used (range (cellAt cs (s .at) .first) (2 ^ (y .c))) (rest st s)) (omega (arith, load-block used (s .at) (cellAt cs (s .at) .first) (2 ^ (y .c)) (b .0) (omega (arith, b .1)) (few-children (y .c) ax))))),
+            from-stands st s (w .0) l (rw d (inside-app low used (numbersFrom (cellAt cs (s .at) .first) (2 ^ (y .c))) (restOnStack st s) (inside-range low used (2 ^ (y .c)) (cellAt cs (s .at) .first) (omega (arith, b, i .0)) (b .1)) (i .1)))
+                (rw d (walks-app used y cs (numbersFrom (cellAt cs (s .at) .first) (2 ^ (y .c))) (restOnStack st s) (s .acc) ∙ ap (walks used y cs (restOnStack st s)) (walks-range used y cs (cellAt cs (s .at) .first) (2 ^ (y .c)) (s .acc) ∙ sym o) ∙ e))
+                (rw d (rw (load-app used (numbersFrom (cellAt cs (s .at) .first) (2 ^ (y .c))) (restOnStack st s)) (omega (arith, load-block used (s .at) (cellAt cs (s .at) .first) (2 ^ (y .c)) (b .0) (omega (arith, b .1)) (few-children (y .c) ax))))),
           ))
           (λ w. inr (record {
             some = rw (w .0, w .1) (omega (arith, some-children (y .c)));
             further = rw (w .0) (omega (arith, b .0, i .0));
             within = rw (w .1) (b .1);
             onto = λ a q. from-stands st s (record { sound = record { size = w .2 .sound .size; room = w .2 .sound .room; live = w .2 .sound .live; full = w .2 .sound .full }; ahead = w .2 .ahead; gives = refl }) l (i .1)
-                (ap (walks used y cs (rest st s)) (q ∙ rw (w .0, w .1, w .2 .gives, d) (sym o)) ∙ e) u;
+                (ap (walks used y cs (restOnStack st s)) (q ∙ rw (w .0, w .1, w .2 .gives, d) (sym o)) ∙ e) u;
           }))
           (opened-stands st s (cellAt cs (s .at) .first) (cellAt cs (s .at) .first + 2 ^ (y .c)) (g .sound) l (omega (arith, some-children (y .c)))))
 
       -- what a turn asks
       pub going-first : {low : ℕ} {goal : Acc} {st : List ℕ} {s : Spot} → Going used y cs low goal st s → s .at < s .end → (low ≤ s .at) × (s .at < used)
-      going-first {low} {goal} {st} {s} g l = let i : ((low ≤ s .at) × (s .at < used)) × Inside low used (rest st s) = subst (Inside low used) (pending-first st s l) (g .inside) in i .0
+      going-first {low} {goal} {st} {s} g l = let i : ((low ≤ s .at) × (s .at < used)) × Inside low used (restOnStack st s) = subst (Inside low used) (pending-first st s l) (g .inside) in i .0
 
       going-both : {low : ℕ} {goal : Acc} {st zs : List ℕ} {s r : Spot} → Going used y cs low goal st s → s .at < s .end → r ≡ turnedOf levels y (cellAt cs (s .at)) st s → zs ≡ stackedOf levels y (cellAt cs (s .at)) st s → Next low goal st s r zs
       going-both {low} {goal} {st} {zs} {s} {r} g l e f = subst (λ (t : Spot). Next low goal st s t zs) (sym e) (subst (Next low goal st s (turnedOf levels y (cellAt cs (s .at)) st s)) (sym f) (going-turn g l))

@@ -1,5 +1,5 @@
 -- The walks from a list of cells, one after the other, with nothing said of a loop or a stack. Assumes nothing.
---     range            the numbers from one on
+--     numbersFrom            the numbers from one on
 --     walks            the walks from these cells.      walks-range      those of a range are `walkedOver`'s
 --     load             16 ^ (used - i) for each cell i of a list: more than its children have together, since they lie above it and are at most 8
 --     Inside           all of a list is used
@@ -22,49 +22,49 @@ use Rattle.tree_walk.specs.declared.Eye.{Eye}
 use Rattle.tree_walk.specs.Repel.{walkOf, walkedOver, Blocks, nothing, repelled}
 
 -- n numbers from f on
-abbrev pub range : ℕ → ℕ → List ℕ
-range f zero = []
-range f (suc n) = f ∷ range (f + 1) n
+abbrev pub numbersFrom : ℕ → ℕ → List ℕ
+numbersFrom f zero = []
+numbersFrom f (suc n) = f ∷ numbersFrom (f + 1) n
 
 -- ---- a number that falls with each turn
 
-unfoldable pub weight : ℕ → ℕ → ℕ
-weight used i = 16 ^ (used - i)
+unfoldable pub visitsOf : ℕ → ℕ → ℕ
+visitsOf used i = 16 ^ (used - i)
 
 abbrev pub load : ℕ → List ℕ → ℕ
 load used [] = 0
-load used (i ∷ xs) = weight used i + load used xs
+load used (i ∷ xs) = visitsOf used i + load used xs
 
 pub load-app : (used : ℕ) (xs ys : List ℕ) → load used (xs ++ ys) ≡ load used xs + load used ys
 load-app used [] ys = omega arith
 load-app used (x ∷ xs) ys = omega (arith, load-app used xs ys)
 
-pub weight-pos : (used i : ℕ) → 0 < weight used i
-unfolding weight
+pub weight-pos : (used i : ℕ) → 0 < visitsOf used i
+unfolding visitsOf
 weight-pos used i = one-le-pow (used - i) 16 (omega arith)
 
-weight-falls : (used i : ℕ) → weight used (i + 1) ≤ weight used i
-unfolding weight
+weight-falls : (used i : ℕ) → visitsOf used (i + 1) ≤ visitsOf used i
+unfolding visitsOf
 weight-falls used i = pow-le-pow-right (zero-lt-suc 15) (omega arith)
 
-load-range : (used n f : ℕ) → load used (range f n) ≤ n * weight used f
+load-range : (used n f : ℕ) → load used (numbersFrom f n) ≤ n * visitsOf used f
 load-range used zero f = omega arith
 load-range used (suc n) f =
-    let a : load used (range (f + 1) n) ≤ n * weight used (f + 1) = load-range used n (f + 1) in
-    let b : n * weight used (f + 1) ≤ n * weight used f = mul-le-mul-left n (weight-falls used f) in
-    rw (suc-mul n (weight used f)) (omega (arith, a, b))
+    let a : load used (numbersFrom (f + 1) n) ≤ n * visitsOf used (f + 1) = load-range used n (f + 1) in
+    let b : n * visitsOf used (f + 1) ≤ n * visitsOf used f = mul-le-mul-left n (weight-falls used f) in
+    rw (suc-mul n (visitsOf used f)) (omega (arith, a, b))
 
-weight-above : (used i f : ℕ) → i < f → f ≤ used → 16 * weight used f ≤ weight used i
-unfolding weight
+weight-above : (used i f : ℕ) → i < f → f ≤ used → 16 * visitsOf used f ≤ visitsOf used i
+unfolding visitsOf
 weight-above used i f l m =
     let p : 16 ^ suc (used - f) ≤ 16 ^ (used - i) = pow-le-pow-right (zero-lt-suc 15) (omega arith) in
     omega (arith, p, pow-suc 16 (used - f))
 
 -- children weigh less than their node
-pub load-block : (used i f n : ℕ) → i < f → f ≤ used → n ≤ 8 → load used (range f n) < weight used i
+pub load-block : (used i f n : ℕ) → i < f → f ≤ used → n ≤ 8 → load used (numbersFrom f n) < visitsOf used i
 load-block used i f n l m h =
-    let a : load used (range f n) ≤ n * weight used f = load-range used n f in
-    let b : n * weight used f ≤ 8 * weight used f = mul-le-mul-right (weight used f) h in
+    let a : load used (numbersFrom f n) ≤ n * visitsOf used f = load-range used n f in
+    let b : n * visitsOf used f ≤ 8 * visitsOf used f = mul-le-mul-right (visitsOf used f) h in
     omega (arith, a, b, weight-pos used f, weight-above used i f l m)
 
 -- ---- cells in use
@@ -78,7 +78,7 @@ pub inside-app : (low used : ℕ) (xs ys : List ℕ) → Inside low used xs → 
 inside-app low used [] ys u v = v
 inside-app low used (x ∷ xs) ys u v = (u .0, inside-app low used xs ys (u .1) v)
 
-pub inside-range : (low used n f : ℕ) → low ≤ f → f + n ≤ used → Inside low used (range f n)
+pub inside-range : (low used n f : ℕ) → low ≤ f → f + n ≤ used → Inside low used (numbersFrom f n)
 inside-range low used zero f h m = tt
 inside-range low used (suc n) f h m = ((h, omega arith), inside-range low used n (f + 1) (omega arith) (omega arith))
 
@@ -104,19 +104,19 @@ module _ (used : ℕ) (y : Eye) (cs : List Cell) where
   walks-app [] ys a = refl
   walks-app (x ∷ xs) ys a = walks-app xs ys (whole x a)
 
-  walks-from : (n f k : ℕ) (a : Acc) → walks (range (f + k) n) a ≡ loop (λ b z. whole (f + b) z) n k a
+  walks-from : (n f k : ℕ) (a : Acc) → walks (numbersFrom (f + k) n) a ≡ loop (λ b z. whole (f + b) z) n k a
   unfolding loop
   walks-from zero f k a = refl
-  walks-from (suc n) f k a = let e : f + k + 1 ≡ f + (k + 1) = omega arith in ap (λ (m : ℕ). walks (range m n) (whole (f + k) a)) e ∙ walks-from n f (k + 1) (whole (f + k) a)
+  walks-from (suc n) f k a = let e : f + k + 1 ≡ f + (k + 1) = omega arith in ap (λ (m : ℕ). walks (numbersFrom m n) (whole (f + k) a)) e ∙ walks-from n f (k + 1) (whole (f + k) a)
 
-  pub walks-range : (f n : ℕ) (a : Acc) → walks (range f n) a ≡ over-cells f n a
-  walks-range f n a = let e : f ≡ f + 0 = omega arith in ap (λ (m : ℕ). walks (range m n) a) e ∙ walks-from n f 0 a
+  pub walks-range : (f n : ℕ) (a : Acc) → walks (numbersFrom f n) a ≡ over-cells f n a
+  walks-range f n a = let e : f ≡ f + 0 = omega arith in ap (λ (m : ℕ). walks (numbersFrom m n) a) e ∙ walks-from n f 0 a
 
 -- ---- the cell and its children
 
-pub first-at : (cs : List Cell) (i : ℕ) → nodeAt (nodesOf cs) i .first ≡ cellAt cs i .first
+pub cell-first : (cs : List Cell) (i : ℕ) → nodeAt (nodesOf cs) i .first ≡ cellAt cs i .first
 unfolding nodeOf
-first-at cs i = ap (λ (n : Node). n .first) (node-at cs i)
+cell-first cs i = ap (λ (n : Node). n .first) (node-at cs i)
 
 pub some-children : (c : ℕ) → 0 < 2 ^ c
 some-children c = one-le-pow c 2 (zero-lt-suc 1)
@@ -130,7 +130,7 @@ module _ (used : ℕ) (y : Eye) (cs : List Cell) (ok : Blocks used (y .c) (nodes
   first-fits h i l =
       elim (ℕ-discrete (cellAt cs i .first) 0) [
         | yes z ↦ omega (arith, z, few-children (y .c) ax)
-        | no n ↦ let b : (i < cellAt cs i .first) × (cellAt cs i .first + 2 ^ (y .c) ≤ used) = subst (λ (f : ℕ). (i < f) × (f + 2 ^ (y .c) ≤ used)) (first-at cs i) (ok i l (λ x. n (sym (first-at cs i) ∙ x))) in omega (arith, b .1, h)
+        | no n ↦ let b : (i < cellAt cs i .first) × (cellAt cs i .first + 2 ^ (y .c) ≤ used) = subst (λ (f : ℕ). (i < f) × (f + 2 ^ (y .c) ≤ used)) (cell-first cs i) (ok i l (λ x. n (sym (cell-first cs i) ∙ x))) in omega (arith, b .1, h)
       ]
 
 -- the walk from the root is the repulsion

@@ -16,8 +16,8 @@ abbrev pub freshSpot : Acc → ℕ → ℕ → ℕ → Spot
 freshSpot a i e l = record { acc = a; at = i; end = e; level = l; deep = 0; stop = 0 }
 
 -- past the cell: to the next one, or to what the stack has, or to the end
-unfoldable pub onwardOf : ℕ → List ℕ → Spot → Acc → Spot
-onwardOf levels st s a =
+unfoldable pub pastCell : ℕ → List ℕ → Spot → Acc → Spot
+pastCell levels st s a =
     cond (ltb (s .at + 1) (s .end)) (freshSpot a (s .at + 1) (s .end) (s .level))
     (cond (eqb (s .level) 0) (freshSpot a (s .at + 1) (s .end) 0)
     (freshSpot a (num st (s .level - 1)) (num st (s .level - 1 + levels)) (s .level - 1)))
@@ -38,10 +38,10 @@ abbrev pub seenAs : Eye → Cell → ℕ
 seenAs y v = kindOf (y .c) (y .q) (y .p) (y .theta2) (nodeOf v)
 
 unfoldable pub turnedOf : ℕ → Eye → Cell → List ℕ → Spot → Spot
-unfolding kindOf bodyOf nodeOf onwardOf openedOf
+unfolding kindOf bodyOf nodeOf pastCell openedOf
 turnedOf levels y v st s =
-    cond (eqb (seenAs y v) 0) (onwardOf levels st s (s .acc))
-    (cond (eqb (seenAs y v) 1) (onwardOf levels st s (bodyOf (y .c) (y .p) (nodeOf v) (s .acc)))
+    cond (eqb (seenAs y v) 0) (pastCell levels st s (s .acc))
+    (cond (eqb (seenAs y v) 1) (pastCell levels st s (bodyOf (y .c) (y .p) (nodeOf v) (s .acc)))
     (openedOf levels s (v .first) (v .first + 2 ^ (y .c))))
 
 unfoldable pub stackedOf : ℕ → Eye → Cell → List ℕ → Spot → List ℕ

@@ -5,7 +5,7 @@ ghost use lib.ListN.{length};
 ghost use Rattle.laws.specs.Domain.{mostWord};
 ghost use Rattle.tree_node.specs.Node.{Axes};
 ghost use Rattle.tree_walk.specs.Repel.{nothing};
-ghost use Rattle.tree_walk.specs.Turn.{freshSpot, onwardOf, openedOf, pushedOf, turnedOf, stackedOf};
+ghost use Rattle.tree_walk.specs.Turn.{freshSpot, pastCell, openedOf, pushedOf, turnedOf, stackedOf};
 use crate::Eye;
 use crate::Spot;
 use tree_bodies::Acc;
@@ -50,7 +50,7 @@ pub fn resumed(s: Spot, a: Acc) -> Spot
 // Past the cell, with what has been gathered: to the next cell, or back to what the stack has.
 fn onward(stack: &[u32], levels: usize, s: Spot, a: Acc) -> Spot
     requires { ⌜ (s .at < s .end) × (s .level ≤ levels) × (length (now stack) ≡ 2 * levels) ⌝ }
-    ensures { λ r. ⌜ r ≡ onwardOf levels (now (stack .entry)) s a ⌝ }
+    ensures { λ r. ⌜ r ≡ pastCell levels (now (stack .entry)) s a ⌝ }
 {
     let next = s.at + 1;
     if next < s.end {

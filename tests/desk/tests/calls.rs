@@ -206,7 +206,7 @@ fn found(change: fn(&mut Record, &mut Areas)) -> Option<Fault> {
 #[test]
 fn what_is_found_bad() {
     assert_eq!(found(|record, _| record.words[2] = 4), Some(Fault::Settings(6)));
-    assert_eq!(found(|record, _| record.words[3] = 2), Some(Fault::Counters));
+    assert_eq!(found(|record, _| record.words[3] = 2), Some(Fault::Settings(13)));
     assert_eq!(found(|record, _| record.words[12] += 1), Some(Fault::Counters));
     assert_eq!(found(|_, areas| areas.forces.clear()), Some(Fault::Areas));
     assert_eq!(found(|_, areas| areas.nodes.clear()), Some(Fault::Areas));

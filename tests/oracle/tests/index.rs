@@ -17,23 +17,36 @@ fn declared(file: &Path) -> BTreeSet<String> {
 fn declares(line: &str) -> Option<String> {
     let words: Vec<&str> = line.split_whitespace().collect();
     let at = words.iter().position(|w| *w == "pub")?;
-    let name = words[at + 1..].iter().find(|w| !["record", "data", "abbrev"].contains(w))?;
+    let name = words[at + 1..]
+        .iter()
+        .find(|w| !["record", "data", "abbrev"].contains(w))?;
     Some((*name).to_string())
 }
 
 /// The names in backticks of a cell; what has a blank in it is no name.
 fn names(cell: &str) -> Vec<&str> {
-    cell.split('`').skip(1).step_by(2).filter(|n| !n.contains(' ')).collect()
+    cell.split('`')
+        .skip(1)
+        .step_by(2)
+        .filter(|n| !n.contains(' '))
+        .collect()
 }
 
 /// The files that a row names: `(crate/specs/File)` in a rule's row, `crate, File` in a theorem's.
 fn files(cells: &[&str]) -> Vec<PathBuf> {
     let mut found: Vec<PathBuf> = Vec::new();
-    for part in cells[1].split(['(', ')', ',', ';', ' ']).filter(|p| p.matches('/').count() == 2) {
+    for part in cells[1]
+        .split(['(', ')', ',', ';', ' '])
+        .filter(|p| p.matches('/').count() == 2)
+    {
         found.push(root().join("crates").join(part).with_extension("antt"));
     }
     if let (true, Some((krate, file))) = (found.is_empty(), cells[1].split_once(", ")) {
-        let below = if file.contains('/') { file.to_string() } else { format!("proofs/{file}") };
+        let below = if file.contains('/') {
+            file.to_string()
+        } else {
+            format!("proofs/{file}")
+        };
         found.push(root().join("crates").join(krate).join(below).with_extension("antt"));
     }
     found

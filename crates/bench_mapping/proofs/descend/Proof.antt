@@ -1,5 +1,5 @@
 -- `descend`: preparation, then the work call, as the definitions have it. Assumes nothing.
-use Rattle.bench_mapping.proofs.Laws.{refused-is, worked-is}
+use Rattle.bench_mapping.proofs.Laws.{refused-map, worked-is}
 use borrow.Author.Needs.{needs}
 use Rattle.bench_mapping.proofs.descend.Statement.{statement}
 use Rattle.bench_mapping.proofs.descend.Tie as tie
@@ -68,7 +68,7 @@ work-on-requires : tie.Need-work-on-requires
 work-on-requires c κs = search needs
 
 returns : tie.Need-returns
-returns c = refused-is _ _ _ _ _ (c .before .before .before .before .before .before .before .before .before .before .before .before .prepare .ensures) _ (c .before .p .given .1)
+returns c = refused-map _ _ _ _ _ (c .before .before .before .before .before .before .before .before .before .before .before .before .prepare .ensures) _ (c .before .p .given .1)
 
 returns-2 : tie.Need-returns-2
 returns-2 c =

@@ -68,10 +68,10 @@ use Rattle.run_entry.proofs.CallsFaultAt.{Contract-fault-at, calls-fault-at-ccs
 use Rattle.run_entry.proofs.fault_at.Symbol as fault-at-def
 use Rattle.run_entry.proofs.fault_at.Symbol.{name as #run-entry·fault-at}
 use Rattle.run_entry.proofs.fault_at.Met as fault-at-thm
-use Rattle.descent.proofs.ByValue.{Contract-is-fine, calls-is-fine}
-use Rattle.run_entry.proofs.is_fine.Symbol as is-fine-def
-use Rattle.run_entry.proofs.is_fine.Symbol.{name as #run-entry·is-fine}
-use Rattle.run_entry.proofs.is_fine.Met as is-fine-thm
+use Rattle.descent.proofs.ByValue.{Contract-passes, calls-passes}
+use Rattle.descent.proofs.passes.Symbol as passes-def
+use Rattle.descent.proofs.passes.Symbol.{name as #descent·passes}
+use Rattle.descent.proofs.passes.Met as passes-thm
 use Rattle.run_budget.proofs.CallsGoOn.{Contract-go-on, calls-go-on-mmmcccmm}
 use Rattle.run_budget.proofs.go_on.Symbol as go-on-def
 use Rattle.run_budget.proofs.go_on.Symbol.{name as #run-budget·go-on}
@@ -130,7 +130,7 @@ module _ {M : Type 1} (𝓤 : URA M) (H : Heap 𝓤) (A : Atoms 𝓤) (W : Given
       suffices ! _ (ends-at 𝓤 H A f.ended stayed (f.clauses 𝓤 H A mem run-of) W (((s-run₀ .life, (s-positions .life, (s-increments .life, (s-gains .life, (s-affinities .life, (s-indices .life, (s-offsets .life, (s-forces .life, (s-cells .life, tt))))))))), (s-run₀ .share, (s-positions .share, (s-increments .share, (s-gains .share, (s-affinities .share, (s-indices .share, (s-offsets .share, (s-forces .share, (s-cells .share, tt))))))))), tt, x, at), tt) (val-Answer res) res (run₀′, (positions′, (increments′, (gains′, (tt, (tt, (tt, (forces′, (cells′, (tt, tt)))))))))) (tt, (le-positions ∙ sym ln-positions, (le-increments ∙ sym ln-increments, (le-gains ∙ sym ln-gains, (tt, (tt, (tt, (le-forces ∙ sym ln-forces, (le-cells ∙ sym ln-cells, (tt, tt))))))))))) $ says ! e $
       nothing ! $ move ! (19 ∷ 0 ∷ []) $ join ! $ move ! (17 ∷ 0 ∷ []) $ join ! $ move ! (15 ∷ 0 ∷ []) $ join ! $ move ! (13 ∷ 0 ∷ []) $ join ! $ move ! (11 ∷ 0 ∷ []) $ join ! $ move ! (9 ∷ 0 ∷ []) $ join ! $ move ! (7 ∷ 0 ∷ []) $ join ! $ move ! (5 ∷ 0 ∷ []) $ join ! $ move ! (3 ∷ 0 ∷ []) $ join ! $ frame ! $ nothing ! $ owned ! u32 (Is u32) (uint-makes 𝓤 H A W w32) budget _ (refl, g-budget) $ fjoin ! $ move ! (10 ∷ 0 ∷ []) $ fjoin ! $ move ! (9 ∷ 0 ∷ []) $ fjoin ! $ move ! (8 ∷ 0 ∷ []) $ fjoin ! $ move ! (7 ∷ 0 ∷ []) $ fjoin ! $ move ! (6 ∷ 0 ∷ []) $ fjoin ! $ move ! (5 ∷ 0 ∷ []) $ fjoin ! $ move ! (4 ∷ 0 ∷ []) $ fjoin ! $ move ! (3 ∷ 0 ∷ []) $ fjoin ! $ move ! (1 ∷ 2 ∷ []) $ feqI ! (List Val) (vptr (s-run₀ .block) (s-run₀ .off) ∷ []) (vptr (s-run₀ .block) (s-run₀ .off) ∷ []) refl $ fjoin3 ! $ fjoin ! $ frame ! $ owned ! Answer′.the-row (Is Answer′.the-row) ((EL.makes Answer′.the-type Answer″.the-plain) 𝓤 H A) res _ is $ done !
 
-  module _ (C : Calls 𝓤 H) (Λ : Loops 𝓤 H) (fm : FmC 𝓤 H (W .laws) C) (known-fault-at : Triple 𝓤 (C #run-entry·fault-at) (Contract-fault-at 𝓤 H A mem run-of)) (known-is-fine : Triple 𝓤 (C #run-entry·is-fine) (Contract-is-fine 𝓤 H A mem run-of)) (known-go-on : Triple 𝓤 (C #run-budget·go-on) (Contract-go-on 𝓤 H A mem run-of)) (known-bad : Triple 𝓤 (C #descent·bad) (Contract-bad 𝓤 H A mem run-of)) where
+  module _ (C : Calls 𝓤 H) (Λ : Loops 𝓤 H) (fm : FmC 𝓤 H (W .laws) C) (known-fault-at : Triple 𝓤 (C #run-entry·fault-at) (Contract-fault-at 𝓤 H A mem run-of)) (known-passes : Triple 𝓤 (C #descent·passes) (Contract-passes 𝓤 H A mem run-of)) (known-go-on : Triple 𝓤 (C #run-budget·go-on) (Contract-go-on 𝓤 H A mem run-of)) (known-bad : Triple 𝓤 (C #descent·bad) (Contract-bad 𝓤 H A mem run-of)) where
     abbrev τ : ℕ → Ty
     τ k = type-of k pieces.locals
 
@@ -156,7 +156,7 @@ module _ {M : Type 1} (𝓤 : URA M) (H : Heap 𝓤) (A : Atoms 𝓤) (W : Given
         move ! (8 ∷ 9 ∷ 10 ∷ 11 ∷ 14 ∷ 15 ∷ []) $
         calls-fault-at-ccs ! fm mem run-of known-fault-at run₀ (s-positions .count) (s-increments .count) (s-gains .count) (s-affinities .count) (s-forces .count) s-indices indices s-offsets offsets s-cells cells g-run₀ (room-positions .0) (room-increments .0) (room-gains .0) (room-affinities .0) (room-forces .0) (λ _ _ _ _. and-then ! (load ! (from ! (stop !)) (look ! 66 refl)) (and-then ! (load ! (from ! (stop !)) (look ! 52 refl)) (and-then ! (load ! (from ! (stop !)) (look ! 50 refl)) (and-then ! (load ! (from ! (stop !)) (look ! 48 refl)) (and-then ! (load ! (from ! (stop !)) (look ! 46 refl)) (and-then ! (load ! (from ! (stop !)) (look ! 44 refl)) (and-then ! (load ! (from ! (stop !)) (look ! 76 refl)) (and-then ! (load ! (from ! (stop !)) (look ! 74 refl)) (and-then ! (load ! (from ! (stop !)) (look ! 40 refl)) (no-more !)))))))))) (λ r1 e1 is1.
         land ! (from ! (stop !)) (init ! 66 refl (typed-Fault r1 is1)) $
-        calls-is-fine ! fm mem run-of known-is-fine r1 is1 (λ _. and-then ! (load ! (from ! (stop !)) (look ! 67 refl)) (no-more !)) (λ r2 e2 is2.
+        calls-passes ! fm mem run-of known-passes r1 is1 (λ _. and-then ! (load ! (from ! (stop !)) (look ! 67 refl)) (no-more !)) (λ r2 e2 is2.
         land ! (from ! (stop !)) (init ! 64 refl (tt, tt)) $
         assigns ! (of-opd ! (load ! (from ! (stop !)) (look ! 64 refl))) (from ! (stop !)) (init ! 40 refl (tt, tt)) $
         first ! $ branches ! (load ! (from ! (stop !)) (look ! 40 refl))
@@ -192,8 +192,8 @@ module _ {M : Type 1} (𝓤 : URA M) (H : Heap 𝓤) (A : Atoms 𝓤) (W : Given
         keep ! (0 ∷ 1 ∷ 2 ∷ 9 ∷ 10 ∷ 11 ∷ 12 ∷ 13 ∷ 14 ∷ 15 ∷ 16 ∷ 3 ∷ 4 ∷ 5 ∷ 6 ∷ 17 ∷ 18 ∷ 7 ∷ 8 ∷ []) $ by ! (exits r4 positions increments gains forces cells run₀ g-run₀ is4 ln-positions ln-increments ln-gains ln-forces ln-cells (call-bad run₀ positions increments gains affinities indices offsets forces cells _ _ _ _ _ ln-positions ln-increments ln-gains ln-affinities ln-forces r1 e1 r2 e2 no1 budget r4 e4))))))))))))))))))))))))))))))))))))))))))))
 
 module _ {M : Type 1} (𝓤 : URA M) (H : Heap 𝓤) (A : Atoms 𝓤) (W : Given 𝓤 H A) (mem : Memory → SProp 𝓤) (run-of : Routine → Fun 𝓤) where
-  work-walks : (C : Calls 𝓤 H) (Λ : Loops 𝓤 H) → FmC 𝓤 H (W .laws) C → Triple 𝓤 (C #run-entry·fault-at) (Contract-fault-at 𝓤 H A mem run-of) → Triple 𝓤 (C #run-entry·is-fine) (Contract-is-fine 𝓤 H A mem run-of) → Triple 𝓤 (C #run-budget·go-on) (Contract-go-on 𝓤 H A mem run-of) → Triple 𝓤 (C #descent·bad) (Contract-bad 𝓤 H A mem run-of) → Walks 𝓤 H A f.ended stayed (WpFn 𝓤 H C Λ code.function) (f.clauses 𝓤 H A mem run-of)
-  work-walks C Λ fm known-fault-at known-is-fine known-go-on known-bad = walked 𝓤 H A f.ended stayed (f.clauses 𝓤 H A mem run-of) (WpFn 𝓤 H C Λ code.function)
+  work-walks : (C : Calls 𝓤 H) (Λ : Loops 𝓤 H) → FmC 𝓤 H (W .laws) C → Triple 𝓤 (C #run-entry·fault-at) (Contract-fault-at 𝓤 H A mem run-of) → Triple 𝓤 (C #descent·passes) (Contract-passes 𝓤 H A mem run-of) → Triple 𝓤 (C #run-budget·go-on) (Contract-go-on 𝓤 H A mem run-of) → Triple 𝓤 (C #descent·bad) (Contract-bad 𝓤 H A mem run-of) → Walks 𝓤 H A f.ended stayed (WpFn 𝓤 H C Λ code.function) (f.clauses 𝓤 H A mem run-of)
+  work-walks C Λ fm known-fault-at known-passes known-go-on known-bad = walked 𝓤 H A f.ended stayed (f.clauses 𝓤 H A mem run-of) (WpFn 𝓤 H C Λ code.function)
       (λ κs. (ptr-vals, (slice-vals, (slice-vals, (slice-vals, (slice-vals, (slice-vals, (slice-vals, (slice-vals, (slice-vals, (uint-vals w32, tt)))))))))))
       (λ κs. (mut-tells (named 0) (κs .0) Run′.the-row, (mut-slice-tells (named 1) (κs .1 .0) f64, (mut-slice-tells (named 2) (κs .1 .1 .0) f64, (mut-slice-tells (named 3) (κs .1 .1 .1 .0) f64, (shr-slice-tells (named 4) (κs .1 .1 .1 .1 .0) f64, (shr-slice-tells (named 5) (κs .1 .1 .1 .1 .1 .0) u32, (shr-slice-tells (named 6) (κs .1 .1 .1 .1 .1 .1 .0) u32, (mut-slice-tells (named 7) (κs .1 .1 .1 .1 .1 .1 .1 .0) f64, (mut-slice-tells (named 8) (κs .1 .1 .1 .1 .1 .1 .1 .1 .0) Cell′.the-row, (uint-tells w32, tt)))))))))))
       (λ κs qs bounds a _ are. via 𝓤 _ (fst∗ 𝓤 _ (emp 𝓤))
@@ -216,14 +216,14 @@ module _ {M : Type 1} (𝓤 : URA M) (H : Heap 𝓤) (A : Atoms 𝓤) (W : Given
       (record { life = κs .1 .1 .1 .1 .1 .1 .1 .1 .0; share = qs .1 .1 .1 .1 .1 .1 .1 .1 .0; block = a .1 .1 .1 .1 .1 .1 .1 .1 .0 .ptr .0; off = a .1 .1 .1 .1 .1 .1 .1 .1 .0 .ptr .1; tag = a .1 .1 .1 .1 .1 .1 .1 .1 .0 .name; count = length (a .1 .1 .1 .1 .1 .1 .1 .1 .0 .now) }) (a .1 .1 .1 .1 .1 .1 .1 .1 .0 .now)
       refl (are .1 .1 .1 .1 .1 .1 .1 .1 .0 .0 .1)
       (a .1 .1 .1 .1 .1 .1 .1 .1 .1 .0) (are .1 .1 .1 .1 .1 .1 .1 .1 .1 .0 .1)
-      C Λ fm known-fault-at known-is-fine known-go-on known-bad))
+      C Λ fm known-fault-at known-passes known-go-on known-bad))
 
 work-meets : {M : Type 1} (𝓤 : URA M) (H : Heap 𝓤) (A : Atoms 𝓤) → Given 𝓤 H A → (mem : Memory → SProp 𝓤) (run-of : Routine → Fun 𝓤) (𝓣 : Tables 𝓤 H)
-    → Triple 𝓤 (𝓣 .C #run-entry·fault-at) (Contract-fault-at 𝓤 H A mem run-of) → Triple 𝓤 (𝓣 .C #run-entry·is-fine) (Contract-is-fine 𝓤 H A mem run-of) → Triple 𝓤 (𝓣 .C #run-budget·go-on) (Contract-go-on 𝓤 H A mem run-of) → Triple 𝓤 (𝓣 .C #descent·bad) (Contract-bad 𝓤 H A mem run-of)
+    → Triple 𝓤 (𝓣 .C #run-entry·fault-at) (Contract-fault-at 𝓤 H A mem run-of) → Triple 𝓤 (𝓣 .C #descent·passes) (Contract-passes 𝓤 H A mem run-of) → Triple 𝓤 (𝓣 .C #run-budget·go-on) (Contract-go-on 𝓤 H A mem run-of) → Triple 𝓤 (𝓣 .C #descent·bad) (Contract-bad 𝓤 H A mem run-of)
     → Meets 𝓤 H A f.signature (WpFn 𝓤 H (𝓣 .C) (𝓣 .Λ) code.function) (f.spec 𝓤 H A mem run-of)
-work-meets 𝓤 H A W mem run-of 𝓣 known-fault-at known-is-fine known-go-on known-bad =
+work-meets 𝓤 H A W mem run-of 𝓣 known-fault-at known-passes known-go-on known-bad =
     walk-meets 𝓤 H A f.ended stayed W (goes-ref 𝓤 H A W 9 0 tt (plain (λ _. Run′.the-row)), (goes-slice 𝓤 H A W 9 1 tt (plain (λ _. f64)), (goes-slice 𝓤 H A W 9 2 tt (plain (λ _. f64)), (goes-slice 𝓤 H A W 9 3 tt (plain (λ _. f64)), (goes-none-slice 𝓤 H A W 9 (4 ∷ []) tt (plain (λ _. f64)) yes, (goes-none-slice 𝓤 H A W 9 (5 ∷ []) tt (plain (λ _. u32)) yes, (goes-none-slice 𝓤 H A W 9 (6 ∷ []) tt (plain (λ _. u32)) yes, (goes-slice 𝓤 H A W 9 7 tt (plain (λ _. f64)), (goes-slice 𝓤 H A W 9 8 tt (plain (λ _. Cell′.the-row)), (goes-none 𝓤 H A W 9 (λ _. u32) yes (λ κs x f. refl), tt)))))))))) (f.clauses 𝓤 H A mem run-of)
-    (WpFn 𝓤 H (𝓣 .C) (𝓣 .Λ) code.function) (WpFn-mono 𝓤 H (W .laws) 𝓣 code.function) (work-walks 𝓤 H A W mem run-of (𝓣 .C) (𝓣 .Λ) (fmOf 𝓤 H (W .laws) 𝓣) known-fault-at known-is-fine known-go-on known-bad)
+    (WpFn 𝓤 H (𝓣 .C) (𝓣 .Λ) code.function) (WpFn-mono 𝓤 H (W .laws) 𝓣 code.function) (work-walks 𝓤 H A W mem run-of (𝓣 .C) (𝓣 .Λ) (fmOf 𝓤 H (W .laws) 𝓣) known-fault-at known-passes known-go-on known-bad)
 
 pub work-spec : {M : Type 1} → stated.statement M
 unfolding code.routine tablesOf
@@ -232,6 +232,6 @@ work-spec 𝓤 H 𝓜 𝓖 𝓡 =
     (tables 𝓤 H 𝓜 𝓡 code.env .C) (tables 𝓤 H 𝓜 𝓡 code.env .Λ) #descent·work code.function (code.unfolded 𝓤 H 𝓜 𝓡)
     (work-meets 𝓤 H (𝓖 .A) (givenOf 𝓤 H 𝓜 𝓖) (𝓜 .mem) (𝓡 .run) (tablesOf 𝓤 H 𝓜 (tables 𝓤 H 𝓜 𝓡 code.env))
     (cited 𝓤 H (Contract-fault-at 𝓤 H (𝓖 .A) (𝓜 .mem) (𝓡 .run)) 𝓜 𝓡 code.env #run-entry·fault-at fault-at-def.routine code.calls-run-entry·fault-at (fault-at-thm.met 𝓤 H 𝓜 𝓖 𝓡))
-    (cited 𝓤 H (Contract-is-fine 𝓤 H (𝓖 .A) (𝓜 .mem) (𝓡 .run)) 𝓜 𝓡 code.env #run-entry·is-fine is-fine-def.routine code.calls-run-entry·is-fine (is-fine-thm.met 𝓤 H 𝓜 𝓖 𝓡))
+    (cited 𝓤 H (Contract-passes 𝓤 H (𝓖 .A) (𝓜 .mem) (𝓡 .run)) 𝓜 𝓡 code.env #descent·passes passes-def.routine code.calls-descent·passes (passes-thm.met 𝓤 H 𝓜 𝓖 𝓡))
     (cited 𝓤 H (Contract-go-on 𝓤 H (𝓖 .A) (𝓜 .mem) (𝓡 .run)) 𝓜 𝓡 code.env #run-budget·go-on go-on-def.routine code.calls-run-budget·go-on (go-on-thm.met 𝓤 H 𝓜 𝓖 𝓡))
     (cited 𝓤 H (Contract-bad 𝓤 H (𝓖 .A) (𝓜 .mem) (𝓡 .run)) 𝓜 𝓡 code.env #descent·bad bad-def.routine code.calls-descent·bad (bad-thm.met 𝓤 H 𝓜 𝓖 𝓡)))

@@ -10,15 +10,15 @@ is-bad-requires c κs = search needs
 returns : tie.Need-returns
 returns c = bad-after _ _ _ (sym (c .before .is-bad .ensures) ∙ c .if1 .taken)
 
-put-run-requires : tie.Need-put-run-requires
-put-run-requires c κs = search needs
+put-progress-requires : tie.Need-put-progress-requires
+put-progress-requires c κs = search needs
 
 same-length : tie.Need-same-length
 same-length c = search needs
 
 returns-2 : tie.Need-returns-2
-returns-2 c = fine-after _ _ _ (sym (c .before .before .before .before .before .is-bad .ensures) ∙ c .before .before .before .before .if1 .left) (c .before .before .put-run .ensures)
+returns-2 c = fine-after _ _ _ (sym (c .before .before .before .before .before .is-bad .ensures) ∙ c .before .before .before .before .if1 .left) (c .before .before .put-progress .ensures)
 
 pub put-after-spec : {M : Type 1} → statement M
 put-after-spec =
-    tie.close (tie.spec is-bad-requires returns put-run-requires same-length returns-2)
+    tie.close (tie.spec is-bad-requires returns put-progress-requires same-length returns-2)

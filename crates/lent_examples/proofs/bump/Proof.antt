@@ -41,7 +41,7 @@ use denote.Exit.{yes}
 use Rattle.lent.proofs.Pass.{Seat, Tok}
 use denote.Struct.Laws as LL
 use Prim.Native.Nat.{_<_}
-use Rattle.lent_examples.specs.Lending.{Fits, bumpedOf}
+use Rattle.lent_examples.specs.Lending.{CountFits, bumpedOf}
 use mathlib.Core.Path.{_≡_}
 use Rattle.lent_examples.specs.declared.Counter.{Counter}
 use Rattle.lent_examples.proofs.Counter as Counter′
@@ -88,7 +88,7 @@ module _ {M : Type 1} (𝓤 : URA M) (H : Heap 𝓤) (A : Atoms 𝓤) (W : Given
       nothing ! $ move ! (3 ∷ 0 ∷ []) $ join ! $ frame ! $ nothing ! $ owned ! f64 (Is f64) (float-makes 𝓤 H A W binary64) mark _ (refl, g-mark) $ fjoin ! $ owned ! u32 (Is u32) (uint-makes 𝓤 H A W w32) more _ (refl, g-more) $ fjoin ! $ move ! (1 ∷ 2 ∷ []) $ feqI ! (List Val) (vptr (s-c .block) (s-c .off) ∷ []) (vptr (s-c .block) (s-c .off) ∷ []) refl $ fjoin3 ! $ fjoin ! $ frame ! $ feqI ! (List Val) (vunit ∷ []) (vunit ∷ []) refl $ done !
 
   module _ (C : Calls 𝓤 H) (Λ : Loops 𝓤 H) (fm : FmC 𝓤 H (W .laws) C) (known-counted : Triple 𝓤 (C #lent-examples·counted) (Contract-counted 𝓤 H A mem run-of)) where
-    walk : Fits c more → ent 𝓤 (onEntry 𝓤 H A f.signature (s-c .life, tt) (s-c .share, tt) x at) (WpFn 𝓤 H C Λ code.function (vptr (s-c .block) (s-c .off) ∷ vint w32 more ∷ vfloat binary64 mark ∷ []) Post)
+    walk : CountFits c more → ent 𝓤 (onEntry 𝓤 H A f.signature (s-c .life, tt) (s-c .share, tt) x at) (WpFn 𝓤 H C Λ code.function (vptr (s-c .block) (s-c .off) ∷ vint w32 more ∷ vfloat binary64 mark ∷ []) Post)
     walk ready =
         qed W ((‵ (Tok s-c) ⊛ ‵ ftrue) ∷ ‵ (owns (MutRef (named 0) (s-c .life) Counter′.the-row ∷ u32 ∷ f64 ∷ []) x at) ∷ []) ∵ enter ! C Λ code.function (vptr (s-c .block) (s-c .off) ∷ vint w32 more ∷ vfloat binary64 mark ∷ []) _ $
         alloc1 ! (λ l0. alloc1 ! (λ l1. alloc1 ! (λ l2. alloc1 ! (λ l3. alloc1 ! (λ l4. alloc1 ! (λ l5. alloc0 ! $ params1 ! $
@@ -110,7 +110,7 @@ module _ {M : Type 1} (𝓤 : URA M) (H : Heap 𝓤) (A : Atoms 𝓤) (W : Given
   bump-walks C Λ fm known-counted = walked 𝓤 H A f.ended stayed (f.clauses 𝓤 H A mem run-of) (WpFn 𝓤 H C Λ code.function)
       (λ κs. (ptr-vals, (uint-vals w32, (float-vals binary64, tt))))
       (λ κs. (mut-tells (named 0) (κs .0) Counter′.the-row, (uint-tells w32, (float-tells binary64, tt))))
-      (λ κs qs bounds a _ are. needs 𝓤 (Fits (a .0 .now) (a .1 .0)) _
+      (λ κs qs bounds a _ are. needs 𝓤 (CountFits (a .0 .now) (a .1 .0)) _
       (walk 𝓤 H A W mem run-of
       (record { life = κs .0; share = qs .0; block = a .0 .ptr .0; off = a .0 .ptr .1; tag = a .0 .name; count = 0 }) (a .0 .now)
       (a .1 .0) (are .1 .0 .1)

@@ -35,7 +35,7 @@ use denote.Exit.{yes}
 use Rattle.lent.proofs.Local.{local-at, lend-struct, back-struct}
 use denote.Struct.Laws as LL
 use Prim.Native.Nat.{_<_}
-use Rattle.lent_examples.specs.Lending.{Fits, bumpedOf}
+use Rattle.lent_examples.specs.Lending.{CountFits, bumpedOf}
 use mathlib.Core.Path.{_≡_}
 use Rattle.lent_examples.specs.declared.Counter.{Counter}
 use Rattle.lent_examples.proofs.Counter as Counter′
@@ -79,7 +79,7 @@ module _ {M : Type 1} (𝓤 : URA M) (H : Heap 𝓤) (A : Atoms 𝓤) (W : Given
       nothing ! $ frame ! $ nothing ! $ owned ! f64 (Is f64) (float-makes 𝓤 H A W binary64) mark _ (refl, g-mark) $ fjoin ! $ owned ! u32 (Is u32) (uint-makes 𝓤 H A W w32) more _ (refl, g-more) $ fjoin ! $ owned ! Counter′.the-row (Is Counter′.the-row) ((LL.makes Counter′.the-type Counter″.the-plain) 𝓤 H A) c _ g-c $ fjoin ! $ frame ! $ owned ! Counter′.the-row (Is Counter′.the-row) ((LL.makes Counter′.the-type Counter″.the-plain) 𝓤 H A) res _ is $ done !
 
   module _ (C : Calls 𝓤 H) (Λ : Loops 𝓤 H) (fm : FmC 𝓤 H (W .laws) C) (known-bump : Triple 𝓤 (C #lent-examples·bump) (Contract-bump 𝓤 H A mem run-of)) where
-    walk : Fits c more → ent 𝓤 (onEntry 𝓤 H A f.signature tt tt x at) (WpFn 𝓤 H C Λ code.function (val-Counter c ∷ vint w32 more ∷ vfloat binary64 mark ∷ []) Post)
+    walk : CountFits c more → ent 𝓤 (onEntry 𝓤 H A f.signature tt tt x at) (WpFn 𝓤 H C Λ code.function (val-Counter c ∷ vint w32 more ∷ vfloat binary64 mark ∷ []) Post)
     walk ready =
         qed W (‵ ftrue ∷ ‵ (owns (Counter′.the-row ∷ u32 ∷ f64 ∷ []) x at) ∷ []) ∵ enter ! C Λ code.function (val-Counter c ∷ vint w32 more ∷ vfloat binary64 mark ∷ []) _ $
         alloc1 ! (λ l0. alloc1 ! (λ l1. alloc1 ! (λ l2. alloc1 ! (λ l3. alloc1 ! (λ l4. alloc1 ! (λ l5. alloc1 ! (λ l6. alloc0 ! $ params1 ! $
@@ -102,7 +102,7 @@ module _ {M : Type 1} (𝓤 : URA M) (H : Heap 𝓤) (A : Atoms 𝓤) (W : Given
   bumped-walks C Λ fm known-bump = walked 𝓤 H A f.ended stayed (f.clauses 𝓤 H A mem run-of) (WpFn 𝓤 H C Λ code.function)
       (λ κs. (LL.vals Counter′.the-type Counter″.the-laws, (uint-vals w32, (float-vals binary64, tt))))
       (λ κs. (LL.tells Counter′.the-type Counter″.the-laws, (uint-tells w32, (float-tells binary64, tt))))
-      (λ κs qs bounds a _ are. needs 𝓤 (Fits (a .0) (a .1 .0)) _
+      (λ κs qs bounds a _ are. needs 𝓤 (CountFits (a .0) (a .1 .0)) _
       (walk 𝓤 H A W mem run-of
       (a .0) (are .0)
       (a .1 .0) (are .1 .0 .1)

@@ -43,7 +43,7 @@ use Rattle.lent.proofs.Pass.{Seat, ref-at, word, Mut, Shr, Tok}
 use denote.Struct.Laws as LL
 use Prim.Native.Nat.{_<_}
 use Rattle.lent_examples.proofs.Parts.{note-told}
-use Rattle.lent_examples.specs.Lending.{valueOr, valued, Fits, bumpedOf}
+use Rattle.lent_examples.specs.Lending.{valueOr, valued, CountFits, bumpedOf}
 use Rattle.tree_node.specs.Arena.{cellAt}
 use lib.ListN.{length, set}
 use mathlib.Core.Path.{_≡_}
@@ -117,7 +117,7 @@ module _ {M : Type 1} (𝓤 : URA M) (H : Heap 𝓤) (A : Atoms 𝓤) (W : Given
       nothing ! $ move ! (7 ∷ 0 ∷ []) $ join ! $ move ! (5 ∷ 0 ∷ []) $ join ! $ move ! (3 ∷ 0 ∷ []) $ join ! $ frame ! $ nothing ! $ owned ! u32 (Is u32) (uint-makes 𝓤 H A W w32) more _ (refl, g-more) $ fjoin ! $ owned ! usize (Is usize) (uint-makes 𝓤 H A W w64) i _ (refl, g-i) $ fjoin ! $ move ! (4 ∷ 0 ∷ []) $ fjoin ! $ move ! (3 ∷ 0 ∷ []) $ fjoin ! $ move ! (1 ∷ 2 ∷ []) $ feqI ! (List Val) (vptr (s-c .block) (s-c .off) ∷ []) (vptr (s-c .block) (s-c .off) ∷ []) refl $ fjoin3 ! $ fjoin ! $ frame ! $ feqI ! (List Val) (vunit ∷ []) (vunit ∷ []) refl $ done !
 
   module _ (C : Calls 𝓤 H) (Λ : Loops 𝓤 H) (fm : FmC 𝓤 H (W .laws) C) (known-value-at : Triple 𝓤 (C #lent-examples·value-at) (Contract-value-at 𝓤 H A mem run-of)) (known-counted : Triple 𝓤 (C #lent-examples·counted) (Contract-counted 𝓤 H A mem run-of)) (known-cell-at : Triple 𝓤 (C #tree-node·arena·cell-at) (Contract-cell-at 𝓤 H A mem run-of)) (known-with-value : Triple 𝓤 (C #lent-examples·with-value) (Contract-with-value 𝓤 H A mem run-of)) (known-put-cell : Triple 𝓤 (C #tree-node·arena·put-cell) (Contract-put-cell 𝓤 H A mem run-of)) where
-    walk : (Fits c more) × (i < length cells) × (i < length values) → ent 𝓤 (onEntry 𝓤 H A f.signature (s-c .life, (s-cells .life, (s-values .life, tt))) (s-c .share, (s-cells .share, (s-values .share, tt))) x at) (WpFn 𝓤 H C Λ code.function (vptr (s-c .block) (s-c .off) ∷ word s-cells ∷ word s-values ∷ vint w64 i ∷ vint w32 more ∷ []) Post)
+    walk : (CountFits c more) × (i < length cells) × (i < length values) → ent 𝓤 (onEntry 𝓤 H A f.signature (s-c .life, (s-cells .life, (s-values .life, tt))) (s-c .share, (s-cells .share, (s-values .share, tt))) x at) (WpFn 𝓤 H C Λ code.function (vptr (s-c .block) (s-c .off) ∷ word s-cells ∷ word s-values ∷ vint w64 i ∷ vint w32 more ∷ []) Post)
     walk ready =
         qed W ((‵ (Tok s-c) ⊛ ‵ (Tok s-cells) ⊛ ‵ (Tok s-values) ⊛ ‵ ftrue) ∷ ‵ (owns (MutRef (named 0) (s-c .life) Counter′.the-row ∷ MutSlice (named 1) (s-cells .life) Cell′.the-row ∷ ShrSlice (named 2) (s-values .life) f64 ∷ usize ∷ u32 ∷ []) x at) ∷ []) ∵ enter ! C Λ code.function (vptr (s-c .block) (s-c .off) ∷ word s-cells ∷ word s-values ∷ vint w64 i ∷ vint w32 more ∷ []) _ $
         alloc1 ! (λ l0. alloc1 ! (λ l1. alloc1 ! (λ l2. alloc1 ! (λ l3. alloc1 ! (λ l4. alloc1 ! (λ l5. alloc1 ! (λ l6. alloc1 ! (λ l7. alloc1 ! (λ l8. alloc1 ! (λ l9. alloc1 ! (λ l10. alloc1 ! (λ l11. alloc1 ! (λ l12. alloc1 ! (λ l13. alloc1 ! (λ l14. alloc1 ! (λ l15. alloc0 ! $ params1 ! $
@@ -154,7 +154,7 @@ module _ {M : Type 1} (𝓤 : URA M) (H : Heap 𝓤) (A : Atoms 𝓤) (W : Given
   note-from-walks C Λ fm known-value-at known-counted known-cell-at known-with-value known-put-cell = walked 𝓤 H A f.ended stayed (f.clauses 𝓤 H A mem run-of) (WpFn 𝓤 H C Λ code.function)
       (λ κs. (ptr-vals, (slice-vals, (slice-vals, (uint-vals w64, (uint-vals w32, tt))))))
       (λ κs. (mut-tells (named 0) (κs .0) Counter′.the-row, (mut-slice-tells (named 1) (κs .1 .0) Cell′.the-row, (shr-slice-tells (named 2) (κs .1 .1 .0) f64, (uint-tells w64, (uint-tells w32, tt))))))
-      (λ κs qs bounds a _ are. needs 𝓤 ((Fits (a .0 .now) (a .1 .1 .1 .1 .0)) × ((a .1 .1 .1 .0) < length (a .1 .0 .now)) × ((a .1 .1 .1 .0) < length (a .1 .1 .0 .now))) _
+      (λ κs qs bounds a _ are. needs 𝓤 ((CountFits (a .0 .now) (a .1 .1 .1 .1 .0)) × ((a .1 .1 .1 .0) < length (a .1 .0 .now)) × ((a .1 .1 .1 .0) < length (a .1 .1 .0 .now))) _
       (walk 𝓤 H A W mem run-of
       (record { life = κs .0; share = qs .0; block = a .0 .ptr .0; off = a .0 .ptr .1; tag = a .0 .name; count = 0 }) (a .0 .now)
       (record { life = κs .1 .0; share = qs .1 .0; block = a .1 .0 .ptr .0; off = a .1 .0 .ptr .1; tag = a .1 .0 .name; count = length (a .1 .0 .now) }) (a .1 .0 .now)

@@ -41,7 +41,7 @@ use Rattle.lent.proofs.Local.{array-val, local-at, lend-front, back-front, lend
 use denote.Struct.Laws as LL
 use Prim.Native.Nat.{_<_, _≤_}
 use Rattle.lent_examples.proofs.Parts.{in-part, noted-told}
-use Rattle.lent_examples.specs.Lending.{valueOr, valued, Fits, bumpedOf, notedOf}
+use Rattle.lent_examples.specs.Lending.{valueOr, valued, CountFits, bumpedOf, notedOf}
 use Rattle.tree_node.specs.Arena.{cellAt}
 use lib.ListN.{length, set}
 use mathlib.Core.Path.{_≡_}
@@ -103,7 +103,7 @@ module _ {M : Type 1} (𝓤 : URA M) (H : Heap 𝓤) (A : Atoms 𝓤) (W : Given
       nothing ! $ move ! (2 ∷ 0 ∷ []) $ join ! $ frame ! $ nothing ! $ owned ! u32 (Is u32) (uint-makes 𝓤 H A W w32) more _ (refl, g-more) $ fjoin ! $ owned ! usize (Is usize) (uint-makes 𝓤 H A W w64) i _ (refl, g-i) $ fjoin ! $ move ! (1 ∷ 0 ∷ []) $ fjoin ! $ owned ! usize (Is usize) (uint-makes 𝓤 H A W w64) k₀ _ (refl, g-k₀) $ fjoin ! $ owned ! (Array Cell′.the-row 8) (Is (Array Cell′.the-row 8)) (array-makes 𝓤 H A W Cell′.the-row ((LL.makes Cell′.the-type Cell″.the-plain) 𝓤 H A) 8) cells _ g-cells $ fjoin ! $ owned ! Counter′.the-row (Is Counter′.the-row) ((LL.makes Counter′.the-type Counter″.the-plain) 𝓤 H A) c _ g-c $ fjoin ! $ frame ! $ owned ! Noted′.the-row (Is Noted′.the-row) ((LL.makes Noted′.the-type Noted″.the-plain) 𝓤 H A) res _ is $ done !
 
   module _ (C : Calls 𝓤 H) (Λ : Loops 𝓤 H) (fm : FmC 𝓤 H (W .laws) C) (known-note-from : Triple 𝓤 (C #lent-examples·note-from) (Contract-note-from 𝓤 H A mem run-of)) (known-note-of : Triple 𝓤 (C #lent-examples·note-of) (Contract-note-of 𝓤 H A mem run-of)) where
-    walk : (Fits c more) × (i < k₀) × (k₀ ≤ 8) × (i < length values) → ent 𝓤 (onEntry 𝓤 H A f.signature (s-values .life, tt) (s-values .share, tt) x at) (WpFn 𝓤 H C Λ code.function (val-Counter c ∷ array-val (LL.vals Cell′.the-type Cell″.the-laws) cells ∷ vint w64 k₀ ∷ word s-values ∷ vint w64 i ∷ vint w32 more ∷ []) Post)
+    walk : (CountFits c more) × (i < k₀) × (k₀ ≤ 8) × (i < length values) → ent 𝓤 (onEntry 𝓤 H A f.signature (s-values .life, tt) (s-values .share, tt) x at) (WpFn 𝓤 H C Λ code.function (val-Counter c ∷ array-val (LL.vals Cell′.the-type Cell″.the-laws) cells ∷ vint w64 k₀ ∷ word s-values ∷ vint w64 i ∷ vint w32 more ∷ []) Post)
     walk ready =
         qed W ((‵ (Tok s-values) ⊛ ‵ ftrue) ∷ ‵ (owns (Counter′.the-row ∷ (Array Cell′.the-row 8) ∷ usize ∷ ShrSlice (named 0) (s-values .life) f64 ∷ usize ∷ u32 ∷ []) x at) ∷ []) ∵ enter ! C Λ code.function (val-Counter c ∷ array-val (LL.vals Cell′.the-type Cell″.the-laws) cells ∷ vint w64 k₀ ∷ word s-values ∷ vint w64 i ∷ vint w32 more ∷ []) _ $
         alloc1 ! (λ l0. alloc1 ! (λ l1. alloc1 ! (λ l2. alloc1 ! (λ l3. alloc1 ! (λ l4. alloc1 ! (λ l5. alloc1 ! (λ l6. alloc1 ! (λ l7. alloc1 ! (λ l8. alloc1 ! (λ l9. alloc1 ! (λ l10. alloc1 ! (λ l11. alloc1 ! (λ l12. alloc1 ! (λ l13. alloc1 ! (λ l14. alloc1 ! (λ l15. alloc0 ! $ params1 ! $
@@ -137,7 +137,7 @@ module _ {M : Type 1} (𝓤 : URA M) (H : Heap 𝓤) (A : Atoms 𝓤) (W : Given
   note-own-walks C Λ fm known-note-from known-note-of = walked 𝓤 H A f.ended stayed (f.clauses 𝓤 H A mem run-of) (WpFn 𝓤 H C Λ code.function)
       (λ κs. (LL.vals Counter′.the-type Counter″.the-laws, (array-vals (LL.vals Cell′.the-type Cell″.the-laws), (uint-vals w64, (slice-vals, (uint-vals w64, (uint-vals w32, tt)))))))
       (λ κs. (LL.tells Counter′.the-type Counter″.the-laws, (array-tells Cell′.the-row (LL.vals Cell′.the-type Cell″.the-laws) (LL.tells Cell′.the-type Cell″.the-laws) 8, (uint-tells w64, (shr-slice-tells (named 0) (κs .0) f64, (uint-tells w64, (uint-tells w32, tt)))))))
-      (λ κs qs bounds a _ are. needs 𝓤 ((Fits (a .0) (a .1 .1 .1 .1 .1 .0)) × ((a .1 .1 .1 .1 .0) < (a .1 .1 .0)) × ((a .1 .1 .0) ≤ 8) × ((a .1 .1 .1 .1 .0) < length (a .1 .1 .1 .0 .now))) _
+      (λ κs qs bounds a _ are. needs 𝓤 ((CountFits (a .0) (a .1 .1 .1 .1 .1 .0)) × ((a .1 .1 .1 .1 .0) < (a .1 .1 .0)) × ((a .1 .1 .0) ≤ 8) × ((a .1 .1 .1 .1 .0) < length (a .1 .1 .1 .0 .now))) _
       (walk 𝓤 H A W mem run-of
       (a .0) (are .0)
       (a .1 .0) (are .1 .0)

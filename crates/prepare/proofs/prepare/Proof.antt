@@ -1,4 +1,4 @@
-use Rattle.prepare.proofs.Laws.{passed, route-room, refused-is, ready-is}
+use Rattle.prepare.proofs.Laws.{passed, route-room, refused-outcome, ready-is}
 use Rattle.prepare.specs.Prepare.{lent}
 use Rattle.run_record.specs.Record.{sizesOf}
 use mathlib.Core.Path.{sym, _∙_}
@@ -11,7 +11,7 @@ prepare-fault-requires : tie.Need-prepare-fault-requires
 prepare-fault-requires c κs = search needs
 
 returns : tie.Need-returns
-returns c = refused-is _ _ _ _ (lent (c .before .before .before .before .before .before .before .before .before .before .before .before .before .args .positions .now) (c .before .before .before .before .before .before .before .before .before .before .before .before .before .args .increments .now) (c .before .before .before .before .before .before .before .before .before .before .before .before .before .args .gains .now) (c .before .before .before .before .before .before .before .before .before .before .before .before .before .args .affinities .now) (c .before .before .before .before .before .before .before .before .before .before .before .before .before .args .indices .now) (c .before .before .before .before .before .before .before .before .before .before .before .before .before .args .offsets .now) (c .before .before .before .before .before .before .before .before .before .before .before .before .before .args .forces .now) (c .before .before .before .before .before .before .before .before .before .before .before .before .before .args .row-values .now) (c .before .before .before .before .before .before .before .before .before .before .before .before .before .args .row-indices .now)) (c .before .prepare-fault .ensures) (c .if1 .taken)
+returns c = refused-outcome _ _ _ _ (lent (c .before .before .before .before .before .before .before .before .before .before .before .before .before .args .positions .now) (c .before .before .before .before .before .before .before .before .before .before .before .before .before .args .increments .now) (c .before .before .before .before .before .before .before .before .before .before .before .before .before .args .gains .now) (c .before .before .before .before .before .before .before .before .before .before .before .before .before .args .affinities .now) (c .before .before .before .before .before .before .before .before .before .before .before .before .before .args .indices .now) (c .before .before .before .before .before .before .before .before .before .before .before .before .before .args .offsets .now) (c .before .before .before .before .before .before .before .before .before .before .before .before .before .args .forces .now) (c .before .before .before .before .before .before .before .before .before .before .before .before .before .args .row-values .now) (c .before .before .before .before .before .before .before .before .before .before .before .before .before .args .row-indices .now)) (c .before .prepare-fault .ensures) (c .if1 .taken)
 
 sizes-of-requires : tie.Need-sizes-of-requires
 sizes-of-requires c κs = (passed _ _ _ _ (sym (c .before .prepare-fault .ensures) ∙ c .if1 .left)) .good

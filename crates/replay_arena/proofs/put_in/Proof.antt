@@ -48,9 +48,9 @@ use Rattle.tree_node.specs.Node.{Axes}
 use lib.ListN.{length}
 use mathlib.Core.Bool.{true}
 use mathlib.Core.Path.{_≡_}
-use Rattle.tree.specs.declared.Answer.{Answer}
-use Rattle.tree.proofs.Answer as Answer′
-use Rattle.tree.proofs.Answer.Laws as Answer″
+use Rattle.tree.specs.declared.Inserted.{Inserted}
+use Rattle.tree.proofs.Inserted as Inserted′
+use Rattle.tree.proofs.Inserted.Laws as Inserted″
 use Rattle.tree_node.specs.declared.Cell.{Cell}
 use Rattle.tree_node.proofs.Cell as Cell′
 use Rattle.tree_node.proofs.Cell.Laws as Cell″
@@ -58,7 +58,7 @@ use Rattle.replay_arena.specs.declared.Put.{Put}
 use Rattle.replay_arena.proofs.Put as Put′
 use Rattle.replay_arena.proofs.Put.Laws as Put″
 use Rattle.replay_arena.proofs.Values.{val-Put, IsPut}
-use Rattle.tree.proofs.Values.{val-Answer, IsAnswer}
+use Rattle.tree.proofs.Values.{val-Inserted, IsInserted}
 use Rattle.tree.proofs.CallsInsert.{Contract-insert, calls-insert-mc}
 use Rattle.tree.proofs.insertion.insert.Symbol as insert-def
 use Rattle.tree.proofs.insertion.insert.Symbol.{name as #tree·insertion·insert}
@@ -95,8 +95,8 @@ module _ {M : Type 1} (𝓤 : URA M) (H : Heap 𝓤) (A : Atoms 𝓤) (W : Given
   abbrev Post : Val → SProp 𝓤
   Post = walkOf 𝓤 H A f.ended stayed (f.clauses 𝓤 H A mem run-of) .post (((s-positions .life, tt), (s-positions .share, tt), tt, x, at), tt)
 
-  typed-Answer : (v : Answer) → IsAnswer v → T (hasTy Answer″.mir (val-Answer v)) × WT (val-Answer v)
-  typed-Answer v g = LL.lawful Answer′.the-type Answer″.the-laws 𝓤 H A W .typed v _ g .0
+  typed-Inserted : (v : Inserted) → IsInserted v → T (hasTy Inserted″.mir (val-Inserted v)) × WT (val-Inserted v)
+  typed-Inserted v g = LL.lawful Inserted′.the-type Inserted″.the-laws 𝓤 H A W .typed v _ g .0
 
   typed-Put : (v : Put) → IsPut v → T (hasTy Put″.mir (val-Put v)) × WT (val-Put v)
   typed-Put v g = LL.lawful Put′.the-type Put″.the-laws 𝓤 H A W .typed v _ g .0
@@ -121,7 +121,7 @@ module _ {M : Type 1} (𝓤 : URA M) (H : Heap 𝓤) (A : Atoms 𝓤) (W : Given
         lend-front ! tt Cell′.the-row tt (LL.vals Cell′.the-type Cell″.the-laws) ((LL.makes Cell′.the-type Cell″.the-plain) 𝓤 H A) 512 l8 k₀ cells g-cells (lit< tt, lit< tt) (ready .1) (λ ν-own8 δ-own8 count-own8.
         move ! (0 ∷ 1 ∷ 3 ∷ 4 ∷ []) $
         calls-insert-mc ! fm mem run-of known-insert (local-at l8 k₀ ν-own8 δ-own8) (take k₀ cells) s-positions positions n used j c count-own8 g-n g-used g-j g-c (put-asks n used j c k₀ cells positions ready) (λ _ _ _. and-then ! (load ! (from ! (stop !)) (look ! 6 refl)) (and-then ! (load ! (from ! (stop !)) (look ! 23 refl)) (and-then ! (load ! (from ! (stop !)) (look ! 21 refl)) (and-then ! (load ! (from ! (stop !)) (look ! 19 refl)) (and-then ! (load ! (from ! (stop !)) (look ! 17 refl)) (and-then ! (load ! (from ! (stop !)) (look ! 15 refl)) (no-more !))))))) (λ r1 own81 e1 is1 l-own81.
-        land ! (from ! (stop !)) (init ! 13 refl (typed-Answer r1 is1)) $
+        land ! (from ! (stop !)) (init ! 13 refl (typed-Inserted r1 is1)) $
         move ! (0 ∷ 1 ∷ 4 ∷ []) $ back-front ! tt Cell′.the-row (LL.vals Cell′.the-type Cell″.the-laws) (LL.tells Cell′.the-type Cell″.the-laws) 512 l8 k₀ ν-own8 δ-own8 cells own81 (g-cells .1 .0 .1) (λ le-own81 is-own81.
         assigns ! (of-opd ! (load ! (from ! (stop !)) (look ! 0 refl))) (from ! (stop !)) (init ! 3 refl (array-lawful 𝓤 H A W Cell′.the-row (LL.lawful Cell′.the-type Cell″.the-laws 𝓤 H A W) 512 .typed (own81 ++ drop-list k₀ cells) _ is-own81 .0)) $
         calls-put-of ! fm mem run-of known-put-of r1 (own81 ++ drop-list k₀ cells) is1 is-own81 (λ _. and-then ! (load ! (from ! (stop !)) (look ! 12 refl)) (and-then ! (load ! (from ! (stop !)) (look ! 4 refl)) (no-more !))) (λ r2 e2 is2.

@@ -38,7 +38,7 @@ use denote.Triple.Spec.{Meets, tripleOf}
 use denote.Triple.Table.{entered, cited}
 use denote.Triple.Walked.{says, needs, Stays, stay-slice, stay-none, stay-none-slice, walkOf, goes-slice, goes-none, goes-none-slice, Walks, ends-at, walked, walk-meets}
 use denote.Exit.{yes}
-use Rattle.lent.proofs.After.{after, type-of}
+use Rattle.lent.proofs.After.{bodyAfter, type-of}
 use Rattle.lent.proofs.Pass.{Seat, ref-at, word, Mut, Shr, Tok}
 use denote.Struct.Laws as LL
 use Rattle.run_budget.proofs.Lends.{Leads, callsLeft, calls-start, calls-workable, calls-fits, calls-next, calls-nearer, calls-end}
@@ -190,7 +190,7 @@ module _ {M : Type 1} (𝓤 : URA M) (H : Heap 𝓤) (A : Atoms 𝓤) (W : Given
           calls-goes-on ! fm mem run-of known-goes-on (s .g) budget (s .is) g-budget (λ _. and-then ! (load ! (from ! (stop !)) (look ! 47 refl)) (and-then ! (load ! (from ! (stop !)) (look ! 49 refl)) (no-more !))) (λ r1 e1 is1.
           land ! (from ! (stop !)) (init ! 36 refl (tt, tt)) $
           first ! $ branches ! (load ! (from ! (stop !)) (look ! 36 refl))
-          (λ yes1. skips ! $ exec ! C Λ En (after (after pieces.turn-1)) (anyQ (Turned s)) $
+          (λ yes1. skips ! $ exec ! C Λ En (bodyAfter (bodyAfter pieces.turn-1)) (anyQ (Turned s)) $
           assigns ! (of-opd ! (load ! (from ! (fld ! refl (stop !))) (look-in ! 46 (sub ! 0 refl (whole !))))) (from ! (stop !)) (init ! 44 refl (typed-Run (s .g .run) (LL.owed Going′.the-type Going″.the-laws (s .g) _ (s .is) .0))) $
           assigns ! (addr ! (from ! (fld ! refl (hop ! (look-in ! 64 (sub ! 0 refl (whole !))) (stop !))))) (from ! (stop !)) (init ! 34 refl (tt, tt)) $
           assigns ! (agg ! (and-then ! (load ! (from ! (stop !)) (look ! 34 refl)) (and-then ! (load ! (from ! (fld ! refl (stop !))) (look-in ! 64 (sub ! 1 refl (whole !)))) (no-more !)))) (from ! (stop !)) (init ! 32 refl (tt, (tt, (record { fits = room-positions .0 }, tt)))) $

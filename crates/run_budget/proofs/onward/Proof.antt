@@ -1,4 +1,4 @@
-use Rattle.run_budget.specs.Budget.{onwardOf}
+use Rattle.run_budget.specs.Budget.{countedOn}
 use borrow.Author.Needs.{needs}
 use native.Mathlib.Omega.{arith}
 use borrow.Author.Needs.{needs}
@@ -15,11 +15,11 @@ add-t6 : tie.Need-add-t6
 add-t6 c = search needs
 
 returns : tie.Need-returns
-unfolding onwardOf
+unfolding countedOn
 returns c = rw (rw (c .before .before .is-done .ensures) at (c .before .if1 .taken))
 
 returns-2 : tie.Need-returns-2
-unfolding onwardOf
+unfolding countedOn
 returns-2 c = rw (rw (c .before .is-done .ensures) at (c .if1 .left))
 
 pub onward-spec : {M : Type 1} → statement M

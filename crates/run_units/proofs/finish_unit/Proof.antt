@@ -1,4 +1,5 @@
 use native.Mathlib.Nat.{le-refl}
+use Rattle.run_units.specs.Units.{paceOf, finishUnit}
 use Rattle.run_units.proofs.Turned.{finish-moved, finish-wild}
 use borrow.Author.Needs.{needs}
 use native.Mathlib.Omega.{arith}
@@ -27,7 +28,8 @@ same-length-3 : tie.Need-same-length-3
 same-length-3 c = search needs
 
 returns : tie.Need-returns
-returns c = finish-wild _ _ _ _ _ _ _ _ _ (rw (c .before .before .before .before .before .before .before .before .before .before .before .before .pace .ensures) at (c .before .before .before .before .before .before .before .before .finish .ensures)) _ (c .enum-told2 .given .1)
+unfolding finishUnit paceOf
+returns c = finish-wild _ _ _ _ _ _ _ _ (rw (c .before .before .before .before .before .before .before .before .before .before .before .before .pace .ensures) at (c .before .before .before .before .before .before .before .before .finish .ensures)) _ _ (c .enum-told2 .given .1)
 
 mul-norm : tie.Need-mul-norm
 mul-norm c = omega (arith, (c .before .before .before .before .before .before .before .before .before .before .before .before .before .before .before .before .before .before .before .pre) .positions-in)
@@ -48,7 +50,8 @@ same-length-6 : tie.Need-same-length-6
 same-length-6 c = search needs
 
 returns-2 : tie.Need-returns-2
-returns-2 c = finish-moved _ _ _ _ _ _ _ _ _ (rw (c .before .before .before .before .before .before .before .before .before .before .before .before .before .before .before .pace .ensures) at (c .before .before .before .before .before .before .before .before .before .before .before .finish .ensures)) (c .before .before .before .enum-told .given .1) (rw (c .before .before .before .before .before .before .before .before .before .before .before .before .before .before .before .pace .ensures) at (c .before .norm .ensures)) (c .closed .ensures)
+unfolding finishUnit paceOf
+returns-2 c = finish-moved _ _ _ _ _ _ _ _ (rw (c .before .before .before .before .before .before .before .before .before .before .before .before .before .before .before .pace .ensures) at (c .before .before .before .before .before .before .before .before .before .before .before .finish .ensures)) (c .before .before .before .enum-told .given .1) (rw (c .before .before .before .before .before .before .before .before .before .before .before .before .before .before .before .pace .ensures) at (c .before .norm .ensures)) (c .closed .ensures)
 
 pub finish-unit-spec : {M : Type 1} → statement M
 finish-unit-spec =

@@ -42,9 +42,9 @@ use Rattle.run_units.specs.Units.{treeTurn, treeUnit}
 use Rattle.tree_node.specs.Arena.{nodesOf}
 use lib.ListN.{length}
 use mathlib.Core.Path.{_≡_}
-use Rattle.tree.specs.declared.Answer.{Answer}
-use Rattle.tree.proofs.Answer as Answer′
-use Rattle.tree.proofs.Answer.Laws as Answer″
+use Rattle.tree.specs.declared.Inserted.{Inserted}
+use Rattle.tree.proofs.Inserted as Inserted′
+use Rattle.tree.proofs.Inserted.Laws as Inserted″
 use Rattle.tree_node.specs.declared.Cell.{Cell}
 use Rattle.tree_node.proofs.Cell as Cell′
 use Rattle.run_record.specs.declared.Run.{Run}
@@ -58,7 +58,7 @@ use Rattle.run_units.proofs.Turn as Turn′
 use Rattle.run_units.proofs.Turn.Laws as Turn″
 use Rattle.run_entry.proofs.Values.{val-Run, IsRun, val-Settings, IsSettings}
 use Rattle.run_units.proofs.Values.{val-Turn, IsTurn}
-use Rattle.tree.proofs.Values.{val-Answer, IsAnswer}
+use Rattle.tree.proofs.Values.{val-Inserted, IsInserted}
 use Rattle.run_units.proofs.ByValue.{Contract-is-box, calls-is-box}
 use Rattle.run_units.proofs.is_box.Symbol as is-box-def
 use Rattle.run_units.proofs.is_box.Symbol.{name as #run-units·is-box}
@@ -108,8 +108,8 @@ module _ {M : Type 1} (𝓤 : URA M) (H : Heap 𝓤) (A : Atoms 𝓤) (W : Given
   abbrev Post : Val → SProp 𝓤
   Post = walkOf 𝓤 H A f.ended stayed (f.clauses 𝓤 H A mem run-of) .post (((s-positions .life, (s-cells .life, tt)), (s-positions .share, (s-cells .share, tt)), tt, x, at), tt)
 
-  typed-Answer : (v : Answer) → IsAnswer v → T (hasTy Answer″.mir (val-Answer v)) × WT (val-Answer v)
-  typed-Answer v g = LL.lawful Answer′.the-type Answer″.the-laws 𝓤 H A W .typed v _ g .0
+  typed-Inserted : (v : Inserted) → IsInserted v → T (hasTy Inserted″.mir (val-Inserted v)) × WT (val-Inserted v)
+  typed-Inserted v g = LL.lawful Inserted′.the-type Inserted″.the-laws 𝓤 H A W .typed v _ g .0
 
   typed-Run : (v : Run) → IsRun v → T (hasTy Run″.mir (val-Run v)) × WT (val-Run v)
   typed-Run v g = LL.lawful Run′.the-type Run″.the-laws 𝓤 H A W .typed v _ g .0
@@ -163,8 +163,8 @@ module _ {M : Type 1} (𝓤 : URA M) (H : Heap 𝓤) (A : Atoms 𝓤) (W : Given
         assigns ! (agg ! (and-then ! (load ! (from ! (stop !)) (look ! 6 refl)) (and-then ! (load ! (from ! (fld ! refl (stop !))) (look-in ! 28 (sub ! 1 refl (whole !)))) (no-more !)))) (from ! (stop !)) (init ! 4 refl (tt, (tt, (record { fits = room-cells .0 }, tt)))) $
         move ! (2 ∷ 3 ∷ 0 ∷ 1 ∷ []) $
         calls-insert-mc ! fm mem run-of known-insert s-cells cells s-positions positions (r .settings .n) (r .used) r4 (r .settings .c) ln-cells (LL.owed Settings′.the-type Settings″.the-laws (r .settings) _ (LL.owed Run′.the-type Run″.the-laws r _ g-r .0) .0 .1) (LL.owed Run′.the-type Run″.the-laws r _ g-r .1 .1 .1 .1 .1 .0 .1) (is4 .1) (LL.owed Settings′.the-type Settings″.the-laws (r .settings) _ (LL.owed Run′.the-type Run″.the-laws r _ g-r .0) .1 .1 .0 .1) (insert-asks r positions cells ready r1 e1 no1 r4 e4) (λ _ _ _. and-then ! (load ! (from ! (stop !)) (look ! 3 refl)) (and-then ! (load ! (from ! (stop !)) (look ! 29 refl)) (and-then ! (load ! (from ! (fld ! refl (stop !))) (look-in ! 25 (sub ! 0 refl (whole !)))) (and-then ! (load ! (from ! (fld ! refl (stop !))) (look-in ! 31 (sub ! 5 refl (whole !)))) (and-then ! (load ! (from ! (stop !)) (look ! 19 refl)) (and-then ! (load ! (from ! (fld ! refl (stop !))) (look-in ! 25 (sub ! 2 refl (whole !)))) (no-more !))))))) (λ r5 cells5 e5 is5 l-cells5.
-        land ! (from ! (stop !)) (init ! 18 refl (typed-Answer r5 is5)) $
-        calls-inserted ! fm mem run-of known-inserted r (r5 .full) (r5 .used) g-r tt (LL.owed Answer′.the-type Answer″.the-laws r5 _ is5 .1 .0 .1) (ready .numbers) (λ _. and-then ! (load ! (from ! (stop !)) (look ! 33 refl)) (and-then ! (load ! (from ! (fld ! refl (stop !))) (look-in ! 19 (sub ! 0 refl (whole !)))) (and-then ! (load ! (from ! (fld ! refl (stop !))) (look-in ! 19 (sub ! 1 refl (whole !)))) (no-more !)))) (λ r6 e6 is6.
+        land ! (from ! (stop !)) (init ! 18 refl (typed-Inserted r5 is5)) $
+        calls-inserted ! fm mem run-of known-inserted r (r5 .full) (r5 .used) g-r tt (LL.owed Inserted′.the-type Inserted″.the-laws r5 _ is5 .1 .0 .1) (ready .numbers) (λ _. and-then ! (load ! (from ! (stop !)) (look ! 33 refl)) (and-then ! (load ! (from ! (fld ! refl (stop !))) (look-in ! 19 (sub ! 0 refl (whole !)))) (and-then ! (load ! (from ! (fld ! refl (stop !))) (look-in ! 19 (sub ! 1 refl (whole !)))) (no-more !)))) (λ r6 e6 is6.
         land ! (from ! (stop !)) (init ! 16 refl (typed-Turn r6 is6)) $
         assigns ! (of-opd ! (load ! (from ! (stop !)) (look ! 16 refl))) (from ! (stop !)) (init ! 34 refl (typed-Turn r6 is6)) $
         returns ! (look ! 34 refl) $ forget ! 4 refl $ forget ! 6 refl $ forget ! 14 refl $ forget ! 16 refl $ forget ! 18 refl $ forget ! 20 refl $ forget ! 24 refl $ forget ! 26 refl $ forget ! 28 refl $ forget ! 30 refl $ forget ! 32 refl $ forget ! 34 refl $

@@ -47,7 +47,7 @@ same-length-6 : tie.Need-same-length-6
 same-length-6 c = search needs
 
 returns-2 : tie.Need-returns-2
-returns-2 c = finish-no-centred _ _ _ (rw (c .before .before .before .before .before .before .before .before .before .before .sum-moves .ensures .1 (not-false _ (c .before .before .before .before .before .before .before .before .before .if1 .left))) at (c .before .before .before .before .before .before .take-means .ensures)) (sym (c .before .before .before .before .before .before .before .before .before .before .sum-moves .ensures .0) ∙ (not-false _ (c .before .before .before .before .before .before .before .before .before .if1 .left))) (sym (c .before .calm-centred .ensures) ∙ not-true _ (c .if2 .taken))
+returns-2 c = finish-no-centred _ _ _ (rw (c .before .before .before .before .before .before .before .before .before .before .sum-moves .ensures .1) at (c .before .before .before .before .before .before .take-means .ensures)) (sym (c .before .before .before .before .before .before .before .before .before .before .sum-moves .ensures .0) ∙ (not-false _ (c .before .before .before .before .before .before .before .before .before .if1 .left))) (sym (c .before .calm-centred .ensures) ∙ not-true _ (c .if2 .taken))
 
 write-moves-requires : tie.Need-write-moves-requires
 write-moves-requires c κs = search needs
@@ -62,7 +62,7 @@ same-length-9 : tie.Need-same-length-9
 same-length-9 c = search needs
 
 returns-3 : tie.Need-returns-3
-returns-3 c = finish-done _ _ _ (rw (c .before .before .before .before .before .before .before .before .before .before .before .before .before .before .before .before .before .before .before .before .before .sum-moves .ensures .1 (not-false _ (c .before .before .before .before .before .before .before .before .before .before .before .before .before .before .before .before .before .before .before .before .if1 .left))) at (c .before .before .before .before .before .before .before .before .before .before .before .before .before .before .before .before .before .take-means .ensures)) (sym (c .before .before .before .before .before .before .before .before .before .before .before .before .before .before .before .before .before .before .before .before .before .sum-moves .ensures .0) ∙ (not-false _ (c .before .before .before .before .before .before .before .before .before .before .before .before .before .before .before .before .before .before .before .before .if1 .left))) (sym (c .before .before .before .before .before .before .before .before .before .before .before .before .calm-centred .ensures) ∙ not-false _ (c .before .before .before .before .before .before .before .before .before .before .before .if2 .left)) (c .before .before .before .before .before .before .write-moves .ensures)
+returns-3 c = finish-done _ _ _ (rw (c .before .before .before .before .before .before .before .before .before .before .before .before .before .before .before .before .before .before .before .before .before .sum-moves .ensures .1) at (c .before .before .before .before .before .before .before .before .before .before .before .before .before .before .before .before .before .take-means .ensures)) (sym (c .before .before .before .before .before .before .before .before .before .before .before .before .before .before .before .before .before .before .before .before .before .sum-moves .ensures .0) ∙ (not-false _ (c .before .before .before .before .before .before .before .before .before .before .before .before .before .before .before .before .before .before .before .before .if1 .left))) (sym (c .before .before .before .before .before .before .before .before .before .before .before .before .calm-centred .ensures) ∙ not-false _ (c .before .before .before .before .before .before .before .before .before .before .before .if2 .left)) (c .before .before .before .before .before .before .write-moves .ensures)
 
 pub finish-spec : {M : Type 1} → statement M
 finish-spec =

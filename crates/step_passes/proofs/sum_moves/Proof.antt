@@ -1,7 +1,4 @@
-use borrow.Author.Tests.{not-true, not-false}
-use mathlib.Core.Bool.{true≢false}
-use mathlib.Core.Path.{sym, _∙_}
-use Rattle.step_passes.proofs.Laws.{component-in, Summed, summed-start, summed-more, summed-no-gain, summed-no-increment, summed-done}
+use Rattle.step_passes.proofs.Laws.{component-in, Summed, summed-start, summed-more, summed-done}
 use Rattle.step_passes.specs.Passes.{paced}
 use Prim.Native.Nat.{_-_}
 use borrow.Author.Needs.{needs}
@@ -10,10 +7,10 @@ use Rattle.step_passes.proofs.sum_moves.Statement.{statement}
 use Rattle.step_passes.proofs.sum_moves.Tie as tie
 
 abbrev Inv-loop : tie.InvT-loop
-Inv-loop pace n c forces positions increments gains m sums₀ e₀ sums e = Summed (paced pace c forces positions increments gains) c m sums₀ e sums
+Inv-loop pace n c forces positions increments gains m sums₀ calm₀ e₀ sums calm e = Summed (paced pace c forces positions increments gains) c m sums₀ e sums calm
 
 abbrev μ-loop : tie.MeasureT-loop
-μ-loop pace n c forces positions increments gains m sums₀ e₀ sums e = m - e
+μ-loop pace n c forces positions increments gains m sums₀ calm₀ e₀ sums calm e = m - e
 
 loop-holds : tie.Need-loop-holds Inv-loop μ-loop
 loop-holds c = summed-start _ _ _ _
@@ -21,32 +18,23 @@ loop-holds c = summed-start _ _ _ _
 element-at-requires : tie.Need-element-at-requires Inv-loop μ-loop
 element-at-requires c κs = search needs
 
-is-calm-requires : tie.Need-is-calm-requires Inv-loop μ-loop
-is-calm-requires c κs = search needs
-
-returns : tie.Need-returns Inv-loop μ-loop
-returns c = (summed-no-gain (c .before .before .before .before .loop .inv) (c .before .before .before .loop-test .taken) (c .before .before .element-at .ensures) (sym (c .before .is-calm .ensures) ∙ not-true _ (c .if1 .taken)), λ q. absurd (true≢false (sym q)))
-
-is-calm-requires-2 : tie.Need-is-calm-requires-2 Inv-loop μ-loop
-is-calm-requires-2 c κs = search needs
-
-returns-2 : tie.Need-returns-2 Inv-loop μ-loop
-returns-2 c = (summed-no-increment (c .before .before .before .before .before .before .loop .inv) (c .before .before .before .before .before .loop-test .taken) (c .before .before .before .before .element-at .ensures) (sym (c .before .is-calm2 .ensures) ∙ not-true _ (c .if2 .taken)), λ q. absurd (true≢false (sym q)))
+still-calm-requires : tie.Need-still-calm-requires Inv-loop μ-loop
+still-calm-requires c κs = search needs
 
 rem-d : tie.Need-rem-d Inv-loop μ-loop
 rem-d c = search needs
 
 mul-sums : tie.Need-mul-sums Inv-loop μ-loop
-mul-sums c = record { fits = omega (arith, (component-in (c .before .before .before .before .before .before .loop .e) (c .before .before .before .before .before .before .before .before .before .before .before .args .c) (c .before .before .before .before .before .before .before .before .before .before .before .pre .0) (c .before .before .before .before .before .before .before .before .before .before .before .pre .1))) }
+mul-sums c = record { fits = omega (arith, component-in (c .before .before .before .loop .e) (c .before .before .before .before .before .before .before .before .args .c) (c .before .before .before .before .before .before .before .before .pre .0) (c .before .before .before .before .before .before .before .before .pre .1)) }
 
 element-copy-out-sums : tie.Need-element-copy-out-sums Inv-loop μ-loop
-element-copy-out-sums c = (component-in (c .before .before .before .before .before .before .loop .e) (c .before .before .before .before .before .before .before .before .before .before .before .args .c) (c .before .before .before .before .before .before .before .before .before .before .before .pre .0) (c .before .before .before .before .before .before .before .before .before .before .before .pre .1))
+element-copy-out-sums c = component-in (c .before .before .before .loop .e) (c .before .before .before .before .before .before .before .before .args .c) (c .before .before .before .before .before .before .before .before .pre .0) (c .before .before .before .before .before .before .before .before .pre .1)
 
 mul-sums-2 : tie.Need-mul-sums-2 Inv-loop μ-loop
-mul-sums-2 c = record { fits = omega (arith, (component-in (c .before .before .before .before .before .before .before .before .loop .e) (c .before .before .before .before .before .before .before .before .before .before .before .before .before .args .c) (c .before .before .before .before .before .before .before .before .before .before .before .before .before .pre .0) (c .before .before .before .before .before .before .before .before .before .before .before .before .before .pre .1))) }
+mul-sums-2 c = record { fits = omega (arith, component-in (c .before .before .before .before .before .loop .e) (c .before .before .before .before .before .before .before .before .before .before .args .c) (c .before .before .before .before .before .before .before .before .before .before .pre .0) (c .before .before .before .before .before .before .before .before .before .before .pre .1)) }
 
 element-write-sums : tie.Need-element-write-sums Inv-loop μ-loop
-element-write-sums c = (component-in (c .before .before .before .before .before .before .before .before .loop .e) (c .before .before .before .before .before .before .before .before .before .before .before .before .before .args .c) (c .before .before .before .before .before .before .before .before .before .before .before .before .before .pre .0) (c .before .before .before .before .before .before .before .before .before .before .before .before .before .pre .1))
+element-write-sums c = component-in (c .before .before .before .before .before .loop .e) (c .before .before .before .before .before .before .before .before .before .before .args .c) (c .before .before .before .before .before .before .before .before .before .before .pre .0) (c .before .before .before .before .before .before .before .before .before .before .pre .1)
 
 add-e : tie.Need-add-e Inv-loop μ-loop
 add-e c = search needs
@@ -55,10 +43,10 @@ loop-less : tie.Need-loop-less Inv-loop μ-loop
 loop-less c = search needs
 
 loop-again : tie.Need-loop-again Inv-loop μ-loop
-loop-again c = summed-more (c .before .before .before .before .before .before .before .before .loop .inv) (c .before .before .before .before .before .before .before .loop-test .taken) (c .before .before .before .before .before .before .element-at .ensures) (sym (c .before .before .before .before .before .is-calm .ensures) ∙ not-false _ (c .before .before .before .before .if1 .left)) (sym (c .before .before .before .is-calm2 .ensures) ∙ not-false _ (c .before .before .if2 .left))
+loop-again c = summed-more (c .before .before .before .before .before .loop .inv) (c .before .before .before .before .loop-test .taken) (c .before .before .before .element-at .ensures) (c .before .before .still-calm .ensures)
 
-returns-3 : tie.Need-returns-3 Inv-loop μ-loop
-returns-3 c = summed-done (c .before .loop .inv) (c .loop-test .left)
+returns : tie.Need-returns Inv-loop μ-loop
+returns c = summed-done (c .before .loop .inv) (c .loop-test .left)
 
 pub sum-moves-spec : {M : Type 1} → statement M
 sum-moves-spec =
@@ -68,10 +56,7 @@ sum-moves-spec =
     μ-loop
     loop-holds
     element-at-requires
-    is-calm-requires
-    returns
-    is-calm-requires-2
-    returns-2
+    still-calm-requires
     rem-d
     mul-sums
     element-copy-out-sums
@@ -80,4 +65,4 @@ sum-moves-spec =
     add-e
     loop-less
     loop-again
-    returns-3)
+    returns)

@@ -42,7 +42,7 @@ use Rattle.tree_walk.specs.declared.Eye.{Eye}
 use Rattle.tree_node.specs.Arena.{nodesOf}
 use Rattle.tree_walk.specs.Repel.{Blocks, repelled}
 use Rattle.tree_walk.proofs.Walked.{from-root}
-use Rattle.tree_walk.proofs.Calls.{slice, Shr}
+use Rattle.tree_walk.proofs.Calls.{slice, ShrCells}
 use Rattle.tree_walk.proofs.Values.{val-Acc, IsAcc, val-Eye, IsEye}
 use Rattle.tree_walk.proofs.ByValue.{typed-acc, typed-eye, NothingYet, calls-nothing-yet}
 use Rattle.tree_walk.proofs.Walking.{WalkC, to-walk, calls-walk}
@@ -84,9 +84,9 @@ module _ {M : Type 1} (𝓤 : URA M) (H : Heap 𝓤) (A : Atoms 𝓤) (W : Given
   abbrev Post : Val → SProp 𝓤
   Post = walkOf 𝓤 H A f.ended stayed (f.clauses 𝓤 H A mem run) .post (((κ, tt), (q, tt), tt, x, at), tt)
 
-  exits : (r : Acc) → r ≡ repelled used (eye .c) (eye .q) (eye .p) (eye .theta2) (nodesOf ys) → IsAcc r → ent 𝓤 (⋆ 𝓤 H A (‵ (Shr κ b o γ ys n) ∷ ‵ (flft κ q) ∷ [])) (Post (val-Acc r))
+  exits : (r : Acc) → r ≡ repelled used (eye .c) (eye .q) (eye .p) (eye .theta2) (nodesOf ys) → IsAcc r → ent 𝓤 (⋆ 𝓤 H A (‵ (ShrCells κ b o γ ys n) ∷ ‵ (flft κ q) ∷ [])) (Post (val-Acc r))
   exits r e gr =
-      qed W (‵ (Shr κ b o γ ys n) ∷ ‵ (flft κ q) ∷ []) ∵
+      qed W (‵ (ShrCells κ b o γ ys n) ∷ ‵ (flft κ q) ∷ []) ∵
       suffices ! _ (ends-at 𝓤 H A f.ended stayed (f.clauses 𝓤 H A mem run) W (((κ, tt), (q, tt), tt, x, at), tt) (val-Acc r) r (tt, (tt, (tt, tt))) (tt, (tt, (tt, tt)))) $ says ! e $
       nothing ! $ move ! (2 ∷ 0 ∷ []) $ join ! $ frame ! $
       nothing ! $ owned ! Eye′.the-row (Is Eye′.the-row) ((LL.makes Eye′.the-type Eye″.the-plain) 𝓤 H A) eye _ geye $ fjoin ! $ owned ! usize (Is usize) (uint-makes 𝓤 H A W w64) used _ (refl, gused) $ fjoin ! $ move ! (1 ∷ 0 ∷ []) $ fjoin ! $ frame ! $

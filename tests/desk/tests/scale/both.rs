@@ -44,24 +44,84 @@ impl Both {
         let before = self.record;
         let worked = work(&mut self.record, &mut self.areas, budget);
         if before.words[3] > 1 || before.words[9] > 2 {
-            // No method or no state: the words are no record, which is told as bad counters.
-            assert_eq!(worked.words, [3, 13, 0, 2, 0]);
+            // The words are no record: a method that there is not is told as settings, a state as counters.
+            let told = if before.words[3] > 1 {
+                [3, 13, 0, 1, 13]
+            } else {
+                [3, 13, 0, 2, 0]
+            };
+            assert_eq!(worked.words, told);
             assert_eq!(self.record, before);
         } else {
             let mut record = record_of(&before.words);
             let fault = descent::fault(&record, &theirs);
             let answer = descent::work(&mut record, &mut theirs, budget);
             assert_eq!(worked.words, answer_words(answer, fault));
-            let wanted = if fault.is_some() {
-                before.words
-            } else {
-                words_of(&record)
-            };
+            // A call that is refused at its entry changes no word, any other the five after the settings.
+            let mut wanted = before.words;
+            if fault.is_none() {
+                wanted[9..].copy_from_slice(&words_of(&record)[9..]);
+            }
             assert_eq!(self.record.words, wanted);
         }
         same_areas(&self.areas, &theirs);
         worked
     }
+}
+
+/// What a call is lent, by parts.
+pub const PARTS: [&str; 10] = [
+    "lengths",
+    "record",
+    "positions",
+    "increments",
+    "gains",
+    "affinities",
+    "indices",
+    "offsets",
+    "forces",
+    "nodes",
+];
+
+impl Both {
+    /// The first part that has other bits than the other's, but for one that is not looked at. Of areas of two lengths the
+    /// common places are compared.
+    pub fn difference(&self, other: &Both, but: Option<usize>) -> Option<usize> {
+        let (a, b) = (&self.areas, &other.areas);
+        let values = |a: &[f64], b: &[f64]| a.iter().zip(b).all(|(a, b)| a.to_bits() == b.to_bits());
+        let numbers = |a: &[u32], b: &[u32]| a.iter().zip(b).all(|(a, b)| a == b);
+        let same = [
+            lengths(a) == lengths(b),
+            self.record == other.record,
+            values(&a.positions, &b.positions),
+            values(&a.increments, &b.increments),
+            values(&a.gains, &b.gains),
+            values(&a.affinities, &b.affinities),
+            numbers(&a.indices, &b.indices),
+            numbers(&a.offsets, &b.offsets),
+            values(&a.forces, &b.forces),
+            a.nodes.iter().zip(&b.nodes).all(|(a, b)| node_bits(a) == node_bits(b)),
+        ];
+        (0..PARTS.len()).find(|&part| !same[part] && Some(part) != but)
+    }
+}
+
+fn lengths(areas: &Areas) -> [usize; 8] {
+    [
+        areas.positions.len(),
+        areas.increments.len(),
+        areas.gains.len(),
+        areas.affinities.len(),
+        areas.indices.len(),
+        areas.offsets.len(),
+        areas.forces.len(),
+        areas.nodes.len(),
+    ]
+}
+
+fn node_bits(node: &Node) -> ([[u64; 3]; 3], [u32; 3]) {
+    let values = [node.centre, node.half, node.mass].map(|three| three.map(f64::to_bits));
+    (values, [node.count, node.first, node.leaf])
 }
 
 /// The number of a refusal, or 0.

@@ -5,12 +5,12 @@
 //! that calls itself at each level would overflow the stack there, and the process would be gone. So the library's walk
 //! has to get along with the stack that a thread has: 205,000 levels in the 2 MiB that a thread of Rust has, which is
 //! more than the arena that `brothanchor_sizes` tells can hold (204,750 for 4,096 frames), and 800,000 in the 8 MiB
-//! that a process has. The independent implementation keeps its own list of waiting cells and does not call itself.
+//! that a process has. Its own trees it walks in less than 16 KiB. The independent implementation keeps its own list of waiting cells and does not call itself.
 
 use crate::both::Both;
 use crate::case::Case;
 use crate::random::Random;
-use brothanchor::{sizes, Areas, Kind, Method, Node, Rows, Settings};
+use brothanchor::{prepare, sizes, work, Areas, Kind, Method, Node, Rows, Settings};
 use std::thread;
 
 const MIB: usize = 1 << 20;
@@ -144,6 +144,47 @@ fn levels_205_000_in_2_mib() {
 #[test]
 fn levels_800_000_in_8_mib() {
     walked_in(8 * MIB, 800_000);
+}
+
+/// A whole run in a thread that has 16 KiB, some of which the thread itself needs: all points but one coincide, so the trees
+/// are as deep as insertions make them, and at the angle 0 the walk goes to every leaf.
+#[test]
+fn own_trees_in_16_kib() {
+    for (c, method) in [
+        (1, Method::BarnesHut),
+        (2, Method::BarnesHut),
+        (3, Method::BarnesHut),
+        (8, Method::Exact),
+    ] {
+        let settings = Settings {
+            n: 6,
+            f: 1,
+            c,
+            method,
+            perplexity: 2.0,
+            rate: 10.0,
+            iterations: 2,
+            angle: 0.0,
+            minimum: 0.0,
+        };
+        let sizes = sizes(&settings).expect("good settings");
+        let (mut areas, mut rows) = (Areas::new(&sizes, sizes.nodes), Rows::new(&sizes));
+        let table = [1.0; 6];
+        let start: Vec<f64> = (0..6 * c).map(|place| if place < c { 3.0 } else { 0.5 }).collect();
+        let call = move || {
+            let mut record = prepare(&settings.words(), &table, &start, &mut areas, &mut rows).expect("a good run");
+            let first = work(&mut record, &mut areas, settings.iteration() as u32 - 1).kind;
+            (first, record.words[13], work(&mut record, &mut areas, u32::MAX).kind)
+        };
+        let thread = thread::Builder::new()
+            .stack_size(16 << 10)
+            .spawn(call)
+            .expect("a thread");
+        let (first, used, last) = thread.join().expect("a run");
+        assert_eq!((first, last), (Kind::Running, Kind::Finished));
+        let wanted = if method == Method::Exact { 0 } else { 1 + (50 << c) };
+        assert_eq!(used, wanted, "{c} components: not as deep as may be");
+    }
 }
 
 /// The last point goes down the whole line first, and each node on its way counts it.

@@ -10,7 +10,7 @@ mod case;
 mod deep;
 mod random;
 
-use both::{number, Both};
+use both::{number, Both, PARTS};
 use brothanchor::{Kind, Method, Node, State, Worked};
 use case::{marked_nodes, shorten, Case, Scope};
 use random::Random;
@@ -33,6 +33,10 @@ struct Met {
     refused: [usize; 17],
     /// What was found bad at an entry, by its number.
     faults: [usize; 7],
+    /// Calls on damage, by the part that had other bits.
+    damaged: [usize; PARTS.len()],
+    /// Those of them whose answer, record or other areas came out otherwise than without the damage.
+    felt: [usize; PARTS.len()],
 }
 
 impl Met {
@@ -70,11 +74,12 @@ fn run(random: &mut Random, scope: Scope, met: &mut Met) {
         }
     };
     for _ in 0..60 {
-        let worked = if random.once_in(4) {
-            damaged_call(random, &mut both)
-        } else {
-            both.work(budget(random, &case))
-        };
+        let budget = budget(random, &case);
+        if random.once_in(4) {
+            damaged_call(random, &mut both, budget, met);
+            continue;
+        }
+        let worked = both.work(budget);
         met.call(&worked);
         match number(&worked) {
             14 => both.areas.nodes.extend(marked_nodes(random.within(1, 400))),
@@ -101,27 +106,36 @@ fn budget(random: &mut Random, case: &Case) -> u32 {
 }
 
 /// A call on a damaged record or area; afterwards all is as it was before the damage.
-fn damaged_call(random: &mut Random, both: &mut Both) -> Worked {
+fn damaged_call(random: &mut Random, both: &mut Both, budget: u32, met: &mut Met) {
     let before = both.clone();
-    match random.below(3) {
-        0 => {
-            let place = random.below(14);
-            let word = both.record.words[place];
-            both.record.words[place] = match place {
-                4 | 5 | 7 | 8 => random.odd_value().to_bits(),
-                _ => random.odd_number(word),
-            };
-        }
+    match random.below(5) {
+        0 => damage_record(random, both),
         1 => shorten(&mut both.areas, random.below(8)),
         _ => damage(random, both),
     }
-    let budget = random.below(40) as u32;
+    let damaged = both.difference(&before, None);
     let worked = both.work(budget);
+    met.call(&worked);
+    if let Some(part) = damaged {
+        let mut sound = before.clone();
+        let answer = sound.work(budget).words;
+        met.damaged[part] += 1;
+        met.felt[part] += usize::from(worked.words != answer || both.difference(&sound, Some(part)).is_some());
+    }
     *both = before;
-    worked
 }
 
-/// Another value or number in one place of an area; of indices and nodes more often in one that is in use.
+/// Another word in one place of the record.
+fn damage_record(random: &mut Random, both: &mut Both) {
+    let place = random.below(14);
+    let word = both.record.words[place];
+    both.record.words[place] = match place {
+        4 | 5 | 7 | 8 => random.odd_value().to_bits(),
+        _ => random.odd_number(word),
+    };
+}
+
+/// Another value or number in one place of an area; of affinities, indices and nodes more often in one that is in use.
 fn damage(random: &mut Random, both: &mut Both) {
     let areas = &mut both.areas;
     let last = areas.offsets.get(both.record.words[0] as usize);
@@ -134,8 +148,9 @@ fn damage(random: &mut Random, both: &mut Both) {
         3 => damage_value(random, &mut areas.forces),
         4 => damage_value(random, &mut areas.affinities),
         5 => {
+            let weighed = if listed == 0 { areas.affinities.len() } else { listed };
             let word = random.word();
-            if let Some(affinity) = any(random, &mut areas.affinities) {
+            if let Some(affinity) = any(random, &mut areas.affinities[..weighed]) {
                 *affinity = f64::from_bits(word);
             }
         }
@@ -192,6 +207,10 @@ fn small_runs() {
         assert!(met.faults[fault] > 0, "no run met the fault {fault}");
     }
     assert!(met.ended > 0, "no run ended");
+    for (part, name) in PARTS.iter().enumerate() {
+        assert!(met.damaged[part] > 0, "no call on damaged {name}");
+        assert!(met.felt[part] > 0, "no call felt damaged {name}");
+    }
 }
 
 #[test]

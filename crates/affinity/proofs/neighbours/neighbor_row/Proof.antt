@@ -19,15 +19,15 @@ nearest-requires c κs = ((c .before .before .before .before .before .before .be
 binary-search-sigma-requires : tie.Need-binary-search-sigma-requires
 binary-search-sigma-requires c κs = (rw (c .before .before .before .before .before .before .nearest .kept .1 .1 .1 .1 .0) (c .before .before .before .before .before .before .before .before .before .before .before .before .before .before .before .before .before .before .before .before .pre .1 .0 .0), rw (c .before .before .before .before .before .before .before .before .before .before .before .before .distance-row .kept .1 .1 .1 .1 .1 .0) (le-trans (le-of-lt (c .before .before .before .before .before .before .before .before .before .before .before .before .before .before .before .before .before .before .before .before .pre .0 .3)) (c .before .before .before .before .before .before .before .before .before .before .before .before .before .before .before .before .before .before .before .before .pre .1 .0 .2)), le-trans (le-of-lt (c .before .before .before .before .before .before .before .before .before .before .before .before .before .before .before .before .before .before .before .before .pre .0 .3)) (c .before .before .before .before .before .before .before .before .before .before .before .before .before .before .before .before .before .before .before .before .pre .0 .1))
 
-int-to-float-divide-shares : tie.Need-int-to-float-divide-shares
+int-to-float-divide : tie.Need-int-to-float-divide
 unfolding inFloat
-int-to-float-divide-shares c = le→leb (c .before .before .before .before .before .before .before .before .before .before .before .before .before .before .before .before .before .before .before .before .before .before .before .before .before .args .n) (2 ^ 53) (omega (arith, c .before .before .before .before .before .before .before .before .before .before .before .before .before .before .before .before .before .before .before .before .before .before .before .before .before .pre .0 .1))
+int-to-float-divide c = le→leb (c .before .before .before .before .before .before .before .before .before .before .before .before .before .before .before .before .before .before .before .before .before .before .before .before .before .args .n) (2 ^ 53) (omega (arith, c .before .before .before .before .before .before .before .before .before .before .before .before .before .before .before .before .before .before .before .before .before .before .before .before .before .pre .0 .1))
 
-divide-shares-requires : tie.Need-divide-shares-requires
-divide-shares-requires c κs = rw ((c .before .before .before .before .binary-search-sigma .kept .1 .1 .1 .0), (c .before .before .before .before .before .before .before .before .before .before .before .before .before .before .before .before .before .distance-row .kept .1 .1 .1 .1 .1 .0)) (le-trans (le-of-lt (c .before .before .before .before .before .before .before .before .before .before .before .before .before .before .before .before .before .before .before .before .before .before .before .before .before .pre .0 .3)) (c .before .before .before .before .before .before .before .before .before .before .before .before .before .before .before .before .before .before .before .before .before .before .before .before .before .pre .1 .0 .2))
+divide-requires : tie.Need-divide-requires
+divide-requires c κs = rw ((c .before .before .before .before .binary-search-sigma .kept .1 .1 .1 .0), (c .before .before .before .before .before .before .before .before .before .before .before .before .before .before .before .before .before .distance-row .kept .1 .1 .1 .1 .1 .0)) (le-trans (le-of-lt (c .before .before .before .before .before .before .before .before .before .before .before .before .before .before .before .before .before .before .before .before .before .before .before .before .before .pre .0 .3)) (c .before .before .before .before .before .before .before .before .before .before .before .before .before .before .before .before .before .before .before .before .before .before .before .before .before .pre .1 .0 .2))
 
 by-index-requires : tie.Need-by-index-requires
-by-index-requires c κs = (rw ((c .before .before .before .before .before .before .divide-shares .kept .0), (c .before .before .before .before .before .before .before .before .before .before .before .binary-search-sigma .kept .1 .1 .1 .0), (c .before .before .before .before .before .before .before .before .before .before .before .before .before .before .before .before .before .before .before .before .before .before .before .before .distance-row .kept .1 .1 .1 .1 .1 .0)) (le-trans (le-of-lt (c .before .before .before .before .before .before .before .before .before .before .before .before .before .before .before .before .before .before .before .before .before .before .before .before .before .before .before .before .before .before .before .before .pre .0 .3)) (c .before .before .before .before .before .before .before .before .before .before .before .before .before .before .before .before .before .before .before .before .before .before .before .before .before .before .before .before .before .before .before .before .pre .1 .0 .2)), rw (c .before .before .before .before .before .before .before .before .before .before .before .before .before .before .before .before .before .before .nearest .kept .1 .1 .1 .1 .1 .0) (le-trans (le-of-lt (c .before .before .before .before .before .before .before .before .before .before .before .before .before .before .before .before .before .before .before .before .before .before .before .before .before .before .before .before .before .before .before .before .pre .0 .3)) (c .before .before .before .before .before .before .before .before .before .before .before .before .before .before .before .before .before .before .before .before .before .before .before .before .before .before .before .before .before .before .before .before .pre .1 .0 .3)), rw (c .before .before .before .before .before .before .before .before .before .before .before .before .before .before .before .before .before .before .nearest .kept .1 .1 .1 .1 .0) (c .before .before .before .before .before .before .before .before .before .before .before .before .before .before .before .before .before .before .before .before .before .before .before .before .before .before .before .before .before .before .before .before .pre .1 .0 .0), c .before .before .before .before .before .before .before .before .before .before .before .before .before .before .before .before .before .before .before .before .before .before .before .before .before .before .before .before .before .before .before .before .pre .1 .0 .1)
+by-index-requires c κs = (rw ((c .before .before .before .before .before .before .divide .kept .0), (c .before .before .before .before .before .before .before .before .before .before .before .binary-search-sigma .kept .1 .1 .1 .0), (c .before .before .before .before .before .before .before .before .before .before .before .before .before .before .before .before .before .before .before .before .before .before .before .before .distance-row .kept .1 .1 .1 .1 .1 .0)) (le-trans (le-of-lt (c .before .before .before .before .before .before .before .before .before .before .before .before .before .before .before .before .before .before .before .before .before .before .before .before .before .before .before .before .before .before .before .before .pre .0 .3)) (c .before .before .before .before .before .before .before .before .before .before .before .before .before .before .before .before .before .before .before .before .before .before .before .before .before .before .before .before .before .before .before .before .pre .1 .0 .2)), rw (c .before .before .before .before .before .before .before .before .before .before .before .before .before .before .before .before .before .before .nearest .kept .1 .1 .1 .1 .1 .0) (le-trans (le-of-lt (c .before .before .before .before .before .before .before .before .before .before .before .before .before .before .before .before .before .before .before .before .before .before .before .before .before .before .before .before .before .before .before .before .pre .0 .3)) (c .before .before .before .before .before .before .before .before .before .before .before .before .before .before .before .before .before .before .before .before .before .before .before .before .before .before .before .before .before .before .before .before .pre .1 .0 .3)), rw (c .before .before .before .before .before .before .before .before .before .before .before .before .before .before .before .before .before .before .nearest .kept .1 .1 .1 .1 .0) (c .before .before .before .before .before .before .before .before .before .before .before .before .before .before .before .before .before .before .before .before .before .before .before .before .before .before .before .before .before .before .before .before .pre .1 .0 .0), c .before .before .before .before .before .before .before .before .before .before .before .before .before .before .before .before .before .before .before .before .before .before .before .before .before .before .before .before .before .before .before .before .pre .1 .0 .1)
 
 same-length : tie.Need-same-length
 same-length c = (c .before .before .before .before .by-index .kept .1 .1 .1 .0) ∙ (c .before .before .before .before .before .before .before .before .before .before .before .before .before .before .before .before .before .before .before .before .before .before .before .nearest .kept .1 .1 .1 .1 .0)
@@ -36,13 +36,13 @@ same-length-2 : tie.Need-same-length-2
 same-length-2 c = (c .before .before .before .before .by-index .kept .1 .1 .1 .1 .0)
 
 same-length-3 : tie.Need-same-length-3
-same-length-3 c = (c .before .before .before .before .before .before .before .before .before .before .before .divide-shares .kept .0) ∙ (c .before .before .before .before .before .before .before .before .before .before .before .before .before .before .before .before .binary-search-sigma .kept .1 .1 .1 .0) ∙ (c .before .before .before .before .before .before .before .before .before .before .before .before .before .before .before .before .before .before .before .before .before .before .before .before .before .before .before .before .before .distance-row .kept .1 .1 .1 .1 .1 .0)
+same-length-3 c = (c .before .before .before .before .before .before .before .before .before .before .before .divide .kept .0) ∙ (c .before .before .before .before .before .before .before .before .before .before .before .before .before .before .before .before .binary-search-sigma .kept .1 .1 .1 .0) ∙ (c .before .before .before .before .before .before .before .before .before .before .before .before .before .before .before .before .before .before .before .before .before .before .before .before .before .before .before .before .before .distance-row .kept .1 .1 .1 .1 .1 .0)
 
 same-length-4 : tie.Need-same-length-4
 same-length-4 c = (c .before .before .before .before .before .before .before .before .before .before .before .before .before .before .before .before .before .before .before .before .before .before .before .nearest .kept .1 .1 .1 .1 .1 .0)
 
 returns : tie.Need-returns
-returns c = row-done _ _ _ _ _ _ (c .before .before .before .before .before .before .before .before .before .before .before .before .before .before .before .before .before .before .before .before .before .before .before .before .before .before .before .before .before .before .before .before .before .before .before .before .before .pre .0 .0) (c .before .before .before .before .before .before .before .before .before .before .before .before .before .before .before .before .before .before .before .before .before .before .before .before .before .before .before .before .before .before .before .before .before .before .before .before .before .pre .0 .3) _ _ _ _ (c .before .before .before .before .before .before .before .before .before .before .before .before .before .before .before .before .before .before .before .before .before .before .before .before .before .before .before .before .before .before .before .before .before .before .before .before .before .pre .1 .0 .2) (c .before .before .before .before .before .before .before .before .before .before .before .before .before .before .before .before .before .before .before .before .before .before .before .before .before .before .before .before .before .distance-row .ensures) (c .before .before .before .before .before .before .before .before .before .before .before .before .before .before .before .before .before .before .before .before .before .before .before .before .before .before .before .before .before .distance-row .kept .1 .1 .1 .1 .1 .0) (c .before .before .before .before .before .before .before .before .before .before .before .before .before .before .before .before .before .before .before .before .before .before .before .nearest .ensures .0) (c .before .before .before .before .before .before .before .before .before .before .before .before .before .before .before .before .before .before .before .before .before .before .before .nearest .ensures .1) (c .before .before .before .before .before .before .before .before .before .before .before .before .before .before .before .before .binary-search-sigma .ensures) (c .before .before .before .before .before .before .before .before .before .before .before .before .before .before .before .before .binary-search-sigma .kept .1 .1 .1 .0) (c .before .before .before .before .before .before .before .before .before .before .before .divide-shares .ensures) (c .before .before .before .before .before .before .before .before .before .before .before .divide-shares .kept .0) (c .before .before .before .before .by-index .ensures .0) (c .before .before .before .before .by-index .ensures .1)
+returns c = row-done _ _ _ _ _ _ (c .before .before .before .before .before .before .before .before .before .before .before .before .before .before .before .before .before .before .before .before .before .before .before .before .before .before .before .before .before .before .before .before .before .before .before .before .before .pre .0 .0) (c .before .before .before .before .before .before .before .before .before .before .before .before .before .before .before .before .before .before .before .before .before .before .before .before .before .before .before .before .before .before .before .before .before .before .before .before .before .pre .0 .3) _ _ _ _ (c .before .before .before .before .before .before .before .before .before .before .before .before .before .before .before .before .before .before .before .before .before .before .before .before .before .before .before .before .before .before .before .before .before .before .before .before .before .pre .1 .0 .2) (c .before .before .before .before .before .before .before .before .before .before .before .before .before .before .before .before .before .before .before .before .before .before .before .before .before .before .before .before .before .distance-row .ensures) (c .before .before .before .before .before .before .before .before .before .before .before .before .before .before .before .before .before .before .before .before .before .before .before .before .before .before .before .before .before .distance-row .kept .1 .1 .1 .1 .1 .0) (c .before .before .before .before .before .before .before .before .before .before .before .before .before .before .before .before .before .before .before .before .before .before .before .nearest .ensures .0) (c .before .before .before .before .before .before .before .before .before .before .before .before .before .before .before .before .before .before .before .before .before .before .before .nearest .ensures .1) (c .before .before .before .before .before .before .before .before .before .before .before .before .before .before .before .before .binary-search-sigma .ensures) (c .before .before .before .before .before .before .before .before .before .before .before .before .before .before .before .before .binary-search-sigma .kept .1 .1 .1 .0) (c .before .before .before .before .before .before .before .before .before .before .before .divide .ensures) (c .before .before .before .before .before .before .before .before .before .before .before .divide .kept .0) (c .before .before .before .before .by-index .ensures .0) (c .before .before .before .before .by-index .ensures .1)
 
 pub neighbor-row-spec : {M : Type 1} → statement M
 neighbor-row-spec =
@@ -51,8 +51,8 @@ neighbor-row-spec =
     distance-row-requires
     nearest-requires
     binary-search-sigma-requires
-    int-to-float-divide-shares
-    divide-shares-requires
+    int-to-float-divide
+    divide-requires
     by-index-requires
     same-length
     same-length-2

@@ -1,4 +1,4 @@
-use Rattle.elementary.proofs.Range.{range, exp-nan, exp-low, exp-high, exp-in}
+use Rattle.elementary.proofs.Range.{exp-range, exp-nan, exp-low, exp-high, exp-in}
 use Rattle.elementary.specs.Exp.{expIn, reduced}
 use lib.Ieee.{ofBits, div}
 use mir.ValLaws.{toZ-ofZ}
@@ -8,6 +8,7 @@ use Rattle.elementary.proofs.exponential.exp.Statement.{statement}
 use Rattle.elementary.proofs.exponential.exp.Tie as tie
 
 returns : tie.Need-returns
+unfolding ofBits div
 returns c = exp-nan _ (c .if1 .taken)
 
 returns-2 : tie.Need-returns-2
@@ -18,7 +19,7 @@ unfolding ofBits div
 returns-3 c = sym (exp-high _ (c .before .before .if1 .left) (c .before .if2 .left) (c .if3 .taken))
 
 whole-near-requires : tie.Need-whole-near-requires
-whole-near-requires c κs = range _ (c .before .before .if1 .left) (c .before .if2 .left) (c .if3 .left) .0
+whole-near-requires c κs = exp-range _ (c .before .before .if1 .left) (c .before .if2 .left) (c .if3 .left) .0
 
 nearest-i64-to-f64-requires : tie.Need-nearest-i64-to-f64-requires
 nearest-i64-to-f64-requires c κs = tt
@@ -27,7 +28,7 @@ taylor-requires : tie.Need-taylor-requires
 taylor-requires c κs = tt
 
 power-of-requires : tie.Need-power-of-requires
-power-of-requires c κs = rw (toZ-ofZ w64 (c .before .before .whole-near .result) (record { sfits = c .before .before .whole-near .ok }), c .before .before .whole-near .ensures) (range _ (c .before .before .before .before .before .if1 .left) (c .before .before .before .before .if2 .left) (c .before .before .before .if3 .left) .1)
+power-of-requires c κs = rw (toZ-ofZ w64 (c .before .before .whole-near .result) (record { sfits = c .before .before .whole-near .ok }), c .before .before .whole-near .ensures) (exp-range _ (c .before .before .before .before .before .if1 .left) (c .before .before .before .before .if2 .left) (c .before .before .before .if3 .left) .1)
 
 returns-4 : tie.Need-returns-4
 unfolding expIn reduced

@@ -1,6 +1,6 @@
 use lib.Ieee.{mul, binary64}
 use Rattle.elementary.specs.Limits.{neighboursOf, ceilOf, three64}
-use Rattle.elementary.proofs.Ceil.{three-bounded, ceil-small, few, all-others, nearest-ones}
+use Rattle.elementary.proofs.Ceil.{three-bounded, ceil-small, one-neighbour, all-others, nearest-ones}
 use borrow.Author.Needs.{needs}
 use native.Mathlib.Omega.{arith}
 use Rattle.elementary.proofs.limits.neighbours.Statement.{statement}
@@ -14,7 +14,7 @@ add-k c = rw (c .ceil-of .ensures) (record { fits = omega (arith, ceil-small (mu
 
 returns : tie.Need-returns
 unfolding neighboursOf
-returns c = few (ceilOf (mul binary64 three64 (c .before .before .args .perplexity))) (c .before .before .args .n) (c .if1 .taken)
+returns c = one-neighbour (ceilOf (mul binary64 three64 (c .before .before .args .perplexity))) (c .before .before .args .n) (c .if1 .taken)
 
 sub-if2 : tie.Need-sub-if2
 sub-if2 c = search needs

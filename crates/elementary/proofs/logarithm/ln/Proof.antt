@@ -3,12 +3,13 @@ use denote.Floats.{passes}
 use lib.Ieee.Bits.{ofBits-toBits}
 use lib.Ieee.{ofBits, div, binary64}
 use Rattle.elementary.specs.Ln.{lnOf}
-use Rattle.elementary.proofs.Parts.{ln-nan, ln-none, ln-inf, positive}
+use Rattle.elementary.proofs.Parts.{ln-nan, ln-none, ln-inf, positive-bits}
 use Rattle.elementary.proofs.Nans.{not-nan}
 use Rattle.elementary.proofs.logarithm.ln.Statement.{statement}
 use Rattle.elementary.proofs.logarithm.ln.Tie as tie
 
 returns : tie.Need-returns
+unfolding ofBits div
 returns c = ln-nan _ (c .if1 .taken)
 
 returns-2 : tie.Need-returns-2
@@ -24,7 +25,7 @@ float-to-bits-ln-bits c = rw (not-nan _ (c .before .before .if1 .left)) tt
 
 ln-bits-requires : tie.Need-ln-bits-requires
 unfolding ofBits div
-ln-bits-requires c κs = positive _ (passes _ (c .before .before .before .good .0 .1)) (c .before .before .if1 .left) (c .before .if2 .left) (c .if3 .left)
+ln-bits-requires c κs = positive-bits _ (passes _ (c .before .before .before .good .0 .1)) (c .before .before .if1 .left) (c .before .if2 .left) (c .if3 .left)
 
 returns-4 : tie.Need-returns-4
 returns-4 c = c .ln-bits .ensures ∙ ap lnOf (ofBits-toBits binary64 _ (passes _ (c .before .before .before .before .good .0 .1)))

@@ -1,13 +1,14 @@
-use Rattle.gradient_pairs.specs.Exact.{apartStep, apartOf}
+use Rattle.tree_bodies.specs.Bodies.{gapStep, gapOf}
+use Rattle.gradient_pairs.specs.Exact.{onMap}
 use Rattle.laws.proofs.Loops.{Loops, loop-start, loop-more, loop-done}
-use Prim.Native.Nat.{_-_, _*_}
+use Prim.Native.Nat.{_-_}
 use borrow.Author.Needs.{needs}
 use native.Mathlib.Omega.{arith}
 use Rattle.gradient_pairs.proofs.exact.apart.Statement.{statement}
 use Rattle.gradient_pairs.proofs.exact.apart.Tie as tie
 
 abbrev Inv-loop : tie.InvT-loop
-Inv-loop positions c i j a b s₀ d₀ s d = Loops (apartStep positions (i * c) (j * c)) c s₀ d s
+Inv-loop positions c i j a b s₀ d₀ s d = Loops (gapStep (onMap positions c i) (onMap positions c j)) c s₀ d s
 
 abbrev μ-loop : tie.MeasureT-loop
 μ-loop positions c i j a b s₀ d₀ s d = c - d
@@ -49,7 +50,7 @@ loop-again : tie.Need-loop-again Inv-loop μ-loop
 loop-again c = loop-more (c .before .before .before .loop .inv) (omega arith)
 
 returns : tie.Need-returns Inv-loop μ-loop
-unfolding apartOf
+unfolding gapOf
 returns c = loop-done (c .before .loop .inv) (omega arith)
 
 pub apart-spec : {M : Type 1} → statement M

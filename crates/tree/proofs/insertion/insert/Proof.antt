@@ -37,7 +37,7 @@ use denote.Triple.Spec.{Meets, tripleOf}
 use denote.Triple.Table.{entered, cited}
 use denote.Triple.Walked.{says, needs, Stays, stay-slice, stay-none, stay-none-slice, walkOf, goes-slice, goes-none, goes-none-slice, Walks, ends-at, walked, walk-meets}
 use denote.Exit.{yes}
-use Rattle.lent.proofs.After.{after, type-of}
+use Rattle.lent.proofs.After.{bodyAfter, type-of}
 use Rattle.lent.proofs.Pass.{Seat, ref-at, word, Mut, Shr, Tok}
 use denote.Struct.Laws as LL
 use Prim.Native.Nat.{_*_, _<_, _≤_}
@@ -45,14 +45,14 @@ use Rattle.laws.proofs.Numbers.{row-in}
 use Rattle.laws.specs.Domain.{mostWord}
 use Rattle.tree_node.specs.Arena.{nodesOf}
 use Rattle.tree_node.specs.Node.{Axes}
-use Rattle.tree.proofs.Enters.{Enters, levelsLeft, needs-asks, enters-start, enters-asks, enters-deep, enters-next, enters-nearer, enters-end}
+use Rattle.tree.proofs.Enters.{Entered, levelsLeft, needs-asks, enters-start, enters-asks, enters-deep, enters-next, enters-nearer, enters-end}
 use Rattle.tree.specs.Insert.{tree, insertOf, insertion, growable}
 use lib.ListN.{length}
 use mathlib.Core.Bool.{true}
 use mathlib.Core.Path.{_≡_}
-use Rattle.tree.specs.declared.Answer.{Answer}
-use Rattle.tree.proofs.Answer as Answer′
-use Rattle.tree.proofs.Answer.Laws as Answer″
+use Rattle.tree.specs.declared.Inserted.{Inserted}
+use Rattle.tree.proofs.Inserted as Inserted′
+use Rattle.tree.proofs.Inserted.Laws as Inserted″
 use Rattle.tree_node.specs.declared.Cell.{Cell}
 use Rattle.tree_node.proofs.Cell as Cell′
 use Rattle.tree.specs.declared.Step.{Step}
@@ -61,7 +61,7 @@ use Rattle.tree.proofs.Step.Laws as Step″
 use Rattle.tree.specs.declared.Way.{Way}
 use Rattle.tree.proofs.Way as Way′
 use Rattle.tree.proofs.Way.Laws as Way″
-use Rattle.tree.proofs.Values.{val-Answer, IsAnswer, val-Step, IsStep, val-Way, IsWay}
+use Rattle.tree.proofs.Values.{val-Inserted, IsInserted, val-Step, IsStep, val-Way, IsWay}
 use Rattle.tree.proofs.CallsNeeds.{Contract-needs, calls-needs-sc}
 use Rattle.tree.proofs.insertion.needs.Symbol as needs-def
 use Rattle.tree.proofs.insertion.needs.Symbol.{name as #tree·insertion·needs}
@@ -114,8 +114,8 @@ module _ {M : Type 1} (𝓤 : URA M) (H : Heap 𝓤) (A : Atoms 𝓤) (W : Given
   abbrev Post : Val → SProp 𝓤
   Post = walkOf 𝓤 H A f.ended stayed (f.clauses 𝓤 H A mem run-of) .post (((s-cells .life, (s-positions .life, tt)), (s-cells .share, (s-positions .share, tt)), tt, x, at), tt)
 
-  typed-Answer : (v : Answer) → IsAnswer v → T (hasTy Answer″.mir (val-Answer v)) × WT (val-Answer v)
-  typed-Answer v g = LL.lawful Answer′.the-type Answer″.the-laws 𝓤 H A W .typed v _ g .0
+  typed-Inserted : (v : Inserted) → IsInserted v → T (hasTy Inserted″.mir (val-Inserted v)) × WT (val-Inserted v)
+  typed-Inserted v g = LL.lawful Inserted′.the-type Inserted″.the-laws 𝓤 H A W .typed v _ g .0
 
   typed-Step : (v : Step) → IsStep v → T (hasTy Step″.mir (val-Step v)) × WT (val-Step v)
   typed-Step v g = LL.lawful Step′.the-type Step″.the-laws 𝓤 H A W .typed v _ g .0
@@ -123,11 +123,11 @@ module _ {M : Type 1} (𝓤 : URA M) (H : Heap 𝓤) (A : Atoms 𝓤) (W : Given
   typed-Way : (v : Way) → IsWay v → T (hasTy Way″.mir (val-Way v)) × WT (val-Way v)
   typed-Way v g = LL.lawful Way′.the-type Way″.the-laws 𝓤 H A W .typed v _ g .0
 
-  exits : (res : Answer) (cells′ : List Cell) → IsAnswer res → length cells′ ≡ s-cells .count → insertion (res .full) (tree (res .used) (nodesOf cells′)) ≡ insertOf positions c j (tree used (nodesOf cells)) → ent 𝓤 (⋆ 𝓤 H A (‵ (Mut Cell′.the-row s-cells cells′) ∷ ‵ (Tok s-cells) ∷ ‵ (Shr f64 s-positions positions) ∷ ‵ (Tok s-positions) ∷ [])) (Post (val-Answer res))
+  exits : (res : Inserted) (cells′ : List Cell) → IsInserted res → length cells′ ≡ s-cells .count → insertion (res .full) (tree (res .used) (nodesOf cells′)) ≡ insertOf positions c j (tree used (nodesOf cells)) → ent 𝓤 (⋆ 𝓤 H A (‵ (Mut Cell′.the-row s-cells cells′) ∷ ‵ (Tok s-cells) ∷ ‵ (Shr f64 s-positions positions) ∷ ‵ (Tok s-positions) ∷ [])) (Post (val-Inserted res))
   exits res cells′ is le-cells e =
       qed W (‵ (Mut Cell′.the-row s-cells cells′) ∷ ‵ (Tok s-cells) ∷ ‵ (Shr f64 s-positions positions) ∷ ‵ (Tok s-positions) ∷ []) ∵
-      suffices ! _ (ends-at 𝓤 H A f.ended stayed (f.clauses 𝓤 H A mem run-of) W (((s-cells .life, (s-positions .life, tt)), (s-cells .share, (s-positions .share, tt)), tt, x, at), tt) (val-Answer res) res (cells′, (tt, (tt, (tt, (tt, (tt, tt)))))) (le-cells ∙ sym ln-cells, (tt, (tt, (tt, (tt, (tt, tt))))))) $ says ! e $
-      nothing ! $ move ! (4 ∷ 0 ∷ []) $ join ! $ move ! (2 ∷ 0 ∷ []) $ join ! $ frame ! $ nothing ! $ owned ! usize (Is usize) (uint-makes 𝓤 H A W w64) c _ (refl, g-c) $ fjoin ! $ owned ! u32 (Is u32) (uint-makes 𝓤 H A W w32) j _ (refl, g-j) $ fjoin ! $ owned ! usize (Is usize) (uint-makes 𝓤 H A W w64) used _ (refl, g-used) $ fjoin ! $ owned ! usize (Is usize) (uint-makes 𝓤 H A W w64) n _ (refl, g-n) $ fjoin ! $ move ! (2 ∷ 0 ∷ []) $ fjoin ! $ move ! (1 ∷ 0 ∷ []) $ fjoin ! $ frame ! $ owned ! Answer′.the-row (Is Answer′.the-row) ((LL.makes Answer′.the-type Answer″.the-plain) 𝓤 H A) res _ is $ done !
+      suffices ! _ (ends-at 𝓤 H A f.ended stayed (f.clauses 𝓤 H A mem run-of) W (((s-cells .life, (s-positions .life, tt)), (s-cells .share, (s-positions .share, tt)), tt, x, at), tt) (val-Inserted res) res (cells′, (tt, (tt, (tt, (tt, (tt, tt)))))) (le-cells ∙ sym ln-cells, (tt, (tt, (tt, (tt, (tt, tt))))))) $ says ! e $
+      nothing ! $ move ! (4 ∷ 0 ∷ []) $ join ! $ move ! (2 ∷ 0 ∷ []) $ join ! $ frame ! $ nothing ! $ owned ! usize (Is usize) (uint-makes 𝓤 H A W w64) c _ (refl, g-c) $ fjoin ! $ owned ! u32 (Is u32) (uint-makes 𝓤 H A W w32) j _ (refl, g-j) $ fjoin ! $ owned ! usize (Is usize) (uint-makes 𝓤 H A W w64) used _ (refl, g-used) $ fjoin ! $ owned ! usize (Is usize) (uint-makes 𝓤 H A W w64) n _ (refl, g-n) $ fjoin ! $ move ! (2 ∷ 0 ∷ []) $ fjoin ! $ move ! (1 ∷ 0 ∷ []) $ fjoin ! $ frame ! $ owned ! Inserted′.the-row (Is Inserted′.the-row) ((LL.makes Inserted′.the-type Inserted″.the-plain) 𝓤 H A) res _ is $ done !
 
   -- what the loop's variable and the lists hold, and what is known of it
   pub record State : Type 0 where
@@ -136,7 +136,7 @@ module _ {M : Type 1} (𝓤 : URA M) (H : Heap 𝓤) (A : Atoms 𝓤) (W : Given
     pub is : IsWay g
     pub l-cells : length cells′ ≡ s-cells .count
     pub ready : (Axes c) × (0 < used) × (used ≤ length cells) × (n * c ≤ length positions) × (j < n) × (n ≤ mostWord) × (growable n c (tree used (nodesOf cells)) ≡ true)
-    pub inv : Enters positions n used j c (nodesOf cells) g (nodesOf cells′)
+    pub inv : Entered positions n used j c (nodesOf cells) g (nodesOf cells′)
 
   abbrev left : State → ℕ
   left s = levelsLeft positions n used j c (nodesOf cells) (s .g)
@@ -177,7 +177,7 @@ module _ {M : Type 1} (𝓤 : URA M) (H : Heap 𝓤) (A : Atoms 𝓤) (W : Given
           calls-goes-on ! fm mem run-of known-goes-on (s .g) (s .is) (λ _. and-then ! (load ! (from ! (stop !)) (look ! 23 refl)) (no-more !)) (λ r1 e1 is1.
           land ! (from ! (stop !)) (init ! 8 refl (tt, tt)) $
           first ! $ branches ! (load ! (from ! (stop !)) (look ! 8 refl))
-          (λ yes1. skips ! $ exec ! C Λ En (after (after pieces.turn-1)) (anyQ (Turned s)) $
+          (λ yes1. skips ! $ exec ! C Λ En (bodyAfter (bodyAfter pieces.turn-1)) (anyQ (Turned s)) $
           assigns ! (addr ! (from ! (fld ! refl (hop ! (look-in ! 36 (sub ! 0 refl (whole !))) (stop !))))) (from ! (stop !)) (init ! 6 refl (tt, tt)) $
           assigns ! (agg ! (and-then ! (load ! (from ! (stop !)) (look ! 6 refl)) (and-then ! (load ! (from ! (fld ! refl (stop !))) (look-in ! 36 (sub ! 1 refl (whole !)))) (no-more !)))) (from ! (stop !)) (init ! 4 refl (tt, (tt, (record { fits = room-cells .0 }, tt)))) $
           calls-level-mc ! fm mem run-of known-level s-cells (s .cells′) s-positions positions (s .g) (s .l-cells) (s .is) (enters-asks positions n used j c cells (s .g) (s .cells′) (s .inv) r1 e1 yes1 ((s .ready) .4) ((s .ready) .0) ((s .ready) .3) ((s .ready) .5)) (λ _ _ _. and-then ! (load ! (from ! (stop !)) (look ! 3 refl)) (and-then ! (load ! (from ! (stop !)) (look ! 33 refl)) (and-then ! (load ! (from ! (stop !)) (look ! 21 refl)) (no-more !)))) (λ r2 cells2 e2 is2 l-cells2.
@@ -189,8 +189,8 @@ module _ {M : Type 1} (𝓤 : URA M) (H : Heap 𝓤) (A : Atoms 𝓤) (W : Given
           again ! Nearer At s (record { g = r3; cells′ = cells2; is = is3; l-cells = l-cells2; ready = (s .ready); inv = enters-next positions n used j c cells (s .g) (s .cells′) (s .inv) r1 e1 yes1 ((s .ready) .4) r2 cells2 e2 r3 e3 }) (enters-nearer positions n used j c cells (s .g) (s .cells′) (s .inv) r1 e1 yes1 ((s .ready) .4) r2 cells2 e2 r3 e3))))
           (λ no1. jumps ! $ exec ! C Λ En pieces.t-7 (atRet En Post) $
           calls-answer ! fm mem run-of known-answer (s .g) (s .is) (λ _. and-then ! (load ! (from ! (stop !)) (look ! 23 refl)) (no-more !)) (λ r4 e4 is4.
-          land ! (from ! (stop !)) (init ! 16 refl (typed-Answer r4 is4)) $
-          assigns ! (of-opd ! (load ! (from ! (stop !)) (look ! 16 refl))) (from ! (stop !)) (init ! 38 refl (typed-Answer r4 is4)) $
+          land ! (from ! (stop !)) (init ! 16 refl (typed-Inserted r4 is4)) $
+          assigns ! (of-opd ! (load ! (from ! (stop !)) (look ! 16 refl))) (from ! (stop !)) (init ! 38 refl (typed-Inserted r4 is4)) $
           returns ! (look ! 38 refl) $ forget ! 8 refl $ forget ! 16 refl $ forget ! 22 refl $ forget ! 26 refl $ forget ! 28 refl $ forget ! 30 refl $ forget ! 32 refl $ forget ! 34 refl $ forget ! 36 refl $ forget ! 38 refl $
           move ! (38 ∷ 39 ∷ []) $ free1 ! $ move ! (36 ∷ 37 ∷ []) $ free1 ! $ move ! (34 ∷ 35 ∷ []) $ free1 ! $ move ! (32 ∷ 33 ∷ []) $ free1 ! $ move ! (30 ∷ 31 ∷ []) $ free1 ! $ move ! (28 ∷ 29 ∷ []) $ free1 ! $ move ! (26 ∷ 27 ∷ []) $ free1 ! $ move ! (24 ∷ 25 ∷ []) $ free1 ! $ move ! (22 ∷ 23 ∷ []) $ free1 ! $ move ! (20 ∷ 21 ∷ []) $ free1 ! $ move ! (18 ∷ 19 ∷ []) $ free1 ! $ move ! (16 ∷ 17 ∷ []) $ free1 ! $ move ! (14 ∷ 15 ∷ []) $ free1 ! $ move ! (12 ∷ 13 ∷ []) $ free1 ! $ move ! (10 ∷ 11 ∷ []) $ free1 ! $ move ! (8 ∷ 9 ∷ []) $ free1 ! $ move ! (6 ∷ 7 ∷ []) $ free1 ! $ move ! (4 ∷ 5 ∷ []) $ free1 ! $ free0 ! $
           keep ! (0 ∷ 1 ∷ 2 ∷ 3 ∷ []) $ by ! (exits r4 (s .cells′) is4 (s .l-cells) (enters-end positions n used j c cells (s .g) (s .cells′) (s .inv) r1 e1 no1 r4 e4)))))

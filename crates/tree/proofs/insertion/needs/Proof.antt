@@ -37,7 +37,7 @@ use denote.Triple.Spec.{Meets, tripleOf}
 use denote.Triple.Table.{entered, cited}
 use denote.Triple.Walked.{says, needs, Stays, stay-none, stay-none-slice, walkOf, goes-none, goes-none-slice, Walks, ends-at, walked, walk-meets}
 use denote.Exit.{yes}
-use Rattle.lent.proofs.After.{after, type-of}
+use Rattle.lent.proofs.After.{bodyAfter, type-of}
 use Rattle.lent.proofs.Pass.{Seat, ref-at, word, Shr, Tok}
 use denote.Struct.Laws as LL
 use Prim.Native.Nat.{_*_, _<_, _≤_}
@@ -161,7 +161,7 @@ module _ {M : Type 1} (𝓤 : URA M) (H : Heap 𝓤) (A : Atoms 𝓤) (W : Given
           calls-probes-on ! fm mem run-of known-probes-on (s .g) (s .is) (λ _. and-then ! (load ! (from ! (stop !)) (look ! 13 refl)) (no-more !)) (λ r1 e1 is1.
           land ! (from ! (stop !)) (init ! 4 refl (tt, tt)) $
           first ! $ branches ! (load ! (from ! (stop !)) (look ! 4 refl))
-          (λ yes1. skips ! $ exec ! C Λ En (after (after pieces.turn-1)) (anyQ (Turned s)) $
+          (λ yes1. skips ! $ exec ! C Λ En (bodyAfter (bodyAfter pieces.turn-1)) (anyQ (Turned s)) $
           calls-load-c ! fm mem run-of known-load s-cells cells (s .g .node) (LL.owed Probe′.the-type Probe″.the-laws (s .g) _ (s .is) .1 .1 .1 .0 .1) (probes-in positions n used j c cells ((s .ready) .2) ((s .ready) .3) ((s .ready) .5) (s .g) (s .inv) r1 e1 yes1) (λ _ _. and-then ! (load ! (from ! (stop !)) (look ! 24 refl)) (and-then ! (load ! (from ! (fld ! refl (stop !))) (look-in ! 12 (sub ! 3 refl (whole !)))) (no-more !))) (λ r2 e2 is2.
           land ! (from ! (stop !)) (init ! 10 refl (typed-Node r2 is2)) $
           move ! (2 ∷ 3 ∷ []) $

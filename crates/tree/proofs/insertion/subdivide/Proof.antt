@@ -36,7 +36,7 @@ use denote.Triple.Spec.{Meets, tripleOf}
 use denote.Triple.Table.{entered, cited}
 use denote.Triple.Walked.{says, needs, Stays, stay-slice, stay-none, walkOf, goes-slice, goes-none, Walks, ends-at, walked, walk-meets}
 use denote.Exit.{yes}
-use Rattle.lent.proofs.After.{after, type-of}
+use Rattle.lent.proofs.After.{bodyAfter, type-of}
 use Rattle.lent.proofs.Pass.{Seat, ref-at, word, Mut, Tok}
 use denote.Struct.Laws as LL
 use Prim.Native.Nat.{_+_, _<_, _≤_}
@@ -164,7 +164,7 @@ module _ {M : Type 1} (𝓤 : URA M) (H : Heap 𝓤) (A : Atoms 𝓤) (W : Given
           calls-splits-on ! fm mem run-of known-splits-on (s .g) (s .is) (λ _. and-then ! (load ! (from ! (stop !)) (look ! 17 refl)) (no-more !)) (λ r1 e1 is1.
           land ! (from ! (stop !)) (init ! 8 refl (tt, tt)) $
           first ! $ branches ! (load ! (from ! (stop !)) (look ! 8 refl))
-          (λ yes1. skips ! $ exec ! C Λ En (after (after pieces.turn-1)) (anyQ (Turned s)) $
+          (λ yes1. skips ! $ exec ! C Λ En (bodyAfter (bodyAfter pieces.turn-1)) (anyQ (Turned s)) $
           calls-child-on ! fm mem run-of known-child-on (s .g) (s .is) (making-axes s₀ (nodesOf cells) (s .g) (s .cells′) (s .inv) r1 e1 yes1 ((s .ready) .0)) (λ _. and-then ! (load ! (from ! (stop !)) (look ! 17 refl)) (no-more !)) (λ r2 e2 is2.
           land ! (from ! (stop !)) (init ! 14 refl (typed-Node r2 is2)) $
           calls-child-place ! fm mem run-of known-child-place (s .g) (s .is) (making-place s₀ (nodesOf cells) (s .g) (s .cells′) (s .inv) r1 e1 yes1 (length cells) (subst (λ (x : ℕ). x < 2 ^ 64) (sym ln-cells) (room-cells .0)) ((s .ready) .2)) (λ _. and-then ! (load ! (from ! (stop !)) (look ! 17 refl)) (no-more !)) (λ r3 e3 is3.

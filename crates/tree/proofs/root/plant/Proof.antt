@@ -40,7 +40,7 @@ use Prim.Native.Nat.{_*_, _<_, _≤_}
 use Rattle.tree_bounds.specs.Bounds.{boxOf}
 use Rattle.tree_node.specs.Arena.{nodesOf}
 use Rattle.tree_node.specs.Node.{Axes}
-use Rattle.tree.proofs.Descends.{plant-asks, plant-told}
+use Rattle.tree.proofs.Descends.{root-asks, root-told}
 use lib.ListN.{length, set}
 use mathlib.Core.Path.{_≡_}
 use Rattle.tree_node.specs.declared.Cell.{Cell}
@@ -107,12 +107,12 @@ module _ {M : Type 1} (𝓤 : URA M) (H : Heap 𝓤) (A : Atoms 𝓤) (W : Given
         assigns ! (addr ! (from ! (fld ! refl (hop ! (look-in ! 18 (sub ! 0 refl (whole !))) (stop !))))) (from ! (stop !)) (init ! 6 refl (tt, tt)) $
         assigns ! (agg ! (and-then ! (load ! (from ! (stop !)) (look ! 6 refl)) (and-then ! (load ! (from ! (fld ! refl (stop !))) (look-in ! 18 (sub ! 1 refl (whole !)))) (no-more !)))) (from ! (stop !)) (init ! 4 refl (tt, (tt, (record { fits = room-cells .0 }, tt)))) $
         move ! (2 ∷ 3 ∷ []) $
-        calls-store-m ! fm mem run-of known-store s-cells cells 0 r1 ln-cells (lit< tt) is1 (plant-asks cells positions n c r1 e1 (ready .2)) (λ _ _. and-then ! (load ! (from ! (stop !)) (look ! 4 refl)) (and-then ! (lit ! tt) (and-then ! (load ! (from ! (stop !)) (look ! 10 refl)) (no-more !)))) (λ r2 cells2 e2 is2 l-cells2.
+        calls-store-m ! fm mem run-of known-store s-cells cells 0 r1 ln-cells (lit< tt) is1 (root-asks cells positions n c r1 e1 (ready .2)) (λ _ _. and-then ! (load ! (from ! (stop !)) (look ! 4 refl)) (and-then ! (lit ! tt) (and-then ! (load ! (from ! (stop !)) (look ! 10 refl)) (no-more !)))) (λ r2 cells2 e2 is2 l-cells2.
         land ! (from ! (stop !)) (init ! 8 refl (tt, tt)) $
         assigns ! (of-opd ! (unit-lit !)) (from ! (stop !)) (init ! 20 refl (tt, tt)) $
         returns ! (look ! 20 refl) $ forget ! 4 refl $ forget ! 6 refl $ forget ! 8 refl $ forget ! 10 refl $ forget ! 12 refl $ forget ! 14 refl $ forget ! 16 refl $ forget ! 18 refl $ forget ! 20 refl $
         move ! (20 ∷ 21 ∷ []) $ free1 ! $ move ! (18 ∷ 19 ∷ []) $ free1 ! $ move ! (16 ∷ 17 ∷ []) $ free1 ! $ move ! (14 ∷ 15 ∷ []) $ free1 ! $ move ! (12 ∷ 13 ∷ []) $ free1 ! $ move ! (10 ∷ 11 ∷ []) $ free1 ! $ move ! (8 ∷ 9 ∷ []) $ free1 ! $ move ! (6 ∷ 7 ∷ []) $ free1 ! $ move ! (4 ∷ 5 ∷ []) $ free1 ! $ free0 ! $
-        keep ! (0 ∷ 1 ∷ 2 ∷ 3 ∷ []) $ by ! (exits tt cells2 tt l-cells2 (plant-told cells positions n c r1 e1 cells2 e2)))))))))))))
+        keep ! (0 ∷ 1 ∷ 2 ∷ 3 ∷ []) $ by ! (exits tt cells2 tt l-cells2 (root-told cells positions n c r1 e1 cells2 e2)))))))))))))
 
 module _ {M : Type 1} (𝓤 : URA M) (H : Heap 𝓤) (A : Atoms 𝓤) (W : Given 𝓤 H A) (mem : Memory → SProp 𝓤) (run-of : Routine → Fun 𝓤) where
   plant-walks : (C : Calls 𝓤 H) (Λ : Loops 𝓤 H) → FmC 𝓤 H (W .laws) C → Triple 𝓤 (C #tree-bounds·root·bounding-box) (Contract-bounding-box 𝓤 H A mem run-of) → Triple 𝓤 (C #tree-node·arena·store) (Contract-store 𝓤 H A mem run-of) → Walks 𝓤 H A f.ended stayed (WpFn 𝓤 H C Λ code.function) (f.clauses 𝓤 H A mem run-of)

@@ -1,4 +1,4 @@
-use Rattle.tree_walk.specs.Turn.{onwardOf}
+use Rattle.tree_walk.specs.Turn.{pastCell}
 use borrow.Author.Tests.{eq-eqb, ne-eqb, lt-ltb, le-ltb}
 use borrow.Author.Needs.{needs}
 use Rattle.tree_walk.proofs.turns.onward.Statement.{statement}
@@ -11,14 +11,14 @@ standing-requires : tie.Need-standing-requires
 standing-requires c κs = search needs
 
 returns : tie.Need-returns
-unfolding onwardOf
+unfolding pastCell
 returns c = rw (lt-ltb _ _ (c .before .if1 .taken)) (c .standing .ensures)
 
 standing-requires-2 : tie.Need-standing-requires-2
 standing-requires-2 c κs = search needs
 
 returns-2 : tie.Need-returns-2
-unfolding onwardOf
+unfolding pastCell
 returns-2 c = rw (le-ltb _ _ (c .before .before .before .if1 .left), eq-eqb _ _ (c .before .if2 .taken)) (c .standing2 .ensures)
 
 sub-l : tie.Need-sub-l
@@ -43,7 +43,7 @@ standing-requires-3 : tie.Need-standing-requires-3
 standing-requires-3 c κs = search needs
 
 returns-3 : tie.Need-returns-3
-unfolding onwardOf
+unfolding pastCell
 returns-3 c = rw (le-ltb _ _ (c .before .before .before .before .before .before .if1 .left), ne-eqb _ _ (c .before .before .before .before .if2 .left)) (c .standing3 .ensures)
 
 pub onward-spec : {M : Type 1} → statement M

@@ -1,0 +1,89 @@
+use Prim.Native.Nat.{_-_}
+use Rattle.bench_printout.proofs.Lines.{Lines, lines-start, lines-more, lines-done}
+use Rattle.bench_printout.specs.Printed.{frameText}
+use Rattle.text.proofs.Puts.{puts-then}
+use borrow.Author.Needs.{needs}
+use native.Mathlib.Omega.{arith}
+use Rattle.bench_printout.proofs.put_frames.Statement.{statement}
+use Rattle.bench_printout.proofs.put_frames.Tie as tie
+
+abbrev Inv-loop : tie.InvT-loop
+Inv-loop out₀ from file positions n at₀ i₀ out at i = Lines (frameText file positions) n from out₀ i at out
+
+abbrev μ-loop : tie.MeasureT-loop
+μ-loop out₀ from file positions n at₀ i₀ out at i = n - i
+
+count-requires : tie.Need-count-requires Inv-loop μ-loop
+count-requires c κs = search needs
+
+loop-holds : tie.Need-loop-holds Inv-loop μ-loop
+loop-holds c = lines-start (omega (arith, c .before .before .before .pre))
+
+frame-at-requires : tie.Need-frame-at-requires Inv-loop μ-loop
+frame-at-requires c κs = search needs
+
+put-label-requires : tie.Need-put-label-requires Inv-loop μ-loop
+put-label-requires c κs = omega (arith, c .before .before .before .loop .inv .small, c .before .before .before .loop .inv .size, c .before .before .loop-test .taken, c .before .before .before .before .count .ensures .1, c .before .before .before .before .before .before .before .pre)
+
+mul-put-position : tie.Need-mul-put-position Inv-loop μ-loop
+mul-put-position c = search needs
+
+mul-put-position-2 : tie.Need-mul-put-position-2 Inv-loop μ-loop
+mul-put-position-2 c = search needs
+
+array-read-put-position : tie.Need-array-read-put-position Inv-loop μ-loop
+array-read-put-position c = search needs
+
+mul-put-position-3 : tie.Need-mul-put-position-3 Inv-loop μ-loop
+mul-put-position-3 c = search needs
+
+add-put-position : tie.Need-add-put-position Inv-loop μ-loop
+add-put-position c = search needs
+
+mul-put-position-4 : tie.Need-mul-put-position-4 Inv-loop μ-loop
+mul-put-position-4 c = search needs
+
+array-read-put-position-2 : tie.Need-array-read-put-position-2 Inv-loop μ-loop
+array-read-put-position-2 c = search needs
+
+put-position-requires : tie.Need-put-position-requires Inv-loop μ-loop
+put-position-requires c κs = omega (arith, c .before .before .before .put-label .ensures .1, c .before .before .before .put-label .kept .0, c .before .before .before .before .before .before .before .loop .inv .small, c .before .before .before .before .before .before .before .loop .inv .size, c .before .before .before .before .before .before .loop-test .taken, c .before .before .before .before .before .before .before .before .count .ensures .1, c .before .before .before .before .before .before .before .before .before .before .before .pre)
+
+add-i : tie.Need-add-i Inv-loop μ-loop
+add-i c = search needs
+
+loop-less : tie.Need-loop-less Inv-loop μ-loop
+loop-less c = search needs
+
+loop-again : tie.Need-loop-again Inv-loop μ-loop
+loop-again c = lines-more (c .before .before .before .before .before .before .before .before .before .loop-test .taken) (c .before .before .before .before .before .before .before .before .before .before .loop .inv) (puts-then (rw (c .before .before .before .before .before .before .before .before .frame-at .ensures) at (c .before .before .before .before .before .before .put-label .ensures .0)) (c .before .before .put-position .ensures .0)) (omega (arith, c .before .before .before .before .before .before .put-label .ensures .1, c .before .before .put-position .ensures .1))
+
+same-length : tie.Need-same-length Inv-loop μ-loop
+same-length c = search needs
+
+returns : tie.Need-returns Inv-loop μ-loop
+returns c = rw (c .before .before .count .ensures .0) at (lines-done (c .loop-test .left) (c .before .loop .inv))
+
+pub put-frames-spec : {M : Type 1} → statement M
+put-frames-spec =
+    tie.close
+    (tie.spec
+    Inv-loop
+    μ-loop
+    count-requires
+    loop-holds
+    frame-at-requires
+    put-label-requires
+    mul-put-position
+    mul-put-position-2
+    array-read-put-position
+    mul-put-position-3
+    add-put-position
+    mul-put-position-4
+    array-read-put-position-2
+    put-position-requires
+    add-i
+    loop-less
+    loop-again
+    same-length
+    returns)

@@ -1,0 +1,26 @@
+use Rattle.desk_files.specs.Files.{hostFrame}
+use borrow.Author.Tests.{lt-ltb, le-ltb}
+use borrow.Author.Needs.{needs}
+use Rattle.desk_files.proofs.host_frame.Statement.{statement}
+use Rattle.desk_files.proofs.host_frame.Tie as tie
+
+returns : tie.Need-returns
+unfolding hostFrame
+returns c = rw (lt-ltb _ _ (c .if1 .taken))
+
+frame-at-requires : tie.Need-frame-at-requires
+frame-at-requires c κs = search needs
+
+put-frame-requires : tie.Need-put-frame-requires
+put-frame-requires c κs = search needs
+
+same-length : tie.Need-same-length
+same-length c = search needs
+
+returns-2 : tie.Need-returns-2
+unfolding hostFrame
+returns-2 c = rw (le-ltb _ _ (c .before .before .before .before .before .if1 .left), c .before .before .put-frame .ensures, c .before .before .before .before .frame-at .ensures)
+
+pub host-frame-spec : {M : Type 1} → statement M
+host-frame-spec =
+    tie.close (tie.spec returns frame-at-requires put-frame-requires same-length returns-2)

@@ -1,0 +1,9 @@
+pub mod Laws
+pub mod Lends
+pub mod Theorems
+pub mod ByValue
+pub mod CallsIsUnread
+pub mod CallsPutUnread
+pub mod CallsRunOf
+pub mod CallsPutAfter
+pub mod CallsPutAnswer

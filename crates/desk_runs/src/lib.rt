@@ -1,0 +1,191 @@
+// Preparation and the work call, with settings, record and answer as plain words.
+ghost use mathlib.Core.Path.{_≡_};
+ghost use mathlib.Core.Bool.{not};
+ghost use Prim.Native.Nat.{_≤_};
+ghost use lib.Dec.{ltb};
+ghost use lib.ListN.{length};
+ghost use Rattle.run_entry.specs.State.{memory};
+ghost use Rattle.run_budget.specs.declared.Answer.the-variants.{Bad};
+ghost use Rattle.descent.specs.Descent.{workNumber};
+ghost use Rattle.prepare.specs.Prepare.{lent, prepareFault};
+ghost use Rattle.desk_words.specs.Words.{runFine, answerPut};
+ghost use Rattle.desk_runs.specs.Runs.{hostPrepared, shortNumber, hostPrepare, hostWorked, unreadFault, hostWork};
+use descent::Answer;
+use descent::work;
+use desk_words::put_after;
+use desk_words::put_answer;
+use desk_words::put_run;
+use desk_words::run_fine;
+use desk_words::run_of;
+use desk_words::settings_fine;
+use desk_words::settings_of;
+use prepare::Lengths;
+use prepare::Prepared;
+use prepare::prepare;
+use prepare::prepare_fault;
+use run_entry::Fault;
+use run_record::Settings;
+use tree_node::Cell;
+
+// ---- preparation
+
+// The number where the record's area is too short: 12, unless one of the tests before it fails.
+fn short_number(s: Settings, table: &[f64], start: &[f64], l: Lengths) -> u32
+    ensures { λ r. ⌜ r ≡ shortNumber (prepareFault s (now (table .entry)) (now (start .entry)) l) ⌝ }
+{
+    let k = prepare_fault(s, table, start, l);
+    if k == 0 {
+        return 12;
+    }
+    k as u32
+}
+
+// Prepares a run. Answers 0, or the number of the refusal; then nothing is changed.
+pub fn host_prepare(
+    settings: &[u64],
+    table: &[f64],
+    start: &[f64],
+    positions: &mut [f64],
+    increments: &mut [f64],
+    gains: &mut [f64],
+    affinities: &mut [f64],
+    indices: &mut [u32],
+    offsets: &mut [u32],
+    forces: &mut [f64],
+    row_values: &mut [f64],
+    row_indices: &mut [u32],
+    nodes: usize,
+    record: &mut [u64],
+) -> u32
+    ensures { λ k. ⌜ hostPrepared k (now («record» .exit)) (lent (now (positions .exit)) (now (increments .exit)) (now (gains .exit)) (now (affinities .exit)) (now (indices .exit)) (now (offsets .exit)) (now (forces .exit)) (now («row_values» .exit)) (now («row_indices» .exit))) ≡ hostPrepare (now (settings .entry)) (now (table .entry)) (now (start .entry)) nodes (lent (now (positions .entry)) (now (increments .entry)) (now (gains .entry)) (now (affinities .entry)) (now (indices .entry)) (now (offsets .entry)) (now (forces .entry)) (now («row_values» .entry)) (now («row_indices» .entry))) (now («record» .entry)) ⌝ }
+{
+    if !settings_fine(settings) {
+        return 13;
+    }
+    let s = settings_of(settings);
+    if record.len() < 14 {
+        let l = Lengths {
+            positions: positions.len(),
+            increments: increments.len(),
+            gains: gains.len(),
+            affinities: affinities.len(),
+            indices: indices.len(),
+            offsets: offsets.len(),
+            forces: forces.len(),
+            nodes,
+            values: row_values.len(),
+            places: row_indices.len(),
+        };
+        return short_number(s, table, start, l);
+    }
+    let p = prepare(
+        s,
+        table,
+        start,
+        positions,
+        increments,
+        gains,
+        affinities,
+        indices,
+        offsets,
+        forces,
+        row_values,
+        row_indices,
+        nodes,
+    );
+    match p {
+        Prepared::Refused(k) => k as u32,
+        Prepared::Ready(r) => {
+            put_run(record, r);
+            0
+        }
+    }
+}
+
+// ---- the work call
+
+// An answer has five words.
+fn is_short(words: usize) -> bool
+    ensures { λ r. ⌜ r ≡ ltb words 5 ⌝ }
+{
+    words < 5
+}
+
+// Whether the words are no record.
+fn is_unread(words: &[u64]) -> bool
+    ensures { λ r. ⌜ r ≡ not (runFine (now (words .entry))) ⌝ }
+{
+    !run_fine(words)
+}
+
+fn unread_fault(words: &[u64]) -> Fault
+    ensures { λ f. ⌜ f ≡ unreadFault (now (words .entry)) ⌝ }
+{
+    if words.len() < 14 {
+        return Fault::Counters;
+    }
+    if settings_fine(words) {
+        return Fault::Counters;
+    }
+    Fault::Settings(13)
+}
+
+// Tells what is wrong with words that are no record.
+fn put_unread(words: &[u64], answer: &mut [u64])
+    requires { ⌜ 5 ≤ length (now answer) ⌝ }
+    ensures { λ _. ⌜ now (answer .exit) ≡ answerPut (Bad (unreadFault (now (words .entry)))) (now (answer .entry)) ⌝ }
+{
+    let f = unread_fault(words);
+    put_answer(answer, Answer::Bad(f));
+}
+
+fn number_of(a: Answer) -> u32
+    ensures { λ r. ⌜ r ≡ workNumber a ⌝ }
+{
+    descent::number(a) as u32
+}
+
+// Does units of a run. Answers 0, or the number of the refusal, and writes the answer's words. The work call is lent a record of this function's own, made of the words.
+pub fn host_work(
+    words: &mut [u64],
+    positions: &mut [f64],
+    increments: &mut [f64],
+    gains: &mut [f64],
+    affinities: &[f64],
+    indices: &[u32],
+    offsets: &[u32],
+    forces: &mut [f64],
+    cells: &mut [Cell],
+    budget: u32,
+    answer: &mut [u64],
+) -> u32
+    ensures { λ k. ⌜ hostWorked k (now (answer .exit)) (now (words .exit)) (memory (now (positions .exit)) (now (increments .exit)) (now (gains .exit)) (now (affinities .entry)) (now (indices .entry)) (now (offsets .entry)) (now (forces .exit)) (now (cells .exit))) ≡ hostWork budget (now (words .entry)) (now (answer .entry)) (memory (now (positions .entry)) (now (increments .entry)) (now (gains .entry)) (now (affinities .entry)) (now (indices .entry)) (now (offsets .entry)) (now (forces .entry)) (now (cells .entry))) ⌝ }
+{
+    let short = is_short(answer.len());
+    if short {
+        return 12;
+    }
+    let unread = is_unread(words);
+    if unread {
+        put_unread(words, answer);
+        return 13;
+    }
+    let mut own = run_of(words);
+    let a = work(
+        &mut own,
+        positions,
+        increments,
+        gains,
+        affinities,
+        indices,
+        offsets,
+        forces,
+        cells,
+        budget,
+    );
+    let next = own;
+    put_after(words, a, next);
+    put_answer(answer, a);
+    let k = number_of(a);
+    k
+}

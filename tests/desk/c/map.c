@@ -1,0 +1,164 @@
+/* Maps a frame file through include/brothanchor.h, as the wrapper's map program does: map FILE [SEED].
+ * Prints a line for each frame: picture, side, both coordinates by their bits; then how the run ended. It is compiled as C
+ * and as C++, and calls every function of the header. A refusal ends it with its number and where it came. */
+#include <inttypes.h>
+#include <stdio.h>
+#include <stdlib.h>
+#include <string.h>
+
+#include "brothanchor.h"
+
+enum { FRAME_BYTES = 72, FRAME_WORDS = 10, FEATURES = 6, STARTS = 2, MOST_FRAMES = 4096, ITERATIONS = 1000 };
+
+/* What a run is lent. */
+struct areas {
+    uint64_t record[BROTHANCHOR_RECORD_WORDS];
+    double *positions, *increments, *gains, *affinities, *forces, *row_values;
+    uint32_t *indices, *offsets, *row_indices;
+    struct brothanchor_node *nodes;
+};
+
+static void refused(const char *call, uint32_t number) {
+    if (number != 0) {
+        fprintf(stderr, "%s: refused %u\n", call, (unsigned)number);
+        exit(1);
+    }
+}
+
+static void *room(uint64_t count, size_t size) {
+    void *memory = calloc(count == 0 ? 1 : (size_t)count, size);
+    if (memory == NULL) {
+        fprintf(stderr, "no memory\n");
+        exit(1);
+    }
+    return memory;
+}
+
+static double value(uint64_t bits) {
+    double v;
+    memcpy(&v, &bits, sizeof v);
+    return v;
+}
+
+static uint64_t bits(double v) {
+    uint64_t b;
+    memcpy(&b, &v, sizeof b);
+    return b;
+}
+
+/* What a map of n frames goes by, as in tests/desk/src/map.rs. */
+static void set(uint64_t *settings, size_t n) {
+    double third = (double)(n > 2 ? n - 1 : 1) / 3.0, share = (double)n / 48.0;
+    settings[BROTHANCHOR_N] = n;
+    settings[BROTHANCHOR_F] = FEATURES;
+    settings[BROTHANCHOR_C] = STARTS;
+    settings[BROTHANCHOR_METHOD] = 1;
+    settings[BROTHANCHOR_PERPLEXITY] = bits(third < 30.0 ? third : 30.0);
+    settings[BROTHANCHOR_RATE] = bits(share > 50.0 ? share : 50.0);
+    settings[BROTHANCHOR_ITERATIONS] = ITERATIONS;
+    settings[BROTHANCHOR_ANGLE] = bits(0.5);
+    settings[BROTHANCHOR_MINIMUM] = bits(1e-7);
+}
+
+static void lend(struct areas *a, const uint64_t *sizes) {
+    a->positions = (double *)room(sizes[BROTHANCHOR_CELLS], sizeof(double));
+    a->increments = (double *)room(sizes[BROTHANCHOR_CELLS], sizeof(double));
+    a->gains = (double *)room(sizes[BROTHANCHOR_CELLS], sizeof(double));
+    a->affinities = (double *)room(sizes[BROTHANCHOR_AFFINITIES], sizeof(double));
+    a->indices = (uint32_t *)room(sizes[BROTHANCHOR_INDICES], sizeof(uint32_t));
+    a->offsets = (uint32_t *)room(sizes[BROTHANCHOR_OFFSETS], sizeof(uint32_t));
+    a->forces = (double *)room(sizes[BROTHANCHOR_FORCES], sizeof(double));
+    a->row_values = (double *)room(sizes[BROTHANCHOR_ROWS], sizeof(double));
+    a->row_indices = (uint32_t *)room(sizes[BROTHANCHOR_ROWS], sizeof(uint32_t));
+    a->nodes = (struct brothanchor_node *)room(sizes[BROTHANCHOR_NODES], sizeof(struct brothanchor_node));
+}
+
+static void prepare(struct areas *a, const uint64_t *settings, const uint64_t *sizes, const double *table, const double *start) {
+    size_t n = settings[BROTHANCHOR_N];
+    refused("prepare", brothanchor_prepare(
+        settings, BROTHANCHOR_SETTINGS_WORDS, table, n * FEATURES, start, n * STARTS,
+        a->positions, sizes[BROTHANCHOR_CELLS], a->increments, sizes[BROTHANCHOR_CELLS], a->gains, sizes[BROTHANCHOR_CELLS],
+        a->affinities, sizes[BROTHANCHOR_AFFINITIES], a->indices, sizes[BROTHANCHOR_INDICES],
+        a->offsets, sizes[BROTHANCHOR_OFFSETS], a->forces, sizes[BROTHANCHOR_FORCES],
+        a->row_values, sizes[BROTHANCHOR_ROWS], a->row_indices, sizes[BROTHANCHOR_ROWS],
+        sizes[BROTHANCHOR_NODES], a->record, BROTHANCHOR_RECORD_WORDS));
+}
+
+/* So many units; the kind of the answer. */
+static uint64_t work(struct areas *a, const uint64_t *sizes, uint32_t budget) {
+    uint64_t answer[BROTHANCHOR_ANSWER_WORDS];
+    uint32_t number = brothanchor_work(
+        a->record, BROTHANCHOR_RECORD_WORDS,
+        a->positions, sizes[BROTHANCHOR_CELLS], a->increments, sizes[BROTHANCHOR_CELLS], a->gains, sizes[BROTHANCHOR_CELLS],
+        a->affinities, sizes[BROTHANCHOR_AFFINITIES], a->indices, sizes[BROTHANCHOR_INDICES],
+        a->offsets, sizes[BROTHANCHOR_OFFSETS], a->forces, sizes[BROTHANCHOR_FORCES],
+        a->nodes, sizes[BROTHANCHOR_NODES], budget, answer, BROTHANCHOR_ANSWER_WORDS);
+    if (number != answer[BROTHANCHOR_NUMBER]) {
+        fprintf(stderr, "work: answered %u and wrote %" PRIu64 "\n", (unsigned)number, answer[BROTHANCHOR_NUMBER]);
+        exit(1);
+    }
+    refused("work", number);
+    return answer[BROTHANCHOR_KIND];
+}
+
+static size_t read_file(const char *name, uint8_t *file, size_t most) {
+    FILE *in = fopen(name, "rb");
+    size_t length;
+    if (in == NULL) {
+        perror(name);
+        exit(1);
+    }
+    length = fread(file, 1, most, in);
+    fclose(in);
+    return length;
+}
+
+/* The features of all frames and their starts, or a scatter's where there is a seed. */
+static void rows(const uint8_t *file, size_t length, size_t n, const char *seed, double *table, double *start) {
+    for (size_t i = 0; i < n; i++) {
+        uint64_t frame[FRAME_WORDS];
+        refused("frame", brothanchor_frame(file, length, i, frame, FRAME_WORDS));
+        for (size_t j = 0; j < FEATURES; j++) table[i * FEATURES + j] = value(frame[2 + j]);
+        for (size_t j = 0; j < STARTS; j++) start[i * STARTS + j] = value(frame[2 + FEATURES + j]);
+    }
+    if (seed != NULL) {
+        refused("scatter", brothanchor_scatter(start, n * STARTS, (uint32_t)n, STARTS, strtoull(seed, NULL, 10)));
+    }
+}
+
+static void print(const uint8_t *file, size_t length, size_t n, const struct areas *a) {
+    static const char *const states[] = {"running", "stopped", "finished", "no record"};
+    for (size_t i = 0; i < n; i++) {
+        uint64_t frame[FRAME_WORDS];
+        refused("frame", brothanchor_frame(file, length, i, frame, FRAME_WORDS));
+        printf("%" PRIu64 " %" PRIu64 " %016" PRIx64 " %016" PRIx64 "\n", frame[0], frame[1],
+               bits(a->positions[i * STARTS]), bits(a->positions[i * STARTS + 1]));
+    }
+    printf("%zu frames, %s after %" PRIu64 " iterations (%" PRIu64 " units)\n", n,
+           states[brothanchor_state(a->record, BROTHANCHOR_RECORD_WORDS)],
+           brothanchor_iterations(a->record, BROTHANCHOR_RECORD_WORDS),
+           brothanchor_units(a->record, BROTHANCHOR_RECORD_WORDS));
+}
+
+int main(int words, char **word) {
+    static uint8_t file[MOST_FRAMES * FRAME_BYTES];
+    static double table[MOST_FRAMES * FEATURES], start[MOST_FRAMES * STARTS];
+    uint64_t settings[BROTHANCHOR_SETTINGS_WORDS], sizes[BROTHANCHOR_SIZES_WORDS], n;
+    struct areas areas;
+    size_t length;
+    if (words < 2) {
+        fprintf(stderr, "map FILE [SEED]\n");
+        return 2;
+    }
+    length = read_file(word[1], file, sizeof file);
+    refused("frames", brothanchor_frames(file, length, &n, 1));
+    rows(file, length, n, words > 2 ? word[2] : NULL, table, start);
+    set(settings, n);
+    refused("sizes", brothanchor_sizes(settings, BROTHANCHOR_SETTINGS_WORDS, sizes, BROTHANCHOR_SIZES_WORDS));
+    lend(&areas, sizes);
+    prepare(&areas, settings, sizes, table, start);
+    while (work(&areas, sizes, (uint32_t)(2 * n + 2)) == 0) {
+    }
+    print(file, length, n, &areas);
+    return 0;
+}
