@@ -2,7 +2,7 @@
 -- y is the lent copy: the positions before that iteration's step.
 use mathlib.Core.List.{List}
 use mathlib.Core.Path.{_≡_}
-use mathlib.Core.Bool.{Bool, true, false, cond, not, _||_}
+use mathlib.Core.Bool.{Bool, true, false, cond, not, _&&_, _||_}
 use Prim.Native.Nat.{ℕ, _+_, _*_, _≤_, min}
 use lib.Dec.{eqb, leb}
 use lib.ListN.{length}
@@ -31,9 +31,13 @@ totalOf r F = cond (isTree (r .settings .method)) (sharesOf F (r .settings .n) (
 abbrev pub isZero : Float → Bool
 isZero x = eq x zero64
 
--- 17: no iteration is done, a unit of the next one is done, or the forces give a total of 0
+-- an iteration has just ended: one is done, and no unit of the next
+unfoldable pub justEnded : Run → Bool
+justEnded r = not (eqb (r .done) 0) && eqb (r .phase) 0
+
+-- 17: none has just ended, or the forces give a total of 0
 unfoldable pub tooEarly : Run → List Float → Bool
-tooEarly r F = eqb (r .done) 0 || not (eqb (r .phase) 0) || isZero (totalOf r F)
+tooEarly r F = not (justEnded r) || isZero (totalOf r F)
 
 -- the figure, by method: W, I and O are affinities, indices and offsets, F the forces
 unfoldable pub figureOf : Run → List Float → List ℕ → List ℕ → List Float → List Float → Float

@@ -4,7 +4,7 @@ ghost use mathlib.Core.Bool.{true};
 ghost use Prim.Native.Nat.{min};
 ghost use Rattle.run_entry.specs.State.{memory};
 ghost use Rattle.run_entry.specs.Entry.{isFine};
-ghost use Rattle.divergence.specs.Divergence.{lastExaggeration, totalOf, tooEarly, figureOf, afterTests, divergenceOf, divergenceNumber, TotalRoom, FigureRoom};
+ghost use Rattle.divergence.specs.Divergence.{lastExaggeration, totalOf, justEnded, tooEarly, figureOf, afterTests, divergenceOf, divergenceNumber, TotalRoom, FigureRoom};
 use divergence_sums::barnes_hut_kl;
 use divergence_sums::kl_divergence;
 use gradient::element::normaliser;
@@ -49,15 +49,22 @@ fn total(r: Run, forces: &[f64]) -> f64
     forces[s.n * s.c]
 }
 
-// Whether it is 17: no iteration has just ended, or the forces give a total of 0.
+// Whether an iteration has just ended: one is done, and no unit of the next.
+fn just_ended(r: Run) -> bool
+    ensures { λ b. ⌜ b ≡ justEnded r ⌝ }
+{
+    if r.done == 0 {
+        return false;
+    }
+    r.phase == 0
+}
+
+// Whether it is 17: none has just ended, or the forces give a total of 0.
 fn too_early(r: Run, forces: &[f64]) -> bool
     requires { ⌜ TotalRoom r (now forces) ⌝ }
     ensures { λ b. ⌜ b ≡ tooEarly r (now (forces .entry)) ⌝ }
 {
-    if r.done == 0 {
-        return true;
-    }
-    if r.phase != 0 {
+    if !just_ended(r) {
         return true;
     }
     total(r, forces) == 0.0
