@@ -7,7 +7,7 @@ use Rattle.divergence.proofs.just_ended.Tie as tie
 
 returns : tie.Need-returns
 unfolding justEnded
-returns c = rw (eq-eqb _ _ (c .if1 .taken))
+returns c = rw (eq-eqb (c .before .before .args .r .done) 0 (omega (arith, c .if1 .taken)))
 
 returns-2 : tie.Need-returns-2
 unfolding justEnded

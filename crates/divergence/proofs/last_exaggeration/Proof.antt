@@ -1,4 +1,5 @@
 use borrow.Author.Tests.{le-leb, lt-leb}
+use Rattle.laws.specs.Domain.{earlyIterations}
 use Rattle.divergence.specs.Divergence.{lastExaggeration}
 use borrow.Author.Needs.{needs}
 use native.Mathlib.Omega.{arith}
@@ -7,11 +8,11 @@ use Rattle.divergence.proofs.last_exaggeration.Tie as tie
 
 returns : tie.Need-returns
 unfolding lastExaggeration
-returns c = rw (le-leb _ _ (c .if1 .taken))
+returns c = rw (le-leb (c .before .before .args .r .done) earlyIterations (omega (arith, c .if1 .taken)))
 
 returns-2 : tie.Need-returns-2
 unfolding lastExaggeration
-returns-2 c = rw (lt-leb _ _ (c .if1 .left))
+returns-2 c = rw (lt-leb (c .before .before .args .r .done) earlyIterations (omega (arith, c .if1 .left)))
 
 pub last-exaggeration-spec : {M : Type 1} → statement M
 last-exaggeration-spec = tie.close (tie.spec returns returns-2)
