@@ -13,7 +13,7 @@ use Rattle.laws.proofs.Bools.{by-bool, and-left, and-right}
 use Rattle.laws.proofs.Loops.{loop-keeps}
 use Rattle.laws.proofs.Numbers.{row-in}
 use Rattle.gradient.specs.Forces.{placeOf}
-use Rattle.gradient.specs.Element.{shareStep, sharesOf}
+use Rattle.gradient.specs.Element.{shareStep, shareSumOf}
 use Rattle.tree_node.specs.declared.Cell.{Cell}
 use Rattle.tree_node.specs.Arena.{nodesOf}
 use Rattle.run_record.specs.declared.Run.{Run}
@@ -70,7 +70,7 @@ zero-is = refl
 abbrev pub Zeros : Run → List Float → Type 0
 Zeros r F = (i : ℕ) → i < r .settings .n * (2 * r .settings .c + 1) → at F i ≡ zero64
 
-shares-zero : (F : List Float) (n c : ℕ) → ((i : ℕ) → i < n → at F (placeOf c i + 2 * c) ≡ zero64) → sharesOf F n c ≡ zero64
+shares-zero : (F : List Float) (n c : ℕ) → ((i : ℕ) → i < n → at F (placeOf c i + 2 * c) ≡ zero64) → shareSumOf F n c ≡ zero64
 shares-zero F n c h = loop-keeps (λ (k : ℕ) (s : Float). s ≡ zero64) (shareStep F c) n 0 zero64 (λ j s l e. rw (e, h j (omega (arith, l))) zero-sum) refl
 
 total-zero : (r : Run) (F : List Float) → 2 ≤ r .settings .n → Zeros r F → totalOf r F ≡ zero64

@@ -9,7 +9,7 @@ use lib.ListN.{length}
 use lib.Ieee.{Float, eq}
 use Rattle.laws.specs.Domain.{earlyIterations}
 use Rattle.laws.specs.Area.{at, bits, zero64, one64}
-use Rattle.gradient.specs.Element.{sharesOf, normaliserOf}
+use Rattle.gradient.specs.Element.{shareSumOf, normaliserOf}
 use Rattle.divergence_sums.specs.Sums.{klDense, klLists, AllLinked}
 use Rattle.run_record.specs.declared.Run.{Run}
 use Rattle.run_record.specs.Record.{isTree, GoodSettings}
@@ -25,7 +25,7 @@ lastExaggeration r = cond (leb (r .done) earlyIterations) (bits 0x40280000000000
 
 -- what the forces give in all: Barnes-Hut, the sum of the shares before its floor; exact, the value at place n·c
 unfoldable pub totalOf : Run → List Float → Float
-totalOf r F = cond (isTree (r .settings .method)) (sharesOf F (r .settings .n) (r .settings .c)) (at F (r .settings .n * r .settings .c))
+totalOf r F = cond (isTree (r .settings .method)) (shareSumOf F (r .settings .n) (r .settings .c)) (at F (r .settings .n * r .settings .c))
 
 -- a zero of either sign; NaN is none
 abbrev pub isZero : Float → Bool

@@ -2,12 +2,12 @@
 ghost use mathlib.Core.Path.{_≡_};
 ghost use Prim.Native.Nat.{_+_, _*_, _<_, _≤_};
 ghost use lib.ListN.{length};
-ghost use Rattle.gradient.specs.Element.{sharesOf, normaliserOf, gradientOf, normOf};
+ghost use Rattle.gradient.specs.Element.{shareSumOf, normaliserOf, gradientOf, normOf};
 
 // The sum of the shares by rising point.
 pub fn share_sum(forces: &[f64], n: usize, c: usize) -> f64
     requires { ⌜ (c ≤ 8) × (n * (2 * c + 1) ≤ length (now forces)) ⌝ }
-    ensures { λ r. ⌜ r ≡ sharesOf (now (forces .entry)) n c ⌝ }
+    ensures { λ r. ⌜ r ≡ shareSumOf (now (forces .entry)) n c ⌝ }
 {
     let mut s = 0.0;
     let mut i = 0;
