@@ -11,6 +11,7 @@ pub mod elementary;
 pub mod frames;
 pub mod gradient;
 pub mod lists;
+pub mod moved;
 pub mod preparation;
 pub mod scatter;
 pub mod sigma;

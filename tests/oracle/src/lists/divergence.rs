@@ -84,7 +84,7 @@ fn pairs_case(random: &mut SplitMix64, kind: usize, n: usize, c: usize, exaggera
 pub fn links_cases() -> Vec<Vec<u64>> {
     let mut random = SplitMix64::new(172);
     let mut found = Vec::new();
-    for kind in 0..240 {
+    for kind in 0..216 {
         let n = 2 + kind % 31;
         let c = 1 + kind % 3;
         found.push(links_case(&mut random, kind, n, c, EXAGGERATIONS[kind / 3 % 2]));
