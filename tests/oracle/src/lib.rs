@@ -6,6 +6,7 @@
 pub mod bench;
 pub mod descent;
 pub mod differences;
+pub mod divergence;
 pub mod elementary;
 pub mod frames;
 pub mod gradient;
