@@ -118,7 +118,7 @@ fn what_is_refused() {
         none.to_string(),
         "refused 16: a record of the frame file is bad (record 3, counted from 0)"
     );
-    for number in 1..=16 {
+    for number in 1..=17 {
         assert!(!Refusal(number).meaning().starts_with("no known"));
     }
 }
