@@ -36,8 +36,8 @@ module _ (w : List ℕ) (m : Memory) (y : List Float) (a : List ℕ) (n : ℕ) (
       let u : unfit w (length a) ≡ true = ap (unfit w) ln ∙ holds-as x1 (unfit w n) e1 t in
       rw u e
 
-  pub room-said : T (not x1) → 1 ≤ length a
-  room-said t = omega (arith, ln, fit-room w n (fails-as x1 (unfit w n) e1 t))
+  pub answer-room : T (not x1) → 1 ≤ length a
+  answer-room t = omega (arith, ln, fit-room w n (fails-as x1 (unfit w n) e1 t))
 
   pub long-said : T (not x1) → 14 ≤ length w
   long-said t = fit-long w n (fails-as x1 (unfit w n) e1 t)

@@ -38,7 +38,7 @@ use denote.Exit.{yes}
 use Rattle.lent.proofs.After.{type-of}
 use Rattle.lent.proofs.Pass.{Seat, ref-at, word, Mut, Shr, Tok}
 use denote.Struct.Laws as LL
-use Rattle.desk_divergence.proofs.Laws.{unfit-said, room-said, long-said, figure-said}
+use Rattle.desk_divergence.proofs.Laws.{unfit-said, answer-room, long-said, figure-said}
 use Rattle.desk_divergence.specs.HostDivergence.{hostDivergence}
 use Rattle.desk_words.specs.Words.{worded}
 use Rattle.run_entry.specs.State.{memory}
@@ -155,7 +155,7 @@ module _ {M : Type 1} (𝓤 : URA M) (H : Heap 𝓤) (A : Atoms 𝓤) (W : Given
         assigns ! (addr ! (from ! (fld ! refl (hop ! (look-in ! 44 (sub ! 0 refl (whole !))) (stop !))))) (from ! (stop !)) (init ! 24 refl (tt, tt)) $
         assigns ! (agg ! (and-then ! (load ! (from ! (stop !)) (look ! 24 refl)) (and-then ! (load ! (from ! (fld ! refl (stop !))) (look-in ! 44 (sub ! 1 refl (whole !)))) (no-more !)))) (from ! (stop !)) (init ! 22 refl (tt, (tt, (record { fits = room-answer .0 }, tt)))) $
         move ! (20 ∷ 21 ∷ []) $
-        calls-put-diverged-m ! fm mem run-of known-put-diverged s-answer answer r4 ln-answer is4 (room-said words (memory positions increments gains affinities indices offsets forces cells) copy answer _ ln-answer r1 e1 no1) (λ _ _. and-then ! (load ! (from ! (stop !)) (look ! 22 refl)) (and-then ! (load ! (from ! (stop !)) (look ! 36 refl)) (no-more !))) (λ r5 answer5 e5 is5 l-answer5.
+        calls-put-diverged-m ! fm mem run-of known-put-diverged s-answer answer r4 ln-answer is4 (answer-room words (memory positions increments gains affinities indices offsets forces cells) copy answer _ ln-answer r1 e1 no1) (λ _ _. and-then ! (load ! (from ! (stop !)) (look ! 22 refl)) (and-then ! (load ! (from ! (stop !)) (look ! 36 refl)) (no-more !))) (λ r5 answer5 e5 is5 l-answer5.
         land ! (from ! (stop !)) (init ! 34 refl (tt, record { fits = is5 .1 })) $
         assigns ! (of-opd ! (load ! (from ! (stop !)) (look ! 34 refl))) (from ! (stop !)) (init ! 66 refl (tt, record { fits = is5 .1 })) $
         returns ! (look ! 66 refl) $ forget ! 22 refl $ forget ! 24 refl $ forget ! 30 refl $ forget ! 32 refl $ forget ! 34 refl $ forget ! 36 refl $ forget ! 38 refl $ forget ! 42 refl $ forget ! 44 refl $ forget ! 46 refl $ forget ! 48 refl $ forget ! 50 refl $ forget ! 52 refl $ forget ! 54 refl $ forget ! 56 refl $ forget ! 58 refl $ forget ! 60 refl $ forget ! 62 refl $ forget ! 64 refl $ forget ! 66 refl $
