@@ -2,7 +2,6 @@
 -- y is the lent copy: the positions before that iteration's step.
 use mathlib.Core.List.{List}
 use mathlib.Core.Path.{_≡_}
-use mathlib.Core.Option.{Option, none, some}
 use mathlib.Core.Bool.{Bool, true, false, cond, not, _&&_, _||_}
 use Prim.Native.Nat.{ℕ, _+_, _*_, _≤_, min}
 use lib.Dec.{eqb, leb}
@@ -60,11 +59,11 @@ afterTests f r W I O F y = cond (isFine f) (cond (tooEarly r F) Early (Figure (f
 unfoldable pub divergenceOf : Run → Memory → List Float → Diverged
 divergenceOf r m y = afterTests (divergenceFault r m y) r (m .affinities) (m .indices) (m .offsets) (m .forces) y
 
--- the number of a refusal; none for a figure
-abbrev pub divergenceNumber : Diverged → Option ℕ
-divergenceNumber (Figure x) = none
-divergenceNumber Early = some 17
-divergenceNumber (Bad f) = some (faultNumber f)
+-- the number of a refusal; 0 where there is none
+unfoldable pub divergenceNumber : Diverged → ℕ
+divergenceNumber (Figure x) = 0
+divergenceNumber Early = 17
+divergenceNumber (Bad f) = faultNumber f
 
 -- ---- what the tests have shown
 

@@ -4,7 +4,7 @@ ghost use mathlib.Core.Bool.{true};
 ghost use Prim.Native.Nat.{min};
 ghost use Rattle.run_entry.specs.State.{memory};
 ghost use Rattle.run_entry.specs.Entry.{isFine};
-ghost use Rattle.divergence.specs.Divergence.{lastExaggeration, totalOf, justEnded, tooEarly, figureOf, afterTests, divergenceOf, TotalRoom, FigureRoom};
+ghost use Rattle.divergence.specs.Divergence.{lastExaggeration, totalOf, justEnded, tooEarly, figureOf, afterTests, divergenceOf, divergenceNumber, TotalRoom, FigureRoom};
 use divergence_sums::barnes_hut_kl;
 use divergence_sums::kl_divergence;
 use gradient::element::normaliser;
@@ -12,6 +12,7 @@ use gradient::element::share_sum;
 use laws::EARLY_ITERATIONS;
 use run_entry::Fault;
 use run_entry::fault_at;
+use run_entry::fault_number;
 use run_entry::is_fine;
 use run_record::Run;
 use run_record::faults::is_tree;
@@ -152,4 +153,15 @@ pub fn divergence(
     );
     let a = after_tests(f, r, affinities, indices, offsets, forces, copy);
     a
+}
+
+// The number of a refusal; 0: it is none.
+pub fn number(a: Diverged) -> u8
+    ensures { λ k. ⌜ k ≡ divergenceNumber a ⌝ }
+{
+    match a {
+        Diverged::Figure(_) => 0,
+        Diverged::Early => 17,
+        Diverged::Bad(f) => fault_number(f),
+    }
 }
