@@ -36,11 +36,11 @@ module _ (w : List ℕ) (m : Memory) (y : List Float) (a : List ℕ) (n : ℕ) (
       let u : unfit w (length a) ≡ true = ap (unfit w) ln ∙ holds-as x1 (unfit w n) e1 t in
       rw u e
 
-  pub room-said : T (not x1) → 1 ≤ length a
-  room-said t = omega (arith, ln, fit-room w n (fails-as x1 (unfit w n) e1 t))
+  pub fit-room-said : T (not x1) → 1 ≤ length a
+  fit-room-said t = omega (arith, ln, fit-room w n (fails-as x1 (unfit w n) e1 t))
 
-  pub long-said : T (not x1) → 14 ≤ length w
-  long-said t = fit-long w n (fails-as x1 (unfit w n) e1 t)
+  pub fit-long-said : T (not x1) → 14 ≤ length w
+  fit-long-said t = fit-long w n (fails-as x1 (unfit w n) e1 t)
 
   pub figure-said : T (not x1) → (r : Run) → r ≡ runOf w → (d : Diverged) → d ≡ divergenceOf r m y → (k : ℕ) (a' : List ℕ) → worded k a' ≡ divergedTold d a → worded k a' ≡ hostDivergence w m y a
   unfolding hostDivergence

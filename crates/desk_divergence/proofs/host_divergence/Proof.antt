@@ -38,7 +38,7 @@ use denote.Exit.{yes}
 use Rattle.lent.proofs.After.{type-of}
 use Rattle.lent.proofs.Pass.{Seat, ref-at, word, Mut, Shr, Tok}
 use denote.Struct.Laws as LL
-use Rattle.desk_divergence.proofs.Laws.{unfit-said, room-said, long-said, figure-said}
+use Rattle.desk_divergence.proofs.Laws.{unfit-said, fit-room-said, fit-long-said, figure-said}
 use Rattle.desk_divergence.specs.HostDivergence.{hostDivergence}
 use Rattle.desk_words.specs.Words.{worded}
 use Rattle.run_entry.specs.State.{memory}
@@ -147,7 +147,7 @@ module _ {M : Type 1} (𝓤 : URA M) (H : Heap 𝓤) (A : Atoms 𝓤) (W : Given
         move ! (66 ∷ 67 ∷ []) $ free1 ! $ move ! (64 ∷ 65 ∷ []) $ free1 ! $ move ! (62 ∷ 63 ∷ []) $ free1 ! $ move ! (60 ∷ 61 ∷ []) $ free1 ! $ move ! (58 ∷ 59 ∷ []) $ free1 ! $ move ! (56 ∷ 57 ∷ []) $ free1 ! $ move ! (54 ∷ 55 ∷ []) $ free1 ! $ move ! (52 ∷ 53 ∷ []) $ free1 ! $ move ! (50 ∷ 51 ∷ []) $ free1 ! $ move ! (48 ∷ 49 ∷ []) $ free1 ! $ move ! (46 ∷ 47 ∷ []) $ free1 ! $ move ! (44 ∷ 45 ∷ []) $ free1 ! $ move ! (42 ∷ 43 ∷ []) $ free1 ! $ move ! (40 ∷ 41 ∷ []) $ free1 ! $ move ! (38 ∷ 39 ∷ []) $ free1 ! $ move ! (36 ∷ 37 ∷ []) $ free1 ! $ move ! (34 ∷ 35 ∷ []) $ free1 ! $ move ! (32 ∷ 33 ∷ []) $ free1 ! $ move ! (30 ∷ 31 ∷ []) $ free1 ! $ move ! (28 ∷ 29 ∷ []) $ free1 ! $ move ! (26 ∷ 27 ∷ []) $ free1 ! $ move ! (24 ∷ 25 ∷ []) $ free1 ! $ move ! (22 ∷ 23 ∷ []) $ free1 ! $ free0 ! $
         keep ! (0 ∷ 1 ∷ 4 ∷ 5 ∷ 6 ∷ 7 ∷ 8 ∷ 9 ∷ 10 ∷ 11 ∷ 12 ∷ 13 ∷ 14 ∷ 15 ∷ 16 ∷ 17 ∷ 18 ∷ 19 ∷ 20 ∷ 21 ∷ 2 ∷ 3 ∷ []) $ by ! (exits r2 answer2 (is2 .1) l-answer2 (unfit-said words (memory positions increments gains affinities indices offsets forces cells) copy answer _ ln-answer r1 e1 yes1 r2 answer2 e2))))
         (λ no1. skips ! $ exec ! C Λ (En l0 l1 l2 l3 l4 l5 l6 l7 l8 l9 l10 l11 l12 l13 l14 l15 l16 l17 l18 l19 l20 l21 l22) pieces.t-5 (atRet (En l0 l1 l2 l3 l4 l5 l6 l7 l8 l9 l10 l11 l12 l13 l14 l15 l16 l17 l18 l19 l20 l21 l22) Post) $
-        calls-run-of-c ! fm mem run-of known-run-of s-words words (long-said words (memory positions increments gains affinities indices offsets forces cells) copy answer _ ln-answer r1 e1 no1) (λ _ _. and-then ! (load ! (from ! (stop !)) (look ! 64 refl)) (no-more !)) (λ r3 e3 is3.
+        calls-run-of-c ! fm mem run-of known-run-of s-words words (fit-long-said words (memory positions increments gains affinities indices offsets forces cells) copy answer _ ln-answer r1 e1 no1) (λ _ _. and-then ! (load ! (from ! (stop !)) (look ! 64 refl)) (no-more !)) (λ r3 e3 is3.
         land ! (from ! (stop !)) (init ! 38 refl (typed-Run r3 is3)) $
         move ! (2 ∷ 3 ∷ 4 ∷ 5 ∷ 6 ∷ 7 ∷ 8 ∷ 9 ∷ 10 ∷ 11 ∷ 12 ∷ 13 ∷ 14 ∷ 15 ∷ 16 ∷ 17 ∷ 18 ∷ 19 ∷ []) $
         calls-divergence-ccccccccc ! fm mem run-of known-divergence r3 s-positions positions s-increments increments s-gains gains s-affinities affinities s-indices indices s-offsets offsets s-forces forces s-cells cells s-copy copy is3 (λ _ _ _ _ _ _ _ _ _ _. and-then ! (load ! (from ! (stop !)) (look ! 30 refl)) (and-then ! (load ! (from ! (stop !)) (look ! 54 refl)) (and-then ! (load ! (from ! (stop !)) (look ! 52 refl)) (and-then ! (load ! (from ! (stop !)) (look ! 50 refl)) (and-then ! (load ! (from ! (stop !)) (look ! 48 refl)) (and-then ! (load ! (from ! (stop !)) (look ! 46 refl)) (and-then ! (load ! (from ! (stop !)) (look ! 44 refl)) (and-then ! (load ! (from ! (stop !)) (look ! 42 refl)) (and-then ! (load ! (from ! (stop !)) (look ! 40 refl)) (and-then ! (load ! (from ! (stop !)) (look ! 38 refl)) (no-more !))))))))))) (λ r4 e4 is4.
@@ -155,7 +155,7 @@ module _ {M : Type 1} (𝓤 : URA M) (H : Heap 𝓤) (A : Atoms 𝓤) (W : Given
         assigns ! (addr ! (from ! (fld ! refl (hop ! (look-in ! 44 (sub ! 0 refl (whole !))) (stop !))))) (from ! (stop !)) (init ! 24 refl (tt, tt)) $
         assigns ! (agg ! (and-then ! (load ! (from ! (stop !)) (look ! 24 refl)) (and-then ! (load ! (from ! (fld ! refl (stop !))) (look-in ! 44 (sub ! 1 refl (whole !)))) (no-more !)))) (from ! (stop !)) (init ! 22 refl (tt, (tt, (record { fits = room-answer .0 }, tt)))) $
         move ! (20 ∷ 21 ∷ []) $
-        calls-put-diverged-m ! fm mem run-of known-put-diverged s-answer answer r4 ln-answer is4 (room-said words (memory positions increments gains affinities indices offsets forces cells) copy answer _ ln-answer r1 e1 no1) (λ _ _. and-then ! (load ! (from ! (stop !)) (look ! 22 refl)) (and-then ! (load ! (from ! (stop !)) (look ! 36 refl)) (no-more !))) (λ r5 answer5 e5 is5 l-answer5.
+        calls-put-diverged-m ! fm mem run-of known-put-diverged s-answer answer r4 ln-answer is4 (fit-room-said words (memory positions increments gains affinities indices offsets forces cells) copy answer _ ln-answer r1 e1 no1) (λ _ _. and-then ! (load ! (from ! (stop !)) (look ! 22 refl)) (and-then ! (load ! (from ! (stop !)) (look ! 36 refl)) (no-more !))) (λ r5 answer5 e5 is5 l-answer5.
         land ! (from ! (stop !)) (init ! 34 refl (tt, record { fits = is5 .1 })) $
         assigns ! (of-opd ! (load ! (from ! (stop !)) (look ! 34 refl))) (from ! (stop !)) (init ! 66 refl (tt, record { fits = is5 .1 })) $
         returns ! (look ! 66 refl) $ forget ! 22 refl $ forget ! 24 refl $ forget ! 30 refl $ forget ! 32 refl $ forget ! 34 refl $ forget ! 36 refl $ forget ! 38 refl $ forget ! 42 refl $ forget ! 44 refl $ forget ! 46 refl $ forget ! 48 refl $ forget ! 50 refl $ forget ! 52 refl $ forget ! 54 refl $ forget ! 56 refl $ forget ! 58 refl $ forget ! 60 refl $ forget ! 62 refl $ forget ! 64 refl $ forget ! 66 refl $
