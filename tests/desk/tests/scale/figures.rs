@@ -11,12 +11,12 @@ use oracle::divergence::{self as rules, Refusal};
 use std::collections::BTreeMap;
 use std::panic::{catch_unwind, AssertUnwindSafe};
 
-/// The most frames.
+/// The most frames of most runs, and of one in twenty.
+const FEW: usize = 60;
 const FRAMES: usize = 200;
-/// How much is altered in each run, of all that can be; less where there are more frames, for the time it takes.
+/// How much is altered in each run, of all that can be; less where there are many frames, for the time it takes.
 const ALTERED: usize = 10;
-const LARGE: usize = 60;
-const ALTERED_LARGE: usize = 3;
+const ALTERED_OF_MANY: usize = 3;
 
 /// What is told: 0 and the figure's bits, or the number of the refusal and what comes with it.
 type Told = (u64, u64);
@@ -79,7 +79,10 @@ fn by_the_rules(both: &Both, copy: &[f64]) -> Told {
 /// Settings at random, and the iteration after which the figure is asked for: the run's last, or not.
 fn settings(random: &mut Random) -> (Settings, usize) {
     let method = random.one_of(&[Method::Exact, Method::BarnesHut]);
-    let n = random.between(2.0, FRAMES as f64 + 1.0) as usize;
+    let n = match random.once_in(20) {
+        true => random.within(FRAMES / 2 + 1, FRAMES),
+        false => random.between(2.0, FEW as f64 + 1.0) as usize,
+    };
     let around = random.one_of(&[1, 248, 348]) + random.below(4);
     let anywhere = random.within(1, 1000);
     let asked = random.one_of(&[around, around, anywhere]);
@@ -119,7 +122,7 @@ fn run(random: &mut Random, met: &mut Met) {
     };
     let plain = told(&stand.both, &stand.copy);
     count(&stand, plain, met);
-    for _ in 0..if settings.n > LARGE { ALTERED_LARGE } else { ALTERED } {
+    for _ in 0..if settings.n > FEW { ALTERED_OF_MANY } else { ALTERED } {
         altered(random, &stand, plain, met);
     }
 }
@@ -293,7 +296,7 @@ fn alter_values(random: &mut Random, stand: &mut Stand) -> (&'static str, Wanted
         Method::Exact => stand.sizes.affinities,
         Method::BarnesHut => areas.offsets[stand.settings.n] as usize,
     };
-    match random.below(8) {
+    match random.below(9) {
         0 => {
             damage_value(random, &mut areas.positions);
             damage_value(random, &mut areas.increments);
@@ -312,7 +315,11 @@ fn alter_values(random: &mut Random, stand: &mut Stand) -> (&'static str, Wanted
             stand.copy[..cells].fill(random.odd_value());
             ("a copy of one value", Wanted::Figure)
         }
-        4 | 5 => {
+        4 => {
+            areas.affinities[..2].fill(f64::INFINITY);
+            ("infinite affinities", Wanted::Figure)
+        }
+        5 | 6 => {
             damage_value(random, &mut areas.affinities[..linked]);
             ("another affinity", Wanted::Figure)
         }
@@ -488,6 +495,7 @@ const BY_BOTH: &[&str] = &[
     "another node after an iteration",
     "affinities below 0",
     "a copy of one value",
+    "infinite affinities",
     "another affinity",
     "another value in the copy",
     "all forces 0",
