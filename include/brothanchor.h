@@ -2,8 +2,8 @@
  *
  * Link libdesk.a (rt staticlib desk), for x86-64 Linux. All memory is lent by the caller; nothing is kept between calls.
  * An area is a pointer and its number of elements; an empty area may have any pointer. Areas of one call must not overlap.
- * A call that is refused at its entry changes nothing, but for the answer of a work call. Longer areas keep what lies past
- * what is asked for.
+ * A call that is refused at its entry changes nothing, but for the answer of a work call or of a divergence. Longer areas keep
+ * what lies past what is asked for.
  *
  * Refusal numbers (0: none)
  *   1  c is 0 or above 8
@@ -22,6 +22,7 @@
  *  14  the next point needs more nodes than the arena has left; with a longer arena the run goes on
  *  15  the step would give a value that is NaN or above 2^100 in magnitude
  *  16  a record of a frame file is bad
+ *  17  no iteration has just ended, or the forces give a total of 0
  */
 
 /* What areas may hold: any bits, NaNs of every kind among them. A call tests whatever it goes by, so no contents can lead it
@@ -34,6 +35,7 @@
  *   work, refused at its entry       (12, 13) the answer and nothing else; with an answer area that is too short nothing
  *   work, refused by a unit          (14, 15) all that the units before it wrote: record and memory are as after these units,
  *                                    which the answer counts, and the refused unit has changed nothing
+ *   divergence                       the first word of the answer; with an answer area that is empty nothing
  * After 14 or 15 the run is still running, and the next call begins with the refused unit. After 14 it goes on where the nodes
  * are moved to a longer arena, those in use with their contents.
  *
@@ -154,6 +156,32 @@ uint32_t brothanchor_work(
     double *forces, size_t forces_length,
     struct brothanchor_node *nodes, size_t nodes_length,
     uint32_t budget,
+    uint64_t *answer, size_t answer_length);
+
+/* The Kullback-Leibler figure of the iteration just finished: how far the map's closeness is from the frames'. It reads the
+ * record's words, the areas of a work call and a copy, and changes none of them. The copy holds the positions as they were
+ * before that iteration's step, n*c values or more. Positions change in an iteration's last unit alone, so a caller may take it
+ * at any moment of the iteration. Its bits are taken as they are. A run that has ended stands after an iteration too.
+ *
+ * Answers 0, and writes the figure's bits to the first word of the answer; or the number of the refusal, and writes what comes
+ * with it there, as in word BROTHANCHOR_VALUE of a work call, 0 where nothing does. No other word is written. In this order:
+ *   12  the answer area is empty: nothing can be told
+ *   13  the words are no record (13 comes with a method that there is not, else 0); settings or counters are not well formed
+ *   12  an area is too short, as in a work call, or the copy has fewer than n*c values
+ *   13  the contents are not well formed
+ *   17  no iteration is done, a unit of the next one is done, or the forces give a total of 0, as those of a run just prepared
+ * Of altered areas the figure may be infinite or NaN, which is told as 7FF8000000000000. */
+uint32_t brothanchor_divergence(
+    const uint64_t *record, size_t record_length,
+    const double *positions, size_t positions_length,
+    const double *increments, size_t increments_length,
+    const double *gains, size_t gains_length,
+    const double *affinities, size_t affinities_length,
+    const uint32_t *indices, size_t indices_length,
+    const uint32_t *offsets, size_t offsets_length,
+    const double *forces, size_t forces_length,
+    const struct brothanchor_node *nodes, size_t nodes_length,
+    const double *copy, size_t copy_length,
     uint64_t *answer, size_t answer_length);
 
 /* What a record says. The state is 3, the numbers are 0, where the words are no record. */

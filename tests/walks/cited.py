@@ -76,4 +76,7 @@ WALKS = {
     'descent::work': dict(uses=['Calls.{call-asks, call-done, call-bad}'],
         req={'go_on': '(call-asks run₀ positions increments gains affinities indices offsets forces cells _ _ _ _ _ ln-positions ln-increments ln-gains ln-affinities ln-forces r1 e1 r2 e2 yes1)'},
         returns=['(call-done run₀ positions increments gains affinities indices offsets forces cells _ _ _ _ _ ln-positions ln-increments ln-gains ln-affinities ln-forces r1 e1 r2 e2 yes1 budget r3 positions3 increments3 gains3 forces3 cells3 e3)', '(call-bad run₀ positions increments gains affinities indices offsets forces cells _ _ _ _ _ ln-positions ln-increments ln-gains ln-affinities ln-forces r1 e1 r2 e2 no1 budget r4 e4)']),
+    'divergence::divergence': dict(uses=['Laws.{divergence-asks, divergence-told}'],
+        req={'after_tests': '(divergence-asks r positions increments gains affinities indices offsets forces cells copy _ _ _ _ _ _ ln-positions ln-increments ln-gains ln-affinities ln-forces ln-copy r1 e1 r2 e2)'},
+        returns=['(divergence-told r positions increments gains affinities indices offsets forces cells copy _ _ _ _ _ _ ln-positions ln-increments ln-gains ln-affinities ln-forces ln-copy r1 e1 r2 e2 r3 e3)']),
 }

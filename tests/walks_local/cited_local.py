@@ -1,6 +1,6 @@
 """What the printed walks of functions that lend locals cite (as tests/walks/cited.py). within: that the count of a part that is lent is at most the array's length."""
 
-HOME = {'desk_words::run_of': 'desk_runs', 'desk_words::put_after': 'desk_runs', 'desk_words::put_answer': 'desk_runs', 'desk_runs::host_work': 'desk'}
+HOME = {'desk_words::put_after': 'desk_runs', 'desk_words::put_answer': 'desk_runs', 'desk_runs::host_work': 'desk', 'divergence::divergence': 'desk_divergence', 'desk_divergence::host_divergence': 'desk'}
 
 WALKS = {
     'lent_examples::put_in': dict(req={'put_cell': '(subst (λ (m : ℕ). i < m) (sym {len_own4}) ready)'}, returns=['e1']),
@@ -21,7 +21,11 @@ WALKS = {
         returns=['(short-said budget words answer (memory positions increments gains affinities indices offsets forces cells) _ ln-answer r1 e1 yes1)',
                  '(unread-said budget words answer (memory positions increments gains affinities indices offsets forces cells) _ ln-answer r1 e1 no1 r2 e2 yes2 answer3 e3)',
                  '(work-said budget words answer (memory positions increments gains affinities indices offsets forces cells) _ ln-answer r1 e1 no1 r2 e2 no2 r4 e4 r5 own145 (memory positions5 increments5 gains5 affinities indices offsets forces5 cells5) e5 words6 e6 answer7 e7 r8 e8)']),
+    'desk_divergence::host_divergence': dict(uses=['Laws.{unfit-said, answer-room, long-said, figure-said}'],
+        req={'run_of': '(long-said words (memory positions increments gains affinities indices offsets forces cells) copy answer _ ln-answer r1 e1 no1)', 'put_diverged': '(answer-room words (memory positions increments gains affinities indices offsets forces cells) copy answer _ ln-answer r1 e1 no1)'},
+        returns=['(unfit-said words (memory positions increments gains affinities indices offsets forces cells) copy answer _ ln-answer r1 e1 yes1 r2 answer2 e2)', '(figure-said words (memory positions increments gains affinities indices offsets forces cells) copy answer _ ln-answer r1 e1 no1 r3 e3 r4 e4 r5 answer5 e5)']),
     'desk::brothanchor_work': dict(returns=['e1']),
+    'desk::brothanchor_divergence': dict(returns=['e1']),
     'replay_arena::plant_in': dict(within='(ready .3)', uses=['Told.{plant-asks, plant-told}'], req={'plant': '(plant-asks n c k₀ cells positions ready count-own6)'}, returns=['(plant-told n c k₀ cells positions ready count-own6 own61 e1)']),
     'replay_arena::fine_in': dict(within='(ready .1)', req={'tree_ok': '(ready .0)'}, returns=['(e2 ∙ ap contentsFine e1)']),
     'replay_arena::put_in': dict(within='(ready .1)', uses=['Told.{put-asks, put-told}'], req={'insert': '(put-asks n used j c k₀ cells positions ready)'}, returns=['(put-told n used j c k₀ cells positions ready r1 own81 e1 {len_own8} r2 e2)']),

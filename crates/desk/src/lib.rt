@@ -8,6 +8,8 @@ ghost use Rattle.desk_record.specs.Records.{hostSizes, saidOf};
 ghost use Rattle.frames.specs.Frames.{orZero};
 ghost use Rattle.desk_files.specs.Files.{hostFrames, hostFrame};
 ghost use Rattle.desk_runs.specs.Runs.{hostPrepared, hostPrepare, hostWorked, hostWork};
+ghost use Rattle.desk_divergence.specs.HostDivergence.{hostDivergence};
+use desk_divergence::host_divergence;
 use desk_files::host_frame;
 use desk_files::host_frames;
 use desk_files::host_scatter;
@@ -85,6 +87,39 @@ pub extern "C" fn brothanchor_work(
         forces,
         cells,
         budget,
+        answer,
+    );
+    k
+}
+
+// The figure of the iteration just finished. Answers 0, or the number of the refusal, and writes the answer's first word: the figure's bits, or the place that comes with the number. The copy holds the positions before that iteration's step.
+#[no_mangle]
+pub extern "C" fn brothanchor_divergence(
+    words: &[u64],
+    positions: &[f64],
+    increments: &[f64],
+    gains: &[f64],
+    affinities: &[f64],
+    indices: &[u32],
+    offsets: &[u32],
+    forces: &[f64],
+    cells: &[Cell],
+    copy: &[f64],
+    answer: &mut [u64],
+) -> u32
+    ensures { λ k. ⌜ worded k (now (answer .exit)) ≡ hostDivergence (now (words .entry)) (memory (now (positions .entry)) (now (increments .entry)) (now (gains .entry)) (now (affinities .entry)) (now (indices .entry)) (now (offsets .entry)) (now (forces .entry)) (now (cells .entry))) (now (copy .entry)) (now (answer .entry)) ⌝ }
+{
+    let k = host_divergence(
+        words,
+        positions,
+        increments,
+        gains,
+        affinities,
+        indices,
+        offsets,
+        forces,
+        cells,
+        copy,
         answer,
     );
     k

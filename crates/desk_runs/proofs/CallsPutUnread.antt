@@ -27,8 +27,7 @@ use denote.Triple.Spec.{tripleOf}
 use denote.Triple.Walked.{says}
 use Rattle.lent.proofs.Pass.{Seat, ref-at, word, Mut, Shr, Tok, lent-to, lend-mut, back-mut, lend-shr, back-shr}
 use Prim.Native.Nat.{_≤_}
-use Rattle.desk_runs.specs.Runs.{unreadFault}
-use Rattle.desk_words.specs.Words.{answerPut}
+use Rattle.desk_words.specs.Words.{unreadFault, answerPut}
 use Rattle.run_budget.specs.declared.Answer.the-variants.{Bad}
 use lib.ListN.{length}
 use mathlib.Core.Path.{_≡_}

@@ -14,9 +14,9 @@ use Rattle.run_budget.specs.declared.Answer.{Answer}
 use Rattle.run_budget.specs.declared.Answer.the-variants.{Bad}
 use Rattle.run_budget.specs.Budget.{worked}
 use Rattle.descent.specs.Descent.{work, workNumber}
-use Rattle.desk_words.specs.Words.{runFine, runOf, runAfter, answerPut}
+use Rattle.desk_words.specs.Words.{runFine, runOf, runAfter, unreadFault, answerPut}
 use Rattle.desk_words.proofs.Laws.{run-long}
-use Rattle.desk_runs.specs.Runs.{hostWorked, unreadFault, hostWork}
+use Rattle.desk_runs.specs.Runs.{hostWorked, hostWork}
 use Rattle.desk_runs.proofs.Laws.{short-told, unread-told, work-told}
 
 not-false-is : (b : Bool) → not b ≡ false → b ≡ true

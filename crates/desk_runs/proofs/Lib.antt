@@ -4,6 +4,5 @@ pub mod Theorems
 pub mod ByValue
 pub mod CallsIsUnread
 pub mod CallsPutUnread
-pub mod CallsRunOf
 pub mod CallsPutAfter
 pub mod CallsPutAnswer

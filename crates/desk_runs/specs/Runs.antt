@@ -7,8 +7,6 @@ use lib.ListN.{length}
 use lib.Ieee.{Float}
 use Rattle.tree_node.specs.declared.Cell.{Cell}
 use Rattle.laws.specs.Area.{num}
-use Rattle.run_entry.specs.declared.Fault.{Fault}
-use Rattle.run_entry.specs.declared.Fault.the-variants.{Settings as BadSettings, Counters}
 use Rattle.run_entry.specs.State.{Memory, State, state}
 use Rattle.run_budget.specs.declared.Answer.the-variants.{Bad}
 use Rattle.run_budget.specs.Budget.{Worked}
@@ -17,7 +15,7 @@ use Rattle.descent.specs.Longer.{lentArena}
 use Rattle.prepare.specs.declared.Prepared.{Prepared}
 use Rattle.prepare.specs.declared.Prepared.the-variants.{Refused, Ready}
 use Rattle.prepare.specs.Prepare.{Lent, lengthsOf, prepareFault, PrepareOutcome, prepared, prepareNumber}
-use Rattle.desk_words.specs.Words.{settingsFine, settingsOf, runFine, runOf, runPut, runAfter, answerPut}
+use Rattle.desk_words.specs.Words.{settingsFine, settingsOf, runFine, runOf, runPut, runAfter, unreadFault, answerPut}
 
 -- ---- preparation
 
@@ -65,10 +63,6 @@ hostWorked k a w m = record { number = k; answer = a; run = w; memory = m }
 
 abbrev pub workedIn : Worked → List ℕ → List ℕ → HostWorked
 workedIn t a w = hostWorked (workNumber (t .answer)) (answerPut (t .answer) a) (runAfter (t .answer) (t .left .run) w) (t .left .memory)
-
--- what is told of words that are no record, each of these 13: too few words, as counters; a method that there is not, as settings, with the 13 that preparation would give; a state that there is not, as counters
-abbrev pub unreadFault : List ℕ → Fault
-unreadFault w = cond (ltb (length w) 14) Counters (cond (settingsFine w) Counters (BadSettings 13))
 
 -- an answer area a of fewer than 5 words: 12, and nothing can be told; words w that are no record: 13; else as the work call has it
 unfoldable pub hostWork : ℕ → List ℕ → List ℕ → Memory → HostWorked

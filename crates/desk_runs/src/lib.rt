@@ -8,8 +8,8 @@ ghost use Rattle.run_entry.specs.State.{memory};
 ghost use Rattle.run_budget.specs.declared.Answer.the-variants.{Bad};
 ghost use Rattle.descent.specs.Descent.{workNumber};
 ghost use Rattle.prepare.specs.Prepare.{lent, prepareFault};
-ghost use Rattle.desk_words.specs.Words.{runFine, answerPut};
-ghost use Rattle.desk_runs.specs.Runs.{hostPrepared, shortNumber, hostPrepare, hostWorked, unreadFault, hostWork};
+ghost use Rattle.desk_words.specs.Words.{runFine, unreadFault, answerPut};
+ghost use Rattle.desk_runs.specs.Runs.{hostPrepared, shortNumber, hostPrepare, hostWorked, hostWork};
 use descent::Answer;
 use descent::work;
 use desk_words::put_after;
@@ -19,11 +19,11 @@ use desk_words::run_fine;
 use desk_words::run_of;
 use desk_words::settings_fine;
 use desk_words::settings_of;
+use desk_words::unread_fault;
 use prepare::Lengths;
 use prepare::Prepared;
 use prepare::prepare;
 use prepare::prepare_fault;
-use run_entry::Fault;
 use run_record::Settings;
 use tree_node::Cell;
 
@@ -116,18 +116,6 @@ fn is_unread(words: &[u64]) -> bool
     ensures { λ r. ⌜ r ≡ not (runFine (now (words .entry))) ⌝ }
 {
     !run_fine(words)
-}
-
-fn unread_fault(words: &[u64]) -> Fault
-    ensures { λ f. ⌜ f ≡ unreadFault (now (words .entry)) ⌝ }
-{
-    if words.len() < 14 {
-        return Fault::Counters;
-    }
-    if settings_fine(words) {
-        return Fault::Counters;
-    }
-    Fault::Settings(13)
 }
 
 // Tells what is wrong with words that are no record.

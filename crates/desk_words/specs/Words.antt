@@ -2,7 +2,7 @@
 use mathlib.Core.List.{List}
 use mathlib.Core.Bool.{Bool, true, false, cond, _&&_}
 use Prim.Native.Nat.{ℕ, _+_, _-_, _*_, _^_}
-use lib.Dec.{eqb, leb}
+use lib.Dec.{eqb, ltb, leb}
 use lib.ListN.{length, set}
 use lib.Ieee.{Float, binary64, toBits}
 use Rattle.tree.specs.Insert.{enoughNodes}
@@ -94,6 +94,10 @@ faultValue Areas = 0
 faultValue (Offsets i) = i
 faultValue (Index i) = i
 faultValue (Tree i) = i
+
+-- what is told of words that are no record, each of these 13: too few words, as counters; a method that there is not, as settings, with the 13 that preparation would give; a state that there is not, as counters
+abbrev pub unreadFault : List ℕ → Fault
+unreadFault w = cond (ltb (length w) 14) Counters (cond (settingsFine w) Counters (BadSettings 13))
 
 abbrev pub faultIn : Answer → Fault
 faultIn (Running d) = Fine

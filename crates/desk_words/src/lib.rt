@@ -3,7 +3,7 @@ ghost use mathlib.Core.Path.{_≡_};
 ghost use Prim.Native.Nat.{_≤_, _^_};
 ghost use lib.ListN.{length};
 ghost use Rattle.descent.specs.Descent.{unitsOf};
-ghost use Rattle.desk_words.specs.Words.{methodOf, methodWord, settingsFine, settingsOf, settingsPut, standingOf, standingWord, runFine, runOf, progressPut, runPut, isBad, runAfter, kindWord, faultWord, faultValue, faultIn, answerPut, featuresPut, startsPut, framePut, lengthsPut};
+ghost use Rattle.desk_words.specs.Words.{methodOf, methodWord, settingsFine, settingsOf, settingsPut, standingOf, standingWord, runFine, runOf, progressPut, runPut, isBad, runAfter, kindWord, faultWord, faultValue, unreadFault, faultIn, answerPut, featuresPut, startsPut, framePut, lengthsPut};
 ghost use Rattle.tree_node.specs.Node.{Axes};
 ghost use Rattle.run_record.specs.Record.{GoodSettings};
 use descent::Answer;
@@ -220,7 +220,7 @@ fn fault_word(f: Fault) -> u64
     }
 }
 
-fn fault_value(f: Fault) -> u64
+pub fn fault_value(f: Fault) -> u64
     ensures { λ w. ⌜ w ≡ faultValue f ⌝ }
 {
     match f {
@@ -232,6 +232,19 @@ fn fault_value(f: Fault) -> u64
         Fault::Index(i) => i as u64,
         Fault::Tree(i) => i as u64,
     }
+}
+
+// What is told of words that are no record.
+pub fn unread_fault(words: &[u64]) -> Fault
+    ensures { λ f. ⌜ f ≡ unreadFault (now (words .entry)) ⌝ }
+{
+    if words.len() < 14 {
+        return Fault::Counters;
+    }
+    if settings_fine(words) {
+        return Fault::Counters;
+    }
+    Fault::Settings(13)
 }
 
 fn fault_in(a: Answer) -> Fault

@@ -14,10 +14,14 @@ use Rattle.gradient.specs.Exact.{four64}
 abbrev pub shareStep : List Float → ℕ → ℕ → Float → Float
 shareStep F c i s = add binary64 s (at F (placeOf c i + 2 * c))
 
--- Z: their sum, at least 2^-52
+-- their sum
+abbrev pub shareSumOf : List Float → ℕ → ℕ → Float
+shareSumOf F n c = loop (shareStep F c) n 0 zero64
+
+-- Z: that sum, at least 2^-52
 unfoldable pub normaliserOf : List Float → ℕ → ℕ → Float
 unfolding loop unlessAbove
-normaliserOf F n c = unlessAbove shareFloor (loop (shareStep F c) n 0 zero64)
+normaliserOf F n c = unlessAbove shareFloor (shareSumOf F n c)
 
 -- element e of the map belongs to point e / c, component e % c
 abbrev pub spotOf : ℕ → ℕ → ℕ

@@ -2,12 +2,12 @@
 ghost use mathlib.Core.Path.{_≡_};
 ghost use Prim.Native.Nat.{_+_, _*_, _<_, _≤_};
 ghost use lib.ListN.{length};
-ghost use Rattle.gradient.specs.Element.{normaliserOf, gradientOf, normOf};
+ghost use Rattle.gradient.specs.Element.{shareSumOf, normaliserOf, gradientOf, normOf};
 
-// Z: the sum of the shares by rising point, at least 2^-52.
-pub fn normaliser(forces: &[f64], n: usize, c: usize) -> f64
+// The sum of the shares by rising point.
+pub fn share_sum(forces: &[f64], n: usize, c: usize) -> f64
     requires { ⌜ (c ≤ 8) × (n * (2 * c + 1) ≤ length (now forces)) ⌝ }
-    ensures { λ r. ⌜ r ≡ normaliserOf (now (forces .entry)) n c ⌝ }
+    ensures { λ r. ⌜ r ≡ shareSumOf (now (forces .entry)) n c ⌝ }
 {
     let mut s = 0.0;
     let mut i = 0;
@@ -15,7 +15,15 @@ pub fn normaliser(forces: &[f64], n: usize, c: usize) -> f64
         s = s + forces[i * (2 * c + 1) + 2 * c];
         i += 1;
     }
-    elementary::unless_above(2.220446049250313e-16, s)
+    s
+}
+
+// Z: that sum, at least 2^-52.
+pub fn normaliser(forces: &[f64], n: usize, c: usize) -> f64
+    requires { ⌜ (c ≤ 8) × (n * (2 * c + 1) ≤ length (now forces)) ⌝ }
+    ensures { λ r. ⌜ r ≡ normaliserOf (now (forces .entry)) n c ⌝ }
+{
+    elementary::unless_above(2.220446049250313e-16, share_sum(forces, n, c))
 }
 
 // Element e of the gradient: an exact run's stands in its place, a Barnes-Hut run's is made of the forces and z.

@@ -8,7 +8,7 @@ ghost use Rattle.gradient_pairs.specs.Exact.{onMap, numOf, numStep, push
 use crate::Pulls;
 
 // The squared distance of frames i and j on the map.
-fn apart(positions: &[f64], c: usize, i: usize, j: usize) -> f64
+pub fn apart(positions: &[f64], c: usize, i: usize, j: usize) -> f64
     requires { ⌜ (i * c + c ≤ length (now positions)) × (j * c + c ≤ length (now positions)) ⌝ }
     ensures { λ r. ⌜ r ≡ gapOf c (onMap (now (positions .entry)) c i) (onMap (now (positions .entry)) c j) ⌝ }
 {
@@ -25,7 +25,7 @@ fn apart(positions: &[f64], c: usize, i: usize, j: usize) -> f64
 }
 
 // The Student-t numerator of frames i and j; nothing for a frame and itself.
-fn num(positions: &[f64], c: usize, i: usize, j: usize) -> f64
+pub fn num(positions: &[f64], c: usize, i: usize, j: usize) -> f64
     requires { ⌜ (i * c + c ≤ length (now positions)) × (j * c + c ≤ length (now positions)) ⌝ }
     ensures { λ r. ⌜ r ≡ numOf (now (positions .entry)) c i j ⌝ }
 {

@@ -24,7 +24,7 @@ use Rattle.run_record.specs.Record.{isTree, earlyFault, lateFault, settingsFaul
 use Rattle.run_record.proofs.Laws.{early-fine, settings-fine}
 use Rattle.run_entry.specs.Entry.{areasFit, GoodAreas}
 use Rattle.run_entry.proofs.Laws.{areas-fine}
-use Rattle.run_units.proofs.Rooms.{cells-forces}
+use Rattle.run_rooms.proofs.Places.{cells-forces}
 use Rattle.prepare.specs.declared.Lengths.{Lengths}
 use Rattle.prepare.specs.declared.Prepared.the-variants.{Refused, Ready}
 use Rattle.prepare.specs.Prepare.{Lent, lent, lengthsOf, allIn, lengthsFit, prepareFault, freshRun, routed, routedIn, prepareOutcome, prepared}

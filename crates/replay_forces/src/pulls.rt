@@ -24,18 +24,19 @@ ghost use Rattle.tree_node.specs.Node.{Axes};
 ghost use Rattle.replay_arena.specs.Fronts.{Walkable};
 
 // What a case begins with.
-struct Case {
+pub(crate) struct Case {
     // the sizes are such as a case has
-    good: bool,
+    pub(crate) good: bool,
     // points
-    n: u32,
+    pub(crate) n: u32,
     // components
-    c: usize,
-    angle: f64,
-    exaggeration: f64,
-    links: usize,
+    pub(crate) c: usize,
+    // the angle; of the divergence, Z
+    pub(crate) angle: f64,
+    pub(crate) exaggeration: f64,
+    pub(crate) links: usize,
     // the word where the positions begin
-    at: usize,
+    pub(crate) at: usize,
 }
 
 // The forces of point i; false where its list is not in order.
@@ -165,7 +166,7 @@ fn same_forces(forces: &[f64], n: usize, c: usize, m: usize, list: &[u8], a: usi
 }
 
 // The word behind the links of a case with m coordinates.
-fn answer_at(s: Case, m: usize) -> usize
+pub(crate) fn answer_at(s: Case, m: usize) -> usize
     requires { ⌜ s .n ≤ 64 ⌝ }
 {
     plus(
@@ -216,7 +217,7 @@ fn no_case(a: usize) -> Case
 }
 
 // What the case from word a on begins with: n, c, angle, exaggeration, number of links.
-fn case_at(list: &[u8], a: usize) -> Case
+pub(crate) fn case_at(list: &[u8], a: usize) -> Case
     ensures { λ r. ⌜ (r .n ≤ 64) × (Axes (r .c)) × (r .links ≤ 400) ⌝ }
 {
     let n = word_at(list, a);
@@ -254,9 +255,9 @@ fn end_of(s: Case) -> usize
 }
 
 // What became of one case: right or not, and the word after it.
-struct Next {
-    right: bool,
-    at: usize,
+pub(crate) struct Next {
+    pub(crate) right: bool,
+    pub(crate) at: usize,
 }
 
 // The case from word a on: sizes and numbers, positions, offsets, indices and weights, then the normaliser and the gradient.

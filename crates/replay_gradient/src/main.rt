@@ -1,4 +1,5 @@
-// Replays the lists of the exact gradient and of the step: every place of every area afterwards, the tails included.
+// Replays the lists of the exact gradient and of the step: every place of every area afterwards, the tails included. And those of the divergence over pairs.
+use divergence_sums::kl_divergence;
 use replay::areas::fill;
 use replay::areas::mark;
 use replay::areas::plus;
@@ -209,6 +210,51 @@ fn step_cases(list: &[u8]) -> replay::Tally {
     t
 }
 
+// A case of the divergence over pairs from word a on: n, c, exaggeration, total, positions, affinities, then the figure. Areas without room count as wrong.
+fn pairs_case(list: &[u8], a: usize, n: usize, c: usize) -> bool
+    requires { ⌜ (n ≤ 12) × (c ≤ 8) ⌝ }
+{
+    let m = times(n, c);
+    let p = times(n, n);
+    if m > 210 {
+        return false;
+    }
+    if p > 210 {
+        return false;
+    }
+    let b = plus(a, 4);
+    let d = plus(b, m);
+    let exaggeration = value_at(list, plus(a, 2));
+    let total = value_at(list, plus(a, 3));
+    let positions = ready(list, b, m);
+    let affinities = ready(list, d, p);
+    let figure = kl_divergence(&positions, &affinities, exaggeration, total, n, c);
+    same_value(figure, list, plus(d, p))
+}
+
+// A size that no case has ends the replay, and counts as wrong.
+fn pairs_cases(list: &[u8]) -> replay::Tally {
+    let words = list.len() / 8;
+    let mut t = replay::Tally::new();
+    let mut a: usize = 0;
+    while a < words {
+        let n = word_at(list, a);
+        let c = word_at(list, a + 1);
+        if n > 12 {
+            return t.with(false);
+        }
+        if c > 8 {
+            return t.with(false);
+        }
+        if a > 100000 {
+            return t.with(false);
+        }
+        t = t.with(pairs_case(list, a, n as usize, c as usize));
+        a = a + 5 + times(n as usize, c as usize) + times(n as usize, n as usize);
+    }
+    t
+}
+
 fn replay_exact(list: &mut [u8]) {
     let n = replay::load(b"exact.words", list);
     replay::print(b"exact", exact_cases(&list[..n]));
@@ -219,8 +265,14 @@ fn replay_step(list: &mut [u8]) {
     replay::print(b"step", step_cases(&list[..n]));
 }
 
+fn replay_pairs(list: &mut [u8]) {
+    let n = replay::load(b"pairs.words", list);
+    replay::print(b"divergence over pairs", pairs_cases(&list[..n]));
+}
+
 fn main() {
     let mut list = [0u8; 524288];
     replay_exact(&mut list);
     replay_step(&mut list);
+    replay_pairs(&mut list);
 }

@@ -1,27 +1,24 @@
 -- Which unit is next, and that a state in order has what its parts ask. Assumes nothing.
-use mathlib.Core.List.{List}
 use mathlib.Core.Path.{_≡_, sym, _∙_}
-use mathlib.Core.Bool.{true, false, cond, _&&_}
-use Prim.Native.Nat.{ℕ, zero, suc, _+_, _-_, _*_, _<_, _≤_}
+use mathlib.Core.Bool.{true, false, cond}
+use Prim.Native.Nat.{ℕ, suc, _+_, _-_, _*_, _<_, _≤_}
 use native.Mathlib.Omega.{arith}
-use native.Mathlib.Nat.{le-trans, mul-le-mul, mul-one, mul-add, le-refl}
+use native.Mathlib.Nat.{le-refl}
 use lib.Dec.{ltb, leb}
 use lib.ListN.{length}
-use borrow.Author.Tests.{ltb-true, leb-true, ltb-false, leb-false, ne-eqb}
+use borrow.Author.Tests.{ltb-true, leb-true, ltb-false, leb-false}
 use Rattle.laws.specs.Domain.{mostWord}
-use Rattle.laws.specs.Area.{num}
-use Rattle.laws.proofs.Bools.{by-bool, and-left, and-right}
+use Rattle.laws.proofs.Bools.{by-bool}
 use Rattle.run_record.specs.declared.Run.{Run}
-use Rattle.run_record.specs.Record.{isTree, perOf, sizesOf}
+use Rattle.run_record.specs.Record.{isTree, perOf}
 use Rattle.run_record.proofs.Laws.{per-most, done-most, product-fits}
-use Rattle.gradient.specs.Forces.{Linked}
-use lib.Ieee.{Float}
-use Rattle.tree_node.specs.declared.Node.{Node}
 use Rattle.tree.specs.Insert.{tree}
 use Rattle.tree.proofs.Whole.{looser}
 use Rattle.run_entry.specs.State.{State}
-use Rattle.run_entry.specs.Entry.{offsetFine, indexFine, listed, GoodContents, TreeAreas, Workable}
-use Rattle.run_entry.proofs.Laws.{axes, links-is}
+use Rattle.run_entry.specs.Entry.{Workable}
+use Rattle.run_entry.proofs.Laws.{axes}
+use Rattle.run_rooms.proofs.Lists.{linked-at}
+use Rattle.run_rooms.proofs.Places.{cells-forces}
 use Rattle.run_plan.specs.Plan.{groupOf}
 use Rattle.run_units.specs.Room.{Small, TreeRoom, ForceRoom, FinishRoom}
 
@@ -70,51 +67,7 @@ group-two r a b l =
     (λ x. by-bool P (leb (r .phase) (2 * n)) (λ y. absurd (b (group-tree r t ∙ rw (x, y)))) (λ y. rw t (omega (arith, leb-false (r .phase) (2 * n) y)))))
     (λ t. let h : r .phase < 2 * n + 1 = rw t at l in by-bool P (ltb (r .phase) (2 * n)) (λ x. absurd (b (group-exact r t ∙ rw x))) (λ x. rw t (omega (arith, ltb-false (r .phase) (2 * n) x))))
 
--- ---- the lists
-
-module _ {m : ℕ} (r : Run) (xs off : List ℕ) (ns : List Node) (g : GoodContents m r xs off ns) where
-  -- an offset past the first is not below the one before it, and passes no slot
-  pub offset-rises : (i : ℕ) → i < r .settings .n → (num off i ≤ num off (i + 1)) × (num off (i + 1) ≤ sizesOf (r .settings) .links)
-  unfolding offsetFine
-  offset-rises i h =
-      let l = sizesOf (r .settings) .links in
-      let e = g .each-offset (i + 1) (omega arith) in
-      let f : leb (num off (i + 1 - 1)) (num off (i + 1)) && leb (num off (i + 1)) l ≡ true = rw (ne-eqb (i + 1) 0 (λ q. omega arith)) at e in
-      let a = leb-true (num off (i + 1 - 1)) (num off (i + 1)) (and-left (leb (num off (i + 1 - 1)) (num off (i + 1))) (leb (num off (i + 1)) l) f) in
-      let z : i + 1 - 1 ≡ i = omega arith in
-      (rw z at a, leb-true (num off (i + 1)) l (and-right (leb (num off (i + 1 - 1)) (num off (i + 1))) (leb (num off (i + 1)) l) f))
-
-  -- so none is above the last
-  pub offset-listed : (d i : ℕ) → i + d ≡ r .settings .n → num off i ≤ listed (r .settings) off
-  offset-listed zero i h = let e : i ≡ r .settings .n = omega arith in rw e (le-refl (num off (r .settings .n)))
-  offset-listed (suc d) i h = le-trans (offset-rises i (omega arith) .0) (offset-listed d (i + 1) (omega arith))
-
-  pub index-below : (k : ℕ) → k < listed (r .settings) off → num xs k < r .settings .n
-  unfolding indexFine
-  index-below k h = ltb-true (num xs k) (r .settings .n) (g .each-index k h)
-
-  linked-at : (W : List Float) → TreeAreas (r .settings) (length W) (length xs) (length off) (length ns) → (i : ℕ) → i < r .settings .n → Linked (r .settings .n) W xs off i
-  linked-at W a i h =
-      let o = offset-rises i h in
-      let l = links-is (r .settings) in
-      let last = offset-listed (r .settings .n - (i + 1)) (i + 1) (omega arith) in
-      record {
-        offsets = omega (arith, a .offsets-most);
-        rises = o .0;
-        weights = omega (arith, o .1, l, a .links-most);
-        indices = omega (arith, o .1, l, a .indices-most);
-        frames = λ k q. index-below k (omega (arith, q, last));
-      }
-
 -- ---- what the parts ask
-
--- n·c places and one more are fewer than n·(2c + 1)
-pub cells-forces : (n c : ℕ) → n * c + n ≤ n * (2 * c + 1)
-cells-forces n c =
-    let a : n * (c + 1) ≤ n * (2 * c + 1) = mul-le-mul {n₁ = n} {m₁ = c + 1} {n₂ = n} {m₂ = 2 * c + 1} (le-refl n) (omega arith) in
-    let b : n * (c + 1) ≡ n * c + n * 1 = mul-add n c 1 in
-    let d : n * 1 ≡ n = mul-one n in
-    omega arith
 
 module _ (s : State) (g : Workable s) where
   pub small-of : Small (s .run)

@@ -5,7 +5,7 @@ pub mod contest;
 pub mod library;
 
 use contest::{contest, Contestant};
-use library::{prepared, Preparing, Run, Working};
+use library::{prepared, Preparing, Run, Telling, Working};
 use oracle::scatter::SplitMix64;
 
 /// What someone else brings to a contest, where they have it.
@@ -75,5 +75,24 @@ pub fn all(others: &dyn Others) {
         let ours: Vec<Box<dyn Contestant>> =
             vec![Box::new(Preparing::new(&run)), Box::new(array::Preparation::new(&run))];
         contest(title, ours.into_iter().chain(others.preparation(&run)).collect(), 7);
+    }
+    for (method, n, title) in [
+        (
+            brothanchor::Method::BarnesHut,
+            4096,
+            "divergence, Barnes-Hut, n 4096, beside an iteration",
+        ),
+        (
+            brothanchor::Method::Exact,
+            1024,
+            "divergence, exact, n 1024, beside an iteration",
+        ),
+    ] {
+        let run = prepared(method, n, 10);
+        contest(
+            title,
+            vec![Box::new(Telling::new(&run)), Box::new(Working::new(&run))],
+            11,
+        );
     }
 }

@@ -2,7 +2,7 @@
 
 use crate::contest::Contestant;
 use crate::frames;
-use brothanchor::{prepare, scatter, sizes, work, Areas, Method, Record, Rows, Settings};
+use brothanchor::{divergence, prepare, scatter, sizes, work, Areas, Method, Record, Rows, Settings};
 
 /// A run at the start of an iteration.
 pub struct Run {
@@ -133,5 +133,42 @@ impl Contestant for Preparing {
 
     fn result(&self) -> Option<Vec<f64>> {
         Some(self.areas.affinities.clone())
+    }
+}
+
+/// The figure of the iteration just finished. The positions stand for their copy: the work is the same.
+pub struct Telling {
+    record: Record,
+    areas: Areas,
+    copy: Vec<f64>,
+    figure: f64,
+}
+
+impl Telling {
+    pub fn new(run: &Run) -> Telling {
+        Telling {
+            record: run.record,
+            areas: run.areas.clone(),
+            copy: run.areas.positions.clone(),
+            figure: 0.0,
+        }
+    }
+}
+
+impl Contestant for Telling {
+    fn name(&self) -> &'static str {
+        "the figure"
+    }
+
+    fn reset(&mut self) {
+        self.figure = 0.0;
+    }
+
+    fn work(&mut self) {
+        self.figure = divergence(&self.record, &self.areas, &self.copy).expect("an iteration has just ended");
+    }
+
+    fn result(&self) -> Option<Vec<f64>> {
+        None
     }
 }

@@ -1,6 +1,6 @@
 /* Maps a frame file through include/brothanchor.h, as the wrapper's map program does: map FILE [SEED].
- * Prints a line for each frame: picture, side, both coordinates by their bits; then how the run ended. It is compiled as C
- * and as C++, and calls every function of the header. A refusal ends it with its number and where it came. */
+ * Prints a line for each frame: picture, side, both coordinates by their bits; then how the run ended, and its divergence. It
+ * is compiled as C and as C++, and calls every function of the header. A refusal ends it with its number and where it came. */
 #include <inttypes.h>
 #include <stdio.h>
 #include <stdlib.h>
@@ -13,7 +13,7 @@ enum { FRAME_BYTES = 72, FRAME_WORDS = 10, FEATURES = 6, STARTS = 2, MOST_FRAMES
 /* What a run is lent. */
 struct areas {
     uint64_t record[BROTHANCHOR_RECORD_WORDS];
-    double *positions, *increments, *gains, *affinities, *forces, *row_values;
+    double *positions, *increments, *gains, *affinities, *forces, *row_values, *copy;
     uint32_t *indices, *offsets, *row_indices;
     struct brothanchor_node *nodes;
 };
@@ -70,6 +70,7 @@ static void lend(struct areas *a, const uint64_t *sizes) {
     a->forces = (double *)room(sizes[BROTHANCHOR_FORCES], sizeof(double));
     a->row_values = (double *)room(sizes[BROTHANCHOR_ROWS], sizeof(double));
     a->row_indices = (uint32_t *)room(sizes[BROTHANCHOR_ROWS], sizeof(uint32_t));
+    a->copy = (double *)room(sizes[BROTHANCHOR_CELLS], sizeof(double));
     a->nodes = (struct brothanchor_node *)room(sizes[BROTHANCHOR_NODES], sizeof(struct brothanchor_node));
 }
 
@@ -99,6 +100,37 @@ static uint64_t work(struct areas *a, const uint64_t *sizes, uint32_t budget) {
     }
     refused("work", number);
     return answer[BROTHANCHOR_KIND];
+}
+
+/* A divergence by the first so many words of the record, into the first so many of an answer. */
+static uint32_t diverge(const struct areas *a, const uint64_t *sizes, size_t words, uint64_t *answer, size_t length) {
+    return brothanchor_divergence(
+        a->record, words,
+        a->positions, sizes[BROTHANCHOR_CELLS], a->increments, sizes[BROTHANCHOR_CELLS], a->gains, sizes[BROTHANCHOR_CELLS],
+        a->affinities, sizes[BROTHANCHOR_AFFINITIES], a->indices, sizes[BROTHANCHOR_INDICES],
+        a->offsets, sizes[BROTHANCHOR_OFFSETS], a->forces, sizes[BROTHANCHOR_FORCES],
+        a->nodes, sizes[BROTHANCHOR_NODES], a->copy, sizes[BROTHANCHOR_CELLS], answer, length);
+}
+
+static void told(const char *what, uint32_t number, uint32_t wanted, const uint64_t *answer, uint64_t first) {
+    if (number != wanted || answer[0] != first || answer[1] != 7) {
+        fprintf(stderr, "divergence, %s: %u, %" PRIx64 ", %" PRIx64 "\n", what, (unsigned)number, answer[0], answer[1]);
+        exit(1);
+    }
+}
+
+/* The divergence of an ended run; first what only C can ask for: no word to tell in, a record that lacks a word. Of the answer
+ * one word is written. */
+static double divergence(const struct areas *a, const uint64_t *sizes) {
+    uint64_t answer[2] = {5, 7};
+    told("no answer", diverge(a, sizes, BROTHANCHOR_RECORD_WORDS, answer, 0), 12, answer, 5);
+    told("no record and no answer", diverge(a, sizes, 0, answer, 0), 12, answer, 5);
+    told("thirteen words", diverge(a, sizes, BROTHANCHOR_RECORD_WORDS - 1, answer, 2), 13, answer, 0);
+    answer[0] = 5;
+    told("no words", diverge(a, sizes, 0, answer, 1), 13, answer, 0);
+    refused("divergence", diverge(a, sizes, BROTHANCHOR_RECORD_WORDS, answer, 2));
+    told("a figure", 0, 0, answer, answer[0]);
+    return value(answer[0]);
 }
 
 static size_t read_file(const char *name, uint8_t *file, size_t most) {
@@ -157,8 +189,10 @@ int main(int words, char **word) {
     refused("sizes", brothanchor_sizes(settings, BROTHANCHOR_SETTINGS_WORDS, sizes, BROTHANCHOR_SIZES_WORDS));
     lend(&areas, sizes);
     prepare(&areas, settings, sizes, table, start);
-    while (work(&areas, sizes, (uint32_t)(2 * n + 2)) == 0) {
-    }
+    do {
+        memcpy(areas.copy, areas.positions, sizes[BROTHANCHOR_CELLS] * sizeof(double));
+    } while (work(&areas, sizes, (uint32_t)(2 * n + 2)) == 0);
     print(file, length, n, &areas);
+    printf("its divergence: %.6f\n", divergence(&areas, sizes));
     return 0;
 }

@@ -11,7 +11,9 @@ mod refusal;
 mod run;
 
 pub use refusal::Refusal;
-pub use run::{prepare, sizes, work, Areas, Fault, Kind, Method, Node, Record, Rows, Settings, Sizes, State, Worked};
+pub use run::{
+    divergence, prepare, sizes, work, Areas, Fault, Kind, Method, Node, Record, Rows, Settings, Sizes, State, Worked,
+};
 
 /// Components of a frame file's starts, features of its frames.
 pub const STARTS: usize = 2;

@@ -1,7 +1,7 @@
 //! The main job: from the bytes of a frame file to a map, its lines and its picture.
 
 use crate::picture;
-use crate::run::{prepare, sizes, work, Areas, Kind, Method, Record, Rows, Settings, State};
+use crate::run::{divergence, prepare, sizes, work, Areas, Kind, Method, Record, Rows, Settings, State};
 use crate::{frame, frames, scatter, Frame, Refusal, FEATURES, STARTS};
 use std::fmt;
 
@@ -51,6 +51,8 @@ pub struct Map {
     pub positions: Vec<f64>,
     /// The record at the end.
     pub record: Record,
+    /// The Kullback-Leibler figure of the last iteration; nothing where there is none (17).
+    pub divergence: Option<f64>,
 }
 
 /// What a map of n frames goes by. The perplexity is a third of the other frames where there are few; the rate grows with n.
@@ -88,11 +90,17 @@ pub fn map_in(file: &[u8], seed: Option<u64>, iterations: usize, progress: impl 
     }
     let mut areas = Areas::new(&sizes, sizes.nodes);
     let mut record = prepare(&settings.words(), &table, &start, &mut areas, &mut Rows::new(&sizes))?;
-    descend(&mut record, &mut areas, &settings, progress)?;
+    let copy = descend(&mut record, &mut areas, &settings, progress)?;
+    let divergence = match divergence(&record, &areas, &copy) {
+        Ok(figure) => Some(figure),
+        Err((Refusal(17), _)) => None,
+        Err((refusal, _)) => return Err(refusal.into()),
+    };
     Ok(Map {
         frames,
         positions: areas.positions,
         record,
+        divergence,
     })
 }
 
@@ -109,19 +117,21 @@ fn read(file: &[u8]) -> Result<Vec<Frame>, NoMap> {
     Ok((0..count).map(|i| frame(file, i)).collect())
 }
 
-/// Works a run to its end, an iteration a call.
+/// Works a run to its end, an iteration a call; the positions before the last step.
 fn descend(
     record: &mut Record,
     areas: &mut Areas,
     settings: &Settings,
     mut progress: impl FnMut(u64, u64),
-) -> Result<(), Refusal> {
+) -> Result<Vec<f64>, Refusal> {
+    let mut copy = areas.positions.clone();
     loop {
+        copy.copy_from_slice(&areas.positions);
         let worked = work(record, areas, settings.iteration() as u32);
         progress(record.iterations(), settings.iterations as u64);
         match worked.kind {
             Kind::Running => {}
-            Kind::Stopped | Kind::Finished => return Ok(()),
+            Kind::Stopped | Kind::Finished => return Ok(copy),
             Kind::Refused(refusal) => return Err(refusal),
         }
     }
@@ -135,6 +145,12 @@ impl Map {
             Some(State::Finished) => "finished",
             _ => "not at its end",
         }
+    }
+
+    /// The divergence with six decimals, or that there is none.
+    pub fn told_divergence(&self) -> String {
+        self.divergence
+            .map_or_else(|| "none".to_string(), |figure| format!("{figure:.6}"))
     }
 
     /// Where frame i stands.

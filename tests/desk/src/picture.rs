@@ -85,7 +85,7 @@ fn numbers(pictures: &[u32], labels: &[Label], cuts: &[usize]) -> String {
     labels.iter().map(number).collect()
 }
 
-/// What the colours say, below the map.
+/// What the colours say, below the map, and how well it fits.
 fn legend(map: &Map) -> String {
     let n = map.frames.len();
     let (first, last) = (map.frames[0].picture, map.frames[n - 1].picture);
@@ -99,7 +99,9 @@ fn legend(map: &Map) -> String {
     };
     let patches: String = (0..25).map(patch).collect();
     let words = y + 8.0;
-    patches + &format!("<text x=\"260\" y=\"{words}\">picture {first} to {last}, {n} frames in capture order</text>\n")
+    let divergence = map.told_divergence();
+    patches
+        + &format!("<text x=\"260\" y=\"{words}\">picture {first} to {last}, {n} frames in capture order; divergence {divergence}</text>\n")
 }
 
 /// How many long lines there are, and how many of them have their pictures' numbers at both ends.

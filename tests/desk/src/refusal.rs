@@ -2,7 +2,7 @@
 
 use std::fmt;
 
-/// The number of a refusal, from 1 to 16.
+/// The number of a refusal, from 1 to 17.
 #[derive(Clone, Copy, Debug, PartialEq, Eq)]
 pub struct Refusal(pub u32);
 
@@ -34,6 +34,7 @@ impl Refusal {
             14 => "the next point needs more nodes than the arena has left",
             15 => "the step would leave the range of numbers that a map may have",
             16 => "a record of the frame file is bad",
+            17 => "no iteration has just ended, or the forces give a total of 0",
             _ => "no known number",
         }
     }

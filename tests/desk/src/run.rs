@@ -361,3 +361,41 @@ pub fn work(record: &mut Record, areas: &mut Areas, budget: u32) -> Worked {
     debug_assert_eq!(u64::from(number), answer[1], "the answer area is long enough");
     Worked::of(answer)
 }
+
+/// The Kullback-Leibler figure of the iteration just finished. The copy holds the positions before its step, n·c values or
+/// more; nothing is changed. Refused: 13 and 12 as in a work call, with what comes with the number there (a frame, a place, a
+/// node, a number of the settings; else 0), 12 also for a short copy; then 17 where no iteration has just ended or the forces
+/// give a total of 0.
+pub fn divergence(record: &Record, areas: &Areas, copy: &[f64]) -> Result<f64, (Refusal, u64)> {
+    let mut answer = [0];
+    let number = unsafe {
+        library::brothanchor_divergence(
+            record.words.as_ptr(),
+            record.words.len(),
+            areas.positions.as_ptr(),
+            areas.positions.len(),
+            areas.increments.as_ptr(),
+            areas.increments.len(),
+            areas.gains.as_ptr(),
+            areas.gains.len(),
+            areas.affinities.as_ptr(),
+            areas.affinities.len(),
+            areas.indices.as_ptr(),
+            areas.indices.len(),
+            areas.offsets.as_ptr(),
+            areas.offsets.len(),
+            areas.forces.as_ptr(),
+            areas.forces.len(),
+            areas.nodes.as_ptr(),
+            areas.nodes.len(),
+            copy.as_ptr(),
+            copy.len(),
+            answer.as_mut_ptr(),
+            answer.len(),
+        )
+    };
+    let [word] = answer;
+    Refusal::unless_0(number)
+        .map(|()| f64::from_bits(word))
+        .map_err(|refusal| (refusal, word))
+}

@@ -2,14 +2,15 @@
 
 use brothanchor::map::{map, map_in, settings, Map, NoMap, MOST_FRAMES, RECORD};
 use brothanchor::{sizes, Refusal};
-use oracle::descent::{self, Areas, Method, Rows};
+use oracle::descent::{self, Areas, Method, Rows, Standing};
+use oracle::divergence::divergence;
 use oracle::frames::fetch;
 use oracle::lists::sample;
 use oracle::scatter::scatter;
 use oracle::tree::Node;
 
-/// The positions that the rules give, from the file's starts or by a seed.
-fn by_the_rules(file: &[u8], seed: Option<u64>, iterations: usize) -> Vec<f64> {
+/// Positions and divergence that the rules give, from the file's starts or by a seed.
+fn by_the_rules(file: &[u8], seed: Option<u64>, iterations: usize) -> (Vec<f64>, f64) {
     let frames: Vec<_> = (0..file.len() / RECORD).filter_map(|i| fetch(file, i)).collect();
     let (n, ours) = (frames.len(), settings(frames.len(), iterations));
     let sizes = sizes(&ours).expect("good settings");
@@ -44,8 +45,13 @@ fn by_the_rules(file: &[u8], seed: Option<u64>, iterations: usize) -> Vec<f64> {
         minimum: ours.minimum,
     };
     let mut record = descent::prepare(rules, &table, &start, &mut areas, &mut rows).expect("a good run");
-    descent::work(&mut record, &mut areas, u32::MAX);
-    areas.positions
+    let mut copy = Vec::new();
+    while record.standing == Standing::Running {
+        copy = areas.positions.clone();
+        descent::work(&mut record, &mut areas, rules.iteration() as u32);
+    }
+    let figure = divergence(&record, &areas, &copy).expect("an iteration has just ended");
+    (areas.positions, figure)
 }
 
 fn bits(values: &[f64]) -> Vec<u64> {
@@ -72,9 +78,11 @@ fn maps_are_those_of_the_rules() {
     ] {
         let file = few(frames);
         let ours = map_in(&file, seed, iterations, |_, _| ()).expect("a good file");
+        let (positions, figure) = by_the_rules(&file, seed, iterations);
+        assert_eq!(bits(&ours.positions), bits(&positions), "{frames} frames");
         assert_eq!(
-            bits(&ours.positions),
-            bits(&by_the_rules(&file, seed, iterations)),
+            ours.divergence.map(f64::to_bits),
+            Some(figure.to_bits()),
             "{frames} frames"
         );
     }
@@ -118,7 +126,7 @@ fn what_is_refused() {
         none.to_string(),
         "refused 16: a record of the frame file is bad (record 3, counted from 0)"
     );
-    for number in 1..=16 {
+    for number in 1..=17 {
         assert!(!Refusal(number).meaning().starts_with("no known"));
     }
 }
@@ -144,4 +152,11 @@ fn lines_and_picture() {
     assert_eq!(picture.matches("<circle ").count(), 10);
     assert_eq!(picture.matches("<line ").count(), 9);
     assert!(picture.contains("<title>picture 1210, side 1</title>") && !picture.contains("NaN"));
+    let figure = made.divergence.expect("a map has a divergence");
+    assert!(picture.contains(&format!("10 frames in capture order; divergence {figure:.6}</text>")));
+    let none = Map {
+        divergence: None,
+        ..made
+    };
+    assert!(none.svg().contains("; divergence none</text>"));
 }

@@ -16,6 +16,7 @@ fn map_of(first: u32, places: &[[f64; 2]]) -> Map {
         frames: (first..).map(frame).take(places.len()).collect(),
         positions: places.concat(),
         record: Record { words: [0; 14] },
+        divergence: None,
     }
 }
 

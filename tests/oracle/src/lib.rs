@@ -6,10 +6,12 @@
 pub mod bench;
 pub mod descent;
 pub mod differences;
+pub mod divergence;
 pub mod elementary;
 pub mod frames;
 pub mod gradient;
 pub mod lists;
+pub mod moved;
 pub mod preparation;
 pub mod scatter;
 pub mod sigma;

@@ -4,6 +4,7 @@
 
 pub mod bench;
 pub mod descent;
+pub mod divergence;
 pub mod elementary;
 pub mod frames;
 pub mod gradient;
@@ -59,6 +60,8 @@ pub fn all() -> Vec<List> {
         List::new("replay_affinity", "sigma", &sigma::cases()),
         List::new("replay_gradient", "exact", &gradient::cases()),
         List::new("replay_gradient", "step", &step::cases()),
+        List::new("replay_gradient", "pairs", &divergence::pairs_cases()),
+        List::new("replay_forces", "links", &divergence::links_cases()),
         List::new("replay_preparation", "preparation", &preparation::cases()),
         List::new("replay_preparation", "larger", &preparation::larger_cases()),
         List::new("replay_descent", "runs", &descent::run_cases()),

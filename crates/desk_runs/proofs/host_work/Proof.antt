@@ -65,7 +65,7 @@ use Rattle.desk_runs.proofs.CallsPutUnread.{Contract-put-unread, calls-
 use Rattle.desk_runs.proofs.put_unread.Symbol as put-unread-def
 use Rattle.desk_runs.proofs.put_unread.Symbol.{name as #desk-runs·put-unread}
 use Rattle.desk_runs.proofs.put_unread.Met as put-unread-thm
-use Rattle.desk_runs.proofs.CallsRunOf.{Contract-run-of, calls-run-of-s}
+use Rattle.desk_words.proofs.CallsRunOf.{Contract-run-of, calls-run-of-s}
 use Rattle.desk_words.proofs.run_of.Symbol as run-of-def
 use Rattle.desk_words.proofs.run_of.Symbol.{name as #desk-words·run-of}
 use Rattle.desk_words.proofs.run_of.Met as run-of-thm

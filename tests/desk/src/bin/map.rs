@@ -78,11 +78,12 @@ fn run(asked: &Asked) -> Result<String, String> {
     let made = made.map_err(|none| format!("{name}: {none}"))?;
     let (lines, picture) = write(&made, asked)?;
     Ok(format!(
-        "{name}: {} frames, {} after {} iterations ({} units)\nthe map: {}\nits picture: {}\n",
+        "{name}: {} frames, {} after {} iterations ({} units)\nits divergence: {}\nthe map: {}\nits picture: {}\n",
         made.frames.len(),
         made.ending(),
         made.record.iterations(),
         made.record.units(),
+        made.told_divergence(),
         lines.display(),
         picture.display()
     ))

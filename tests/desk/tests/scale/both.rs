@@ -140,16 +140,20 @@ fn answer_words(answer: descent::Answer, fault: Option<descent::Fault>) -> [u64;
         descent::Answer::Finished(units) => (2, 0, units),
         descent::Answer::Refused(number, units) => (3, number, units),
     };
-    let (fault, value) = match fault {
-        None => (0, 0),
-        Some(descent::Fault::Settings(number)) => (1, number),
-        Some(descent::Fault::Counters) => (2, 0),
-        Some(descent::Fault::Areas) => (3, 0),
-        Some(descent::Fault::Offsets(frame)) => (4, frame as u64),
-        Some(descent::Fault::Index(place)) => (5, place as u64),
-        Some(descent::Fault::Tree(node)) => (6, node as u64),
-    };
+    let (fault, value) = fault.map_or((0, 0), fault_words);
     [kind, number, units, fault, value]
+}
+
+/// What was found bad as two words of the library: fault, value.
+pub fn fault_words(fault: descent::Fault) -> (u64, u64) {
+    match fault {
+        descent::Fault::Settings(number) => (1, number),
+        descent::Fault::Counters => (2, 0),
+        descent::Fault::Areas => (3, 0),
+        descent::Fault::Offsets(frame) => (4, frame as u64),
+        descent::Fault::Index(place) => (5, place as u64),
+        descent::Fault::Tree(node) => (6, node as u64),
+    }
 }
 
 fn settings_of(words: &[u64]) -> descent::Settings {
@@ -170,7 +174,7 @@ fn settings_of(words: &[u64]) -> descent::Settings {
     }
 }
 
-fn record_of(words: &[u64; 14]) -> descent::Record {
+pub fn record_of(words: &[u64; 14]) -> descent::Record {
     descent::Record {
         settings: settings_of(words),
         standing: [Standing::Running, Standing::Stopped, Standing::Finished][words[9] as usize],
@@ -202,14 +206,14 @@ fn words_of(record: &descent::Record) -> [u64; 14] {
 }
 
 /// A value's bits; every NaN is one.
-fn bits(value: f64) -> u64 {
+pub fn bits(value: f64) -> u64 {
     if value.is_nan() {
         return 0x7ff8_0000_0000_0000;
     }
     value.to_bits()
 }
 
-fn other_side(areas: &Areas) -> descent::Areas {
+pub fn other_side(areas: &Areas) -> descent::Areas {
     descent::Areas {
         positions: areas.positions.clone(),
         increments: areas.increments.clone(),

@@ -41,6 +41,21 @@ impl Case {
         case
     }
 
+    /// A case that is not refused, by these settings and with so many nodes.
+    pub fn good(random: &mut Random, settings: Settings, nodes: usize) -> Case {
+        let Settings { n, f, c, .. } = settings;
+        let sizes = sizes(&settings).expect("good settings");
+        let (areas, rows) = areas(random, &sizes, nodes.min(sizes.nodes));
+        let (frames, places) = (random.below(5), random.below(5));
+        Case {
+            settings,
+            table: table(random, n, f, frames),
+            start: start(random, n * c, places),
+            areas,
+            rows,
+        }
+    }
+
     /// As many frames as may be, in clusters, for one iteration.
     pub fn largest(random: &mut Random, method: Method, c: usize, perplexity: f64) -> Case {
         let (n, f) = (4096, 6);

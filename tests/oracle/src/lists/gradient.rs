@@ -5,9 +5,9 @@ use crate::gradient::Exact;
 use crate::scatter::SplitMix64;
 
 /// The two exaggerations of a run.
-const EXAGGERATIONS: [f64; 2] = [12.0, 1.0];
+pub const EXAGGERATIONS: [f64; 2] = [12.0, 1.0];
 /// How many kinds of maps there are.
-const KINDS: usize = 8;
+pub const KINDS: usize = 8;
 
 /// n, c, exaggeration, positions, affinities, then the total and the gradient.
 pub fn cases() -> Vec<Vec<u64>> {
@@ -37,7 +37,7 @@ pub fn listed(v: f64) -> u64 {
 }
 
 /// A coordinate of a map of the given kind.
-fn coordinate(random: &mut SplitMix64, kind: usize) -> f64 {
+pub fn coordinate(random: &mut SplitMix64, kind: usize) -> f64 {
     let wide = random.unit() - 0.5;
     match kind {
         0 => wide * 1e-4,
@@ -55,7 +55,7 @@ fn coordinate(random: &mut SplitMix64, kind: usize) -> f64 {
 }
 
 /// An affinity: zero, as small as any, as large as any.
-fn affinity(random: &mut SplitMix64, n: usize) -> f64 {
+pub fn affinity(random: &mut SplitMix64, n: usize) -> f64 {
     let share = random.unit();
     match random.next() % 8 {
         0 | 1 => 0.0,

@@ -1,8 +1,8 @@
 use borrow.Author.Tests.{lt-ltb, le-ltb}
 use mathlib.Core.Path.{sym, _∙_}
 use borrow.Author.Needs.{needs}
-use Rattle.desk_runs.proofs.unread_fault.Statement.{statement}
-use Rattle.desk_runs.proofs.unread_fault.Tie as tie
+use Rattle.desk_words.proofs.unread_fault.Statement.{statement}
+use Rattle.desk_words.proofs.unread_fault.Tie as tie
 
 returns : tie.Need-returns
 returns c = rw (lt-ltb _ _ (c .if1 .taken))

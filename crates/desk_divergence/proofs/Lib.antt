@@ -1,0 +1,5 @@
+pub mod Laws
+pub mod CallsIsUnfit
+pub mod CallsPutUnfit
+pub mod CallsDivergence
+pub mod CallsPutDiverged

@@ -1,0 +1,5 @@
+pub mod Laws
+pub mod Theorems
+pub mod Values
+pub mod ByValue
+pub mod CallsAfterTests

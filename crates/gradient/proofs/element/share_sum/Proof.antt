@@ -1,0 +1,70 @@
+use Rattle.laws.proofs.Numbers.{row-in}
+use Rattle.gradient.specs.Element.{shareStep}
+use Rattle.laws.proofs.Loops.{Loops, loop-start, loop-more, loop-done}
+use lib.ListN.{length}
+use Prim.Native.Nat.{_-_, _+_, _*_}
+use borrow.Author.Needs.{needs}
+use native.Mathlib.Omega.{arith}
+use Rattle.gradient.proofs.element.share_sum.Statement.{statement}
+use Rattle.gradient.proofs.element.share_sum.Tie as tie
+
+abbrev Inv-loop : tie.InvT-loop
+Inv-loop forces n c s₀ i₀ s i = Loops (shareStep forces c) n s₀ i s
+
+abbrev μ-loop : tie.MeasureT-loop
+μ-loop forces n c s₀ i₀ s i = n - i
+
+loop-holds : tie.Need-loop-holds Inv-loop μ-loop
+loop-holds c = loop-start _ _ _
+
+mul-s : tie.Need-mul-s Inv-loop μ-loop
+mul-s c = search needs
+
+add-s : tie.Need-add-s Inv-loop μ-loop
+add-s c = search needs
+
+mul-s-2 : tie.Need-mul-s-2 Inv-loop μ-loop
+mul-s-2 c = omega (arith, (row-in (c .before .loop .i) (c .before .before .args .n) (2 * c .before .before .args .c + 1) (length (c .before .before .args .forces .now)) (c .loop-test .taken) (c .before .before .pre .1)))
+
+mul-s-3 : tie.Need-mul-s-3 Inv-loop μ-loop
+mul-s-3 c = search needs
+
+add-s-2 : tie.Need-add-s-2 Inv-loop μ-loop
+add-s-2 c = omega (arith, (row-in (c .before .loop .i) (c .before .before .args .n) (2 * c .before .before .args .c + 1) (length (c .before .before .args .forces .now)) (c .loop-test .taken) (c .before .before .pre .1)))
+
+mul-s-4 : tie.Need-mul-s-4 Inv-loop μ-loop
+mul-s-4 c = omega (arith, (row-in (c .before .loop .i) (c .before .before .args .n) (2 * c .before .before .args .c + 1) (length (c .before .before .args .forces .now)) (c .loop-test .taken) (c .before .before .pre .1)))
+
+shared-slice-read-s : tie.Need-shared-slice-read-s Inv-loop μ-loop
+shared-slice-read-s c = omega (arith, (row-in (c .before .before .loop .i) (c .before .before .before .args .n) (2 * c .before .before .before .args .c + 1) (length (c .before .before .before .args .forces .now)) (c .before .loop-test .taken) (c .before .before .before .pre .1)))
+
+add-i : tie.Need-add-i Inv-loop μ-loop
+add-i c = search needs
+
+loop-less : tie.Need-loop-less Inv-loop μ-loop
+loop-less c = search needs
+
+loop-again : tie.Need-loop-again Inv-loop μ-loop
+loop-again c = loop-more (c .before .before .loop .inv) (omega arith)
+
+returns : tie.Need-returns Inv-loop μ-loop
+returns c = loop-done (c .before .loop .inv) (omega arith)
+
+pub share-sum-spec : {M : Type 1} → statement M
+share-sum-spec =
+    tie.close
+    (tie.spec
+    Inv-loop
+    μ-loop
+    loop-holds
+    mul-s
+    add-s
+    mul-s-2
+    mul-s-3
+    add-s-2
+    mul-s-4
+    shared-slice-read-s
+    add-i
+    loop-less
+    loop-again
+    returns)
