@@ -147,9 +147,12 @@ pub fn tally_text(name: &[u8], t: Tally, out: &mut [u8; 200]) -> usize
     put_tally(out, name, t)
 }
 
-// Prints that line.
-pub fn print(name: &[u8], t: Tally) {
+// Prints that line, and answers how many bytes it has.
+pub fn print(name: &[u8], t: Tally) -> usize
+    ensures { λ r. ⌜ r ≡ length (talliedText (now (name .entry)) t) ⌝ }
+{
     let mut out = [0u8; 200];
     let n = tally_text(name, t, &mut out);
     io::write_all(STDOUT_FILENO, &out[..n]);
+    n
 }
