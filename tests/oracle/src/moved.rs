@@ -5,14 +5,7 @@ use crate::divergence::divergence;
 use crate::scatter::SplitMix64;
 use crate::tree::Node;
 
-const NODE: Node = Node {
-    centre: [0.0; 3],
-    half: [0.0; 3],
-    mass: [0.0; 3],
-    count: 0,
-    first: 0,
-    leaf: 0,
-};
+const NODE: Node = Node::unused(0.0, 0);
 /// How long each run is.
 const ITERATIONS: usize = 1000;
 /// The iterations that are told together: from, to.

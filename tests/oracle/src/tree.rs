@@ -32,6 +32,18 @@ fn point(positions: &[f64], c: usize, j: usize) -> [f64; 3] {
 }
 
 impl Node {
+    /// A node with one value in all places of values and one number in all others, as an arena may hold before it is used.
+    pub const fn unused(value: f64, number: u32) -> Node {
+        Node {
+            centre: [value; 3],
+            half: [value; 3],
+            mass: [value; 3],
+            count: number,
+            first: number,
+            leaf: number,
+        }
+    }
+
     /// The leaf's point.
     fn point(&self) -> Option<u32> {
         self.leaf.checked_sub(1)

@@ -9,14 +9,7 @@ fn areas(settings: &Settings, nodes: usize) -> (Areas, Rows) {
     let Settings { n, c, .. } = *settings;
     let marks = |length: usize| vec![7.5; length + 3];
     let numbers = |length: usize| vec![9; length + 3];
-    let node = Node {
-        centre: [7.5; 3],
-        half: [7.5; 3],
-        mass: [7.5; 3],
-        count: 9,
-        first: 9,
-        leaf: 9,
-    };
+    let node = Node::unused(7.5, 9);
     let areas = Areas {
         positions: marks(n * c),
         increments: marks(n * c),

@@ -5,14 +5,7 @@ use crate::descent::{prepare, work, Rows};
 use crate::scatter::SplitMix64;
 use crate::tree::Node;
 
-const NODE: Node = Node {
-    centre: [7.5; 3],
-    half: [7.5; 3],
-    mass: [7.5; 3],
-    count: 9,
-    first: 9,
-    leaf: 9,
-};
+const NODE: Node = Node::unused(7.5, 9);
 
 fn settings(method: Method, n: usize, c: usize, iterations: usize) -> Settings {
     Settings {

@@ -28,6 +28,16 @@ fn perhaps(random: &mut SplitMix64, altered: bool, value: f64) -> f64 {
     }
 }
 
+/// So many coordinates of a kind, some of them altered.
+fn places(random: &mut SplitMix64, kind: usize, altered: bool, count: usize) -> Vec<f64> {
+    (0..count)
+        .map(|_| {
+            let v = coordinate(random, kind % KINDS);
+            perhaps(random, altered, v)
+        })
+        .collect()
+}
+
 /// n, c, exaggeration, total, positions, affinities, then the figure.
 pub fn pairs_cases() -> Vec<Vec<u64>> {
     let mut random = SplitMix64::new(171);
@@ -47,12 +57,7 @@ pub fn pairs_cases() -> Vec<Vec<u64>> {
 
 fn pairs_case(random: &mut SplitMix64, kind: usize, n: usize, c: usize, exaggeration: f64) -> Vec<u64> {
     let altered = kind % 3 == 2;
-    let positions: Vec<f64> = (0..n * c)
-        .map(|_| {
-            let v = coordinate(random, kind % KINDS);
-            perhaps(random, altered, v)
-        })
-        .collect();
+    let positions = places(random, kind, altered, n * c);
     let affinities: Vec<f64> = (0..n * n)
         .map(|_| {
             let v = affinity(random, n);
@@ -94,12 +99,7 @@ pub fn links_cases() -> Vec<Vec<u64>> {
 
 fn links_case(random: &mut SplitMix64, kind: usize, n: usize, c: usize, exaggeration: f64) -> Vec<u64> {
     let altered = kind % 4 == 3;
-    let positions: Vec<f64> = (0..n * c)
-        .map(|_| {
-            let v = coordinate(random, kind % KINDS);
-            perhaps(random, altered, v)
-        })
-        .collect();
+    let positions = places(random, kind, altered, n * c);
     let (mut offsets, mut indices, mut weights) = (vec![0_u32], Vec::new(), Vec::new());
     for _ in 0..n {
         // None to six links, at times to the frame itself.
