@@ -3,7 +3,7 @@ ghost use mathlib.Core.Path.{_≡_};
 ghost use Rattle.run_entry.specs.State.{memory};
 ghost use Rattle.prepare.specs.Prepare.{lent};
 ghost use Rattle.scatter.specs.Scatter.{scatterOf};
-ghost use Rattle.desk_words.specs.Words.{worded};
+ghost use Rattle.record_words.specs.RecordWords.{worded};
 ghost use Rattle.desk_record.specs.Records.{hostSizes, saidOf};
 ghost use Rattle.frames.specs.Frames.{orZero};
 ghost use Rattle.desk_files.specs.Files.{hostFrames, hostFrame};
@@ -39,7 +39,36 @@ pub extern "C" fn brothanchor_prepare(
     nodes: usize,
     record: &mut [u64],
 ) -> u32
-    ensures { λ k. ⌜ hostPrepared k (now («record» .exit)) (lent (now (positions .exit)) (now (increments .exit)) (now (gains .exit)) (now (affinities .exit)) (now (indices .exit)) (now (offsets .exit)) (now (forces .exit)) (now («row_values» .exit)) (now («row_indices» .exit))) ≡ hostPrepare (now (settings .entry)) (now (table .entry)) (now (start .entry)) nodes (lent (now (positions .entry)) (now (increments .entry)) (now (gains .entry)) (now (affinities .entry)) (now (indices .entry)) (now (offsets .entry)) (now (forces .entry)) (now («row_values» .entry)) (now («row_indices» .entry))) (now («record» .entry)) ⌝ }
+    ensures { λ k. ⌜
+        hostPrepared k
+        (now («record» .exit))
+        (lent
+        (now (positions .exit))
+        (now (increments .exit))
+        (now (gains .exit))
+        (now (affinities .exit))
+        (now (indices .exit))
+        (now (offsets .exit))
+        (now (forces .exit))
+        (now («row_values» .exit))
+        (now («row_indices» .exit)))
+        ≡ hostPrepare
+        (now (settings .entry))
+        (now (table .entry))
+        (now (start .entry))
+        nodes
+        (lent
+        (now (positions .entry))
+        (now (increments .entry))
+        (now (gains .entry))
+        (now (affinities .entry))
+        (now (indices .entry))
+        (now (offsets .entry))
+        (now (forces .entry))
+        (now («row_values» .entry))
+        (now («row_indices» .entry)))
+        (now («record» .entry))
+        ⌝ }
 {
     host_prepare(
         settings,
@@ -74,7 +103,32 @@ pub extern "C" fn brothanchor_work(
     budget: u32,
     answer: &mut [u64],
 ) -> u32
-    ensures { λ k. ⌜ hostWorked k (now (answer .exit)) (now (words .exit)) (memory (now (positions .exit)) (now (increments .exit)) (now (gains .exit)) (now (affinities .entry)) (now (indices .entry)) (now (offsets .entry)) (now (forces .exit)) (now (cells .exit))) ≡ hostWork budget (now (words .entry)) (now (answer .entry)) (memory (now (positions .entry)) (now (increments .entry)) (now (gains .entry)) (now (affinities .entry)) (now (indices .entry)) (now (offsets .entry)) (now (forces .entry)) (now (cells .entry))) ⌝ }
+    ensures { λ k. ⌜
+        hostWorked k
+        (now (answer .exit))
+        (now (words .exit))
+        (memory
+        (now (positions .exit))
+        (now (increments .exit))
+        (now (gains .exit))
+        (now (affinities .entry))
+        (now (indices .entry))
+        (now (offsets .entry))
+        (now (forces .exit))
+        (now (cells .exit)))
+        ≡ hostWork budget
+        (now (words .entry))
+        (now (answer .entry))
+        (memory
+        (now (positions .entry))
+        (now (increments .entry))
+        (now (gains .entry))
+        (now (affinities .entry))
+        (now (indices .entry))
+        (now (offsets .entry))
+        (now (forces .entry))
+        (now (cells .entry)))
+        ⌝ }
 {
     let k = host_work(
         words,
@@ -107,7 +161,22 @@ pub extern "C" fn brothanchor_divergence(
     copy: &[f64],
     answer: &mut [u64],
 ) -> u32
-    ensures { λ k. ⌜ worded k (now (answer .exit)) ≡ hostDivergence (now (words .entry)) (memory (now (positions .entry)) (now (increments .entry)) (now (gains .entry)) (now (affinities .entry)) (now (indices .entry)) (now (offsets .entry)) (now (forces .entry)) (now (cells .entry))) (now (copy .entry)) (now (answer .entry)) ⌝ }
+    ensures { λ k. ⌜
+        worded k (now (answer .exit))
+        ≡ hostDivergence
+        (now (words .entry))
+        (memory
+        (now (positions .entry))
+        (now (increments .entry))
+        (now (gains .entry))
+        (now (affinities .entry))
+        (now (indices .entry))
+        (now (offsets .entry))
+        (now (forces .entry))
+        (now (cells .entry)))
+        (now (copy .entry))
+        (now (answer .entry))
+        ⌝ }
 {
     let k = host_divergence(
         words,

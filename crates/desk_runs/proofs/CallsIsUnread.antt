@@ -26,7 +26,7 @@ use denote.Triple.Call.{calls-at}
 use denote.Triple.Clauses.{ensured, lasts}
 use denote.Triple.Spec.{tripleOf}
 use Rattle.lent.proofs.Pass.{Seat, ref-at, word, Mut, Shr, Tok, lent-to, lend-shr, back-shr}
-use Rattle.desk_words.specs.Words.{runFine}
+use Rattle.record_words.specs.RecordWords.{runFine}
 use mathlib.Core.Bool.{not}
 use mathlib.Core.Path.{_≡_}
 use Rattle.desk_runs.proofs.is_unread as callee

@@ -1,4 +1,4 @@
--- How `desk_words::put_after` is called, with `&mut [u64]` lent to it: a rule for each way to lend (m: a `&mut` slice lent again, s: a `&mut` slice lent as `&`, c: a `&` slice passed on, r: a `&mut` of a struct lent again). Printed (tests/walks_local).
+-- How `answer_words::put_after` is called, with `&mut [u64]` lent to it: a rule for each way to lend (m: a `&mut` slice lent again, s: a `&mut` slice lent as `&`, c: a `&` slice passed on, r: a `&mut` of a struct lent again). Printed (tests/walks_local).
 -- Assumes `Given`, and that the callee meets its contract.
 use mathlib.Core.Path.{sym, _∙_, ap, subst}
 use Prim.Native.Nat.{ℕ}
@@ -29,7 +29,7 @@ use Rattle.lent.proofs.Pass.{Seat, ref-at, word, Mut, Tok, lent-to, lend-mut, b
 use denote.Struct.Laws as LL
 use denote.Enum.Laws as EL
 use Prim.Native.Nat.{_≤_}
-use Rattle.desk_words.specs.Words.{runAfter}
+use Rattle.answer_words.specs.AnswerWords.{runAfter}
 use lib.ListN.{length}
 use mathlib.Core.Path.{_≡_}
 use Rattle.run_budget.specs.declared.Answer.{Answer}
@@ -40,8 +40,8 @@ use Rattle.run_record.proofs.Run as Run′
 use Rattle.run_record.proofs.Run.Laws as Run″
 use Rattle.run_budget.proofs.Values.{val-Answer, IsAnswer}
 use Rattle.run_entry.proofs.Values.{val-Run, IsRun}
-use Rattle.desk_words.proofs.put_after as callee
-use Rattle.desk_words.proofs.put_after.Symbol.{name as #desk-words·put-after}
+use Rattle.answer_words.proofs.put_after as callee
+use Rattle.answer_words.proofs.put_after.Symbol.{name as #answer-words·put-after}
 
 abbrev unit-val : Unit {0} → Val
 unit-val _ = vunit
@@ -61,11 +61,11 @@ module _ {M : Type 1} (𝓤 : URA M) (H : Heap 𝓤) (A : Atoms 𝓤) (mem : Mem
   goes W s-words words a₀ r g-a₀ g-r l = qed W (‵ (Tok s-words) ∷ ‵ (Mut u64 s-words words) ∷ []) ∵ says ! l $ nothing ! $ move ! (1 ∷ 0 ∷ []) $ join ! $ frame ! $ nothing ! $ owned ! Run′.the-row (Is Run′.the-row) ((LL.makes Run′.the-type Run″.the-plain) 𝓤 H A) r _ g-r $ fjoin ! $ owned ! Answer′.the-row (Is Answer′.the-row) ((EL.makes Answer′.the-type Answer″.the-plain) 𝓤 H A) a₀ _ g-a₀ $ fjoin ! $ move ! (1 ∷ 0 ∷ []) $ fjoin ! $ done !
 
 module _ {M : Type 1} {𝓤 : URA M} {H : Heap 𝓤} {A : Atoms 𝓤} {K : Type 0} {W : Given 𝓤 H A} {Γ : List (Item 𝓤)} {E : Env 𝓤 H} {C : Calls 𝓤 H} {Λ : Loops 𝓤 H} {xs : List Operand} {q : After 𝓤 H} {d : Place} {rest : Code} where
-  pub calls-put-after-m : K → FmC 𝓤 H (W .laws) C → (mem : Memory → SProp 𝓤) (run : Routine → Fun 𝓤) → Triple 𝓤 (C #desk-words·put-after) (Contract-put-after 𝓤 H A mem run)
+  pub calls-put-after-m : K → FmC 𝓤 H (W .laws) C → (mem : Memory → SProp 𝓤) (run : Routine → Fun 𝓤) → Triple 𝓤 (C #answer-words·put-after) (Contract-put-after 𝓤 H A mem run)
       → (s-words : Seat) (words : List ℕ) (a₀ : Answer) (r : Run) → length words ≡ s-words .count → IsAnswer a₀ → IsRun r → 14 ≤ length words
       → ((P Ω0 : Item 𝓤) → Opds K W (P ∷ Ω0 ∷ Γ) E xs (word s-words ∷ val-Answer a₀ ∷ val-Run r ∷ []))
       → ((res : Unit {0}) (words′ : List ℕ) → Ensured-put-after words a₀ r res words′ → Is Nothing res (unit-val res ∷ []) → length words′ ≡ s-words .count → Seq K W (‵ (Mut u64 s-words words′) ∷ ‵ (Tok s-words) ∷ Γ) (lands C Λ E d (unit-val res) rest q))
-      → Seq K W (‵ (Mut u64 s-words words) ∷ ‵ (Tok s-words) ∷ Γ) (runs C Λ E (seq (call #desk-words·put-after xs d) rest) q)
+      → Seq K W (‵ (Mut u64 s-words words) ∷ ‵ (Tok s-words) ∷ Γ) (runs C Λ E (seq (call #answer-words·put-after xs d) rest) q)
   calls-put-after-m t fm mem run met s-words words a₀ r ln-words g-a₀ g-r l os k =
       lend-mut t tt u64 s-words words ln-words (λ ν-words δ-words w-words.
       group t 2 $ use1 W (raw (Contract-put-after 𝓤 H A mem run .pre (to 𝓤 H A mem run (lent-to s-words ν-words δ-words) words a₀ r))) (goes 𝓤 H A mem run W (lent-to s-words ν-words δ-words) words a₀ r g-a₀ g-r l) $

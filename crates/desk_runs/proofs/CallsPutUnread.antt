@@ -27,7 +27,8 @@ use denote.Triple.Spec.{tripleOf}
 use denote.Triple.Walked.{says}
 use Rattle.lent.proofs.Pass.{Seat, ref-at, word, Mut, Shr, Tok, lent-to, lend-mut, back-mut, lend-shr, back-shr}
 use Prim.Native.Nat.{_≤_}
-use Rattle.desk_words.specs.Words.{unreadFault, answerPut}
+use Rattle.fault_words.specs.FaultWords.{unreadFault}
+use Rattle.answer_words.specs.AnswerWords.{answerPut}
 use Rattle.run_budget.specs.declared.Answer.the-variants.{Bad}
 use lib.ListN.{length}
 use mathlib.Core.Path.{_≡_}

@@ -15,7 +15,9 @@ use Rattle.run_budget.specs.Budget.{Worked, worked}
 use Rattle.descent.specs.Descent.{work, workNumber}
 use Rattle.prepare.specs.declared.Prepared.{Prepared}
 use Rattle.prepare.specs.Prepare.{Lent, lengthsOf, prepareFault, PrepareOutcome, prepareOutcome, prepared, prepareNumber}
-use Rattle.desk_words.specs.Words.{settingsFine, settingsOf, runFine, runOf, runAfter, unreadFault, answerPut}
+use Rattle.record_words.specs.RecordWords.{settingsFine, settingsOf, runFine, runOf}
+use Rattle.fault_words.specs.FaultWords.{unreadFault}
+use Rattle.answer_words.specs.AnswerWords.{runAfter, answerPut}
 use Rattle.desk_runs.specs.Runs.{hostPrepared, recorded, preparedIn, shortNumber, hostPrepare, hostWorked, workedIn, hostWork}
 
 -- ---- preparation

@@ -14,8 +14,10 @@ use Rattle.run_budget.specs.declared.Answer.{Answer}
 use Rattle.run_budget.specs.declared.Answer.the-variants.{Bad}
 use Rattle.run_budget.specs.Budget.{worked}
 use Rattle.descent.specs.Descent.{work, workNumber}
-use Rattle.desk_words.specs.Words.{runFine, runOf, runAfter, unreadFault, answerPut}
-use Rattle.desk_words.proofs.Laws.{run-long}
+use Rattle.record_words.specs.RecordWords.{runFine, runOf}
+use Rattle.fault_words.specs.FaultWords.{unreadFault}
+use Rattle.answer_words.specs.AnswerWords.{runAfter, answerPut}
+use Rattle.record_words.proofs.Laws.{run-long}
 use Rattle.desk_runs.specs.Runs.{hostWorked, hostWork}
 use Rattle.desk_runs.proofs.Laws.{short-told, unread-told, work-told}
 

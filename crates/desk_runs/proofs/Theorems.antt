@@ -38,9 +38,11 @@ use Rattle.prepare.specs.declared.Prepared.{Prepared}
 use Rattle.prepare.specs.declared.Prepared.the-variants.{Ready}
 use Rattle.prepare.specs.Prepare.{Lent, lengthsOf, prepareFault, freshRun, prepared, memoryOf, prepareNumber}
 use Rattle.prepare.proofs.Begins.{preparation-honest}
-use Rattle.desk_words.specs.Words.{settingsFine, settingsOf, runFine, runOf, progressPut, runPut, kindWord, isBad, runAfter, answerPut}
-use Rattle.desk_words.proofs.Laws.{run-long}
-use Rattle.desk_words.proofs.Roundtrip.{answer-back, read-sayable, run-back, run-back-fine, progress-back, progress-fine, progress-again, progress-same}
+use Rattle.record_words.specs.RecordWords.{settingsFine, settingsOf, runFine, runOf, progressPut, runPut}
+use Rattle.answer_words.specs.AnswerWords.{kindWord, isBad, runAfter, answerPut}
+use Rattle.record_words.proofs.Laws.{run-long}
+use Rattle.answer_words.proofs.Laws.{answer-back}
+use Rattle.record_words.proofs.Roundtrip.{read-sayable, run-back, run-back-fine, progress-back, progress-fine, progress-again, progress-same}
 use Rattle.desk_runs.specs.Runs.{HostPrepared, recorded, preparedIn, shortNumber, hostPrepare, HostWorked, hostWorked, workedIn, hostWork, hostState, hostNext, hostWorks, hostTold, inCells}
 
 -- ---- no call changes the settings, and one that is refused at its entry changes nothing

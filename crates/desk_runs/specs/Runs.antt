@@ -15,7 +15,9 @@ use Rattle.descent.specs.Longer.{lentArena}
 use Rattle.prepare.specs.declared.Prepared.{Prepared}
 use Rattle.prepare.specs.declared.Prepared.the-variants.{Refused, Ready}
 use Rattle.prepare.specs.Prepare.{Lent, lengthsOf, prepareFault, PrepareOutcome, prepared, prepareNumber}
-use Rattle.desk_words.specs.Words.{settingsFine, settingsOf, runFine, runOf, runPut, runAfter, unreadFault, answerPut}
+use Rattle.record_words.specs.RecordWords.{settingsFine, settingsOf, runFine, runOf, runPut}
+use Rattle.fault_words.specs.FaultWords.{unreadFault}
+use Rattle.answer_words.specs.AnswerWords.{runAfter, answerPut}
 
 -- ---- preparation
 

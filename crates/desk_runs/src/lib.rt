@@ -8,22 +8,24 @@ ghost use Rattle.run_entry.specs.State.{memory};
 ghost use Rattle.run_budget.specs.declared.Answer.the-variants.{Bad};
 ghost use Rattle.descent.specs.Descent.{workNumber};
 ghost use Rattle.prepare.specs.Prepare.{lent, prepareFault};
-ghost use Rattle.desk_words.specs.Words.{runFine, unreadFault, answerPut};
+ghost use Rattle.record_words.specs.RecordWords.{runFine};
+ghost use Rattle.fault_words.specs.FaultWords.{unreadFault};
+ghost use Rattle.answer_words.specs.AnswerWords.{answerPut};
 ghost use Rattle.desk_runs.specs.Runs.{hostPrepared, shortNumber, hostPrepare, hostWorked, hostWork};
+use answer_words::put_after;
+use answer_words::put_answer;
 use descent::Answer;
 use descent::work;
-use desk_words::put_after;
-use desk_words::put_answer;
-use desk_words::put_run;
-use desk_words::run_fine;
-use desk_words::run_of;
-use desk_words::settings_fine;
-use desk_words::settings_of;
-use desk_words::unread_fault;
+use fault_words::unread_fault;
 use prepare::Lengths;
 use prepare::Prepared;
 use prepare::prepare;
 use prepare::prepare_fault;
+use record_words::put_run;
+use record_words::run_fine;
+use record_words::run_of;
+use record_words::settings_fine;
+use record_words::settings_of;
 use run_record::Settings;
 use tree_node::Cell;
 
@@ -57,7 +59,36 @@ pub fn host_prepare(
     nodes: usize,
     record: &mut [u64],
 ) -> u32
-    ensures { λ k. ⌜ hostPrepared k (now («record» .exit)) (lent (now (positions .exit)) (now (increments .exit)) (now (gains .exit)) (now (affinities .exit)) (now (indices .exit)) (now (offsets .exit)) (now (forces .exit)) (now («row_values» .exit)) (now («row_indices» .exit))) ≡ hostPrepare (now (settings .entry)) (now (table .entry)) (now (start .entry)) nodes (lent (now (positions .entry)) (now (increments .entry)) (now (gains .entry)) (now (affinities .entry)) (now (indices .entry)) (now (offsets .entry)) (now (forces .entry)) (now («row_values» .entry)) (now («row_indices» .entry))) (now («record» .entry)) ⌝ }
+    ensures { λ k. ⌜
+        hostPrepared k
+        (now («record» .exit))
+        (lent
+        (now (positions .exit))
+        (now (increments .exit))
+        (now (gains .exit))
+        (now (affinities .exit))
+        (now (indices .exit))
+        (now (offsets .exit))
+        (now (forces .exit))
+        (now («row_values» .exit))
+        (now («row_indices» .exit)))
+        ≡ hostPrepare
+        (now (settings .entry))
+        (now (table .entry))
+        (now (start .entry))
+        nodes
+        (lent
+        (now (positions .entry))
+        (now (increments .entry))
+        (now (gains .entry))
+        (now (affinities .entry))
+        (now (indices .entry))
+        (now (offsets .entry))
+        (now (forces .entry))
+        (now («row_values» .entry))
+        (now («row_indices» .entry)))
+        (now («record» .entry))
+        ⌝ }
 {
     if !settings_fine(settings) {
         return 13;
@@ -147,7 +178,32 @@ pub fn host_work(
     budget: u32,
     answer: &mut [u64],
 ) -> u32
-    ensures { λ k. ⌜ hostWorked k (now (answer .exit)) (now (words .exit)) (memory (now (positions .exit)) (now (increments .exit)) (now (gains .exit)) (now (affinities .entry)) (now (indices .entry)) (now (offsets .entry)) (now (forces .exit)) (now (cells .exit))) ≡ hostWork budget (now (words .entry)) (now (answer .entry)) (memory (now (positions .entry)) (now (increments .entry)) (now (gains .entry)) (now (affinities .entry)) (now (indices .entry)) (now (offsets .entry)) (now (forces .entry)) (now (cells .entry))) ⌝ }
+    ensures { λ k. ⌜
+        hostWorked k
+        (now (answer .exit))
+        (now (words .exit))
+        (memory
+        (now (positions .exit))
+        (now (increments .exit))
+        (now (gains .exit))
+        (now (affinities .entry))
+        (now (indices .entry))
+        (now (offsets .entry))
+        (now (forces .exit))
+        (now (cells .exit)))
+        ≡ hostWork budget
+        (now (words .entry))
+        (now (answer .entry))
+        (memory
+        (now (positions .entry))
+        (now (increments .entry))
+        (now (gains .entry))
+        (now (affinities .entry))
+        (now (indices .entry))
+        (now (offsets .entry))
+        (now (forces .entry))
+        (now (cells .entry)))
+        ⌝ }
 {
     let short = is_short(answer.len());
     if short {

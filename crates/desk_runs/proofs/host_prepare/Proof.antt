@@ -1,4 +1,4 @@
-use Rattle.desk_words.proofs.Laws.{settings-long}
+use Rattle.record_words.proofs.Laws.{settings-long}
 use Rattle.desk_runs.proofs.Laws.{unread-begun, short-begun, begun-is}
 use Rattle.prepare.specs.Prepare.{prepareNumber}
 use borrow.Author.Tests.{not-true, not-false}

@@ -65,22 +65,22 @@ use Rattle.desk_runs.proofs.CallsPutUnread.{Contract-put-unread, calls-
 use Rattle.desk_runs.proofs.put_unread.Symbol as put-unread-def
 use Rattle.desk_runs.proofs.put_unread.Symbol.{name as #desk-runs·put-unread}
 use Rattle.desk_runs.proofs.put_unread.Met as put-unread-thm
-use Rattle.desk_words.proofs.CallsRunOf.{Contract-run-of, calls-run-of-s}
-use Rattle.desk_words.proofs.run_of.Symbol as run-of-def
-use Rattle.desk_words.proofs.run_of.Symbol.{name as #desk-words·run-of}
-use Rattle.desk_words.proofs.run_of.Met as run-of-thm
+use Rattle.fault_words.proofs.CallsRunOf.{Contract-run-of, calls-run-of-s}
+use Rattle.record_words.proofs.run_of.Symbol as run-of-def
+use Rattle.record_words.proofs.run_of.Symbol.{name as #record-words·run-of}
+use Rattle.record_words.proofs.run_of.Met as run-of-thm
 use Rattle.descent.proofs.CallsWork.{Contract-work, calls-work-rmmmcccmm}
 use Rattle.descent.proofs.work.Symbol as work-def
 use Rattle.descent.proofs.work.Symbol.{name as #descent·work}
 use Rattle.descent.proofs.work.Met as work-thm
 use Rattle.desk_runs.proofs.CallsPutAfter.{Contract-put-after, calls-put-after-m}
-use Rattle.desk_words.proofs.put_after.Symbol as put-after-def
-use Rattle.desk_words.proofs.put_after.Symbol.{name as #desk-words·put-after}
-use Rattle.desk_words.proofs.put_after.Met as put-after-thm
+use Rattle.answer_words.proofs.put_after.Symbol as put-after-def
+use Rattle.answer_words.proofs.put_after.Symbol.{name as #answer-words·put-after}
+use Rattle.answer_words.proofs.put_after.Met as put-after-thm
 use Rattle.desk_runs.proofs.CallsPutAnswer.{Contract-put-answer, calls-put-answer-m}
-use Rattle.desk_words.proofs.put_answer.Symbol as put-answer-def
-use Rattle.desk_words.proofs.put_answer.Symbol.{name as #desk-words·put-answer}
-use Rattle.desk_words.proofs.put_answer.Met as put-answer-thm
+use Rattle.answer_words.proofs.put_answer.Symbol as put-answer-def
+use Rattle.answer_words.proofs.put_answer.Symbol.{name as #answer-words·put-answer}
+use Rattle.answer_words.proofs.put_answer.Met as put-answer-thm
 use Rattle.desk_runs.proofs.ByValue.{Contract-number-of, calls-number-of}
 use Rattle.desk_runs.proofs.number_of.Symbol as number-of-def
 use Rattle.desk_runs.proofs.number_of.Symbol.{name as #desk-runs·number-of}
@@ -130,7 +130,7 @@ module _ {M : Type 1} (𝓤 : URA M) (H : Heap 𝓤) (A : Atoms 𝓤) (W : Given
       suffices ! _ (ends-at 𝓤 H A f.ended stayed (f.clauses 𝓤 H A mem run-of) W (((s-words .life, (s-positions .life, (s-increments .life, (s-gains .life, (s-affinities .life, (s-indices .life, (s-offsets .life, (s-forces .life, (s-cells .life, (s-answer .life, tt)))))))))), (s-words .share, (s-positions .share, (s-increments .share, (s-gains .share, (s-affinities .share, (s-indices .share, (s-offsets .share, (s-forces .share, (s-cells .share, (s-answer .share, tt)))))))))), tt, x, at), tt) (vint w32 res) res (words′, (positions′, (increments′, (gains′, (tt, (tt, (tt, (forces′, (cells′, (tt, (answer′, tt))))))))))) (le-words ∙ sym ln-words, (le-positions ∙ sym ln-positions, (le-increments ∙ sym ln-increments, (le-gains ∙ sym ln-gains, (tt, (tt, (tt, (le-forces ∙ sym ln-forces, (le-cells ∙ sym ln-cells, (tt, (le-answer ∙ sym ln-answer, tt)))))))))))) $ says ! e $
       nothing ! $ move ! (20 ∷ 0 ∷ []) $ join ! $ move ! (18 ∷ 0 ∷ []) $ join ! $ move ! (16 ∷ 0 ∷ []) $ join ! $ move ! (14 ∷ 0 ∷ []) $ join ! $ move ! (12 ∷ 0 ∷ []) $ join ! $ move ! (10 ∷ 0 ∷ []) $ join ! $ move ! (8 ∷ 0 ∷ []) $ join ! $ move ! (6 ∷ 0 ∷ []) $ join ! $ move ! (4 ∷ 0 ∷ []) $ join ! $ move ! (2 ∷ 0 ∷ []) $ join ! $ frame ! $ nothing ! $ move ! (10 ∷ 0 ∷ []) $ fjoin ! $ owned ! u32 (Is u32) (uint-makes 𝓤 H A W w32) budget _ (refl, g-budget) $ fjoin ! $ move ! (9 ∷ 0 ∷ []) $ fjoin ! $ move ! (8 ∷ 0 ∷ []) $ fjoin ! $ move ! (7 ∷ 0 ∷ []) $ fjoin ! $ move ! (6 ∷ 0 ∷ []) $ fjoin ! $ move ! (5 ∷ 0 ∷ []) $ fjoin ! $ move ! (4 ∷ 0 ∷ []) $ fjoin ! $ move ! (3 ∷ 0 ∷ []) $ fjoin ! $ move ! (2 ∷ 0 ∷ []) $ fjoin ! $ move ! (1 ∷ 0 ∷ []) $ fjoin ! $ frame ! $ owned ! u32 (Is u32) (uint-makes 𝓤 H A W w32) res _ (refl, is) $ done !
 
-  module _ (C : Calls 𝓤 H) (Λ : Loops 𝓤 H) (fm : FmC 𝓤 H (W .laws) C) (known-is-short : Triple 𝓤 (C #desk-runs·is-short) (Contract-is-short 𝓤 H A mem run-of)) (known-is-unread : Triple 𝓤 (C #desk-runs·is-unread) (Contract-is-unread 𝓤 H A mem run-of)) (known-put-unread : Triple 𝓤 (C #desk-runs·put-unread) (Contract-put-unread 𝓤 H A mem run-of)) (known-run-of : Triple 𝓤 (C #desk-words·run-of) (Contract-run-of 𝓤 H A mem run-of)) (known-work : Triple 𝓤 (C #descent·work) (Contract-work 𝓤 H A mem run-of)) (known-put-after : Triple 𝓤 (C #desk-words·put-after) (Contract-put-after 𝓤 H A mem run-of)) (known-put-answer : Triple 𝓤 (C #desk-words·put-answer) (Contract-put-answer 𝓤 H A mem run-of)) (known-number-of : Triple 𝓤 (C #desk-runs·number-of) (Contract-number-of 𝓤 H A mem run-of)) where
+  module _ (C : Calls 𝓤 H) (Λ : Loops 𝓤 H) (fm : FmC 𝓤 H (W .laws) C) (known-is-short : Triple 𝓤 (C #desk-runs·is-short) (Contract-is-short 𝓤 H A mem run-of)) (known-is-unread : Triple 𝓤 (C #desk-runs·is-unread) (Contract-is-unread 𝓤 H A mem run-of)) (known-put-unread : Triple 𝓤 (C #desk-runs·put-unread) (Contract-put-unread 𝓤 H A mem run-of)) (known-run-of : Triple 𝓤 (C #record-words·run-of) (Contract-run-of 𝓤 H A mem run-of)) (known-work : Triple 𝓤 (C #descent·work) (Contract-work 𝓤 H A mem run-of)) (known-put-after : Triple 𝓤 (C #answer-words·put-after) (Contract-put-after 𝓤 H A mem run-of)) (known-put-answer : Triple 𝓤 (C #answer-words·put-answer) (Contract-put-answer 𝓤 H A mem run-of)) (known-number-of : Triple 𝓤 (C #desk-runs·number-of) (Contract-number-of 𝓤 H A mem run-of)) where
     abbrev τ : ℕ → Ty
     τ k = type-of k pieces.locals
 
@@ -214,7 +214,7 @@ module _ {M : Type 1} (𝓤 : URA M) (H : Heap 𝓤) (A : Atoms 𝓤) (W : Given
         keep ! (2 ∷ 3 ∷ 4 ∷ 5 ∷ 6 ∷ 7 ∷ 8 ∷ 9 ∷ 10 ∷ 11 ∷ 12 ∷ 13 ∷ 14 ∷ 15 ∷ 16 ∷ 17 ∷ 18 ∷ 19 ∷ 0 ∷ 1 ∷ []) $ by ! (exits r8 words6 positions5 increments5 gains5 forces5 cells5 answer7 (is8 .1) l-words6 l-positions5 l-increments5 l-gains5 l-forces5 l-cells5 l-answer7 (work-said budget words answer (memory positions increments gains affinities indices offsets forces cells) _ ln-answer r1 e1 no1 r2 e2 no2 r4 e4 r5 own145 (memory positions5 increments5 gains5 affinities indices offsets forces5 cells5) e5 words6 e6 answer7 e7 r8 e8)))))))))))))))))))))))))))))))))))))))))))))))))))))))))))
 
 module _ {M : Type 1} (𝓤 : URA M) (H : Heap 𝓤) (A : Atoms 𝓤) (W : Given 𝓤 H A) (mem : Memory → SProp 𝓤) (run-of : Routine → Fun 𝓤) where
-  host-work-walks : (C : Calls 𝓤 H) (Λ : Loops 𝓤 H) → FmC 𝓤 H (W .laws) C → Triple 𝓤 (C #desk-runs·is-short) (Contract-is-short 𝓤 H A mem run-of) → Triple 𝓤 (C #desk-runs·is-unread) (Contract-is-unread 𝓤 H A mem run-of) → Triple 𝓤 (C #desk-runs·put-unread) (Contract-put-unread 𝓤 H A mem run-of) → Triple 𝓤 (C #desk-words·run-of) (Contract-run-of 𝓤 H A mem run-of) → Triple 𝓤 (C #descent·work) (Contract-work 𝓤 H A mem run-of) → Triple 𝓤 (C #desk-words·put-after) (Contract-put-after 𝓤 H A mem run-of) → Triple 𝓤 (C #desk-words·put-answer) (Contract-put-answer 𝓤 H A mem run-of) → Triple 𝓤 (C #desk-runs·number-of) (Contract-number-of 𝓤 H A mem run-of) → Walks 𝓤 H A f.ended stayed (WpFn 𝓤 H C Λ code.function) (f.clauses 𝓤 H A mem run-of)
+  host-work-walks : (C : Calls 𝓤 H) (Λ : Loops 𝓤 H) → FmC 𝓤 H (W .laws) C → Triple 𝓤 (C #desk-runs·is-short) (Contract-is-short 𝓤 H A mem run-of) → Triple 𝓤 (C #desk-runs·is-unread) (Contract-is-unread 𝓤 H A mem run-of) → Triple 𝓤 (C #desk-runs·put-unread) (Contract-put-unread 𝓤 H A mem run-of) → Triple 𝓤 (C #record-words·run-of) (Contract-run-of 𝓤 H A mem run-of) → Triple 𝓤 (C #descent·work) (Contract-work 𝓤 H A mem run-of) → Triple 𝓤 (C #answer-words·put-after) (Contract-put-after 𝓤 H A mem run-of) → Triple 𝓤 (C #answer-words·put-answer) (Contract-put-answer 𝓤 H A mem run-of) → Triple 𝓤 (C #desk-runs·number-of) (Contract-number-of 𝓤 H A mem run-of) → Walks 𝓤 H A f.ended stayed (WpFn 𝓤 H C Λ code.function) (f.clauses 𝓤 H A mem run-of)
   host-work-walks C Λ fm known-is-short known-is-unread known-put-unread known-run-of known-work known-put-after known-put-answer known-number-of = walked 𝓤 H A f.ended stayed (f.clauses 𝓤 H A mem run-of) (WpFn 𝓤 H C Λ code.function)
       (λ κs. (slice-vals, (slice-vals, (slice-vals, (slice-vals, (slice-vals, (slice-vals, (slice-vals, (slice-vals, (slice-vals, (uint-vals w32, (slice-vals, tt))))))))))))
       (λ κs. (mut-slice-tells (named 0) (κs .0) u64, (mut-slice-tells (named 1) (κs .1 .0) f64, (mut-slice-tells (named 2) (κs .1 .1 .0) f64, (mut-slice-tells (named 3) (κs .1 .1 .1 .0) f64, (shr-slice-tells (named 4) (κs .1 .1 .1 .1 .0) f64, (shr-slice-tells (named 5) (κs .1 .1 .1 .1 .1 .0) u32, (shr-slice-tells (named 6) (κs .1 .1 .1 .1 .1 .1 .0) u32, (mut-slice-tells (named 7) (κs .1 .1 .1 .1 .1 .1 .1 .0) f64, (mut-slice-tells (named 8) (κs .1 .1 .1 .1 .1 .1 .1 .1 .0) Cell′.the-row, (uint-tells w32, (mut-slice-tells (named 9) (κs .1 .1 .1 .1 .1 .1 .1 .1 .1 .0) u64, tt))))))))))))
@@ -244,7 +244,7 @@ module _ {M : Type 1} (𝓤 : URA M) (H : Heap 𝓤) (A : Atoms 𝓤) (W : Given
       C Λ fm known-is-short known-is-unread known-put-unread known-run-of known-work known-put-after known-put-answer known-number-of))
 
 host-work-meets : {M : Type 1} (𝓤 : URA M) (H : Heap 𝓤) (A : Atoms 𝓤) → Given 𝓤 H A → (mem : Memory → SProp 𝓤) (run-of : Routine → Fun 𝓤) (𝓣 : Tables 𝓤 H)
-    → Triple 𝓤 (𝓣 .C #desk-runs·is-short) (Contract-is-short 𝓤 H A mem run-of) → Triple 𝓤 (𝓣 .C #desk-runs·is-unread) (Contract-is-unread 𝓤 H A mem run-of) → Triple 𝓤 (𝓣 .C #desk-runs·put-unread) (Contract-put-unread 𝓤 H A mem run-of) → Triple 𝓤 (𝓣 .C #desk-words·run-of) (Contract-run-of 𝓤 H A mem run-of) → Triple 𝓤 (𝓣 .C #descent·work) (Contract-work 𝓤 H A mem run-of) → Triple 𝓤 (𝓣 .C #desk-words·put-after) (Contract-put-after 𝓤 H A mem run-of) → Triple 𝓤 (𝓣 .C #desk-words·put-answer) (Contract-put-answer 𝓤 H A mem run-of) → Triple 𝓤 (𝓣 .C #desk-runs·number-of) (Contract-number-of 𝓤 H A mem run-of)
+    → Triple 𝓤 (𝓣 .C #desk-runs·is-short) (Contract-is-short 𝓤 H A mem run-of) → Triple 𝓤 (𝓣 .C #desk-runs·is-unread) (Contract-is-unread 𝓤 H A mem run-of) → Triple 𝓤 (𝓣 .C #desk-runs·put-unread) (Contract-put-unread 𝓤 H A mem run-of) → Triple 𝓤 (𝓣 .C #record-words·run-of) (Contract-run-of 𝓤 H A mem run-of) → Triple 𝓤 (𝓣 .C #descent·work) (Contract-work 𝓤 H A mem run-of) → Triple 𝓤 (𝓣 .C #answer-words·put-after) (Contract-put-after 𝓤 H A mem run-of) → Triple 𝓤 (𝓣 .C #answer-words·put-answer) (Contract-put-answer 𝓤 H A mem run-of) → Triple 𝓤 (𝓣 .C #desk-runs·number-of) (Contract-number-of 𝓤 H A mem run-of)
     → Meets 𝓤 H A f.signature (WpFn 𝓤 H (𝓣 .C) (𝓣 .Λ) code.function) (f.spec 𝓤 H A mem run-of)
 host-work-meets 𝓤 H A W mem run-of 𝓣 known-is-short known-is-unread known-put-unread known-run-of known-work known-put-after known-put-answer known-number-of =
     walk-meets 𝓤 H A f.ended stayed W (goes-slice 𝓤 H A W 10 0 tt (plain (λ _. u64)), (goes-slice 𝓤 H A W 10 1 tt (plain (λ _. f64)), (goes-slice 𝓤 H A W 10 2 tt (plain (λ _. f64)), (goes-slice 𝓤 H A W 10 3 tt (plain (λ _. f64)), (goes-none-slice 𝓤 H A W 10 (4 ∷ []) tt (plain (λ _. f64)) yes, (goes-none-slice 𝓤 H A W 10 (5 ∷ []) tt (plain (λ _. u32)) yes, (goes-none-slice 𝓤 H A W 10 (6 ∷ []) tt (plain (λ _. u32)) yes, (goes-slice 𝓤 H A W 10 7 tt (plain (λ _. f64)), (goes-slice 𝓤 H A W 10 8 tt (plain (λ _. Cell′.the-row)), (goes-none 𝓤 H A W 10 (λ _. u32) yes (λ κs x f. refl), (goes-slice 𝓤 H A W 10 9 tt (plain (λ _. u64)), tt))))))))))) (f.clauses 𝓤 H A mem run-of)
@@ -259,8 +259,8 @@ host-work-spec 𝓤 H 𝓜 𝓖 𝓡 =
     (cited 𝓤 H (Contract-is-short 𝓤 H (𝓖 .A) (𝓜 .mem) (𝓡 .run)) 𝓜 𝓡 code.env #desk-runs·is-short is-short-def.routine code.calls-desk-runs·is-short (is-short-thm.met 𝓤 H 𝓜 𝓖 𝓡))
     (cited 𝓤 H (Contract-is-unread 𝓤 H (𝓖 .A) (𝓜 .mem) (𝓡 .run)) 𝓜 𝓡 code.env #desk-runs·is-unread is-unread-def.routine code.calls-desk-runs·is-unread (is-unread-thm.met 𝓤 H 𝓜 𝓖 𝓡))
     (cited 𝓤 H (Contract-put-unread 𝓤 H (𝓖 .A) (𝓜 .mem) (𝓡 .run)) 𝓜 𝓡 code.env #desk-runs·put-unread put-unread-def.routine code.calls-desk-runs·put-unread (put-unread-thm.met 𝓤 H 𝓜 𝓖 𝓡))
-    (cited 𝓤 H (Contract-run-of 𝓤 H (𝓖 .A) (𝓜 .mem) (𝓡 .run)) 𝓜 𝓡 code.env #desk-words·run-of run-of-def.routine code.calls-desk-words·run-of (run-of-thm.met 𝓤 H 𝓜 𝓖 𝓡))
+    (cited 𝓤 H (Contract-run-of 𝓤 H (𝓖 .A) (𝓜 .mem) (𝓡 .run)) 𝓜 𝓡 code.env #record-words·run-of run-of-def.routine code.calls-record-words·run-of (run-of-thm.met 𝓤 H 𝓜 𝓖 𝓡))
     (cited 𝓤 H (Contract-work 𝓤 H (𝓖 .A) (𝓜 .mem) (𝓡 .run)) 𝓜 𝓡 code.env #descent·work work-def.routine code.calls-descent·work (work-thm.met 𝓤 H 𝓜 𝓖 𝓡))
-    (cited 𝓤 H (Contract-put-after 𝓤 H (𝓖 .A) (𝓜 .mem) (𝓡 .run)) 𝓜 𝓡 code.env #desk-words·put-after put-after-def.routine code.calls-desk-words·put-after (put-after-thm.met 𝓤 H 𝓜 𝓖 𝓡))
-    (cited 𝓤 H (Contract-put-answer 𝓤 H (𝓖 .A) (𝓜 .mem) (𝓡 .run)) 𝓜 𝓡 code.env #desk-words·put-answer put-answer-def.routine code.calls-desk-words·put-answer (put-answer-thm.met 𝓤 H 𝓜 𝓖 𝓡))
+    (cited 𝓤 H (Contract-put-after 𝓤 H (𝓖 .A) (𝓜 .mem) (𝓡 .run)) 𝓜 𝓡 code.env #answer-words·put-after put-after-def.routine code.calls-answer-words·put-after (put-after-thm.met 𝓤 H 𝓜 𝓖 𝓡))
+    (cited 𝓤 H (Contract-put-answer 𝓤 H (𝓖 .A) (𝓜 .mem) (𝓡 .run)) 𝓜 𝓡 code.env #answer-words·put-answer put-answer-def.routine code.calls-answer-words·put-answer (put-answer-thm.met 𝓤 H 𝓜 𝓖 𝓡))
     (cited 𝓤 H (Contract-number-of 𝓤 H (𝓖 .A) (𝓜 .mem) (𝓡 .run)) 𝓜 𝓡 code.env #desk-runs·number-of number-of-def.routine code.calls-desk-runs·number-of (number-of-thm.met 𝓤 H 𝓜 𝓖 𝓡)))
