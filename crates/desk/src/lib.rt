@@ -7,18 +7,19 @@ ghost use Rattle.record_words.specs.RecordWords.{worded};
 ghost use Rattle.desk_record.specs.Records.{hostSizes, saidOf};
 ghost use Rattle.frames.specs.Frames.{orZero};
 ghost use Rattle.desk_files.specs.Files.{hostFrames, hostFrame};
-ghost use Rattle.desk_runs.specs.Runs.{hostPrepared, hostPrepare, hostWorked, hostWork};
+ghost use Rattle.desk_prepare.specs.HostPrepare.{hostPrepared, hostPrepare};
+ghost use Rattle.desk_work.specs.HostWork.{hostWorked, hostWork};
 ghost use Rattle.desk_divergence.specs.HostDivergence.{hostDivergence};
 use desk_divergence::host_divergence;
 use desk_files::host_frame;
 use desk_files::host_frames;
 use desk_files::host_scatter;
+use desk_prepare::host_prepare;
 use desk_record::host_iterations;
 use desk_record::host_sizes;
 use desk_record::host_state;
 use desk_record::host_units;
-use desk_runs::host_prepare;
-use desk_runs::host_work;
+use desk_work::host_work;
 use tree_node::Cell;
 
 // Prepares a run. Answers 0, or the number of the refusal; then nothing is changed.
