@@ -1,9 +1,9 @@
-use Rattle.bench_printout.specs.Printed.{labelText}
+use Rattle.bench_lines.specs.BenchLines.{labelText}
 use Rattle.text.proofs.Puts.{puts-then}
 use borrow.Author.Needs.{needs}
 use native.Mathlib.Omega.{arith}
-use Rattle.bench_printout.proofs.put_label.Statement.{statement}
-use Rattle.bench_printout.proofs.put_label.Tie as tie
+use Rattle.bench_lines.proofs.put_label.Statement.{statement}
+use Rattle.bench_lines.proofs.put_label.Tie as tie
 
 cast-put-decimal : tie.Need-cast-put-decimal
 cast-put-decimal c = search needs

@@ -1,8 +1,8 @@
-use Rattle.bench_printout.specs.Printed.{recordText}
+use Rattle.bench_lines.specs.BenchLines.{recordText}
 use Rattle.text.proofs.Puts.{puts-then}
 use borrow.Author.Needs.{needs}
-use Rattle.bench_printout.proofs.put_record.Statement.{statement}
-use Rattle.bench_printout.proofs.put_record.Tie as tie
+use Rattle.bench_lines.proofs.put_record.Statement.{statement}
+use Rattle.bench_lines.proofs.put_record.Tie as tie
 
 slice-aggregate-put : tie.Need-slice-aggregate-put
 slice-aggregate-put c = search needs

@@ -1,9 +1,9 @@
-use Rattle.bench_printout.specs.Printed.{positionText}
+use Rattle.bench_lines.specs.BenchLines.{positionText}
 use Rattle.text.proofs.Puts.{puts-then}
 use borrow.Author.Needs.{needs}
 use native.Mathlib.Omega.{arith}
-use Rattle.bench_printout.proofs.put_position.Statement.{statement}
-use Rattle.bench_printout.proofs.put_position.Tie as tie
+use Rattle.bench_lines.proofs.put_position.Statement.{statement}
+use Rattle.bench_lines.proofs.put_position.Tie as tie
 
 bits-of-requires : tie.Need-bits-of-requires
 bits-of-requires c κs = search needs
