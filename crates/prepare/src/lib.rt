@@ -4,12 +4,16 @@ ghost use Prim.Native.Nat.{_+_, _*_, _≤_};
 ghost use lib.ListN.{length};
 ghost use Rattle.laws.specs.Area.{zero64, one64};
 ghost use Rattle.laws.specs.Joined.{pasted};
-ghost use Rattle.affinity_lists.specs.Lists.{areas, cleared};
+ghost use Rattle.areas.specs.Filled.{filled};
+ghost use Rattle.affinity_lists.specs.Lists.{areas};
 ghost use Rattle.affinity_near.specs.Distances.{squaresOf};
 ghost use Rattle.affinity.specs.Exact.{exactOf};
 ghost use Rattle.run_record.specs.Record.{GoodSettings};
 ghost use Rattle.prepare.specs.Room.{RouteRoom};
 ghost use Rattle.prepare.specs.Prepare.{allIn, lengthsFit, prepareFault, freshRun, routed, lent, prepareOutcome, prepared};
+use areas::clear_indices;
+use areas::copy_values;
+use areas::fill;
 use elementary::in_domain;
 use run_entry::areas_fit;
 use run_record::Run;
@@ -128,18 +132,6 @@ fn fresh(s: Settings) -> Run
     }
 }
 
-// The first n places become x.
-fn fill(p: &mut [f64], n: usize, x: f64)
-    requires { ⌜ n ≤ length (now p) ⌝ }
-    ensures { λ _. ⌜ now (p .exit) ≡ cleared x n (now (p .entry)) ⌝ }
-{
-    let mut t = 0;
-    while t < n {
-        p[t] = x;
-        t += 1;
-    }
-}
-
 // Positions, increments, gains and forces as a run begins.
 fn set_out(
     z: Sizes,
@@ -150,9 +142,9 @@ fn set_out(
     forces: &mut [f64],
 )
     requires { ⌜ (z .cells ≤ length (now start)) × (z .cells ≤ length (now positions)) × (z .cells ≤ length (now increments)) × (z .cells ≤ length (now gains)) × (z .forces ≤ length (now forces)) ⌝ }
-    ensures { λ _. ⌜ (now (positions .exit) ≡ pasted (now (start .entry)) 0 (z .cells) (now (positions .entry))) × (now (increments .exit) ≡ cleared zero64 (z .cells) (now (increments .entry))) × (now (gains .exit) ≡ cleared one64 (z .cells) (now (gains .entry))) × (now (forces .exit) ≡ cleared zero64 (z .forces) (now (forces .entry))) ⌝ }
+    ensures { λ _. ⌜ (now (positions .exit) ≡ pasted (now (start .entry)) 0 (z .cells) (now (positions .entry))) × (now (increments .exit) ≡ filled zero64 (z .cells) (now (increments .entry))) × (now (gains .exit) ≡ filled one64 (z .cells) (now (gains .entry))) × (now (forces .exit) ≡ filled zero64 (z .forces) (now (forces .entry))) ⌝ }
 {
-    affinity_lists::areas::copy_values(positions, start, 0, z.cells);
+    copy_values(positions, start, 0, z.cells);
     fill(increments, z.cells, 0.0);
     fill(gains, z.cells, 1.0);
     fill(forces, z.forces, 0.0);
@@ -198,7 +190,7 @@ fn route(
         squares,
         row_values,
     );
-    affinity_lists::areas::clear_indices(row_indices, s.n);
+    clear_indices(row_indices, s.n);
 }
 
 // Prepares a run: takes any settings and any areas. Of the arena it asks only how many nodes it has.
