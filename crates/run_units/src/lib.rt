@@ -103,7 +103,7 @@ fn inserted(r: Run, full: bool, used: usize) -> Turn
 }
 
 // The box unit, or the insertion of a point, which may be refused.
-pub fn tree_unit(r: Run, positions: &[f64], cells: &mut [Cell]) -> Turn
+pub(crate) fn tree_unit(r: Run, positions: &[f64], cells: &mut [Cell]) -> Turn
     requires { ⌜ TreeRoom r (length (now positions)) (nodesOf (now cells)) ⌝ }
     ensures { λ t. ⌜ treeTurn (t .run) (nodesOf (now (cells .exit))) (t .why) ≡ treeUnit r (now (positions .entry)) (nodesOf (now (cells .entry))) ⌝ }
 {
@@ -161,7 +161,7 @@ fn row_unit(r: Run, positions: &[f64], affinities: &[f64], forces: &mut [f64])
 }
 
 // A point's forces, a row of the total or a row of the gradient.
-pub fn force_unit(
+pub(crate) fn force_unit(
     r: Run,
     positions: &[f64],
     affinities: &[f64],
@@ -227,7 +227,7 @@ fn pace(r: Run, forces: &[f64]) -> Pace
 }
 
 // The finish: the step, centring, and the stop test, or refusal 15.
-pub fn finish_unit(
+pub(crate) fn finish_unit(
     r: Run,
     positions: &mut [f64],
     increments: &mut [f64],

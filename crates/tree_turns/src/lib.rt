@@ -50,7 +50,7 @@ fn means(cs: f64, m: [f64; 3], p: [f64; 3], c: usize) -> [f64; 3]
 }
 
 // The node with one point more.
-pub fn absorb(v: Node, p: [f64; 3], c: usize) -> Node
+fn absorb(v: Node, p: [f64; 3], c: usize) -> Node
     requires { ⌜ (Axes c) × (v .count < mostWord) ⌝ }
     ensures { λ r. ⌜ r ≡ absorbed c p v ⌝ }
 {
@@ -72,7 +72,7 @@ pub fn absorb(v: Node, p: [f64; 3], c: usize) -> Node
 }
 
 // A leaf that holds point j.
-pub fn occupy(v: Node, j: u32) -> Node
+fn occupy(v: Node, j: u32) -> Node
     ensures { λ r. ⌜ r ≡ occupied j v ⌝ }
 {
     let centre = v.centre;
@@ -90,7 +90,7 @@ pub fn occupy(v: Node, j: u32) -> Node
 }
 
 // A split node, whose children begin at u.
-pub fn split(v: Node, u: u32) -> Node
+fn split(v: Node, u: u32) -> Node
     ensures { λ r. ⌜ r ≡ parent u v ⌝ }
 {
     let centre = v.centre;
