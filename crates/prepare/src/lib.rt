@@ -142,7 +142,12 @@ fn set_out(
     forces: &mut [f64],
 )
     requires { ⌜ (z .cells ≤ length (now start)) × (z .cells ≤ length (now positions)) × (z .cells ≤ length (now increments)) × (z .cells ≤ length (now gains)) × (z .forces ≤ length (now forces)) ⌝ }
-    ensures { λ _. ⌜ (now (positions .exit) ≡ pasted (now (start .entry)) 0 (z .cells) (now (positions .entry))) × (now (increments .exit) ≡ filled zero64 (z .cells) (now (increments .entry))) × (now (gains .exit) ≡ filled one64 (z .cells) (now (gains .entry))) × (now (forces .exit) ≡ filled zero64 (z .forces) (now (forces .entry))) ⌝ }
+    ensures { λ _. ⌜
+        (now (positions .exit) ≡ pasted (now (start .entry)) 0 (z .cells) (now (positions .entry)))
+        × (now (increments .exit) ≡ filled zero64 (z .cells) (now (increments .entry)))
+        × (now (gains .exit) ≡ filled one64 (z .cells) (now (gains .entry)))
+        × (now (forces .exit) ≡ filled zero64 (z .forces) (now (forces .entry)))
+        ⌝ }
 {
     copy_values(positions, start, 0, z.cells);
     fill(increments, z.cells, 0.0);
@@ -161,8 +166,30 @@ fn route(
     row_values: &mut [f64],
     row_indices: &mut [u32],
 )
-    requires { ⌜ RouteRoom s (length (now table)) (length (now affinities)) (length (now indices)) (length (now offsets)) (length (now squares)) (length (now «row_values»)) (length (now «row_indices»)) ⌝ }
-    ensures { λ _. ⌜ areas (now (affinities .exit)) (now (indices .exit)) (now (offsets .exit)) (now («row_values» .exit)) (now («row_indices» .exit)) ≡ routed s (now (table .entry)) (areas (now (affinities .entry)) (now (indices .entry)) (now (offsets .entry)) (now («row_values» .entry)) (now («row_indices» .entry))) ⌝ }
+    requires { ⌜
+        RouteRoom s
+        (length (now table))
+        (length (now affinities))
+        (length (now indices))
+        (length (now offsets))
+        (length (now squares))
+        (length (now «row_values»))
+        (length (now «row_indices»))
+        ⌝ }
+    ensures { λ _. ⌜
+        areas
+        (now (affinities .exit))
+        (now (indices .exit))
+        (now (offsets .exit))
+        (now («row_values» .exit))
+        (now («row_indices» .exit))
+        ≡ routed s (now (table .entry)) (areas
+        (now (affinities .entry))
+        (now (indices .entry))
+        (now (offsets .entry))
+        (now («row_values» .entry))
+        (now («row_indices» .entry)))
+        ⌝ }
     ensures { λ _. ⌜ now (squares .exit) ≡ squaresOf (now (table .entry)) (s .n) (s .f) (now (squares .entry)) ⌝ }
 {
     let m = s.method;
@@ -209,7 +236,32 @@ pub fn prepare(
     row_indices: &mut [u32],
     nodes: usize,
 ) -> Prepared
-    ensures { λ r. ⌜ prepareOutcome r (lent (now (positions .exit)) (now (increments .exit)) (now (gains .exit)) (now (affinities .exit)) (now (indices .exit)) (now (offsets .exit)) (now (forces .exit)) (now («row_values» .exit)) (now («row_indices» .exit))) ≡ prepared s (now (table .entry)) (now (start .entry)) nodes (lent (now (positions .entry)) (now (increments .entry)) (now (gains .entry)) (now (affinities .entry)) (now (indices .entry)) (now (offsets .entry)) (now (forces .entry)) (now («row_values» .entry)) (now («row_indices» .entry))) ⌝ }
+    ensures { λ r. ⌜
+        prepareOutcome r (lent
+        (now (positions .exit))
+        (now (increments .exit))
+        (now (gains .exit))
+        (now (affinities .exit))
+        (now (indices .exit))
+        (now (offsets .exit))
+        (now (forces .exit))
+        (now («row_values» .exit))
+        (now («row_indices» .exit)))
+        ≡ prepared s
+        (now (table .entry))
+        (now (start .entry))
+        nodes
+        (lent
+        (now (positions .entry))
+        (now (increments .entry))
+        (now (gains .entry))
+        (now (affinities .entry))
+        (now (indices .entry))
+        (now (offsets .entry))
+        (now (forces .entry))
+        (now («row_values» .entry))
+        (now («row_indices» .entry)))
+        ⌝ }
 {
     let l = Lengths {
         positions: positions.len(),

@@ -171,7 +171,17 @@ pub(crate) fn force_unit(
     forces: &mut [f64],
 ) -> Run
     requires { ⌜ ForceRoom r (length (now positions)) (length (now affinities)) (length (now forces)) (now affinities) (now indices) (now offsets) (nodesOf (now cells)) ⌝ }
-    ensures { λ t. ⌜ (t ≡ advancedOf r (r .used)) × (now (forces .exit) ≡ forceUnit r (now (positions .entry)) (now (affinities .entry)) (now (indices .entry)) (now (offsets .entry)) (nodesOf (now (cells .entry))) (now (forces .entry))) ⌝ }
+    ensures { λ t. ⌜
+        (t ≡ advancedOf r (r .used))
+        × (now (forces .exit)
+        ≡ forceUnit r
+        (now (positions .entry))
+        (now (affinities .entry))
+        (now (indices .entry))
+        (now (offsets .entry))
+        (nodesOf (now (cells .entry)))
+        (now (forces .entry)))
+        ⌝ }
 {
     let tree = by_tree(r);
     if tree {
@@ -235,7 +245,10 @@ pub(crate) fn finish_unit(
     forces: &[f64],
 ) -> Turn
     requires { ⌜ FinishRoom r (length (now positions)) (length (now increments)) (length (now gains)) (length (now forces)) ⌝ }
-    ensures { λ t. ⌜ finishTurn (t .run) (now (positions .exit)) (now (increments .exit)) (now (gains .exit)) (t .why) ≡ finishUnit r (now (positions .entry)) (now (increments .entry)) (now (gains .entry)) (now (forces .entry)) ⌝ }
+    ensures { λ t. ⌜
+        finishTurn (t .run) (now (positions .exit)) (now (increments .exit)) (now (gains .exit)) (t .why)
+        ≡ finishUnit r (now (positions .entry)) (now (increments .entry)) (now (gains .entry)) (now (forces .entry))
+        ⌝ }
 {
     let s = r.settings;
     let p = pace(r, forces);
@@ -309,7 +322,28 @@ pub fn one_unit(
     cells: &mut [Cell],
 ) -> Turn
     requires { ⌜ Workable (state r (memory (now positions) (now increments) (now gains) (now affinities) (now indices) (now offsets) (now forces) (now cells))) ⌝ }
-    ensures { λ t. ⌜ turned (state (t .run) (memory (now (positions .exit)) (now (increments .exit)) (now (gains .exit)) (now (affinities .entry)) (now (indices .entry)) (now (offsets .entry)) (now (forces .exit)) (now (cells .exit)))) (t .why) ≡ unit (state r (memory (now (positions .entry)) (now (increments .entry)) (now (gains .entry)) (now (affinities .entry)) (now (indices .entry)) (now (offsets .entry)) (now (forces .entry)) (now (cells .entry)))) ⌝ }
+    ensures { λ t. ⌜
+        turned
+        (state (t .run) (memory
+        (now (positions .exit))
+        (now (increments .exit))
+        (now (gains .exit))
+        (now (affinities .entry))
+        (now (indices .entry))
+        (now (offsets .entry))
+        (now (forces .exit))
+        (now (cells .exit))))
+        (t .why)
+        ≡ unit (state r (memory
+        (now (positions .entry))
+        (now (increments .entry))
+        (now (gains .entry))
+        (now (affinities .entry))
+        (now (indices .entry))
+        (now (offsets .entry))
+        (now (forces .entry))
+        (now (cells .entry))))
+        ⌝ }
 {
     let ended = is_over(r);
     if ended {

@@ -49,7 +49,19 @@ pub(crate) fn subdivide(cells: &mut [Cell], s: Split)
 // One level of the insertion of a point.
 pub(crate) fn level(cells: &mut [Cell], positions: &[f64], w: Way) -> Step
     requires { ⌜ LevelAsks w (length (now positions)) (nodesOf (now cells)) ⌝ }
-    ensures { λ r. ⌜ (tree (r .used) (nodesOf (now (cells .exit))) ≡ levelAt (now (positions .entry)) (w .c) (w .p) (w .j) (w .depth) (w .node) (tree (w .used) (nodesOf (now (cells .entry))))) × (r .next ≡ wayTurn w (nodeAt (nodesOf (now (cells .entry))) (w .node)) .next) × (r .last ≡ wayTurn w (nodeAt (nodesOf (now (cells .entry))) (w .node)) .last) ⌝ }
+    ensures { λ r. ⌜
+        (tree (r .used) (nodesOf (now (cells .exit)))
+        ≡ levelAt
+        (now (positions .entry))
+        (w .c)
+        (w .p)
+        (w .j)
+        (w .depth)
+        (w .node)
+        (tree (w .used) (nodesOf (now (cells .entry)))))
+        × (r .next ≡ wayTurn w (nodeAt (nodesOf (now (cells .entry))) (w .node)) .next)
+        × (r .last ≡ wayTurn w (nodeAt (nodesOf (now (cells .entry))) (w .node)) .last)
+        ⌝ }
 {
     let v = load(cells, w.node);
     let s = met(positions, w, v);
