@@ -103,7 +103,7 @@ fn inserted(r: Run, full: bool, used: usize) -> Turn
 }
 
 // The box unit, or the insertion of a point, which may be refused.
-pub fn tree_unit(r: Run, positions: &[f64], cells: &mut [Cell]) -> Turn
+pub(crate) fn tree_unit(r: Run, positions: &[f64], cells: &mut [Cell]) -> Turn
     requires { ⌜ TreeRoom r (length (now positions)) (nodesOf (now cells)) ⌝ }
     ensures { λ t. ⌜ treeTurn (t .run) (nodesOf (now (cells .exit))) (t .why) ≡ treeUnit r (now (positions .entry)) (nodesOf (now (cells .entry))) ⌝ }
 {
@@ -161,7 +161,7 @@ fn row_unit(r: Run, positions: &[f64], affinities: &[f64], forces: &mut [f64])
 }
 
 // A point's forces, a row of the total or a row of the gradient.
-pub fn force_unit(
+pub(crate) fn force_unit(
     r: Run,
     positions: &[f64],
     affinities: &[f64],
@@ -171,7 +171,17 @@ pub fn force_unit(
     forces: &mut [f64],
 ) -> Run
     requires { ⌜ ForceRoom r (length (now positions)) (length (now affinities)) (length (now forces)) (now affinities) (now indices) (now offsets) (nodesOf (now cells)) ⌝ }
-    ensures { λ t. ⌜ (t ≡ advancedOf r (r .used)) × (now (forces .exit) ≡ forceUnit r (now (positions .entry)) (now (affinities .entry)) (now (indices .entry)) (now (offsets .entry)) (nodesOf (now (cells .entry))) (now (forces .entry))) ⌝ }
+    ensures { λ t. ⌜
+        (t ≡ advancedOf r (r .used))
+        × (now (forces .exit)
+        ≡ forceUnit r
+        (now (positions .entry))
+        (now (affinities .entry))
+        (now (indices .entry))
+        (now (offsets .entry))
+        (nodesOf (now (cells .entry)))
+        (now (forces .entry)))
+        ⌝ }
 {
     let tree = by_tree(r);
     if tree {
@@ -227,7 +237,7 @@ fn pace(r: Run, forces: &[f64]) -> Pace
 }
 
 // The finish: the step, centring, and the stop test, or refusal 15.
-pub fn finish_unit(
+pub(crate) fn finish_unit(
     r: Run,
     positions: &mut [f64],
     increments: &mut [f64],
@@ -235,7 +245,10 @@ pub fn finish_unit(
     forces: &[f64],
 ) -> Turn
     requires { ⌜ FinishRoom r (length (now positions)) (length (now increments)) (length (now gains)) (length (now forces)) ⌝ }
-    ensures { λ t. ⌜ finishTurn (t .run) (now (positions .exit)) (now (increments .exit)) (now (gains .exit)) (t .why) ≡ finishUnit r (now (positions .entry)) (now (increments .entry)) (now (gains .entry)) (now (forces .entry)) ⌝ }
+    ensures { λ t. ⌜
+        finishTurn (t .run) (now (positions .exit)) (now (increments .exit)) (now (gains .exit)) (t .why)
+        ≡ finishUnit r (now (positions .entry)) (now (increments .entry)) (now (gains .entry)) (now (forces .entry))
+        ⌝ }
 {
     let s = r.settings;
     let p = pace(r, forces);
@@ -309,7 +322,28 @@ pub fn one_unit(
     cells: &mut [Cell],
 ) -> Turn
     requires { ⌜ Workable (state r (memory (now positions) (now increments) (now gains) (now affinities) (now indices) (now offsets) (now forces) (now cells))) ⌝ }
-    ensures { λ t. ⌜ turned (state (t .run) (memory (now (positions .exit)) (now (increments .exit)) (now (gains .exit)) (now (affinities .entry)) (now (indices .entry)) (now (offsets .entry)) (now (forces .exit)) (now (cells .exit)))) (t .why) ≡ unit (state r (memory (now (positions .entry)) (now (increments .entry)) (now (gains .entry)) (now (affinities .entry)) (now (indices .entry)) (now (offsets .entry)) (now (forces .entry)) (now (cells .entry)))) ⌝ }
+    ensures { λ t. ⌜
+        turned
+        (state (t .run) (memory
+        (now (positions .exit))
+        (now (increments .exit))
+        (now (gains .exit))
+        (now (affinities .entry))
+        (now (indices .entry))
+        (now (offsets .entry))
+        (now (forces .exit))
+        (now (cells .exit))))
+        (t .why)
+        ≡ unit (state r (memory
+        (now (positions .entry))
+        (now (increments .entry))
+        (now (gains .entry))
+        (now (affinities .entry))
+        (now (indices .entry))
+        (now (offsets .entry))
+        (now (forces .entry))
+        (now (cells .entry))))
+        ⌝ }
 {
     let ended = is_over(r);
     if ended {

@@ -1,23 +1,24 @@
+-- `areas::fill` meets its contract: t places are filled. Assumes nothing.
 use Rattle.laws.proofs.Parts.{Clears, clears-start, clears-more, clears-done}
 use Prim.Native.Nat.{_-_}
 use borrow.Author.Needs.{needs}
-use Rattle.prepare.proofs.fill.Statement.{statement}
-use Rattle.prepare.proofs.fill.Tie as tie
+use Rattle.areas.proofs.fill.Statement.{statement}
+use Rattle.areas.proofs.fill.Tie as tie
 
 abbrev Inv-loop : tie.InvT-loop
-Inv-loop p₀ n x t₀ p t = Clears x p₀ n t p
+Inv-loop area₀ n x t₀ area t = Clears x area₀ n t area
 
 abbrev μ-loop : tie.MeasureT-loop
-μ-loop p₀ n x t₀ p t = n - t
+μ-loop area₀ n x t₀ area t = n - t
 
 loop-holds : tie.Need-loop-holds Inv-loop μ-loop
 loop-holds c = clears-start
 
-mul-p : tie.Need-mul-p Inv-loop μ-loop
-mul-p c = search needs
+mul-area : tie.Need-mul-area Inv-loop μ-loop
+mul-area c = search needs
 
-slice-write-p : tie.Need-slice-write-p Inv-loop μ-loop
-slice-write-p c = search needs
+slice-write-area : tie.Need-slice-write-area Inv-loop μ-loop
+slice-write-area c = search needs
 
 add-t : tie.Need-add-t Inv-loop μ-loop
 add-t c = search needs
@@ -41,8 +42,8 @@ fill-spec =
     Inv-loop
     μ-loop
     loop-holds
-    mul-p
-    slice-write-p
+    mul-area
+    slice-write-area
     add-t
     loop-less
     loop-again

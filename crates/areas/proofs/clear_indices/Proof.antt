@@ -1,25 +1,24 @@
--- `lists::areas::clear_values` meets its contract: t places are cleared. Assumes nothing.
+-- `areas::clear_indices` meets its contract: t places are cleared. Assumes nothing.
 use Rattle.laws.proofs.Parts.{Clears, clears-start, clears-more, clears-done}
-use Rattle.laws.specs.Area.{zero64}
 use Prim.Native.Nat.{_-_}
 use borrow.Author.Needs.{needs}
-use Rattle.affinity_lists.proofs.areas.clear_values.Statement.{statement}
-use Rattle.affinity_lists.proofs.areas.clear_values.Tie as tie
+use Rattle.areas.proofs.clear_indices.Statement.{statement}
+use Rattle.areas.proofs.clear_indices.Tie as tie
 
 abbrev Inv-loop : tie.InvT-loop
-Inv-loop p₀ n t₀ p t = Clears zero64 p₀ n t p
+Inv-loop area₀ n t₀ area t = Clears 0 area₀ n t area
 
 abbrev μ-loop : tie.MeasureT-loop
-μ-loop p₀ n t₀ p t = n - t
+μ-loop area₀ n t₀ area t = n - t
 
 loop-holds : tie.Need-loop-holds Inv-loop μ-loop
 loop-holds c = clears-start
 
-mul-p : tie.Need-mul-p Inv-loop μ-loop
-mul-p c = search needs
+mul-area : tie.Need-mul-area Inv-loop μ-loop
+mul-area c = search needs
 
-slice-write-p : tie.Need-slice-write-p Inv-loop μ-loop
-slice-write-p c = search needs
+slice-write-area : tie.Need-slice-write-area Inv-loop μ-loop
+slice-write-area c = search needs
 
 add-t : tie.Need-add-t Inv-loop μ-loop
 add-t c = search needs
@@ -36,15 +35,15 @@ same-length c = search needs
 returns : tie.Need-returns Inv-loop μ-loop
 returns c = clears-done (c .loop-test .left) (c .before .loop .inv)
 
-pub clear-values-spec : {M : Type 1} → statement M
-clear-values-spec =
+pub clear-indices-spec : {M : Type 1} → statement M
+clear-indices-spec =
     tie.close
     (tie.spec
     Inv-loop
     μ-loop
     loop-holds
-    mul-p
-    slice-write-p
+    mul-area
+    slice-write-area
     add-t
     loop-less
     loop-again

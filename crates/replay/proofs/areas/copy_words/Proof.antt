@@ -7,8 +7,8 @@ use mathlib.Core.Path.{_≡_, refl}
 use lib.ListN.{length}
 use Prim.Native.Nat.{_-_}
 use borrow.Author.Needs.{needs}
-use Rattle.replay.proofs.areas.fill.Statement.{statement}
-use Rattle.replay.proofs.areas.fill.Tie as tie
+use Rattle.replay.proofs.areas.copy_words.Statement.{statement}
+use Rattle.replay.proofs.areas.copy_words.Tie as tie
 
 abbrev Inv-loop : tie.InvT-loop
 Inv-loop area₀ m list a i₀ area i = (length area ≡ length area₀) × Loops (λ i x. set x i (bits (wordOf list (onward a i)))) m area₀ i area
@@ -46,8 +46,8 @@ same-length c = search needs
 returns : tie.Need-returns Inv-loop μ-loop
 returns c = loop-done (c .before .loop .inv .1) (c .loop-test .left)
 
-pub fill-spec : {M : Type 1} → statement M
-fill-spec =
+pub copy-words-spec : {M : Type 1} → statement M
+copy-words-spec =
     tie.close
     (tie.spec
     Inv-loop
