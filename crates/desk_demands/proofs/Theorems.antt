@@ -21,8 +21,8 @@ use Rattle.run_record.specs.declared.Settings.{Settings}
 use Rattle.run_record.specs.Record.{isEnded}
 use Rattle.run_entry.specs.State.{Memory, State, state}
 use Rattle.run_entry.specs.Entry.{faultOf, isFine, Good}
-use Rattle.run_units.specs.declared.Why.{Why}
-use Rattle.run_units.specs.declared.Why.the-variants.{Done, Full as NoNodes, Wild as TooLarge, Over}
+use Rattle.run_finish.specs.declared.Why.{Why}
+use Rattle.run_finish.specs.declared.Why.the-variants.{Done, Full as NoNodes, Wild as TooLarge, Over}
 use Rattle.run_units.specs.Units.{unit}
 use Rattle.run_budget.specs.declared.Answer.{Answer}
 use Rattle.run_budget.specs.declared.Answer.the-variants.{Running, Stopped, Finished, Full, Wild, Bad}

@@ -1,8 +1,8 @@
 use mathlib.Core.Path.{sym, _∙_}
-use Rattle.run_units.specs.Units.{paceOf}
+use Rattle.run_finish.specs.Finish.{paceOf}
 use borrow.Author.Needs.{needs}
-use Rattle.run_units.proofs.pace.Statement.{statement}
-use Rattle.run_units.proofs.pace.Tie as tie
+use Rattle.run_finish.proofs.pace.Statement.{statement}
+use Rattle.run_finish.proofs.pace.Tie as tie
 
 is-tree-requires : tie.Need-is-tree-requires
 is-tree-requires c κs = search needs

@@ -1,10 +1,10 @@
 use native.Mathlib.Nat.{le-refl}
-use Rattle.run_units.specs.Units.{paceOf, finishUnit}
-use Rattle.run_units.proofs.Turned.{finish-moved, finish-wild}
+use Rattle.run_finish.specs.Finish.{paceOf, finishUnit}
+use Rattle.run_finish.proofs.Finished.{finish-moved, finish-wild}
 use borrow.Author.Needs.{needs}
 use native.Mathlib.Omega.{arith}
-use Rattle.run_units.proofs.finish_unit.Statement.{statement}
-use Rattle.run_units.proofs.finish_unit.Tie as tie
+use Rattle.run_finish.proofs.finish_unit.Statement.{statement}
+use Rattle.run_finish.proofs.finish_unit.Tie as tie
 
 pace-requires : tie.Need-pace-requires
 pace-requires c κs = ((c .before .before .before .before .before .pre) .c-most, (c .before .before .before .before .before .pre) .forces-in)
