@@ -56,8 +56,8 @@ def function(path):
     r = re.match(r'\s*-> ([^\n{]+)', head)
     def clauses(word):
         out = []
-        for m in re.finditer(r'^    %s \{ (?:λ (\w+)\. )?⌜ (.*) ⌝ \}$' % word, head, re.M):
-            s = m.group(2)
+        for m in re.finditer(r'^    %s \{ (?:λ (\w+)\. )?⌜\s(.*?)\s⌝ \}$' % word, head, re.M | re.S):
+            s = ' '.join(m.group(2).split())
             if m.group(1) and m.group(1) != '_': s = globals()['word'](m.group(1), 'res', s)
             for n, _ in own:
                 s = s.replace('now (%s .exit)' % n, renamed(n) + '′').replace('now (%s .entry)' % n, n)

@@ -1,6 +1,6 @@
 """What the printed walks of functions that lend locals cite (as tests/walks/cited.py). within: that the count of a part that is lent is at most the array's length."""
 
-HOME = {'desk_words::put_after': 'desk_runs', 'desk_words::put_answer': 'desk_runs', 'desk_runs::host_work': 'desk', 'divergence::divergence': 'desk_divergence', 'desk_divergence::host_divergence': 'desk'}
+HOME = {'record_words::run_of': 'fault_words', 'answer_words::put_after': 'desk_work', 'answer_words::put_answer': 'desk_work', 'desk_work::host_work': 'desk', 'divergence::divergence': 'desk_divergence', 'desk_divergence::host_divergence': 'desk'}
 
 WALKS = {
     'lent_examples::put_in': dict(req={'put_cell': '(subst (λ (m : ℕ). i < m) (sym {len_own4}) ready)'}, returns=['e1']),
@@ -13,7 +13,7 @@ WALKS = {
     'lent_examples::put_from_own': dict(within='(ready .1)', uses=['Parts.{in-part, own-told}'], req={'put_from': '(in-part {own7} k₀ i {len_own7} (ready .0), ready .2, ready .3)'}, returns=['(own-told k₀ i m cells values marks (ready .0) r1 own71 marks1 e1 r2 e2)']),
     'lent_examples::note_from': dict(uses=['Parts.{note-told}'], req={'value_at': '(ready .2)', 'counted': '(ready .0)', 'cell_at': '(ready .1)', 'put_cell': '(ready .1)'}, returns=['(note-told i more c cells values r1 r2 r3 r4 {cells} e1 e2 e3 e4 e5)']),
     'lent_examples::note_own': dict(within='(ready .2)', uses=['Parts.{in-part, noted-told}'], req={'note_from': '(ready .0, in-part {own8} k₀ i {len_own8} (ready .1), ready .3)'}, returns=['(noted-told k₀ i more c cells values (ready .1) {own7} own81 e1 r2 e2)']),
-    'desk_runs::host_work': dict(uses=['Lends.{short-said, room-said, unread-said, long-said, work-said}'],
+    'desk_work::host_work': dict(uses=['Lends.{short-said, room-said, unread-said, long-said, work-said}'],
         req={'put_unread': '(room-said budget words answer (memory positions increments gains affinities indices offsets forces cells) _ ln-answer r1 e1 no1)',
              'run_of': '(long-said budget words answer (memory positions increments gains affinities indices offsets forces cells) _ ln-answer r1 e1 no1 r2 e2 no2)',
              'put_after': '(long-said budget words answer (memory positions increments gains affinities indices offsets forces cells) _ ln-answer r1 e1 no1 r2 e2 no2)',

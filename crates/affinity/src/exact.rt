@@ -6,12 +6,12 @@ ghost use borrow.Rule.Slice.PartMut.{putMid};
 ghost use Rattle.laws.specs.Domain.{mostFrames};
 ghost use Rattle.laws.specs.Area.{zero64};
 ghost use Rattle.affinity_near.specs.Distances.{distanceRow, squaresOf, Squared};
-ghost use Rattle.affinity_lists.specs.Lists.{cleared};
+ghost use Rattle.areas.specs.Filled.{filled};
 ghost use Rattle.affinity.specs.Exact.{exactOf};
 ghost use Rattle.affinity.specs.Laid.{laid};
 ghost use Rattle.affinity.specs.Steps.{conditionals, distancesLeft};
 use affinity_joins::symmetrize_probabilities;
-use affinity_lists::areas::clear_values;
+use areas::fill;
 
 // The distances of frame i in the row, and its shares of the n frames in row i of the affinities.
 fn conditional_row(
@@ -70,10 +70,10 @@ pub fn exact_affinities(
     requires { ⌜ (n ≤ mostFrames) × (n * f ≤ length (now table)) × (n * n ≤ length (now affinities)) × (n ≤ length (now squares)) × (n ≤ length (now row)) ⌝ }
     ensures { λ _. ⌜ now (affinities .exit) ≡ exactOf (now (table .entry)) n f perplexity (now (affinities .entry)) ⌝ }
     ensures { λ _. ⌜ now (squares .exit) ≡ squaresOf (now (table .entry)) n f (now (squares .entry)) ⌝ }
-    ensures { λ _. ⌜ now (row .exit) ≡ cleared zero64 n (now (row .entry)) ⌝ }
+    ensures { λ _. ⌜ now (row .exit) ≡ filled zero64 n (now (row .entry)) ⌝ }
 {
     affinity_near::distances::square_frames(table, n, f, squares);
     conditional_probabilities(table, n, f, perplexity, squares, affinities, row);
     symmetrize_probabilities(affinities, n);
-    clear_values(row, n);
+    fill(row, n, 0.0);
 }

@@ -11,7 +11,8 @@ use Rattle.laws.specs.Area.{zero64}
 use Rattle.laws.specs.Joined.{pasted, ending}
 use Rattle.laws.proofs.Numbers.{row-in}
 use Rattle.laws.proofs.Parts.{Scratch, scratch-start, scratch-copy, scratch-clear}
-use Rattle.affinity_lists.specs.Lists.{linksOf, cleared, Areas, areas, listsMade, Prepared}
+use Rattle.areas.specs.Filled.{filled}
+use Rattle.affinity_lists.specs.Lists.{linksOf, Areas, areas, listsMade, Prepared}
 use Rattle.affinity_lists.specs.Steps.{listSought, weightsSought, Room}
 use Rattle.affinity_lists.proofs.Filled.{Filled, filled-start, filled-small, filled-end, filled-more, offsets-same, RowReady, ready-of, ready-room}
 
@@ -54,9 +55,9 @@ module _ {n k : ℕ} {b : Areas} (ok : Prepared n k b) where
         names = scratch-copy I ((i - 1) * k) eR (frames-row h .3) (omega (arith, ok .frames)) (ok .rowIndices) (f .names);
       }
 
-  -- no frame is left, and the preparation rows are cleared
+  -- no frame is left, and the preparation rows are filled
   pub frames-done : (links : ℕ) {i q : ℕ} {W : List Float} {I O : List ℕ} {X : List Float} {R : List ℕ} {X' : List Float} {R' : List ℕ} → i ≡ 0 → Frames n k (offset (set (b .offsets) n links)) i q (areas W I O X R)
-      → X' ≡ cleared zero64 n X → R' ≡ cleared 0 n R → areas W I O X' R' ≡ listsMade n k b
+      → X' ≡ filled zero64 n X → R' ≡ filled 0 n R → areas W I O X' R' ≡ listsMade n k b
   frames-done links z f eX eR =
       let g = filled-end n k (b .indices) (b .weights) (set (b .offsets) n links) (ok .rows) z (f .lists) in
       rw (g .0, g .1, g .2 ∙ offsets-same n k (b .indices) (b .weights) (b .offsets) (ok .rows) links, scratch-clear zero64 eX (f .values), scratch-clear 0 eR (f .names))

@@ -6,11 +6,12 @@ use mathlib.Core.List.{List, [], _∷_, _++_, map}
 use mathlib.Core.Bool.{Bool, cond, _||_}
 use Prim.Native.Nat.{ℕ, suc, _+_, _*_, _<_, _≤_}
 use lib.Dec.{ltb}
-use lib.ListN.{length, drop, replicate}
+use lib.ListN.{length, drop}
 use lib.Ieee.{Float}
 use Rattle.laws.specs.Domain.{mostFrames}
 use Rattle.laws.specs.Area.{num, zero64}
 use Rattle.laws.specs.Joined.{those, joined}
+use Rattle.areas.specs.Filled.{filled}
 use Rattle.affinity_links.specs.Links.{Rising, found, plusOf}
 
 -- ---- rows
@@ -85,11 +86,6 @@ offsetsOf n k J O = joined (λ i. listStart n k J i ∷ []) (suc n) ++ drop (suc
 abbrev pub InList : List ℕ → ℕ → ℕ → Type 0
 InList O i p = (num O i ≤ p) × (p < num O (i + 1))
 
--- a preparation row: the first n places zero
-module _ {A : Type 0} where
-  abbrev pub cleared : A → ℕ → List A → List A
-  cleared z n l = replicate n z ++ drop n l
-
 -- ---- all areas together
 
 pub record Areas : Type 0 where
@@ -102,15 +98,15 @@ pub record Areas : Type 0 where
 abbrev pub areas : List Float → List ℕ → List ℕ → List Float → List ℕ → Areas
 areas W I O X R = record { weights = W; indices = I; offsets = O; rowValues = X; rowIndices = R }
 
--- what the rows of n frames become
+-- what the rows of n frames become; the preparation rows are zero again in their first n places
 abbrev pub listsMade : ℕ → ℕ → Areas → Areas
 listsMade n k a =
     areas
     (weightsAll n k (a .indices) (a .weights))
     (indicesOf n k (a .indices))
     (offsetsOf n k (a .indices) (a .offsets))
-    (cleared zero64 n (a .rowValues))
-    (cleared 0 n (a .rowIndices))
+    (filled zero64 n (a .rowValues))
+    (filled 0 n (a .rowIndices))
 
 -- what is asked of them: their sizes, and the rows
 pub record Prepared (n k : ℕ) (a : Areas) : Type 0 where

@@ -21,7 +21,19 @@ pub(crate) fn fill_list(
 ) -> usize
     requires { ⌜ Room (now weights) (now indices) (now offsets) (now «row_values») (now «row_indices») n k i e ⌝ }
     ensures { λ q. ⌜ q ≡ e - length (listSought (now (indices .entry)) (now (offsets .entry)) (now («row_indices» .entry)) n k i) ⌝ }
-    ensures { λ _. ⌜ now (weights .exit) ≡ ending (weightsSought (now (weights .entry)) (now (indices .entry)) (now (offsets .entry)) (now («row_values» .entry)) (now («row_indices» .entry)) n k i) e (now (weights .entry)) ⌝ }
+    ensures { λ _. ⌜
+        now (weights .exit)
+        ≡ ending
+        (weightsSought
+        (now (weights .entry))
+        (now (indices .entry))
+        (now (offsets .entry))
+        (now («row_values» .entry))
+        (now («row_indices» .entry))
+        n k i)
+        e
+        (now (weights .entry))
+        ⌝ }
     ensures { λ _. ⌜ now (indices .exit) ≡ ending (listSought (now (indices .entry)) (now (offsets .entry)) (now («row_indices» .entry)) n k i) e (now (indices .entry)) ⌝ }
 {
     let mut q = e;

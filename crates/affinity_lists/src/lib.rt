@@ -1,12 +1,11 @@
 // The Barnes-Hut neighbour lists, made in place: n rows of k links become the lists of all frames.
-pub mod areas;
 mod filling;
 mod rows;
 
 use areas::clear_indices;
-use areas::clear_values;
 use areas::copy_indices;
 use areas::copy_values;
+use areas::fill;
 use filling::fill_list;
 use rows::total;
 ghost use mathlib.Core.Path.{_≡_};
@@ -49,6 +48,6 @@ pub fn symmetrise(
         );
         offsets[i] = q as u32;
     }
-    clear_values(row_values, n);
+    fill(row_values, n, 0.0);
     clear_indices(row_indices, n);
 }

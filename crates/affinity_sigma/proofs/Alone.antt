@@ -7,7 +7,7 @@ use Prim.Native.Nat.{ℕ, zero, suc, _<_, _≤_, _-_}
 use native.Mathlib.Omega.{arith}
 use native.Mathlib.Nat.{le-of-eq}
 use lib.IntN.{pos}
-use lib.ListN.{length, drop, set, take, replicate, length-replicate, take-append-drop}
+use lib.ListN.{length, drop, set, take, replicate, length-append, length-replicate, take-append-drop}
 use lib.Seq.{ext-getD, length-take-le}
 use lib.Ieee.{Float, nan, binary64, ofInt, add, div, lt}
 use Rattle.laws.specs.Loops.{loop, until}
@@ -17,8 +17,10 @@ use Rattle.laws.proofs.Loops.{loop-same}
 use Rattle.laws.proofs.Untils.{until-end}
 use Rattle.laws.proofs.Written.{written-at}
 use Rattle.laws.proofs.Places.{changed-size, changed-past, summed-past}
+use Rattle.areas.specs.Filled.{filled}
+use Rattle.areas.proofs.Front.{filled-loop, filled-size}
 use Rattle.affinity_sigma.specs.declared.Bounds.{Bounds}
-use Rattle.affinity_sigma.specs.Sigma.{weightOf, weighStep, weighed, weightSum, smallest, fillStep, divideStep, sharedBy, rowOf, termOf, excess, close, narrowed, Search, searched, isMet, roundOf, openBounds, sigmaShares, sharesOf, mostRounds}
+use Rattle.affinity_sigma.specs.Sigma.{weightOf, weighStep, weighed, weightSum, smallest, divideStep, sharedBy, rowOf, termOf, excess, close, narrowed, Search, searched, isMet, roundOf, openBounds, sigmaShares, sharesOf, mostRounds}
 
 pub until-on : {A : Type 0} (p : A → Bool) (f : A → A) (k : ℕ) (x : A) → p x ≡ false → until p f (suc k) x ≡ until p f k (f x)
 unfolding until
@@ -44,29 +46,29 @@ module _ (ds : List Float) (n : ℕ) where
   abbrev equal : Float
   equal = div binary64 one64 (ofInt binary64 (pos n))
 
-  shared-size : (s : Float) (l : List Float) → length (sharedBy s n l) ≡ length l
+  shared-size : (s : Float) (l : List Float) → n ≤ length l → length (sharedBy s n l) ≡ length l
   unfolding sharedBy
-  shared-size s l = go (lt s smallest)
+  shared-size s l h = go (lt s smallest)
     where
-      go : (b : Bool) → length (cond b (loop (fillStep equal) n 0 l) (loop (divideStep s) n 0 l)) ≡ length l
-      go true = changed-size nan (λ j v. equal) n l
+      go : (b : Bool) → length (cond b (filled equal n l) (loop (divideStep s) n 0 l)) ≡ length l
+      go true = filled-size equal n l h
       go false = changed-size nan (λ j v. div binary64 v s) n l
 
   shared-past : (s : Float) (l t : List Float) → n ≤ length l → sharedBy s n (l ++ t) ≡ sharedBy s n l ++ t
   unfolding sharedBy
   shared-past s l t h = go (lt s smallest)
     where
-      go : (b : Bool) → cond b (loop (fillStep equal) n 0 (l ++ t)) (loop (divideStep s) n 0 (l ++ t)) ≡ cond b (loop (fillStep equal) n 0 l) (loop (divideStep s) n 0 l) ++ t
-      go true = changed-past nan (λ j v. equal) n l t h
+      go : (b : Bool) → cond b (filled equal n (l ++ t)) (loop (divideStep s) n 0 (l ++ t)) ≡ cond b (filled equal n l) (loop (divideStep s) n 0 l) ++ t
+      go true = filled-loop equal n (l ++ t) (omega (arith, h, length-append l t)) ∙ changed-past nan (λ j v. equal) n l t h ∙ ap (λ (x : List Float). x ++ t) (sym (filled-loop equal n l h))
       go false = changed-past nan (λ j v. div binary64 v s) n l t h
 
   total-past : (l t : List Float) → n ≤ length l → weightSum (l ++ t) n ≡ weightSum l n
   total-past l t h = summed-past nan (λ s v. add binary64 s v) n l t zero64 h
 
   module _ (sigma : Float) where
-    pub row-size : (l : List Float) → length (rowOf ds n sigma l) ≡ length l
+    pub row-size : (l : List Float) → n ≤ length l → length (rowOf ds n sigma l) ≡ length l
     unfolding rowOf
-    row-size l = shared-size (weightSum (weighed ds n sigma l) n) (weighed ds n sigma l) ∙ weighed-size sigma l
+    row-size l h = shared-size (weightSum (weighed ds n sigma l) n) (weighed ds n sigma l) (rw (weighed-size sigma l) h) ∙ weighed-size sigma l
 
     row-alone : (l m : List Float) → length l ≡ n → length m ≡ n → rowOf ds n sigma l ≡ rowOf ds n sigma m
     unfolding rowOf
@@ -92,11 +94,11 @@ module _ (ds : List Float) (n : ℕ) where
     abbrev past : List Float → Search → Search
     past t s = searched (s .row ++ t) (s .bounds) (s .met)
 
-    round-size : (s : Search) → length (roundOf ds n perplexity s .row) ≡ length (s .row)
+    round-size : (s : Search) → n ≤ length (s .row) → length (roundOf ds n perplexity s .row) ≡ length (s .row)
     unfolding roundOf
-    round-size s =
+    round-size s h =
         let r = rowOf ds n (s .bounds .sigma) (s .row) in
-        go (excess r n perplexity) (close (excess r n perplexity)) ∙ row-size (s .bounds .sigma) (s .row)
+        go (excess r n perplexity) (close (excess r n perplexity)) ∙ row-size (s .bounds .sigma) (s .row) h
       where
         go : (d : Float) (b : Bool) → length (cond b (searched (rowOf ds n (s .bounds .sigma) (s .row)) (s .bounds) true) (searched (rowOf ds n (s .bounds .sigma) (s .row)) (narrowed (s .bounds) d) false) .row) ≡ length (rowOf ds n (s .bounds .sigma) (s .row))
         go d true = refl
@@ -106,7 +108,7 @@ module _ (ds : List Float) (n : ℕ) where
     unfolding roundOf
     round-past t s e =
         let r = rowOf ds n (s .bounds .sigma) (s .row) in
-        rw (row-past (s .bounds .sigma) (s .row) t e, excess-past r t (le-of-eq (sym (row-size (s .bounds .sigma) (s .row) ∙ e)))) (go r (excess r n perplexity) (close (excess r n perplexity)))
+        rw (row-past (s .bounds .sigma) (s .row) t e, excess-past r t (le-of-eq (sym (row-size (s .bounds .sigma) (s .row) (le-of-eq (sym e)) ∙ e)))) (go r (excess r n perplexity) (close (excess r n perplexity)))
       where
         go : (r : List Float) (d : Float) (b : Bool) → cond b (searched (r ++ t) (s .bounds) true) (searched (r ++ t) (narrowed (s .bounds) d) false) ≡ past t (cond b (searched r (s .bounds) true) (searched r (narrowed (s .bounds) d) false))
         go r d true = refl
@@ -126,7 +128,7 @@ module _ (ds : List Float) (n : ℕ) where
         (λ m.
         rounds-on k (past t s) m
         ∙ ap (rounds k) (round-past t s e)
-        ∙ rounds-past t k (roundOf ds n perplexity s) (round-size s ∙ e)
+        ∙ rounds-past t k (roundOf ds n perplexity s) (round-size s (le-of-eq (sym e)) ∙ e)
         ∙ ap (past t) (sym (rounds-on k s m)))
         (two (s .met))
 

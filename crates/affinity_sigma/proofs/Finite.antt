@@ -20,12 +20,14 @@ use Rattle.laws.proofs.Loops.{loop-keeps}
 use Rattle.laws.proofs.Untils.{until-end}
 use Rattle.laws.proofs.Written.{written-at}
 use Rattle.laws.proofs.Changed.{changed-at}
+use Rattle.areas.specs.Filled.{filled}
+use Rattle.areas.proofs.Front.{filled-loop}
 use Rattle.elementary.specs.Exp.{expOf}
 use Rattle.elementary.specs.Limits.{upToWhole, notNegative}
 use Rattle.elementary.proofs.Sizes.{signPlus, Signed, Least, Sized, held-whole, signed-round, sized-signed, sized-round, zero-whole, sized-more, sized-add, sized-div, whole-sized, sized-whole, whole-not-negative, whole-signed, whole-least, one-sized, two-is, plain-add}
 use Rattle.elementary.proofs.Falling.{exp-falling}
 use Rattle.affinity_sigma.specs.declared.Bounds.{Bounds}
-use Rattle.affinity_sigma.specs.Sigma.{weightOf, weighed, weightStep, weightSum, smallest, fillStep, divideStep, sharedBy, rowOf, excess, close, narrowed, Search, searched, isMet, roundOf, openBounds, sigmaShares, mostRounds}
+use Rattle.affinity_sigma.specs.Sigma.{weightOf, weighed, weightStep, weightSum, smallest, divideStep, sharedBy, rowOf, excess, close, narrowed, Search, searched, isMet, roundOf, openBounds, sigmaShares, mostRounds}
 use Rattle.affinity_sigma.proofs.Alone.{until-on, weighed-size, row-size}
 
 -- ---- one weight
@@ -146,8 +148,8 @@ module _ (ds : List Float) (n : ℕ) (some : 0 < n) (few : n ≤ mostFrames) (fa
     abbrev w : List Float
     w = weighed ds n sigma l
 
-    filled : n ≤ length w
-    filled = le-trans room (le-of-eq (sym (weighed-size ds n sigma l)))
+    roomy : n ≤ length w
+    roomy = le-trans room (le-of-eq (sym (weighed-size ds n sigma l)))
 
     weighed-small : (j : ℕ) → j < n → upToWhole (at w j) 14
     weighed-small j h = subst (λ (v : Float). upToWhole v 14) (sym (written-at (λ j. weightOf sigma (at ds j)) nan n l room j h)) (weight-small sigma (at ds j) up-sigma (far j h))
@@ -167,9 +169,9 @@ module _ (ds : List Float) (n : ℕ) (some : 0 < n) (few : n ≤ mostFrames) (fa
     unfolding rowOf sharedBy
     row-small j h = go (lt (weightSum w n) smallest) refl
       where
-        go : (b : Bool) → lt (weightSum w n) smallest ≡ b → upToWhole (at (cond b (loop (fillStep (div binary64 one64 (ofInt binary64 (pos n)))) n 0 w) (loop (divideStep (weightSum w n)) n 0 w)) j) mostShare
-        go true e = subst (λ (v : Float). upToWhole v mostShare) (sym (written-at (λ j. div binary64 one64 (ofInt binary64 (pos n))) nan n w filled j h)) equal-small
-        go false e = subst (λ (v : Float). upToWhole v mostShare) (sym (changed-at nan (λ j v. div binary64 v (weightSum w n)) n w filled j h))
+        go : (b : Bool) → lt (weightSum w n) smallest ≡ b → upToWhole (at (cond b (filled (div binary64 one64 (ofInt binary64 (pos n))) n w) (loop (divideStep (weightSum w n)) n 0 w)) j) mostShare
+        go true e = subst (λ (v : Float). upToWhole v mostShare) (sym (ap (λ (m : List Float). at m j) (filled-loop (div binary64 one64 (ofInt binary64 (pos n))) n w roomy) ∙ written-at (λ j. div binary64 one64 (ofInt binary64 (pos n))) nan n w roomy j h)) equal-small
+        go false e = subst (λ (v : Float). upToWhole v mostShare) (sym (changed-at nan (λ j v. div binary64 v (weightSum w n)) n w roomy j h))
             (whole-sized mostShare (div binary64 (at w j) (weightSum w n))
             (sized-div false false 14 1 NS (2 ^ 78) mostShare 1 (at w j) (weightSum w n) (lit< tt) (lit< tt) (lit< tt) (held-whole mostShare (lit≤ tt)) (lit≤ tt)
             (sized-whole 14 (at w j) (weighed-small j h)) (sized-signed false (14 * n) 1 (weightSum w n) total-small) (enough (weightSum w n) (14 * n) total-small e)))
@@ -196,7 +198,7 @@ module _ (ds : List Float) (n : ℕ) (some : 0 < n) (few : n ≤ mostFrames) (fa
 
         fair : (b : Bounds) (m : Bool) → PlainBounds b → Fair (searched row b m)
         fair b m p = record {
-          good = record { bounds = p; room = le-trans (g .room) (le-of-eq (sym (row-size ds n (s .bounds .sigma) (s .row)))) };
+          good = record { bounds = p; room = le-trans (g .room) (le-of-eq (sym (row-size ds n (s .bounds .sigma) (s .row) (g .room)))) };
           shares = row-small (s .bounds .sigma) (g .bounds .sigma) (s .row) (g .room);
         }
 

@@ -7,6 +7,7 @@ use lib.ListN.{set, replicate}
 use lib.Ieee.{Float, inf, binary64, ofInt, add, sub, mul, div, neg, lt, eq}
 use Rattle.laws.specs.Loops.{loop, until}
 use Rattle.laws.specs.Area.{at, bits, zero64, one64, two64}
+use Rattle.areas.specs.Filled.{filled}
 use Rattle.elementary.specs.Exp.{expOf}
 use Rattle.elementary.specs.Ln.{lnOf}
 use Rattle.elementary.specs.Limits.{absOf}
@@ -33,9 +34,6 @@ weightStep p j s = add binary64 s (at p j)
 abbrev pub weightSum : List Float → ℕ → Float
 weightSum p n = loop (weightStep p) n 0 zero64
 
-abbrev pub fillStep : Float → ℕ → List Float → List Float
-fillStep x j p = set p j x
-
 abbrev pub divideStep : Float → ℕ → List Float → List Float
 divideStep s j p = set p j (div binary64 (at p j) s)
 
@@ -46,7 +44,7 @@ smallest = bits 0x3e45798ee2308c3a
 -- divided by their sum; a sum below 1e-8 makes every entry 1 / length
 unfoldable pub sharedBy : Float → ℕ → List Float → List Float
 unfolding loop
-sharedBy s n p = cond (lt s smallest) (loop (fillStep (div binary64 one64 (ofInt binary64 (pos n)))) n 0 p) (loop (divideStep s) n 0 p)
+sharedBy s n p = cond (lt s smallest) (filled (div binary64 one64 (ofInt binary64 (pos n))) n p) (loop (divideStep s) n 0 p)
 
 unfoldable pub rowOf : List Float → ℕ → Float → List Float → List Float
 unfolding weightOf sharedBy loop

@@ -4,7 +4,7 @@ ghost use Prim.Native.Nat.{_≤_};
 ghost use lib.ListN.{length};
 ghost use Rattle.laws.specs.Domain.{mostFrames};
 ghost use Rattle.laws.specs.Loops.{loop};
-ghost use Rattle.affinity_sigma.specs.Sigma.{weightOf, weighed, weightSum, fillStep, divideStep, sharedBy, rowOf, termOf, entropyOf, excess, narrowed, sigmaShares};
+ghost use Rattle.affinity_sigma.specs.Sigma.{weightOf, weighed, weightSum, divideStep, sharedBy, rowOf, termOf, entropyOf, excess, narrowed, sigmaShares};
 
 // The most rounds of a search.
 const MOST_ROUNDS: u32 = 50;
@@ -52,18 +52,6 @@ fn total(shares: &[f64], n: usize) -> f64
     sum
 }
 
-// One value in the first n places.
-fn fill(shares: &mut [f64], n: usize, x: f64)
-    requires { ⌜ n ≤ length (now shares) ⌝ }
-    ensures { λ _. ⌜ now (shares .exit) ≡ loop (fillStep x) n 0 (now (shares .entry)) ⌝ }
-{
-    let mut j = 0;
-    while j < n {
-        shares[j] = x;
-        j += 1;
-    }
-}
-
 // The first n, each divided by a sum.
 pub fn divide(shares: &mut [f64], n: usize, sum: f64)
     requires { ⌜ n ≤ length (now shares) ⌝ }
@@ -82,7 +70,7 @@ fn share_out(shares: &mut [f64], n: usize, sum: f64)
     ensures { λ _. ⌜ now (shares .exit) ≡ sharedBy sum n (now (shares .entry)) ⌝ }
 {
     if sum < 1e-8 {
-        fill(shares, n, 1.0 / n as f64);
+        areas::fill(shares, n, 1.0 / n as f64);
         return;
     }
     divide(shares, n, sum);

@@ -121,7 +121,28 @@ fn work_on(
     cells: [Cell; 256],
     budget: u32,
 ) -> Answer
-    ensures { λ a. ⌜ (a ≡ work budget (state r (memory (now (positions .entry)) (now (increments .entry)) (now (gains .entry)) (now (affinities .entry)) (now (indices .entry)) (now (offsets .entry)) (now (forces .entry)) cells)) .answer) × (now (positions .exit) ≡ work budget (state r (memory (now (positions .entry)) (now (increments .entry)) (now (gains .entry)) (now (affinities .entry)) (now (indices .entry)) (now (offsets .entry)) (now (forces .entry)) cells)) .left .memory .positions) ⌝ }
+    ensures { λ a. ⌜
+        (a
+        ≡ work budget (state r (memory
+        (now (positions .entry))
+        (now (increments .entry))
+        (now (gains .entry))
+        (now (affinities .entry))
+        (now (indices .entry))
+        (now (offsets .entry))
+        (now (forces .entry))
+        cells)) .answer)
+        × (now (positions .exit)
+        ≡ work budget (state r (memory
+        (now (positions .entry))
+        (now (increments .entry))
+        (now (gains .entry))
+        (now (affinities .entry))
+        (now (indices .entry))
+        (now (offsets .entry))
+        (now (forces .entry))
+        cells)) .left .memory .positions)
+        ⌝ }
 {
     let mut run = r;
     let mut own = cells;

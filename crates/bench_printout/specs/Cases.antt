@@ -11,7 +11,8 @@ use Rattle.text.specs.Text.{decimals, decimalOf, hexOf}
 use Rattle.frames.specs.Frames.{frameOf, featuresAt, startsAt}
 use Rattle.bench_mapping.specs.declared.Mapped.{Mapped}
 use Rattle.bench_mapping.specs.Cases.{example}
-use Rattle.bench_printout.specs.Printed.{labelText, positionText, mapText, answerText, toldText, printed}
+use Rattle.bench_lines.specs.BenchLines.{labelText, positionText}
+use Rattle.bench_printout.specs.Printed.{mapText, answerText, toldText, printed}
 
 -- so many bytes of zero
 abbrev none : ℕ → List ℕ

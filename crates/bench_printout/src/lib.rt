@@ -8,41 +8,19 @@ ghost use Rattle.text.specs.Text.{written, Puts};
 ghost use Rattle.frames.specs.Frames.{frameOf};
 ghost use Rattle.descent.specs.Descent.{workNumber};
 ghost use Rattle.bench_mapping.specs.Mapping.{benchFrames, mapNumber};
-ghost use Rattle.bench_printout.specs.Printed.{labelText, positionText, frameText, framesShown, mapText, refusalText, recordText, answerText, toldText, printed};
+ghost use Rattle.bench_printout.specs.Printed.{frameText, framesShown, mapText, answerText, toldText, printed};
+use bench_lines::put_label;
+use bench_lines::put_position;
+use bench_lines::put_record;
+use bench_lines::put_refusal;
 use bench_mapping::BENCH_FRAMES;
 use bench_mapping::Told;
 use bench_mapping::map_file;
 use descent::Answer;
-use frames::Frame;
 use frames::RECORD_BYTES;
 use frames::frame_at;
 use text::put;
 use text::put_decimal;
-use text::put_hex;
-
-// Picture and side of a frame.
-fn put_label(out: &mut [u8], at: usize, f: Frame) -> usize
-    requires { ⌜ at + 42 ≤ length (now out) ⌝ }
-    ensures { λ r. ⌜ Puts (labelText f) at (now (out .entry)) r (now (out .exit)) ⌝ }
-    ensures { λ r. ⌜ r ≤ at + 42 ⌝ }
-{
-    let p = put_decimal(out, at, f.picture as u64);
-    let q = put(out, p, b" ");
-    let s = put_decimal(out, q, f.side as u64);
-    put(out, s, b" ")
-}
-
-// The bits of both coordinates.
-fn put_position(out: &mut [u8], at: usize, x: f64, y: f64) -> usize
-    requires { ⌜ at + 34 ≤ length (now out) ⌝ }
-    ensures { λ r. ⌜ Puts (positionText x y) at (now (out .entry)) r (now (out .exit)) ⌝ }
-    ensures { λ r. ⌜ r ≤ at + 34 ⌝ }
-{
-    let p = put_hex(out, at, elementary::bits_of(x));
-    let q = put(out, p, b" ");
-    let s = put_hex(out, q, elementary::bits_of(y));
-    put(out, s, b"\n")
-}
 
 // The whole records of the file, as far as the map has room for them.
 fn count(file: &[u8]) -> usize
@@ -83,28 +61,6 @@ fn put_map(out: &mut [u8], word: &[u8], units: u32, file: &[u8], positions: [f64
     let c = put_decimal(out, b, units as u64);
     let d = put(out, c, b"\n");
     put_frames(out, d, file, positions)
-}
-
-// The refusal's number.
-fn put_refusal(out: &mut [u8], number: u8) -> usize
-    requires { ⌜ 5000 ≤ length (now out) ⌝ }
-    ensures { λ r. ⌜ Puts (refusalText number) 0 (now (out .entry)) r (now (out .exit)) ⌝ }
-{
-    let a = put(out, 0, b"refused ");
-    let b = put_decimal(out, a, number as u64);
-    put(out, b, b"\n")
-}
-
-// The number and the place of a bad record.
-fn put_record(out: &mut [u8], number: u8, place: usize) -> usize
-    requires { ⌜ 5000 ≤ length (now out) ⌝ }
-    ensures { λ r. ⌜ Puts (recordText number place) 0 (now (out .entry)) r (now (out .exit)) ⌝ }
-{
-    let a = put(out, 0, b"refused ");
-    let b = put_decimal(out, a, number as u64);
-    let c = put(out, b, b" record ");
-    let d = put_decimal(out, c, place as u64);
-    put(out, d, b"\n")
 }
 
 fn put_answer(out: &mut [u8], a: Answer, file: &[u8], positions: [f64; 128]) -> usize

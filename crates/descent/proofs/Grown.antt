@@ -20,9 +20,10 @@ use Rattle.tree.specs.Box.{boxed}
 use Rattle.tree.proofs.Whole.{looser, In, first-in, in-all, built-more, room-in, taken, enough-named}
 use Rattle.run_entry.specs.State.{Memory, State}
 use Rattle.run_entry.proofs.Laws.{axes}
-use Rattle.run_units.specs.declared.Why.the-variants.{Done, Full, Wild}
+use Rattle.run_finish.specs.declared.Why.the-variants.{Done, Full, Wild}
 use Rattle.run_plan.specs.Plan.{groupOf}
-use Rattle.run_units.specs.Units.{unit, isDone, TreeTurn, treeTurn, boxTurn, forceUnit, FinishTurn, Turned, withTree, withForces, withFinish}
+use Rattle.run_finish.specs.Finish.{FinishTurn}
+use Rattle.run_units.specs.Units.{unit, isDone, TreeTurn, treeTurn, boxTurn, forceUnit, Turned, withTree, withForces, withFinish}
 use Rattle.run_units.proofs.Rooms.{group-zero, group-one}
 use Rattle.run_units.proofs.One.{by-unit}
 use Rattle.descent.specs.Honest.{pointsIn, Built, Honest}

@@ -22,7 +22,7 @@ use Rattle.tree.proofs.Longer.{Fits, extended, longer-ok, box-longer, insert-lo
 use Rattle.gradient.specs.Forces.{stored, attractionOf, forcesOf}
 use Rattle.run_entry.specs.State.{Memory, State}
 use Rattle.run_entry.specs.Entry.{GoodTree, Ordered}
-use Rattle.run_units.specs.declared.Why.the-variants.{Done}
+use Rattle.run_finish.specs.declared.Why.the-variants.{Done}
 use Rattle.run_plan.specs.Plan.{exaggerationOf, groupOf}
 use Rattle.run_units.specs.Units.{unit, isDone, TreeTurn, treeTurn, boxTurn, forceUnit, Turned, turned, withTree, withForces}
 use Rattle.run_units.proofs.Rooms.{group-zero, group-one}

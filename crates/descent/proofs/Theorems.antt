@@ -19,8 +19,8 @@ use Rattle.run_record.specs.Record.{isEnded}
 use Rattle.run_entry.specs.State.{State}
 use Rattle.run_entry.specs.Entry.{Good, faultOf, isFine}
 use Rattle.run_entry.proofs.Laws.{fault-fine, fault-good}
-use Rattle.run_units.specs.declared.Why.{Why}
-use Rattle.run_units.specs.declared.Why.the-variants.{Done, Full as NoNodes, Wild as TooLarge, Over}
+use Rattle.run_finish.specs.declared.Why.{Why}
+use Rattle.run_finish.specs.declared.Why.the-variants.{Done, Full as NoNodes, Wild as TooLarge, Over}
 use Rattle.run_units.specs.Units.{unit, isDone}
 use Rattle.run_budget.specs.Budget.{machine, answerOf, standsOf, refusedOf}
 use Rattle.descent.specs.Descent.{work, workNumber, unitsOf, answerKind, isLast, wholeUnits, unitsLeft, works, toldAll}

@@ -42,7 +42,26 @@ pub fn work(
     cells: &mut [Cell],
     budget: u32,
 ) -> Answer
-    ensures { λ a. ⌜ worked a (state (now (run .exit)) (memory (now (positions .exit)) (now (increments .exit)) (now (gains .exit)) (now (affinities .entry)) (now (indices .entry)) (now (offsets .entry)) (now (forces .exit)) (now (cells .exit)))) ≡ work budget (state (now (run .entry)) (memory (now (positions .entry)) (now (increments .entry)) (now (gains .entry)) (now (affinities .entry)) (now (indices .entry)) (now (offsets .entry)) (now (forces .entry)) (now (cells .entry)))) ⌝ }
+    ensures { λ a. ⌜
+        worked a (state (now (run .exit)) (memory
+        (now (positions .exit))
+        (now (increments .exit))
+        (now (gains .exit))
+        (now (affinities .entry))
+        (now (indices .entry))
+        (now (offsets .entry))
+        (now (forces .exit))
+        (now (cells .exit))))
+        ≡ work budget (state (now (run .entry)) (memory
+        (now (positions .entry))
+        (now (increments .entry))
+        (now (gains .entry))
+        (now (affinities .entry))
+        (now (indices .entry))
+        (now (offsets .entry))
+        (now (forces .entry))
+        (now (cells .entry))))
+        ⌝ }
 {
     let r = *run;
     let f = fault_at(

@@ -1,4 +1,4 @@
--- How `desk_runs::host_work` is called, with `&mut [u64]`, `&mut [f64]`, `&mut [f64]`, `&mut [f64]`, `&[f64]`, `&[u32]`, `&[u32]`, `&mut [f64]`, `&mut [Cell]`, `&mut [u64]` lent to it: a rule for each way to lend (m: a `&mut` slice lent again, s: a `&mut` slice lent as `&`, c: a `&` slice passed on, r: a `&mut` of a struct lent again). Printed (tests/walks_local).
+-- How `desk_work::host_work` is called, with `&mut [u64]`, `&mut [f64]`, `&mut [f64]`, `&mut [f64]`, `&[f64]`, `&[u32]`, `&[u32]`, `&mut [f64]`, `&mut [Cell]`, `&mut [u64]` lent to it: a rule for each way to lend (m: a `&mut` slice lent again, s: a `&mut` slice lent as `&`, c: a `&` slice passed on, r: a `&mut` of a struct lent again). Printed (tests/walks_local).
 -- Assumes `Given`, and that the callee meets its contract.
 use mathlib.Core.Path.{refl, sym, _∙_, ap, subst}
 use Prim.Native.Nat.{ℕ, _<_, _^_}
@@ -26,14 +26,14 @@ use denote.Triple.Call.{calls-at}
 use denote.Triple.Clauses.{ensured, lasts}
 use denote.Triple.Spec.{tripleOf}
 use Rattle.lent.proofs.Pass.{Seat, ref-at, word, Mut, Shr, Tok, lent-to, lend-mut, back-mut, lend-copy}
-use Rattle.desk_runs.specs.Runs.{hostWorked, hostWork}
+use Rattle.desk_work.specs.HostWork.{hostWorked, hostWork}
 use Rattle.run_entry.specs.State.{memory}
 use lib.ListN.{length}
 use mathlib.Core.Path.{_≡_}
 use Rattle.tree_node.specs.declared.Cell.{Cell}
 use Rattle.tree_node.proofs.Cell as Cell′
-use Rattle.desk_runs.proofs.host_work as callee
-use Rattle.desk_runs.proofs.host_work.Symbol.{name as #desk-runs·host-work}
+use Rattle.desk_work.proofs.host_work as callee
+use Rattle.desk_work.proofs.host_work.Symbol.{name as #desk-work·host-work}
 
 -- what the callee ensures of its result and of what was lent, at exit
 abbrev pub Ensured-host-work : List ℕ → List Float → List Float → List Float → List Float → List ℕ → List ℕ → List Float → List Cell → ℕ → List ℕ → ℕ → List ℕ → List Float → List Float → List Float → List Float → List Cell → List ℕ → Type 0
@@ -50,11 +50,11 @@ module _ {M : Type 1} (𝓤 : URA M) (H : Heap 𝓤) (A : Atoms 𝓤) (mem : Mem
   goes W s-words words s-positions positions s-increments increments s-gains gains s-affinities affinities s-indices indices s-offsets offsets s-forces forces s-cells cells budget s-answer answer g-budget = qed W (‵ (Tok s-words) ∷ ‵ (Tok s-positions) ∷ ‵ (Tok s-increments) ∷ ‵ (Tok s-gains) ∷ ‵ (Tok s-affinities) ∷ ‵ (Tok s-indices) ∷ ‵ (Tok s-offsets) ∷ ‵ (Tok s-forces) ∷ ‵ (Tok s-cells) ∷ ‵ (Tok s-answer) ∷ ‵ (Mut u64 s-words words) ∷ ‵ (Mut f64 s-positions positions) ∷ ‵ (Mut f64 s-increments increments) ∷ ‵ (Mut f64 s-gains gains) ∷ ‵ (Shr f64 s-affinities affinities) ∷ ‵ (Shr u32 s-indices indices) ∷ ‵ (Shr u32 s-offsets offsets) ∷ ‵ (Mut f64 s-forces forces) ∷ ‵ (Mut Cell′.the-row s-cells cells) ∷ ‵ (Mut u64 s-answer answer) ∷ []) ∵ nothing ! $ move ! (10 ∷ 0 ∷ []) $ join ! $ move ! (9 ∷ 0 ∷ []) $ join ! $ move ! (8 ∷ 0 ∷ []) $ join ! $ move ! (7 ∷ 0 ∷ []) $ join ! $ move ! (6 ∷ 0 ∷ []) $ join ! $ move ! (5 ∷ 0 ∷ []) $ join ! $ move ! (4 ∷ 0 ∷ []) $ join ! $ move ! (3 ∷ 0 ∷ []) $ join ! $ move ! (2 ∷ 0 ∷ []) $ join ! $ move ! (1 ∷ 0 ∷ []) $ join ! $ nothing ! $ move ! (11 ∷ 0 ∷ []) $ fjoin ! $ owned ! u32 (Is u32) (uint-makes 𝓤 H A W w32) budget _ (refl, g-budget) $ fjoin ! $ move ! (10 ∷ 0 ∷ []) $ fjoin ! $ move ! (9 ∷ 0 ∷ []) $ fjoin ! $ move ! (8 ∷ 0 ∷ []) $ fjoin ! $ move ! (7 ∷ 0 ∷ []) $ fjoin ! $ move ! (6 ∷ 0 ∷ []) $ fjoin ! $ move ! (5 ∷ 0 ∷ []) $ fjoin ! $ move ! (4 ∷ 0 ∷ []) $ fjoin ! $ move ! (3 ∷ 0 ∷ []) $ fjoin ! $ move ! (2 ∷ 0 ∷ []) $ fjoin ! $ move ! (1 ∷ 0 ∷ []) $ join ! $ frame ! $ nothing ! $ done !
 
 module _ {M : Type 1} {𝓤 : URA M} {H : Heap 𝓤} {A : Atoms 𝓤} {K : Type 0} {W : Given 𝓤 H A} {Γ : List (Item 𝓤)} {E : Env 𝓤 H} {C : Calls 𝓤 H} {Λ : Loops 𝓤 H} {xs : List Operand} {q : After 𝓤 H} {d : Place} {rest : Code} where
-  pub calls-host-work-mmmmcccmmm : K → FmC 𝓤 H (W .laws) C → (mem : Memory → SProp 𝓤) (run : Routine → Fun 𝓤) → Triple 𝓤 (C #desk-runs·host-work) (Contract-host-work 𝓤 H A mem run)
+  pub calls-host-work-mmmmcccmmm : K → FmC 𝓤 H (W .laws) C → (mem : Memory → SProp 𝓤) (run : Routine → Fun 𝓤) → Triple 𝓤 (C #desk-work·host-work) (Contract-host-work 𝓤 H A mem run)
       → (s-words : Seat) (words : List ℕ) (s-positions : Seat) (positions : List Float) (s-increments : Seat) (increments : List Float) (s-gains : Seat) (gains : List Float) (s-affinities : Seat) (affinities : List Float) (s-indices : Seat) (indices : List ℕ) (s-offsets : Seat) (offsets : List ℕ) (s-forces : Seat) (forces : List Float) (s-cells : Seat) (cells : List Cell) (budget : ℕ) (s-answer : Seat) (answer : List ℕ) → length words ≡ s-words .count → length positions ≡ s-positions .count → length increments ≡ s-increments .count → length gains ≡ s-gains .count → length forces ≡ s-forces .count → length cells ≡ s-cells .count → length answer ≡ s-answer .count → budget < 2 ^ 32
       → ((P Ω0 Ω1 Ω2 Ω3 Ω4 Ω5 Ω6 Ω7 Ω8 Ω9 : Item 𝓤) → Opds K W (P ∷ Ω0 ∷ Ω1 ∷ Ω2 ∷ Ω3 ∷ Ω4 ∷ Ω5 ∷ Ω6 ∷ Ω7 ∷ Ω8 ∷ Ω9 ∷ Γ) E xs (word s-words ∷ word s-positions ∷ word s-increments ∷ word s-gains ∷ word s-affinities ∷ word s-indices ∷ word s-offsets ∷ word s-forces ∷ word s-cells ∷ vint w32 budget ∷ word s-answer ∷ []))
       → ((res : ℕ) (words′ : List ℕ) (positions′ : List Float) (increments′ : List Float) (gains′ : List Float) (forces′ : List Float) (cells′ : List Cell) (answer′ : List ℕ) → Ensured-host-work words positions increments gains affinities indices offsets forces cells budget answer res words′ positions′ increments′ gains′ forces′ cells′ answer′ → Is u32 res (vint w32 res ∷ []) → length words′ ≡ s-words .count → length positions′ ≡ s-positions .count → length increments′ ≡ s-increments .count → length gains′ ≡ s-gains .count → length forces′ ≡ s-forces .count → length cells′ ≡ s-cells .count → length answer′ ≡ s-answer .count → Seq K W (‵ (Mut u64 s-words words′) ∷ ‵ (Tok s-words) ∷ ‵ (Mut f64 s-positions positions′) ∷ ‵ (Tok s-positions) ∷ ‵ (Mut f64 s-increments increments′) ∷ ‵ (Tok s-increments) ∷ ‵ (Mut f64 s-gains gains′) ∷ ‵ (Tok s-gains) ∷ ‵ (Shr f64 s-affinities affinities) ∷ ‵ (Tok s-affinities) ∷ ‵ (Shr u32 s-indices indices) ∷ ‵ (Tok s-indices) ∷ ‵ (Shr u32 s-offsets offsets) ∷ ‵ (Tok s-offsets) ∷ ‵ (Mut f64 s-forces forces′) ∷ ‵ (Tok s-forces) ∷ ‵ (Mut Cell′.the-row s-cells cells′) ∷ ‵ (Tok s-cells) ∷ ‵ (Mut u64 s-answer answer′) ∷ ‵ (Tok s-answer) ∷ Γ) (lands C Λ E d (vint w32 res) rest q))
-      → Seq K W (‵ (Mut u64 s-words words) ∷ ‵ (Tok s-words) ∷ ‵ (Mut f64 s-positions positions) ∷ ‵ (Tok s-positions) ∷ ‵ (Mut f64 s-increments increments) ∷ ‵ (Tok s-increments) ∷ ‵ (Mut f64 s-gains gains) ∷ ‵ (Tok s-gains) ∷ ‵ (Shr f64 s-affinities affinities) ∷ ‵ (Tok s-affinities) ∷ ‵ (Shr u32 s-indices indices) ∷ ‵ (Tok s-indices) ∷ ‵ (Shr u32 s-offsets offsets) ∷ ‵ (Tok s-offsets) ∷ ‵ (Mut f64 s-forces forces) ∷ ‵ (Tok s-forces) ∷ ‵ (Mut Cell′.the-row s-cells cells) ∷ ‵ (Tok s-cells) ∷ ‵ (Mut u64 s-answer answer) ∷ ‵ (Tok s-answer) ∷ Γ) (runs C Λ E (seq (call #desk-runs·host-work xs d) rest) q)
+      → Seq K W (‵ (Mut u64 s-words words) ∷ ‵ (Tok s-words) ∷ ‵ (Mut f64 s-positions positions) ∷ ‵ (Tok s-positions) ∷ ‵ (Mut f64 s-increments increments) ∷ ‵ (Tok s-increments) ∷ ‵ (Mut f64 s-gains gains) ∷ ‵ (Tok s-gains) ∷ ‵ (Shr f64 s-affinities affinities) ∷ ‵ (Tok s-affinities) ∷ ‵ (Shr u32 s-indices indices) ∷ ‵ (Tok s-indices) ∷ ‵ (Shr u32 s-offsets offsets) ∷ ‵ (Tok s-offsets) ∷ ‵ (Mut f64 s-forces forces) ∷ ‵ (Tok s-forces) ∷ ‵ (Mut Cell′.the-row s-cells cells) ∷ ‵ (Tok s-cells) ∷ ‵ (Mut u64 s-answer answer) ∷ ‵ (Tok s-answer) ∷ Γ) (runs C Λ E (seq (call #desk-work·host-work xs d) rest) q)
   calls-host-work-mmmmcccmmm t fm mem run met s-words words s-positions positions s-increments increments s-gains gains s-affinities affinities s-indices indices s-offsets offsets s-forces forces s-cells cells budget s-answer answer ln-words ln-positions ln-increments ln-gains ln-forces ln-cells ln-answer g-budget os k =
       lend-mut t tt u64 s-words words ln-words (λ ν-words δ-words w-words.
       move t (3 ∷ 4 ∷ []) $ lend-mut t tt f64 s-positions positions ln-positions (λ ν-positions δ-positions w-positions.

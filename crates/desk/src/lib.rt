@@ -3,22 +3,23 @@ ghost use mathlib.Core.Path.{_≡_};
 ghost use Rattle.run_entry.specs.State.{memory};
 ghost use Rattle.prepare.specs.Prepare.{lent};
 ghost use Rattle.scatter.specs.Scatter.{scatterOf};
-ghost use Rattle.desk_words.specs.Words.{worded};
+ghost use Rattle.record_words.specs.RecordWords.{worded};
 ghost use Rattle.desk_record.specs.Records.{hostSizes, saidOf};
 ghost use Rattle.frames.specs.Frames.{orZero};
 ghost use Rattle.desk_files.specs.Files.{hostFrames, hostFrame};
-ghost use Rattle.desk_runs.specs.Runs.{hostPrepared, hostPrepare, hostWorked, hostWork};
+ghost use Rattle.desk_prepare.specs.HostPrepare.{hostPrepared, hostPrepare};
+ghost use Rattle.desk_work.specs.HostWork.{hostWorked, hostWork};
 ghost use Rattle.desk_divergence.specs.HostDivergence.{hostDivergence};
 use desk_divergence::host_divergence;
 use desk_files::host_frame;
 use desk_files::host_frames;
 use desk_files::host_scatter;
+use desk_prepare::host_prepare;
 use desk_record::host_iterations;
 use desk_record::host_sizes;
 use desk_record::host_state;
 use desk_record::host_units;
-use desk_runs::host_prepare;
-use desk_runs::host_work;
+use desk_work::host_work;
 use tree_node::Cell;
 
 // Prepares a run. Answers 0, or the number of the refusal; then nothing is changed.
@@ -39,7 +40,36 @@ pub extern "C" fn brothanchor_prepare(
     nodes: usize,
     record: &mut [u64],
 ) -> u32
-    ensures { λ k. ⌜ hostPrepared k (now («record» .exit)) (lent (now (positions .exit)) (now (increments .exit)) (now (gains .exit)) (now (affinities .exit)) (now (indices .exit)) (now (offsets .exit)) (now (forces .exit)) (now («row_values» .exit)) (now («row_indices» .exit))) ≡ hostPrepare (now (settings .entry)) (now (table .entry)) (now (start .entry)) nodes (lent (now (positions .entry)) (now (increments .entry)) (now (gains .entry)) (now (affinities .entry)) (now (indices .entry)) (now (offsets .entry)) (now (forces .entry)) (now («row_values» .entry)) (now («row_indices» .entry))) (now («record» .entry)) ⌝ }
+    ensures { λ k. ⌜
+        hostPrepared k
+        (now («record» .exit))
+        (lent
+        (now (positions .exit))
+        (now (increments .exit))
+        (now (gains .exit))
+        (now (affinities .exit))
+        (now (indices .exit))
+        (now (offsets .exit))
+        (now (forces .exit))
+        (now («row_values» .exit))
+        (now («row_indices» .exit)))
+        ≡ hostPrepare
+        (now (settings .entry))
+        (now (table .entry))
+        (now (start .entry))
+        nodes
+        (lent
+        (now (positions .entry))
+        (now (increments .entry))
+        (now (gains .entry))
+        (now (affinities .entry))
+        (now (indices .entry))
+        (now (offsets .entry))
+        (now (forces .entry))
+        (now («row_values» .entry))
+        (now («row_indices» .entry)))
+        (now («record» .entry))
+        ⌝ }
 {
     host_prepare(
         settings,
@@ -74,7 +104,32 @@ pub extern "C" fn brothanchor_work(
     budget: u32,
     answer: &mut [u64],
 ) -> u32
-    ensures { λ k. ⌜ hostWorked k (now (answer .exit)) (now (words .exit)) (memory (now (positions .exit)) (now (increments .exit)) (now (gains .exit)) (now (affinities .entry)) (now (indices .entry)) (now (offsets .entry)) (now (forces .exit)) (now (cells .exit))) ≡ hostWork budget (now (words .entry)) (now (answer .entry)) (memory (now (positions .entry)) (now (increments .entry)) (now (gains .entry)) (now (affinities .entry)) (now (indices .entry)) (now (offsets .entry)) (now (forces .entry)) (now (cells .entry))) ⌝ }
+    ensures { λ k. ⌜
+        hostWorked k
+        (now (answer .exit))
+        (now (words .exit))
+        (memory
+        (now (positions .exit))
+        (now (increments .exit))
+        (now (gains .exit))
+        (now (affinities .entry))
+        (now (indices .entry))
+        (now (offsets .entry))
+        (now (forces .exit))
+        (now (cells .exit)))
+        ≡ hostWork budget
+        (now (words .entry))
+        (now (answer .entry))
+        (memory
+        (now (positions .entry))
+        (now (increments .entry))
+        (now (gains .entry))
+        (now (affinities .entry))
+        (now (indices .entry))
+        (now (offsets .entry))
+        (now (forces .entry))
+        (now (cells .entry)))
+        ⌝ }
 {
     let k = host_work(
         words,
@@ -107,7 +162,22 @@ pub extern "C" fn brothanchor_divergence(
     copy: &[f64],
     answer: &mut [u64],
 ) -> u32
-    ensures { λ k. ⌜ worded k (now (answer .exit)) ≡ hostDivergence (now (words .entry)) (memory (now (positions .entry)) (now (increments .entry)) (now (gains .entry)) (now (affinities .entry)) (now (indices .entry)) (now (offsets .entry)) (now (forces .entry)) (now (cells .entry))) (now (copy .entry)) (now (answer .entry)) ⌝ }
+    ensures { λ k. ⌜
+        worded k (now (answer .exit))
+        ≡ hostDivergence
+        (now (words .entry))
+        (memory
+        (now (positions .entry))
+        (now (increments .entry))
+        (now (gains .entry))
+        (now (affinities .entry))
+        (now (indices .entry))
+        (now (offsets .entry))
+        (now (forces .entry))
+        (now (cells .entry)))
+        (now (copy .entry))
+        (now (answer .entry))
+        ⌝ }
 {
     let k = host_divergence(
         words,

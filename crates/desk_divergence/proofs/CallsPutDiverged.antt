@@ -29,7 +29,7 @@ use Rattle.lent.proofs.Pass.{Seat, ref-at, word, Mut, Tok, lent-to, lend-mut, b
 use denote.Enum.Laws as EL
 use Prim.Native.Nat.{_≤_}
 use Rattle.desk_divergence.specs.HostDivergence.{divergedTold}
-use Rattle.desk_words.specs.Words.{worded}
+use Rattle.record_words.specs.RecordWords.{worded}
 use lib.ListN.{length}
 use mathlib.Core.Path.{_≡_}
 use Rattle.divergence.specs.declared.Diverged.{Diverged}

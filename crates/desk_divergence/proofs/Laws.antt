@@ -14,8 +14,8 @@ use Rattle.run_record.specs.declared.Run.{Run}
 use Rattle.run_entry.specs.State.{Memory}
 use Rattle.divergence.specs.declared.Diverged.{Diverged}
 use Rattle.divergence.specs.Divergence.{divergenceOf}
-use Rattle.desk_words.specs.Words.{runFine, runOf, worded}
-use Rattle.desk_words.proofs.Laws.{run-long}
+use Rattle.record_words.specs.RecordWords.{runFine, runOf, worded}
+use Rattle.record_words.proofs.Laws.{run-long}
 use Rattle.desk_divergence.specs.HostDivergence.{divergedTold, unfit, unfitTold, hostDivergence}
 
 -- an answer with a word, and words that are a record

@@ -10,7 +10,8 @@ use Rattle.run_entry.specs.State.{Memory}
 use Rattle.divergence.specs.declared.Diverged.{Diverged}
 use Rattle.divergence.specs.declared.Diverged.the-variants.{Figure, Early, Bad}
 use Rattle.divergence.specs.Divergence.{divergenceOf, divergenceNumber}
-use Rattle.desk_words.specs.Words.{runFine, runOf, faultValue, unreadFault, Worded, worded}
+use Rattle.record_words.specs.RecordWords.{runFine, runOf, Worded, worded}
+use Rattle.fault_words.specs.FaultWords.{faultValue, unreadFault}
 
 -- word 0: the figure's bits; refused, the place that comes with the number, 0 where none does
 unfoldable pub divergedWord : Diverged → ℕ

@@ -3,16 +3,16 @@ ghost use mathlib.Core.Path.{_≡_};
 ghost use Prim.Native.Nat.{_≤_};
 ghost use lib.ListN.{length};
 ghost use Rattle.run_entry.specs.State.{memory};
-ghost use Rattle.desk_words.specs.Words.{worded};
+ghost use Rattle.record_words.specs.RecordWords.{worded};
 ghost use Rattle.desk_divergence.specs.HostDivergence.{divergedWord, divergedTold, unfit, unfitTold, hostDivergence};
-use desk_words::fault_value;
-use desk_words::run_fine;
-use desk_words::run_of;
-use desk_words::unread_fault;
 use divergence::Diverged;
 use divergence::divergence;
 use divergence::number;
 use elementary::words::bits_of;
+use fault_words::fault_value;
+use fault_words::unread_fault;
+use record_words::run_fine;
+use record_words::run_of;
 use tree_node::Cell;
 
 fn diverged_word(d: Diverged) -> u64
@@ -70,7 +70,22 @@ pub fn host_divergence(
     copy: &[f64],
     answer: &mut [u64],
 ) -> u32
-    ensures { λ k. ⌜ worded k (now (answer .exit)) ≡ hostDivergence (now (words .entry)) (memory (now (positions .entry)) (now (increments .entry)) (now (gains .entry)) (now (affinities .entry)) (now (indices .entry)) (now (offsets .entry)) (now (forces .entry)) (now (cells .entry))) (now (copy .entry)) (now (answer .entry)) ⌝ }
+    ensures { λ k. ⌜
+        worded k (now (answer .exit))
+        ≡ hostDivergence
+        (now (words .entry))
+        (memory
+        (now (positions .entry))
+        (now (increments .entry))
+        (now (gains .entry))
+        (now (affinities .entry))
+        (now (indices .entry))
+        (now (offsets .entry))
+        (now (forces .entry))
+        (now (cells .entry)))
+        (now (copy .entry))
+        (now (answer .entry))
+        ⌝ }
 {
     let stuck = is_unfit(words, answer.len());
     if stuck {

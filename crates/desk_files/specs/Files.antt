@@ -7,7 +7,8 @@ use lib.ListN.{length, set}
 use Rattle.frames.specs.declared.Frames.{Frames}
 use Rattle.frames.specs.declared.Frames.the-variants.{Good, Bad}
 use Rattle.frames.specs.Frames.{framesOf, frameOf, framesNumber, orZero}
-use Rattle.desk_words.specs.Words.{framePut, Worded, worded}
+use Rattle.record_words.specs.RecordWords.{Worded, worded}
+use Rattle.frame_words.specs.FrameWords.{framePut}
 
 abbrev pub framesWorded : Frames → List ℕ → Worded
 framesWorded (Good n) w = worded (orZero (framesNumber (Good n))) (set w 0 n)

@@ -1,10 +1,10 @@
 // Starting positions and the frame file, with plain words.
 ghost use mathlib.Core.Path.{_≡_};
 ghost use Rattle.scatter.specs.Scatter.{scatterOf};
-ghost use Rattle.desk_words.specs.Words.{worded};
+ghost use Rattle.record_words.specs.RecordWords.{worded};
 ghost use Rattle.frames.specs.Frames.{orZero};
 ghost use Rattle.desk_files.specs.Files.{hostFrames, hostFrame};
-use desk_words::put_frame;
+use frame_words::put_frame;
 
 // Starting positions from a seed. Answers 0, or 1, 7 or 12; then nothing is changed.
 pub fn host_scatter(positions: &mut [f64], n: u32, c: u32, seed: u64) -> u32

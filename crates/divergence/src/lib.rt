@@ -137,7 +137,20 @@ pub fn divergence(
     cells: &[Cell],
     copy: &[f64],
 ) -> Diverged
-    ensures { λ a. ⌜ a ≡ divergenceOf r (memory (now (positions .entry)) (now (increments .entry)) (now (gains .entry)) (now (affinities .entry)) (now (indices .entry)) (now (offsets .entry)) (now (forces .entry)) (now (cells .entry))) (now (copy .entry)) ⌝ }
+    ensures { λ a. ⌜
+        a
+        ≡ divergenceOf r
+        (memory
+        (now (positions .entry))
+        (now (increments .entry))
+        (now (gains .entry))
+        (now (affinities .entry))
+        (now (indices .entry))
+        (now (offsets .entry))
+        (now (forces .entry))
+        (now (cells .entry)))
+        (now (copy .entry))
+        ⌝ }
 {
     let least = smaller(positions.len(), copy.len());
     let f = fault_at(

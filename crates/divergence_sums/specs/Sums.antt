@@ -3,6 +3,7 @@ use mathlib.Core.List.{List}
 use mathlib.Core.Bool.{cond}
 use Prim.Native.Nat.{ℕ, _+_, _-_, _*_, _<_}
 use lib.Dec.{eqb}
+use lib.ListN.{set}
 use lib.Ieee.{Float, binary64, add, mul, div, lt}
 use Rattle.laws.specs.Loops.{loop}
 use Rattle.laws.specs.Area.{at, num, zero64, one64}
@@ -19,15 +20,32 @@ klTerm p q s = cond (lt zero64 p) (add binary64 s (mul binary64 p (lnOf (div bin
 
 -- ---- exact: over all pairs
 
--- frames i and j: p = affinity·exaggeration, rounded first, q = num / total; a frame and itself are skipped
-unfoldable pub klPair : List Float → List Float → Float → Float → ℕ → ℕ → ℕ → ℕ → Float → Float
-unfolding klTerm numOf
-klPair y P exaggeration total n c i j s = cond (eqb i j) s (klTerm (mul binary64 (at P (i * n + j)) exaggeration) (div binary64 (numOf y c i j) total) s)
+-- what the map says of frames i and j
+unfoldable pub klShare : List Float → Float → ℕ → ℕ → ℕ → Float
+unfolding numOf
+klShare y total c i j = div binary64 (numOf y c i j) total
+
+-- frames i and j, of whom the map says q: p = affinity·exaggeration, rounded first; a frame and itself are skipped
+unfoldable pub klPair : List Float → Float → ℕ → ℕ → ℕ → Float → Float → Float
+unfolding klTerm
+klPair P exaggeration n i j q s = cond (eqb i j) s (klTerm (mul binary64 (at P (i * n + j)) exaggeration) q s)
+
+-- one frame more of row i
+abbrev pub klStep : List Float → List Float → Float → Float → ℕ → ℕ → ℕ → ℕ → Float → Float
+klStep y P exaggeration total n c i j s = klPair P exaggeration n i j (klShare y total c i j) s
 
 -- row i: by rising j, from +0.0
 unfoldable pub klRow : List Float → List Float → Float → Float → ℕ → ℕ → ℕ → Float
-unfolding loop klPair
-klRow y P exaggeration total n c i = loop (klPair y P exaggeration total n c i) n 0 zero64
+unfolding loop klPair klShare
+klRow y P exaggeration total n c i = loop (klStep y P exaggeration total n c i) n 0 zero64
+
+-- a row in parts: place k gets the share of frames i and j + k
+abbrev pub klShareStep : List Float → Float → ℕ → ℕ → ℕ → ℕ → List Float → List Float
+klShareStep y total c i j k l = set l k (klShare y total c i (j + k))
+
+-- .. from which it is taken
+abbrev pub klSharedStep : List Float → List Float → Float → ℕ → ℕ → ℕ → ℕ → Float → Float
+klSharedStep shares P exaggeration n i j k s = klPair P exaggeration n i (j + k) (at shares k) s
 
 -- one row's sum more
 abbrev pub klRowStep : List Float → List Float → Float → Float → ℕ → ℕ → ℕ → Float → Float

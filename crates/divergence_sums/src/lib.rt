@@ -5,7 +5,7 @@ ghost use lib.ListN.{length};
 ghost use Rattle.laws.specs.Loops.{loop};
 ghost use Rattle.laws.specs.Area.{num};
 ghost use Rattle.gradient.specs.Forces.{Below, Linked};
-ghost use Rattle.divergence_sums.specs.Sums.{klTerm, klPair, klRow, klDense, klLink, klLinkStep, klList, klLists, AllLinked};
+ghost use Rattle.divergence_sums.specs.Sums.{klTerm, klPair, klShareStep, klSharedStep, klStep, klRow, klDense, klLink, klLinkStep, klList, klLists, AllLinked};
 use gradient_pairs::exact::apart;
 use gradient_pairs::exact::num;
 
@@ -22,8 +22,75 @@ fn kl_term(p: f64, q: f64, sum: f64) -> f64
 
 // ---- exact: over all pairs
 
-// Frames i and j more; a frame and itself are skipped.
+// How many pairs of a row have their shares worked out before their logarithms, which then need not wait for them.
+const TOGETHER: usize = 16;
+
+// The shares of frame i and the m frames from j on.
+fn lay_shares(
+    shares: &mut [f64],
+    positions: &[f64],
+    total: f64,
+    n: usize,
+    c: usize,
+    i: usize,
+    j: usize,
+    m: usize,
+)
+    requires { ⌜ (i < n) × (j + m ≤ n) × (n * c ≤ length (now positions)) × (m ≤ length (now shares)) ⌝ }
+    ensures { λ _. ⌜ now (shares .exit) ≡ loop (klShareStep (now (positions .entry)) total c i j) m 0 (now (shares .entry)) ⌝ }
+{
+    let mut k = 0;
+    while k < m {
+        shares[k] = num(positions, c, i, j + k) / total;
+        k += 1;
+    }
+}
+
+// Frames i and j more, of whom the map says q; a frame and itself are skipped.
 fn kl_pair(
+    affinities: &[f64],
+    exaggeration: f64,
+    n: usize,
+    i: usize,
+    j: usize,
+    q: f64,
+    sum: f64,
+) -> f64
+    requires { ⌜ (i < n) × (j < n) × (n * n ≤ length (now affinities)) ⌝ }
+    ensures { λ r. ⌜ r ≡ klPair (now (affinities .entry)) exaggeration n i j q sum ⌝ }
+{
+    if i == j {
+        return sum;
+    }
+    let p = affinities[i * n + j] * exaggeration;
+    kl_term(p, q, sum)
+}
+
+// Frame i and the m frames from j on, with their shares, onto a sum.
+fn kl_pairs(
+    shares: &[f64],
+    affinities: &[f64],
+    exaggeration: f64,
+    n: usize,
+    i: usize,
+    j: usize,
+    m: usize,
+    sum: f64,
+) -> f64
+    requires { ⌜ (i < n) × (j + m ≤ n) × (n * n ≤ length (now affinities)) × (m ≤ length (now shares)) ⌝ }
+    ensures { λ r. ⌜ r ≡ loop (klSharedStep (now (shares .entry)) (now (affinities .entry)) exaggeration n i j) m 0 sum ⌝ }
+{
+    let mut so_far = sum;
+    let mut k = 0;
+    while k < m {
+        so_far = kl_pair(affinities, exaggeration, n, i, j + k, shares[k], so_far);
+        k += 1;
+    }
+    so_far
+}
+
+// Frame i and the m frames from j on, at most sixteen, onto a sum.
+fn kl_together(
     positions: &[f64],
     affinities: &[f64],
     exaggeration: f64,
@@ -32,16 +99,26 @@ fn kl_pair(
     c: usize,
     i: usize,
     j: usize,
+    m: usize,
     sum: f64,
 ) -> f64
-    requires { ⌜ (i < n) × (j < n) × (n * c ≤ length (now positions)) × (n * n ≤ length (now affinities)) ⌝ }
-    ensures { λ r. ⌜ r ≡ klPair (now (positions .entry)) (now (affinities .entry)) exaggeration total n c i j sum ⌝ }
+    requires { ⌜ (i < n) × (j + m ≤ n) × (m ≤ 16) × (n * c ≤ length (now positions)) × (n * n ≤ length (now affinities)) ⌝ }
+    ensures { λ r. ⌜ r ≡ loop (klStep (now (positions .entry)) (now (affinities .entry)) exaggeration total n c i) m j sum ⌝ }
 {
-    if i == j {
-        return sum;
+    let mut shares = [0.0; TOGETHER];
+    lay_shares(&mut shares, positions, total, n, c, i, j, m);
+    kl_pairs(&shares, affinities, exaggeration, n, i, j, m, sum)
+}
+
+// How many of n frames are worked out together from frame j on.
+fn together(n: usize, j: usize) -> usize
+    requires { ⌜ j < n ⌝ }
+    ensures { λ m. ⌜ (0 < m) × (m ≤ 16) × (j + m ≤ n) ⌝ }
+{
+    if n - j < TOGETHER {
+        return n - j;
     }
-    let p = affinities[i * n + j] * exaggeration;
-    kl_term(p, num(positions, c, i, j) / total, sum)
+    TOGETHER
 }
 
 // Row i, by rising frame.
@@ -60,8 +137,9 @@ fn kl_divergence_row(
     let mut s = 0.0;
     let mut j = 0;
     while j < n {
-        s = kl_pair(positions, affinities, exaggeration, total, n, c, i, j, s);
-        j += 1;
+        let m = together(n, j);
+        s = kl_together(positions, affinities, exaggeration, total, n, c, i, j, m, s);
+        j += m;
     }
     s
 }

@@ -50,7 +50,18 @@ pub fn point_forces(
         × (shaped c (tree used (nodesOf (now cells))) ≡ true)
         × Linked n (now weights) (now indices) (now offsets) i
         ⌝ }
-    ensures { λ _. ⌜ now (forces .exit) ≡ forcesOf exaggeration angle c (now (positions .entry)) (now (weights .entry)) (now (indices .entry)) (now (offsets .entry)) used (nodesOf (now (cells .entry))) i (now (forces .entry)) ⌝ }
+    ensures { λ _. ⌜
+        now (forces .exit)
+        ≡ forcesOf exaggeration angle c
+        (now (positions .entry))
+        (now (weights .entry))
+        (now (indices .entry))
+        (now (offsets .entry))
+        used
+        (nodesOf (now (cells .entry)))
+        i
+        (now (forces .entry))
+        ⌝ }
 {
     let eye = eye_of(positions, n, c, i, angle);
     let acc = repulsive_force(cells, used, eye);

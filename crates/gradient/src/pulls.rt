@@ -121,7 +121,18 @@ pub(crate) fn place_forces(
     forces: &mut [f64],
 )
     requires { ⌜ (Axes c) × (i < n) × (n * c ≤ length (now positions)) × (n * (2 * c + 1) ≤ length (now forces)) × Linked n (now weights) (now indices) (now offsets) i ⌝ }
-    ensures { λ _. ⌜ now (forces .exit) ≡ stored c i (attractionOf exaggeration c (now (positions .entry)) (now (weights .entry)) (now (indices .entry)) (now (offsets .entry)) i) acc (now (forces .entry)) ⌝ }
+    ensures { λ _. ⌜
+        now (forces .exit)
+        ≡ stored c i
+        (attractionOf exaggeration c
+        (now (positions .entry))
+        (now (weights .entry))
+        (now (indices .entry))
+        (now (offsets .entry))
+        i)
+        acc
+        (now (forces .entry))
+        ⌝ }
 {
     let t = attraction(positions, weights, indices, offsets, n, c, i, exaggeration);
     store(forces, c, i, t, acc);

@@ -115,7 +115,12 @@ pub fn with_value(x: Cell, y: f64) -> Cell
 // The cell i with the value i in it, and its mark set; the mark that was set.
 pub fn put_from(cells: &mut [Cell], values: &[f64], marks: &mut [u32], i: usize, m: u32) -> u32
     requires { ⌜ (i < length (now cells)) × (i < length (now values)) × (i < length (now marks)) ⌝ }
-    ensures { λ r. ⌜ (r ≡ m) × (now (cells .exit) ≡ set (now (cells .entry)) i (valued (cellAt (now (cells .entry)) i) (valueOr (now (values .entry)) i))) × (now (marks .exit) ≡ set (now (marks .entry)) i m) ⌝ }
+    ensures { λ r. ⌜
+        (r ≡ m)
+        × (now (cells .exit)
+        ≡ set (now (cells .entry)) i (valued (cellAt (now (cells .entry)) i) (valueOr (now (values .entry)) i)))
+        × (now (marks .exit) ≡ set (now (marks .entry)) i m)
+        ⌝ }
 {
     let old = cell_at(cells, i);
     let y = value_at(values, i);
@@ -158,7 +163,11 @@ pub fn put_from_own(
 
 pub fn note_from(c: &mut Counter, cells: &mut [Cell], values: &[f64], i: usize, more: u32)
     requires { ⌜ (CountFits (now c) more) × (i < length (now cells)) × (i < length (now values)) ⌝ }
-    ensures { λ _. ⌜ (now (c .exit) ≡ bumpedOf (now (c .entry)) more (valueOr (now (values .entry)) i)) × (now (cells .exit) ≡ set (now (cells .entry)) i (valued (cellAt (now (cells .entry)) i) (valueOr (now (values .entry)) i))) ⌝ }
+    ensures { λ _. ⌜
+        (now (c .exit) ≡ bumpedOf (now (c .entry)) more (valueOr (now (values .entry)) i))
+        × (now (cells .exit)
+        ≡ set (now (cells .entry)) i (valued (cellAt (now (cells .entry)) i) (valueOr (now (values .entry)) i)))
+        ⌝ }
 {
     let old = *c;
     let y = value_at(values, i);

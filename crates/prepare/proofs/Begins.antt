@@ -7,7 +7,7 @@ use native.Mathlib.Omega.{arith}
 use native.Mathlib.Nat.{le-refl, le-trans, mul-assoc}
 use native.Mathlib.Decide.{ℕ-discrete}
 use lib.Dec.{eqb}
-use lib.ListN.{length, drop, replicate, length-append, length-drop, length-replicate}
+use lib.ListN.{length, drop, length-append, length-drop}
 use lib.Ieee.{Float}
 use borrow.Author.Tests.{eq-eqb, ne-eqb, eqb-true, lt-ltb, le-leb}
 use Rattle.laws.specs.Area.{num, zero64, one64}
@@ -15,7 +15,9 @@ use Rattle.laws.specs.Joined.{joined}
 use Rattle.laws.proofs.Bools.{by-bool}
 use Rattle.laws.proofs.Parts.{length-pasted}
 use Rattle.laws.proofs.Laid.{singles-size, laid-size}
-use Rattle.affinity_lists.specs.Lists.{Rows, Areas, areas, cleared, listOf, weightsOf, listStart, linksOf}
+use Rattle.areas.specs.Filled.{filled}
+use Rattle.areas.proofs.Front.{filled-size}
+use Rattle.affinity_lists.specs.Lists.{Rows, Areas, areas, listOf, weightsOf, listStart, linksOf}
 use Rattle.affinity_lists.proofs.Linked.{length-weights, links-most}
 use Rattle.affinity_lists.proofs.Theorems.{offsets-first, offsets-rise, links-between, listed-below}
 use Rattle.affinity.specs.Laid.{each}
@@ -51,9 +53,6 @@ module _ {A : Type 0} where
   -- m values in front, then what stood there
   front-size : (w l : List A) (m : ℕ) → length w ≡ m → m ≤ length l → length (w ++ drop m l) ≡ length l
   front-size w l m e h = length-append w (drop m l) ∙ (let d = length-drop m l in omega (arith, e, d))
-
-  cleared-size : (z : A) (m : ℕ) (l : List A) → m ≤ length l → length (cleared z m l) ≡ length l
-  cleared-size z m l h = front-size (replicate m z) l m (length-replicate m z) h
 
 exact-size : (t : List Float) (n f : ℕ) (p : Float) (l : List Float) → n * n ≤ length l → length (exactOf t n f p l) ≡ length l
 unfolding exactOf
@@ -141,7 +140,7 @@ module _ (s : Settings) (table start : List Float) (cs : List Cell) (l : Lent) w
   tree-is : isTree (s .method) ≡ true → routedIn s table l ≡ neighboursListed table (s .n) (s .f) (s .perplexity) before
   tree-is t = sym (routed-tree s table before t)
 
-  exact-is : isTree (s .method) ≡ false → routedIn s table l ≡ areas (exactOf table (s .n) (s .f) (s .perplexity) (l .affinities)) (l .indices) (l .offsets) (cleared zero64 (s .n) (l .rowValues)) (cleared 0 (s .n) (l .rowIndices))
+  exact-is : isTree (s .method) ≡ false → routedIn s table l ≡ areas (exactOf table (s .n) (s .f) (s .perplexity) (l .affinities)) (l .indices) (l .offsets) (filled zero64 (s .n) (l .rowValues)) (filled 0 (s .n) (l .rowIndices))
   exact-is t = sym (routed-exact s table before t refl refl refl)
 
   module _ (p : Passed s table start (lengthsOf l nodes)) where
@@ -151,9 +150,9 @@ module _ (s : Settings) (table start : List Float) (cs : List Cell) (l : Lent) w
     areas-begin : GoodAreas s (length (A .positions)) (length (A .increments)) (length (A .gains)) (length (A .affinities)) (length (A .indices)) (length (A .offsets)) (length (A .forces)) nodes
     areas-begin = record {
       positions-long = rw (length-pasted start (l .positions) 0 (s .n * s .c) (omega (arith, p .start-is)) (P .positions-long)) (P .positions-long);
-      increments-long = rw (cleared-size zero64 (s .n * s .c) (l .increments) (P .increments-long)) (P .increments-long);
-      gains-long = rw (cleared-size one64 (s .n * s .c) (l .gains) (P .gains-long)) (P .gains-long);
-      forces-long = rw (cleared-size zero64 (s .n * (2 * s .c + 1)) (l .forces) (P .forces-long)) (P .forces-long);
+      increments-long = rw (filled-size zero64 (s .n * s .c) (l .increments) (P .increments-long)) (P .increments-long);
+      gains-long = rw (filled-size one64 (s .n * s .c) (l .gains) (P .gains-long)) (P .gains-long);
+      forces-long = rw (filled-size zero64 (s .n * (2 * s .c + 1)) (l .forces) (P .forces-long)) (P .forces-long);
       tree-long = λ t. (let z = P .tree-long t in
           let two = p .good .n-some in
           rw (tree-is t) (record {

@@ -15,7 +15,8 @@ use Rattle.laws.specs.Joined.{pasted}
 use Rattle.laws.proofs.Bools.{and-left, and-right, or-right, by-bool}
 use Rattle.laws.proofs.Changed.{drop-later}
 use Rattle.laws.proofs.Written.{written-tail}
-use Rattle.affinity_lists.specs.Lists.{Areas, areas, cleared}
+use Rattle.areas.specs.Filled.{filled}
+use Rattle.affinity_lists.specs.Lists.{Areas, areas}
 use Rattle.affinity_near.specs.Distances.{squareOf, squaresOf}
 use Rattle.affinity.specs.Exact.{exactOf}
 use Rattle.affinity.specs.Neighbours.{neighboursListed}
@@ -125,12 +126,12 @@ module _ (s : Settings) (table : List Float) (a : Areas) where
   unfolding routed
   routed-tree t = rw t
 
-  pub routed-exact : {W X : List Float} {R : List ℕ} → isTree (s .method) ≡ false → W ≡ exactOf table (s .n) (s .f) (s .perplexity) (a .weights) → X ≡ cleared zero64 (s .n) (a .rowValues) → R ≡ cleared 0 (s .n) (a .rowIndices) → areas W (a .indices) (a .offsets) X R ≡ routed s table a
+  pub routed-exact : {W X : List Float} {R : List ℕ} → isTree (s .method) ≡ false → W ≡ exactOf table (s .n) (s .f) (s .perplexity) (a .weights) → X ≡ filled zero64 (s .n) (a .rowValues) → R ≡ filled 0 (s .n) (a .rowIndices) → areas W (a .indices) (a .offsets) X R ≡ routed s table a
   unfolding routed
   routed-exact t w x r = rw (t, w, x, r)
 
--- the squares stood in places that are cleared
-pub squares-gone : (t : List Float) (n f m : ℕ) (z : Float) (F : List Float) → n ≤ m → cleared z m (squaresOf t n f F) ≡ cleared z m F
+-- the squares stood in places that are filled
+pub squares-gone : (t : List Float) (n f m : ℕ) (z : Float) (F : List Float) → n ≤ m → filled z m (squaresOf t n f F) ≡ filled z m F
 squares-gone t n f m z F h = ap (λ (l : List Float). replicate m z ++ l) (drop-later (squaresOf t n f F) F n m h (written-tail (λ i. squareOf t f i) n F))
 
 -- ---- the answer
@@ -141,8 +142,8 @@ module _ (s : Settings) (table start : List Float) (nodes : ℕ) (l : Lent) {k :
   refused-outcome n = rw (ne-eqb (prepareFault s table start (lengthsOf l nodes)) 0 (λ e. n (q ∙ e)), q)
 
   pub ready-is : {r : Run} {p i g a F F₁ v : List Float} {x o w : List ℕ} → k ≡ 0 → r ≡ freshRun s → areas a x o v w ≡ routedIn s table l
-      → p ≡ pasted start 0 (s .n * s .c) (l .positions) → i ≡ cleared zero64 (s .n * s .c) (l .increments) → g ≡ cleared one64 (s .n * s .c) (l .gains)
-      → F₁ ≡ squaresOf table (s .n) (s .f) (l .forces) → F ≡ cleared zero64 (s .n * (2 * s .c + 1)) F₁
+      → p ≡ pasted start 0 (s .n * s .c) (l .positions) → i ≡ filled zero64 (s .n * s .c) (l .increments) → g ≡ filled one64 (s .n * s .c) (l .gains)
+      → F₁ ≡ squaresOf table (s .n) (s .f) (l .forces) → F ≡ filled zero64 (s .n * (2 * s .c + 1)) F₁
       → prepareOutcome (Ready r) (lent p i g a x o F v w) ≡ prepared s table start nodes l
   unfolding prepared
   ready-is {r} {p} {i} {g} {a} {F} {F₁} {v} {x} {o} {w} e er ea ep ei eg ef eF =
@@ -154,5 +155,5 @@ module _ (s : Settings) (table start : List Float) (nodes : ℕ) (l : Lent) {k :
       let v' : v ≡ R .rowValues = ap (λ (z : Areas). z .rowValues) ea in
       let w' : w ≡ R .rowIndices = ap (λ (z : Areas). z .rowIndices) ea in
       let cf = cells-forces (s .n) (s .c) in
-      let F' : F ≡ cleared zero64 (s .n * (2 * s .c + 1)) (l .forces) = eF ∙ ap (λ (z : List Float). cleared zero64 (s .n * (2 * s .c + 1)) z) ef ∙ squares-gone table (s .n) (s .f) (s .n * (2 * s .c + 1)) zero64 (l .forces) (omega arith) in
+      let F' : F ≡ filled zero64 (s .n * (2 * s .c + 1)) (l .forces) = eF ∙ ap (λ (z : List Float). filled zero64 (s .n * (2 * s .c + 1)) z) ef ∙ squares-gone table (s .n) (s .f) (s .n * (2 * s .c + 1)) zero64 (l .forces) (omega arith) in
       rw (n, er, a', x', o', v', w', F', ep, ei, eg)

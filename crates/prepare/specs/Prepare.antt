@@ -9,7 +9,8 @@ use Rattle.laws.specs.Loops.{every}
 use Rattle.laws.specs.Area.{at, zero64, one64}
 use Rattle.laws.specs.Joined.{pasted}
 use Rattle.elementary.specs.Limits.{inDomain}
-use Rattle.affinity_lists.specs.Lists.{Areas, areas, cleared}
+use Rattle.areas.specs.Filled.{filled}
+use Rattle.affinity_lists.specs.Lists.{Areas, areas}
 use Rattle.affinity.specs.Exact.{exactOf}
 use Rattle.affinity.specs.Neighbours.{neighboursListed}
 use Rattle.run_record.specs.declared.Settings.{Settings}
@@ -74,7 +75,7 @@ freshRun s = record { settings = s; standing = Running; done = 0; phase = 0; uni
 unfoldable pub routed : Settings → List Float → Areas → Areas
 routed s table a =
     cond (isTree (s .method)) (neighboursListed table (s .n) (s .f) (s .perplexity) a)
-    (areas (exactOf table (s .n) (s .f) (s .perplexity) (a .weights)) (a .indices) (a .offsets) (cleared zero64 (s .n) (a .rowValues)) (cleared 0 (s .n) (a .rowIndices)))
+    (areas (exactOf table (s .n) (s .f) (s .perplexity) (a .weights)) (a .indices) (a .offsets) (filled zero64 (s .n) (a .rowValues)) (filled 0 (s .n) (a .rowIndices)))
 
 abbrev pub routedIn : Settings → List Float → Lent → Areas
 routedIn s table l = routed s table (areas (l .affinities) (l .indices) (l .offsets) (l .rowValues) (l .rowIndices))
@@ -85,12 +86,12 @@ begunAreas s table start l =
     let r = routedIn s table l in
     lent
     (pasted start 0 (s .n * s .c) (l .positions))
-    (cleared zero64 (s .n * s .c) (l .increments))
-    (cleared one64 (s .n * s .c) (l .gains))
+    (filled zero64 (s .n * s .c) (l .increments))
+    (filled one64 (s .n * s .c) (l .gains))
     (r .weights)
     (r .indices)
     (r .offsets)
-    (cleared zero64 (s .n * (2 * s .c + 1)) (l .forces))
+    (filled zero64 (s .n * (2 * s .c + 1)) (l .forces))
     (r .rowValues)
     (r .rowIndices)
 

@@ -4,12 +4,16 @@ ghost use Prim.Native.Nat.{_+_, _*_, _≤_};
 ghost use lib.ListN.{length};
 ghost use Rattle.laws.specs.Area.{zero64, one64};
 ghost use Rattle.laws.specs.Joined.{pasted};
-ghost use Rattle.affinity_lists.specs.Lists.{areas, cleared};
+ghost use Rattle.areas.specs.Filled.{filled};
+ghost use Rattle.affinity_lists.specs.Lists.{areas};
 ghost use Rattle.affinity_near.specs.Distances.{squaresOf};
 ghost use Rattle.affinity.specs.Exact.{exactOf};
 ghost use Rattle.run_record.specs.Record.{GoodSettings};
 ghost use Rattle.prepare.specs.Room.{RouteRoom};
 ghost use Rattle.prepare.specs.Prepare.{allIn, lengthsFit, prepareFault, freshRun, routed, lent, prepareOutcome, prepared};
+use areas::clear_indices;
+use areas::copy_values;
+use areas::fill;
 use elementary::in_domain;
 use run_entry::areas_fit;
 use run_record::Run;
@@ -128,18 +132,6 @@ fn fresh(s: Settings) -> Run
     }
 }
 
-// The first n places become x.
-fn fill(p: &mut [f64], n: usize, x: f64)
-    requires { ⌜ n ≤ length (now p) ⌝ }
-    ensures { λ _. ⌜ now (p .exit) ≡ cleared x n (now (p .entry)) ⌝ }
-{
-    let mut t = 0;
-    while t < n {
-        p[t] = x;
-        t += 1;
-    }
-}
-
 // Positions, increments, gains and forces as a run begins.
 fn set_out(
     z: Sizes,
@@ -150,9 +142,14 @@ fn set_out(
     forces: &mut [f64],
 )
     requires { ⌜ (z .cells ≤ length (now start)) × (z .cells ≤ length (now positions)) × (z .cells ≤ length (now increments)) × (z .cells ≤ length (now gains)) × (z .forces ≤ length (now forces)) ⌝ }
-    ensures { λ _. ⌜ (now (positions .exit) ≡ pasted (now (start .entry)) 0 (z .cells) (now (positions .entry))) × (now (increments .exit) ≡ cleared zero64 (z .cells) (now (increments .entry))) × (now (gains .exit) ≡ cleared one64 (z .cells) (now (gains .entry))) × (now (forces .exit) ≡ cleared zero64 (z .forces) (now (forces .entry))) ⌝ }
+    ensures { λ _. ⌜
+        (now (positions .exit) ≡ pasted (now (start .entry)) 0 (z .cells) (now (positions .entry)))
+        × (now (increments .exit) ≡ filled zero64 (z .cells) (now (increments .entry)))
+        × (now (gains .exit) ≡ filled one64 (z .cells) (now (gains .entry)))
+        × (now (forces .exit) ≡ filled zero64 (z .forces) (now (forces .entry)))
+        ⌝ }
 {
-    affinity_lists::areas::copy_values(positions, start, 0, z.cells);
+    copy_values(positions, start, 0, z.cells);
     fill(increments, z.cells, 0.0);
     fill(gains, z.cells, 1.0);
     fill(forces, z.forces, 0.0);
@@ -169,8 +166,30 @@ fn route(
     row_values: &mut [f64],
     row_indices: &mut [u32],
 )
-    requires { ⌜ RouteRoom s (length (now table)) (length (now affinities)) (length (now indices)) (length (now offsets)) (length (now squares)) (length (now «row_values»)) (length (now «row_indices»)) ⌝ }
-    ensures { λ _. ⌜ areas (now (affinities .exit)) (now (indices .exit)) (now (offsets .exit)) (now («row_values» .exit)) (now («row_indices» .exit)) ≡ routed s (now (table .entry)) (areas (now (affinities .entry)) (now (indices .entry)) (now (offsets .entry)) (now («row_values» .entry)) (now («row_indices» .entry))) ⌝ }
+    requires { ⌜
+        RouteRoom s
+        (length (now table))
+        (length (now affinities))
+        (length (now indices))
+        (length (now offsets))
+        (length (now squares))
+        (length (now «row_values»))
+        (length (now «row_indices»))
+        ⌝ }
+    ensures { λ _. ⌜
+        areas
+        (now (affinities .exit))
+        (now (indices .exit))
+        (now (offsets .exit))
+        (now («row_values» .exit))
+        (now («row_indices» .exit))
+        ≡ routed s (now (table .entry)) (areas
+        (now (affinities .entry))
+        (now (indices .entry))
+        (now (offsets .entry))
+        (now («row_values» .entry))
+        (now («row_indices» .entry)))
+        ⌝ }
     ensures { λ _. ⌜ now (squares .exit) ≡ squaresOf (now (table .entry)) (s .n) (s .f) (now (squares .entry)) ⌝ }
 {
     let m = s.method;
@@ -198,7 +217,7 @@ fn route(
         squares,
         row_values,
     );
-    affinity_lists::areas::clear_indices(row_indices, s.n);
+    clear_indices(row_indices, s.n);
 }
 
 // Prepares a run: takes any settings and any areas. Of the arena it asks only how many nodes it has.
@@ -217,7 +236,32 @@ pub fn prepare(
     row_indices: &mut [u32],
     nodes: usize,
 ) -> Prepared
-    ensures { λ r. ⌜ prepareOutcome r (lent (now (positions .exit)) (now (increments .exit)) (now (gains .exit)) (now (affinities .exit)) (now (indices .exit)) (now (offsets .exit)) (now (forces .exit)) (now («row_values» .exit)) (now («row_indices» .exit))) ≡ prepared s (now (table .entry)) (now (start .entry)) nodes (lent (now (positions .entry)) (now (increments .entry)) (now (gains .entry)) (now (affinities .entry)) (now (indices .entry)) (now (offsets .entry)) (now (forces .entry)) (now («row_values» .entry)) (now («row_indices» .entry))) ⌝ }
+    ensures { λ r. ⌜
+        prepareOutcome r (lent
+        (now (positions .exit))
+        (now (increments .exit))
+        (now (gains .exit))
+        (now (affinities .exit))
+        (now (indices .exit))
+        (now (offsets .exit))
+        (now (forces .exit))
+        (now («row_values» .exit))
+        (now («row_indices» .exit)))
+        ≡ prepared s
+        (now (table .entry))
+        (now (start .entry))
+        nodes
+        (lent
+        (now (positions .entry))
+        (now (increments .entry))
+        (now (gains .entry))
+        (now (affinities .entry))
+        (now (indices .entry))
+        (now (offsets .entry))
+        (now (forces .entry))
+        (now («row_values» .entry))
+        (now («row_indices» .entry)))
+        ⌝ }
 {
     let l = Lengths {
         positions: positions.len(),

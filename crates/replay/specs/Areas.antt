@@ -1,4 +1,4 @@
--- Areas of a replay: marked, filled from the words of a list, and compared with them. Definitions only.
+-- Areas of a replay: marked, taking the words of a list, and compared with them. Definitions only.
 use mathlib.Core.List.{List}
 use mathlib.Core.Bool.{Bool, cond, _&&_, _||_}
 use Prim.Native.Nat.{ℕ, _+_, _%_, _^_}
@@ -22,8 +22,8 @@ abbrev pub markedNumbers : List ℕ → List ℕ
 markedNumbers v = loop (λ i x. set x i (0x40000000 + i % 0x40000000)) (length v) 0 v
 
 -- the first m places take the words from a on
-abbrev pub filled : List ℕ → ℕ → ℕ → List Float → List Float
-filled l a m v = loop (λ i x. set x i (bits (wordOf l (onward a i)))) m 0 v
+abbrev pub wordsCopied : List ℕ → ℕ → ℕ → List Float → List Float
+wordsCopied l a m v = loop (λ i x. set x i (bits (wordOf l (onward a i)))) m 0 v
 
 -- what place i is to hold: below m the word, then a mark
 abbrev pub wantedAt : List ℕ → ℕ → ℕ → ℕ → ℕ → ℕ

@@ -1,4 +1,4 @@
-// Areas of a replay: marked, filled from the words of a list, and compared with them.
+// Areas of a replay: marked, taking the words of a list, and compared with them.
 use crate::word_at;
 ghost use mathlib.Core.Path.{_≡_};
 ghost use Prim.Native.Nat.{_≤_};
@@ -7,7 +7,7 @@ ghost use lib.ListN.{length};
 ghost use lib.Ieee.{binary64, toBits};
 ghost use Rattle.laws.specs.Area.{bits};
 ghost use Rattle.replay.specs.Replay.{wordOf};
-ghost use Rattle.replay.specs.Areas.{onward, marked, markedNumbers, filled, wantedAt, sameArea, sameNumbers};
+ghost use Rattle.replay.specs.Areas.{onward, marked, markedNumbers, wordsCopied, wantedAt, sameArea, sameNumbers};
 
 // A word's place further on.
 pub fn plus(a: usize, b: usize) -> usize
@@ -53,9 +53,9 @@ pub fn mark_words(area: &mut [u32])
 }
 
 // The first m places take the words from a on.
-pub fn fill(area: &mut [f64], m: usize, list: &[u8], a: usize)
+pub fn copy_words(area: &mut [f64], m: usize, list: &[u8], a: usize)
     requires { ⌜ m ≤ length (now area) ⌝ }
-    ensures { λ _. ⌜ now (area .exit) ≡ filled (now (list .entry)) a m (now (area .entry)) ⌝ }
+    ensures { λ _. ⌜ now (area .exit) ≡ wordsCopied (now (list .entry)) a m (now (area .entry)) ⌝ }
 {
     let mut i = 0;
     while i < m {

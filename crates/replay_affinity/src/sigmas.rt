@@ -1,5 +1,5 @@
 // Replays the list of sigma searches: the shares of each row.
-use replay::areas::fill;
+use replay::areas::copy_words;
 use replay::areas::mark;
 use replay::areas::same_area;
 use replay::word_at;
@@ -14,7 +14,7 @@ fn case_right(list: &[u8], a: usize, n: usize) -> bool
     }
     let mut distances = [0.0; 256];
     let mut shares = [0.0; 256];
-    fill(&mut distances, n, list, a + 2);
+    copy_words(&mut distances, n, list, a + 2);
     mark(&mut shares);
     let perplexity = elementary::value_of(word_at(list, a + 1));
     affinity_sigma::binary_search_sigma(&distances, n, perplexity, &mut shares);

@@ -106,7 +106,12 @@ pub fn put_tested(
     c: usize,
 ) -> Put
     requires { ⌜ (Axes c) × (k ≤ 512) × (n * c ≤ length (now positions)) × (j < n) × (n < mostWord) ⌝ }
-    ensures { λ r. ⌜ (fineOf k used n c cells ≡ true → toldBy k r ≡ insertOf (now (positions .entry)) c j (tree used (front k cells))) × (fineOf k used n c cells ≡ false → r ≡ nothingPut cells) × (behind k (r .cells) ≡ behind k cells) ⌝ }
+    ensures { λ r. ⌜
+        (fineOf k used n c cells ≡ true
+        → toldBy k r ≡ insertOf (now (positions .entry)) c j (tree used (front k cells)))
+        × (fineOf k used n c cells ≡ false → r ≡ nothingPut cells)
+        × (behind k (r .cells) ≡ behind k cells)
+        ⌝ }
 {
     if !fine_in(cells, k, used, n, c) {
         return Put {

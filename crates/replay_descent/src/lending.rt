@@ -33,7 +33,27 @@ pub(crate) fn work_lent(
     budget: u32,
 ) -> Left
     requires { ⌜ k ≤ 512 ⌝ }
-    ensures { λ l. ⌜ (worked (l .answer) (state (l .run) (memory (now (positions .exit)) (now (increments .exit)) (now (gains .exit)) (now (affinities .entry)) (now (indices .entry)) (now (offsets .entry)) (now (forces .exit)) (take k (l .cells)))) ≡ work budget (state r (memory (now (positions .entry)) (now (increments .entry)) (now (gains .entry)) (now (affinities .entry)) (now (indices .entry)) (now (offsets .entry)) (now (forces .entry)) (take k cells)))) × (behind k (l .cells) ≡ behind k cells) ⌝ }
+    ensures { λ l. ⌜
+        (worked (l .answer) (state (l .run) (memory
+        (now (positions .exit))
+        (now (increments .exit))
+        (now (gains .exit))
+        (now (affinities .entry))
+        (now (indices .entry))
+        (now (offsets .entry))
+        (now (forces .exit))
+        (take k (l .cells))))
+        ≡ work budget (state r (memory
+        (now (positions .entry))
+        (now (increments .entry))
+        (now (gains .entry))
+        (now (affinities .entry))
+        (now (indices .entry))
+        (now (offsets .entry))
+        (now (forces .entry))
+        (take k cells))))
+        × (behind k (l .cells) ≡ behind k cells)
+        ⌝ }
 {
     let mut run = r;
     let mut own = cells;

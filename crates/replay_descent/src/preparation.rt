@@ -10,7 +10,7 @@ use crate::fields::settings_at;
 use crate::lengths::length_at;
 use crate::lengths::lent_at;
 use prepare::Prepared;
-use replay::areas::fill;
+use replay::areas::copy_words;
 use replay::areas::mark;
 use replay::areas::mark_words;
 use replay::areas::plus;
@@ -47,7 +47,7 @@ fn values_at(list: &[u8], a: usize, m: usize) -> [f64; 200]
     requires { ⌜ m ≤ 200 ⌝ }
 {
     let mut values = [0.0; 200];
-    fill(&mut values, m, list, a);
+    copy_words(&mut values, m, list, a);
     values
 }
 

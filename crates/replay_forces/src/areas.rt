@@ -1,5 +1,5 @@
 // What a case has in its words, as arrays.
-use replay::areas::fill;
+use replay::areas::copy_words;
 use replay::areas::plus;
 use replay::word_at;
 ghost use mathlib.Core.Path.{_≡_};
@@ -27,7 +27,7 @@ pub(crate) fn values_at(list: &[u8], a: usize, m: usize) -> [f64; 400]
     requires { ⌜ m ≤ 400 ⌝ }
 {
     let mut values = [0.0; 400];
-    fill(&mut values, m, list, a);
+    copy_words(&mut values, m, list, a);
     values
 }
 

@@ -25,8 +25,28 @@ pub(crate) fn forces_in(
     angle: f64,
     forces: &mut [f64],
 )
-    requires { ⌜ (Axes c) × (i < n) × (n ≤ mostFrames) × (n * c ≤ length (now positions)) × (n * (2 * c + 1) ≤ length (now forces)) × (k ≤ 512) × (Walkable k used c cells) × Linked n (now weights) (now indices) (now offsets) i ⌝ }
-    ensures { λ _. ⌜ now (forces .exit) ≡ forcesOf exaggeration angle c (now (positions .entry)) (now (weights .entry)) (now (indices .entry)) (now (offsets .entry)) used (front k cells) i (now (forces .entry)) ⌝ }
+    requires { ⌜
+        (Axes c)
+        × (i < n)
+        × (n ≤ mostFrames)
+        × (n * c ≤ length (now positions))
+        × (n * (2 * c + 1) ≤ length (now forces))
+        × (k ≤ 512)
+        × (Walkable k used c cells)
+        × Linked n (now weights) (now indices) (now offsets) i
+        ⌝ }
+    ensures { λ _. ⌜
+        now (forces .exit)
+        ≡ forcesOf exaggeration angle c
+        (now (positions .entry))
+        (now (weights .entry))
+        (now (indices .entry))
+        (now (offsets .entry))
+        used
+        (front k cells)
+        i
+        (now (forces .entry))
+        ⌝ }
 {
     let own = cells;
     point_forces(

@@ -57,36 +57,33 @@ struct Next {
     at: usize,
 }
 
+// A good file of count frames: kind and value say so, and the frames follow from word a on.
+fn good_case(file: &[u8], count: usize, kind: u64, value: u64, list: &[u8], a: usize) -> Next
+    requires { ⌜ a ≤ 100000 ⌝ }
+{
+    if count > 1000 {
+        return Next {
+            right: false,
+            at: a,
+        };
+    }
+    let ok = same_frames(file, count, list, a);
+    let at = a + 10 * count;
+    if kind != 0 {
+        return Next { right: false, at };
+    }
+    if count as u64 != value {
+        return Next { right: false, at };
+    }
+    Next { right: ok, at }
+}
+
 // The file of a case: its answer is kind and value; a good one's frames follow from word a on.
 fn case_of(file: &[u8], kind: u64, value: u64, list: &[u8], a: usize) -> Next
     requires { ⌜ a ≤ 100000 ⌝ }
 {
     match frames::read_frames(file) {
-        frames::Frames::Good(count) => {
-            if count > 1000 {
-                return Next {
-                    right: false,
-                    at: a,
-                };
-            }
-            let ok = same_frames(file, count, list, a);
-            if kind != 0 {
-                return Next {
-                    right: false,
-                    at: a + 10 * count,
-                };
-            }
-            if count as u64 != value {
-                return Next {
-                    right: false,
-                    at: a + 10 * count,
-                };
-            }
-            Next {
-                right: ok,
-                at: a + 10 * count,
-            }
-        }
+        frames::Frames::Good(count) => good_case(file, count, kind, value, list, a),
         frames::Frames::Bad(place) => {
             if kind != 1 {
                 return Next {

@@ -1,6 +1,6 @@
 // Replays the lists of the exact gradient and of the step: every place of every area afterwards, the tails included. And those of the divergence over pairs.
 use divergence_sums::kl_divergence;
-use replay::areas::fill;
+use replay::areas::copy_words;
 use replay::areas::mark;
 use replay::areas::plus;
 use replay::areas::same_area;
@@ -33,7 +33,7 @@ fn ready(list: &[u8], a: usize, m: usize) -> [f64; 210]
 {
     let mut area = [0.0; 210];
     mark(&mut area);
-    fill(&mut area, m, list, a);
+    copy_words(&mut area, m, list, a);
     area
 }
 

@@ -1,5 +1,5 @@
 // Replays the lists of preparations by both routes: every place of every area afterwards, the tails and the zeroed rows included.
-use replay::areas::fill;
+use replay::areas::copy_words;
 use replay::areas::mark;
 use replay::areas::mark_words;
 use replay::areas::plus;
@@ -164,7 +164,7 @@ fn case_right(list: &[u8], a: usize, n: usize, f: usize) -> bool
     let perplexity = value_at(list, plus(a, 3));
     let b = plus(a, 4);
     let mut table = [0.0; 400];
-    fill(&mut table, m, list, b);
+    copy_words(&mut table, m, list, b);
     let e = plus(b, m);
     if word_at(list, a) == 0 {
         return exact_case(list, e, n, f, perplexity, table);

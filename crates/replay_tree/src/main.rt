@@ -9,7 +9,7 @@ use forces::same_forces;
 use growth::Grown;
 use growth::grow;
 use order::same_tree;
-use replay::areas::fill;
+use replay::areas::copy_words;
 use replay::word_at;
 use replay_arena::marks::marked;
 ghost use mathlib.Core.Path.{_≡_};
@@ -150,7 +150,7 @@ fn case_at(list: &[u8], a: usize, c: usize, n: u32) -> Next
         };
     }
     let mut positions = [0.0; 192];
-    fill(&mut positions, coordinates, list, a + 2);
+    copy_words(&mut positions, coordinates, list, a + 2);
     let nodes = a + 3 + coordinates;
     let forces = nodes + product(count as usize, 3 * c + 3);
     let s = Case {

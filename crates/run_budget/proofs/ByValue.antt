@@ -35,9 +35,9 @@ use Rattle.run_budget.proofs.Going.Laws as Going″
 use Rattle.run_record.specs.declared.Run.{Run}
 use Rattle.run_record.proofs.Run as Run′
 use Rattle.run_record.proofs.Run.Laws as Run″
-use Rattle.run_units.specs.declared.Turn.{Turn}
-use Rattle.run_units.proofs.Turn as Turn′
-use Rattle.run_units.proofs.Turn.Laws as Turn″
+use Rattle.run_finish.specs.declared.Turn.{Turn}
+use Rattle.run_finish.proofs.Turn as Turn′
+use Rattle.run_finish.proofs.Turn.Laws as Turn″
 use Rattle.run_budget.specs.declared.Worked.{Worked}
 use Rattle.run_budget.proofs.Worked as Worked′
 use Rattle.run_budget.proofs.Worked.Laws as Worked″

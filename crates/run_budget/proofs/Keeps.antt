@@ -21,9 +21,10 @@ use Rattle.tree_bounds.specs.Bounds.{boxOf}
 use Rattle.tree.proofs.Whole.{looser, taken-ends, taken-fits}
 use Rattle.run_entry.specs.State.{Memory, State}
 use Rattle.run_entry.specs.Entry.{GoodTree, Ordered, Workable}
-use Rattle.run_units.specs.declared.Why.the-variants.{Done, Full as NoNodes, Wild as TooLarge, Over}
+use Rattle.run_finish.specs.declared.Why.the-variants.{Done, Full as NoNodes, Wild as TooLarge, Over}
 use Rattle.run_plan.specs.Plan.{groupOf}
-use Rattle.run_units.specs.Units.{unit, isDone, TreeTurn, treeTurn, boxTurn, forceUnit, FinishTurn, finishTurn, Turned, withTree, withForces, withFinish}
+use Rattle.run_finish.specs.Finish.{FinishTurn, finishTurn}
+use Rattle.run_units.specs.Units.{unit, isDone, TreeTurn, treeTurn, boxTurn, forceUnit, Turned, withTree, withForces, withFinish}
 use Rattle.run_units.proofs.Rooms.{group-zero, group-one, group-two}
 use Rattle.run_units.proofs.One.{unit-over, by-unit}
 use Rattle.run_budget.proofs.Counters.{advanced-good, closed-good}

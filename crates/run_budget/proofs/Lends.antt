@@ -11,7 +11,7 @@ use Rattle.run_calls.specs.Machine.{go}
 use Rattle.run_record.specs.declared.Run.{Run}
 use Rattle.run_entry.specs.State.{Memory, State, state}
 use Rattle.run_entry.specs.Entry.{Good, Workable}
-use Rattle.run_units.specs.declared.Turn.{Turn}
+use Rattle.run_finish.specs.declared.Turn.{Turn}
 use Rattle.run_units.specs.Units.{isDone, turned, Turned, unit}
 use Rattle.run_budget.specs.declared.Going.{Going}
 use Rattle.run_budget.specs.declared.Worked.{Worked as Left}

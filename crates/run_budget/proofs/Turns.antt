@@ -26,9 +26,10 @@ use Rattle.gradient.specs.Exact.{totalRow, slopeStep, gradientRow}
 use Rattle.gradient.specs.Element.{normOf}
 use Rattle.step_passes.specs.Passes.{Before, meansOf, calmMoves, calmCentred, positionStep, incrementStep, gainStep}
 use Rattle.step.specs.Step.{finishOf}
-use Rattle.run_units.specs.declared.Why.the-variants.{Done, Full, Wild}
+use Rattle.run_finish.specs.declared.Why.the-variants.{Done, Full, Wild}
 use Rattle.run_plan.specs.Plan.{exaggerationOf}
-use Rattle.run_units.specs.Units.{TreeTurn, treeTurn, boxTurn, insertTurn, treeUnit, forceUnit, beforeOf, FinishTurn, finishTurn, finishUnit}
+use Rattle.run_finish.specs.Finish.{beforeOf, FinishTurn, finishTurn, finishUnit}
+use Rattle.run_units.specs.Units.{TreeTurn, treeTurn, boxTurn, insertTurn, treeUnit, forceUnit}
 
 -- ---- a unit of the tree: the box, a refusal, or an insertion
 

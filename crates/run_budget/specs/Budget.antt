@@ -9,9 +9,9 @@ use Rattle.run_record.specs.declared.Standing.the-variants.{Running as Runs, St
 use Rattle.run_record.specs.Record.{isEnded}
 use Rattle.run_entry.specs.State.{State}
 use Rattle.run_entry.specs.Entry.{isFine, faultOf}
-use Rattle.run_units.specs.declared.Why.{Why}
-use Rattle.run_units.specs.declared.Why.the-variants.{Done, Full as NoNodes, Wild as TooLarge, Over}
-use Rattle.run_units.specs.declared.Turn.{Turn}
+use Rattle.run_finish.specs.declared.Why.{Why}
+use Rattle.run_finish.specs.declared.Why.the-variants.{Done, Full as NoNodes, Wild as TooLarge, Over}
+use Rattle.run_finish.specs.declared.Turn.{Turn}
 use Rattle.run_units.specs.Units.{unit, isDone}
 use Rattle.run_budget.specs.declared.Going.{Going}
 use Rattle.run_budget.specs.declared.Worked.{Worked as Left}

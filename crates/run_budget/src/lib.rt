@@ -6,11 +6,11 @@ ghost use Rattle.run_entry.specs.State.{memory, state};
 ghost use Rattle.run_entry.specs.Entry.{Good};
 ghost use Rattle.run_budget.specs.Budget.{machine, standsOf, refusedOf, haltedOf, worked, told, startedOf, spendsOn, countedOn, endedOf};
 use run_entry::Fault;
+use run_finish::Turn;
+use run_finish::Why;
 use run_record::Run;
 use run_record::Standing;
 use run_record::counters::is_ended;
-use run_units::Turn;
-use run_units::Why;
 use run_units::is_done;
 use run_units::one_unit;
 use tree_node::Cell;
@@ -142,7 +142,26 @@ pub fn go_on(
     budget: u32,
 ) -> Worked
     requires { ⌜ Good (state r (memory (now positions) (now increments) (now gains) (now affinities) (now indices) (now offsets) (now forces) (now cells))) ⌝ }
-    ensures { λ t. ⌜ worked (t .answer) (state (t .run) (memory (now (positions .exit)) (now (increments .exit)) (now (gains .exit)) (now (affinities .entry)) (now (indices .entry)) (now (offsets .entry)) (now (forces .exit)) (now (cells .exit)))) ≡ told (go machine budget (state r (memory (now (positions .entry)) (now (increments .entry)) (now (gains .entry)) (now (affinities .entry)) (now (indices .entry)) (now (offsets .entry)) (now (forces .entry)) (now (cells .entry))))) ⌝ }
+    ensures { λ t. ⌜
+        worked (t .answer) (state (t .run) (memory
+        (now (positions .exit))
+        (now (increments .exit))
+        (now (gains .exit))
+        (now (affinities .entry))
+        (now (indices .entry))
+        (now (offsets .entry))
+        (now (forces .exit))
+        (now (cells .exit))))
+        ≡ told (go machine budget (state r (memory
+        (now (positions .entry))
+        (now (increments .entry))
+        (now (gains .entry))
+        (now (affinities .entry))
+        (now (indices .entry))
+        (now (offsets .entry))
+        (now (forces .entry))
+        (now (cells .entry)))))
+        ⌝ }
 {
     let mut g = started(r);
     while goes_on(g, budget) {

@@ -32,17 +32,17 @@ use Prim.Native.Nat.{_-_, _<_, _≤_}
 use Rattle.laws.specs.Domain.{mostFrames}
 use Rattle.run_plan.specs.Plan.{exaggerationOf, groupOf}
 use Rattle.run_record.specs.Record.{advancedOf, isTree, isEnded}
-use Rattle.run_units.specs.Room.{Small}
+use Rattle.run_finish.specs.FinishRoom.{Small}
 use Rattle.run_units.specs.Units.{turnAs, insertedOf}
-use Rattle.run_units.specs.declared.Why.the-variants.{Done, Over}
+use Rattle.run_finish.specs.declared.Why.the-variants.{Done, Over}
 use lib.Dec.{eqb}
 use mathlib.Core.Path.{_≡_}
 use Rattle.run_record.specs.declared.Run.{Run}
 use Rattle.run_record.proofs.Run as Run′
 use Rattle.run_record.proofs.Run.Laws as Run″
-use Rattle.run_units.specs.declared.Turn.{Turn}
-use Rattle.run_units.proofs.Turn as Turn′
-use Rattle.run_units.proofs.Turn.Laws as Turn″
+use Rattle.run_finish.specs.declared.Turn.{Turn}
+use Rattle.run_finish.proofs.Turn as Turn′
+use Rattle.run_finish.proofs.Turn.Laws as Turn″
 use Rattle.run_entry.proofs.Values.{val-Run, IsRun}
 use Rattle.run_units.proofs.Values.{val-Turn}
 use Rattle.run_units.proofs.is_box as is-box′

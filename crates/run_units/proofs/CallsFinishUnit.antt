@@ -1,4 +1,4 @@
--- How `run_units::finish_unit` is called, with 4 slices lent to it: a rule for each way to lend them (m: a `&mut` lent again, s: a `&mut` lent as `&`, c: a `&` passed on). Printed (tests/walks).
+-- How `run_finish::finish_unit` is called, with 4 slices lent to it: a rule for each way to lend them (m: a `&mut` lent again, s: a `&mut` lent as `&`, c: a `&` passed on). Printed (tests/walks).
 -- Assumes `Given`, and that the callee meets its contract.
 use mathlib.Core.Path.{sym, _∙_, ap, subst}
 use mathlib.Core.List.{List, [], _∷_}
@@ -26,20 +26,20 @@ use denote.Triple.Spec.{tripleOf}
 use denote.Triple.Walked.{says}
 use Rattle.lent.proofs.Pass.{Seat, ref-at, word, Mut, Shr, Tok, lent-to, lend-mut, back-mut, lend-shr, back-shr}
 use denote.Struct.Laws as LL
-use Rattle.run_units.specs.Room.{FinishRoom}
-use Rattle.run_units.specs.Units.{finishTurn, finishUnit}
+use Rattle.run_finish.specs.FinishRoom.{FinishRoom}
+use Rattle.run_finish.specs.Finish.{finishTurn, finishUnit}
 use lib.ListN.{length}
 use mathlib.Core.Path.{_≡_}
 use Rattle.run_record.specs.declared.Run.{Run}
 use Rattle.run_record.proofs.Run as Run′
 use Rattle.run_record.proofs.Run.Laws as Run″
-use Rattle.run_units.specs.declared.Turn.{Turn}
-use Rattle.run_units.proofs.Turn as Turn′
-use Rattle.run_units.proofs.Turn.Laws as Turn″
+use Rattle.run_finish.specs.declared.Turn.{Turn}
+use Rattle.run_finish.proofs.Turn as Turn′
+use Rattle.run_finish.proofs.Turn.Laws as Turn″
 use Rattle.run_entry.proofs.Values.{val-Run, IsRun}
 use Rattle.run_units.proofs.Values.{val-Turn}
-use Rattle.run_units.proofs.finish_unit as callee
-use Rattle.run_units.proofs.finish_unit.Symbol.{name as #run-units·finish-unit}
+use Rattle.run_finish.proofs.finish_unit as callee
+use Rattle.run_finish.proofs.finish_unit.Symbol.{name as #run-finish·finish-unit}
 
 -- what the callee ensures of its result and of the last lists
 abbrev pub Ensured-finish-unit : Run → List Float → List Float → List Float → List Float → Turn → List Float → List Float → List Float → Type 0
@@ -56,11 +56,11 @@ module _ {M : Type 1} (𝓤 : URA M) (H : Heap 𝓤) (A : Atoms 𝓤) (mem : Mem
   goes W r s-positions positions s-increments increments s-gains gains s-forces forces g-r l = qed W (‵ (Tok s-positions) ∷ ‵ (Tok s-increments) ∷ ‵ (Tok s-gains) ∷ ‵ (Tok s-forces) ∷ ‵ (Mut f64 s-positions positions) ∷ ‵ (Mut f64 s-increments increments) ∷ ‵ (Mut f64 s-gains gains) ∷ ‵ (Shr f64 s-forces forces) ∷ []) ∵ says ! l $ nothing ! $ move ! (4 ∷ 0 ∷ []) $ join ! $ move ! (3 ∷ 0 ∷ []) $ join ! $ move ! (2 ∷ 0 ∷ []) $ join ! $ move ! (1 ∷ 0 ∷ []) $ join ! $ frame ! $ nothing ! $ move ! (4 ∷ 0 ∷ []) $ fjoin ! $ move ! (3 ∷ 0 ∷ []) $ fjoin ! $ move ! (2 ∷ 0 ∷ []) $ fjoin ! $ move ! (1 ∷ 0 ∷ []) $ fjoin ! $ owned ! Run′.the-row (Is Run′.the-row) ((LL.makes Run′.the-type Run″.the-plain) 𝓤 H A) r _ g-r $ fjoin ! $ done !
 
 module _ {M : Type 1} {𝓤 : URA M} {H : Heap 𝓤} {A : Atoms 𝓤} {K : Type 0} {W : Given 𝓤 H A} {Γ : List (Item 𝓤)} {E : Env 𝓤 H} {C : Calls 𝓤 H} {Λ : Loops 𝓤 H} {xs : List Operand} {q : After 𝓤 H} {d : Place} {rest : Code} where
-  pub calls-finish-unit-mmms : K → FmC 𝓤 H (W .laws) C → (mem : Memory → SProp 𝓤) (run : Routine → Fun 𝓤) → Triple 𝓤 (C #run-units·finish-unit) (Contract-finish-unit 𝓤 H A mem run)
+  pub calls-finish-unit-mmms : K → FmC 𝓤 H (W .laws) C → (mem : Memory → SProp 𝓤) (run : Routine → Fun 𝓤) → Triple 𝓤 (C #run-finish·finish-unit) (Contract-finish-unit 𝓤 H A mem run)
       → (r : Run) (s-positions : Seat) (positions : List Float) (s-increments : Seat) (increments : List Float) (s-gains : Seat) (gains : List Float) (s-forces : Seat) (forces : List Float) → length positions ≡ s-positions .count → length increments ≡ s-increments .count → length gains ≡ s-gains .count → IsRun r → FinishRoom r (length positions) (length increments) (length gains) (length forces)
       → ((P Ω0 Ω1 Ω2 Ω3 : Item 𝓤) → Opds K W (P ∷ Ω0 ∷ Ω1 ∷ Ω2 ∷ Ω3 ∷ Γ) E xs (val-Run r ∷ word s-positions ∷ word s-increments ∷ word s-gains ∷ word s-forces ∷ []))
       → ((res : Turn) (positions′ : List Float) (increments′ : List Float) (gains′ : List Float) → Ensured-finish-unit r positions increments gains forces res positions′ increments′ gains′ → Is Turn′.the-row res (val-Turn res ∷ []) → length positions′ ≡ s-positions .count → length increments′ ≡ s-increments .count → length gains′ ≡ s-gains .count → Seq K W (‵ (Mut f64 s-positions positions′) ∷ ‵ (Tok s-positions) ∷ ‵ (Mut f64 s-increments increments′) ∷ ‵ (Tok s-increments) ∷ ‵ (Mut f64 s-gains gains′) ∷ ‵ (Tok s-gains) ∷ ‵ (Mut f64 s-forces forces) ∷ ‵ (Tok s-forces) ∷ Γ) (lands C Λ E d (val-Turn res) rest q))
-      → Seq K W (‵ (Mut f64 s-positions positions) ∷ ‵ (Tok s-positions) ∷ ‵ (Mut f64 s-increments increments) ∷ ‵ (Tok s-increments) ∷ ‵ (Mut f64 s-gains gains) ∷ ‵ (Tok s-gains) ∷ ‵ (Mut f64 s-forces forces) ∷ ‵ (Tok s-forces) ∷ Γ) (runs C Λ E (seq (call #run-units·finish-unit xs d) rest) q)
+      → Seq K W (‵ (Mut f64 s-positions positions) ∷ ‵ (Tok s-positions) ∷ ‵ (Mut f64 s-increments increments) ∷ ‵ (Tok s-increments) ∷ ‵ (Mut f64 s-gains gains) ∷ ‵ (Tok s-gains) ∷ ‵ (Mut f64 s-forces forces) ∷ ‵ (Tok s-forces) ∷ Γ) (runs C Λ E (seq (call #run-finish·finish-unit xs d) rest) q)
   calls-finish-unit-mmms t fm mem run met r s-positions positions s-increments increments s-gains gains s-forces forces ln-positions ln-increments ln-gains g-r l os k =
       lend-mut t tt f64 s-positions positions ln-positions (λ ν-positions δ-positions w-positions.
       move t (3 ∷ 4 ∷ []) $ lend-mut t tt f64 s-increments increments ln-increments (λ ν-increments δ-increments w-increments.

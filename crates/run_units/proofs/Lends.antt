@@ -24,10 +24,12 @@ use Rattle.tree.specs.Insert.{tree, insertion, insertOf, growable, shaped}
 use Rattle.gradient.specs.Forces.{Linked, forcesOf}
 use Rattle.run_entry.specs.State.{memory, state}
 use Rattle.run_entry.specs.Entry.{Workable}
-use Rattle.run_units.specs.declared.Turn.{Turn}
-use Rattle.run_units.specs.declared.Why.the-variants.{Done, Over}
-use Rattle.run_units.specs.Units.{turnAs, insertedOf, treeTurn, treeUnit, forceUnit, rowUnit, finishTurn, finishUnit, turned, unit}
-use Rattle.run_units.specs.Room.{Small, TreeRoom, ForceRoom, RowRoom, FinishRoom}
+use Rattle.run_finish.specs.declared.Turn.{Turn}
+use Rattle.run_finish.specs.declared.Why.the-variants.{Done, Over}
+use Rattle.run_finish.specs.Finish.{finishTurn, finishUnit}
+use Rattle.run_units.specs.Units.{turnAs, insertedOf, treeTurn, treeUnit, forceUnit, rowUnit, turned, unit}
+use Rattle.run_finish.specs.FinishRoom.{Small, FinishRoom}
+use Rattle.run_units.specs.Room.{TreeRoom, ForceRoom, RowRoom}
 use Rattle.run_units.proofs.Rooms.{tree-room, force-room, finish-room}
 use Rattle.run_units.proofs.Turned.{box-is, insert-full, insert-done}
 use Rattle.run_units.proofs.One.{unit-over, tree-is, force-is, finish-is}

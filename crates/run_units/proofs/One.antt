@@ -10,10 +10,11 @@ use Rattle.run_record.specs.declared.Run.{Run}
 use Rattle.run_record.specs.Record.{isEnded, advancedOf}
 use Rattle.tree_node.specs.declared.Node.{Node}
 use Rattle.run_entry.specs.State.{State}
-use Rattle.run_units.specs.declared.Why.{Why}
-use Rattle.run_units.specs.declared.Why.the-variants.{Over}
+use Rattle.run_finish.specs.declared.Why.{Why}
+use Rattle.run_finish.specs.declared.Why.the-variants.{Over}
 use Rattle.run_plan.specs.Plan.{groupOf}
-use Rattle.run_units.specs.Units.{TreeTurn, treeTurn, treeUnit, forceUnit, FinishTurn, finishTurn, finishUnit, Turned, turned, withTree, withForces, withFinish, unit}
+use Rattle.run_finish.specs.Finish.{FinishTurn, finishTurn, finishUnit}
+use Rattle.run_units.specs.Units.{TreeTurn, treeTurn, treeUnit, forceUnit, Turned, turned, withTree, withForces, withFinish, unit}
 
 module _ (s : State) where
   pub unit-over : isEnded (s .run .standing) ≡ true → turned s Over ≡ unit s

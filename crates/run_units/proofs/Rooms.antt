@@ -20,7 +20,8 @@ use Rattle.run_entry.proofs.Laws.{axes}
 use Rattle.run_rooms.proofs.Lists.{linked-at}
 use Rattle.run_rooms.proofs.Places.{cells-forces}
 use Rattle.run_plan.specs.Plan.{groupOf}
-use Rattle.run_units.specs.Room.{Small, TreeRoom, ForceRoom, FinishRoom}
+use Rattle.run_finish.specs.FinishRoom.{Small, FinishRoom}
+use Rattle.run_units.specs.Room.{TreeRoom, ForceRoom}
 
 -- ---- which unit
 

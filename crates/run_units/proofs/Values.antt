@@ -3,9 +3,9 @@ use mathlib.Core.List.{[], _∷_}
 use mir.Val.{Val}
 use denote.Laws.{Is}
 use denote.Struct.Laws as LL
-use Rattle.run_units.specs.declared.Turn.{Turn}
-use Rattle.run_units.proofs.Turn as Turn′
-use Rattle.run_units.proofs.Turn.Laws as Turn″
+use Rattle.run_finish.specs.declared.Turn.{Turn}
+use Rattle.run_finish.proofs.Turn as Turn′
+use Rattle.run_finish.proofs.Turn.Laws as Turn″
 
 abbrev pub val-Turn : Turn → Val
 val-Turn = LL.val Turn′.the-type Turn″.the-laws

@@ -5,20 +5,14 @@ use mathlib.Core.Bool.{true, false}
 use Prim.Native.Nat.{ℕ, _+_, _-_, _*_, _<_, _≤_}
 use lib.ListN.{length}
 use lib.Ieee.{Float}
-use Rattle.laws.specs.Domain.{mostFrames}
 use Rattle.run_record.specs.declared.Run.{Run}
 use Rattle.run_record.specs.Record.{isTree}
+use Rattle.run_finish.specs.FinishRoom.{Small}
 use Rattle.tree_node.specs.declared.Node.{Node}
 use Rattle.tree_node.specs.Node.{Axes}
 use Rattle.tree_node.specs.Arena.{nameable}
 use Rattle.tree.specs.Insert.{tree, shaped, growable}
 use Rattle.gradient.specs.Forces.{Linked}
-
--- the record's numbers are small
-pub record Small (r : Run) : Type 0 where
-  pub phase-small : r .phase < 10000
-  pub units-small : r .units < 1000000000
-  pub n-most : r .settings .n ≤ mostFrames
 
 pub record TreeRoom (r : Run) (p : ℕ) (ns : List Node) : Type 0 where
   pub numbers : Small r
@@ -54,13 +48,3 @@ pub record RowRoom (r : Run) (p a f : ℕ) : Type 0 where
   pub positions-in : r .settings .n * r .settings .c ≤ p
   pub square-in : r .settings .n * r .settings .n ≤ a
   pub total-in : r .settings .n * r .settings .c < f
-
-pub record FinishRoom (r : Run) (p i g f : ℕ) : Type 0 where
-  pub numbers : Small r
-  pub done-small : r .done < 100000
-  pub c-some : 0 < r .settings .c
-  pub c-most : r .settings .c ≤ 8
-  pub positions-in : r .settings .n * r .settings .c ≤ p
-  pub increments-in : r .settings .n * r .settings .c ≤ i
-  pub gains-in : r .settings .n * r .settings .c ≤ g
-  pub forces-in : r .settings .n * (2 * r .settings .c + 1) ≤ f

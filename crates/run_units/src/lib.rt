@@ -9,40 +9,23 @@ ghost use Rattle.run_record.specs.Record.{isTree, isEnded, advancedOf};
 ghost use Rattle.run_plan.specs.Plan.{groupOf};
 ghost use Rattle.run_entry.specs.State.{memory, state};
 ghost use Rattle.run_entry.specs.Entry.{Workable};
-ghost use Rattle.run_units.specs.declared.Why.the-variants.{Done, Over};
-ghost use Rattle.run_units.specs.Units.{isDone, turnAs, insertedOf, treeTurn, treeUnit, forceUnit, rowUnit, paceOf, finishTurn, finishUnit, turned, unit};
-ghost use Rattle.run_units.specs.Room.{Small, TreeRoom, ForceRoom, RowRoom, FinishRoom};
+ghost use Rattle.run_finish.specs.declared.Why.the-variants.{Done, Over};
+ghost use Rattle.run_finish.specs.FinishRoom.{Small};
+ghost use Rattle.run_units.specs.Units.{isDone, turnAs, insertedOf, treeTurn, treeUnit, forceUnit, rowUnit, turned, unit};
+ghost use Rattle.run_units.specs.Room.{TreeRoom, ForceRoom, RowRoom};
 use gradient::forces::point_forces;
+use run_finish::Turn;
+use run_finish::Why;
+use run_finish::finish_unit;
 use run_plan::exaggeration;
 use run_plan::group;
-use run_plan::momentum;
 use run_record::Run;
 use run_record::counters::is_ended;
 use run_record::faults::is_tree;
 use run_record::progress::advanced;
-use run_record::progress::closed;
-use step::Pace;
-use step::Stepped;
 use tree::insertion::insert;
 use tree::root::plant;
 use tree_node::Cell;
-
-// Whether a unit was done, and if not, why.
-pub enum Why {
-    Done,
-    // 14: the arena has not the nodes that the point needs
-    Full,
-    // 15: a value would be NaN or too large
-    Wild,
-    // the run has ended
-    Over,
-}
-
-// The record after a unit.
-pub struct Turn {
-    pub run: Run,
-    pub why: Why,
-}
 
 pub fn is_done(w: Why) -> bool
     ensures { λ r. ⌜ r ≡ isDone w ⌝ }
@@ -103,7 +86,7 @@ fn inserted(r: Run, full: bool, used: usize) -> Turn
 }
 
 // The box unit, or the insertion of a point, which may be refused.
-pub fn tree_unit(r: Run, positions: &[f64], cells: &mut [Cell]) -> Turn
+pub(crate) fn tree_unit(r: Run, positions: &[f64], cells: &mut [Cell]) -> Turn
     requires { ⌜ TreeRoom r (length (now positions)) (nodesOf (now cells)) ⌝ }
     ensures { λ t. ⌜ treeTurn (t .run) (nodesOf (now (cells .exit))) (t .why) ≡ treeUnit r (now (positions .entry)) (nodesOf (now (cells .entry))) ⌝ }
 {
@@ -161,7 +144,7 @@ fn row_unit(r: Run, positions: &[f64], affinities: &[f64], forces: &mut [f64])
 }
 
 // A point's forces, a row of the total or a row of the gradient.
-pub fn force_unit(
+pub(crate) fn force_unit(
     r: Run,
     positions: &[f64],
     affinities: &[f64],
@@ -171,7 +154,17 @@ pub fn force_unit(
     forces: &mut [f64],
 ) -> Run
     requires { ⌜ ForceRoom r (length (now positions)) (length (now affinities)) (length (now forces)) (now affinities) (now indices) (now offsets) (nodesOf (now cells)) ⌝ }
-    ensures { λ t. ⌜ (t ≡ advancedOf r (r .used)) × (now (forces .exit) ≡ forceUnit r (now (positions .entry)) (now (affinities .entry)) (now (indices .entry)) (now (offsets .entry)) (nodesOf (now (cells .entry))) (now (forces .entry))) ⌝ }
+    ensures { λ t. ⌜
+        (t ≡ advancedOf r (r .used))
+        × (now (forces .exit)
+        ≡ forceUnit r
+        (now (positions .entry))
+        (now (affinities .entry))
+        (now (indices .entry))
+        (now (offsets .entry))
+        (nodesOf (now (cells .entry)))
+        (now (forces .entry)))
+        ⌝ }
 {
     let tree = by_tree(r);
     if tree {
@@ -198,60 +191,6 @@ pub fn force_unit(
     row_unit(r, positions, affinities, forces);
     let t = advanced(r, r.used);
     t
-}
-
-// ---- the finish
-
-// What the step goes by.
-fn pace(r: Run, forces: &[f64]) -> Pace
-    requires { ⌜ (r .settings .c ≤ 8) × (r .settings .n * (2 * r .settings .c + 1) ≤ length (now forces)) ⌝ }
-    ensures { λ p. ⌜ p ≡ paceOf r (now (forces .entry)) ⌝ }
-{
-    let s = r.settings;
-    let m = s.method;
-    if is_tree(m) {
-        let z = gradient::element::normaliser(forces, s.n, s.c);
-        return Pace {
-            exact: false,
-            z: z,
-            momentum: momentum(r),
-            rate: s.rate,
-        };
-    }
-    Pace {
-        exact: true,
-        z: 0.0,
-        momentum: momentum(r),
-        rate: s.rate,
-    }
-}
-
-// The finish: the step, centring, and the stop test, or refusal 15.
-pub fn finish_unit(
-    r: Run,
-    positions: &mut [f64],
-    increments: &mut [f64],
-    gains: &mut [f64],
-    forces: &[f64],
-) -> Turn
-    requires { ⌜ FinishRoom r (length (now positions)) (length (now increments)) (length (now gains)) (length (now forces)) ⌝ }
-    ensures { λ t. ⌜ finishTurn (t .run) (now (positions .exit)) (now (increments .exit)) (now (gains .exit)) (t .why) ≡ finishUnit r (now (positions .entry)) (now (increments .entry)) (now (gains .entry)) (now (forces .entry)) ⌝ }
-{
-    let s = r.settings;
-    let p = pace(r, forces);
-    let a = step::finish(p, s.n, s.c, forces, positions, increments, gains);
-    let Stepped::Moved = a else {
-        return Turn {
-            run: r,
-            why: Why::Wild,
-        };
-    };
-    let norm = gradient::element::norm(p.exact, forces, p.z, s.n, s.c, s.n * s.c);
-    let next = closed(r, norm);
-    Turn {
-        run: next,
-        why: Why::Done,
-    }
 }
 
 // ---- the next unit
@@ -309,7 +248,28 @@ pub fn one_unit(
     cells: &mut [Cell],
 ) -> Turn
     requires { ⌜ Workable (state r (memory (now positions) (now increments) (now gains) (now affinities) (now indices) (now offsets) (now forces) (now cells))) ⌝ }
-    ensures { λ t. ⌜ turned (state (t .run) (memory (now (positions .exit)) (now (increments .exit)) (now (gains .exit)) (now (affinities .entry)) (now (indices .entry)) (now (offsets .entry)) (now (forces .exit)) (now (cells .exit)))) (t .why) ≡ unit (state r (memory (now (positions .entry)) (now (increments .entry)) (now (gains .entry)) (now (affinities .entry)) (now (indices .entry)) (now (offsets .entry)) (now (forces .entry)) (now (cells .entry)))) ⌝ }
+    ensures { λ t. ⌜
+        turned
+        (state (t .run) (memory
+        (now (positions .exit))
+        (now (increments .exit))
+        (now (gains .exit))
+        (now (affinities .entry))
+        (now (indices .entry))
+        (now (offsets .entry))
+        (now (forces .exit))
+        (now (cells .exit))))
+        (t .why)
+        ≡ unit (state r (memory
+        (now (positions .entry))
+        (now (increments .entry))
+        (now (gains .entry))
+        (now (affinities .entry))
+        (now (indices .entry))
+        (now (offsets .entry))
+        (now (forces .entry))
+        (now (cells .entry))))
+        ⌝ }
 {
     let ended = is_over(r);
     if ended {

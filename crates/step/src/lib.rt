@@ -30,8 +30,25 @@ pub fn finish(
     increments: &mut [f64],
     gains: &mut [f64],
 ) -> Stepped
-    requires { ⌜ (0 < c) × (c ≤ 8) × (n ≤ mostFrames) × (n * (2 * c + 1) ≤ length (now forces)) × (n * c ≤ length (now positions)) × (n * c ≤ length (now increments)) × (n * c ≤ length (now gains)) ⌝ }
-    ensures { λ r. ⌜ stepOutcome r (now (positions .exit)) (now (increments .exit)) (now (gains .exit)) ≡ finishOf (paced pace c (now (forces .entry)) (now (positions .entry)) (now (increments .entry)) (now (gains .entry))) n c ⌝ }
+    requires { ⌜
+        (0 < c)
+        × (c ≤ 8)
+        × (n ≤ mostFrames)
+        × (n * (2 * c + 1) ≤ length (now forces))
+        × (n * c ≤ length (now positions))
+        × (n * c ≤ length (now increments))
+        × (n * c ≤ length (now gains))
+        ⌝ }
+    ensures { λ r. ⌜
+        stepOutcome r (now (positions .exit)) (now (increments .exit)) (now (gains .exit))
+        ≡ finishOf
+        (paced pace c
+        (now (forces .entry))
+        (now (positions .entry))
+        (now (increments .entry))
+        (now (gains .entry)))
+        n c
+        ⌝ }
 {
     let m = n * c;
     let mut sums = [0.0; 8];

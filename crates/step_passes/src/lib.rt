@@ -140,7 +140,18 @@ pub fn write_moves(
 )
     requires { ⌜ (0 < c) × (c ≤ 8) × (m ≡ n * c) × (n * (2 * c + 1) ≤ length (now forces)) × (n * c ≤ length (now positions)) × (n * c ≤ length (now increments)) × (n * c ≤ length (now gains)) ⌝ }
     ensures { λ _. ⌜
-        (now (positions .exit) ≡ loop (positionStep (now (means .entry)) (paced pace c (now (forces .entry)) (now (positions .entry)) (now (increments .entry)) (now (gains .entry))) c) m 0 (now (positions .entry)))
+        (now (positions .exit)
+        ≡ loop
+        (positionStep
+        (now (means .entry))
+        (paced pace c
+        (now (forces .entry))
+        (now (positions .entry))
+        (now (increments .entry))
+        (now (gains .entry)))
+        c)
+        m 0
+        (now (positions .entry)))
         × (now (increments .exit) ≡ loop (incrementStep (paced pace c (now (forces .entry)) (now (positions .entry)) (now (increments .entry)) (now (gains .entry)))) m 0 (now (increments .entry)))
         × (now (gains .exit) ≡ loop (gainStep (paced pace c (now (forces .entry)) (now (positions .entry)) (now (increments .entry)) (now (gains .entry)))) m 0 (now (gains .entry)))
         ⌝ }

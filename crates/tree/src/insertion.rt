@@ -32,7 +32,7 @@ use tree_node::arena::load;
 use tree_node::arena::store;
 
 // Makes the children of a split node.
-pub fn subdivide(cells: &mut [Cell], s: Split)
+pub(crate) fn subdivide(cells: &mut [Cell], s: Split)
     requires { ⌜ (Axes (s .c)) × (s .out .old < mostWord) × (s .out .node .first + s .out .fresh ≤ length (now cells)) × (s .made ≡ 0) ⌝ }
     ensures { λ _. ⌜ nodesOf (now (cells .exit)) ≡ subdivided (s .c) (s .out .node) (s .out .old) (s .q) (s .out .fresh) (nodesOf (now (cells .entry))) ⌝ }
 {
@@ -47,9 +47,21 @@ pub fn subdivide(cells: &mut [Cell], s: Split)
 }
 
 // One level of the insertion of a point.
-pub fn level(cells: &mut [Cell], positions: &[f64], w: Way) -> Step
+pub(crate) fn level(cells: &mut [Cell], positions: &[f64], w: Way) -> Step
     requires { ⌜ LevelAsks w (length (now positions)) (nodesOf (now cells)) ⌝ }
-    ensures { λ r. ⌜ (tree (r .used) (nodesOf (now (cells .exit))) ≡ levelAt (now (positions .entry)) (w .c) (w .p) (w .j) (w .depth) (w .node) (tree (w .used) (nodesOf (now (cells .entry))))) × (r .next ≡ wayTurn w (nodeAt (nodesOf (now (cells .entry))) (w .node)) .next) × (r .last ≡ wayTurn w (nodeAt (nodesOf (now (cells .entry))) (w .node)) .last) ⌝ }
+    ensures { λ r. ⌜
+        (tree (r .used) (nodesOf (now (cells .exit)))
+        ≡ levelAt
+        (now (positions .entry))
+        (w .c)
+        (w .p)
+        (w .j)
+        (w .depth)
+        (w .node)
+        (tree (w .used) (nodesOf (now (cells .entry)))))
+        × (r .next ≡ wayTurn w (nodeAt (nodesOf (now (cells .entry))) (w .node)) .next)
+        × (r .last ≡ wayTurn w (nodeAt (nodesOf (now (cells .entry))) (w .node)) .last)
+        ⌝ }
 {
     let v = load(cells, w.node);
     let s = met(positions, w, v);
@@ -61,7 +73,14 @@ pub fn level(cells: &mut [Cell], positions: &[f64], w: Way) -> Step
 }
 
 // How many nodes point j needs.
-pub fn needs(cells: &[Cell], positions: &[f64], n: usize, used: usize, j: u32, c: usize) -> usize
+pub(crate) fn needs(
+    cells: &[Cell],
+    positions: &[f64],
+    n: usize,
+    used: usize,
+    j: u32,
+    c: usize,
+) -> usize
     requires { ⌜ (Axes c) × (0 < used) × (used ≤ length (now cells)) × (n * c ≤ length (now positions)) × (j < n) × (growable n c (tree used (nodesOf (now cells))) ≡ true) ⌝ }
     ensures { λ r. ⌜ r ≡ needsOf (length (nodesOf (now (cells .entry)))) (now (positions .entry)) c (pointOf (now (positions .entry)) c j) 0 0 (nodesOf (now (cells .entry))) ⌝ }
 {

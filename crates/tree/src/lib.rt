@@ -1,7 +1,7 @@
 // The space-partitioning tree over an arena of cells: the root, insertion, the contents rule.
 pub mod insertion;
 pub mod root;
-pub mod ways;
+mod ways;
 pub mod wellformed;
 
 pub use tree_contents::Contents;

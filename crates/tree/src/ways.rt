@@ -50,7 +50,7 @@ fn splits(z0: [f64; 3], h0: [f64; 3], q: [f64; 3], p: [f64; 3], c: usize, depth:
 // ---- the dry descent
 
 // Before the root.
-pub fn probing(positions: &[f64], j: u32, c: usize) -> Probe
+pub(crate) fn probing(positions: &[f64], j: u32, c: usize) -> Probe
     requires { ⌜ (Axes c) × (j * c + c ≤ length (now positions)) ⌝ }
     ensures { λ r. ⌜ r ≡ probingOf (now (positions .entry)) j c ⌝ }
 {
@@ -65,7 +65,7 @@ pub fn probing(positions: &[f64], j: u32, c: usize) -> Probe
     }
 }
 
-pub fn probes_on(s: Probe) -> bool
+pub(crate) fn probes_on(s: Probe) -> bool
     ensures { λ r. ⌜ r ≡ probesOn s ⌝ }
 {
     !s.ended
@@ -88,7 +88,7 @@ fn leaf_needs(positions: &[f64], s: Probe, v: Node) -> usize
 }
 
 // Node v is reached.
-pub fn probed(positions: &[f64], s: Probe, v: Node) -> Probe
+pub(crate) fn probed(positions: &[f64], s: Probe, v: Node) -> Probe
     requires { ⌜ (Axes (s .c)) × (s .depth + 1 < 2 ^ 64) × LeafIn (length (now positions)) (s .c) (v .leaf) ⌝ }
     ensures { λ r. ⌜ r ≡ probedOf (now (positions .entry)) s v ⌝ }
 {
@@ -119,7 +119,7 @@ pub fn probed(positions: &[f64], s: Probe, v: Node) -> Probe
 // ---- a level
 
 // Node v meets the point.
-pub fn met(positions: &[f64], w: Way, v: Node) -> Split
+pub(crate) fn met(positions: &[f64], w: Way, v: Node) -> Split
     requires { ⌜ MetAsks (length (now positions)) w v ⌝ }
     ensures { λ r. ⌜ r ≡ metOf (now (positions .entry)) w v ⌝ }
 {
@@ -135,14 +135,14 @@ pub fn met(positions: &[f64], w: Way, v: Node) -> Split
 }
 
 // The node as it is to be stored.
-pub fn node_met(s: Split) -> Node
+pub(crate) fn node_met(s: Split) -> Node
     ensures { λ r. ⌜ r ≡ s .out .node ⌝ }
 {
     let t = s.out;
     t.node
 }
 
-pub fn splits_on(s: Split) -> bool
+pub(crate) fn splits_on(s: Split) -> bool
     ensures { λ r. ⌜ r ≡ splitsOn s ⌝ }
 {
     let t = s.out;
@@ -150,7 +150,7 @@ pub fn splits_on(s: Split) -> bool
 }
 
 // The next child, and where it goes.
-pub fn child_on(s: Split) -> Node
+pub(crate) fn child_on(s: Split) -> Node
     requires { ⌜ Axes (s .c) ⌝ }
     ensures { λ r. ⌜ r ≡ childOn s ⌝ }
 {
@@ -160,7 +160,7 @@ pub fn child_on(s: Split) -> Node
     child(v, t.old, q, s.made, s.c)
 }
 
-pub fn child_place(s: Split) -> usize
+pub(crate) fn child_place(s: Split) -> usize
     requires { ⌜ childPlace s < 2 ^ 64 ⌝ }
     ensures { λ r. ⌜ r ≡ childPlace s ⌝ }
 {
@@ -169,7 +169,7 @@ pub fn child_place(s: Split) -> usize
     v.first as usize + s.made
 }
 
-pub fn made(s: Split) -> Split
+pub(crate) fn made(s: Split) -> Split
     requires { ⌜ s .made + 1 < 2 ^ 64 ⌝ }
     ensures { λ r. ⌜ r ≡ madeOf s ⌝ }
 {
@@ -184,7 +184,7 @@ pub fn made(s: Split) -> Split
 }
 
 // Where the level has led.
-pub fn stepped(w: Way, s: Split) -> Step
+pub(crate) fn stepped(w: Way, s: Split) -> Step
     requires { ⌜ w .used + s .out .fresh < 2 ^ 64 ⌝ }
     ensures { λ r. ⌜ r ≡ steppedOf w s ⌝ }
 {
@@ -199,7 +199,14 @@ pub fn stepped(w: Way, s: Split) -> Step
 // ---- the descent
 
 // Before the root, in an arena of so many cells, of which the point needs some more.
-pub fn entering(positions: &[f64], cells: usize, used: usize, more: usize, j: u32, c: usize) -> Way
+pub(crate) fn entering(
+    positions: &[f64],
+    cells: usize,
+    used: usize,
+    more: usize,
+    j: u32,
+    c: usize,
+) -> Way
     requires { ⌜ (Axes c) × (j * c + c ≤ length (now positions)) × (used + more < 2 ^ 64) ⌝ }
     ensures { λ r. ⌜ r ≡ enteringOf (now (positions .entry)) cells used more j c ⌝ }
 {
@@ -217,14 +224,14 @@ pub fn entering(positions: &[f64], cells: usize, used: usize, more: usize, j: u3
     }
 }
 
-pub fn goes_on(w: Way) -> bool
+pub(crate) fn goes_on(w: Way) -> bool
     ensures { λ r. ⌜ r ≡ notEnded w ⌝ }
 {
     !w.ended
 }
 
 // A level lower.
-pub fn lowered(w: Way, s: Step) -> Way
+pub(crate) fn lowered(w: Way, s: Step) -> Way
     requires { ⌜ w .depth + 1 < 2 ^ 64 ⌝ }
     ensures { λ r. ⌜ r ≡ sunkOf w s ⌝ }
 {
@@ -241,7 +248,7 @@ pub fn lowered(w: Way, s: Step) -> Way
     }
 }
 
-pub fn answer(w: Way) -> Inserted
+pub(crate) fn answer(w: Way) -> Inserted
     ensures { λ r. ⌜ r ≡ answered w ⌝ }
 {
     Inserted {

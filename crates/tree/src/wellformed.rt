@@ -41,7 +41,7 @@ fn used_found(cells: usize, used: usize) -> Contents
 }
 
 // Before the first node.
-pub fn looking(cells: usize, used: usize, n: usize, c: usize) -> Look
+pub(crate) fn looking(cells: usize, used: usize, n: usize, c: usize) -> Look
     ensures { λ r. ⌜ r ≡ lookingOf cells used n c ⌝ }
 {
     let found = used_found(cells, used);
@@ -54,7 +54,7 @@ pub fn looking(cells: usize, used: usize, n: usize, c: usize) -> Look
     }
 }
 
-pub fn looks_on(s: Look) -> bool
+pub(crate) fn looks_on(s: Look) -> bool
     ensures { λ r. ⌜ r ≡ looksOn s ⌝ }
 {
     let t = s.found;
@@ -75,7 +75,7 @@ fn node_found(s: Look, v: Node) -> Contents
 }
 
 // Node v is looked at.
-pub fn looked(s: Look, v: Node) -> Look
+pub(crate) fn looked(s: Look, v: Node) -> Look
     requires { ⌜ (Axes (s .c)) × (s .i + 1 < 2 ^ 64) ⌝ }
     ensures { λ r. ⌜ r ≡ lookedOf s v ⌝ }
 {

@@ -47,7 +47,7 @@ pub fn read_node(x: Cell) -> Node
 }
 
 // The cell in which a node lies.
-pub fn lay_node(v: Node) -> Cell
+pub(crate) fn lay_node(v: Node) -> Cell
     requires { ⌜ leafWord (v .leaf) ≤ mostWord ⌝ }
     ensures { λ r. ⌜ r ≡ laidOf v ⌝ }
 {

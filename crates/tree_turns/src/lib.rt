@@ -1,10 +1,11 @@
 // A node that takes a point in, a made child, and what a level of an insertion does with its node.
 ghost use mathlib.Core.Path.{_≡_};
+ghost use mathlib.Core.Bool.{true};
 ghost use Prim.Native.Nat.{_<_};
 ghost use Rattle.laws.specs.Domain.{mostWord};
 ghost use Rattle.laws.specs.Loops.{loop};
 ghost use Rattle.tree_node.specs.Node.{Axes};
-ghost use Rattle.tree_turns.specs.Turns.{meanOf, massStep, absorbed, occupied, parent, childOf, turnOf};
+ghost use Rattle.tree_turns.specs.Turns.{meanOf, massStep, absorbed, occupied, parent, childOf, out, turnOf};
 use laws::DEEPEST;
 use tree_children::cell;
 use tree_children::child_index;
@@ -50,7 +51,7 @@ fn means(cs: f64, m: [f64; 3], p: [f64; 3], c: usize) -> [f64; 3]
 }
 
 // The node with one point more.
-pub fn absorb(v: Node, p: [f64; 3], c: usize) -> Node
+fn absorb(v: Node, p: [f64; 3], c: usize) -> Node
     requires { ⌜ (Axes c) × (v .count < mostWord) ⌝ }
     ensures { λ r. ⌜ r ≡ absorbed c p v ⌝ }
 {
@@ -72,7 +73,7 @@ pub fn absorb(v: Node, p: [f64; 3], c: usize) -> Node
 }
 
 // A leaf that holds point j.
-pub fn occupy(v: Node, j: u32) -> Node
+fn occupy(v: Node, j: u32) -> Node
     ensures { λ r. ⌜ r ≡ occupied j v ⌝ }
 {
     let centre = v.centre;
@@ -90,7 +91,7 @@ pub fn occupy(v: Node, j: u32) -> Node
 }
 
 // A split node, whose children begin at u.
-pub fn split(v: Node, u: u32) -> Node
+fn split(v: Node, u: u32) -> Node
     ensures { λ r. ⌜ r ≡ parent u v ⌝ }
 {
     let centre = v.centre;
@@ -122,6 +123,19 @@ pub fn child(v: Node, o: u32, q: [f64; 3], b: usize, c: usize) -> Node
     occupy(a, o)
 }
 
+// Point j goes no further than this node.
+fn settled(v: Node, j: u32) -> Out
+    ensures { λ r. ⌜ r ≡ out v 0 0 j true ⌝ }
+{
+    Out {
+        node: v,
+        next: 0,
+        fresh: 0,
+        old: j,
+        last: true,
+    }
+}
+
 // What becomes of a node, at a depth, when point j comes to it.
 pub fn turn(v: Node, p: [f64; 3], j: u32, c: usize, depth: usize, used: u32) -> Out
     requires { ⌜ (Axes c) × (v .count < mostWord) ⌝ }
@@ -142,22 +156,10 @@ pub fn turn(v: Node, p: [f64; 3], j: u32, c: usize, depth: usize, used: u32) -> 
     let l = v.leaf;
     let Leaf::Occupied(o) = l else {
         let w = occupy(a, j);
-        return Out {
-            node: w,
-            next: 0,
-            fresh: 0,
-            old: j,
-            last: true,
-        };
+        return settled(w, j);
     };
     if depth >= DEEPEST {
-        return Out {
-            node: a,
-            next: 0,
-            fresh: 0,
-            old: j,
-            last: true,
-        };
+        return settled(a, j);
     }
     let w = split(a, used);
     Out {

@@ -17,7 +17,7 @@ use tree_bodies::Acc;
 use tree_node::Cell;
 use tree_node::arena::cell_at;
 
-pub mod turns;
+mod turns;
 
 // Who looks.
 pub struct Eye {

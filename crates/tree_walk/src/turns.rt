@@ -14,20 +14,20 @@ use tree_bodies::kind;
 use tree_node::Cell;
 use tree_node::arena::read_node;
 
-pub fn wide(x: u32) -> usize
+pub(crate) fn wide(x: u32) -> usize
     ensures { λ r. ⌜ r ≡ x ⌝ }
 {
     x as usize
 }
 
-pub fn nothing_yet() -> Acc
+pub(crate) fn nothing_yet() -> Acc
     ensures { λ r. ⌜ r ≡ nothing ⌝ }
 {
     let neg = [0.0, 0.0, 0.0];
     Acc { neg, sum: 0.0 }
 }
 
-pub fn standing(acc: Acc, at: u32, end: u32, level: usize) -> Spot
+pub(crate) fn standing(acc: Acc, at: u32, end: u32, level: usize) -> Spot
     ensures { λ r. ⌜ r ≡ freshSpot acc at end level ⌝ }
 {
     Spot {
@@ -41,7 +41,7 @@ pub fn standing(acc: Acc, at: u32, end: u32, level: usize) -> Spot
 }
 
 // On from there, once what came first has been walked.
-pub fn resumed(s: Spot, a: Acc) -> Spot
+pub(crate) fn resumed(s: Spot, a: Acc) -> Spot
     ensures { λ r. ⌜ r ≡ freshSpot a (s .at) (s .end) (s .level) ⌝ }
 {
     standing(a, s.at, s.end, s.level)
@@ -90,7 +90,7 @@ fn opened(stack: &mut [u32], levels: usize, s: Spot, f: u32, e: u32) -> Spot
 }
 
 // A turn at the cell v, with 32 levels. The two are apart, so that each has one caller and becomes part of it.
-pub fn short_turn(stack: &mut [u32; 64], v: Cell, s: Spot, eye: Eye) -> Spot
+pub(crate) fn short_turn(stack: &mut [u32; 64], v: Cell, s: Spot, eye: Eye) -> Spot
     requires { ⌜ (Axes (eye .c)) × (s .at < s .end) × (s .level ≤ 32) × (v .first + 2 ^ (eye .c) ≤ mostWord) ⌝ }
     ensures { λ r. ⌜ (r ≡ turnedOf 32 eye v (now (stack .entry)) s) × (now (stack .exit) ≡ stackedOf 32 eye v (now (stack .entry)) s) ⌝ }
 {
@@ -111,7 +111,7 @@ pub fn short_turn(stack: &mut [u32; 64], v: Cell, s: Spot, eye: Eye) -> Spot
 }
 
 // The same with 256 levels.
-pub fn long_turn(stack: &mut [u32; 512], v: Cell, s: Spot, eye: Eye) -> Spot
+pub(crate) fn long_turn(stack: &mut [u32; 512], v: Cell, s: Spot, eye: Eye) -> Spot
     requires { ⌜ (Axes (eye .c)) × (s .at < s .end) × (s .level ≤ 256) × (v .first + 2 ^ (eye .c) ≤ mostWord) ⌝ }
     ensures { λ r. ⌜ (r ≡ turnedOf 256 eye v (now (stack .entry)) s) × (now (stack .exit) ≡ stackedOf 256 eye v (now (stack .entry)) s) ⌝ }
 {

@@ -63,8 +63,8 @@ loop-less c = search needs
 loop-again : tie.Need-loop-again Inv-loop μ-loop
 loop-again c = frames-more (c .before .before .before .before .before .before .before .before .before .before .before .before .before .before .before .before .before .before .before .before .before .before .before .before .before .before .before .before .before .pre) (c .before .before .before .before .before .before .before .before .before .before .before .before .before .before .before .before .before .before .before .before .before .loop .inv) (c .before .before .before .before .before .before .before .before .before .before .before .before .before .before .before .before .before .before .before .before .loop-test .taken) (c .before .before .before .before .before .before .before .before .before .before .before .before .before .before .before .before .before .copy-values .ensures) (c .before .before .before .before .before .before .before .before .before .before .before .before .copy-indices .ensures) (c .before .before .before .before .fill-list .ensures .0) (c .before .before .before .before .fill-list .ensures .1 .0) (c .before .before .before .before .fill-list .ensures .1 .1)
 
-clear-values-requires : tie.Need-clear-values-requires Inv-loop μ-loop
-clear-values-requires c κs = omega (arith, c .before .before .before .before .before .before .before .before .before .before .pre .rowValues, c .before .before .loop .inv .values .size)
+fill-requires : tie.Need-fill-requires Inv-loop μ-loop
+fill-requires c κs = omega (arith, c .before .before .before .before .before .before .before .before .before .before .pre .rowValues, c .before .before .loop .inv .values .size)
 
 clear-indices-requires : tie.Need-clear-indices-requires Inv-loop μ-loop
 clear-indices-requires c κs = omega (arith, c .before .before .before .before .before .before .before .before .before .before .before .before .before .before .pre .rowIndices, c .before .before .before .before .before .before .loop .inv .names .size)
@@ -79,13 +79,13 @@ same-length-3 : tie.Need-same-length-3 Inv-loop μ-loop
 same-length-3 c = c .before .before .before .before .before .before .before .before .before .loop .inv .lists .sizeO ∙ length-set (c .before .before .before .before .before .before .before .before .before .before .before .before .before .before .before .before .before .args .offsets .now) _ _
 
 same-length-4 : tie.Need-same-length-4 Inv-loop μ-loop
-same-length-4 c = c .before .before .before .before .before .before .clear-values .kept .0 ∙ c .before .before .before .before .before .before .before .before .before .loop .inv .values .size
+same-length-4 c = c .before .before .before .before .before .before .fill .kept .0 ∙ c .before .before .before .before .before .before .before .before .before .loop .inv .values .size
 
 same-length-5 : tie.Need-same-length-5 Inv-loop μ-loop
 same-length-5 c = c .before .before .clear-indices .kept .0 ∙ c .before .before .before .before .before .before .before .before .before .loop .inv .names .size
 
 returns : tie.Need-returns Inv-loop μ-loop
-returns c = frames-done (c .before .before .before .before .before .before .before .before .before .before .before .before .before .before .before .before .before .pre) _ (omega arith) (c .before .before .before .before .before .before .before .before .before .loop .inv) (c .before .before .before .before .before .before .clear-values .ensures) (c .before .before .clear-indices .ensures)
+returns c = frames-done (c .before .before .before .before .before .before .before .before .before .before .before .before .before .before .before .before .before .pre) _ (omega arith) (c .before .before .before .before .before .before .before .before .before .loop .inv) (c .before .before .before .before .before .before .fill .ensures) (c .before .before .clear-indices .ensures)
 
 pub symmetrise-spec : {M : Type 1} → statement M
 symmetrise-spec =
@@ -109,7 +109,7 @@ symmetrise-spec =
     slice-write-offsets-2
     loop-less
     loop-again
-    clear-values-requires
+    fill-requires
     clear-indices-requires
     same-length
     same-length-2

@@ -36,7 +36,7 @@ use denote.Triple.Walked.{says, Stays, stay-slice, stay-none-slice, walkOf, goes
 use denote.Exit.{yes}
 use Rattle.lent.proofs.Pass.{Seat, ref-at, word, Mut, Shr, Tok}
 use Rattle.desk_divergence.specs.HostDivergence.{hostDivergence}
-use Rattle.desk_words.specs.Words.{worded}
+use Rattle.record_words.specs.RecordWords.{worded}
 use Rattle.run_entry.specs.State.{memory}
 use mathlib.Core.Path.{_≡_}
 use Rattle.tree_node.specs.declared.Cell.{Cell}

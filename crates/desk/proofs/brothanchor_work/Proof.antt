@@ -35,15 +35,15 @@ use denote.Triple.Table.{entered, cited}
 use denote.Triple.Walked.{says, Stays, stay-slice, stay-none, stay-none-slice, walkOf, goes-slice, goes-none, goes-none-slice, Walks, ends-at, walked, walk-meets}
 use denote.Exit.{yes}
 use Rattle.lent.proofs.Pass.{Seat, ref-at, word, Mut, Shr, Tok}
-use Rattle.desk_runs.specs.Runs.{hostWorked, hostWork}
+use Rattle.desk_work.specs.HostWork.{hostWorked, hostWork}
 use Rattle.run_entry.specs.State.{memory}
 use mathlib.Core.Path.{_≡_}
 use Rattle.tree_node.specs.declared.Cell.{Cell}
 use Rattle.tree_node.proofs.Cell as Cell′
 use Rattle.desk.proofs.CallsHostWork.{Contract-host-work, calls-host-work-mmmmcccmmm}
-use Rattle.desk_runs.proofs.host_work.Symbol as host-work-def
-use Rattle.desk_runs.proofs.host_work.Symbol.{name as #desk-runs·host-work}
-use Rattle.desk_runs.proofs.host_work.Met as host-work-thm
+use Rattle.desk_work.proofs.host_work.Symbol as host-work-def
+use Rattle.desk_work.proofs.host_work.Symbol.{name as #desk-work·host-work}
+use Rattle.desk_work.proofs.host_work.Met as host-work-thm
 use Rattle.desk.proofs.brothanchor_work.Key.{name as #desk·brothanchor-work}
 use Rattle.desk.proofs.brothanchor_work as f
 use Rattle.desk.proofs.brothanchor_work.Statement as stated
@@ -82,7 +82,7 @@ module _ {M : Type 1} (𝓤 : URA M) (H : Heap 𝓤) (A : Atoms 𝓤) (W : Given
       suffices ! _ (ends-at 𝓤 H A f.ended stayed (f.clauses 𝓤 H A mem run-of) W (((s-words .life, (s-positions .life, (s-increments .life, (s-gains .life, (s-affinities .life, (s-indices .life, (s-offsets .life, (s-forces .life, (s-cells .life, (s-answer .life, tt)))))))))), (s-words .share, (s-positions .share, (s-increments .share, (s-gains .share, (s-affinities .share, (s-indices .share, (s-offsets .share, (s-forces .share, (s-cells .share, (s-answer .share, tt)))))))))), tt, x, at), tt) (vint w32 res) res (words′, (positions′, (increments′, (gains′, (tt, (tt, (tt, (forces′, (cells′, (tt, (answer′, tt))))))))))) (le-words ∙ sym ln-words, (le-positions ∙ sym ln-positions, (le-increments ∙ sym ln-increments, (le-gains ∙ sym ln-gains, (tt, (tt, (tt, (le-forces ∙ sym ln-forces, (le-cells ∙ sym ln-cells, (tt, (le-answer ∙ sym ln-answer, tt)))))))))))) $ says ! e $
       nothing ! $ move ! (20 ∷ 0 ∷ []) $ join ! $ move ! (18 ∷ 0 ∷ []) $ join ! $ move ! (16 ∷ 0 ∷ []) $ join ! $ move ! (14 ∷ 0 ∷ []) $ join ! $ move ! (12 ∷ 0 ∷ []) $ join ! $ move ! (10 ∷ 0 ∷ []) $ join ! $ move ! (8 ∷ 0 ∷ []) $ join ! $ move ! (6 ∷ 0 ∷ []) $ join ! $ move ! (4 ∷ 0 ∷ []) $ join ! $ move ! (2 ∷ 0 ∷ []) $ join ! $ frame ! $ nothing ! $ move ! (10 ∷ 0 ∷ []) $ fjoin ! $ owned ! u32 (Is u32) (uint-makes 𝓤 H A W w32) budget _ (refl, g-budget) $ fjoin ! $ move ! (9 ∷ 0 ∷ []) $ fjoin ! $ move ! (8 ∷ 0 ∷ []) $ fjoin ! $ move ! (7 ∷ 0 ∷ []) $ fjoin ! $ move ! (6 ∷ 0 ∷ []) $ fjoin ! $ move ! (5 ∷ 0 ∷ []) $ fjoin ! $ move ! (4 ∷ 0 ∷ []) $ fjoin ! $ move ! (3 ∷ 0 ∷ []) $ fjoin ! $ move ! (2 ∷ 0 ∷ []) $ fjoin ! $ move ! (1 ∷ 0 ∷ []) $ fjoin ! $ frame ! $ owned ! u32 (Is u32) (uint-makes 𝓤 H A W w32) res _ (refl, is) $ done !
 
-  module _ (C : Calls 𝓤 H) (Λ : Loops 𝓤 H) (fm : FmC 𝓤 H (W .laws) C) (known-host-work : Triple 𝓤 (C #desk-runs·host-work) (Contract-host-work 𝓤 H A mem run-of)) where
+  module _ (C : Calls 𝓤 H) (Λ : Loops 𝓤 H) (fm : FmC 𝓤 H (W .laws) C) (known-host-work : Triple 𝓤 (C #desk-work·host-work) (Contract-host-work 𝓤 H A mem run-of)) where
     walk : ent 𝓤 (onEntry 𝓤 H A f.signature (s-words .life, (s-positions .life, (s-increments .life, (s-gains .life, (s-affinities .life, (s-indices .life, (s-offsets .life, (s-forces .life, (s-cells .life, (s-answer .life, tt)))))))))) (s-words .share, (s-positions .share, (s-increments .share, (s-gains .share, (s-affinities .share, (s-indices .share, (s-offsets .share, (s-forces .share, (s-cells .share, (s-answer .share, tt)))))))))) x at) (WpFn 𝓤 H C Λ code.function (word s-words ∷ word s-positions ∷ word s-increments ∷ word s-gains ∷ word s-affinities ∷ word s-indices ∷ word s-offsets ∷ word s-forces ∷ word s-cells ∷ vint w32 budget ∷ word s-answer ∷ []) Post)
     walk =
         qed W ((‵ (Tok s-words) ⊛ ‵ (Tok s-positions) ⊛ ‵ (Tok s-increments) ⊛ ‵ (Tok s-gains) ⊛ ‵ (Tok s-affinities) ⊛ ‵ (Tok s-indices) ⊛ ‵ (Tok s-offsets) ⊛ ‵ (Tok s-forces) ⊛ ‵ (Tok s-cells) ⊛ ‵ (Tok s-answer) ⊛ ‵ ftrue) ∷ ‵ (owns (MutSlice (named 0) (s-words .life) u64 ∷ MutSlice (named 1) (s-positions .life) f64 ∷ MutSlice (named 2) (s-increments .life) f64 ∷ MutSlice (named 3) (s-gains .life) f64 ∷ ShrSlice (named 4) (s-affinities .life) f64 ∷ ShrSlice (named 5) (s-indices .life) u32 ∷ ShrSlice (named 6) (s-offsets .life) u32 ∷ MutSlice (named 7) (s-forces .life) f64 ∷ MutSlice (named 8) (s-cells .life) Cell′.the-row ∷ u32 ∷ MutSlice (named 9) (s-answer .life) u64 ∷ []) x at) ∷ []) ∵ enter ! C Λ code.function (word s-words ∷ word s-positions ∷ word s-increments ∷ word s-gains ∷ word s-affinities ∷ word s-indices ∷ word s-offsets ∷ word s-forces ∷ word s-cells ∷ vint w32 budget ∷ word s-answer ∷ []) _ $
@@ -111,7 +111,7 @@ module _ {M : Type 1} (𝓤 : URA M) (H : Heap 𝓤) (A : Atoms 𝓤) (W : Given
         keep ! (0 ∷ 1 ∷ 2 ∷ 3 ∷ 4 ∷ 5 ∷ 6 ∷ 7 ∷ 8 ∷ 9 ∷ 10 ∷ 11 ∷ 12 ∷ 13 ∷ 14 ∷ 15 ∷ 16 ∷ 17 ∷ 18 ∷ 19 ∷ []) $ by ! (exits r1 words1 positions1 increments1 gains1 forces1 cells1 answer1 (is1 .1) l-words1 l-positions1 l-increments1 l-gains1 l-forces1 l-cells1 l-answer1 e1)))))))))))))))))))))))))))))
 
 module _ {M : Type 1} (𝓤 : URA M) (H : Heap 𝓤) (A : Atoms 𝓤) (W : Given 𝓤 H A) (mem : Memory → SProp 𝓤) (run-of : Routine → Fun 𝓤) where
-  brothanchor-work-walks : (C : Calls 𝓤 H) (Λ : Loops 𝓤 H) → FmC 𝓤 H (W .laws) C → Triple 𝓤 (C #desk-runs·host-work) (Contract-host-work 𝓤 H A mem run-of) → Walks 𝓤 H A f.ended stayed (WpFn 𝓤 H C Λ code.function) (f.clauses 𝓤 H A mem run-of)
+  brothanchor-work-walks : (C : Calls 𝓤 H) (Λ : Loops 𝓤 H) → FmC 𝓤 H (W .laws) C → Triple 𝓤 (C #desk-work·host-work) (Contract-host-work 𝓤 H A mem run-of) → Walks 𝓤 H A f.ended stayed (WpFn 𝓤 H C Λ code.function) (f.clauses 𝓤 H A mem run-of)
   brothanchor-work-walks C Λ fm known-host-work = walked 𝓤 H A f.ended stayed (f.clauses 𝓤 H A mem run-of) (WpFn 𝓤 H C Λ code.function)
       (λ κs. (slice-vals, (slice-vals, (slice-vals, (slice-vals, (slice-vals, (slice-vals, (slice-vals, (slice-vals, (slice-vals, (uint-vals w32, (slice-vals, tt))))))))))))
       (λ κs. (mut-slice-tells (named 0) (κs .0) u64, (mut-slice-tells (named 1) (κs .1 .0) f64, (mut-slice-tells (named 2) (κs .1 .1 .0) f64, (mut-slice-tells (named 3) (κs .1 .1 .1 .0) f64, (shr-slice-tells (named 4) (κs .1 .1 .1 .1 .0) f64, (shr-slice-tells (named 5) (κs .1 .1 .1 .1 .1 .0) u32, (shr-slice-tells (named 6) (κs .1 .1 .1 .1 .1 .1 .0) u32, (mut-slice-tells (named 7) (κs .1 .1 .1 .1 .1 .1 .1 .0) f64, (mut-slice-tells (named 8) (κs .1 .1 .1 .1 .1 .1 .1 .1 .0) Cell′.the-row, (uint-tells w32, (mut-slice-tells (named 9) (κs .1 .1 .1 .1 .1 .1 .1 .1 .1 .0) u64, tt))))))))))))
@@ -141,7 +141,7 @@ module _ {M : Type 1} (𝓤 : URA M) (H : Heap 𝓤) (A : Atoms 𝓤) (W : Given
       C Λ fm known-host-work))
 
 brothanchor-work-meets : {M : Type 1} (𝓤 : URA M) (H : Heap 𝓤) (A : Atoms 𝓤) → Given 𝓤 H A → (mem : Memory → SProp 𝓤) (run-of : Routine → Fun 𝓤) (𝓣 : Tables 𝓤 H)
-    → Triple 𝓤 (𝓣 .C #desk-runs·host-work) (Contract-host-work 𝓤 H A mem run-of)
+    → Triple 𝓤 (𝓣 .C #desk-work·host-work) (Contract-host-work 𝓤 H A mem run-of)
     → Meets 𝓤 H A f.signature (WpFn 𝓤 H (𝓣 .C) (𝓣 .Λ) code.function) (f.spec 𝓤 H A mem run-of)
 brothanchor-work-meets 𝓤 H A W mem run-of 𝓣 known-host-work =
     walk-meets 𝓤 H A f.ended stayed W (goes-slice 𝓤 H A W 10 0 tt (plain (λ _. u64)), (goes-slice 𝓤 H A W 10 1 tt (plain (λ _. f64)), (goes-slice 𝓤 H A W 10 2 tt (plain (λ _. f64)), (goes-slice 𝓤 H A W 10 3 tt (plain (λ _. f64)), (goes-none-slice 𝓤 H A W 10 (4 ∷ []) tt (plain (λ _. f64)) yes, (goes-none-slice 𝓤 H A W 10 (5 ∷ []) tt (plain (λ _. u32)) yes, (goes-none-slice 𝓤 H A W 10 (6 ∷ []) tt (plain (λ _. u32)) yes, (goes-slice 𝓤 H A W 10 7 tt (plain (λ _. f64)), (goes-slice 𝓤 H A W 10 8 tt (plain (λ _. Cell′.the-row)), (goes-none 𝓤 H A W 10 (λ _. u32) yes (λ κs x f. refl), (goes-slice 𝓤 H A W 10 9 tt (plain (λ _. u64)), tt))))))))))) (f.clauses 𝓤 H A mem run-of)
@@ -153,4 +153,4 @@ brothanchor-work-spec 𝓤 H 𝓜 𝓖 𝓡 =
     entered 𝓤 H (tripleOf 𝓤 H (𝓖 .A) f.signature (f.spec 𝓤 H (𝓖 .A) (𝓜 .mem) (𝓡 .run)))
     (tables 𝓤 H 𝓜 𝓡 code.env .C) (tables 𝓤 H 𝓜 𝓡 code.env .Λ) #desk·brothanchor-work code.function (code.unfolded 𝓤 H 𝓜 𝓡)
     (brothanchor-work-meets 𝓤 H (𝓖 .A) (givenOf 𝓤 H 𝓜 𝓖) (𝓜 .mem) (𝓡 .run) (tablesOf 𝓤 H 𝓜 (tables 𝓤 H 𝓜 𝓡 code.env))
-    (cited 𝓤 H (Contract-host-work 𝓤 H (𝓖 .A) (𝓜 .mem) (𝓡 .run)) 𝓜 𝓡 code.env #desk-runs·host-work host-work-def.routine code.calls-desk-runs·host-work (host-work-thm.met 𝓤 H 𝓜 𝓖 𝓡)))
+    (cited 𝓤 H (Contract-host-work 𝓤 H (𝓖 .A) (𝓜 .mem) (𝓡 .run)) 𝓜 𝓡 code.env #desk-work·host-work host-work-def.routine code.calls-desk-work·host-work (host-work-thm.met 𝓤 H 𝓜 𝓖 𝓡)))

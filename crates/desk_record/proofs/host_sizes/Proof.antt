@@ -1,4 +1,4 @@
-use Rattle.desk_words.proofs.Laws.{settings-long}
+use Rattle.record_words.proofs.Laws.{settings-long}
 use Rattle.desk_record.specs.Records.{hostSizes}
 use Rattle.run_record.proofs.Laws.{settings-fine}
 use borrow.Author.Tests.{lt-ltb, le-ltb, eq-eqb, ne-eqb, not-true, not-false}

@@ -1,4 +1,4 @@
-use Rattle.desk_words.proofs.Laws.{run-long}
+use Rattle.record_words.proofs.Laws.{run-long}
 use Rattle.desk_record.specs.Records.{saidOf}
 use borrow.Author.Tests.{not-true, not-false}
 use mathlib.Core.Path.{sym, _∙_}

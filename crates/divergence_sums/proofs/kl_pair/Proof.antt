@@ -12,26 +12,23 @@ unfolding klPair
 returns c = rw (eq-eqb _ _ (c .if1 .taken))
 
 mul-p : tie.Need-mul-p
-mul-p c = omega (arith, row-in (c .before .before .before .args .i) (c .before .before .before .args .n) (c .before .before .before .args .n) (length (c .before .before .before .args .affinities .now)) (c .before .before .before .pre .0) (c .before .before .before .pre .3))
+mul-p c = omega (arith, row-in (c .before .before .args .i) (c .before .before .args .n) (c .before .before .args .n) (length (c .before .before .args .affinities .now)) (c .before .before .pre .0) (c .before .before .pre .2))
 
 add-p : tie.Need-add-p
-add-p c = omega (arith, row-in (c .before .before .before .args .i) (c .before .before .before .args .n) (c .before .before .before .args .n) (length (c .before .before .before .args .affinities .now)) (c .before .before .before .pre .0) (c .before .before .before .pre .3), c .before .before .before .pre .1)
+add-p c = omega (arith, row-in (c .before .before .args .i) (c .before .before .args .n) (c .before .before .args .n) (length (c .before .before .args .affinities .now)) (c .before .before .pre .0) (c .before .before .pre .2), c .before .before .pre .1)
 
 mul-p-2 : tie.Need-mul-p-2
-mul-p-2 c = omega (arith, row-in (c .before .before .before .args .i) (c .before .before .before .args .n) (c .before .before .before .args .n) (length (c .before .before .before .args .affinities .now)) (c .before .before .before .pre .0) (c .before .before .before .pre .3), c .before .before .before .pre .1)
+mul-p-2 c = omega (arith, row-in (c .before .before .args .i) (c .before .before .args .n) (c .before .before .args .n) (length (c .before .before .args .affinities .now)) (c .before .before .pre .0) (c .before .before .pre .2), c .before .before .pre .1)
 
 shared-slice-read-p : tie.Need-shared-slice-read-p
-shared-slice-read-p c = omega (arith, row-in (c .before .before .before .before .args .i) (c .before .before .before .before .args .n) (c .before .before .before .before .args .n) (length (c .before .before .before .before .args .affinities .now)) (c .before .before .before .before .pre .0) (c .before .before .before .before .pre .3), c .before .before .before .before .pre .1)
-
-num-requires : tie.Need-num-requires
-num-requires c κs = (row-in _ (c .before .before .before .before .args .n) (c .before .before .before .before .args .c) _ (c .before .before .before .before .pre .0) (c .before .before .before .before .pre .2), row-in _ (c .before .before .before .before .args .n) (c .before .before .before .before .args .c) _ (c .before .before .before .before .pre .1) (c .before .before .before .before .pre .2))
+shared-slice-read-p c = omega (arith, row-in (c .before .before .before .args .i) (c .before .before .before .args .n) (c .before .before .before .args .n) (length (c .before .before .before .args .affinities .now)) (c .before .before .before .pre .0) (c .before .before .before .pre .2), c .before .before .before .pre .1)
 
 kl-term-requires : tie.Need-kl-term-requires
 kl-term-requires c κs = search needs
 
 returns-2 : tie.Need-returns-2
 unfolding klPair
-returns-2 c = rw (c .kl-term .ensures, c .before .num .ensures, ne-eqb _ _ (c .before .before .before .if1 .left))
+returns-2 c = rw (c .kl-term .ensures, ne-eqb _ _ (c .before .before .if1 .left))
 
 pub kl-pair-spec : {M : Type 1} → statement M
-kl-pair-spec = tie.close (tie.spec returns mul-p add-p mul-p-2 shared-slice-read-p num-requires kl-term-requires returns-2)
+kl-pair-spec = tie.close (tie.spec returns mul-p add-p mul-p-2 shared-slice-read-p kl-term-requires returns-2)

@@ -47,9 +47,9 @@ use Rattle.tree_node.proofs.Cell as Cell′
 use Rattle.run_record.specs.declared.Run.{Run}
 use Rattle.run_record.proofs.Run as Run′
 use Rattle.run_record.proofs.Run.Laws as Run″
-use Rattle.run_units.specs.declared.Turn.{Turn}
-use Rattle.run_units.proofs.Turn as Turn′
-use Rattle.run_units.proofs.Turn.Laws as Turn″
+use Rattle.run_finish.specs.declared.Turn.{Turn}
+use Rattle.run_finish.proofs.Turn as Turn′
+use Rattle.run_finish.proofs.Turn.Laws as Turn″
 use Rattle.run_entry.proofs.Values.{val-Run, IsRun}
 use Rattle.run_units.proofs.Values.{val-Turn, IsTurn}
 use Rattle.run_units.proofs.ByValue.{Contract-is-over, calls-is-over}
@@ -81,9 +81,9 @@ use Rattle.run_units.proofs.done.Symbol as done-def
 use Rattle.run_units.proofs.done.Symbol.{name as #run-units·done}
 use Rattle.run_units.proofs.done.Met as done-thm
 use Rattle.run_units.proofs.CallsFinishUnit.{Contract-finish-unit, calls-finish-unit-mmms}
-use Rattle.run_units.proofs.finish_unit.Symbol as finish-unit-def
-use Rattle.run_units.proofs.finish_unit.Symbol.{name as #run-units·finish-unit}
-use Rattle.run_units.proofs.finish_unit.Met as finish-unit-thm
+use Rattle.run_finish.proofs.finish_unit.Symbol as finish-unit-def
+use Rattle.run_finish.proofs.finish_unit.Symbol.{name as #run-finish·finish-unit}
+use Rattle.run_finish.proofs.finish_unit.Met as finish-unit-thm
 use Rattle.run_units.proofs.one_unit.Key.{name as #run-units·one-unit}
 use Rattle.run_units.proofs.one_unit as f
 use Rattle.run_units.proofs.one_unit.Statement as stated
@@ -127,7 +127,7 @@ module _ {M : Type 1} (𝓤 : URA M) (H : Heap 𝓤) (A : Atoms 𝓤) (W : Given
       suffices ! _ (ends-at 𝓤 H A f.ended stayed (f.clauses 𝓤 H A mem run-of) W (((s-positions .life, (s-increments .life, (s-gains .life, (s-affinities .life, (s-indices .life, (s-offsets .life, (s-forces .life, (s-cells .life, tt)))))))), (s-positions .share, (s-increments .share, (s-gains .share, (s-affinities .share, (s-indices .share, (s-offsets .share, (s-forces .share, (s-cells .share, tt)))))))), tt, x, at), tt) (val-Turn res) res (tt, (positions′, (increments′, (gains′, (tt, (tt, (tt, (forces′, (cells′, tt))))))))) (tt, (le-positions ∙ sym ln-positions, (le-increments ∙ sym ln-increments, (le-gains ∙ sym ln-gains, (tt, (tt, (tt, (le-forces ∙ sym ln-forces, (le-cells ∙ sym ln-cells, tt)))))))))) $ says ! e $
       nothing ! $ move ! (16 ∷ 0 ∷ []) $ join ! $ move ! (14 ∷ 0 ∷ []) $ join ! $ move ! (12 ∷ 0 ∷ []) $ join ! $ move ! (10 ∷ 0 ∷ []) $ join ! $ move ! (8 ∷ 0 ∷ []) $ join ! $ move ! (6 ∷ 0 ∷ []) $ join ! $ move ! (4 ∷ 0 ∷ []) $ join ! $ move ! (2 ∷ 0 ∷ []) $ join ! $ frame ! $ nothing ! $ move ! (8 ∷ 0 ∷ []) $ fjoin ! $ move ! (7 ∷ 0 ∷ []) $ fjoin ! $ move ! (6 ∷ 0 ∷ []) $ fjoin ! $ move ! (5 ∷ 0 ∷ []) $ fjoin ! $ move ! (4 ∷ 0 ∷ []) $ fjoin ! $ move ! (3 ∷ 0 ∷ []) $ fjoin ! $ move ! (2 ∷ 0 ∷ []) $ fjoin ! $ move ! (1 ∷ 0 ∷ []) $ fjoin ! $ owned ! Run′.the-row (Is Run′.the-row) ((LL.makes Run′.the-type Run″.the-plain) 𝓤 H A) r _ g-r $ fjoin ! $ frame ! $ owned ! Turn′.the-row (Is Turn′.the-row) ((LL.makes Turn′.the-type Turn″.the-plain) 𝓤 H A) res _ is $ done !
 
-  module _ (C : Calls 𝓤 H) (Λ : Loops 𝓤 H) (fm : FmC 𝓤 H (W .laws) C) (known-is-over : Triple 𝓤 (C #run-units·is-over) (Contract-is-over 𝓤 H A mem run-of)) (known-over : Triple 𝓤 (C #run-units·over) (Contract-over 𝓤 H A mem run-of)) (known-on-tree : Triple 𝓤 (C #run-units·on-tree) (Contract-on-tree 𝓤 H A mem run-of)) (known-tree-unit : Triple 𝓤 (C #run-units·tree-unit) (Contract-tree-unit 𝓤 H A mem run-of)) (known-on-forces : Triple 𝓤 (C #run-units·on-forces) (Contract-on-forces 𝓤 H A mem run-of)) (known-force-unit : Triple 𝓤 (C #run-units·force-unit) (Contract-force-unit 𝓤 H A mem run-of)) (known-done : Triple 𝓤 (C #run-units·done) (Contract-done 𝓤 H A mem run-of)) (known-finish-unit : Triple 𝓤 (C #run-units·finish-unit) (Contract-finish-unit 𝓤 H A mem run-of)) where
+  module _ (C : Calls 𝓤 H) (Λ : Loops 𝓤 H) (fm : FmC 𝓤 H (W .laws) C) (known-is-over : Triple 𝓤 (C #run-units·is-over) (Contract-is-over 𝓤 H A mem run-of)) (known-over : Triple 𝓤 (C #run-units·over) (Contract-over 𝓤 H A mem run-of)) (known-on-tree : Triple 𝓤 (C #run-units·on-tree) (Contract-on-tree 𝓤 H A mem run-of)) (known-tree-unit : Triple 𝓤 (C #run-units·tree-unit) (Contract-tree-unit 𝓤 H A mem run-of)) (known-on-forces : Triple 𝓤 (C #run-units·on-forces) (Contract-on-forces 𝓤 H A mem run-of)) (known-force-unit : Triple 𝓤 (C #run-units·force-unit) (Contract-force-unit 𝓤 H A mem run-of)) (known-done : Triple 𝓤 (C #run-units·done) (Contract-done 𝓤 H A mem run-of)) (known-finish-unit : Triple 𝓤 (C #run-finish·finish-unit) (Contract-finish-unit 𝓤 H A mem run-of)) where
     abbrev τ : ℕ → Ty
     τ k = type-of k pieces.locals
 
@@ -207,7 +207,7 @@ module _ {M : Type 1} (𝓤 : URA M) (H : Heap 𝓤) (A : Atoms 𝓤) (W : Given
         keep ! (0 ∷ 1 ∷ 2 ∷ 3 ∷ 4 ∷ 5 ∷ 8 ∷ 9 ∷ 10 ∷ 11 ∷ 12 ∷ 13 ∷ 6 ∷ 7 ∷ 14 ∷ 15 ∷ []) $ by ! (exits r8 positions8 increments8 gains8 forces cells is8 l-positions8 l-increments8 l-gains8 ln-forces ln-cells (finish-told r positions increments gains affinities indices offsets forces cells ready r1 e1 no1 r3 e3 no2 r5 e5 no3 r8 positions8 increments8 gains8 e8))))))))))))))))))))))))))))))))))))))))))))))
 
 module _ {M : Type 1} (𝓤 : URA M) (H : Heap 𝓤) (A : Atoms 𝓤) (W : Given 𝓤 H A) (mem : Memory → SProp 𝓤) (run-of : Routine → Fun 𝓤) where
-  one-unit-walks : (C : Calls 𝓤 H) (Λ : Loops 𝓤 H) → FmC 𝓤 H (W .laws) C → Triple 𝓤 (C #run-units·is-over) (Contract-is-over 𝓤 H A mem run-of) → Triple 𝓤 (C #run-units·over) (Contract-over 𝓤 H A mem run-of) → Triple 𝓤 (C #run-units·on-tree) (Contract-on-tree 𝓤 H A mem run-of) → Triple 𝓤 (C #run-units·tree-unit) (Contract-tree-unit 𝓤 H A mem run-of) → Triple 𝓤 (C #run-units·on-forces) (Contract-on-forces 𝓤 H A mem run-of) → Triple 𝓤 (C #run-units·force-unit) (Contract-force-unit 𝓤 H A mem run-of) → Triple 𝓤 (C #run-units·done) (Contract-done 𝓤 H A mem run-of) → Triple 𝓤 (C #run-units·finish-unit) (Contract-finish-unit 𝓤 H A mem run-of) → Walks 𝓤 H A f.ended stayed (WpFn 𝓤 H C Λ code.function) (f.clauses 𝓤 H A mem run-of)
+  one-unit-walks : (C : Calls 𝓤 H) (Λ : Loops 𝓤 H) → FmC 𝓤 H (W .laws) C → Triple 𝓤 (C #run-units·is-over) (Contract-is-over 𝓤 H A mem run-of) → Triple 𝓤 (C #run-units·over) (Contract-over 𝓤 H A mem run-of) → Triple 𝓤 (C #run-units·on-tree) (Contract-on-tree 𝓤 H A mem run-of) → Triple 𝓤 (C #run-units·tree-unit) (Contract-tree-unit 𝓤 H A mem run-of) → Triple 𝓤 (C #run-units·on-forces) (Contract-on-forces 𝓤 H A mem run-of) → Triple 𝓤 (C #run-units·force-unit) (Contract-force-unit 𝓤 H A mem run-of) → Triple 𝓤 (C #run-units·done) (Contract-done 𝓤 H A mem run-of) → Triple 𝓤 (C #run-finish·finish-unit) (Contract-finish-unit 𝓤 H A mem run-of) → Walks 𝓤 H A f.ended stayed (WpFn 𝓤 H C Λ code.function) (f.clauses 𝓤 H A mem run-of)
   one-unit-walks C Λ fm known-is-over known-over known-on-tree known-tree-unit known-on-forces known-force-unit known-done known-finish-unit = walked 𝓤 H A f.ended stayed (f.clauses 𝓤 H A mem run-of) (WpFn 𝓤 H C Λ code.function)
       (λ κs. (LL.vals Run′.the-type Run″.the-laws, (slice-vals, (slice-vals, (slice-vals, (slice-vals, (slice-vals, (slice-vals, (slice-vals, (slice-vals, tt))))))))))
       (λ κs. (LL.tells Run′.the-type Run″.the-laws, (mut-slice-tells (named 0) (κs .0) f64, (mut-slice-tells (named 1) (κs .1 .0) f64, (mut-slice-tells (named 2) (κs .1 .1 .0) f64, (shr-slice-tells (named 3) (κs .1 .1 .1 .0) f64, (shr-slice-tells (named 4) (κs .1 .1 .1 .1 .0) u32, (shr-slice-tells (named 5) (κs .1 .1 .1 .1 .1 .0) u32, (mut-slice-tells (named 6) (κs .1 .1 .1 .1 .1 .1 .0) f64, (mut-slice-tells (named 7) (κs .1 .1 .1 .1 .1 .1 .1 .0) Cell′.the-row, tt))))))))))
@@ -233,7 +233,7 @@ module _ {M : Type 1} (𝓤 : URA M) (H : Heap 𝓤) (A : Atoms 𝓤) (W : Given
       C Λ fm known-is-over known-over known-on-tree known-tree-unit known-on-forces known-force-unit known-done known-finish-unit))
 
 one-unit-meets : {M : Type 1} (𝓤 : URA M) (H : Heap 𝓤) (A : Atoms 𝓤) → Given 𝓤 H A → (mem : Memory → SProp 𝓤) (run-of : Routine → Fun 𝓤) (𝓣 : Tables 𝓤 H)
-    → Triple 𝓤 (𝓣 .C #run-units·is-over) (Contract-is-over 𝓤 H A mem run-of) → Triple 𝓤 (𝓣 .C #run-units·over) (Contract-over 𝓤 H A mem run-of) → Triple 𝓤 (𝓣 .C #run-units·on-tree) (Contract-on-tree 𝓤 H A mem run-of) → Triple 𝓤 (𝓣 .C #run-units·tree-unit) (Contract-tree-unit 𝓤 H A mem run-of) → Triple 𝓤 (𝓣 .C #run-units·on-forces) (Contract-on-forces 𝓤 H A mem run-of) → Triple 𝓤 (𝓣 .C #run-units·force-unit) (Contract-force-unit 𝓤 H A mem run-of) → Triple 𝓤 (𝓣 .C #run-units·done) (Contract-done 𝓤 H A mem run-of) → Triple 𝓤 (𝓣 .C #run-units·finish-unit) (Contract-finish-unit 𝓤 H A mem run-of)
+    → Triple 𝓤 (𝓣 .C #run-units·is-over) (Contract-is-over 𝓤 H A mem run-of) → Triple 𝓤 (𝓣 .C #run-units·over) (Contract-over 𝓤 H A mem run-of) → Triple 𝓤 (𝓣 .C #run-units·on-tree) (Contract-on-tree 𝓤 H A mem run-of) → Triple 𝓤 (𝓣 .C #run-units·tree-unit) (Contract-tree-unit 𝓤 H A mem run-of) → Triple 𝓤 (𝓣 .C #run-units·on-forces) (Contract-on-forces 𝓤 H A mem run-of) → Triple 𝓤 (𝓣 .C #run-units·force-unit) (Contract-force-unit 𝓤 H A mem run-of) → Triple 𝓤 (𝓣 .C #run-units·done) (Contract-done 𝓤 H A mem run-of) → Triple 𝓤 (𝓣 .C #run-finish·finish-unit) (Contract-finish-unit 𝓤 H A mem run-of)
     → Meets 𝓤 H A f.signature (WpFn 𝓤 H (𝓣 .C) (𝓣 .Λ) code.function) (f.spec 𝓤 H A mem run-of)
 one-unit-meets 𝓤 H A W mem run-of 𝓣 known-is-over known-over known-on-tree known-tree-unit known-on-forces known-force-unit known-done known-finish-unit =
     walk-meets 𝓤 H A f.ended stayed W (goes-none 𝓤 H A W 8 (λ _. Run′.the-row) yes (λ κs x f. refl), (goes-slice 𝓤 H A W 8 0 tt (plain (λ _. f64)), (goes-slice 𝓤 H A W 8 1 tt (plain (λ _. f64)), (goes-slice 𝓤 H A W 8 2 tt (plain (λ _. f64)), (goes-none-slice 𝓤 H A W 8 (3 ∷ []) tt (plain (λ _. f64)) yes, (goes-none-slice 𝓤 H A W 8 (4 ∷ []) tt (plain (λ _. u32)) yes, (goes-none-slice 𝓤 H A W 8 (5 ∷ []) tt (plain (λ _. u32)) yes, (goes-slice 𝓤 H A W 8 6 tt (plain (λ _. f64)), (goes-slice 𝓤 H A W 8 7 tt (plain (λ _. Cell′.the-row)), tt))))))))) (f.clauses 𝓤 H A mem run-of)
@@ -252,4 +252,4 @@ one-unit-spec 𝓤 H 𝓜 𝓖 𝓡 =
     (cited 𝓤 H (Contract-on-forces 𝓤 H (𝓖 .A) (𝓜 .mem) (𝓡 .run)) 𝓜 𝓡 code.env #run-units·on-forces on-forces-def.routine code.calls-run-units·on-forces (on-forces-thm.met 𝓤 H 𝓜 𝓖 𝓡))
     (cited 𝓤 H (Contract-force-unit 𝓤 H (𝓖 .A) (𝓜 .mem) (𝓡 .run)) 𝓜 𝓡 code.env #run-units·force-unit force-unit-def.routine code.calls-run-units·force-unit (force-unit-thm.met 𝓤 H 𝓜 𝓖 𝓡))
     (cited 𝓤 H (Contract-done 𝓤 H (𝓖 .A) (𝓜 .mem) (𝓡 .run)) 𝓜 𝓡 code.env #run-units·done done-def.routine code.calls-run-units·done (done-thm.met 𝓤 H 𝓜 𝓖 𝓡))
-    (cited 𝓤 H (Contract-finish-unit 𝓤 H (𝓖 .A) (𝓜 .mem) (𝓡 .run)) 𝓜 𝓡 code.env #run-units·finish-unit finish-unit-def.routine code.calls-run-units·finish-unit (finish-unit-thm.met 𝓤 H 𝓜 𝓖 𝓡)))
+    (cited 𝓤 H (Contract-finish-unit 𝓤 H (𝓖 .A) (𝓜 .mem) (𝓡 .run)) 𝓜 𝓡 code.env #run-finish·finish-unit finish-unit-def.routine code.calls-run-finish·finish-unit (finish-unit-thm.met 𝓤 H 𝓜 𝓖 𝓡)))

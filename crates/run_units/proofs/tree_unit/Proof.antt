@@ -53,9 +53,9 @@ use Rattle.run_record.proofs.Run.Laws as Run″
 use Rattle.run_record.specs.declared.Settings.{Settings}
 use Rattle.run_record.proofs.Settings as Settings′
 use Rattle.run_record.proofs.Settings.Laws as Settings″
-use Rattle.run_units.specs.declared.Turn.{Turn}
-use Rattle.run_units.proofs.Turn as Turn′
-use Rattle.run_units.proofs.Turn.Laws as Turn″
+use Rattle.run_finish.specs.declared.Turn.{Turn}
+use Rattle.run_finish.proofs.Turn as Turn′
+use Rattle.run_finish.proofs.Turn.Laws as Turn″
 use Rattle.run_entry.proofs.Values.{val-Run, IsRun, val-Settings, IsSettings}
 use Rattle.run_units.proofs.Values.{val-Turn, IsTurn}
 use Rattle.tree.proofs.Values.{val-Inserted, IsInserted}

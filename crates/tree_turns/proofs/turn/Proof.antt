@@ -33,13 +33,19 @@ enum-told c = search needs
 occupy-requires : tie.Need-occupy-requires
 occupy-requires c κs = search needs
 
+settled-requires : tie.Need-settled-requires
+settled-requires c κs = search needs
+
 returns-2 : tie.Need-returns-2
 unfolding turnOf
-returns-2 c = simp (eq-eqb _ _ (c .before .before .before .if1 .left), c .before .enum-told .given .1, c .occupy .ensures, c .before .before .before .before .before .before .before .absorb .ensures)
+returns-2 c = simp (c .settled .ensures, eq-eqb _ _ (c .before .before .before .before .if1 .left), c .before .before .enum-told .given .1, c .before .occupy .ensures, c .before .before .before .before .before .before .before .before .absorb .ensures)
+
+settled-requires-2 : tie.Need-settled-requires-2
+settled-requires-2 c κs = search needs
 
 returns-3 : tie.Need-returns-3
 unfolding turnOf
-returns-3 c = simp (eq-eqb _ _ (c .before .before .before .before .if1 .left), c .before .before .l .given .1, le-leb _ _ (c .if2 .taken), c .before .before .before .before .before .before .before .before .absorb .ensures)
+returns-3 c = simp (c .settled2 .ensures, eq-eqb _ _ (c .before .before .before .before .before .if1 .left), c .before .before .before .l .given .1, le-leb _ _ (c .before .if2 .taken), c .before .before .before .before .before .before .before .before .before .absorb .ensures)
 
 split-requires : tie.Need-split-requires
 split-requires c κs = search needs
@@ -66,7 +72,9 @@ turn-spec =
     enum-known-l
     enum-told
     occupy-requires
+    settled-requires
     returns-2
+    settled-requires-2
     returns-3
     split-requires
     add-t18

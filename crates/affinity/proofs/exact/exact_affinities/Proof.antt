@@ -23,8 +23,8 @@ conditional-probabilities-requires c κs = ((c .before .before .before .before .
 symmetrize-probabilities-requires : tie.Need-symmetrize-probabilities-requires
 symmetrize-probabilities-requires c κs = (c .before .before .before .before .before .before .before .before .before .before .before .before .before .before .before .before .before .pre .0, rw (c .before .before .before .before .before .conditional-probabilities .kept .1 .1 .1 .1 .1 .0) (c .before .before .before .before .before .before .before .before .before .before .before .before .before .before .before .before .before .pre .2))
 
-clear-values-requires : tie.Need-clear-values-requires
-clear-values-requires c κs = search needs
+fill-requires : tie.Need-fill-requires
+fill-requires c κs = search needs
 
 same-length : tie.Need-same-length
 same-length c = c .before .before .before .before .before .before .symmetrize-probabilities .kept .0 ∙ c .before .before .before .before .before .before .before .before .before .before .before .before .conditional-probabilities .kept .1 .1 .1 .1 .1 .0
@@ -33,10 +33,10 @@ same-length-2 : tie.Need-same-length-2
 same-length-2 c = c .before .before .before .before .before .before .before .before .before .before .before .before .before .before .before .before .before .before .square-frames .kept .1 .1 .1 .0
 
 same-length-3 : tie.Need-same-length-3
-same-length-3 c = c .before .before .clear-values .kept .0 ∙ c .before .before .before .before .before .before .before .before .before .before .before .before .conditional-probabilities .kept .1 .1 .1 .1 .1 .1 .0
+same-length-3 c = c .before .before .fill .kept .0 ∙ c .before .before .before .before .before .before .before .before .before .before .before .before .conditional-probabilities .kept .1 .1 .1 .1 .1 .1 .0
 
 returns : tie.Need-returns
-returns c = (c .before .before .before .before .before .before .symmetrize-probabilities .ensures ∙ ap (symmetrized _) (c .before .before .before .before .before .before .before .before .before .before .before .before .conditional-probabilities .ensures .0) ∙ exact-after _ _ _ _ _ (subst (λ (l : List Float). c .before .before .before .before .before .before .before .before .before .before .before .before .before .before .before .before .before .before .before .before .before .before .before .before .args .n * c .before .before .before .before .before .before .before .before .before .before .before .before .before .before .before .before .before .before .before .before .before .before .before .before .args .n ≤ length l) (c .before .before .before .before .before .before .before .before .before .before .before .before .conditional-probabilities .ensures .0) (rw (c .before .before .before .before .before .before .before .before .before .before .before .before .conditional-probabilities .kept .1 .1 .1 .1 .1 .0) (c .before .before .before .before .before .before .before .before .before .before .before .before .before .before .before .before .before .before .before .before .before .before .before .before .pre .2))), (c .before .before .before .before .before .before .before .before .before .before .before .before .before .before .before .before .before .before .square-frames .ensures, c .before .before .clear-values .ensures ∙ ap (λ (l : List Float). replicate (c .before .before .before .before .before .before .before .before .before .before .before .before .before .before .before .before .before .before .before .before .before .before .before .before .args .n) zero64 ++ l) (ap (drop (c .before .before .before .before .before .before .before .before .before .before .before .before .before .before .before .before .before .before .before .before .before .before .before .before .args .n)) (c .before .before .before .before .before .before .before .before .before .before .before .before .conditional-probabilities .ensures .1) ∙ scratch-all (c .before .before .before .before .before .before .before .before .before .before .before .before .before .before .before .before .before .before .before .before .before .before .before .before .args .table .now) (c .before .before .before .before .before .before .before .before .before .before .before .before .before .before .before .before .before .before .before .before .before .before .before .before .args .n) (c .before .before .before .before .before .before .before .before .before .before .before .before .before .before .before .before .before .before .before .before .before .before .before .before .args .f) (c .before .before .before .before .before .before .before .before .before .before .before .before .before .before .before .before .before .before .before .before .before .before .before .before .args .row .now) (c .before .before .before .before .before .before .before .before .before .before .before .before .before .before .before .before .before .before .before .before .before .before .before .before .pre .4) .tail)))
+returns c = (c .before .before .before .before .before .before .symmetrize-probabilities .ensures ∙ ap (symmetrized _) (c .before .before .before .before .before .before .before .before .before .before .before .before .conditional-probabilities .ensures .0) ∙ exact-after _ _ _ _ _ (subst (λ (l : List Float). c .before .before .before .before .before .before .before .before .before .before .before .before .before .before .before .before .before .before .before .before .before .before .before .before .args .n * c .before .before .before .before .before .before .before .before .before .before .before .before .before .before .before .before .before .before .before .before .before .before .before .before .args .n ≤ length l) (c .before .before .before .before .before .before .before .before .before .before .before .before .conditional-probabilities .ensures .0) (rw (c .before .before .before .before .before .before .before .before .before .before .before .before .conditional-probabilities .kept .1 .1 .1 .1 .1 .0) (c .before .before .before .before .before .before .before .before .before .before .before .before .before .before .before .before .before .before .before .before .before .before .before .before .pre .2))), (c .before .before .before .before .before .before .before .before .before .before .before .before .before .before .before .before .before .before .square-frames .ensures, c .before .before .fill .ensures ∙ ap (λ (l : List Float). replicate (c .before .before .before .before .before .before .before .before .before .before .before .before .before .before .before .before .before .before .before .before .before .before .before .before .args .n) zero64 ++ l) (ap (drop (c .before .before .before .before .before .before .before .before .before .before .before .before .before .before .before .before .before .before .before .before .before .before .before .before .args .n)) (c .before .before .before .before .before .before .before .before .before .before .before .before .conditional-probabilities .ensures .1) ∙ scratch-all (c .before .before .before .before .before .before .before .before .before .before .before .before .before .before .before .before .before .before .before .before .before .before .before .before .args .table .now) (c .before .before .before .before .before .before .before .before .before .before .before .before .before .before .before .before .before .before .before .before .before .before .before .before .args .n) (c .before .before .before .before .before .before .before .before .before .before .before .before .before .before .before .before .before .before .before .before .before .before .before .before .args .f) (c .before .before .before .before .before .before .before .before .before .before .before .before .before .before .before .before .before .before .before .before .before .before .before .before .args .row .now) (c .before .before .before .before .before .before .before .before .before .before .before .before .before .before .before .before .before .before .before .before .before .before .before .before .pre .4) .tail)))
 
 pub exact-affinities-spec : {M : Type 1} → statement M
 exact-affinities-spec =
@@ -45,7 +45,7 @@ exact-affinities-spec =
     square-frames-requires
     conditional-probabilities-requires
     symmetrize-probabilities-requires
-    clear-values-requires
+    fill-requires
     same-length
     same-length-2
     same-length-3

@@ -1,0 +1,52 @@
+use Rattle.bench_lines.specs.BenchLines.{labelText}
+use Rattle.text.proofs.Puts.{puts-then}
+use borrow.Author.Needs.{needs}
+use native.Mathlib.Omega.{arith}
+use Rattle.bench_lines.proofs.put_label.Statement.{statement}
+use Rattle.bench_lines.proofs.put_label.Tie as tie
+
+cast-put-decimal : tie.Need-cast-put-decimal
+cast-put-decimal c = search needs
+
+put-decimal-requires : tie.Need-put-decimal-requires
+put-decimal-requires c κs = search needs
+
+slice-aggregate-put : tie.Need-slice-aggregate-put
+slice-aggregate-put c = search needs
+
+put-requires : tie.Need-put-requires
+put-requires c κs = search needs
+
+cast-put-decimal-2 : tie.Need-cast-put-decimal-2
+cast-put-decimal-2 c = search needs
+
+put-decimal-requires-2 : tie.Need-put-decimal-requires-2
+put-decimal-requires-2 c κs = search needs
+
+slice-aggregate-put-2 : tie.Need-slice-aggregate-put-2
+slice-aggregate-put-2 c = search needs
+
+put-requires-2 : tie.Need-put-requires-2
+put-requires-2 c κs = search needs
+
+same-length : tie.Need-same-length
+same-length c = search needs
+
+returns : tie.Need-returns
+unfolding labelText
+returns c = (puts-then (puts-then (puts-then ((c .before .before .before .before .before .before .before .before .before .before .before .before .before .before .before .before .before .put-decimal .ensures .0)) (c .before .before .before .before .before .before .before .before .before .before .before .before .put .ensures)) (c .before .before .before .before .before .before .before .put-decimal2 .ensures .0)) (c .before .before .put2 .ensures), omega (arith, c .before .before .before .before .before .before .before .before .before .before .before .before .before .before .before .before .before .put-decimal .ensures .1, c .before .before .before .before .before .before .before .before .before .before .before .before .put .ensures .place, c .before .before .before .before .before .before .before .put-decimal2 .ensures .1, c .before .before .put2 .ensures .place))
+
+pub put-label-spec : {M : Type 1} → statement M
+put-label-spec =
+    tie.close
+    (tie.spec
+    cast-put-decimal
+    put-decimal-requires
+    slice-aggregate-put
+    put-requires
+    cast-put-decimal-2
+    put-decimal-requires-2
+    slice-aggregate-put-2
+    put-requires-2
+    same-length
+    returns)

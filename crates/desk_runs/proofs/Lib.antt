@@ -1,8 +1,0 @@
-pub mod Laws
-pub mod Lends
-pub mod Theorems
-pub mod ByValue
-pub mod CallsIsUnread
-pub mod CallsPutUnread
-pub mod CallsPutAfter
-pub mod CallsPutAnswer

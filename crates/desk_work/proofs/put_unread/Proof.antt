@@ -1,0 +1,19 @@
+use borrow.Author.Needs.{needs}
+use Rattle.desk_work.proofs.put_unread.Statement.{statement}
+use Rattle.desk_work.proofs.put_unread.Tie as tie
+
+unread-fault-requires : tie.Need-unread-fault-requires
+unread-fault-requires c κs = search needs
+
+put-answer-requires : tie.Need-put-answer-requires
+put-answer-requires c κs = search needs
+
+same-length : tie.Need-same-length
+same-length c = search needs
+
+returns : tie.Need-returns
+returns c = rw (c .before .before .put-answer .ensures, c .before .before .before .before .unread-fault .ensures)
+
+pub put-unread-spec : {M : Type 1} → statement M
+put-unread-spec =
+    tie.close (tie.spec unread-fault-requires put-answer-requires same-length returns)
