@@ -13,7 +13,7 @@ use Rattle.little.specs.Little.{littleBytes}
 use Rattle.tree_node.specs.declared.Node.{Node}
 use Rattle.run_entry.specs.declared.Fault.{Fault}
 use Rattle.run_entry.specs.Entry.{isFine, faultNumber}
-use Rattle.fault_words.specs.FaultWords.{wordsFault}
+use Rattle.words_entry.specs.WordsEntry.{wordsFault}
 use Rattle.parked.specs.declared.Layout.{Layout}
 use Rattle.parked.specs.Layout.{recordsIn}
 use Rattle.parked.specs.Parked.{Stored, layoutIn, parkedWord}

@@ -8,7 +8,7 @@ use lib.Ieee.{Float}
 use Rattle.laws.specs.Loops.{first}
 use Rattle.laws.specs.Area.{zero64}
 use Rattle.laws.specs.Joined.{each}
-use Rattle.areas.specs.Areas.{filled}
+use Rattle.areas.specs.Filled.{filled}
 use Rattle.little.specs.Little.{wordIn}
 use Rattle.run_record.specs.declared.Settings.{Settings}
 use Rattle.run_record.specs.Record.{perOf, sizesOf}

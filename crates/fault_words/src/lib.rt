@@ -1,0 +1,46 @@
+// A fault and what comes with it, as plain words of 64 bits; and what is wrong with words that are no record.
+ghost use mathlib.Core.Path.{_≡_};
+ghost use Rattle.fault_words.specs.FaultWords.{faultWord, faultValue, unreadFault};
+use record_words::settings_fine;
+use run_entry::Fault;
+
+pub fn fault_word(f: Fault) -> u64
+    ensures { λ w. ⌜ w ≡ faultWord f ⌝ }
+{
+    match f {
+        Fault::Fine => 0,
+        Fault::Settings(_) => 1,
+        Fault::Counters => 2,
+        Fault::Areas => 3,
+        Fault::Offsets(_) => 4,
+        Fault::Index(_) => 5,
+        Fault::Tree(_) => 6,
+    }
+}
+
+pub fn fault_value(f: Fault) -> u64
+    ensures { λ w. ⌜ w ≡ faultValue f ⌝ }
+{
+    match f {
+        Fault::Fine => 0,
+        Fault::Settings(k) => k as u64,
+        Fault::Counters => 0,
+        Fault::Areas => 0,
+        Fault::Offsets(i) => i as u64,
+        Fault::Index(i) => i as u64,
+        Fault::Tree(i) => i as u64,
+    }
+}
+
+// What is told of words that are no record.
+pub fn unread_fault(words: &[u64]) -> Fault
+    ensures { λ f. ⌜ f ≡ unreadFault (now (words .entry)) ⌝ }
+{
+    if words.len() < 14 {
+        return Fault::Counters;
+    }
+    if settings_fine(words) {
+        return Fault::Counters;
+    }
+    Fault::Settings(13)
+}
