@@ -1,7 +1,7 @@
 -- Lists made from a test, from other lists, and from an area with a part of it written. Definitions only.
 use mathlib.Core.List.{List, [], _∷_, _++_}
 use mathlib.Core.Bool.{Bool, cond}
-use Prim.Native.Nat.{ℕ, zero, suc, _-_, _*_}
+use Prim.Native.Nat.{ℕ, zero, suc, _+_, _-_, _*_}
 use lib.ListN.{length, take, drop}
 
 -- the numbers below n at which p holds, rising
@@ -18,6 +18,10 @@ module _ {A : Type 0} where
   -- d, the first k places taken from l, from a on
   abbrev pub pasted : List A → ℕ → ℕ → List A → List A
   pasted l a k d = take k (drop a l) ++ drop k d
+
+  -- l, with w written from place a on; the other places are as they were
+  abbrev pub written : List A → ℕ → List A → List A
+  written w a l = take a l ++ w ++ drop (a + length w) l
 
   -- l, with w written so that it ends just below place q
   abbrev pub ending : List A → ℕ → List A → List A
