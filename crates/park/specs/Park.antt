@@ -2,9 +2,10 @@
 use mathlib.Core.List.{List}
 use mathlib.Core.Path.{_≡_}
 use mathlib.Core.Bool.{Bool, true, cond, not, _&&_}
-use Prim.Native.Nat.{ℕ, _*_}
+use Prim.Native.Nat.{ℕ, _*_, _<_, _≤_}
 use lib.Dec.{eqb, ltb}
 use lib.ListN.{length}
+use Rattle.laws.specs.Domain.{mostComponents, mostFrames}
 use Rattle.laws.specs.Loops.{every}
 use Rattle.laws.specs.Area.{num, bits}
 use Rattle.laws.specs.Joined.{laid}
@@ -16,7 +17,7 @@ use Rattle.run_entry.specs.Entry.{isFine, faultNumber}
 use Rattle.words_entry.specs.WordsEntry.{wordsFault}
 use Rattle.parked.specs.declared.Layout.{Layout}
 use Rattle.parked.specs.Layout.{recordsIn}
-use Rattle.parked.specs.Parked.{Stored, layoutIn, parkedWord}
+use Rattle.parked.specs.Parked.{Stored, linksIn, layoutIn, parkedWord, StoredRoom}
 use Rattle.park.specs.declared.Parked.{Parked}
 use Rattle.park.specs.declared.Parked.the-variants.{Written, Inside, Barred, Short, Bad}
 
@@ -60,3 +61,16 @@ parkNumber Inside = 17
 parkNumber Barred = 15
 parkNumber Short = 12
 parkNumber (Bad f) = faultNumber f
+
+-- what the entry tests have shown of the words and the offsets by which a run lies
+pub record LayoutRoom (w off : List ℕ) : Type 0 where
+  pub words-long : 14 ≤ length w
+  pub frames-most : num w 0 ≤ mostFrames
+  pub components-most : num w 2 ≤ mostComponents
+  pub last-offset : eqb (num w 3) 1 ≡ true → num w 0 < length off
+  pub links-most : linksIn (eqb (num w 3) 1) (num w 0) off ≤ 40000000
+
+-- .. and of the areas
+pub record ParkRoom (d : Stored) : Type 0 where
+  pub layout : LayoutRoom (d .run) (d .offsets)
+  pub areas : StoredRoom (layoutIn (d .run) (d .offsets)) d
