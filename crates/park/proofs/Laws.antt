@@ -199,9 +199,9 @@ module _ (f : Fault) (d : Stored) (t : List ℕ) where
       barred-said n = rw (e, eq-eqb (num (d .run) 11) 0 z, sym el, n)
 
       module _ (c : calmState (l .cells) (d .positions) (d .increments) (d .gains) ≡ true) where
-        pub short-said : length t < 8 * l .end → parking Short t ≡ parkTested f d t
+        pub small-said : length t < 8 * l .end → parking Short t ≡ parkTested f d t
         unfolding parkTested
-        short-said h = rw (e, eq-eqb (num (d .run) 11) 0 z, sym el, c, lt-ltb (length t) (8 * l .end) h)
+        small-said h = rw (e, eq-eqb (num (d .run) 11) 0 z, sym el, c, lt-ltb (length t) (8 * l .end) h)
 
         pub written-said : 8 * l .end ≤ length t → (t' : List ℕ) → t' ≡ parkedInto l d t → parking (Written (l .end / 4)) t' ≡ parkTested f d t
         unfolding parkTested

@@ -43,6 +43,6 @@ module _ (w : List ℕ) (b : Bool) (e : b ≡ runFine w) where
     unfolding wordsFault
     tested-said t r er d ed = rw (holds-as b (runFine w) e t) (ed ∙ ap (λ (x : Run). faultAt x p i g a f xs off (nodesOf cs)) er)
 
-    pub unread-said : T (not b) → (d : Fault) → d ≡ unreadFault w → d ≡ wordsFault w p i g a f xs off (nodesOf cs)
+    pub unreadable-said : T (not b) → (d : Fault) → d ≡ unreadFault w → d ≡ wordsFault w p i g a f xs off (nodesOf cs)
     unfolding wordsFault
-    unread-said t d ed = rw (fails-as b (runFine w) e t) ed
+    unreadable-said t d ed = rw (fails-as b (runFine w) e t) ed

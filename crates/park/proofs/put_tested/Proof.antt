@@ -1,4 +1,4 @@
-use Rattle.park.proofs.Laws.{words-room, end-small, bad-said, inside-said, barred-said, short-said, written-said}
+use Rattle.park.proofs.Laws.{words-room, end-small, bad-said, inside-said, barred-said, small-said, written-said}
 use mathlib.Core.Path.{sym, _∙_}
 use borrow.Author.Tests.{not-true, not-false}
 use native.Mathlib.Omega.{arith}
@@ -31,7 +31,7 @@ mul-if4 : tie.Need-mul-if4
 mul-if4 c = omega (arith, end-small _ _ (c .before .before .before .layout-in .ensures) (c .before .before .before .before .before .before .before .before .before .before .before .before .before .before .before .before .pre (sym (c .before .before .before .before .before .before .before .is-fine .ensures) ∙ not-false _ (c .before .before .before .before .before .before .if1 .left))))
 
 returns-4 : tie.Need-returns-4
-returns-4 c = short-said _ _ _ (sym (c .before .before .before .before .before .before .before .before .is-fine .ensures) ∙ not-false _ (c .before .before .before .before .before .before .before .if1 .left)) (c .before .before .before .before .before .if2 .left) _ (c .before .before .before .before .layout-in .ensures) (sym (c .before .before .before .is-calm-state .ensures) ∙ not-false _ (c .before .before .if3 .left)) (c .if4 .taken)
+returns-4 c = small-said _ _ _ (sym (c .before .before .before .before .before .before .before .before .is-fine .ensures) ∙ not-false _ (c .before .before .before .before .before .before .before .if1 .left)) (c .before .before .before .before .before .if2 .left) _ (c .before .before .before .before .layout-in .ensures) (sym (c .before .before .before .is-calm-state .ensures) ∙ not-false _ (c .before .before .if3 .left)) (c .if4 .taken)
 
 put-words-requires : tie.Need-put-words-requires
 put-words-requires c κs = (words-room _ _ (c .before .before .before .before .before .layout-in .ensures) (c .before .before .before .before .before .before .before .before .before .before .before .before .before .before .before .before .before .before .pre (sym (c .before .before .before .before .before .before .before .before .before .is-fine .ensures) ∙ not-false _ (c .before .before .before .before .before .before .before .before .if1 .left))), c .before .if4 .left)

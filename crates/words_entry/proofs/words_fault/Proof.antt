@@ -39,7 +39,7 @@ use Rattle.lent.proofs.Pass.{Seat, ref-at, word, Shr, Tok}
 use denote.Struct.Laws as LL
 use denote.Enum.Laws as EL
 use Rattle.tree_node.specs.Arena.{nodesOf}
-use Rattle.words_entry.proofs.Laws.{words-long, tested-said, unread-said}
+use Rattle.words_entry.proofs.Laws.{words-long, tested-said, unreadable-said}
 use Rattle.words_entry.specs.WordsEntry.{wordsFault}
 use mathlib.Core.Path.{_≡_}
 use Rattle.tree_node.specs.declared.Cell.{Cell}
@@ -143,7 +143,7 @@ module _ {M : Type 1} (𝓤 : URA M) (H : Heap 𝓤) (A : Atoms 𝓤) (W : Given
         assigns ! (of-opd ! (load ! (from ! (stop !)) (look ! 10 refl))) (from ! (stop !)) (init ! 36 refl (typed-Fault r4 is4)) $
         returns ! (look ! 36 refl) $ forget ! 8 refl $ forget ! 10 refl $ forget ! 16 refl $ forget ! 18 refl $ forget ! 20 refl $ forget ! 22 refl $ forget ! 24 refl $ forget ! 26 refl $ forget ! 28 refl $ forget ! 30 refl $ forget ! 32 refl $ forget ! 34 refl $ forget ! 36 refl $
         move ! (36 ∷ 37 ∷ []) $ free1 ! $ move ! (34 ∷ 35 ∷ []) $ free1 ! $ move ! (32 ∷ 33 ∷ []) $ free1 ! $ move ! (30 ∷ 31 ∷ []) $ free1 ! $ move ! (28 ∷ 29 ∷ []) $ free1 ! $ move ! (26 ∷ 27 ∷ []) $ free1 ! $ move ! (24 ∷ 25 ∷ []) $ free1 ! $ move ! (22 ∷ 23 ∷ []) $ free1 ! $ move ! (20 ∷ 21 ∷ []) $ free1 ! $ move ! (18 ∷ 19 ∷ []) $ free1 ! $ move ! (16 ∷ 17 ∷ []) $ free1 ! $ move ! (14 ∷ 15 ∷ []) $ free1 ! $ move ! (12 ∷ 13 ∷ []) $ free1 ! $ move ! (10 ∷ 11 ∷ []) $ free1 ! $ move ! (8 ∷ 9 ∷ []) $ free1 ! $ free0 ! $
-        keep ! (0 ∷ 1 ∷ 2 ∷ 3 ∷ 4 ∷ 5 ∷ 6 ∷ 7 ∷ []) $ by ! (exits r4 is4 (unread-said words r1 e1 p i g₀ a₀ f₀ indices offsets cells no1 r4 e4))))))))))))))))))))
+        keep ! (0 ∷ 1 ∷ 2 ∷ 3 ∷ 4 ∷ 5 ∷ 6 ∷ 7 ∷ []) $ by ! (exits r4 is4 (unreadable-said words r1 e1 p i g₀ a₀ f₀ indices offsets cells no1 r4 e4))))))))))))))))))))
 
 module _ {M : Type 1} (𝓤 : URA M) (H : Heap 𝓤) (A : Atoms 𝓤) (W : Given 𝓤 H A) (mem : Memory → SProp 𝓤) (run-of : Routine → Fun 𝓤) where
   words-fault-walks : (C : Calls 𝓤 H) (Λ : Loops 𝓤 H) → FmC 𝓤 H (W .laws) C → Triple 𝓤 (C #record-words·run-fine) (Contract-run-fine 𝓤 H A mem run-of) → Triple 𝓤 (C #record-words·run-of) (Contract-run-of 𝓤 H A mem run-of) → Triple 𝓤 (C #run-entry·fault-at) (Contract-fault-at 𝓤 H A mem run-of) → Triple 𝓤 (C #fault-words·unread-fault) (Contract-unread-fault 𝓤 H A mem run-of) → Walks 𝓤 H A f.ended stayed (WpFn 𝓤 H C Λ code.function) (f.clauses 𝓤 H A mem run-of)
