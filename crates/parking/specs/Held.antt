@@ -1,0 +1,46 @@
+-- A run as it lies in memory: what its words can be, and the state that it is. Definitions only.
+use mathlib.Core.List.{List, map}
+use Prim.Native.Nat.{ℕ}
+use lib.Ieee.{Float}
+use Rattle.laws.specs.Area.{bits}
+use Rattle.little.specs.Little.{AllBelow}
+use Rattle.tree_node.specs.declared.Node.{Node}
+use Rattle.run_entry.specs.State.{State}
+use Rattle.record_words.specs.RecordWords.{runOf}
+use Rattle.parked.specs.Parked.{Stored}
+
+-- a byte, a word of 32 bits, one of 64: the numbers that each has
+abbrev pub bytesMost : ℕ
+bytesMost = 256
+
+abbrev pub halvesMost : ℕ
+halvesMost = 4294967296
+
+abbrev pub wordsMost : ℕ
+wordsMost = 18446744073709551616
+
+-- record and values are words of 64 bits, indices and offsets of 32
+pub record InWords (d : Stored) : Type 0 where
+  pub run : AllBelow wordsMost (d .run)
+  pub positions : AllBelow wordsMost (d .positions)
+  pub increments : AllBelow wordsMost (d .increments)
+  pub gains : AllBelow wordsMost (d .gains)
+  pub affinities : AllBelow wordsMost (d .affinities)
+  pub indices : AllBelow halvesMost (d .indices)
+  pub offsets : AllBelow halvesMost (d .offsets)
+
+-- the state that is stored so, with these forces and nodes
+abbrev pub stateIn : Stored → List Float → List Node → State
+stateIn d F ns = record {
+  run = runOf (d .run);
+  memory = record {
+    positions = map bits (d .positions);
+    increments = map bits (d .increments);
+    gains = map bits (d .gains);
+    affinities = map bits (d .affinities);
+    indices = d .indices;
+    offsets = d .offsets;
+    forces = F;
+    nodes = ns;
+  };
+}
