@@ -1,2 +1,3 @@
 pub mod Regions
 pub mod Words
+pub mod Files
