@@ -1,3 +1,4 @@
 pub mod Regions
 pub mod Words
 pub mod Files
+pub mod Entries
