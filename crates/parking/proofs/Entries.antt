@@ -102,11 +102,26 @@ module _ (d : Stored) (F : List Float) (ns : List Node) (t : List ℕ) where
       let b = passes (not (eqb (num (d .run) 11) 0)) (parking Inside t) e3 k refl (a .1) in
       let c = passes (not (calmState (lies .cells) (d .positions) (d .increments) (d .gains))) (parking Barred t) e4 k refl (b .1) in
       let s = passes (ltb (length t) (8 * lies .end)) (parking Short t) written k refl (c .1) in
-      let g = entry-fine d F ns (not-false (isFine f) (a .0)) in
-      (record {
-        read = g .0;
-        good = g .1;
-        between = eqb-true (num (d .run) 11) 0 (not-false (eqb (num (d .run) 11) 0) (b .0));
-        calm-all = not-false (calmState (lies .cells) (d .positions) (d .increments) (d .gains)) (c .0);
-        room = ltb-false (length t) (8 * lies .end) (s .0);
-      }, ap recordsOf (s .1))
+      let g = entry-fine d F ns (not-false (isFine f) (a .0)) in (
+        record {
+          read = g .0;
+          good = g .1;
+          between = eqb-true (num (d .run) 11) 0 (not-false (eqb (num (d .run) 11) 0) (b .0));
+          calm-all = not-false (calmState (lies .cells) (d .positions) (d .increments) (d .gains)) (c .0);
+          room = ltb-false (length t) (8 * lies .end) (s .0);
+        },
+        ap recordsOf (s .1),
+      )
+
+-- with so many forces
+pub record ParksAll (d : Stored) (forces : ℕ) (ns : List Node) (t : List ℕ) (k : ℕ) : Type 0 where
+  pub writes : Writes d (replicate forces zero64) ns t
+  pub count : recordsIn (layoutIn (d .run) (d .offsets)) ≡ k
+  pub same : parkOf d forces ns t ≡ written d (replicate forces zero64) ns t
+
+pub parks-all : (d : Stored) (forces : ℕ) (ns : List Node) (t : List ℕ) (k : ℕ) → parkOf d forces ns t .answer ≡ Written k → ParksAll d forces ns t k
+parks-all d forces ns t k e =
+    let F : List Float = replicate forces zero64 in
+    let n : length F ≡ forces = length-replicate forces zero64 in
+    let w = parks-writes d F ns t k (ap (λ (x : ℕ). parkOf d x ns t .answer) n ∙ e) in
+    record { writes = w .0; count = w .1; same = ap (λ (x : ℕ). parkOf d x ns t) (sym n) ∙ writes-parks d F ns t (w .0) }
