@@ -5,3 +5,4 @@ pub mod Entries
 pub mod Heads
 pub mod Lists
 pub mod Written
+pub mod Returned

@@ -29,7 +29,7 @@ use Rattle.parked.specs.Fine.{layoutBy, offsetFits}
 use Rattle.park.specs.declared.Parked.the-variants.{Written}
 use Rattle.park.specs.Park.{calmAll, calmState, Parking, parkedInto, parkOf}
 use Rattle.unpark.specs.Unpark.{recordsDue, isParked}
-use Rattle.parking.specs.Held.{wordsMost, InWords, stateIn}
+use Rattle.parking.specs.Held.{wordsMost, InWords, stateIn, firstRecords}
 use Rattle.parking.proofs.Regions.{filled-most, Rises, layout-rises, end-whole, end-most}
 use Rattle.parking.proofs.Words.{row-word, word-below, filling, filling-in, filling-out, word-head, word-positions, word-increments, word-gains, word-affinities, word-indices, word-weights}
 use Rattle.parking.proofs.Files.{AreaFine, heldTest, WordsFine, FileFine, fine-parked}
@@ -88,6 +88,15 @@ pub by-head : (g : ℕ → ℕ) (w off : List ℕ) → HeadIs g (layoutIn w off)
 unfolding layoutBy layoutIn
 by-head g w off h = rw (h .method, h .n, h .c, h .links ∙ lying w off .links-are)
 
+-- the words of the areas are those of d
+pub record WordsAre (g : ℕ → ℕ) (l : Layout) (d : Stored) : Type 0 where
+  pub positions : (i : ℕ) → i < l .cells → g (12 + i) ≡ num (d .positions) i
+  pub increments : (i : ℕ) → i < l .cells → g (l .increments + i) ≡ num (d .increments) i
+  pub gains : (i : ℕ) → i < l .cells → g (l .gains + i) ≡ num (d .gains) i
+  pub affinities : (i : ℕ) → i < l .held → g (l .affinities + i) ≡ num (cond (l .tree) (d .offsets) (d .affinities)) i
+  pub indices : (i : ℕ) → i < l .links → g (l .indices + i) ≡ num (d .indices) i
+  pub weights : (i : ℕ) → i < l .links → g (l .weights + i) ≡ num (d .affinities) i
+
 module _ (d : Stored) (F : List Float) (ns : List Node) (t : List ℕ) (W : Writes d F ns t) where
   abbrev w : List ℕ
   w = d .run
@@ -107,7 +116,7 @@ module _ (d : Stored) (F : List Float) (ns : List Node) (t : List ℕ) (W : Writ
   unfolding runOf settingsOf
   settings-in = W .good .settings
 
-  lists-in : eqb (num w 3) 1 ≡ true → Lists (num w 0) (2 * num w 0 * neighboursOf (bits (num w 4)) (num w 0)) (d .indices) (d .offsets)
+  pub lists-in : eqb (num w 3) 1 ≡ true → Lists (num w 0) (2 * num w 0 * neighboursOf (bits (num w 4)) (num w 0)) (d .indices) (d .offsets)
   unfolding runOf settingsOf
   lists-in e = lists-of (runOf w) (d .indices) (d .offsets) ns (W .good .contents (method-tree (num w 3) method-most ∙ e)) (omega (arith, settings-in .n-some))
 
@@ -155,6 +164,16 @@ module _ (d : Stored) (F : List Float) (ns : List Node) (t : List ℕ) (W : Writ
 
     at-weights : (i : ℕ) → i < filledUp (l .links) → g (l .weights + i) ≡ filling (d .affinities) (l .links) i
     at-weights i h = let r = y .rises in G (l .weights + i) (omega (arith, r .end-at)) ∙ word-weights l r d i h
+
+    pub words-are : WordsAre g l d
+    words-are = record {
+      positions = λ i h. at-positions i (omega (arith, filled-most (l .cells))) ∙ filling-in (d .positions) (l .cells) i h;
+      increments = λ i h. at-increments i (omega (arith, filled-most (l .cells))) ∙ filling-in (d .increments) (l .cells) i h;
+      gains = λ i h. at-gains i (omega (arith, filled-most (l .cells))) ∙ filling-in (d .gains) (l .cells) i h;
+      affinities = λ i h. at-affinities i (omega (arith, filled-most (l .held))) ∙ filling-in (cond (l .tree) (d .offsets) (d .affinities)) (l .held) i h;
+      indices = λ i h. at-indices i (omega (arith, filled-most (l .links))) ∙ filling-in (d .indices) (l .links) i h;
+      weights = λ i h. at-weights i (omega (arith, filled-most (l .links))) ∙ filling-in (d .affinities) (l .links) i h;
+    }
 
     values : (b : ℕ) (v : List ℕ) → ((i : ℕ) → i < filledUp (l .cells) → g (b + i) ≡ filling v (l .cells) i) → calmAll v (l .cells) ≡ true → AreaFine g b (l .cells) (λ i. calm (bits (g (b + i))))
     unfolding calmAll
@@ -267,17 +286,14 @@ module _ (d : Stored) where
 
 -- What is written stands: where k records are written, the first 32·k bytes of the target are a parked run of k records.
 module _ (d : Stored) (forces : ℕ) (ns : List Node) (t : List ℕ) (k : ℕ) where
-  abbrev front : List ℕ
-  front = take (32 * k) (parkOf d forces ns t .target)
-
-  pub front-is : parkOf d forces ns t .answer ≡ Written k → front ≡ fileOf d
+  pub front-is : parkOf d forces ns t .answer ≡ Written k → firstRecords k (parkOf d forces ns t .target) ≡ fileOf d
   front-is a =
       let p = parks-all d forces ns t k a in
       ap (λ (x : Parking). take (32 * k) (x .target)) (p .same)
       ∙ ap (λ (x : ℕ). take (32 * x) (parkedInto (layoutIn (d .run) (d .offsets)) d t)) (sym (p .count))
       ∙ file-front d t
 
-  pub what-is-written-stands : InWords d → parkOf d forces ns t .answer ≡ Written k → (isParked front ≡ true) × (recordsDue front ≡ k)
+  pub what-is-written-stands : InWords d → parkOf d forces ns t .answer ≡ Written k → (isParked (firstRecords k (parkOf d forces ns t .target)) ≡ true) × (recordsDue (firstRecords k (parkOf d forces ns t .target)) ≡ k)
   what-is-written-stands e a =
       let p = parks-all d forces ns t k a in
       let F : List Float = replicate forces zero64 in

@@ -1,6 +1,7 @@
 -- A run as it lies in memory: what its words can be, and the state that it is. Definitions only.
 use mathlib.Core.List.{List, map}
-use Prim.Native.Nat.{ℕ}
+use Prim.Native.Nat.{ℕ, _*_}
+use lib.ListN.{take}
 use lib.Ieee.{Float}
 use Rattle.laws.specs.Area.{bits}
 use Rattle.little.specs.Little.{AllBelow}
@@ -44,3 +45,7 @@ stateIn d F ns = record {
     nodes = ns;
   };
 }
+
+-- the bytes of the first k records
+abbrev pub firstRecords : ℕ → List ℕ → List ℕ
+firstRecords k t = take (32 * k) t
