@@ -6,3 +6,4 @@ pub mod Heads
 pub mod Lists
 pub mod Written
 pub mod Returned
+pub mod Taken
