@@ -7,3 +7,4 @@ pub mod Lists
 pub mod Written
 pub mod Returned
 pub mod Taken
+pub mod Rewritten

@@ -274,3 +274,75 @@ module _ (g : ℕ → ℕ) (A : FileFine g) where
           each-index = λ i h. let k : i < l .links = omega (arith, h, last-read q, y .links-are) in ap (λ (x : ℕ). ltb x (g 1)) (indices-read i k) ∙ ap (ltb (g (l .indices + i))) (sym (y .n-is)) ∙ A .words .indices .holds i k;
           tree = λ n. absurd (n refl);
         }
+
+    -- ---- areas that have room keep their lengths
+
+    module _ (forces nodes : ℕ) (R : hasRoom g d forces nodes ≡ true) where
+      room : GoodAreas (settingsWith (g 0) (g 1) (g 2) (g 3) (g 4) (g 5) (g 6) (g 7) (g 8)) (length (d .positions)) (length (d .increments)) (length (d .gains)) (length (d .affinities)) (length (d .indices)) (length (d .offsets)) forces nodes
+      unfolding hasRoom settingsRead settingsOf recordRead
+      room =
+          let s = settingsWith (g 0) (g 1) (g 2) (g 3) (g 4) (g 5) (g 6) (g 7) (g 8) in
+          areas-fine s (length (d .positions)) (length (d .increments)) (length (d .gains)) (length (d .affinities)) (length (d .indices)) (length (d .offsets)) forces nodes
+          (and-right (leb 14 (length (d .run))) (areasFit s (length (d .positions)) (length (d .increments)) (length (d .gains)) (length (d .affinities)) (length (d .indices)) (length (d .offsets)) forces nodes) R)
+
+      links-long : (a : ℕ) → (isTree (methodOf (g 0)) ≡ true → 2 * g 1 * neighboursOf (bits (g 4)) (g 1) ≤ a) → l .links ≤ a
+      links-long a f = rw (y .links-are) (by (eqb (g 0) 1) refl (three .links-most))
+        where
+          by : (b : Bool) → eqb (g 0) 1 ≡ b → cond b (leb (g 11) (2 * g 1 * neighboursOf (bits (g 4)) (g 1))) (eqb (g 11) 0) ≡ true → g 11 ≤ a
+          by true q h = omega (arith, leb-true (g 11) (2 * g 1 * neighboursOf (bits (g 4)) (g 1)) h, f (method-is ∙ q))
+          by false q h = omega (arith, eqb-true (g 11) 0 h)
+
+      positions-long : length (map bits (e .positions)) ≡ length (d .positions)
+      unfolding storedRead
+      positions-long = length-map bits (e .positions) ∙ fetched-long g 12 (l .cells) (d .positions) (omega (arith, y .cells-is, room .positions-long))
+
+      increments-long : length (map bits (e .increments)) ≡ length (d .increments)
+      unfolding storedRead
+      increments-long = length-map bits (e .increments) ∙ fetched-long g (l .increments) (l .cells) (d .increments) (omega (arith, y .cells-is, room .increments-long))
+
+      gains-long : length (map bits (e .gains)) ≡ length (d .gains)
+      unfolding storedRead
+      gains-long = length-map bits (e .gains) ∙ fetched-long g (l .gains) (l .cells) (d .gains) (omega (arith, y .cells-is, room .gains-long))
+
+      affinities-long : length (map bits (e .affinities)) ≡ length (d .affinities)
+      unfolding storedRead weightsRead
+      affinities-long = length-map bits (e .affinities) ∙ by (l .tree) refl
+        where
+          by : (b : Bool) → l .tree ≡ b → length (cond b (fetched g (l .weights) (l .links) (d .affinities)) (fetched g (l .affinities) (l .held) (d .affinities))) ≡ length (d .affinities)
+          by true q = fetched-long g (l .weights) (l .links) (d .affinities) (links-long (length (d .affinities)) (λ t. room .tree-long t .links-most))
+          by false q =
+              let z : eqb (g 0) 1 ≡ false = sym (y .tree-is) ∙ q in
+              let s : l .held ≡ g 1 * g 1 = rw z at (y .held-is) in
+              fetched-long g (l .affinities) (l .held) (d .affinities) (omega (arith, s, room .exact-long (method-is ∙ z)))
+
+      indices-long : length (e .indices) ≡ length (d .indices)
+      unfolding storedRead
+      indices-long = fetched-long g (l .indices) (l .links) (d .indices) (links-long (length (d .indices)) (λ t. room .tree-long t .indices-most))
+
+      offsets-long : length (e .offsets) ≡ length (d .offsets)
+      unfolding storedRead offsetsRead
+      offsets-long = by (l .tree) refl
+        where
+          by : (b : Bool) → l .tree ≡ b → length (cond b (fetched g (l .affinities) (l .held) (d .offsets)) (d .offsets)) ≡ length (d .offsets)
+          by true q =
+              let z : eqb (g 0) 1 ≡ true = sym (y .tree-is) ∙ q in
+              let s : l .held ≡ g 1 + 1 = rw z at (y .held-is) in
+              fetched-long g (l .affinities) (l .held) (d .offsets) (omega (arith, s, room .tree-long (method-is ∙ z) .offsets-most))
+          by false q = refl
+
+      -- what is read is in good order, with any forces and nodes that are enough
+      pub read-good : (F : List Float) (ns : List Node) → g 1 * (2 * g 3 + 1) ≤ length F → (isTree (methodOf (g 0)) ≡ true → 1 ≤ length ns) → Good (stateIn e F ns)
+      unfolding runOf settingsOf storedRead recordRead
+      read-good F ns f n = record {
+        settings = settings-good;
+        counters = counters-good;
+        areas = record {
+          positions-long = omega (arith, positions-long, room .positions-long);
+          increments-long = omega (arith, increments-long, room .increments-long);
+          gains-long = omega (arith, gains-long, room .gains-long);
+          forces-long = f;
+          tree-long = λ t. record { links-most = omega (arith, affinities-long, room .tree-long t .links-most); indices-most = omega (arith, indices-long, room .tree-long t .indices-most); offsets-most = omega (arith, offsets-long, room .tree-long t .offsets-most); nodes-some = n t };
+          exact-long = λ t. omega (arith, affinities-long, room .exact-long t);
+        };
+        contents = λ t. contents-good ns t;
+      }
