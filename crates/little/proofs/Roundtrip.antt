@@ -60,3 +60,9 @@ bytes-back (suc n) f a b h =
 
     high : (x y : ℕ) → x < 256 → (x + 256 * y) / 256 ≡ y
     high x y l = omega arith
+
+-- a number of n bytes
+pub little-below : (n : ℕ) (f : List ℕ) (a : ℕ) → AllBelow 256 f → littleOf f a n < 256 ^ n
+unfolding littleOf
+little-below zero f a b = omega arith
+little-below (suc n) f a b = omega (arith, b a, little-below n f (a + 1) b)

@@ -8,3 +8,4 @@ pub mod Written
 pub mod Returned
 pub mod Taken
 pub mod Rewritten
+pub mod Accepted

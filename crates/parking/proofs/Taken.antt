@@ -74,32 +74,32 @@ module _ (g : ℕ → ℕ) (A : FileFine g) where
   abbrev y : LyingBy l g
   y = lying-by g
 
-  abbrev one : FirstFacts (g 0) (g 1) (g 2) (g 3) (g 4) (g 5) (g 6) (g 7) (g 8)
+  abbrev pub one : FirstFacts (g 0) (g 1) (g 2) (g 3) (g 4) (g 5) (g 6) (g 7) (g 8)
   one = first-facts (g 0) (g 1) (g 2) (g 3) (g 4) (g 5) (g 6) (g 7) (g 8) (A .first-fine)
 
-  abbrev two : SecondFacts (g 0) (g 1) (g 2) (g 3) (g 4) (g 5) (g 6) (g 7) (g 8)
+  abbrev pub two : SecondFacts (g 0) (g 1) (g 2) (g 3) (g 4) (g 5) (g 6) (g 7) (g 8)
   two = second-facts (g 0) (g 1) (g 2) (g 3) (g 4) (g 5) (g 6) (g 7) (g 8) (A .second-fine)
 
-  abbrev three : ThirdFacts (g 0) (g 1) (g 4) (g 6) (g 8) (g 9) (g 10) (g 11)
+  abbrev pub three : ThirdFacts (g 0) (g 1) (g 4) (g 6) (g 8) (g 9) (g 10) (g 11)
   three = third-facts (g 0) (g 1) (g 4) (g 6) (g 8) (g 9) (g 10) (g 11) (A .third-fine)
 
-  method-is : isTree (methodOf (g 0)) ≡ eqb (g 0) 1
+  pub method-is : isTree (methodOf (g 0)) ≡ eqb (g 0) 1
   method-is = method-tree (g 0) (leb-true (g 0) 1 (one .m-most))
 
   -- ---- the offsets in the file
 
-  record Offset (i : ℕ) : Type 0 where
-    rises : g (l .affinities + (i - 1)) ≤ g (l .affinities + i)
-    below : g (l .affinities + i) ≤ l .links
-    last : i ≡ l .n → g (l .affinities + i) ≡ l .links
+  pub record Offset (i : ℕ) : Type 0 where
+    pub rises : g (l .affinities + (i - 1)) ≤ g (l .affinities + i)
+    pub below : g (l .affinities + i) ≤ l .links
+    pub last : i ≡ l .n → g (l .affinities + i) ≡ l .links
 
-  offset-starts : eqb (g 0) 1 ≡ true → g (l .affinities + 0) ≡ 0
+  pub offset-starts : eqb (g 0) 1 ≡ true → g (l .affinities + 0) ≡ 0
   unfolding offsetFits
   offset-starts e =
       let s : l .held ≡ g 1 + 1 = rw e at (y .held-is) in
       eqb-true (g (l .affinities + 0)) 0 (taken (l .tree) (offsetFits g l 0 (l .affinities + 0)) (y .tree-is ∙ e) (A .words .affinities .holds 0 (omega (arith, s))))
 
-  offset-in : eqb (g 0) 1 ≡ true → (i : ℕ) → 1 ≤ i → i ≤ g 1 → Offset i
+  pub offset-in : eqb (g 0) 1 ≡ true → (i : ℕ) → 1 ≤ i → i ≤ g 1 → Offset i
   unfolding offsetFits
   offset-in e i a b =
       let s : l .held ≡ g 1 + 1 = rw e at (y .held-is) in
@@ -127,7 +127,7 @@ module _ (g : ℕ → ℕ) (A : FileFine g) where
     abbrev e : Stored
     e = storedRead g d
 
-    offset-read : eqb (g 0) 1 ≡ true → (i : ℕ) → i ≤ g 1 → num (e .offsets) i ≡ g (l .affinities + i)
+    pub offset-read : eqb (g 0) 1 ≡ true → (i : ℕ) → i ≤ g 1 → num (e .offsets) i ≡ g (l .affinities + i)
     unfolding storedRead offsetsRead
     offset-read q i h =
         let s : l .held ≡ g 1 + 1 = rw q at (y .held-is) in
@@ -251,7 +251,7 @@ module _ (g : ℕ → ℕ) (A : FileFine g) where
     unfolding calmState
     read-calm = rw (calm-of 12 (e .positions) (A .words .positions) positions-read, calm-of (l .increments) (e .increments) (A .words .increments) increments-read, calm-of (l .gains) (e .gains) (A .words .gains) gains-read)
 
-    settings-good : GoodSettings (runOf (e .run) .settings)
+    pub settings-good : GoodSettings (runOf (e .run) .settings)
     unfolding runOf settingsOf storedRead recordRead
     settings-good = good-settings (g 0) (g 1) (g 2) (g 3) (g 4) (g 5) (g 6) (g 7) (g 8) one two
 

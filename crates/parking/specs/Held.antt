@@ -1,7 +1,8 @@
 -- A run as it lies in memory: what its words can be, and the state that it is. Definitions only.
+use mathlib.Core.Path.{_≡_}
 use mathlib.Core.List.{List, map}
 use Prim.Native.Nat.{ℕ, _*_}
-use lib.ListN.{take}
+use lib.ListN.{length, take}
 use lib.Ieee.{Float}
 use Rattle.laws.specs.Area.{bits}
 use Rattle.little.specs.Little.{AllBelow}
@@ -9,6 +10,8 @@ use Rattle.tree_node.specs.declared.Node.{Node}
 use Rattle.run_entry.specs.State.{State}
 use Rattle.record_words.specs.RecordWords.{runOf}
 use Rattle.parked.specs.Parked.{Stored}
+use Rattle.park.specs.declared.Parked.the-variants.{Written}
+use Rattle.park.specs.Park.{parking, parkOf}
 
 -- a byte, a word of 32 bits, one of 64: the numbers that each has
 abbrev pub bytesMost : ℕ
@@ -49,3 +52,14 @@ stateIn d F ns = record {
 -- the bytes of the first k records
 abbrev pub firstRecords : ℕ → List ℕ → List ℕ
 firstRecords k t = take (32 * k) t
+
+-- some run that memory can hold is written so: into a target of just these bytes
+pub record WrittenAs (f : List ℕ) : Type 0 where
+  pub run : Stored
+  pub forces : ℕ
+  pub nodes : List Node
+  pub target : List ℕ
+  pub records : ℕ
+  pub in-words : InWords run
+  pub same : parkOf run forces nodes target ≡ parking (Written records) f
+  pub whole : length f ≡ 32 * records
