@@ -55,6 +55,7 @@ pub record Reads (f : List ℕ) (d : Stored) (F : List Float) (nodes k : ℕ) : 
   pub room : hasRoom (wordIn f) d (length F) nodes ≡ true
   pub count : recordsDue f ≡ k
   pub same : unparkOf f d F nodes .left ≡ storedRead (wordIn f) d
+  pub cleared : unparkOf f d F nodes .forces ≡ filled zero64 (sizesOf (settingsRead (wordIn f)) .forces) F
 
 pub reads : (f : List ℕ) (d : Stored) (F : List Float) (nodes k : ℕ) → unparkOf f d F nodes .answer ≡ Read k → Reads f d F nodes k
 unfolding unparkOf isRead readOf
@@ -66,7 +67,7 @@ reads f d F nodes k e =
     let b = passes (not (hasRoom g d (length F) nodes)) (unparking Short d F) all k refl (a .1) in
     let p = not-false (isParked f) (a .0) in
     let r = not-false (hasRoom g d (length F) nodes) (b .0) in
-    record { stands = p; room = r; count = ap readOf (b .1); same = rw (p, r) }
+    record { stands = p; room = r; count = ap readOf (b .1); same = rw (p, r); cleared = rw (p, r) }
 
 -- ---- what it is written as
 
