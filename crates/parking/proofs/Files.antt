@@ -24,7 +24,7 @@ use Rattle.parking.proofs.Regions.{filled-most, Rises, layout-rises, en
 -- ---- an area
 
 -- word i of an area of m words: its test, and past them zero bits
-abbrev tested : ℕ → ℕ → Bool → ℕ → Bool
+abbrev pub tested : ℕ → ℕ → Bool → ℕ → Bool
 tested m i t v = cond (ltb i m) t (eqb v 0)
 
 -- the m words from b on pass, and their filling is zero bits
@@ -89,22 +89,22 @@ module _ (g : ℕ → ℕ) where
     unfolding weightFits
     weight-at i = rw (less (l .weights) i)
 
-    at-positions : (i : ℕ) → i < filledUp (l .cells) → wordFine g l (12 + i) ≡ tested (l .cells) i (valueTest 12 i) (g (12 + i))
+    pub at-positions : (i : ℕ) → i < filledUp (l .cells) → wordFine g l (12 + i) ≡ tested (l .cells) i (valueTest 12 i) (g (12 + i))
     at-positions i h = chosen-by (12 + i) ∙ in-positions l r _ _ _ _ _ _ i h ∙ value-at 12 i
 
-    at-increments : (i : ℕ) → i < filledUp (l .cells) → wordFine g l (l .increments + i) ≡ tested (l .cells) i (valueTest (l .increments) i) (g (l .increments + i))
+    pub at-increments : (i : ℕ) → i < filledUp (l .cells) → wordFine g l (l .increments + i) ≡ tested (l .cells) i (valueTest (l .increments) i) (g (l .increments + i))
     at-increments i h = chosen-by (l .increments + i) ∙ in-increments l r _ _ _ _ _ _ i h ∙ value-at (l .increments) i
 
-    at-gains : (i : ℕ) → i < filledUp (l .cells) → wordFine g l (l .gains + i) ≡ tested (l .cells) i (valueTest (l .gains) i) (g (l .gains + i))
+    pub at-gains : (i : ℕ) → i < filledUp (l .cells) → wordFine g l (l .gains + i) ≡ tested (l .cells) i (valueTest (l .gains) i) (g (l .gains + i))
     at-gains i h = chosen-by (l .gains + i) ∙ in-gains l r _ _ _ _ _ _ i h ∙ value-at (l .gains) i
 
-    at-affinities : (i : ℕ) → i < filledUp (l .held) → wordFine g l (l .affinities + i) ≡ tested (l .held) i (heldTest l i) (g (l .affinities + i))
+    pub at-affinities : (i : ℕ) → i < filledUp (l .held) → wordFine g l (l .affinities + i) ≡ tested (l .held) i (heldTest l i) (g (l .affinities + i))
     at-affinities i h = chosen-by (l .affinities + i) ∙ in-affinities l r _ _ _ _ _ _ i h ∙ held-at i
 
-    at-indices : (i : ℕ) → i < filledUp (l .links) → wordFine g l (l .indices + i) ≡ tested (l .links) i (indexTest l i) (g (l .indices + i))
+    pub at-indices : (i : ℕ) → i < filledUp (l .links) → wordFine g l (l .indices + i) ≡ tested (l .links) i (indexTest l i) (g (l .indices + i))
     at-indices i h = chosen-by (l .indices + i) ∙ in-indices l r _ _ _ _ _ _ i h ∙ index-at i
 
-    at-weights : (i : ℕ) → i < filledUp (l .links) → wordFine g l (l .weights + i) ≡ tested (l .links) i true (g (l .weights + i))
+    pub at-weights : (i : ℕ) → i < filledUp (l .links) → wordFine g l (l .weights + i) ≡ tested (l .links) i true (g (l .weights + i))
     at-weights i h = chosen-by (l .weights + i) ∙ in-weights l r _ _ _ _ _ _ i h ∙ weight-at i
 
     words-fine : ((w : ℕ) → 12 ≤ w → w < l .end → wordFine g l w ≡ true) → WordsFine l
@@ -138,23 +138,23 @@ module _ (g : ℕ → ℕ) where
   unfolding layoutBy
   by-rises = layout-rises (eqb (g 0) 1) (g 1) (g 3) (g 11)
 
-  at-head : (q : ℕ) → q < 3 → recordFine g q ≡ headFine g q
+  pub at-head : (q : ℕ) → q < 3 → recordFine g q ≡ headFine g q
   unfolding recordFine
   at-head q h = rw (lt-ltb q 3 h)
 
-  at-words : (q : ℕ) → 3 ≤ q → recordFine g q ≡ every (λ k. wordFine g (layoutBy g) (4 * q + k)) 4
+  pub at-words : (q : ℕ) → 3 ≤ q → recordFine g q ≡ every (λ k. wordFine g (layoutBy g) (4 * q + k)) 4
   unfolding recordFine
   at-words q h = rw (le-ltb q 3 h)
 
-  head-0 : headFine g 0 ≡ firstFine (g 0) (g 1) (g 2) (g 3)
+  pub head-0 : headFine g 0 ≡ firstFine (g 0) (g 1) (g 2) (g 3)
   unfolding headFine
   head-0 = refl
 
-  head-1 : headFine g 1 ≡ secondFine (g 0) (g 1) (g 4) (g 5) (g 6) (g 7)
+  pub head-1 : headFine g 1 ≡ secondFine (g 0) (g 1) (g 4) (g 5) (g 6) (g 7)
   unfolding headFine
   head-1 = refl
 
-  head-2 : headFine g 2 ≡ thirdFine (g 0) (g 1) (g 4) (g 6) (g 8) (g 9) (g 10) (g 11)
+  pub head-2 : headFine g 2 ≡ thirdFine (g 0) (g 1) (g 4) (g 6) (g 8) (g 9) (g 10) (g 11)
   unfolding headFine
   head-2 = refl
 

@@ -9,3 +9,5 @@ pub mod Returned
 pub mod Taken
 pub mod Rewritten
 pub mod Accepted
+pub mod Prefix
+pub mod Begun
