@@ -30,6 +30,6 @@ module _ (g h : ℕ → ℕ) where
     | no n ↦
         at-words g q (omega arith)
         ∙ every-same (λ k. wordFine g (layoutBy g) (4 * q + k)) (λ k. wordFine h (layoutBy h) (4 * q + k)) 4
-          (λ k m. ap (λ (l : Layout). wordFine g l (4 * q + k)) (layout-same (λ w a. e w (omega arith))) ∙ word-same (layoutBy h) (4 * q + k) (e (4 * q + k) (omega arith)) (e (4 * q + k - 1) (omega arith)))
+        (λ k m. ap (λ (l : Layout). wordFine g l (4 * q + k)) (layout-same (λ w a. e w (omega arith))) ∙ word-same (layoutBy h) (4 * q + k) (e (4 * q + k) (omega arith)) (e (4 * q + k - 1) (omega arith)))
         ∙ sym (at-words h q (omega arith))
   ]

@@ -38,20 +38,20 @@ row-word v n w r h b =
 -- ---- every word is one of 64 bits
 
 -- a list of words of 64 bits
-record Lows (l : List ℕ) : Type 0 where
-  each : AllBelow wordsMost l
+pub record Lows (l : List ℕ) : Type 0 where
+  pub each : AllBelow wordsMost l
 
-nil-low : Lows []
+pub nil-low : Lows []
 nil-low = record { each = λ i. omega arith }
 
-cons-low : {x : ℕ} {l : List ℕ} → x < wordsMost → Lows l → Lows (x ∷ l)
+pub cons-low : {x : ℕ} {l : List ℕ} → x < wordsMost → Lows l → Lows (x ∷ l)
 cons-low {x} {l} h b = record { each = place }
   where
     place : AllBelow wordsMost (x ∷ l)
     place zero = h
     place (suc i) = b .each i
 
-either-below : {m : ℕ} (t : Bool) (x y : ℕ) → x < m → y < m → cond t x y < m
+pub either-below : {m : ℕ} (t : Bool) (x y : ℕ) → x < m → y < m → cond t x y < m
 either-below true x y a b = a
 either-below false x y a b = b
 

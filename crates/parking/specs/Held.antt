@@ -1,7 +1,8 @@
 -- A run as it lies in memory: what its words can be, and the state that it is. Definitions only.
 use mathlib.Core.Path.{_≡_}
 use mathlib.Core.List.{List, map}
-use Prim.Native.Nat.{ℕ, _*_}
+use mathlib.Core.Bool.{true}
+use Prim.Native.Nat.{ℕ, _*_, _≤_}
 use lib.ListN.{length, take}
 use lib.Ieee.{Float}
 use Rattle.laws.specs.Area.{bits}
@@ -12,6 +13,7 @@ use Rattle.record_words.specs.RecordWords.{runOf}
 use Rattle.parked.specs.Parked.{Stored}
 use Rattle.park.specs.declared.Parked.the-variants.{Written}
 use Rattle.park.specs.Park.{parking, parkOf}
+use Rattle.unpark.specs.Unpark.{isParked}
 
 -- a byte, a word of 32 bits, one of 64: the numbers that each has
 abbrev pub bytesMost : ℕ
@@ -63,3 +65,11 @@ pub record WrittenAs (f : List ℕ) : Type 0 where
   pub in-words : InWords run
   pub same : parkOf run forces nodes target ≡ parking (Written records) f
   pub whole : length f ≡ 32 * records
+
+-- some parked run starts with the first n records of f
+pub record Begins (f : List ℕ) (n : ℕ) : Type 0 where
+  pub file : List ℕ
+  pub in-bytes : AllBelow bytesMost file
+  pub stands : isParked file ≡ true
+  pub long : 32 * n ≤ length file
+  pub same : firstRecords n file ≡ firstRecords n f
