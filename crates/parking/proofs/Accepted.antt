@@ -1,17 +1,16 @@
 -- A file is accepted exactly where some run writes it. Assumes nothing.
 use mathlib.Core.Path.{_≡_, refl, sym, ap, subst, _∙_}
 use mathlib.Core.List.{List, [], _∷_, _++_, append-nil}
-use mathlib.Core.Bool.{Bool, true, false, cond, _&&_}
+use mathlib.Core.Bool.{Bool, true, false, cond}
 use Prim.Native.Nat.{ℕ, zero, suc, _+_, _-_, _*_, _<_, _≤_}
 use native.Mathlib.Omega.{arith}
 use native.Mathlib.Decide.{decLt}
-use native.Mathlib.Nat.{le-refl, le-trans, mul-le-mul}
-use lib.Dec.{eqb, ltb, leb}
-use lib.ListN.{length, take, drop, replicate, length-replicate, getD-replicate, List·getD-eq-default}
+use native.Mathlib.Nat.{le-refl, mul-le-mul}
+use lib.Dec.{eqb}
+use lib.ListN.{length, drop, replicate, length-replicate, getD-replicate, List·getD-eq-default}
 use lib.Seq.{take-all, drop-length, getD-drop, getD-append-add}
 use lib.Ieee.{Float}
-use borrow.Author.Tests.{le-leb, leb-true, ltb-true, eqb-true, eqb-false}
-use Rattle.laws.specs.Domain.{mostFrames, mostIterations}
+use borrow.Author.Tests.{leb-true, ltb-true, eqb-true, eqb-false}
 use Rattle.laws.specs.Area.{num, bits, zero64}
 use Rattle.laws.specs.Joined.{joined}
 use Rattle.laws.proofs.Bools.{by-bool}
@@ -19,16 +18,14 @@ use Rattle.laws.proofs.Laid.{singles-size}
 use Rattle.elementary.specs.Limits.{neighboursOf}
 use Rattle.little.specs.Little.{wordIn, AllBelow}
 use Rattle.little.proofs.Roundtrip.{little-below}
-use Rattle.tree_node.specs.declared.Node.{Node}
 use Rattle.tree_node.specs.Arena.{blank}
-use Rattle.run_record.specs.Record.{isTree, perOf, kOf, sizesOf, GoodSettings}
+use Rattle.run_record.specs.Record.{perOf, GoodSettings}
 use Rattle.run_record.proofs.Laws.{done-most, product-fits, k-most}
-use Rattle.run_entry.specs.Entry.{areasFit, GoodAreas}
 use Rattle.run_entry.proofs.Laws.{areas-good}
-use Rattle.record_words.specs.RecordWords.{runOf, settingsOf, methodOf, standingOf}
+use Rattle.record_words.specs.RecordWords.{settingsOf, methodOf, standingOf}
 use Rattle.parked.specs.declared.Layout.{Layout}
 use Rattle.parked.specs.Layout.{recordsIn}
-use Rattle.parked.specs.Parked.{Stored, stored, layoutIn}
+use Rattle.parked.specs.Parked.{Stored, stored}
 use Rattle.parked.specs.Fine.{layoutBy}
 use Rattle.park.specs.declared.Parked.the-variants.{Written}
 use Rattle.park.specs.Park.{Parking, parking, parkedInto, parkOf}
@@ -38,7 +35,7 @@ use Rattle.parking.proofs.Files.{FileFine, parked-long, parked-fine}
 use Rattle.parking.proofs.Entries.{writes-parks}
 use Rattle.parking.proofs.Heads.{settingsWith, good-settings}
 use Rattle.parking.proofs.Written.{what-is-written-stands}
-use Rattle.parking.proofs.Taken.{fetched-at, LyingBy, lying-by, one, two, three, method-is, offset-in, offset-starts, layout-read}
+use Rattle.parking.proofs.Taken.{fetched-at, LyingBy, lying-by, record-one, record-two, record-three, offset-in, offset-starts, layout-read}
 use Rattle.parking.proofs.Rewritten.{writes-read, into-read}
 
 -- ---- words of what is read
@@ -84,15 +81,15 @@ module _ (f : List ℕ) (small : AllBelow bytesMost f) (P : isParked f ≡ true)
   word-small k = little-below 8 f (8 * k) small
 
   good : GoodSettings (settingsWith (g 0) (g 1) (g 2) (g 3) (g 4) (g 5) (g 6) (g 7) (g 8))
-  good = good-settings (g 0) (g 1) (g 2) (g 3) (g 4) (g 5) (g 6) (g 7) (g 8) (one g A) (two g A)
+  good = good-settings (g 0) (g 1) (g 2) (g 3) (g 4) (g 5) (g 6) (g 7) (g 8) (record-one g A) (record-two g A)
 
   units-small : g 9 * perOf (methodOf (g 0)) (g 1) < wordsMost
-  units-small = omega (arith, product-fits (g 9) (g 6) (methodOf (g 0)) (g 1) (done-most (standingOf (g 10)) (g 9) (g 6) 0 (bits (g 8)) (three g A .state-fits)) (good .iterations-most) (good .n-most))
+  units-small = omega (arith, product-fits (g 9) (g 6) (methodOf (g 0)) (g 1) (done-most (standingOf (g 10)) (g 9) (g 6) 0 (bits (g 8)) (record-three g A .state-fits)) (good .iterations-most) (good .n-most))
 
   links-small : eqb (g 0) 1 ≡ true → g 11 < halvesMost
   links-small e =
       let k = neighboursOf (bits (g 4)) (g 1) in
-      let a : g 11 ≤ 2 * g 1 * k = leb-true (g 11) (2 * g 1 * k) (rw e at (three g A .links-most)) in
+      let a : g 11 ≤ 2 * g 1 * k = leb-true (g 11) (2 * g 1 * k) (rw e at (record-three g A .links-most)) in
       let b : k < g 1 = k-most (settingsWith (g 0) (g 1) (g 2) (g 3) (g 4) (g 5) (g 6) (g 7) (g 8)) good .1 in
       let m : 2 * g 1 * k ≤ 8192 * 4096 = mul-le-mul {n₁ = 2 * g 1} {m₁ = k} {n₂ = 8192} {m₂ = 4096} (omega (arith, good .n-most)) (omega (arith, good .n-most)) in
       omega (arith, a, m)

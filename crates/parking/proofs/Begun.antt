@@ -1,42 +1,41 @@
 -- The first n records of a file are the start of some parked run exactly where none of them is bad. Assumes nothing.
 use mathlib.Core.Path.{_≡_, refl, sym, ap, subst, _∙_}
-use mathlib.Core.List.{List, [], _∷_, _++_, append-nil}
+use mathlib.Core.List.{List, [], _∷_}
 use mathlib.Core.Bool.{Bool, true, false, cond, not, _&&_, _||_, true≢false}
-use Prim.Native.Nat.{ℕ, zero, suc, _+_, _-_, _*_, _/_, _%_, _^_, _<_, _≤_}
+use Prim.Native.Nat.{ℕ, zero, suc, _+_, _-_, _*_, _/_, _<_, _≤_}
 use native.Mathlib.Omega.{arith}
 use native.Mathlib.Decide.{decLt}
 use native.Mathlib.Nat.{le-trans, le-refl, mul-one, mul-le-mul-right}
 use lib.Dec.{eqb, ltb, leb, lit≤}
 use lib.IntN.{pos}
-use lib.ListN.{length, getD, take, drop, List·getD-eq-default}
-use lib.Seq.{take-all, getD-take}
+use lib.ListN.{length, take, List·getD-eq-default}
+use lib.Seq.{getD-take}
 use lib.Ieee.{Float, nan, inf, fin, binary64, up, down, round, lt, le, neg, ofInt, ofBits}
 use lib.Ieee.Fits.{down-pos}
 use lib.Ieee.Exact.{HasValue}
 use lib.Ieee.Back.{round-whole}
-use borrow.Author.Tests.{lt-ltb, le-ltb, le-leb, leb-true, eq-eqb, ne-eqb, eqb-true, eqb-false, not-false, not-true}
+use borrow.Author.Tests.{lt-ltb, le-ltb, le-leb, leb-true, eq-eqb, eqb-true, eqb-false, not-false, not-true}
 use Rattle.laws.specs.Domain.{mostFrames}
-use Rattle.laws.specs.Loops.{every}
 use Rattle.laws.specs.Area.{num, bits, one64}
 use Rattle.laws.specs.Joined.{joined}
 use Rattle.laws.proofs.Bools.{and-left, and-right, by-bool, or-yes}
-use Rattle.laws.proofs.Every.{every-at, every-all}
+use Rattle.laws.proofs.Every.{every-all}
 use Rattle.laws.proofs.First.{first-le, first-holds, first-before}
 use Rattle.laws.proofs.Joined.{joined-all}
-use Rattle.laws.proofs.Laid.{laid-size, laid-front}
+use Rattle.laws.proofs.Laid.{laid-front}
 use Rattle.elementary.specs.Limits.{calm, upTo, neighboursOf}
-use Rattle.little.specs.Little.{littleOf, littleBytes, wordIn, AllBelow}
-use Rattle.little.proofs.Roundtrip.{little-same, little-below, length-bytes, bytes-back}
+use Rattle.little.specs.Little.{littleBytes, wordIn, AllBelow}
+use Rattle.little.proofs.Roundtrip.{little-same, little-below}
 use Rattle.run_record.specs.Record.{positive, angleFine, stateFits}
 use Rattle.record_words.specs.RecordWords.{standingOf}
 use Rattle.parked.specs.declared.Layout.{Layout}
-use Rattle.parked.specs.Layout.{filledUp, recordsIn}
-use Rattle.parked.specs.Fine.{firstFine, secondFine, thirdFine, headFine, layoutBy, offsetFits, wordFine, recordFine}
+use Rattle.parked.specs.Layout.{recordsIn}
+use Rattle.parked.specs.Fine.{firstFine, secondFine, thirdFine, layoutBy, offsetFits, wordFine, recordFine}
 use Rattle.unpark.specs.Unpark.{recordStands, recordsDue, firstBad, isParked}
 use Rattle.parking.specs.Held.{bytesMost, wordsMost, firstRecords, Begins}
-use Rattle.parking.proofs.Regions.{filled-most, Rises, end-whole, end-most, by-region}
-use Rattle.parking.proofs.Words.{row-word, Lows, nil-low, cons-low, either-below}
-use Rattle.parking.proofs.Files.{tested, heldTest, indexTest, valueTest, at-positions, at-increments, at-gains, at-affinities, at-indices, at-weights, by-rises, at-head, at-words, head-0, head-1, head-2, records-fine, fine-records, parked-long, parked-fine, fine-parked}
+use Rattle.parking.proofs.Regions.{filled-most, less-one, Stacked, end-whole, end-most, by-region}
+use Rattle.parking.proofs.Words.{word-alone, word-bytes, rows-long, Lows, nil-low, cons-low, either-below}
+use Rattle.parking.proofs.Files.{else-true, when-true, tested, heldTest, indexTest, valueTest, at-positions, at-increments, at-gains, at-affinities, at-indices, at-weights, by-stacked, at-head, at-words, record-word, head-0, head-1, head-2, records-fine, fine-records, parked-long, parked-fine, fine-parked}
 use Rattle.parking.proofs.Heads.{first-facts, second-facts, third-good}
 use Rattle.parking.proofs.Taken.{LyingBy, lying-by}
 use Rattle.parking.proofs.Prefix.{layout-same, record-same}
@@ -114,8 +113,8 @@ module _ (g h : ℕ → ℕ) (n : ℕ) (C : Completes g n h) (F : (q : ℕ) → 
   abbrev l : Layout
   l = layoutBy h
 
-  abbrev r : Rises l
-  r = by-rises h
+  abbrev r : Stacked l
+  r = by-stacked h
 
   fine-given : (q : ℕ) → q < n → recordFine h q ≡ true
   fine-given q m = record-same h g q (λ w a. C .given w (omega arith)) ∙ F q m
@@ -170,10 +169,7 @@ module _ (g h : ℕ → ℕ) (n : ℕ) (C : Completes g n h) (F : (q : ℕ) → 
   -- ---- the words past them
 
   given-word : (w : ℕ) → 12 ≤ w → w < 4 * n → wordFine h l w ≡ true
-  given-word w a b = subst (λ (x : ℕ). wordFine h l x ≡ true) (whole w) (every-at (λ k. wordFine h l (4 * (w / 4) + k)) 4 (sym (at-words h (w / 4) (omega arith)) ∙ fine-given (w / 4) (omega arith)) (w % 4) (omega arith))
-    where
-      whole : (w : ℕ) → 4 * (w / 4) + w % 4 ≡ w
-      whole w = omega arith
+  given-word w a b = record-word h w a (fine-given (w / 4) (omega arith))
 
   abbrev y : LyingBy l h
   y = lying-by h
@@ -188,7 +184,7 @@ module _ (g h : ℕ → ℕ) (n : ℕ) (C : Completes g n h) (F : (q : ℕ) → 
         let Y = leb v (l .links) in
         let Z = not (eqb i (l .n)) || eqb v (l .links) in
         let e = sym (at-affinities h l r i (omega (arith, filled-most (l .held)))) ∙ given-word (l .affinities + i) (omega (arith, r .increments-at, r .gains-at, r .affinities-at)) m in
-        let o : cond (eqb i 0) (eqb v 0) (X && Y && Z) ≡ true = taken (l .tree) (offsetFits h l i (l .affinities + i)) t (in-area (l .held) i (heldTest h l i) v a e) in
+        let o : cond (eqb i 0) (eqb v 0) (X && Y && Z) ≡ true = when-true (l .tree) (offsetFits h l i (l .affinities + i)) t (in-area (l .held) i (heldTest h l i) v a e) in
         by-bool _ (eqb i 0) (λ z. omega (arith, eqb-true v 0 (rw z at o))) (λ z. leb-true v (l .links) (and-right X Y (and-left (X && Y) Z (rw z at o))))
     | no m ↦
         let e = C .after (l .affinities + i) (omega arith) (omega (arith, r .increments-at, r .gains-at, r .affinities-at)) in
@@ -198,9 +194,6 @@ module _ (g h : ℕ → ℕ) (n : ℕ) (C : Completes g n h) (F : (q : ℕ) → 
         ]
   ]
     where
-      taken : (b x : Bool) → b ≡ true → cond b x true ≡ true → x ≡ true
-      taken b x e h = rw e at h
-
       in-area : (m i : ℕ) (t : Bool) (v : ℕ) → i < m → tested m i t v ≡ true → t ≡ true
       in-area m i t v a e = rw (lt-ltb i m a) at e
 
@@ -214,11 +207,8 @@ module _ (g h : ℕ → ℕ) (n : ℕ) (C : Completes g n h) (F : (q : ℕ) → 
       (λ z.
       let s : 1 ≤ i = omega (arith, eqb-false i 0 z) in
       let v : h (l .affinities + i) ≡ l .links = e ∙ rest-offset l (l .affinities + i) t (omega arith) (omega arith) in
-      let b : h (l .affinities + i - 1) ≤ l .links = subst (λ (x : ℕ). h x ≤ l .links) (sym (less (l .affinities) i s)) (offset-most t (i - 1) (omega arith)) in
+      let b : h (l .affinities + i - 1) ≤ l .links = subst (λ (x : ℕ). h x ≤ l .links) (sym (less-one (l .affinities) i s)) (offset-most t (i - 1) (omega arith)) in
       rw (z, v, le-leb (h (l .affinities + i - 1)) (l .links) b, le-leb (l .links) (l .links) (le-refl (l .links)), eq-eqb (l .links) (l .links) refl) (or-yes (not (eqb i (l .n))) true refl))
-    where
-      less : (a i : ℕ) → 1 ≤ i → a + i - 1 ≡ a + (i - 1)
-      less a i s = omega arith
 
   value-after : (b i : ℕ) → b + i ≤ l .affinities → 12 ≤ b + i → 4 * n ≤ b + i → tested (l .cells) i (valueTest h b i) (h (b + i)) ≡ true
   value-after b i a k m =
@@ -244,10 +234,6 @@ module _ (g h : ℕ → ℕ) (n : ℕ) (C : Completes g n h) (F : (q : ℕ) → 
       at-weights h l r i a
       ∙ tested-by (l .links) i true (h (l .weights + i)) (λ x. refl)
       (λ x. C .after (l .weights + i) m (omega (arith, r .increments-at, r .gains-at, r .affinities-at, r .indices-at, r .weights-at)) ∙ rest-high l (l .weights + i) (omega (arith, r .indices-at, r .weights-at, filled-most (l .held)))))
-    where
-      else-true : (b x : Bool) → (b ≡ true → x ≡ true) → cond b x true ≡ true
-      else-true true x f = f refl
-      else-true false x f = refl
 
   -- every record of it is fine
   all-fine : (q : ℕ) → q < recordsIn l → recordFine h q ≡ true
@@ -309,23 +295,20 @@ module _ (h : ℕ → ℕ) (small : (w : ℕ) → h w < wordsMost) (fine : (q : 
   made = joined (λ w. littleBytes 8 (h w)) (layoutBy h .end)
 
   made-long : length made ≡ 32 * recordsIn (layoutBy h)
-  made-long = laid-size 8 (λ w. littleBytes 8 (h w)) (layoutBy h .end) (λ i a. length-bytes 8 (h i)) ∙ times (layoutBy h .end) (end-whole (layoutBy h) (by-rises h))
-    where
-      times : (x : ℕ) → x ≡ 4 * (x / 4) → x * 8 ≡ 32 * (x / 4)
-      times x e = omega arith
+  made-long = rows-long h (layoutBy h) (by-stacked h)
 
   made-word : (w : ℕ) → w < layoutBy h .end → wordIn made w ≡ h w
-  made-word w a = ap (λ (f : List ℕ). wordIn f w) (sym (append-nil made)) ∙ row-word h (layoutBy h .end) w [] a (small w)
+  made-word w a = word-alone h (layoutBy h .end) w a (small w)
 
   made-layout : layoutBy (wordIn made) ≡ layoutBy h
-  made-layout = layout-same (wordIn made) h (λ w a. made-word w (omega (arith, end-most (layoutBy h) (by-rises h))))
+  made-layout = layout-same (wordIn made) h (λ w a. made-word w (omega (arith, end-most (layoutBy h) (by-stacked h))))
 
   made-stands : isParked made ≡ true
   unfolding recordsDue
   made-stands = fine-parked made (made-long ∙ ap (λ (l : Layout). 32 * recordsIn l) (sym made-layout))
       (records-fine (wordIn made) (λ q a.
       let b : q < recordsIn (layoutBy h) = subst (λ (l : Layout). q < recordsIn l) made-layout a in
-      record-same (wordIn made) h q (λ w c. made-word w (omega (arith, b, end-whole (layoutBy h) (by-rises h)))) ∙ fine q b))
+      record-same (wordIn made) h q (λ w c. made-word w (omega (arith, b, end-whole (layoutBy h) (by-stacked h)))) ∙ fine q b))
 
   made-bytes : AllBelow bytesMost made
   made-bytes i = elim (decLt i (length made)) [
@@ -338,15 +321,12 @@ fronts : (f f' : List ℕ) (n : ℕ) → AllBelow bytesMost f → AllBelow bytes
 fronts f f' n b b' m m' e =
     let row : ℕ → List ℕ = λ w. littleBytes 8 (wordIn f w) in
     ap (λ (x : ℕ). take x f') (times n)
-    ∙ laid-front 8 row (4 * n) f' (λ i a. ap (λ (x : ℕ). take 8 (drop x f')) (turn i) ∙ sym (bytes-back 8 f' (8 * i) b' (omega arith)) ∙ ap (littleBytes 8) (e i a))
-    ∙ sym (laid-front 8 row (4 * n) f (λ i a. ap (λ (x : ℕ). take 8 (drop x f)) (turn i) ∙ sym (bytes-back 8 f (8 * i) b (omega arith))))
+    ∙ laid-front 8 row (4 * n) f' (λ i a. word-bytes f' i b' (omega arith) ∙ ap (littleBytes 8) (e i a))
+    ∙ sym (laid-front 8 row (4 * n) f (λ i a. word-bytes f i b (omega arith)))
     ∙ ap (λ (x : ℕ). take x f) (sym (times n))
   where
     times : (n : ℕ) → 32 * n ≡ 4 * n * 8
     times n = omega arith
-
-    turn : (i : ℕ) → i * 8 ≡ 8 * i
-    turn i = omega arith
 
 words-of : (f f' : List ℕ) (n : ℕ) → firstRecords n f' ≡ firstRecords n f → (w : ℕ) → w < 4 * n → wordIn f' w ≡ wordIn f w
 words-of f f' n e w a = little-same 8 f' f (8 * w) (8 * w) (λ j m.
@@ -367,7 +347,7 @@ module _ (f : List ℕ) (n : ℕ) (m : 32 * n ≤ length f) where
       let s = completed-small g n (λ w. little-below 8 f (8 * w) small) in
       let a = all-fine g h n C F in
       let k : n ≤ recordsIn (layoutBy h) = elim (decLt n 3) [
-        | yes c ↦ omega (arith, end-most (layoutBy h) (by-rises h), end-whole (layoutBy h) (by-rises h))
+        | yes c ↦ omega (arith, end-most (layoutBy h) (by-stacked h), end-whole (layoutBy h) (by-stacked h))
         | no c ↦ subst (λ (l : Layout). n ≤ recordsIn l) (sym (layout-same h g (λ w d. C .given w (omega arith)))) (le-trans b (first-le (λ q. not (recordStands f q)) (recordsDue f)))
       ] in
       let long : 32 * n ≤ length (made h s a) = omega (arith, k, made-long h s a) in
@@ -376,7 +356,7 @@ module _ (f : List ℕ) (n : ℕ) (m : 32 * n ≤ length f) where
         in-bytes = made-bytes h s a;
         stands = made-stands h s a;
         long = long;
-        same = fronts f (made h s a) n small (made-bytes h s a) m long (λ w d. made-word h s a w (omega (arith, d, k, end-whole (layoutBy h) (by-rises h))) ∙ C .given w d);
+        same = fronts f (made h s a) n small (made-bytes h s a) m long (λ w d. made-word h s a w (omega (arith, d, k, end-whole (layoutBy h) (by-stacked h))) ∙ C .given w d);
       }
 
   pub begins-fine : Begins f n → n ≤ firstBad f
@@ -392,7 +372,7 @@ module _ (f : List ℕ) (n : ℕ) (m : 32 * n ≤ length f) where
           true≢false (sym stands ∙ bad)
       | no c ↦
           let q : recordsDue f ≤ firstBad f = omega arith in
-          let three : 3 ≤ recordsDue f = omega (arith, end-most (layoutBy g) (by-rises g), end-whole (layoutBy g) (by-rises g)) in
+          let three : 3 ≤ recordsDue f = omega (arith, end-most (layoutBy g) (by-stacked g), end-whole (layoutBy g) (by-stacked g)) in
           let same : recordsDue (e .file) ≡ recordsDue f = ap recordsIn (layout-same (wordIn (e .file)) g (λ w d. words w (omega (arith, d, a, q, three)))) in
           omega (arith, due, same, a, q)
     ])

@@ -1,21 +1,21 @@
 -- A run is written exactly where its words are a record, the state that they are is in good order and between two iterations, 15 bars no value, and the target has room. Assumes nothing.
-use mathlib.Core.Path.{_≡_, refl, sym, ap, subst, _∙_}
-use mathlib.Core.List.{List, map}
-use mathlib.Core.Bool.{Bool, true, false, cond, not, _&&_, true≢false}
+use mathlib.Core.Path.{_≡_, refl, sym, ap, _∙_}
+use mathlib.Core.List.{List}
+use mathlib.Core.Bool.{Bool, true, false, cond, not, true≢false}
 use Prim.Native.Nat.{ℕ, _*_, _≤_}
 use lib.Dec.{eqb, ltb}
 use lib.ListN.{length, replicate, length-replicate}
 use lib.Ieee.{Float}
-use borrow.Author.Tests.{eq-eqb, eqb-true, le-ltb, ltb-false, not-true, not-false}
+use borrow.Author.Tests.{eq-eqb, eqb-true, le-ltb, ltb-false, not-false}
 use Rattle.laws.specs.Area.{num, bits, zero64}
 use Rattle.laws.proofs.Bools.{by-bool}
 use Rattle.laws.proofs.Joined.{length-map}
 use Rattle.tree_node.specs.declared.Node.{Node}
 use Rattle.run_entry.specs.declared.Fault.{Fault}
 use Rattle.run_entry.specs.declared.Fault.the-variants.{Fine, Settings as BadSettings, Counters}
-use Rattle.run_entry.specs.Entry.{isFine, faultOf, faultAt, Good}
+use Rattle.run_entry.specs.Entry.{isFine, faultOf, Good}
 use Rattle.run_entry.proofs.Laws.{fault-fine, fault-good}
-use Rattle.record_words.specs.RecordWords.{runFine, runOf, settingsFine}
+use Rattle.record_words.specs.RecordWords.{runFine, settingsFine}
 use Rattle.fault_words.specs.FaultWords.{unreadFault}
 use Rattle.words_entry.specs.WordsEntry.{wordsFault}
 use Rattle.parked.specs.declared.Layout.{Layout}
@@ -84,10 +84,10 @@ module _ (d : Stored) (F : List Float) (ns : List Node) (t : List ℕ) where
   abbrev lies : Layout
   lies = layoutIn (d .run) (d .offsets)
 
-  abbrev pub written : Parking
-  written = parking (Written (recordsIn lies)) (parkedInto lies d t)
+  abbrev pub writtenInto : Parking
+  writtenInto = parking (Written (recordsIn lies)) (parkedInto lies d t)
 
-  pub writes-parks : Writes d F ns t → parkOf d (length F) ns t ≡ written
+  pub writes-parks : Writes d F ns t → parkOf d (length F) ns t ≡ writtenInto
   unfolding parkOf parkTested
   writes-parks w = rw (entry-good d F ns (w .read) (w .good), eq-eqb (num (d .run) 11) 0 (w .between), w .calm-all, le-ltb (length t) (8 * lies .end) (w .room))
 
@@ -95,13 +95,13 @@ module _ (d : Stored) (F : List Float) (ns : List Node) (t : List ℕ) where
   unfolding parkOf parkTested isWritten recordsOf
   parks-writes k e =
       let f = found d F ns in
-      let e4 = cond (ltb (length t) (8 * lies .end)) (parking Short t) written in
+      let e4 = cond (ltb (length t) (8 * lies .end)) (parking Short t) writtenInto in
       let e3 = cond (not (calmState (lies .cells) (d .positions) (d .increments) (d .gains))) (parking Barred t) e4 in
       let e2 = cond (not (eqb (num (d .run) 11) 0)) (parking Inside t) e3 in
       let a = passes (not (isFine f)) (parking (Bad f) t) e2 k refl e in
       let b = passes (not (eqb (num (d .run) 11) 0)) (parking Inside t) e3 k refl (a .1) in
       let c = passes (not (calmState (lies .cells) (d .positions) (d .increments) (d .gains))) (parking Barred t) e4 k refl (b .1) in
-      let s = passes (ltb (length t) (8 * lies .end)) (parking Short t) written k refl (c .1) in
+      let s = passes (ltb (length t) (8 * lies .end)) (parking Short t) writtenInto k refl (c .1) in
       let g = entry-fine d F ns (not-false (isFine f) (a .0)) in (
         record {
           read = g .0;
@@ -117,7 +117,7 @@ module _ (d : Stored) (F : List Float) (ns : List Node) (t : List ℕ) where
 pub record ParksAll (d : Stored) (forces : ℕ) (ns : List Node) (t : List ℕ) (k : ℕ) : Type 0 where
   pub writes : Writes d (replicate forces zero64) ns t
   pub count : recordsIn (layoutIn (d .run) (d .offsets)) ≡ k
-  pub same : parkOf d forces ns t ≡ written d (replicate forces zero64) ns t
+  pub same : parkOf d forces ns t ≡ writtenInto d (replicate forces zero64) ns t
 
 pub parks-all : (d : Stored) (forces : ℕ) (ns : List Node) (t : List ℕ) (k : ℕ) → parkOf d forces ns t .answer ≡ Written k → ParksAll d forces ns t k
 parks-all d forces ns t k e =

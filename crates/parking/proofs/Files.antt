@@ -1,13 +1,13 @@
 -- A file is a parked run exactly where its length is that of its records, the first three are fine, and each area is, filling included. Assumes nothing.
 use mathlib.Core.Path.{_≡_, refl, sym, ap, subst, _∙_}
 use mathlib.Core.List.{List}
-use mathlib.Core.Bool.{Bool, true, false, cond, not, _&&_}
+use mathlib.Core.Bool.{Bool, true, false, cond, not}
 use Prim.Native.Nat.{ℕ, zero, suc, _+_, _-_, _*_, _/_, _%_, _<_, _≤_}
 use native.Mathlib.Omega.{arith}
 use native.Mathlib.Decide.{decLt}
 use lib.Dec.{eqb, ltb, leb}
 use lib.ListN.{length}
-use borrow.Author.Tests.{lt-ltb, le-ltb, le-leb, eq-eqb, ne-eqb, eqb-true, not-false}
+use borrow.Author.Tests.{lt-ltb, le-ltb, le-leb, eq-eqb, eqb-true, not-false}
 use Rattle.laws.specs.Loops.{every}
 use Rattle.laws.specs.Area.{bits}
 use Rattle.laws.proofs.Bools.{and-left, and-right}
@@ -16,10 +16,10 @@ use Rattle.laws.proofs.First.{first-all, first-none}
 use Rattle.elementary.specs.Limits.{calm}
 use Rattle.little.specs.Little.{wordIn}
 use Rattle.parked.specs.declared.Layout.{Layout}
-use Rattle.parked.specs.Layout.{filledUp, layoutOf, recordsIn}
+use Rattle.parked.specs.Layout.{filledUp, recordsIn}
 use Rattle.parked.specs.Fine.{firstFine, secondFine, thirdFine, headFine, layoutBy, valueFits, offsetFits, heldFits, indexFits, weightFits, stateFine, affinityFine, wordFine, recordFine}
 use Rattle.unpark.specs.Unpark.{recordStands, recordsDue, firstBad, isParked}
-use Rattle.parking.proofs.Regions.{filled-most, Rises, layout-rises, end-whole, end-most, by-region, chosen, in-positions, in-increments, in-gains, in-affinities, in-indices, in-weights}
+use Rattle.parking.proofs.Regions.{filled-most, Stacked, layout-stacked, end-whole, end-most, by-region, chosen, in-positions, in-increments, in-gains, in-affinities, in-indices, in-weights}
 
 -- ---- an area
 
@@ -45,6 +45,14 @@ module _ (g : ℕ → ℕ) (b m : ℕ) (t : ℕ → Bool) where
     | no n ↦ rw (le-ltb i m (omega arith)) (eq-eqb (g (b + i)) 0 (a .zeros i (omega arith) h))
   ]
 
+-- a test that is made only where b holds
+pub else-true : (b x : Bool) → (b ≡ true → x ≡ true) → cond b x true ≡ true
+else-true true x f = f refl
+else-true false x f = refl
+
+pub when-true : (b x : Bool) → b ≡ true → cond b x true ≡ true → x ≡ true
+when-true b x e h = rw e at h
+
 -- ---- the words
 
 module _ (g : ℕ → ℕ) where
@@ -65,7 +73,7 @@ module _ (g : ℕ → ℕ) where
     pub indices : AreaFine g (l .indices) (l .links) (indexTest l)
     pub weights : AreaFine g (l .weights) (l .links) (λ i. true)
 
-  module _ (l : Layout) (r : Rises l) where
+  module _ (l : Layout) (r : Stacked l) where
     chosen-by : (w : ℕ) → wordFine g l w ≡ chosen l r (valueFits g l 12 w) (valueFits g l (l .increments) w) (valueFits g l (l .gains) w) (heldFits g l w) (indexFits g l w) (weightFits g l w) w
     unfolding wordFine stateFine affinityFine
     chosen-by w = refl
@@ -134,9 +142,9 @@ module _ (g : ℕ → ℕ) where
     pub third-fine : thirdFine (g 0) (g 1) (g 4) (g 6) (g 8) (g 9) (g 10) (g 11) ≡ true
     pub words : WordsFine (layoutBy g)
 
-  pub by-rises : Rises (layoutBy g)
+  pub by-stacked : Stacked (layoutBy g)
   unfolding layoutBy
-  by-rises = layout-rises (eqb (g 0) 1) (g 1) (g 3) (g 11)
+  by-stacked = layout-stacked (eqb (g 0) 1) (g 1) (g 3) (g 11)
 
   pub at-head : (q : ℕ) → q < 3 → recordFine g q ≡ headFine g q
   unfolding recordFine
@@ -158,26 +166,28 @@ module _ (g : ℕ → ℕ) where
   unfolding headFine
   head-2 = refl
 
-  pub records-fine : ((q : ℕ) → q < recordsIn (layoutBy g) → recordFine g q ≡ true) → FileFine
-  records-fine f =
-      let l = layoutBy g in
-      let many : 3 ≤ l .end / 4 = omega (arith, end-most l by-rises, end-whole l by-rises) in
-      record {
-        first-fine = sym head-0 ∙ sym (at-head 0 (omega arith)) ∙ f 0 (omega (arith, many));
-        second-fine = sym head-1 ∙ sym (at-head 1 (omega arith)) ∙ f 1 (omega (arith, many));
-        third-fine = sym head-2 ∙ sym (at-head 2 (omega arith)) ∙ f 2 (omega (arith, many));
-        words = words-fine l by-rises (λ w a b.
-            subst (λ (x : ℕ). wordFine g l x ≡ true) (whole w)
-            (every-at (λ k. wordFine g l (4 * (w / 4) + k)) 4 (sym (at-words (w / 4) (omega arith)) ∙ f (w / 4) (omega (arith, end-whole l by-rises))) (w % 4) (omega arith)));
-      }
+  -- a word of a record that is fine
+  pub record-word : (w : ℕ) → 12 ≤ w → recordFine g (w / 4) ≡ true → wordFine g (layoutBy g) w ≡ true
+  record-word w a e = subst (λ (x : ℕ). wordFine g (layoutBy g) x ≡ true) (whole w) (every-at (λ k. wordFine g (layoutBy g) (4 * (w / 4) + k)) 4 (sym (at-words (w / 4) (omega arith)) ∙ e) (w % 4) (omega arith))
     where
       whole : (w : ℕ) → 4 * (w / 4) + w % 4 ≡ w
       whole w = omega arith
 
+  pub records-fine : ((q : ℕ) → q < recordsIn (layoutBy g) → recordFine g q ≡ true) → FileFine
+  records-fine f =
+      let l = layoutBy g in
+      let many : 3 ≤ l .end / 4 = omega (arith, end-most l by-stacked, end-whole l by-stacked) in
+      record {
+        first-fine = sym head-0 ∙ sym (at-head 0 (omega arith)) ∙ f 0 (omega (arith, many));
+        second-fine = sym head-1 ∙ sym (at-head 1 (omega arith)) ∙ f 1 (omega (arith, many));
+        third-fine = sym head-2 ∙ sym (at-head 2 (omega arith)) ∙ f 2 (omega (arith, many));
+        words = words-fine l by-stacked (λ w a b. record-word w a (f (w / 4) (omega (arith, end-whole l by-stacked))));
+      }
+
   pub fine-records : FileFine → (q : ℕ) → q < recordsIn (layoutBy g) → recordFine g q ≡ true
   fine-records a q h = elim (decLt q 3) [
     | yes m ↦ at-head q m ∙ three q m
-    | no n ↦ at-words q (omega arith) ∙ every-all (λ k. wordFine g (layoutBy g) (4 * q + k)) 4 (λ k m. fine-words (layoutBy g) by-rises (a .words) (4 * q + k) (omega arith) (omega (arith, end-whole (layoutBy g) by-rises)))
+    | no n ↦ at-words q (omega arith) ∙ every-all (λ k. wordFine g (layoutBy g) (4 * q + k)) 4 (λ k m. fine-words (layoutBy g) by-stacked (a .words) (4 * q + k) (omega arith) (omega (arith, end-whole (layoutBy g) by-stacked)))
   ]
     where
       three : (q : ℕ) → q < 3 → headFine g q ≡ true

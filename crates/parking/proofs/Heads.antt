@@ -1,19 +1,17 @@
 -- The first three records are fine exactly where settings and counters are in good order. Assumes nothing.
-use mathlib.Core.Path.{_≡_, refl, sym, ap, subst, _∙_}
-use mathlib.Core.List.{List}
-use mathlib.Core.Bool.{Bool, true, false, cond, not, _&&_, true≢false}
-use Prim.Native.Nat.{ℕ, zero, suc, _+_, _*_, _<_, _≤_}
+use mathlib.Core.Path.{_≡_, refl, _∙_}
+use mathlib.Core.Bool.{Bool, true, false, cond, not, _&&_}
+use Prim.Native.Nat.{ℕ, zero, suc, _*_, _≤_}
 use native.Mathlib.Omega.{arith}
 use lib.Dec.{eqb, ltb, leb}
 use lib.IntN.{pos}
-use lib.Ieee.{Float, binary64, ofInt, lt}
-use borrow.Author.Tests.{le-leb, leb-true, le-ltb, eq-eqb, eqb-true}
+use lib.Ieee.{binary64, ofInt, lt}
+use borrow.Author.Tests.{le-leb, leb-true, le-ltb}
 use Rattle.laws.specs.Domain.{mostAxes, mostComponents, mostFeatures, mostFrames, mostIterations}
 use Rattle.laws.specs.Area.{bits}
 use Rattle.laws.proofs.Bools.{and-left, and-right}
 use Rattle.elementary.specs.Limits.{neighboursOf}
 use Rattle.run_record.specs.declared.Settings.{Settings}
-use Rattle.run_record.specs.declared.Method.the-variants.{Exact, BarnesHut}
 use Rattle.run_record.specs.Record.{isTree, positive, angleFine, angleFault, stateFits, GoodSettings}
 use Rattle.run_entry.proofs.Laws.{axes}
 use Rattle.record_words.specs.RecordWords.{methodOf, standingOf}

@@ -1,12 +1,11 @@
 -- Whether a record is fine is told by the words up to its end. Assumes nothing.
-use mathlib.Core.Path.{_≡_, refl, sym, ap, subst, _∙_}
-use mathlib.Core.Bool.{Bool, true, false, cond}
-use Prim.Native.Nat.{ℕ, zero, suc, _+_, _-_, _*_, _<_, _≤_}
+use mathlib.Core.Path.{_≡_, sym, ap, _∙_}
+use Prim.Native.Nat.{ℕ, zero, suc, _+_, _-_, _*_, _<_}
 use native.Mathlib.Omega.{arith}
 use native.Mathlib.Decide.{decLt}
 use Rattle.laws.proofs.Every.{every-same}
 use Rattle.parked.specs.declared.Layout.{Layout}
-use Rattle.parked.specs.Fine.{firstFine, secondFine, thirdFine, headFine, layoutBy, valueFits, offsetFits, heldFits, indexFits, weightFits, stateFine, affinityFine, wordFine, recordFine}
+use Rattle.parked.specs.Fine.{headFine, layoutBy, valueFits, offsetFits, heldFits, indexFits, weightFits, stateFine, affinityFine, wordFine, recordFine}
 use Rattle.parking.proofs.Files.{at-head, at-words, head-0, head-1, head-2}
 
 module _ (g h : ℕ → ℕ) where

@@ -1,6 +1,6 @@
 -- Where each area of a parked run lies: six regions of whole records, one after the other. Assumes nothing.
-use mathlib.Core.Path.{_≡_, refl, sym, ap, subst, _∙_}
-use mathlib.Core.Bool.{Bool, true, false, cond}
+use mathlib.Core.Path.{_≡_, refl, subst}
+use mathlib.Core.Bool.{Bool, cond}
 use Prim.Native.Nat.{ℕ, _+_, _-_, _*_, _/_, _<_, _≤_}
 use native.Mathlib.Omega.{arith}
 use native.Mathlib.Decide.{decLt}
@@ -9,7 +9,7 @@ use borrow.Author.Tests.{lt-ltb, le-ltb}
 use Rattle.parked.specs.declared.Layout.{Layout}
 use Rattle.parked.specs.Layout.{filledUp, layoutOf}
 
--- m words are filled up by at most three
+-- m words are filled up to whole records
 pub filled-most : (m : ℕ) → m ≤ filledUp m
 unfolding filledUp
 filled-most m = omega arith
@@ -18,7 +18,10 @@ pub filled-whole : (m : ℕ) → filledUp m ≡ 4 * ((m + 3) / 4)
 unfolding filledUp
 filled-whole m = omega arith
 
-pub record Rises (l : Layout) : Type 0 where
+pub less-one : (a i : ℕ) → 1 ≤ i → a + i - 1 ≡ a + (i - 1)
+less-one a i h = omega arith
+
+pub record Stacked (l : Layout) : Type 0 where
   pub increments-at : l .increments ≡ 12 + filledUp (l .cells)
   pub gains-at : l .gains ≡ l .increments + filledUp (l .cells)
   pub affinities-at : l .affinities ≡ l .gains + filledUp (l .cells)
@@ -26,11 +29,11 @@ pub record Rises (l : Layout) : Type 0 where
   pub weights-at : l .weights ≡ l .indices + filledUp (l .links)
   pub end-at : l .end ≡ l .weights + filledUp (l .links)
 
-pub layout-rises : (t : Bool) (n c links : ℕ) → Rises (layoutOf t n c links)
+pub layout-stacked : (t : Bool) (n c links : ℕ) → Stacked (layoutOf t n c links)
 unfolding layoutOf
-layout-rises t n c links = record { increments-at = refl; gains-at = refl; affinities-at = refl; indices-at = refl; weights-at = refl; end-at = refl }
+layout-stacked t n c links = record { increments-at = refl; gains-at = refl; affinities-at = refl; indices-at = refl; weights-at = refl; end-at = refl }
 
-module _ (l : Layout) (r : Rises l) where
+module _ (l : Layout) (r : Stacked l) where
   -- the words come to whole records, of which the first three are there
   pub end-whole : l .end ≡ 4 * (l .end / 4)
   end-whole = whole (l .end) (3 + 3 * ((l .cells + 3) / 4) + (l .held + 3) / 4 + 2 * ((l .links + 3) / 4)) (sum ((l .cells + 3) / 4) ((l .held + 3) / 4) ((l .links + 3) / 4) (r .increments-at) (r .gains-at) (r .affinities-at) (r .indices-at) (r .weights-at) (r .end-at) (filled-whole (l .cells)) (filled-whole (l .held)) (filled-whole (l .links)))
@@ -78,7 +81,7 @@ module _ (l : Layout) (r : Rises l) where
           is b lo = omega arith
 
 -- a choice by region, as the definitions make it
-module _ {A : Type 0} (l : Layout) (r : Rises l) (p i g h x a : A) where
+module _ {A : Type 0} (l : Layout) (r : Stacked l) (p i g h x a : A) where
   abbrev pub chosen : ℕ → A
   chosen w =
       cond (ltb w (l .affinities))

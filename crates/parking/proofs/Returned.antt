@@ -1,16 +1,15 @@
 -- Reading what was written: the same record, but nodes in use 0 and an exact run's angle 0, and the same values; all else stays. Assumes nothing.
-use mathlib.Core.Path.{_≡_, refl, sym, ap, subst, _∙_}
-use mathlib.Core.List.{List, [], _∷_, _++_}
-use mathlib.Core.Bool.{Bool, true, false, cond, not, _&&_}
+use mathlib.Core.Path.{_≡_, refl, sym, ap, _∙_}
+use mathlib.Core.List.{List, _++_}
+use mathlib.Core.Bool.{Bool, true, false, cond}
 use Prim.Native.Nat.{ℕ, _+_, _*_, _<_, _≤_}
 use native.Mathlib.Omega.{arith}
-use native.Mathlib.Nat.{le-refl}
-use lib.Dec.{eqb, leb}
-use lib.ListN.{length, take, drop, replicate}
+use lib.Dec.{eqb}
+use lib.ListN.{length, drop, replicate}
 use lib.Ieee.{Float}
 use borrow.Author.Tests.{le-leb}
 use Rattle.laws.specs.Area.{num, bits, zero64}
-use Rattle.laws.specs.Joined.{joined, each, pasted}
+use Rattle.laws.specs.Joined.{pasted}
 use Rattle.laws.proofs.Joined.{length-map}
 use Rattle.laws.proofs.Laid.{singles-taken}
 use Rattle.areas.specs.Filled.{filled}
@@ -20,13 +19,13 @@ use Rattle.run_record.specs.Record.{isTree, perOf, kOf, sizesOf}
 use Rattle.run_entry.specs.Entry.{treeFits, areasFit, GoodAreas}
 use Rattle.record_words.specs.RecordWords.{runOf, settingsOf, methodOf}
 use Rattle.parked.specs.declared.Layout.{Layout}
-use Rattle.parked.specs.Parked.{Stored, stored, linksIn, layoutIn}
+use Rattle.parked.specs.Parked.{Stored, linksIn, layoutIn}
 use Rattle.parked.specs.Fine.{layoutBy}
 use Rattle.park.specs.declared.Parked.the-variants.{Written}
 use Rattle.park.specs.Park.{parkOf}
 use Rattle.unpark.specs.declared.Unparked.the-variants.{Read}
-use Rattle.unpark.specs.Unpark.{recordsDue, recordRead, settingsRead, fetched, weightsRead, offsetsRead, storedRead, hasRoom, Unparking, unparking, unparkOf}
-use Rattle.parking.specs.Held.{InWords, stateIn, firstRecords}
+use Rattle.unpark.specs.Unpark.{recordRead, settingsRead, fetched, weightsRead, offsetsRead, storedRead, hasRoom, unparking, unparkOf}
+use Rattle.parking.specs.Held.{InWords, firstRecords}
 use Rattle.parking.specs.Again.{recordAgain, storedAgain}
 use Rattle.parking.proofs.Entries.{Writes, parks-all}
 use Rattle.parking.proofs.Heads.{settingsWith, method-tree}

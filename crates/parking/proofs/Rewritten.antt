@@ -13,22 +13,22 @@ use Rattle.laws.specs.Joined.{joined}
 use Rattle.laws.proofs.Laid.{laid-front}
 use Rattle.areas.specs.Filled.{filled}
 use Rattle.little.specs.Little.{littleBytes, wordIn, AllBelow}
-use Rattle.little.proofs.Roundtrip.{bytes-back}
 use Rattle.tree_node.specs.declared.Node.{Node}
 use Rattle.run_record.specs.Record.{isTree, sizesOf}
 use Rattle.record_words.specs.RecordWords.{settingsOf, methodOf}
 use Rattle.parked.specs.declared.Layout.{Layout}
 use Rattle.parked.specs.Layout.{recordsIn}
-use Rattle.parked.specs.Parked.{Stored, layoutIn, parkedWord}
+use Rattle.parked.specs.Parked.{Stored, parkedWord}
 use Rattle.parked.specs.Fine.{layoutBy}
 use Rattle.park.specs.declared.Parked.the-variants.{Written}
-use Rattle.park.specs.Park.{calmState, Parking, parking, parkedInto, parkOf}
+use Rattle.park.specs.Park.{calmState, parking, parkedInto, parkOf}
 use Rattle.unpark.specs.declared.Unparked.{Unparked}
 use Rattle.unpark.specs.declared.Unparked.the-variants.{Read, Bad, Short}
 use Rattle.unpark.specs.Unpark.{recordsDue, firstBad, isParked, recordRead, settingsRead, storedRead, hasRoom, Unparking, unparking, unparkOf}
 use Rattle.parking.specs.Held.{bytesMost}
 use Rattle.parking.proofs.Regions.{end-whole}
-use Rattle.parking.proofs.Files.{FileFine, by-rises, parked-long, parked-fine}
+use Rattle.parking.proofs.Words.{word-bytes}
+use Rattle.parking.proofs.Files.{by-stacked, parked-long, parked-fine}
 use Rattle.parking.proofs.Entries.{Writes, writes-parks}
 use Rattle.parking.proofs.Taken.{layout-read, word-read, read-fine, read-between, read-calm, read-good}
 
@@ -83,19 +83,13 @@ module _ (f : List ℕ) (small : AllBelow bytesMost f) (P : isParked f ≡ true)
 
   words-long : length f ≡ l .end * 8
   unfolding recordsDue
-  words-long = parked-long f P ∙ times (l .end) (end-whole l (by-rises g))
+  words-long = parked-long f P ∙ times (l .end) (end-whole l (by-stacked g))
     where
       times : (x : ℕ) → x ≡ 4 * (x / 4) → 32 * (x / 4) ≡ x * 8
       times x e = omega arith
 
   bytes-read : (i : ℕ) → i < l .end → take 8 (drop (i * 8) f) ≡ littleBytes 8 (parkedWord l e i)
-  bytes-read i h =
-      ap (λ (x : ℕ). take 8 (drop x f)) (turn i)
-      ∙ sym (bytes-back 8 f (8 * i) small (omega (arith, words-long)))
-      ∙ ap (littleBytes 8) (sym (word-read g (parked-fine f P) d i h))
-    where
-      turn : (i : ℕ) → i * 8 ≡ 8 * i
-      turn i = omega arith
+  bytes-read i h = word-bytes f i small (omega (arith, words-long)) ∙ ap (littleBytes 8) (sym (word-read g (parked-fine f P) d i h))
 
   pub into-read : (t : List ℕ) → parkedInto l e t ≡ f ++ drop (length f) t
   unfolding parkedInto

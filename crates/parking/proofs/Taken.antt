@@ -1,6 +1,6 @@
 -- What is read from a parked run: a record and areas in good order, between two iterations, of which 15 bars no value; written again they give the words of the file. Assumes nothing.
 use mathlib.Core.Path.{_≡_, refl, sym, ap, subst, _∙_}
-use mathlib.Core.List.{List, [], _∷_, _++_, map}
+use mathlib.Core.List.{List, [], _∷_, map}
 use mathlib.Core.Bool.{Bool, true, false, cond, not, _&&_, _||_}
 use Prim.Native.Nat.{ℕ, zero, suc, _+_, _-_, _*_, _<_, _≤_}
 use native.Mathlib.Omega.{arith}
@@ -8,7 +8,7 @@ use native.Mathlib.Decide.{decLt}
 use lib.Dec.{eqb, ltb, leb}
 use lib.ListN.{length, drop, length-append, length-drop}
 use lib.Ieee.{Float}
-use borrow.Author.Tests.{lt-ltb, le-leb, leb-true, eq-eqb, ne-eqb, eqb-true, eqb-false}
+use borrow.Author.Tests.{le-leb, leb-true, eq-eqb, ne-eqb, eqb-true, eqb-false}
 use Rattle.laws.specs.Area.{num, bits}
 use Rattle.laws.specs.Joined.{joined}
 use Rattle.laws.proofs.Bools.{and-left, and-right, by-bool}
@@ -17,11 +17,11 @@ use Rattle.laws.proofs.Joined.{length-map}
 use Rattle.laws.proofs.Laid.{singles-size, singles-get}
 use Rattle.elementary.specs.Limits.{calm, neighboursOf}
 use Rattle.tree_node.specs.declared.Node.{Node}
-use Rattle.run_record.specs.Record.{isTree, angleFine, perOf, kOf, sizesOf, GoodSettings}
+use Rattle.run_record.specs.Record.{isTree, angleFine, sizesOf, GoodSettings}
 use Rattle.run_record.proofs.Laws.{per-some}
-use Rattle.run_entry.specs.Entry.{offsetFine, indexFine, areasFit, GoodCounters, TreeAreas, GoodAreas, GoodContents, Good}
+use Rattle.run_entry.specs.Entry.{offsetFine, indexFine, areasFit, GoodCounters, GoodAreas, GoodContents, Good}
 use Rattle.run_entry.proofs.Laws.{areas-fine}
-use Rattle.record_words.specs.RecordWords.{runFine, settingsFine, runOf, settingsOf, methodOf, standingOf}
+use Rattle.record_words.specs.RecordWords.{runFine, settingsFine, runOf, settingsOf, methodOf}
 use Rattle.parked.specs.declared.Layout.{Layout}
 use Rattle.parked.specs.Layout.{filledUp, layoutOf}
 use Rattle.parked.specs.Parked.{Stored, headOf, linksIn, layoutIn, parkedWord}
@@ -29,9 +29,9 @@ use Rattle.parked.specs.Fine.{layoutBy, offsetFits}
 use Rattle.park.specs.Park.{calmAll, calmState}
 use Rattle.unpark.specs.Unpark.{recordRead, settingsRead, fetched, weightsRead, offsetsRead, storedRead, hasRoom}
 use Rattle.parking.specs.Held.{stateIn}
-use Rattle.parking.proofs.Regions.{filled-most, Rises, layout-rises, by-region}
+use Rattle.parking.proofs.Regions.{less-one, by-region}
 use Rattle.parking.proofs.Words.{filling, filling-in, filling-out, word-head, word-positions, word-increments, word-gains, word-affinities, word-indices, word-weights}
-use Rattle.parking.proofs.Files.{AreaFine, heldTest, WordsFine, FileFine, by-rises}
+use Rattle.parking.proofs.Files.{when-true, AreaFine, FileFine, by-stacked}
 use Rattle.parking.proofs.Heads.{method-tree, settingsWith, FirstFacts, first-facts, SecondFacts, second-facts, good-settings, ThirdFacts, third-facts}
 
 -- fourteen more
@@ -50,9 +50,6 @@ fetched-long g b m v h = whole (length-append (joined (λ i. g (b + i) ∷ []) m
   where
     whole : {x a y m n : ℕ} → x ≡ a + y → a ≡ m → y ≡ n - m → m ≤ n → x ≡ n
     whole e f g h = omega arith
-
-taken : (b x : Bool) → b ≡ true → cond b x true ≡ true → x ≡ true
-taken b x e h = rw e at h
 
 -- ---- how the file lies
 
@@ -74,17 +71,17 @@ module _ (g : ℕ → ℕ) (A : FileFine g) where
   abbrev y : LyingBy l g
   y = lying-by g
 
-  abbrev pub one : FirstFacts (g 0) (g 1) (g 2) (g 3) (g 4) (g 5) (g 6) (g 7) (g 8)
-  one = first-facts (g 0) (g 1) (g 2) (g 3) (g 4) (g 5) (g 6) (g 7) (g 8) (A .first-fine)
+  abbrev pub record-one : FirstFacts (g 0) (g 1) (g 2) (g 3) (g 4) (g 5) (g 6) (g 7) (g 8)
+  record-one = first-facts (g 0) (g 1) (g 2) (g 3) (g 4) (g 5) (g 6) (g 7) (g 8) (A .first-fine)
 
-  abbrev pub two : SecondFacts (g 0) (g 1) (g 2) (g 3) (g 4) (g 5) (g 6) (g 7) (g 8)
-  two = second-facts (g 0) (g 1) (g 2) (g 3) (g 4) (g 5) (g 6) (g 7) (g 8) (A .second-fine)
+  abbrev pub record-two : SecondFacts (g 0) (g 1) (g 2) (g 3) (g 4) (g 5) (g 6) (g 7) (g 8)
+  record-two = second-facts (g 0) (g 1) (g 2) (g 3) (g 4) (g 5) (g 6) (g 7) (g 8) (A .second-fine)
 
-  abbrev pub three : ThirdFacts (g 0) (g 1) (g 4) (g 6) (g 8) (g 9) (g 10) (g 11)
-  three = third-facts (g 0) (g 1) (g 4) (g 6) (g 8) (g 9) (g 10) (g 11) (A .third-fine)
+  abbrev pub record-three : ThirdFacts (g 0) (g 1) (g 4) (g 6) (g 8) (g 9) (g 10) (g 11)
+  record-three = third-facts (g 0) (g 1) (g 4) (g 6) (g 8) (g 9) (g 10) (g 11) (A .third-fine)
 
   pub method-is : isTree (methodOf (g 0)) ≡ eqb (g 0) 1
-  method-is = method-tree (g 0) (leb-true (g 0) 1 (one .m-most))
+  method-is = method-tree (g 0) (leb-true (g 0) 1 (record-one .m-most))
 
   -- ---- the offsets in the file
 
@@ -97,7 +94,7 @@ module _ (g : ℕ → ℕ) (A : FileFine g) where
   unfolding offsetFits
   offset-starts e =
       let s : l .held ≡ g 1 + 1 = rw e at (y .held-is) in
-      eqb-true (g (l .affinities + 0)) 0 (taken (l .tree) (offsetFits g l 0 (l .affinities + 0)) (y .tree-is ∙ e) (A .words .affinities .holds 0 (omega (arith, s))))
+      eqb-true (g (l .affinities + 0)) 0 (when-true (l .tree) (offsetFits g l 0 (l .affinities + 0)) (y .tree-is ∙ e) (A .words .affinities .holds 0 (omega (arith, s))))
 
   pub offset-in : eqb (g 0) 1 ≡ true → (i : ℕ) → 1 ≤ i → i ≤ g 1 → Offset i
   unfolding offsetFits
@@ -107,17 +104,14 @@ module _ (g : ℕ → ℕ) (A : FileFine g) where
       let X = leb (g (l .affinities + i - 1)) v in
       let Y = leb v (l .links) in
       let Z = not (eqb i (l .n)) || eqb v (l .links) in
-      let q : cond (eqb i 0) (eqb v 0) (X && Y && Z) ≡ true = taken (l .tree) (offsetFits g l i (l .affinities + i)) (y .tree-is ∙ e) (A .words .affinities .holds i (omega (arith, s))) in
+      let q : cond (eqb i 0) (eqb v 0) (X && Y && Z) ≡ true = when-true (l .tree) (offsetFits g l i (l .affinities + i)) (y .tree-is ∙ e) (A .words .affinities .holds i (omega (arith, s))) in
       let p : X && Y && Z ≡ true = rw (ne-eqb i 0 (λ z. omega arith)) at q in
       record {
-        rises = subst (λ (x : ℕ). g x ≤ v) (less (l .affinities) i a) (leb-true (g (l .affinities + i - 1)) v (and-left X Y (and-left (X && Y) Z p)));
+        rises = subst (λ (x : ℕ). g x ≤ v) (less-one (l .affinities) i a) (leb-true (g (l .affinities + i - 1)) v (and-left X Y (and-left (X && Y) Z p)));
         below = leb-true v (l .links) (and-right X Y (and-left (X && Y) Z p));
         last = λ n. eqb-true v (l .links) (ends (eqb i (l .n)) (eqb v (l .links)) (eq-eqb i (l .n) n) (and-right (X && Y) Z p));
       }
     where
-      less : (a i : ℕ) → 1 ≤ i → a + i - 1 ≡ a + (i - 1)
-      less a i s = omega arith
-
       ends : (b x : Bool) → b ≡ true → (not b || x) ≡ true → x ≡ true
       ends b x e h = rw e at h
 
@@ -134,11 +128,11 @@ module _ (g : ℕ → ℕ) (A : FileFine g) where
         ap (λ (b : Bool). num (cond b (fetched g (l .affinities) (l .held) (d .offsets)) (d .offsets)) i) (y .tree-is ∙ q) ∙ fetched-at g (l .affinities) (l .held) (d .offsets) i (omega (arith, s))
 
     last-read : eqb (g 0) 1 ≡ true → num (e .offsets) (g 1) ≡ g 11
-    last-read q = offset-read q (g 1) (omega arith) ∙ offset-in q (g 1) (omega (arith, one .n-some)) (omega arith) .last (sym (y .n-is)) ∙ y .links-are
+    last-read q = offset-read q (g 1) (omega arith) ∙ offset-in q (g 1) (omega (arith, record-one .n-some)) (omega arith) .last (sym (y .n-is)) ∙ y .links-are
 
     links-read : linksIn (eqb (g 0) 1) (g 1) (e .offsets) ≡ g 11
     unfolding linksIn
-    links-read = by (eqb (g 0) 1) refl (three .links-most)
+    links-read = by (eqb (g 0) 1) refl (record-three .links-most)
       where
         by : (b : Bool) → eqb (g 0) 1 ≡ b → cond b (leb (g 11) (2 * g 1 * neighboursOf (bits (g 4)) (g 1))) (eqb (g 11) 0) ≡ true → cond b (num (e .offsets) (g 1)) 0 ≡ g 11
         by true q h = last-read q
@@ -151,7 +145,7 @@ module _ (g : ℕ → ℕ) (A : FileFine g) where
     -- ---- the words
 
     angle-read : cond (l .tree) (g 7) 0 ≡ g 7
-    angle-read = rw (y .tree-is) (by (eqb (g 0) 1) (two .angle-fine))
+    angle-read = rw (y .tree-is) (by (eqb (g 0) 1) (record-two .angle-fine))
       where
         by : (b : Bool) → cond b (angleFine (bits (g 7))) (eqb (g 7) 0) ≡ true → cond b (g 7) 0 ≡ g 7
         by true h = refl
@@ -204,7 +198,7 @@ module _ (g : ℕ → ℕ) (A : FileFine g) where
     indices-read i h = fetched-at g (l .indices) (l .links) (d .indices) i h
 
     no-links : eqb (g 0) 1 ≡ false → l .links ≡ 0
-    no-links q = y .links-are ∙ eqb-true (g 11) 0 (rw q at (three .links-most))
+    no-links q = y .links-are ∙ eqb-true (g 11) 0 (rw q at (record-three .links-most))
 
     weights-read : (i : ℕ) → i < l .links → num (e .affinities) i ≡ g (l .weights + i)
     unfolding storedRead weightsRead
@@ -217,7 +211,7 @@ module _ (g : ℕ → ℕ) (A : FileFine g) where
     -- written again it gives the words of the file
     pub word-read : (k : ℕ) → k < l .end → parkedWord l e k ≡ g k
     word-read k h =
-        let r = by-rises g in
+        let r = by-stacked g in
         elim (decLt k 12) [
           | yes a ↦ word-head l r e k a ∙ head-read k a
           | no n ↦ by-region l r (λ (k : ℕ). parkedWord l e k ≡ g k)
@@ -234,7 +228,7 @@ module _ (g : ℕ → ℕ) (A : FileFine g) where
 
     pub read-fine : runFine (e .run) ≡ true
     unfolding runFine settingsFine storedRead recordRead
-    read-fine = fine-of (length (drop 14 (d .run))) (one .m-most) (three .s-most)
+    read-fine = fine-of (length (drop 14 (d .run))) (record-one .m-most) (record-three .s-most)
       where
         fine-of : (k : ℕ) {a b : Bool} → a ≡ true → b ≡ true → leb 14 (past k) && (leb 9 (past k) && a) && b ≡ true
         fine-of k ea eb = rw (le-leb 14 (past k) (omega arith), le-leb 9 (past k) (omega arith), ea, eb)
@@ -251,13 +245,13 @@ module _ (g : ℕ → ℕ) (A : FileFine g) where
     unfolding calmState
     read-calm = rw (calm-of 12 (e .positions) (A .words .positions) positions-read, calm-of (l .increments) (e .increments) (A .words .increments) increments-read, calm-of (l .gains) (e .gains) (A .words .gains) gains-read)
 
-    pub settings-good : GoodSettings (runOf (e .run) .settings)
+    settings-good : GoodSettings (runOf (e .run) .settings)
     unfolding runOf settingsOf storedRead recordRead
-    settings-good = good-settings (g 0) (g 1) (g 2) (g 3) (g 4) (g 5) (g 6) (g 7) (g 8) one two
+    settings-good = good-settings (g 0) (g 1) (g 2) (g 3) (g 4) (g 5) (g 6) (g 7) (g 8) record-one record-two
 
     counters-good : GoodCounters (runOf (e .run))
     unfolding runOf settingsOf storedRead recordRead
-    counters-good = record { standing-fits = three .state-fits; phase-below = omega (arith, per-some (methodOf (g 0)) (g 1)); total = omega arith }
+    counters-good = record { standing-fits = record-three .state-fits; phase-below = omega (arith, per-some (methodOf (g 0)) (g 1)); total = omega arith }
 
     contents-good : (ns : List Node) → isTree (methodOf (g 0)) ≡ true → GoodContents (g 1) (runOf (e .run)) (e .indices) (e .offsets) ns
     unfolding runOf settingsOf storedRead recordRead offsetFine indexFine sizesOf
@@ -269,7 +263,7 @@ module _ (g : ℕ → ℕ) (A : FileFine g) where
               (λ z.
               let s : 1 ≤ i = omega (arith, eqb-false i 0 z) in
               let o = offset-in q i s (omega arith) in
-              let m : g 11 ≤ 2 * g 1 * neighboursOf (bits (g 4)) (g 1) = leb-true (g 11) (2 * g 1 * neighboursOf (bits (g 4)) (g 1)) (rw q at (three .links-most)) in
+              let m : g 11 ≤ 2 * g 1 * neighboursOf (bits (g 4)) (g 1) = leb-true (g 11) (2 * g 1 * neighboursOf (bits (g 4)) (g 1)) (rw q at (record-three .links-most)) in
               rw (z, offset-read q i (omega arith), offset-read q (i - 1) (omega arith), le-leb (g (l .affinities + (i - 1))) (g (l .affinities + i)) (o .rises)) (le-leb (g (l .affinities + i)) (2 * g 1 * neighboursOf (bits (g 4)) (g 1)) (omega (arith, o .below, y .links-are, m))));
           each-index = λ i h. let k : i < l .links = omega (arith, h, last-read q, y .links-are) in ap (λ (x : ℕ). ltb x (g 1)) (indices-read i k) ∙ ap (ltb (g (l .indices + i))) (sym (y .n-is)) ∙ A .words .indices .holds i k;
           tree = λ n. absurd (n refl);
@@ -286,7 +280,7 @@ module _ (g : ℕ → ℕ) (A : FileFine g) where
           (and-right (leb 14 (length (d .run))) (areasFit s (length (d .positions)) (length (d .increments)) (length (d .gains)) (length (d .affinities)) (length (d .indices)) (length (d .offsets)) forces nodes) R)
 
       links-long : (a : ℕ) → (isTree (methodOf (g 0)) ≡ true → 2 * g 1 * neighboursOf (bits (g 4)) (g 1) ≤ a) → l .links ≤ a
-      links-long a f = rw (y .links-are) (by (eqb (g 0) 1) refl (three .links-most))
+      links-long a f = rw (y .links-are) (by (eqb (g 0) 1) refl (record-three .links-most))
         where
           by : (b : Bool) → eqb (g 0) 1 ≡ b → cond b (leb (g 11) (2 * g 1 * neighboursOf (bits (g 4)) (g 1))) (eqb (g 11) 0) ≡ true → g 11 ≤ a
           by true q h = omega (arith, leb-true (g 11) (2 * g 1 * neighboursOf (bits (g 4)) (g 1)) h, f (method-is ∙ q))

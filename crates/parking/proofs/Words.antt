@@ -1,23 +1,23 @@
 -- Each word of what is written is the run's. Assumes nothing.
-use mathlib.Core.Path.{_≡_, refl, sym, ap, subst, _∙_}
-use mathlib.Core.List.{List, [], _∷_, _++_}
+use mathlib.Core.Path.{_≡_, sym, ap, subst, _∙_}
+use mathlib.Core.List.{List, [], _∷_, _++_, append-nil}
 use mathlib.Core.Bool.{Bool, true, false, cond}
-use Prim.Native.Nat.{ℕ, zero, suc, _+_, _-_, _*_, _<_, _≤_}
+use Prim.Native.Nat.{ℕ, zero, suc, _+_, _-_, _*_, _/_, _<_, _≤_}
 use native.Mathlib.Omega.{arith}
 use lib.Dec.{ltb}
-use lib.ListN.{length, drop, List·getD-append}
+use lib.ListN.{length, take, drop, List·getD-append}
 use borrow.Author.Tests.{lt-ltb, le-ltb}
 use Rattle.laws.specs.Area.{num}
 use Rattle.laws.specs.Joined.{joined}
-use Rattle.laws.proofs.Laid.{laid-at}
+use Rattle.laws.proofs.Laid.{laid-at, laid-size}
 use Rattle.little.specs.Little.{littleBytes, wordIn, AllBelow}
-use Rattle.little.proofs.Roundtrip.{little-same, little-back, length-bytes}
+use Rattle.little.proofs.Roundtrip.{little-same, little-back, length-bytes, bytes-back}
 use Rattle.parked.specs.declared.Layout.{Layout}
-use Rattle.parked.specs.Layout.{filledUp}
-use Rattle.parked.specs.Parked.{Stored, headOf, areaWord, stateWord, affinityWord, parkedWord, linksIn, layoutIn}
+use Rattle.parked.specs.Layout.{filledUp, recordsIn}
+use Rattle.parked.specs.Parked.{Stored, headOf, areaWord, stateWord, affinityWord, parkedWord}
 use Rattle.park.specs.Park.{parkedInto}
-use Rattle.parking.specs.Held.{wordsMost, InWords}
-use Rattle.parking.proofs.Regions.{Rises, chosen, in-positions, in-increments, in-gains, in-affinities, in-indices, in-weights}
+use Rattle.parking.specs.Held.{bytesMost, halvesMost, wordsMost, InWords}
+use Rattle.parking.proofs.Regions.{Stacked, end-whole, chosen, in-positions, in-increments, in-gains, in-affinities, in-indices, in-weights}
 
 -- ---- words one after the other
 
@@ -34,6 +34,24 @@ row-word v n w r h b =
 
     plus : (j : ℕ) → j ≡ 0 + j
     plus j = omega arith
+
+-- .. with nothing behind them
+pub word-alone : (v : ℕ → ℕ) (n w : ℕ) → w < n → v w < wordsMost → wordIn (joined (λ w. littleBytes 8 (v w)) n) w ≡ v w
+word-alone v n w h b = ap (λ (f : List ℕ). wordIn f w) (sym (append-nil (joined (λ w. littleBytes 8 (v w)) n))) ∙ row-word v n w [] h b
+
+-- the bytes of word w
+pub word-bytes : (f : List ℕ) (w : ℕ) → AllBelow bytesMost f → 8 * w + 8 ≤ length f → take 8 (drop (w * 8) f) ≡ littleBytes 8 (wordIn f w)
+word-bytes f w b h = ap (λ (x : ℕ). take 8 (drop x f)) (turn w) ∙ sym (bytes-back 8 f (8 * w) b h)
+  where
+    turn : (w : ℕ) → w * 8 ≡ 8 * w
+    turn w = omega arith
+
+-- they come to whole records
+pub rows-long : (v : ℕ → ℕ) (l : Layout) → Stacked l → length (joined (λ w. littleBytes 8 (v w)) (l .end)) ≡ 32 * recordsIn l
+rows-long v l r = laid-size 8 (λ w. littleBytes 8 (v w)) (l .end) (λ i h. length-bytes 8 (v i)) ∙ times (l .end) (end-whole l r)
+  where
+    times : (x : ℕ) → x ≡ 4 * (x / 4) → x * 8 ≡ 32 * (x / 4)
+    times x e = omega arith
 
 -- ---- every word is one of 64 bits
 
@@ -68,7 +86,7 @@ module _ (l : Layout) (d : Stored) (e : InWords d) (k : l .links < wordsMost) wh
   unfolding areaWord
   area-below v b m w h = either-below (ltb (w - b) m) (num v (w - b)) 0 (h (w - b)) (omega arith)
 
-  wide : (v : List ℕ) → AllBelow 4294967296 v → AllBelow wordsMost v
+  wide : (v : List ℕ) → AllBelow halvesMost v → AllBelow wordsMost v
   wide v h i = omega (arith, h i)
 
   pub word-below : (w : ℕ) → parkedWord l d w < wordsMost
@@ -109,7 +127,7 @@ filling-in v m i h = rw (lt-ltb i m h)
 pub filling-out : (v : List ℕ) (m i : ℕ) → m ≤ i → filling v m i ≡ 0
 filling-out v m i h = rw (le-ltb i m h)
 
-module _ (l : Layout) (r : Rises l) (d : Stored) where
+module _ (l : Layout) (r : Stacked l) (d : Stored) where
   past : (w : ℕ) → 12 ≤ w → parkedWord l d w ≡ chosen l r (areaWord (d .positions) 12 (l .cells) w) (areaWord (d .increments) (l .increments) (l .cells) w) (areaWord (d .gains) (l .gains) (l .cells) w) (areaWord (cond (l .tree) (d .offsets) (d .affinities)) (l .affinities) (l .held) w) (areaWord (d .indices) (l .indices) (l .links) w) (areaWord (d .affinities) (l .weights) (l .links) w) w
   unfolding parkedWord stateWord affinityWord
   past w h = rw (le-ltb w 12 h)

@@ -1,27 +1,23 @@
 -- What is written stands: it is a parked run, of the records told. Assumes nothing.
 use mathlib.Core.Path.{_≡_, refl, sym, ap, subst, _∙_}
-use mathlib.Core.List.{List, [], _++_, append-nil}
+use mathlib.Core.List.{List}
 use mathlib.Core.Bool.{Bool, true, false, cond, not, _&&_, _||_}
-use Prim.Native.Nat.{ℕ, zero, suc, _+_, _-_, _*_, _/_, _<_, _≤_}
+use Prim.Native.Nat.{ℕ, _+_, _-_, _*_, _<_, _≤_}
 use native.Mathlib.Omega.{arith}
-use native.Mathlib.Nat.{le-refl}
 use lib.Dec.{eqb, ltb, leb}
-use lib.ListN.{length, take, drop, replicate, length-replicate}
+use lib.ListN.{length, take, drop, replicate}
 use lib.Seq.{take-at}
 use lib.Ieee.{Float}
-use borrow.Author.Tests.{lt-ltb, le-leb, leb-true, eq-eqb, ne-eqb, eqb-true, eqb-false}
+use borrow.Author.Tests.{lt-ltb, le-leb, leb-true, eq-eqb, eqb-true, eqb-false}
 use Rattle.laws.specs.Area.{num, bits, zero64}
 use Rattle.laws.specs.Joined.{joined}
 use Rattle.laws.proofs.Bools.{and-left, and-right, by-bool, or-yes}
 use Rattle.laws.proofs.Every.{every-at}
-use Rattle.laws.proofs.Laid.{laid-size}
 use Rattle.elementary.specs.Limits.{calm, neighboursOf}
 use Rattle.little.specs.Little.{littleBytes, wordIn}
-use Rattle.little.proofs.Roundtrip.{length-bytes}
 use Rattle.tree_node.specs.declared.Node.{Node}
-use Rattle.run_record.specs.Record.{isTree, stateFits, GoodSettings}
-use Rattle.run_entry.specs.Entry.{Good}
-use Rattle.record_words.specs.RecordWords.{runFine, settingsFine, runOf, settingsOf, methodOf, standingOf}
+use Rattle.run_record.specs.Record.{stateFits, GoodSettings}
+use Rattle.record_words.specs.RecordWords.{runFine, settingsFine, runOf, settingsOf, standingOf}
 use Rattle.parked.specs.declared.Layout.{Layout}
 use Rattle.parked.specs.Layout.{filledUp, layoutOf, recordsIn}
 use Rattle.parked.specs.Parked.{Stored, headOf, linksIn, layoutIn, parkedWord}
@@ -29,12 +25,12 @@ use Rattle.parked.specs.Fine.{layoutBy, offsetFits}
 use Rattle.park.specs.declared.Parked.the-variants.{Written}
 use Rattle.park.specs.Park.{calmAll, calmState, Parking, parkedInto, parkOf}
 use Rattle.unpark.specs.Unpark.{recordsDue, isParked}
-use Rattle.parking.specs.Held.{wordsMost, InWords, stateIn, firstRecords}
-use Rattle.parking.proofs.Regions.{filled-most, Rises, layout-rises, end-whole, end-most}
-use Rattle.parking.proofs.Words.{row-word, word-below, filling, filling-in, filling-out, word-head, word-positions, word-increments, word-gains, word-affinities, word-indices, word-weights}
-use Rattle.parking.proofs.Files.{AreaFine, heldTest, WordsFine, FileFine, fine-parked}
+use Rattle.parking.specs.Held.{wordsMost, InWords, firstRecords}
+use Rattle.parking.proofs.Regions.{filled-most, less-one, Stacked, layout-stacked, end-most}
+use Rattle.parking.proofs.Words.{word-alone, rows-long, word-below, filling, filling-in, filling-out, word-head, word-positions, word-increments, word-gains, word-affinities, word-indices, word-weights}
+use Rattle.parking.proofs.Files.{else-true, AreaFine, heldTest, WordsFine, FileFine, fine-parked}
 use Rattle.parking.proofs.Entries.{Writes, parks-all}
-use Rattle.parking.proofs.Heads.{method-tree, settingsWith, first-good, second-good, ThirdFacts, third-good}
+use Rattle.parking.proofs.Heads.{method-tree, settingsWith, first-good, second-good, third-good}
 use Rattle.parking.proofs.Lists.{Lists, lists-of}
 
 -- ---- how the run lies
@@ -45,11 +41,11 @@ pub record Lying (l : Layout) (w off : List ℕ) : Type 0 where
   pub cells-is : l .cells ≡ num w 0 * num w 2
   pub held-is : l .held ≡ cond (eqb (num w 3) 1) (num w 0 + 1) (num w 0 * num w 0)
   pub links-are : l .links ≡ linksIn (eqb (num w 3) 1) (num w 0) off
-  pub rises : Rises l
+  pub rises : Stacked l
 
 pub lying : (w off : List ℕ) → Lying (layoutIn w off) w off
 unfolding layoutIn layoutOf
-lying w off = record { tree-is = refl; n-is = refl; cells-is = refl; held-is = refl; links-are = refl; rises = layout-rises (eqb (num w 3) 1) (num w 0) (num w 2) (linksIn (eqb (num w 3) 1) (num w 0) off) }
+lying w off = record { tree-is = refl; n-is = refl; cells-is = refl; held-is = refl; links-are = refl; rises = layout-stacked (eqb (num w 3) 1) (num w 0) (num w 2) (linksIn (eqb (num w 3) 1) (num w 0) off) }
 
 -- ---- the first three records
 
@@ -186,13 +182,10 @@ module _ (d : Stored) (F : List Float) (ns : List Node) (t : List ℕ) (W : Writ
         (λ z. rw z (eq-eqb (g (l .affinities + i)) 0 (q i h ∙ ap (num (d .offsets)) (eqb-true i 0 z) ∙ lists-in e .starts)))
         (λ z.
         let some : 1 ≤ i = omega (arith, eqb-false i 0 z) in
-        let before : g (l .affinities + i - 1) ≡ num (d .offsets) (i - 1) = ap g (less (l .affinities) i some) ∙ q (i - 1) (omega arith) in
+        let before : g (l .affinities + i - 1) ≡ num (d .offsets) (i - 1) = ap g (less-one (l .affinities) i some) ∙ q (i - 1) (omega arith) in
         let links : l .links ≡ num (d .offsets) (num w 0) = rw e at (y .links-are) in
         rw (z, before, q i h, links, y .n-is, le-leb (num (d .offsets) (i - 1)) (num (d .offsets) i) (lists-in e .rises i some (omega arith)), le-leb (num (d .offsets) i) (num (d .offsets) (num w 0)) (lists-in e .below i (omega arith))) (last i))
       where
-        less : (a i : ℕ) → 1 ≤ i → a + i - 1 ≡ a + (i - 1)
-        less a i s = omega arith
-
         last : (i : ℕ) → (not (eqb i (num w 0)) || eqb (num (d .offsets) i) (num (d .offsets) (num w 0))) ≡ true
         last i = by-bool _ (eqb i (num w 0))
             (λ z. or-yes (not (eqb i (num w 0))) (eqb (num (d .offsets) i) (num (d .offsets) (num w 0))) (eq-eqb (num (d .offsets) i) (num (d .offsets) (num w 0)) (ap (num (d .offsets)) (eqb-true i (num w 0) z))))
@@ -203,10 +196,6 @@ module _ (d : Stored) (F : List Float) (ns : List Node) (t : List ℕ) (W : Writ
         let e : eqb (num w 3) 1 ≡ true = sym (y .tree-is) ∙ t in
         let s : l .held ≡ num w 0 + 1 = rw e at (y .held-is) in
         offset-fits e (λ i a. at-affinities i (omega (arith, s, filled-most (l .held))) ∙ ap (λ (b : Bool). filling (cond b (d .offsets) (d .affinities)) (l .held) i) t ∙ filling-in (d .offsets) (l .held) i (omega (arith, s))) i (omega (arith, s)))
-      where
-        else-true : (b x : Bool) → (b ≡ true → x ≡ true) → cond b x true ≡ true
-        else-true true x f = f refl
-        else-true false x f = refl
 
     index-fits : (i : ℕ) → i < l .links → num (d .indices) i < l .n
     unfolding linksIn
@@ -252,10 +241,7 @@ module _ (d : Stored) where
   lies = layoutIn (d .run) (d .offsets)
 
   pub file-long : length (fileOf d) ≡ 32 * recordsIn lies
-  file-long = laid-size 8 (λ w. littleBytes 8 (parkedWord lies d w)) (lies .end) (λ i h. length-bytes 8 (parkedWord lies d i)) ∙ times (lies .end) (end-whole lies (lying (d .run) (d .offsets) .rises))
-    where
-      times : (x : ℕ) → x ≡ 4 * (x / 4) → x * 8 ≡ 32 * (x / 4)
-      times x e = omega arith
+  file-long = rows-long (parkedWord lies d) lies (lying (d .run) (d .offsets) .rises)
 
   links-below : InWords d → lies .links < wordsMost
   unfolding linksIn
@@ -266,7 +252,7 @@ module _ (d : Stored) where
       by false = omega arith
 
   pub file-word : InWords d → (k : ℕ) → k < lies .end → wordIn (fileOf d) k ≡ parkedWord lies d k
-  file-word e k h = ap (λ (f : List ℕ). wordIn f k) (sym (append-nil (fileOf d))) ∙ row-word (parkedWord lies d) (lies .end) k [] h (word-below lies d e (links-below e) k)
+  file-word e k h = word-alone (parkedWord lies d) (lies .end) k h (word-below lies d e (links-below e) k)
 
   module _ (F : List Float) (ns : List Node) (t : List ℕ) (W : Writes d F ns t) (e : InWords d) where
     pub file-layout : layoutBy (wordIn (fileOf d)) ≡ lies
