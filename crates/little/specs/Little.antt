@@ -1,6 +1,6 @@
 -- Little-endian numbers and values in a string of bytes. Definitions only.
 use mathlib.Core.List.{List, [], _∷_}
-use Prim.Native.Nat.{ℕ, zero, suc, _+_, _*_, _/_, _%_}
+use Prim.Native.Nat.{ℕ, zero, suc, _+_, _*_, _/_, _%_, _<_}
 use lib.Ieee.{Float}
 use Rattle.laws.specs.Area.{num, bits}
 
@@ -21,3 +21,7 @@ wordIn f w = littleOf f (8 * w) 8
 unfoldable pub littleBytes : ℕ → ℕ → List ℕ
 littleBytes zero v = []
 littleBytes (suc n) v = v % 256 ∷ littleBytes n (v / 256)
+
+-- every element is below m, which is not 0 (past the end `num` gives 0): what memory gives of its bytes and words
+abbrev pub AllBelow : ℕ → List ℕ → Type 0
+AllBelow m l = (i : ℕ) → num l i < m
