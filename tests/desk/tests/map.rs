@@ -124,7 +124,7 @@ fn what_is_refused() {
     );
     assert_eq!(
         none.to_string(),
-        "refused 16: a record of the frame file is bad (record 3, counted from 0)"
+        "refused 16: a record of the file is bad (record 3, counted from 0)"
     );
     for number in 1..=17 {
         assert!(!Refusal(number).meaning().starts_with("no known"));

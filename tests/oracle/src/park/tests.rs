@@ -174,12 +174,15 @@ fn a_record_is_bad_exactly_where_no_file_goes_on() {
         for (record, areas) in small_runs(seed) {
             let mut bytes = file(&record, &areas);
             damage(&mut random, &mut bytes);
-            let Some(place) = bad(&bytes) else {
-                let mut read = other(&areas);
-                if let Ok(again) = unpark(&bytes, &mut read) {
-                    assert_eq!(file(&again, &read), bytes, "another run");
+            let place = match bad(&bytes) {
+                Some(place) => place,
+                None => {
+                    let mut read = other(&areas);
+                    if let Ok(again) = unpark(&bytes, &mut read) {
+                        assert_eq!(file(&again, &read), bytes, "another run");
+                    }
+                    continue;
                 }
-                continue;
             };
             *places.entry(place.min(9)).or_insert(0) += 1;
             let words = from_bytes(&bytes);
