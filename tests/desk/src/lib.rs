@@ -12,7 +12,7 @@ mod picture;
 mod refusal;
 mod run;
 
-pub use parking::{park, parked, parked_bytes, unpark, wake, PARKED_RECORD};
+pub use parking::{park, parked, parked_bytes, unpark, unpark_words, wake, PARKED_RECORD};
 pub use refusal::Refusal;
 pub use run::{
     divergence, prepare, sizes, work, Areas, Fault, Kind, Method, Node, Record, Rows, Settings, Sizes, State, Worked,

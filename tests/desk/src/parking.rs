@@ -51,13 +51,19 @@ pub fn park(record: &Record, areas: &Areas, target: &mut [u8]) -> Result<usize, 
 /// Refused, nothing has changed: 16 with the place of the first bad record, counted from 0; then 12 where an area is too short.
 pub fn unpark(file: &[u8], areas: &mut Areas) -> Result<Record, (Refusal, u64)> {
     let mut record = Record { words: [0; 14] };
+    unpark_words(file, &mut record.words, areas).map(|_| record)
+}
+
+/// The same with the record's words, fourteen or more, in an area of their own; how many records the file has. Fewer words are 12,
+/// as any other short area.
+pub fn unpark_words(file: &[u8], words: &mut [u64], areas: &mut Areas) -> Result<usize, (Refusal, u64)> {
     let mut answer = [0];
     let number = unsafe {
         library::brothanchor_unpark(
             file.as_ptr(),
             file.len(),
-            record.words.as_mut_ptr(),
-            record.words.len(),
+            words.as_mut_ptr(),
+            words.len(),
             areas.positions.as_mut_ptr(),
             areas.positions.len(),
             areas.increments.as_mut_ptr(),
@@ -78,9 +84,8 @@ pub fn unpark(file: &[u8], areas: &mut Areas) -> Result<Record, (Refusal, u64)> 
         )
     };
     let [word] = answer;
-    debug_assert!(number != 0 || word as usize == file.len() / PARKED_RECORD);
     Refusal::unless_0(number)
-        .map(|()| record)
+        .map(|()| word as usize)
         .map_err(|refusal| (refusal, word))
 }
 
