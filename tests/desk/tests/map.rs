@@ -1,7 +1,7 @@
 //! The map of a frame file: against the independent implementation of the rules, and what is said and drawn.
 
 use brothanchor::map::{map, map_in, settings, Map, NoMap, NoRun, Run, MOST_FRAMES, RECORD};
-use brothanchor::{sizes, Refusal};
+use brothanchor::{parked, prepare, sizes, work, Refusal, Settings};
 use oracle::descent::{self, Areas, Method, Rows, Standing};
 use oracle::divergence::divergence;
 use oracle::frames::fetch;
@@ -121,6 +121,32 @@ fn a_parked_run_gives_the_same_map() {
     let resumed = ended(Run::resume(&file, &parked).expect("what was parked"));
     assert_eq!(bits(&resumed.positions), bits(&whole.positions));
     assert_eq!((resumed.divergence, resumed.ending()), (None, whole.ending()));
+}
+
+#[test]
+fn an_exact_run_goes_on_too() {
+    let file = few(9);
+    let frames: Vec<_> = (0..9).filter_map(|i| fetch(&file, i)).collect();
+    let table: Vec<f64> = frames.iter().flat_map(|frame| frame.features).collect();
+    let start: Vec<f64> = frames.iter().flat_map(|frame| frame.starts).collect();
+    let settings = Settings {
+        method: brothanchor::Method::Exact,
+        ..settings(9, 260)
+    };
+    let sizes = sizes(&settings).expect("good settings");
+    let mut areas = brothanchor::Areas::new(&sizes, 0);
+    let mut rows = brothanchor::Rows::new(&sizes);
+    let mut record = prepare(&settings.words(), &table, &start, &mut areas, &mut rows).expect("a good run");
+    work(&mut record, &mut areas, 100 * settings.iteration() as u32);
+    let resumed =
+        ended(Run::resume(&file, &parked(&record, &areas).expect("after 100 iterations")).expect("what was parked"));
+    work(&mut record, &mut areas, u32::MAX);
+    assert_eq!(bits(&resumed.positions), bits(&areas.positions));
+    assert_eq!(
+        (resumed.record.iterations(), resumed.record.units()),
+        (record.iterations(), record.units())
+    );
+    assert!(resumed.divergence.is_some());
 }
 
 #[test]
