@@ -199,7 +199,7 @@ fn every_byte_of_small_files() {
     let mut met = Met::new();
     let values = setting("BROTHANCHOR_RUNS", 300) / 75;
     each_small(setting("BROTHANCHOR_SEED", 1), |random, both, mut file| {
-        let lent = lent(&both.areas, 1);
+        let (lent, tree) = (lent(&both.areas, 1), both.record.words[3]);
         for place in 0..file.len() {
             let byte = file[place];
             let others: Vec<u8> = (0..values).map(|_| random.word() as u8).collect();
@@ -208,12 +208,10 @@ fn every_byte_of_small_files() {
                 let told = read(&file, &lent, &mut met);
                 if told.0 == 16 {
                     let record = (place / PARKED_RECORD) as u64;
-                    // The links in record 2 say how long the lists are, and the frames how long all is: what does not fit
-                    // them comes later.
-                    assert!(
-                        told.1 == record || record < 3 && told.1 > record,
-                        "byte {place}: {told:?}"
-                    );
+                    // What stands in the first three says what comes later, and an offset that has grown is good where
+                    // it stands: the next one falls, in this record or in the one after it.
+                    let later = if record < 3 { u64::MAX } else { record + tree };
+                    assert!((record..=later).contains(&told.1), "byte {place}: {told:?}");
                 }
             }
             file[place] = byte;
