@@ -447,7 +447,7 @@ fn runs_that_are_parked_as_they_go() {
     assert!(missing.is_empty(), "never met: {missing:?}");
 }
 
-/// So many units by the library alone, with a longer arena where 14 comes; whether the run goes on.
+/// So many units by the library alone; nothing where it is refused.
 fn go_on(both: &mut Both, budget: u32) -> Option<brothanchor::Worked> {
     let worked = brothanchor::work(&mut both.record, &mut both.areas, budget);
     (number(&worked) == 0).then_some(worked)
@@ -581,7 +581,8 @@ fn full_nights(n: usize, iterations: usize) {
         minimum: 0.0,
     };
     let mut met = Met::new();
-    let case = Case::good(random, settings, 20 * n);
+    let nodes = brothanchor::sizes(&settings).expect("good settings").nodes;
+    let case = Case::good(random, settings, nodes);
     overnight(random, &case, iterations, &mut met);
     println!("{n} frames, {iterations} iterations: {met:?}");
     assert!(met.contains_key("BarnesHut, parked often"), "{met:?}");
