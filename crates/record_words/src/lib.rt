@@ -28,7 +28,7 @@ fn method_word(m: Method) -> u64
     }
 }
 
-fn standing_of(w: u64) -> Standing
+pub fn standing_of(w: u64) -> Standing
     ensures { λ s. ⌜ s ≡ standingOf w ⌝ }
 {
     if w == 0 {
