@@ -10,7 +10,7 @@ use run_record::Run;
 use run_record::Settings;
 use run_record::Standing;
 
-fn method_of(w: u64) -> Method
+pub fn method_of(w: u64) -> Method
     ensures { λ m. ⌜ m ≡ methodOf w ⌝ }
 {
     if w == 0 {

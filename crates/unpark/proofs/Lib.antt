@@ -1,0 +1,4 @@
+pub mod Lies
+pub mod Stands
+pub mod Heads
+pub mod Fetched

@@ -1,0 +1,41 @@
+use borrow.Author.Needs.{needs}
+use native.Mathlib.Omega.{arith}
+use borrow.Author.Needs.{needs}
+use Rattle.unpark.proofs.fetch.fetch_state.Statement.{statement}
+use Rattle.unpark.proofs.fetch.fetch_state.Tie as tie
+use Rattle.unpark.proofs.fetch.fetch_state.Reads as reads
+use Rattle.unpark.proofs.fetch.fetch_state.Lts as lts
+use Rattle.unpark.proofs.fetch.fetch_words.Reads as fetch-words-reads
+
+fetch-words-requires : tie.Need-fetch-words-requires
+fetch-words-requires c κs = search needs
+
+fetch-words-requires-2 : tie.Need-fetch-words-requires-2
+fetch-words-requires-2 c κs = search needs
+
+fetch-words-requires-3 : tie.Need-fetch-words-requires-3
+fetch-words-requires-3 c κs = search needs
+
+same-length : tie.Need-same-length
+same-length c = search needs
+
+same-length-2 : tie.Need-same-length-2
+same-length-2 c = search needs
+
+same-length-3 : tie.Need-same-length-3
+same-length-3 c = search needs
+
+returns : tie.Need-returns
+returns c = search needs
+
+pub fetch-state-spec : {M : Type 1} → statement M
+fetch-state-spec =
+    tie.close
+    (tie.spec
+    fetch-words-requires
+    fetch-words-requires-2
+    fetch-words-requires-3
+    same-length
+    same-length-2
+    same-length-3
+    returns)
