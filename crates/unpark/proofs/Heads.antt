@@ -84,6 +84,7 @@ second-in m n p r i a e =
 pub record ThirdIn (m n perplexity iterations minimum done state links : ℕ) : Type 0 where
   pub state-fits : stateFits (standingOf state) done iterations 0 (bits minimum) ≡ true
   pub links-in : links ≤ 2 * n * neighboursOf (bits perplexity) n
+  pub links-none : eqb m 1 ≡ false → links ≡ 0
 
 pub third-in : (m n p i e d s k : ℕ) → thirdFine m n p i e d s k ≡ true → ThirdIn m n p i e d s k
 unfolding thirdFine
@@ -91,7 +92,7 @@ third-in m n p i e d s k h =
     let A = leb s 2 in
     let B = stateFits (standingOf s) d i 0 (bits e) in
     let C = cond (eqb m 1) (leb k (2 * n * neighboursOf (bits p) n)) (eqb k 0) in
-    record { state-fits = and-right A B (and-left (A && B) C h); links-in = few (eqb m 1) (and-right (A && B) C h) }
+    record { state-fits = and-right A B (and-left (A && B) C h); links-in = few (eqb m 1) (and-right (A && B) C h); links-none = λ t. eqb-true k 0 (sym (ap (λ (b : Bool). cond b (leb k (2 * n * neighboursOf (bits p) n)) (eqb k 0)) t) ∙ and-right (A && B) C h) }
   where
     few : (b : Bool) → cond b (leb k (2 * n * neighboursOf (bits p) n)) (eqb k 0) ≡ true → k ≤ 2 * n * neighboursOf (bits p) n
     few true q = leb-true k (2 * n * neighboursOf (bits p) n) q

@@ -1,4 +1,6 @@
 pub mod Lies
-pub mod Stands
 pub mod Heads
+pub mod Stands
 pub mod Fetched
+pub mod Spans
+pub mod Outcomes

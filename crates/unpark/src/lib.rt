@@ -7,8 +7,15 @@ ghost use Rattle.areas.specs.Filled.{filled};
 ghost use Rattle.little.specs.Little.{wordIn};
 ghost use Rattle.run_record.specs.Record.{sizesOf};
 ghost use Rattle.parked.specs.Parked.{stored};
-ghost use Rattle.unpark.specs.Unpark.{isParked, settingsRead, storedRead, unparking, unparkOf, unparkNumber};
-ghost use Rattle.unpark.specs.Steps.{roomFor};
+ghost use Rattle.unpark.specs.Unpark.{isParked, settingsRead, storedRead, hasRoom, unparking, unparkOf, unparkNumber};
+use crate::fetch::fetch_lists;
+use crate::fetch::fetch_state;
+use crate::head::has_room;
+use crate::head::layout_read;
+use crate::head::settings_read;
+use crate::record::put_record;
+use crate::records::judge;
+use run_record::faults::sizes_of;
 
 mod fetch;
 mod head;
@@ -42,4 +49,111 @@ pub fn number(a: Unparked) -> u8
         Unparked::Bad(_) => 16,
         Unparked::Short => 12,
     }
+}
+
+// Record and areas as the file has them; the forces are zero.
+fn read_in(
+    file: &[u8],
+    words: &mut [u64],
+    positions: &mut [u64],
+    increments: &mut [u64],
+    gains: &mut [u64],
+    affinities: &mut [u64],
+    indices: &mut [u32],
+    offsets: &mut [u32],
+    forces: &mut [f64],
+    nodes: usize,
+)
+    requires { ⌜ (isParked (now file) ≡ true) × (hasRoom (wordIn (now file)) (stored (now words)
+        (now positions)
+        (now increments)
+        (now gains)
+        (now affinities)
+        (now indices)
+        (now offsets)) (length (now forces)) nodes ≡ true) ⌝ }
+    ensures { λ _. ⌜ stored (now (words .exit))
+        (now (positions .exit))
+        (now (increments .exit))
+        (now (gains .exit))
+        (now (affinities .exit))
+        (now (indices .exit))
+        (now (offsets .exit)) ≡ storedRead (wordIn (now (file .entry))) (stored (now (words .entry))
+        (now (positions .entry))
+        (now (increments .entry))
+        (now (gains .entry))
+        (now (affinities .entry))
+        (now (indices .entry))
+        (now (offsets .entry))) ⌝ }
+    ensures { λ _. ⌜ now (forces .exit) ≡ filled zero64 (sizesOf (settingsRead (wordIn (now (file .entry)))) .forces) (now (forces .entry)) ⌝ }
+{
+    let l = layout_read(file);
+    let s = settings_read(file);
+    let z = sizes_of(s);
+    put_record(words, file);
+    fetch_state(file, l, positions, increments, gains);
+    fetch_lists(file, l, affinities, indices, offsets);
+    areas::fill(forces, z.forces, 0.0);
+}
+
+// Reads a parked run: takes any file and any areas. Of the arena it asks only how many nodes it has.
+pub fn unpark(
+    file: &[u8],
+    words: &mut [u64],
+    positions: &mut [u64],
+    increments: &mut [u64],
+    gains: &mut [u64],
+    affinities: &mut [u64],
+    indices: &mut [u32],
+    offsets: &mut [u32],
+    forces: &mut [f64],
+    nodes: usize,
+) -> Unparked
+    ensures { λ a. ⌜ unparking a (stored (now (words .exit))
+        (now (positions .exit))
+        (now (increments .exit))
+        (now (gains .exit))
+        (now (affinities .exit))
+        (now (indices .exit))
+        (now (offsets .exit)))
+        (now (forces .exit)) ≡ unparkOf (now (file .entry)) (stored (now (words .entry))
+        (now (positions .entry))
+        (now (increments .entry))
+        (now (gains .entry))
+        (now (affinities .entry))
+        (now (indices .entry))
+        (now (offsets .entry)))
+        (now (forces .entry))
+        nodes ⌝ }
+{
+    let v = judge(file);
+    if !v.parked {
+        return Unparked::Bad(v.at);
+    }
+    if !has_room(
+        file,
+        words.len(),
+        positions.len(),
+        increments.len(),
+        gains.len(),
+        affinities.len(),
+        indices.len(),
+        offsets.len(),
+        forces.len(),
+        nodes,
+    ) {
+        return Unparked::Short;
+    }
+    read_in(
+        file,
+        words,
+        positions,
+        increments,
+        gains,
+        affinities,
+        indices,
+        offsets,
+        forces,
+        nodes,
+    );
+    Unparked::Read(v.at)
 }

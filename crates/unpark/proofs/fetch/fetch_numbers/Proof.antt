@@ -29,7 +29,7 @@ word-requires : tie.Need-word-requires Inv-loop μ-loop
 word-requires c κs = search needs
 
 cast-area : tie.Need-cast-area Inv-loop μ-loop
-cast-area c = rw (c .word .ensures) (c .before .before .before .before .before .pre .2 _ (c .before .loop-test .taken))
+cast-area c = rw (c .word .ensures) (omega (arith, c .before .before .before .before .before .pre .2 _ (c .before .loop-test .taken)))
 
 mul-area : tie.Need-mul-area Inv-loop μ-loop
 mul-area c = search needs

@@ -1,3 +1,8 @@
+use Rattle.unpark.proofs.Heads.{good-settings}
+use Rattle.unpark.proofs.Stands.{head-good, head-long, parked-head}
+use mathlib.Core.Bool.{_&&_}
+use borrow.Author.Tests.{le-leb, lt-leb}
+use mathlib.Core.Path.{sym, ap, _∙_}
 use borrow.Author.Needs.{needs}
 use native.Mathlib.Omega.{arith}
 use Rattle.unpark.proofs.head.has_room.Statement.{statement}
@@ -8,16 +13,16 @@ use Rattle.run_entry.proofs.areas_fit.Reads as areas-fit-reads
 use Rattle.unpark.proofs.head.settings_read.Reads as settings-read-reads
 
 returns : tie.Need-returns
-returns c = search needs
+returns c = rw (lt-leb 14 _ (c .if1 .taken))
 
 settings-read-requires : tie.Need-settings-read-requires
-settings-read-requires c κs = search needs
+settings-read-requires c κs = head-long _ (parked-head _ (c .before .before .pre))
 
 areas-fit-requires : tie.Need-areas-fit-requires
-areas-fit-requires c κs = search needs
+areas-fit-requires c κs = rw (c .settings-read .ensures) (good-settings _ (head-good _ (parked-head _ (c .before .before .before .pre))))
 
 returns-2 : tie.Need-returns-2
-returns-2 c = search needs
+returns-2 c = rw (c .areas-fit .ensures, c .before .settings-read .ensures, le-leb 14 _ (c .before .before .if1 .left))
 
 pub has-room-spec : {M : Type 1} → statement M
 has-room-spec = tie.close (tie.spec returns settings-read-requires areas-fit-requires returns-2)

@@ -20,7 +20,7 @@ same-length : tie.Need-same-length
 same-length c = search needs
 
 returns : tie.Need-returns
-returns c = rw (c .before .before .put-counters .ensures, c .before .before .before .before .before .before .put-settings .ensures) (record-told _ _ (c .before .before .before .before .before .before .before .before .before .before .pre .0))
+returns c = rw (c .before .before .put-counters .ensures, c .before .before .before .before .before .before .put-settings .ensures) (record-told (c .before .before .before .before .before .before .before .before .before .before .args .words .now) _ (c .before .before .before .before .before .before .before .before .before .before .pre .0))
 
 pub put-record-spec : {M : Type 1} → statement M
 put-record-spec =
