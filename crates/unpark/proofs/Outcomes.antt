@@ -55,21 +55,21 @@ module _ (f : List ℕ) (d : Stored) (F nodes : ℕ) (e : hasRoom (wordIn f) d F
 
 -- ---- the three answers
 
-module _ (f : List ℕ) (d : Stored) (F : List Float) (nodes : ℕ) (v : Verdict) (e : v ≡ verdictOf f) where
-  pub said : (b : Bool) → v .parked ≡ b → isParked f ≡ b
-  said b h = sym (ap (λ (y : Verdict). y .parked) e) ∙ h
+pub said : (f : List ℕ) (v : Verdict) → v ≡ verdictOf f → (b : Bool) → v .parked ≡ b → isParked f ≡ b
+said f v e b h = sym (ap (λ (y : Verdict). y .parked) e) ∙ h
 
+module _ (f : List ℕ) (d : Stored) (F : List Float) (nodes : ℕ) (v : Verdict) (e : v ≡ verdictOf f) where
   pub out-bad : v .parked ≡ false → unparking (Bad (v .at)) d F ≡ unparkOf f d F nodes
   unfolding unparkOf
-  out-bad h = rw (said false h, ap (λ (y : Verdict). y .at) e)
+  out-bad h = rw (said f v e false h, ap (λ (y : Verdict). y .at) e)
 
   pub out-short : v .parked ≡ true → hasRoom (wordIn f) d (length F) nodes ≡ false → unparking Short d F ≡ unparkOf f d F nodes
   unfolding unparkOf
-  out-short h r = rw (said true h, r)
+  out-short h r = rw (said f v e true h, r)
 
   pub out-read : (d' : Stored) (F' : List Float) → v .parked ≡ true → hasRoom (wordIn f) d (length F) nodes ≡ true →
       d' ≡ storedRead (wordIn f) d →
       F' ≡ filled zero64 (sizesOf (settingsRead (wordIn f)) .forces) F →
       unparking (Read (v .at)) d' F' ≡ unparkOf f d F nodes
   unfolding unparkOf
-  out-read d' F' h r a b = rw (said true h, r, a, b, ap (λ (y : Verdict). y .at) e ∙ parked-all f (said true h))
+  out-read d' F' h r a b = rw (said f v e true h, r, a, b, ap (λ (y : Verdict). y .at) e ∙ parked-all f (said f v e true h))

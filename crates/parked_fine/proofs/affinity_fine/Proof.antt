@@ -1,16 +1,8 @@
 use Rattle.parked.specs.Fine.{affinityFine}
-use mathlib.Core.Path.{_≡_, refl, sym, ap, _∙_}
-use borrow.Author.Tests.{eq-eqb, ne-eqb, lt-ltb, le-ltb, le-leb, lt-leb, not-true, not-false}
-use borrow.Author.Needs.{needs}
-use native.Mathlib.Omega.{arith}
+use borrow.Author.Tests.{lt-ltb, le-ltb}
 use borrow.Author.Needs.{needs}
 use Rattle.parked_fine.proofs.affinity_fine.Statement.{statement}
 use Rattle.parked_fine.proofs.affinity_fine.Tie as tie
-use Rattle.parked_fine.proofs.affinity_fine.Reads as reads
-use Rattle.parked_fine.proofs.affinity_fine.Lts as lts
-use Rattle.parked_fine.proofs.held_fits.Reads as held-fits-reads
-use Rattle.parked_fine.proofs.index_fits.Reads as index-fits-reads
-use Rattle.parked_fine.proofs.weight_fits.Reads as weight-fits-reads
 
 held-fits-requires : tie.Need-held-fits-requires
 held-fits-requires c κs = search needs

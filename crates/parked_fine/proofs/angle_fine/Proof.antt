@@ -1,14 +1,7 @@
-use mathlib.Core.Path.{_≡_, refl, sym, ap, _∙_}
-use borrow.Author.Tests.{eq-eqb, ne-eqb, lt-ltb, le-ltb, le-leb, lt-leb, not-true, not-false}
-use borrow.Author.Needs.{needs}
-use native.Mathlib.Omega.{arith}
+use borrow.Author.Tests.{eq-eqb, ne-eqb}
 use borrow.Author.Needs.{needs}
 use Rattle.parked_fine.proofs.angle_fine.Statement.{statement}
 use Rattle.parked_fine.proofs.angle_fine.Tie as tie
-use Rattle.parked_fine.proofs.angle_fine.Reads as reads
-use Rattle.parked_fine.proofs.angle_fine.Lts as lts
-use Rattle.elementary.proofs.value_of.Reads as value-of-reads
-use Rattle.run_record.proofs.faults.is_inside.Reads as is-inside-reads
 
 value-of-requires : tie.Need-value-of-requires
 value-of-requires c κs = search needs

@@ -1,15 +1,9 @@
 use Rattle.parked.specs.Fine.{firstFine}
-use mathlib.Core.Path.{_≡_, refl, sym, ap, _∙_}
-use borrow.Author.Tests.{eq-eqb, ne-eqb, lt-ltb, le-ltb, le-leb, lt-leb, not-true, not-false}
-use borrow.Author.Needs.{needs}
-use native.Mathlib.Omega.{arith}
+use mathlib.Core.Path.{sym, _∙_}
+use borrow.Author.Tests.{le-leb, lt-leb, not-true, not-false}
 use borrow.Author.Needs.{needs}
 use Rattle.parked_fine.proofs.first_fine.Statement.{statement}
 use Rattle.parked_fine.proofs.first_fine.Tie as tie
-use Rattle.parked_fine.proofs.first_fine.Reads as reads
-use Rattle.parked_fine.proofs.first_fine.Lts as lts
-use Rattle.parked_fine.proofs.in_range.Reads as in-range-reads
-use Rattle.parked_fine.proofs.most_components.Reads as most-components-reads
 
 returns : tie.Need-returns
 unfolding firstFine

@@ -1,15 +1,8 @@
 use Rattle.parked.specs.Fine.{heldFits}
-use mathlib.Core.Path.{_≡_, refl, sym, ap, _∙_}
-use borrow.Author.Tests.{eq-eqb, ne-eqb, lt-ltb, le-ltb, le-leb, lt-leb, not-true, not-false}
-use borrow.Author.Needs.{needs}
-use native.Mathlib.Omega.{arith}
+use borrow.Author.Tests.{lt-ltb, le-ltb}
 use borrow.Author.Needs.{needs}
 use Rattle.parked_fine.proofs.held_fits.Statement.{statement}
 use Rattle.parked_fine.proofs.held_fits.Tie as tie
-use Rattle.parked_fine.proofs.held_fits.Reads as reads
-use Rattle.parked_fine.proofs.held_fits.Lts as lts
-use Rattle.parked_fine.proofs.is_filling.Reads as is-filling-reads
-use Rattle.parked_fine.proofs.offset_fits.Reads as offset-fits-reads
 
 sub-k : tie.Need-sub-k
 sub-k c = search needs

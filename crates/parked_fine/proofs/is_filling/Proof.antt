@@ -1,13 +1,6 @@
-use mathlib.Core.Path.{_≡_, refl, sym, ap, _∙_}
-use borrow.Author.Tests.{eq-eqb, ne-eqb, lt-ltb, le-ltb, le-leb, lt-leb, not-true, not-false}
-use borrow.Author.Needs.{needs}
-use native.Mathlib.Omega.{arith}
 use borrow.Author.Needs.{needs}
 use Rattle.parked_fine.proofs.is_filling.Statement.{statement}
 use Rattle.parked_fine.proofs.is_filling.Tie as tie
-use Rattle.parked_fine.proofs.is_filling.Reads as reads
-use Rattle.parked_fine.proofs.is_filling.Lts as lts
-use Rattle.little.proofs.word.Reads as word-reads
 
 mul-word : tie.Need-mul-word
 mul-word c = search needs

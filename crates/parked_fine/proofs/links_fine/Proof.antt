@@ -1,15 +1,9 @@
 use Rattle.parked_fine.proofs.Laws.{links-most}
-use mathlib.Core.Path.{_≡_, refl, sym, ap, _∙_}
-use borrow.Author.Tests.{eq-eqb, ne-eqb, lt-ltb, le-ltb, le-leb, lt-leb, not-true, not-false}
+use borrow.Author.Tests.{eq-eqb, ne-eqb}
 use borrow.Author.Needs.{needs}
 use native.Mathlib.Omega.{arith}
-use borrow.Author.Needs.{needs}
 use Rattle.parked_fine.proofs.links_fine.Statement.{statement}
 use Rattle.parked_fine.proofs.links_fine.Tie as tie
-use Rattle.parked_fine.proofs.links_fine.Reads as reads
-use Rattle.parked_fine.proofs.links_fine.Lts as lts
-use Rattle.elementary.proofs.neighbours.Reads as neighbours-reads
-use Rattle.elementary.proofs.value_of.Reads as value-of-reads
 
 value-of-requires : tie.Need-value-of-requires
 value-of-requires c κs = search needs

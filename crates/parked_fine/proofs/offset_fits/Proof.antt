@@ -1,14 +1,8 @@
 use Rattle.parked.specs.Fine.{offsetFits}
-use mathlib.Core.Path.{_≡_, refl, sym, ap, _∙_}
-use borrow.Author.Tests.{eq-eqb, ne-eqb, lt-ltb, le-ltb, le-leb, lt-leb, not-true, not-false}
-use borrow.Author.Needs.{needs}
-use native.Mathlib.Omega.{arith}
+use borrow.Author.Tests.{eq-eqb, ne-eqb, le-leb, lt-leb}
 use borrow.Author.Needs.{needs}
 use Rattle.parked_fine.proofs.offset_fits.Statement.{statement}
 use Rattle.parked_fine.proofs.offset_fits.Tie as tie
-use Rattle.parked_fine.proofs.offset_fits.Reads as reads
-use Rattle.parked_fine.proofs.offset_fits.Lts as lts
-use Rattle.little.proofs.word.Reads as word-reads
 
 mul-word : tie.Need-mul-word
 mul-word c = search needs

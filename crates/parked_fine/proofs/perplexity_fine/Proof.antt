@@ -1,18 +1,12 @@
 use lib.Ieee.{inFloat}
 use lib.Dec.{le→leb}
 use Prim.Native.Nat.{_^_}
-use mathlib.Core.Path.{_≡_, refl, sym, ap, _∙_}
-use borrow.Author.Tests.{eq-eqb, ne-eqb, lt-ltb, le-ltb, le-leb, lt-leb, not-true, not-false}
+use mathlib.Core.Path.{sym, _∙_}
+use borrow.Author.Tests.{not-true, not-false}
 use borrow.Author.Needs.{needs}
 use native.Mathlib.Omega.{arith}
-use borrow.Author.Needs.{needs}
 use Rattle.parked_fine.proofs.perplexity_fine.Statement.{statement}
 use Rattle.parked_fine.proofs.perplexity_fine.Tie as tie
-use Rattle.parked_fine.proofs.perplexity_fine.Reads as reads
-use Rattle.parked_fine.proofs.perplexity_fine.Lts as lts
-use Rattle.elementary.proofs.value_of.Reads as value-of-reads
-use Rattle.run_record.proofs.faults.is_below.Reads as is-below-reads
-use Rattle.run_record.proofs.faults.is_positive.Reads as is-positive-reads
 
 value-of-requires : tie.Need-value-of-requires
 value-of-requires c κs = search needs

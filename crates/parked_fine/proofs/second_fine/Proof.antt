@@ -1,18 +1,9 @@
 use Rattle.parked.specs.Fine.{secondFine}
-use mathlib.Core.Path.{_≡_, refl, sym, ap, _∙_}
-use borrow.Author.Tests.{eq-eqb, ne-eqb, lt-ltb, le-ltb, le-leb, lt-leb, not-true, not-false}
-use borrow.Author.Needs.{needs}
-use native.Mathlib.Omega.{arith}
+use mathlib.Core.Path.{sym, _∙_}
+use borrow.Author.Tests.{not-true, not-false}
 use borrow.Author.Needs.{needs}
 use Rattle.parked_fine.proofs.second_fine.Statement.{statement}
 use Rattle.parked_fine.proofs.second_fine.Tie as tie
-use Rattle.parked_fine.proofs.second_fine.Reads as reads
-use Rattle.parked_fine.proofs.second_fine.Lts as lts
-use Rattle.elementary.proofs.value_of.Reads as value-of-reads
-use Rattle.parked_fine.proofs.angle_fine.Reads as angle-fine-reads
-use Rattle.parked_fine.proofs.in_range.Reads as in-range-reads
-use Rattle.parked_fine.proofs.perplexity_fine.Reads as perplexity-fine-reads
-use Rattle.run_record.proofs.faults.is_positive.Reads as is-positive-reads
 
 perplexity-fine-requires : tie.Need-perplexity-fine-requires
 perplexity-fine-requires c κs = search needs

@@ -1,14 +1,8 @@
 use Rattle.parked.specs.Fine.{stateFine}
-use mathlib.Core.Path.{_≡_, refl, sym, ap, _∙_}
-use borrow.Author.Tests.{eq-eqb, ne-eqb, lt-ltb, le-ltb, le-leb, lt-leb, not-true, not-false}
-use borrow.Author.Needs.{needs}
-use native.Mathlib.Omega.{arith}
+use borrow.Author.Tests.{lt-ltb, le-ltb}
 use borrow.Author.Needs.{needs}
 use Rattle.parked_fine.proofs.state_fine.Statement.{statement}
 use Rattle.parked_fine.proofs.state_fine.Tie as tie
-use Rattle.parked_fine.proofs.state_fine.Reads as reads
-use Rattle.parked_fine.proofs.state_fine.Lts as lts
-use Rattle.parked_fine.proofs.value_fits.Reads as value-fits-reads
 
 value-fits-requires : tie.Need-value-fits-requires
 value-fits-requires c κs = search needs

@@ -1,17 +1,9 @@
 use Rattle.parked.specs.Fine.{thirdFine}
-use mathlib.Core.Path.{_≡_, refl, sym, ap, _∙_}
-use borrow.Author.Tests.{eq-eqb, ne-eqb, lt-ltb, le-ltb, le-leb, lt-leb, not-true, not-false}
-use borrow.Author.Needs.{needs}
-use native.Mathlib.Omega.{arith}
+use mathlib.Core.Path.{sym, _∙_}
+use borrow.Author.Tests.{le-leb, lt-leb, not-true, not-false}
 use borrow.Author.Needs.{needs}
 use Rattle.parked_fine.proofs.third_fine.Statement.{statement}
 use Rattle.parked_fine.proofs.third_fine.Tie as tie
-use Rattle.parked_fine.proofs.third_fine.Reads as reads
-use Rattle.parked_fine.proofs.third_fine.Lts as lts
-use Rattle.elementary.proofs.value_of.Reads as value-of-reads
-use Rattle.parked_fine.proofs.links_fine.Reads as links-fine-reads
-use Rattle.record_words.proofs.standing_of.Reads as standing-of-reads
-use Rattle.run_record.proofs.counters.state_fits.Reads as state-fits-reads
 
 returns : tie.Need-returns
 unfolding thirdFine

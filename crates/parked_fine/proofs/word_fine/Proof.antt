@@ -1,15 +1,8 @@
 use Rattle.parked.specs.Fine.{wordFine}
-use mathlib.Core.Path.{_≡_, refl, sym, ap, _∙_}
-use borrow.Author.Tests.{eq-eqb, ne-eqb, lt-ltb, le-ltb, le-leb, lt-leb, not-true, not-false}
-use borrow.Author.Needs.{needs}
-use native.Mathlib.Omega.{arith}
+use borrow.Author.Tests.{lt-ltb, le-ltb}
 use borrow.Author.Needs.{needs}
 use Rattle.parked_fine.proofs.word_fine.Statement.{statement}
 use Rattle.parked_fine.proofs.word_fine.Tie as tie
-use Rattle.parked_fine.proofs.word_fine.Reads as reads
-use Rattle.parked_fine.proofs.word_fine.Lts as lts
-use Rattle.parked_fine.proofs.affinity_fine.Reads as affinity-fine-reads
-use Rattle.parked_fine.proofs.state_fine.Reads as state-fine-reads
 
 state-fine-requires : tie.Need-state-fine-requires
 state-fine-requires c κs = search needs

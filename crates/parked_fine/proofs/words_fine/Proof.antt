@@ -10,9 +10,6 @@ use borrow.Author.Needs.{needs}
 use native.Mathlib.Omega.{arith}
 use Rattle.parked_fine.proofs.words_fine.Statement.{statement}
 use Rattle.parked_fine.proofs.words_fine.Tie as tie
-use Rattle.parked_fine.proofs.words_fine.Reads as reads
-use Rattle.parked_fine.proofs.words_fine.Lts as lts
-use Rattle.parked_fine.proofs.word_fine.Reads as word-fine-reads
 
 abbrev Inv-loop : tie.InvT-loop
 Inv-loop file l q k₀ k = (k ≤ 4) × (every (λ j. wordFine (wordIn file) l (4 * q + j)) k ≡ true)

@@ -1,11 +1,7 @@
 use Rattle.unpark.specs.Unpark.{unparkNumber}
 use borrow.Author.Needs.{needs}
-use native.Mathlib.Omega.{arith}
-use borrow.Author.Needs.{needs}
 use Rattle.unpark.proofs.number.Statement.{statement}
 use Rattle.unpark.proofs.number.Tie as tie
-use Rattle.unpark.proofs.number.Reads as reads
-use Rattle.unpark.proofs.number.Lts as lts
 
 enum-told : tie.Need-enum-told
 enum-told c = search needs

@@ -2,14 +2,8 @@ use mathlib.Core.Path.{refl}
 use Rattle.unpark.specs.Unpark.{weightsRead, offsetsRead}
 use Rattle.unpark.proofs.Spans.{spans, narrow-indices, narrow-offsets}
 use borrow.Author.Needs.{needs}
-use native.Mathlib.Omega.{arith}
-use borrow.Author.Needs.{needs}
 use Rattle.unpark.proofs.fetch.fetch_lists.Statement.{statement}
 use Rattle.unpark.proofs.fetch.fetch_lists.Tie as tie
-use Rattle.unpark.proofs.fetch.fetch_lists.Reads as reads
-use Rattle.unpark.proofs.fetch.fetch_lists.Lts as lts
-use Rattle.unpark.proofs.fetch.fetch_numbers.Reads as fetch-numbers-reads
-use Rattle.unpark.proofs.fetch.fetch_words.Reads as fetch-words-reads
 
 fetch-numbers-requires : tie.Need-fetch-numbers-requires
 fetch-numbers-requires c κs = (c .before .before .before .before .before .pre .2 .indices-long, (spans _ (c .before .before .before .before .before .pre .0) _ (c .before .before .before .before .before .pre .1)) .indices, narrow-indices _ (c .before .before .before .before .before .pre .0) _ (c .before .before .before .before .before .pre .1))

@@ -6,9 +6,6 @@ use borrow.Author.Needs.{needs}
 use native.Mathlib.Omega.{arith}
 use Rattle.unpark.proofs.fetch.fetch_numbers.Statement.{statement}
 use Rattle.unpark.proofs.fetch.fetch_numbers.Tie as tie
-use Rattle.unpark.proofs.fetch.fetch_numbers.Reads as reads
-use Rattle.unpark.proofs.fetch.fetch_numbers.Lts as lts
-use Rattle.little.proofs.word.Reads as word-reads
 
 abbrev Inv-loop : tie.InvT-loop
 Inv-loop area₀ file b m i₀ area i = Fetches (λ k. wordIn file (b + k)) m area₀ i area

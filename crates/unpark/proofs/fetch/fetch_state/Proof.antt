@@ -1,12 +1,7 @@
 use Rattle.unpark.proofs.Spans.{spans}
 use borrow.Author.Needs.{needs}
-use native.Mathlib.Omega.{arith}
-use borrow.Author.Needs.{needs}
 use Rattle.unpark.proofs.fetch.fetch_state.Statement.{statement}
 use Rattle.unpark.proofs.fetch.fetch_state.Tie as tie
-use Rattle.unpark.proofs.fetch.fetch_state.Reads as reads
-use Rattle.unpark.proofs.fetch.fetch_state.Lts as lts
-use Rattle.unpark.proofs.fetch.fetch_words.Reads as fetch-words-reads
 
 fetch-words-requires : tie.Need-fetch-words-requires
 fetch-words-requires c κs = (c .before .before .before .before .before .pre .2, (spans _ (c .before .before .before .before .before .pre .0) _ (c .before .before .before .before .before .pre .1)) .positions)

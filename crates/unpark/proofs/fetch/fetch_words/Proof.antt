@@ -3,12 +3,8 @@ use Rattle.unpark.specs.Unpark.{fetched}
 use Rattle.little.specs.Little.{wordIn}
 use Prim.Native.Nat.{_+_, _-_}
 use borrow.Author.Needs.{needs}
-use native.Mathlib.Omega.{arith}
 use Rattle.unpark.proofs.fetch.fetch_words.Statement.{statement}
 use Rattle.unpark.proofs.fetch.fetch_words.Tie as tie
-use Rattle.unpark.proofs.fetch.fetch_words.Reads as reads
-use Rattle.unpark.proofs.fetch.fetch_words.Lts as lts
-use Rattle.little.proofs.word.Reads as word-reads
 
 abbrev Inv-loop : tie.InvT-loop
 Inv-loop area₀ file b m i₀ area i = Fetches (λ k. wordIn file (b + k)) m area₀ i area

@@ -1,14 +1,8 @@
 use Rattle.unpark.proofs.Stands.{missing, there, first-is}
-use mathlib.Core.Path.{sym, ap, _∙_}
-use borrow.Author.Needs.{needs}
-use native.Mathlib.Omega.{arith}
+use mathlib.Core.Path.{sym, _∙_}
 use borrow.Author.Needs.{needs}
 use Rattle.unpark.proofs.head.first_stands.Statement.{statement}
 use Rattle.unpark.proofs.head.first_stands.Tie as tie
-use Rattle.unpark.proofs.head.first_stands.Reads as reads
-use Rattle.unpark.proofs.head.first_stands.Lts as lts
-use Rattle.little.proofs.word.Reads as word-reads
-use Rattle.parked_fine.proofs.first_fine.Reads as first-fine-reads
 
 returns : tie.Need-returns
 returns c = sym (missing _ 0 (c .if1 .taken))

@@ -1,16 +1,8 @@
 use Rattle.unpark.proofs.Heads.{good-settings}
 use Rattle.unpark.proofs.Stands.{head-good, head-long, parked-head}
-use mathlib.Core.Bool.{_&&_}
 use borrow.Author.Tests.{le-leb, lt-leb}
-use mathlib.Core.Path.{sym, ap, _∙_}
-use borrow.Author.Needs.{needs}
-use native.Mathlib.Omega.{arith}
 use Rattle.unpark.proofs.head.has_room.Statement.{statement}
 use Rattle.unpark.proofs.head.has_room.Tie as tie
-use Rattle.unpark.proofs.head.has_room.Reads as reads
-use Rattle.unpark.proofs.head.has_room.Lts as lts
-use Rattle.run_entry.proofs.areas_fit.Reads as areas-fit-reads
-use Rattle.unpark.proofs.head.settings_read.Reads as settings-read-reads
 
 returns : tie.Need-returns
 returns c = rw (lt-leb 14 _ (c .if1 .taken))

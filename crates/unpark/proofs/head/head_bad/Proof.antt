@@ -1,16 +1,9 @@
 use Rattle.unpark.proofs.Stands.{head-first, head-second, head-third, head-all}
 use borrow.Author.Tests.{not-true, not-false}
-use mathlib.Core.Path.{sym, ap, _∙_}
-use borrow.Author.Needs.{needs}
-use native.Mathlib.Omega.{arith}
+use mathlib.Core.Path.{sym, _∙_}
 use borrow.Author.Needs.{needs}
 use Rattle.unpark.proofs.head.head_bad.Statement.{statement}
 use Rattle.unpark.proofs.head.head_bad.Tie as tie
-use Rattle.unpark.proofs.head.head_bad.Reads as reads
-use Rattle.unpark.proofs.head.head_bad.Lts as lts
-use Rattle.unpark.proofs.head.first_stands.Reads as first-stands-reads
-use Rattle.unpark.proofs.head.second_stands.Reads as second-stands-reads
-use Rattle.unpark.proofs.head.third_stands.Reads as third-stands-reads
 
 first-stands-requires : tie.Need-first-stands-requires
 first-stands-requires c κs = search needs

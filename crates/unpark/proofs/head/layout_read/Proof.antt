@@ -1,14 +1,9 @@
 use Rattle.parked.specs.Fine.{layoutBy}
 use Rattle.unpark.proofs.Heads.{components-most, links-few}
 use Rattle.unpark.proofs.Stands.{head-good, head-long}
-use borrow.Author.Needs.{needs}
 use native.Mathlib.Omega.{arith}
 use Rattle.unpark.proofs.head.layout_read.Statement.{statement}
 use Rattle.unpark.proofs.head.layout_read.Tie as tie
-use Rattle.unpark.proofs.head.layout_read.Reads as reads
-use Rattle.unpark.proofs.head.layout_read.Lts as lts
-use Rattle.little.proofs.word.Reads as word-reads
-use Rattle.parked.proofs.layout_of.Reads as layout-of-reads
 
 word-requires : tie.Need-word-requires
 word-requires c κs = omega (arith, head-long _ (c .before .pre))

@@ -1,15 +1,9 @@
 use Rattle.unpark.proofs.Heads.{first-in}
 use Rattle.unpark.proofs.Stands.{missing, there, second-is, stands-first}
-use mathlib.Core.Path.{sym, ap, _∙_}
-use borrow.Author.Needs.{needs}
-use native.Mathlib.Omega.{arith}
+use mathlib.Core.Path.{sym, _∙_}
 use borrow.Author.Needs.{needs}
 use Rattle.unpark.proofs.head.second_stands.Statement.{statement}
 use Rattle.unpark.proofs.head.second_stands.Tie as tie
-use Rattle.unpark.proofs.head.second_stands.Reads as reads
-use Rattle.unpark.proofs.head.second_stands.Lts as lts
-use Rattle.little.proofs.word.Reads as word-reads
-use Rattle.parked_fine.proofs.second_fine.Reads as second-fine-reads
 
 returns : tie.Need-returns
 returns c = sym (missing _ 1 (c .if1 .taken))

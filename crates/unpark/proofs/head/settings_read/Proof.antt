@@ -1,15 +1,8 @@
 use Rattle.unpark.specs.Unpark.{recordRead, settingsRead}
 use Rattle.record_words.specs.RecordWords.{settingsOf}
 use borrow.Author.Needs.{needs}
-use native.Mathlib.Omega.{arith}
-use borrow.Author.Needs.{needs}
 use Rattle.unpark.proofs.head.settings_read.Statement.{statement}
 use Rattle.unpark.proofs.head.settings_read.Tie as tie
-use Rattle.unpark.proofs.head.settings_read.Reads as reads
-use Rattle.unpark.proofs.head.settings_read.Lts as lts
-use Rattle.elementary.proofs.value_of.Reads as value-of-reads
-use Rattle.little.proofs.word.Reads as word-reads
-use Rattle.record_words.proofs.method_of.Reads as method-of-reads
 
 word-requires : tie.Need-word-requires
 word-requires c κs = search needs

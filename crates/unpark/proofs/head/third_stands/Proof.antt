@@ -1,16 +1,10 @@
 use Rattle.run_record.proofs.Laws.{above-zero}
 use Rattle.unpark.proofs.Heads.{first-in, second-in}
 use Rattle.unpark.proofs.Stands.{missing, there, third-is, stands-first, stands-second}
-use mathlib.Core.Path.{sym, ap, _∙_}
-use borrow.Author.Needs.{needs}
-use native.Mathlib.Omega.{arith}
+use mathlib.Core.Path.{sym, _∙_}
 use borrow.Author.Needs.{needs}
 use Rattle.unpark.proofs.head.third_stands.Statement.{statement}
 use Rattle.unpark.proofs.head.third_stands.Tie as tie
-use Rattle.unpark.proofs.head.third_stands.Reads as reads
-use Rattle.unpark.proofs.head.third_stands.Lts as lts
-use Rattle.little.proofs.word.Reads as word-reads
-use Rattle.parked_fine.proofs.third_fine.Reads as third-fine-reads
 
 returns : tie.Need-returns
 returns c = sym (missing _ 2 (c .if1 .taken))

@@ -2,13 +2,8 @@ use lib.ListN.{length-set}
 use Rattle.unpark.proofs.Stands.{head-long, parked-head}
 use borrow.Author.Needs.{needs}
 use native.Mathlib.Omega.{arith}
-use borrow.Author.Needs.{needs}
 use Rattle.unpark.proofs.record.put_counters.Statement.{statement}
 use Rattle.unpark.proofs.record.put_counters.Tie as tie
-use Rattle.unpark.proofs.record.put_counters.Reads as reads
-use Rattle.unpark.proofs.record.put_counters.Lts as lts
-use Rattle.little.proofs.word.Reads as word-reads
-use Rattle.unpark.proofs.record.units_read.Reads as units-read-reads
 
 word-requires : tie.Need-word-requires
 word-requires c κs = (omega (arith, head-long _ (parked-head _ (c .before .before .pre .1))))

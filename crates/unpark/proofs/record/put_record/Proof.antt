@@ -2,13 +2,8 @@ use Rattle.unpark.proofs.Fetched.{record-told}
 use Rattle.unpark.proofs.Stands.{head-long, parked-head}
 use borrow.Author.Needs.{needs}
 use native.Mathlib.Omega.{arith}
-use borrow.Author.Needs.{needs}
 use Rattle.unpark.proofs.record.put_record.Statement.{statement}
 use Rattle.unpark.proofs.record.put_record.Tie as tie
-use Rattle.unpark.proofs.record.put_record.Reads as reads
-use Rattle.unpark.proofs.record.put_record.Lts as lts
-use Rattle.unpark.proofs.record.put_counters.Reads as put-counters-reads
-use Rattle.unpark.proofs.record.put_settings.Reads as put-settings-reads
 
 put-settings-requires : tie.Need-put-settings-requires
 put-settings-requires c κs = (omega arith, head-long _ (parked-head _ (c .before .before .before .pre .1)))

@@ -1,12 +1,8 @@
 use lib.ListN.{length-set}
 use borrow.Author.Needs.{needs}
 use native.Mathlib.Omega.{arith}
-use borrow.Author.Needs.{needs}
 use Rattle.unpark.proofs.record.put_settings.Statement.{statement}
 use Rattle.unpark.proofs.record.put_settings.Tie as tie
-use Rattle.unpark.proofs.record.put_settings.Reads as reads
-use Rattle.unpark.proofs.record.put_settings.Lts as lts
-use Rattle.little.proofs.word.Reads as word-reads
 
 word-requires : tie.Need-word-requires
 word-requires c κs = search needs

@@ -1,16 +1,9 @@
 use Rattle.unpark.proofs.Heads.{units-fit}
 use Rattle.unpark.proofs.Stands.{head-good, head-long, parked-head}
-use mathlib.Core.Path.{sym, ap, _∙_}
 use borrow.Author.Needs.{needs}
 use native.Mathlib.Omega.{arith}
-use borrow.Author.Needs.{needs}
 use Rattle.unpark.proofs.record.units_read.Statement.{statement}
 use Rattle.unpark.proofs.record.units_read.Tie as tie
-use Rattle.unpark.proofs.record.units_read.Reads as reads
-use Rattle.unpark.proofs.record.units_read.Lts as lts
-use Rattle.little.proofs.word.Reads as word-reads
-use Rattle.record_words.proofs.method_of.Reads as method-of-reads
-use Rattle.run_record.proofs.counters.per.Reads as per-reads
 
 word-requires : tie.Need-word-requires
 word-requires c κs = (omega (arith, head-long _ (parked-head _ (c .before .pre))))

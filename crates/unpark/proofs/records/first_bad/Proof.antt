@@ -1,17 +1,14 @@
-use Rattle.unpark.proofs.Stands.{missing, words-stand, due-is, seeks-three, due-some}
+use Rattle.unpark.proofs.Stands.{missing, words-stand, due-is, seeks-three}
 use Rattle.unpark.specs.Unpark.{recordStands, recordsDue, firstBad}
 use Rattle.laws.proofs.First.{Seeks, seek-more, seek-stop, seek-done}
 use Prim.Native.Nat.{_≤_, _-_}
 use mathlib.Core.Bool.{not}
 use borrow.Author.Tests.{not-true, not-false}
-use mathlib.Core.Path.{sym, ap, _∙_}
+use mathlib.Core.Path.{ap, _∙_}
 use borrow.Author.Needs.{needs}
 use native.Mathlib.Omega.{arith}
 use Rattle.unpark.proofs.records.first_bad.Statement.{statement}
 use Rattle.unpark.proofs.records.first_bad.Tie as tie
-use Rattle.unpark.proofs.records.first_bad.Reads as reads
-use Rattle.unpark.proofs.records.first_bad.Lts as lts
-use Rattle.parked_fine.proofs.words_fine.Reads as words-fine-reads
 
 abbrev Inv-loop : tie.InvT-loop
 Inv-loop file l due whole q₀ q = (3 ≤ q) × Seeks (λ k. not (recordStands file k)) (recordsDue file) q

@@ -1,15 +1,9 @@
 use Rattle.unpark.proofs.Stands.{due-is, due-long, verdict-early, verdict-bad, verdict-all}
-use mathlib.Core.Path.{sym, ap, _∙_}
+use mathlib.Core.Path.{sym, _∙_}
 use borrow.Author.Needs.{needs}
 use native.Mathlib.Omega.{arith}
-use borrow.Author.Needs.{needs}
 use Rattle.unpark.proofs.records.judge.Statement.{statement}
 use Rattle.unpark.proofs.records.judge.Tie as tie
-use Rattle.unpark.proofs.records.judge.Reads as reads
-use Rattle.unpark.proofs.records.judge.Lts as lts
-use Rattle.unpark.proofs.head.head_bad.Reads as head-bad-reads
-use Rattle.unpark.proofs.head.layout_read.Reads as layout-read-reads
-use Rattle.unpark.proofs.records.first_bad.Reads as first-bad-reads
 
 head-bad-requires : tie.Need-head-bad-requires
 head-bad-requires c κs = search needs
