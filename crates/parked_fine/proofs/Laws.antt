@@ -10,8 +10,8 @@ neighbours-most : (x : Float) (n : ℕ) → n ≤ mostFrames → neighboursOf x 
 unfolding neighboursOf
 neighbours-most x n h = omega arith
 
-pub links-most : (x : Float) (n : ℕ) → n ≤ mostFrames → 2 * n * neighboursOf x n ≤ 2 * mostFrames * mostFrames
-links-most x n h = mul-le-mul (le-twice n h) (neighbours-most x n h)
+pub most-links : (x : Float) (n : ℕ) → n ≤ mostFrames → 2 * n * neighboursOf x n ≤ 2 * mostFrames * mostFrames
+most-links x n h = mul-le-mul (le-twice n h) (neighbours-most x n h)
   where
     le-twice : (n : ℕ) → n ≤ mostFrames → 2 * n ≤ 2 * mostFrames
     le-twice n h = omega arith

@@ -1,6 +1,4 @@
-pub mod Lies
-pub mod Heads
-pub mod Stands
 pub mod Fetched
+pub mod Settled
 pub mod Spans
 pub mod Outcomes

@@ -15,13 +15,15 @@ use Rattle.run_record.specs.Record.{sizesOf}
 use Rattle.run_entry.specs.Entry.{areasFit, GoodAreas}
 use Rattle.run_entry.proofs.Laws.{areas-fine}
 use Rattle.parked.specs.declared.Layout.{Layout}
-use Rattle.parked.specs.Parked.{Stored, stored}
+use Rattle.parked.specs.Parked.{Stored}
 use Rattle.parked.specs.Fine.{layoutBy}
-use Rattle.unpark.specs.declared.Verdict.{Verdict}
+use Rattle.parked_file.specs.declared.Verdict.{Verdict}
 use Rattle.unpark.specs.declared.Unparked.the-variants.{Read, Bad, Short}
-use Rattle.unpark.specs.Unpark.{isParked, recordsDue, firstBad, recordRead, settingsRead, fetched, weightsRead, offsetsRead, storedRead, hasRoom, unparking, unparkOf}
-use Rattle.unpark.specs.Steps.{verdictOf, roomFor}
-use Rattle.unpark.proofs.Stands.{parked-all}
+use Rattle.parked_file.specs.File.{isParked}
+use Rattle.unpark.specs.Unpark.{recordRead, settingsRead, fetched, weightsRead, offsetsRead, storedRead, hasRoom, unparking, unparkOf}
+use Rattle.parked_file.specs.File.{verdictOf}
+use Rattle.unpark.specs.Steps.{roomFor}
+use Rattle.parked_file.proofs.Stands.{parked-all}
 
 -- the areas, each as it is read
 pub stored-is : (g : ℕ → ℕ) (d e : Stored) (l : Layout) → l ≡ layoutBy g →
@@ -45,9 +47,9 @@ module _ (f : List ℕ) (d : Stored) (F nodes : ℕ) (e : hasRoom (wordIn f) d F
   abbrev fit : Bool
   fit = areasFit (settingsRead (wordIn f)) (length (d .positions)) (length (d .increments)) (length (d .gains)) (length (d .affinities)) (length (d .indices)) (length (d .offsets)) F nodes
 
-  pub words-long : 14 ≤ length (d .run)
+  pub run-words-long : 14 ≤ length (d .run)
   unfolding hasRoom
-  words-long = leb-true 14 (length (d .run)) (and-left (leb 14 (length (d .run))) fit e)
+  run-words-long = leb-true 14 (length (d .run)) (and-left (leb 14 (length (d .run))) fit e)
 
   pub areas-long : GoodAreas (settingsRead (wordIn f)) (length (d .positions)) (length (d .increments)) (length (d .gains)) (length (d .affinities)) (length (d .indices)) (length (d .offsets)) F nodes
   unfolding hasRoom

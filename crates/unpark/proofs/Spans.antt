@@ -1,5 +1,5 @@
 -- Where the areas lie in a parked file, which numbers they hold, and that they fit the areas of a work call. Assumes nothing.
-use mathlib.Core.Path.{_≡_, refl, sym, ap, subst, _∙_}
+use mathlib.Core.Path.{_≡_, sym, subst, _∙_}
 use mathlib.Core.List.{List}
 use mathlib.Core.Bool.{Bool, true, false, cond, not, _&&_, _||_}
 use Prim.Native.Nat.{ℕ, _+_, _-_, _*_, _<_, _≤_}
@@ -12,15 +12,16 @@ use Rattle.laws.proofs.Bools.{and-left, and-right, by-bool}
 use Rattle.little.specs.Little.{wordIn}
 use Rattle.run_record.specs.Record.{isTree}
 use Rattle.run_entry.specs.Entry.{GoodAreas}
-use Rattle.record_words.specs.RecordWords.{settingsOf, methodOf}
+use Rattle.record_words.specs.RecordWords.{settingsOf}
 use Rattle.parked.specs.declared.Layout.{Layout}
 use Rattle.parked.specs.Layout.{layoutOf}
 use Rattle.parked.specs.Fine.{layoutBy, wordFine, affinityFine, heldFits, indexFits, offsetFits}
-use Rattle.unpark.specs.Unpark.{isParked, recordRead, settingsRead}
+use Rattle.parked_file.specs.File.{isParked}
+use Rattle.unpark.specs.Unpark.{recordRead, settingsRead}
 use Rattle.unpark.specs.Steps.{Narrow, ListsRoom}
-use Rattle.unpark.proofs.Lies.{Lies}
-use Rattle.unpark.proofs.Heads.{Headed, links-few, method-is}
-use Rattle.unpark.proofs.Stands.{file-lies, head-good, parked-head, parked-end, parked-word}
+use Rattle.parked_file.proofs.Lies.{Lies}
+use Rattle.parked_file.proofs.Heads.{Headed, links-few, tree-method}
+use Rattle.parked_file.proofs.Stands.{file-lies, head-good, parked-head, parked-end, parked-word}
 
 -- ---- the words of the lists
 
@@ -118,7 +119,7 @@ module _ (f : List ℕ) (p : isParked f ≡ true) where
   module _ {P I G A X O F nodes : ℕ} (r : GoodAreas (settingsRead (wordIn f)) P I G A X O F nodes) where
     tree-is : isTree (settingsRead (wordIn f) .method) ≡ L .tree
     unfolding settingsRead settingsOf recordRead layoutBy layoutOf
-    tree-is = method-is (wordIn f 0) (in-head .first .method)
+    tree-is = tree-method (wordIn f 0) (in-head .first .method)
 
     pub cells-room : (L .cells ≤ P) × (L .cells ≤ I) × (L .cells ≤ G)
     unfolding settingsRead settingsOf recordRead layoutBy layoutOf

@@ -1,26 +1,17 @@
 -- What the parts of the reader say and ask. Definitions only.
 use mathlib.Core.List.{List}
 use mathlib.Core.Path.{_≡_}
-use mathlib.Core.Bool.{Bool, true, false, not, _&&_}
+use mathlib.Core.Bool.{Bool, true, false, _&&_}
 use Prim.Native.Nat.{ℕ, _+_, _*_, _<_, _≤_}
 use lib.Dec.{leb}
 use lib.ListN.{set}
-use Rattle.laws.specs.Loops.{first}
 use Rattle.laws.specs.Domain.{mostWord}
 use Rattle.little.specs.Little.{wordIn}
 use Rattle.run_record.specs.Record.{perOf}
 use Rattle.run_entry.specs.Entry.{areasFit}
 use Rattle.record_words.specs.RecordWords.{methodOf}
 use Rattle.parked.specs.declared.Layout.{Layout}
-use Rattle.unpark.specs.declared.Verdict.{Verdict}
-use Rattle.unpark.specs.Unpark.{recordStands, firstBad, isParked, settingsRead}
-
--- the first of the first three records that is bad or missing, 3 where there is none
-unfoldable pub headBad : List ℕ → ℕ
-headBad f = first (λ q. not (recordStands f q)) 3
-
-abbrev pub verdictOf : List ℕ → Verdict
-verdictOf f = record { parked = isParked f; at = firstBad f }
+use Rattle.unpark.specs.Unpark.{settingsRead}
 
 -- room by lengths: run is that of the record's words
 abbrev pub roomFor : List ℕ → ℕ → ℕ → ℕ → ℕ → ℕ → ℕ → ℕ → ℕ → ℕ → Bool

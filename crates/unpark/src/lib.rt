@@ -7,20 +7,20 @@ ghost use Rattle.areas.specs.Filled.{filled};
 ghost use Rattle.little.specs.Little.{wordIn};
 ghost use Rattle.run_record.specs.Record.{sizesOf};
 ghost use Rattle.parked.specs.Parked.{stored};
-ghost use Rattle.unpark.specs.Unpark.{isParked, settingsRead, storedRead, hasRoom, unparking, unparkOf, unparkNumber};
+ghost use Rattle.parked_file.specs.File.{isParked};
+ghost use Rattle.unpark.specs.Unpark.{settingsRead, storedRead, hasRoom, unparking, unparkOf, unparkNumber};
 use crate::fetch::fetch_lists;
 use crate::fetch::fetch_state;
-use crate::head::has_room;
-use crate::head::layout_read;
-use crate::head::settings_read;
 use crate::record::put_record;
-use crate::records::judge;
+use crate::room::has_room;
+use crate::room::settings_read;
+use parked_file::head::layout_read;
+use parked_file::records::judge;
 use run_record::faults::sizes_of;
 
 mod fetch;
-mod head;
 mod record;
-mod records;
+mod room;
 
 // What is answered.
 pub enum Unparked {
@@ -30,14 +30,6 @@ pub enum Unparked {
     Bad(usize),
     // 12: a lent area is too short
     Short,
-}
-
-// What is said of a file.
-pub struct Verdict {
-    // every record stands, and no byte follows
-    pub parked: bool,
-    // the first bad record; where there is none, the number of records
-    pub at: usize,
 }
 
 // The number of a refusal; 0 where there is none.

@@ -1,4 +1,4 @@
-use Rattle.parked_fine.proofs.Laws.{links-most}
+use Rattle.parked_fine.proofs.Laws.{most-links}
 use borrow.Author.Tests.{eq-eqb, ne-eqb}
 use borrow.Author.Needs.{needs}
 use native.Mathlib.Omega.{arith}
@@ -15,7 +15,7 @@ neighbours-requires : tie.Need-neighbours-requires
 neighbours-requires c κs = rw (c .value-of .ensures) (c .before .before .pre .1, c .before .before .pre .2, c .before .before .pre .0)
 
 mul-result-2 : tie.Need-mul-result-2
-mul-result-2 c = rw (c .neighbours .ensures) (omega (arith, links-most (c .before .value-of .result) (c .before .before .before .args .n) (c .before .before .before .pre .0)))
+mul-result-2 c = rw (c .neighbours .ensures) (omega (arith, most-links (c .before .value-of .result) (c .before .before .before .args .n) (c .before .before .before .pre .0)))
 
 returns : tie.Need-returns
 returns c = rw (c .neighbours .ensures, c .before .value-of .ensures, eq-eqb _ _ (c .before .before .if1 .taken))

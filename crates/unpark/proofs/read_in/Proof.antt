@@ -1,7 +1,7 @@
-use Rattle.unpark.proofs.Outcomes.{words-long, areas-long, stored-is}
+use Rattle.unpark.proofs.Outcomes.{run-words-long, areas-long, stored-is}
 use Rattle.unpark.proofs.Spans.{cells-room, lists-room}
-use Rattle.unpark.proofs.Heads.{good-settings}
-use Rattle.unpark.proofs.Stands.{head-good, head-long, parked-head}
+use Rattle.unpark.proofs.Settled.{read-settings-good}
+use Rattle.parked_file.proofs.Stands.{head-good, head-long, parked-head}
 use Rattle.run_record.specs.Record.{sizesOf}
 use mathlib.Core.Path.{refl}
 use Rattle.parked.specs.Parked.{stored}
@@ -15,10 +15,10 @@ settings-read-requires : tie.Need-settings-read-requires
 settings-read-requires c κs = head-long _ (parked-head _ (c .before .before .before .before .before .before .before .before .before .before .pre .0))
 
 sizes-of-requires : tie.Need-sizes-of-requires
-sizes-of-requires c κs = rw (c .settings-read .ensures) (good-settings _ (head-good _ (parked-head _ (c .before .before .before .before .before .before .before .before .before .before .before .pre .0))))
+sizes-of-requires c κs = rw (c .settings-read .ensures) (read-settings-good _ (head-good _ (parked-head _ (c .before .before .before .before .before .before .before .before .before .before .before .pre .0))))
 
 put-record-requires : tie.Need-put-record-requires
-put-record-requires c κs = (words-long _ ((stored (c .before .before .before .before .before .before .before .before .before .before .before .before .before .args .words .now) (c .before .before .before .before .before .before .before .before .before .before .before .before .before .args .positions .now) (c .before .before .before .before .before .before .before .before .before .before .before .before .before .args .increments .now) (c .before .before .before .before .before .before .before .before .before .before .before .before .before .args .gains .now) (c .before .before .before .before .before .before .before .before .before .before .before .before .before .args .affinities .now) (c .before .before .before .before .before .before .before .before .before .before .before .before .before .args .indices .now) (c .before .before .before .before .before .before .before .before .before .before .before .before .before .args .offsets .now))) _ _ (c .before .before .before .before .before .before .before .before .before .before .before .before .before .pre .1), c .before .before .before .before .before .before .before .before .before .before .before .before .before .pre .0)
+put-record-requires c κs = (run-words-long _ ((stored (c .before .before .before .before .before .before .before .before .before .before .before .before .before .args .words .now) (c .before .before .before .before .before .before .before .before .before .before .before .before .before .args .positions .now) (c .before .before .before .before .before .before .before .before .before .before .before .before .before .args .increments .now) (c .before .before .before .before .before .before .before .before .before .before .before .before .before .args .gains .now) (c .before .before .before .before .before .before .before .before .before .before .before .before .before .args .affinities .now) (c .before .before .before .before .before .before .before .before .before .before .before .before .before .args .indices .now) (c .before .before .before .before .before .before .before .before .before .before .before .before .before .args .offsets .now))) _ _ (c .before .before .before .before .before .before .before .before .before .before .before .before .before .pre .1), c .before .before .before .before .before .before .before .before .before .before .before .before .before .pre .0)
 
 fetch-state-requires : tie.Need-fetch-state-requires
 fetch-state-requires c κs = rw (c .before .before .before .before .before .before .before .before .before .layout-read .ensures) (c .before .before .before .before .before .before .before .before .before .before .before .before .before .before .before .before .before .before .before .pre .0, refl, (cells-room _ (c .before .before .before .before .before .before .before .before .before .before .before .before .before .before .before .before .before .before .before .pre .0) ((areas-long _ ((stored (c .before .before .before .before .before .before .before .before .before .before .before .before .before .before .before .before .before .before .before .args .words .now) (c .before .before .before .before .before .before .before .before .before .before .before .before .before .before .before .before .before .before .before .args .positions .now) (c .before .before .before .before .before .before .before .before .before .before .before .before .before .before .before .before .before .before .before .args .increments .now) (c .before .before .before .before .before .before .before .before .before .before .before .before .before .before .before .before .before .before .before .args .gains .now) (c .before .before .before .before .before .before .before .before .before .before .before .before .before .before .before .before .before .before .before .args .affinities .now) (c .before .before .before .before .before .before .before .before .before .before .before .before .before .before .before .before .before .before .before .args .indices .now) (c .before .before .before .before .before .before .before .before .before .before .before .before .before .before .before .before .before .before .before .args .offsets .now))) _ _ (c .before .before .before .before .before .before .before .before .before .before .before .before .before .before .before .before .before .before .before .pre .1)))) .0, (cells-room _ (c .before .before .before .before .before .before .before .before .before .before .before .before .before .before .before .before .before .before .before .pre .0) ((areas-long _ ((stored (c .before .before .before .before .before .before .before .before .before .before .before .before .before .before .before .before .before .before .before .args .words .now) (c .before .before .before .before .before .before .before .before .before .before .before .before .before .before .before .before .before .before .before .args .positions .now) (c .before .before .before .before .before .before .before .before .before .before .before .before .before .before .before .before .before .before .before .args .increments .now) (c .before .before .before .before .before .before .before .before .before .before .before .before .before .before .before .before .before .before .before .args .gains .now) (c .before .before .before .before .before .before .before .before .before .before .before .before .before .before .before .before .before .before .before .args .affinities .now) (c .before .before .before .before .before .before .before .before .before .before .before .before .before .before .before .before .before .before .before .args .indices .now) (c .before .before .before .before .before .before .before .before .before .before .before .before .before .before .before .before .before .before .before .args .offsets .now))) _ _ (c .before .before .before .before .before .before .before .before .before .before .before .before .before .before .before .before .before .before .before .pre .1)))) .1, (cells-room _ (c .before .before .before .before .before .before .before .before .before .before .before .before .before .before .before .before .before .before .before .pre .0) ((areas-long _ ((stored (c .before .before .before .before .before .before .before .before .before .before .before .before .before .before .before .before .before .before .before .args .words .now) (c .before .before .before .before .before .before .before .before .before .before .before .before .before .before .before .before .before .before .before .args .positions .now) (c .before .before .before .before .before .before .before .before .before .before .before .before .before .before .before .before .before .before .before .args .increments .now) (c .before .before .before .before .before .before .before .before .before .before .before .before .before .before .before .before .before .before .before .args .gains .now) (c .before .before .before .before .before .before .before .before .before .before .before .before .before .before .before .before .before .before .before .args .affinities .now) (c .before .before .before .before .before .before .before .before .before .before .before .before .before .before .before .before .before .before .before .args .indices .now) (c .before .before .before .before .before .before .before .before .before .before .before .before .before .before .before .before .before .before .before .args .offsets .now))) _ _ (c .before .before .before .before .before .before .before .before .before .before .before .before .before .before .before .before .before .before .before .pre .1)))) .2)

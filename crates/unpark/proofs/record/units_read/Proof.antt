@@ -1,5 +1,5 @@
-use Rattle.unpark.proofs.Heads.{units-fit}
-use Rattle.unpark.proofs.Stands.{head-good, head-long, parked-head}
+use Rattle.unpark.proofs.Settled.{units-fit}
+use Rattle.parked_file.proofs.Stands.{head-good, head-long, parked-head}
 use borrow.Author.Needs.{needs}
 use native.Mathlib.Omega.{arith}
 use Rattle.unpark.proofs.record.units_read.Statement.{statement}

@@ -1,9 +1,9 @@
-use Rattle.unpark.proofs.Heads.{first-in}
-use Rattle.unpark.proofs.Stands.{missing, there, second-is, stands-first}
+use Rattle.parked_file.proofs.Heads.{first-told}
+use Rattle.parked_file.proofs.Stands.{missing, there, second-is, stands-first}
 use mathlib.Core.Path.{sym, _∙_}
 use borrow.Author.Needs.{needs}
-use Rattle.unpark.proofs.head.second_stands.Statement.{statement}
-use Rattle.unpark.proofs.head.second_stands.Tie as tie
+use Rattle.parked_file.proofs.head.second_stands.Statement.{statement}
+use Rattle.parked_file.proofs.head.second_stands.Tie as tie
 
 returns : tie.Need-returns
 returns c = sym (missing _ 1 (c .if1 .taken))
@@ -27,7 +27,7 @@ word-requires-6 : tie.Need-word-requires-6
 word-requires-6 c κs = search needs
 
 second-fine-requires : tie.Need-second-fine-requires
-second-fine-requires c κs = rw (c .before .before .before .before .word2 .ensures) (first-in _ _ _ _ (stands-first _ (c .before .before .before .before .before .before .before .before .pre)) .n-most)
+second-fine-requires c κs = rw (c .before .before .before .before .word2 .ensures) (first-told _ _ _ _ (stands-first _ (c .before .before .before .before .before .before .before .before .pre)) .n-most)
 
 returns-2 : tie.Need-returns-2
 returns-2 c = rw (c .second-fine .ensures, c .before .before .before .before .before .before .word .ensures, c .before .before .before .before .before .word2 .ensures, c .before .before .before .before .word3 .ensures, c .before .before .before .word4 .ensures, c .before .before .word5 .ensures, c .before .word6 .ensures) (sym (there _ 1 (c .before .before .before .before .before .before .before .if1 .left) ∙ second-is _))

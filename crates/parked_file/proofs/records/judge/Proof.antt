@@ -1,9 +1,9 @@
-use Rattle.unpark.proofs.Stands.{due-is, due-long, verdict-early, verdict-bad, verdict-all}
+use Rattle.parked_file.proofs.Stands.{due-is, due-long, verdict-early, verdict-bad, verdict-all}
 use mathlib.Core.Path.{sym, _∙_}
 use borrow.Author.Needs.{needs}
 use native.Mathlib.Omega.{arith}
-use Rattle.unpark.proofs.records.judge.Statement.{statement}
-use Rattle.unpark.proofs.records.judge.Tie as tie
+use Rattle.parked_file.proofs.records.judge.Statement.{statement}
+use Rattle.parked_file.proofs.records.judge.Tie as tie
 
 head-bad-requires : tie.Need-head-bad-requires
 head-bad-requires c κs = search needs

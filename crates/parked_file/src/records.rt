@@ -2,8 +2,7 @@
 ghost use mathlib.Core.Path.{_≡_};
 ghost use Rattle.little.specs.Little.{wordIn};
 ghost use Rattle.parked.specs.Fine.{layoutBy};
-ghost use Rattle.unpark.specs.Unpark.{firstBad};
-ghost use Rattle.unpark.specs.Steps.{headBad, verdictOf};
+ghost use Rattle.parked_file.specs.File.{firstBad, headBad, verdictOf};
 use crate::Verdict;
 use crate::head::head_bad;
 use crate::head::layout_read;

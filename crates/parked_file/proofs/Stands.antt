@@ -1,25 +1,23 @@
 -- What it says that records stand: of the first three, of all, and of each word. Assumes nothing.
 use mathlib.Core.Path.{_≡_, refl, sym, ap, subst, _∙_}
 use mathlib.Core.List.{List}
-use mathlib.Core.Bool.{Bool, true, false, cond, not, _&&_}
+use mathlib.Core.Bool.{Bool, true, false, not}
 use Prim.Native.Nat.{ℕ, _+_, _-_, _*_, _/_, _%_, _<_, _≤_}
 use native.Mathlib.Omega.{arith}
-use lib.Dec.{eqb, ltb, leb}
+use lib.Dec.{eqb, leb}
 use lib.ListN.{length}
-use borrow.Author.Tests.{leb-true, lt-leb, le-leb, le-ltb, lt-ltb, eqb-true, ne-eqb, eq-eqb, not-false}
+use borrow.Author.Tests.{leb-true, lt-leb, le-leb, le-ltb, eqb-true, ne-eqb, eq-eqb, not-false}
 use Rattle.laws.specs.Loops.{every, first}
 use Rattle.laws.proofs.Bools.{and-left, and-right}
 use Rattle.laws.proofs.Every.{every-at}
 use Rattle.laws.proofs.First.{Seeks, seek-start, seek-more, seek-stop, seek-done, first-le, first-holds, first-before, first-all, first-at, first-none}
 use Rattle.little.specs.Little.{wordIn}
 use Rattle.parked.specs.declared.Layout.{Layout}
-use Rattle.parked.specs.Layout.{recordsIn}
 use Rattle.parked.specs.Fine.{firstFine, secondFine, thirdFine, headFine, layoutBy, wordFine, recordFine}
-use Rattle.unpark.specs.declared.Verdict.{Verdict}
-use Rattle.unpark.specs.Unpark.{recordStands, recordsDue, firstBad, isParked}
-use Rattle.unpark.specs.Steps.{headBad, verdictOf}
-use Rattle.unpark.proofs.Lies.{Lies, lies}
-use Rattle.unpark.proofs.Heads.{Headed, first-in, second-in, third-in}
+use Rattle.parked_file.specs.File.{recordStands, recordsDue, firstBad, isParked}
+use Rattle.parked_file.specs.File.{headBad, verdictOf}
+use Rattle.parked_file.proofs.Lies.{Lies, lies}
+use Rattle.parked_file.proofs.Heads.{Headed, first-told, second-told, third-told}
 
 module _ (f : List ℕ) where
   -- ---- one record
@@ -69,9 +67,9 @@ module _ (f : List ℕ) where
 
   pub headed : recordStands f 0 ≡ true → recordStands f 1 ≡ true → recordStands f 2 ≡ true → Headed (wordIn f)
   headed a b c = record {
-    first = first-in _ _ _ _ (stands-first a);
-    second = second-in _ _ _ _ _ _ (stands-second b);
-    third = third-in _ _ _ _ _ _ _ _ (sym third-is ∙ stands-fine 2 c);
+    first = first-told _ _ _ _ (stands-first a);
+    second = second-told _ _ _ _ _ _ (stands-second b);
+    third = third-told _ _ _ _ _ _ _ _ (sym third-is ∙ stands-fine 2 c);
   }
 
   -- the search among them

@@ -1,8 +1,8 @@
-use Rattle.unpark.proofs.Stands.{missing, there, first-is}
+use Rattle.parked_file.proofs.Stands.{missing, there, first-is}
 use mathlib.Core.Path.{sym, _∙_}
 use borrow.Author.Needs.{needs}
-use Rattle.unpark.proofs.head.first_stands.Statement.{statement}
-use Rattle.unpark.proofs.head.first_stands.Tie as tie
+use Rattle.parked_file.proofs.head.first_stands.Statement.{statement}
+use Rattle.parked_file.proofs.head.first_stands.Tie as tie
 
 returns : tie.Need-returns
 returns c = sym (missing _ 0 (c .if1 .taken))

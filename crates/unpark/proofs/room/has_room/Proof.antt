@@ -1,8 +1,8 @@
-use Rattle.unpark.proofs.Heads.{good-settings}
-use Rattle.unpark.proofs.Stands.{head-good, head-long, parked-head}
+use Rattle.unpark.proofs.Settled.{read-settings-good}
+use Rattle.parked_file.proofs.Stands.{head-good, head-long, parked-head}
 use borrow.Author.Tests.{le-leb, lt-leb}
-use Rattle.unpark.proofs.head.has_room.Statement.{statement}
-use Rattle.unpark.proofs.head.has_room.Tie as tie
+use Rattle.unpark.proofs.room.has_room.Statement.{statement}
+use Rattle.unpark.proofs.room.has_room.Tie as tie
 
 returns : tie.Need-returns
 returns c = rw (lt-leb 14 _ (c .if1 .taken))
@@ -11,7 +11,7 @@ settings-read-requires : tie.Need-settings-read-requires
 settings-read-requires c κs = head-long _ (parked-head _ (c .before .before .pre))
 
 areas-fit-requires : tie.Need-areas-fit-requires
-areas-fit-requires c κs = rw (c .settings-read .ensures) (good-settings _ (head-good _ (parked-head _ (c .before .before .before .pre))))
+areas-fit-requires c κs = rw (c .settings-read .ensures) (read-settings-good _ (head-good _ (parked-head _ (c .before .before .before .pre))))
 
 returns-2 : tie.Need-returns-2
 returns-2 c = rw (c .areas-fit .ensures, c .before .settings-read .ensures, le-leb 14 _ (c .before .before .if1 .left))

@@ -1,5 +1,5 @@
-use Rattle.unpark.proofs.Stands.{missing, words-stand, due-is, seeks-three}
-use Rattle.unpark.specs.Unpark.{recordStands, recordsDue, firstBad}
+use Rattle.parked_file.proofs.Stands.{missing, words-stand, due-is, seeks-three}
+use Rattle.parked_file.specs.File.{recordStands, recordsDue, firstBad}
 use Rattle.laws.proofs.First.{Seeks, seek-more, seek-stop, seek-done}
 use Prim.Native.Nat.{_≤_, _-_}
 use mathlib.Core.Bool.{not}
@@ -7,8 +7,8 @@ use borrow.Author.Tests.{not-true, not-false}
 use mathlib.Core.Path.{ap, _∙_}
 use borrow.Author.Needs.{needs}
 use native.Mathlib.Omega.{arith}
-use Rattle.unpark.proofs.records.first_bad.Statement.{statement}
-use Rattle.unpark.proofs.records.first_bad.Tie as tie
+use Rattle.parked_file.proofs.records.first_bad.Statement.{statement}
+use Rattle.parked_file.proofs.records.first_bad.Tie as tie
 
 abbrev Inv-loop : tie.InvT-loop
 Inv-loop file l due whole q₀ q = (3 ≤ q) × Seeks (λ k. not (recordStands file k)) (recordsDue file) q

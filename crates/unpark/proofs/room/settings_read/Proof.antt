@@ -1,8 +1,8 @@
 use Rattle.unpark.specs.Unpark.{recordRead, settingsRead}
 use Rattle.record_words.specs.RecordWords.{settingsOf}
 use borrow.Author.Needs.{needs}
-use Rattle.unpark.proofs.head.settings_read.Statement.{statement}
-use Rattle.unpark.proofs.head.settings_read.Tie as tie
+use Rattle.unpark.proofs.room.settings_read.Statement.{statement}
+use Rattle.unpark.proofs.room.settings_read.Tie as tie
 
 word-requires : tie.Need-word-requires
 word-requires c κs = search needs

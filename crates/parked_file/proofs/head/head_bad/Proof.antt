@@ -1,9 +1,9 @@
-use Rattle.unpark.proofs.Stands.{head-first, head-second, head-third, head-all}
+use Rattle.parked_file.proofs.Stands.{head-first, head-second, head-third, head-all}
 use borrow.Author.Tests.{not-true, not-false}
 use mathlib.Core.Path.{sym, _∙_}
 use borrow.Author.Needs.{needs}
-use Rattle.unpark.proofs.head.head_bad.Statement.{statement}
-use Rattle.unpark.proofs.head.head_bad.Tie as tie
+use Rattle.parked_file.proofs.head.head_bad.Statement.{statement}
+use Rattle.parked_file.proofs.head.head_bad.Tie as tie
 
 first-stands-requires : tie.Need-first-stands-requires
 first-stands-requires c κs = search needs

@@ -1,25 +1,20 @@
 -- What the first three records say where they stand: settings in good order, and few links. Assumes nothing.
-use mathlib.Core.Path.{_≡_, refl, sym, ap, subst, _∙_}
+use mathlib.Core.Path.{_≡_, sym, ap, _∙_}
 use mathlib.Core.Bool.{Bool, true, false, cond, not, _&&_}
-use Prim.Native.Nat.{ℕ, _+_, _*_, _<_, _≤_}
+use Prim.Native.Nat.{ℕ, _*_, _≤_}
 use native.Mathlib.Omega.{arith}
-use native.Mathlib.Nat.{le-trans}
-use lib.Dec.{eqb, ltb, leb}
+use lib.Dec.{eqb, leb}
 use lib.IntN.{pos}
-use lib.Ieee.{Float, binary64, ofInt, lt}
+use lib.Ieee.{binary64, ofInt, lt}
 use borrow.Author.Tests.{leb-true, eqb-true, eqb-false, le-ltb, eq-eqb, ne-eqb}
 use Rattle.laws.specs.Domain.{mostAxes, mostComponents, mostFeatures, mostFrames, mostIterations}
 use Rattle.laws.specs.Area.{bits}
 use Rattle.laws.proofs.Bools.{and-left, and-right, by-bool}
 use Rattle.elementary.specs.Limits.{neighboursOf}
-use Rattle.run_record.specs.declared.Method.the-variants.{Exact, BarnesHut}
-use Rattle.run_record.specs.Record.{positive, angleFine, angleFault, isTree, stateFits, GoodSettings, mostUnits}
-use Rattle.run_record.proofs.Laws.{done-most, product-fits}
-use Rattle.record_words.specs.RecordWords.{methodOf, standingOf, settingsOf}
+use Rattle.run_record.specs.Record.{positive, angleFine, angleFault, isTree, stateFits}
+use Rattle.record_words.specs.RecordWords.{methodOf, standingOf}
 use Rattle.parked.specs.Fine.{firstFine, secondFine, thirdFine}
-use Rattle.parked_fine.proofs.Laws.{links-most}
-use Rattle.unpark.specs.Unpark.{recordRead, settingsRead}
-use Rattle.unpark.specs.Steps.{unitsRead}
+use Rattle.parked_fine.proofs.Laws.{most-links}
 
 pub record FirstIn (m n f c : ℕ) : Type 0 where
   pub method : m ≤ 1
@@ -30,9 +25,9 @@ pub record FirstIn (m n f c : ℕ) : Type 0 where
   pub c-some : 1 ≤ c
   pub c-most : c ≤ cond (eqb m 1) mostAxes mostComponents
 
-pub first-in : (m n f c : ℕ) → firstFine m n f c ≡ true → FirstIn m n f c
+pub first-told : (m n f c : ℕ) → firstFine m n f c ≡ true → FirstIn m n f c
 unfolding firstFine
-first-in m n f c e =
+first-told m n f c e =
     let A = leb m 1 in
     let B = leb 2 n && leb n mostFrames in
     let C = leb 1 f && leb f mostFeatures in
@@ -60,9 +55,9 @@ pub record SecondIn (m n perplexity rate iterations angle : ℕ) : Type 0 where
   pub iterations-most : iterations ≤ mostIterations
   pub angle-fine : cond (eqb m 1) (angleFine (bits angle)) (eqb angle 0) ≡ true
 
-pub second-in : (m n p r i a : ℕ) → secondFine m n p r i a ≡ true → SecondIn m n p r i a
+pub second-told : (m n p r i a : ℕ) → secondFine m n p r i a ≡ true → SecondIn m n p r i a
 unfolding secondFine
-second-in m n p r i a e =
+second-told m n p r i a e =
     let P = positive (bits p) in
     let Q = lt (bits p) (ofInt binary64 (pos n)) in
     let R = positive (bits r) in
@@ -86,9 +81,9 @@ pub record ThirdIn (m n perplexity iterations minimum done state links : ℕ) : 
   pub links-in : links ≤ 2 * n * neighboursOf (bits perplexity) n
   pub links-none : eqb m 1 ≡ false → links ≡ 0
 
-pub third-in : (m n p i e d s k : ℕ) → thirdFine m n p i e d s k ≡ true → ThirdIn m n p i e d s k
+pub third-told : (m n p i e d s k : ℕ) → thirdFine m n p i e d s k ≡ true → ThirdIn m n p i e d s k
 unfolding thirdFine
-third-in m n p i e d s k h =
+third-told m n p i e d s k h =
     let A = leb s 2 in
     let B = stateFits (standingOf s) d i 0 (bits e) in
     let C = cond (eqb m 1) (leb k (2 * n * neighboursOf (bits p) n)) (eqb k 0) in
@@ -99,7 +94,7 @@ third-in m n p i e d s k h =
     few false q = omega (arith, eqb-true k 0 q)
 
 -- method and angle: 5 and 6 do not bar them
-tree-fine : (m c a : ℕ) → c ≤ cond (eqb m 1) mostAxes mostComponents → cond (eqb m 1) (angleFine (bits a)) (eqb a 0) ≡ true → m ≤ 1 → angleFault (methodOf m) (bits a) c ≡ 0
+pub tree-fine : (m c a : ℕ) → c ≤ cond (eqb m 1) mostAxes mostComponents → cond (eqb m 1) (angleFine (bits a)) (eqb a 0) ≡ true → m ≤ 1 → angleFault (methodOf m) (bits a) c ≡ 0
 unfolding angleFault methodOf
 tree-fine m c a h e l = by-bool (angleFault (methodOf m) (bits a) c ≡ 0) (eqb m 1)
     (λ t. let h' : c ≤ mostAxes = rw t at h in let e' : angleFine (bits a) ≡ true = rw t at e in rw (ne-eqb m 0 (λ z. absurd (omega (arith, eqb-true m 1 t))), e', le-ltb mostAxes c h'))
@@ -108,9 +103,9 @@ tree-fine m c a h e l = by-bool (angleFault (methodOf m) (bits a) c ≡ 0) (eqb 
     zero-is : (m : ℕ) → m ≤ 1 → (m ≡ 1 → ⊥) → m ≡ 0
     zero-is m l n = omega (arith, n)
 
-pub method-is : (m : ℕ) → m ≤ 1 → isTree (methodOf m) ≡ eqb m 1
+pub tree-method : (m : ℕ) → m ≤ 1 → isTree (methodOf m) ≡ eqb m 1
 unfolding methodOf
-method-is m l = by-bool (isTree (methodOf m) ≡ eqb m 1) (eqb m 1)
+tree-method m l = by-bool (isTree (methodOf m) ≡ eqb m 1) (eqb m 1)
     (λ t. rw (t, ne-eqb m 0 (λ z. absurd (omega (arith, eqb-true m 1 t)))))
     (λ t. rw (t, eq-eqb m 0 (zero-is m l (eqb-false m 1 t))))
   where
@@ -136,24 +131,4 @@ module _ (g : ℕ → ℕ) (h : Headed g) where
   components-most = components (g 0) (g 3) (h .first .c-most)
 
   pub links-few : g 11 ≤ 40000000
-  links-few = omega (arith, h .third .links-in, links-most (bits (g 4)) (g 1) (h .first .n-most))
-
-  pub good-settings : GoodSettings (settingsRead g)
-  unfolding settingsRead settingsOf recordRead
-  good-settings = record {
-    c-some = h .first .c-some;
-    c-most = components-most;
-    perplexity-positive = h .second .perplexity-positive;
-    rate-positive = h .second .rate-positive;
-    iterations-some = h .second .iterations-some;
-    iterations-most = h .second .iterations-most;
-    tree-fine = tree-fine (g 0) (g 3) (g 7) (h .first .c-most) (h .second .angle-fine) (h .first .method);
-    n-some = h .first .n-some;
-    n-most = h .first .n-most;
-    f-some = h .first .f-some;
-    f-most = h .first .f-most;
-    perplexity-below = h .second .perplexity-below;
-  }
-
-  pub units-fit : unitsRead g ≤ mostUnits
-  units-fit = product-fits (g 9) (g 6) (methodOf (g 0)) (g 1) (done-most (standingOf (g 10)) (g 9) (g 6) 0 (bits (g 8)) (h .third .state-fits)) (h .second .iterations-most) (h .first .n-most)
+  links-few = omega (arith, h .third .links-in, most-links (bits (g 4)) (g 1) (h .first .n-most))

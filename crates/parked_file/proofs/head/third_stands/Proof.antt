@@ -1,10 +1,10 @@
 use Rattle.run_record.proofs.Laws.{above-zero}
-use Rattle.unpark.proofs.Heads.{first-in, second-in}
-use Rattle.unpark.proofs.Stands.{missing, there, third-is, stands-first, stands-second}
+use Rattle.parked_file.proofs.Heads.{first-told, second-told}
+use Rattle.parked_file.proofs.Stands.{missing, there, third-is, stands-first, stands-second}
 use mathlib.Core.Path.{sym, _∙_}
 use borrow.Author.Needs.{needs}
-use Rattle.unpark.proofs.head.third_stands.Statement.{statement}
-use Rattle.unpark.proofs.head.third_stands.Tie as tie
+use Rattle.parked_file.proofs.head.third_stands.Statement.{statement}
+use Rattle.parked_file.proofs.head.third_stands.Tie as tie
 
 returns : tie.Need-returns
 returns c = sym (missing _ 2 (c .if1 .taken))
@@ -34,7 +34,7 @@ word-requires-8 : tie.Need-word-requires-8
 word-requires-8 c κs = search needs
 
 third-fine-requires : tie.Need-third-fine-requires
-third-fine-requires c κs = rw (c .before .before .before .before .before .before .word2 .ensures, c .before .before .before .before .before .word3 .ensures) (first-in _ _ _ _ (stands-first _ (c .before .before .before .before .before .before .before .before .before .before .pre .0)) .n-most, above-zero _ ((second-in _ _ _ _ _ _ (stands-second _ (c .before .before .before .before .before .before .before .before .before .before .pre .1))) .perplexity-positive), (second-in _ _ _ _ _ _ (stands-second _ (c .before .before .before .before .before .before .before .before .before .before .pre .1))) .perplexity-below)
+third-fine-requires c κs = rw (c .before .before .before .before .before .before .word2 .ensures, c .before .before .before .before .before .word3 .ensures) (first-told _ _ _ _ (stands-first _ (c .before .before .before .before .before .before .before .before .before .before .pre .0)) .n-most, above-zero _ ((second-told _ _ _ _ _ _ (stands-second _ (c .before .before .before .before .before .before .before .before .before .before .pre .1))) .perplexity-positive), (second-told _ _ _ _ _ _ (stands-second _ (c .before .before .before .before .before .before .before .before .before .before .pre .1))) .perplexity-below)
 
 returns-2 : tie.Need-returns-2
 returns-2 c = rw (c .third-fine .ensures, c .before .before .before .before .before .before .before .before .word .ensures, c .before .before .before .before .before .before .before .word2 .ensures, c .before .before .before .before .before .before .word3 .ensures, c .before .before .before .before .before .word4 .ensures, c .before .before .before .before .word5 .ensures, c .before .before .before .word6 .ensures, c .before .before .word7 .ensures, c .before .word8 .ensures) (sym (there _ 2 (c .before .before .before .before .before .before .before .before .before .if1 .left) ∙ third-is _))

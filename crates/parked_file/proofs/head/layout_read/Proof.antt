@@ -1,9 +1,9 @@
 use Rattle.parked.specs.Fine.{layoutBy}
-use Rattle.unpark.proofs.Heads.{components-most, links-few}
-use Rattle.unpark.proofs.Stands.{head-good, head-long}
+use Rattle.parked_file.proofs.Heads.{components-most, links-few}
+use Rattle.parked_file.proofs.Stands.{head-good, head-long}
 use native.Mathlib.Omega.{arith}
-use Rattle.unpark.proofs.head.layout_read.Statement.{statement}
-use Rattle.unpark.proofs.head.layout_read.Tie as tie
+use Rattle.parked_file.proofs.head.layout_read.Statement.{statement}
+use Rattle.parked_file.proofs.head.layout_read.Tie as tie
 
 word-requires : tie.Need-word-requires
 word-requires c κs = omega (arith, head-long _ (c .before .pre))
