@@ -16,7 +16,7 @@ use Rattle.record_words.specs.RecordWords.{methodOf, settingsOf}
 use Rattle.parked.specs.declared.Layout.{Layout}
 use Rattle.parked.specs.Parked.{Stored, stored}
 use Rattle.parked.specs.Fine.{layoutBy}
-pub use Rattle.parked_file.specs.File.{recordStands, recordsDue, firstBad, isParked}
+unfoldable pub use Rattle.parked_file.specs.File.{recordStands, recordsDue, firstBad, isParked}
 use Rattle.unpark.specs.declared.Unparked.{Unparked}
 use Rattle.unpark.specs.declared.Unparked.the-variants.{Read, Bad, Short}
 
