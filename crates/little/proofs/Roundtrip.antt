@@ -24,11 +24,6 @@ little-same (suc n) f g a b h = rw (first, little-same n f g (a + 1) (b + 1) (λ
     first : num f a ≡ num g b
     first = ap (num f) (plus a) ∙ h 0 (omega arith) ∙ ap (num g) (sym (plus b))
 
-pub length-bytes : (n v : ℕ) → length (littleBytes n v) ≡ n
-unfolding littleBytes
-length-bytes zero v = refl
-length-bytes (suc n) v = ap suc (length-bytes n (v / 256))
-
 -- a number of n bytes, written and read
 pub little-back : (n v : ℕ) (r : List ℕ) → v < 256 ^ n → littleOf (littleBytes n v ++ r) 0 n ≡ v
 unfolding littleOf littleBytes

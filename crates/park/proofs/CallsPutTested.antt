@@ -26,7 +26,7 @@ use denote.Triple.Spec.{tripleOf}
 use denote.Triple.Walked.{says}
 use Rattle.lent.proofs.Pass.{Seat, ref-at, word, Mut, Shr, Tok, lent-to, lend-mut, back-mut, lend-copy}
 use denote.Enum.Laws as EL
-use Rattle.parked.specs.Parked.{stored}
+use Rattle.parked.specs.Parked.{storedOf}
 use Rattle.park.specs.Park.{parking, parkTested, ParkRoom}
 use Rattle.run_entry.specs.Entry.{isFine}
 use lib.ListN.{length}
@@ -45,7 +45,7 @@ use Rattle.park.proofs.put_tested.Symbol.{name as #park·put-tested}
 
 -- what the callee ensures of its result and of what was lent, at exit
 abbrev pub Ensured-put-tested : Fault → List ℕ → List ℕ → List ℕ → List ℕ → List ℕ → List ℕ → List ℕ → List ℕ → Parked → List ℕ → Type 0
-Ensured-put-tested fault words positions increments gains affinities indices offsets target res target′ = parking res target′ ≡ parkTested fault (stored words positions increments gains affinities indices offsets) target
+Ensured-put-tested fault words positions increments gains affinities indices offsets target res target′ = parking res target′ ≡ parkTested fault (storedOf words positions increments gains affinities indices offsets) target
 
 module _ {M : Type 1} (𝓤 : URA M) (H : Heap 𝓤) (A : Atoms 𝓤) (mem : Memory → SProp 𝓤) (run : Routine → Fun 𝓤) where
   abbrev pub Contract-put-tested : Contract 𝓤
@@ -54,12 +54,12 @@ module _ {M : Type 1} (𝓤 : URA M) (H : Heap 𝓤) (A : Atoms 𝓤) (mem : Mem
   abbrev to : Fault → Seat → List ℕ → Seat → List ℕ → Seat → List ℕ → Seat → List ℕ → Seat → List ℕ → Seat → List ℕ → Seat → List ℕ → Seat → List ℕ → Contract-put-tested .Ghost
   to fault s-words words s-positions positions s-increments increments s-gains gains s-affinities affinities s-indices indices s-offsets offsets s-target target = (((s-words .life, (s-positions .life, (s-increments .life, (s-gains .life, (s-affinities .life, (s-indices .life, (s-offsets .life, (s-target .life, tt)))))))), (s-words .share, (s-positions .share, (s-increments .share, (s-gains .share, (s-affinities .share, (s-indices .share, (s-offsets .share, (s-target .share, tt)))))))), tt, (fault, (ref-at s-words words, (ref-at s-positions positions, (ref-at s-increments increments, (ref-at s-gains gains, (ref-at s-affinities affinities, (ref-at s-indices indices, (ref-at s-offsets offsets, (ref-at s-target target, tt))))))))), (val-Fault fault ∷ [], (word s-words ∷ [], (word s-positions ∷ [], (word s-increments ∷ [], (word s-gains ∷ [], (word s-affinities ∷ [], (word s-indices ∷ [], (word s-offsets ∷ [], (word s-target ∷ [], tt)))))))))), tt)
 
-  goes : Given 𝓤 H A → (fault : Fault) (s-words : Seat) (words : List ℕ) (s-positions : Seat) (positions : List ℕ) (s-increments : Seat) (increments : List ℕ) (s-gains : Seat) (gains : List ℕ) (s-affinities : Seat) (affinities : List ℕ) (s-indices : Seat) (indices : List ℕ) (s-offsets : Seat) (offsets : List ℕ) (s-target : Seat) (target : List ℕ) → IsFault fault → (isFine fault ≡ true → ParkRoom (stored words positions increments gains affinities indices offsets)) → ent 𝓤 (⋆ 𝓤 H A (‵ (Tok s-words) ∷ ‵ (Tok s-positions) ∷ ‵ (Tok s-increments) ∷ ‵ (Tok s-gains) ∷ ‵ (Tok s-affinities) ∷ ‵ (Tok s-indices) ∷ ‵ (Tok s-offsets) ∷ ‵ (Tok s-target) ∷ ‵ (Shr u64 s-words words) ∷ ‵ (Shr u64 s-positions positions) ∷ ‵ (Shr u64 s-increments increments) ∷ ‵ (Shr u64 s-gains gains) ∷ ‵ (Shr u64 s-affinities affinities) ∷ ‵ (Shr u32 s-indices indices) ∷ ‵ (Shr u32 s-offsets offsets) ∷ ‵ (Mut u8 s-target target) ∷ [])) (Contract-put-tested .pre (to fault s-words words s-positions positions s-increments increments s-gains gains s-affinities affinities s-indices indices s-offsets offsets s-target target))
+  goes : Given 𝓤 H A → (fault : Fault) (s-words : Seat) (words : List ℕ) (s-positions : Seat) (positions : List ℕ) (s-increments : Seat) (increments : List ℕ) (s-gains : Seat) (gains : List ℕ) (s-affinities : Seat) (affinities : List ℕ) (s-indices : Seat) (indices : List ℕ) (s-offsets : Seat) (offsets : List ℕ) (s-target : Seat) (target : List ℕ) → IsFault fault → (isFine fault ≡ true → ParkRoom (storedOf words positions increments gains affinities indices offsets)) → ent 𝓤 (⋆ 𝓤 H A (‵ (Tok s-words) ∷ ‵ (Tok s-positions) ∷ ‵ (Tok s-increments) ∷ ‵ (Tok s-gains) ∷ ‵ (Tok s-affinities) ∷ ‵ (Tok s-indices) ∷ ‵ (Tok s-offsets) ∷ ‵ (Tok s-target) ∷ ‵ (Shr u64 s-words words) ∷ ‵ (Shr u64 s-positions positions) ∷ ‵ (Shr u64 s-increments increments) ∷ ‵ (Shr u64 s-gains gains) ∷ ‵ (Shr u64 s-affinities affinities) ∷ ‵ (Shr u32 s-indices indices) ∷ ‵ (Shr u32 s-offsets offsets) ∷ ‵ (Mut u8 s-target target) ∷ [])) (Contract-put-tested .pre (to fault s-words words s-positions positions s-increments increments s-gains gains s-affinities affinities s-indices indices s-offsets offsets s-target target))
   goes W fault s-words words s-positions positions s-increments increments s-gains gains s-affinities affinities s-indices indices s-offsets offsets s-target target g-fault l = qed W (‵ (Tok s-words) ∷ ‵ (Tok s-positions) ∷ ‵ (Tok s-increments) ∷ ‵ (Tok s-gains) ∷ ‵ (Tok s-affinities) ∷ ‵ (Tok s-indices) ∷ ‵ (Tok s-offsets) ∷ ‵ (Tok s-target) ∷ ‵ (Shr u64 s-words words) ∷ ‵ (Shr u64 s-positions positions) ∷ ‵ (Shr u64 s-increments increments) ∷ ‵ (Shr u64 s-gains gains) ∷ ‵ (Shr u64 s-affinities affinities) ∷ ‵ (Shr u32 s-indices indices) ∷ ‵ (Shr u32 s-offsets offsets) ∷ ‵ (Mut u8 s-target target) ∷ []) ∵ says ! l $ nothing ! $ move ! (8 ∷ 0 ∷ []) $ join ! $ move ! (7 ∷ 0 ∷ []) $ join ! $ move ! (6 ∷ 0 ∷ []) $ join ! $ move ! (5 ∷ 0 ∷ []) $ join ! $ move ! (4 ∷ 0 ∷ []) $ join ! $ move ! (3 ∷ 0 ∷ []) $ join ! $ move ! (2 ∷ 0 ∷ []) $ join ! $ move ! (1 ∷ 0 ∷ []) $ join ! $ frame ! $ nothing ! $ move ! (8 ∷ 0 ∷ []) $ fjoin ! $ move ! (7 ∷ 0 ∷ []) $ fjoin ! $ move ! (6 ∷ 0 ∷ []) $ fjoin ! $ move ! (5 ∷ 0 ∷ []) $ fjoin ! $ move ! (4 ∷ 0 ∷ []) $ fjoin ! $ move ! (3 ∷ 0 ∷ []) $ fjoin ! $ move ! (2 ∷ 0 ∷ []) $ fjoin ! $ move ! (1 ∷ 0 ∷ []) $ fjoin ! $ owned ! Fault′.the-row (Is Fault′.the-row) ((EL.makes Fault′.the-type Fault″.the-plain) 𝓤 H A) fault _ g-fault $ fjoin ! $ done !
 
 module _ {M : Type 1} {𝓤 : URA M} {H : Heap 𝓤} {A : Atoms 𝓤} {K : Type 0} {W : Given 𝓤 H A} {Γ : List (Item 𝓤)} {E : Env 𝓤 H} {C : Calls 𝓤 H} {Λ : Loops 𝓤 H} {xs : List Operand} {q : After 𝓤 H} {d : Place} {rest : Code} where
   pub calls-put-tested-cccccccm : K → FmC 𝓤 H (W .laws) C → (mem : Memory → SProp 𝓤) (run : Routine → Fun 𝓤) → Triple 𝓤 (C #park·put-tested) (Contract-put-tested 𝓤 H A mem run)
-      → (fault : Fault) (s-words : Seat) (words : List ℕ) (s-positions : Seat) (positions : List ℕ) (s-increments : Seat) (increments : List ℕ) (s-gains : Seat) (gains : List ℕ) (s-affinities : Seat) (affinities : List ℕ) (s-indices : Seat) (indices : List ℕ) (s-offsets : Seat) (offsets : List ℕ) (s-target : Seat) (target : List ℕ) → length target ≡ s-target .count → IsFault fault → (isFine fault ≡ true → ParkRoom (stored words positions increments gains affinities indices offsets))
+      → (fault : Fault) (s-words : Seat) (words : List ℕ) (s-positions : Seat) (positions : List ℕ) (s-increments : Seat) (increments : List ℕ) (s-gains : Seat) (gains : List ℕ) (s-affinities : Seat) (affinities : List ℕ) (s-indices : Seat) (indices : List ℕ) (s-offsets : Seat) (offsets : List ℕ) (s-target : Seat) (target : List ℕ) → length target ≡ s-target .count → IsFault fault → (isFine fault ≡ true → ParkRoom (storedOf words positions increments gains affinities indices offsets))
       → ((P Ω0 Ω1 Ω2 Ω3 Ω4 Ω5 Ω6 Ω7 : Item 𝓤) → Opds K W (P ∷ Ω0 ∷ Ω1 ∷ Ω2 ∷ Ω3 ∷ Ω4 ∷ Ω5 ∷ Ω6 ∷ Ω7 ∷ Γ) E xs (val-Fault fault ∷ word s-words ∷ word s-positions ∷ word s-increments ∷ word s-gains ∷ word s-affinities ∷ word s-indices ∷ word s-offsets ∷ word s-target ∷ []))
       → ((res : Parked) (target′ : List ℕ) → Ensured-put-tested fault words positions increments gains affinities indices offsets target res target′ → Is Parked′.the-row res (val-Parked res ∷ []) → length target′ ≡ s-target .count → Seq K W (‵ (Shr u64 s-words words) ∷ ‵ (Tok s-words) ∷ ‵ (Shr u64 s-positions positions) ∷ ‵ (Tok s-positions) ∷ ‵ (Shr u64 s-increments increments) ∷ ‵ (Tok s-increments) ∷ ‵ (Shr u64 s-gains gains) ∷ ‵ (Tok s-gains) ∷ ‵ (Shr u64 s-affinities affinities) ∷ ‵ (Tok s-affinities) ∷ ‵ (Shr u32 s-indices indices) ∷ ‵ (Tok s-indices) ∷ ‵ (Shr u32 s-offsets offsets) ∷ ‵ (Tok s-offsets) ∷ ‵ (Mut u8 s-target target′) ∷ ‵ (Tok s-target) ∷ Γ) (lands C Λ E d (val-Parked res) rest q))
       → Seq K W (‵ (Shr u64 s-words words) ∷ ‵ (Tok s-words) ∷ ‵ (Shr u64 s-positions positions) ∷ ‵ (Tok s-positions) ∷ ‵ (Shr u64 s-increments increments) ∷ ‵ (Tok s-increments) ∷ ‵ (Shr u64 s-gains gains) ∷ ‵ (Tok s-gains) ∷ ‵ (Shr u64 s-affinities affinities) ∷ ‵ (Tok s-affinities) ∷ ‵ (Shr u32 s-indices indices) ∷ ‵ (Tok s-indices) ∷ ‵ (Shr u32 s-offsets offsets) ∷ ‵ (Tok s-offsets) ∷ ‵ (Mut u8 s-target target) ∷ ‵ (Tok s-target) ∷ Γ) (runs C Λ E (seq (call #park·put-tested xs d) rest) q)

@@ -31,7 +31,7 @@ use Rattle.words_entry.specs.WordsEntry.{wordsFault}
 use Rattle.words_entry.proofs.Laws.{words-fine}
 use Rattle.parked.specs.declared.Layout.{Layout}
 use Rattle.parked.specs.Layout.{layoutOf}
-use Rattle.parked.specs.Parked.{Stored, stored, linksIn, layoutIn, parkedWord, StoredRoom}
+use Rattle.parked.specs.Parked.{Stored, storedOf, linksIn, layoutIn, parkedWord, StoredRoom}
 use Rattle.parked.proofs.Laws.{end-most}
 use Rattle.park.specs.declared.Parked.{Parked}
 use Rattle.park.specs.declared.Parked.the-variants.{Written, Inside, Barred, Short, Bad}
@@ -151,7 +151,7 @@ module _ (w P I G A : List ℕ) (f : ℕ) (xs off : List ℕ) (ns : List Node) w
       links-most = lists-within 40000000 (λ t. slots-most run (length P) (length I) (length G) (length A) f xs off ns s);
     }
 
-    areas-room : 14 ≤ length w → StoredRoom (layoutIn w off) (stored w P I G A xs off)
+    areas-room : 14 ≤ length w → StoredRoom (layoutIn w off) (storedOf w P I G A xs off)
     unfolding runOf settingsOf layoutIn layoutOf
     areas-room l = record {
       run-long = l;
@@ -164,7 +164,7 @@ module _ (w P I G A : List ℕ) (f : ℕ) (xs off : List ℕ) (ns : List Node) w
       weights-long = lists-within (length A) (λ t. s .areas .tree-long t .links-most);
     }
 
-  pub park-room : isFine fault ≡ true → ParkRoom (stored w P I G A xs off)
+  pub park-room : isFine fault ≡ true → ParkRoom (storedOf w P I G A xs off)
   park-room e =
       let q = read e in
       let l = run-long w (q .0) in
@@ -214,9 +214,9 @@ module _ (w P I G A xs off : List ℕ) (f : ℕ) (cs : List Cell) (p i g a : ℕ
   fault-is : t ≡ fault w P I G A f xs off (nodesOf cs)
   fault-is = et ∙ rw (lp, li, lg, la)
 
-  pub park-asks : isFine t ≡ true → ParkRoom (stored w P I G A xs off)
+  pub park-asks : isFine t ≡ true → ParkRoom (storedOf w P I G A xs off)
   park-asks e = park-room w P I G A f xs off (nodesOf cs) (subst (λ (x : Fault). isFine x ≡ true) fault-is e)
 
-  pub park-said : (x : Parked) (b₀ b : List ℕ) → parking x b ≡ parkTested t (stored w P I G A xs off) b₀ → parking x b ≡ parkOf (stored w P I G A xs off) f (nodesOf cs) b₀
+  pub park-said : (x : Parked) (b₀ b : List ℕ) → parking x b ≡ parkTested t (storedOf w P I G A xs off) b₀ → parking x b ≡ parkOf (storedOf w P I G A xs off) f (nodesOf cs) b₀
   unfolding parkOf
-  park-said x b₀ b e = e ∙ ap (λ (y : Fault). parkTested y (stored w P I G A xs off) b₀) fault-is
+  park-said x b₀ b e = e ∙ ap (λ (y : Fault). parkTested y (storedOf w P I G A xs off) b₀) fault-is

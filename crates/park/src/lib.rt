@@ -6,7 +6,7 @@ ghost use lib.ListN.{length};
 ghost use Rattle.laws.specs.Domain.{mostComponents, mostFrames};
 ghost use Rattle.tree_node.specs.Arena.{nodesOf};
 ghost use Rattle.run_entry.specs.Entry.{isFine};
-ghost use Rattle.parked.specs.Parked.{stored, linksIn, layoutIn, StoredRoom};
+ghost use Rattle.parked.specs.Parked.{storedOf, linksIn, layoutIn, StoredRoom};
 ghost use Rattle.park.specs.Park.{calmAll, calmState, parking, parkedInto, parkTested, parkOf, parkNumber, LayoutRoom, ParkRoom};
 use elementary::limits::is_calm;
 use elementary::words::value_of;
@@ -97,8 +97,8 @@ fn put_words(
     l: Layout,
     target: &mut [u8],
 )
-    requires { ⌜ StoredRoom l (stored (now words) (now positions) (now increments) (now gains) (now affinities) (now indices) (now offsets)) × (8 * l .end ≤ length (now target)) ⌝ }
-    ensures { λ _. ⌜ now (target .exit) ≡ parkedInto l (stored (now (words .entry)) (now (positions .entry)) (now (increments .entry)) (now (gains .entry)) (now (affinities .entry)) (now (indices .entry)) (now (offsets .entry))) (now (target .entry)) ⌝ }
+    requires { ⌜ StoredRoom l (storedOf (now words) (now positions) (now increments) (now gains) (now affinities) (now indices) (now offsets)) × (8 * l .end ≤ length (now target)) ⌝ }
+    ensures { λ _. ⌜ now (target .exit) ≡ parkedInto l (storedOf (now (words .entry)) (now (positions .entry)) (now (increments .entry)) (now (gains .entry)) (now (affinities .entry)) (now (indices .entry)) (now (offsets .entry))) (now (target .entry)) ⌝ }
 {
     let mut w = 0;
     while w < l.end {
@@ -130,8 +130,8 @@ fn put_tested(
     offsets: &[u32],
     target: &mut [u8],
 ) -> Parked
-    requires { ⌜ (isFine fault ≡ true → ParkRoom (stored (now words) (now positions) (now increments) (now gains) (now affinities) (now indices) (now offsets))) ⌝ }
-    ensures { λ a. ⌜ parking a (now (target .exit)) ≡ parkTested fault (stored (now (words .entry)) (now (positions .entry)) (now (increments .entry)) (now (gains .entry)) (now (affinities .entry)) (now (indices .entry)) (now (offsets .entry))) (now (target .entry)) ⌝ }
+    requires { ⌜ (isFine fault ≡ true → ParkRoom (storedOf (now words) (now positions) (now increments) (now gains) (now affinities) (now indices) (now offsets))) ⌝ }
+    ensures { λ a. ⌜ parking a (now (target .exit)) ≡ parkTested fault (storedOf (now (words .entry)) (now (positions .entry)) (now (increments .entry)) (now (gains .entry)) (now (affinities .entry)) (now (indices .entry)) (now (offsets .entry))) (now (target .entry)) ⌝ }
 {
     if !is_fine(fault) {
         return Parked::Bad(fault);
@@ -173,7 +173,7 @@ pub fn park(
     cells: &[Cell],
     target: &mut [u8],
 ) -> Parked
-    ensures { λ a. ⌜ parking a (now (target .exit)) ≡ parkOf (stored (now (words .entry)) (now (positions .entry)) (now (increments .entry)) (now (gains .entry)) (now (affinities .entry)) (now (indices .entry)) (now (offsets .entry))) forces (nodesOf (now (cells .entry))) (now (target .entry)) ⌝ }
+    ensures { λ a. ⌜ parking a (now (target .exit)) ≡ parkOf (storedOf (now (words .entry)) (now (positions .entry)) (now (increments .entry)) (now (gains .entry)) (now (affinities .entry)) (now (indices .entry)) (now (offsets .entry))) forces (nodesOf (now (cells .entry))) (now (target .entry)) ⌝ }
 {
     let t = words_fault(
         words,

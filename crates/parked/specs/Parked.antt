@@ -19,8 +19,8 @@ pub record Stored : Type 0 where
   pub indices : List ℕ
   pub offsets : List ℕ
 
-abbrev pub stored : List ℕ → List ℕ → List ℕ → List ℕ → List ℕ → List ℕ → List ℕ → Stored
-stored w p i g a x o = record { run = w; positions = p; increments = i; gains = g; affinities = a; indices = x; offsets = o }
+abbrev pub storedOf : List ℕ → List ℕ → List ℕ → List ℕ → List ℕ → List ℕ → List ℕ → Stored
+storedOf w p i g a x o = record { run = w; positions = p; increments = i; gains = g; affinities = a; indices = x; offsets = o }
 
 -- the links that are listed: none of an exact run
 unfoldable pub linksIn : Bool → ℕ → List ℕ → ℕ

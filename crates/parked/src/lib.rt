@@ -6,7 +6,7 @@ ghost use lib.ListN.{length};
 ghost use Rattle.laws.specs.Area.{num};
 ghost use Rattle.laws.specs.Domain.{mostComponents, mostFrames};
 ghost use Rattle.parked.specs.Layout.{filledUp, layoutOf};
-ghost use Rattle.parked.specs.Parked.{stored, headOf, areaWord, stateWord, affinityWord, parkedWord, StoredRoom};
+ghost use Rattle.parked.specs.Parked.{storedOf, headOf, areaWord, stateWord, affinityWord, parkedWord, StoredRoom};
 
 // How a run lies: where each area starts, in words of the file, and how many words it has before its filling.
 pub struct Layout {
@@ -188,8 +188,8 @@ pub fn parked_word(
     l: Layout,
     w: usize,
 ) -> u64
-    requires { ⌜ StoredRoom l (stored (now words) (now positions) (now increments) (now gains) (now affinities) (now indices) (now offsets)) ⌝ }
-    ensures { λ r. ⌜ r ≡ parkedWord l (stored (now (words .entry)) (now (positions .entry)) (now (increments .entry)) (now (gains .entry)) (now (affinities .entry)) (now (indices .entry)) (now (offsets .entry))) w ⌝ }
+    requires { ⌜ StoredRoom l (storedOf (now words) (now positions) (now increments) (now gains) (now affinities) (now indices) (now offsets)) ⌝ }
+    ensures { λ r. ⌜ r ≡ parkedWord l (storedOf (now (words .entry)) (now (positions .entry)) (now (increments .entry)) (now (gains .entry)) (now (affinities .entry)) (now (indices .entry)) (now (offsets .entry))) w ⌝ }
 {
     if w < 12 {
         return head_word(words, l, w);

@@ -25,11 +25,12 @@ use Rattle.run_entry.proofs.Laws.{areas-good}
 use Rattle.record_words.specs.RecordWords.{settingsOf, methodOf, standingOf}
 use Rattle.parked.specs.declared.Layout.{Layout}
 use Rattle.parked.specs.Layout.{recordsIn}
-use Rattle.parked.specs.Parked.{Stored, stored}
+use Rattle.parked.specs.Parked.{Stored, storedOf}
 use Rattle.parked.specs.Fine.{layoutBy}
 use Rattle.park.specs.declared.Parked.the-variants.{Written}
 use Rattle.park.specs.Park.{Parking, parking, parkedInto, parkOf}
-use Rattle.unpark.specs.Unpark.{recordsDue, isParked, recordRead, settingsRead, fetched, weightsRead, offsetsRead, storedRead, hasRoom}
+use Rattle.parked_file.specs.File.{recordsDue, isParked}
+use Rattle.unpark.specs.Unpark.{recordRead, settingsRead, fetched, weightsRead, offsetsRead, storedRead, hasRoom}
 use Rattle.parking.specs.Held.{bytesMost, halvesMost, wordsMost, InWords, WrittenAs, firstRecords}
 use Rattle.parking.proofs.Files.{FileFine, parked-long, parked-fine}
 use Rattle.parking.proofs.Entries.{writes-parks}
@@ -146,7 +147,7 @@ module _ (f : List ℕ) (small : AllBelow bytesMost f) (P : isParked f ≡ true)
   links = 2 * g 1 * neighboursOf (bits (g 4)) (g 1)
 
   abbrev zeros : Stored
-  zeros = stored (replicate 14 0) (replicate (g 1 * g 3) 0) (replicate (g 1 * g 3) 0) (replicate (g 1 * g 3) 0) (replicate (links + g 1 * g 1) 0) (replicate links 0) (replicate (g 1 + 1) 0)
+  zeros = storedOf (replicate 14 0) (replicate (g 1 * g 3) 0) (replicate (g 1 * g 3) 0) (replicate (g 1 * g 3) 0) (replicate (links + g 1 * g 1) 0) (replicate links 0) (replicate (g 1 + 1) 0)
 
   zero-all : (m n : ℕ) → 0 < m → AllBelow m (replicate n 0)
   zero-all m n h i = elim (decLt i n) [

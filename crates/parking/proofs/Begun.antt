@@ -31,9 +31,9 @@ use Rattle.record_words.specs.RecordWords.{standingOf}
 use Rattle.parked.specs.declared.Layout.{Layout}
 use Rattle.parked.specs.Layout.{recordsIn}
 use Rattle.parked.specs.Fine.{firstFine, secondFine, thirdFine, layoutBy, offsetFits, wordFine, recordFine}
-use Rattle.unpark.specs.Unpark.{recordStands, recordsDue, firstBad, isParked}
+use Rattle.parked_file.specs.File.{recordStands, recordsDue, firstBad, isParked}
 use Rattle.parking.specs.Held.{bytesMost, wordsMost, firstRecords, Begins}
-use Rattle.parking.proofs.Regions.{filled-most, less-one, Stacked, end-whole, end-most, by-region}
+use Rattle.parking.proofs.Regions.{filled-most, less-one, Stacked, end-whole, head-before-end, by-region}
 use Rattle.parking.proofs.Words.{word-alone, word-bytes, rows-long, Lows, nil-low, cons-low, either-below}
 use Rattle.parking.proofs.Files.{else-true, when-true, tested, heldTest, indexTest, valueTest, at-positions, at-increments, at-gains, at-affinities, at-indices, at-weights, by-stacked, at-head, at-words, record-word, head-0, head-1, head-2, records-fine, fine-records, parked-long, parked-fine, fine-parked}
 use Rattle.parking.proofs.Heads.{first-facts, second-facts, third-good}
@@ -301,7 +301,7 @@ module _ (h : ℕ → ℕ) (small : (w : ℕ) → h w < wordsMost) (fine : (q : 
   made-word w a = word-alone h (layoutBy h .end) w a (small w)
 
   made-layout : layoutBy (wordIn made) ≡ layoutBy h
-  made-layout = layout-same (wordIn made) h (λ w a. made-word w (omega (arith, end-most (layoutBy h) (by-stacked h))))
+  made-layout = layout-same (wordIn made) h (λ w a. made-word w (omega (arith, head-before-end (layoutBy h) (by-stacked h))))
 
   made-stands : isParked made ≡ true
   unfolding recordsDue
@@ -347,7 +347,7 @@ module _ (f : List ℕ) (n : ℕ) (m : 32 * n ≤ length f) where
       let s = completed-small g n (λ w. little-below 8 f (8 * w) small) in
       let a = all-fine g h n C F in
       let k : n ≤ recordsIn (layoutBy h) = elim (decLt n 3) [
-        | yes c ↦ omega (arith, end-most (layoutBy h) (by-stacked h), end-whole (layoutBy h) (by-stacked h))
+        | yes c ↦ omega (arith, head-before-end (layoutBy h) (by-stacked h), end-whole (layoutBy h) (by-stacked h))
         | no c ↦ subst (λ (l : Layout). n ≤ recordsIn l) (sym (layout-same h g (λ w d. C .given w (omega arith)))) (le-trans b (first-le (λ q. not (recordStands f q)) (recordsDue f)))
       ] in
       let long : 32 * n ≤ length (made h s a) = omega (arith, k, made-long h s a) in
@@ -372,7 +372,7 @@ module _ (f : List ℕ) (n : ℕ) (m : 32 * n ≤ length f) where
           true≢false (sym stands ∙ bad)
       | no c ↦
           let q : recordsDue f ≤ firstBad f = omega arith in
-          let three : 3 ≤ recordsDue f = omega (arith, end-most (layoutBy g) (by-stacked g), end-whole (layoutBy g) (by-stacked g)) in
+          let three : 3 ≤ recordsDue f = omega (arith, head-before-end (layoutBy g) (by-stacked g), end-whole (layoutBy g) (by-stacked g)) in
           let same : recordsDue (e .file) ≡ recordsDue f = ap recordsIn (layout-same (wordIn (e .file)) g (λ w d. words w (omega (arith, d, a, q, three)))) in
           omega (arith, due, same, a, q)
     ])

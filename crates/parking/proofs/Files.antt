@@ -18,8 +18,8 @@ use Rattle.little.specs.Little.{wordIn}
 use Rattle.parked.specs.declared.Layout.{Layout}
 use Rattle.parked.specs.Layout.{filledUp, recordsIn}
 use Rattle.parked.specs.Fine.{firstFine, secondFine, thirdFine, headFine, layoutBy, valueFits, offsetFits, heldFits, indexFits, weightFits, stateFine, affinityFine, wordFine, recordFine}
-use Rattle.unpark.specs.Unpark.{recordStands, recordsDue, firstBad, isParked}
-use Rattle.parking.proofs.Regions.{filled-most, Stacked, layout-stacked, end-whole, end-most, by-region, chosen, in-positions, in-increments, in-gains, in-affinities, in-indices, in-weights}
+use Rattle.parked_file.specs.File.{recordStands, recordsDue, firstBad, isParked}
+use Rattle.parking.proofs.Regions.{filled-most, Stacked, layout-stacked, end-whole, head-before-end, by-region, chosen, in-positions, in-increments, in-gains, in-affinities, in-indices, in-weights}
 
 -- ---- an area
 
@@ -176,7 +176,7 @@ module _ (g : ℕ → ℕ) where
   pub records-fine : ((q : ℕ) → q < recordsIn (layoutBy g) → recordFine g q ≡ true) → FileFine
   records-fine f =
       let l = layoutBy g in
-      let many : 3 ≤ l .end / 4 = omega (arith, end-most l by-stacked, end-whole l by-stacked) in
+      let many : 3 ≤ l .end / 4 = omega (arith, head-before-end l by-stacked, end-whole l by-stacked) in
       record {
         first-fine = sym head-0 ∙ sym (at-head 0 (omega arith)) ∙ f 0 (omega (arith, many));
         second-fine = sym head-1 ∙ sym (at-head 1 (omega arith)) ∙ f 1 (omega (arith, many));

@@ -44,8 +44,8 @@ module _ (l : Layout) (r : Stacked l) where
       sum : {i g a x w e p q s : ℕ} (u v y : ℕ) → i ≡ 12 + p → g ≡ i + p → a ≡ g + p → x ≡ a + q → w ≡ x + s → e ≡ w + s → p ≡ 4 * u → q ≡ 4 * v → s ≡ 4 * y → e ≡ 4 * (3 + 3 * u + v + 2 * y)
       sum u v y a b c d e f g h i = omega arith
 
-  pub end-most : 12 ≤ l .end
-  end-most = omega (arith, r .increments-at, r .gains-at, r .affinities-at, r .indices-at, r .weights-at, r .end-at)
+  pub head-before-end : 12 ≤ l .end
+  head-before-end = omega (arith, r .increments-at, r .gains-at, r .affinities-at, r .indices-at, r .weights-at, r .end-at)
 
   -- what holds in each region holds of each word past the first three records
   pub by-region : (P : ℕ → Type 0)

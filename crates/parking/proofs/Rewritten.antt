@@ -24,7 +24,8 @@ use Rattle.park.specs.declared.Parked.the-variants.{Written}
 use Rattle.park.specs.Park.{calmState, parking, parkedInto, parkOf}
 use Rattle.unpark.specs.declared.Unparked.{Unparked}
 use Rattle.unpark.specs.declared.Unparked.the-variants.{Read, Bad, Short}
-use Rattle.unpark.specs.Unpark.{recordsDue, firstBad, isParked, recordRead, settingsRead, storedRead, hasRoom, Unparking, unparking, unparkOf}
+use Rattle.parked_file.specs.File.{recordsDue, firstBad, isParked}
+use Rattle.unpark.specs.Unpark.{recordRead, settingsRead, storedRead, hasRoom, Unparking, unparking, unparkOf}
 use Rattle.parking.specs.Held.{bytesMost}
 use Rattle.parking.proofs.Regions.{end-whole}
 use Rattle.parking.proofs.Words.{word-bytes}

@@ -11,7 +11,8 @@ use Rattle.laws.specs.Area.{num}
 use Rattle.laws.specs.Joined.{joined}
 use Rattle.laws.proofs.Laid.{laid-at, laid-size}
 use Rattle.little.specs.Little.{littleBytes, wordIn, AllBelow}
-use Rattle.little.proofs.Roundtrip.{little-same, little-back, length-bytes, bytes-back}
+use Rattle.little.proofs.Bytes.{length-bytes}
+use Rattle.little.proofs.Roundtrip.{little-same, little-back, bytes-back}
 use Rattle.parked.specs.declared.Layout.{Layout}
 use Rattle.parked.specs.Layout.{filledUp, recordsIn}
 use Rattle.parked.specs.Parked.{Stored, headOf, areaWord, stateWord, affinityWord, parkedWord}

@@ -24,9 +24,9 @@ use Rattle.parked.specs.Parked.{Stored, headOf, linksIn, layoutIn, parkedWord}
 use Rattle.parked.specs.Fine.{layoutBy, offsetFits}
 use Rattle.park.specs.declared.Parked.the-variants.{Written}
 use Rattle.park.specs.Park.{calmAll, calmState, Parking, parkedInto, parkOf}
-use Rattle.unpark.specs.Unpark.{recordsDue, isParked}
+use Rattle.parked_file.specs.File.{recordsDue, isParked}
 use Rattle.parking.specs.Held.{wordsMost, InWords, firstRecords}
-use Rattle.parking.proofs.Regions.{filled-most, less-one, Stacked, layout-stacked, end-most}
+use Rattle.parking.proofs.Regions.{filled-most, less-one, Stacked, layout-stacked, head-before-end}
 use Rattle.parking.proofs.Words.{word-alone, rows-long, word-below, filling, filling-in, filling-out, word-head, word-positions, word-increments, word-gains, word-affinities, word-indices, word-weights}
 use Rattle.parking.proofs.Files.{else-true, AreaFine, heldTest, WordsFine, FileFine, fine-parked}
 use Rattle.parking.proofs.Entries.{Writes, parks-all}
@@ -133,7 +133,7 @@ module _ (d : Stored) (F : List Float) (ns : List Node) (t : List ℕ) (W : Writ
     y = lying w (d .offsets)
 
     pub head : HeadIs g l w
-    head = head-is g l w (λ k h. G k (omega (arith, end-most l (y .rises))) ∙ word-head l (y .rises) d k h)
+    head = head-is g l w (λ k h. G k (omega (arith, head-before-end l (y .rises))) ∙ word-head l (y .rises) d k h)
 
     -- ---- the areas
 

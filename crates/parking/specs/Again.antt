@@ -6,7 +6,7 @@ use lib.Dec.{eqb}
 use lib.ListN.{drop}
 use Rattle.laws.specs.Area.{num}
 use Rattle.laws.specs.Joined.{pasted}
-use Rattle.parked.specs.Parked.{Stored, stored, layoutIn}
+use Rattle.parked.specs.Parked.{Stored, storedOf, layoutIn}
 
 -- the record's words, but an exact run's angle and the nodes in use, which are 0
 unfoldable pub recordAgain : List ℕ → List ℕ
@@ -18,7 +18,7 @@ recordAgain w =
 unfoldable pub storedAgain : Stored → Stored → Stored
 storedAgain d e =
     let l = layoutIn (d .run) (d .offsets) in
-    stored (recordAgain (d .run) ++ drop 14 (e .run))
+    storedOf (recordAgain (d .run) ++ drop 14 (e .run))
     (pasted (d .positions) 0 (l .cells) (e .positions))
     (pasted (d .increments) 0 (l .cells) (e .increments))
     (pasted (d .gains) 0 (l .cells) (e .gains))

@@ -13,7 +13,7 @@ use Rattle.record_words.specs.RecordWords.{runOf}
 use Rattle.parked.specs.Parked.{Stored}
 use Rattle.park.specs.declared.Parked.the-variants.{Written}
 use Rattle.park.specs.Park.{parking, parkOf}
-use Rattle.unpark.specs.Unpark.{isParked}
+use Rattle.parked_file.specs.File.{isParked}
 
 -- a byte, a word of 32 bits, one of 64: the numbers that each has
 abbrev pub bytesMost : ℕ

@@ -1,1 +1,2 @@
 pub mod Unpark
+pub mod Steps

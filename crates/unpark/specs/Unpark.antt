@@ -2,10 +2,9 @@
 use mathlib.Core.List.{List, [], _∷_, _++_}
 use mathlib.Core.Bool.{Bool, cond, not, _&&_}
 use Prim.Native.Nat.{ℕ, _+_, _*_}
-use lib.Dec.{eqb, leb}
+use lib.Dec.{leb}
 use lib.ListN.{length, drop}
 use lib.Ieee.{Float}
-use Rattle.laws.specs.Loops.{first}
 use Rattle.laws.specs.Area.{zero64}
 use Rattle.laws.specs.Joined.{each}
 use Rattle.areas.specs.Filled.{filled}
@@ -15,29 +14,11 @@ use Rattle.run_record.specs.Record.{perOf, sizesOf}
 use Rattle.run_entry.specs.Entry.{areasFit}
 use Rattle.record_words.specs.RecordWords.{methodOf, settingsOf}
 use Rattle.parked.specs.declared.Layout.{Layout}
-use Rattle.parked.specs.Layout.{recordsIn}
-use Rattle.parked.specs.Parked.{Stored, stored}
-use Rattle.parked.specs.Fine.{layoutBy, recordFine}
+use Rattle.parked.specs.Parked.{Stored, storedOf}
+use Rattle.parked.specs.Fine.{layoutBy}
+use Rattle.parked_file.specs.File.{recordsDue, firstBad, isParked}
 use Rattle.unpark.specs.declared.Unparked.{Unparked}
 use Rattle.unpark.specs.declared.Unparked.the-variants.{Read, Bad, Short}
-
--- ---- the file
-
--- record q is there, whole, and a run can hold it after those before it
-unfoldable pub recordStands : List ℕ → ℕ → Bool
-recordStands f q = leb (32 * q + 32) (length f) && recordFine (wordIn f) q
-
--- how many records the file should have, by its first three
-unfoldable pub recordsDue : List ℕ → ℕ
-recordsDue f = recordsIn (layoutBy (wordIn f))
-
--- the first record that is bad or missing, and the number of records where there is none
-unfoldable pub firstBad : List ℕ → ℕ
-firstBad f = first (λ q. not (recordStands f q)) (recordsDue f)
-
--- every record stands, and no byte follows: such bytes make one record more, which is bad
-unfoldable pub isParked : List ℕ → Bool
-isParked f = eqb (firstBad f) (recordsDue f) && eqb (length f) (32 * recordsDue f)
 
 -- ---- what is read, where g w is word w
 
@@ -64,7 +45,7 @@ offsetsRead g l v = cond (l .tree) (fetched g (l .affinities) (l .held) v) v
 unfoldable pub storedRead : (ℕ → ℕ) → Stored → Stored
 storedRead g d =
     let l = layoutBy g in
-    stored (recordRead g ++ drop 14 (d .run))
+    storedOf (recordRead g ++ drop 14 (d .run))
     (fetched g 12 (l .cells) (d .positions))
     (fetched g (l .increments) (l .cells) (d .increments))
     (fetched g (l .gains) (l .cells) (d .gains))

@@ -37,7 +37,7 @@ use denote.Triple.Walked.{says, Stays, stay-slice, stay-none, stay-none-slice, w
 use denote.Exit.{yes}
 use Rattle.lent.proofs.Pass.{Seat, ref-at, word, Mut, Shr, Tok}
 use denote.Enum.Laws as EL
-use Rattle.parked.specs.Parked.{stored}
+use Rattle.parked.specs.Parked.{storedOf}
 use Rattle.park.proofs.Laws.{park-asks, park-said}
 use Rattle.park.specs.Park.{parking, parkOf}
 use Rattle.tree_node.specs.Arena.{nodesOf}
@@ -97,7 +97,7 @@ module _ {M : Type 1} (𝓤 : URA M) (H : Heap 𝓤) (A : Atoms 𝓤) (W : Given
   typed-Parked : (v : Parked) → IsParked v → T (hasTy Parked″.mir (val-Parked v)) × WT (val-Parked v)
   typed-Parked v g = Parked″.the-field-laws .lawful 𝓤 H A W .typed (Parked′.the-type .to v) _ g .0
 
-  exits : (res : Parked) (target′ : List ℕ) → IsParked res → length target′ ≡ s-target .count → parking res target′ ≡ parkOf (stored words positions increments gains affinities indices offsets) forces (nodesOf cells) target → ent 𝓤 (⋆ 𝓤 H A (‵ (Shr u64 s-words words) ∷ ‵ (Tok s-words) ∷ ‵ (Shr u64 s-positions positions) ∷ ‵ (Tok s-positions) ∷ ‵ (Shr u64 s-increments increments) ∷ ‵ (Tok s-increments) ∷ ‵ (Shr u64 s-gains gains) ∷ ‵ (Tok s-gains) ∷ ‵ (Shr u64 s-affinities affinities) ∷ ‵ (Tok s-affinities) ∷ ‵ (Shr u32 s-indices indices) ∷ ‵ (Tok s-indices) ∷ ‵ (Shr u32 s-offsets offsets) ∷ ‵ (Tok s-offsets) ∷ ‵ (Shr Cell′.the-row s-cells cells) ∷ ‵ (Tok s-cells) ∷ ‵ (Mut u8 s-target target′) ∷ ‵ (Tok s-target) ∷ [])) (Post (val-Parked res))
+  exits : (res : Parked) (target′ : List ℕ) → IsParked res → length target′ ≡ s-target .count → parking res target′ ≡ parkOf (storedOf words positions increments gains affinities indices offsets) forces (nodesOf cells) target → ent 𝓤 (⋆ 𝓤 H A (‵ (Shr u64 s-words words) ∷ ‵ (Tok s-words) ∷ ‵ (Shr u64 s-positions positions) ∷ ‵ (Tok s-positions) ∷ ‵ (Shr u64 s-increments increments) ∷ ‵ (Tok s-increments) ∷ ‵ (Shr u64 s-gains gains) ∷ ‵ (Tok s-gains) ∷ ‵ (Shr u64 s-affinities affinities) ∷ ‵ (Tok s-affinities) ∷ ‵ (Shr u32 s-indices indices) ∷ ‵ (Tok s-indices) ∷ ‵ (Shr u32 s-offsets offsets) ∷ ‵ (Tok s-offsets) ∷ ‵ (Shr Cell′.the-row s-cells cells) ∷ ‵ (Tok s-cells) ∷ ‵ (Mut u8 s-target target′) ∷ ‵ (Tok s-target) ∷ [])) (Post (val-Parked res))
   exits res target′ is le-target e =
       qed W (‵ (Shr u64 s-words words) ∷ ‵ (Tok s-words) ∷ ‵ (Shr u64 s-positions positions) ∷ ‵ (Tok s-positions) ∷ ‵ (Shr u64 s-increments increments) ∷ ‵ (Tok s-increments) ∷ ‵ (Shr u64 s-gains gains) ∷ ‵ (Tok s-gains) ∷ ‵ (Shr u64 s-affinities affinities) ∷ ‵ (Tok s-affinities) ∷ ‵ (Shr u32 s-indices indices) ∷ ‵ (Tok s-indices) ∷ ‵ (Shr u32 s-offsets offsets) ∷ ‵ (Tok s-offsets) ∷ ‵ (Shr Cell′.the-row s-cells cells) ∷ ‵ (Tok s-cells) ∷ ‵ (Mut u8 s-target target′) ∷ ‵ (Tok s-target) ∷ []) ∵
       suffices ! _ (ends-at 𝓤 H A f.ended stayed (f.clauses 𝓤 H A mem run-of) W (((s-words .life, (s-positions .life, (s-increments .life, (s-gains .life, (s-affinities .life, (s-indices .life, (s-offsets .life, (s-cells .life, (s-target .life, tt))))))))), (s-words .share, (s-positions .share, (s-increments .share, (s-gains .share, (s-affinities .share, (s-indices .share, (s-offsets .share, (s-cells .share, (s-target .share, tt))))))))), tt, x, at), tt) (val-Parked res) res (tt, (tt, (tt, (tt, (tt, (tt, (tt, (tt, (tt, (target′, tt)))))))))) (tt, (tt, (tt, (tt, (tt, (tt, (tt, (tt, (tt, (le-target ∙ sym ln-target, tt))))))))))) $ says ! e $

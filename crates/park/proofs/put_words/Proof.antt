@@ -1,7 +1,7 @@
 use Rattle.little.proofs.Bytes.{length-bytes}
 use Rattle.park.proofs.Laws.{wordBytes, words-more}
 use Rattle.park.specs.Park.{parkedInto}
-use Rattle.parked.specs.Parked.{stored}
+use Rattle.parked.specs.Parked.{storedOf}
 use Rattle.laws.proofs.Laid.{Lays, lays-start, lays-done}
 use Prim.Native.Nat.{_-_}
 use borrow.Author.Needs.{needs}
@@ -10,7 +10,7 @@ use Rattle.park.proofs.put_words.Statement.{statement}
 use Rattle.park.proofs.put_words.Tie as tie
 
 abbrev Inv-loop : tie.InvT-loop
-Inv-loop words positions increments gains affinities indices offsets l target₀ w₀ target w = Lays 8 (wordBytes l (stored words positions increments gains affinities indices offsets)) (l .end) target₀ w target
+Inv-loop words positions increments gains affinities indices offsets l target₀ w₀ target w = Lays 8 (wordBytes l (storedOf words positions increments gains affinities indices offsets)) (l .end) target₀ w target
 
 abbrev μ-loop : tie.MeasureT-loop
 μ-loop words positions increments gains affinities indices offsets l target₀ w₀ target w = l .end - w
