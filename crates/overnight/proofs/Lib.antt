@@ -1,0 +1,4 @@
+pub mod Writes
+pub mod Points
+pub mod Trees
+pub mod Forced

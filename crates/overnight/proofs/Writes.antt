@@ -1,0 +1,48 @@
+-- The same values written at the same places of two areas: they agree there, and wherever they agreed before. Assumes nothing.
+use mathlib.Core.Path.{_≡_, sym, subst, _∙_}
+use mathlib.Core.List.{List}
+use Prim.Native.Nat.{ℕ, zero, suc, _+_, _<_, _≤_}
+use native.Mathlib.Omega.{arith}
+use native.Mathlib.Decide.{ℕ-discrete}
+use native.Mathlib.Nat.{not-suc-le-zero}
+use lib.ListN.{length, set, length-set}
+use lib.Seq.{getD-set-same, getD-set-other}
+use lib.Ieee.{Float, nan}
+use Rattle.laws.specs.Area.{at}
+use Rattle.laws.specs.Loops.{loop}
+use Rattle.overnight.specs.Across.{SameAs}
+
+module _ (l l' : List Float) (p : ℕ) (v : Float) (h : p < length l) (h' : p < length l') where
+  pub set-here : at (set l p v) p ≡ at (set l' p v) p
+  set-here = getD-set-same l p v nan h ∙ sym (getD-set-same l' p v nan h')
+
+  pub set-alike : SameAs l l' (set l p v) (set l' p v)
+  set-alike k e = elim (ℕ-discrete k p) [
+    | yes x ↦ rw x set-here
+    | no x ↦ getD-set-other l p k v nan x ∙ (e ∙ sym (getD-set-other l' p k v nan x))
+  ]
+
+-- v e at place p e, for each e
+module _ (p : ℕ → ℕ) (v : ℕ → Float) where
+  abbrev pub putAt : ℕ → List Float → List Float
+  putAt e l = set l (p e) (v e)
+
+  pub puts-alike : (n k : ℕ) (l l' : List Float) → ((e : ℕ) → k ≤ e → e < k + n → p e < length l) → ((e : ℕ) → k ≤ e → e < k + n → p e < length l') → SameAs l l' (loop putAt n k l) (loop putAt n k l')
+  unfolding loop
+  puts-alike zero k l l' h h' x e = e
+  puts-alike (suc n) k l l' h h' x e =
+      puts-alike n (k + 1) (putAt k l) (putAt k l')
+      (λ e a b. rw (length-set l (p k) (v k)) (h e (omega arith) (omega arith)))
+      (λ e a b. rw (length-set l' (p k) (v k)) (h' e (omega arith) (omega arith)))
+      x (set-alike l l' (p k) (v k) (h k (omega arith) (omega arith)) (h' k (omega arith) (omega arith)) x e)
+
+  pub puts-there : (n k : ℕ) (l l' : List Float) → ((e : ℕ) → k ≤ e → e < k + n → p e < length l) → ((e : ℕ) → k ≤ e → e < k + n → p e < length l') → (e : ℕ) → k ≤ e → e < k + n → at (loop putAt n k l) (p e) ≡ at (loop putAt n k l') (p e)
+  unfolding loop
+  puts-there zero k l l' h h' e a b = absurd (omega arith)
+  puts-there (suc n) k l l' h h' e a b =
+      let g : (e : ℕ) → k + 1 ≤ e → e < k + 1 + n → p e < length (putAt k l) = λ e a b. rw (length-set l (p k) (v k)) (h e (omega arith) (omega arith)) in
+      let g' : (e : ℕ) → k + 1 ≤ e → e < k + 1 + n → p e < length (putAt k l') = λ e a b. rw (length-set l' (p k) (v k)) (h' e (omega arith) (omega arith)) in
+      elim (ℕ-discrete e k) [
+        | yes x ↦ rw x (puts-alike n (k + 1) (putAt k l) (putAt k l') g g' (p k) (set-here l l' (p k) (v k) (h k (omega arith) (omega arith)) (h' k (omega arith) (omega arith))))
+        | no x ↦ puts-there n (k + 1) (putAt k l) (putAt k l') g g' e (omega arith) (omega arith)
+      ]
