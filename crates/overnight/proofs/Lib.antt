@@ -2,3 +2,4 @@ pub mod Writes
 pub mod Points
 pub mod Trees
 pub mod Forced
+pub mod Finish
