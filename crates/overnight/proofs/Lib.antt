@@ -3,3 +3,4 @@ pub mod Points
 pub mod Trees
 pub mod Forced
 pub mod Finish
+pub mod Beside
