@@ -29,11 +29,12 @@ use Rattle.run_units.specs.Units.{unit, TreeTurn, treeTurn, boxTurn, treeUnit, 
 use Rattle.run_units.proofs.Rooms.{group-zero, group-one, group-two}
 use Rattle.run_units.proofs.One.{unit-tree, unit-force, unit-finish, by-unit}
 use Rattle.run_budget.proofs.Turns.{inserting, by-tree, length-forces}
-use Rattle.overnight.specs.Across.{reread, SameTo, SameAs, SameNodes, forcePlaces, SameRun}
+use Rattle.overnight.specs.Across.{reread, SameTo, Kept, SameNodes, forcePlaces, SameRun}
+use Rattle.overnight.proofs.Writes.{kept-on}
 use Rattle.overnight.proofs.Points.{box-same}
 use Rattle.overnight.proofs.Trees.{Twin, insert-same}
 use Rattle.overnight.proofs.Forced.{Forced, tree-forced, exact-forced}
-use Rattle.overnight.proofs.Finish.{Stepped, by-both}
+use Rattle.overnight.proofs.Finish.{Moves, by-both}
 
 -- o was parked and o' read; s and t are where units have led from there
 pub record Beside (o o' s t : State) : Type 0 where
@@ -47,10 +48,11 @@ pub record Beside (o o' s t : State) : Type 0 where
   pub rows : isTree (s .run .settings .method) ≡ false → SameTo ((s .run .phase - s .run .settings .n) * s .run .settings .c) (s .memory .forces) (t .memory .forces)
   -- those that one has written since
   pub finished : o .run .done < s .run .done → SameTo (forcePlaces (s .run .settings)) (s .memory .forces) (t .memory .forces)
-  pub kept-positions : SameAs (o .memory .positions) (o' .memory .positions) (s .memory .positions) (t .memory .positions)
-  pub kept-increments : SameAs (o .memory .increments) (o' .memory .increments) (s .memory .increments) (t .memory .increments)
-  pub kept-gains : SameAs (o .memory .gains) (o' .memory .gains) (s .memory .gains) (t .memory .gains)
-  pub kept-forces : SameAs (o .memory .forces) (o' .memory .forces) (s .memory .forces) (t .memory .forces)
+  pub kept-positions : Kept (o .memory .positions) (o' .memory .positions) (s .memory .positions) (t .memory .positions)
+  pub kept-increments : Kept (o .memory .increments) (o' .memory .increments) (s .memory .increments) (t .memory .increments)
+  pub kept-gains : Kept (o .memory .gains) (o' .memory .gains) (s .memory .gains) (t .memory .gains)
+  pub kept-forces : Kept (o .memory .forces) (o' .memory .forces) (s .memory .forces) (t .memory .forces)
+  pub kept-used : o .run .used ≡ o' .run .used → s .run .used ≡ t .run .used
 
 -- both units come to the same
 abbrev pub Both : State → State → Turned → Turned → Type 0
@@ -126,6 +128,7 @@ module _ (o o' s : State) (a : Float) (u : ℕ) (m : Memory) (w : Beside o o' s 
       kept-increments = w .kept-increments;
       kept-gains = w .kept-gains;
       kept-forces = w .kept-forces;
+      kept-used = λ _. d .nodes .number;
     },
   )
 
@@ -170,9 +173,9 @@ module _ (o o' s : State) (a : Float) (u : ℕ) (m : Memory) (w : Beside o o' s 
 
   -- ---- the forces
 
-  force-moves : groupOf R ≡ 1 → (F F' : List Float) → Forced R (M .forces) (m .forces) F F' → Both o o' (withForces M (advancedOf R (R .used)) F) (withForces m (advancedOf R' u) F')
+  force-moves : groupOf R ≡ 1 → (F F' : List Float) → Forced R (M .forces) (m .forces) F F' → (length (M .forces) ≡ length (m .forces) → length F ≡ length F') → Both o o' (withForces M (advancedOf R (R .used)) F) (withForces m (advancedOf R' u) F')
   unfolding advancedOf
-  force-moves z F F' d =
+  force-moves z F F' d long =
       let k = group-one R z in (
         refl,
         record {
@@ -201,7 +204,8 @@ module _ (o o' s : State) (a : Float) (u : ℕ) (m : Memory) (w : Beside o o' s 
           kept-positions = w .kept-positions;
           kept-increments = w .kept-increments;
           kept-gains = w .kept-gains;
-          kept-forces = λ p e. d .kept p (w .kept-forces p e);
+          kept-forces = kept-on (w .kept-forces) (record { each = d .kept; long = long });
+          kept-used = w .kept-used;
         },
       )
 
@@ -246,7 +250,7 @@ module _ (o o' s : State) (a : Float) (u : ℕ) (m : Memory) (w : Beside o o' s 
         | no e ↦ all-rows b (l .1 b) k (omega (arith, h, e))
       ]))
 
-  finish-moves : (groupOf R ≡ 0 → ⊥) → (groupOf R ≡ 1 → ⊥) → (norm : Float) (Y Y' I I' G G' : List Float) → Stepped (n * c) (M .positions) (m .positions) Y Y' → Stepped (n * c) (M .increments) (m .increments) I I' → Stepped (n * c) (M .gains) (m .gains) G G'
+  finish-moves : (groupOf R ≡ 0 → ⊥) → (groupOf R ≡ 1 → ⊥) → (norm : Float) (Y Y' I I' G G' : List Float) → Moves (n * c) (M .positions) (m .positions) Y Y' → Moves (n * c) (M .increments) (m .increments) I I' → Moves (n * c) (M .gains) (m .gains) G G'
       → Both o o' (withFinish M (finishTurn (closedOf R norm) Y I G Done)) (withFinish m (finishTurn (closedOf R' norm) Y' I' G' Done))
   unfolding closedOf stopsNow
   finish-moves x y norm Y Y' I I' G G' sy si sg =
@@ -269,10 +273,11 @@ module _ (o o' s : State) (a : Float) (u : ℕ) (m : Memory) (w : Beside o o' s 
           total = λ b h. absurd (not-suc-le-zero h);
           rows = λ b k h. absurd (none-yet (0 - n) c k (omega arith) h);
           finished = λ _. all-forces x y;
-          kept-positions = λ p e. sy .kept p (w .kept-positions p e);
-          kept-increments = λ p e. si .kept p (w .kept-increments p e);
-          kept-gains = λ p e. sg .kept p (w .kept-gains p e);
+          kept-positions = kept-on (w .kept-positions) (sy .kept);
+          kept-increments = kept-on (w .kept-increments) (si .kept);
+          kept-gains = kept-on (w .kept-gains) (sg .kept);
           kept-forces = w .kept-forces;
+          kept-used = w .kept-used;
         },
       )
 
@@ -287,12 +292,15 @@ module _ (o o' s : State) (a : Float) (u : ℕ) (m : Memory) (w : Beside o o' s 
 
   -- ---- a unit
 
+  same-length : length (M .forces) ≡ length (m .forces) → length (forceUnit R (M .positions) (M .affinities) (M .indices) (M .offsets) (M .nodes) (M .forces)) ≡ length (forceUnit R' (m .positions) (m .affinities) (m .indices) (m .offsets) (m .nodes) (m .forces))
+  same-length e = length-forces R (M .positions) (M .affinities) (M .indices) (M .offsets) (M .nodes) (M .forces) ∙ (e ∙ sym (length-forces R' (m .positions) (m .affinities) (m .indices) (m .offsets) (m .nodes) (m .forces)))
+
   unit-here : Both o o' (unit s) (unit t)
   unit-here =
       let q = group-same a u R in
       by-unit s live (λ (x : Turned). Both o o' x (unit t))
       (λ z. subst (λ (x' : Turned). Both o o' (withTree M (treeUnit R (M .positions) (M .nodes))) x') (sym (unit-tree t live (q ∙ z))) (tree-both z))
-      (λ z. subst (λ (x' : Turned). Both o o' (withForces M (advancedOf R (R .used)) (forceUnit R (M .positions) (M .affinities) (M .indices) (M .offsets) (M .nodes) (M .forces))) x') (sym (unit-force t live (q ∙ z))) (force-moves z (forceUnit R (M .positions) (M .affinities) (M .indices) (M .offsets) (M .nodes) (M .forces)) (forceUnit R' (m .positions) (m .affinities) (m .indices) (m .offsets) (m .nodes) (m .forces)) (forced z)))
+      (λ z. subst (λ (x' : Turned). Both o o' (withForces M (advancedOf R (R .used)) (forceUnit R (M .positions) (M .affinities) (M .indices) (M .offsets) (M .nodes) (M .forces))) x') (sym (unit-force t live (q ∙ z))) (force-moves z (forceUnit R (M .positions) (M .affinities) (M .indices) (M .offsets) (M .nodes) (M .forces)) (forceUnit R' (m .positions) (m .affinities) (m .indices) (m .offsets) (m .nodes) (m .forces)) (forced z) same-length))
       (λ x y. subst (λ (x' : Turned). Both o o' (withFinish M (finishUnit R (M .positions) (M .increments) (M .gains) (M .forces))) x') (sym (unit-finish t live (λ e. x (sym q ∙ e)) (λ e. y (sym q ∙ e)))) (finish-both x y))
 
 -- of a run that has not ended

@@ -14,6 +14,7 @@ use Rattle.laws.proofs.Loops.{loop-same}
 use Rattle.laws.proofs.Bools.{by-bool}
 use Rattle.laws.proofs.Every.{every-same}
 use Rattle.laws.proofs.Numbers.{row-in}
+use Rattle.laws.proofs.Written.{written-size}
 use Rattle.elementary.specs.Limits.{unlessAbove, absOf, calm}
 use Rattle.run_record.specs.declared.Run.{Run}
 use Rattle.run_record.specs.Record.{isTree, stopsNow, closedOf}
@@ -29,7 +30,7 @@ use Rattle.step_passes.specs.Passes.{Before, before, elementAt, sumStep, sumsOf
 use Rattle.step.specs.Step.{finishOf}
 use Rattle.run_units.specs.declared.Why.the-variants.{Done, Wild}
 use Rattle.run_units.specs.Units.{isExact, beforeOf, FinishTurn, finishTurn, finishUnit}
-use Rattle.overnight.specs.Across.{reread, SameTo, SameAs}
+use Rattle.overnight.specs.Across.{reread, SameTo, Kept}
 use Rattle.overnight.proofs.Writes.{puts-alike, puts-there}
 
 -- ---- gradients
@@ -70,16 +71,19 @@ module _ (b b' : Before) (n c : ℕ) (same : (e : ℕ) → e < n * c → element
   )
 
 -- Y and Y' are what the same step makes of the areas y and y'
-pub record Stepped (m : ℕ) (y y' Y Y' : List Float) : Type 0 where
+pub record Moves (m : ℕ) (y y' Y Y' : List Float) : Type 0 where
   pub here : SameTo m Y Y'
-  pub kept : SameAs y y' Y Y'
+  pub kept : Kept y y' Y Y'
 
-stepped : (m : ℕ) (v v' : ℕ → Float) → ((e : ℕ) → e < m → v e ≡ v' e) → (y y' : List Float) → m ≤ length y → m ≤ length y' → Stepped m y y' (loop (λ e l. set l e (v e)) m 0 y) (loop (λ e l. set l e (v' e)) m 0 y')
-stepped m v v' s y y' h h' =
+moves : (m : ℕ) (v v' : ℕ → Float) → ((e : ℕ) → e < m → v e ≡ v' e) → (y y' : List Float) → m ≤ length y → m ≤ length y' → Moves m y y' (loop (λ e l. set l e (v e)) m 0 y) (loop (λ e l. set l e (v' e)) m 0 y')
+moves m v v' s y y' h h' =
     let q : loop (λ e l. set l e (v e)) m 0 y' ≡ loop (λ e l. set l e (v' e)) m 0 y' = loop-same (λ e l. set l e (v e)) (λ e l. set l e (v' e)) m 0 y' (λ e l _ x. ap (set l e) (s e (omega arith))) in
     rw (sym q) (record {
       here = λ e l. puts-there (λ e. e) v m 0 y y' (λ e _ l. omega (arith, l, h)) (λ e _ l. omega (arith, l, h')) e (omega arith) (omega (arith, l));
-      kept = puts-alike (λ e. e) v m 0 y y' (λ e _ l. omega (arith, l, h)) (λ e _ l. omega (arith, l, h'));
+      kept = record {
+        each = puts-alike (λ e. e) v m 0 y y' (λ e _ l. omega (arith, l, h)) (λ e _ l. omega (arith, l, h'));
+        long = λ e. written-size v m y ∙ (e ∙ sym (written-size v m y'));
+      };
     })
 
 module _ (r : Run) (angle : Float) (used' : ℕ) (y y' v v' g g' F F' : List Float) where
@@ -96,7 +100,7 @@ module _ (r : Run) (angle : Float) (used' : ℕ) (y y' v v' g g' F F' : List Flo
   pub by-both : 0 < c → SameTo m y y' → SameTo m v v' → SameTo m g g' → (isTree (r .settings .method) ≡ true → SameTo (n * (2 * c + 1)) F F') → (isTree (r .settings .method) ≡ false → SameTo m F F')
       → m ≤ length y → m ≤ length y' → m ≤ length v → m ≤ length v' → m ≤ length g → m ≤ length g'
       → (P : FinishTurn → FinishTurn → Type 0)
-      → ((norm : Float) (Y Y' I I' G G' : List Float) → Stepped m y y' Y Y' → Stepped m v v' I I' → Stepped m g g' G G' → P (finishTurn (closedOf r norm) Y I G Done) (finishTurn (closedOf (reread angle used' r) norm) Y' I' G' Done))
+      → ((norm : Float) (Y Y' I I' G G' : List Float) → Moves m y y' Y Y' → Moves m v v' I I' → Moves m g g' G G' → P (finishTurn (closedOf r norm) Y I G Done) (finishTurn (closedOf (reread angle used' r) norm) Y' I' G' Done))
       → P (finishTurn r y v g Wild) (finishTurn (reread angle used' r) y' v' g' Wild)
       → P (finishUnit r y v g F) (finishUnit (reread angle used' r) y' v' g' F')
   unfolding finishUnit finishOf elementAt momentumOf
@@ -115,9 +119,9 @@ module _ (r : Run) (angle : Float) (used' : ℕ) (y y' v v' g g' F F' : List Flo
       (loop (positionStep (meansOf b n c) b c) m 0 y) (loop (positionStep (meansOf b' n c) b' c) m 0 y')
       (loop (incrementStep b) m 0 v) (loop (incrementStep b') m 0 v')
       (loop (gainStep b) m 0 g) (loop (gainStep b') m 0 g')
-      (stepped m (λ e. centredBy (meansOf b n c) b c e) (λ e. centredBy (meansOf b' n c) b' c e) (centred-same b b' n c el) y y' ly ly')
-      (stepped m (λ e. elementAt b e .increment) (λ e. elementAt b' e .increment) (λ e l. ap (λ (x : Element). x .increment) (el e l)) v v' lv lv')
-      (stepped m (λ e. elementAt b e .gain) (λ e. elementAt b' e .gain) (λ e l. ap (λ (x : Element). x .gain) (el e l)) g g' lg lg')))
+      (moves m (λ e. centredBy (meansOf b n c) b c e) (λ e. centredBy (meansOf b' n c) b' c e) (centred-same b b' n c el) y y' ly ly')
+      (moves m (λ e. elementAt b e .increment) (λ e. elementAt b' e .increment) (λ e l. ap (λ (x : Element). x .increment) (el e l)) v v' lv lv')
+      (moves m (λ e. elementAt b e .gain) (λ e. elementAt b' e .gain) (λ e l. ap (λ (x : Element). x .gain) (el e l)) g g' lg lg')))
       (λ q. let q' = sym calm-is ∙ q in rw (q, q') wild)
     where
       not-no : (b : Bool) → not b ≡ false → b ≡ true

@@ -4,3 +4,4 @@ pub mod Trees
 pub mod Forced
 pub mod Finish
 pub mod Beside
+pub mod Theorems

@@ -1,16 +1,22 @@
 -- The same values written at the same places of two areas: they agree there, and wherever they agreed before. Assumes nothing.
-use mathlib.Core.Path.{_≡_, sym, subst, _∙_}
+use mathlib.Core.Path.{_≡_, sym, ap, _∙_}
 use mathlib.Core.List.{List}
 use Prim.Native.Nat.{ℕ, zero, suc, _+_, _<_, _≤_}
 use native.Mathlib.Omega.{arith}
 use native.Mathlib.Decide.{ℕ-discrete}
-use native.Mathlib.Nat.{not-suc-le-zero}
 use lib.ListN.{length, set, length-set}
-use lib.Seq.{getD-set-same, getD-set-other}
+use lib.Seq.{getD-set-same, getD-set-other, ext-getD}
 use lib.Ieee.{Float, nan}
 use Rattle.laws.specs.Area.{at}
 use Rattle.laws.specs.Loops.{loop}
-use Rattle.overnight.specs.Across.{SameAs}
+use Rattle.overnight.specs.Across.{SameAs, Kept}
+
+-- areas that were one are one
+pub kept-whole : {a a' l l' : List Float} → Kept a a' l l' → a ≡ a' → l ≡ l'
+kept-whole {a} {a'} {l} {l'} k e = ext-getD nan l l' (k .long (ap length e)) (λ i h. k .each i (ap (λ (x : List Float). at x i) e))
+
+pub kept-on : {a a' l l' m m' : List Float} → Kept a a' l l' → Kept l l' m m' → Kept a a' m m'
+kept-on k j = record { each = λ i e. j .each i (k .each i e); long = λ e. j .long (k .long e) }
 
 module _ (l l' : List Float) (p : ℕ) (v : Float) (h : p < length l) (h' : p < length l') where
   pub set-here : at (set l p v) p ≡ at (set l' p v) p

@@ -34,6 +34,11 @@ SameTo m l l' = (k : ℕ) → k < m → at l k ≡ at l' k
 abbrev pub SameAs : List Float → List Float → List Float → List Float → Type 0
 SameAs a a' l l' = (k : ℕ) → at a k ≡ at a' k → at l k ≡ at l' k
 
+-- .. and are as long as each other where these were
+pub record Kept (a a' l l' : List Float) : Type 0 where
+  pub each : SameAs a a' l l'
+  pub long : length a ≡ length a' → length l ≡ length l'
+
 -- offsets, and the links listed; slots past them may hold anything
 pub record SameLists (n : ℕ) (W W' : List Float) (I I' O O' : List ℕ) : Type 0 where
   pub offsets : (k : ℕ) → k ≤ n → num O k ≡ num O' k
@@ -63,22 +68,25 @@ pub record SameRun (s t : State) : Type 0 where
   pub arena : length (s .memory .nodes) ≡ length (t .memory .nodes)
 
 -- s is parked between two iterations, and t is what was read
-pub record Parked (s t : State) : Type 0 where
+pub record ReadBack (s t : State) : Type 0 where
   pub same : SameRun s t
   pub border : s .run .phase ≡ 0
 
--- forces and used nodes are the same, too
+-- forces and used nodes are the same, too; of a Barnes-Hut run the whole record is
 pub record SameForces (s t : State) : Type 0 where
   pub places : SameTo (forcePlaces (s .run .settings)) (s .memory .forces) (t .memory .forces)
   pub nodes : isTree (s .run .settings .method) ≡ true → SameNodes (s .run .used) (t .run .used) (s .memory .nodes) (t .memory .nodes)
+  pub whole-record : isTree (s .run .settings .method) ≡ true → t .run ≡ s .run
 
 -- s was parked and t read; s' and t' are what calls have left of them
 pub record Across (s t s' t' : State) : Type 0 where
   pub same : SameRun s' t'
   -- from the next finish unit on
   pub finished : s .run .done < s' .run .done → SameForces s' t'
-  -- what the areas held past the places of the run is kept
-  pub kept-positions : SameAs (s .memory .positions) (t .memory .positions) (s' .memory .positions) (t' .memory .positions)
-  pub kept-increments : SameAs (s .memory .increments) (t .memory .increments) (s' .memory .increments) (t' .memory .increments)
-  pub kept-gains : SameAs (s .memory .gains) (t .memory .gains) (s' .memory .gains) (t' .memory .gains)
-  pub kept-forces : SameAs (s .memory .forces) (t .memory .forces) (s' .memory .forces) (t' .memory .forces)
+  -- areas whose tails were the same have the same tails: where they were one, they are one (`kept-whole`)
+  pub kept-positions : Kept (s .memory .positions) (t .memory .positions) (s' .memory .positions) (t' .memory .positions)
+  pub kept-increments : Kept (s .memory .increments) (t .memory .increments) (s' .memory .increments) (t' .memory .increments)
+  pub kept-gains : Kept (s .memory .gains) (t .memory .gains) (s' .memory .gains) (t' .memory .gains)
+  pub kept-forces : Kept (s .memory .forces) (t .memory .forces) (s' .memory .forces) (t' .memory .forces)
+  -- an exact run writes no nodes in use
+  pub kept-used : s .run .used ≡ t .run .used → s' .run .used ≡ t' .run .used

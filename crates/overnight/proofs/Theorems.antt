@@ -1,0 +1,223 @@
+-- A run that was parked at the border of two iterations goes on as the run that was not. Assumes nothing.
+use mathlib.Core.Path.{_≡_, refl, sym, ap, _∙_}
+use mathlib.Core.List.{List, [], _∷_, _++_}
+use mathlib.Core.Bool.{Bool, true, false, cond, not, _||_}
+use Prim.Native.Nat.{ℕ, zero, suc, _+_, _-_, _*_, _<_, _≤_}
+use native.Mathlib.Omega.{arith}
+use native.Mathlib.Nat.{le-refl, zero-mul, not-suc-le-zero}
+use lib.Dec.{ltb}
+use lib.Ieee.{Float}
+use Rattle.laws.proofs.Bools.{by-bool}
+use Rattle.run_calls.specs.Machine.{Kind, faulty, over, refused, running, stops, after, unitsDone, kindAt, go, call, together, capped}
+use Rattle.laws.specs.Loops.{until}
+use Rattle.run_calls.proofs.Demand.{good-after, call-goes, call-state}
+use Rattle.run_record.specs.declared.Run.{Run}
+use Rattle.run_record.specs.declared.Standing.{Standing}
+use Rattle.run_record.specs.Record.{isTree, isEnded}
+use Rattle.run_entry.specs.State.{State}
+use Rattle.run_entry.specs.Entry.{Good}
+use Rattle.run_units.specs.declared.Why.{Why}
+use Rattle.run_units.specs.Units.{unit, isDone}
+use Rattle.run_budget.specs.Budget.{machine, answerOf, standsOf, refusedOf}
+use Rattle.run_budget.specs.declared.Answer.{Answer}
+use Rattle.run_budget.proofs.Spends.{due}
+use Rattle.descent.specs.Descent.{work, unitsOf, answerKind, works, toldAll}
+use Rattle.descent.specs.Honest.{Honest}
+use Rattle.descent.proofs.Lawful.{lawful}
+use Rattle.descent.proofs.Grown.{honest-keeps}
+use Rattle.descent.proofs.Theorems.{call-keeps, stays-honest, OneCall, demand-three}
+use Rattle.overnight.specs.Across.{reread, SameTo, SameRun, ReadBack, SameForces, Across}
+use Rattle.overnight.proofs.Beside.{Beside, unit-both}
+
+-- ---- where it begins, and what is left of it
+
+none-before : (i w k : ℕ) → i ≡ 0 → k < i * w → ⊥
+none-before i w k e h = not-suc-le-zero (rw (e, zero-mul w) at h)
+
+beside-start : (s t : State) → ReadBack s t → Beside s t s t
+beside-start s t p =
+    let n = s .run .settings .n in
+    record {
+      same = p .same;
+      from = le-refl (s .run .done);
+      nodes = λ _ h. absurd (let q = h (p .border) in omega (arith, q));
+      points = λ _ k h. absurd (none-before (s .run .phase - n - 1) (2 * s .run .settings .c + 1) k (omega (arith, p .border)) h);
+      total = λ _ h. absurd (omega (arith, h, p .border));
+      rows = λ _ k h. absurd (none-before (s .run .phase - n) (s .run .settings .c) k (omega (arith, p .border)) h);
+      finished = λ q. absurd (omega (arith, q));
+      kept-positions = record { each = λ _ e. e; long = λ e. e };
+      kept-increments = record { each = λ _ e. e; long = λ e. e };
+      kept-gains = record { each = λ _ e. e; long = λ e. e };
+      kept-forces = record { each = λ _ e. e; long = λ e. e };
+      kept-used = λ e. e;
+    }
+
+beside-across : (o o' s t : State) → Beside o o' s t → Across o o' s t
+beside-across o o' s t w = record {
+  same = w .same;
+  finished = λ q. record {
+    places = w .finished q;
+    nodes = λ x. w .nodes x (λ _. q);
+    whole-record = λ x. w .same .record-same ∙ rw (w .same .angle x, sym (w .nodes x (λ _. q) .number));
+  };
+  kept-positions = w .kept-positions;
+  kept-increments = w .kept-increments;
+  kept-gains = w .kept-gains;
+  kept-forces = w .kept-forces;
+  kept-used = w .kept-used;
+}
+
+-- what is read and passes the entry tests is honest: between iterations no tree is asked for
+pub honest-read : (s t : State) → ReadBack s t → Good t → Honest t
+honest-read s t p g = record { good = g; grown = λ _ q. absurd (q (ap (λ (r : Run). r .phase) (p .same .record-same) ∙ p .border)) }
+
+-- ---- calls
+
+module _ (o o' : State) where
+  stands-same : (s t : State) → Beside o o' s t → s .run .standing ≡ t .run .standing
+  stands-same s t w = sym (ap (λ (r : Run). r .standing) (w .same .record-same))
+
+  -- the next unit of a run that has not ended
+  why-same : (s t : State) → Beside o o' s t → Honest s → Honest t → isEnded (s .run .standing) ≡ false → unit s .why ≡ unit t .why
+  why-same s t w g g' live = unit-both o o' s t w (g .good) (g' .good) live .0
+
+  stops-same : (s t : State) → Beside o o' s t → Honest s → Honest t → stops machine s ≡ stops machine t
+  unfolding stops
+  stops-same s t w g g' =
+      let e = stands-same s t w in
+      by-bool (stops machine s ≡ stops machine t) (isEnded (s .run .standing))
+      (λ x. let x' : isEnded (t .run .standing) ≡ true = rw e at x in rw (x, x'))
+      (λ x. let x' : isEnded (t .run .standing) ≡ false = rw e at x in rw (x, x', why-same s t w g g' x))
+
+  -- what so many units leave
+  record Led (b : ℕ) (s t : State) : Type 0 where
+    units : unitsDone machine b s ≡ unitsDone machine b t
+    left : Beside o o' (after machine b s) (after machine b t)
+
+  after-both : (b : ℕ) (s t : State) → Beside o o' s t → Honest s → Honest t → Led b s t
+  unfolding until unitsDone
+  after-both zero s t w g g' = record { units = refl; left = w }
+  after-both (suc b) s t w g g' =
+      let e = stops-same s t w g g' in
+      by-bool (Led (suc b) s t) (stops machine s)
+      (λ x. let x' : stops machine t ≡ true = sym e ∙ x in record { units = rw (x, x', unitsDone); left = rw (x, x', until) w })
+      (λ x.
+      let x' : stops machine t ≡ false = sym e ∙ x in
+      let d = due s x in
+      let d' = due t x' in
+      let i = after-both b (unit s .now) (unit t .now) (unit-both o o' s t w (g .good) (g' .good) (d .0) .1) (honest-keeps s g (d .0) (d .1)) (honest-keeps t g' (d' .0) (d' .1)) in
+      record { units = rw (x, x', unitsDone) (ap suc (i .units)); left = rw (x, x', until) (i .left) })
+
+  -- the answer goes by how the run stands, by the next unit's refusal and by the units done
+  answer-same : (b d : ℕ) (s t : State) → Beside o o' s t → Honest s → Honest t → answerOf (kindAt machine b d s) s d ≡ answerOf (kindAt machine b d t) t d
+  unfolding answerOf kindAt
+  answer-same b d s t w g g' =
+      let e = stands-same s t w in
+      by-bool (answerOf (kindAt machine b d s) s d ≡ answerOf (kindAt machine b d t) t d) (isEnded (s .run .standing))
+      (λ x. let x' : isEnded (t .run .standing) ≡ true = rw e at x in rw (x, x') (ap (λ (z : Standing). standsOf z d) e))
+      (λ x. let x' : isEnded (t .run .standing) ≡ false = rw e at x in by-bool (answerOf (kindAt machine b d s) s d ≡ answerOf (kindAt machine b d t) t d) (ltb d b)
+      (λ q. rw (x, x', q) (ap (λ (z : Why). refusedOf z d) (why-same s t w g g' x)))
+      (λ q. rw (x, x', q)))
+
+  record Worked-both (b : ℕ) (s t : State) : Type 0 where
+    answer : work b s .answer ≡ work b t .answer
+    left : Beside o o' (work b s .left) (work b t .left)
+
+  work-both : (b : ℕ) (s t : State) → Beside o o' s t → Honest s → Honest t → Worked-both b s t
+  unfolding work lawful go
+  work-both b s t w g g' =
+      let i = after-both b s t w g g' in
+      let h : Honest (after machine b s) = good-after machine lawful b s g in
+      let h' : Honest (after machine b t) = good-after machine lawful b t g' in
+      let e = call-goes machine lawful b s g in
+      let e' = call-goes machine lawful b t g' in
+      record {
+        answer = rw (e, e', sym (i .units)) (answer-same b (unitsDone machine b s) (after machine b s) (after machine b t) (i .left) h h');
+        left = rw (e, e') (i .left);
+      }
+
+  record Works-both (bs : List ℕ) (s t : State) : Type 0 where
+    told : toldAll bs s ≡ toldAll bs t
+    left : Beside o o' (works bs s) (works bs t)
+
+  works-both : (bs : List ℕ) (s t : State) → Beside o o' s t → Honest s → Honest t → Works-both bs s t
+  unfolding works toldAll
+  works-both [] s t w g g' = record { told = refl; left = w }
+  works-both (b ∷ bs) s t w g g' =
+      let i = work-both b s t w g g' in
+      let r = works-both bs (work b s .left) (work b t .left) (i .left) (call-keeps b s g) (call-keeps b t g') in
+      record { told = rw (ap unitsOf (i .answer), r .told); left = r .left }
+
+-- ---- THEOREM: call by call
+
+-- calls with bs, then one with b, on the run s that was not parked and on t that was read
+pub record Overnight (bs : List ℕ) (b : ℕ) (s t : State) : Type 0 where
+  -- each call answers the same
+  pub answer : work b (works bs t) .answer ≡ work b (works bs s) .answer
+  pub left : Across s t (work b (works bs s) .left) (work b (works bs t) .left)
+
+pub goes-on-overnight : (bs : List ℕ) (b : ℕ) (s t : State) → Honest s → Good t → ReadBack s t → Overnight bs b s t
+goes-on-overnight bs b s t g good p =
+    let g' = honest-read s t p good in
+    let i = works-both s t bs s t (beside-start s t p) g g' in
+    let k = work-both s t b (works bs s) (works bs t) (i .left) (stays-honest bs s g) (stays-honest bs t g') in
+    record { answer = sym (k .answer); left = beside-across s t (work b (works bs s) .left) (work b (works bs t) .left) (k .left) }
+
+-- ---- THEOREM: demand 3
+
+works-add : (early late : List ℕ) (s : State) → works (early ++ late) s ≡ works late (works early s)
+unfolding works
+works-add [] late s = refl
+works-add (a ∷ early) late s = works-add early late (work a s .left)
+
+told-add : (early late : List ℕ) (s : State) → toldAll (early ++ late) s ≡ toldAll early s + toldAll late (works early s)
+unfolding toldAll works
+told-add [] late s = sym (nothing-more (toldAll late s))
+  where
+    nothing-more : (x : ℕ) → 0 + x ≡ x
+    nothing-more x = omega arith
+told-add (a ∷ early) late s = rw (told-add early late (work a s .left)) (assoc (unitsOf (work a s .answer)) (toldAll early (work a s .left)) (toldAll late (works early (work a s .left))))
+  where
+    assoc : (x y z : ℕ) → x + (y + z) ≡ x + y + z
+    assoc x y z = omega arith
+
+together-add : (early late : List ℕ) → together (early ++ late) ≡ together early + together late
+unfolding together
+together-add [] late = nothing-more (together late)
+  where
+    nothing-more : (x : ℕ) → x ≡ 0 + x
+    nothing-more x = omega arith
+together-add (a ∷ early) late = rw (together-add early late) (assoc a (together early) (together late))
+  where
+    assoc : (x y z : ℕ) → x + (y + z) ≡ x + y + z
+    assoc x y z = omega arith
+
+-- calls with early, a parking, calls with late and one with b on what was read, t; beside them one call on s with the sum, or 2^32 − 1
+pub record OneCallAcross (early late : List ℕ) (b : ℕ) (s t : State) : Type 0 where
+  pub left : Across (works early s) t (work (capped (together early + together late + b)) s .left) (work b (works late t) .left)
+  -- the units told add up to that call's
+  pub units : toldAll early s + toldAll late t + unitsOf (work b (works late t) .answer) ≡ unitsOf (work (capped (together early + together late + b)) s .answer)
+  -- the last answer is of its kind
+  pub kind : answerKind (work b (works late t) .answer) ≡ answerKind (work (capped (together early + together late + b)) s .answer)
+
+-- Covered: areas that hold the same where the run's values stand (positions, increments and gains below n·c; offsets to n, and indices and weights below the links listed, or the n·n affinities of an exact run).
+-- Slots past the links, the tails of all areas, forces, the nodes, their number in use and an exact run's angle may be anything in what was read.
+-- Left the same: positions, increments and gains at these places, the record but for nodes in use and an exact run's angle, and from the next finish unit on the places of forces that an iteration writes, and the nodes in use of a Barnes-Hut run with their number.
+-- Tails, and an exact run's other forces and nodes in use, are the same where they were at the parking.
+pub demand-three-across-a-parking : (early late : List ℕ) (b : ℕ) (s t : State) → Honest s → ReadBack (works early s) t → Good t → 1 ≤ b → OneCallAcross early late b s t
+demand-three-across-a-parking early late b s t g p good h =
+    let m = works early s in
+    let B = capped (together early + together late + b) in
+    let d = demand-three (early ++ late) b s g h in
+    let k = goes-on-overnight late b m t (stays-honest early s g) good p in
+    let told = works-both m t late m t (beside-start m t p) (stays-honest early s g) (honest-read m t p good) .told in
+    let ew = works-add early late s in
+    let eb = together-add early late in
+    let left : work b (works late m) .left ≡ work B s .left = rw (ew, eb) at (d .left) in
+    let units : toldAll (early ++ late) s + unitsOf (work b (works late m) .answer) ≡ unitsOf (work B s .answer) = rw (ew, eb) at (d .units) in
+    let kind : answerKind (work b (works late m) .answer) ≡ answerKind (work B s .answer) = rw (ew, eb) at (d .kind) in
+    record {
+      left = rw (sym left) (k .left);
+      units = rw (k .answer, sym told) (ap (λ (x : ℕ). x + unitsOf (work b (works late m) .answer)) (sym (told-add early late s)) ∙ units);
+      kind = rw (k .answer) kind;
+    }
