@@ -1,7 +1,7 @@
 -- A run that was parked beside the one that was not, unit by unit: each unit is done on both or refused on both, for the same reason, and keeps them alike. Assumes nothing.
 use mathlib.Core.Path.{_≡_, refl, sym, ap, subst, _∙_}
 use mathlib.Core.List.{List}
-use mathlib.Core.Bool.{true, false, cond, true≢false}
+use mathlib.Core.Bool.{true, false, true≢false}
 use Prim.Native.Nat.{ℕ, suc, _+_, _-_, _*_, _<_, _≤_}
 use native.Mathlib.Omega.{arith}
 use native.Mathlib.Decide.{ℕ-discrete, decLt}
@@ -9,23 +9,23 @@ use native.Mathlib.Nat.{zero-mul, suc-mul, not-suc-le-zero}
 use lib.ListN.{length, set, length-set}
 use lib.Seq.{getD-set-same}
 use lib.Ieee.{Float}
-use Rattle.laws.specs.Area.{at, num}
+use Rattle.laws.specs.Area.{at}
 use Rattle.laws.proofs.Bools.{by-bool}
 use Rattle.run_record.specs.declared.Run.{Run}
 use Rattle.run_record.specs.Record.{isTree, isEnded, perOf, advancedOf, stopsNow, closedOf}
 use Rattle.tree_node.specs.declared.Node.{Node}
-use Rattle.tree_node.specs.Arena.{nodeAt, blank}
+use Rattle.tree_node.specs.Arena.{blank}
 use Rattle.tree_node.proofs.Told.{nameable-most}
 use Rattle.tree_bounds.specs.Bounds.{boxOf}
 use Rattle.tree.specs.Insert.{tree}
 use Rattle.tree.proofs.Longer.{Fits}
 use Rattle.run_entry.specs.State.{Memory, State, state}
-use Rattle.run_entry.specs.Entry.{Good, listed}
+use Rattle.run_entry.specs.Entry.{Good}
 use Rattle.run_rooms.proofs.Lists.{offset-listed, linked-at}
 use Rattle.run_rooms.proofs.Places.{cells-forces}
 use Rattle.run_plan.specs.Plan.{groupOf}
-use Rattle.run_units.specs.declared.Why.the-variants.{Done, Full, Wild}
-use Rattle.run_units.specs.Units.{unit, TreeTurn, treeTurn, boxTurn, treeUnit, forceUnit, FinishTurn, finishTurn, finishUnit, Turned, turned, withTree, withForces, withFinish}
+use Rattle.run_units.specs.declared.Why.the-variants.{Done, Full}
+use Rattle.run_units.specs.Units.{unit, TreeTurn, treeTurn, boxTurn, treeUnit, forceUnit, FinishTurn, finishTurn, finishUnit, Turned, withTree, withForces, withFinish}
 use Rattle.run_units.proofs.Rooms.{group-zero, group-one, group-two}
 use Rattle.run_units.proofs.One.{unit-tree, unit-force, unit-finish, by-unit}
 use Rattle.run_budget.proofs.Turns.{inserting, by-tree, length-forces}
@@ -33,7 +33,7 @@ use Rattle.overnight.specs.Across.{reread, SameTo, Kept, SameNodes, forc
 use Rattle.overnight.proofs.Writes.{kept-on}
 use Rattle.overnight.proofs.Points.{box-same}
 use Rattle.overnight.proofs.Trees.{Twin, insert-same}
-use Rattle.overnight.proofs.Forced.{Forced, tree-forced, exact-forced}
+use Rattle.overnight.proofs.Forced.{one-method, Forced, tree-forced, exact-forced}
 use Rattle.overnight.proofs.Finish.{Moves, by-both}
 
 -- o was parked and o' read; s and t are where units have led from there
@@ -60,7 +60,7 @@ Both o o' x x' = (x .why ≡ x' .why) × Beside o o' (x .now) (x' .now)
 
 -- ---- rows
 
-none-yet : (i w k : ℕ) → i ≡ 0 → k < i * w → ⊥
+pub none-yet : (i w k : ℕ) → i ≡ 0 → k < i * w → ⊥
 none-yet i w k e h = not-suc-le-zero (rw (e, zero-mul w) at h)
 
 -- one row more
@@ -97,9 +97,6 @@ module _ (o o' s : State) (a : Float) (u : ℕ) (m : Memory) (w : Beside o o' s 
   abbrev c : ℕ
   c = s .run .settings .c
 
-  not-both : isTree (R .settings .method) ≡ true → isTree (R .settings .method) ≡ false → ⊥
-  not-both x y = true≢false (sym x ∙ y)
-
   -- ---- the tree
 
   tree-moves : isTree (R .settings .method) ≡ true → R .phase ≤ n → (v v' : ℕ) (ns ns' : List Node) → Twin (tree v ns) (tree v' ns')
@@ -121,8 +118,8 @@ module _ (o o' s : State) (a : Float) (u : ℕ) (m : Memory) (w : Beside o o' s 
       from = w .from;
       nodes = λ _ _. d .nodes;
       points = λ _ k h. absurd (none-yet (R .phase + 1 - n - 1) (2 * c + 1) k (omega (arith, l)) h);
-      total = λ z. absurd (not-both x z);
-      rows = λ z. absurd (not-both x z);
+      total = λ z. absurd (one-method R x z);
+      rows = λ z. absurd (one-method R x z);
       finished = w .finished;
       kept-positions = w .kept-positions;
       kept-increments = w .kept-increments;
@@ -220,7 +217,7 @@ module _ (o o' s : State) (a : Float) (u : ℕ) (m : Memory) (w : Beside o o' s 
       let p : R .phase ≡ 0 → ⊥ = λ q. omega (arith, q, b) in
       let i = R .phase - n - 1 in
       let cs = g .contents x in
-      tree-forced R a u (M .positions) (m .positions) (M .affinities) (m .affinities) (M .indices) (m .indices) (M .offsets) (m .offsets) (M .nodes) (m .nodes) (M .forces) (m .forces) (w .same .positions) x (w .same .angle x) (w .same .lists x) (w .nodes x (λ q. absurd (p q)))
+      tree-forced R a u (M .positions) (m .positions) (M .affinities) (m .affinities) (M .indices) (m .indices) (M .offsets) (m .offsets) (M .nodes) (m .nodes) (M .forces) (m .forces) (w .same .positions) x (w .same .angle x) (w .same .lists x) (record { nodes = w .nodes x (λ q. absurd (p q)); long = w .same .arena })
       n (fits x p) (b .0) (b .1) (linked-at R (M .indices) (M .offsets) (M .nodes) cs (M .affinities) (g .areas .tree-long x) i (omega (arith, b))) (offset-listed R (M .indices) (M .offsets) (M .nodes) cs (n - (i + 1)) (i + 1) (omega (arith, b))) (g .areas .forces-long) (g' .areas .forces-long))
       (λ x.
       let f = cells-forces n c in

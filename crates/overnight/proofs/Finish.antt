@@ -1,8 +1,8 @@
 -- The finish does the same on both: the same gradients, means, tests and norm, and so the same step or the same refusal. Assumes nothing.
 use mathlib.Core.Path.{_≡_, refl, sym, ap, _∙_}
 use mathlib.Core.List.{List}
-use mathlib.Core.Bool.{Bool, true, false, cond, not, _&&_}
-use Prim.Native.Nat.{ℕ, _+_, _-_, _*_, _/_, _%_, _<_, _≤_}
+use mathlib.Core.Bool.{Bool, true, false, not, _&&_}
+use Prim.Native.Nat.{ℕ, _+_, _*_, _%_, _<_, _≤_}
 use native.Mathlib.Omega.{arith}
 use native.Mathlib.Nat.{le-refl}
 use lib.IntN.{pos}
@@ -17,16 +17,15 @@ use Rattle.laws.proofs.Numbers.{row-in}
 use Rattle.laws.proofs.Written.{written-size}
 use Rattle.elementary.specs.Limits.{unlessAbove, absOf, calm}
 use Rattle.run_record.specs.declared.Run.{Run}
-use Rattle.run_record.specs.Record.{isTree, stopsNow, closedOf}
+use Rattle.run_record.specs.Record.{isTree, closedOf}
 use Rattle.run_plan.specs.Plan.{momentumOf}
 use Rattle.gradient_pairs.specs.Exact.{shareFloor}
 use Rattle.gradient.specs.Exact.{four64}
 use Rattle.gradient.specs.Forces.{placeOf}
-use Rattle.gradient.specs.Element.{shareStep, normaliserOf, spotOf, gradientOf, normaliserFor, gradientsOf, normStep, normOf}
+use Rattle.gradient.specs.Element.{shareStep, normaliserOf, spotOf, gradientOf, gradientsOf, normStep, normOf}
 use Rattle.gradient.proofs.Spots.{spot-of}
 use Rattle.step_gains.specs.declared.Element.{Element}
-use Rattle.step_gains.specs.Gains.{newOf}
-use Rattle.step_passes.specs.Passes.{Before, before, elementAt, sumStep, sumsOf, meanStep, meansOf, centredBy, calmAt, calmMoves, calmCentred, positionStep, incrementStep, gainStep}
+use Rattle.step_passes.specs.Passes.{Before, elementAt, sumStep, meanStep, meansOf, centredBy, calmAt, calmMoves, calmCentred, positionStep, incrementStep, gainStep}
 use Rattle.step.specs.Step.{finishOf}
 use Rattle.run_units.specs.declared.Why.the-variants.{Done, Wild}
 use Rattle.run_units.specs.Units.{isExact, beforeOf, FinishTurn, finishTurn, finishUnit}

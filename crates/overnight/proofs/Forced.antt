@@ -1,5 +1,5 @@
 -- A unit of the forces writes the same into both areas: a point's row whole, an exact run's total (from +0.0 on in the first row) and gradient rows. Assumes nothing.
-use mathlib.Core.Path.{_≡_, refl, sym, ap, subst, _∙_}
+use mathlib.Core.Path.{_≡_, sym, ap, subst, _∙_}
 use mathlib.Core.List.{List}
 use mathlib.Core.Bool.{true, false, cond, true≢false}
 use Prim.Native.Nat.{ℕ, _+_, _-_, _*_, _<_, _≤_}
@@ -30,10 +30,10 @@ use Rattle.gradient.specs.Exact.{four64, totalRow, slopeStep, gradientRow}
 use Rattle.gradient.specs.Forces.{placeOf, putStep, stored, attractionOf, forcesOf, Linked}
 use Rattle.run_units.specs.Units.{forceUnit}
 use Rattle.run_budget.proofs.Turns.{length-run}
-use Rattle.overnight.specs.Across.{reread, SameTo, SameAs, SameLists, SameNodes}
+use Rattle.overnight.specs.Across.{reread, SameTo, SameAs, SameLists}
 use Rattle.overnight.proofs.Writes.{set-here, set-alike, puts-alike, puts-there}
 use Rattle.overnight.proofs.Points.{point-same, total-same, pulls-same, attraction-same}
-use Rattle.overnight.proofs.Trees.{repelled-same}
+use Rattle.overnight.proofs.Trees.{Twin, repelled-same}
 
 -- ---- a point's row
 
@@ -97,6 +97,9 @@ slope-alike x n c i y y' same hi F F' h h' =
 
 -- ---- the unit
 
+pub one-method : (r : Run) → isTree (r .settings .method) ≡ true → isTree (r .settings .method) ≡ false → ⊥
+one-method r a b = true≢false (sym a ∙ b)
+
 -- G and G' are what it makes of the forces F and F'
 pub record Forced (r : Run) (F F' G G' : List Float) : Type 0 where
   pub kept : SameAs F F' G G'
@@ -117,7 +120,7 @@ module _ (r : Run) (angle : Float) (used' : ℕ) (y y' P P' : List Float) (xs xs
   abbrev U' : List Float
   U' = forceUnit (reread angle used' r) y' P' xs' off' ns' F'
 
-  pub tree-forced : isTree (r .settings .method) ≡ true → angle ≡ r .settings .angle → SameLists n P P' xs xs' off off' → SameNodes (r .used) used' ns ns'
+  pub tree-forced : isTree (r .settings .method) ≡ true → angle ≡ r .settings .angle → SameLists n P P' xs xs' off off' → Twin (tree (r .used) ns) (tree used' ns')
       → (m : ℕ) → Fits n c m (tree (r .used) ns) → n < r .phase → r .phase ≤ 2 * n → Linked n P xs off (r .phase - n - 1) → num off (r .phase - n - 1 + 1) ≤ num off n
       → n * (2 * c + 1) ≤ length F → n * (2 * c + 1) ≤ length F' → Forced r F F' U U'
   unfolding forceUnit forcesOf exaggerationOf
@@ -140,12 +143,9 @@ module _ (r : Run) (angle : Float) (used' : ℕ) (y y' P P' : List Float) (xs xs
       rw (u, u') (record {
         kept = stored-alike c i A B F F' g g';
         tree = λ _ e l. stored-row c i A B F F' g g' e l;
-        total = λ z. absurd (not-both t z);
-        row = λ z. absurd (not-both t z);
+        total = λ z. absurd (one-method r t z);
+        row = λ z. absurd (one-method r t z);
       })
-    where
-      not-both : isTree (r .settings .method) ≡ true → isTree (r .settings .method) ≡ false → ⊥
-      not-both a b = true≢false (sym a ∙ b)
 
   pub exact-forced : isTree (r .settings .method) ≡ false → SameTo (n * n) P P' → r .phase < 2 * n → 2 ≤ n → (0 < r .phase → at F (n * c) ≡ at F' (n * c)) → n * c < length F → n * c < length F' → Forced r F F' U U'
   unfolding forceUnit totalRow gradientRow exaggerationOf
@@ -164,7 +164,7 @@ module _ (r : Run) (angle : Float) (used' : ℕ) (y y' P P' : List Float) (xs xs
       let u' : U' ≡ set F' (n * c) v = rw (t, q, w) in
       rw (u, u') (record {
         kept = set-alike F F' (n * c) v h h';
-        tree = λ z. absurd (not-both z t);
+        tree = λ z. absurd (one-method r z t);
         total = λ _ _. set-here F F' (n * c) v h h';
         row = λ _ l. absurd (omega (arith, li, l));
       }))
@@ -180,10 +180,7 @@ module _ (r : Run) (angle : Float) (used' : ℕ) (y y' P P' : List Float) (xs xs
       let s = slope-alike x n c i y y' same li F F' (omega (arith, h)) (omega (arith, h')) in
       rw (u, u') (record {
         kept = s .0;
-        tree = λ z. absurd (not-both z t);
+        tree = λ z. absurd (one-method r z t);
         total = λ _ l. absurd (omega (arith, l0, l));
         row = λ _ _. s .1;
       }))
-    where
-      not-both : isTree (r .settings .method) ≡ true → isTree (r .settings .method) ≡ false → ⊥
-      not-both a b = true≢false (sym a ∙ b)

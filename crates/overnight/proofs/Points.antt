@@ -1,19 +1,18 @@
 -- What units read of the positions: the n points' coordinates alone. Where two areas hold the same at these places, points, box, numerators and pulls are the same. Assumes nothing.
-use mathlib.Core.Path.{_≡_, refl, ap, _∙_}
+use mathlib.Core.Path.{_≡_, ap, _∙_}
 use mathlib.Core.List.{List}
-use mathlib.Core.Bool.{cond}
+use mathlib.Core.Bool.{true, false, cond}
 use Prim.Native.Nat.{ℕ, _+_, _-_, _*_, _<_, _≤_}
 use native.Mathlib.Omega.{arith}
 use native.Mathlib.Nat.{le-refl}
 use lib.ListN.{set}
 use lib.Dec.{eqb}
-use lib.Ieee.{Float, inf, binary64, add, sub, mul, div}
-use mathlib.Core.Bool.{true, false}
+use lib.Ieee.{Float, inf, binary64, add, mul, div}
 use Rattle.laws.specs.Area.{at, num, zero64, one64, zeros8}
 use Rattle.laws.specs.Loops.{loop}
 use Rattle.laws.proofs.Loops.{loop-same}
 use Rattle.laws.proofs.Numbers.{row-in}
-use Rattle.tree_node.specs.Node.{zeros3, freshOf, pointStep, pointOf}
+use Rattle.tree_node.specs.Node.{zeros3, pointStep, pointOf}
 use Rattle.tree_bounds.specs.declared.Span.{Span}
 use Rattle.tree_bounds.specs.Bounds.{widened, spanStep, spanOf, middleOf, middleStep, reachOf, reachStep, boxOf}
 use Rattle.tree_bodies.specs.Bodies.{gapStep, gapOf}

@@ -1,38 +1,34 @@
 -- A run that was parked at the border of two iterations goes on as the run that was not. Assumes nothing.
-use mathlib.Core.Path.{_≡_, refl, sym, ap, _∙_}
+use mathlib.Core.Path.{_≡_, refl, sym, ap, subst, _∙_}
 use mathlib.Core.List.{List, [], _∷_, _++_}
-use mathlib.Core.Bool.{Bool, true, false, cond, not, _||_}
-use Prim.Native.Nat.{ℕ, zero, suc, _+_, _-_, _*_, _<_, _≤_}
+use mathlib.Core.Bool.{true, false}
+use Prim.Native.Nat.{ℕ, zero, suc, _+_, _-_, _*_, _≤_}
 use native.Mathlib.Omega.{arith}
-use native.Mathlib.Nat.{le-refl, zero-mul, not-suc-le-zero}
+use native.Mathlib.Nat.{le-refl}
 use lib.Dec.{ltb}
 use lib.Ieee.{Float}
 use Rattle.laws.proofs.Bools.{by-bool}
-use Rattle.run_calls.specs.Machine.{Kind, faulty, over, refused, running, stops, after, unitsDone, kindAt, go, call, together, capped}
+use Rattle.run_calls.specs.Machine.{stops, after, unitsDone, kindAt, go, together, capped}
 use Rattle.laws.specs.Loops.{until}
-use Rattle.run_calls.proofs.Demand.{good-after, call-goes, call-state}
+use Rattle.run_calls.proofs.Demand.{good-after, call-goes}
 use Rattle.run_record.specs.declared.Run.{Run}
 use Rattle.run_record.specs.declared.Standing.{Standing}
-use Rattle.run_record.specs.Record.{isTree, isEnded}
-use Rattle.run_entry.specs.State.{State}
+use Rattle.run_record.specs.Record.{isEnded}
+use Rattle.run_entry.specs.State.{Memory, State, state}
 use Rattle.run_entry.specs.Entry.{Good}
 use Rattle.run_units.specs.declared.Why.{Why}
-use Rattle.run_units.specs.Units.{unit, isDone}
+use Rattle.run_units.specs.Units.{unit}
 use Rattle.run_budget.specs.Budget.{machine, answerOf, standsOf, refusedOf}
-use Rattle.run_budget.specs.declared.Answer.{Answer}
 use Rattle.run_budget.proofs.Spends.{due}
 use Rattle.descent.specs.Descent.{work, unitsOf, answerKind, works, toldAll}
 use Rattle.descent.specs.Honest.{Honest}
 use Rattle.descent.proofs.Lawful.{lawful}
 use Rattle.descent.proofs.Grown.{honest-keeps}
-use Rattle.descent.proofs.Theorems.{call-keeps, stays-honest, OneCall, demand-three}
-use Rattle.overnight.specs.Across.{reread, SameTo, SameRun, ReadBack, SameForces, Across}
-use Rattle.overnight.proofs.Beside.{Beside, unit-both}
+use Rattle.descent.proofs.Theorems.{call-keeps, stays-honest, demand-three}
+use Rattle.overnight.specs.Across.{reread, SameLists, SameRun, ReadBack, Across}
+use Rattle.overnight.proofs.Beside.{Beside, none-yet, unit-both}
 
 -- ---- where it begins, and what is left of it
-
-none-before : (i w k : ℕ) → i ≡ 0 → k < i * w → ⊥
-none-before i w k e h = not-suc-le-zero (rw (e, zero-mul w) at h)
 
 beside-start : (s t : State) → ReadBack s t → Beside s t s t
 beside-start s t p =
@@ -41,9 +37,9 @@ beside-start s t p =
       same = p .same;
       from = le-refl (s .run .done);
       nodes = λ _ h. absurd (let q = h (p .border) in omega (arith, q));
-      points = λ _ k h. absurd (none-before (s .run .phase - n - 1) (2 * s .run .settings .c + 1) k (omega (arith, p .border)) h);
+      points = λ _ k h. absurd (none-yet (s .run .phase - n - 1) (2 * s .run .settings .c + 1) k (omega (arith, p .border)) h);
       total = λ _ h. absurd (omega (arith, h, p .border));
-      rows = λ _ k h. absurd (none-before (s .run .phase - n) (s .run .settings .c) k (omega (arith, p .border)) h);
+      rows = λ _ k h. absurd (none-yet (s .run .phase - n) (s .run .settings .c) k (omega (arith, p .border)) h);
       finished = λ q. absurd (omega (arith, q));
       kept-positions = record { each = λ _ e. e; long = λ e. e };
       kept-increments = record { each = λ _ e. e; long = λ e. e };
@@ -220,4 +216,35 @@ demand-three-across-a-parking early late b s t g p good h =
       left = rw (sym left) (k .left);
       units = rw (k .answer, sym told) (ap (λ (x : ℕ). x + unitsOf (work b (works late m) .answer)) (sym (told-add early late s)) ∙ units);
       kind = rw (k .answer) kind;
+    }
+
+-- ---- parked again: what is read from the run that was read is beside the run that was never parked, and so both theorems hold across any number of parkings
+
+lists-on : {n : ℕ} {W X Z : List Float} {I J K O P Q : List ℕ} → SameLists n W X I J O P → SameLists n X Z J K P Q → SameLists n W Z I K O Q
+lists-on {n} {W} {X} {Z} {I} {J} {K} {O} {P} {Q} a b =
+    let e = a .offsets n (le-refl n) in
+    record {
+      offsets = λ k h. a .offsets k h ∙ b .offsets k h;
+      indices = λ k h. a .indices k h ∙ b .indices k (omega (arith, h, e));
+      weights = λ k h. a .weights k h ∙ b .weights k (omega (arith, h, e));
+    }
+
+run-on : (s : State) (a : Float) (used : ℕ) (m : Memory) (u : State) → SameRun s (state (reread a used (s .run)) m) → SameRun (state (reread a used (s .run)) m) u → SameRun s u
+run-on s a used m u x y = record {
+  record-same = y .record-same;
+  angle = λ e. y .angle e ∙ x .angle e;
+  positions = λ k h. x .positions k h ∙ y .positions k h;
+  increments = λ k h. x .increments k h ∙ y .increments k h;
+  gains = λ k h. x .gains k h ∙ y .gains k h;
+  lists = λ e. lists-on (x .lists e) (y .lists e);
+  matrix = λ e k h. x .matrix e k h ∙ y .matrix e k h;
+  arena = x .arena ∙ y .arena;
+}
+
+pub parked-again : (s t u : State) → SameRun s t → ReadBack t u → ReadBack s u
+parked-again s t u x p =
+    let e : t ≡ state (reread (t .run .settings .angle) (t .run .used) (s .run)) (t .memory) = ap (λ (r : Run). state r (t .memory)) (x .record-same) in
+    record {
+      same = run-on s (t .run .settings .angle) (t .run .used) (t .memory) u (subst (SameRun s) e x) (subst (λ (z : State). SameRun z u) e (p .same));
+      border = sym (ap (λ (r : Run). r .phase) (x .record-same)) ∙ p .border;
     }

@@ -1,18 +1,16 @@
 -- Two arenas as long as each other that have the same nodes in use: a point is refused in both or in neither, its insertion leaves the same nodes in use, and the walk over them gives the same. What lies past the nodes in use is written before it is read. Assumes nothing.
 use mathlib.Core.Path.{_≡_, refl, sym, ap, subst, _∙_}
 use mathlib.Core.List.{List}
-use mathlib.Core.Bool.{true, false}
+use mathlib.Core.Bool.{true}
 use Prim.Native.Nat.{ℕ, zero, suc, _+_, _-_, _*_, _^_, _<_, _≤_}
 use native.Mathlib.Omega.{arith}
 use native.Mathlib.Decide.{ℕ-discrete, decLt}
-use lib.ListN.{length, set, length-set}
-use lib.Seq.{getD-set-same, getD-set-other}
+use lib.ListN.{length, set, take, drop, length-set, take-append-drop}
+use lib.Seq.{getD-set-same, getD-set-other, getD-take, length-take-le, ext-getD}
 use lib.Ieee.{Float}
 use borrow.Author.Tests.{ltb-true}
 use Rattle.laws.specs.Domain.{deepest}
-use Rattle.laws.specs.Loops.{loop}
 use Rattle.laws.proofs.Bools.{by-bool}
-use Rattle.laws.proofs.Loops.{loop-same}
 use Rattle.tree_node.specs.declared.Node.{Node}
 use Rattle.tree_node.specs.declared.Leaf.{Leaf}
 use Rattle.tree_node.specs.declared.Leaf.the-variants.{Empty, Occupied}
@@ -22,17 +20,15 @@ use Rattle.tree_node.proofs.Told.{nameable-most}
 use Rattle.tree_children.specs.Children.{childIndex}
 use Rattle.tree_children.proofs.Below.{child-below}
 use Rattle.tree_turns.specs.declared.Out.{Out}
-use Rattle.tree_turns.specs.Turns.{childOf, absorbed, parent, out, turnOf}
-use Rattle.tree.specs.Insert.{Tree, tree, subdivided, turnAt, levelled, levelAt, inserted, splitsOf, leafNeeds, needsOf, Insertion, insertion, insertOf, treeOk}
+use Rattle.tree_turns.specs.Turns.{absorbed, turnOf}
+use Rattle.tree.specs.Insert.{Tree, tree, subdivided, turnAt, levelled, levelAt, inserted, splitsOf, leafNeeds, needsOf, insertOf, treeOk}
 use Rattle.tree.proofs.Grow.{length-filled, filled-out, filled-in}
-use Rattle.tree.proofs.Inserting.{Ok, Asks, turn-cases, inserted-last, inserted-next, needs-inner, needs-leaf, ok-start, ok-room, ok-next, tree-facts, tree-point}
+use Rattle.tree.proofs.Inserting.{Ok, turn-cases, inserted-last, inserted-next, needs-inner, needs-leaf, ok-start, ok-room, ok-next, tree-facts, tree-point}
 use Rattle.tree.proofs.Whole.{needed, refused, taken}
 use Rattle.tree.proofs.Opens.{blocks-in}
 use Rattle.tree.proofs.Longer.{Fits}
-use Rattle.tree_bodies.specs.declared.Acc.{Acc}
-use Rattle.tree_bodies.specs.Bodies.{kindOf, bodyOf}
-use Rattle.tree_walk.specs.Repel.{walkOf, Blocks, nothing, repelled}
-use Rattle.tree_walk.proofs.Fuel.{turnKind, skips, bodies, opens, block}
+use Rattle.tree_walk.specs.Repel.{Blocks, repelled}
+use Rattle.tree_walk.proofs.Longer.{repelled-longer}
 use Rattle.overnight.specs.Across.{SameTo, SameNodes}
 use Rattle.overnight.proofs.Points.{point-same}
 
@@ -43,30 +39,28 @@ pub record Twin (t t' : Tree) : Type 0 where
 
 -- ---- the walk
 
-module _ (ns ns' : List Node) (used c : ℕ) (same : (k : ℕ) → k < used → nodeAt ns k ≡ nodeAt ns' k) (ok : Blocks used c ns) (q : ℕ) (p : List Float) (theta2 : Float) where
-  walk-same : (g i : ℕ) (a : Acc) → i < used → walkOf g c q p theta2 ns' i a ≡ walkOf g c q p theta2 ns i a
-  unfolding walkOf
-  walk-same zero i a l = refl
-  walk-same (suc g) i a l =
-      let e : nodeAt ns' i ≡ nodeAt ns i = sym (same i l) in
-      let k : turnKind c q p theta2 ns' i ≡ turnKind c q p theta2 ns i = ap (kindOf c q p theta2) e in
-      elim (ℕ-discrete (turnKind c q p theta2 ns i) 0) [
-        | yes x ↦ skips c q p theta2 ns' g i a (k ∙ x) ∙ sym (skips c q p theta2 ns g i a x)
-        | no h₀ ↦ elim (ℕ-discrete (turnKind c q p theta2 ns i) 1) [
-          | yes x ↦ bodies c q p theta2 ns' g i a (k ∙ x) ∙ ap (λ (v : Node). bodyOf c p v a) e ∙ sym (bodies c q p theta2 ns g i a x)
-          | no h₁ ↦
-              let b = block c q p theta2 ns used ok i l h₀ h₁ in
-              opens c q p theta2 ns' g i a (λ x. h₀ (sym k ∙ x)) (λ x. h₁ (sym k ∙ x))
-              ∙ ap (λ (v : Node). loop (λ j y. walkOf g c q p theta2 ns' (v .first + j) y) (2 ^ c) 0 a) e
-              ∙ loop-same (λ j y. walkOf g c q p theta2 ns' (nodeAt ns i .first + j) y) (λ j y. walkOf g c q p theta2 ns (nodeAt ns i .first + j) y) (2 ^ c) 0 a (λ j y _ lj. walk-same g (nodeAt ns i .first + j) y (omega (arith, b, lj)))
-              ∙ sym (opens c q p theta2 ns g i a h₀ h₁)
-        ]
-      ]
+-- it looks at no node past those in use: those alone, without the rest of the arena, give the same
+front-repels : (c : ℕ) (t : Tree) → 0 < t .used → t .used ≤ length (t .nodes) → Blocks (t .used) c (t .nodes) → (q : ℕ) (p : List Float) (theta2 : Float) → repelled (t .used) c q p theta2 (t .nodes) ≡ repelled (t .used) c q p theta2 (take (t .used) (t .nodes))
+front-repels c t some within ok q p theta2 =
+    let u = t .used in
+    let ns = t .nodes in
+    let front = take u ns in
+    ap (repelled u c q p theta2) (sym (take-append-drop u ns))
+    ∙ repelled-longer front (drop u ns) u c (omega (arith, length-take-le u ns within)) (λ i l. rw (getD-take u ns i blank l) (ok i l)) q p theta2 some
 
--- repulsion looks at no node past those in use
-pub repelled-same : (n c m : ℕ) (t t' : Tree) → SameNodes (t .used) (t' .used) (t .nodes) (t' .nodes) → Fits n c m t → (q : ℕ) (p : List Float) (theta2 : Float) → repelled (t .used) c q p theta2 (t .nodes) ≡ repelled (t' .used) c q p theta2 (t' .nodes)
-unfolding repelled
-repelled-same n c m t t' w f q p theta2 = sym (walk-same (t .nodes) (t' .nodes) (t .used) c (w .each) (blocks-in n c m t (f .sound)) q p theta2 (t .used) 0 nothing (f .some)) ∙ ap (λ (u : ℕ). walkOf u c q p theta2 (t' .nodes) 0 nothing) (w .number)
+pub repelled-same : (n c m : ℕ) (t t' : Tree) → Twin t t' → Fits n c m t → (q : ℕ) (p : List Float) (theta2 : Float) → repelled (t .used) c q p theta2 (t .nodes) ≡ repelled (t' .used) c q p theta2 (t' .nodes)
+repelled-same n c m t t' w f q p theta2 =
+    let u = t .used in
+    let ns = t .nodes in
+    let ns' = t' .nodes in
+    let ok = blocks-in n c m t (f .sound) in
+    let h : u ≤ length ns' = omega (arith, f .within, w .long) in
+    let e : take u ns ≡ take u ns' = ext-getD blank (take u ns) (take u ns') (length-take-le u ns (f .within) ∙ sym (length-take-le u ns' h))
+    (λ i l. let k : i < u = omega (arith, l, length-take-le u ns (f .within)) in getD-take u ns i blank k ∙ (w .nodes .each i k ∙ sym (getD-take u ns' i blank k))) in
+    front-repels c t (f .some) (f .within) ok q p theta2
+    ∙ ap (repelled u c q p theta2) e
+    ∙ sym (front-repels c (tree u ns') (f .some) h (λ i l. rw (sym (w .nodes .each i l)) (ok i l)) q p theta2)
+    ∙ ap (λ (x : ℕ). repelled x c q p theta2 ns') (w .nodes .number)
 
 -- ---- insertion, by positions that hold the same n points
 

@@ -2,7 +2,7 @@
 use mathlib.Core.Path.{_≡_}
 use mathlib.Core.List.{List}
 use mathlib.Core.Bool.{true, false, cond}
-use Prim.Native.Nat.{ℕ, _+_, _-_, _*_, _<_, _≤_}
+use Prim.Native.Nat.{ℕ, _+_, _*_, _<_, _≤_}
 use lib.ListN.{length}
 use lib.Ieee.{Float}
 use Rattle.laws.specs.Area.{at, num}
@@ -12,7 +12,6 @@ use Rattle.run_record.specs.Record.{isTree}
 use Rattle.tree_node.specs.declared.Node.{Node}
 use Rattle.tree_node.specs.Arena.{nodeAt}
 use Rattle.run_entry.specs.State.{State}
-use Rattle.run_entry.specs.Entry.{listed}
 
 -- ---- the record
 
