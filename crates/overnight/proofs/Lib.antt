@@ -4,4 +4,5 @@ pub mod Trees
 pub mod Forced
 pub mod Finish
 pub mod Beside
+pub mod Untouched
 pub mod Theorems

@@ -1,19 +1,24 @@
 -- A run that was parked at the border of two iterations goes on as the run that was not. Assumes nothing.
+--     goes-on-overnight                       call by call, for any budgets
+--     demand-three-across-a-parking           budgets before and after it, beside one call with their sum
+--     parked-again, forces-whole              any number of parkings; all places of a prepared run's forces
 use mathlib.Core.Path.{_≡_, refl, sym, ap, subst, _∙_}
 use mathlib.Core.List.{List, [], _∷_, _++_}
 use mathlib.Core.Bool.{true, false}
-use Prim.Native.Nat.{ℕ, zero, suc, _+_, _-_, _*_, _≤_}
+use Prim.Native.Nat.{ℕ, zero, suc, _+_, _-_, _*_, _<_, _≤_}
 use native.Mathlib.Omega.{arith}
-use native.Mathlib.Nat.{le-refl}
+use native.Mathlib.Nat.{le-refl, zero-add}
+use native.Mathlib.Decide.{decLt}
 use lib.Dec.{ltb}
 use lib.Ieee.{Float}
+use Rattle.laws.specs.Area.{at, zero64}
 use Rattle.laws.proofs.Bools.{by-bool}
 use Rattle.run_calls.specs.Machine.{stops, after, unitsDone, kindAt, go, together, capped}
 use Rattle.laws.specs.Loops.{until}
 use Rattle.run_calls.proofs.Demand.{good-after, call-goes}
 use Rattle.run_record.specs.declared.Run.{Run}
 use Rattle.run_record.specs.declared.Standing.{Standing}
-use Rattle.run_record.specs.Record.{isEnded}
+use Rattle.run_record.specs.Record.{isTree, isEnded}
 use Rattle.run_entry.specs.State.{Memory, State, state}
 use Rattle.run_entry.specs.Entry.{Good}
 use Rattle.run_units.specs.declared.Why.{Why}
@@ -25,7 +30,9 @@ use Rattle.descent.specs.Honest.{Honest}
 use Rattle.descent.proofs.Lawful.{lawful}
 use Rattle.descent.proofs.Grown.{honest-keeps}
 use Rattle.descent.proofs.Theorems.{call-keeps, stays-honest, demand-three}
-use Rattle.overnight.specs.Across.{reread, SameLists, SameRun, ReadBack, Across}
+use Rattle.descent.proofs.Framed.{work-frames}
+use Rattle.overnight.proofs.Untouched.{exact-keeps}
+use Rattle.overnight.specs.Across.{reread, SameTo, SameLists, SameRun, ReadBack, Across}
 use Rattle.overnight.proofs.Beside.{Beside, none-yet, unit-both}
 
 -- ---- where it begins, and what is left of it
@@ -161,6 +168,9 @@ goes-on-overnight bs b s t g good p =
 
 -- ---- THEOREM: demand 3
 
+sum-on : (x y z : ℕ) → x + (y + z) ≡ x + y + z
+sum-on x y z = omega arith
+
 works-add : (early late : List ℕ) (s : State) → works (early ++ late) s ≡ works late (works early s)
 unfolding works
 works-add [] late s = refl
@@ -168,25 +178,13 @@ works-add (a ∷ early) late s = works-add early late (work a s .left)
 
 told-add : (early late : List ℕ) (s : State) → toldAll (early ++ late) s ≡ toldAll early s + toldAll late (works early s)
 unfolding toldAll works
-told-add [] late s = sym (nothing-more (toldAll late s))
-  where
-    nothing-more : (x : ℕ) → 0 + x ≡ x
-    nothing-more x = omega arith
-told-add (a ∷ early) late s = rw (told-add early late (work a s .left)) (assoc (unitsOf (work a s .answer)) (toldAll early (work a s .left)) (toldAll late (works early (work a s .left))))
-  where
-    assoc : (x y z : ℕ) → x + (y + z) ≡ x + y + z
-    assoc x y z = omega arith
+told-add [] late s = sym (zero-add (toldAll late s))
+told-add (a ∷ early) late s = rw (told-add early late (work a s .left)) (sum-on (unitsOf (work a s .answer)) (toldAll early (work a s .left)) (toldAll late (works early (work a s .left))))
 
 together-add : (early late : List ℕ) → together (early ++ late) ≡ together early + together late
 unfolding together
-together-add [] late = nothing-more (together late)
-  where
-    nothing-more : (x : ℕ) → x ≡ 0 + x
-    nothing-more x = omega arith
-together-add (a ∷ early) late = rw (together-add early late) (assoc a (together early) (together late))
-  where
-    assoc : (x y z : ℕ) → x + (y + z) ≡ x + y + z
-    assoc x y z = omega arith
+together-add [] late = sym (zero-add (together late))
+together-add (a ∷ early) late = rw (together-add early late) (sum-on a (together early) (together late))
 
 -- calls with early, a parking, calls with late and one with b on what was read, t; beside them one call on s with the sum, or 2^32 − 1
 pub record OneCallAcross (early late : List ℕ) (b : ℕ) (s t : State) : Type 0 where
@@ -199,7 +197,7 @@ pub record OneCallAcross (early late : List ℕ) (b : ℕ) (s t : State) : Type 
 -- Covered: areas that hold the same where the run's values stand (positions, increments and gains below n·c; offsets to n, and indices and weights below the links listed, or the n·n affinities of an exact run).
 -- Slots past the links, the tails of all areas, forces, the nodes, their number in use and an exact run's angle may be anything in what was read.
 -- Left the same: positions, increments and gains at these places, the record but for nodes in use and an exact run's angle, and from the next finish unit on the places of forces that an iteration writes, and the nodes in use of a Barnes-Hut run with their number.
--- Tails, and an exact run's other forces and nodes in use, are the same where they were at the parking.
+-- Tails, and an exact run's other forces and nodes in use, are the same where they were at the parking (`kept-whole`, `forces-whole`).
 pub demand-three-across-a-parking : (early late : List ℕ) (b : ℕ) (s t : State) → Honest s → ReadBack (works early s) t → Good t → 1 ≤ b → OneCallAcross early late b s t
 demand-three-across-a-parking early late b s t g p good h =
     let m = works early s in
@@ -248,3 +246,27 @@ parked-again s t u x p =
       same = run-on s (t .run .settings .angle) (t .run .used) (t .memory) u (subst (SameRun s) e x) (subst (λ (z : State). SameRun z u) e (p .same));
       border = sym (ap (λ (r : Run). r .phase) (x .record-same)) ∙ p .border;
     }
+
+-- ---- a prepared run's forces are zero: then all its places of forces are the same from the next finish unit on, those too that an exact run never writes
+
+pub forces-whole : (early late : List ℕ) (b : ℕ) (s t : State) → Honest s → ReadBack (works early s) t → Good t → 1 ≤ b
+    → ((k : ℕ) → k < s .run .settings .n * (2 * s .run .settings .c + 1) → at (s .memory .forces) k ≡ zero64) → ((k : ℕ) → k < s .run .settings .n * (2 * s .run .settings .c + 1) → at (t .memory .forces) k ≡ zero64)
+    → works early s .run .done < work (capped (together early + together late + b)) s .left .run .done
+    → SameTo (s .run .settings .n * (2 * s .run .settings .c + 1)) (work (capped (together early + together late + b)) s .left .memory .forces) (work b (works late t) .left .memory .forces)
+forces-whole early late b s t g p good h z z' q =
+    let B = capped (together early + together late + b) in
+    let u = work B s .left in
+    let w = work b (works late t) .left in
+    let n = s .run .settings .n in
+    let c = s .run .settings .c in
+    let d = demand-three-across-a-parking early late b s t g p good h .left in
+    let e : u .run .settings ≡ s .run .settings = work-frames B s g .1 in
+    let f = d .finished q .places in
+    by-bool (SameTo (n * (2 * c + 1)) (u .memory .forces) (w .memory .forces)) (isTree (s .run .settings .method))
+    (λ x. rw (e, x) at f)
+    (λ x.
+    let f' : SameTo (n * c + 1) (u .memory .forces) (w .memory .forces) = rw (e, x) at f in
+    λ k l. elim (decLt (n * c) k) [
+      | yes a ↦ d .kept-forces .each k (exact-keeps early s x .forces k a ∙ (z k l ∙ sym (z' k l)))
+      | no a ↦ f' k (omega (arith, a))
+    ])

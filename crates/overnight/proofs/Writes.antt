@@ -1,5 +1,5 @@
 -- The same values written at the same places of two areas: they agree there, and wherever they agreed before. Assumes nothing.
-use mathlib.Core.Path.{_≡_, sym, ap, _∙_}
+use mathlib.Core.Path.{_≡_, refl, sym, ap, _∙_}
 use mathlib.Core.List.{List}
 use Prim.Native.Nat.{ℕ, zero, suc, _+_, _<_, _≤_}
 use native.Mathlib.Omega.{arith}
@@ -52,3 +52,9 @@ module _ (p : ℕ → ℕ) (v : ℕ → Float) where
         | yes x ↦ rw x (puts-alike n (k + 1) (putAt k l) (putAt k l') g g' (p k) (set-here l l' (p k) (v k) (h k (omega arith) (omega arith)) (h' k (omega arith) (omega arith))))
         | no x ↦ puts-there n (k + 1) (putAt k l) (putAt k l') g g' e (omega arith) (omega arith)
       ]
+
+  -- a place that is none of them stays as it is
+  pub puts-beside : (n k : ℕ) (l : List Float) (x : ℕ) → ((e : ℕ) → k ≤ e → e < k + n → x ≡ p e → ⊥) → at (loop putAt n k l) x ≡ at l x
+  unfolding loop
+  puts-beside zero k l x h = refl
+  puts-beside (suc n) k l x h = puts-beside n (k + 1) (putAt k l) x (λ e a b. h e (omega arith) (omega arith)) ∙ getD-set-other l (p k) x (v k) nan (h k (omega arith) (omega arith))
