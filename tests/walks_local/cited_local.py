@@ -1,6 +1,6 @@
 """What the printed walks of functions that lend locals cite (as tests/walks/cited.py). within: that the count of a part that is lent is at most the array's length."""
 
-HOME = {'record_words::run_of': 'fault_words', 'record_words::run_fine': 'words_entry', 'fault_words::unread_fault': 'words_entry', 'words_entry::words_fault': 'park', 'answer_words::put_after': 'desk_work', 'answer_words::put_answer': 'desk_work', 'desk_work::host_work': 'desk', 'divergence::divergence': 'desk_divergence', 'desk_divergence::host_divergence': 'desk'}
+HOME = {'record_words::run_of': 'fault_words', 'record_words::run_fine': 'words_entry', 'fault_words::unread_fault': 'words_entry', 'words_entry::words_fault': 'park', 'answer_words::put_after': 'desk_work', 'answer_words::put_answer': 'desk_work', 'desk_work::host_work': 'desk', 'divergence::divergence': 'desk_divergence', 'desk_divergence::host_divergence': 'desk', 'park::park': 'desk_park', 'desk_park::host_park': 'desk'}
 
 WALKS = {
     'lent_examples::put_in': dict(req={'put_cell': '(subst (λ (m : ℕ). i < m) (sym {len_own4}) ready)'}, returns=['e1']),
@@ -30,6 +30,10 @@ WALKS = {
     'park::park': dict(uses=['Laws.{park-asks, park-said}'],
         req={'put_tested': '(park-asks words positions increments gains affinities indices offsets forces cells _ _ _ _ ln-positions ln-increments ln-gains ln-affinities r1 e1)'},
         returns=['(park-said words positions increments gains affinities indices offsets forces cells _ _ _ _ ln-positions ln-increments ln-gains ln-affinities r1 e1 r2 target target2 e2)']),
+    'desk_park::host_park': dict(uses=['Laws.{mute-said, word-room, parked-said}'],
+        req={'put_parked': '(word-room (storedOf words positions increments gains affinities indices offsets) (length forces) (nodesOf cells) target answer _ ln-answer r1 e1 no1)'},
+        returns=['(mute-said (storedOf words positions increments gains affinities indices offsets) (length forces) (nodesOf cells) target answer _ ln-answer r1 e1 yes1)', '(parked-said (storedOf words positions increments gains affinities indices offsets) (length forces) (nodesOf cells) target answer _ ln-answer r1 e1 no1 _ ln-forces r2 target2 e2 r3 answer3 e3)']),
+    'desk::brothanchor_park': dict(returns=['e1']),
     'desk::brothanchor_work': dict(returns=['e1']),
     'desk::brothanchor_divergence': dict(returns=['e1']),
     'replay_arena::plant_in': dict(within='(ready .3)', uses=['Told.{plant-asks, plant-told}'], req={'plant': '(plant-asks n c k₀ cells positions ready count-own6)'}, returns=['(plant-told n c k₀ cells positions ready count-own6 own61 e1)']),

@@ -1,0 +1,4 @@
+pub mod Laws
+pub mod ByValue
+pub mod CallsPark
+pub mod CallsPutParked
