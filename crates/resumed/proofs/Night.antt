@@ -164,8 +164,9 @@ module _ (d : Stored) (F : List Float) (ns : List Node) (t : List ℕ) (k : ℕ)
       what-is-read-is-honest f e F' (length ns') k a ns' (λ x. areas-fine s (length (e .positions)) (length (e .increments)) (length (e .gains)) (length (e .affinities)) (length (e .indices)) (length (e .offsets)) (length F') (length ns') room .tree-long x .nodes-some)
 
   -- Calls with bs, then one with b, on what was read, and on the run had it not been parked: each answers the same.
-  -- After them positions, increments and gains (n·c places each) are the same bit for bit, and the record is but for nodes in use and an exact run's angle.
-  -- From the next finish unit on, so are the forces that an iteration writes, and of a Barnes-Hut run the nodes in use, their number and so the whole record.
+  -- After them positions, increments and gains hold the same values at their n·c places, and the record is the same but for nodes in use and an exact run's angle.
+  -- From the next finish unit on the same holds of the forces that an iteration writes, and of a Barnes-Hut run's nodes in use with their number, and so of its whole record.
+  -- Nothing more is asked of the run than that it was written: that shows it honest. Values are as the model has them, with one NaN.
   pub overnight-goes-on : (bs : List ℕ) (b : ℕ) → Overnight bs b (stateIn d F ns) (morningState d F ns t k e F' ns')
   overnight-goes-on bs b = goes-on-overnight bs b (stateIn d F ns) (morningState d F ns t k e F' ns') (written-honest d F ns t W e F' ns') (read-back-honest .good) read-back
 
