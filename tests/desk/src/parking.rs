@@ -115,9 +115,7 @@ pub fn parked(record: &Record, areas: &Areas) -> Result<Vec<u8>, (Refusal, u64)>
 /// A parked run in areas of its own, just as long as it asks for, with an arena in which 14 never comes; or what `unpark`
 /// refuses.
 pub fn wake(file: &[u8]) -> Result<(Record, Areas), (Refusal, u64)> {
-    // A file whose head gives no sizes is bad, and no area is asked for to tell so.
-    let sizes = head(file).and_then(|settings| sizes(&settings).ok());
-    let sizes = sizes.unwrap_or(Sizes {
+    let nothing = Sizes {
         cells: 0,
         affinities: 0,
         indices: 0,
@@ -125,7 +123,12 @@ pub fn wake(file: &[u8]) -> Result<(Record, Areas), (Refusal, u64)> {
         forces: 0,
         rows: 0,
         nodes: 0,
-    });
+    };
+    // The file is judged first, into no areas at all: those that a bad one asks for may be large.
+    if let Err((Refusal(16), place)) = unpark(file, &mut Areas::new(&nothing, 0)) {
+        return Err((Refusal(16), place));
+    }
+    let sizes = head(file).and_then(|settings| sizes(&settings).ok()).unwrap_or(nothing);
     let mut areas = Areas::new(&sizes, sizes.nodes);
     unpark(file, &mut areas).map(|record| (record, areas))
 }

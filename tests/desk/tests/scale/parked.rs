@@ -2,7 +2,7 @@
 //! a run that was parked against one that was not. After each call number, word 0, every byte and every place of every area
 //! have to be the same on both sides, NaNs by their bits.
 
-use crate::both::{fault_words, number, other_side, record_of, Both};
+use crate::both::{fault_words, node_bits, number, other_side, record_of, Both};
 use crate::case::{marked_nodes, shorten, Case};
 use crate::random::Random;
 use crate::{damage, damage_record, setting};
@@ -514,7 +514,13 @@ fn same(through: &Both, nights: &Both, finished: bool) {
         };
         assert!(bits(&a.forces[..forces]) == bits(&b.forces[..forces]), "forces");
         let used = through.record.words[13] as usize;
-        assert!(a.nodes[..used] == b.nodes[..used], "nodes in use");
+        assert!(
+            a.nodes[..used]
+                .iter()
+                .map(node_bits)
+                .eq(b.nodes[..used].iter().map(node_bits)),
+            "nodes in use"
+        );
     }
 }
 

@@ -319,10 +319,15 @@ fn a_parked_run_goes_on_as_if_it_were_not() {
                     work(&mut woken, &mut room, iteration)
                 );
                 assert_eq!(record, woken);
-                assert_eq!(areas.positions, room.positions);
-                assert_eq!(areas.increments, room.increments);
-                assert_eq!(areas.gains, room.gains);
-                assert_eq!(areas.forces[..settings.n * c + 1], room.forces[..settings.n * c + 1]);
+                let bits = |values: &[f64]| values.iter().map(|v| v.to_bits()).collect::<Vec<_>>();
+                assert_eq!(bits(&areas.positions), bits(&room.positions));
+                assert_eq!(bits(&areas.increments), bits(&room.increments));
+                assert_eq!(bits(&areas.gains), bits(&room.gains));
+                let written = match settings.method {
+                    Method::Exact => settings.n * c + 1,
+                    Method::BarnesHut => settings.n * (2 * c + 1),
+                };
+                assert_eq!(bits(&areas.forces[..written]), bits(&room.forces[..written]));
                 assert_eq!(areas.nodes[..record.used], room.nodes[..record.used]);
             }
             assert_eq!(work(&mut woken, &mut room, 5), Answer::Finished(0));
