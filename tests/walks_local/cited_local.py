@@ -1,6 +1,6 @@
 """What the printed walks of functions that lend locals cite (as tests/walks/cited.py). within: that the count of a part that is lent is at most the array's length."""
 
-HOME = {'record_words::run_of': 'fault_words', 'record_words::run_fine': 'words_entry', 'fault_words::unread_fault': 'words_entry', 'words_entry::words_fault': 'park', 'answer_words::put_after': 'desk_work', 'answer_words::put_answer': 'desk_work', 'desk_work::host_work': 'desk', 'divergence::divergence': 'desk_divergence', 'desk_divergence::host_divergence': 'desk', 'park::park': 'desk_park', 'desk_park::host_park': 'desk'}
+HOME = {'record_words::run_of': 'fault_words', 'record_words::run_fine': 'words_entry', 'fault_words::unread_fault': 'words_entry', 'words_entry::words_fault': 'park', 'answer_words::put_after': 'desk_work', 'answer_words::put_answer': 'desk_work', 'desk_work::host_work': 'desk', 'divergence::divergence': 'desk_divergence', 'desk_divergence::host_divergence': 'desk', 'desk_park::host_park': 'desk'}
 
 WALKS = {
     'lent_examples::put_in': dict(req={'put_cell': '(subst (λ (m : ℕ). i < m) (sym {len_own4}) ready)'}, returns=['e1']),
