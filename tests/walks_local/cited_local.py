@@ -42,5 +42,6 @@ WALKS = {
     'replay_arena::force_in': dict(within='(ready .1)', uses=['Told.{force-asks}'], req={'repulsive_force': '(force-asks k₀ used eye cells ready)'}, returns=['e1']),
     'replay_forces::lending::forces_in': dict(within='(ready .5)', uses=['Told.{forces-asks}'], req={'point_forces': '(forces-asks cells k₀ used positions weights indices offsets n c i forces ready)'}, returns=['e1']),
     'bench_mapping::work_on': dict(returns=['(ap (λ (w : Worked). w .answer) e1, ap (λ (w : Worked). w .left .memory .positions) e1)'], uses=['Rattle.run_budget.specs.Budget.{Worked}']),
+    'replay_park::lending::park_in': dict(within='ready', returns=['e1']),
     'replay_descent::lending::work_lent': dict(within='ready', uses=['Told.{left-told}'], returns=['(left-told k₀ cells positions1 increments1 gains1 affinities indices offsets forces1 _ {own12} r1 own131 e1 {len_own13} r2 e2)']),
 }
