@@ -32,7 +32,7 @@ fn value(a: Parked) -> u64 {
 }
 
 // Number and value are the words from i on.
-pub(crate) fn same_told(a: Parked, list: &[u8], i: usize) -> bool {
+fn same_told(a: Parked, list: &[u8], i: usize) -> bool {
     both(
         park::number(a) as u64 == word_at(list, i),
         value(a) == word_at(list, plus(i, 1)),
