@@ -1,4 +1,3 @@
 pub mod Laws
 pub mod ByValue
-pub mod CallsPark
 pub mod CallsPutParked

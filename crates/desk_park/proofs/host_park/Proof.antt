@@ -52,7 +52,7 @@ use Rattle.desk_park.proofs.ByValue.{Contract-is-mute, calls-is-mute}
 use Rattle.desk_park.proofs.is_mute.Symbol as is-mute-def
 use Rattle.desk_park.proofs.is_mute.Symbol.{name as #desk-park·is-mute}
 use Rattle.desk_park.proofs.is_mute.Met as is-mute-thm
-use Rattle.desk_park.proofs.CallsPark.{Contract-park, calls-park-ccccccccm}
+use Rattle.park.proofs.CallsPark.{Contract-park, calls-park-ccccccccm}
 use Rattle.park.proofs.park.Symbol as park-def
 use Rattle.park.proofs.park.Symbol.{name as #park·park}
 use Rattle.park.proofs.park.Met as park-thm

@@ -27,19 +27,19 @@ use denote.Triple.Spec.{tripleOf}
 use Rattle.lent.proofs.Pass.{Seat, ref-at, word, Mut, Shr, Tok, lent-to, lend-mut, back-mut, lend-copy}
 use denote.Enum.Laws as EL
 use Prim.Native.Nat.{_<_}
-use Rattle.park.specs.Park.{parking, parkOf}
 use Rattle.parked.specs.Parked.{storedOf}
+use Rattle.park.specs.Park.{parking, parkOf}
 use Rattle.tree_node.specs.Arena.{nodesOf}
 use lib.ListN.{length}
 use mathlib.Core.Path.{_≡_}
 use Rattle.tree_node.specs.declared.Cell.{Cell}
 use Rattle.tree_node.proofs.Cell as Cell′
 use Rattle.park.specs.declared.Parked.{Parked}
 use Rattle.park.proofs.Parked as Parked′
 use Rattle.park.proofs.Parked.Laws as Parked″
 use Rattle.park.proofs.Values.{val-Parked}
 use Rattle.park.proofs.park as callee
 use Rattle.park.proofs.park.Symbol.{name as #park·park}
 
 -- what the callee ensures of its result and of what was lent, at exit
 abbrev pub Ensured-park : List ℕ → List ℕ → List ℕ → List ℕ → List ℕ → List ℕ → List ℕ → ℕ → List Cell → List ℕ → Parked → List ℕ → Type 0
