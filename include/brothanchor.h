@@ -2,8 +2,8 @@
  *
  * Link libdesk.a (rt staticlib desk), for x86-64 Linux. All memory is lent by the caller; nothing is kept between calls.
  * An area is a pointer and its number of elements; an empty area may have any pointer. Areas of one call must not overlap.
- * A call that is refused at its entry changes nothing, but for the answer of a work call or of a divergence. Longer areas keep
- * what lies past what is asked for.
+ * A call that is refused at its entry changes nothing, but for the answer of a work call, of a divergence, of a parking or of a
+ * reading. Longer areas keep what lies past what is asked for.
  *
  * Refusal numbers (0: none)
  *   1  c is 0 or above 8
@@ -20,9 +20,9 @@
  *  12  a lent area is too short
  *  13  the words are no settings or no record, or record and areas are not well formed
  *  14  the next point needs more nodes than the arena has left; with a longer arena the run goes on
- *  15  the step would give a value that is NaN or above 2^100 in magnitude
- *  16  a record of a frame file is bad
- *  17  no iteration has just ended, or the forces give a total of 0
+ *  15  the step would give a value that is NaN or above 2^100 in magnitude; parking: a position, increment or gain is one
+ *  16  a record of a frame file or of a parked run is bad
+ *  17  no iteration has just ended, or the forces give a total of 0; parking: a unit of an iteration is done, and not its last
  */
 
 /* What areas may hold: any bits, NaNs of every kind among them. A call tests whatever it goes by, so no contents can lead it
@@ -35,7 +35,7 @@
  *   work, refused at its entry       (12, 13) the answer and nothing else; with an answer area that is too short nothing
  *   work, refused by a unit          (14, 15) all that the units before it wrote: record and memory are as after these units,
  *                                    which the answer counts, and the refused unit has changed nothing
- *   divergence                       the first word of the answer; with an answer area that is empty nothing
+ *   divergence, park, unpark         the first word of the answer; with an answer area that is empty nothing
  * After 14 or 15 the run is still running, and the next call begins with the refused unit. After 14 it goes on where the nodes
  * are moved to a longer arena, those in use with their contents.
  *
@@ -182,6 +182,68 @@ uint32_t brothanchor_divergence(
     const double *forces, size_t forces_length,
     const struct brothanchor_node *nodes, size_t nodes_length,
     const double *copy, size_t copy_length,
+    uint64_t *answer, size_t answer_length);
+
+/* A run parked: written into records of 32 bytes, each of four little-endian values of 8 bytes, numbers as they are and values
+ * by their bits. It reads the record's words and the areas of a work call and changes none of them, and writes the records to the
+ * front of the target:
+ *   record 0   method (0 exact, 1 Barnes-Hut), n, f, c
+ *   record 1   perplexity, rate, iterations, angle (zero bits for an exact run)
+ *   record 2   minimum, iterations done, state (0 running, 1 stopped, 2 finished), links listed (0 for an exact run)
+ *   then       positions, increments and gains, n*c values each; exact: the n*n affinities; Barnes-Hut: the n+1 offsets, the
+ *              links' indices, the links' weights
+ * Each area begins with a record of its own and is filled up with zero bits to a whole one. So a run has
+ * 3 + 3*up(n*c) + up(n*n) records, a Barnes-Hut run 3 + 3*up(n*c) + up(n+1) + 2*up(links), where up(m) is (m+3)/4 rounded down
+ * and links the last offset; with the weights' number of brothanchor_sizes in its place the target is always long enough. The
+ * bits of every value are kept, those of a NaN too (the minimum, an affinity or a weight may be one). Forces and nodes are not
+ * written. A longer target keeps its tail.
+ *
+ * Answers 0, and writes the number of records to the first word of the answer; or the number of the refusal, and writes what
+ * comes with it there: with 13 what brothanchor_divergence tells, else 0. Refused, it writes nothing else. In this order:
+ *   12  the answer area is empty: nothing can be told
+ *   13  the words are no record (13 comes with a method that there is not, else 0); settings or counters are not well formed
+ *   12  an area is too short, as in a work call
+ *   13  the contents are not well formed
+ *   17  a unit of the next iteration is done: a run is parked between two iterations, or before the first, or at its end
+ *   15  a position, increment or gain is NaN or above 2^100 in magnitude
+ *   12  the target is shorter than the records need */
+uint32_t brothanchor_park(
+    const uint64_t *record, size_t record_length,
+    const double *positions, size_t positions_length,
+    const double *increments, size_t increments_length,
+    const double *gains, size_t gains_length,
+    const double *affinities, size_t affinities_length,
+    const uint32_t *indices, size_t indices_length,
+    const uint32_t *offsets, size_t offsets_length,
+    const double *forces, size_t forces_length,
+    const struct brothanchor_node *nodes, size_t nodes_length,
+    uint8_t *target, size_t target_length,
+    uint64_t *answer, size_t answer_length);
+
+/* A parked run read back: the fourteen words of its record, with no node in use; positions, increments, gains and affinities or
+ * lists as they were parked, to the last bit; forces all 0. Areas may be longer, and the record's too: what lies past the record,
+ * the areas and the links listed keeps what it held. An exact run's indices and offsets are left alone and may be empty. Of the
+ * arena it is told the number of nodes, no more: it reads and writes none. With an arena as long as before, the run goes on as if
+ * it had not been parked. The file's first two records say how long the areas must be (brothanchor_sizes, with their eight
+ * numbers as settings and any minimum).
+ *
+ * Answers 0, and writes the number of records to the first word of the answer; or the number of the refusal, and writes what
+ * comes with it there. Refused, it writes nothing else. In this order:
+ *   12  the answer area is empty: nothing can be told
+ *   16  a record is bad: no parked run begins with the records before it and this one. With it comes its place, counted from 0.
+ *       A missing record is bad, bytes past the last one make one more, which is bad, and so is a broken one
+ *   12  an area is too short, as in a work call, or the record's is shorter than fourteen words (0 comes with it) */
+uint32_t brothanchor_unpark(
+    const uint8_t *file, size_t file_length,
+    uint64_t *record, size_t record_length,
+    double *positions, size_t positions_length,
+    double *increments, size_t increments_length,
+    double *gains, size_t gains_length,
+    double *affinities, size_t affinities_length,
+    uint32_t *indices, size_t indices_length,
+    uint32_t *offsets, size_t offsets_length,
+    double *forces, size_t forces_length,
+    size_t nodes_length,
     uint64_t *answer, size_t answer_length);
 
 /* What a record says. The state is 3, the numbers are 0, where the words are no record. */

@@ -3,7 +3,7 @@
 A function is named as the compiler names it: crate::module::name. A clause speaks of a lent thing X as X (at entry) and X′ (at exit), and of the result as `res`."""
 import functools, glob, re, subprocess
 
-WORDS = {'usize': 'w64', 'u64': 'w64', 'u32': 'w32'}
+WORDS = {'usize': 'w64', 'u64': 'w64', 'u32': 'w32', 'u8': 'w8'}
 # names that the printed text uses itself: a parameter of such a name gets a ₀
 TAKEN = set('t fm mem run met os k res out ws e is l W H A M K E C Λ xs q d rest P u x at f code pieces stated T Post exits walk τ En s a are v g state b'.split())
 

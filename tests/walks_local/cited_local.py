@@ -1,6 +1,6 @@
 """What the printed walks of functions that lend locals cite (as tests/walks/cited.py). within: that the count of a part that is lent is at most the array's length."""
 
-HOME = {'record_words::run_of': 'fault_words', 'answer_words::put_after': 'desk_work', 'answer_words::put_answer': 'desk_work', 'desk_work::host_work': 'desk', 'divergence::divergence': 'desk_divergence', 'desk_divergence::host_divergence': 'desk'}
+HOME = {'record_words::run_of': 'fault_words', 'record_words::run_fine': 'words_entry', 'fault_words::unread_fault': 'words_entry', 'words_entry::words_fault': 'park', 'answer_words::put_after': 'desk_work', 'answer_words::put_answer': 'desk_work', 'desk_work::host_work': 'desk', 'divergence::divergence': 'desk_divergence', 'desk_divergence::host_divergence': 'desk', 'desk_park::host_park': 'desk'}
 
 WALKS = {
     'lent_examples::put_in': dict(req={'put_cell': '(subst (λ (m : ℕ). i < m) (sym {len_own4}) ready)'}, returns=['e1']),
@@ -24,6 +24,16 @@ WALKS = {
     'desk_divergence::host_divergence': dict(uses=['Laws.{unfit-said, answer-room, long-said, figure-said}'],
         req={'run_of': '(long-said words (memory positions increments gains affinities indices offsets forces cells) copy answer _ ln-answer r1 e1 no1)', 'put_diverged': '(answer-room words (memory positions increments gains affinities indices offsets forces cells) copy answer _ ln-answer r1 e1 no1)'},
         returns=['(unfit-said words (memory positions increments gains affinities indices offsets forces cells) copy answer _ ln-answer r1 e1 yes1 r2 answer2 e2)', '(figure-said words (memory positions increments gains affinities indices offsets forces cells) copy answer _ ln-answer r1 e1 no1 r3 e3 r4 e4 r5 answer5 e5)']),
+    'words_entry::words_fault': dict(uses=['Laws.{words-long, tested-said, unreadable-said}'],
+        req={'run_of': '(words-long words r1 e1 yes1)'},
+        returns=['(tested-said words r1 e1 p i g₀ a₀ f₀ indices offsets cells yes1 r2 e2 r3 e3)', '(unreadable-said words r1 e1 p i g₀ a₀ f₀ indices offsets cells no1 r4 e4)']),
+    'park::park': dict(uses=['Laws.{park-asks, park-said}'],
+        req={'put_tested': '(park-asks words positions increments gains affinities indices offsets forces cells _ _ _ _ ln-positions ln-increments ln-gains ln-affinities r1 e1)'},
+        returns=['(park-said words positions increments gains affinities indices offsets forces cells _ _ _ _ ln-positions ln-increments ln-gains ln-affinities r1 e1 r2 target target2 e2)']),
+    'desk_park::host_park': dict(uses=['Laws.{mute-said, word-room, parked-said}'],
+        req={'put_parked': '(word-room (storedOf words positions increments gains affinities indices offsets) (length forces) (nodesOf cells) target answer _ ln-answer r1 e1 no1)'},
+        returns=['(mute-said (storedOf words positions increments gains affinities indices offsets) (length forces) (nodesOf cells) target answer _ ln-answer r1 e1 yes1)', '(parked-said (storedOf words positions increments gains affinities indices offsets) (length forces) (nodesOf cells) target answer _ ln-answer r1 e1 no1 _ ln-forces r2 target2 e2 r3 answer3 e3)']),
+    'desk::brothanchor_park': dict(returns=['e1']),
     'desk::brothanchor_work': dict(returns=['e1']),
     'desk::brothanchor_divergence': dict(returns=['e1']),
     'replay_arena::plant_in': dict(within='(ready .3)', uses=['Told.{plant-asks, plant-told}'], req={'plant': '(plant-asks n c k₀ cells positions ready count-own6)'}, returns=['(plant-told n c k₀ cells positions ready count-own6 own61 e1)']),
@@ -32,5 +42,6 @@ WALKS = {
     'replay_arena::force_in': dict(within='(ready .1)', uses=['Told.{force-asks}'], req={'repulsive_force': '(force-asks k₀ used eye cells ready)'}, returns=['e1']),
     'replay_forces::lending::forces_in': dict(within='(ready .5)', uses=['Told.{forces-asks}'], req={'point_forces': '(forces-asks cells k₀ used positions weights indices offsets n c i forces ready)'}, returns=['e1']),
     'bench_mapping::work_on': dict(returns=['(ap (λ (w : Worked). w .answer) e1, ap (λ (w : Worked). w .left .memory .positions) e1)'], uses=['Rattle.run_budget.specs.Budget.{Worked}']),
+    'replay_park::lending::park_in': dict(within='ready', returns=['e1']),
     'replay_descent::lending::work_lent': dict(within='ready', uses=['Told.{left-told}'], returns=['(left-told k₀ cells positions1 increments1 gains1 affinities indices offsets forces1 _ {own12} r1 own131 e1 {len_own13} r2 e2)']),
 }

@@ -13,7 +13,7 @@ use lib.Ieee.{Float, nan, binary64, add, div, ofInt, ofBits}
 use borrow.Author.Tests.{ltb-true}
 use Rattle.laws.specs.Domain.{mostFeatures, mostFrames}
 use Rattle.laws.specs.Area.{at, num, zero64, two64}
-use Rattle.laws.specs.Joined.{joined}
+use Rattle.laws.specs.Joined.{joined, each, laid}
 use Rattle.laws.proofs.Numbers.{row-in}
 use Rattle.laws.proofs.Joined.{joined-all, getD-map-in, length-map, those-below}
 use Rattle.laws.proofs.Laid.{singles-size, singles-get, laid-at, laid-size}
@@ -33,7 +33,6 @@ use Rattle.affinity_lists.proofs.Linked.{length-weights}
 use Rattle.affinity_lists.proofs.Theorems.{offsets-last}
 use Rattle.affinity_joins.specs.Joins.{norm}
 use Rattle.affinity.specs.Exact.{distancesOf, conditional, jointly, affinityOf, exactOf}
-use Rattle.affinity.specs.Laid.{each, laid}
 use Rattle.affinity.specs.Neighbours.{valuesIn, framesIn, nearestFrames, nearestShares, neighbourRow, rowsOf, neighboursListed}
 use Rattle.affinity.proofs.Named.{frames-count, row-count, rows-size, rows-named}
 use Rattle.affinity.proofs.Listed.{some-neighbours, not-all-neighbours}

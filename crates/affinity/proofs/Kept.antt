@@ -5,14 +5,13 @@ use Prim.Native.Nat.{ℕ, _*_, _<_, _≤_}
 use lib.ListN.{drop}
 use lib.Seq.{drop-at}
 use lib.Ieee.{Float}
-use Rattle.laws.specs.Joined.{joined}
+use Rattle.laws.specs.Joined.{joined, laid}
 use Rattle.laws.proofs.Changed.{drop-later}
 use Rattle.laws.proofs.Laid.{laid-size}
 use Rattle.elementary.specs.Limits.{neighboursOf}
 use Rattle.affinity_near.specs.Near.{Pair}
 use Rattle.affinity_lists.specs.Lists.{listOf, weightsOf, linksOf, Areas}
 use Rattle.affinity_lists.proofs.Linked.{links-least}
-use Rattle.affinity.specs.Laid.{laid}
 use Rattle.affinity.specs.Neighbours.{rowsOf, neighboursListed}
 use Rattle.affinity.proofs.Named.{rows, rows-size, rows-named}
 use Rattle.affinity.proofs.Listed.{not-all-neighbours}

@@ -10,7 +10,7 @@ use Rattle.laws.specs.Domain.{mostFrames}
 use Rattle.laws.specs.Loops.{loop}
 use Rattle.elementary.specs.Limits.{ceilOf, three64, neighboursOf}
 use Rattle.affinity_lists.specs.Lists.{Rows, areas, listsMade, Prepared}
-use Rattle.affinity.specs.Laid.{laid}
+use Rattle.laws.specs.Joined.{laid}
 use Rattle.affinity.specs.Steps.{sharesLeft, framesLeft}
 use Rattle.affinity.specs.Neighbours.{valuesIn, framesIn, neighbourRow, neighboursListed}
 use Rattle.affinity.proofs.Named.{rows-named, shares-scratch, frames-scratch}

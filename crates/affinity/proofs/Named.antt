@@ -25,7 +25,7 @@ use Rattle.affinity_lists.specs.Lists.{Rows}
 use Rattle.affinity_lists.proofs.Made.{rows-made}
 use Rattle.affinity_joins.specs.Joins.{norm}
 use Rattle.affinity.specs.Exact.{distancesOf}
-use Rattle.affinity.specs.Laid.{each, laid}
+use Rattle.laws.specs.Joined.{each, laid}
 use Rattle.affinity.specs.Steps.{sharesLeft, framesLeft}
 use Rattle.affinity.specs.Neighbours.{valuesIn, framesIn, nearestFrames, nearestShares, neighbourRow}
 use Rattle.affinity.proofs.Shares.{shares-there, shares-tail, scratch-distances}

@@ -10,13 +10,12 @@ use lib.ListN.{length, drop}
 use lib.Seq.{drop-at}
 use lib.Ieee.{Float, nan}
 use Rattle.laws.specs.Area.{at, zero64}
-use Rattle.laws.specs.Joined.{joined}
+use Rattle.laws.specs.Joined.{joined, laid}
 use Rattle.laws.proofs.Numbers.{row-in}
 use Rattle.laws.proofs.Laid.{singles-size, singles-get, singles-taken, laid-size, laid-at, laid-whole}
 use Rattle.affinity_joins.specs.Joins.{norm, jointAt, symmetrized}
 use Rattle.affinity_joins.proofs.Joint.{Joins, joins-all}
 use Rattle.affinity.specs.Exact.{conditional, jointly, affinityOf, exactOf}
-use Rattle.affinity.specs.Laid.{laid}
 use Rattle.affinity.specs.Steps.{conditionals}
 
 module _ (t : List Float) (n f : ℕ) (perplexity : Float) where

@@ -8,9 +8,8 @@ use lib.ListN.{replicate}
 use lib.Ieee.{Float, binary64, add, div}
 use Rattle.laws.specs.Loops.{loop}
 use Rattle.laws.specs.Area.{at, zero64}
-use Rattle.laws.specs.Joined.{joined}
+use Rattle.laws.specs.Joined.{joined, each, laid}
 use Rattle.affinity_joins.specs.Joins.{norm}
-use Rattle.affinity.specs.Laid.{each, laid}
 use Rattle.affinity_near.specs.Distances.{distanceOf, distanceRow}
 use Rattle.affinity_sigma.specs.Sigma.{sigmaShares, sharesOf}
 

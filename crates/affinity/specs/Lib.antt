@@ -1,4 +1,3 @@
-pub mod Laid
 pub mod Exact
 pub mod Neighbours
 pub mod Steps

@@ -4,7 +4,7 @@ use mathlib.Core.List.{List, map}
 use Prim.Native.Nat.{ℕ}
 use lib.Ieee.{Float, binary64, div}
 use Rattle.laws.specs.Loops.{loop, seek}
-use Rattle.laws.specs.Joined.{joined, those}
+use Rattle.laws.specs.Joined.{joined, those, each, laid}
 use Rattle.laws.specs.Area.{at}
 use Rattle.elementary.specs.Limits.{neighboursOf}
 use Rattle.affinity_near.specs.Distances.{distanceOf}
@@ -12,7 +12,6 @@ use Rattle.affinity_near.specs.Near.{Pair, sorted, nearestBy, byIndexOf}
 use Rattle.affinity_sigma.specs.Sigma.{sigmaShares, sharesOf}
 use Rattle.affinity_lists.specs.Lists.{Areas, areas, weight, listsMade}
 use Rattle.affinity_joins.specs.Joins.{norm}
-use Rattle.affinity.specs.Laid.{each, laid}
 
 -- the values of some pairs: distances, or shares
 abbrev pub valuesIn : List Pair → List Float

@@ -6,7 +6,7 @@ use lib.Ieee.{Float}
 use Rattle.laws.specs.Loops.{loop}
 use Rattle.affinity_near.specs.Distances.{distanceRow}
 use Rattle.affinity_near.specs.Near.{indicesOver}
-use Rattle.affinity.specs.Laid.{each}
+use Rattle.laws.specs.Joined.{each}
 use Rattle.affinity.specs.Exact.{conditional}
 use Rattle.affinity.specs.Neighbours.{nearestFrames, nearestShares}
 

@@ -8,7 +8,7 @@ ghost use Rattle.laws.specs.Area.{zero64};
 ghost use Rattle.affinity_near.specs.Distances.{distanceRow, squaresOf, Squared};
 ghost use Rattle.areas.specs.Filled.{filled};
 ghost use Rattle.affinity.specs.Exact.{exactOf};
-ghost use Rattle.affinity.specs.Laid.{laid};
+ghost use Rattle.laws.specs.Joined.{laid};
 ghost use Rattle.affinity.specs.Steps.{conditionals, distancesLeft};
 use affinity_joins::symmetrize_probabilities;
 use areas::fill;

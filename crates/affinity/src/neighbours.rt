@@ -12,7 +12,7 @@ ghost use Rattle.elementary.specs.Limits.{neighboursOf};
 ghost use Rattle.affinity_near.specs.Distances.{squaresOf, Squared};
 ghost use Rattle.affinity_near.specs.Near.{valuesOver, indicesOver};
 ghost use Rattle.affinity_lists.specs.Lists.{areas};
-ghost use Rattle.affinity.specs.Laid.{laid};
+ghost use Rattle.laws.specs.Joined.{laid};
 ghost use Rattle.affinity.specs.Steps.{sharesLeft, framesLeft};
 ghost use Rattle.affinity.specs.Neighbours.{valuesIn, framesIn, neighbourRow, neighboursListed};
 

@@ -10,15 +10,22 @@ ghost use Rattle.desk_files.specs.Files.{hostFrames, hostFrame};
 ghost use Rattle.desk_prepare.specs.HostPrepare.{hostPrepared, hostPrepare};
 ghost use Rattle.desk_work.specs.HostWork.{hostWorked, hostWork};
 ghost use Rattle.desk_divergence.specs.HostDivergence.{hostDivergence};
+ghost use lib.ListN.{length};
+ghost use Rattle.tree_node.specs.Arena.{nodesOf};
+ghost use Rattle.parked.specs.Parked.{storedOf};
+ghost use Rattle.desk_park.specs.HostPark.{hostParked, hostPark};
+ghost use Rattle.desk_unpark.specs.HostUnpark.{hostUnparked, hostUnpark};
 use desk_divergence::host_divergence;
 use desk_files::host_frame;
 use desk_files::host_frames;
 use desk_files::host_scatter;
+use desk_park::host_park;
 use desk_prepare::host_prepare;
 use desk_record::host_iterations;
 use desk_record::host_sizes;
 use desk_record::host_state;
 use desk_record::host_units;
+use desk_unpark::host_unpark;
 use desk_work::host_work;
 use tree_node::Cell;
 
@@ -255,4 +262,109 @@ pub extern "C" fn brothanchor_sizes(settings: &[u64], sizes: &mut [u64]) -> u32
     ensures { λ k. ⌜ worded k (now (sizes .exit)) ≡ hostSizes (now (settings .entry)) (now (sizes .entry)) ⌝ }
 {
     host_sizes(settings, sizes)
+}
+
+// Writes the run into records. Answers 0, or the number of the refusal; then the target is not changed. Areas of values are lent by their bits, so that a NaN keeps them.
+#[no_mangle]
+pub extern "C" fn brothanchor_park(
+    words: &[u64],
+    positions: &[u64],
+    increments: &[u64],
+    gains: &[u64],
+    affinities: &[u64],
+    indices: &[u32],
+    offsets: &[u32],
+    forces: &[f64],
+    cells: &[Cell],
+    target: &mut [u8],
+    answer: &mut [u64],
+) -> u32
+    ensures { λ k. ⌜
+        hostParked k (now (target .exit)) (now (answer .exit))
+        ≡ hostPark
+        (storedOf
+        (now (words .entry))
+        (now (positions .entry))
+        (now (increments .entry))
+        (now (gains .entry))
+        (now (affinities .entry))
+        (now (indices .entry))
+        (now (offsets .entry)))
+        (length (now (forces .entry)))
+        (nodesOf (now (cells .entry)))
+        (now (target .entry))
+        (now (answer .entry))
+        ⌝ }
+{
+    let k = host_park(
+        words,
+        positions,
+        increments,
+        gains,
+        affinities,
+        indices,
+        offsets,
+        forces,
+        cells,
+        target,
+        answer,
+    );
+    k
+}
+
+// Reads a parked run into record and areas. Answers 0, or the number of the refusal; then none of them is changed.
+#[no_mangle]
+pub extern "C" fn brothanchor_unpark(
+    file: &[u8],
+    words: &mut [u64],
+    positions: &mut [u64],
+    increments: &mut [u64],
+    gains: &mut [u64],
+    affinities: &mut [u64],
+    indices: &mut [u32],
+    offsets: &mut [u32],
+    forces: &mut [f64],
+    nodes: usize,
+    answer: &mut [u64],
+) -> u32
+    ensures { λ k. ⌜
+        hostUnparked k
+        (storedOf
+        (now (words .exit))
+        (now (positions .exit))
+        (now (increments .exit))
+        (now (gains .exit))
+        (now (affinities .exit))
+        (now (indices .exit))
+        (now (offsets .exit)))
+        (now (forces .exit))
+        (now (answer .exit))
+        ≡ hostUnpark
+        (now (file .entry))
+        (storedOf
+        (now (words .entry))
+        (now (positions .entry))
+        (now (increments .entry))
+        (now (gains .entry))
+        (now (affinities .entry))
+        (now (indices .entry))
+        (now (offsets .entry)))
+        (now (forces .entry))
+        nodes
+        (now (answer .entry))
+        ⌝ }
+{
+    host_unpark(
+        file,
+        words,
+        positions,
+        increments,
+        gains,
+        affinities,
+        indices,
+        offsets,
+        forces,
+        nodes,
+        answer,
+    )
 }

@@ -1,4 +1,4 @@
--- Laws of areas of which a part is written: the front copied or cleared, or a list put in from its last element down. Assumes nothing.
+-- Laws of areas of which a part is written: the front copied or cleared, or a list put in from its first element up or from its last down. Assumes nothing.
 use mathlib.Core.Path.{_≡_, refl, sym, ap, _∙_}
 use mathlib.Core.List.{List, [], _∷_, _++_, append-assoc}
 use Prim.Native.Nat.{ℕ, suc, _+_, _-_, _<_, _≤_}
@@ -6,8 +6,8 @@ use native.Mathlib.Omega.{arith}
 use native.Mathlib.Numerals.{add-one}
 use native.Mathlib.Nat.{le-antisymm}
 use lib.ListN.{List·getD-append, length, getD, set, take, drop, replicate, length-set, length-drop, length-append, length-replicate, replicate-append-replicate, take-append-drop}
-use lib.Seq.{drop-drop, getD-take, getD-set-same, getD-set-other, drop-cons, set-at, take-suc, take-take, take-set-le, getD-drop, append-snoc, length-take-le, drop-set-lt, drop-append-add}
-use Rattle.laws.specs.Joined.{pasted}
+use lib.Seq.{paste, paste-zero, paste-suc, take-length, drop-drop, getD-take, getD-set-same, getD-set-other, drop-cons, set-at, take-suc, take-take, take-set-le, getD-drop, append-snoc, length-take-le, drop-set-lt, drop-append-add}
+use Rattle.laws.specs.Joined.{pasted, written}
 
 module _ {A : Type 0} where
   -- one more element is copied
@@ -137,6 +137,33 @@ module _ {A : Type 0} where
 
     pub ends-done : {left : List A} {q : ℕ} {l : List A} → left ≡ [] → Ends d w q₀ l₀ left q l → l ≡ take q l₀ ++ (w ++ drop q₀ l₀)
     ends-done {left} {q} {l} e r = sym (take-append-drop q l) ∙ ap (λ (y : List A). y ++ drop q l) (r .low) ∙ ap (λ (y : List A). take q l₀ ++ y) (ap (λ (y : List A). y ++ drop q l) (sym e) ∙ r .same)
+
+  -- ---- the loop that writes a list from its first element up: i elements of w stand from place a on
+
+  pub record Spells (w l₀ : List A) (a i : ℕ) (l : List A) : Type 0 where
+    pub within : i ≤ length w
+    pub size : length l ≡ length l₀
+    pub same : l ≡ paste l₀ a w i
+
+  module _ {w l₀ : List A} {a : ℕ} where
+    pub spells-start : Spells w l₀ a 0 l₀
+    spells-start = record { within = omega arith; size = refl; same = paste-zero l₀ a w }
+
+    pub spells-more : {i : ℕ} {l : List A} (z : A) → a + length w ≤ length l₀ → i < length w → Spells w l₀ a i l → Spells w l₀ a (i + 1) (set l (a + i) (getD w i z))
+    spells-more {i} {l} z h m r = record {
+      within = omega arith;
+      size = length-set l (a + i) (getD w i z) ∙ r .size;
+      same =
+          ap (λ (x : List A). set x (a + i) (getD w i z)) (r .same)
+          ∙ paste-suc l₀ a w i z (omega arith) m
+          ∙ ap (paste l₀ a w) (sym (add-one i));
+    }
+
+    pub spells-done : {i : ℕ} {l : List A} → length w ≤ i → Spells w l₀ a i l → l ≡ written w a l₀
+    spells-done {i} {l} h r =
+        r .same
+        ∙ ap (paste l₀ a w) (le-antisymm (r .within) h)
+        ∙ ap (λ (x : List A). take a l₀ ++ x ++ drop (a + length w) l₀) (take-length w)
 
   -- ---- an area whose first n places are scratch
 

@@ -1,7 +1,7 @@
 -- Lists made from a test, from other lists, and from an area with a part of it written. Definitions only.
 use mathlib.Core.List.{List, [], _∷_, _++_}
 use mathlib.Core.Bool.{Bool, cond}
-use Prim.Native.Nat.{ℕ, zero, suc, _-_}
+use Prim.Native.Nat.{ℕ, zero, suc, _+_, _-_, _*_}
 use lib.ListN.{length, take, drop}
 
 -- the numbers below n at which p holds, rising
@@ -19,6 +19,18 @@ module _ {A : Type 0} where
   abbrev pub pasted : List A → ℕ → ℕ → List A → List A
   pasted l a k d = take k (drop a l) ++ drop k d
 
+  -- l, with w written from place a on; the other places are as they were
+  abbrev pub written : List A → ℕ → List A → List A
+  written w a l = take a l ++ w ++ drop (a + length w) l
+
   -- l, with w written so that it ends just below place q
   abbrev pub ending : List A → ℕ → List A → List A
   ending w q l = take (q - length w) l ++ (w ++ drop q l)
+
+  -- g 0, g 1, .. g (n - 1)
+  abbrev pub each : (ℕ → A) → ℕ → List A
+  each g n = joined (λ j. g j ∷ []) n
+
+  -- n rows of w values, one after the other, then what stood there
+  abbrev pub laid : (ℕ → List A) → ℕ → ℕ → List A → List A
+  laid row w n l = joined row n ++ drop (n * w) l

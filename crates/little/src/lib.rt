@@ -2,7 +2,8 @@
 ghost use mathlib.Core.Path.{_≡_};
 ghost use Prim.Native.Nat.{_+_, _<_, _≤_};
 ghost use lib.ListN.{length};
-ghost use Rattle.little.specs.Little.{littleOf, valueAt};
+ghost use Rattle.laws.specs.Joined.{written};
+ghost use Rattle.little.specs.Little.{littleBytes, littleOf, valueAt};
 
 fn wide(b: u8) -> u64
     ensures { λ r. ⌜ (r ≡ b) × (r < 256) ⌝ }
@@ -33,4 +34,18 @@ pub fn value(bytes: &[u8], a: usize) -> f64
     ensures { λ r. ⌜ r ≡ valueAt (now (bytes .entry)) a ⌝ }
 {
     elementary::value_of(word(bytes, a))
+}
+
+// Writes the eight bytes of v from a on.
+pub fn put_word(bytes: &mut [u8], a: usize, v: u64)
+    requires { ⌜ a + 8 ≤ length (now bytes) ⌝ }
+    ensures { λ _. ⌜ now (bytes .exit) ≡ written (littleBytes 8 v) a (now (bytes .entry)) ⌝ }
+{
+    let mut left = v;
+    let mut i = 0;
+    while i < 8 {
+        bytes[a + i] = (left % 256) as u8;
+        left = left / 256;
+        i += 1;
+    }
 }

@@ -11,7 +11,7 @@ use lib.ListN.{length, drop, length-append, length-drop}
 use lib.Ieee.{Float}
 use borrow.Author.Tests.{eq-eqb, ne-eqb, eqb-true, lt-ltb, le-leb}
 use Rattle.laws.specs.Area.{num, zero64, one64}
-use Rattle.laws.specs.Joined.{joined}
+use Rattle.laws.specs.Joined.{joined, each}
 use Rattle.laws.proofs.Bools.{by-bool}
 use Rattle.laws.proofs.Parts.{length-pasted}
 use Rattle.laws.proofs.Laid.{singles-size, laid-size}
@@ -20,7 +20,6 @@ use Rattle.areas.proofs.Front.{filled-size}
 use Rattle.affinity_lists.specs.Lists.{Rows, Areas, areas, listOf, weightsOf, listStart, linksOf}
 use Rattle.affinity_lists.proofs.Linked.{length-weights, links-most}
 use Rattle.affinity_lists.proofs.Theorems.{offsets-first, offsets-rise, links-between, listed-below}
-use Rattle.affinity.specs.Laid.{each}
 use Rattle.affinity.specs.Exact.{affinityOf, exactOf}
 use Rattle.affinity.specs.Neighbours.{rowsOf, neighboursListed}
 use Rattle.affinity.proofs.Kept.{weights-kept, indices-kept}

@@ -10,7 +10,7 @@ use run_record::Run;
 use run_record::Settings;
 use run_record::Standing;
 
-fn method_of(w: u64) -> Method
+pub fn method_of(w: u64) -> Method
     ensures { λ m. ⌜ m ≡ methodOf w ⌝ }
 {
     if w == 0 {
@@ -28,7 +28,7 @@ fn method_word(m: Method) -> u64
     }
 }
 
-fn standing_of(w: u64) -> Standing
+pub fn standing_of(w: u64) -> Standing
     ensures { λ s. ⌜ s ≡ standingOf w ⌝ }
 {
     if w == 0 {

@@ -57,7 +57,7 @@ fn finished_fits(done: usize, set: usize, phase: usize, least: f64) -> bool
     phase == 0
 }
 
-fn state_fits(s: Standing, done: usize, set: usize, phase: usize, least: f64) -> bool
+pub fn state_fits(s: Standing, done: usize, set: usize, phase: usize, least: f64) -> bool
     ensures { λ r. ⌜ r ≡ stateFits s done set phase least ⌝ }
 {
     match s {

@@ -23,7 +23,7 @@ pub fn is_positive(x: f64) -> bool
     false
 }
 
-fn is_inside(a: f64) -> bool
+pub fn is_inside(a: f64) -> bool
     ensures { λ r. ⌜ r ≡ angleFine a ⌝ }
 {
     if 0.0 <= a {
@@ -32,7 +32,7 @@ fn is_inside(a: f64) -> bool
     false
 }
 
-fn is_below(x: f64, y: f64) -> bool
+pub fn is_below(x: f64, y: f64) -> bool
     ensures { λ r. ⌜ r ≡ lt x y ⌝ }
 {
     x < y

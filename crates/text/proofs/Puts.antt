@@ -1,44 +1,20 @@
 -- Text put into an area: the loop that puts a string, and texts put one after the other. Assumes nothing.
 use mathlib.Core.Path.{_≡_, refl, sym, ap, _∙_}
 use mathlib.Core.List.{List, [], _++_, append-assoc}
-use Prim.Native.Nat.{ℕ, _+_, _-_, _<_, _≤_}
+use Prim.Native.Nat.{ℕ, _+_, _-_, _≤_}
 use native.Mathlib.Omega.{arith}
-use native.Mathlib.Numerals.{add-one}
 use native.Mathlib.Nat.{le-antisymm, zero-add}
-use lib.ListN.{length, getD, set, take, drop, length-set, length-append, length-drop}
-use lib.Seq.{paste, paste-zero, paste-suc, take-length, length-take-le, take-at, drop-at, drop-drop}
+use lib.ListN.{length, take, drop, length-append, length-drop}
+use lib.Seq.{paste-zero, length-take-le, take-at, drop-at, drop-drop}
 use Rattle.io.specs.Counts.{Counts}
-use Rattle.text.specs.Text.{written, Puts}
+use Rattle.laws.specs.Joined.{written}
+use Rattle.laws.proofs.Parts.{Spells, spells-done}
+use Rattle.text.specs.Text.{Puts}
 
--- ---- the loop: i bytes of w are put at place a
+-- ---- the loop that puts a string has put it whole
 
-pub record Spells (w l₀ : List ℕ) (a i : ℕ) (l : List ℕ) : Type 0 where
-  pub within : i ≤ length w
-  pub size : length l ≡ length l₀
-  pub same : l ≡ paste l₀ a w i
-
-module _ {w l₀ : List ℕ} {a : ℕ} where
-  pub spells-start : Spells w l₀ a 0 l₀
-  spells-start = record { within = omega arith; size = refl; same = paste-zero l₀ a w }
-
-  pub spells-more : {i : ℕ} {l : List ℕ} → a + length w ≤ length l₀ → i < length w → Spells w l₀ a i l → Spells w l₀ a (i + 1) (set l (a + i) (getD w i 0))
-  spells-more {i} {l} h m r = record {
-    within = omega arith;
-    size = length-set l (a + i) (getD w i 0) ∙ r .size;
-    same =
-        ap (λ (x : List ℕ). set x (a + i) (getD w i 0)) (r .same)
-        ∙ paste-suc l₀ a w i 0 (omega arith) m
-        ∙ ap (paste l₀ a w) (sym (add-one i));
-  }
-
-  pub spells-done : {i : ℕ} {l : List ℕ} → a + length w ≤ length l₀ → length w ≤ i → Spells w l₀ a i l → Puts w a l₀ (a + i) l
-  spells-done {i} {l} m h r =
-      let e : i ≡ length w = le-antisymm (r .within) h in
-      record {
-        place = ap (λ (x : ℕ). a + x) e;
-        room = omega arith;
-        area = r .same ∙ ap (paste l₀ a w) e ∙ ap (λ (x : List ℕ). take a l₀ ++ x ++ drop (a + length w) l₀) (take-length w);
-      }
+pub puts-done : {w l₀ l : List ℕ} {a i : ℕ} → a + length w ≤ length l₀ → length w ≤ i → Spells w l₀ a i l → Puts w a l₀ (a + i) l
+puts-done {w} {l₀} {l} {a} {i} m h r = record { place = ap (λ (x : ℕ). a + x) (le-antisymm (r .within) h); room = omega arith; area = spells-done h r }
 
 -- ---- texts one after the other
 

@@ -1,11 +1,12 @@
 -- Numbers as text, and text in a lent area of bytes. Definitions only.
 use mathlib.Core.Path.{_≡_}
-use mathlib.Core.List.{List, [], _∷_, _++_}
+use mathlib.Core.List.{List, [], _∷_}
 use Prim.Native.Nat.{ℕ, _+_, _^_, _≤_}
 use lib.Dec.{ltb}
-use lib.ListN.{length, take, drop}
+use lib.ListN.{length}
 use Rattle.io.specs.Digits.{digits}
 use Rattle.laws.specs.Loops.{first}
+use Rattle.laws.specs.Joined.{written}
 
 -- a space, and the end of a line
 abbrev pub space : List ℕ
@@ -25,10 +26,6 @@ decimalOf n = digits 10 (decimals n) n
 -- 16 hex digits in lower case
 unfoldable pub hexOf : ℕ → List ℕ
 hexOf n = digits 16 16 n
-
--- l, with w written from place a on; the other places are as they were
-abbrev pub written : List ℕ → ℕ → List ℕ → List ℕ
-written w a l = take a l ++ w ++ drop (a + length w) l
 
 -- w put at place a of l: b is the place after it, and m the area afterwards
 pub record Puts (w : List ℕ) (a : ℕ) (l : List ℕ) (b : ℕ) (m : List ℕ) : Type 0 where

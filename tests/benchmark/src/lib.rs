@@ -5,7 +5,7 @@ pub mod contest;
 pub mod library;
 
 use contest::{contest, Contestant};
-use library::{prepared, Preparing, Run, Telling, Working};
+use library::{prepared, Copying, Parking, Preparing, Reading, Run, Telling, Working};
 use oracle::scatter::SplitMix64;
 
 /// What someone else brings to a contest, where they have it.
@@ -95,4 +95,20 @@ pub fn all(others: &dyn Others) {
             11,
         );
     }
+    parking();
+}
+
+/// A full side parked and read back, beside a copy of the bytes.
+pub fn parking() {
+    let run = prepared(brothanchor::Method::BarnesHut, 4096, 10);
+    contest(
+        "parking, Barnes-Hut, n 4096, perplexity 30",
+        vec![Box::new(Parking::new(&run)), Box::new(Copying::new(&run))],
+        21,
+    );
+    contest(
+        "reading a parked run, Barnes-Hut, n 4096, perplexity 30",
+        vec![Box::new(Reading::new(&run)), Box::new(Copying::new(&run))],
+        21,
+    );
 }

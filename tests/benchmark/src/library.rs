@@ -2,7 +2,9 @@
 
 use crate::contest::Contestant;
 use crate::frames;
-use brothanchor::{divergence, prepare, scatter, sizes, work, Areas, Method, Record, Rows, Settings};
+use brothanchor::{
+    divergence, park, parked, prepare, scatter, sizes, unpark, work, Areas, Method, Record, Rows, Settings,
+};
 
 /// A run at the start of an iteration.
 pub struct Run {
@@ -171,4 +173,110 @@ impl Contestant for Telling {
     fn result(&self) -> Option<Vec<f64>> {
         None
     }
+}
+
+/// A run written into its file.
+pub struct Parking {
+    record: Record,
+    areas: Areas,
+    file: Vec<u8>,
+}
+
+impl Parking {
+    pub fn new(run: &Run) -> Parking {
+        Parking {
+            record: run.record,
+            areas: run.areas.clone(),
+            file: parked(&run.record, &run.areas).expect("between two iterations"),
+        }
+    }
+}
+
+impl Contestant for Parking {
+    fn name(&self) -> &'static str {
+        "parking"
+    }
+
+    fn reset(&mut self) {
+        self.file.fill(0);
+    }
+
+    fn work(&mut self) {
+        let records = park(&self.record, &self.areas, &mut self.file);
+        assert_eq!(records.map(|records| 32 * records), Ok(self.file.len()));
+    }
+
+    fn result(&self) -> Option<Vec<f64>> {
+        Some(values(&self.file))
+    }
+}
+
+/// A run read back from its file.
+pub struct Reading {
+    areas: Areas,
+    file: Vec<u8>,
+}
+
+impl Reading {
+    pub fn new(run: &Run) -> Reading {
+        Reading {
+            areas: run.areas.clone(),
+            file: parked(&run.record, &run.areas).expect("between two iterations"),
+        }
+    }
+}
+
+impl Contestant for Reading {
+    fn name(&self) -> &'static str {
+        "reading"
+    }
+
+    fn reset(&mut self) {
+        self.areas.affinities.fill(0.0);
+    }
+
+    fn work(&mut self) {
+        unpark(&self.file, &mut self.areas).expect("what was written");
+    }
+
+    fn result(&self) -> Option<Vec<f64>> {
+        None
+    }
+}
+
+/// A copy of a parked run's bytes.
+pub struct Copying {
+    from: Vec<u8>,
+    to: Vec<u8>,
+}
+
+impl Copying {
+    pub fn new(run: &Run) -> Copying {
+        let from = parked(&run.record, &run.areas).expect("between two iterations");
+        let to = from.clone();
+        Copying { from, to }
+    }
+}
+
+impl Contestant for Copying {
+    fn name(&self) -> &'static str {
+        "a copy of the bytes"
+    }
+
+    fn reset(&mut self) {
+        self.to.fill(0);
+    }
+
+    fn work(&mut self) {
+        self.to.copy_from_slice(&self.from);
+    }
+
+    fn result(&self) -> Option<Vec<f64>> {
+        Some(values(&self.to))
+    }
+}
+
+/// Bytes as values, to be compared.
+fn values(bytes: &[u8]) -> Vec<f64> {
+    bytes.iter().map(|&byte| f64::from(byte)).collect()
 }

@@ -1,6 +1,7 @@
 /* Maps a frame file through include/brothanchor.h, as the wrapper's map program does: map FILE [SEED].
- * Prints a line for each frame: picture, side, both coordinates by their bits; then how the run ended, and its divergence. It
- * is compiled as C and as C++, and calls every function of the header. A refusal ends it with its number and where it came. */
+ * Prints a line for each frame: picture, side, both coordinates by their bits; then how the run ended, and its divergence. On
+ * its way the run is parked, forgotten and read back. It is compiled as C and as C++, and calls every function of the header. A
+ * refusal ends it with its number and where it came. */
 #include <inttypes.h>
 #include <stdio.h>
 #include <stdlib.h>
@@ -8,7 +9,7 @@
 
 #include "brothanchor.h"
 
-enum { FRAME_BYTES = 72, FRAME_WORDS = 10, FEATURES = 6, STARTS = 2, MOST_FRAMES = 4096, ITERATIONS = 1000 };
+enum { FRAME_BYTES = 72, FRAME_WORDS = 10, FEATURES = 6, STARTS = 2, MOST_FRAMES = 4096, ITERATIONS = 1000, PARKED_BYTES = 32, NIGHT = 40 };
 
 /* What a run is lent. */
 struct areas {
@@ -114,7 +115,7 @@ static uint32_t diverge(const struct areas *a, const uint64_t *sizes, size_t wor
 
 static void told(const char *what, uint32_t number, uint32_t wanted, const uint64_t *answer, uint64_t first) {
     if (number != wanted || answer[0] != first || answer[1] != 7) {
-        fprintf(stderr, "divergence, %s: %u, %" PRIx64 ", %" PRIx64 "\n", what, (unsigned)number, answer[0], answer[1]);
+        fprintf(stderr, "%s: %u, %" PRIx64 ", %" PRIx64 "\n", what, (unsigned)number, answer[0], answer[1]);
         exit(1);
     }
 }
@@ -123,14 +124,83 @@ static void told(const char *what, uint32_t number, uint32_t wanted, const uint6
  * one word is written. */
 static double divergence(const struct areas *a, const uint64_t *sizes) {
     uint64_t answer[2] = {5, 7};
-    told("no answer", diverge(a, sizes, BROTHANCHOR_RECORD_WORDS, answer, 0), 12, answer, 5);
-    told("no record and no answer", diverge(a, sizes, 0, answer, 0), 12, answer, 5);
-    told("thirteen words", diverge(a, sizes, BROTHANCHOR_RECORD_WORDS - 1, answer, 2), 13, answer, 0);
+    told("divergence, no answer", diverge(a, sizes, BROTHANCHOR_RECORD_WORDS, answer, 0), 12, answer, 5);
+    told("divergence, no record and no answer", diverge(a, sizes, 0, answer, 0), 12, answer, 5);
+    told("divergence, thirteen words", diverge(a, sizes, BROTHANCHOR_RECORD_WORDS - 1, answer, 2), 13, answer, 0);
     answer[0] = 5;
-    told("no words", diverge(a, sizes, 0, answer, 1), 13, answer, 0);
+    told("divergence, no words", diverge(a, sizes, 0, answer, 1), 13, answer, 0);
     refused("divergence", diverge(a, sizes, BROTHANCHOR_RECORD_WORDS, answer, 2));
-    told("a figure", 0, 0, answer, answer[0]);
+    told("divergence, a figure", 0, 0, answer, answer[0]);
     return value(answer[0]);
+}
+
+/* A parking by the first so many words of the record, to the first so many bytes of a target. */
+static uint32_t park(const struct areas *a, const uint64_t *sizes, size_t words, uint8_t *target, size_t bytes,
+                     uint64_t *answer, size_t length) {
+    return brothanchor_park(
+        a->record, words,
+        a->positions, sizes[BROTHANCHOR_CELLS], a->increments, sizes[BROTHANCHOR_CELLS], a->gains, sizes[BROTHANCHOR_CELLS],
+        a->affinities, sizes[BROTHANCHOR_AFFINITIES], a->indices, sizes[BROTHANCHOR_INDICES],
+        a->offsets, sizes[BROTHANCHOR_OFFSETS], a->forces, sizes[BROTHANCHOR_FORCES],
+        a->nodes, sizes[BROTHANCHOR_NODES], target, bytes, answer, length);
+}
+
+/* A reading of so many bytes, with so many words for the record. */
+static uint32_t unpark(struct areas *a, const uint64_t *sizes, const uint8_t *file, size_t bytes, size_t words,
+                       uint64_t *answer, size_t length) {
+    return brothanchor_unpark(
+        file, bytes, a->record, words,
+        a->positions, sizes[BROTHANCHOR_CELLS], a->increments, sizes[BROTHANCHOR_CELLS], a->gains, sizes[BROTHANCHOR_CELLS],
+        a->affinities, sizes[BROTHANCHOR_AFFINITIES], a->indices, sizes[BROTHANCHOR_INDICES],
+        a->offsets, sizes[BROTHANCHOR_OFFSETS], a->forces, sizes[BROTHANCHOR_FORCES],
+        sizes[BROTHANCHOR_NODES], answer, length);
+}
+
+/* Other bytes in the record and in every area. */
+static void forget(struct areas *a, const uint64_t *sizes) {
+    memset(a->record, 0x55, sizeof a->record);
+    memset(a->positions, 0x55, sizes[BROTHANCHOR_CELLS] * sizeof(double));
+    memset(a->increments, 0x55, sizes[BROTHANCHOR_CELLS] * sizeof(double));
+    memset(a->gains, 0x55, sizes[BROTHANCHOR_CELLS] * sizeof(double));
+    memset(a->affinities, 0x55, sizes[BROTHANCHOR_AFFINITIES] * sizeof(double));
+    memset(a->indices, 0x55, sizes[BROTHANCHOR_INDICES] * sizeof(uint32_t));
+    memset(a->offsets, 0x55, sizes[BROTHANCHOR_OFFSETS] * sizeof(uint32_t));
+    memset(a->forces, 0x55, sizes[BROTHANCHOR_FORCES] * sizeof(double));
+    memset(a->nodes, 0x55, sizes[BROTHANCHOR_NODES] * sizeof(struct brothanchor_node));
+}
+
+static size_t records(uint64_t values) { return (size_t)((values + 3) / 4); }
+
+/* Parks the run, forgets it and reads it back, each first as only C can ask for it: no word to tell in, a record that lacks a
+ * word. What is read is parked as the same bytes. */
+static void overnight(struct areas *a, const uint64_t *sizes) {
+    size_t most = PARKED_BYTES * (3 + 3 * records(sizes[BROTHANCHOR_CELLS]) + records(sizes[BROTHANCHOR_OFFSETS]) +
+                                  2 * records(sizes[BROTHANCHOR_INDICES]));
+    uint8_t *file = (uint8_t *)room(most, 1), *again = (uint8_t *)room(most, 1);
+    uint64_t answer[2] = {5, 7}, count;
+    size_t bytes;
+    told("park, no answer", park(a, sizes, BROTHANCHOR_RECORD_WORDS, file, most, answer, 0), 12, answer, 5);
+    told("park, thirteen words", park(a, sizes, BROTHANCHOR_RECORD_WORDS - 1, file, most, answer, 2), 13, answer, 0);
+    answer[0] = 5;
+    told("park, no target", park(a, sizes, BROTHANCHOR_RECORD_WORDS, file, 0, answer, 1), 12, answer, 0);
+    refused("park", park(a, sizes, BROTHANCHOR_RECORD_WORDS, file, most, answer, 2));
+    count = answer[0];
+    bytes = PARKED_BYTES * (size_t)count;
+    told("park, a byte short", park(a, sizes, BROTHANCHOR_RECORD_WORDS, again, bytes - 1, answer, 2), 12, answer, 0);
+    forget(a, sizes);
+    answer[0] = 5;
+    told("unpark, no answer", unpark(a, sizes, file, bytes, BROTHANCHOR_RECORD_WORDS, answer, 0), 12, answer, 5);
+    told("unpark, a byte short", unpark(a, sizes, file, bytes - 1, 0, answer, 2), 16, answer, count - 1);
+    told("unpark, thirteen words", unpark(a, sizes, file, bytes, BROTHANCHOR_RECORD_WORDS - 1, answer, 2), 12, answer, 0);
+    told("unpark, no bytes", unpark(a, sizes, file, 0, BROTHANCHOR_RECORD_WORDS, answer, 1), 16, answer, 0);
+    told("unpark", unpark(a, sizes, file, bytes, BROTHANCHOR_RECORD_WORDS, answer, 2), 0, answer, count);
+    told("park again", park(a, sizes, BROTHANCHOR_RECORD_WORDS, again, bytes, answer, 2), 0, answer, count);
+    if (memcmp(file, again, bytes) != 0) {
+        fprintf(stderr, "what was read is parked as other bytes\n");
+        exit(1);
+    }
+    free(file);
+    free(again);
 }
 
 static size_t read_file(const char *name, uint8_t *file, size_t most) {
@@ -190,6 +260,7 @@ int main(int words, char **word) {
     lend(&areas, sizes);
     prepare(&areas, settings, sizes, table, start);
     do {
+        if (brothanchor_iterations(areas.record, BROTHANCHOR_RECORD_WORDS) == NIGHT) overnight(&areas, sizes);
         memcpy(areas.copy, areas.positions, sizes[BROTHANCHOR_CELLS] * sizeof(double));
     } while (work(&areas, sizes, (uint32_t)(2 * n + 2)) == 0);
     print(file, length, n, &areas);

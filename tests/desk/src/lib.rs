@@ -3,13 +3,16 @@
 //! All memory is the caller's. A refusal at entry changes nothing. The library tests whatever it is given, so nothing
 //! here can be called wrongly; a slice brings its own length, and the borrow checker keeps areas from overlapping.
 
+pub mod beside;
 mod labels;
 mod library;
 pub mod map;
+mod parking;
 mod picture;
 mod refusal;
 mod run;
 
+pub use parking::{park, parked, parked_bytes, unpark, unpark_words, wake, PARKED_RECORD};
 pub use refusal::Refusal;
 pub use run::{
     divergence, prepare, sizes, work, Areas, Fault, Kind, Method, Node, Record, Rows, Settings, Sizes, State, Worked,

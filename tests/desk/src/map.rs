@@ -1,5 +1,6 @@
 //! The main job: from the bytes of a frame file to a map, its lines and its picture.
 
+use crate::parking::{parked, wake};
 use crate::picture;
 use crate::run::{divergence, prepare, sizes, work, Areas, Kind, Method, Record, Rows, Settings, State};
 use crate::{frame, frames, scatter, Frame, Refusal, FEATURES, STARTS};
@@ -78,30 +79,157 @@ pub fn map(file: &[u8], seed: Option<u64>, progress: impl FnMut(u64, u64)) -> Re
 }
 
 /// The same in so many iterations.
-pub fn map_in(file: &[u8], seed: Option<u64>, iterations: usize, progress: impl FnMut(u64, u64)) -> Result<Map, NoMap> {
-    let frames = read(file)?;
-    let n = frames.len();
-    let settings = settings(n, iterations);
-    let sizes = sizes(&settings)?;
-    let table: Vec<f64> = frames.iter().flat_map(|frame| frame.features).collect();
-    let mut start: Vec<f64> = frames.iter().flat_map(|frame| frame.starts).collect();
-    if let Some(seed) = seed {
-        scatter(&mut start, n as u32, STARTS as u32, seed)?;
+pub fn map_in(
+    file: &[u8],
+    seed: Option<u64>,
+    iterations: usize,
+    mut progress: impl FnMut(u64, u64),
+) -> Result<Map, NoMap> {
+    let mut run = Run::begin_in(file, seed, iterations)?;
+    while !run.has_ended() {
+        run.iterate()?;
+        progress(run.done(), run.of());
     }
-    let mut areas = Areas::new(&sizes, sizes.nodes);
-    let mut record = prepare(&settings.words(), &table, &start, &mut areas, &mut Rows::new(&sizes))?;
-    let copy = descend(&mut record, &mut areas, &settings, progress)?;
-    let divergence = match divergence(&record, &areas, &copy) {
-        Ok(figure) => Some(figure),
-        Err((Refusal(17), _)) => None,
-        Err((refusal, _)) => return Err(refusal.into()),
-    };
-    Ok(Map {
-        frames,
-        positions: areas.positions,
-        record,
-        divergence,
-    })
+    run.map()
+}
+
+/// A run of a frame file's frames between two of its iterations.
+#[derive(Clone, Debug)]
+pub struct Run {
+    frames: Vec<Frame>,
+    record: Record,
+    areas: Areas,
+    /// The positions before the last step.
+    copy: Vec<f64>,
+}
+
+impl Run {
+    /// Prepared from the file's starting positions, or from a scatter where a seed is given.
+    pub fn begin(file: &[u8], seed: Option<u64>) -> Result<Run, NoMap> {
+        Run::begin_in(file, seed, ITERATIONS)
+    }
+
+    fn begin_in(file: &[u8], seed: Option<u64>, iterations: usize) -> Result<Run, NoMap> {
+        let frames = read(file)?;
+        let n = frames.len();
+        let settings = settings(n, iterations);
+        let sizes = sizes(&settings)?;
+        let table: Vec<f64> = frames.iter().flat_map(|frame| frame.features).collect();
+        let mut start: Vec<f64> = frames.iter().flat_map(|frame| frame.starts).collect();
+        if let Some(seed) = seed {
+            scatter(&mut start, n as u32, STARTS as u32, seed)?;
+        }
+        let mut areas = Areas::new(&sizes, sizes.nodes);
+        let record = prepare(&settings.words(), &table, &start, &mut areas, &mut Rows::new(&sizes))?;
+        Ok(Run::standing(frames, record, areas))
+    }
+
+    /// Read back from where it was parked. The frames have to be those that it was begun with; only their number is looked at.
+    pub fn resume(file: &[u8], parked: &[u8]) -> Result<Run, NoRun> {
+        let frames = read(file).map_err(NoRun::Frames)?;
+        let bad = |(refusal, place): (Refusal, u64)| {
+            let record = (refusal == Refusal(16)).then_some(place as usize);
+            NoRun::Parked(NoMap { refusal, record })
+        };
+        let (record, areas) = wake(parked).map_err(bad)?;
+        let [n, f, c, ..] = record.words;
+        if [n, f, c] != [frames.len() as u64, FEATURES as u64, STARTS as u64] {
+            return Err(NoRun::Other {
+                parked: [n, f, c],
+                frames: frames.len(),
+            });
+        }
+        Ok(Run::standing(frames, record, areas))
+    }
+
+    fn standing(frames: Vec<Frame>, record: Record, areas: Areas) -> Run {
+        let copy = areas.positions.clone();
+        Run {
+            frames,
+            record,
+            areas,
+            copy,
+        }
+    }
+
+    /// One iteration more, unless the run has ended.
+    pub fn iterate(&mut self) -> Result<(), Refusal> {
+        let [n, _, _, method, ..] = self.record.words;
+        let units = if method == 0 { 2 * n + 1 } else { 2 * n + 2 };
+        if !self.has_ended() {
+            self.copy.copy_from_slice(&self.areas.positions);
+        }
+        match work(&mut self.record, &mut self.areas, units as u32).kind {
+            Kind::Refused(refusal) => Err(refusal),
+            _ => Ok(()),
+        }
+    }
+
+    /// Iterations done, and how many it has at most.
+    pub fn done(&self) -> u64 {
+        self.record.iterations()
+    }
+
+    pub fn of(&self) -> u64 {
+        self.record.words[6]
+    }
+
+    /// Whether it has stopped or finished.
+    pub fn has_ended(&self) -> bool {
+        self.record.state() != Some(State::Running)
+    }
+
+    /// How many frames it has.
+    pub fn frames(&self) -> usize {
+        self.frames.len()
+    }
+
+    /// The run as a file.
+    pub fn park(&self) -> Result<Vec<u8>, Refusal> {
+        parked(&self.record, &self.areas).map_err(|(refusal, _)| refusal)
+    }
+
+    /// The map as it stands, with the figure of the iteration just finished. A run just read back has none.
+    pub fn map(self) -> Result<Map, NoMap> {
+        let divergence = match divergence(&self.record, &self.areas, &self.copy) {
+            Ok(figure) => Some(figure),
+            Err((Refusal(17), _)) => None,
+            Err((refusal, _)) => return Err(refusal.into()),
+        };
+        Ok(Map {
+            frames: self.frames,
+            positions: self.areas.positions,
+            record: self.record,
+            divergence,
+        })
+    }
+}
+
+/// Why a run is not resumed.
+#[derive(Clone, Copy, Debug, PartialEq, Eq)]
+pub enum NoRun {
+    /// The frame file is refused.
+    Frames(NoMap),
+    /// The parked run is.
+    Parked(NoMap),
+    /// It is a run of other frames: their number, their features and the map's components; and how many there are here.
+    Other { parked: [u64; 3], frames: usize },
+}
+
+impl fmt::Display for NoRun {
+    fn fmt(&self, f: &mut fmt::Formatter<'_>) -> fmt::Result {
+        match self {
+            NoRun::Frames(none) | NoRun::Parked(none) => write!(f, "{none}"),
+            NoRun::Other { parked, frames } => {
+                let [n, features, components] = parked;
+                write!(
+                    f,
+                    "a run of {n} frames with {features} features on a map of {components} components; "
+                )?;
+                write!(f, "the frame file has {frames} with {FEATURES} for a map of {STARTS}")
+            }
+        }
+    }
 }
 
 /// The frames of a file; 7 where it is too long, before any record is tested.
@@ -115,26 +243,6 @@ fn read(file: &[u8]) -> Result<Vec<Frame>, NoMap> {
     };
     let count = frames(file).map_err(bad)?;
     Ok((0..count).map(|i| frame(file, i)).collect())
-}
-
-/// Works a run to its end, an iteration a call; the positions before the last step.
-fn descend(
-    record: &mut Record,
-    areas: &mut Areas,
-    settings: &Settings,
-    mut progress: impl FnMut(u64, u64),
-) -> Result<Vec<f64>, Refusal> {
-    let mut copy = areas.positions.clone();
-    loop {
-        copy.copy_from_slice(&areas.positions);
-        let worked = work(record, areas, settings.iteration() as u32);
-        progress(record.iterations(), settings.iterations as u64);
-        match worked.kind {
-            Kind::Running => {}
-            Kind::Stopped | Kind::Finished => return Ok(copy),
-            Kind::Refused(refusal) => return Err(refusal),
-        }
-    }
 }
 
 impl Map {

@@ -32,9 +32,9 @@ impl Refusal {
             12 => "a lent area is too short",
             13 => "the settings, the record or the areas are not well formed",
             14 => "the next point needs more nodes than the arena has left",
-            15 => "the step would leave the range of numbers that a map may have",
-            16 => "a record of the frame file is bad",
-            17 => "no iteration has just ended, or the forces give a total of 0",
+            15 => "a value has left, or the step would leave, the range of numbers that a map may have",
+            16 => "a record of the file is bad",
+            17 => "the run is inside an iteration, or no iteration has just ended, or the forces give a total of 0",
             _ => "no known number",
         }
     }

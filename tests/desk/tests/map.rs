@@ -1,7 +1,7 @@
 //! The map of a frame file: against the independent implementation of the rules, and what is said and drawn.
 
-use brothanchor::map::{map, map_in, settings, Map, NoMap, MOST_FRAMES, RECORD};
-use brothanchor::{sizes, Refusal};
+use brothanchor::map::{map, map_in, settings, Map, NoMap, NoRun, Run, MOST_FRAMES, RECORD};
+use brothanchor::{parked, prepare, sizes, work, Refusal, Settings};
 use oracle::descent::{self, Areas, Method, Rows, Standing};
 use oracle::divergence::divergence;
 use oracle::frames::fetch;
@@ -88,6 +88,109 @@ fn maps_are_those_of_the_rules() {
     }
 }
 
+/// A run that is worked for so many iterations.
+fn begun(file: &[u8], iterations: u64) -> Run {
+    let mut run = Run::begin(file, None).expect("a good file");
+    while run.done() < iterations {
+        run.iterate().expect("a good run");
+    }
+    run
+}
+
+/// The map of a run that goes on to its end.
+fn ended(mut run: Run) -> Map {
+    while !run.has_ended() {
+        run.iterate().expect("a good run");
+    }
+    run.map().expect("a map")
+}
+
+#[test]
+fn a_parked_run_gives_the_same_map() {
+    let file = few(9);
+    let whole = made(&file);
+    let last = whole.record.iterations();
+    for night in [0, 1, 40, 250, 251, last - 1] {
+        let parked = begun(&file, night).park().expect("between two iterations");
+        let resumed = Run::resume(&file, &parked).expect("what was parked");
+        assert_eq!((resumed.done(), resumed.frames()), (night, 9));
+        assert_eq!(resumed.park(), Ok(parked));
+        assert_eq!(ended(resumed), whole, "parked after {night}");
+    }
+    let parked = begun(&file, last).park().expect("after its end");
+    let resumed = ended(Run::resume(&file, &parked).expect("what was parked"));
+    assert_eq!(bits(&resumed.positions), bits(&whole.positions));
+    assert_eq!((resumed.divergence, resumed.ending()), (None, whole.ending()));
+}
+
+#[test]
+fn an_exact_run_goes_on_too() {
+    let file = few(9);
+    let frames: Vec<_> = (0..9).filter_map(|i| fetch(&file, i)).collect();
+    let table: Vec<f64> = frames.iter().flat_map(|frame| frame.features).collect();
+    let start: Vec<f64> = frames.iter().flat_map(|frame| frame.starts).collect();
+    let settings = Settings {
+        method: brothanchor::Method::Exact,
+        ..settings(9, 260)
+    };
+    let sizes = sizes(&settings).expect("good settings");
+    let mut areas = brothanchor::Areas::new(&sizes, 0);
+    let mut rows = brothanchor::Rows::new(&sizes);
+    let mut record = prepare(&settings.words(), &table, &start, &mut areas, &mut rows).expect("a good run");
+    work(&mut record, &mut areas, 100 * settings.iteration() as u32);
+    let resumed =
+        ended(Run::resume(&file, &parked(&record, &areas).expect("after 100 iterations")).expect("what was parked"));
+    work(&mut record, &mut areas, u32::MAX);
+    assert_eq!(bits(&resumed.positions), bits(&areas.positions));
+    assert_eq!(
+        (resumed.record.iterations(), resumed.record.units()),
+        (record.iterations(), record.units())
+    );
+    assert!(resumed.divergence.is_some());
+}
+
+#[test]
+fn what_is_not_resumed() {
+    let (file, parked) = (few(9), begun(&few(9), 3).park().expect("between two iterations"));
+    let refused = |file: &[u8], parked: &[u8]| Run::resume(file, parked).expect_err("bad");
+    let at = |record| NoMap {
+        refusal: Refusal(16),
+        record: Some(record),
+    };
+    assert_eq!(refused(&file, &[]), NoRun::Parked(at(0)));
+    assert_eq!(refused(&file, &parked[..40]), NoRun::Parked(at(1)));
+    assert_eq!(
+        refused(&file, &[parked.clone(), vec![0]].concat()),
+        NoRun::Parked(at(parked.len() / 32))
+    );
+    let mut angle = parked.clone();
+    angle[63] = 0x7f;
+    assert_eq!(refused(&file, &angle), NoRun::Parked(at(1)));
+    assert_eq!(
+        refused(&file, &angle).to_string(),
+        "refused 16: a record of the file is bad (record 1, counted from 0)"
+    );
+    assert_eq!(refused(&[0; 72], &parked), NoRun::Frames(at(0)));
+    let other = refused(&few(8), &parked);
+    assert_eq!(
+        other,
+        NoRun::Other {
+            parked: [9, 6, 2],
+            frames: 8
+        }
+    );
+    assert_eq!(
+        other.to_string(),
+        "a run of 9 frames with 6 features on a map of 2 components; the frame file has 8 with 6 for a map of 2"
+    );
+    let mut features = parked;
+    features[16] = 7;
+    assert!(matches!(
+        refused(&file, &features),
+        NoRun::Other { parked: [9, 7, 2], .. }
+    ));
+}
+
 #[test]
 fn small_maps_come_to_an_end() {
     for frames in 2..12 {
@@ -124,7 +227,7 @@ fn what_is_refused() {
     );
     assert_eq!(
         none.to_string(),
-        "refused 16: a record of the frame file is bad (record 3, counted from 0)"
+        "refused 16: a record of the file is bad (record 3, counted from 0)"
     );
     for number in 1..=17 {
         assert!(!Refusal(number).meaning().starts_with("no known"));

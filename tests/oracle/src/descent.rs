@@ -97,7 +97,7 @@ impl Settings {
     }
 
     /// Places for weights and indices in the lists: 2·n·k.
-    fn links(&self) -> usize {
+    pub fn links(&self) -> usize {
         2 * self.n * neighbours(self.perplexity, self.n)
     }
 
@@ -216,7 +216,7 @@ pub enum Answer {
 
 impl Areas {
     /// Whether each area is long enough.
-    fn fit(&self, settings: &Settings) -> bool {
+    pub fn fit(&self, settings: &Settings) -> bool {
         let cells = settings.cells();
         let of_the_method = match settings.method {
             Method::Exact => self.affinities.len() >= settings.n * settings.n,

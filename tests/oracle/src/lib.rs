@@ -12,6 +12,7 @@ pub mod frames;
 pub mod gradient;
 pub mod lists;
 pub mod moved;
+pub mod park;
 pub mod preparation;
 pub mod scatter;
 pub mod sigma;

@@ -8,6 +8,7 @@ pub mod divergence;
 pub mod elementary;
 pub mod frames;
 pub mod gradient;
+pub mod park;
 pub mod preparation;
 pub mod sample;
 pub mod scatter;
@@ -66,6 +67,8 @@ pub fn all() -> Vec<List> {
         List::new("replay_preparation", "larger", &preparation::larger_cases()),
         List::new("replay_descent", "runs", &descent::run_cases()),
         List::new("replay_descent", "faults", &descent::fault_cases()),
+        List::new("replay_park", "parks", &park::park_cases()),
+        List::new("replay_park", "unparks", &park::unpark_cases()),
         List::new("bench_cases", "files", &bench::cases()),
     ]
 }

@@ -1,7 +1,8 @@
 use borrow.Author.Needs.{needs}
 use Prim.Native.Nat.{_-_}
 use lib.ListN.{length}
-use Rattle.text.proofs.Puts.{Spells, spells-start, spells-more, spells-done}
+use Rattle.laws.proofs.Parts.{Spells, spells-start, spells-more}
+use Rattle.text.proofs.Puts.{puts-done}
 use Rattle.text.proofs.put.Statement.{statement}
 use Rattle.text.proofs.put.Tie as tie
 
@@ -30,7 +31,7 @@ loop-less : tie.Need-loop-less Inv-loop μ-loop
 loop-less c = search needs
 
 loop-again : tie.Need-loop-again Inv-loop μ-loop
-loop-again c = spells-more (c .before .before .before .pre) (c .before .loop-test .taken) (c .before .before .loop .inv)
+loop-again c = spells-more 0 (c .before .before .before .pre) (c .before .loop-test .taken) (c .before .before .loop .inv)
 
 add-result : tie.Need-add-result Inv-loop μ-loop
 add-result c = search needs
@@ -39,7 +40,7 @@ same-length : tie.Need-same-length Inv-loop μ-loop
 same-length c = search needs
 
 returns : tie.Need-returns Inv-loop μ-loop
-returns c = spells-done (c .before .before .pre) (c .loop-test .left) (c .before .loop .inv)
+returns c = puts-done (c .before .before .pre) (c .loop-test .left) (c .before .loop .inv)
 
 pub put-spec : {M : Type 1} → statement M
 put-spec =

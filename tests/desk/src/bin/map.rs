@@ -1,7 +1,8 @@
-//! `map FILE [--seed NUMBER] [--out FOLDER] [--progress]`: maps a frame file, as `help.txt` tells. What goes wrong gets one
-//! line on standard error.
+//! `map FILE [--seed NUMBER] [--out FOLDER] [--until N] [--park RUN] [--every N] [--resume RUN] [--progress]`: maps a frame
+//! file, as `help.txt` tells. What goes wrong gets one line on standard error.
 
-use brothanchor::map::{map, Map, MOST_FRAMES, RECORD};
+use brothanchor::beside;
+use brothanchor::map::{Map, NoRun, Run, MOST_FRAMES, RECORD};
 use std::fs::{self, File};
 use std::io::Read;
 use std::path::{Path, PathBuf};
@@ -13,6 +14,9 @@ const HELP: &str = include_str!("../../help.txt");
 /// The exit statuses where there is no map: because of the file or the folder, and because of the command line.
 const NO_MAP: u8 = 1;
 const BAD_WORDS: u8 = 2;
+
+/// More bytes than any parked run has.
+const MOST_PARKED: u64 = 1 << 30;
 
 fn main() -> ExitCode {
     let said = match asked(std::env::args().skip(1)) {
@@ -38,50 +42,107 @@ struct Asked {
     file: PathBuf,
     seed: Option<u64>,
     out: PathBuf,
+    /// Stops after so many iterations.
+    until: Option<u64>,
+    /// Where the run is parked, and after how many iterations each time while it goes.
+    park: Option<PathBuf>,
+    every: Option<u64>,
+    /// Goes on from here.
+    resume: Option<PathBuf>,
     progress: bool,
 }
 
 /// The words of the command line; nothing where they ask for help.
-fn asked(mut words: impl Iterator<Item = String>) -> Result<Option<Asked>, String> {
-    let (mut file, mut seed, mut out, mut progress) = (None, None, PathBuf::from("maps"), false);
+fn asked(words: impl Iterator<Item = String>) -> Result<Option<Asked>, String> {
+    let mut asked = Asked {
+        file: PathBuf::new(),
+        seed: None,
+        out: PathBuf::from("maps"),
+        until: None,
+        park: None,
+        every: None,
+        resume: None,
+        progress: false,
+    };
+    let mut file = None;
+    let mut words = words;
     while let Some(word) = words.next() {
         match word.as_str() {
             "--help" | "-h" => return Ok(None),
-            "--progress" => progress = true,
-            "--seed" => {
-                let number = words.next().and_then(|seed| seed.parse().ok());
-                seed = Some(number.ok_or("--seed takes a number from 0 to 2^64 - 1")?);
+            "--progress" => asked.progress = true,
+            "--seed" => asked.seed = Some(number(words.next()).ok_or("--seed takes a number from 0 to 2^64 - 1")?),
+            "--out" => asked.out = words.next().map(PathBuf::from).ok_or("--out takes a folder")?,
+            "--until" => asked.until = Some(number(words.next()).ok_or("--until takes a number of iterations")?),
+            "--every" => {
+                let every = number(words.next()).filter(|&every| every > 0);
+                asked.every = Some(every.ok_or("--every takes a number of iterations from 1 on")?);
             }
-            "--out" => out = words.next().map(PathBuf::from).ok_or("--out takes a folder")?,
+            "--park" => asked.park = Some(words.next().map(PathBuf::from).ok_or("--park takes a file to write")?),
+            "--resume" => asked.resume = Some(words.next().map(PathBuf::from).ok_or("--resume takes a parked run")?),
             _ if word.starts_with('-') => return Err(format!("unknown option {word}")),
             _ if file.is_some() => return Err(format!("one frame file at a time, so not {word} too")),
             _ => file = Some(PathBuf::from(word)),
         }
     }
-    let file = file.ok_or("no frame file is named")?;
-    Ok(Some(Asked {
-        file,
-        seed,
-        out,
-        progress,
-    }))
+    asked.file = file.ok_or("no frame file is named")?;
+    together(&asked)?;
+    Ok(Some(asked))
 }
 
-/// Maps the file and writes the map; what there is to say of it.
+fn number(word: Option<String>) -> Option<u64> {
+    word.and_then(|word| word.parse().ok())
+}
+
+/// Which words need others, or go without them.
+fn together(asked: &Asked) -> Result<(), &'static str> {
+    match asked {
+        Asked {
+            until: Some(_),
+            park: None,
+            ..
+        } => Err("--until needs --park, which says where the run is kept"),
+        Asked {
+            every: Some(_),
+            park: None,
+            ..
+        } => Err("--every needs --park, which says where the run is kept"),
+        Asked {
+            seed: Some(_),
+            resume: Some(_),
+            ..
+        } => Err("--seed starts a run and --resume goes on with one, so not both"),
+        _ => Ok(()),
+    }
+}
+
+/// Maps the file, or parks the run; what there is to say of it.
 fn run(asked: &Asked) -> Result<String, String> {
     let name = asked.file.display();
-    let bytes = read(&asked.file).map_err(|error| format!("{name}: {error}"))?;
-    let made = map(&bytes, asked.seed, |done, of| tell(asked.progress, done, of));
+    if let Some(path) = &asked.park {
+        beside::test(path).map_err(|error| fault(path, error))?;
+    }
+    let mut run = begin(asked)?;
+    let worked = work(&mut run, asked);
     if asked.progress {
         eprint!("\r\x1b[K");
     }
-    let made = made.map_err(|none| format!("{name}: {none}"))?;
+    worked?;
+    let (frames, done, of) = (run.frames(), run.done(), run.of());
+    let kept = asked
+        .park
+        .as_ref()
+        .map(|path| format!("the parked run: {}\n", path.display()));
+    let kept = kept.unwrap_or_default();
+    if !run.has_ended() {
+        return Ok(format!(
+            "{name}: {frames} frames, parked after {done} of {of} iterations\n{kept}"
+        ));
+    }
+    let made = run.map().map_err(|none| format!("{name}: {none}"))?;
     let (lines, picture) = write(&made, asked)?;
     Ok(format!(
-        "{name}: {} frames, {} after {} iterations ({} units)\nits divergence: {}\nthe map: {}\nits picture: {}\n",
-        made.frames.len(),
+        "{name}: {frames} frames, {} after {done} iterations ({} units)\nits divergence: {}\nthe map: {}\nits picture: {}\n{kept}",
         made.ending(),
-        made.record.iterations(),
         made.record.units(),
         made.told_divergence(),
         lines.display(),
@@ -89,12 +150,54 @@ fn run(asked: &Asked) -> Result<String, String> {
     ))
 }
 
+/// The run that is asked for, prepared or read back.
+fn begin(asked: &Asked) -> Result<Run, String> {
+    let name = asked.file.display();
+    let bytes = read(&asked.file, (MOST_FRAMES * RECORD) as u64).map_err(|error| fault(&asked.file, error))?;
+    let path = match &asked.resume {
+        Some(path) => path,
+        None => return Run::begin(&bytes, asked.seed).map_err(|none| format!("{name}: {none}")),
+    };
+    let parked = read(path, MOST_PARKED).map_err(|error| fault(path, error))?;
+    Run::resume(&bytes, &parked).map_err(|none| match none {
+        NoRun::Frames(_) => format!("{name}: {none}"),
+        _ => format!("{}: {none}", path.display()),
+    })
+}
+
+/// Works the run to its end or as far as asked for, and parks it where that is asked for.
+fn work(run: &mut Run, asked: &Asked) -> Result<(), String> {
+    let until = asked.until.unwrap_or(u64::MAX);
+    while !run.has_ended() && run.done() < until {
+        run.iterate()
+            .map_err(|refusal| format!("{}: {refusal}", asked.file.display()))?;
+        tell(asked.progress, run.done(), run.of());
+        if asked.every.map_or(false, |every| run.done() % every == 0) {
+            park(run, asked)?;
+        }
+    }
+    park(run, asked)
+}
+
+/// Parks the run where it is asked for: the file there is the one before or the new one, and never half of it.
+fn park(run: &Run, asked: &Asked) -> Result<(), String> {
+    match &asked.park {
+        None => Ok(()),
+        Some(path) => {
+            let bytes = run.park().map_err(|refusal| format!("{}: {refusal}", path.display()))?;
+            beside::write(path, &bytes).map_err(|error| fault(path, error))
+        }
+    }
+}
+
+fn fault(path: &Path, error: std::io::Error) -> String {
+    format!("{}: {error}", path.display())
+}
+
 /// The file's bytes, but no more than tell that there are too many.
-fn read(path: &Path) -> std::io::Result<Vec<u8>> {
+fn read(path: &Path, most: u64) -> std::io::Result<Vec<u8>> {
     let mut bytes = Vec::new();
-    File::open(path)?
-        .take((MOST_FRAMES * RECORD + 1) as u64)
-        .read_to_end(&mut bytes)?;
+    File::open(path)?.take(most + 1).read_to_end(&mut bytes)?;
     Ok(bytes)
 }
 
@@ -109,10 +212,9 @@ fn tell(progress: bool, done: u64, of: u64) {
 fn write(made: &Map, asked: &Asked) -> Result<(PathBuf, PathBuf), String> {
     let base = asked.out.join(asked.file.file_name().unwrap_or_default());
     let (lines, picture) = (base.with_extension("map"), base.with_extension("svg"));
-    let fault = |path: &Path, error: std::io::Error| format!("{}: {error}", path.display());
     fs::create_dir_all(&asked.out).map_err(|error| fault(&asked.out, error))?;
-    fs::write(&lines, made.lines()).map_err(|error| fault(&lines, error))?;
-    fs::write(&picture, made.svg()).map_err(|error| fault(&picture, error))?;
+    beside::write(&lines, made.lines().as_bytes()).map_err(|error| fault(&lines, error))?;
+    beside::write(&picture, made.svg().as_bytes()).map_err(|error| fault(&picture, error))?;
     Ok((lines, picture))
 }
 
@@ -130,14 +232,22 @@ mod tests {
             file: PathBuf::from("disc.frames"),
             seed: Some(3),
             out: PathBuf::from("there"),
+            until: Some(40),
+            park: Some(PathBuf::from("disc.parked")),
+            every: Some(10),
+            resume: None,
             progress: true,
         };
-        assert_eq!(of("--progress --out there disc.frames --seed 3"), Ok(Some(all)));
+        let words = "--progress --out there --until 40 disc.frames --every 10 --seed 3 --park disc.parked";
+        assert_eq!(of(words), Ok(Some(all)));
         let bare = of("disc.frames").expect("a file").expect("no help");
         assert_eq!(
             (bare.seed, bare.out, bare.progress),
             (None, PathBuf::from("maps"), false)
         );
+        let resumed = of("--resume a.parked disc.frames --park a.parked").expect("a file");
+        let resumed = resumed.expect("no help");
+        assert_eq!(resumed.resume, resumed.park);
     }
 
     #[test]
@@ -145,7 +255,16 @@ mod tests {
         for words in ["--help", "-h", "disc.frames --seed 3 --help", "--help --none"] {
             assert_eq!(of(words), Ok(None), "{words}");
         }
-        for option in ["--seed NUMBER", "--out FOLDER", "--progress", "-h, --help"] {
+        for option in [
+            "--seed NUMBER",
+            "--out FOLDER",
+            "--until N",
+            "--park RUN.parked",
+            "--every N",
+            "--resume RUN.parked",
+            "--progress",
+            "-h, --help",
+        ] {
             assert!(HELP.contains(option), "{option}");
         }
         assert!(matches!(of("disc.frames --out --help"), Ok(Some(_))));
@@ -161,6 +280,29 @@ mod tests {
             ("disc.frames --seed", "--seed takes a number from 0 to 2^64 - 1"),
             ("disc.frames --seed -1", "--seed takes a number from 0 to 2^64 - 1"),
             ("disc.frames --out", "--out takes a folder"),
+            ("disc.frames --until", "--until takes a number of iterations"),
+            (
+                "disc.frames --until few --park a",
+                "--until takes a number of iterations",
+            ),
+            (
+                "disc.frames --every 0 --park a",
+                "--every takes a number of iterations from 1 on",
+            ),
+            ("disc.frames --park", "--park takes a file to write"),
+            ("disc.frames --resume", "--resume takes a parked run"),
+            (
+                "disc.frames --until 40",
+                "--until needs --park, which says where the run is kept",
+            ),
+            (
+                "disc.frames --every 40 --resume a",
+                "--every needs --park, which says where the run is kept",
+            ),
+            (
+                "disc.frames --seed 3 --resume a",
+                "--seed starts a run and --resume goes on with one, so not both",
+            ),
             (
                 "disc.frames other.frames",
                 "one frame file at a time, so not other.frames too",

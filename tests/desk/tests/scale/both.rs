@@ -119,7 +119,8 @@ fn lengths(areas: &Areas) -> [usize; 8] {
     ]
 }
 
-fn node_bits(node: &Node) -> ([[u64; 3]; 3], [u32; 3]) {
+/// A node by its bits.
+pub fn node_bits(node: &Node) -> ([[u64; 3]; 3], [u32; 3]) {
     let values = [node.centre, node.half, node.mass].map(|three| three.map(f64::to_bits));
     (values, [node.count, node.first, node.leaf])
 }

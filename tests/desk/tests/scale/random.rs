@@ -10,6 +10,11 @@ impl Random {
         Random(SplitMix64::new(seed))
     }
 
+    /// For what takes its choices from the source itself.
+    pub fn source(&mut self) -> &mut SplitMix64 {
+        &mut self.0
+    }
+
     pub fn word(&mut self) -> u64 {
         self.0.next()
     }

@@ -124,14 +124,14 @@ fn digests(areas: &Areas) -> [u64; LENT] {
 }
 
 /// Place i holds the value with the bits 4000000000000000 + i.
-fn marks(length: usize) -> Vec<f64> {
+pub fn marks(length: usize) -> Vec<f64> {
     (0..length as u64)
         .map(|i| f64::from_bits(0x4000_0000_0000_0000 + i))
         .collect()
 }
 
 /// Place i holds 40000000 + i, in hex.
-fn marked_numbers(length: usize) -> Vec<u32> {
+pub fn marked_numbers(length: usize) -> Vec<u32> {
     (0..length as u32).map(|i| 0x4000_0000 + i).collect()
 }
 

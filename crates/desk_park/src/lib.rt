@@ -1,0 +1,92 @@
+// Parking a run, with record and answer as plain words. Areas of values are lent by their bits.
+ghost use mathlib.Core.Path.{_≡_};
+ghost use Prim.Native.Nat.{_≤_};
+ghost use lib.Dec.{eqb};
+ghost use lib.ListN.{length, set};
+ghost use Rattle.tree_node.specs.Arena.{nodesOf};
+ghost use Rattle.record_words.specs.RecordWords.{worded};
+ghost use Rattle.parked.specs.Parked.{storedOf};
+ghost use Rattle.park.specs.Park.{parkNumber};
+ghost use Rattle.desk_park.specs.HostPark.{parkedTold, hostParked, hostPark};
+use fault_words::fault_value;
+use park::Parked;
+use park::park;
+use tree_node::Cell;
+
+fn is_mute(told: usize) -> bool
+    ensures { λ b. ⌜ b ≡ eqb told 0 ⌝ }
+{
+    told == 0
+}
+
+fn parked_told(p: Parked) -> u64
+    ensures { λ w. ⌜ w ≡ parkedTold p ⌝ }
+{
+    match p {
+        Parked::Written(k) => k as u64,
+        Parked::Inside => 0,
+        Parked::Barred => 0,
+        Parked::Short => 0,
+        Parked::Bad(f) => fault_value(f),
+    }
+}
+
+// Tells the records, or the place that comes with the refusal. Answers the number.
+fn put_parked(answer: &mut [u64], p: Parked) -> u32
+    requires { ⌜ 1 ≤ length (now answer) ⌝ }
+    ensures { λ k. ⌜ worded k (now (answer .exit)) ≡ worded (parkNumber p) (set (now (answer .entry)) 0 (parkedTold p)) ⌝ }
+{
+    answer[0] = parked_told(p);
+    park::number(p) as u32
+}
+
+// Writes the run into records. Answers 0, or the number of the refusal; then the target is not changed.
+pub fn host_park(
+    words: &[u64],
+    positions: &[u64],
+    increments: &[u64],
+    gains: &[u64],
+    affinities: &[u64],
+    indices: &[u32],
+    offsets: &[u32],
+    forces: &[f64],
+    cells: &[Cell],
+    target: &mut [u8],
+    answer: &mut [u64],
+) -> u32
+    ensures { λ k. ⌜
+        hostParked k (now (target .exit)) (now (answer .exit))
+        ≡ hostPark
+        (storedOf
+        (now (words .entry))
+        (now (positions .entry))
+        (now (increments .entry))
+        (now (gains .entry))
+        (now (affinities .entry))
+        (now (indices .entry))
+        (now (offsets .entry)))
+        (length (now (forces .entry)))
+        (nodesOf (now (cells .entry)))
+        (now (target .entry))
+        (now (answer .entry))
+        ⌝ }
+{
+    let mute = is_mute(answer.len());
+    if mute {
+        return 12;
+    }
+    let p = park(
+        words,
+        positions,
+        increments,
+        gains,
+        affinities,
+        indices,
+        offsets,
+        forces.len(),
+        cells,
+        target,
+    );
+    let k = put_parked(answer, p);
+    k
+}

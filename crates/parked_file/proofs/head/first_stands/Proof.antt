@@ -1,0 +1,38 @@
+use Rattle.parked_file.proofs.Stands.{missing, there, first-is}
+use mathlib.Core.Path.{sym, _∙_}
+use borrow.Author.Needs.{needs}
+use Rattle.parked_file.proofs.head.first_stands.Statement.{statement}
+use Rattle.parked_file.proofs.head.first_stands.Tie as tie
+
+returns : tie.Need-returns
+returns c = sym (missing _ 0 (c .if1 .taken))
+
+word-requires : tie.Need-word-requires
+word-requires c κs = search needs
+
+word-requires-2 : tie.Need-word-requires-2
+word-requires-2 c κs = search needs
+
+word-requires-3 : tie.Need-word-requires-3
+word-requires-3 c κs = search needs
+
+word-requires-4 : tie.Need-word-requires-4
+word-requires-4 c κs = search needs
+
+first-fine-requires : tie.Need-first-fine-requires
+first-fine-requires c κs = search needs
+
+returns-2 : tie.Need-returns-2
+returns-2 c = rw (c .first-fine .ensures, c .before .before .before .before .word .ensures, c .before .before .before .word2 .ensures, c .before .before .word3 .ensures, c .before .word4 .ensures) (sym (there _ 0 (c .before .before .before .before .before .if1 .left) ∙ first-is _))
+
+pub first-stands-spec : {M : Type 1} → statement M
+first-stands-spec =
+    tie.close
+    (tie.spec
+    returns
+    word-requires
+    word-requires-2
+    word-requires-3
+    word-requires-4
+    first-fine-requires
+    returns-2)

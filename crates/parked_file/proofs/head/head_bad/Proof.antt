@@ -1,0 +1,39 @@
+use Rattle.parked_file.proofs.Stands.{head-first, head-second, head-third, head-all}
+use borrow.Author.Tests.{not-true, not-false}
+use mathlib.Core.Path.{sym, _∙_}
+use borrow.Author.Needs.{needs}
+use Rattle.parked_file.proofs.head.head_bad.Statement.{statement}
+use Rattle.parked_file.proofs.head.head_bad.Tie as tie
+
+first-stands-requires : tie.Need-first-stands-requires
+first-stands-requires c κs = search needs
+
+returns : tie.Need-returns
+returns c = head-first _ (sym (c .before .first-stands .ensures) ∙ not-true _ (c .if1 .taken))
+
+second-stands-requires : tie.Need-second-stands-requires
+second-stands-requires c κs = (sym (c .before .first-stands .ensures) ∙ not-false _ (c .if1 .left))
+
+returns-2 : tie.Need-returns-2
+returns-2 c = head-second _ ((sym (c .before .before .before .first-stands .ensures) ∙ not-false _ (c .before .before .if1 .left))) (sym (c .before .second-stands .ensures) ∙ not-true _ (c .if2 .taken))
+
+third-stands-requires : tie.Need-third-stands-requires
+third-stands-requires c κs = ((sym (c .before .before .before .first-stands .ensures) ∙ not-false _ (c .before .before .if1 .left)), (sym (c .before .second-stands .ensures) ∙ not-false _ (c .if2 .left)))
+
+returns-3 : tie.Need-returns-3
+returns-3 c = head-third _ ((sym (c .before .before .before .before .before .first-stands .ensures) ∙ not-false _ (c .before .before .before .before .if1 .left))) ((sym (c .before .before .before .second-stands .ensures) ∙ not-false _ (c .before .before .if2 .left))) (sym (c .before .third-stands .ensures) ∙ not-true _ (c .if3 .taken))
+
+returns-4 : tie.Need-returns-4
+returns-4 c = head-all _ ((sym (c .before .before .before .before .before .first-stands .ensures) ∙ not-false _ (c .before .before .before .before .if1 .left))) ((sym (c .before .before .before .second-stands .ensures) ∙ not-false _ (c .before .before .if2 .left))) ((sym (c .before .third-stands .ensures) ∙ not-false _ (c .if3 .left)))
+
+pub head-bad-spec : {M : Type 1} → statement M
+head-bad-spec =
+    tie.close
+    (tie.spec
+    first-stands-requires
+    returns
+    second-stands-requires
+    returns-2
+    third-stands-requires
+    returns-3
+    returns-4)

@@ -1,0 +1,13 @@
+pub mod Regions
+pub mod Words
+pub mod Files
+pub mod Entries
+pub mod Heads
+pub mod Lists
+pub mod Written
+pub mod Returned
+pub mod Taken
+pub mod Rewritten
+pub mod Accepted
+pub mod Prefix
+pub mod Begun

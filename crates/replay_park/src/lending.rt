@@ -1,0 +1,69 @@
+// Parking with the arena by value: proved by a walk, since it lends it.
+ghost use mathlib.Core.Path.{_≡_};
+ghost use Prim.Native.Nat.{_≤_};
+ghost use lib.ListN.{take};
+ghost use Rattle.tree_node.specs.Arena.{nodesOf};
+ghost use Rattle.parked.specs.Parked.{storedOf};
+ghost use Rattle.park.specs.Park.{parking, parkOf};
+use park::Parked;
+use tree_node::Cell;
+
+// Nodes of zeros.
+pub(crate) fn empty_cells() -> [Cell; 4] {
+    let zero = [0.0; 3];
+    let v = Cell {
+        centre: zero,
+        half: zero,
+        mass: zero,
+        count: 0,
+        first: 0,
+        leaf: 0,
+    };
+    [v; 4]
+}
+
+// The call that is lent the first k cells.
+pub(crate) fn park_in(
+    words: &[u64],
+    positions: &[u64],
+    increments: &[u64],
+    gains: &[u64],
+    affinities: &[u64],
+    indices: &[u32],
+    offsets: &[u32],
+    forces: usize,
+    cells: [Cell; 4],
+    k: usize,
+    target: &mut [u8],
+) -> Parked
+    requires { ⌜ k ≤ 4 ⌝ }
+    ensures { λ a. ⌜
+        parking a (now (target .exit))
+        ≡ parkOf (storedOf
+        (now (words .entry))
+        (now (positions .entry))
+        (now (increments .entry))
+        (now (gains .entry))
+        (now (affinities .entry))
+        (now (indices .entry))
+        (now (offsets .entry)))
+        forces
+        (nodesOf (take k cells))
+        (now (target .entry))
+        ⌝ }
+{
+    let own = cells;
+    let a = park::park(
+        words,
+        positions,
+        increments,
+        gains,
+        affinities,
+        indices,
+        offsets,
+        forces,
+        &own[..k],
+        target,
+    );
+    a
+}

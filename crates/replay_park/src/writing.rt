@@ -1,0 +1,91 @@
+// A case of writing: the run of a list, parked into a target of marks.
+use crate::areas::both;
+use crate::areas::numbers_at;
+use crate::areas::record_at;
+use crate::areas::values_at;
+use crate::bytes::marked_target;
+use crate::bytes::same_target;
+use crate::bytes::still_marked;
+use crate::bytes::words_of;
+use crate::lending::empty_cells;
+use crate::lending::park_in;
+use crate::lengths::Lengths;
+use crate::lengths::Places;
+use crate::lengths::length_at;
+use crate::lengths::lengths_at;
+use crate::lengths::places_from;
+use fault_words::fault_value;
+use park::Parked;
+use replay::areas::plus;
+use replay::word_at;
+ghost use Prim.Native.Nat.{_≤_};
+
+// What comes with the number: the records, or what is told of a fault.
+fn value(a: Parked) -> u64 {
+    match a {
+        Parked::Written(k) => k as u64,
+        Parked::Inside => 0,
+        Parked::Barred => 0,
+        Parked::Short => 0,
+        Parked::Bad(f) => fault_value(f),
+    }
+}
+
+// Number and value are the words from i on.
+fn same_told(a: Parked, list: &[u8], i: usize) -> bool {
+    both(
+        park::number(a) as u64 == word_at(list, i),
+        value(a) == word_at(list, plus(i, 1)),
+    )
+}
+
+// What a call leaves: its answer, and the target.
+struct Left {
+    answer: Parked,
+    target: [u8; 1408],
+}
+
+// The run whose record stands from word a on, and its areas at their places: parked into so many bytes.
+fn written(list: &[u8], a: usize, l: Lengths, at: Places, bytes: usize) -> Left
+    requires { ⌜ (l .positions ≤ 48) × (l .increments ≤ 48) × (l .gains ≤ 48) × (l .affinities ≤ 48) × (l .indices ≤ 48) × (l .offsets ≤ 48) × (l .nodes ≤ 4) × (bytes ≤ 1408) ⌝ }
+{
+    let words = record_at(list, a);
+    let positions = values_at(list, at.positions);
+    let increments = values_at(list, at.increments);
+    let gains = values_at(list, at.gains);
+    let affinities = values_at(list, at.affinities);
+    let indices = numbers_at(list, at.indices);
+    let offsets = numbers_at(list, at.offsets);
+    let mut target = marked_target();
+    let answer = park_in(
+        &words,
+        &positions[..l.positions],
+        &increments[..l.increments],
+        &gains[..l.gains],
+        &affinities[..l.affinities],
+        &indices[..l.indices],
+        &offsets[..l.offsets],
+        l.forces,
+        empty_cells(),
+        l.nodes,
+        &mut target[..bytes],
+    );
+    Left { answer, target }
+}
+
+// The case from word a on: number and value, the whole target, and that the case ends with it.
+pub(crate) fn written_right(list: &[u8], a: usize) -> bool {
+    let l = lengths_at(list, plus(a, 15));
+    let bytes = length_at(list, plus(a, 23), 1408);
+    let at = places_from(l, plus(a, 24));
+    let left = written(list, plus(a, 1), l, at, bytes);
+    let answer = left.answer;
+    let target = left.target;
+    let from = plus(at.end, 2);
+    let told = both(
+        same_told(answer, list, at.end),
+        same_target(target, bytes, list, from),
+    );
+    let ends = plus(from, words_of(bytes)) == plus(a, word_at(list, a) as usize);
+    both(both(told, still_marked(target, bytes)), ends)
+}

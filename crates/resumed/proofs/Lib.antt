@@ -1,0 +1,2 @@
+pub mod Honest
+pub mod Night

@@ -1,0 +1,4 @@
+pub mod Fetched
+pub mod Settled
+pub mod Spans
+pub mod Outcomes

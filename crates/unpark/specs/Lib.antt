@@ -1,0 +1,2 @@
+pub mod Unpark
+pub mod Steps
