@@ -238,7 +238,7 @@ fn lengths(areas: &Areas) -> [u64; 8] {
 }
 
 /// Every element of the areas as a word, from positions to offsets.
-fn contents(areas: &Areas) -> Vec<u64> {
+pub(crate) fn contents(areas: &Areas) -> Vec<u64> {
     let values = [&areas.positions, &areas.increments, &areas.gains, &areas.affinities];
     let mut words: Vec<u64> = values
         .iter()

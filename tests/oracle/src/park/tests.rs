@@ -2,7 +2,7 @@
 
 use super::*;
 use crate::descent::{prepare, work, Answer, Rows};
-use crate::lists::park::{damage, file, run, words_of, STANDINGS};
+use crate::lists::park::{contents, damage, file, run, words_of, STANDINGS};
 use crate::scatter::SplitMix64;
 use crate::tree::Node;
 use crate::words::{from_bytes, to_bytes};
@@ -20,17 +20,6 @@ fn small_runs(seed: u64) -> Vec<(Record, Areas)> {
         }
     }
     found
-}
-
-/// Every element by its bits, but for the forces.
-fn bits(areas: &Areas) -> Vec<u64> {
-    let values = [&areas.positions, &areas.increments, &areas.gains, &areas.affinities];
-    let mut words: Vec<u64> = values
-        .iter()
-        .flat_map(|area| area.iter().map(|v| v.to_bits()))
-        .collect();
-    words.extend(areas.indices.iter().chain(&areas.offsets).map(|&k| u64::from(k)));
-    words
 }
 
 /// Areas of the same lengths with something else in them.
@@ -160,7 +149,7 @@ fn what_was_written_is_read_and_written_again() {
                 kept.affinities[links..].copy_from_slice(&tails.affinities[links..]);
                 kept.indices[links..].copy_from_slice(&tails.indices[links..]);
             }
-            assert_eq!(bits(&read), bits(&kept));
+            assert_eq!(contents(&read), contents(&kept));
             assert_eq!(read.nodes, tails.nodes);
         }
     }
