@@ -52,14 +52,23 @@ fn starting_positions() {
     }
 }
 
-/// A good file, at times with one byte changed or a tail.
+/// A record with values at random.
+fn record(random: &mut SplitMix64, picture: u32, field: u8) -> Vec<u8> {
+    let mut record = picture.to_le_bytes().to_vec();
+    record.extend([1 + (random.next() % 2) as u8, field, 0, 0]);
+    for _ in 0..8 {
+        record.extend((random.unit() * 100.0 - 50.0).to_le_bytes());
+    }
+    record
+}
+
+/// A good file with stills among its frames, at times with one byte changed or a tail.
 fn file(random: &mut SplitMix64) -> Vec<u8> {
     let mut file = Vec::new();
     for i in 0..random.next() % 9 {
-        file.extend((1 + 3 * i as u32).to_le_bytes());
-        file.extend([1 + (random.next() % 2) as u8, 0, 0, 0]);
-        for _ in 0..8 {
-            file.extend((random.unit() * 100.0 - 50.0).to_le_bytes());
+        let fields: &[u8] = [&[0][..], &[0], &[1, 2], &[1], &[2]][(random.next() % 5) as usize];
+        for &field in fields {
+            file.extend(record(random, 79_974 + 3 * i as u32, field));
         }
     }
     if !file.is_empty() && random.next() % 2 == 0 {
@@ -90,7 +99,7 @@ fn frame_files() {
         }
         for i in 0..file.len() / RECORD {
             let (ours, theirs) = (frame(&file, i), fetch(&file, i).expect("a whole record"));
-            assert_eq!((ours.picture, ours.side), (theirs.picture, theirs.side));
+            assert_eq!((ours.picture, ours.side, ours.field), (theirs.picture, theirs.side, theirs.field));
             let bits = |values: &[f64]| {
                 values
                     .iter()
@@ -103,6 +112,32 @@ fn frame_files() {
     }
     assert!(good > 100 && bad > 100);
     assert_eq!(frame(&[], 0).picture, 0);
+}
+
+/// All orders of two records of pictures 1 to 4 and any field, also fields that there are not, and of three of two pictures.
+#[test]
+fn orders_of_frames() {
+    let mut random = SplitMix64::new(7);
+    let pairs = |last: u32| (1..=last).flat_map(|picture| (0..4).map(move |field| (picture, field)));
+    let mut good = 0;
+    let mut compare = |pairs: &[(u32, u8)]| {
+        let file: Vec<u8> = pairs.iter().flat_map(|&(picture, field)| record(&mut random, picture, field)).collect();
+        match check(&file) {
+            Checked::Good(count) => assert_eq!(frames(&file), Ok(count), "{pairs:?}"),
+            Checked::Bad(place) => assert_eq!(frames(&file), Err((Refusal(16), place)), "{pairs:?}"),
+        }
+        good += usize::from(frames(&file).is_ok());
+    };
+    for first in pairs(4) {
+        pairs(4).for_each(|second| compare(&[first, second]));
+    }
+    for first in pairs(2) {
+        for second in pairs(2) {
+            pairs(2).for_each(|third| compare(&[first, second, third]));
+        }
+    }
+    // Two: six choices of two pictures with three fields each, and four stills. Three: a still of one picture and any of the other.
+    assert_eq!(good, 6 * 9 + 4 + 2 * 3);
 }
 
 /// With one element less in one of the areas, if it has any.

@@ -9,6 +9,7 @@ fn map_of(first: u32, places: &[[f64; 2]]) -> Map {
     let frame = |picture| Frame {
         picture,
         side: 1,
+        field: 0,
         features: [0.0; 6],
         starts: [0.0; 2],
     };
