@@ -3,6 +3,7 @@
 pub mod array;
 pub mod contest;
 pub mod library;
+pub mod side;
 
 use contest::{contest, Contestant};
 use library::{prepared, Copying, Parking, Preparing, Reading, Run, Telling, Working};
@@ -96,6 +97,20 @@ pub fn all(others: &dyn Others) {
         );
     }
     parking();
+    reading();
+}
+
+/// The frame file of a full side, read.
+pub fn reading() {
+    let file = side::file(4096);
+    contest(
+        "reading a frame file, n 4096",
+        vec![
+            Box::new(side::Read::new(&file, true)),
+            Box::new(side::Read::new(&file, false)),
+        ],
+        21,
+    );
 }
 
 /// A full side parked and read back, beside a copy of the bytes.

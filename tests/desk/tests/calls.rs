@@ -99,7 +99,10 @@ fn frame_files() {
         }
         for i in 0..file.len() / RECORD {
             let (ours, theirs) = (frame(&file, i), fetch(&file, i).expect("a whole record"));
-            assert_eq!((ours.picture, ours.side, ours.field), (theirs.picture, theirs.side, theirs.field));
+            assert_eq!(
+                (ours.picture, ours.side, ours.field),
+                (theirs.picture, theirs.side, theirs.field)
+            );
             let bits = |values: &[f64]| {
                 values
                     .iter()
@@ -121,7 +124,10 @@ fn orders_of_frames() {
     let pairs = |last: u32| (1..=last).flat_map(|picture| (0..4).map(move |field| (picture, field)));
     let mut good = 0;
     let mut compare = |pairs: &[(u32, u8)]| {
-        let file: Vec<u8> = pairs.iter().flat_map(|&(picture, field)| record(&mut random, picture, field)).collect();
+        let file: Vec<u8> = pairs
+            .iter()
+            .flat_map(|&(picture, field)| record(&mut random, picture, field))
+            .collect();
         match check(&file) {
             Checked::Good(count) => assert_eq!(frames(&file), Ok(count), "{pairs:?}"),
             Checked::Bad(place) => assert_eq!(frames(&file), Err((Refusal(16), place)), "{pairs:?}"),
