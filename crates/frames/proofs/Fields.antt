@@ -30,7 +30,7 @@ countOf (Bad p) = p
 
 record Taken (bad : ℕ → Bool) (f : List ℕ) (n : ℕ) : Type 0 where
   count : n ≡ wholeRecords f
-  whole : length f % recordBytes ≡ 0
+  noTail : length f % recordBytes ≡ 0
   good : (i : ℕ) → i < wholeRecords f → bad i ≡ false
 
 module _ (bad : ℕ → Bool) (f : List ℕ) (n : ℕ) where
@@ -48,7 +48,7 @@ module _ (bad : ℕ → Bool) (f : List ℕ) (n : ℕ) where
       go false p false q = absurd (never (wholeRecords f) (rw (p, q)))
       go false p true q = record {
         count = ap countOf (sym e ∙ framesIs p q);
-        whole = eqb-true (length f % recordBytes) 0 q;
+        noTail = eqb-true (length f % recordBytes) 0 q;
         good = first-all bad (wholeRecords f) (ltb-false firstBad (wholeRecords f) p);
       }
         where
@@ -56,7 +56,7 @@ module _ (bad : ℕ → Bool) (f : List ℕ) (n : ℕ) where
           framesIs p q = rw (p, q)
 
   taken-so : Taken bad f n → framesBy bad f ≡ Good n
-  taken-so t = rw (first-none bad (wholeRecords f) (t .good), le-ltb (wholeRecords f) (wholeRecords f) (omega arith), eq-eqb (length f % recordBytes) 0 (t .whole), t .count)
+  taken-so t = rw (first-none bad (wholeRecords f) (t .good), le-ltb (wholeRecords f) (wholeRecords f) (omega arith), eq-eqb (length f % recordBytes) 0 (t .noTail), t .count)
 
 -- ---- the order
 
@@ -173,7 +173,7 @@ module _ (f : List ℕ) where
   unfolding framesOf frameOf
   old-files-read-as-before n e =
       let t : Taken (baseBadAt f) f n = taken-is (baseBadAt f) f n e in
-      (taken-so (badAt f) f n (record { count = t .count; whole = t .whole; good = λ i l. base-good i (t .good i l) }), λ i l. same i (rw (t .count) at l) (t .good i (rw (t .count) at l)))
+      (taken-so (badAt f) f n (record { count = t .count; noTail = t .noTail; good = λ i l. base-good i (t .good i l) }), λ i l. same i (rw (t .count) at l) (t .good i (rw (t .count) at l)))
     where
       same : (i : ℕ) → i < wholeRecords f → baseBadAt f i ≡ false → frameOf f i ≡ baseFrameOf f i
       same i l h = rw (lt-ltb i (wholeRecords f) l, base-alone (i * recordBytes) (and-left (baseGoodAlone f (i * recordBytes)) (baseInOrder f i) (not-false (baseGoodAlone f (i * recordBytes) && baseInOrder f i) h)) .1)

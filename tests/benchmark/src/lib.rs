@@ -2,8 +2,8 @@
 
 pub mod array;
 pub mod contest;
+pub mod frame_file;
 pub mod library;
-pub mod side;
 
 use contest::{contest, Contestant};
 use library::{prepared, Copying, Parking, Preparing, Reading, Run, Telling, Working};
@@ -97,17 +97,17 @@ pub fn all(others: &dyn Others) {
         );
     }
     parking();
-    reading();
+    a_full_side();
 }
 
 /// The frame file of a full side, read.
-pub fn reading() {
-    let file = side::file(4096);
+pub fn a_full_side() {
+    let file = frame_file::file(4096);
     contest(
         "reading a frame file, n 4096",
         vec![
-            Box::new(side::Read::new(&file, true)),
-            Box::new(side::Read::new(&file, false)),
+            Box::new(frame_file::Taken::new(&file, true)),
+            Box::new(frame_file::Taken::new(&file, false)),
         ],
         21,
     );

@@ -63,11 +63,16 @@ pub fn frames(file: &[u8]) -> Result<usize, (Refusal, usize)> {
         .map_err(|refusal| (refusal, place))
 }
 
+/// Record i of a file as words: picture, side, field, the bits of its features and starts. 12 where there are fewer than eleven.
+pub fn frame_words(file: &[u8], i: usize, words: &mut [u64]) -> Result<(), Refusal> {
+    let number = unsafe { library::brothanchor_frame(file.as_ptr(), file.len(), i, words.as_mut_ptr(), words.len()) };
+    Refusal::unless_0(number)
+}
+
 /// Record i of a file; zeros past its whole records.
 pub fn frame(file: &[u8], i: usize) -> Frame {
     let mut words = [0; 11];
-    // The area is long enough, so this is not refused.
-    unsafe { library::brothanchor_frame(file.as_ptr(), file.len(), i, words.as_mut_ptr(), words.len()) };
+    frame_words(file, i, &mut words).expect("the area is long enough");
     let value = |at: usize| f64::from_bits(words[at]);
     Frame {
         picture: words[0] as u32,

@@ -5,9 +5,9 @@ use crate::map::Map;
 use crate::Frame;
 use std::fmt::Write;
 
-/// The sides of the picture, and the margin around the map.
-const SIDE: f64 = 900.0;
-const MARGIN: f64 = 50.0;
+/// The sides of the picture, and the margin around the map, with room for the widest number: `79999.2`.
+const SIDE: f64 = 940.0;
+const MARGIN: f64 = 70.0;
 
 /// The map as an SVG file. Colours run from blue, the first frame, over green and yellow to red, the last.
 pub fn svg(map: &Map) -> String {

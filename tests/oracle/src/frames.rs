@@ -45,6 +45,14 @@ pub enum Checked {
     Bad(usize),
 }
 
+/// The bytes of a record: six features, then two starts.
+pub fn record(picture: u32, side: u8, field: u8, values: &[f64; FEATURES + STARTS]) -> Vec<u8> {
+    let mut bytes = picture.to_le_bytes().to_vec();
+    bytes.extend([side, field, 0, 0]);
+    bytes.extend(values.iter().flat_map(|v| v.to_le_bytes()));
+    bytes
+}
+
 /// Tests all records. A stray tail counts as one bad record.
 pub fn check(bytes: &[u8]) -> Checked {
     let mut before = None;
@@ -114,29 +122,22 @@ fn values_at<const N: usize>(record: &[u8], at: usize) -> Option<[f64; N]> {
 mod tests {
     use super::*;
 
-    /// A good record with the given picture number.
-    fn record(picture: u32) -> Vec<u8> {
-        let mut bytes = picture.to_le_bytes().to_vec();
-        bytes.extend([1, 0, 0, 0]);
-        for v in [0.5, -1.0, 2.0, 1_048_576.0, -1_048_576.0, -0.0, 3.0, 4.0_f64] {
-            bytes.extend(v.to_le_bytes());
-        }
-        bytes
-    }
+    const VALUES: [f64; 8] = [0.5, -1.0, 2.0, 1_048_576.0, -1_048_576.0, -0.0, 3.0, 4.0];
 
-    /// Good records with the given picture numbers, one after the other.
+    /// Whole frames with the given picture numbers, one after the other.
     fn file(pictures: &[u32]) -> Vec<u8> {
-        pictures.iter().flat_map(|&picture| record(picture)).collect()
+        pictures
+            .iter()
+            .flat_map(|&picture| record(picture, 1, 0, &VALUES))
+            .collect()
     }
 
     /// Records with the given picture numbers and fields.
     fn fields(pairs: &[(u32, u8)]) -> Vec<u8> {
-        let field = |&(picture, field): &(u32, u8)| {
-            let mut bytes = record(picture);
-            bytes[FIELD_AT] = field;
-            bytes
-        };
-        pairs.iter().flat_map(field).collect()
+        pairs
+            .iter()
+            .flat_map(|&(picture, field)| record(picture, 1, field, &VALUES))
+            .collect()
     }
 
     /// A good three-record file with one byte changed.
@@ -220,6 +221,6 @@ mod tests {
         };
         assert_eq!(fetch(&file(&[1, 2]), 1), Some(frame));
         assert_eq!(fetch(&file(&[1, 2]), 2), None);
-        assert_eq!(fetch(&record(1)[..71], 0), None);
+        assert_eq!(fetch(&file(&[1])[..71], 0), None);
     }
 }

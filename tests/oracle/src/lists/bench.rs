@@ -2,7 +2,7 @@
 
 use crate::bench::printed;
 use crate::elementary::{DOMAIN, NAN};
-use crate::frames::{FIELD_AT, LAST_PICTURE, RECORD, SIDE_AT, SPARE_AT, VALUES_AT};
+use crate::frames::{record, FIELD_AT, LAST_PICTURE, RECORD, SIDE_AT, SPARE_AT, VALUES_AT};
 use crate::scatter::SplitMix64;
 use crate::words::from_bytes;
 
@@ -40,14 +40,6 @@ fn files() -> Vec<Vec<u8>> {
     let mut found = [lengths(), bad_records(), alike(), maps()].concat();
     found.extend(stills(FILES - found.len()));
     found
-}
-
-/// A record: six features, then two starts.
-pub(super) fn record(picture: u32, side: u8, field: u8, values: &[f64; 8]) -> Vec<u8> {
-    let mut bytes = picture.to_le_bytes().to_vec();
-    bytes.extend([side, field, 0, 0]);
-    bytes.extend(values.iter().flat_map(|v| v.to_le_bytes()));
-    bytes
 }
 
 /// So many frames with features in [-reach, reach] and starts in [-spread, spread].
@@ -175,8 +167,8 @@ fn maps() -> Vec<Vec<u8>> {
     found
 }
 
-/// Files of two to four records with fields among them, close to each other and to the last picture. Half of them are good:
-/// a still has its fields in order there. In the others pictures and fields are what they happen to be.
+/// Files of one to four records with fields among them, close to each other and to the last picture. In half of them a still
+/// has its fields in order; in the others pictures and fields are what they happen to be.
 fn stills(files: usize) -> Vec<Vec<u8>> {
     let mut random = SplitMix64::new(300);
     (0..files).map(|_| still(&mut random)).collect()

@@ -2,7 +2,8 @@
 
 use crate::elementary::{DOMAIN, NAN};
 use crate::frames::{
-    check, fetch, Checked, Frame, FEATURES, FIELD_AT, LAST_PICTURE, RECORD, SIDE_AT, SPARE_AT, STARTS, VALUES_AT,
+    check, fetch, record, Checked, Frame, FEATURES, FIELD_AT, LAST_PICTURE, RECORD, SIDE_AT, SPARE_AT, STARTS,
+    VALUES_AT,
 };
 use crate::scatter::SplitMix64;
 use crate::words::from_bytes;
@@ -51,12 +52,12 @@ fn good_file(records: usize) -> Vec<u8> {
 fn good_record(place: usize, random: &mut SplitMix64) -> Vec<u8> {
     let picture = 700 * place as u32 + 1 + (random.next() % 700) as u32;
     let side = 1 + (random.next() % 2) as u8;
-    let mut record = picture.to_le_bytes().to_vec();
-    record.extend([side, 0, 0, 0]);
-    for _ in 0..VALUES {
-        record.extend(((2.0 * random.unit() - 1.0) * DOMAIN).to_le_bytes());
-    }
-    record
+    record(
+        picture,
+        side,
+        0,
+        &[(); VALUES].map(|()| (2.0 * random.unit() - 1.0) * DOMAIN),
+    )
 }
 
 /// No record, few records, and as many as the bench program takes, and one more.
@@ -156,18 +157,18 @@ fn orders() -> Vec<Vec<u8>> {
     let (low, high) = (pairs(1..=3), pairs(LAST_PICTURE - 1..=LAST_PICTURE));
     let mut files = Vec::new();
     for &first in &low {
-        files.extend(low.iter().map(|&second| in_order(&[first, second])));
+        files.extend(low.iter().map(|&second| records_of(&[first, second])));
     }
     for &first in &high {
         for &second in &high {
-            files.extend(high.iter().map(|&third| in_order(&[first, second, third])));
+            files.extend(high.iter().map(|&third| records_of(&[first, second, third])));
         }
     }
     files
 }
 
 /// Records that are good by themselves, with these pictures and fields one after the other.
-fn in_order(pairs: &[(u32, u8)]) -> Vec<u8> {
+fn records_of(pairs: &[(u32, u8)]) -> Vec<u8> {
     let mut file = good_file(pairs.len());
     for (record, (picture, field)) in file.chunks_mut(RECORD).zip(pairs) {
         record[..4].copy_from_slice(&picture.to_le_bytes());
@@ -247,7 +248,7 @@ mod tests {
 
     #[test]
     fn of_two_records_with_one_picture_only_first_and_second_field_are_good() {
-        let same = |a: u8, b: u8| check(&in_order(&[(7, a), (7, b)])) == Checked::Good(2);
+        let same = |a: u8, b: u8| check(&records_of(&[(7, a), (7, b)])) == Checked::Good(2);
         let good: Vec<(u8, u8)> = (0..3)
             .flat_map(|a| (0..3).map(move |b| (a, b)))
             .filter(|&(a, b)| same(a, b))

@@ -3,8 +3,7 @@
 //! Film runs slower than video, so every fifth picture is the one before it once more, but for noise: a pulldown repeat.
 //! The third shot is cut into the second, which goes on after it: two splices. Some pictures are stills, stored as two fields.
 
-use super::bench::record;
-use crate::frames::{FEATURES, STARTS};
+use crate::frames::{record, FEATURES, STARTS};
 use crate::scatter::SplitMix64;
 
 /// The first picture.

@@ -2,9 +2,9 @@
 
 use crate::contest::Contestant;
 use crate::frames;
-use oracle::frames::{check, fetch, Checked};
+use oracle::frames::{check, fetch, record, Checked, RECORD};
 
-/// A file of n frames, every tenth picture a still in two fields.
+/// A file of n frames; of ten records two are the fields of a still.
 pub fn file(n: usize) -> Vec<u8> {
     let mut file = Vec::new();
     let (mut picture, mut field) = (1_u32, 0_u8);
@@ -14,26 +14,25 @@ pub fn file(n: usize) -> Vec<u8> {
             (9, _) => 1,
             _ => 0,
         };
-        file.extend(picture.to_le_bytes());
-        file.extend([1, field, 0, 0]);
-        let starts = [i as f64, -(i as f64)];
-        file.extend(features.iter().chain(&starts).flat_map(|value| value.to_le_bytes()));
+        let mut values = [i as f64; 8];
+        values[..6].copy_from_slice(features);
+        file.extend(record(picture, 1, field, &values));
         picture += u32::from(field != 1);
     }
     file
 }
 
 /// What is read: the pictures, fields and features of all frames.
-pub struct Read {
+pub struct Taken {
     file: Vec<u8>,
     ours: bool,
     values: Vec<f64>,
 }
 
-impl Read {
+impl Taken {
     /// By the library, or by the independent implementation of the rules.
-    pub fn new(file: &[u8], ours: bool) -> Read {
-        Read {
+    pub fn new(file: &[u8], ours: bool) -> Taken {
+        Taken {
             file: file.to_vec(),
             ours,
             values: Vec::with_capacity(file.len()),
@@ -50,15 +49,15 @@ impl Read {
     }
 
     fn by_the_rules(&mut self) {
-        assert_eq!(check(&self.file), Checked::Good(self.file.len() / 72));
-        for frame in (0..self.file.len() / 72).filter_map(|i| fetch(&self.file, i)) {
+        assert_eq!(check(&self.file), Checked::Good(self.file.len() / RECORD));
+        for frame in (0..self.file.len() / RECORD).filter_map(|i| fetch(&self.file, i)) {
             self.values.extend([f64::from(frame.picture), f64::from(frame.field)]);
             self.values.extend(frame.features);
         }
     }
 }
 
-impl Contestant for Read {
+impl Contestant for Taken {
     fn name(&self) -> &'static str {
         if self.ours {
             "the library"
