@@ -254,12 +254,14 @@ uint64_t brothanchor_units(const uint64_t *record, size_t record_length);
 /* n*c starting positions from a seed. Answers 0, 1, 7 or 12. */
 uint32_t brothanchor_scatter(double *positions, size_t positions_length, uint32_t n, uint32_t c, uint64_t seed);
 
-/* The frame file: records of 72 bytes. Answers 0 and the number of records, or 16 and the place of the first bad one, in
- * the first word of place; 12 where place is empty. */
+/* The frame file: records of 72 bytes, little-endian: picture (4 bytes, 1 to 79,999), side (1 or 2), field (0 a whole frame, 1 or 2
+ * a field of a still), two zeros, six features and two starts (8 bytes each, finite, at most 2^20 in magnitude). The pair of picture
+ * and field rises strictly, and a whole frame never shares its picture with a field. Answers 0 and the number of records, or 16 and
+ * the place of the first bad one, in the first word of place; 12 where place is empty. */
 uint32_t brothanchor_frames(const uint8_t *file, size_t file_length, uint64_t *place, size_t place_length);
 
-/* Record i in ten words: picture, side, six features and two starts by their bits; zeros past the whole records. Answers 0,
- * or 12 where the area is shorter. */
+/* Record i in eleven words: picture, side, field, six features and two starts by their bits; zeros past the whole records.
+ * Answers 0, or 12 where the area is shorter. */
 uint32_t brothanchor_frame(const uint8_t *file, size_t file_length, size_t i, uint64_t *frame, size_t frame_length);
 
 #ifdef __cplusplus

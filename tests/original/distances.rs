@@ -103,7 +103,7 @@ fn main() {
     }
 }
 
-/// The committed sample: 240 frames of six features.
+/// The committed sample.
 fn the_sample() -> Frames {
     let file = sample::file();
     let frames: Vec<_> = (0..file.len() / 72).filter_map(|i| fetch(&file, i)).collect();

@@ -4,7 +4,7 @@ use libc::STDOUT_FILENO;
 
 fn map_input(file: &mut [u8]) {
     let n = io::read_full(STDIN_FILENO, file);
-    let mut text = [0u8; 5000];
+    let mut text = [0u8; 6400];
     let k = bench_printout::text_of(&file[..n], &mut text);
     io::write_all(STDOUT_FILENO, &text[..k]);
 }

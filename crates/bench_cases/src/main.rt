@@ -9,7 +9,7 @@ fn print_case(k: u64) {
 }
 
 fn print_file(file: &[u8]) {
-    let mut text = [0u8; 5000];
+    let mut text = [0u8; 6400];
     let k = bench_printout::text_of(file, &mut text);
     io::write_all(STDOUT_FILENO, &text[..k]);
 }
@@ -42,6 +42,6 @@ fn map_list(list: &mut [u8]) {
 }
 
 fn main() {
-    let mut list = [0u8; 131072];
+    let mut list = [0u8; 524288];
     map_list(&mut list);
 }

@@ -11,9 +11,9 @@ use Rattle.frames.specs.declared.Frame.{Frame}
 abbrev pub valueText : Float → List ℕ
 valueText v = hexOf (toBits binary64 v)
 
--- picture and side, each with a space after it
+-- picture, side and field, each with a space after it
 unfoldable pub labelText : Frame → List ℕ
-labelText f = decimalOf (f .picture) ++ space ++ decimalOf (f .side) ++ space
+labelText f = decimalOf (f .picture) ++ space ++ decimalOf (f .side) ++ space ++ decimalOf (f .field) ++ space
 
 -- the two coordinates, to the end of the line
 unfoldable pub positionText : Float → Float → List ℕ

@@ -9,16 +9,18 @@ use text::put;
 use text::put_decimal;
 use text::put_hex;
 
-// Picture and side of a frame.
+// Picture, side and field of a frame.
 pub fn put_label(out: &mut [u8], at: usize, f: Frame) -> usize
-    requires { ⌜ at + 42 ≤ length (now out) ⌝ }
+    requires { ⌜ at + 63 ≤ length (now out) ⌝ }
     ensures { λ r. ⌜ Puts (labelText f) at (now (out .entry)) r (now (out .exit)) ⌝ }
-    ensures { λ r. ⌜ r ≤ at + 42 ⌝ }
+    ensures { λ r. ⌜ r ≤ at + 63 ⌝ }
 {
     let p = put_decimal(out, at, f.picture as u64);
     let q = put(out, p, b" ");
     let s = put_decimal(out, q, f.side as u64);
-    put(out, s, b" ")
+    let t = put(out, s, b" ");
+    let u = put_decimal(out, t, f.field as u64);
+    put(out, u, b" ")
 }
 
 // The bits of both coordinates.
@@ -35,7 +37,7 @@ pub fn put_position(out: &mut [u8], at: usize, x: f64, y: f64) -> usize
 
 // The refusal's number.
 pub fn put_refusal(out: &mut [u8], number: u8) -> usize
-    requires { ⌜ 5000 ≤ length (now out) ⌝ }
+    requires { ⌜ 6400 ≤ length (now out) ⌝ }
     ensures { λ r. ⌜ Puts (refusalText number) 0 (now (out .entry)) r (now (out .exit)) ⌝ }
 {
     let a = put(out, 0, b"refused ");
@@ -45,7 +47,7 @@ pub fn put_refusal(out: &mut [u8], number: u8) -> usize
 
 // The number and the place of a bad record.
 pub fn put_record(out: &mut [u8], number: u8, place: usize) -> usize
-    requires { ⌜ 5000 ≤ length (now out) ⌝ }
+    requires { ⌜ 6400 ≤ length (now out) ⌝ }
     ensures { λ r. ⌜ Puts (recordText number place) 0 (now (out .entry)) r (now (out .exit)) ⌝ }
 {
     let a = put(out, 0, b"refused ");

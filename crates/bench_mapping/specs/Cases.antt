@@ -10,7 +10,7 @@ use Rattle.bench_mapping.specs.declared.Told.the-variants.{Record, Worke
 use Rattle.laws.specs.Loops.{loop, every, seek}
 use Rattle.elementary.specs.Limits.{upTo, neighboursOf}
 use Rattle.little.specs.Little.{littleOf, valueAt}
-use Rattle.frames.specs.Frames.{pictureFine, sideFine, spareFine, valuesFine, goodAlone, inOrder, badAt, framesOf, featuresAt, startsAt, frameOf}
+use Rattle.frames.specs.Frames.{pictureFine, sideFine, fieldFine, spareFine, valuesFine, goodAlone, mayFollow, inOrder, badAt, framesOf, featuresAt, startsAt, frameOf}
 use Rattle.affinity.specs.Neighbours.{neighboursListed}
 use Rattle.tree_node.specs.Arena.{nodesOf}
 use Rattle.tree_bounds.specs.Bounds.{boxOf}
@@ -52,15 +52,15 @@ nothing-7 = refl
 
 -- one record
 pub single-9 : mapNumber (mapOf first101 .told) ≡ 9
-unfolding mapOf ofBits add sub mul div lt le eq neg ofInt isNan size mapNumber framesOf seek badAt goodAlone pictureFine littleOf sideFine spareFine valuesFine every upTo valueAt inOrder mapped descended prepared prepareFault earlyFault benchSettings positive angleFault angleFine benchTable loop frameOf featuresAt lateFault
+unfolding mapOf ofBits add sub mul div lt le eq neg ofInt isNan size mapNumber framesOf seek badAt goodAlone pictureFine littleOf sideFine fieldFine spareFine valuesFine every upTo valueAt inOrder mayFollow mapped descended prepared prepareFault earlyFault benchSettings positive angleFault angleFine benchTable loop frameOf featuresAt lateFault
 single-9 = refl
 
 -- one record and a tail
 pub tail-16 : mapOf (first101 ++ none 1) .told ≡ Record 1
-unfolding mapOf ofBits add sub mul div lt le eq neg ofInt isNan size framesOf seek badAt goodAlone pictureFine littleOf sideFine spareFine valuesFine every upTo valueAt inOrder
+unfolding mapOf ofBits add sub mul div lt le eq neg ofInt isNan size framesOf seek badAt goodAlone pictureFine littleOf sideFine fieldFine spareFine valuesFine every upTo valueAt inOrder mayFollow
 tail-16 = refl
 
 -- the whole outcome of the example
 pub example : mapOf (first101 ++ then102) ≡ mappedAs (Answered (Finished 6)) (bits 0x4050600000000000 ∷ zero64 ∷ bits 0xc050600000000000 ∷ zeros 125)
-unfolding mapOf ofBits add sub mul div lt le eq neg ofInt isNan size framesOf seek badAt goodAlone pictureFine littleOf sideFine spareFine valuesFine every upTo valueAt inOrder mapped descended prepared prepareFault earlyFault benchSettings positive angleFault angleFine benchTable loop frameOf featuresAt lateFault benchStart startsAt lengthsFit areasFit sizesOf treeFits neighboursOf nodesOf work answerOf call faultOf faultAt recordFault settingsFault freshRun countersOk stateFits perOf routed neighboursListed contentsFault offsetFine indexFine treeFaultAt go kindAt stops unit groupOf treeUnit advancedOf insertTurn insertOf boxOf finishUnit finishOf elementAt gradientOf paceOf forceUnit forcesOf exaggerationOf normaliserOf momentumOf centredBy closedOf stopsNow unitsDone
+unfolding mapOf ofBits add sub mul div lt le eq neg ofInt isNan size framesOf seek badAt goodAlone pictureFine littleOf sideFine fieldFine spareFine valuesFine every upTo valueAt inOrder mayFollow mapped descended prepared prepareFault earlyFault benchSettings positive angleFault angleFine benchTable loop frameOf featuresAt lateFault benchStart startsAt lengthsFit areasFit sizesOf treeFits neighboursOf nodesOf work answerOf call faultOf faultAt recordFault settingsFault freshRun countersOk stateFits perOf routed neighboursListed contentsFault offsetFine indexFine treeFaultAt go kindAt stops unit groupOf treeUnit advancedOf insertTurn insertOf boxOf finishUnit finishOf elementAt gradientOf paceOf forceUnit forcesOf exaggerationOf normaliserOf momentumOf centredBy closedOf stopsNow unitsDone
 example = refl

@@ -12,7 +12,7 @@ use Rattle.text.proofs.Puts.{puts-none, puts-then, puts-size}
 
 pub record Lines (row : ℕ → List ℕ) (n a : ℕ) (l₀ : List ℕ) (i b : ℕ) (l : List ℕ) : Type 0 where
   pub within : i ≤ n
-  pub small : b ≤ a + 76 * i
+  pub small : b ≤ a + 97 * i
   pub size : length l ≡ length l₀
   pub puts : Puts (joined row i) a l₀ b l
 
@@ -20,7 +20,7 @@ module _ {row : ℕ → List ℕ} {n a : ℕ} {l₀ : List ℕ} where
   pub lines-start : a ≤ length l₀ → Lines row n a l₀ 0 a l₀
   lines-start h = record { within = omega arith; small = omega arith; size = refl; puts = subst (λ (w : List ℕ). Puts w a l₀ a l₀) (sym (joined-none row)) (puts-none a l₀ h) }
 
-  pub lines-more : {i b c : ℕ} {l m : List ℕ} → i < n → Lines row n a l₀ i b l → Puts (row i) b l c m → c ≤ b + 76 → Lines row n a l₀ (i + 1) c m
+  pub lines-more : {i b c : ℕ} {l m : List ℕ} → i < n → Lines row n a l₀ i b l → Puts (row i) b l c m → c ≤ b + 97 → Lines row n a l₀ (i + 1) c m
   lines-more {i} {b} {c} {l} {m} h r p s = record {
     within = omega arith;
     small = omega (arith, r .small);

@@ -26,15 +26,15 @@ one = none 6 ++ (240 ∷ 63 ∷ [])
 abbrev sample : List ℕ
 sample = (101 ∷ 0 ∷ 0 ∷ 0 ∷ 1 ∷ none 67) ++ ((102 ∷ 0 ∷ 0 ∷ 0 ∷ 1 ∷ none 3) ++ one ++ none 40 ++ one ++ none 8)
 
--- "finished 6", "101 1 4050600000000000 0000000000000000", "102 1 c050600000000000 0000000000000000", each with the end of the line
+-- "finished 6", "101 1 0 4050600000000000 0000000000000000", "102 1 0 c050600000000000 0000000000000000", each with the end of the line
 abbrev firstLine : List ℕ
 firstLine = 102 ∷ 105 ∷ 110 ∷ 105 ∷ 115 ∷ 104 ∷ 101 ∷ 100 ∷ 32 ∷ 54 ∷ 10 ∷ []
 
 abbrev secondLine : List ℕ
-secondLine = 49 ∷ 48 ∷ 49 ∷ 32 ∷ 49 ∷ 32 ∷ 52 ∷ 48 ∷ 53 ∷ 48 ∷ 54 ∷ 48 ∷ 48 ∷ 48 ∷ 48 ∷ 48 ∷ 48 ∷ 48 ∷ 48 ∷ 48 ∷ 48 ∷ 48 ∷ 32 ∷ 48 ∷ 48 ∷ 48 ∷ 48 ∷ 48 ∷ 48 ∷ 48 ∷ 48 ∷ 48 ∷ 48 ∷ 48 ∷ 48 ∷ 48 ∷ 48 ∷ 48 ∷ 48 ∷ 10 ∷ []
+secondLine = 49 ∷ 48 ∷ 49 ∷ 32 ∷ 49 ∷ 32 ∷ 48 ∷ 32 ∷ 52 ∷ 48 ∷ 53 ∷ 48 ∷ 54 ∷ 48 ∷ 48 ∷ 48 ∷ 48 ∷ 48 ∷ 48 ∷ 48 ∷ 48 ∷ 48 ∷ 48 ∷ 48 ∷ 32 ∷ 48 ∷ 48 ∷ 48 ∷ 48 ∷ 48 ∷ 48 ∷ 48 ∷ 48 ∷ 48 ∷ 48 ∷ 48 ∷ 48 ∷ 48 ∷ 48 ∷ 48 ∷ 48 ∷ 10 ∷ []
 
 abbrev thirdLine : List ℕ
-thirdLine = 49 ∷ 48 ∷ 50 ∷ 32 ∷ 49 ∷ 32 ∷ 99 ∷ 48 ∷ 53 ∷ 48 ∷ 54 ∷ 48 ∷ 48 ∷ 48 ∷ 48 ∷ 48 ∷ 48 ∷ 48 ∷ 48 ∷ 48 ∷ 48 ∷ 48 ∷ 32 ∷ 48 ∷ 48 ∷ 48 ∷ 48 ∷ 48 ∷ 48 ∷ 48 ∷ 48 ∷ 48 ∷ 48 ∷ 48 ∷ 48 ∷ 48 ∷ 48 ∷ 48 ∷ 48 ∷ 10 ∷ []
+thirdLine = 49 ∷ 48 ∷ 50 ∷ 32 ∷ 49 ∷ 32 ∷ 48 ∷ 32 ∷ 99 ∷ 48 ∷ 53 ∷ 48 ∷ 54 ∷ 48 ∷ 48 ∷ 48 ∷ 48 ∷ 48 ∷ 48 ∷ 48 ∷ 48 ∷ 48 ∷ 48 ∷ 48 ∷ 32 ∷ 48 ∷ 48 ∷ 48 ∷ 48 ∷ 48 ∷ 48 ∷ 48 ∷ 48 ∷ 48 ∷ 48 ∷ 48 ∷ 48 ∷ 48 ∷ 48 ∷ 48 ∷ 48 ∷ 10 ∷ []
 
 pub example-text : printed sample ≡ firstLine ++ secondLine ++ thirdLine
 unfolding printed toldText answerText mapText joined labelText positionText decimalOf decimals hexOf seek frameOf littleOf ofBits toBits

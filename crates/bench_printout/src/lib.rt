@@ -36,7 +36,7 @@ fn count(file: &[u8]) -> usize
 
 // A line for each frame.
 fn put_frames(out: &mut [u8], from: usize, file: &[u8], positions: [f64; 128]) -> usize
-    requires { ⌜ from + 4864 ≤ length (now out) ⌝ }
+    requires { ⌜ from + 6208 ≤ length (now out) ⌝ }
     ensures { λ r. ⌜ Puts (joined (frameText (now (file .entry)) positions) (framesShown (now (file .entry)))) from (now (out .entry)) r (now (out .exit)) ⌝ }
 {
     let n = count(file);
@@ -53,7 +53,7 @@ fn put_frames(out: &mut [u8], from: usize, file: &[u8], positions: [f64; 128]) -
 
 // How the run stands, and the map.
 fn put_map(out: &mut [u8], word: &[u8], units: u32, file: &[u8], positions: [f64; 128]) -> usize
-    requires { ⌜ (5000 ≤ length (now out)) × (length (now word) ≤ 8) ⌝ }
+    requires { ⌜ (6400 ≤ length (now out)) × (length (now word) ≤ 8) ⌝ }
     ensures { λ r. ⌜ Puts (mapText (now (word .entry)) units (now (file .entry)) positions) 0 (now (out .entry)) r (now (out .exit)) ⌝ }
 {
     let a = put(out, 0, word);
@@ -64,7 +64,7 @@ fn put_map(out: &mut [u8], word: &[u8], units: u32, file: &[u8], positions: [f64
 }
 
 fn put_answer(out: &mut [u8], a: Answer, file: &[u8], positions: [f64; 128]) -> usize
-    requires { ⌜ 5000 ≤ length (now out) ⌝ }
+    requires { ⌜ 6400 ≤ length (now out) ⌝ }
     ensures { λ r. ⌜ Puts (answerText a (now (file .entry)) positions) 0 (now (out .entry)) r (now (out .exit)) ⌝ }
 {
     match a {
@@ -78,7 +78,7 @@ fn put_answer(out: &mut [u8], a: Answer, file: &[u8], positions: [f64; 128]) -> 
 }
 
 fn put_told(out: &mut [u8], t: Told, file: &[u8], positions: [f64; 128]) -> usize
-    requires { ⌜ 5000 ≤ length (now out) ⌝ }
+    requires { ⌜ 6400 ≤ length (now out) ⌝ }
     ensures { λ r. ⌜ Puts (toldText t (now (file .entry)) positions) 0 (now (out .entry)) r (now (out .exit)) ⌝ }
 {
     let k = bench_mapping::number(t);
@@ -91,7 +91,7 @@ fn put_told(out: &mut [u8], t: Told, file: &[u8], positions: [f64; 128]) -> usiz
 }
 
 // What the bench says of the file, at the start of `out`; answers how many bytes it has.
-pub fn text_of(file: &[u8], out: &mut [u8; 5000]) -> usize
+pub fn text_of(file: &[u8], out: &mut [u8; 6400]) -> usize
     ensures { λ r. ⌜ Counts r (now (out .exit)) ⌝ }
     ensures { λ r. ⌜ r ≡ length (printed (now (file .entry))) ⌝ }
     ensures { λ _. ⌜ now (out .exit) ≡ written (printed (now (file .entry))) 0 (now (out .entry)) ⌝ }

@@ -246,7 +246,7 @@ pub extern "C" fn brothanchor_frames(file: &[u8], place: &mut [u64]) -> u32
     host_frames(file, place)
 }
 
-// Picture, side, six features and two starts of record i, in ten words; zeros past the whole records. Answers 0, or 12.
+// Picture, side, field, six features and two starts of record i, in eleven words; zeros past the whole records. Answers 0, or 12.
 #[no_mangle]
 pub extern "C" fn brothanchor_frame(file: &[u8], i: usize, frame: &mut [u64]) -> u32
     ensures { λ k. ⌜ worded k (now (frame .exit)) ≡ hostFrame (now (file .entry)) i (now (frame .entry)) ⌝ }

@@ -18,6 +18,6 @@ framesWorded (Bad p) w = worded (orZero (framesNumber (Bad p))) (set w 0 p)
 unfoldable pub hostFrames : List ℕ → List ℕ → Worded
 hostFrames file w = cond (eqb (length w) 0) (worded 12 w) (framesWorded (framesOf file) w)
 
--- 12 where the area has fewer than 10 words
+-- 12 where the area has fewer than 11 words
 unfoldable pub hostFrame : List ℕ → ℕ → List ℕ → Worded
-hostFrame file i w = cond (ltb (length w) 10) (worded 12 w) (worded 0 (framePut (frameOf file i) w))
+hostFrame file i w = cond (ltb (length w) 11) (worded 12 w) (worded 0 (framePut (frameOf file i) w))

@@ -35,11 +35,11 @@ pub fn host_frames(file: &[u8], place: &mut [u64]) -> u32
     }
 }
 
-// Picture, side, six features and two starts of record i, in ten words; zeros past the whole records. Answers 0, or 12.
+// Picture, side, field, six features and two starts of record i, in eleven words; zeros past the whole records. Answers 0, or 12.
 pub fn host_frame(file: &[u8], i: usize, frame: &mut [u64]) -> u32
     ensures { λ k. ⌜ worded k (now (frame .exit)) ≡ hostFrame (now (file .entry)) i (now (frame .entry)) ⌝ }
 {
-    if frame.len() < 10 {
+    if frame.len() < 11 {
         return 12;
     }
     let f = frames::frame_at(file, i);

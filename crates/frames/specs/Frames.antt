@@ -1,4 +1,4 @@
--- The frame file, as the scope paper has it: 72-byte records, no header, little-endian. Definitions only.
+-- The frame file, as the scope paper and request 2026-03 have it: 72-byte records, no header, little-endian. Definitions only.
 use mathlib.Core.List.{List, [], _∷_}
 use mathlib.Core.Option.{Option, none, some}
 use mathlib.Core.Bool.{Bool, cond, not, _&&_, _||_}
@@ -20,18 +20,21 @@ recordBytes = 72
 
 -- ---- the bytes of a record that starts at place a
 
--- bytes 0 to 3: the picture's number; byte 4: the side; bytes 5 to 7: spare
+-- bytes 0 to 3: the picture's number; byte 4: the side; byte 5: the field; bytes 6 and 7: spare
 abbrev pub pictureAt : List ℕ → ℕ → ℕ
 pictureAt f a = littleOf f a 4
 
 abbrev pub sideAt : List ℕ → ℕ → ℕ
 sideAt f a = num f (a + 4)
 
--- ---- a record that is good by itself
+abbrev pub fieldAt : List ℕ → ℕ → ℕ
+fieldAt f a = num f (a + 5)
+
+-- ---- a record that is good by itself: picture, side, field, spare bytes and values are, in this order
 
 -- pictures count from 1
 abbrev pub mostPicture : ℕ
-mostPicture = 54000
+mostPicture = 79999
 
 unfoldable pub pictureFine : ℕ → Bool
 pictureFine p = leb 1 p && leb p mostPicture
@@ -39,22 +42,36 @@ pictureFine p = leb 1 p && leb p mostPicture
 unfoldable pub sideFine : ℕ → Bool
 sideFine s = eqb s 1 || eqb s 2
 
--- the three spare bytes are zero
+-- 0 is a whole frame, 1 and 2 are the fields of a still
+unfoldable pub fieldFine : ℕ → Bool
+fieldFine b = leb b 2
+
+-- the two spare bytes are zero
 unfoldable pub spareFine : List ℕ → ℕ → Bool
-spareFine f a = eqb (num f (a + 5)) 0 && eqb (num f (a + 6)) 0 && eqb (num f (a + 7)) 0
+spareFine f a = eqb (num f (a + 6)) 0 && eqb (num f (a + 7)) 0
 
 -- six features and two start positions, from byte 8 on, are finite and at most 2^20 in magnitude
 unfoldable pub valuesFine : List ℕ → ℕ → Bool
 valuesFine f a = every (λ k. inDomain (valueAt f (a + 8 + 8 * k))) 8
 
 unfoldable pub goodAlone : List ℕ → ℕ → Bool
-goodAlone f a = pictureFine (pictureAt f a) && sideFine (sideAt f a) && spareFine f a && valuesFine f a
+goodAlone f a = pictureFine (pictureAt f a) && sideFine (sideAt f a) && fieldFine (fieldAt f a) && spareFine f a && valuesFine f a
 
 -- ---- the file
 
--- record i's picture is above that of the record before it
+-- picture q and field g may follow picture p and field e: the pair rises, and a whole frame never shares its picture with a field
+unfoldable pub mayFollow : ℕ → ℕ → ℕ → ℕ → Bool
+mayFollow p e q g = ltb p q || (eqb p q && not (eqb e 0) && ltb e g)
+
+-- so may record i follow the record before it
 unfoldable pub inOrder : List ℕ → ℕ → Bool
-inOrder f i = eqb i 0 || ltb (pictureAt f ((i - 1) * recordBytes)) (pictureAt f (i * recordBytes))
+inOrder f i =
+    eqb i 0
+    || mayFollow
+    (pictureAt f ((i - 1) * recordBytes))
+    (fieldAt f ((i - 1) * recordBytes))
+    (pictureAt f (i * recordBytes))
+    (fieldAt f (i * recordBytes))
 
 unfoldable pub badAt : List ℕ → ℕ → Bool
 badAt f i = not (goodAlone f (i * recordBytes) && inOrder f i)
@@ -63,11 +80,14 @@ badAt f i = not (goodAlone f (i * recordBytes) && inOrder f i)
 abbrev pub wholeRecords : List ℕ → ℕ
 wholeRecords f = length f / recordBytes
 
--- the count of the records, or the place of the first bad one; a stray tail counts as a record, and is bad
-unfoldable pub framesOf : List ℕ → Frames
-framesOf f =
-    cond (ltb (first (badAt f) (wholeRecords f)) (wholeRecords f)) (Bad (first (badAt f) (wholeRecords f)))
+-- the count of the records, or the place of the first that a test calls bad; a stray tail counts as a record, and is bad
+abbrev pub framesBy : (ℕ → Bool) → List ℕ → Frames
+framesBy bad f =
+    cond (ltb (first bad (wholeRecords f)) (wholeRecords f)) (Bad (first bad (wholeRecords f)))
     (cond (eqb (length f % recordBytes) 0) (Good (wholeRecords f)) (Bad (wholeRecords f)))
+
+unfoldable pub framesOf : List ℕ → Frames
+framesOf f = framesBy (badAt f) f
 
 -- the scope paper's number for what the reader says: a good file has none, a bad record is refused by 16
 abbrev pub framesNumber : Frames → Option ℕ
@@ -88,8 +108,8 @@ unfoldable pub startsAt : List ℕ → ℕ → List Float
 startsAt f a = valueAt f (a + 56) ∷ valueAt f (a + 64) ∷ []
 
 abbrev pub noFrame : Frame
-noFrame = record { picture = 0; side = 0; features = zero64 ∷ zero64 ∷ zero64 ∷ zero64 ∷ zero64 ∷ zero64 ∷ []; starts = zero64 ∷ zero64 ∷ [] }
+noFrame = record { picture = 0; side = 0; field = 0; features = zero64 ∷ zero64 ∷ zero64 ∷ zero64 ∷ zero64 ∷ zero64 ∷ []; starts = zero64 ∷ zero64 ∷ [] }
 
 -- what record i holds; past the whole records a frame of zeros
 unfoldable pub frameOf : List ℕ → ℕ → Frame
-frameOf f i = cond (ltb i (wholeRecords f)) (record { picture = pictureAt f (i * recordBytes); side = sideAt f (i * recordBytes); features = featuresAt f (i * recordBytes); starts = startsAt f (i * recordBytes) }) noFrame
+frameOf f i = cond (ltb i (wholeRecords f)) (record { picture = pictureAt f (i * recordBytes); side = sideAt f (i * recordBytes); field = fieldAt f (i * recordBytes); features = featuresAt f (i * recordBytes); starts = startsAt f (i * recordBytes) }) noFrame

@@ -3,13 +3,13 @@
 ghost use mathlib.Core.Path.{_≡_};
 ghost use Prim.Native.Nat.{_+_, _*_, _/_, _<_, _≤_};
 ghost use lib.ListN.{length};
-ghost use Rattle.frames.specs.Frames.{recordBytes, pictureAt, pictureFine, sideFine, spareFine, valuesFine, goodAlone, inOrder, badAt, framesOf, featuresAt, startsAt, frameOf};
+ghost use Rattle.frames.specs.Frames.{recordBytes, pictureAt, pictureFine, sideFine, fieldFine, spareFine, valuesFine, goodAlone, mayFollow, inOrder, badAt, framesOf, featuresAt, startsAt, frameOf};
 
 // How long a record is.
 pub const RECORD_BYTES: usize = 72;
 
 // Pictures count from 1 to this.
-const MOST_PICTURE: u64 = 54000;
+const MOST_PICTURE: u64 = 79999;
 
 // What the reader says of a file.
 pub enum Frames {
@@ -25,6 +25,8 @@ pub struct Frame {
     pub picture: u32,
     // the disc's side, 1 or 2
     pub side: u8,
+    // 0 a whole frame, 1 or 2 a field of a still
+    pub field: u8,
     // the six numbers that the frame is boiled down to
     pub features: [f64; 6],
     // where its dot starts on the map
@@ -49,14 +51,17 @@ fn side_fine(s: u8) -> bool
     s == 2
 }
 
-// The three spare bytes of the record at a are zero.
+fn field_fine(b: u8) -> bool
+    ensures { λ r. ⌜ r ≡ fieldFine b ⌝ }
+{
+    b <= 2
+}
+
+// The two spare bytes of the record at a are zero.
 fn spare_fine(file: &[u8], a: usize) -> bool
     requires { ⌜ a + 8 ≤ length (now file) ⌝ }
     ensures { λ r. ⌜ r ≡ spareFine (now (file .entry)) a ⌝ }
 {
-    if file[a + 5] != 0 {
-        return false;
-    }
     if file[a + 6] != 0 {
         return false;
     }
@@ -90,13 +95,32 @@ fn good_alone(file: &[u8], a: usize) -> bool
     if !side_fine(file[a + 4]) {
         return false;
     }
+    if !field_fine(file[a + 5]) {
+        return false;
+    }
     if !spare_fine(file, a) {
         return false;
     }
     values_fine(file, a)
 }
 
-// Record i's picture is above that of the record before it.
+// Picture q and field g may follow picture p and field e.
+fn may_follow(p: u64, e: u8, q: u64, g: u8) -> bool
+    ensures { λ r. ⌜ r ≡ mayFollow p e q g ⌝ }
+{
+    if p < q {
+        return true;
+    }
+    if p != q {
+        return false;
+    }
+    if e == 0 {
+        return false;
+    }
+    e < g
+}
+
+// Record i may follow the record before it.
 fn in_order(file: &[u8], i: usize) -> bool
     requires { ⌜ i * recordBytes + recordBytes ≤ length (now file) ⌝ }
     ensures { λ r. ⌜ r ≡ inOrder (now (file .entry)) i ⌝ }
@@ -104,7 +128,14 @@ fn in_order(file: &[u8], i: usize) -> bool
     if i == 0 {
         return true;
     }
-    little::half_word(file, (i - 1) * RECORD_BYTES) < little::half_word(file, i * RECORD_BYTES)
+    let b = (i - 1) * RECORD_BYTES;
+    let a = i * RECORD_BYTES;
+    may_follow(
+        little::half_word(file, b),
+        file[b + 5],
+        little::half_word(file, a),
+        file[a + 5],
+    )
 }
 
 // Record i is bad by itself or out of order.
@@ -168,6 +199,7 @@ pub fn frame_at(file: &[u8], i: usize) -> Frame
         return Frame {
             picture: little::half_word(file, a) as u32,
             side: file[a + 4],
+            field: file[a + 5],
             features: features,
             starts: starts,
         };
@@ -175,6 +207,7 @@ pub fn frame_at(file: &[u8], i: usize) -> Frame
     Frame {
         picture: 0,
         side: 0,
+        field: 0,
         features: [0.0; 6],
         starts: [0.0; 2],
     }

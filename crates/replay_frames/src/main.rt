@@ -16,7 +16,7 @@ fn same_features(v: [f64; 6], list: &[u8], a: usize) -> bool
     true
 }
 
-// Picture, side, six features, two starts, from word a on.
+// Picture, side, field, six features, two starts, from word a on.
 fn same_frame(f: frames::Frame, list: &[u8], a: usize) -> bool
     requires { ⌜ a ≤ 900000 ⌝ }
 {
@@ -26,24 +26,27 @@ fn same_frame(f: frames::Frame, list: &[u8], a: usize) -> bool
     if f.side as u64 != word_at(list, a + 1) {
         return false;
     }
+    if f.field as u64 != word_at(list, a + 2) {
+        return false;
+    }
     let features = f.features;
-    if !same_features(features, list, a + 2) {
+    if !same_features(features, list, a + 3) {
         return false;
     }
     let starts = f.starts;
-    if elementary::bits_of(starts[0]) != word_at(list, a + 8) {
+    if elementary::bits_of(starts[0]) != word_at(list, a + 9) {
         return false;
     }
-    elementary::bits_of(starts[1]) == word_at(list, a + 9)
+    elementary::bits_of(starts[1]) == word_at(list, a + 10)
 }
 
-// Frame i of the file is what the list has from word a + 10·i on, for each of count frames.
+// Frame i of the file is what the list has from word a + 11·i on, for each of count frames.
 fn same_frames(file: &[u8], count: usize, list: &[u8], a: usize) -> bool
     requires { ⌜ (a ≤ 100000) × (count ≤ 1000) ⌝ }
 {
     let mut i = 0;
     while i < count {
-        if !same_frame(frames::frame_at(file, i), list, a + 10 * i) {
+        if !same_frame(frames::frame_at(file, i), list, a + 11 * i) {
             return false;
         }
         i += 1;
@@ -68,7 +71,7 @@ fn good_case(file: &[u8], count: usize, kind: u64, value: u64, list: &[u8], a: u
         };
     }
     let ok = same_frames(file, count, list, a);
-    let at = a + 10 * count;
+    let at = a + 11 * count;
     if kind != 0 {
         return Next { right: false, at };
     }

@@ -2,6 +2,7 @@
 
 pub mod array;
 pub mod contest;
+pub mod frame_file;
 pub mod library;
 
 use contest::{contest, Contestant};
@@ -96,6 +97,20 @@ pub fn all(others: &dyn Others) {
         );
     }
     parking();
+    a_full_side();
+}
+
+/// The frame file of a full side, read.
+pub fn a_full_side() {
+    let file = frame_file::file(4096);
+    contest(
+        "reading a frame file, n 4096",
+        vec![
+            Box::new(frame_file::Taken::new(&file, true)),
+            Box::new(frame_file::Taken::new(&file, false)),
+        ],
+        21,
+    );
 }
 
 /// A full side parked and read back, beside a copy of the bytes.

@@ -1,5 +1,5 @@
 /* Maps a frame file through include/brothanchor.h, as the wrapper's map program does: map FILE [SEED].
- * Prints a line for each frame: picture, side, both coordinates by their bits; then how the run ended, and its divergence. On
+ * Prints a line for each frame: picture, side, field, both coordinates by their bits; then how the run ended, and its divergence. On
  * its way the run is parked, forgotten and read back. It is compiled as C and as C++, and calls every function of the header. A
  * refusal ends it with its number and where it came. */
 #include <inttypes.h>
@@ -9,7 +9,7 @@
 
 #include "brothanchor.h"
 
-enum { FRAME_BYTES = 72, FRAME_WORDS = 10, FEATURES = 6, STARTS = 2, MOST_FRAMES = 4096, ITERATIONS = 1000, PARKED_BYTES = 32, NIGHT = 40 };
+enum { FRAME_BYTES = 72, FRAME_WORDS = 11, FEATURES = 6, STARTS = 2, MOST_FRAMES = 4096, ITERATIONS = 1000, PARKED_BYTES = 32, NIGHT = 40 };
 
 /* What a run is lent. */
 struct areas {
@@ -220,8 +220,8 @@ static void rows(const uint8_t *file, size_t length, size_t n, const char *seed,
     for (size_t i = 0; i < n; i++) {
         uint64_t frame[FRAME_WORDS];
         refused("frame", brothanchor_frame(file, length, i, frame, FRAME_WORDS));
-        for (size_t j = 0; j < FEATURES; j++) table[i * FEATURES + j] = value(frame[2 + j]);
-        for (size_t j = 0; j < STARTS; j++) start[i * STARTS + j] = value(frame[2 + FEATURES + j]);
+        for (size_t j = 0; j < FEATURES; j++) table[i * FEATURES + j] = value(frame[3 + j]);
+        for (size_t j = 0; j < STARTS; j++) start[i * STARTS + j] = value(frame[3 + FEATURES + j]);
     }
     if (seed != NULL) {
         refused("scatter", brothanchor_scatter(start, n * STARTS, (uint32_t)n, STARTS, strtoull(seed, NULL, 10)));
@@ -233,7 +233,7 @@ static void print(const uint8_t *file, size_t length, size_t n, const struct are
     for (size_t i = 0; i < n; i++) {
         uint64_t frame[FRAME_WORDS];
         refused("frame", brothanchor_frame(file, length, i, frame, FRAME_WORDS));
-        printf("%" PRIu64 " %" PRIu64 " %016" PRIx64 " %016" PRIx64 "\n", frame[0], frame[1],
+        printf("%" PRIu64 " %" PRIu64 " %" PRIu64 " %016" PRIx64 " %016" PRIx64 "\n", frame[0], frame[1], frame[2],
                bits(a->positions[i * STARTS]), bits(a->positions[i * STARTS + 1]));
     }
     printf("%zu frames, %s after %" PRIu64 " iterations (%" PRIu64 " units)\n", n,

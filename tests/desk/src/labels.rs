@@ -1,4 +1,4 @@
-//! Which dots of a map's picture have their picture's number beside them, and where it stands.
+//! Which dots of a map's picture have their picture's number beside them, with its field, and where it stands.
 //!
 //! A long line is a cut, and the operator wants to know between which pictures it is. So the ends of long lines come first,
 //! those of a longer line before those of a shorter one. Then come the first frame and the last, then some at even spaces.
@@ -101,12 +101,12 @@ fn around([x, y]: [f64; 2], frame: usize, width: f64) -> [Label; 8] {
 }
 
 /// The numbers that have a place. At even spaces none may hide a dot.
-pub fn labels(dots: &[[f64; 2]], pictures: &[u32], cuts: &[usize]) -> Vec<Label> {
+pub fn labels(dots: &[[f64; 2]], names: &[String], cuts: &[usize]) -> Vec<Label> {
     let ends = ends(dots.len(), cuts);
     let most = ends.iter().map(|&frame| (frame, usize::MAX));
     let mut placed: Vec<Label> = Vec::new();
     for (frame, most) in most.chain(spaced(dots.len(), &ends).map(|frame| (frame, 0))) {
-        let width = DIGIT * pictures[frame].to_string().len() as f64;
+        let width = DIGIT * names[frame].len() as f64;
         let place = around(dots[frame], frame, width)
             .into_iter()
             .filter(|label| !placed.iter().any(|other| label.meets(other)))

@@ -25,14 +25,26 @@ pub const FEATURES: usize = 6;
 /// One record of a frame file.
 #[derive(Clone, Copy, Debug, PartialEq)]
 pub struct Frame {
-    /// The picture's number, rising through the file.
+    /// The picture's number; it never falls through the file.
     pub picture: u32,
     /// 1 or 2.
     pub side: u8,
+    /// 0 for a whole frame, 1 or 2 for a field of a still.
+    pub field: u8,
     /// The frame's row of the table.
     pub features: [f64; FEATURES],
     /// Where the frame starts on the map.
     pub starts: [f64; STARTS],
+}
+
+impl Frame {
+    /// The picture's number, and the field's behind a point where the record is one: `1203`, `1203.1`.
+    pub fn name(&self) -> String {
+        match self.field {
+            0 => self.picture.to_string(),
+            field => format!("{}.{field}", self.picture),
+        }
+    }
 }
 
 /// n·c starting positions from a seed, at the front of the area.
@@ -51,16 +63,22 @@ pub fn frames(file: &[u8]) -> Result<usize, (Refusal, usize)> {
         .map_err(|refusal| (refusal, place))
 }
 
+/// Record i of a file as words: picture, side, field, the bits of its features and starts. 12 where there are fewer than eleven.
+pub fn frame_words(file: &[u8], i: usize, words: &mut [u64]) -> Result<(), Refusal> {
+    let number = unsafe { library::brothanchor_frame(file.as_ptr(), file.len(), i, words.as_mut_ptr(), words.len()) };
+    Refusal::unless_0(number)
+}
+
 /// Record i of a file; zeros past its whole records.
 pub fn frame(file: &[u8], i: usize) -> Frame {
-    let mut words = [0; 10];
-    // The area is long enough, so this is not refused.
-    unsafe { library::brothanchor_frame(file.as_ptr(), file.len(), i, words.as_mut_ptr(), words.len()) };
+    let mut words = [0; 11];
+    frame_words(file, i, &mut words).expect("the area is long enough");
     let value = |at: usize| f64::from_bits(words[at]);
     Frame {
         picture: words[0] as u32,
         side: words[1] as u8,
-        features: [value(2), value(3), value(4), value(5), value(6), value(7)],
-        starts: [value(8), value(9)],
+        field: words[2] as u8,
+        features: [value(3), value(4), value(5), value(6), value(7), value(8)],
+        starts: [value(9), value(10)],
     }
 }

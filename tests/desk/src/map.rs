@@ -266,13 +266,13 @@ impl Map {
         [self.positions[STARTS * i], self.positions[STARTS * i + 1]]
     }
 
-    /// A line for each frame: picture, side, both coordinates, both again as bits.
+    /// A line for each frame: picture, side, field, both coordinates, both again as bits.
     pub fn lines(&self) -> String {
         let line = |(i, frame): (usize, &Frame)| {
             let [x, y] = self.place(i);
-            let (picture, side) = (frame.picture, frame.side);
+            let (picture, side, field) = (frame.picture, frame.side, frame.field);
             format!(
-                "{picture:5} {side} {x:14.6} {y:14.6} {:016x} {:016x}\n",
+                "{picture:5} {side} {field} {x:14.6} {y:14.6} {:016x} {:016x}\n",
                 x.to_bits(),
                 y.to_bits()
             )

@@ -2,18 +2,19 @@
 
 use crate::labels::{labels, long_lines, Label, RADIUS};
 use crate::map::Map;
+use crate::Frame;
 use std::fmt::Write;
 
-/// The sides of the picture, and the margin around the map.
-const SIDE: f64 = 900.0;
-const MARGIN: f64 = 50.0;
+/// The sides of the picture, and the margin around the map, with room for the widest number: `79999.2`.
+const SIDE: f64 = 940.0;
+const MARGIN: f64 = 70.0;
 
 /// The map as an SVG file. Colours run from blue, the first frame, over green and yellow to red, the last.
 pub fn svg(map: &Map) -> String {
     let dots = dots(map);
     let cuts = long_lines(&dots);
-    let pictures: Vec<u32> = map.frames.iter().map(|frame| frame.picture).collect();
-    let labels = labels(&dots, &pictures, &cuts);
+    let names: Vec<String> = map.frames.iter().map(Frame::name).collect();
+    let labels = labels(&dots, &names, &cuts);
     let mut text = String::new();
     let foot = SIDE + 50.0;
     // Writing to a String does not fail.
@@ -24,7 +25,7 @@ pub fn svg(map: &Map) -> String {
     let _ = writeln!(text, "<rect width=\"100%\" height=\"100%\" fill=\"white\"/>");
     text += &lines(&dots);
     text += &circles(map, &dots);
-    text += &numbers(&pictures, &labels, &cuts);
+    text += &numbers(&names, &labels, &cuts);
     text += &legend(map);
     text += &cuts_told(&labels, &cuts);
     text + "</svg>\n"
@@ -64,23 +65,23 @@ fn lines(dots: &[[f64; 2]]) -> String {
     dots.windows(2).enumerate().map(line).collect()
 }
 
-/// A dot for each frame; a viewer shows picture and side when it is pointed at.
+/// A dot for each frame; a viewer shows picture, field and side when it is pointed at.
 fn circles(map: &Map, dots: &[[f64; 2]]) -> String {
     let circle = |(i, [x, y]): (usize, &[f64; 2])| {
         let (frame, colour) = (&map.frames[i], colour(i, dots.len()));
-        let (picture, side) = (frame.picture, frame.side);
-        format!("<circle cx=\"{x:.2}\" cy=\"{y:.2}\" r=\"{RADIUS}\" fill=\"{colour}\"><title>picture {picture}, side {side}</title></circle>\n")
+        let (name, side) = (frame.name(), frame.side);
+        format!("<circle cx=\"{x:.2}\" cy=\"{y:.2}\" r=\"{RADIUS}\" fill=\"{colour}\"><title>picture {name}, side {side}</title></circle>\n")
     };
     dots.iter().enumerate().map(circle).collect()
 }
 
-/// The pictures' numbers, in bold where a long line begins or ends.
-fn numbers(pictures: &[u32], labels: &[Label], cuts: &[usize]) -> String {
+/// The pictures' numbers, with their fields, in bold where a long line begins or ends.
+fn numbers(names: &[String], labels: &[Label], cuts: &[usize]) -> String {
     let number = |label: &Label| {
         let (x, y, frame) = (label.x, label.y, label.frame);
         let cut = cuts.iter().any(|&i| frame == i || frame == i + 1);
         let weight = if cut { " font-weight=\"bold\"" } else { "" };
-        format!("<text x=\"{x:.2}\" y=\"{y:.2}\"{weight}>{}</text>\n", pictures[frame])
+        format!("<text x=\"{x:.2}\" y=\"{y:.2}\"{weight}>{}</text>\n", names[frame])
     };
     labels.iter().map(number).collect()
 }
@@ -88,7 +89,7 @@ fn numbers(pictures: &[u32], labels: &[Label], cuts: &[usize]) -> String {
 /// What the colours say, below the map, and how well it fits.
 fn legend(map: &Map) -> String {
     let n = map.frames.len();
-    let (first, last) = (map.frames[0].picture, map.frames[n - 1].picture);
+    let (first, last) = (map.frames[0].name(), map.frames[n - 1].name());
     let y = SIDE + 10.0;
     let patch = |i: usize| {
         format!(

@@ -1,10 +1,10 @@
 //! The small calls of the library: starting positions, the frame file, sizes, what a record says and how it is kept.
 
 use brothanchor::{
-    frame, frames, prepare, scatter, sizes, work, Areas, Fault, Kind, Method, Node, Record, Refusal, Rows, Settings,
-    State,
+    frame, frame_words, frames, prepare, scatter, sizes, work, Areas, Fault, Kind, Method, Node, Record, Refusal, Rows,
+    Settings, State,
 };
-use oracle::frames::{check, fetch, Checked, RECORD};
+use oracle::frames::{self as rules_of_frames, check, fetch, Checked, LAST_PICTURE, RECORD};
 use oracle::scatter::{self as rules, SplitMix64};
 
 fn settings(method: Method, n: usize) -> Settings {
@@ -52,14 +52,19 @@ fn starting_positions() {
     }
 }
 
-/// A good file, at times with one byte changed or a tail.
+/// A record with values at random.
+fn record(random: &mut SplitMix64, picture: u32, field: u8) -> Vec<u8> {
+    let side = 1 + (random.next() % 2) as u8;
+    rules_of_frames::record(picture, side, field, &[(); 8].map(|()| random.unit() * 100.0 - 50.0))
+}
+
+/// A good file with stills among its frames, at times with one byte changed or a tail.
 fn file(random: &mut SplitMix64) -> Vec<u8> {
     let mut file = Vec::new();
     for i in 0..random.next() % 9 {
-        file.extend((1 + 3 * i as u32).to_le_bytes());
-        file.extend([1 + (random.next() % 2) as u8, 0, 0, 0]);
-        for _ in 0..8 {
-            file.extend((random.unit() * 100.0 - 50.0).to_le_bytes());
+        let fields: &[u8] = [&[0][..], &[0], &[1, 2], &[1], &[2]][(random.next() % 5) as usize];
+        for &field in fields {
+            file.extend(record(random, LAST_PICTURE - 24 + 3 * i as u32, field));
         }
     }
     if !file.is_empty() && random.next() % 2 == 0 {
@@ -90,7 +95,10 @@ fn frame_files() {
         }
         for i in 0..file.len() / RECORD {
             let (ours, theirs) = (frame(&file, i), fetch(&file, i).expect("a whole record"));
-            assert_eq!((ours.picture, ours.side), (theirs.picture, theirs.side));
+            assert_eq!(
+                (ours.picture, ours.side, ours.field),
+                (theirs.picture, theirs.side, theirs.field)
+            );
             let bits = |values: &[f64]| {
                 values
                     .iter()
@@ -103,6 +111,72 @@ fn frame_files() {
     }
     assert!(good > 100 && bad > 100);
     assert_eq!(frame(&[], 0).picture, 0);
+}
+
+/// The library says of a file what the rules say.
+fn same(file: &[u8], what: &str) {
+    match check(file) {
+        Checked::Good(count) => assert_eq!(frames(file), Ok(count), "{what}"),
+        Checked::Bad(place) => assert_eq!(frames(file), Err((Refusal(16), place)), "{what}"),
+    }
+}
+
+/// Each byte of a file with a still in it set to other values; and the last picture and the one after it.
+#[test]
+fn every_byte_of_a_frame_file() {
+    let mut random = SplitMix64::new(8);
+    let pairs = [(LAST_PICTURE - 1, 1), (LAST_PICTURE - 1, 2), (LAST_PICTURE, 0)];
+    let file: Vec<u8> = pairs
+        .iter()
+        .flat_map(|&(picture, field)| record(&mut random, picture, field))
+        .collect();
+    assert_eq!(frames(&file), Ok(3));
+    for at in 0..file.len() {
+        for byte in [0, 1, 2, 3, 127, 128, 255] {
+            let mut damaged = file.clone();
+            damaged[at] = byte;
+            same(&damaged, &format!("byte {at} is {byte}"));
+        }
+    }
+    let past = [file, record(&mut random, LAST_PICTURE + 1, 0)].concat();
+    assert_eq!(frames(&past), Err((Refusal(16), 3)));
+}
+
+/// The words of a frame: eleven are needed, and one past them is kept.
+#[test]
+fn words_of_a_frame() {
+    let file = record(&mut SplitMix64::new(9), 7, 2);
+    let mut words = [5; 12];
+    assert_eq!(frame_words(&file, 0, &mut words[..10]), Err(Refusal(12)));
+    assert_eq!(words, [5; 12]);
+    assert_eq!(frame_words(&file, 0, &mut words), Ok(()));
+    assert_eq!((words[0], words[2], words[11]), (7, 2, 5));
+}
+
+/// All orders of two records of pictures 1 to 4 and any field, also fields that there are not, and of three of two pictures.
+#[test]
+fn orders_of_frames() {
+    let mut random = SplitMix64::new(7);
+    let pairs = |last: u32| (1..=last).flat_map(|picture| (0..4).map(move |field| (picture, field)));
+    let mut good = 0;
+    let mut compare = |pairs: &[(u32, u8)]| {
+        let file: Vec<u8> = pairs
+            .iter()
+            .flat_map(|&(picture, field)| record(&mut random, picture, field))
+            .collect();
+        same(&file, &format!("{pairs:?}"));
+        good += usize::from(frames(&file).is_ok());
+    };
+    for first in pairs(4) {
+        pairs(4).for_each(|second| compare(&[first, second]));
+    }
+    for first in pairs(2) {
+        for second in pairs(2) {
+            pairs(2).for_each(|third| compare(&[first, second, third]));
+        }
+    }
+    // Two: six choices of two pictures with three fields each, and four stills. Three: a still of one picture and any of the other.
+    assert_eq!(good, 6 * 9 + 4 + 2 * 3);
 }
 
 /// With one element less in one of the areas, if it has any.

@@ -234,6 +234,21 @@ fn what_is_refused() {
     }
 }
 
+/// The sample's picture 1218 is a still: its fields stand in the lines, the titles and the numbers beside the dots.
+#[test]
+fn a_still_in_two_fields() {
+    let made = made(&few(19));
+    let lines = made.lines();
+    let of_the_still: Vec<&str> = lines.lines().skip(17).map(|line| &line[..9]).collect();
+    assert_eq!(of_the_still, [" 1218 1 1", " 1218 1 2"]);
+    let picture = made.svg();
+    for field in 1..=2 {
+        assert!(picture.contains(&format!("<title>picture 1218.{field}, side 1</title>")));
+    }
+    assert!(picture.contains(">1218.2</text>"), "the last frame has its number");
+    assert!(picture.contains("picture 1201 to 1218.2, 19 frames in capture order"));
+}
+
 #[test]
 fn lines_and_picture() {
     let made = made(&few(10));
@@ -242,12 +257,12 @@ fn lines_and_picture() {
     for (i, line) in lines.lines().enumerate() {
         let words: Vec<&str> = line.split_whitespace().collect();
         let [x, y] = made.place(i);
-        assert_eq!(words[..2], [(1201 + i).to_string(), "1".to_string()]);
+        assert_eq!(words[..3], [(1201 + i).to_string(), "1".to_string(), "0".to_string()]);
         assert_eq!(
-            words[4..],
+            words[5..],
             [format!("{:016x}", x.to_bits()), format!("{:016x}", y.to_bits())]
         );
-        let read: f64 = words[2].parse().expect("a number");
+        let read: f64 = words[3].parse().expect("a number");
         assert!((read - x).abs() <= 1e-6);
     }
     let picture = made.svg();

@@ -6,9 +6,15 @@ use oracle::scatter::SplitMix64;
 
 /// A map of frames that stand at these places, with the pictures from the first one on.
 fn map_of(first: u32, places: &[[f64; 2]]) -> Map {
+    map_with(first, 0, places)
+}
+
+/// The same, each frame this field of its picture.
+fn map_with(first: u32, field: u8, places: &[[f64; 2]]) -> Map {
     let frame = |picture| Frame {
         picture,
         side: 1,
+        field,
         features: [0.0; 6],
         starts: [0.0; 2],
     };
@@ -27,6 +33,7 @@ fn shot(frames: usize, [x, y]: [f64; 2], step: f64) -> Vec<[f64; 2]> {
 
 /// A number in a picture.
 struct Number {
+    name: String,
     picture: u32,
     bold: bool,
     x: f64,
@@ -41,8 +48,10 @@ fn between<'a>(text: &'a str, before: &str, after: &str) -> &'a str {
 
 fn number_of(line: &str) -> Option<Number> {
     let value = |name: &str| between(line, name, "\"").parse().ok();
+    let name = between(line, ">", "<").to_string();
     Some(Number {
-        picture: between(line, ">", "<").parse().ok()?,
+        picture: name.split('.').next()?.parse().ok()?,
+        name,
         bold: line.contains("bold"),
         x: value(" x=\"")?,
         y: value(" y=\"")?,
@@ -70,7 +79,7 @@ impl Number {
     /// Left, right, top and foot of its digits, in DejaVu Sans, which is among the widest.
     fn sides(&self) -> [f64; 4] {
         let digit = if self.bold { 8.35 } else { 7.64 };
-        let width = digit * self.picture.to_string().len() as f64;
+        let width = digit * self.name.len() as f64;
         [self.x, self.x + width, self.y - 8.75, self.y]
     }
 
@@ -189,6 +198,21 @@ fn numbers_hide_no_dots_where_there_is_room() {
     }
 }
 
+/// All numbers lie in the picture, and no two overlap; how many pairs that were.
+fn apart(numbers: &[Number]) -> usize {
+    let mut pairs = 0;
+    for (i, one) in numbers.iter().enumerate() {
+        let [left, right, top, foot] = one.sides();
+        let within = left >= 0.0 && right <= 940.0 && top >= 0.0 && foot <= 940.0;
+        assert!(within, "{}", one.name);
+        for other in &numbers[i + 1..] {
+            assert!(!one.overlaps(other), "{} and {}", one.name, other.name);
+            pairs += 1;
+        }
+    }
+    pairs
+}
+
 #[test]
 fn numbers_never_overlap() {
     let mut random = SplitMix64::new(3);
@@ -202,21 +226,11 @@ fn numbers_never_overlap() {
         (900, 2.0),
         (900, 20.0),
     ] {
-        let map = map_of(53_000, &at_random(&mut random, frames, spread));
-        let numbers = numbers(&map);
-        for (i, one) in numbers.iter().enumerate() {
-            let [left, right, top, foot] = one.sides();
-            assert!(
-                left >= 0.0 && right <= 900.0 && top >= 0.0 && foot <= 900.0,
-                "{}",
-                one.picture
-            );
-            for other in &numbers[i + 1..] {
-                assert!(!one.overlaps(other), "{} and {}", one.picture, other.picture);
-                pairs += 1;
-            }
+        let places = at_random(&mut random, frames, spread);
+        for map in [map_of(53_000, &places), map_with(79_000, 2, &places)] {
+            pairs += apart(&numbers(&map));
+            assert_eq!(map.svg(), map.clone().svg());
         }
-        assert_eq!(map.svg(), map.clone().svg());
     }
     assert!(pairs > 1000, "{pairs}");
 }

@@ -74,10 +74,10 @@ fn map(frames: &[Frame]) -> Result<String, u64> {
     Ok(first + &lines)
 }
 
-/// Picture, side and the bits of the two coordinates.
+/// Picture, side, field and the bits of the two coordinates.
 fn line(frame: &Frame, dot: &[f64]) -> String {
     let [x, y] = [dot[0].to_bits(), dot[1].to_bits()];
-    format!("{} {} {x:016x} {y:016x}\n", frame.picture, frame.side)
+    format!("{} {} {} {x:016x} {y:016x}\n", frame.picture, frame.side, frame.field)
 }
 
 #[cfg(test)]
@@ -87,7 +87,7 @@ mod tests {
 
     #[test]
     fn the_papers_example() {
-        let text = "finished 6\n101 1 4050600000000000 0000000000000000\n102 1 c050600000000000 0000000000000000\n";
+        let text = "finished 6\n101 1 0 4050600000000000 0000000000000000\n102 1 0 c050600000000000 0000000000000000\n";
         assert_eq!(printed(&example()), text);
     }
 

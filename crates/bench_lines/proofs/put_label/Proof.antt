@@ -29,12 +29,24 @@ slice-aggregate-put-2 c = search needs
 put-requires-2 : tie.Need-put-requires-2
 put-requires-2 c κs = search needs
 
+cast-put-decimal-3 : tie.Need-cast-put-decimal-3
+cast-put-decimal-3 c = search needs
+
+put-decimal-requires-3 : tie.Need-put-decimal-requires-3
+put-decimal-requires-3 c κs = search needs
+
+slice-aggregate-put-3 : tie.Need-slice-aggregate-put-3
+slice-aggregate-put-3 c = search needs
+
+put-requires-3 : tie.Need-put-requires-3
+put-requires-3 c κs = search needs
+
 same-length : tie.Need-same-length
 same-length c = search needs
 
 returns : tie.Need-returns
 unfolding labelText
-returns c = (puts-then (puts-then (puts-then ((c .before .before .before .before .before .before .before .before .before .before .before .before .before .before .before .before .before .put-decimal .ensures .0)) (c .before .before .before .before .before .before .before .before .before .before .before .before .put .ensures)) (c .before .before .before .before .before .before .before .put-decimal2 .ensures .0)) (c .before .before .put2 .ensures), omega (arith, c .before .before .before .before .before .before .before .before .before .before .before .before .before .before .before .before .before .put-decimal .ensures .1, c .before .before .before .before .before .before .before .before .before .before .before .before .put .ensures .place, c .before .before .before .before .before .before .before .put-decimal2 .ensures .1, c .before .before .put2 .ensures .place))
+returns c = (puts-then (puts-then (puts-then (puts-then (puts-then (c .before .before .before .before .before .before .before .before .before .before .before .before .before .before .before .before .before .before .before .before .before .before .before .before .before .before .before .put-decimal .ensures .0) (c .before .before .before .before .before .before .before .before .before .before .before .before .before .before .before .before .before .before .before .before .before .before .put .ensures)) (c .before .before .before .before .before .before .before .before .before .before .before .before .before .before .before .before .before .put-decimal2 .ensures .0)) (c .before .before .before .before .before .before .before .before .before .before .before .before .put2 .ensures)) (c .before .before .before .before .before .before .before .put-decimal3 .ensures .0)) (c .before .before .put3 .ensures), omega (arith, c .before .before .before .before .before .before .before .before .before .before .before .before .before .before .before .before .before .before .before .before .before .before .before .before .before .before .before .put-decimal .ensures .1, c .before .before .before .before .before .before .before .before .before .before .before .before .before .before .before .before .before .before .before .before .before .before .put .ensures .place, c .before .before .before .before .before .before .before .before .before .before .before .before .before .before .before .before .before .put-decimal2 .ensures .1, c .before .before .before .before .before .before .before .before .before .before .before .before .put2 .ensures .place, c .before .before .before .before .before .before .before .put-decimal3 .ensures .1, c .before .before .put3 .ensures .place))
 
 pub put-label-spec : {M : Type 1} → statement M
 put-label-spec =
@@ -48,5 +60,9 @@ put-label-spec =
     put-decimal-requires-2
     slice-aggregate-put-2
     put-requires-2
+    cast-put-decimal-3
+    put-decimal-requires-3
+    slice-aggregate-put-3
+    put-requires-3
     same-length
     returns)

@@ -18,11 +18,17 @@ cast-words-2 c = search needs
 slice-write-words-2 : tie.Need-slice-write-words-2
 slice-write-words-2 c = simp length-set (omega (arith, c .before .before .before .pre))
 
+cast-words-3 : tie.Need-cast-words-3
+cast-words-3 c = search needs
+
+slice-write-words-3 : tie.Need-slice-write-words-3
+slice-write-words-3 c = simp length-set (omega (arith, c .before .before .before .before .pre))
+
 put-features-requires : tie.Need-put-features-requires
-put-features-requires c κs = simp length-set (c .before .before .before .before .pre)
+put-features-requires c κs = simp length-set (c .before .before .before .before .before .pre)
 
 put-starts-requires : tie.Need-put-starts-requires
-put-starts-requires c κs = rw (c .before .before .before .put-features .kept .0) (simp length-set (c .before .before .before .before .before .before .before .before .pre))
+put-starts-requires c κs = rw (c .before .before .before .put-features .kept .0) (simp length-set (c .before .before .before .before .before .before .before .before .before .pre))
 
 same-length : tie.Need-same-length
 same-length c = c .before .before .put-starts .kept .0 ∙ (c .before .before .before .before .before .before .put-features .kept .0 ∙ simp length-set)
@@ -39,6 +45,8 @@ put-frame-spec =
     slice-write-words
     cast-words-2
     slice-write-words-2
+    cast-words-3
+    slice-write-words-3
     put-features-requires
     put-starts-requires
     same-length

@@ -25,9 +25,15 @@ add-t11 c = search needs
 shared-slice-read-t13 : tie.Need-shared-slice-read-t13
 shared-slice-read-t13 c = search needs
 
+add-t14 : tie.Need-add-t14
+add-t14 c = search needs
+
+shared-slice-read-t16 : tie.Need-shared-slice-read-t16
+shared-slice-read-t16 c = search needs
+
 returns : tie.Need-returns
 unfolding frameOf
-returns c = rw (lt-ltb _ _ (c .before .before .before .before .if1 .taken), c .before .half-word .ensures .0, c .before .before .before .features-at .ensures, c .before .before .starts-at .ensures)
+returns c = rw (lt-ltb _ _ (c .before .before .before .before .before .if1 .taken), c .before .before .half-word .ensures .0, c .before .before .before .before .features-at .ensures, c .before .before .before .starts-at .ensures)
 
 returns-2 : tie.Need-returns-2
 unfolding frameOf
@@ -44,5 +50,7 @@ frame-at-spec =
     cast-t10
     add-t11
     shared-slice-read-t13
+    add-t14
+    shared-slice-read-t16
     returns
     returns-2)

@@ -28,19 +28,32 @@ returns-2 : tie.Need-returns-2
 unfolding goodAlone
 returns-2 c = rw ((rw (c .before .before .before .before .before .half-word .ensures .0) at (sym (c .before .before .before .before .picture-fine .ensures) ∙ not-false _ (c .before .before .before .if1 .left))), sym (c .before .side-fine .ensures) ∙ not-true _ (c .if2 .taken))
 
-spare-fine-requires : tie.Need-spare-fine-requires
-spare-fine-requires c κs = search needs
+add-field-fine : tie.Need-add-field-fine
+add-field-fine c = search needs
+
+shared-slice-read-field-fine : tie.Need-shared-slice-read-field-fine
+shared-slice-read-field-fine c = search needs
+
+field-fine-requires : tie.Need-field-fine-requires
+field-fine-requires c κs = search needs
 
 returns-3 : tie.Need-returns-3
 unfolding goodAlone
-returns-3 c = rw ((rw (c .before .before .before .before .before .before .before .half-word .ensures .0) at (sym (c .before .before .before .before .before .before .picture-fine .ensures) ∙ not-false _ (c .before .before .before .before .before .if1 .left))), (sym (c .before .before .before .side-fine .ensures) ∙ not-false _ (c .before .before .if2 .left)), sym (c .before .spare-fine .ensures) ∙ not-true _ (c .if3 .taken))
+returns-3 c = rw ((rw (c .before .before .before .before .before .before .before .before .half-word .ensures .0) at (sym (c .before .before .before .before .before .before .before .picture-fine .ensures) ∙ not-false _ (c .before .before .before .before .before .before .if1 .left))), (sym (c .before .before .before .before .side-fine .ensures) ∙ not-false _ (c .before .before .before .if2 .left)), sym (c .before .field-fine .ensures) ∙ not-true _ (c .if3 .taken))
+
+spare-fine-requires : tie.Need-spare-fine-requires
+spare-fine-requires c κs = search needs
+
+returns-4 : tie.Need-returns-4
+unfolding goodAlone
+returns-4 c = rw ((rw (c .before .before .before .before .before .before .before .before .before .before .half-word .ensures .0) at (sym (c .before .before .before .before .before .before .before .before .before .picture-fine .ensures) ∙ not-false _ (c .before .before .before .before .before .before .before .before .if1 .left))), (sym (c .before .before .before .before .before .before .side-fine .ensures) ∙ not-false _ (c .before .before .before .before .before .if2 .left)), (sym (c .before .before .before .field-fine .ensures) ∙ not-false _ (c .before .before .if3 .left)), sym (c .before .spare-fine .ensures) ∙ not-true _ (c .if4 .taken))
 
 values-fine-requires : tie.Need-values-fine-requires
 values-fine-requires c κs = search needs
 
-returns-4 : tie.Need-returns-4
+returns-5 : tie.Need-returns-5
 unfolding goodAlone
-returns-4 c = rw ((rw (c .before .before .before .before .before .before .before .before .half-word .ensures .0) at (sym (c .before .before .before .before .before .before .before .picture-fine .ensures) ∙ not-false _ (c .before .before .before .before .before .before .if1 .left))), (sym (c .before .before .before .before .side-fine .ensures) ∙ not-false _ (c .before .before .before .if2 .left)), sym (c .before .before .spare-fine .ensures) ∙ not-false _ (c .before .if3 .left)) (c .values-fine .ensures)
+returns-5 c = rw ((rw (c .before .before .before .before .before .before .before .before .before .before .before .half-word .ensures .0) at (sym (c .before .before .before .before .before .before .before .before .before .before .picture-fine .ensures) ∙ not-false _ (c .before .before .before .before .before .before .before .before .before .if1 .left))), (sym (c .before .before .before .before .before .before .before .side-fine .ensures) ∙ not-false _ (c .before .before .before .before .before .before .if2 .left)), (sym (c .before .before .before .before .field-fine .ensures) ∙ not-false _ (c .before .before .before .if3 .left)), (sym (c .before .before .spare-fine .ensures) ∙ not-false _ (c .before .if4 .left))) (c .values-fine .ensures)
 
 pub good-alone-spec : {M : Type 1} → statement M
 good-alone-spec =
@@ -53,7 +66,11 @@ good-alone-spec =
     shared-slice-read-side-fine
     side-fine-requires
     returns-2
-    spare-fine-requires
+    add-field-fine
+    shared-slice-read-field-fine
+    field-fine-requires
     returns-3
+    spare-fine-requires
+    returns-4
     values-fine-requires
-    returns-4)
+    returns-5)

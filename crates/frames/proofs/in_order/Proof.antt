@@ -8,33 +8,53 @@ returns : tie.Need-returns
 unfolding inOrder
 returns c = rw (eq-eqb _ _ (c .if1 .taken))
 
-sub-half-word : tie.Need-sub-half-word
-sub-half-word c = search needs
+sub-b : tie.Need-sub-b
+sub-b c = search needs
 
-mul-half-word : tie.Need-mul-half-word
-mul-half-word c = search needs
+mul-b : tie.Need-mul-b
+mul-b c = search needs
+
+mul-a : tie.Need-mul-a
+mul-a c = search needs
 
 half-word-requires : tie.Need-half-word-requires
 half-word-requires c κs = search needs
 
-mul-half-word-2 : tie.Need-mul-half-word-2
-mul-half-word-2 c = search needs
+add-may-follow : tie.Need-add-may-follow
+add-may-follow c = search needs
+
+shared-slice-read-may-follow : tie.Need-shared-slice-read-may-follow
+shared-slice-read-may-follow c = search needs
 
 half-word-requires-2 : tie.Need-half-word-requires-2
 half-word-requires-2 c κs = search needs
 
+add-may-follow-2 : tie.Need-add-may-follow-2
+add-may-follow-2 c = search needs
+
+shared-slice-read-may-follow-2 : tie.Need-shared-slice-read-may-follow-2
+shared-slice-read-may-follow-2 c = search needs
+
+may-follow-requires : tie.Need-may-follow-requires
+may-follow-requires c κs = search needs
+
 returns-2 : tie.Need-returns-2
 unfolding inOrder
-returns-2 c = rw (ne-eqb _ _ (c .before .before .if1 .left), c .half-word2 .ensures .0, c .before .half-word .ensures .0)
+returns-2 c = rw (ne-eqb _ _ (c .before .before .before .before .before .if1 .left), c .may-follow .ensures, c .before .before .half-word2 .ensures .0, c .before .before .before .before .half-word .ensures .0)
 
 pub in-order-spec : {M : Type 1} → statement M
 in-order-spec =
     tie.close
     (tie.spec
     returns
-    sub-half-word
-    mul-half-word
+    sub-b
+    mul-b
+    mul-a
     half-word-requires
-    mul-half-word-2
+    add-may-follow
+    shared-slice-read-may-follow
     half-word-requires-2
+    add-may-follow-2
+    shared-slice-read-may-follow-2
+    may-follow-requires
     returns-2)

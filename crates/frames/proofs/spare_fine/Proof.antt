@@ -14,36 +14,17 @@ returns : tie.Need-returns
 unfolding spareFine
 returns c = rw (ne-eqb _ _ (c .if1 .taken))
 
-add-if2 : tie.Need-add-if2
-add-if2 c = search needs
-
-shared-slice-read-if2 : tie.Need-shared-slice-read-if2
-shared-slice-read-if2 c = search needs
-
-returns-2 : tie.Need-returns-2
-unfolding spareFine
-returns-2 c = rw (eq-eqb _ _ (c .before .before .if1 .left), ne-eqb _ _ (c .if2 .taken))
-
 add-result : tie.Need-add-result
 add-result c = search needs
 
 shared-slice-read-result : tie.Need-shared-slice-read-result
 shared-slice-read-result c = search needs
 
-returns-3 : tie.Need-returns-3
+returns-2 : tie.Need-returns-2
 unfolding spareFine
-returns-3 c = rw (eq-eqb _ _ (c .before .before .before .if1 .left), eq-eqb _ _ (c .before .if2 .left))
+returns-2 c = rw (eq-eqb _ _ (c .before .if1 .left))
 
 pub spare-fine-spec : {M : Type 1} → statement M
 spare-fine-spec =
     tie.close
-    (tie.spec
-    add-if1
-    shared-slice-read-if1
-    returns
-    add-if2
-    shared-slice-read-if2
-    returns-2
-    add-result
-    shared-slice-read-result
-    returns-3)
+    (tie.spec add-if1 shared-slice-read-if1 returns add-result shared-slice-read-result returns-2)

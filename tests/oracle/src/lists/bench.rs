@@ -2,12 +2,14 @@
 
 use crate::bench::printed;
 use crate::elementary::{DOMAIN, NAN};
-use crate::frames::{LAST_PICTURE, RECORD, SIDE_AT, SPARE_AT, VALUES_AT};
+use crate::frames::{record, FIELD_AT, LAST_PICTURE, RECORD, SIDE_AT, SPARE_AT, VALUES_AT};
 use crate::scatter::SplitMix64;
 use crate::words::from_bytes;
 
 /// The most records that the bench takes.
 const MOST: usize = 64;
+/// All files, the small ones at random among them.
+const FILES: usize = 1000;
 
 /// Length in bytes, then the bytes filled up with zeros to whole words.
 pub fn cases() -> Vec<Vec<u64>> {
@@ -30,20 +32,14 @@ pub fn example() -> Vec<u8> {
     let mut one = [0.0; 8];
     one[0] = 1.0;
     one[6] = 1.0;
-    [record(101, 1, &[0.0; 8]), record(102, 1, &one)].concat()
+    [record(101, 1, 0, &[0.0; 8]), record(102, 1, 0, &one)].concat()
 }
 
 /// Every file.
 fn files() -> Vec<Vec<u8>> {
-    [lengths(), bad_records(), alike(), maps()].concat()
-}
-
-/// A record: six features, then two starts.
-pub(super) fn record(picture: u32, side: u8, values: &[f64; 8]) -> Vec<u8> {
-    let mut bytes = picture.to_le_bytes().to_vec();
-    bytes.extend([side, 0, 0, 0]);
-    bytes.extend(values.iter().flat_map(|v| v.to_le_bytes()));
-    bytes
+    let mut found = [lengths(), bad_records(), alike(), maps()].concat();
+    found.extend(stills(FILES - found.len()));
+    found
 }
 
 /// So many frames with features in [-reach, reach] and starts in [-spread, spread].
@@ -58,7 +54,7 @@ fn scattered(records: usize, reach: f64, spread: f64, seed: u64) -> Vec<u8> {
             let most = if i < 6 { reach } else { spread };
             *value = (2.0 * random.unit() - 1.0) * most;
         }
-        file.extend(record(picture, side, &values));
+        file.extend(record(picture, side, 0, &values));
     }
     file
 }
@@ -97,6 +93,7 @@ fn bad_records() -> Vec<Vec<u8>> {
         }
         found.extend(pictures.iter().map(|picture| changed(place, 0, &picture.to_le_bytes())));
         found.extend([0, 3, 255].map(|side| changed(place, SIDE_AT, &[side])));
+        found.extend([3, 255].map(|field| changed(place, FIELD_AT, &[field])));
         found.extend((SPARE_AT..VALUES_AT).map(|at| changed(place, at, &[1])));
         for value in [0, 5, 6, 7] {
             let at = VALUES_AT + 8 * value;
@@ -138,7 +135,7 @@ fn coincident(records: usize, features: [f64; 6], starts: &[[f64; 2]]) -> Vec<u8
     let mut file = Vec::new();
     for place in 0..records {
         values[6..].copy_from_slice(&starts[place % starts.len()]);
-        file.extend(record(place as u32 + 1, 1, &values));
+        file.extend(record(place as u32 + 1, 1, 0, &values));
     }
     file
 }
@@ -170,6 +167,42 @@ fn maps() -> Vec<Vec<u8>> {
     found
 }
 
+/// Files of one to four records with fields among them, close to each other and to the last picture. In half of them a still
+/// has its fields in order; in the others pictures and fields are what they happen to be.
+fn stills(files: usize) -> Vec<Vec<u8>> {
+    let mut random = SplitMix64::new(300);
+    (0..files).map(|_| still(&mut random)).collect()
+}
+
+fn still(random: &mut SplitMix64) -> Vec<u8> {
+    let good = random.next() % 2 == 0;
+    let base = [1, 53_998, LAST_PICTURE - 3][(random.next() % 3) as usize];
+    let mut pairs: Vec<(u32, u8)> = (0..2 + random.next() % 3)
+        .map(|_| (base + (random.next() % 5) as u32, (random.next() % 3) as u8))
+        .collect();
+    if good {
+        pairs = (base..=LAST_PICTURE)
+            .take(4)
+            .flat_map(|picture| fields(picture, random))
+            .collect();
+        pairs.truncate(4);
+    }
+    let values = |random: &mut SplitMix64| [(); 8].map(|()| (random.next() % 9) as f64 - 4.0);
+    let mut file = Vec::new();
+    for (picture, field) in pairs {
+        let side = 1 + (random.next() % 2) as u8;
+        file.extend(record(picture, side, field, &values(random)));
+    }
+    file
+}
+
+/// A picture as it may be stored: whole, in two fields, as either field alone, or not at all.
+fn fields(picture: u32, random: &mut SplitMix64) -> Vec<(u32, u8)> {
+    let stored: [&[u8]; 6] = [&[0], &[0], &[1, 2], &[1], &[2], &[]];
+    let stored = stored[(random.next() % 6) as usize];
+    stored.iter().map(|&field| (picture, field)).collect()
+}
+
 #[cfg(test)]
 mod tests {
     use super::*;
@@ -190,7 +223,22 @@ mod tests {
     }
 
     #[test]
+    fn fields_are_met() {
+        let text = text();
+        for start in ["79999 1 2 ", "79998 2 1 ", "1 1 1 ", "1 1 2 ", "1 1 0 "] {
+            assert!(text.lines().any(|found| found.starts_with(start)), "{start}");
+        }
+        let refused = text.lines().filter(|line| line.starts_with("refused 16")).count();
+        assert!((300..700).contains(&refused), "{refused}");
+    }
+
+    #[test]
+    fn a_thousand_files() {
+        assert_eq!(cases().len(), FILES);
+    }
+
+    #[test]
     fn the_list_stays_small() {
-        assert!(8 * cases().concat().len() < 131_072);
+        assert!(8 * cases().concat().len() < 524_288);
     }
 }

@@ -2,7 +2,8 @@
 
 use crate::elementary::{DOMAIN, NAN};
 use crate::frames::{
-    check, fetch, Checked, Frame, FEATURES, LAST_PICTURE, RECORD, SIDE_AT, SPARE_AT, STARTS, VALUES_AT,
+    check, fetch, record, Checked, Frame, FEATURES, FIELD_AT, LAST_PICTURE, RECORD, SIDE_AT, SPARE_AT, STARTS,
+    VALUES_AT,
 };
 use crate::scatter::SplitMix64;
 use crate::words::from_bytes;
@@ -13,7 +14,7 @@ const RECORDS: usize = 4;
 const VALUES: usize = FEATURES + STARTS;
 
 /// Length in bytes, kind (0 good, 1 bad), count or place, then the bytes filled up with zeros to whole words; for a
-/// good file then ten words for each frame: picture, side, the features' and the starts' bits.
+/// good file then eleven words for each frame: picture, side, field, the features' and the starts' bits.
 pub fn cases() -> Vec<Vec<u64>> {
     let mut files = good_files();
     files.extend(files_with_a_tail());
@@ -21,6 +22,7 @@ pub fn cases() -> Vec<Vec<u64>> {
         files.extend(changes(place).iter().map(|change| changed(&[change])));
     }
     files.extend(twice_damaged());
+    files.extend(orders());
     files.iter().map(|bytes| case(bytes)).collect()
 }
 
@@ -50,12 +52,12 @@ fn good_file(records: usize) -> Vec<u8> {
 fn good_record(place: usize, random: &mut SplitMix64) -> Vec<u8> {
     let picture = 700 * place as u32 + 1 + (random.next() % 700) as u32;
     let side = 1 + (random.next() % 2) as u8;
-    let mut record = picture.to_le_bytes().to_vec();
-    record.extend([side, 0, 0, 0]);
-    for _ in 0..VALUES {
-        record.extend(((2.0 * random.unit() - 1.0) * DOMAIN).to_le_bytes());
-    }
-    record
+    record(
+        picture,
+        side,
+        0,
+        &[(); VALUES].map(|()| (2.0 * random.unit() - 1.0) * DOMAIN),
+    )
 }
 
 /// No record, few records, and as many as the bench program takes, and one more.
@@ -78,12 +80,7 @@ fn files_with_a_tail() -> Vec<Vec<u8>> {
 
 /// Every change of one record: to each rule's boundary and beyond it.
 fn changes(place: usize) -> Vec<Change> {
-    [
-        picture_changes(place),
-        side_and_spare_changes(place),
-        value_changes(place),
-    ]
-    .concat()
+    [picture_changes(place), single_byte_changes(place), value_changes(place)].concat()
 }
 
 /// The picture at and beyond its ends, with a low half that alone would be good, and close to its predecessor's.
@@ -104,11 +101,11 @@ fn picture_of(place: usize) -> u32 {
     fetch(&good_file(RECORDS), place).map_or(0, |frame| frame.picture)
 }
 
-/// The side at and beyond its ends, and each spare byte set.
-fn side_and_spare_changes(place: usize) -> Vec<Change> {
-    let sides = [0, 1, 2, 3, 255].map(|byte| (SIDE_AT, byte));
+/// The side and the field at and beyond their ends, and each spare byte set.
+fn single_byte_changes(place: usize) -> Vec<Change> {
+    let ends = [SIDE_AT, FIELD_AT].map(|at| [0, 1, 2, 3, 4, 255].map(|byte| (at, byte)));
     let spares = (SPARE_AT..VALUES_AT).flat_map(|at| [(at, 1), (at, 255)]);
-    let all = sides.into_iter().chain(spares);
+    let all = ends.concat().into_iter().chain(spares);
     all.map(|(at, byte)| change(place, at, &[byte])).collect()
 }
 
@@ -148,6 +145,36 @@ fn twice_damaged() -> Vec<Vec<u8>> {
         files.push(with_tail);
     }
     files
+}
+
+/// All orders: two records of any pictures from 1 to 3 and any fields, and three of any pictures from 79,998 to 79,999.
+fn orders() -> Vec<Vec<u8>> {
+    let pairs = |pictures: std::ops::RangeInclusive<u32>| -> Vec<(u32, u8)> {
+        pictures
+            .flat_map(|picture| (0..3).map(move |field| (picture, field)))
+            .collect()
+    };
+    let (low, high) = (pairs(1..=3), pairs(LAST_PICTURE - 1..=LAST_PICTURE));
+    let mut files = Vec::new();
+    for &first in &low {
+        files.extend(low.iter().map(|&second| records_of(&[first, second])));
+    }
+    for &first in &high {
+        for &second in &high {
+            files.extend(high.iter().map(|&third| records_of(&[first, second, third])));
+        }
+    }
+    files
+}
+
+/// Records that are good by themselves, with these pictures and fields one after the other.
+fn records_of(pairs: &[(u32, u8)]) -> Vec<u8> {
+    let mut file = good_file(pairs.len());
+    for (record, (picture, field)) in file.chunks_mut(RECORD).zip(pairs) {
+        record[..4].copy_from_slice(&picture.to_le_bytes());
+        record[FIELD_AT] = *field;
+    }
+    file
 }
 
 /// A side that is no side.
@@ -191,10 +218,10 @@ fn case(bytes: &[u8]) -> Vec<u64> {
     }
 }
 
-/// Picture, side, then the bits of the eight values.
+/// Picture, side, field, then the bits of the eight values.
 fn frame_words(frame: Frame) -> Vec<u64> {
     let values = frame.features.iter().chain(&frame.starts);
-    let numbers = [u64::from(frame.picture), u64::from(frame.side)];
+    let numbers = [u64::from(frame.picture), u64::from(frame.side), u64::from(frame.field)];
     numbers.into_iter().chain(values.map(|v| v.to_bits())).collect()
 }
 
@@ -217,6 +244,16 @@ mod tests {
                 assert_eq!(check(&file), Checked::Bad(first.min(second)));
             }
         }
+    }
+
+    #[test]
+    fn of_two_records_with_one_picture_only_first_and_second_field_are_good() {
+        let same = |a: u8, b: u8| check(&records_of(&[(7, a), (7, b)])) == Checked::Good(2);
+        let good: Vec<(u8, u8)> = (0..3)
+            .flat_map(|a| (0..3).map(move |b| (a, b)))
+            .filter(|&(a, b)| same(a, b))
+            .collect();
+        assert_eq!(good, [(1, 2)]);
     }
 
     #[test]

@@ -1,16 +1,17 @@
 //! The sample frame file: 240 pictures of a disc that never was, in capture order.
 //!
 //! Film runs slower than video, so every fifth picture is the one before it once more, but for noise: a pulldown repeat.
-//! The third shot is cut into the second, which goes on after it: two splices.
+//! The third shot is cut into the second, which goes on after it: two splices. Some pictures are stills, stored as two fields.
 
-use super::bench::record;
-use crate::frames::{FEATURES, STARTS};
+use crate::frames::{record, FEATURES, STARTS};
 use crate::scatter::SplitMix64;
 
 /// The first picture.
 const FIRST: u32 = 1201;
 /// Every so many pictures the last one is repeated.
 const PULLDOWN: usize = 5;
+/// Pictures that are stored as two fields.
+const STILLS: [u32; 4] = [1218, 1263, 1317, 1402];
 /// Shots by number, with the part of the shot that is shown, in hundredths, and its pictures.
 const CUTS: [(usize, usize, usize, usize); 5] = [
     (0, 0, 100, 50),
@@ -68,12 +69,21 @@ fn pictures(random: &mut SplitMix64) -> Vec<[f64; FEATURES]> {
     pictures
 }
 
+/// The records by picture and field: a still has one for each of its fields.
+fn stored(pictures: &[[f64; FEATURES]]) -> Vec<(u32, u8, [f64; FEATURES])> {
+    let fields = |picture: u32| if STILLS.contains(&picture) { 1..=2 } else { 0..=0 };
+    let numbered = (FIRST..).zip(pictures);
+    numbered
+        .flat_map(|(picture, &features)| fields(picture).map(move |field| (picture, field, features)))
+        .collect()
+}
+
 /// The file.
 pub fn file() -> Vec<u8> {
     let mut random = SplitMix64::new(1985);
     let pictures = pictures(&mut random);
     let mut bytes = Vec::new();
-    for (picture, features) in (FIRST..).zip(pictures) {
+    for (picture, field, features) in stored(&pictures) {
         let noise = somewhere(&mut random, 0.01);
         let mut values = [0.0; FEATURES + STARTS];
         for d in 0..FEATURES {
@@ -82,7 +92,7 @@ pub fn file() -> Vec<u8> {
         for start in &mut values[FEATURES..] {
             *start = random.coordinate();
         }
-        bytes.extend(record(picture, 1, &values));
+        bytes.extend(record(picture, 1, field, &values));
     }
     bytes
 }
@@ -94,6 +104,6 @@ mod tests {
 
     #[test]
     fn the_sample_is_good() {
-        assert_eq!(check(&file()), Checked::Good(240));
+        assert_eq!(check(&file()), Checked::Good(244));
     }
 }
