@@ -4,3 +4,4 @@ pub mod Rows
 pub mod Order
 pub mod Apart
 pub mod Finite
+pub mod Fours
