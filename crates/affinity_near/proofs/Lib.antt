@@ -1,3 +1,4 @@
+pub mod Moving
 pub mod Entering
 pub mod Gathering
 pub mod Rows
