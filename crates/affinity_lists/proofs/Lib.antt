@@ -1,3 +1,4 @@
+pub mod Picked
 pub mod Linked
 pub mod Listing
 pub mod Filled
