@@ -282,6 +282,9 @@ module _ {W₀ : List Float} {I₀ O R₀ : List ℕ} {n k i e : ℕ} (o : Room 
       low-part : (m - q ≡ length (those link i)) × (q ≤ m) × (length (those link i) ≤ length (listSought I₀ O n k i)) × (q + length (listSought I₀ O n k i) ≡ e)
       low-part = omega (arith, r' .mark (omega arith), r' .count, ap length none, those-front link n i (omega (arith, o .frame)))
 
+      pub writing-below : q ≤ m
+      writing-below = low-part .1
+
       pub writing-held : (m - q ≤ mostFrames) × (q + (m - q) ≤ length I) × (0 < m - q → past I q (m - q - 1) < mostFrames)
       writing-held = (
         omega (arith, low-part, those-most link i, o .frame),
