@@ -1,3 +1,4 @@
+-- `affinity_lists::symmetrise` meets its contract: the lists from i on are written, the rows below i stand, and the cursors stand at i (`Frames`). Assumes nothing.
 use mathlib.Core.Path.{_∙_}
 use lib.ListN.{length-set}
 use Rattle.affinity_lists.specs.Lists.{areas}
@@ -7,13 +8,6 @@ use borrow.Author.Needs.{needs}
 use native.Mathlib.Omega.{arith}
 use Rattle.affinity_lists.proofs.symmetrise.Statement.{statement}
 use Rattle.affinity_lists.proofs.symmetrise.Tie as tie
-use Rattle.affinity_lists.proofs.symmetrise.Reads as reads
-use Rattle.affinity_lists.proofs.symmetrise.Lts as lts
-use Rattle.affinity_lists.proofs.filling.fill_list.Reads as fill-list-reads
-use Rattle.affinity_lists.proofs.filling.top_cursors.Reads as top-cursors-reads
-use Rattle.affinity_lists.proofs.rows.total.Reads as total-reads
-use Rattle.areas.proofs.clear_indices.Reads as clear-indices-reads
-use Rattle.areas.proofs.fill.Reads as fill-reads
 
 abbrev Inv-loop : tie.InvT-loop
 Inv-loop weights₀ indices₀ offsets₀ row-values row-indices₀ n k links q₀ i₀ weights indices offsets row-indices q i = Frames n k (areas weights₀ indices₀ offsets₀ row-values row-indices₀) i q (areas weights indices offsets row-values row-indices)
