@@ -55,10 +55,10 @@ loop-again : tie.Need-loop-again Inv-loop μ-loop
 loop-again c = frames-more (c .before .before .before .before .before .before .before .before .before .before .before .before .before .before .before .before .before .before .before .before .before .before .before .before .before .pre) (c .before .before .before .before .before .before .before .before .before .before .before .before .loop .inv) (c .before .before .before .before .before .before .before .before .before .before .before .loop-test .taken) (c .before .before .before .before .before .before .fill-list .ensures .0) (c .before .before .before .before .before .before .fill-list .ensures .1 .0) (c .before .before .before .before .before .before .fill-list .ensures .1 .1 .0) (c .before .before .before .before .before .before .fill-list .kept .1 .1 .1 .0) (c .before .before .before .before .before .before .fill-list .ensures .1 .1 .1)
 
 fill-requires : tie.Need-fill-requires Inv-loop μ-loop
-fill-requires c κs = c .before .before .before .before .before .before .before .before .before .before .before .before .before .before .before .pre .rowValues
+fill-requires c κs = omega (arith, c .before .before .before .before .before .before .before .before .before .before .before .before .before .before .before .pre .rowValues)
 
 clear-indices-requires : tie.Need-clear-indices-requires Inv-loop μ-loop
-clear-indices-requires c κs = c .before .before .before .before .before .before .loop .inv .room
+clear-indices-requires c κs = omega (arith, c .before .before .before .before .before .before .loop .inv .room)
 
 same-length : tie.Need-same-length Inv-loop μ-loop
 same-length c = c .before .before .before .before .before .before .before .before .before .loop .inv .lists .sizeW
