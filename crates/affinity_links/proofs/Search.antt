@@ -72,7 +72,7 @@ module _ (f : ℕ → ℕ) where
   word-some c h = rw (ne-eqb c 0 (λ x. omega arith))
 
   -- a number below 8191 leaves room for the cursor
-  pub word-cursor : (c : ℕ) → (0 < c → f (c - 1) < mostFrames) → cursorOf (heldOf f c) ≡ c
+  word-cursor : (c : ℕ) → (0 < c → f (c - 1) < mostFrames) → cursorOf (heldOf f c) ≡ c
   word-cursor c h = elim (decLt 0 c) [
     | yes m ↦ omega (arith, word-some c m, h m)
     | no m ↦ rw (nil c m) (rw word-none)

@@ -1,9 +1,8 @@
 -- `affinity_lists::filling::fill_list` meets its contract: from j on list i is written, the part that is left gives the whole, and the cursors from j on have fallen (`Listing`). Assumes nothing.
-use Rattle.affinity_lists.proofs.Listing.{writing-below}
 use mathlib.Core.Path.{refl, _∙_}
 use Prim.Native.Nat.{_-_, _<_, _≤_}
 use borrow.Author.Tests.{not-true, not-false}
-use Rattle.affinity_lists.proofs.Listing.{Writing, writing-start, writing-mark, writing-sought, writing-pass, writing-room, writing-more, writing-held, writing-done}
+use Rattle.affinity_lists.proofs.Listing.{Writing, writing-start, writing-mark, writing-sought, writing-pass, writing-room, writing-more, writing-below, writing-held, writing-done}
 use lib.ListN.{length, length-set}
 use borrow.Author.Needs.{needs}
 use native.Mathlib.Omega.{arith}
