@@ -2,14 +2,14 @@
 use mathlib.Core.Path.{_≡_, refl, sym, ap, subst, _∙_}
 use mathlib.Core.Logic.{⊎-elim, _⊎_, inl, inr}
 use mathlib.Core.List.{List}
-use Prim.Native.Nat.{ℕ, _+_, _-_, _*_, _/_, _%_, _<_, _≤_}
+use Prim.Native.Nat.{ℕ, _+_, _-_, _*_, _%_, _<_, _≤_}
 use native.Mathlib.Omega.{arith}
 use native.Mathlib.Decide.{ℕ-discrete, decLt}
-use native.Mathlib.Nat.{le-refl, not-suc-le-zero, zero-add}
+use native.Mathlib.Nat.{le-refl, not-suc-le-zero}
 use mathlib.Core.Bool.{false, cond, true≢false}
 use lib.Dec.{eqb, ltb}
 use lib.ListN.{length}
-use lib.Ieee.{Float}
+use lib.Ieee.{Float, binary64, add}
 use borrow.Author.Tests.{eq-eqb, ne-eqb, lt-ltb, le-ltb}
 use Rattle.laws.specs.Domain.{mostFrames}
 use Rattle.laws.specs.Area.{at, num, zero64}
@@ -59,6 +59,9 @@ found-same I L a b k j h = first-same (λ t. eqb (num I (a + t)) j) (λ t. eqb (
 
 -- ---- words of cursors
 
+nil : (c : ℕ) → (0 < c → ⊥) → c ≡ 0
+nil c m = omega arith
+
 module _ (f : ℕ → ℕ) where
   word-none : heldOf f 0 ≡ 0
   unfolding heldOf
@@ -69,14 +72,11 @@ module _ (f : ℕ → ℕ) where
   word-some c h = rw (ne-eqb c 0 (λ x. omega arith))
 
   -- a number below 8191 leaves room for the cursor
-  pub word-cursor : (c : ℕ) → (0 < c → f (c - 1) < mostFrames) → cursorOf (heldOf f c) ≡ c
+  word-cursor : (c : ℕ) → (0 < c → f (c - 1) < mostFrames) → cursorOf (heldOf f c) ≡ c
   word-cursor c h = elim (decLt 0 c) [
     | yes m ↦ omega (arith, word-some c m, h m)
     | no m ↦ rw (nil c m) (rw word-none)
   ]
-    where
-      nil : (c : ℕ) → (0 < c → ⊥) → c ≡ 0
-      nil c m = omega arith
 
   -- a word falls where its number is j, and then its cursor falls by one
   fallen-hit : (w j : ℕ) → w % 8192 ≡ j + 1 → fallenOf f w j ≡ heldOf f (cursorOf w - 1)
@@ -87,20 +87,18 @@ module _ (f : ℕ → ℕ) where
   unfolding fallenOf
   fallen-miss w j d = rw (ne-eqb (w % 8192) (j + 1) d)
 
-  pub fallen-low : (w j : ℕ) → (0 < w → 0 < cursorOf w) → ((t : ℕ) → t < cursorOf w → f t < mostFrames) → fallenOf f w j < w → cursorOf (fallenOf f w j) < cursorOf w
-  fallen-low w j h m l = elim (ℕ-discrete (w % 8192) (j + 1)) [
-    | yes e ↦ omega (arith, ap cursorOf (fallen-hit w j e), word-cursor (cursorOf w - 1) (λ p. m (cursorOf w - 1 - 1) (omega arith)), h (omega (arith, l)))
-    | no d ↦ omega (arith, fallen-miss w j d)
-  ]
+-- where a word falls, so does its cursor
+pub within-low : {I : List ℕ} {a w p : ℕ} (j : ℕ) → Within I a w → p ≡ fallenOf (past I a) w j → p < w → cursorOf p < cursorOf w
+within-low {I} {a} {w} {p} j b q l = elim (ℕ-discrete (w % 8192) (j + 1)) [
+  | yes e ↦ omega (arith, ap cursorOf (q ∙ fallen-hit (past I a) w j e), word-cursor (past I a) (cursorOf w - 1) (λ h. b .frames (cursorOf w - 1 - 1) (omega arith)), b .some (omega arith))
+  | no d ↦ absurd (omega (arith, q ∙ fallen-miss (past I a) w j d))
+]
 
 pub word-same : (f g : ℕ → ℕ) (c : ℕ) → (0 < c → f (c - 1) ≡ g (c - 1)) → heldOf f c ≡ heldOf g c
 word-same f g c h = elim (decLt 0 c) [
   | yes m ↦ omega (arith, word-some f c m, word-some g c m, h m)
   | no m ↦ ap (heldOf f) (nil c m) ∙ word-none f ∙ sym (ap (heldOf g) (nil c m) ∙ word-none g)
 ]
-  where
-    nil : (c : ℕ) → (0 < c → ⊥) → c ≡ 0
-    nil c m = omega arith
 
 -- only what stands below the cursor is read
 fallen-same : (f g : ℕ → ℕ) (w j : ℕ) → ((t : ℕ) → t < cursorOf w → f t ≡ g t) → fallenOf f w j ≡ fallenOf g w j
@@ -159,10 +157,7 @@ module _ {S S₀ : List Float} {I I₀ : List ℕ} {a k j w : ℕ} (turn : Turn 
   top h = u .word ∙ word-some f c h
 
   bottom : (0 < c → ⊥) → w ≡ 0
-  bottom h = u .word ∙ ap (heldOf f) (nil h) ∙ word-none f
-    where
-      nil : (0 < c → ⊥) → c ≡ 0
-      nil h = omega arith
+  bottom h = u .word ∙ ap (heldOf f) (nil c h) ∙ word-none f
 
   missed : ((t : ℕ) → t < c → f t < j) → found I₀ a k j ≡ k
   missed h = first-none (λ t. eqb (f t) j) k (λ t l. ne-eqb (f t) j (λ x. elim (decLt t c) [
@@ -216,23 +211,27 @@ module _ {S S₀ : List Float} {I I₀ : List ℕ} {a k j w : ℕ} (turn : Turn 
       (λ s. subst (λ (x : ℕ). Cursor f k j x) (s .0) turn-next)
       told
 
-  pub turn-plus : (v : Float) → plusFallen S a w fell v ≡ plusOf S₀ a k (found I₀ a k j) v
-  turn-plus v = ⊎-elim
-      (λ s. rw (lt-ltb fell w (omega (arith, s .0, fell-to (s .0) (s .1))), fell-to (s .0) (s .1), s .2, lt-ltb (c - 1) k (omega (arith, u .within, s .0)), turn .sameS (c - 1) (omega (arith, s .0))))
+  -- what is read where it falls is what was read at first where j stood
+  turn-reads : (x y : ℕ → Float) (z : Float) → ((t : ℕ) → t < c → x t ≡ y t) → cond (ltb fell w) (x (cursorOf fell)) z ≡ cond (ltb (found I₀ a k j) k) (y (found I₀ a k j)) z
+  turn-reads x y z h = ⊎-elim
+      (λ s. rw (lt-ltb fell w (omega (arith, s .0, fell-to (s .0) (s .1))), fell-to (s .0) (s .1), s .2, lt-ltb (c - 1) k (omega (arith, u .within, s .0))) (h (c - 1) (omega (arith, s .0))))
       (λ s. rw (s .0, s .1, le-ltb w w (le-refl w), le-ltb k k (le-refl k)))
       told
 
+  pub turn-plus : (v : Float) → plusFallen S a w fell v ≡ plusOf S₀ a k (found I₀ a k j) v
+  turn-plus v = turn-reads (λ t. add binary64 v (at S (a + t))) (λ t. add binary64 v (at S₀ (a + t))) v (λ t l. ap (add binary64 v) (turn .sameS t l))
+
   pub turn-value : cond (ltb fell w) (at S (a + cursorOf fell)) zero64 ≡ cond (ltb (found I₀ a k j) k) (at S₀ (a + found I₀ a k j)) zero64
-  turn-value = ⊎-elim
-      (λ s. rw (lt-ltb fell w (omega (arith, s .0, fell-to (s .0) (s .1))), fell-to (s .0) (s .1), s .2, lt-ltb (c - 1) k (omega (arith, u .within, s .0)), turn .sameS (c - 1) (omega (arith, s .0))))
-      (λ s. rw (s .0, s .1, le-ltb w w (le-refl w), le-ltb k k (le-refl k)))
-      told
+  turn-value = turn-reads (λ t. at S (a + t)) (λ t. at S₀ (a + t)) zero64 (turn .sameS)
 
   -- what is below the cursor may be read
   pub turn-within : k ≤ mostFrames → a + k ≤ length I → a + k ≤ length S → WithinBoth S I a w
-  turn-within h m l = (record {
-    small = omega (arith, u .within);
-    some = λ p. elim (decLt 0 c) [ yes z ↦ z | no z ↦ absurd (omega (arith, bottom z)) ];
-    inside = omega (arith, u .within);
-    frames = λ t b. omega (arith, turn .sameI t b, u .under t b);
-  }, omega (arith, u .within))
+  turn-within h m l = (
+    record {
+      small = omega (arith, u .within);
+      some = λ p. elim (decLt 0 c) [ yes z ↦ z | no z ↦ absurd (omega (arith, bottom z)) ];
+      inside = omega (arith, u .within);
+      frames = λ t b. omega (arith, turn .sameI t b, u .under t b);
+    },
+    omega (arith, u .within),
+  )

@@ -32,7 +32,7 @@ span O j = num O (j + 1) - num O j
 abbrev pub past : List ℕ → ℕ → ℕ → ℕ
 past I a t = num I (a + t)
 
--- a cursor c among the numbers f 0, f 1, .. and the number just below it, as one word; 0 where nothing is below it
+-- a cursor c among the numbers f 0, f 1, .. and one more than the number just below it, as one word; 0 where nothing is below it. Every number of a frame is below 8191
 unfoldable pub heldOf : (ℕ → ℕ) → ℕ → ℕ
 heldOf f c = cond (eqb c 0) 0 (c * 8192 + (f (c - 1) + 1))
 

@@ -28,7 +28,7 @@ pub fn find(indices: &[u32], a: usize, k: usize, j: u32) -> usize
     k
 }
 
-// A cursor c in the numbers from a on as one word, with the number just below it; 0 if nothing is below it.
+// A cursor c in the numbers from a on as one word, with one more than the number just below it; 0 if nothing is below it. So a look at the word tells whether the cursor is to fall.
 pub fn held(indices: &[u32], a: usize, c: usize) -> u32
     requires { ⌜ (c ≤ mostFrames) × (a + c ≤ length (now indices)) × (0 < c → past (now indices) a (c - 1) < mostFrames) ⌝ }
     ensures { λ r. ⌜ r ≡ heldOf (past (now (indices .entry)) a) c ⌝ }

@@ -19,7 +19,7 @@ use Rattle.laws.proofs.Bools.{or-right}
 use Rattle.laws.proofs.Joined.{those-yes, those-no, those-none, those-below, map-append, length-map}
 use Rattle.laws.proofs.Parts.{Ends, ends-start, ends-more, ends-low, ends-done}
 use Rattle.affinity_links.specs.Links.{found, plusOf, plusFallen, span, past, cursorOf, heldOf, fallenOf, Cursor, soughtYes, soughtWeight, soughtRow, soughtCursor, Sought}
-use Rattle.affinity_lists.specs.Steps.{linkSought, weightSought, listSought, weightsSought, Part, Room, Lowered}
+use Rattle.affinity_lists.specs.Steps.{linkSought, weightSought, listSought, weightsSought, Room, Lowered}
 use Rattle.affinity_links.proofs.Search.{found-at, word-same, Turn, turn-next, turn-yes, turn-stays, turn-plus, turn-value, turn-within}
 use Rattle.affinity_lists.proofs.Picked.{those-most, those-least, those-front}
 
@@ -104,9 +104,14 @@ module _ {W₀ : List Float} {I₀ O R₀ : List ℕ} {n k i e : ℕ} (o : Room 
       own-at : (t : ℕ) → j < i → t < cursorOf c → i * k + t < q
       own-at t h l =
           let u = r .fall (omega arith) in
-          omega (arith, r .count, o .under, those-least link (past I₀ (i * k)) (cursorOf c) (j + 1) (u .under)
-          (λ a b x y. o .own .rising a b x (omega (arith, u .within)))
-          (λ x y. is-linked x (omega (arith, u .within)) (omega (arith, u .under x y))))
+          omega (
+            arith,
+            r .count,
+            o .under,
+            those-least link (past I₀ (i * k)) (cursorOf c) (j + 1) (u .under)
+                (λ a b x y. o .own .rising a b x (omega (arith, u .within)))
+                (λ x y. is-linked x (omega (arith, u .within)) (omega (arith, u .under x y))),
+          )
 
       list-from : (t : ℕ) → i < j → e ≤ num O j + t
       list-from t h = omega (arith, o .over j h (omega (arith, r .within)))

@@ -11,7 +11,7 @@ use lib.ListN.{length, length-append}
 use mathlib.Core.List.{[], _∷_}
 use Rattle.laws.specs.Loops.{first}
 use Rattle.laws.specs.Area.{num}
-use Rattle.laws.specs.Sums.{sum, bit}
+use Rattle.laws.specs.Sums.{bit}
 use Rattle.laws.specs.Joined.{those}
 use Rattle.laws.proofs.Bools.{two}
 use Rattle.laws.proofs.Sums.{sum-same, sum-const, sum-le, bit-le, row-sum}
@@ -38,9 +38,15 @@ module _ (p : ℕ → Bool) where
   -- c rising numbers below m of which the test holds are among those picked
   pub those-least : (f : ℕ → ℕ) (c m : ℕ) → ((t : ℕ) → t < c → f t < m) → ((s t : ℕ) → s < t → t < c → f s < f t) → ((t : ℕ) → t < c → p (f t) ≡ true) → c ≤ length (those p m)
   unfolding bit
-  those-least f c m inside rise holds = omega (arith, length-those p m,
+  those-least f c m inside rise holds = omega (
+    arith,
+    length-those p m,
     sum-le (λ i. bit (ltb (first (λ t. eqb (f t) i) c) c && p i)) (λ i. bit (p i)) m (λ i l. less (ltb (first (λ t. eqb (f t) i) c) c) (p i)),
-    row-sum f p c m inside rise, sum-same (λ t. bit (p (f t))) (λ t. 1) c (λ t l. ap bit (holds t l)), sum-const 1 c, mul-one c)
+    row-sum f p c m inside rise,
+    sum-same (λ t. bit (p (f t))) (λ t. 1) c (λ t l. ap bit (holds t l)),
+    sum-const 1 c,
+    mul-one c,
+  )
     where
       less : (a b : Bool) → bit (a && b) ≤ bit b
       less true b = le-refl (bit b)

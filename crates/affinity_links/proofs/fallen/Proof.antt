@@ -1,14 +1,11 @@
+-- `affinity_links::fallen` meets its contract, by its test and `held`. Assumes nothing.
 use Prim.Native.Nat.{_+_, _%_}
 use Rattle.affinity_links.specs.Links.{fallenOf}
 use borrow.Author.Tests.{eq-eqb, ne-eqb}
 use borrow.Author.Needs.{needs}
 use native.Mathlib.Omega.{arith}
-use borrow.Author.Needs.{needs}
 use Rattle.affinity_links.proofs.fallen.Statement.{statement}
 use Rattle.affinity_links.proofs.fallen.Tie as tie
-use Rattle.affinity_links.proofs.fallen.Reads as reads
-use Rattle.affinity_links.proofs.fallen.Lts as lts
-use Rattle.affinity_links.proofs.held.Reads as held-reads
 
 add-if1 : tie.Need-add-if1
 add-if1 c = omega (arith, c .before .pre .0)

@@ -1,12 +1,10 @@
+-- `affinity_links::held` meets its contract, by its test. Assumes nothing.
 use Rattle.affinity_links.specs.Links.{heldOf}
 use borrow.Author.Tests.{eq-eqb, ne-eqb}
 use borrow.Author.Needs.{needs}
 use native.Mathlib.Omega.{arith}
-use borrow.Author.Needs.{needs}
 use Rattle.affinity_links.proofs.held.Statement.{statement}
 use Rattle.affinity_links.proofs.held.Tie as tie
-use Rattle.affinity_links.proofs.held.Reads as reads
-use Rattle.affinity_links.proofs.held.Lts as lts
 
 returns : tie.Need-returns
 unfolding heldOf

@@ -1,13 +1,8 @@
+-- `affinity_links::joint` meets its contract: `plus` twice. Assumes nothing.
 use mathlib.Core.Path.{ap, _∙_}
 use Rattle.affinity_links.specs.Links.{plusFallen}
-use borrow.Author.Needs.{needs}
-use native.Mathlib.Omega.{arith}
-use borrow.Author.Needs.{needs}
 use Rattle.affinity_links.proofs.joint.Statement.{statement}
 use Rattle.affinity_links.proofs.joint.Tie as tie
-use Rattle.affinity_links.proofs.joint.Reads as reads
-use Rattle.affinity_links.proofs.joint.Lts as lts
-use Rattle.affinity_links.proofs.plus.Reads as plus-reads
 
 plus-requires : tie.Need-plus-requires
 plus-requires c κs = c .before .pre .0

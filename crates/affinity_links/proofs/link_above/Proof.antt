@@ -1,16 +1,11 @@
+-- `affinity_links::link_above` meets its contract: the cursor in list j falls. Assumes nothing.
 use mathlib.Core.Path.{refl}
 use borrow.Author.Tests.{lt-ltb, le-ltb}
-use Rattle.affinity_links.proofs.Search.{fallen-low}
-use Rattle.laws.specs.Area.{num}
-use Rattle.affinity_links.specs.Links.{past}
+use Rattle.affinity_links.proofs.Search.{within-low}
 use borrow.Author.Needs.{needs}
 use native.Mathlib.Omega.{arith}
-use borrow.Author.Needs.{needs}
 use Rattle.affinity_links.proofs.link_above.Statement.{statement}
 use Rattle.affinity_links.proofs.link_above.Tie as tie
-use Rattle.affinity_links.proofs.link_above.Reads as reads
-use Rattle.affinity_links.proofs.link_above.Lts as lts
-use Rattle.affinity_links.proofs.fallen.Reads as fallen-reads
 
 mul-o : tie.Need-mul-o
 mul-o c = omega (arith, c .before .before .before .pre .1)
@@ -31,13 +26,13 @@ cast-t15 : tie.Need-cast-t15
 cast-t15 c = search needs
 
 add-t16 : tie.Need-add-t16
-add-t16 c = (omega (arith, c .before .fallen .ensures, c .before .before .before .before .before .before .pre .2 .1, fallen-low (past (c .before .before .before .before .before .before .args .indices .now) (num (c .before .before .before .before .before .before .args .offsets .now) (c .before .before .before .before .before .before .args .j))) (c .before .before .before .before .before .before .args .w) (c .before .before .before .before .before .before .args .i) (c .before .before .before .before .before .before .pre .2 .0 .some) (c .before .before .before .before .before .before .pre .2 .0 .frames) (rw (c .before .fallen .ensures) at (c .if1 .taken))))
+add-t16 c = omega (arith, c .before .before .before .before .before .before .pre .2 .1, within-low (c .before .before .before .before .before .before .args .i) (c .before .before .before .before .before .before .pre .2 .0) (c .before .fallen .ensures) (c .if1 .taken))
 
 mul-t17 : tie.Need-mul-t17
-mul-t17 c = (omega (arith, c .before .fallen .ensures, c .before .before .before .before .before .before .pre .2 .1, fallen-low (past (c .before .before .before .before .before .before .args .indices .now) (num (c .before .before .before .before .before .before .args .offsets .now) (c .before .before .before .before .before .before .args .j))) (c .before .before .before .before .before .before .args .w) (c .before .before .before .before .before .before .args .i) (c .before .before .before .before .before .before .pre .2 .0 .some) (c .before .before .before .before .before .before .pre .2 .0 .frames) (rw (c .before .fallen .ensures) at (c .if1 .taken))))
+mul-t17 c = omega (arith, c .before .before .before .before .before .before .pre .2 .1, within-low (c .before .before .before .before .before .before .args .i) (c .before .before .before .before .before .before .pre .2 .0) (c .before .fallen .ensures) (c .if1 .taken))
 
 shared-slice-read-t19 : tie.Need-shared-slice-read-t19
-shared-slice-read-t19 c = (omega (arith, c .before .before .fallen .ensures, c .before .before .before .before .before .before .before .pre .2 .1, fallen-low (past (c .before .before .before .before .before .before .before .args .indices .now) (num (c .before .before .before .before .before .before .before .args .offsets .now) (c .before .before .before .before .before .before .before .args .j))) (c .before .before .before .before .before .before .before .args .w) (c .before .before .before .before .before .before .before .args .i) (c .before .before .before .before .before .before .before .pre .2 .0 .some) (c .before .before .before .before .before .before .before .pre .2 .0 .frames) (rw (c .before .before .fallen .ensures) at (c .before .if1 .taken))))
+shared-slice-read-t19 c = omega (arith, c .before .before .before .before .before .before .before .pre .2 .1, within-low (c .before .before .before .before .before .before .before .args .i) (c .before .before .before .before .before .before .before .pre .2 .0) (c .before .before .fallen .ensures) (c .before .if1 .taken))
 
 returns : tie.Need-returns
 returns c = (rw (lt-ltb _ _ (rw (c .before .before .fallen .ensures) at (c .before .if1 .taken))), (rw ((lt-ltb _ _ (rw (c .before .before .fallen .ensures) at (c .before .if1 .taken))), c .before .before .fallen .ensures), (refl, c .before .before .fallen .ensures)))

@@ -1,18 +1,12 @@
-use mathlib.Core.Path.{ap, _∙_}
-use Prim.Native.Nat.{ℕ, _*_}
+-- `affinity_links::link_below` meets its contract: both cursors fall, `joint` adds the shares. Assumes nothing.
+use mathlib.Core.Path.{ap}
+use Prim.Native.Nat.{ℕ}
 use lib.Dec.{ltb}
 use borrow.Author.Tests.{lt-ltb, le-ltb}
-use Rattle.affinity_links.proofs.Search.{fallen-low}
-use Rattle.affinity_links.specs.Links.{past, plusFallen}
-use borrow.Author.Needs.{needs}
+use Rattle.affinity_links.proofs.Search.{within-low}
 use native.Mathlib.Omega.{arith}
-use borrow.Author.Needs.{needs}
 use Rattle.affinity_links.proofs.link_below.Statement.{statement}
 use Rattle.affinity_links.proofs.link_below.Tie as tie
-use Rattle.affinity_links.proofs.link_below.Reads as reads
-use Rattle.affinity_links.proofs.link_below.Lts as lts
-use Rattle.affinity_links.proofs.fallen.Reads as fallen-reads
-use Rattle.affinity_links.proofs.joint.Reads as joint-reads
 
 mul-fallen : tie.Need-mul-fallen
 mul-fallen c = omega (arith, c .before .before .pre .2 .0 .inside)
@@ -39,7 +33,7 @@ mul-joint-2 : tie.Need-mul-joint-2
 mul-joint-2 c = omega (arith, c .before .before .before .before .pre .2 .0 .inside)
 
 joint-requires : tie.Need-joint-requires
-joint-requires c κs = (λ l. omega (arith, c .fallen2 .ensures, c .before .before .before .before .pre .3 .1, fallen-low (past (c .before .before .before .before .args .indices .now) (c .before .before .before .before .args .j * c .before .before .before .before .args .k)) (c .before .before .before .before .args .w) (c .before .before .before .before .args .i) (c .before .before .before .before .pre .3 .0 .some) (c .before .before .before .before .pre .3 .0 .frames) (rw (c .fallen2 .ensures) at l)), λ l. omega (arith, c .before .fallen .ensures, c .before .before .before .before .pre .2 .1, fallen-low (past (c .before .before .before .before .args .indices .now) (c .before .before .before .before .args .i * c .before .before .before .before .args .k)) (c .before .before .before .before .args .c) (c .before .before .before .before .args .j) (c .before .before .before .before .pre .2 .0 .some) (c .before .before .before .before .pre .2 .0 .frames) (rw (c .before .fallen .ensures) at l)))
+joint-requires c κs = (λ l. omega (arith, c .before .before .before .before .pre .3 .1, within-low (c .before .before .before .before .args .i) (c .before .before .before .before .pre .3 .0) (c .fallen2 .ensures) l), λ l. omega (arith, c .before .before .before .before .pre .2 .1, within-low (c .before .before .before .before .args .j) (c .before .before .before .before .pre .2 .0) (c .before .fallen .ensures) l))
 
 returns : tie.Need-returns
 returns c = (rw (lt-ltb _ _ (rw (c .before .before .before .fallen .ensures) at (c .if1 .taken))), (rw (c .before .joint .ensures, c .before .before .before .fallen .ensures, c .before .before .fallen2 .ensures), (c .before .before .before .fallen .ensures, c .before .before .fallen2 .ensures)))

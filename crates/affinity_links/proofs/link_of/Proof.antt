@@ -1,13 +1,9 @@
+-- `affinity_links::link_of` meets its contract, by its test. Assumes nothing.
 use borrow.Author.Tests.{lt-ltb, le-ltb}
 use Rattle.affinity_links.specs.Links.{soughtYes, soughtWeight, soughtRow, soughtCursor}
-use borrow.Author.Needs.{needs}
 use native.Mathlib.Omega.{arith}
 use Rattle.affinity_links.proofs.link_of.Statement.{statement}
 use Rattle.affinity_links.proofs.link_of.Tie as tie
-use Rattle.affinity_links.proofs.link_of.Reads as reads
-use Rattle.affinity_links.proofs.link_of.Lts as lts
-use Rattle.affinity_links.proofs.link_above.Reads as link-above-reads
-use Rattle.affinity_links.proofs.link_below.Reads as link-below-reads
 
 link-below-requires : tie.Need-link-below-requires
 link-below-requires c κs = (c .before .before .before .before .pre .small .0, c .before .before .before .before .pre .small .1, c .before .before .before .before .pre .below (c .if1 .taken) .0, c .before .before .before .before .pre .below (c .if1 .taken) .1)

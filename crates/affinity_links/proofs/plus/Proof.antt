@@ -1,11 +1,9 @@
+-- `affinity_links::plus` meets its contract, by its test. Assumes nothing.
 use borrow.Author.Tests.{lt-ltb, le-ltb}
 use borrow.Author.Needs.{needs}
 use native.Mathlib.Omega.{arith}
-use borrow.Author.Needs.{needs}
 use Rattle.affinity_links.proofs.plus.Statement.{statement}
 use Rattle.affinity_links.proofs.plus.Tie as tie
-use Rattle.affinity_links.proofs.plus.Reads as reads
-use Rattle.affinity_links.proofs.plus.Lts as lts
 
 cast-result : tie.Need-cast-result
 cast-result c = search needs

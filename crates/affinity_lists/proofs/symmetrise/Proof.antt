@@ -1,3 +1,4 @@
+-- `affinity_lists::symmetrise` meets its contract: the lists from i on are written, the rows below i stand, and the cursors stand at i (`Frames`). Assumes nothing.
 use mathlib.Core.Path.{_∙_}
 use lib.ListN.{length-set}
 use Rattle.affinity_lists.specs.Lists.{areas}
@@ -7,13 +8,6 @@ use borrow.Author.Needs.{needs}
 use native.Mathlib.Omega.{arith}
 use Rattle.affinity_lists.proofs.symmetrise.Statement.{statement}
 use Rattle.affinity_lists.proofs.symmetrise.Tie as tie
-use Rattle.affinity_lists.proofs.symmetrise.Reads as reads
-use Rattle.affinity_lists.proofs.symmetrise.Lts as lts
-use Rattle.affinity_lists.proofs.filling.fill_list.Reads as fill-list-reads
-use Rattle.affinity_lists.proofs.filling.top_cursors.Reads as top-cursors-reads
-use Rattle.affinity_lists.proofs.rows.total.Reads as total-reads
-use Rattle.areas.proofs.clear_indices.Reads as clear-indices-reads
-use Rattle.areas.proofs.fill.Reads as fill-reads
 
 abbrev Inv-loop : tie.InvT-loop
 Inv-loop weights₀ indices₀ offsets₀ row-values row-indices₀ n k links q₀ i₀ weights indices offsets row-indices q i = Frames n k (areas weights₀ indices₀ offsets₀ row-values row-indices₀) i q (areas weights indices offsets row-values row-indices)
@@ -61,10 +55,10 @@ loop-again : tie.Need-loop-again Inv-loop μ-loop
 loop-again c = frames-more (c .before .before .before .before .before .before .before .before .before .before .before .before .before .before .before .before .before .before .before .before .before .before .before .before .before .pre) (c .before .before .before .before .before .before .before .before .before .before .before .before .loop .inv) (c .before .before .before .before .before .before .before .before .before .before .before .loop-test .taken) (c .before .before .before .before .before .before .fill-list .ensures .0) (c .before .before .before .before .before .before .fill-list .ensures .1 .0) (c .before .before .before .before .before .before .fill-list .ensures .1 .1 .0) (c .before .before .before .before .before .before .fill-list .kept .1 .1 .1 .0) (c .before .before .before .before .before .before .fill-list .ensures .1 .1 .1)
 
 fill-requires : tie.Need-fill-requires Inv-loop μ-loop
-fill-requires c κs = c .before .before .before .before .before .before .before .before .before .before .before .before .before .before .before .pre .rowValues
+fill-requires c κs = omega (arith, c .before .before .before .before .before .before .before .before .before .before .before .before .before .before .before .pre .rowValues)
 
 clear-indices-requires : tie.Need-clear-indices-requires Inv-loop μ-loop
-clear-indices-requires c κs = c .before .before .before .before .before .before .loop .inv .room
+clear-indices-requires c κs = omega (arith, c .before .before .before .before .before .before .loop .inv .room)
 
 same-length : tie.Need-same-length Inv-loop μ-loop
 same-length c = c .before .before .before .before .before .before .before .before .before .loop .inv .lists .sizeW

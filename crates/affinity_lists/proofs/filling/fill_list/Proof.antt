@@ -1,8 +1,8 @@
-use Rattle.affinity_lists.proofs.Listing.{writing-below}
+-- `affinity_lists::filling::fill_list` meets its contract: from j on list i is written, the part that is left gives the whole, and the cursors from j on have fallen (`Listing`). Assumes nothing.
 use mathlib.Core.Path.{refl, _∙_}
 use Prim.Native.Nat.{_-_, _<_, _≤_}
 use borrow.Author.Tests.{not-true, not-false}
-use Rattle.affinity_lists.proofs.Listing.{Writing, writing-start, writing-mark, writing-sought, writing-pass, writing-room, writing-more, writing-held, writing-done}
+use Rattle.affinity_lists.proofs.Listing.{Writing, writing-start, writing-mark, writing-sought, writing-pass, writing-room, writing-more, writing-below, writing-held, writing-done}
 use lib.ListN.{length, length-set}
 use borrow.Author.Needs.{needs}
 use native.Mathlib.Omega.{arith}
@@ -52,29 +52,33 @@ loop-less-2 c = search needs
 loop-again-2 : tie.Need-loop-again-2 Inv-loop μ-loop
 loop-again-2 c = writing-pass (c .before .before .before .before .before .before .before .before .before .before .before .before .before .before .pre) (c .before .before .before .before .before .before .before .before .loop .j - 1) (c .before .before .before .before .before .before .before .before .loop .j) (omega arith) (c .before .before .before .before .before .before .before .before .loop .inv) (c .before .before .before .before .before .before .if1 .left) _ (c .before .before .link-of .ensures .0) _ (c .before .before .link-of .ensures .1 .1 .0) (not-true _ (c .if2 .taken))
 
+-- where a link is found there is room for it
+room : (c : lts.Else2 (link-of-reads.Asked, link-of-reads.Learnt, held-reads.Asked, held-reads.Learnt) reads.Pre reads.Post Inv-loop μ-loop) → (0 < c .before .before .before .before .before .before .before .before .loop .q) × (c .before .before .before .before .before .before .before .before .loop .q ≤ length (c .before .before .before .before .before .before .before .before .loop .indices)) × (c .before .before .before .before .before .before .before .before .loop .q ≤ length (c .before .before .before .before .before .before .before .before .loop .weights)) × (c .before .before .before .before .before .before .before .before .loop .j - 1 < length (c .before .before .before .before .before .before .before .before .loop .row-indices))
+room c = writing-room (c .before .before .before .before .before .before .before .before .before .before .before .before .before .before .pre) (c .before .before .before .before .before .before .before .before .loop .j - 1) (c .before .before .before .before .before .before .before .before .loop .j) (omega arith) (c .before .before .before .before .before .before .before .before .loop .inv) (c .before .before .before .before .before .before .if1 .left) _ (c .before .before .link-of .ensures .0) _ (c .before .before .link-of .ensures .1 .1 .0) (not-false _ (c .if2 .left))
+
 mul-row-indices : tie.Need-mul-row-indices Inv-loop μ-loop
-mul-row-indices c = omega (arith, (writing-room (c .before .before .before .before .before .before .before .before .before .before .before .before .before .before .pre) (c .before .before .before .before .before .before .before .before .loop .j - 1) (c .before .before .before .before .before .before .before .before .loop .j) (omega arith) (c .before .before .before .before .before .before .before .before .loop .inv) (c .before .before .before .before .before .before .if1 .left) _ (c .before .before .link-of .ensures .0) _ (c .before .before .link-of .ensures .1 .1 .0) (not-false _ (c .if2 .left))))
+mul-row-indices c = omega (arith, room c)
 
 slice-write-row-indices : tie.Need-slice-write-row-indices Inv-loop μ-loop
-slice-write-row-indices c = omega (arith, (writing-room (c .before .before .before .before .before .before .before .before .before .before .before .before .before .before .pre) (c .before .before .before .before .before .before .before .before .loop .j - 1) (c .before .before .before .before .before .before .before .before .loop .j) (omega arith) (c .before .before .before .before .before .before .before .before .loop .inv) (c .before .before .before .before .before .before .if1 .left) _ (c .before .before .link-of .ensures .0) _ (c .before .before .link-of .ensures .1 .1 .0) (not-false _ (c .if2 .left))))
+slice-write-row-indices c = omega (arith, room c)
 
 sub-q : tie.Need-sub-q Inv-loop μ-loop
-sub-q c = omega (arith, (writing-room (c .before .before .before .before .before .before .before .before .before .before .before .before .before .before .pre) (c .before .before .before .before .before .before .before .before .loop .j - 1) (c .before .before .before .before .before .before .before .before .loop .j) (omega arith) (c .before .before .before .before .before .before .before .before .loop .inv) (c .before .before .before .before .before .before .if1 .left) _ (c .before .before .link-of .ensures .0) _ (c .before .before .link-of .ensures .1 .1 .0) (not-false _ (c .if2 .left))))
+sub-q c = omega (arith, room c)
 
 mul-weights : tie.Need-mul-weights Inv-loop μ-loop
-mul-weights c = omega (arith, (writing-room (c .before .before .before .before .before .before .before .before .before .before .before .before .before .before .pre) (c .before .before .before .before .before .before .before .before .loop .j - 1) (c .before .before .before .before .before .before .before .before .loop .j) (omega arith) (c .before .before .before .before .before .before .before .before .loop .inv) (c .before .before .before .before .before .before .if1 .left) _ (c .before .before .link-of .ensures .0) _ (c .before .before .link-of .ensures .1 .1 .0) (not-false _ (c .if2 .left))))
+mul-weights c = omega (arith, room c)
 
 slice-write-weights : tie.Need-slice-write-weights Inv-loop μ-loop
-slice-write-weights c = omega (arith, (writing-room (c .before .before .before .before .before .before .before .before .before .before .before .before .before .before .pre) (c .before .before .before .before .before .before .before .before .loop .j - 1) (c .before .before .before .before .before .before .before .before .loop .j) (omega arith) (c .before .before .before .before .before .before .before .before .loop .inv) (c .before .before .before .before .before .before .if1 .left) _ (c .before .before .link-of .ensures .0) _ (c .before .before .link-of .ensures .1 .1 .0) (not-false _ (c .if2 .left))))
+slice-write-weights c = omega (arith, room c)
 
 cast-indices : tie.Need-cast-indices Inv-loop μ-loop
 cast-indices c = omega (arith, c .before .before .before .before .before .before .before .before .before .before .before .before .before .before .pre .frame, c .before .before .before .before .before .before .before .before .loop .inv .within)
 
 mul-indices : tie.Need-mul-indices Inv-loop μ-loop
-mul-indices c = omega (arith, (writing-room (c .before .before .before .before .before .before .before .before .before .before .before .before .before .before .pre) (c .before .before .before .before .before .before .before .before .loop .j - 1) (c .before .before .before .before .before .before .before .before .loop .j) (omega arith) (c .before .before .before .before .before .before .before .before .loop .inv) (c .before .before .before .before .before .before .if1 .left) _ (c .before .before .link-of .ensures .0) _ (c .before .before .link-of .ensures .1 .1 .0) (not-false _ (c .if2 .left))))
+mul-indices c = omega (arith, room c)
 
 slice-write-indices : tie.Need-slice-write-indices Inv-loop μ-loop
-slice-write-indices c = omega (arith, (writing-room (c .before .before .before .before .before .before .before .before .before .before .before .before .before .before .pre) (c .before .before .before .before .before .before .before .before .loop .j - 1) (c .before .before .before .before .before .before .before .before .loop .j) (omega arith) (c .before .before .before .before .before .before .before .before .loop .inv) (c .before .before .before .before .before .before .if1 .left) _ (c .before .before .link-of .ensures .0) _ (c .before .before .link-of .ensures .1 .1 .0) (not-false _ (c .if2 .left))))
+slice-write-indices c = omega (arith, room c)
 
 loop-less-3 : tie.Need-loop-less-3 Inv-loop μ-loop
 loop-less-3 c = search needs
@@ -104,7 +108,7 @@ same-length-3 : tie.Need-same-length-3 Inv-loop μ-loop
 same-length-3 c = length-set (c .before .before .before .loop .row-indices) _ _ ∙ c .before .before .before .loop .inv .size
 
 returns : tie.Need-returns Inv-loop μ-loop
-returns c = ((writing-done (c .before .before .before .before .before .before .before .before .before .pre) (omega arith) (c .before .before .before .loop .inv) _ (c .held .ensures)) .0, ((writing-done (c .before .before .before .before .before .before .before .before .before .pre) (omega arith) (c .before .before .before .loop .inv) _ (c .held .ensures)) .1, ((writing-done (c .before .before .before .before .before .before .before .before .before .pre) (omega arith) (c .before .before .before .loop .inv) _ (c .held .ensures)) .2, (writing-done (c .before .before .before .before .before .before .before .before .before .pre) (omega arith) (c .before .before .before .loop .inv) _ (c .held .ensures)) .3)))
+returns c = let d = writing-done (c .before .before .before .before .before .before .before .before .before .pre) (omega arith) (c .before .before .before .loop .inv) _ (c .held .ensures) in (d .0, (d .1, (d .2, d .3)))
 
 pub fill-list-spec : {M : Type 1} → statement M
 fill-list-spec =

@@ -1,3 +1,4 @@
+-- `affinity_lists::filling::top_cursors` meets its contract: j cursors are set (`Topping`). Assumes nothing.
 use native.Mathlib.Nat.{le-refl}
 use Prim.Native.Nat.{_-_, _*_}
 use Rattle.laws.proofs.Numbers.{row-in}
@@ -6,9 +7,6 @@ use borrow.Author.Needs.{needs}
 use native.Mathlib.Omega.{arith}
 use Rattle.affinity_lists.proofs.filling.top_cursors.Statement.{statement}
 use Rattle.affinity_lists.proofs.filling.top_cursors.Tie as tie
-use Rattle.affinity_lists.proofs.filling.top_cursors.Reads as reads
-use Rattle.affinity_lists.proofs.filling.top_cursors.Lts as lts
-use Rattle.affinity_links.proofs.held.Reads as held-reads
 
 abbrev Inv-loop : tie.InvT-loop
 Inv-loop indices row-indices₀ n k j₀ row-indices j = Topping indices row-indices₀ n k j row-indices
