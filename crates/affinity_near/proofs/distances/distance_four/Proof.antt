@@ -1,5 +1,5 @@
 -- `near::distances::distance_four` meets its contract: four distances are written, each in its place. Assumes nothing.
-use mathlib.Core.Path.{refl, _∙_}
+use mathlib.Core.Path.{_∙_}
 use lib.ListN.{length-set}
 use Prim.Native.Nat.{_+_}
 use borrow.Author.Needs.{needs}
