@@ -27,11 +27,11 @@ rows-in j n f l h e = le-trans (subst (λ (m : ℕ). m ≤ n * f) (add-mul j 4 f
 
 module _ {A : Type 0} (f : ℕ → A → A) (x y : A) (j : ℕ) (e : x ≡ loop f j 0 y) where
   -- j turns and then m are j + m
-  pub loop-on : (m : ℕ) → loop f m j x ≡ loop f (j + m) 0 y
-  loop-on m = ap (loop f m j) e ∙ ap (λ (s : ℕ). loop f m s (loop f j 0 y)) (sym (zero-add j)) ∙ sym (loop-add f j m 0 y)
+  pub loop-many : (m : ℕ) → loop f m j x ≡ loop f (j + m) 0 y
+  loop-many m = ap (loop f m j) e ∙ ap (λ (s : ℕ). loop f m s (loop f j 0 y)) (sym (zero-add j)) ∙ sym (loop-add f j m 0 y)
 
   pub loop-from : (n : ℕ) → j ≤ n → Loops f n y j x
-  loop-from n h = record { within = h; same = loop-on (n - j) ∙ ap (λ (s : ℕ). loop f s 0 y) (whole j n h) }
+  loop-from n h = record { within = h; same = loop-many (n - j) ∙ ap (λ (s : ℕ). loop f s 0 y) (whole j n h) }
     where
       whole : (j n : ℕ) → j ≤ n → j + (n - j) ≡ n
       whole j n h = omega arith

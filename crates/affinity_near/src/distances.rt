@@ -37,7 +37,7 @@ pub fn square_frames(table: &[f64], n: usize, f: usize, squares: &mut [f64])
 }
 
 // The squared distance between two frames with the squares x and y and the product z.
-fn apart(x: f64, y: f64, z: f64) -> f64
+fn distance_by(x: f64, y: f64, z: f64) -> f64
     ensures { λ r. ⌜ r ≡ unlessAbove zero64 (sub binary64 (add binary64 x y) (mul binary64 two64 z)) ⌝ }
 {
     elementary::limits::unless_above(0.0, x + y - 2.0 * z)
@@ -49,7 +49,7 @@ fn distance(table: &[f64], f: usize, squares: &[f64], i: usize, j: usize) -> f64
     requires { ⌜ (at (now squares) i ≡ squareOf (now table) f i) × (at (now squares) j ≡ squareOf (now table) f j) ⌝ }
     ensures { λ r. ⌜ r ≡ distanceOf (now (table .entry)) f i j ⌝ }
 {
-    apart(squares[i], squares[j], dot(table, f, i, j))
+    distance_by(squares[i], squares[j], dot(table, f, i, j))
 }
 
 // A frame's products with four frames that follow each other.
@@ -99,10 +99,10 @@ fn distance_four(table: &[f64], f: usize, squares: &[f64], i: usize, j: usize, r
 {
     let x = squares[i];
     let z = dot_four(table, f, i, j);
-    row[j] = apart(x, squares[j], z.first);
-    row[j + 1] = apart(x, squares[j + 1], z.second);
-    row[j + 2] = apart(x, squares[j + 2], z.third);
-    row[j + 3] = apart(x, squares[j + 3], z.fourth);
+    row[j] = distance_by(x, squares[j], z.first);
+    row[j + 1] = distance_by(x, squares[j + 1], z.second);
+    row[j + 2] = distance_by(x, squares[j + 2], z.third);
+    row[j + 3] = distance_by(x, squares[j + 3], z.fourth);
 }
 
 // The distances of frame i to the n frames but for the last three at most, four at a time, into the first places of a row; the answer is how many.

@@ -1,5 +1,5 @@
 -- `near::distances::distance_four` meets its contract: four distances are written, each in its place. Assumes nothing.
-use mathlib.Core.Path.{refl, _∙_}
+use mathlib.Core.Path.{_∙_}
 use lib.ListN.{length-set}
 use Prim.Native.Nat.{_+_}
 use borrow.Author.Needs.{needs}
@@ -17,14 +17,14 @@ shared-slice-read-x c = search needs
 dot-four-requires : tie.Need-dot-four-requires
 dot-four-requires c κs = search needs
 
-mul-apart : tie.Need-mul-apart
-mul-apart c = search needs
+mul-distance-by : tie.Need-mul-distance-by
+mul-distance-by c = search needs
 
-shared-slice-read-apart : tie.Need-shared-slice-read-apart
-shared-slice-read-apart c = search needs
+shared-slice-read-distance-by : tie.Need-shared-slice-read-distance-by
+shared-slice-read-distance-by c = search needs
 
-apart-requires : tie.Need-apart-requires
-apart-requires c κs = search needs
+distance-by-requires : tie.Need-distance-by-requires
+distance-by-requires c κs = search needs
 
 mul-row : tie.Need-mul-row
 mul-row c = search needs
@@ -32,17 +32,17 @@ mul-row c = search needs
 slice-write-row : tie.Need-slice-write-row
 slice-write-row c = search needs
 
-add-apart : tie.Need-add-apart
-add-apart c = search needs
+add-distance-by : tie.Need-add-distance-by
+add-distance-by c = search needs
 
-mul-apart-2 : tie.Need-mul-apart-2
-mul-apart-2 c = search needs
+mul-distance-by-2 : tie.Need-mul-distance-by-2
+mul-distance-by-2 c = search needs
 
-shared-slice-read-apart-2 : tie.Need-shared-slice-read-apart-2
-shared-slice-read-apart-2 c = search needs
+shared-slice-read-distance-by-2 : tie.Need-shared-slice-read-distance-by-2
+shared-slice-read-distance-by-2 c = search needs
 
-apart-requires-2 : tie.Need-apart-requires-2
-apart-requires-2 c κs = search needs
+distance-by-requires-2 : tie.Need-distance-by-requires-2
+distance-by-requires-2 c κs = search needs
 
 add-row : tie.Need-add-row
 add-row c = search needs
@@ -53,17 +53,17 @@ mul-row-2 c = search needs
 slice-write-row-2 : tie.Need-slice-write-row-2
 slice-write-row-2 c = simp length-set (omega (arith, c .before .before .before .before .before .before .before .before .before .pre .0 .4))
 
-add-apart-2 : tie.Need-add-apart-2
-add-apart-2 c = search needs
+add-distance-by-2 : tie.Need-add-distance-by-2
+add-distance-by-2 c = search needs
 
-mul-apart-3 : tie.Need-mul-apart-3
-mul-apart-3 c = search needs
+mul-distance-by-3 : tie.Need-mul-distance-by-3
+mul-distance-by-3 c = search needs
 
-shared-slice-read-apart-3 : tie.Need-shared-slice-read-apart-3
-shared-slice-read-apart-3 c = search needs
+shared-slice-read-distance-by-3 : tie.Need-shared-slice-read-distance-by-3
+shared-slice-read-distance-by-3 c = search needs
 
-apart-requires-3 : tie.Need-apart-requires-3
-apart-requires-3 c κs = search needs
+distance-by-requires-3 : tie.Need-distance-by-requires-3
+distance-by-requires-3 c κs = search needs
 
 add-row-2 : tie.Need-add-row-2
 add-row-2 c = search needs
@@ -74,17 +74,17 @@ mul-row-3 c = search needs
 slice-write-row-3 : tie.Need-slice-write-row-3
 slice-write-row-3 c = simp length-set (omega (arith, c .before .before .before .before .before .before .before .before .before .before .before .pre .0 .4))
 
-add-apart-3 : tie.Need-add-apart-3
-add-apart-3 c = search needs
+add-distance-by-3 : tie.Need-add-distance-by-3
+add-distance-by-3 c = search needs
 
-mul-apart-4 : tie.Need-mul-apart-4
-mul-apart-4 c = search needs
+mul-distance-by-4 : tie.Need-mul-distance-by-4
+mul-distance-by-4 c = search needs
 
-shared-slice-read-apart-4 : tie.Need-shared-slice-read-apart-4
-shared-slice-read-apart-4 c = search needs
+shared-slice-read-distance-by-4 : tie.Need-shared-slice-read-distance-by-4
+shared-slice-read-distance-by-4 c = search needs
 
-apart-requires-4 : tie.Need-apart-requires-4
-apart-requires-4 c κs = search needs
+distance-by-requires-4 : tie.Need-distance-by-requires-4
+distance-by-requires-4 c κs = search needs
 
 add-row-3 : tie.Need-add-row-3
 add-row-3 c = search needs
@@ -99,7 +99,7 @@ same-length : tie.Need-same-length
 same-length c = search needs
 
 returns : tie.Need-returns
-returns c = four-written _ _ _ _ _ _ _ _ _ (c .before .before .before .before .before .before .apart .ensures ∙ apart-is _ _ _ (c .before .before .before .before .before .before .before .before .before .before .before .before .before .args .j) _ _ _ (c .before .before .before .before .before .before .before .before .before .before .before .before .before .pre .1 .0) (c .before .before .before .before .before .before .before .before .before .before .before .before .before .pre .1 .1 (c .before .before .before .before .before .before .before .before .before .before .before .before .before .args .j) (omega arith)) (c .before .before .before .before .before .before .before .before .dot-four .ensures .0)) (c .before .before .before .before .apart2 .ensures ∙ apart-is _ _ _ (c .before .before .before .before .before .before .before .before .before .before .before .before .before .args .j + 1) _ _ _ (c .before .before .before .before .before .before .before .before .before .before .before .before .before .pre .1 .0) (c .before .before .before .before .before .before .before .before .before .before .before .before .before .pre .1 .1 (c .before .before .before .before .before .before .before .before .before .before .before .before .before .args .j + 1) (omega arith)) (c .before .before .before .before .before .before .before .before .dot-four .ensures .1)) (c .before .before .apart3 .ensures ∙ apart-is _ _ _ (c .before .before .before .before .before .before .before .before .before .before .before .before .before .args .j + 2) _ _ _ (c .before .before .before .before .before .before .before .before .before .before .before .before .before .pre .1 .0) (c .before .before .before .before .before .before .before .before .before .before .before .before .before .pre .1 .1 (c .before .before .before .before .before .before .before .before .before .before .before .before .before .args .j + 2) (omega arith)) (c .before .before .before .before .before .before .before .before .dot-four .ensures .2)) (c .apart4 .ensures ∙ apart-is _ _ _ (c .before .before .before .before .before .before .before .before .before .before .before .before .before .args .j + 3) _ _ _ (c .before .before .before .before .before .before .before .before .before .before .before .before .before .pre .1 .0) (c .before .before .before .before .before .before .before .before .before .before .before .before .before .pre .1 .1 (c .before .before .before .before .before .before .before .before .before .before .before .before .before .args .j + 3) (omega arith)) (c .before .before .before .before .before .before .before .before .dot-four .ensures .3))
+returns c = four-written _ _ _ _ _ _ _ _ _ (c .before .before .before .before .before .before .distance-by .ensures ∙ apart-is _ _ _ (c .before .before .before .before .before .before .before .before .before .before .before .before .before .args .j) _ _ _ (c .before .before .before .before .before .before .before .before .before .before .before .before .before .pre .1 .0) (c .before .before .before .before .before .before .before .before .before .before .before .before .before .pre .1 .1 (c .before .before .before .before .before .before .before .before .before .before .before .before .before .args .j) (omega arith)) (c .before .before .before .before .before .before .before .before .dot-four .ensures .0)) (c .before .before .before .before .distance-by2 .ensures ∙ apart-is _ _ _ (c .before .before .before .before .before .before .before .before .before .before .before .before .before .args .j + 1) _ _ _ (c .before .before .before .before .before .before .before .before .before .before .before .before .before .pre .1 .0) (c .before .before .before .before .before .before .before .before .before .before .before .before .before .pre .1 .1 (c .before .before .before .before .before .before .before .before .before .before .before .before .before .args .j + 1) (omega arith)) (c .before .before .before .before .before .before .before .before .dot-four .ensures .1)) (c .before .before .distance-by3 .ensures ∙ apart-is _ _ _ (c .before .before .before .before .before .before .before .before .before .before .before .before .before .args .j + 2) _ _ _ (c .before .before .before .before .before .before .before .before .before .before .before .before .before .pre .1 .0) (c .before .before .before .before .before .before .before .before .before .before .before .before .before .pre .1 .1 (c .before .before .before .before .before .before .before .before .before .before .before .before .before .args .j + 2) (omega arith)) (c .before .before .before .before .before .before .before .before .dot-four .ensures .2)) (c .distance-by4 .ensures ∙ apart-is _ _ _ (c .before .before .before .before .before .before .before .before .before .before .before .before .before .args .j + 3) _ _ _ (c .before .before .before .before .before .before .before .before .before .before .before .before .before .pre .1 .0) (c .before .before .before .before .before .before .before .before .before .before .before .before .before .pre .1 .1 (c .before .before .before .before .before .before .before .before .before .before .before .before .before .args .j + 3) (omega arith)) (c .before .before .before .before .before .before .before .before .dot-four .ensures .3))
 
 pub distance-four-spec : {M : Type 1} → statement M
 distance-four-spec =
@@ -108,29 +108,29 @@ distance-four-spec =
     mul-x
     shared-slice-read-x
     dot-four-requires
-    mul-apart
-    shared-slice-read-apart
-    apart-requires
+    mul-distance-by
+    shared-slice-read-distance-by
+    distance-by-requires
     mul-row
     slice-write-row
-    add-apart
-    mul-apart-2
-    shared-slice-read-apart-2
-    apart-requires-2
+    add-distance-by
+    mul-distance-by-2
+    shared-slice-read-distance-by-2
+    distance-by-requires-2
     add-row
     mul-row-2
     slice-write-row-2
-    add-apart-2
-    mul-apart-3
-    shared-slice-read-apart-3
-    apart-requires-3
+    add-distance-by-2
+    mul-distance-by-3
+    shared-slice-read-distance-by-3
+    distance-by-requires-3
     add-row-2
     mul-row-3
     slice-write-row-3
-    add-apart-3
-    mul-apart-4
-    shared-slice-read-apart-4
-    apart-requires-4
+    add-distance-by-3
+    mul-distance-by-4
+    shared-slice-read-distance-by-4
+    distance-by-requires-4
     add-row-3
     mul-row-4
     slice-write-row-4

@@ -5,7 +5,7 @@ use lib.ListN.{length}
 use Rattle.laws.specs.Loops.{loop}
 use Rattle.laws.proofs.Numbers.{row-in}
 use Rattle.affinity_near.specs.Distances.{distanceStep}
-use Rattle.affinity_near.proofs.Fours.{rows-in, loop-on}
+use Rattle.affinity_near.proofs.Fours.{rows-in, loop-many}
 use borrow.Author.Needs.{needs}
 use native.Mathlib.Omega.{arith}
 use Rattle.affinity_near.proofs.distances.distance_fours.Statement.{statement}
@@ -34,7 +34,7 @@ loop-less : tie.Need-loop-less Inv-loop μ-loop
 loop-less c = search needs
 
 loop-again : tie.Need-loop-again Inv-loop μ-loop
-loop-again c = (omega arith, c .before .before .distance-four .kept .1 .1 .1 .1 .1 .0 ∙ c .before .before .before .before .before .loop .inv .1, c .before .before .distance-four .ensures ∙ loop-on _ _ _ _ (c .before .before .before .before .before .loop .inv .2) 4)
+loop-again c = (omega arith, c .before .before .distance-four .kept .1 .1 .1 .1 .1 .0 ∙ c .before .before .before .before .before .loop .inv .1, c .before .before .distance-four .ensures ∙ loop-many _ _ _ _ (c .before .before .before .before .before .loop .inv .2) 4)
 
 same-length : tie.Need-same-length Inv-loop μ-loop
 same-length c = c .before .loop .inv .1
