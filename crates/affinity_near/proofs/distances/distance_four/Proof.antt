@@ -99,7 +99,11 @@ same-length : tie.Need-same-length
 same-length c = search needs
 
 returns : tie.Need-returns
-returns c = four-written _ _ _ _ _ _ _ _ _ (c .before .before .before .before .before .before .distance-by .ensures ∙ apart-is _ _ _ (c .before .before .before .before .before .before .before .before .before .before .before .before .before .args .j) _ _ _ (c .before .before .before .before .before .before .before .before .before .before .before .before .before .pre .1 .0) (c .before .before .before .before .before .before .before .before .before .before .before .before .before .pre .1 .1 (c .before .before .before .before .before .before .before .before .before .before .before .before .before .args .j) (omega arith)) (c .before .before .before .before .before .before .before .before .dot-four .ensures .0)) (c .before .before .before .before .distance-by2 .ensures ∙ apart-is _ _ _ (c .before .before .before .before .before .before .before .before .before .before .before .before .before .args .j + 1) _ _ _ (c .before .before .before .before .before .before .before .before .before .before .before .before .before .pre .1 .0) (c .before .before .before .before .before .before .before .before .before .before .before .before .before .pre .1 .1 (c .before .before .before .before .before .before .before .before .before .before .before .before .before .args .j + 1) (omega arith)) (c .before .before .before .before .before .before .before .before .dot-four .ensures .1)) (c .before .before .distance-by3 .ensures ∙ apart-is _ _ _ (c .before .before .before .before .before .before .before .before .before .before .before .before .before .args .j + 2) _ _ _ (c .before .before .before .before .before .before .before .before .before .before .before .before .before .pre .1 .0) (c .before .before .before .before .before .before .before .before .before .before .before .before .before .pre .1 .1 (c .before .before .before .before .before .before .before .before .before .before .before .before .before .args .j + 2) (omega arith)) (c .before .before .before .before .before .before .before .before .dot-four .ensures .2)) (c .distance-by4 .ensures ∙ apart-is _ _ _ (c .before .before .before .before .before .before .before .before .before .before .before .before .before .args .j + 3) _ _ _ (c .before .before .before .before .before .before .before .before .before .before .before .before .before .pre .1 .0) (c .before .before .before .before .before .before .before .before .before .before .before .before .before .pre .1 .1 (c .before .before .before .before .before .before .before .before .before .before .before .before .before .args .j + 3) (omega arith)) (c .before .before .before .before .before .before .before .before .dot-four .ensures .3))
+returns c =
+    let dots = c .before .before .before .before .before .before .before .before .dot-four .ensures in
+    let pre = c .before .before .before .before .before .before .before .before .before .before .before .before .before .pre in
+    let j = c .before .before .before .before .before .before .before .before .before .before .before .before .before .args .j in
+    four-written _ _ _ _ _ _ _ _ _ (c .before .before .before .before .before .before .distance-by .ensures ∙ apart-is _ _ _ j _ _ _ (pre .1 .0) (pre .1 .1 j (omega arith)) (dots .0)) (c .before .before .before .before .distance-by2 .ensures ∙ apart-is _ _ _ (j + 1) _ _ _ (pre .1 .0) (pre .1 .1 (j + 1) (omega arith)) (dots .1)) (c .before .before .distance-by3 .ensures ∙ apart-is _ _ _ (j + 2) _ _ _ (pre .1 .0) (pre .1 .1 (j + 2) (omega arith)) (dots .2)) (c .distance-by4 .ensures ∙ apart-is _ _ _ (j + 3) _ _ _ (pre .1 .0) (pre .1 .1 (j + 3) (omega arith)) (dots .3))
 
 pub distance-four-spec : {M : Type 1} → statement M
 distance-four-spec =
