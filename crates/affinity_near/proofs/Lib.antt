@@ -4,5 +4,3 @@ pub mod Gathering
 pub mod Rows
 pub mod Order
 pub mod Apart
-pub mod Finite
-pub mod Fours

@@ -1,7 +1,7 @@
 -- `near::distances::distance_by` meets its contract: the difference is kept unless it is not above 0. Assumes nothing.
 use borrow.Author.Needs.{needs}
-use Rattle.affinity_near.proofs.distances.distance_by.Statement.{statement}
-use Rattle.affinity_near.proofs.distances.distance_by.Tie as tie
+use Rattle.affinity_distances.proofs.distance_by.Statement.{statement}
+use Rattle.affinity_distances.proofs.distance_by.Tie as tie
 
 unless-above-requires : tie.Need-unless-above-requires
 unless-above-requires c κs = search needs

@@ -4,9 +4,9 @@ use lib.ListN.{length-set}
 use Prim.Native.Nat.{_+_}
 use borrow.Author.Needs.{needs}
 use native.Mathlib.Omega.{arith}
-use Rattle.affinity_near.proofs.Fours.{apart-is, four-written}
-use Rattle.affinity_near.proofs.distances.distance_four.Statement.{statement}
-use Rattle.affinity_near.proofs.distances.distance_four.Tie as tie
+use Rattle.affinity_distances.proofs.Fours.{apart-is, four-written}
+use Rattle.affinity_distances.proofs.distance_four.Statement.{statement}
+use Rattle.affinity_distances.proofs.distance_four.Tie as tie
 
 mul-x : tie.Need-mul-x
 mul-x c = search needs

@@ -3,9 +3,9 @@ use borrow.Author.Needs.{needs}
 use native.Mathlib.Omega.{arith}
 use Prim.Native.Nat.{_-_}
 use Rattle.laws.proofs.Loops.{Loops, loop-start, loop-more, loop-done}
-use Rattle.affinity_near.specs.Distances.{dotStep}
-use Rattle.affinity_near.proofs.distances.dot.Statement.{statement}
-use Rattle.affinity_near.proofs.distances.dot.Tie as tie
+use Rattle.affinity_distances.specs.Distances.{dotStep}
+use Rattle.affinity_distances.proofs.dot.Statement.{statement}
+use Rattle.affinity_distances.proofs.dot.Tie as tie
 
 abbrev Inv-loop : tie.InvT-loop
 Inv-loop table f i j a b sum₀ k₀ sum k = Loops (dotStep table a b) f sum₀ k sum

@@ -4,11 +4,11 @@ use Prim.Native.Nat.{_-_}
 use lib.ListN.{length}
 use Rattle.laws.proofs.Loops.{Loops, loop-start, loop-more, loop-done}
 use Rattle.laws.proofs.Numbers.{row-in}
-use Rattle.affinity_near.specs.Distances.{squareStep}
+use Rattle.affinity_distances.specs.Distances.{squareStep}
 use borrow.Author.Needs.{needs}
 use native.Mathlib.Omega.{arith}
-use Rattle.affinity_near.proofs.distances.square_frames.Statement.{statement}
-use Rattle.affinity_near.proofs.distances.square_frames.Tie as tie
+use Rattle.affinity_distances.proofs.square_frames.Statement.{statement}
+use Rattle.affinity_distances.proofs.square_frames.Tie as tie
 
 abbrev Inv-loop : tie.InvT-loop
 Inv-loop table n f squares₀ i₀ squares i = (length squares ≡ length squares₀) × Loops (squareStep table f) n squares₀ i squares

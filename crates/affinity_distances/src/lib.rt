@@ -6,7 +6,7 @@ ghost use lib.ListN.{length};
 ghost use Rattle.laws.specs.Loops.{loop};
 ghost use Rattle.laws.specs.Area.{at, zero64, two64};
 ghost use Rattle.elementary.specs.Limits.{unlessAbove};
-ghost use Rattle.affinity_near.specs.Distances.{dotOf, squareOf, squaresOf, distanceOf, distanceStep, distanceRow, Squared};
+ghost use Rattle.affinity_distances.specs.Distances.{dotOf, squareOf, squaresOf, distanceOf, distanceStep, distanceRow, Squared};
 
 // The product of frames i and j of a table of f features: by rising feature, from +0.0 on.
 fn dot(table: &[f64], f: usize, i: usize, j: usize) -> f64

@@ -7,12 +7,12 @@ use lib.Ieee.{Float}
 use Rattle.laws.specs.Area.{zero64}
 use Rattle.laws.proofs.Loops.{Loops, loop-more, loop-done}
 use Rattle.laws.proofs.Numbers.{row-in}
-use Rattle.affinity_near.specs.Distances.{distanceStep}
-use Rattle.affinity_near.proofs.Fours.{loop-from}
+use Rattle.affinity_distances.specs.Distances.{distanceStep}
+use Rattle.affinity_distances.proofs.Fours.{loop-from}
 use borrow.Author.Needs.{needs}
 use native.Mathlib.Omega.{arith}
-use Rattle.affinity_near.proofs.distances.distance_row.Statement.{statement}
-use Rattle.affinity_near.proofs.distances.distance_row.Tie as tie
+use Rattle.affinity_distances.proofs.distance_row.Statement.{statement}
+use Rattle.affinity_distances.proofs.distance_row.Tie as tie
 
 abbrev Inv-loop : tie.InvT-loop
 Inv-loop table n f squares i row₀ j₀ row j = (length row ≡ length row₀) × ((y : List Float) → Loops (distanceStep table f i) n y j₀ row₀ → Loops (distanceStep table f i) n y j row)

@@ -3,10 +3,10 @@ use borrow.Author.Needs.{needs}
 use native.Mathlib.Omega.{arith}
 use Prim.Native.Nat.{_-_}
 use Rattle.laws.proofs.Loops.{Loops, loop-start, loop-more, loop-done}
-use Rattle.affinity_near.specs.Distances.{dotStep}
-use Rattle.affinity_near.proofs.Fours.{one-on, two-on, three-on}
-use Rattle.affinity_near.proofs.distances.dot_four.Statement.{statement}
-use Rattle.affinity_near.proofs.distances.dot_four.Tie as tie
+use Rattle.affinity_distances.specs.Distances.{dotStep}
+use Rattle.affinity_distances.proofs.Fours.{one-on, two-on, three-on}
+use Rattle.affinity_distances.proofs.dot_four.Statement.{statement}
+use Rattle.affinity_distances.proofs.dot_four.Tie as tie
 
 abbrev Inv-loop : tie.InvT-loop
 Inv-loop table f i j o a b c d first₀ second₀ third₀ fourth₀ k₀ first second third fourth k = Loops (dotStep table o a) f first₀ k first × Loops (dotStep table o b) f second₀ k second × Loops (dotStep table o c) f third₀ k third × Loops (dotStep table o d) f fourth₀ k fourth

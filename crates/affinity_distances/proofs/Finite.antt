@@ -12,7 +12,7 @@ use Rattle.laws.specs.Area.{at, zero64, two64}
 use Rattle.laws.proofs.Loops.{loop-keeps}
 use Rattle.elementary.specs.Limits.{inDomain, upToWhole}
 use Rattle.elementary.proofs.Sizes.{Most, held-whole, most-more, most-neg, most-add, most-mul, sized-most, sized-whole, zero-whole, two-sized, domain-most, above-whole}
-use Rattle.affinity_near.specs.Distances.{dotStep, dotOf, squareOf, distanceOf}
+use Rattle.affinity_distances.specs.Distances.{dotStep, dotOf, squareOf, distanceOf}
 
 module _ (t : List Float) (f : ℕ) (few : f ≤ mostFeatures) where
   -- the values of frame i are in the domain

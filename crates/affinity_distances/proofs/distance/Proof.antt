@@ -1,9 +1,9 @@
 -- `near::distances::distance` meets its contract: the squares are those of the two frames. Assumes nothing.
 use mathlib.Core.Path.{refl}
-use Rattle.affinity_near.specs.Distances.{distanceOf}
+use Rattle.affinity_distances.specs.Distances.{distanceOf}
 use borrow.Author.Needs.{needs}
-use Rattle.affinity_near.proofs.distances.distance.Statement.{statement}
-use Rattle.affinity_near.proofs.distances.distance.Tie as tie
+use Rattle.affinity_distances.proofs.distance.Statement.{statement}
+use Rattle.affinity_distances.proofs.distance.Tie as tie
 
 mul-distance-by : tie.Need-mul-distance-by
 mul-distance-by c = search needs

@@ -4,12 +4,12 @@ use Prim.Native.Nat.{_-_, _≤_}
 use lib.ListN.{length}
 use Rattle.laws.specs.Loops.{loop}
 use Rattle.laws.proofs.Numbers.{row-in}
-use Rattle.affinity_near.specs.Distances.{distanceStep}
-use Rattle.affinity_near.proofs.Fours.{rows-in, loop-many}
+use Rattle.affinity_distances.specs.Distances.{distanceStep}
+use Rattle.affinity_distances.proofs.Fours.{rows-in, loop-many}
 use borrow.Author.Needs.{needs}
 use native.Mathlib.Omega.{arith}
-use Rattle.affinity_near.proofs.distances.distance_fours.Statement.{statement}
-use Rattle.affinity_near.proofs.distances.distance_fours.Tie as tie
+use Rattle.affinity_distances.proofs.distance_fours.Statement.{statement}
+use Rattle.affinity_distances.proofs.distance_fours.Tie as tie
 
 abbrev Inv-loop : tie.InvT-loop
 Inv-loop table n f squares i row₀ j₀ row j = (j ≤ n) × (length row ≡ length row₀) × (row ≡ loop (distanceStep table f i) j 0 row₀)

@@ -10,7 +10,7 @@ use Rattle.laws.specs.Loops.{loop}
 use Rattle.laws.specs.Area.{zero64, two64}
 use Rattle.laws.proofs.Loops.{Loops, loop-add}
 use Rattle.elementary.specs.Limits.{unlessAbove}
-use Rattle.affinity_near.specs.Distances.{dotOf, squareOf, distanceOf, distanceStep}
+use Rattle.affinity_distances.specs.Distances.{dotOf, squareOf, distanceOf, distanceStep}
 
 pub one-on : (j f : ℕ) → (j + 1) * f ≡ j * f + f
 one-on j f = omega (arith, add-mul j 1 f)
