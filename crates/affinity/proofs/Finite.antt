@@ -19,12 +19,12 @@ use Rattle.laws.proofs.Joined.{joined-all, getD-map-in, length-map, those-below
 use Rattle.laws.proofs.Laid.{singles-size, singles-get, laid-at, laid-size}
 use Rattle.elementary.specs.Limits.{inDomain, notNegative, neighboursOf}
 use Rattle.elementary.proofs.Sizes.{Least, Sized, held-whole, sized, sized-signed, sized-most, sized-more, sized-add, sized-mul, sized-div, least-mul, whole-sized, sized-whole, whole-not-negative, whole-signed, whole-most, whole-least, two-sized, zero-whole}
-use Rattle.affinity_near.specs.Distances.{distanceOf}
+use Rattle.affinity_distances.specs.Distances.{distanceOf}
 use Rattle.affinity_near.specs.Near.{Pair, pair, sorted}
 use Rattle.affinity_near.proofs.Apart.{row-own, row-other}
 use Rattle.affinity_near.proofs.Entering.{none-pair}
 use Rattle.affinity_near.proofs.Rows.{all-take, all-sorted, all-at}
-use Rattle.affinity_near.proofs.Finite.{distance-bounded}
+use Rattle.affinity_distances.proofs.Finite.{distance-bounded}
 use Rattle.affinity_sigma.specs.Sigma.{sharesOf}
 use Rattle.affinity_sigma.proofs.Finite.{mostShare, share-bounded}
 use Rattle.affinity_links.specs.Links.{plusOf}

@@ -16,7 +16,7 @@ use Rattle.laws.proofs.Changed.{changed-at, changed-tail, scratch-front}
 use Rattle.laws.proofs.Laid.{singles-size, singles-taken, laid-at, Lays, lays-more}
 use Rattle.laws.proofs.Numbers.{row-in}
 use borrow.Rule.Slice.PartMut.{midOf, putMid, same-len-mid}
-use Rattle.affinity_near.specs.Distances.{distanceRow}
+use Rattle.affinity_distances.specs.Distances.{distanceRow}
 use Rattle.affinity_near.specs.Near.{Pair, pair, sorted, nearestOf, byIndexOf, valuesOver, indicesOver}
 use Rattle.affinity_near.proofs.Apart.{nearest-frames}
 use Rattle.affinity_near.proofs.Rows.{nearest-count, nearest-distinct, by-index-count, made-rises, made-in}

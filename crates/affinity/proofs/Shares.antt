@@ -12,7 +12,7 @@ use lib.Ieee.{Float, nan}
 use Rattle.laws.specs.Area.{at, zero64}
 use Rattle.laws.proofs.Loops.{loop-keeps}
 use Rattle.laws.proofs.Laid.{singles-taken}
-use Rattle.affinity_near.specs.Distances.{distanceRow}
+use Rattle.affinity_distances.specs.Distances.{distanceRow}
 use Rattle.affinity_near.proofs.Apart.{row-own, row-other, row-size, row-tail}
 use Rattle.laws.proofs.Parts.{Scratch, scratch-start}
 use Rattle.affinity_sigma.specs.Sigma.{sigmaShares, sharesOf}

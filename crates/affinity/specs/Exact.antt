@@ -10,7 +10,7 @@ use Rattle.laws.specs.Loops.{loop}
 use Rattle.laws.specs.Area.{at, zero64}
 use Rattle.laws.specs.Joined.{joined, each, laid}
 use Rattle.affinity_joins.specs.Joins.{norm}
-use Rattle.affinity_near.specs.Distances.{distanceOf, distanceRow}
+use Rattle.affinity_distances.specs.Distances.{distanceOf, distanceRow}
 use Rattle.affinity_sigma.specs.Sigma.{sigmaShares, sharesOf}
 
 -- the distances of frame i to the n frames, to itself 0

@@ -7,7 +7,7 @@ use Rattle.laws.specs.Loops.{loop, seek}
 use Rattle.laws.specs.Joined.{joined, those, each, laid}
 use Rattle.laws.specs.Area.{at}
 use Rattle.elementary.specs.Limits.{neighboursOf}
-use Rattle.affinity_near.specs.Distances.{distanceOf}
+use Rattle.affinity_distances.specs.Distances.{distanceOf}
 use Rattle.affinity_near.specs.Near.{Pair, sorted, nearestBy, byIndexOf}
 use Rattle.affinity_sigma.specs.Sigma.{sigmaShares, sharesOf}
 use Rattle.affinity_lists.specs.Lists.{Areas, areas, weight, listsMade}

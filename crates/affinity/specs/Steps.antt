@@ -4,7 +4,7 @@ use Prim.Native.Nat.{ℕ}
 use lib.ListN.{drop}
 use lib.Ieee.{Float}
 use Rattle.laws.specs.Loops.{loop}
-use Rattle.affinity_near.specs.Distances.{distanceRow}
+use Rattle.affinity_distances.specs.Distances.{distanceRow}
 use Rattle.affinity_near.specs.Near.{indicesOver}
 use Rattle.laws.specs.Joined.{each}
 use Rattle.affinity.specs.Exact.{conditional}

@@ -5,7 +5,7 @@ ghost use lib.ListN.{length};
 ghost use borrow.Rule.Slice.PartMut.{putMid};
 ghost use Rattle.laws.specs.Domain.{mostFrames};
 ghost use Rattle.laws.specs.Area.{zero64};
-ghost use Rattle.affinity_near.specs.Distances.{distanceRow, squaresOf, Squared};
+ghost use Rattle.affinity_distances.specs.Distances.{distanceRow, squaresOf, Squared};
 ghost use Rattle.areas.specs.Filled.{filled};
 ghost use Rattle.affinity.specs.Exact.{exactOf};
 ghost use Rattle.laws.specs.Joined.{laid};
@@ -29,7 +29,7 @@ fn conditional_row(
     ensures { λ _. ⌜ now (affinities .exit) ≡ putMid (i * n) n (now (affinities .entry)) (conditionals (now (table .entry)) n f perplexity i) ⌝ }
     ensures { λ _. ⌜ now (row .exit) ≡ distanceRow (now (table .entry)) n f i (now (row .entry)) ⌝ }
 {
-    affinity_near::distances::distance_row(table, n, f, squares, i, row);
+    affinity_distances::distance_row(table, n, f, squares, i, row);
     let a = i * n;
     let e = a + n;
     affinity_sigma::binary_search_sigma(row, n, perplexity, &mut affinities[a..e]);
@@ -72,7 +72,7 @@ pub fn exact_affinities(
     ensures { λ _. ⌜ now (squares .exit) ≡ squaresOf (now (table .entry)) n f (now (squares .entry)) ⌝ }
     ensures { λ _. ⌜ now (row .exit) ≡ filled zero64 n (now (row .entry)) ⌝ }
 {
-    affinity_near::distances::square_frames(table, n, f, squares);
+    affinity_distances::square_frames(table, n, f, squares);
     conditional_probabilities(table, n, f, perplexity, squares, affinities, row);
     symmetrize_probabilities(affinities, n);
     fill(row, n, 0.0);

@@ -9,7 +9,7 @@ ghost use Rattle.laws.specs.Domain.{mostFrames};
 ghost use Rattle.laws.specs.Loops.{loop};
 ghost use Rattle.laws.specs.Area.{zero64};
 ghost use Rattle.elementary.specs.Limits.{neighboursOf};
-ghost use Rattle.affinity_near.specs.Distances.{squaresOf, Squared};
+ghost use Rattle.affinity_distances.specs.Distances.{squaresOf, Squared};
 ghost use Rattle.affinity_near.specs.Near.{valuesOver, indicesOver};
 ghost use Rattle.affinity_lists.specs.Lists.{areas};
 ghost use Rattle.laws.specs.Joined.{laid};
@@ -38,7 +38,7 @@ fn neighbor_row(
     ensures { λ _. ⌜ now («row_values» .exit) ≡ sharesLeft (now (table .entry)) n f k perplexity i (now («row_values» .entry)) ⌝ }
     ensures { λ _. ⌜ now («row_indices» .exit) ≡ framesLeft (now (table .entry)) n f k i (now («row_indices» .entry)) ⌝ }
 {
-    affinity_near::distances::distance_row(table, n, f, squares, i, row_values);
+    affinity_distances::distance_row(table, n, f, squares, i, row_values);
     affinity_near::neighbours::nearest(row_values, n, k, i, weights, row_indices);
     affinity_sigma::binary_search_sigma(weights, k, perplexity, row_values);
     affinity_sigma::divide(row_values, k, 2.0 * n as f64);
@@ -117,7 +117,7 @@ pub fn neighbor_probabilities(
     ensures { λ _. ⌜ now (squares .exit) ≡ squaresOf (now (table .entry)) n f (now (squares .entry)) ⌝ }
 {
     let k = elementary::limits::neighbours(perplexity, n as u64) as usize;
-    affinity_near::distances::square_frames(table, n, f, squares);
+    affinity_distances::square_frames(table, n, f, squares);
     neighbor_rows(
         table,
         n,

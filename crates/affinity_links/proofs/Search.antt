@@ -1,17 +1,20 @@
 -- Finding a frame in a rising row: by halving, and by a cursor that falls with the frames. Assumes nothing.
-use mathlib.Core.Path.{_≡_, sym, ap, subst, _∙_}
+use mathlib.Core.Path.{_≡_, refl, sym, ap, subst, _∙_}
 use mathlib.Core.Logic.{⊎-elim, _⊎_, inl, inr}
 use mathlib.Core.List.{List}
-use Prim.Native.Nat.{ℕ, _+_, _-_, _<_, _≤_}
+use Prim.Native.Nat.{ℕ, _+_, _-_, _*_, _%_, _<_, _≤_}
 use native.Mathlib.Omega.{arith}
 use native.Mathlib.Decide.{ℕ-discrete, decLt}
-use native.Mathlib.Nat.{le-refl, not-suc-le-zero, zero-add}
+use native.Mathlib.Nat.{le-refl, not-suc-le-zero}
+use mathlib.Core.Bool.{false, cond, true≢false}
 use lib.Dec.{eqb, ltb}
-use lib.Ieee.{Float}
+use lib.ListN.{length}
+use lib.Ieee.{Float, binary64, add}
 use borrow.Author.Tests.{eq-eqb, ne-eqb, lt-ltb, le-ltb}
-use Rattle.laws.specs.Area.{num}
+use Rattle.laws.specs.Domain.{mostFrames}
+use Rattle.laws.specs.Area.{at, num, zero64}
 use Rattle.laws.proofs.First.{first-at, first-none, first-same}
-use Rattle.affinity_links.specs.Links.{Rising, found, plusOf, loweredOf}
+use Rattle.affinity_links.specs.Links.{Rising, found, past, heldOf, cursorOf, fallenOf, Cursor, plusOf, plusFallen, Within, WithinBoth}
 
 -- ---- halving: what is left to look at lies from low up to high
 
@@ -54,76 +57,181 @@ module _ (l : List ℕ) (a k j : ℕ) where
 pub found-same : (I L : List ℕ) (a b k j : ℕ) → ((t : ℕ) → t < k → num I (a + t) ≡ num L (b + t)) → found I a k j ≡ found L b k j
 found-same I L a b k j h = first-same (λ t. eqb (num I (a + t)) j) (λ t. eqb (num L (b + t)) j) k (λ t l. ap (λ (x : ℕ). eqb x j) (h t l))
 
--- ---- a cursor: below c stand the frames below j, from c on those from j on
+-- ---- words of cursors
 
-pub record Cursor (R : List ℕ) (k j c : ℕ) : Type 0 where
-  pub within : c ≤ k
-  pub under : (t : ℕ) → t < c → num R (0 + t) < j
-  pub over : (t : ℕ) → c ≤ t → t < k → j ≤ num R (0 + t)
+nil : (c : ℕ) → (0 < c → ⊥) → c ≡ 0
+nil c m = omega arith
 
-module _ {R : List ℕ} {k : ℕ} where
-  pub cursor-start : {n : ℕ} → ((t : ℕ) → t < k → num R (0 + t) < n) → Cursor R k n k
-  cursor-start h = record { within = le-refl k; under = h; over = λ t a b. omega arith }
+module _ (f : ℕ → ℕ) where
+  word-none : heldOf f 0 ≡ 0
+  unfolding heldOf
+  word-none = refl
 
-  module _ (rise : Rising R 0 k) (j c : ℕ) (u : Cursor R k (j + 1) c) where
-    -- what stands just below the cursor
-    at-cursor : num R (c - 1) ≡ num R (0 + (c - 1))
-    at-cursor = ap (num R) (sym (zero-add (c - 1)))
+  word-some : (c : ℕ) → 0 < c → heldOf f c ≡ c * 8192 + (f (c - 1) + 1)
+  unfolding heldOf
+  word-some c h = rw (ne-eqb c 0 (λ x. omega arith))
 
-    hit : (c ≡ 0 → ⊥) → num R (c - 1) ≡ j → (loweredOf R c j ≡ c - 1) × (found R 0 k j ≡ c - 1)
-    unfolding loweredOf
-    hit z e = (rw (ne-eqb c 0 z, eq-eqb (num R (c - 1)) j e), sym (found-at R 0 k j rise (c - 1) (omega (arith, u .within)) (sym at-cursor ∙ e)))
+  -- a number below 8191 leaves room for the cursor
+  word-cursor : (c : ℕ) → (0 < c → f (c - 1) < mostFrames) → cursorOf (heldOf f c) ≡ c
+  word-cursor c h = elim (decLt 0 c) [
+    | yes m ↦ omega (arith, word-some c m, h m)
+    | no m ↦ rw (nil c m) (rw word-none)
+  ]
 
-    -- j does not stand below the cursor, unless just below it
-    missed : (loweredOf R c j ≡ c) → ((t : ℕ) → t < c → num R (0 + t) < j) → (loweredOf R c j ≡ c) × (found R 0 k j ≡ k)
-    missed e h = (
-      e,
-      first-none (λ t. eqb (num R (0 + t)) j) k (λ t l. ne-eqb (num R (0 + t)) j (λ x. elim (decLt t c) [
-        | yes m ↦ omega (arith, h t m, x)
-        | no m ↦ omega (arith, u .over t (omega arith) l, x)
-      ])),
-    )
+  -- a word falls where its number is j, and then its cursor falls by one
+  fallen-hit : (w j : ℕ) → w % 8192 ≡ j + 1 → fallenOf f w j ≡ heldOf f (cursorOf w - 1)
+  unfolding fallenOf
+  fallen-hit w j e = rw (eq-eqb (w % 8192) (j + 1) e)
 
-    -- the cursor falls onto j, or j is not in the row
-    told : ((0 < c) × (loweredOf R c j ≡ c - 1) × (found R 0 k j ≡ c - 1) × (num R (0 + (c - 1)) ≡ j)) ⊎ ((loweredOf R c j ≡ c) × (found R 0 k j ≡ k) × ((t : ℕ) → t < c → num R (0 + t) < j))
-    unfolding loweredOf
-    told = elim (ℕ-discrete c 0) [
-      | yes z ↦ let h : (t : ℕ) → t < c → num R (0 + t) < j = λ t l. omega arith in
-          inr (let m = missed (rw (eq-eqb c 0 z) (sym z)) h in (m .0, m .1, h))
-      | no z ↦ elim (ℕ-discrete (num R (c - 1)) j) [
-        | yes e ↦ let m = hit z e in inl (omega arith, m .0, m .1, sym at-cursor ∙ e)
-        | no d ↦
-            let top : num R (0 + (c - 1)) < j = omega (arith, at-cursor, u .under (c - 1) (omega arith)) in
-            let h : (t : ℕ) → t < c → num R (0 + t) < j = λ t l. elim (decLt t (c - 1)) [ yes m ↦ omega (arith, rise t (c - 1) m (omega (arith, u .within)), top) | no m ↦ subst (λ (x : ℕ). num R (0 + x) < j) (last t l m) top ] in
-            inr (let m = missed (rw (ne-eqb c 0 z, ne-eqb (num R (c - 1)) j d)) h in (m .0, m .1, h))
-      ]
+  fallen-miss : (w j : ℕ) → (w % 8192 ≡ j + 1 → ⊥) → fallenOf f w j ≡ w
+  unfolding fallenOf
+  fallen-miss w j d = rw (ne-eqb (w % 8192) (j + 1) d)
+
+-- where a word falls, so does its cursor
+pub within-low : {I : List ℕ} {a w p : ℕ} (j : ℕ) → Within I a w → p ≡ fallenOf (past I a) w j → p < w → cursorOf p < cursorOf w
+within-low {I} {a} {w} {p} j b q l = elim (ℕ-discrete (w % 8192) (j + 1)) [
+  | yes e ↦ omega (arith, ap cursorOf (q ∙ fallen-hit (past I a) w j e), word-cursor (past I a) (cursorOf w - 1) (λ h. b .frames (cursorOf w - 1 - 1) (omega arith)), b .some (omega arith))
+  | no d ↦ absurd (omega (arith, q ∙ fallen-miss (past I a) w j d))
+]
+
+pub word-same : (f g : ℕ → ℕ) (c : ℕ) → (0 < c → f (c - 1) ≡ g (c - 1)) → heldOf f c ≡ heldOf g c
+word-same f g c h = elim (decLt 0 c) [
+  | yes m ↦ omega (arith, word-some f c m, word-some g c m, h m)
+  | no m ↦ ap (heldOf f) (nil c m) ∙ word-none f ∙ sym (ap (heldOf g) (nil c m) ∙ word-none g)
+]
+
+-- only what stands below the cursor is read
+fallen-same : (f g : ℕ → ℕ) (w j : ℕ) → ((t : ℕ) → t < cursorOf w → f t ≡ g t) → fallenOf f w j ≡ fallenOf g w j
+fallen-same f g w j h = elim (ℕ-discrete (w % 8192) (j + 1)) [
+  | yes e ↦ fallen-hit f w j e ∙ word-same f g (cursorOf w - 1) (λ p. h (cursorOf w - 1 - 1) (omega arith)) ∙ sym (fallen-hit g w j e)
+  | no d ↦ fallen-miss f w j d ∙ sym (fallen-miss g w j d)
+]
+
+-- ---- cursors among k rising numbers
+
+pub cursor-same : {f g : ℕ → ℕ} {k j w : ℕ} → ((t : ℕ) → t < k → f t ≡ g t) → Cursor f k j w → Cursor g k j w
+cursor-same {f} {g} {k} {j} {w} h u = record {
+  word = u .word ∙ word-same f g (cursorOf w) (λ p. h (cursorOf w - 1) (omega (arith, u .within)));
+  within = u .within;
+  under = λ t l. omega (arith, h t (omega (arith, u .within)), u .under t l);
+  over = λ t a b. omega (arith, h t b, u .over t a b);
+}
+
+pub cursor-at : {f : ℕ → ℕ} {k j : ℕ} (c : ℕ) → c ≤ k → j ≤ mostFrames → ((t : ℕ) → t < c → f t < j) → ((t : ℕ) → c ≤ t → t < k → j ≤ f t) → Cursor f k j (heldOf f c)
+cursor-at {f} {k} {j} c h m under over =
+    let e : cursorOf (heldOf f c) ≡ c = word-cursor f c (λ p. omega (arith, under (c - 1) (omega arith))) in
+    record {
+      word = ap (heldOf f) (sym e);
+      within = omega (arith, e);
+      under = λ t l. under t (omega (arith, e));
+      over = λ t a b. over t (omega (arith, e)) b;
+    }
+
+-- ---- a turn at j: the numbers from place a on stood in I₀ and their values in S₀ at first; below the cursor they stand still
+
+pub record Turn (S S₀ : List Float) (I I₀ : List ℕ) (a k j w : ℕ) : Type 0 where
+  pub rise : Rising I₀ a k
+  pub small : j < mostFrames
+  pub cursor : Cursor (past I₀ a) k (j + 1) w
+  pub sameI : (t : ℕ) → t < cursorOf w → num I (a + t) ≡ num I₀ (a + t)
+  pub sameS : (t : ℕ) → t < cursorOf w → at S (a + t) ≡ at S₀ (a + t)
+
+module _ {S S₀ : List Float} {I I₀ : List ℕ} {a k j w : ℕ} (turn : Turn S S₀ I I₀ a k j w) where
+  u : Cursor (past I₀ a) k (j + 1) w
+  u = turn .cursor
+
+  abbrev f : ℕ → ℕ
+  f = past I₀ a
+
+  abbrev c : ℕ
+  c = cursorOf w
+
+  abbrev fell : ℕ
+  fell = fallenOf (past I a) w j
+
+  first-fell : fell ≡ fallenOf f w j
+  first-fell = fallen-same (past I a) f w j (turn .sameI)
+
+  -- the number in the word
+  top : 0 < c → w ≡ c * 8192 + (f (c - 1) + 1)
+  top h = u .word ∙ word-some f c h
+
+  bottom : (0 < c → ⊥) → w ≡ 0
+  bottom h = u .word ∙ ap (heldOf f) (nil c h) ∙ word-none f
+
+  missed : ((t : ℕ) → t < c → f t < j) → found I₀ a k j ≡ k
+  missed h = first-none (λ t. eqb (f t) j) k (λ t l. ne-eqb (f t) j (λ x. elim (decLt t c) [
+    | yes m ↦ omega (arith, h t m, x)
+    | no m ↦ omega (arith, u .over t (omega arith) l, x)
+  ]))
+
+  -- the cursor falls onto j, or j is not there
+  told : ((0 < c) × (fell ≡ heldOf f (c - 1)) × (found I₀ a k j ≡ c - 1) × (f (c - 1) ≡ j)) ⊎ ((fell ≡ w) × (found I₀ a k j ≡ k) × ((t : ℕ) → t < c → f t < j))
+  told = elim (decLt 0 c) [
+    | no z ↦
+        let h : (t : ℕ) → t < c → f t < j = λ t l. absurd (omega arith) in
+        inr (first-fell ∙ fallen-miss f w j (λ x. omega (arith, bottom z, x)), missed h, h)
+    | yes z ↦ elim (ℕ-discrete (f (c - 1)) j) [
+      | yes e ↦ inl (z, first-fell ∙ fallen-hit f w j (omega (arith, top z, e)), sym (found-at I₀ a k j (turn .rise) (c - 1) (omega (arith, u .within)) e), e)
+      | no d ↦
+          let last : f (c - 1) < j = omega (arith, d, u .under (c - 1) (omega arith)) in
+          let h : (t : ℕ) → t < c → f t < j = λ t l. elim (decLt t (c - 1)) [ yes m ↦ omega (arith, turn .rise t (c - 1) m (omega (arith, u .within)), last) | no m ↦ subst (λ (x : ℕ). f x < j) (end t l m) last ] in
+          inr (first-fell ∙ fallen-miss f w j (λ x. omega (arith, top z, x, last)), missed h, h)
     ]
-      where
-        last : (t : ℕ) → t < c → (t < c - 1 → ⊥) → c - 1 ≡ t
-        last t l m = omega arith
+  ]
+    where
+      end : (t : ℕ) → t < c → (t < c - 1 → ⊥) → c - 1 ≡ t
+      end t l m = omega arith
 
-    pub cursor-next : Cursor R k j (loweredOf R c j)
-    cursor-next = ⊎-elim
-        (λ s. subst (λ (x : ℕ). Cursor R k j x) (sym (s .1)) (record {
-          within = omega (arith, u .within);
-          under = λ t l. omega (arith, rise t (c - 1) l (omega (arith, u .within, s .0)), s .3);
-          over = λ t a b. elim (decLt t c) [ yes m ↦ subst (λ (x : ℕ). j ≤ num R (0 + x)) (last t a m) (omega (arith, s .3)) | no m ↦ omega (arith, u .over t (omega arith) b) ];
-        }))
-        (λ s. subst (λ (x : ℕ). Cursor R k j x) (sym (s .0)) (record { within = u .within; under = s .2; over = λ t a b. omega (arith, u .over t a b) }))
-        told
-      where
-        last : (t : ℕ) → c - 1 ≤ t → t < c → c - 1 ≡ t
-        last t a m = omega arith
+  pub turn-next : Cursor f k j fell
+  turn-next = ⊎-elim
+      (λ s. subst (λ (x : ℕ). Cursor f k j x) (sym (s .1)) (cursor-at (c - 1) (omega (arith, u .within)) (omega (arith, turn .small))
+      (λ t l. omega (arith, turn .rise t (c - 1) l (omega (arith, u .within, s .0)), s .3))
+      (λ t m b. elim (decLt t c) [ yes h ↦ subst (λ (x : ℕ). j ≤ f x) (end t m h) (omega (arith, s .3)) | no h ↦ omega (arith, u .over t (omega arith) b) ])))
+      (λ s. subst (λ (x : ℕ). Cursor f k j x) (sym (s .0)) (record { word = u .word; within = u .within; under = s .2; over = λ t m b. omega (arith, u .over t m b) }))
+      told
+    where
+      end : (t : ℕ) → c - 1 ≤ t → t < c → c - 1 ≡ t
+      end t l m = omega arith
 
-    -- so the row names j where the cursor falls, and the share stands there
-    pub cursor-yes : ltb (loweredOf R c j) c ≡ ltb (found R 0 k j) k
-    cursor-yes = ⊎-elim
-        (λ s. rw (s .1, s .2) (lt-ltb (c - 1) c (omega (arith, s .0)) ∙ sym (lt-ltb (c - 1) k (omega (arith, u .within, s .0)))))
-        (λ s. rw (s .0, s .1) (le-ltb c c (le-refl c) ∙ sym (le-ltb k k (le-refl k))))
-        told
+  -- the cursor that fell stands at j
+  fell-to : (0 < c) → fell ≡ heldOf f (c - 1) → cursorOf fell ≡ c - 1
+  fell-to h e = ap cursorOf e ∙ word-cursor f (c - 1) (λ p. omega (arith, u .under (c - 1 - 1) (omega arith)))
 
-    pub cursor-plus : (X : List Float) (w : Float) → plusOf X 0 c (loweredOf R c j) w ≡ plusOf X 0 k (found R 0 k j) w
-    cursor-plus X w = ⊎-elim
-        (λ s. rw (s .1, s .2, lt-ltb (c - 1) c (omega (arith, s .0)), lt-ltb (c - 1) k (omega (arith, u .within, s .0))))
-        (λ s. rw (s .0, s .1, le-ltb c c (le-refl c), le-ltb k k (le-refl k)))
-        told
+  pub turn-yes : ltb fell w ≡ ltb (found I₀ a k j) k
+  turn-yes = ⊎-elim
+      (λ s. rw (s .2) (lt-ltb fell w (omega (arith, s .0, fell-to (s .0) (s .1))) ∙ sym (lt-ltb (c - 1) k (omega (arith, u .within, s .0)))))
+      (λ s. rw (s .0, s .1) (le-ltb w w (le-refl w) ∙ sym (le-ltb k k (le-refl k))))
+      told
+
+  -- where the word does not fall, the cursor is one for j as it stands
+  pub turn-stays : ltb fell w ≡ false → Cursor f k j w
+  turn-stays e = ⊎-elim
+      (λ s. absurd (true≢false (sym (lt-ltb fell w (omega (arith, s .0, fell-to (s .0) (s .1)))) ∙ e)))
+      (λ s. subst (λ (x : ℕ). Cursor f k j x) (s .0) turn-next)
+      told
+
+  -- what is read where it falls is what was read at first where j stood
+  turn-reads : (x y : ℕ → Float) (z : Float) → ((t : ℕ) → t < c → x t ≡ y t) → cond (ltb fell w) (x (cursorOf fell)) z ≡ cond (ltb (found I₀ a k j) k) (y (found I₀ a k j)) z
+  turn-reads x y z h = ⊎-elim
+      (λ s. rw (lt-ltb fell w (omega (arith, s .0, fell-to (s .0) (s .1))), fell-to (s .0) (s .1), s .2, lt-ltb (c - 1) k (omega (arith, u .within, s .0))) (h (c - 1) (omega (arith, s .0))))
+      (λ s. rw (s .0, s .1, le-ltb w w (le-refl w), le-ltb k k (le-refl k)))
+      told
+
+  pub turn-plus : (v : Float) → plusFallen S a w fell v ≡ plusOf S₀ a k (found I₀ a k j) v
+  turn-plus v = turn-reads (λ t. add binary64 v (at S (a + t))) (λ t. add binary64 v (at S₀ (a + t))) v (λ t l. ap (add binary64 v) (turn .sameS t l))
+
+  pub turn-value : cond (ltb fell w) (at S (a + cursorOf fell)) zero64 ≡ cond (ltb (found I₀ a k j) k) (at S₀ (a + found I₀ a k j)) zero64
+  turn-value = turn-reads (λ t. at S (a + t)) (λ t. at S₀ (a + t)) zero64 (turn .sameS)
+
+  -- what is below the cursor may be read
+  pub turn-within : k ≤ mostFrames → a + k ≤ length I → a + k ≤ length S → WithinBoth S I a w
+  turn-within h m l = (
+    record {
+      small = omega (arith, u .within);
+      some = λ p. elim (decLt 0 c) [ yes z ↦ z | no z ↦ absurd (omega (arith, bottom z)) ];
+      inside = omega (arith, u .within);
+      frames = λ t b. omega (arith, turn .sameI t b, u .under t b);
+    },
+    omega (arith, u .within),
+  )

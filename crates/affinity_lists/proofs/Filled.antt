@@ -15,17 +15,18 @@ use borrow.Author.Tests.{eq-eqb, ne-eqb, lt-ltb, le-ltb}
 use Rattle.laws.specs.Domain.{mostFrames}
 use Rattle.laws.specs.Loops.{first}
 use Rattle.laws.specs.Area.{at, num, zero64}
-use Rattle.laws.specs.Joined.{joined, pasted, ending}
+use Rattle.laws.specs.Joined.{those, joined, ending}
 use Rattle.laws.proofs.Numbers.{row-in}
 use Rattle.laws.proofs.Bools.{two}
 use Rattle.laws.proofs.First.{first-same}
 use Rattle.laws.proofs.Joined.{those-rise, those-same, map-those, placeIn, spot-yes, spot-no, spot-at, joined-none, joined-more, joined-grow, joined-mono, joined-at, tail-at, length-singles, singles-at, length-map, getD-map-in}
-use Rattle.laws.proofs.Parts.{length-pasted, drop-put, getD-pasted}
-use Rattle.affinity_links.specs.Links.{found, plusOf, span, soughtYes, soughtWeight, Sought}
-use Rattle.affinity_links.proofs.Search.{found-same}
+use Rattle.laws.proofs.Parts.{drop-put}
+use Rattle.affinity_links.specs.Links.{found, plusOf, span, past, Cursor}
+use Rattle.affinity_links.proofs.Search.{found-same, cursor-same, cursor-at}
 use Rattle.affinity_lists.specs.Lists.{Rows, place, linked, weight, listOf, weightsOf, listStart, linksOf, indicesOf, weightsAll, offsetsOf}
-use Rattle.affinity_lists.specs.Steps.{linkSought, weightSought, listSought, weightsSought, Room}
+use Rattle.affinity_lists.specs.Steps.{linkSought, weightSought, listSought, weightsSought, Part, Room, Lowered, Topped}
 use Rattle.affinity_lists.proofs.Linked.{linked-comm, linked-self, weight-down, weight-none, weight-comm, plus-same, length-weights, links-most, links-small, start-least}
+use Rattle.affinity_lists.proofs.Picked.{those-most, those-front, those-under, those-over}
 
 abbrev pub singles : ℕ → ℕ → List ℕ → ℕ → List ℕ
 singles n k J i = listStart n k J i ∷ []
@@ -83,42 +84,28 @@ module _ (n k : ℕ) (J : List ℕ) (S : List Float) (Q : List ℕ) (ok : Rows n
         ap (λ (r : List ℕ). r ++ O) (sym (joined-none (singles n k J))) ∙ g .leftO,
       )
 
--- ---- the same, and X and R hold row i
+-- ---- the words of the cursors stand in R: in the rows below i and in the lists from i on they stand at i
 
-pub record RowReady (n k : ℕ) (J : List ℕ) (S : List Float) (Q : List ℕ) (i q : ℕ) (W : List Float) (I O : List ℕ) (X : List Float) (R : List ℕ) : Type 0 where
+pub record Cursors (n k : ℕ) (J : List ℕ) (i : ℕ) (R : List ℕ) : Type 0 where
+  pub rows : (j : ℕ) → j < i → Cursor (past J (j * k)) k i (num R j)
+  pub lists : (j : ℕ) → i ≤ j → j < n → Cursor (num (listOf n k J j)) (length (listOf n k J j)) i (num R j)
+
+-- at first each stands at the end of its row
+pub cursors-start : {n k : ℕ} {J R R' : List ℕ} → n ≤ mostFrames → Rows n k J → Topped J R n k R' → Cursors n k J n R'
+cursors-start {n} {k} {J} h ok t = record {
+  rows = λ j l. rw (t .rows j l) (cursor-at k (le-refl k) h (λ s m. ok .inside j s l m) (λ s m b. absurd (omega arith)));
+  lists = λ j l m. absurd (omega arith);
+}
+
+-- ---- the lists above i are written, and the cursors stand at i + 1
+
+pub record RowReady (n k : ℕ) (J : List ℕ) (S : List Float) (Q : List ℕ) (i q : ℕ) (W : List Float) (I O R : List ℕ) : Type 0 where
   pub filled : Filled n k J S Q (i + 1) q W I O
-  pub rowI : (t : ℕ) → t < k → num R (0 + t) ≡ num J (i * k + t)
-  pub rowW : (t : ℕ) → t < k → at X (0 + t) ≡ at S (i * k + t)
-  pub sizeX : k ≤ length X
-  pub sizeR : k ≤ length R
+  pub cursors : Cursors n k J (i + 1) R
+  pub sizeR : n ≤ length R
 
 module _ {n k : ℕ} {J : List ℕ} {S : List Float} {Q : List ℕ} (big : (2 * (n * k) ≤ length S) × (2 * (n * k) ≤ length J)) where
-  ready : {i q : ℕ} {W : List Float} {I O : List ℕ} (X : List Float) (R : List ℕ) → k ≤ length X → k ≤ length R
-      → Filled n k J S Q (i + 1) q W I O → RowReady n k J S Q i q W I O (pasted W (i * k) k X) (pasted I (i * k) k R)
-  ready {i} {q} {W} {I} X R hX hR f =
-      let more : (i + 1) * k ≡ i * k + k = rw (add-mul i 1 k, one-mul k) in
-      let rows : i * k + k ≤ n * k = row-in i n k (n * k) (omega (arith, f .within)) (le-refl (n * k)) in
-      record {
-        filled = f;
-        rowI = λ t l. ap (num (pasted I (i * k) k R)) (zeroed t) ∙ getD-pasted I R (i * k) k t 0 l (omega (arith, f .sizeI, rows)) ∙ f .keptI (i * k + t) (omega (arith, more));
-        rowW = λ t l. ap (at (pasted W (i * k) k X)) (zeroed t) ∙ getD-pasted W X (i * k) k t nan l (omega (arith, f .sizeW, rows)) ∙ f .keptW (i * k + t) (omega (arith, more));
-        sizeX = paste-size W X (omega (arith, f .sizeW, rows)) hX;
-        sizeR = paste-size I R (omega (arith, f .sizeI, rows)) hR;
-      }
-    where
-      zeroed : (t : ℕ) → 0 + t ≡ t
-      zeroed t = omega arith
-
-      paste-size : {A : Type 0} (l d : List A) → i * k + k ≤ length l → k ≤ length d → k ≤ length (pasted l (i * k) k d)
-      paste-size l d h m = subst (λ (x : ℕ). k ≤ x) (sym (length-pasted l d (i * k) k h m)) m
-
-  -- row i is copied
-  pub ready-of : {i i' q : ℕ} {W : List Float} {I O : List ℕ} {X' : List Float} {R' : List ℕ} (X : List Float) (R : List ℕ) → i' ≡ i + 1
-      → k ≤ length X → k ≤ length R → X' ≡ pasted W (i * k) k X → R' ≡ pasted I (i * k) k R
-      → Filled n k J S Q i' q W I O → RowReady n k J S Q i q W I O X' R'
-  ready-of {i} {i'} {q} {W} {I} {O} X R e hX hR eX eR f = rw (eX, eR) (ready X R hX hR (rw e at f))
-
-  module _ (ok : Rows n k J) {i q : ℕ} {W : List Float} {I O : List ℕ} {X : List Float} {R : List ℕ} (g : RowReady n k J S Q i q W I O X R) where
+  module _ (ok : Rows n k J) (many : (n ≤ mostFrames) × (k < n)) {i q : ℕ} {W : List Float} {I O R : List ℕ} (g : RowReady n k J S Q i q W I O R) where
     f : Filled n k J S Q (i + 1) q W I O
     f = g .filled
 
@@ -162,46 +149,57 @@ module _ {n k : ℕ} {J : List ℕ} {S : List Float} {Q : List ℕ} (big : (2 * 
     top : (q ≤ linksOf n k J) × (linksOf n k J ≤ length I) × (linksOf n k J ≤ length W)
     top = omega (arith, f .here, joined-mono (listOf n k J) (i + 1) n (f .within), links-most n k J ok, f .sizeI, f .sizeW)
 
-    ready-sought : (j : ℕ) → n ≤ mostFrames → j < n → Sought W I O X k i j k
-    ready-sought j h l = record {
-      small = omega (arith, frame);
-      copy = g .sizeX;
-      below = λ m. (
-        row-end j l .0,
-        row-end j l .1,
-        λ s t a b. omega (arith, f .keptI (j * k + s) (row-at j s m (omega arith)), f .keptI (j * k + t) (row-at j t m b), ok .rising j l s t a b),
-      );
-      above = λ m. let e = start-at j m (omega arith) in let e' = start-at (j + 1) (omega arith) (omega arith) in
-          let last : listStart n k J (j + 1) ≤ linksOf n k J = joined-mono (listOf n k J) (j + 1) n (omega arith) in (
-            omega (arith, f .sizeO, f .roomO),
-            omega (arith, e, e', joined-grow (listOf n k J) j),
-            omega (arith, e', last, top),
-            omega (arith, e', last, top),
-            λ s t a b. let b' : t < length (listOf n k J j) = omega (arith, span-is j m l) in
-                subst (λ (x : ℕ). num I (x + s) < num I (x + t)) (sym e) (omega (arith, list-at j s m l (omega arith), list-at j t m l b', those-rise (linked k J j) n s t a b')),
-          );
+    -- ---- the rows and lists as they stand, each with its cursor
+    row-is : (j t : ℕ) → j ≤ i → t < k → past I (j * k) t ≡ past J (j * k) t
+    row-is j t h l = f .keptI (j * k + t) (omega (arith, next-row, row-in j (i + 1) k ((i + 1) * k) (omega arith) (le-refl ((i + 1) * k))))
+
+    list-is-at : (j t : ℕ) → i < j → j < n → t < length (listOf n k J j) → past I (num O j) t ≡ num (listOf n k J j) t
+    list-is-at j t h l m = ap (λ (x : ℕ). past I x t) (start-at j h (omega arith)) ∙ list-at j t h l m
+
+    row-part : (j x w : ℕ) → j ≤ i → Cursor (past J (j * k)) k x w → Part W I (j * k) k x w
+    row-part j x w h u = record {
+      small = omega (arith, many);
+      inside = row-end j (omega (arith, frame));
+      rising = λ s t a b. omega (arith, row-is j s h (omega arith), row-is j t h b, ok .rising j (omega (arith, frame)) s t a b);
+      cursor = cursor-same (λ t l. sym (row-is j t h l)) u;
     }
+
+    list-part : (j : ℕ) → i < j → j < n → Part W I (num O j) (span O j) (i + 1) (num R j)
+    list-part j m l = rw (span-is j m l) (record {
+      small = omega (arith, many, those-most (linked k J j) n);
+      inside = omega (arith, start-at j m (omega arith), joined-grow (listOf n k J) j, joined-mono (listOf n k J) (j + 1) n (omega arith), top);
+      rising = λ s t a b. omega (arith, list-is-at j s m l (omega arith), list-is-at j t m l b, those-rise (linked k J j) n s t a b);
+      cursor = cursor-same (λ t b. sym (list-is-at j t m l b)) (g .cursors .lists j (omega arith) l);
+    })
+
+    -- row i does not name i
+    own-cursor : Cursor (past J (i * k)) k i (num R i)
+    own-cursor =
+        let u = g .cursors .rows i (omega arith) in
+        record {
+          word = u .word;
+          within = u .within;
+          under = λ t l. omega (arith, u .under t l, ok .other i t frame (omega (arith, u .within)));
+          over = λ t a b. omega (arith, u .over t a b);
+        }
 
     -- ---- what is looked up is the link, and its weight
     module _ (j : ℕ) (l : j < n) where
-      row-found : found R 0 k j ≡ place k J i j
-      row-found = found-same R J 0 (i * k) k j (g .rowI)
-
-      below-found : j < i → found I (j * k) k i ≡ place k J j i
-      below-found m = found-same I J (j * k) (j * k) k i (λ t b. f .keptI (j * k + t) (row-at j t m b))
+      place-is : j < i → (place k I i j ≡ place k J i j) × (place k I j i ≡ place k J j i)
+      place-is m = (found-same I J (i * k) (i * k) k j (λ t b. row-is i t (le-refl i) b), found-same I J (j * k) (j * k) k i (λ t b. row-is j t (omega arith) b))
 
       above-found : i < j → found I (num O j) (span O j) i ≡ placeIn (linked k J j) n i
       above-found m =
           ap (λ (x : ℕ). first (λ t. eqb (num I (num O j + t)) i) x) (span-is j m l)
-          ∙ first-same (λ t. eqb (num I (num O j + t)) i) (λ t. eqb (num (listOf n k J j) t) i) (length (listOf n k J j)) (λ t b. ap (λ (x : ℕ). eqb x i) (ap (λ (x : ℕ). num I (x + t)) (start-at j m (omega arith)) ∙ list-at j t m l b))
+          ∙ first-same (λ t. eqb (num I (num O j + t)) i) (λ t. eqb (num (listOf n k J j) t) i) (length (listOf n k J j)) (λ t b. ap (λ (x : ℕ). eqb x i) (list-is-at j t m l b))
 
       le-from : {a b : ℕ} → a ≡ b → b ≤ a
       le-from e = omega arith
 
-      ready-yes : linkSought I O R k i j ≡ linked k J i j
-      unfolding soughtYes
+      ready-yes : linkSought I O k i j ≡ linked k J i j
+      unfolding linkSought
       ready-yes = elim (decLt j i) [
-        | yes m ↦ rw (lt-ltb j i m, row-found, below-found m)
+        | yes m ↦ rw (lt-ltb j i m, place-is m .0, place-is m .1)
         | no m ↦ elim (ℕ-discrete j i) [
           | yes e ↦ rw (le-ltb j i (omega arith), eq-eqb j i e) (sym (ap (linked k J i) e ∙ linked-self n k J ok i frame))
           | no d ↦ rw (le-ltb j i (omega arith), ne-eqb j i d, above-found (omega arith), span-is j (omega arith) l)
@@ -212,11 +210,11 @@ module _ {n k : ℕ} {J : List ℕ} {S : List Float} {Q : List ℕ} (big : (2 * 
         ]
       ]
 
-      ready-weight : weightSought W I O X R k i j ≡ weight k J S i j
-      unfolding soughtWeight
+      ready-weight : weightSought W I O k i j ≡ weight k J S i j
+      unfolding weightSought
       ready-weight = elim (decLt j i) [
-        | yes m ↦ rw (lt-ltb j i m, row-found, below-found m)
-            (plus-same X S 0 (i * k) k (place k J i j) (plusOf W (j * k) k (place k J j i) zero64) (g .rowW)
+        | yes m ↦ rw (lt-ltb j i m, place-is m .0, place-is m .1)
+            (plus-same W S (i * k) (i * k) k (place k J i j) (plusOf W (j * k) k (place k J j i) zero64) (λ t b. f .keptW (i * k + t) (omega (arith, next-row)))
             ∙ ap (plusOf S (i * k) k (place k J i j)) (plus-same W S (j * k) (j * k) k (place k J j i) zero64 (λ t b. f .keptW (j * k + t) (row-at j t m b)))
             ∙ sym (weight-down k J S i j (omega arith)))
         | no m ↦ elim (ℕ-discrete j i) [
@@ -233,23 +231,37 @@ module _ {n k : ℕ} {J : List ℕ} {S : List Float} {Q : List ℕ} (big : (2 * 
       ]
 
     -- so what is looked up is list i
-    list-is : listSought I O R n k i ≡ listOf n k J i
-    list-is = those-same (linkSought I O R k i) (linked k J i) n (λ j l. ready-yes j l)
+    list-is : listSought I O n k i ≡ listOf n k J i
+    list-is = those-same (linkSought I O k i) (linked k J i) n (λ j l. ready-yes j l)
 
-    weights-are : weightsSought W I O X R n k i ≡ weightsOf n k J S i
-    weights-are = ap (map (weightSought W I O X R k i)) list-is ∙ map-those (weightSought W I O X R k i) (weight k J S i) (linked k J i) n (λ j l. ready-weight j l)
+    weights-are : weightsSought W I O n k i ≡ weightsOf n k J S i
+    weights-are = ap (map (weightSought W I O k i)) list-is ∙ map-those (weightSought W I O k i) (weight k J S i) (linked k J i) n (λ j l. ready-weight j l)
 
     size-is : q ≡ listStart n k J i + length (listOf n k J i)
     size-is = f .here ∙ joined-grow (listOf n k J) i
 
-    pub ready-room : n ≤ mostFrames → Room W I O X R n k i q
-    ready-room h = record {
-      frame = (frame, h);
-      copied = (g .sizeR, λ s t a b. omega (arith, g .rowI s (omega arith), g .rowI t b, ok .rising i frame s t a b), λ t l. omega (arith, g .rowI t l, ok .inside i t frame l));
-      sought = λ j l. ready-sought j h l;
+    pub ready-room : Room W I O R n k i q
+    ready-room = record {
+      frame = (frame, many .0);
+      sizes = (omega (arith, f .sizeO, f .roomO), g .sizeR);
+      own = row-part i i (num R i) (le-refl i) own-cursor;
+      rows = λ j m. row-part j (i + 1) (num R j) (omega arith) (g .cursors .rows j (omega arith));
+      lists = λ j m l. list-part j m l;
       inside = omega (arith, top);
       under = omega (arith, ap length list-is, size-is, start-least n k J ok i (omega (arith, frame)));
       over = λ j m l. omega (arith, start-at j m (omega arith), low j m);
+    }
+
+    -- the cursors afterwards
+    pub cursors-more : {R' : List ℕ} → Lowered I O R n k i R' → Cursors n k J i R'
+    cursors-more {R'} d = record {
+      rows = λ j l. cursor-same (λ t m. row-is j t (omega arith) m) (d .rows j l);
+      lists = λ j m l. elim (ℕ-discrete i j) [
+        | yes e ↦ subst (λ (x : ℕ). Cursor (num (listOf n k J x)) (length (listOf n k J x)) i (num R' x)) e (rw (d .own, list-is, those-same (linkSought I O k i) (linked k J i) i (λ x h. ready-yes x (omega (arith, frame))))
+            (cursor-at (length (those (linked k J i) i)) (those-front (linked k J i) n i (omega (arith, frame))) (omega (arith, frame, many))
+            (λ t h. those-under (linked k J i) n i t (omega (arith, those-front (linked k J i) n i (omega (arith, frame)))) h) (λ t a h. those-over (linked k J i) n i t a h)))
+        | no e ↦ cursor-same (λ t b. list-is-at j t (omega arith) l b) (rw (span-is j (omega arith) l) at (d .lists j (omega arith) l))
+      ];
     }
 
     -- ---- list i is written
@@ -285,13 +297,13 @@ module _ {n k : ℕ} {J : List ℕ} {S : List Float} {Q : List ℕ} (big : (2 * 
         whole : {A : Type 0} (L x w : List A) → length x ≡ q' → q' + length w ≡ q → q ≤ length L → length (x ++ (w ++ drop q L)) ≡ length L
         whole L x w e a b = omega (arith, length-append x (w ++ drop q L), length-append w (drop q L), length-drop q L)
 
-    pub filled-more : (q' : ℕ) (W' : List Float) (I' : List ℕ) → q' ≡ q - length (listSought I O R n k i)
-        → W' ≡ ending (weightsSought W I O X R n k i) q W → I' ≡ ending (listSought I O R n k i) q I → Filled n k J S Q i q' W' I' (set O i q')
+    pub filled-more : (q' : ℕ) (W' : List Float) (I' : List ℕ) → q' ≡ q - length (listSought I O n k i)
+        → W' ≡ ending (weightsSought W I O n k i) q W → I' ≡ ending (listSought I O n k i) q I → Filled n k J S Q i q' W' I' (set O i q')
     filled-more q' W' I' e eW eI =
         let s : q' ≡ listStart n k J i = omega (arith, e, ap length list-is, size-is) in
-        let wI : I' ≡ take q' I ++ (listOf n k J i ++ drop q I) = eI ∙ ap (λ (x : ℕ). take x I ++ (listSought I O R n k i ++ drop q I)) (sym e) ∙ ap (λ (r : List ℕ). take q' I ++ (r ++ drop q I)) list-is in
-        let wW : W' ≡ take q' W ++ (weightsOf n k J S i ++ drop q W) = eW ∙ ap (λ (x : ℕ). take x W ++ (weightsSought W I O X R n k i ++ drop q W)) (shorter e) ∙ ap (λ (r : List Float). take q' W ++ (r ++ drop q W)) weights-are in
+        let wI : I' ≡ take q' I ++ (listOf n k J i ++ drop q I) = eI ∙ ap (λ (x : ℕ). take x I ++ (listSought I O n k i ++ drop q I)) (sym e) ∙ ap (λ (r : List ℕ). take q' I ++ (r ++ drop q I)) list-is in
+        let wW : W' ≡ take q' W ++ (weightsOf n k J S i ++ drop q W) = eW ∙ ap (λ (x : ℕ). take x W ++ (weightsSought W I O n k i ++ drop q W)) (shorter e) ∙ ap (λ (r : List Float). take q' W ++ (r ++ drop q W)) weights-are in
         rw (wI, wW) (filled-so q' s)
       where
-        shorter : q' ≡ q - length (listSought I O R n k i) → q - length (weightsSought W I O X R n k i) ≡ q'
-        shorter e = omega (arith, e, length-map (weightSought W I O X R k i) (listSought I O R n k i))
+        shorter : q' ≡ q - length (listSought I O n k i) → q - length (weightsSought W I O n k i) ≡ q'
+        shorter e = omega (arith, e, length-map (weightSought W I O k i) (listSought I O n k i))

@@ -1,4 +1,6 @@
+pub mod Picked
 pub mod Linked
+pub mod Topping
 pub mod Listing
 pub mod Filled
 pub mod Frames

@@ -3,15 +3,14 @@ mod filling;
 mod rows;
 
 use areas::clear_indices;
-use areas::copy_indices;
-use areas::copy_values;
 use areas::fill;
 use filling::fill_list;
+use filling::top_cursors;
 use rows::total;
 ghost use mathlib.Core.Path.{_≡_};
 ghost use Rattle.affinity_lists.specs.Lists.{Prepared, areas, listsMade};
 
-// The lists of all frames from their rows, from the last link of all down: list i begins no lower than row i, which is copied to the preparation rows before it is written over.
+// The lists of all frames from their rows, from the last link of all down: list i begins no lower than row i. A cursor in each row and each finished list falls with i; their words stand in the preparation row of indices.
 pub fn symmetrise(
     weights: &mut [f64],
     indices: &mut [u32],
@@ -29,23 +28,12 @@ pub fn symmetrise(
 {
     let links = total(indices, n, k);
     offsets[n] = links as u32;
+    top_cursors(indices, row_indices, n, k);
     let mut q = links;
     let mut i = n;
     while i > 0 {
         i -= 1;
-        copy_values(row_values, weights, i * k, k);
-        copy_indices(row_indices, indices, i * k, k);
-        q = fill_list(
-            weights,
-            indices,
-            offsets,
-            row_values,
-            row_indices,
-            n,
-            k,
-            i,
-            q,
-        );
+        q = fill_list(weights, indices, offsets, row_indices, n, k, i, q);
         offsets[i] = q as u32;
     }
     fill(row_values, n, 0.0);

@@ -15,7 +15,7 @@ use Rattle.laws.specs.Area.{at, zero64}
 use Rattle.laws.proofs.Bools.{two}
 use Rattle.laws.proofs.Written.{written-at, written-size, written-tail}
 use Rattle.elementary.specs.Limits.{unlessAbove}
-use Rattle.affinity_near.specs.Distances.{squareOf, squaresOf, Squared, distanceOf, distanceStep, distanceRow}
+use Rattle.affinity_distances.specs.Distances.{squareOf, squaresOf, Squared, distanceOf, distanceStep, distanceRow}
 use Rattle.affinity_near.specs.Near.{Pair, pair, insert, sorted, nearestBy, nearestOf, plain, Plains}
 use Rattle.affinity_near.proofs.Entering.{one-more, none-more}
 use Rattle.affinity_near.proofs.Rows.{is-own}

@@ -1,3 +1,2 @@
-// Frames near each other: the distances between the frames of a table, the k nearest of a frame, and their order by index.
-pub mod distances;
+// Frames near each other: the k nearest of a frame by their distances, and their order by index.
 pub mod neighbours;

@@ -40,15 +40,3 @@ pub fn copy_values(to: &mut [f64], from: &[f64], a: usize, k: usize)
         t += 1;
     }
 }
-
-// The same for indices.
-pub fn copy_indices(to: &mut [u32], from: &[u32], a: usize, k: usize)
-    requires { ⌜ (k ≤ length (now to)) × (a + k ≤ length (now from)) ⌝ }
-    ensures { λ _. ⌜ now (to .exit) ≡ pasted (now (from .entry)) a k (now (to .entry)) ⌝ }
-{
-    let mut t = 0;
-    while t < k {
-        to[t] = from[a + t];
-        t += 1;
-    }
-}

@@ -6,7 +6,7 @@ use native.Mathlib.Omega.{arith}
 use native.Mathlib.Numerals.{add-one}
 use native.Mathlib.Nat.{le-antisymm}
 use lib.ListN.{List·getD-append, length, getD, set, take, drop, replicate, length-set, length-drop, length-append, length-replicate, replicate-append-replicate, take-append-drop}
-use lib.Seq.{paste, paste-zero, paste-suc, take-length, drop-drop, getD-take, getD-set-same, getD-set-other, drop-cons, set-at, take-suc, take-take, take-set-le, getD-drop, append-snoc, length-take-le, drop-set-lt, drop-append-add}
+use lib.Seq.{paste, paste-zero, paste-suc, take-length, getD-take, getD-set-same, getD-set-other, drop-cons, set-at, take-suc, take-take, take-set-le, getD-drop, append-snoc, length-take-le, drop-set-lt}
 use Rattle.laws.specs.Joined.{pasted, written}
 
 module _ {A : Type 0} where
@@ -69,21 +69,6 @@ module _ {A : Type 0} where
 
     pub clears-done : {t : ℕ} {l : List A} → n ≤ t → Clears z l₀ n t l → l ≡ replicate n z ++ drop n l₀
     clears-done {t} {l} h r = r .same ∙ ap (λ (x : ℕ). replicate x z ++ drop x l₀) (le-antisymm (r .within) h)
-
-  -- what is past the copy is kept
-  drop-pasted : (l d : List A) (a k n : ℕ) → k ≤ n → a + k ≤ length l → drop n (pasted l a k d) ≡ drop n d
-  drop-pasted l d a k n h m =
-      let e : length (take k (drop a l)) ≡ k = length-take-le k (drop a l) (rw (length-drop a l) (omega arith)) in
-      ap (λ (s : ℕ). drop s (pasted l a k d)) (sym (split (length (take k (drop a l))) k n e h))
-      ∙ drop-append-add (take k (drop a l)) (drop k d) (n - k)
-      ∙ drop-drop (n - k) k d
-      ∙ ap (λ (s : ℕ). drop s d) (whole k n h)
-    where
-      split : (x k n : ℕ) → x ≡ k → k ≤ n → x + (n - k) ≡ n
-      split x k n e h = omega arith
-
-      whole : (k n : ℕ) → k ≤ n → k + (n - k) ≡ n
-      whole k n h = omega arith
 
   pub length-pasted : (l d : List A) (a k : ℕ) → a + k ≤ length l → k ≤ length d → length (pasted l a k d) ≡ length d
   length-pasted l d a k h m =
@@ -174,12 +159,6 @@ module _ {A : Type 0} where
   pub scratch-start : {n : ℕ} {l₀ : List A} → Scratch n l₀ l₀
   scratch-start = record { size = refl; tail = refl }
 
-  -- k of them are copied, or all are cleared
-  pub scratch-copy : {n k : ℕ} {l₀ l l' : List A} (from : List A) (a : ℕ) → l' ≡ pasted from a k l → a + k ≤ length from → k ≤ n → n ≤ length l₀ → Scratch n l₀ l → Scratch n l₀ l'
-  scratch-copy {n} {k} {l₀} {l} {l'} from a e h m b s = record {
-    size = ap length e ∙ length-pasted from l a k h (omega (arith, s .size)) ∙ s .size;
-    tail = ap (drop n) e ∙ drop-pasted from l a k n m h ∙ s .tail;
-  }
-
+  -- all of them are cleared
   pub scratch-clear : {n : ℕ} {l₀ l l' : List A} (z : A) → l' ≡ replicate n z ++ drop n l → Scratch n l₀ l → l' ≡ replicate n z ++ drop n l₀
   scratch-clear {n} {l₀} {l} z e s = e ∙ ap (λ (x : List A). replicate n z ++ x) (s .tail)

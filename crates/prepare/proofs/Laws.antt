@@ -17,7 +17,7 @@ use Rattle.laws.proofs.Changed.{drop-later}
 use Rattle.laws.proofs.Written.{written-tail}
 use Rattle.areas.specs.Filled.{filled}
 use Rattle.affinity_lists.specs.Lists.{Areas, areas}
-use Rattle.affinity_near.specs.Distances.{squareOf, squaresOf}
+use Rattle.affinity_distances.specs.Distances.{squareOf, squaresOf}
 use Rattle.affinity.specs.Exact.{exactOf}
 use Rattle.affinity.specs.Neighbours.{neighboursListed}
 use Rattle.run_record.specs.declared.Settings.{Settings}

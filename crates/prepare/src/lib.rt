@@ -6,7 +6,7 @@ ghost use Rattle.laws.specs.Area.{zero64, one64};
 ghost use Rattle.laws.specs.Joined.{pasted};
 ghost use Rattle.areas.specs.Filled.{filled};
 ghost use Rattle.affinity_lists.specs.Lists.{areas};
-ghost use Rattle.affinity_near.specs.Distances.{squaresOf};
+ghost use Rattle.affinity_distances.specs.Distances.{squaresOf};
 ghost use Rattle.affinity.specs.Exact.{exactOf};
 ghost use Rattle.run_record.specs.Record.{GoodSettings};
 ghost use Rattle.prepare.specs.Room.{RouteRoom};

@@ -1,34 +1,58 @@
--- `lists::links::link_below` meets its contract: `find` looks in row j, `joint` adds the shares. Assumes nothing.
-use borrow.Author.Tests.{lt-ltb, le-ltb}
-use lib.Dec.{ltb}
-use Prim.Native.Nat.{ℕ}
+-- `affinity_links::link_below` meets its contract: both cursors fall, `joint` adds the shares. Assumes nothing.
 use mathlib.Core.Path.{ap}
+use Prim.Native.Nat.{ℕ}
+use lib.Dec.{ltb}
+use borrow.Author.Tests.{lt-ltb, le-ltb}
+use Rattle.affinity_links.proofs.Search.{within-low}
 use native.Mathlib.Omega.{arith}
 use Rattle.affinity_links.proofs.link_below.Statement.{statement}
 use Rattle.affinity_links.proofs.link_below.Tie as tie
 
-mul-find : tie.Need-mul-find
-mul-find c = omega (arith, c .before .before .before .pre .2 .0)
+mul-fallen : tie.Need-mul-fallen
+mul-fallen c = omega (arith, c .before .before .pre .2 .0 .inside)
 
-cast-find : tie.Need-cast-find
-cast-find c = omega (arith, c .before .before .before .pre .0)
+cast-fallen : tie.Need-cast-fallen
+cast-fallen c = omega (arith, c .before .before .pre .1)
 
-find-requires : tie.Need-find-requires
-find-requires c κs = (c .before .before .before .pre .2 .0, c .before .before .before .pre .2 .2)
+fallen-requires : tie.Need-fallen-requires
+fallen-requires c κs = (c .before .before .pre .1, c .before .before .pre .2 .0)
+
+mul-fallen-2 : tie.Need-mul-fallen-2
+mul-fallen-2 c = omega (arith, c .before .before .before .pre .3 .0 .inside)
+
+cast-fallen-2 : tie.Need-cast-fallen-2
+cast-fallen-2 c = omega (arith, c .before .before .before .pre .0)
+
+fallen-requires-2 : tie.Need-fallen-requires-2
+fallen-requires-2 c κs = (c .before .before .before .pre .0, c .before .before .before .pre .3 .0)
 
 mul-joint : tie.Need-mul-joint
-mul-joint c = omega (arith, c .before .before .before .before .pre .2 .0)
+mul-joint c = omega (arith, c .before .before .before .before .pre .3 .0 .inside)
+
+mul-joint-2 : tie.Need-mul-joint-2
+mul-joint-2 c = omega (arith, c .before .before .before .before .pre .2 .0 .inside)
 
 joint-requires : tie.Need-joint-requires
-joint-requires c κs = omega (arith, c .before .before .before .before .pre .2 .1, c .before .before .before .before .pre .1)
+joint-requires c κs = (λ l. omega (arith, c .before .before .before .before .pre .3 .1, within-low (c .before .before .before .before .args .i) (c .before .before .before .before .pre .3 .0) (c .fallen2 .ensures) l), λ l. omega (arith, c .before .before .before .before .pre .2 .1, within-low (c .before .before .before .before .args .j) (c .before .before .before .before .pre .2 .0) (c .before .fallen .ensures) l))
 
 returns : tie.Need-returns
-returns c = (rw (lt-ltb _ _ (c .if1 .taken)), rw (c .before .joint .ensures, c .before .before .find .ensures))
+returns c = (rw (lt-ltb _ _ (rw (c .before .before .before .fallen .ensures) at (c .if1 .taken))), (rw (c .before .joint .ensures, c .before .before .before .fallen .ensures, c .before .before .fallen2 .ensures), (c .before .before .before .fallen .ensures, c .before .before .fallen2 .ensures)))
 
 returns-2 : tie.Need-returns-2
-returns-2 c = (rw (le-ltb _ _ (c .if1 .left)) (ap (λ (x : ℕ). ltb x (c .before .before .before .before .before .before .args .k)) (c .before .before .find .ensures)), rw (c .before .joint .ensures, c .before .before .find .ensures))
+returns-2 c = (rw (le-ltb _ _ (rw (c .before .before .before .fallen .ensures) at (c .if1 .left))) (ap (λ (x : ℕ). ltb x (c .before .before .before .before .before .before .args .w)) (c .before .before .fallen2 .ensures)), (rw (c .before .joint .ensures, c .before .before .before .fallen .ensures, c .before .before .fallen2 .ensures), (c .before .before .before .fallen .ensures, c .before .before .fallen2 .ensures)))
 
 pub link-below-spec : {M : Type 1} → statement M
 link-below-spec =
     tie.close
-    (tie.spec mul-find cast-find find-requires mul-joint joint-requires returns returns-2)
+    (tie.spec
+    mul-fallen
+    cast-fallen
+    fallen-requires
+    mul-fallen-2
+    cast-fallen-2
+    fallen-requires-2
+    mul-joint
+    mul-joint-2
+    joint-requires
+    returns
+    returns-2)

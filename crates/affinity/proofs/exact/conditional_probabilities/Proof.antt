@@ -1,4 +1,4 @@
-use Rattle.affinity_near.specs.Distances.{distanceRow}
+use Rattle.affinity_distances.specs.Distances.{distanceRow}
 use Rattle.laws.proofs.Loops.{Loops, loop-start, loop-more, loop-done}
 use mathlib.Core.Path.{_≡_, refl, _∙_}
 use lib.ListN.{length}

@@ -1,23 +1,29 @@
--- `lists::filling::fill_list` meets its contract: from j on list i is written, and the part that is left gives the whole (`Listing`). Assumes nothing.
-use lib.ListN.{length}
-use Rattle.affinity_lists.proofs.Listing.{Writing, writing-start, writing-sought, writing-pass, writing-room, writing-more, writing-done}
-use borrow.Author.Tests.{not-true, not-false}
+-- `affinity_lists::filling::fill_list` meets its contract: from j on list i is written, the part that is left gives the whole, and the cursors from j on have fallen (`Listing`). Assumes nothing.
+use mathlib.Core.Path.{refl, _∙_}
 use Prim.Native.Nat.{_-_, _<_, _≤_}
-use mathlib.Core.Path.{refl}
+use borrow.Author.Tests.{not-true, not-false}
+use Rattle.affinity_lists.proofs.Listing.{Writing, writing-start, writing-mark, writing-sought, writing-pass, writing-room, writing-more, writing-below, writing-held, writing-done}
+use lib.ListN.{length, length-set}
 use borrow.Author.Needs.{needs}
 use native.Mathlib.Omega.{arith}
 use Rattle.affinity_lists.proofs.filling.fill_list.Statement.{statement}
 use Rattle.affinity_lists.proofs.filling.fill_list.Tie as tie
 use Rattle.affinity_lists.proofs.filling.fill_list.Reads as reads
 use Rattle.affinity_lists.proofs.filling.fill_list.Lts as lts
+use Rattle.affinity_links.proofs.held.Reads as held-reads
 use Rattle.affinity_links.proofs.link_of.Reads as link-of-reads
-use Rattle.affinity_links.proofs.lowered.Reads as lowered-reads
 
 abbrev Inv-loop : tie.InvT-loop
-Inv-loop weights₀ indices₀ offsets row-values row-indices n k i e q₀ c₀ j₀ weights indices q c j = Writing weights₀ indices₀ offsets row-values row-indices n k i e j c q weights indices
+Inv-loop weights₀ indices₀ offsets row-indices₀ n k i e q₀ m₀ c₀ j₀ weights indices row-indices q m c j = Writing weights₀ indices₀ offsets row-indices₀ n k i e j c q m weights indices row-indices
 
 abbrev μ-loop : tie.MeasureT-loop
-μ-loop weights₀ indices₀ offsets row-values row-indices n k i e q₀ c₀ j₀ weights indices q c j = j
+μ-loop weights₀ indices₀ offsets row-indices₀ n k i e q₀ m₀ c₀ j₀ weights indices row-indices q m c j = j
+
+mul-c : tie.Need-mul-c Inv-loop μ-loop
+mul-c c = omega (arith, c .before .before .before .before .pre .frame, c .before .before .before .before .pre .sizes)
+
+slice-read-c : tie.Need-slice-read-c Inv-loop μ-loop
+slice-read-c c = omega (arith, c .before .before .before .before .before .pre .frame, c .before .before .before .before .before .pre .sizes)
 
 loop-holds : tie.Need-loop-holds Inv-loop μ-loop
 loop-holds c = writing-start (c .before .before .before .before .before .pre)
@@ -25,24 +31,36 @@ loop-holds c = writing-start (c .before .before .before .before .before .pre)
 sub-j : tie.Need-sub-j Inv-loop μ-loop
 sub-j c = search needs
 
-cast-lowered : tie.Need-cast-lowered Inv-loop μ-loop
-cast-lowered c = omega (arith, c .before .before .before .before .before .before .before .pre .frame, c .before .loop .inv .within)
-
-lowered-requires : tie.Need-lowered-requires Inv-loop μ-loop
-lowered-requires c κs = omega (arith, c .before .before .before .before .before .before .before .pre .copied .0, c .before .loop .inv .cursor .within)
-
-link-of-requires : tie.Need-link-of-requires Inv-loop μ-loop
-link-of-requires c κs = writing-sought (c .before .before .before .before .before .before .before .before .before .before .pre) (c .before .before .before .before .loop .j - 1) (c .before .before .before .before .loop .j) (omega arith) (c .before .before .before .before .loop .inv)
-
 loop-less : tie.Need-loop-less Inv-loop μ-loop
 loop-less c = search needs
 
 loop-again : tie.Need-loop-again Inv-loop μ-loop
-loop-again c = writing-pass (c .before .before .before .before .before .before .before .before .before .before .before .before .before .pre) (c .before .before .before .before .before .before .before .loop .j - 1) (c .before .before .before .before .before .before .before .loop .j) (omega arith) (c .before .before .before .before .before .before .before .loop .inv) _ (c .before .before .before .before .before .lowered .ensures) _ (c .before .before .link-of .ensures .0) (not-true _ (c .if1 .taken))
+loop-again c = writing-mark (c .before .before .before .before .before .before .before .before .pre) (c .before .before .loop .j - 1) (c .before .before .loop .j) (omega arith) (c .before .before .loop .inv) (c .if1 .taken)
+
+mul-link-of : tie.Need-mul-link-of Inv-loop μ-loop
+mul-link-of c = omega (arith, c .before .before .before .before .before .before .before .before .before .before .pre .sizes, c .before .before .before .before .loop .inv .within, c .before .before .before .before .loop .inv .size)
+
+slice-read-link-of : tie.Need-slice-read-link-of Inv-loop μ-loop
+slice-read-link-of c = omega (arith, c .before .before .before .before .before .before .before .before .before .before .before .pre .sizes, c .before .before .before .before .before .loop .inv .within, c .before .before .before .before .before .loop .inv .size)
+
+link-of-requires : tie.Need-link-of-requires Inv-loop μ-loop
+link-of-requires c κs = writing-sought (c .before .before .before .before .before .before .before .before .before .before .before .pre) (c .before .before .before .before .before .loop .j - 1) (c .before .before .before .before .before .loop .j) (omega arith) (c .before .before .before .before .before .loop .inv) (c .before .before .before .if1 .left)
+
+loop-less-2 : tie.Need-loop-less-2 Inv-loop μ-loop
+loop-less-2 c = search needs
+
+loop-again-2 : tie.Need-loop-again-2 Inv-loop μ-loop
+loop-again-2 c = writing-pass (c .before .before .before .before .before .before .before .before .before .before .before .before .before .before .pre) (c .before .before .before .before .before .before .before .before .loop .j - 1) (c .before .before .before .before .before .before .before .before .loop .j) (omega arith) (c .before .before .before .before .before .before .before .before .loop .inv) (c .before .before .before .before .before .before .if1 .left) _ (c .before .before .link-of .ensures .0) _ (c .before .before .link-of .ensures .1 .1 .0) (not-true _ (c .if2 .taken))
 
 -- where a link is found there is room for it
-room : (c : lts.Else1 (lowered-reads.Asked, lowered-reads.Learnt, link-of-reads.Asked, link-of-reads.Learnt) reads.Pre reads.Post Inv-loop μ-loop) → (0 < c .before .before .before .before .before .before .before .loop .q) × (c .before .before .before .before .before .before .before .loop .q ≤ length (c .before .before .before .before .before .before .before .loop .indices)) × (c .before .before .before .before .before .before .before .loop .q ≤ length (c .before .before .before .before .before .before .before .loop .weights))
-room c = writing-room (c .before .before .before .before .before .before .before .before .before .before .before .before .before .pre) (c .before .before .before .before .before .before .before .loop .j - 1) (c .before .before .before .before .before .before .before .loop .j) (omega arith) (c .before .before .before .before .before .before .before .loop .inv) _ (c .before .before .before .before .before .lowered .ensures) _ (c .before .before .link-of .ensures .0) (not-false _ (c .if1 .left))
+room : (c : lts.Else2 (link-of-reads.Asked, link-of-reads.Learnt, held-reads.Asked, held-reads.Learnt) reads.Pre reads.Post Inv-loop μ-loop) → (0 < c .before .before .before .before .before .before .before .before .loop .q) × (c .before .before .before .before .before .before .before .before .loop .q ≤ length (c .before .before .before .before .before .before .before .before .loop .indices)) × (c .before .before .before .before .before .before .before .before .loop .q ≤ length (c .before .before .before .before .before .before .before .before .loop .weights)) × (c .before .before .before .before .before .before .before .before .loop .j - 1 < length (c .before .before .before .before .before .before .before .before .loop .row-indices))
+room c = writing-room (c .before .before .before .before .before .before .before .before .before .before .before .before .before .before .pre) (c .before .before .before .before .before .before .before .before .loop .j - 1) (c .before .before .before .before .before .before .before .before .loop .j) (omega arith) (c .before .before .before .before .before .before .before .before .loop .inv) (c .before .before .before .before .before .before .if1 .left) _ (c .before .before .link-of .ensures .0) _ (c .before .before .link-of .ensures .1 .1 .0) (not-false _ (c .if2 .left))
+
+mul-row-indices : tie.Need-mul-row-indices Inv-loop μ-loop
+mul-row-indices c = omega (arith, room c)
+
+slice-write-row-indices : tie.Need-slice-write-row-indices Inv-loop μ-loop
+slice-write-row-indices c = omega (arith, room c)
 
 sub-q : tie.Need-sub-q Inv-loop μ-loop
 sub-q c = omega (arith, room c)
@@ -54,7 +72,7 @@ slice-write-weights : tie.Need-slice-write-weights Inv-loop μ-loop
 slice-write-weights c = omega (arith, room c)
 
 cast-indices : tie.Need-cast-indices Inv-loop μ-loop
-cast-indices c = omega (arith, c .before .before .before .before .before .before .before .before .before .before .before .before .before .pre .frame, c .before .before .before .before .before .before .before .loop .inv .within)
+cast-indices c = omega (arith, c .before .before .before .before .before .before .before .before .before .before .before .before .before .before .pre .frame, c .before .before .before .before .before .before .before .before .loop .inv .within)
 
 mul-indices : tie.Need-mul-indices Inv-loop μ-loop
 mul-indices c = omega (arith, room c)
@@ -62,20 +80,35 @@ mul-indices c = omega (arith, room c)
 slice-write-indices : tie.Need-slice-write-indices Inv-loop μ-loop
 slice-write-indices c = omega (arith, room c)
 
-loop-less-2 : tie.Need-loop-less-2 Inv-loop μ-loop
-loop-less-2 c = search needs
+loop-less-3 : tie.Need-loop-less-3 Inv-loop μ-loop
+loop-less-3 c = search needs
 
-loop-again-2 : tie.Need-loop-again-2 Inv-loop μ-loop
-loop-again-2 c = writing-more (c .before .before .before .before .before .before .before .before .before .before .before .before .before .pre) (c .before .before .before .before .before .before .before .loop .j - 1) (c .before .before .before .before .before .before .before .loop .j) (omega arith) (c .before .before .before .before .before .before .before .loop .inv) _ (c .before .before .before .before .before .lowered .ensures) _ (c .before .before .link-of .ensures .0) (not-false _ (c .if1 .left)) _ _ refl (c .before .before .link-of .ensures .1)
+loop-again-3 : tie.Need-loop-again-3 Inv-loop μ-loop
+loop-again-3 c = writing-more (c .before .before .before .before .before .before .before .before .before .before .before .before .before .before .pre) (c .before .before .before .before .before .before .before .before .loop .j - 1) (c .before .before .before .before .before .before .before .before .loop .j) (omega arith) (c .before .before .before .before .before .before .before .before .loop .inv) (c .before .before .before .before .before .before .if1 .left) _ (c .before .before .link-of .ensures .0) _ (c .before .before .link-of .ensures .1 .1 .0) (not-false _ (c .if2 .left)) _ _ _ refl (c .before .before .link-of .ensures .1 .0) (c .before .before .link-of .ensures .1 .1 .1)
+
+sub-held : tie.Need-sub-held Inv-loop μ-loop
+sub-held c = omega (arith, writing-below (c .before .before .before .before .before .before .before .before .pre) (omega arith) (c .before .before .loop .inv))
+
+held-requires : tie.Need-held-requires Inv-loop μ-loop
+held-requires c κs = writing-held (c .before .before .before .before .before .before .before .before .pre) (omega arith) (c .before .before .loop .inv)
+
+mul-row-indices-2 : tie.Need-mul-row-indices-2 Inv-loop μ-loop
+mul-row-indices-2 c = omega (arith, c .before .before .before .before .before .before .before .before .before .pre .frame, c .before .before .before .before .before .before .before .before .before .pre .sizes, c .before .before .before .loop .inv .size)
+
+slice-write-row-indices-2 : tie.Need-slice-write-row-indices-2 Inv-loop μ-loop
+slice-write-row-indices-2 c = omega (arith, c .before .before .before .before .before .before .before .before .before .pre .frame, c .before .before .before .before .before .before .before .before .before .pre .sizes, c .before .before .before .loop .inv .size)
 
 same-length : tie.Need-same-length Inv-loop μ-loop
-same-length c = c .before .loop .inv .weights .size
+same-length c = c .before .before .before .loop .inv .weights .size
 
 same-length-2 : tie.Need-same-length-2 Inv-loop μ-loop
-same-length-2 c = c .before .loop .inv .indices .size
+same-length-2 c = c .before .before .before .loop .inv .indices .size
+
+same-length-3 : tie.Need-same-length-3 Inv-loop μ-loop
+same-length-3 c = length-set (c .before .before .before .loop .row-indices) _ _ ∙ c .before .before .before .loop .inv .size
 
 returns : tie.Need-returns Inv-loop μ-loop
-returns c = (writing-done (c .before .before .before .before .before .before .before .pre) (omega arith) (c .before .loop .inv) .0, (writing-done (c .before .before .before .before .before .before .before .pre) (omega arith) (c .before .loop .inv) .1, writing-done (c .before .before .before .before .before .before .before .pre) (omega arith) (c .before .loop .inv) .2))
+returns c = let d = writing-done (c .before .before .before .before .before .before .before .before .before .pre) (omega arith) (c .before .before .before .loop .inv) _ (c .held .ensures) in (d .0, (d .1, (d .2, d .3)))
 
 pub fill-list-spec : {M : Type 1} → statement M
 fill-list-spec =
@@ -83,21 +116,32 @@ fill-list-spec =
     (tie.spec
     Inv-loop
     μ-loop
+    mul-c
+    slice-read-c
     loop-holds
     sub-j
-    cast-lowered
-    lowered-requires
-    link-of-requires
     loop-less
     loop-again
+    mul-link-of
+    slice-read-link-of
+    link-of-requires
+    loop-less-2
+    loop-again-2
+    mul-row-indices
+    slice-write-row-indices
     sub-q
     mul-weights
     slice-write-weights
     cast-indices
     mul-indices
     slice-write-indices
-    loop-less-2
-    loop-again-2
+    loop-less-3
+    loop-again-3
+    sub-held
+    held-requires
+    mul-row-indices-2
+    slice-write-row-indices-2
     same-length
     same-length-2
+    same-length-3
     returns)
