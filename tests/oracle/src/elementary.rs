@@ -18,6 +18,13 @@ pub const DOMAIN: f64 = 1_048_576.0;
 /// The largest magnitude that a step may give: 2^100.
 pub const CALM: f64 = 1_267_650_600_228_229_401_496_703_205_376.0;
 
+/// Below this exp is zero.
+pub const LOWEST: f64 = -745.0;
+/// Below this exp is rounded into the subnormals.
+pub const LOWEST_NORMAL: f64 = -708.0;
+/// What is added to k there, and taken away again by the second product.
+const RAISE: i64 = 64;
+
 /// Bits of the fraction of an f64.
 const FRACTION_BITS: u32 = 52;
 /// The fraction's bits, all set.
@@ -25,12 +32,12 @@ const FRACTION: u64 = (1 << FRACTION_BITS) - 1;
 /// What is added to an exponent to store it.
 const BIAS: i64 = 1023;
 
-/// The paper's exp.
+/// The paper's exp, with the subnormal answers of request 2026-05.
 pub fn exp(x: f64) -> f64 {
     if x.is_nan() {
         return f64::from_bits(NAN);
     }
-    if x < -708.0 {
+    if x < LOWEST {
         return 0.0;
     }
     if x > 709.0 {
@@ -39,10 +46,16 @@ pub fn exp(x: f64) -> f64 {
     let k = exponent_of_exp(x);
     let (whole, hi, lo) = (k as f64, f64::from_bits(HI), f64::from_bits(LO));
     let r = (x - whole * hi) - whole * lo;
-    exp_series(r) * power_of_two(k)
+    let t = exp_series(r);
+    if x < LOWEST_NORMAL {
+        // From here down the answer is rounded into the subnormals, once: the first product is exact.
+        let raised = t * power_of_two(k + RAISE);
+        return raised * power_of_two(-RAISE);
+    }
+    t * power_of_two(k)
 }
 
-/// The k that exp uses for an x between -708 and 709.
+/// The k that exp uses: from -1075 to -1021 for an x from -745 to below -708, from -1021 to 1023 for one from there to 709.
 pub fn exponent_of_exp(x: f64) -> i64 {
     nearest_whole(x / f64::from_bits(L))
 }
