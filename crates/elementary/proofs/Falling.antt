@@ -1,4 +1,4 @@
--- exp of a value with the sign -: finite, with the sign +, and at most 14. The bound is coarse; it is enough for what the weights need. Assumes nothing.
+-- From -745 to 709 exp is t·2^k, rounded once. And exp of a value with the sign -: finite, with the sign +, and at most 14. The bound is coarse; it is enough for what the weights need. Assumes nothing.
 use mathlib.Core.Path.{_≡_, refl, sym, ap, subst, _∙_}
 use mathlib.Core.Logic.{⊎-elim}
 use mathlib.Core.Bool.{Bool, true, false, cond, true≢false}
@@ -8,7 +8,7 @@ use native.Mathlib.Nat.{le-trans, le-of-eq, le-of-lt, not-suc-le-zero, zero-mul,
 use lib.Pow.{pow-pos}
 use lib.IntN.{ℤ, pos, negsuc, negℤ, _+ℤ_}
 use lib.Dec.{T, ltb, lit<, lit≤}
-use lib.Ieee.{Float, inf, fin, binary64, up, down, unlike, round, sum, neg, add, sub, mul, div, lt, fits, ofInt, ofBits, isNan}
+use lib.Ieee.{Float, inf, fin, binary64, up, down, unlike, round, sum, neg, add, sub, mul, div, lt, ne, fits, ofInt, ofBits, isNan}
 use lib.Ieee.Fits.{down-pos, add-fits}
 use lib.Ieee.Exact.{HasValue, round-exact}
 use lib.Ieee.Back.{round-whole}
@@ -17,10 +17,10 @@ use lib.Ieee.Positive.{through}
 use borrow.Author.Tests.{ltb-false, le-ltb}
 use Rattle.laws.specs.Area.{zero64, one64}
 use Rattle.laws.proofs.Numbers.{order}
-use Rattle.elementary.specs.Exp.{ln2hi, ln2lo, low745, low708, nearUp, signed, wholeNear, atMost, reduced, series, power, kOf, tOf, expIn, expUnder, expOf}
+use Rattle.elementary.specs.Exp.{ln2hi, ln2lo, low745, low708, high709, nearUp, signed, wholeNear, atMost, reduced, series, power, kOf, tOf, expIn, expUnder, expOf}
 use Rattle.elementary.specs.Limits.{upToWhole}
 use Rattle.elementary.proofs.Sizes.{signPlus, Signed, Most, Least, Held, Sized, sized, sized-more, sized-most, sized-add, held-whole, signed-round, most-round, least-round, most-neg, within-most, bounded, whole-sized, sum-apart, most-add, most-mul, sized-mul, sized-div, whole-signed, whole-least, one-is, one-sized, plain-less}
-use Rattle.elementary.proofs.Range.{NL, near-le, near-ge, fraction, bottom, quotient-minus, under, exp-range-under}
+use Rattle.elementary.proofs.Range.{NL, near-le, near-ge, fraction, bottom, quotient-minus, under, exp-range-under, exp-under, exp-in}
 use Rattle.elementary.proofs.Scaled.{Fair, Times, times-exact, times-normal, times-once}
 
 -- ---- the whole number nearest to a quotient A / B once it is rounded: A / B is at most 1 away from it
@@ -214,13 +214,9 @@ term s n p q r t m h c v l y z =
     twice true = refl
     twice false = refl
 
--- from 1 / 8 to n
-abbrev Between : ℕ → Float → Type 0
-Between n t = Sized false n 1 t × Least 1 8 t
-
-one-between : Between 1 one64
+one-fair : Fair 1 one64
 unfolding ofBits
-one-between = ((refl, lit≤ tt), lit≤ tt)
+one-fair = ((refl, lit≤ tt), lit≤ tt)
 
 -- what is left is at least 1 / 8
 less-least : (a b c : ℕ) → 0 < c → b ≤ a → 1 * c ≤ (a - b) * 8 → Most 1 1 (sum binary64 false a true b c) → Least 1 8 (sum binary64 false a true b c)
@@ -228,7 +224,7 @@ unfolding sum
 less-least a b c h l g w = rw (le-ltb a b l) (least-round (a - b) c 1 8 1 1 h (lit< tt) eighth (rw (le-ltb a b l) at w) g)
 
 -- one less a value that is at most 7 / 8
-one-less-of : (z : Float) → Sized true 7 8 z → Between 1 (add binary64 (fin false 1 (pos 0)) z)
+one-less-of : (z : Float) → Sized true 7 8 z → Fair 1 (add binary64 (fin false 1 (pos 0)) z)
 unfolding add
 one-less-of (fin false n g) p = absurd (true≢false (sym (p .0)))
 one-less-of (fin true n g) p =
@@ -238,8 +234,8 @@ one-less-of (fin true n g) p =
     let most : Most 1 1 (sum binary64 false A true B C) = sum-apart false A B C 1 1 (omega (arith, down-pos g)) (lit< tt) (held-whole 1 (lit≤ tt)) (omega arith) (omega (arith, p .1)) in
     (sized false 1 1 (sum binary64 false A true B C) (plain-less A B C (omega (arith, p .1))) most, less-least A B C (omega (arith, down-pos g)) (omega (arith, p .1)) (omega (arith, p .1)) most)
 
-one-less : (z : Float) → Sized true 7 8 z → Between 1 (add binary64 one64 z)
-one-less z p = subst (λ (o : Float). Between 1 (add binary64 o z)) (sym one-is) (one-less-of z p)
+one-less : (z : Float) → Sized true 7 8 z → Fair 1 (add binary64 one64 z)
+one-less z p = subst (λ (o : Float). Fair 1 (add binary64 o z)) (sym one-is) (one-less-of z p)
 
 more-least : (n k : ℕ) (z : Float) → Sized false n 1 z → Most k 1 (add binary64 (fin false 1 (pos 0)) z) → Least 1 8 (add binary64 (fin false 1 (pos 0)) z)
 unfolding add sum
@@ -247,29 +243,29 @@ more-least n k (fin true i g) p w = absurd (true≢false (p .0))
 more-least n k (fin false i g) p w = least-round (1 * 2 ^ 0 * down g + i * up g * 1) (1 * down g) 1 8 k 1 (omega (arith, down-pos g)) (lit< tt) eighth w (omega arith)
 
 -- one more than a value
-one-more : (n : ℕ) (z : Float) → n + 1 ≤ 2 ^ 53 → Sized false n 1 z → Between (n + 1) (add binary64 one64 z)
+one-more : (n : ℕ) (z : Float) → n + 1 ≤ 2 ^ 53 → Sized false n 1 z → Fair (n + 1) (add binary64 one64 z)
 one-more n z h p =
     let w = subst (λ (k : ℕ). Sized false k 1 (add binary64 one64 z)) (add-comm 1 n) (sized-add 1 n 1 one64 z (lit< tt) (held-whole (1 + n) (omega (arith, h))) one-sized p) in
     (w, subst (λ (o : Float). Most (n + 1) 1 (add binary64 o z) → Least 1 8 (add binary64 o z)) (sym one-is) (more-least n (n + 1) z p) (sized-most false (n + 1) 1 (add binary64 one64 z) w))
 
 -- r is not above 0: every t stays between 1 / 8 and 1
-series-falling : (r : Float) (m : ℕ) (t : Float) → m ≤ 13 → Sized true 7 8 r → Between 1 t → Between 1 (series r m t)
+series-falling : (r : Float) (m : ℕ) (t : Float) → m ≤ 13 → Sized true 7 8 r → Fair 1 t → Fair 1 (series r m t)
 unfolding series
 series-falling r zero t h p q = q
 series-falling r (suc m) t h p q = series-falling r m (add binary64 one64 (mul binary64 (div binary64 r (ofInt binary64 (pos (suc m)))) t)) (omega (arith, h)) p (one-less (mul binary64 (div binary64 r (ofInt binary64 (pos (suc m)))) t) (term true 1 7 8 r t m h (lit< tt) seven-eighths (lit≤ tt) p (q .0)))
 
 -- r is not below 0: every t is at most 1 more than the one before
-series-rising : (r : Float) (m n : ℕ) (t : Float) → m ≤ 13 → n + m ≤ 14 → Sized false 7 8 r → Between n t → Between 14 (series r m t)
+series-rising : (r : Float) (m n : ℕ) (t : Float) → m ≤ 13 → n + m ≤ 14 → Sized false 7 8 r → Fair n t → Fair 14 (series r m t)
 unfolding series
 series-rising r zero n t h k p q = (sized-more false n 14 1 t (omega (arith, k)) (q .0), q .1)
 series-rising r (suc m) n t h k p q = series-rising r m (n + 1) (add binary64 one64 (mul binary64 (div binary64 r (ofInt binary64 (pos (suc m)))) t)) (omega (arith, h)) (omega (arith, k)) p (one-more n (mul binary64 (div binary64 r (ofInt binary64 (pos (suc m)))) t) (omega (arith, k)) (term false n n 1 r t m h (lit< tt) (held-whole n (omega (arith, k))) (omega arith) p (q .0)))
 
 -- whichever sign r has
-series-fair : (r : Float) → Most 7 8 r → Fair (series r 13 one64)
+series-fair : (r : Float) → Most 7 8 r → Fair 14 (series r 13 one64)
 series-fair (fin true m e) p =
-    let w = series-falling (fin true m e) 13 one64 (lit≤ tt) (refl, p) one-between in
+    let w = series-falling (fin true m e) 13 one64 (lit≤ tt) (refl, p) one-fair in
     (sized-more false 1 14 1 (series (fin true m e) 13 one64) (lit≤ tt) (w .0), w .1)
-series-fair (fin false m e) p = series-rising (fin false m e) 13 1 one64 (lit≤ tt) (lit≤ tt) (refl, p) one-between
+series-fair (fin false m e) p = series-rising (fin false m e) 13 1 one64 (lit≤ tt) (lit≤ tt) (refl, p) one-fair
 
 series-fits : (r : Float) (m : ℕ) (t : Float) → T (fits binary64 t) → T (fits binary64 (series r m t))
 unfolding series
@@ -286,7 +282,7 @@ t-fits x = series-fits (reduced x (kOf x)) 13 one64 tt
 record Split (x : Float) : Type 0 where
   whole : ℕ
   is : kOf x ≡ negℤ (pos whole)
-  fair : Fair (tOf x)
+  fair : Fair 14 (tOf x)
 
 split-at : (m : ℕ) (e : ℤ) → m * up e ≤ 745 * down e → Split (fin true m e)
 split-at m e h =
@@ -299,12 +295,12 @@ split-at m e h =
     record {
       whole = n;
       is = k;
-      fair = subst (λ (k : ℤ). Fair (series (reduced (fin true m e) k) 13 one64)) (sym k) (series-fair (reduced (fin true m e) (negℤ (pos n))) (reduced-small m e n (w .small) (found-reached A B (bottom e) l) (found-passed A B (bottom e) l)));
+      fair = subst (λ (k : ℤ). Fair 14 (series (reduced (fin true m e) k) 13 one64)) (sym k) (series-fair (reduced (fin true m e) (negℤ (pos n))) (reduced-small m e n (w .small) (found-reached A B (bottom e) l) (found-passed A B (bottom e) l)));
     }
 
 -- ---- below -708: what is worked out there is t·2^k, rounded once
 
-t-under : (x : Float) → lt x low745 ≡ false → lt x low708 ≡ true → Fair (tOf x)
+t-under : (x : Float) → lt x low745 ≡ false → lt x low708 ≡ true → Fair 14 (tOf x)
 t-under x b l = let u = under x b l in rw (u .is) (split-at (u .digits) (u .power) (u .most) .fair)
 
 -- t·2^(k + 64) is exact
@@ -315,10 +311,18 @@ exp-scaled-exact x b l = times-exact (tOf x) (kOf x +ℤ pos 64) (t-fits x) (t-u
 pub exp-scaled-normal : (x : Float) → lt x low745 ≡ false → lt x low708 ≡ true → Least 1 (2 ^ 1022) (mul binary64 (tOf x) (power (kOf x +ℤ pos 64)))
 exp-scaled-normal x b l = times-normal (tOf x) (kOf x +ℤ pos 64) (t-fits x) (t-under x b l) (exp-range-under x b l .1)
 
--- so the product by 2^-64 is the one rounding: the answer is t·2^k itself, rounded, although the format need not hold 2^k
-pub exp-once : (x : Float) → lt x low745 ≡ false → lt x low708 ≡ true → expUnder x ≡ expIn x
+-- so the product by 2^-64 is the one rounding
+under-once : (x : Float) → lt x low745 ≡ false → lt x low708 ≡ true → expUnder x ≡ expIn x
 unfolding expUnder expIn
-exp-once x b l = times-once (tOf x) (kOf x) (t-fits x) (t-under x b l) (exp-range-under x b l .0)
+under-once x b l = times-once (tOf x) (kOf x) (t-fits x) (t-under x b l) (exp-range-under x b l .0)
+
+-- from -745 to 709 the answer is t·2^k itself, rounded once, although the format need not hold 2^k
+pub exp-once : (x : Float) → ne x x ≡ false → lt x low745 ≡ false → lt high709 x ≡ false → expOf x ≡ expIn x
+exp-once x a b c = go (lt x low708) refl
+  where
+    go : (l : Bool) → lt x low708 ≡ l → expOf x ≡ expIn x
+    go true l = exp-under x a b c l ∙ under-once x b l
+    go false l = exp-in x a b c l
 
 -- ---- exp
 
@@ -344,5 +348,5 @@ exp-falling (fin true m e) p = go (ltb (745 * down e) (m * up e * 1)) (ltb (708 
   where
     go : (b l : Bool) → ltb (745 * down e) (m * up e * 1) ≡ b → ltb (708 * down e) (m * up e * 1) ≡ l → upToWhole (cond b zero64 (cond l (expUnder (fin true m e)) (expIn (fin true m e)))) 14
     go true l h u = (refl, lit≤ tt)
-    go false true h u = subst (λ (z : Float). upToWhole z 14) (sym (exp-once (fin true m e) h u)) (small-in m e h)
+    go false true h u = subst (λ (z : Float). upToWhole z 14) (sym (under-once (fin true m e) h u)) (small-in m e h)
     go false false h u = small-in m e h

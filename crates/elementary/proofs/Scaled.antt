@@ -23,9 +23,9 @@ Times nan k y = ⊥
 Times (inf s) k y = ⊥
 Times (fin s m e) k y = HasValue y s (m * up e * up k) (down e * down k)
 
--- finite, with the sign +, and from 1 / 8 to 14
-abbrev pub Fair : Float → Type 0
-Fair t = Sized false 14 1 t × Least 1 8 t
+-- finite, with the sign +, and from 1 / 8 to n
+abbrev pub Fair : ℕ → Float → Type 0
+Fair n t = Sized false n 1 t × Least 1 8 t
 
 -- such a value has no digit below 2^-55
 last-digit : (m : ℕ) (e : ℤ) → m < 2 ^ 53 → 1 * down e ≤ m * up e * 8 → (j : ℕ) × (up e * 2 ^ 55 ≡ 2 ^ j * down e)
@@ -94,14 +94,14 @@ rounded-once (fin false m e) A D n h v =
 
 -- ---- of a float t and a power of two
 
-pub times-exact : (t : Float) (k : ℤ) → T (fits binary64 t) → Fair t → betweenMinus 1011 957 k → Times t k (mul binary64 t (power k))
+pub times-exact : (t : Float) (k : ℤ) → T (fits binary64 t) → Fair 14 t → betweenMinus 1011 957 k → Times t k (mul binary64 t (power k))
 unfolding mul power
 times-exact nan k f w b = absurd (w .0)
 times-exact (inf s) k f w b = absurd (w .0)
 times-exact (fin true m e) k f w b = absurd (true≢false (w .0 .0))
 times-exact (fin false m e) (negsuc p) f w b = scaled m e (suc p) (digits false m e f .0) (w .1) (omega (arith, w .0 .1)) (b .1)
 
-pub times-normal : (t : Float) (k : ℤ) → T (fits binary64 t) → Fair t → betweenMinus 1011 957 k → Least 1 (2 ^ 1022) (mul binary64 t (power k))
+pub times-normal : (t : Float) (k : ℤ) → T (fits binary64 t) → Fair 14 t → betweenMinus 1011 957 k → Least 1 (2 ^ 1022) (mul binary64 t (power k))
 unfolding mul power
 times-normal nan k f w b = absurd (w .0)
 times-normal (inf s) k f w b = absurd (w .0)
@@ -110,7 +110,7 @@ times-normal (fin false m e) (negsuc p) f w b =
     normal (mul binary64 (fin false m e) (power (negsuc p))) (m * up e) (down e) (suc p) (down-pos e) (times-exact (fin false m e) (negsuc p) f w b) (w .1) (b .1)
 
 -- k is - (n + 1), and k + 64 is - (j + 1)
-once-at : (m : ℕ) (e : ℤ) (n j : ℕ) → T (fits binary64 (fin false m e)) → Fair (fin false m e) → (956 ≤ j) × (j ≤ 1010) → n ≡ j + 64 → mul binary64 (mul binary64 (fin false m e) (power (negsuc j))) (power (negsuc 63)) ≡ mul binary64 (fin false m e) (power (negsuc n))
+once-at : (m : ℕ) (e : ℤ) (n j : ℕ) → T (fits binary64 (fin false m e)) → Fair 14 (fin false m e) → (956 ≤ j) × (j ≤ 1010) → n ≡ j + 64 → mul binary64 (mul binary64 (fin false m e) (power (negsuc j))) (power (negsuc 63)) ≡ mul binary64 (fin false m e) (power (negsuc n))
 unfolding mul power
 once-at m e n j f w b h =
     rounded-once (mul binary64 (fin false m e) (power (negsuc j))) (m * up e) (down e) (suc j) (down-pos e) (times-exact (fin false m e) (negsuc j) f w (omega (arith, b .0), omega (arith, b .1)))
@@ -119,7 +119,7 @@ once-at m e n j f w b h =
     same : suc j + 64 ≡ suc n
     same = omega (arith, h)
 
-pub times-once : (t : Float) (k : ℤ) → T (fits binary64 t) → Fair t → betweenMinus 1075 1021 k → mul binary64 (mul binary64 t (power (k +ℤ pos 64))) (power (negsuc 63)) ≡ mul binary64 t (power k)
+pub times-once : (t : Float) (k : ℤ) → T (fits binary64 t) → Fair 14 t → betweenMinus 1075 1021 k → mul binary64 (mul binary64 t (power (k +ℤ pos 64))) (power (negsuc 63)) ≡ mul binary64 t (power k)
 times-once nan k f w b = absurd (w .0)
 times-once (inf s) k f w b = absurd (w .0)
 times-once (fin true m e) k f w b = absurd (true≢false (w .0 .0))

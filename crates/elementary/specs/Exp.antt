@@ -58,7 +58,7 @@ power k = fin false 1 k
 abbrev pub kOf : Float → ℤ
 kOf x = wholeNear (div binary64 x ln2)
 
--- t = 1, then for m from 13 down to 1, t = 1 + (r / m)·t
+-- t, the series at what is left of x
 abbrev pub tOf : Float → Float
 tOf x = series (reduced x (kOf x)) 13 one64
 

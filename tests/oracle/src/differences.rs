@@ -140,6 +140,10 @@ fn exp_lines() -> Vec<Line> {
             compare(exp, library, 104, |r| 1417.0 * r.unit() - 708.0),
         ),
         (
+            "exp, [-745.2, -708]",
+            compare(exp, library, 107, |r| -708.0 - 37.2 * r.unit()),
+        ),
+        (
             "exp, [-745, -708]",
             compare(exp, library, 105, |r| -708.0 - 37.0 * r.unit()),
         ),

@@ -63,12 +63,12 @@ fn listed(table: &Table, exp: Exp, perplexity: f64) -> Vec<f64> {
     lists.into_iter().flatten().map(|link| link.1).collect()
 }
 
-/// Frames at random, of which a third have one huge feature.
-fn scattered(random: &mut SplitMix64) -> Heaps {
+/// 24 frames at random, of which so many have one huge feature.
+fn scattered(random: &mut SplitMix64, far: usize) -> Heaps {
     let (n, f) = (24, 6);
     let mut values: Vec<f64> = (0..n * f).map(|_| random.unit()).collect();
     let apart = 5.0 + 30.0 * random.unit();
-    for frame in 0..n / 3 {
+    for frame in 0..far {
         values[frame * f] += apart;
     }
     let perplexity = 1.5 + 4.0 * random.unit();
@@ -99,9 +99,10 @@ fn measure(route: Route, seed: u64, draw: Draw) -> Weights {
 
 /// The report as the rows of a table.
 pub fn report() -> String {
-    let kinds: [(&str, Draw); 2] = [
+    let kinds: [(&str, Draw); 3] = [
         ("two boxes of 8", |random| Heaps::new(random, 3)),
-        ("8 of 24 at random", scattered),
+        ("8 of 24", |random| scattered(random, 8)),
+        ("1 of 24", |random| scattered(random, 1)),
     ];
     let routes: [(&str, Route); 2] = [("exact", exact), ("Barnes-Hut", listed)];
     let mut text = String::from(
