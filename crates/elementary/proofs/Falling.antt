@@ -17,7 +17,7 @@ use lib.Ieee.Positive.{through}
 use borrow.Author.Tests.{ltb-false, le-ltb}
 use Rattle.laws.specs.Area.{zero64, one64}
 use Rattle.laws.proofs.Numbers.{order}
-use Rattle.elementary.specs.Exp.{ln2hi, ln2lo, low745, low708, high709, nearUp, signed, wholeNear, atMost, reduced, series, power, kOf, tOf, expIn, expUnder, expOf}
+use Rattle.elementary.specs.Exp.{ln2hi, ln2lo, low745, low708, high709, nearUp, signed, wholeNear, atMost, reduced, series, power, expK, expT, expIn, expUnder, expOf}
 use Rattle.elementary.specs.Limits.{upToWhole}
 use Rattle.elementary.proofs.Sizes.{signPlus, Signed, Most, Least, Held, Sized, sized, sized-more, sized-most, sized-add, held-whole, signed-round, most-round, least-round, most-neg, within-most, bounded, whole-sized, sum-apart, most-add, most-mul, sized-mul, sized-div, whole-signed, whole-least, one-is, one-sized, plain-less}
 use Rattle.elementary.proofs.Range.{NL, near-le, near-ge, fraction, bottom, quotient-minus, under, exp-range-under, exp-under, exp-in}
@@ -272,17 +272,17 @@ unfolding series
 series-fits r zero t h = h
 series-fits r (suc m) t h = series-fits r m (add binary64 one64 (mul binary64 (div binary64 r (ofInt binary64 (pos (suc m)))) t)) (add-fits binary64 one64 (mul binary64 (div binary64 r (ofInt binary64 (pos (suc m)))) t))
 
-t-fits : (x : Float) → T (fits binary64 (tOf x))
+t-fits : (x : Float) → T (fits binary64 (expT x))
 unfolding ofBits fits
-t-fits x = series-fits (reduced x (kOf x)) 13 one64 tt
+t-fits x = series-fits (reduced x (expK x)) 13 one64 tt
 
 -- ---- k and t from -745 on
 
 -- k is - n, and t is from 1 / 8 to 14
 record Split (x : Float) : Type 0 where
   whole : ℕ
-  is : kOf x ≡ negℤ (pos whole)
-  fair : Fair 14 (tOf x)
+  is : expK x ≡ negℤ (pos whole)
+  fair : Fair 14 (expT x)
 
 split-at : (m : ℕ) (e : ℤ) → m * up e ≤ 745 * down e → Split (fin true m e)
 split-at m e h =
@@ -291,7 +291,7 @@ split-at m e h =
     let l : A ≤ 1075 * B = fraction m e 745 1075 h (lit≤ tt) in
     let w = found A B (bottom e) l in
     let n = w .whole in
-    let k : kOf (fin true m e) ≡ negℤ (pos n) = ap wholeNear (quotient-minus m e) ∙ w .is in
+    let k : expK (fin true m e) ≡ negℤ (pos n) = ap wholeNear (quotient-minus m e) ∙ w .is in
     record {
       whole = n;
       is = k;
@@ -300,21 +300,21 @@ split-at m e h =
 
 -- ---- below -708: what is worked out there is t·2^k, rounded once
 
-t-under : (x : Float) → lt x low745 ≡ false → lt x low708 ≡ true → Fair 14 (tOf x)
+t-under : (x : Float) → lt x low745 ≡ false → lt x low708 ≡ true → Fair 14 (expT x)
 t-under x b l = let u = under x b l in rw (u .is) (split-at (u .digits) (u .power) (u .most) .fair)
 
 -- t·2^(k + 64) is exact
-pub exp-scaled-exact : (x : Float) → lt x low745 ≡ false → lt x low708 ≡ true → Times (tOf x) (kOf x +ℤ pos 64) (mul binary64 (tOf x) (power (kOf x +ℤ pos 64)))
-exp-scaled-exact x b l = times-exact (tOf x) (kOf x +ℤ pos 64) (t-fits x) (t-under x b l) (exp-range-under x b l .1)
+pub exp-scaled-exact : (x : Float) → lt x low745 ≡ false → lt x low708 ≡ true → Times (expT x) (expK x +ℤ pos 64) (mul binary64 (expT x) (power (expK x +ℤ pos 64)))
+exp-scaled-exact x b l = times-exact (expT x) (expK x +ℤ pos 64) (t-fits x) (t-under x b l) (exp-range-under x b l .1)
 
 -- and a normal number: at least 2^-1022
-pub exp-scaled-normal : (x : Float) → lt x low745 ≡ false → lt x low708 ≡ true → Least 1 (2 ^ 1022) (mul binary64 (tOf x) (power (kOf x +ℤ pos 64)))
-exp-scaled-normal x b l = times-normal (tOf x) (kOf x +ℤ pos 64) (t-fits x) (t-under x b l) (exp-range-under x b l .1)
+pub exp-scaled-normal : (x : Float) → lt x low745 ≡ false → lt x low708 ≡ true → Least 1 (2 ^ 1022) (mul binary64 (expT x) (power (expK x +ℤ pos 64)))
+exp-scaled-normal x b l = times-normal (expT x) (expK x +ℤ pos 64) (t-fits x) (t-under x b l) (exp-range-under x b l .1)
 
 -- so the product by 2^-64 is the one rounding
 under-once : (x : Float) → lt x low745 ≡ false → lt x low708 ≡ true → expUnder x ≡ expIn x
 unfolding expUnder expIn
-under-once x b l = times-once (tOf x) (kOf x) (t-fits x) (t-under x b l) (exp-range-under x b l .0)
+under-once x b l = times-once (expT x) (expK x) (t-fits x) (t-under x b l) (exp-range-under x b l .0)
 
 -- from -745 to 709 the answer is t·2^k itself, rounded once, although the format need not hold 2^k
 pub exp-once : (x : Float) → ne x x ≡ false → lt x low745 ≡ false → lt high709 x ≡ false → expOf x ≡ expIn x
@@ -336,7 +336,7 @@ unfolding expIn
 small-in m e h =
     let w = split-at m e (omega (arith, ltb-false (745 * down e) (m * up e * 1) h)) in
     whole-sized 14 (expIn (fin true m e))
-    (sized-mul false false 14 1 1 1 14 1 (tOf (fin true m e)) (power (kOf (fin true m e))) (lit< tt) (lit< tt) (lit< tt) (held-whole 14 (lit≤ tt)) (lit≤ tt) (w .fair .0) (rw (w .is) (power-small (w .whole))))
+    (sized-mul false false 14 1 1 1 14 1 (expT (fin true m e)) (power (expK (fin true m e))) (lit< tt) (lit< tt) (lit< tt) (held-whole 14 (lit≤ tt)) (lit≤ tt) (w .fair .0) (rw (w .is) (power-small (w .whole))))
 
 -- of every value with the sign -, so also of -0.0 and minus infinity, exp is finite, with the sign +, and at most 14
 pub exp-falling : (x : Float) → Signed true x → upToWhole (expOf x) 14

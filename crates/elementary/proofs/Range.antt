@@ -13,7 +13,7 @@ use mir.Syntax.{w64}
 use mir.Val.{SFits}
 use Rattle.elementary.proofs.Nans.{is-nan, not-nan}
 use Rattle.elementary.proofs.Sizes.{signPlus, Most, Least, Held, neg-round, signed-round, held-whole, most-round, least-round, within-most, bounded}
-use Rattle.elementary.specs.Exp.{ln2, low745, low708, high709, nearUp, signed, wholeNear, kOf, atMost, fromMinus, betweenMinus, inExp, expOf, expIn, expUnder}
+use Rattle.elementary.specs.Exp.{ln2, low745, low708, high709, nearUp, signed, wholeNear, expK, atMost, fromMinus, betweenMinus, inExp, expOf, expIn, expUnder}
 
 -- ---- the whole number nearest to a bounded value
 
@@ -115,7 +115,7 @@ exp-quotient (fin false m e) a b c = rw (quotient-plus m e) (quotient-most m e 7
 exp-quotient (fin true m e) a b c = rw (quotient-minus m e) (within-neg (quotient m e) 1075 (quotient-most m e 745 1075 (omega (arith, ltb-false (745 * 2 ^ 0 * down e) (m * up e * 1) b)) (lit≤ tt) (lit≤ tt)))
 
 -- from -708 to 709, k is from -1021 to 1023
-pub exp-range : (x : Float) → ne x x ≡ false → lt x low708 ≡ false → lt high709 x ≡ false → fromMinus 1021 1023 (kOf x)
+pub exp-range : (x : Float) → ne x x ≡ false → lt x low708 ≡ false → lt high709 x ≡ false → fromMinus 1021 1023 (expK x)
 unfolding ne eq lt ofBits neg
 exp-range nan a b c = absurd (true≢false a)
 exp-range (inf true) a b c = absurd (true≢false b)
@@ -151,7 +151,7 @@ under (fin true m e) b l = record {
 lifted : (k : ℤ) → betweenMinus 1075 1021 k → betweenMinus 1011 957 (k +ℤ pos 64)
 lifted (negsuc n) h = rw (lt-ltb 64 (suc n) (omega (arith, h .0))) (omega (arith, h .0), omega (arith, h .1))
 
-under-range : (m : ℕ) (e : ℤ) → m * up e ≤ 745 * down e → 708 * down e ≤ m * up e → betweenMinus 1075 1021 (kOf (fin true m e))
+under-range : (m : ℕ) (e : ℤ) → m * up e ≤ 745 * down e → 708 * down e ≤ m * up e → betweenMinus 1075 1021 (expK (fin true m e))
 under-range m e h l =
     let w = quotient-most m e 745 1075 h (lit≤ tt) (lit≤ tt) in
     rw (quotient-minus m e)
@@ -159,11 +159,11 @@ under-range m e h l =
     (least-round (m * up e * 2 ^ 53) (NL * 1 * down e) 1021 1 1075 1 (bottom e) (lit< tt) (held-whole 1021 (lit≤ tt)) (within-most 1075 (quotient m e) w) (omega (arith, l))))
 
 -- from -745 to -708, k is from -1075 to -1021, and k + 64 from -1011 to -957
-pub exp-range-under : (x : Float) → lt x low745 ≡ false → lt x low708 ≡ true → betweenMinus 1075 1021 (kOf x) × betweenMinus 1011 957 (kOf x +ℤ pos 64)
+pub exp-range-under : (x : Float) → lt x low745 ≡ false → lt x low708 ≡ true → betweenMinus 1075 1021 (expK x) × betweenMinus 1011 957 (expK x +ℤ pos 64)
 exp-range-under x b l =
     let u = under x b l in
     let k = under-range (u .digits) (u .power) (u .most) (u .least) in
-    rw (u .is) (k, lifted (kOf (fin true (u .digits) (u .power))) k)
+    rw (u .is) (k, lifted (expK (fin true (u .digits) (u .power))) k)
 
 -- ---- k and k + 64 are exponents of normal numbers, and fit an i64
 
@@ -174,11 +174,11 @@ plain-normal (negsuc n) h = omega (arith, h)
 raised-normal : (k : ℤ) → betweenMinus 1011 957 k → inExp k × SFits w64 k
 raised-normal (negsuc n) h = (omega (arith, h .1), record { sfits = omega (arith, h .1) })
 
-pub exp-normal : (x : Float) → ne x x ≡ false → lt x low708 ≡ false → lt high709 x ≡ false → inExp (kOf x)
-exp-normal x a b c = plain-normal (kOf x) (exp-range x a b c)
+pub exp-normal : (x : Float) → ne x x ≡ false → lt x low708 ≡ false → lt high709 x ≡ false → inExp (expK x)
+exp-normal x a b c = plain-normal (expK x) (exp-range x a b c)
 
-pub exp-raised : (x : Float) → lt x low745 ≡ false → lt x low708 ≡ true → inExp (kOf x +ℤ pos 64) × SFits w64 (kOf x +ℤ pos 64)
-exp-raised x b l = raised-normal (kOf x +ℤ pos 64) (exp-range-under x b l .1)
+pub exp-raised : (x : Float) → lt x low745 ≡ false → lt x low708 ≡ true → inExp (expK x +ℤ pos 64) × SFits w64 (expK x +ℤ pos 64)
+exp-raised x b l = raised-normal (expK x +ℤ pos 64) (exp-range-under x b l .1)
 
 -- ---- the cases of exp
 

@@ -55,22 +55,22 @@ unfoldable pub power : ℤ → Float
 power k = fin false 1 k
 
 -- k, the whole number nearest to the rounded quotient x / L
-abbrev pub kOf : Float → ℤ
-kOf x = wholeNear (div binary64 x ln2)
+abbrev pub expK : Float → ℤ
+expK x = wholeNear (div binary64 x ln2)
 
 -- t, the series at what is left of x
-abbrev pub tOf : Float → Float
-tOf x = series (reduced x (kOf x)) 13 one64
+abbrev pub expT : Float → Float
+expT x = series (reduced x (expK x)) 13 one64
 
 -- from -708 to 709: t·2^k
 unfoldable pub expIn : Float → Float
 unfolding wholeNear series power reduced
-expIn x = mul binary64 (tOf x) (power (kOf x))
+expIn x = mul binary64 (expT x) (power (expK x))
 
 -- from -745 to -708: t·2^(k + 64), which is exact, times 2^-64, which rounds once
 unfoldable pub expUnder : Float → Float
 unfolding wholeNear series power reduced
-expUnder x = mul binary64 (mul binary64 (tOf x) (power (kOf x +ℤ pos 64))) (power (negsuc 63))
+expUnder x = mul binary64 (mul binary64 (expT x) (power (expK x +ℤ pos 64))) (power (negsuc 63))
 
 -- NaN gives NaN; below -745 zero; above 709 infinity
 unfoldable pub expOf : Float → Float

@@ -1,5 +1,5 @@
 use Rattle.elementary.proofs.Range.{exp-quotient, exp-normal, exp-raised, exp-nan, exp-low, exp-high, exp-under, exp-in}
-use Rattle.elementary.specs.Exp.{expIn, expUnder, reduced, kOf}
+use Rattle.elementary.specs.Exp.{expIn, expUnder, reduced, expK}
 use lib.Dec.{lit≤}
 use lib.IntN.{pos, _+ℤ_}
 use lib.Ieee.{ofBits, div}
@@ -33,14 +33,14 @@ add-power-of : tie.Need-add-power-of
 add-power-of c = rw (toZ-ofZ w64 (c .before .before .before .whole-near .result) (record { sfits = c .before .before .before .whole-near .ok }), c .before .before .before .whole-near .ensures) (exp-raised _ (c .before .before .before .before .before .if2 .left) (c .if4 .taken) .1)
 
 power-of-requires : tie.Need-power-of-requires
-power-of-requires c κs = let r = exp-raised (c .before .before .before .before .before .before .before .args .x) (c .before .before .before .before .before .if2 .left) (c .if4 .taken) in rw (toZ-ofZ w64 (c .before .before .before .whole-near .result) (record { sfits = c .before .before .before .whole-near .ok }), c .before .before .before .whole-near .ensures, toZ-ofZ w64 (kOf (c .before .before .before .before .before .before .before .args .x) +ℤ pos 64) (r .1)) (r .0)
+power-of-requires c κs = let r = exp-raised (c .before .before .before .before .before .before .before .args .x) (c .before .before .before .before .before .if2 .left) (c .if4 .taken) in rw (toZ-ofZ w64 (c .before .before .before .whole-near .result) (record { sfits = c .before .before .before .whole-near .ok }), c .before .before .before .whole-near .ensures, toZ-ofZ w64 (expK (c .before .before .before .before .before .before .before .args .x) +ℤ pos 64) (r .1)) (r .0)
 
 power-of-requires-2 : tie.Need-power-of-requires-2
 power-of-requires-2 c κs = lit≤ tt
 
 returns-4 : tie.Need-returns-4
 unfolding expUnder reduced
-returns-4 c = let r = exp-raised (c .before .before .before .before .before .before .before .before .before .args .x) (c .before .before .before .before .before .before .before .if2 .left) (c .before .before .if4 .taken) in rw (c .power-of2 .ensures, c .before .power-of .ensures, c .before .before .before .taylor .ensures, c .before .before .before .before .nearest-i64-to-f64 .ensures, toZ-ofZ w64 (c .before .before .before .before .before .whole-near .result) (record { sfits = c .before .before .before .before .before .whole-near .ok }), c .before .before .before .before .before .whole-near .ensures, toZ-ofZ w64 (kOf (c .before .before .before .before .before .before .before .before .before .args .x) +ℤ pos 64) (r .1)) (sym (exp-under _ (c .before .before .before .before .before .before .before .before .if1 .left) (c .before .before .before .before .before .before .before .if2 .left) (c .before .before .before .before .before .before .if3 .left) (c .before .before .if4 .taken)))
+returns-4 c = let r = exp-raised (c .before .before .before .before .before .before .before .before .before .args .x) (c .before .before .before .before .before .before .before .if2 .left) (c .before .before .if4 .taken) in rw (c .power-of2 .ensures, c .before .power-of .ensures, c .before .before .before .taylor .ensures, c .before .before .before .before .nearest-i64-to-f64 .ensures, toZ-ofZ w64 (c .before .before .before .before .before .whole-near .result) (record { sfits = c .before .before .before .before .before .whole-near .ok }), c .before .before .before .before .before .whole-near .ensures, toZ-ofZ w64 (expK (c .before .before .before .before .before .before .before .before .before .args .x) +ℤ pos 64) (r .1)) (sym (exp-under _ (c .before .before .before .before .before .before .before .before .if1 .left) (c .before .before .before .before .before .before .before .if2 .left) (c .before .before .before .before .before .before .if3 .left) (c .before .before .if4 .taken)))
 
 power-of-requires-3 : tie.Need-power-of-requires-3
 power-of-requires-3 c κs = rw (toZ-ofZ w64 (c .before .before .before .whole-near .result) (record { sfits = c .before .before .before .whole-near .ok }), c .before .before .before .whole-near .ensures) (exp-normal _ (c .before .before .before .before .before .before .if1 .left) (c .if4 .left) (c .before .before .before .before .if3 .left))
