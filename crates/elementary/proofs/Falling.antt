@@ -20,7 +20,7 @@ use Rattle.laws.proofs.Numbers.{order}
 use Rattle.elementary.specs.Exp.{ln2hi, ln2lo, low745, low708, high709, nearUp, signed, wholeNear, atMost, reduced, series, power, expK, expT, expIn, expUnder, expOf}
 use Rattle.elementary.specs.Limits.{upToWhole}
 use Rattle.elementary.proofs.Sizes.{signPlus, Signed, Most, Least, Held, Sized, sized, sized-more, sized-most, sized-add, held-whole, signed-round, most-round, least-round, most-neg, within-most, bounded, whole-sized, sum-apart, most-add, most-mul, sized-mul, sized-div, whole-signed, whole-least, one-is, one-sized, plain-less}
-use Rattle.elementary.proofs.Range.{NL, near-le, near-ge, fraction, bottom, quotient-minus, under, exp-range-under, exp-under, exp-in}
+use Rattle.elementary.proofs.Range.{NL, near-le, near-ge, fraction, bottom, quotient-minus, under-is, exp-range-under, exp-under, exp-in}
 use Rattle.elementary.proofs.Scaled.{Fair, Times, times-exact, times-normal, times-once}
 
 -- ---- the whole number nearest to a quotient A / B once it is rounded: A / B is at most 1 away from it
@@ -301,7 +301,7 @@ split-at m e h =
 -- ---- below -708: what is worked out there is t·2^k, rounded once
 
 t-under : (x : Float) → lt x low745 ≡ false → lt x low708 ≡ true → Fair 14 (expT x)
-t-under x b l = let u = under x b l in rw (u .is) (split-at (u .digits) (u .power) (u .most) .fair)
+t-under x b l = let u = under-is x b l in rw (u .is) (split-at (u .size) (u .exponent) (u .most) .fair)
 
 -- t·2^(k + 64) is exact
 pub exp-scaled-exact : (x : Float) → lt x low745 ≡ false → lt x low708 ≡ true → Times (expT x) (expK x +ℤ pos 64) (mul binary64 (expT x) (power (expK x +ℤ pos 64)))

@@ -95,9 +95,9 @@ quotient-most : (m : ℕ) (e : ℤ) (n k : ℕ) → m * up e ≤ n * down e → 
 quotient-most m e n k h l b = bounded (m * up e * 2 ^ 53) (NL * 1 * down e) k (bottom e) b (fraction m e n k h l)
 
 -- the format holds 1021.4375
-half-held : Held 16343 16
+sixteenths-held : Held 16343 16
 unfolding round
-half-held = (refl, refl)
+sixteenths-held = (refl, refl)
 
 sixteenths : (m : ℕ) (e : ℤ) → m * up e ≤ 708 * down e → m * up e * 2 ^ 53 * 16 ≤ 16343 * (NL * 1 * down e)
 sixteenths m e h = omega (arith, h)
@@ -124,25 +124,25 @@ exp-range (fin false m e) a b c = rw (quotient-plus m e) (whole-plus (quotient m
 exp-range (fin true m e) a b c =
     rw (quotient-minus m e)
     (whole-minus (quotient m e) (sign-quotient m e)
-    (most-round false (m * up e * 2 ^ 53) (NL * 1 * down e) 16343 16 (bottom e) (lit< tt) half-held (sixteenths m e (omega (arith, ltb-false (177 * 2 ^ 2 * down e) (m * up e * 1) b)))))
+    (most-round false (m * up e * 2 ^ 53) (NL * 1 * down e) 16343 16 (bottom e) (lit< tt) sixteenths-held (sixteenths m e (omega (arith, ltb-false (177 * 2 ^ 2 * down e) (m * up e * 1) b)))))
 
 -- what lies from -745 to -708 is a negative number
 pub record Under (x : Float) : Type 0 where
-  pub digits : ℕ
-  pub power : ℤ
-  pub is : x ≡ fin true digits power
-  pub most : digits * up power ≤ 745 * down power
-  pub least : 708 * down power ≤ digits * up power
+  pub size : ℕ
+  pub exponent : ℤ
+  pub is : x ≡ fin true size exponent
+  pub most : size * up exponent ≤ 745 * down exponent
+  pub least : 708 * down exponent ≤ size * up exponent
 
-pub under : (x : Float) → lt x low745 ≡ false → lt x low708 ≡ true → Under x
+pub under-is : (x : Float) → lt x low745 ≡ false → lt x low708 ≡ true → Under x
 unfolding lt ofBits neg
-under nan b l = absurd (true≢false (sym l))
-under (inf true) b l = absurd (true≢false b)
-under (inf false) b l = absurd (true≢false (sym l))
-under (fin false m e) b l = absurd (true≢false (sym l))
-under (fin true m e) b l = record {
-  digits = m;
-  power = e;
+under-is nan b l = absurd (true≢false (sym l))
+under-is (inf true) b l = absurd (true≢false b)
+under-is (inf false) b l = absurd (true≢false (sym l))
+under-is (fin false m e) b l = absurd (true≢false (sym l))
+under-is (fin true m e) b l = record {
+  size = m;
+  exponent = e;
   is = refl;
   most = omega (arith, ltb-false (745 * 2 ^ 0 * down e) (m * up e * 1) b);
   least = omega (arith, ltb-true (177 * 2 ^ 2 * down e) (m * up e * 1) l);
@@ -161,21 +161,21 @@ under-range m e h l =
 -- from -745 to -708, k is from -1075 to -1021, and k + 64 from -1011 to -957
 pub exp-range-under : (x : Float) → lt x low745 ≡ false → lt x low708 ≡ true → betweenMinus 1075 1021 (expK x) × betweenMinus 1011 957 (expK x +ℤ pos 64)
 exp-range-under x b l =
-    let u = under x b l in
-    let k = under-range (u .digits) (u .power) (u .most) (u .least) in
-    rw (u .is) (k, lifted (expK (fin true (u .digits) (u .power))) k)
+    let u = under-is x b l in
+    let k = under-range (u .size) (u .exponent) (u .most) (u .least) in
+    rw (u .is) (k, lifted (expK (fin true (u .size) (u .exponent))) k)
 
 -- ---- k and k + 64 are exponents of normal numbers, and fit an i64
 
-plain-normal : (k : ℤ) → fromMinus 1021 1023 k → inExp k
-plain-normal (pos n) h = h
-plain-normal (negsuc n) h = omega (arith, h)
+in-normal : (k : ℤ) → fromMinus 1021 1023 k → inExp k
+in-normal (pos n) h = h
+in-normal (negsuc n) h = omega (arith, h)
 
 raised-normal : (k : ℤ) → betweenMinus 1011 957 k → inExp k × SFits w64 k
 raised-normal (negsuc n) h = (omega (arith, h .1), record { sfits = omega (arith, h .1) })
 
 pub exp-normal : (x : Float) → ne x x ≡ false → lt x low708 ≡ false → lt high709 x ≡ false → inExp (expK x)
-exp-normal x a b c = plain-normal (expK x) (exp-range x a b c)
+exp-normal x a b c = in-normal (expK x) (exp-range x a b c)
 
 pub exp-raised : (x : Float) → lt x low745 ≡ false → lt x low708 ≡ true → inExp (expK x +ℤ pos 64) × SFits w64 (expK x +ℤ pos 64)
 exp-raised x b l = raised-normal (expK x +ℤ pos 64) (exp-range-under x b l .1)

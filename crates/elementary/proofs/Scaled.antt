@@ -40,8 +40,8 @@ last-digit m (negsuc k) h l =
     split : (k : ℕ) → suc k ≤ 55 → 55 ≡ 55 - suc k + suc k
     split k h = omega arith
 
-regroup : (m U A P D I N : ℕ) → U * A ≡ P * D → m * U * 1 * (A * (I * N)) ≡ m * (P * I) * (D * N)
-regroup m U A P D I N h =
+rearrange : (m U A P D I N : ℕ) → U * A ≡ P * D → m * U * 1 * (A * (I * N)) ≡ m * (P * I) * (D * N)
+rearrange m U A P D I N h =
     ap (λ (x : ℕ). x * (A * (I * N))) (mul-one (m * U))
     ∙ sym (mul-assoc (m * U) A (I * N))
     ∙ ap (λ (x : ℕ). x * (I * N)) (mul-assoc m U A ∙ ap (λ (x : ℕ). m * x) h ∙ sym (mul-assoc m P D))
@@ -58,7 +58,7 @@ scaled m e n h l u b =
     let bp : 0 < B = mul-pos (down-pos e) (pow-pos n) in
     let units : 2 ^ 1074 ≡ 2 ^ 55 * (2 ^ i * 2 ^ n) = pow-add 2 55 1019 ∙ ap (λ (x : ℕ). 2 ^ 55 * x) (ap (λ (x : ℕ). 2 ^ x) (split n b) ∙ pow-add 2 i n) in
     let is : m * up e * 1 * 2 ^ 1074 ≡ m * 2 ^ (j + i) * B =
-    ap (λ (x : ℕ). m * up e * 1 * x) units ∙ regroup m (up e) (2 ^ 55) (2 ^ j) (down e) (2 ^ i) (2 ^ n) (w .1) ∙ ap (λ (x : ℕ). m * x * B) (sym (pow-add 2 j i)) in
+    ap (λ (x : ℕ). m * up e * 1 * x) units ∙ rearrange m (up e) (2 ^ 55) (2 ^ j) (down e) (2 ^ i) (2 ^ n) (w .1) ∙ ap (λ (x : ℕ). m * x * B) (sym (pow-add 2 j i)) in
     let under : m * 2 ^ (j + i) * B < 2 ^ 2098 * B =
     lt-of-le-of-lt (le-trans (le-of-eq (sym is)) (le-trans (mul-le-mul-right (2 ^ 1074) (le-trans (le-of-eq (mul-one (m * up e))) (le-trans u (more (down e) (2 ^ n) (pow-pos n))))) (le-of-eq (mul-right-comm 14 B (2 ^ 1074))))) (mul-lt-mul-of-pos-right (lit< {m = 14 * 2 ^ 1074} {n = 2 ^ 2098} tt) bp) in
     round-exact binary64 false (m * up e * 1) B m (j + i) bp h (lt-of-mul-lt-mul-right B under) is

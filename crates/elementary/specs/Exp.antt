@@ -1,5 +1,5 @@
--- exp, as the scope paper fixes it, for every f64. Definitions only.
-use Prim.Native.Nat.{ℕ, zero, suc, _+_, _*_, _/_, _<_, _≤_}
+-- exp, as the scope paper and request 2026-05 fix it, for every f64. Definitions only.
+use Prim.Native.Nat.{ℕ, zero, suc, _+_, _*_, _/_, _≤_}
 use mathlib.Core.Bool.{Bool, true, false, cond}
 use lib.IntN.{ℤ, pos, negsuc, negℤ, _+ℤ_}
 use lib.Ieee.{Float, nan, inf, fin, binary64, up, down, add, sub, mul, div, ofInt, lt, isNan, neg}

@@ -38,7 +38,7 @@ fn whole_near(q: f64) -> i64
     ((v + 1) / 2) as i64
 }
 
-// e to the power x, as the scope paper fixes it for every x.
+// e to the power x, as the scope paper and request 2026-05 fix it for every x.
 pub fn exp(x: f64) -> f64
     ensures { λ r. ⌜ r ≡ expOf x ⌝ }
 {
