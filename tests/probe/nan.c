@@ -56,6 +56,11 @@ int main(void) {
     look(EXP, one, UINT64_C(0x4005bf0a8b14576a));
     look(EXP, infinity, infinity);
     look(EXP, infinity | sign, 0);
+    /* -708, -720, -745 and the next below it: subnormal answers are not made zero */
+    look(EXP, UINT64_C(0xc086200000000000), UINT64_C(0x0017c8ab2288c9ac));
+    look(EXP, UINT64_C(0xc086800000000000), UINT64_C(0x993b4dc95));
+    look(EXP, UINT64_C(0xc087480000000000), 1);
+    look(EXP, UINT64_C(0xc087480000000001), 0);
     look(LN, one, 0);
     look(LN, UINT64_C(0x4000000000000000), UINT64_C(0x3fe62e42fefa39ef));
     look(LN, infinity, infinity);

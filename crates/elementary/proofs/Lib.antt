@@ -7,4 +7,5 @@ pub mod Powers
 pub mod Digits
 pub mod Parts
 pub mod Ceil
+pub mod Scaled
 pub mod Falling

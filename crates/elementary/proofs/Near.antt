@@ -19,7 +19,7 @@ use lib.Ieee.Nearest.{div-same}
 use Rattle.elementary.specs.Exp.{nearUp, signed, wholeNear, atMost}
 
 -- a value's digits are few, and its exponent is not too low
-digits : (s : Bool) (m : ℕ) (e : ℤ) → T (fits binary64 (fin s m e)) → (m < 2 ^ 53) × (down e ≤ 2 ^ 1074)
+pub digits : (s : Bool) (m : ℕ) (e : ℤ) → T (fits binary64 (fin s m e)) → (m < 2 ^ 53) × (down e ≤ 2 ^ 1074)
 unfolding fits
 digits s zero (pos k) h = (pow-pos 53, lit≤ tt)
 digits s zero (negsuc k) h = (pow-pos 53, subst (λ (n : ℕ). n ≤ 2 ^ 1074) (sym (sym (one-mul (2 ^ suc k)) ∙ eqb→eq (1 * 2 ^ suc k) 1 h)) (lit≤ tt))
@@ -42,7 +42,7 @@ beq-same : (s : Bool) → Bool·beq s s ≡ true
 beq-same true = refl
 beq-same false = refl
 
-double : (s : Bool) (m : ℕ) (e : ℤ) → T (fits binary64 (fin s m e)) → m * up e ≤ 1023 * down e → HasValue (add binary64 (fin s m e) (fin s m e)) s (2 * (m * up e)) (down e)
+double : (s : Bool) (m : ℕ) (e : ℤ) → T (fits binary64 (fin s m e)) → m * up e ≤ 1075 * down e → HasValue (add binary64 (fin s m e) (fin s m e)) s (2 * (m * up e)) (down e)
 unfolding add sum
 double s m e f h =
     let D = down e in
@@ -54,9 +54,9 @@ double s m e f h =
     let je = lift e (w .1) .1 in
     let eq : 2 * M * L ≡ m * 2 ^ j * D =
     ap (λ (n : ℕ). n * L) (mul-left-comm 2 m (up e)) ∙ mul-assoc m (2 * up e) L ∙ ap (λ (n : ℕ). m * n) (sym je) ∙ sym (mul-assoc m (2 ^ j) D) in
-    let twice : 2 * M ≤ 2046 * D = omega (arith, h) in
+    let twice : 2 * M ≤ 2150 * D = omega (arith, h) in
     let bound : m * 2 ^ j * D < 2 ^ 2098 * D =
-    lt-of-le-of-lt (le-trans (le-of-eq (sym eq)) (le-trans (mul-le-mul-right L twice) (le-of-eq (mul-right-comm 2046 D L)))) (mul-lt-mul-of-pos-right (lit< {m = 2046 * L} {n = 2 ^ 2098} tt) dp) in
+    lt-of-le-of-lt (le-trans (le-of-eq (sym eq)) (le-trans (mul-le-mul-right L twice) (le-of-eq (mul-right-comm 2150 D L)))) (mul-lt-mul-of-pos-right (lit< {m = 2150 * L} {n = 2 ^ 2098} tt) dp) in
     rw (beq-same s)
     (subst (λ (x : Float). HasValue x s (2 * M) D)
     (sym (round-same binary64 s (M * D + M * D) (D * D) (2 * M) D (mul-pos dp dp) dp (ap (λ (n : ℕ). n * D) (sym (two-mul (M * D)) ∙ sym (mul-assoc 2 M D)) ∙ mul-assoc (2 * M) D D)))
@@ -73,23 +73,23 @@ minus-one = fin true 1 (pos 0)
 abbrev two-64 : Float
 two-64 = fin false 1 (pos 64)
 
--- a value a / c that is not negative and at most 2046 is cut to a / c's whole part
-cut : (z : Float) (a c : ℕ) → HasValue z false a c → 0 < c → a ≤ 2046 * c → T (lt minus-one z) × T (lt z two-64) × (toUnsigned 64 z ≡ a / c)
+-- a value a / c that is not negative and at most 2150 is cut to a / c's whole part
+cut : (z : Float) (a c : ℕ) → HasValue z false a c → 0 < c → a ≤ 2150 * c → T (lt minus-one z) × T (lt z two-64) × (toUnsigned 64 z ≡ a / c)
 unfolding lt toUnsigned
 cut nan a c v h l = absurd v
 cut (inf s) a c v h l = absurd v
 cut (fin true m e) a c v h l = absurd (true≢false (v .0))
 cut (fin false m e) a c v h l =
     let D = down e in
-    let small : m * up e ≤ 2046 * D = le-of-mul-le-mul-right {k = c} (le-trans (le-of-eq (v .1)) (le-trans (mul-le-mul-right D l) (le-of-eq (mul-right-comm 2046 c D)))) h in
+    let small : m * up e ≤ 2150 * D = le-of-mul-le-mul-right {k = c} (le-trans (le-of-eq (v .1)) (le-trans (mul-le-mul-right D l) (le-of-eq (mul-right-comm 2150 c D)))) h in
     let q : m * up e / D ≡ a / c = div-same (m * up e) D a c (down-pos e) h (v .1) in
-    let ql : m * up e / D ≤ 2046 = div-le-of-le-mul D (le-trans small (le-of-eq (mul-comm 2046 D))) in (
+    let ql : m * up e / D ≤ 2150 = div-le-of-le-mul D (le-trans small (le-of-eq (mul-comm 2150 D))) in (
       lt→ltb 0 (1 * 2 ^ 0 * D + m * up e * 1) (omega (arith, down-pos e)),
       lt→ltb (m * up e * 1) (1 * 2 ^ 64 * D) (omega (arith, small, down-pos e)),
       min-left (m * up e / D) ql ∙ q,
     )
   where
-    min-left : (n : ℕ) → n ≤ 2046 → min n (2 ^ 64 - 1) ≡ n
+    min-left : (n : ℕ) → n ≤ 2150 → min n (2 ^ 64 - 1) ≡ n
     min-left n h = omega arith
 
 -- -0.0 is cut to 0
@@ -112,16 +112,16 @@ neg-value (fin s m e) a c v = (ap not (v .0), v .1)
 pub record NearCut (z : Float) (k : ℕ) : Type 0 where
   pub above : T (lt minus-one z)
   pub below : T (lt z two-64)
-  pub small : toUnsigned 64 z ≤ 2046
+  pub small : toUnsigned 64 z ≤ 2150
   pub whole : (toUnsigned 64 z + 1) / 2 ≡ k
 
-made : (z : Float) (M D : ℕ) → HasValue z false (2 * M) D → 0 < D → M ≤ 1023 * D → NearCut z (nearUp M D)
+made : (z : Float) (M D : ℕ) → HasValue z false (2 * M) D → 0 < D → M ≤ 1075 * D → NearCut z (nearUp M D)
 made z M D v h l =
     let r = cut z (2 * M) D v h (omega (arith, l)) in
     record {
       above = r .0;
       below = r .1;
-      small = le-trans (le-of-eq (r .2)) (div-le-of-le-mul D (omega (arith, l, mul-comm D 2046)));
+      small = le-trans (le-of-eq (r .2)) (div-le-of-le-mul D (omega (arith, l, mul-comm D 2150)));
       whole = ap (λ (n : ℕ). (n + 1) / 2) (r .2) ∙ sym (near-half M D h);
     }
 
@@ -129,14 +129,14 @@ zero-near : (D : ℕ) → 0 < D → nearUp 0 D ≡ 0
 zero-near D h = near-half 0 D h ∙ ap (λ (n : ℕ). (n + 1) / 2) (zero-div D)
 
 -- q is negative: the magnitude k of its whole number, from -(q + q)
-pub near-neg : (q : Float) → T (fits binary64 q) → atMost q 1023 → lt q (ofBits binary64 0) ≡ true → (k : ℕ) × (wholeNear q ≡ negℤ (pos k)) × NearCut (neg (add binary64 q q)) k
+pub near-neg : (q : Float) → T (fits binary64 q) → atMost q 1075 → lt q (ofBits binary64 0) ≡ true → (k : ℕ) × (wholeNear q ≡ negℤ (pos k)) × NearCut (neg (add binary64 q q)) k
 unfolding wholeNear signed lt ofBits
 near-neg nan f w t = absurd w
 near-neg (inf s) f w t = absurd w
 near-neg (fin true m e) f w t = (nearUp (m * up e) (down e), refl, made _ (m * up e) (down e) (neg-value _ _ _ (double true m e f w)) (down-pos e) w)
 near-neg (fin false m e) f w t = absurd (not-suc-le-zero (le-trans (ltb-true _ _ t) (le-of-eq (zero-mul (down e)))))
 
-pub near-pos : (q : Float) → T (fits binary64 q) → atMost q 1023 → lt q (ofBits binary64 0) ≡ false → (k : ℕ) × (wholeNear q ≡ pos k) × NearCut (add binary64 q q) k
+pub near-pos : (q : Float) → T (fits binary64 q) → atMost q 1075 → lt q (ofBits binary64 0) ≡ false → (k : ℕ) × (wholeNear q ≡ pos k) × NearCut (add binary64 q q) k
 unfolding wholeNear signed lt ofBits
 near-pos nan f w t = absurd w
 near-pos (inf s) f w t = absurd w

@@ -18,10 +18,25 @@ pub exp-minus-ten : toBits binary64 (expOf (bits 0xc024000000000000)) ≡ 0x3f07
 unfolding expOf ofBits lt isNan add mul div sub ofInt neg toBits
 exp-minus-ten = refl
 
--- the last below which it is zero, and the last above which it is infinite, are still worked out
-pub exp-lowest : toBits binary64 (expOf (bits 0xc086200000000000)) ≡ 0x0017c8ab2288c9ac
+-- -708 is still t·2^k
+pub exp-708 : toBits binary64 (expOf (bits 0xc086200000000000)) ≡ 0x0017c8ab2288c9ac
 unfolding expOf ofBits lt isNan add mul div sub ofInt neg toBits
-exp-lowest = refl
+exp-708 = refl
+
+-- a subnormal, of -720
+pub exp-720 : toBits binary64 (expOf (bits 0xc086800000000000)) ≡ 0x993b4dc95
+unfolding expOf ofBits lt isNan add mul div sub ofInt neg toBits
+exp-720 = refl
+
+-- -745 is the last that is worked out: the smallest subnormal
+pub exp-745 : toBits binary64 (expOf (bits 0xc087480000000000)) ≡ 1
+unfolding expOf ofBits lt isNan add mul div sub ofInt neg toBits
+exp-745 = refl
+
+-- the next below it gives +0.0
+pub exp-below-745 : toBits binary64 (expOf (bits 0xc087480000000001)) ≡ 0
+unfolding expOf ofBits lt isNan add mul div sub ofInt neg toBits
+exp-below-745 = refl
 
 -- ---- ln
 

@@ -1,7 +1,7 @@
--- exp, as the scope paper fixes it, for every f64. Definitions only.
-use Prim.Native.Nat.{ℕ, zero, suc, _+_, _*_, _/_, _<_, _≤_}
+-- exp, as the scope paper and request 2026-05 fix it, for every f64. Definitions only.
+use Prim.Native.Nat.{ℕ, zero, suc, _+_, _*_, _/_, _≤_}
 use mathlib.Core.Bool.{Bool, true, false, cond}
-use lib.IntN.{ℤ, pos, negsuc, negℤ}
+use lib.IntN.{ℤ, pos, negsuc, negℤ, _+ℤ_}
 use lib.Ieee.{Float, nan, inf, fin, binary64, up, down, add, sub, mul, div, ofInt, lt, isNan, neg}
 use Rattle.laws.specs.Area.{bits, zero64, one64}
 
@@ -15,7 +15,10 @@ ln2hi = bits 0x3fe62e42fee00000
 abbrev pub ln2lo : Float
 ln2lo = bits 0x3dea39ef35793c76
 
--- below -708 the answer is zero, above 709 infinity
+-- below -745 the answer is zero, below -708 it is rounded into the subnormals, above 709 it is infinity
+abbrev pub low745 : Float
+low745 = neg (bits 0x4087480000000000)
+
 abbrev pub low708 : Float
 low708 = neg (bits 0x4086200000000000)
 
@@ -51,22 +54,46 @@ series r (suc m) t = series r m (add binary64 one64 (mul binary64 (div binary64 
 unfoldable pub power : ℤ → Float
 power k = fin false 1 k
 
--- inside the range: t·2^k, where k is the whole number nearest to the rounded quotient x / L
+-- k, the whole number nearest to the rounded quotient x / L
+abbrev pub expK : Float → ℤ
+expK x = wholeNear (div binary64 x ln2)
+
+-- t, the series at what is left of x
+abbrev pub expT : Float → Float
+expT x = series (reduced x (expK x)) 13 one64
+
+-- from -708 to 709: t·2^k
 unfoldable pub expIn : Float → Float
 unfolding wholeNear series power reduced
-expIn x = let k = wholeNear (div binary64 x ln2) in mul binary64 (series (reduced x k) 13 one64) (power k)
+expIn x = mul binary64 (expT x) (power (expK x))
 
--- NaN gives NaN; below -708 zero; above 709 infinity
+-- from -745 to -708: t·2^(k + 64), which is exact, times 2^-64, which rounds once
+unfoldable pub expUnder : Float → Float
+unfolding wholeNear series power reduced
+expUnder x = mul binary64 (mul binary64 (expT x) (power (expK x +ℤ pos 64))) (power (negsuc 63))
+
+-- NaN gives NaN; below -745 zero; above 709 infinity
 unfoldable pub expOf : Float → Float
-unfolding expIn
-expOf x = cond (isNan x) nan (cond (lt x low708) zero64 (cond (lt high709 x) (inf false) (expIn x)))
+unfolding expIn expUnder
+expOf x = cond (isNan x) nan (cond (lt x low745) zero64 (cond (lt high709 x) (inf false) (cond (lt x low708) (expUnder x) (expIn x))))
+
+-- ---- the range of k, with its signs
+
+-- from - low to high: k itself is from -1021 to 1023 where the answer is t·2^k
+abbrev pub fromMinus : ℕ → ℕ → ℤ → Type 0
+fromMinus low high (pos n) = n ≤ high
+fromMinus low high (negsuc n) = suc n ≤ low
+
+-- from - low to - high: below -708, k is from -1075 to -1021 and k + 64 from -1011 to -957
+abbrev pub betweenMinus : ℕ → ℕ → ℤ → Type 0
+betweenMinus low high (pos n) = ⊥
+betweenMinus low high (negsuc n) = (high ≤ suc n) × (suc n ≤ low)
 
 -- ---- what the inner functions ask
 
 -- k is the exponent of a normal number
 abbrev pub inExp : ℤ → Type 0
-inExp (pos n) = n ≤ 1023
-inExp (negsuc n) = n < 1022
+inExp k = fromMinus 1022 1023 k
 
 -- finite, and of magnitude at most n
 abbrev pub atMost : Float → ℕ → Type 0

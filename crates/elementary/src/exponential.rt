@@ -1,4 +1,4 @@
-// exp: x = k·ln 2 + r, a series in r, and 2^k from its bits. k may be negative, zero or positive.
+// exp: x = k·ln 2 + r, a series in r, and 2^k from its bits. k is from -1075 to -1021 below -708, and from -1021 to 1023 else.
 ghost use mathlib.Core.Path.{_≡_};
 ghost use Rattle.elementary.specs.Exp.{series, power, inExp, wholeNear, atMost, expOf};
 ghost use Rattle.laws.specs.Area.{one64};
@@ -26,7 +26,7 @@ fn power_of(k: i64) -> f64
 
 // The whole number nearest to q, halves away from zero: half of the next number up from the whole part of twice its magnitude.
 fn whole_near(q: f64) -> i64
-    requires { ⌜ atMost q 1023 ⌝ }
+    requires { ⌜ atMost q 1075 ⌝ }
     ensures { λ k. ⌜ k ≡ wholeNear q ⌝ }
 {
     let w = q + q;
@@ -38,14 +38,14 @@ fn whole_near(q: f64) -> i64
     ((v + 1) / 2) as i64
 }
 
-// e to the power x, as the scope paper fixes it for every x.
+// e to the power x, as the scope paper and request 2026-05 fix it for every x.
 pub fn exp(x: f64) -> f64
     ensures { λ r. ⌜ r ≡ expOf x ⌝ }
 {
     if x != x {
         return 0.0 / 0.0;
     }
-    if x < -708.0 {
+    if x < -745.0 {
         return 0.0;
     }
     if x > 709.0 {
@@ -54,5 +54,9 @@ pub fn exp(x: f64) -> f64
     let k = whole_near(x / 0.6931471805599453);
     let kf = std::num::nearest_i64_to_f64(k);
     let r = (x - kf * 0.6931471803691238) - kf * 1.9082149292705877e-10;
-    taylor(r) * power_of(k)
+    let t = taylor(r);
+    if x < -708.0 {
+        return t * power_of(k + 64) * power_of(-64);
+    }
+    t * power_of(k)
 }

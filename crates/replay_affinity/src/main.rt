@@ -25,6 +25,6 @@ fn replay_lists(list: &mut [u8]) {
 }
 
 fn main() {
-    let mut list = [0u8; 163840];
+    let mut list = [0u8; 196608];
     replay_lists(&mut list);
 }

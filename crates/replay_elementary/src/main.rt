@@ -91,6 +91,11 @@ fn replay_exp(list: &mut [u8]) {
     replay::print(b"exp", exp_cases(&list[..n]));
 }
 
+fn replay_far(list: &mut [u8]) {
+    let n = replay::load(b"far.words", list);
+    replay::print(b"exp of far frames", exp_cases(&list[..n]));
+}
+
 fn replay_ln(list: &mut [u8]) {
     let n = replay::load(b"ln.words", list);
     replay::print(b"ln", ln_cases(&list[..n]));
@@ -109,6 +114,7 @@ fn replay_neighbours(list: &mut [u8]) {
 fn main() {
     let mut list = [0u8; 524288];
     replay_exp(&mut list);
+    replay_far(&mut list);
     replay_ln(&mut list);
     replay_bounds(&mut list);
     replay_neighbours(&mut list);

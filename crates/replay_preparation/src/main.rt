@@ -238,4 +238,5 @@ fn main() {
     let mut list = [0u8; 278528];
     replay_list(b"preparation.words", b"preparation", &mut list);
     replay_list(b"larger.words", b"larger preparations", &mut list);
+    replay_list(b"far.words", b"preparations of far frames", &mut list);
 }

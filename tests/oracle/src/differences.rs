@@ -139,6 +139,18 @@ fn exp_lines() -> Vec<Line> {
             "exp, [-708, 709]",
             compare(exp, library, 104, |r| 1417.0 * r.unit() - 708.0),
         ),
+        (
+            "exp, [-745.2, -708]",
+            compare(exp, library, 107, |r| -708.0 - 37.2 * r.unit()),
+        ),
+        (
+            "exp, [-745, -708]",
+            compare(exp, library, 105, |r| -708.0 - 37.0 * r.unit()),
+        ),
+        (
+            "exp, [-745.2, -745]",
+            compare(exp, library, 106, |r| -745.0 - 0.2 * r.unit()),
+        ),
     ]
 }
 

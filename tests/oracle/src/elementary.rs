@@ -18,6 +18,13 @@ pub const DOMAIN: f64 = 1_048_576.0;
 /// The largest magnitude that a step may give: 2^100.
 pub const CALM: f64 = 1_267_650_600_228_229_401_496_703_205_376.0;
 
+/// Below this exp is zero.
+pub const LOWEST: f64 = -745.0;
+/// Below this exp is rounded into the subnormals.
+pub const LOWEST_NORMAL: f64 = -708.0;
+/// What is added to k there, and taken away again by the second product.
+const RAISE: i64 = 64;
+
 /// Bits of the fraction of an f64.
 const FRACTION_BITS: u32 = 52;
 /// The fraction's bits, all set.
@@ -25,24 +32,39 @@ const FRACTION: u64 = (1 << FRACTION_BITS) - 1;
 /// What is added to an exponent to store it.
 const BIAS: i64 = 1023;
 
-/// The paper's exp.
+/// The paper's exp, with the subnormal answers of request 2026-05.
 pub fn exp(x: f64) -> f64 {
     if x.is_nan() {
         return f64::from_bits(NAN);
     }
-    if x < -708.0 {
+    if x < LOWEST {
         return 0.0;
     }
     if x > 709.0 {
         return f64::INFINITY;
     }
+    if x < LOWEST_NORMAL {
+        return raised_exp(x) * power_of_two(-RAISE);
+    }
+    let (t, k) = exp_parts(x);
+    t * power_of_two(k)
+}
+
+/// What exp has below -708 before the product that rounds: t·2^(k+64). It is exact.
+pub fn raised_exp(x: f64) -> f64 {
+    let (t, k) = exp_parts(x);
+    t * power_of_two(k + RAISE)
+}
+
+/// The t and the k of exp.
+fn exp_parts(x: f64) -> (f64, i64) {
     let k = exponent_of_exp(x);
     let (whole, hi, lo) = (k as f64, f64::from_bits(HI), f64::from_bits(LO));
     let r = (x - whole * hi) - whole * lo;
-    exp_series(r) * power_of_two(k)
+    (exp_series(r), k)
 }
 
-/// The k that exp uses for an x between -708 and 709.
+/// The k that exp uses: from -1075 to -1021 for an x from -745 to below -708, from -1021 to 1023 for one from there to 709.
 pub fn exponent_of_exp(x: f64) -> i64 {
     nearest_whole(x / f64::from_bits(L))
 }
@@ -177,8 +199,10 @@ mod tests {
     fn limits_of_exp() {
         assert_eq!(exp(f64::from_bits(0xFFF0_0000_0000_0001)).to_bits(), NAN);
         assert_eq!(exp(f64::NEG_INFINITY).to_bits(), 0);
-        assert_eq!(exp(-708.000_000_000_001).to_bits(), 0);
-        assert!(exp(-708.0) > 0.0);
+        assert_eq!(exp(-708.0).to_bits(), 0x0017_C8AB_2288_C9AC);
+        assert_eq!(exp(-720.0).to_bits(), 0x0000_0009_93B4_DC95);
+        assert_eq!(exp(-745.0).to_bits(), 1);
+        assert_eq!(exp(-745.000_000_000_000_1).to_bits(), 0);
         assert!(exp(709.0) < f64::INFINITY);
         assert_eq!(exp(709.000_000_000_001), f64::INFINITY);
     }
@@ -208,8 +232,25 @@ mod tests {
         assert_eq!(nearest_whole(0.499_999_999_999_999_94), 0);
         assert_eq!(exponent_of_exp(f64::from_bits(L) / 2.0), 1);
         assert_eq!(exponent_of_exp(-f64::from_bits(L) / 2.0), -1);
+        assert_eq!(exponent_of_exp(-745.0), -1075);
+        assert_eq!(exponent_of_exp(-708.000_000_000_000_1), -1021);
         assert_eq!(exponent_of_exp(-708.0), -1021);
         assert_eq!(exponent_of_exp(709.0), 1023);
+    }
+
+    /// t·2^(k+64) has t's own digits, and is a normal number: nothing is rounded but by the last product.
+    #[test]
+    fn the_first_product_is_exact() {
+        let mut random = SplitMix64::new(73);
+        for _ in 0..400_000 {
+            let x = -708.0 - 37.0 * random.unit();
+            let (t, k) = exp_parts(x);
+            let raised = raised_exp(x);
+            assert!(raised >= f64::MIN_POSITIVE);
+            assert_eq!(raised.to_bits() & FRACTION, t.to_bits() & FRACTION);
+            let place = |v: f64| (v.to_bits() >> FRACTION_BITS) as i64;
+            assert_eq!(place(raised), place(t) + k + RAISE);
+        }
     }
 
     #[test]
@@ -237,7 +278,7 @@ mod tests {
     fn exp_is_near_the_library() {
         let mut random = SplitMix64::new(71);
         for _ in 0..400_000 {
-            let x = random.unit() * 1417.0 - 708.0;
+            let x = random.unit() * 1454.0 - 745.0;
             assert!(ulps_apart(exp(x), x.exp()) <= 2, "exp {x:e}");
         }
     }

@@ -8,6 +8,7 @@ pub mod descent;
 pub mod differences;
 pub mod divergence;
 pub mod elementary;
+pub mod far;
 pub mod frames;
 pub mod gradient;
 pub mod lists;

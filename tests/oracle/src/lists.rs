@@ -6,6 +6,7 @@ pub mod bench;
 pub mod descent;
 pub mod divergence;
 pub mod elementary;
+pub mod far;
 pub mod frames;
 pub mod gradient;
 pub mod park;
@@ -53,6 +54,7 @@ impl List {
 pub fn all() -> Vec<List> {
     vec![
         List::new("replay_elementary", "exp", &elementary::exp_cases()),
+        List::new("replay_elementary", "far", &far::exp_cases()),
         List::new("replay_elementary", "ln", &elementary::ln_cases()),
         List::new("replay_elementary", "bounds", &elementary::bounds_cases()),
         List::new("replay_elementary", "neighbours", &elementary::neighbours_cases()),
@@ -65,6 +67,7 @@ pub fn all() -> Vec<List> {
         List::new("replay_forces", "links", &divergence::links_cases()),
         List::new("replay_preparation", "preparation", &preparation::cases()),
         List::new("replay_preparation", "larger", &preparation::larger_cases()),
+        List::new("replay_preparation", "far", &far::preparation_cases()),
         List::new("replay_descent", "runs", &descent::run_cases()),
         List::new("replay_descent", "faults", &descent::fault_cases()),
         List::new("replay_park", "parks", &park::park_cases()),

@@ -1,14 +1,14 @@
 //! `oracle make DIR` writes the replay lists, the bench's files and the sample, as seen from the folder of crates, `oracle show FILE` prints a list as hex,
 //! `oracle differences` prints how far the scope paper's rules lie from the usual library, `oracle moved` how far the Rust's divergence lies
-//! from the request's.
+//! from the request's, `oracle far` which weights request 2026-05 brings back.
 
-use oracle::{differences, lists, moved, words};
+use oracle::{differences, far, lists, moved, words};
 use std::fs;
 use std::io::{self, Write};
 use std::path::Path;
 use std::process::ExitCode;
 
-const USAGE: &str = "usage: oracle make DIR | oracle show FILE | oracle differences | oracle moved";
+const USAGE: &str = "usage: oracle make DIR | oracle show FILE | oracle differences | oracle moved | oracle far";
 
 fn main() -> ExitCode {
     let arguments: Vec<String> = std::env::args().skip(1).collect();
@@ -29,6 +29,7 @@ fn run(arguments: &[String]) -> Result<(), String> {
         ["show", file] => show(Path::new(file)),
         ["differences"] => print(&differences::report()),
         ["moved"] => print(&moved::report()),
+        ["far"] => print(&far::report()),
         _ => Err(USAGE.to_string()),
     }
 }

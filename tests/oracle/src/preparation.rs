@@ -22,6 +22,9 @@ pub struct Table<'a> {
     pub values: &'a [f64],
 }
 
+/// An exp: the paper's, or another to measure against it.
+pub type Exp = fn(f64) -> f64;
+
 /// A frame's list: the other frames by rising index, each with its weight.
 pub type Links = Vec<(usize, f64)>;
 
@@ -46,10 +49,15 @@ impl Table<'_> {
 
     /// The exact route: n·n affinities, by rows.
     pub fn exact(&self, perplexity: f64) -> Vec<f64> {
+        self.exact_by(exp, perplexity)
+    }
+
+    /// The exact route with another exp.
+    pub fn exact_by(&self, exp: Exp, perplexity: f64) -> Vec<f64> {
         let shares: Vec<Vec<f64>> = (0..self.n)
             .map(|i| {
                 let row: Vec<f64> = (0..self.n).map(|j| self.distance(i, j)).collect();
-                sigma_search(&row, perplexity)
+                sigma_search_by(exp, &row, perplexity)
             })
             .collect();
         let norm = 2.0 * self.n as f64;
@@ -64,7 +72,7 @@ impl Table<'_> {
     }
 
     /// The k nearest of frame i by distance, then index, with the shares of them.
-    fn nearest(&self, i: usize, perplexity: f64) -> Links {
+    fn nearest(&self, exp: Exp, i: usize, perplexity: f64) -> Links {
         let mut others: Vec<(f64, usize)> = (0..self.n)
             .filter(|&j| j != i)
             .map(|j| (self.distance(i, j), j))
@@ -72,17 +80,22 @@ impl Table<'_> {
         others.sort_by(|a, b| a.0.total_cmp(&b.0).then(a.1.cmp(&b.1)));
         others.truncate(neighbours(perplexity, self.n));
         let row: Vec<f64> = others.iter().map(|other| other.0).collect();
-        let shares = sigma_search(&row, perplexity);
+        let shares = sigma_search_by(exp, &row, perplexity);
         others.iter().map(|other| other.1).zip(shares).collect()
     }
 
     /// The Barnes-Hut route: each frame's list.
     pub fn lists(&self, perplexity: f64) -> Vec<Links> {
+        self.lists_by(exp, perplexity)
+    }
+
+    /// The Barnes-Hut route with another exp.
+    pub fn lists_by(&self, exp: Exp, perplexity: f64) -> Vec<Links> {
         let norm = 2.0 * self.n as f64;
         // What frame i makes of frame j, where j is among its nearest.
         let mut directed = vec![vec![None; self.n]; self.n];
         for (i, row) in directed.iter_mut().enumerate() {
-            for (j, share) in self.nearest(i, perplexity) {
+            for (j, share) in self.nearest(exp, i, perplexity) {
                 row[j] = Some(share / norm);
             }
         }
@@ -98,7 +111,7 @@ impl Table<'_> {
 }
 
 /// A row's shares at one sigma: a distance of 0 weighs 0, and a sum below 1e-8 makes all shares equal.
-fn shares_at(distances: &[f64], sigma: f64) -> Vec<f64> {
+fn shares_at(exp: Exp, distances: &[f64], sigma: f64) -> Vec<f64> {
     let weights: Vec<f64> = distances
         .iter()
         .map(|&d| if d == 0.0 { 0.0 } else { exp(-d / (2.0 * sigma * sigma)) })
@@ -111,17 +124,22 @@ fn shares_at(distances: &[f64], sigma: f64) -> Vec<f64> {
 }
 
 /// The perplexity of shares; only those above 1e-10 enter.
-fn perplexity_of(shares: &[f64]) -> f64 {
+fn perplexity_of(exp: Exp, shares: &[f64]) -> f64 {
     exp(sum(shares.iter().map(|&v| if v > 1e-10 { -v * ln(v) } else { 0.0 })))
 }
 
 /// The shares of the last of at most 50 rounds.
 pub fn sigma_search(distances: &[f64], target: f64) -> Vec<f64> {
+    sigma_search_by(exp, distances, target)
+}
+
+/// The search with another exp.
+pub fn sigma_search_by(exp: Exp, distances: &[f64], target: f64) -> Vec<f64> {
     let (mut low, mut high, mut sigma) = (1e-20, f64::INFINITY, 1.0);
     let mut shares = Vec::new();
     for _ in 0..50 {
-        shares = shares_at(distances, sigma);
-        let off = perplexity_of(&shares) - target;
+        shares = shares_at(exp, distances, sigma);
+        let off = perplexity_of(exp, &shares) - target;
         if absolute(off) < 1e-5 {
             break;
         }
@@ -157,8 +175,8 @@ mod tests {
 
     #[test]
     fn coincident_frames_weigh_nothing() {
-        assert_eq!(shares_at(&[0.0, 1.0, 1.0], 1.0), [0.0, 0.5, 0.5]);
-        let equal = shares_at(&[0.0, 0.0, 0.0, 0.0], 1.0);
+        assert_eq!(shares_at(exp, &[0.0, 1.0, 1.0], 1.0), [0.0, 0.5, 0.5]);
+        let equal = shares_at(exp, &[0.0, 0.0, 0.0, 0.0], 1.0);
         assert_eq!(equal, [0.25; 4]);
     }
 
@@ -169,7 +187,7 @@ mod tests {
             f: 1,
             values: &[0.0, 1.0, -1.0, 1.0, -1.0, 1.0],
         };
-        let near: Vec<usize> = table.nearest(0, 0.5).iter().map(|link| link.0).collect();
+        let near: Vec<usize> = table.nearest(exp, 0, 0.5).iter().map(|link| link.0).collect();
         assert_eq!(near, [1, 2, 3]);
     }
 
@@ -178,7 +196,7 @@ mod tests {
         let distances: Vec<f64> = (1..40).map(|d| f64::from(d) * 0.37).collect();
         for target in [1.5, 5.0, 20.0] {
             let shares = sigma_search(&distances, target);
-            assert!(absolute(perplexity_of(&shares) - target) < 1e-5);
+            assert!(absolute(perplexity_of(exp, &shares) - target) < 1e-5);
         }
     }
 }

@@ -3,13 +3,14 @@
 //!
 //! A run is a preparation and the calls after it: budgets at random with zeros among them, records, areas and lengths
 //! damaged now and then, an arena that grows when 14 comes. Each failure names its seed; BROTHANCHOR_SEED and
-//! BROTHANCHOR_RUNS choose others than the gate's few. The module `deep` has the force walk over altered arenas, the module
-//! `figures` the divergence, the module `parked` runs that are written and read back, the module `neighbours` preparations of
-//! frames that are equally near.
+//! BROTHANCHOR_RUNS choose others than the gate's few. The module `deep` has the force walk over altered arenas, `far` frames
+//! with subnormal weights, `figures` the divergence, `neighbours` preparations of frames that are equally near, `parked` runs
+//! that are written and read back.
 
 mod both;
 mod case;
 mod deep;
+mod far;
 mod figures;
 mod neighbours;
 mod parked;

@@ -1,7 +1,7 @@
 //! Lists for exp, ln, the tests on numbers and the number of neighbours.
 
 use crate::elementary::{absolute, exp, in_domain, is_calm, ln, neighbours};
-use crate::elementary::{CALM, DOMAIN, L, NAN, ROOT_OF_TWO};
+use crate::elementary::{CALM, DOMAIN, L, LOWEST, NAN, ROOT_OF_TWO};
 use crate::scatter::SplitMix64;
 
 /// How many random arguments of one kind enter a list.
@@ -16,7 +16,9 @@ const LARGEST_SUBNORMAL: u64 = (1 << 52) - 1;
 /// Pairs of argument and exp.
 pub fn exp_cases() -> Vec<Vec<u64>> {
     let mut arguments = limits();
-    arguments.extend(around_both_signs(&[0.5, 1.0, 10.0, 708.0, 709.0, 745.13, 709.78]));
+    arguments.extend(around_both_signs(&[
+        0.5, 1.0, 10.0, 708.0, 709.0, 745.0, 745.13, 709.78,
+    ]));
     arguments.extend(exponent_changes());
     arguments.extend(random_patterns(11));
     arguments.extend(random_between(12, -750.0, 750.0));
@@ -125,9 +127,9 @@ fn close_around(v: f64) -> [u64; 5] {
 /// The arguments around which exp goes from k to k + 1, for every k that has one in the range. Roundings move the
 /// change by more than one number at times, but never by more than two.
 fn exponent_changes() -> Vec<u64> {
-    (-1022..=1023)
+    (-1076..=1023)
         .map(|k| (f64::from(k) + 0.5) * f64::from_bits(L))
-        .filter(|x| (-708.0..=709.0).contains(x))
+        .filter(|x| (LOWEST..=709.0).contains(x))
         .flat_map(close_around)
         .collect()
 }
@@ -248,7 +250,7 @@ mod tests {
             assert_ne!(k(five[0]), k(five[4]));
             met.extend([k(five[0]), k(five[4])]);
         }
-        assert_eq!(met, (-1021..=1023).collect());
+        assert_eq!(met, (-1075..=1023).collect());
     }
 
     #[test]

@@ -110,14 +110,14 @@ fn head(method: u64, table: &Table, perplexity: f64) -> Vec<u64> {
 }
 
 /// One preparation by the exact route.
-fn exact_case(table: &Table, perplexity: f64) -> Vec<u64> {
+pub(super) fn exact_case(table: &Table, perplexity: f64) -> Vec<u64> {
     let mut words = head(EXACT, table, perplexity);
     words.extend(table.exact(perplexity).iter().map(|v| v.to_bits()));
     words
 }
 
 /// One preparation by the Barnes-Hut route.
-fn lists_case(table: &Table, perplexity: f64) -> Vec<u64> {
+pub(super) fn lists_case(table: &Table, perplexity: f64) -> Vec<u64> {
     let mut words = head(BARNES_HUT, table, perplexity);
     let lists = table.lists(perplexity);
     let mut offset = 0;

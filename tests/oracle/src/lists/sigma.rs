@@ -1,5 +1,7 @@
-//! The list for the sigma search: short rows exhaustively, longer ones at random, and rows of the extremes.
+//! The list for the sigma search: short rows exhaustively, longer ones at random, rows of the extremes and rows with
+//! subnormal weights.
 
+use crate::lists::far;
 use crate::scatter::SplitMix64;
 use crate::sigma::binary_search_sigma;
 
@@ -21,6 +23,7 @@ pub fn cases() -> Vec<Vec<u64>> {
         found.extend([1.0, 2.5].map(|perplexity| case(&row, perplexity)));
     }
     found.extend([1e-9, 0.5, 1.00001, 2.999_99, 3.0, 4000.0].map(|perplexity| case(&[1.0, 2.0, 4.0], perplexity)));
+    found.extend(far::rows().iter().map(|(row, perplexity)| case(row, *perplexity)));
     found
 }
 
