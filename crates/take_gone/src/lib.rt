@@ -1,10 +1,11 @@
 // The samples that are taken out, as a list that rises, and those that are left.
 ghost use mathlib.Core.Path.{_≡_};
-ghost use mathlib.Core.Bool.{true, not};
+ghost use mathlib.Core.Bool.{cond};
 ghost use mathlib.Core.List.{_++_};
-ghost use Prim.Native.Nat.{_≤_, _<_};
-ghost use lib.Dec.{ltb};
+ghost use Prim.Native.Nat.{_+_, _≤_, _<_};
+ghost use lib.Dec.{ltb, leb};
 ghost use lib.ListN.{length, drop};
+ghost use Rattle.laws.specs.Area.{num};
 ghost use Rattle.laws.specs.Domain.{mostFrames};
 ghost use Rattle.take_gone.specs.Gone.{standsAt, isAmong, goneFineAt, goneFine, survivors, Climbs};
 
@@ -42,6 +43,17 @@ pub fn gone_fine(gone: &[u32], n: usize) -> bool
     true
 }
 
+// The middle of the part that may hold j, or its start where j stands below the middle.
+fn raised(list: &[u32], low: usize, half: usize, j: u32) -> usize
+    requires { ⌜ low + half < length (now list) ⌝ }
+    ensures { λ r. ⌜ r ≡ cond (leb (num (now (list .entry)) (low + half)) j) (low + half) low ⌝ }
+{
+    if list[low + half] <= j {
+        return low + half;
+    }
+    low
+}
+
 // Where j stands in a list that rises; its length where it does not. In each turn the part that may hold j is halved.
 pub fn place_of(list: &[u32], j: u32) -> usize
     requires { ⌜ Climbs (now list) ⌝ }
@@ -55,9 +67,7 @@ pub fn place_of(list: &[u32], j: u32) -> usize
     let mut left = k;
     while left > 1 {
         let half = left / 2;
-        if list[low + half] <= j {
-            low += half;
-        }
+        low = raised(list, low, half, j);
         left -= half;
     }
     if list[low] == j {

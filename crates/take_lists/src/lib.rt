@@ -18,12 +18,17 @@ pub fn links_left(gone: &[u32], n: usize, indices: &[u32], offsets: &[u32]) -> u
 }
 
 // Packs weights, indices and offsets of n lists; zeros follow up to the old number of links and of offsets.
-pub fn pack_lists(weights: &mut [f64], indices: &mut [u32], offsets: &mut [u32], n: usize, keep: &[u32])
+pub fn pack_lists(
+    weights: &mut [f64],
+    indices: &mut [u32],
+    offsets: &mut [u32],
+    n: usize,
+    keep: &[u32],
+)
     requires { ⌜ (n ≤ mostFrames) × Climbs (now keep) × Kept (now keep) n × Listed n (length (now weights)) (length (now indices)) (now offsets) ⌝ }
     ensures { λ _. ⌜
         (now (weights .exit) ≡ shrunk zero64 (num (now (offsets .entry)) n) (packedWeights (now (keep .entry)) (now (weights .entry)) (now (indices .entry)) (now (offsets .entry))) (now (weights .entry)))
         × (now (indices .exit) ≡ shrunk 0 (num (now (offsets .entry)) n) (packedIndices (now (keep .entry)) (now (indices .entry)) (now (offsets .entry))) (now (indices .entry)))
         × (now (offsets .exit) ≡ shrunk 0 (n + 1) (packedOffsets (now (keep .entry)) (now (indices .entry)) (now (offsets .entry))) (now (offsets .entry)))
         ⌝ }
-{
-}
+{}

@@ -1,3 +1,6 @@
+use Rattle.take_gone.specs.Gone.{goneFineAt}
+use borrow.Author.Tests.{eq-eqb, ne-eqb, lt-ltb, le-ltb}
+use mathlib.Core.Path.{_∙_, sym}
 use borrow.Author.Needs.{needs}
 use native.Mathlib.Omega.{arith}
 use borrow.Author.Needs.{needs}
@@ -17,7 +20,8 @@ names-requires : tie.Need-names-requires
 names-requires c κs = search needs
 
 returns : tie.Need-returns
-returns c = search needs
+unfolding goneFineAt
+returns c = rw (eq-eqb _ _ (c .before .before .if1 .taken)) (c .names .ensures)
 
 sub-if2 : tie.Need-sub-if2
 sub-if2 c = search needs
@@ -44,10 +48,12 @@ names-requires-2 : tie.Need-names-requires-2
 names-requires-2 c κs = search needs
 
 returns-2 : tie.Need-returns-2
-returns-2 c = search needs
+unfolding goneFineAt
+returns-2 c = rw (ne-eqb _ _ (c .before .before .before .before .before .if1 .left), lt-ltb _ _ (c .before .before .if2 .taken)) (c .names2 .ensures)
 
 returns-3 : tie.Need-returns-3
-returns-3 c = search needs
+unfolding goneFineAt
+returns-3 c = rw (ne-eqb _ _ (c .before .before .before .if1 .left), le-ltb _ _ (c .if2 .left))
 
 pub gone-fine-at-spec : {M : Type 1} → statement M
 gone-fine-at-spec =
