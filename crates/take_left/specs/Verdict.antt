@@ -1,0 +1,63 @@
+-- What the tests say once those of a work call have passed, of what would be left. Definitions only.
+use mathlib.Core.List.{List}
+use mathlib.Core.Path.{_≡_}
+use mathlib.Core.Bool.{Bool, true, cond, not, _&&_}
+use Prim.Native.Nat.{ℕ, _+_, _*_, _<_, _≤_}
+use lib.Dec.{eqb, ltb}
+use lib.IntN.{pos}
+use lib.ListN.{length}
+use lib.Ieee.{Float, binary64, ofInt, lt}
+use Rattle.laws.specs.Area.{num}
+use Rattle.run_record.specs.declared.Settings.{Settings}
+use Rattle.run_record.specs.declared.Run.{Run}
+use Rattle.run_record.specs.Record.{isTree, sizesOf, perOf, GoodSettings}
+use Rattle.take_gone.specs.Gone.{goneFine, survivors}
+use Rattle.take_means.specs.CalmLeft.{calmLeft}
+use Rattle.take_lists.specs.Packed.{linksLeft, Listed}
+use Rattle.take_left.specs.declared.Verdict.{Verdict}
+use Rattle.take_left.specs.declared.Verdict.the-variants.{Left, Inside, Unordered, Few, Perplexed, Crowded, Barred}
+
+-- ---- the record of m survivors
+
+-- the settings, but for the number of samples
+unfoldable pub thinned : Settings → ℕ → Settings
+thinned s m = record { n = m; f = s .f; c = s .c; perplexity = s .perplexity; rate = s .rate; iterations = s .iterations; minimum = s .minimum; angle = s .angle; method = s .method }
+
+-- the iterations done stay done, now of m samples; the nodes in use stay as they are
+unfoldable pub thinnedRun : Run → ℕ → Run
+thinnedRun r m = record { settings = thinned (r .settings) m; standing = r .standing; done = r .done; phase = 0; units = r .done * perOf (r .settings .method) m; used = r .used }
+
+-- ---- the tests
+
+-- more links would be left than lists of that many samples hold: I and O are indices and offsets
+unfoldable pub crowded : Settings → List ℕ → List ℕ → List ℕ → Bool
+crowded s keep I O = isTree (s .method) && ltb (sizesOf (thinned s (length keep)) .links) (linksLeft keep I O)
+
+-- 17 inside an iteration; 18 for a list that does not rise or names no sample; then of what would be left 9, 10, 18 for its links, 15 for its positions y
+unfoldable pub verdictOf : Run → List ℕ → List Float → List ℕ → List ℕ → Verdict
+verdictOf r g y I O =
+    let s = r .settings in
+    let keep = survivors g (s .n) in
+    cond (not (eqb (r .phase) 0)) Inside
+    (cond (not (goneFine g (s .n))) Unordered
+    (cond (ltb (length keep) 2) Few
+    (cond (not (lt (s .perplexity) (ofInt binary64 (pos (length keep))))) Perplexed
+    (cond (crowded s keep I O) Crowded
+    (cond (calmLeft keep (s .c) y) (Left (length keep)) Barred)))))
+
+-- the number of a refusal; 0 where there is none
+unfoldable pub verdictNumber : Verdict → ℕ
+verdictNumber (Left m) = 0
+verdictNumber Inside = 17
+verdictNumber Unordered = 18
+verdictNumber Few = 9
+verdictNumber Perplexed = 10
+verdictNumber Crowded = 18
+verdictNumber Barred = 15
+
+-- what the tests of a work call have shown
+pub record VerdictRoom (r : Run) (y : List Float) (I O : List ℕ) : Type 0 where
+  pub settings-good : GoodSettings (r .settings)
+  pub positions-long : r .settings .n * r .settings .c ≤ length y
+  pub lists-lie : isTree (r .settings .method) ≡ true → Listed (r .settings .n) (length I) (length I) O
+  pub lists-name : isTree (r .settings .method) ≡ true → (i : ℕ) → i < num O (r .settings .n) → num I i < r .settings .n

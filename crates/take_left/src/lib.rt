@@ -1,0 +1,143 @@
+// The tests of what would be left, once those of a work call have passed. Nothing is changed.
+ghost use mathlib.Core.Path.{_≡_};
+ghost use mathlib.Core.Bool.{true};
+ghost use Prim.Native.Nat.{_*_, _≤_};
+ghost use lib.ListN.{length};
+ghost use Rattle.laws.specs.Domain.{mostFrames};
+ghost use Rattle.run_record.specs.Record.{GoodSettings, isTree};
+ghost use Rattle.take_gone.specs.Gone.{survivors, Climbs};
+ghost use Rattle.take_lists.specs.Packed.{Listed};
+ghost use Rattle.take_left.specs.Verdict.{thinned, thinnedRun, crowded, verdictOf, verdictNumber, VerdictRoom, CountRoom};
+use run_record::Run;
+use run_record::Settings;
+use run_record::counters::per;
+use run_record::faults::is_tree;
+use run_record::faults::late_fault;
+use run_record::faults::sizes_of;
+use take_gone::gone_fine;
+use take_lists::links_left;
+use take_means::is_calm_left;
+
+// What the tests say.
+pub enum Verdict {
+    // so many survivors
+    Left(usize),
+    // 17: a unit of an iteration is done, and the iteration is not
+    Inside,
+    // 18: the list does not rise, or names no sample
+    Unordered,
+    // 9: fewer than two would be left
+    Few,
+    // 10: the perplexity is not below what would be left
+    Perplexed,
+    // 18: more links would be left than their lists hold
+    Crowded,
+    // 15: a centred position that it bars
+    Barred,
+}
+
+// The settings of m samples.
+pub fn thinned_settings(s: Settings, m: usize) -> Settings
+    ensures { λ t. ⌜ t ≡ thinned s m ⌝ }
+{
+    Settings {
+        n: m,
+        f: s.f,
+        c: s.c,
+        perplexity: s.perplexity,
+        rate: s.rate,
+        iterations: s.iterations,
+        minimum: s.minimum,
+        angle: s.angle,
+        method: s.method,
+    }
+}
+
+fn wide(x: u32) -> usize
+    ensures { λ r. ⌜ r ≡ x ⌝ }
+{
+    x as usize
+}
+
+// Whether more links would be left than lists of t's samples hold. Where no more are listed now, none need be counted.
+fn is_crowded(s: Settings, t: Settings, gone: &[u32], indices: &[u32], offsets: &[u32]) -> bool
+    requires { ⌜ CountRoom s t (now gone) (now indices) (now offsets) ⌝ }
+    ensures { λ b. ⌜ b ≡ crowded s (survivors (now (gone .entry)) (s .n)) (now (indices .entry)) (now (offsets .entry)) ⌝ }
+{
+    let m = s.method;
+    if !is_tree(m) {
+        return false;
+    }
+    let z = sizes_of(t);
+    if wide(offsets[s.n]) <= z.links {
+        return false;
+    }
+    z.links < links_left(gone, s.n, indices, offsets)
+}
+
+// The tests in their order.
+pub fn verdict(
+    r: Run,
+    gone: &[u32],
+    positions: &[f64],
+    indices: &[u32],
+    offsets: &[u32],
+) -> Verdict
+    requires { ⌜ VerdictRoom r (now positions) (now indices) (now offsets) ⌝ }
+    ensures { λ v. ⌜ v ≡ verdictOf r (now (gone .entry)) (now (positions .entry)) (now (indices .entry)) (now (offsets .entry)) ⌝ }
+{
+    if r.phase != 0 {
+        return Verdict::Inside;
+    }
+    let s = r.settings;
+    if !gone_fine(gone, s.n) {
+        return Verdict::Unordered;
+    }
+    let m = s.n - gone.len();
+    if m < 2 {
+        return Verdict::Few;
+    }
+    let t = thinned_settings(s, m);
+    if late_fault(t) != 0 {
+        return Verdict::Perplexed;
+    }
+    if is_crowded(s, t, gone, indices, offsets) {
+        return Verdict::Crowded;
+    }
+    if is_calm_left(positions, gone, s.n, s.c, m) {
+        return Verdict::Left(m);
+    }
+    Verdict::Barred
+}
+
+// The record of m survivors: the iterations done stay done.
+pub fn thinned_run(r: Run, m: usize) -> Run
+    requires { ⌜ (m ≤ mostFrames) × (r .done ≤ 65535) ⌝ }
+    ensures { λ t. ⌜ t ≡ thinnedRun r m ⌝ }
+{
+    let s = r.settings;
+    let k = s.method;
+    Run {
+        settings: thinned_settings(s, m),
+        standing: r.standing,
+        done: r.done,
+        phase: 0,
+        units: r.done * per(k, m),
+        used: r.used,
+    }
+}
+
+// The number of a refusal; 0: it is none.
+pub fn number(v: Verdict) -> u8
+    ensures { λ k. ⌜ k ≡ verdictNumber v ⌝ }
+{
+    match v {
+        Verdict::Left(_) => 0,
+        Verdict::Inside => 17,
+        Verdict::Unordered => 18,
+        Verdict::Few => 9,
+        Verdict::Perplexed => 10,
+        Verdict::Crowded => 18,
+        Verdict::Barred => 15,
+    }
+}
