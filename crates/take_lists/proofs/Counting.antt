@@ -96,18 +96,27 @@ module _ {g I O : List ℕ} {n w x : ℕ} (lists : Listed n w x O) where
       most = omega (arith, r .most, lists .offsets-rise j l);
     }
 
-    pub tallies-room : {v : ℕ} → v ≡ leftOf g I O j → c + v ≤ num O (j + 1)
-    tallies-room e = omega (arith, e, r .most, named-few g I (num O j) (num O (j + 1) - num O j), lists .offsets-rise j l)
+    -- its list, from a up to b, has v links left
+    module _ {a b : ℕ} (ea : a ≡ num O j) (eb : b ≡ num O (j + 1)) where
+      pub tallies-inside : (a ≤ b) × (b ≤ x)
+      tallies-inside = (omega (arith, ea, eb, lists .offsets-rise j l), omega (arith, eb, lists-rise lists (j + 1) n (omega arith) (omega arith), lists .indices-long))
 
-    pub tallies-more : {v : ℕ} → false ≡ isAmong g j → v ≡ leftOf g I O j → Tallies g I O n (j + 1) (c + v)
-    tallies-more {v} e u = record {
-      within = omega arith;
-      same =
-          ap (λ (y : ℕ). c + y) u ∙ ap (λ (y : ℕ). y + leftOf g I O j) (r .same)
-          ∙ sym (over-more (leftOf g I O) (survivors g j) j)
-          ∙ ap (over (leftOf g I O)) (sym (those-yes (λ j. not (isAmong g j)) j (ap not (sym e))));
-      most = tallies-room u;
-    }
+      module _ {v : ℕ} (u : v ≡ namedLeft g I a (b - a)) where
+        given : v ≡ leftOf g I O j
+        given = u ∙ ap (λ (y : ℕ). namedLeft g I y (b - y)) ea ∙ ap (λ (y : ℕ). namedLeft g I (num O j) (y - num O j)) eb
+
+        pub tallies-room : c + v ≤ num O (j + 1)
+        tallies-room = omega (arith, given, r .most, named-few g I (num O j) (num O (j + 1) - num O j), lists .offsets-rise j l)
+
+        pub tallies-more : false ≡ isAmong g j → Tallies g I O n (j + 1) (c + v)
+        tallies-more e = record {
+          within = omega arith;
+          same =
+              ap (λ (y : ℕ). c + y) given ∙ ap (λ (y : ℕ). y + leftOf g I O j) (r .same)
+              ∙ sym (over-more (leftOf g I O) (survivors g j) j)
+              ∙ ap (over (leftOf g I O)) (sym (those-yes (λ j. not (isAmong g j)) j (ap not (sym e))));
+          most = tallies-room;
+        }
 
   pub tallies-done : {j c : ℕ} → ((i : ℕ) → i < num O n → num I i < n) → n ≤ j → Tallies g I O n j c → c ≡ linksLeft (survivors g n) I O
   tallies-done {j} {c} h m r =

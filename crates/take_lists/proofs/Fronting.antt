@@ -95,9 +95,9 @@ module _ {A : Type 0} where
         is p b l m = omega arith
 
   -- an area with X at its front, cleared past X up to its old size
-  pub fronts-shrunk : {l₀ X l l' : List A} {q : ℕ} (z : A) (s : ℕ) → q ≤ s → l' ≡ clearedFrom z q s l → Fronts l₀ X q l → l' ≡ shrunk z s X l₀
-  fronts-shrunk {l₀} {X} {l} {l'} {q} z s h e f =
-      e
-      ∙ ap (λ (x : List A). x ++ (replicate (s - q) z ++ drop s l)) (fronts-low f)
-      ∙ ap (λ (x : List A). X ++ (replicate (s - q) z ++ x)) (fronts-rest f s h)
-      ∙ ap (λ (x : ℕ). X ++ (replicate (s - x) z ++ drop s l₀)) (sym (f .long))
+  pub front-shrunk : {l l' : List A} {q s : ℕ} (z : A) (X l₀ : List A) → length X ≡ q → q ≤ s → l ≡ X ++ drop q l₀ → l' ≡ clearedFrom z q s l → l' ≡ shrunk z s X l₀
+  front-shrunk {l} {l'} {q} {s} z X l₀ n h e f =
+      f
+      ∙ ap (λ (x : List A). x ++ (replicate (s - q) z ++ drop s l)) (ap (take q) e ∙ take-at X (drop q l₀) q n)
+      ∙ ap (λ (x : List A). X ++ (replicate (s - q) z ++ x)) (drop-later l l₀ q s h (ap (drop q) e ∙ drop-at X (drop q l₀) q n))
+      ∙ ap (λ (x : ℕ). X ++ (replicate (s - x) z ++ drop s l₀)) (sym n)

@@ -1,6 +1,6 @@
-use Rattle.take_lists.proofs.Counting.{Tallies, tallies-start, tallies-pass, tallies-room, tallies-more, tallies-done}
+use Rattle.take_lists.proofs.Counting.{Tallies, tallies-start, tallies-pass, tallies-inside, tallies-room, tallies-more, tallies-done}
 use mathlib.Core.Path.{sym, _∙_}
-use Prim.Native.Nat.{_-_}
+use Prim.Native.Nat.{_+_, _-_}
 use borrow.Author.Needs.{needs}
 use native.Mathlib.Omega.{arith}
 use Rattle.take_lists.proofs.links_left.Statement.{statement}
@@ -60,10 +60,10 @@ sub-list-left : tie.Need-sub-list-left Inv-loop μ-loop
 sub-list-left c = omega (arith, c .before .before .wide .ensures, c .wide2 .ensures, c .before .before .before .before .before .before .before .before .before .before .before .pre .2 .offsets-rise (c .before .before .before .before .before .before .before .loop .j) (c .before .before .before .before .before .before .loop-test .taken))
 
 list-left-requires : tie.Need-list-left-requires Inv-loop μ-loop
-list-left-requires c κs = ?
+list-left-requires c κs = (c .before .before .before .before .before .before .before .before .before .before .before .pre .1, omega (arith, tallies-inside (c .before .before .before .before .before .before .before .before .before .before .before .pre .2) (c .before .before .before .before .before .before .loop-test .taken) (c .before .before .before .before .before .before .before .loop .inv) (c .before .before .wide .ensures) (c .wide2 .ensures)))
 
 add-c : tie.Need-add-c Inv-loop μ-loop
-add-c c = ?
+add-c c = omega (arith, tallies-room (c .before .before .before .before .before .before .before .before .before .before .before .before .pre .2) (c .before .before .before .before .before .before .before .loop-test .taken) (c .before .before .before .before .before .before .before .before .loop .inv) (c .before .before .before .wide .ensures) (c .before .wide2 .ensures) (c .list-left .ensures), c .before .before .before .before .before .before .before .before .before .shared-slice-known3 .given (c .before .before .before .before .before .before .before .before .loop .j + 1))
 
 add-j-2 : tie.Need-add-j-2 Inv-loop μ-loop
 add-j-2 c = omega (arith, c .before .before .before .before .before .before .before .before .before .before .before .before .pre .0, c .before .before .before .before .before .before .before .loop-test .taken)
@@ -72,7 +72,7 @@ loop-less-2 : tie.Need-loop-less-2 Inv-loop μ-loop
 loop-less-2 c = search needs
 
 loop-again-2 : tie.Need-loop-again-2 Inv-loop μ-loop
-loop-again-2 c = ?
+loop-again-2 c = tallies-more (c .before .before .before .before .before .before .before .before .before .before .before .before .pre .2) (c .before .before .before .before .before .before .before .loop-test .taken) (c .before .before .before .before .before .before .before .before .loop .inv) (c .before .before .before .wide .ensures) (c .before .wide2 .ensures) (c .list-left .ensures) (sym (c .before .before .before .before .before .if1 .left) ∙ c .before .before .before .before .before .before .is-among .ensures)
 
 returns : tie.Need-returns Inv-loop μ-loop
 returns c = tallies-done (c .before .before .before .before .before .pre .2) (c .before .before .before .before .before .pre .3) (c .loop-test .left) (c .before .loop .inv)
