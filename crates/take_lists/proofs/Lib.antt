@@ -1,0 +1,5 @@
+pub mod Fronting
+pub mod OneList
+pub mod Bounds
+pub mod AllLists
+pub mod Counting

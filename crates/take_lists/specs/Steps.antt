@@ -1,0 +1,31 @@
+-- What the smaller functions give: the links of one list, from place a on, and a part of an area cleared. Definitions only.
+use mathlib.Core.List.{List, map, _++_}
+use mathlib.Core.Bool.{not}
+use Prim.Native.Nat.{ℕ, _+_, _-_}
+use lib.ListN.{take, drop, replicate}
+use lib.Ieee.{Float}
+use Rattle.laws.specs.Sums.{sum, bit}
+use Rattle.laws.specs.Area.{at, num}
+use Rattle.laws.specs.Joined.{those}
+use Rattle.take_gone.specs.Gone.{standsAt, isAmong}
+
+-- of the k frames named from place a on, how many are not in g
+abbrev pub namedLeft : List ℕ → List ℕ → ℕ → ℕ → ℕ
+namedLeft g I a k = sum (λ t. bit (not (isAmong g (num I (a + t))))) k
+
+-- of the k links from place a on, those that name a frame in keep
+abbrev pub keptFrom : List ℕ → List ℕ → ℕ → ℕ → List ℕ
+keptFrom keep I a k = those (λ t. isAmong keep (num I (a + t))) k
+
+-- the places in keep of the frames that they name
+abbrev pub indicesFrom : List ℕ → List ℕ → ℕ → ℕ → List ℕ
+indicesFrom keep I a k = map (λ t. standsAt keep (num I (a + t))) (keptFrom keep I a k)
+
+-- and their weights
+abbrev pub weightsFrom : List ℕ → List Float → List ℕ → ℕ → ℕ → List Float
+weightsFrom keep W I a k = map (λ t. at W (a + t)) (keptFrom keep I a k)
+
+module _ {A : Type 0} where
+  -- z in the places from a up to b, all else as it was
+  abbrev pub clearedFrom : A → ℕ → ℕ → List A → List A
+  clearedFrom z a b l = take a l ++ (replicate (b - a) z ++ drop b l)
