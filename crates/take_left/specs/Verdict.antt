@@ -8,10 +8,11 @@ use lib.IntN.{pos}
 use lib.ListN.{length}
 use lib.Ieee.{Float, binary64, ofInt, lt}
 use Rattle.laws.specs.Area.{num}
+use Rattle.laws.specs.Domain.{mostFrames}
 use Rattle.run_record.specs.declared.Settings.{Settings}
 use Rattle.run_record.specs.declared.Run.{Run}
 use Rattle.run_record.specs.Record.{isTree, sizesOf, perOf, GoodSettings}
-use Rattle.take_gone.specs.Gone.{goneFine, survivors}
+use Rattle.take_gone.specs.Gone.{goneFine, survivors, Climbs}
 use Rattle.take_means.specs.CalmLeft.{calmLeft}
 use Rattle.take_lists.specs.Packed.{linksLeft, Listed}
 use Rattle.take_left.specs.declared.Verdict.{Verdict}
@@ -61,3 +62,12 @@ pub record VerdictRoom (r : Run) (y : List Float) (I O : List ℕ) : Type 0 wher
   pub positions-long : r .settings .n * r .settings .c ≤ length y
   pub lists-lie : isTree (r .settings .method) ≡ true → Listed (r .settings .n) (length I) (length I) O
   pub lists-name : isTree (r .settings .method) ≡ true → (i : ℕ) → i < num O (r .settings .n) → num I i < r .settings .n
+
+-- what has been shown before links are counted: s are the settings, t those of what would be left
+pub record CountRoom (s t : Settings) (g I O : List ℕ) : Type 0 where
+  pub samples-most : s .n ≤ mostFrames
+  pub thinned-as : t ≡ thinned s (length (survivors g (s .n)))
+  pub thinned-good : GoodSettings t
+  pub gone-rises : Climbs g
+  pub counted-lie : isTree (s .method) ≡ true → Listed (s .n) (length I) (length I) O
+  pub counted-name : isTree (s .method) ≡ true → (i : ℕ) → i < num O (s .n) → num I i < s .n

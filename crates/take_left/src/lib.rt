@@ -40,6 +40,7 @@ pub enum Verdict {
 pub fn thinned_settings(s: Settings, m: usize) -> Settings
     ensures { λ t. ⌜ t ≡ thinned s m ⌝ }
 {
+    let method = s.method;
     Settings {
         n: m,
         f: s.f,
@@ -49,7 +50,7 @@ pub fn thinned_settings(s: Settings, m: usize) -> Settings
         iterations: s.iterations,
         minimum: s.minimum,
         angle: s.angle,
-        method: s.method,
+        method: method,
     }
 }
 
@@ -68,15 +69,16 @@ fn is_crowded(s: Settings, t: Settings, gone: &[u32], indices: &[u32], offsets: 
     if !is_tree(m) {
         return false;
     }
-    let z = sizes_of(t);
-    if wide(offsets[s.n]) <= z.links {
+    let n = s.n;
+    let most = sizes_of(t).links;
+    if wide(offsets[n]) <= most {
         return false;
     }
-    z.links < links_left(gone, s.n, indices, offsets)
+    most < links_left(gone, n, indices, offsets)
 }
 
 // The tests in their order.
-pub fn verdict(
+pub fn judge(
     r: Run,
     gone: &[u32],
     positions: &[f64],
@@ -116,13 +118,16 @@ pub fn thinned_run(r: Run, m: usize) -> Run
     ensures { λ t. ⌜ t ≡ thinnedRun r m ⌝ }
 {
     let s = r.settings;
-    let k = s.method;
+    let standing = r.standing;
+    let t = thinned_settings(s, m);
+    let k = t.method;
+    let units = r.done * per(k, m);
     Run {
-        settings: thinned_settings(s, m),
-        standing: r.standing,
+        settings: t,
+        standing: standing,
         done: r.done,
         phase: 0,
-        units: r.done * per(k, m),
+        units: units,
         used: r.used,
     }
 }

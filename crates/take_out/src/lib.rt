@@ -20,7 +20,7 @@ use run_record::faults::settings_fault;
 use take_gone::put_survivors;
 use take_left::Verdict;
 use take_left::thinned_run;
-use take_left::verdict;
+use take_left::judge;
 use take_lists::pack_lists;
 use take_means::means_left;
 use take_rows::pack_centred;

@@ -1,0 +1,27 @@
+use Rattle.take_left.specs.Verdict.{thinned, thinnedRun}
+use mathlib.Core.Path.{refl, ap, sym, _∙_}
+use borrow.Author.Needs.{needs}
+use native.Mathlib.Omega.{arith}
+use borrow.Author.Needs.{needs}
+use Rattle.take_left.proofs.thinned_run.Statement.{statement}
+use Rattle.take_left.proofs.thinned_run.Tie as tie
+use Rattle.take_left.proofs.thinned_run.Reads as reads
+use Rattle.take_left.proofs.thinned_run.Lts as lts
+use Rattle.run_record.proofs.counters.per.Reads as per-reads
+use Rattle.take_left.proofs.thinned_settings.Reads as thinned-settings-reads
+
+thinned-settings-requires : tie.Need-thinned-settings-requires
+thinned-settings-requires c κs = search needs
+
+per-requires : tie.Need-per-requires
+per-requires c κs = search needs
+
+mul-units : tie.Need-mul-units
+mul-units c = ?
+
+returns : tie.Need-returns
+unfolding thinnedRun thinned
+returns c = ?
+
+pub thinned-run-spec : {M : Type 1} → statement M
+thinned-run-spec = tie.close (tie.spec thinned-settings-requires per-requires mul-units returns)
