@@ -1,5 +1,5 @@
 -- How many links are left: no list grows, so what is written ends no higher than the list that is read begins. Premises: `Listed`, `Climbs`, `Kept`.
-use mathlib.Core.Path.{_≡_, refl, sym, ap, subst, _∙_}
+use mathlib.Core.Path.{_≡_, refl, ap, subst, _∙_}
 use mathlib.Core.List.{List, map}
 use mathlib.Core.Bool.{Bool}
 use Prim.Native.Nat.{ℕ, zero, suc, _+_, _-_, _<_, _≤_}
@@ -9,15 +9,15 @@ use native.Mathlib.Numerals.{add-one}
 use native.Mathlib.Nat.{le-refl, mul-one}
 use lib.ListN.{length}
 use lib.Ieee.{Float}
-use Rattle.laws.specs.Sums.{sum, bit}
+use Rattle.laws.specs.Sums.{bit}
 use Rattle.laws.specs.Area.{at, num}
-use Rattle.laws.specs.Joined.{those, joined, each}
+use Rattle.laws.specs.Joined.{those, joined}
 use Rattle.laws.proofs.Sums.{sum-none, sum-more, sum-same, sum-le, sum-const, bit-le}
 use Rattle.laws.proofs.Joined.{length-those, length-joined, length-map}
 use Rattle.laws.proofs.Laid.{singles-size}
 use Rattle.take_gone.specs.Gone.{standsAt, isAmong, Climbs}
 use Rattle.take_rows.specs.Rows.{Kept}
-use Rattle.take_lists.specs.Packed.{keptLinks, linksBefore, linksLeft, packedIndices, packedWeights, packedOffsets, Listed}
+use Rattle.take_lists.specs.Packed.{keptLinks, linksBefore, packedOffsets, Listed}
 use Rattle.take_lists.specs.Steps.{keptFrom}
 
 -- no more numbers are picked than there are

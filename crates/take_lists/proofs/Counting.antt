@@ -1,15 +1,14 @@
 -- How many links are left, counted by the frames that are taken out: in one list, and in the lists of all frames that are not taken out. Assumes nothing.
-use mathlib.Core.Path.{_≡_, refl, sym, ap, subst, _∙_}
+use mathlib.Core.Path.{_≡_, sym, ap, _∙_}
 use mathlib.Core.List.{List, [], _∷_, _++_}
 use mathlib.Core.Bool.{Bool, true, false, not}
-use Prim.Native.Nat.{ℕ, _+_, _-_, _*_, _<_, _≤_}
+use Prim.Native.Nat.{ℕ, _+_, _-_, _<_, _≤_}
 use native.Mathlib.Omega.{arith}
 use native.Mathlib.Nat.{le-antisymm, mul-one}
 use lib.ListN.{length, length-append, List·getD-append}
 use lib.Seq.{getD-append-seam}
 use Rattle.laws.specs.Area.{num}
 use Rattle.laws.specs.Sums.{sum, bit}
-use Rattle.laws.specs.Joined.{those}
 use Rattle.laws.proofs.Sums.{sum-none, sum-more, sum-same, sum-le, sum-const, bit-le}
 use Rattle.laws.proofs.Joined.{length-those, those-none, those-yes, those-no, those-below}
 use Rattle.take_gone.specs.Gone.{isAmong, survivors}

@@ -100,7 +100,7 @@ fn clear_values(area: &mut [f64], a: usize, b: usize)
 }
 
 // The places from a up to b become 0.
-fn clear_indices(area: &mut [u32], a: usize, b: usize)
+fn clear_words(area: &mut [u32], a: usize, b: usize)
     requires { ⌜ (a ≤ b) × (b ≤ length (now area)) ⌝ }
     ensures { λ _. ⌜ now (area .exit) ≡ clearedFrom 0 a b (now (area .entry)) ⌝ }
 {
@@ -157,6 +157,6 @@ pub fn pack_lists(
     let links = wide(offsets[n]);
     let q = pack_all(weights, indices, offsets, n, keep);
     clear_values(weights, q, links);
-    clear_indices(indices, q, links);
-    clear_indices(offsets, keep.len() + 1, n + 1);
+    clear_words(indices, q, links);
+    clear_words(offsets, keep.len() + 1, n + 1);
 }
