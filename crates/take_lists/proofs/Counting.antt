@@ -73,10 +73,10 @@ pub record Tallies (g I O : List ℕ) (n j c : ℕ) : Type 0 where
 left-list : {n w x : ℕ} {O : List ℕ} → Listed n w x O → (g I : List ℕ) → ((i : ℕ) → i < num O n → num I i < n) → (j : ℕ) → j < n → leftOf g I O j ≡ length (keptLinks (survivors g n) I O j)
 left-list {n} {w} {x} {O} lists g I h j m =
     sym (
-      ap length (kept-from (survivors g n) I O j)
-      ∙ length-those (λ t. isAmong (survivors g n) (num I (num O j + t))) (num O (j + 1) - num O j)
-      ∙ sum-same (λ t. bit (isAmong (survivors g n) (num I (num O j + t)))) (λ t. bit (not (isAmong g (num I (num O j + t))))) (num O (j + 1) - num O j)
-      (λ t s. ap bit (left-told g n (num I (num O j + t)) (h (num O j + t) (omega (arith, lists-rise lists (j + 1) n (omega arith) (omega arith))))))
+    ap length (kept-from (survivors g n) I O j)
+    ∙ length-those (λ t. isAmong (survivors g n) (num I (num O j + t))) (num O (j + 1) - num O j)
+    ∙ sum-same (λ t. bit (isAmong (survivors g n) (num I (num O j + t)))) (λ t. bit (not (isAmong g (num I (num O j + t))))) (num O (j + 1) - num O j)
+    (λ t s. ap bit (left-told g n (num I (num O j + t)) (h (num O j + t) (omega (arith, lists-rise lists (j + 1) n (omega arith) (omega arith))))))
     )
 
 module _ {g I O : List ℕ} {n w x : ℕ} (lists : Listed n w x O) where

@@ -93,11 +93,13 @@ module _ (keep I O : List ℕ) where
   kept-link-stays j s l e = those-at (λ s. isAmong keep (frameOf j s)) (num O (j + 1) - num O j) s l e
 
   -- link t of list i: the new number of the frame
-  pub packed-index-at : (i t : ℕ) → i < length keep → t < length (keptLinks keep I O (num keep i)) → num (packedIndices keep I O) (newPlace keep I O i t) ≡ standsAt keep (num I (oldPlace keep I O i t))
+  pub packed-index-at : (i t : ℕ) → i < length keep → t < length (keptLinks keep I O (num keep i))
+      → num (packedIndices keep I O) (newPlace keep I O i t) ≡ standsAt keep (num I (oldPlace keep I O i t))
   packed-index-at i t l m =
       ap (λ (p : ℕ). num (packedIndices keep I O) (p + t)) (packed-offset-at i (omega arith) ∙ sym (packed-indices-size keep I O i))
       ∙ ap (λ (r : List ℕ). num r (length (joined (λ h. indicesLeft keep I O (num keep h)) i) + t)) (sym (append-nil (packedIndices keep I O)))
-      ∙ joined-at (λ h. indicesLeft keep I O (num keep h)) (length keep) i t [] 0 l (subst (λ (x : ℕ). t < x) (sym (length-map (λ s. standsAt keep (frameOf (num keep i) s)) (keptLinks keep I O (num keep i)))) m)
+      ∙ joined-at (λ h. indicesLeft keep I O (num keep h)) (length keep) i t [] 0 l
+      (subst (λ (x : ℕ). t < x) (sym (length-map (λ s. standsAt keep (frameOf (num keep i) s)) (keptLinks keep I O (num keep i)))) m)
       ∙ getD-map-in (λ s. standsAt keep (frameOf (num keep i) s)) (keptLinks keep I O (num keep i)) t 0 0 m
 
   -- each names a frame that is left
@@ -105,8 +107,9 @@ module _ (keep I O : List ℕ) where
   packed-index-below p l =
       joined-all (λ (x : ℕ). x < length keep) (λ h. indicesLeft keep I O (num keep h)) (length keep) 0
       (λ i t a b.
-        let m : t < length (keptLinks keep I O (num keep i)) = subst (λ (x : ℕ). t < x) (length-map (λ s. standsAt keep (frameOf (num keep i) s)) (keptLinks keep I O (num keep i))) b in
-        subst (λ (x : ℕ). x < length keep) (sym (getD-map-in (λ s. standsAt keep (frameOf (num keep i) s)) (keptLinks keep I O (num keep i)) t 0 0 m)) (stands-in keep (frameOf (num keep i) (num (keptLinks keep I O (num keep i)) t)) (kept-link-among (num keep i) t m)))
+      let m : t < length (keptLinks keep I O (num keep i)) = subst (λ (x : ℕ). t < x) (length-map (λ s. standsAt keep (frameOf (num keep i) s)) (keptLinks keep I O (num keep i))) b in
+      subst (λ (x : ℕ). x < length keep) (sym (getD-map-in (λ s. standsAt keep (frameOf (num keep i) s)) (keptLinks keep I O (num keep i)) t 0 0 m))
+      (stands-in keep (frameOf (num keep i) (num (keptLinks keep I O (num keep i)) t)) (kept-link-among (num keep i) t m)))
       p (subst (λ (x : ℕ). p < x) (sym packed-indices-count) l)
 
 module _ (keep : List ℕ) (W : List Float) (I O : List ℕ) where
@@ -114,11 +117,13 @@ module _ (keep : List ℕ) (W : List Float) (I O : List ℕ) where
   packed-weights-count = packed-weights-size keep W I O (length keep)
 
   -- and its weight, as it was
-  pub packed-weight-at : (i t : ℕ) → i < length keep → t < length (keptLinks keep I O (num keep i)) → at (packedWeights keep W I O) (newPlace keep I O i t) ≡ at W (oldPlace keep I O i t)
+  pub packed-weight-at : (i t : ℕ) → i < length keep → t < length (keptLinks keep I O (num keep i))
+      → at (packedWeights keep W I O) (newPlace keep I O i t) ≡ at W (oldPlace keep I O i t)
   packed-weight-at i t l m =
       ap (λ (p : ℕ). at (packedWeights keep W I O) (p + t)) (packed-offset-at keep I O i (omega arith) ∙ sym (packed-weights-size keep W I O i))
       ∙ ap (λ (r : List Float). at r (length (joined (λ h. weightsLeft keep W I O (num keep h)) i) + t)) (sym (append-nil (packedWeights keep W I O)))
-      ∙ joined-at (λ h. weightsLeft keep W I O (num keep h)) (length keep) i t [] nan l (subst (λ (x : ℕ). t < x) (sym (length-map (λ s. at W (num O (num keep i) + s)) (keptLinks keep I O (num keep i)))) m)
+      ∙ joined-at (λ h. weightsLeft keep W I O (num keep h)) (length keep) i t [] nan l
+      (subst (λ (x : ℕ). t < x) (sym (length-map (λ s. at W (num O (num keep i) + s)) (keptLinks keep I O (num keep i)))) m)
       ∙ getD-map-in (λ s. at W (num O (num keep i) + s)) (keptLinks keep I O (num keep i)) t 0 nan m
 
 -- ---- the theorems in one
@@ -149,14 +154,14 @@ links-between-survivors keep W I O = record {
   below = packed-index-below keep I O;
   old = λ i t l h. old-link i t l (omega (arith, packed-offsets-step keep I O i l));
   stays = λ i s l h e.
-    let k = kept-link-stays keep I O (num keep i) s h e in
-    let o : OldLink keep W I O i (keptBefore keep I O i s) = old-link i (keptBefore keep I O i s) l (k .0) in
-    record {
-      inside = omega (arith, packed-offsets-step keep I O i l, k .0);
-      index = o .index ∙ ap (λ (x : ℕ). standsAt keep (num I (num O (num keep i) + x))) (k .1);
-      names = o .names ∙ ap (λ (x : ℕ). num I (num O (num keep i) + x)) (k .1);
-      weight = o .weight ∙ ap (λ (x : ℕ). at W (num O (num keep i) + x)) (k .1);
-    };
+      let k = kept-link-stays keep I O (num keep i) s h e in
+      let o : OldLink keep W I O i (keptBefore keep I O i s) = old-link i (keptBefore keep I O i s) l (k .0) in
+      record {
+        inside = omega (arith, packed-offsets-step keep I O i l, k .0);
+        index = o .index ∙ ap (λ (x : ℕ). standsAt keep (num I (num O (num keep i) + x))) (k .1);
+        names = o .names ∙ ap (λ (x : ℕ). num I (num O (num keep i) + x)) (k .1);
+        weight = o .weight ∙ ap (λ (x : ℕ). at W (num O (num keep i) + x)) (k .1);
+      };
 }
   where
     old-link : (i t : ℕ) → i < length keep → t < length (keptLinks keep I O (num keep i)) → OldLink keep W I O i t

@@ -127,8 +127,8 @@ loop-again c =
     let second = c .before .before .before .before .before .before .before .before .before .wide2 in
     let third = c .before .before .before .before .before .before .before .wide3 in
     let packed = c .before .before .before .before .pack-list in
-    closes-more (r .pre .1) (r .pre .2) (r .pre .3) (turn .inv) (test .taken) (first .ensures) (second .ensures) (third .ensures) 
-        (packed .ensures .0) (packed .ensures .1 .0) (packed .ensures .1 .1) (packed .kept .0) (packed .kept .1 .0)
+    closes-more (r .pre .1) (r .pre .2) (r .pre .3) (turn .inv) (test .taken) (first .ensures) (second .ensures) (third .ensures)
+    (packed .ensures .0) (packed .ensures .1 .0) (packed .ensures .1 .1) (packed .kept .0) (packed .kept .1 .0)
 
 cast-offsets-2 : tie.Need-cast-offsets-2 Inv-loop μ-loop
 cast-offsets-2 c =

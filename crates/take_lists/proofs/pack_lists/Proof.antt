@@ -74,11 +74,13 @@ returns : tie.Need-returns
 returns c =
     let r = c .before .before .before .before .before .before .before .before .before .before .before .before .before .before .before .before .before .before .before .before .before .before .before .before .before .before .before .before in
     let packed = c .before .before .before .before .before .before .before .before .before .before .before .before .before .before .before .before .before .before .pack-all .ensures in
-    let links = c .before .before .before .before .before .before .before .before .before .before .before .before .before .before .before .before .before .before .before .before .before .before .wide .ensures in
-    (
-      weights-shrunk (r .args .keep .now) (r .args .weights .now) (r .args .indices .now) (r .args .offsets .now) (r .pre .1) (r .pre .2) (r .pre .3) (packed .0) links (packed .1 .0) (c .before .before .before .before .before .before .before .before .before .before .clear-values .ensures),
-      indices-shrunk (r .args .keep .now) (r .args .weights .now) (r .args .indices .now) (r .args .offsets .now) (r .pre .1) (r .pre .2) (r .pre .3) (packed .0) links (packed .1 .1 .0) (c .before .before .before .before .before .before .clear-words .ensures),
-      offsets-shrunk (r .args .keep .now) (r .args .weights .now) (r .args .indices .now) (r .args .offsets .now) (r .pre .1) (r .pre .2) (r .pre .3) (packed .1 .1 .1) (c .before .before .clear-words2 .ensures)
+    let links = c .before .before .before .before .before .before .before .before .before .before .before .before .before .before .before .before .before .before .before .before .before .before .wide .ensures in (
+      weights-shrunk (r .args .keep .now) (r .args .weights .now) (r .args .indices .now) (r .args .offsets .now) (r .pre .1) (r .pre .2) (r .pre .3)
+          (packed .0) links (packed .1 .0) (c .before .before .before .before .before .before .before .before .before .before .clear-values .ensures),
+      indices-shrunk (r .args .keep .now) (r .args .weights .now) (r .args .indices .now) (r .args .offsets .now) (r .pre .1) (r .pre .2) (r .pre .3)
+          (packed .0) links (packed .1 .1 .0) (c .before .before .before .before .before .before .clear-words .ensures),
+      offsets-shrunk (r .args .keep .now) (r .args .weights .now) (r .args .indices .now) (r .args .offsets .now) (r .pre .1) (r .pre .2) (r .pre .3)
+          (packed .1 .1 .1) (c .before .before .clear-words2 .ensures),
     )
 
 pub pack-lists-spec : {M : Type 1} → statement M
