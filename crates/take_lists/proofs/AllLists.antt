@@ -13,7 +13,7 @@ use Rattle.take_gone.specs.Gone.{standsAt, Climbs}
 use Rattle.take_gone.proofs.Fronts.{Fronts, fronts-start, fronts-more, fronts-at, fronts-as}
 use Rattle.take_rows.specs.Rows.{shrunk, Kept}
 use Rattle.take_lists.specs.Packed.{keptLinks, indicesLeft, weightsLeft, linksBefore, linksLeft, packedIndices, packedWeights, packedOffsets, Listed}
-use Rattle.take_lists.specs.Steps.{keptFrom, indicesFrom, weightsFrom, clearedFrom}
+use Rattle.take_lists.specs.Steps.{keptFrom, indicesFrom, weightsFrom, closedWeights, closedIndices, closedOffsets, clearedFrom}
 use Rattle.take_lists.proofs.Fronting.{fronts-join, front-shrunk}
 use Rattle.take_lists.proofs.OneList.{kept-same, indices-same, weights-same}
 use Rattle.take_lists.proofs.Bounds.{kept-from, lists-rise, before-none, before-more, before-low, before-all, packed-indices-size, packed-weights-size, packed-offsets-size}
@@ -40,7 +40,7 @@ module _ {keep : List ℕ} {W₀ : List Float} {I₀ O₀ : List ℕ} {n : ℕ} 
     pub closes-offset : (i < length O) × (q ≤ num O₀ n)
     closes-offset = (
       omega (arith, r .within, kept .few, lists .offsets-long, r .offsets .size),
-      omega (arith, r .count, before-all lists I₀ climbs kept i (r .within))
+      omega (arith, r .count, before-all lists I₀ climbs kept i (r .within)),
     )
 
     module _ (l : i < length keep) {j : ℕ} (ej : j ≡ num keep i) where
@@ -60,12 +60,11 @@ module _ {keep : List ℕ} {W₀ : List Float} {I₀ O₀ : List ℕ} {n : ℕ} 
         pub closes-room : (q ≤ a) × (a ≤ b) × (b ≤ length W) × (b ≤ length I)
         closes-room =
             let u : num O₀ (num keep i + 1) ≤ num O₀ n = lists-rise lists (num keep i + 1) n (omega (arith, kept .below i l)) (omega arith) in
-            let m = lists .offsets-rise (num keep i) (kept .below i l) in
-            (
+            let m = lists .offsets-rise (num keep i) (kept .below i l) in (
               omega (arith, start-same, r .count, before-low lists I₀ climbs kept i l),
               omega (arith, start-same, end-same, m),
               omega (arith, end-same, u, lists .weights-long, r .weights .size),
-              omega (arith, end-same, u, lists .indices-long, r .indices .size)
+              omega (arith, end-same, u, lists .indices-long, r .indices .size),
             )
 
         size-same : b - a ≡ num O₀ (num keep i + 1) - num O₀ (num keep i)
@@ -90,21 +89,21 @@ module _ {keep : List ℕ} {W₀ : List Float} {I₀ O₀ : List ℕ} {n : ℕ} 
         indices-given =
             ap (λ (x : ℕ). indicesFrom keep I x (b - a)) start-same
             ∙ ap (indicesFrom keep I a₀) size-same
-            ∙ indices-same keep W W₀ I I₀ a₀ k₀ indices-stand
+            ∙ indices-same keep I I₀ a₀ k₀ indices-stand
             ∙ ap (map (λ t. standsAt keep (num I₀ (a₀ + t)))) (sym (kept-from keep I₀ O₀ (num keep i)))
 
         weights-given : weightsFrom keep W I a (b - a) ≡ weightsLeft keep W₀ I₀ O₀ (num keep i)
         weights-given =
             ap (λ (x : ℕ). weightsFrom keep W I x (b - a)) start-same
             ∙ ap (weightsFrom keep W I a₀) size-same
-            ∙ weights-same keep W W₀ I I₀ a₀ k₀ indices-stand weights-stand
+            ∙ weights-same keep I I₀ a₀ k₀ indices-stand W W₀ weights-stand
             ∙ ap (map (λ t. at W₀ (a₀ + t))) (sym (kept-from keep I₀ O₀ (num keep i)))
 
         kept-given : keptFrom keep I a (b - a) ≡ keptLinks keep I₀ O₀ (num keep i)
         kept-given =
             ap (λ (x : ℕ). keptFrom keep I x (b - a)) start-same
             ∙ ap (keptFrom keep I a₀) size-same
-            ∙ kept-same keep W W₀ I I₀ a₀ k₀ indices-stand
+            ∙ kept-same keep I I₀ a₀ k₀ indices-stand
             ∙ sym (kept-from keep I₀ O₀ (num keep i))
 
         -- a list more
@@ -135,20 +134,19 @@ module _ {keep : List ℕ} {W₀ : List Float} {I₀ O₀ : List ℕ} {n : ℕ} 
     -- all lists, and the end of the last one
     pub closes-done : length keep ≤ i
         → (q ≡ linksLeft keep I₀ O₀)
-        × (W ≡ packedWeights keep W₀ I₀ O₀ ++ drop (linksLeft keep I₀ O₀) W₀)
-        × (I ≡ packedIndices keep I₀ O₀ ++ drop (linksLeft keep I₀ O₀) I₀)
-        × (set O i q ≡ packedOffsets keep I₀ O₀ ++ drop (length keep + 1) O₀)
+        × (W ≡ closedWeights keep W₀ I₀ O₀)
+        × (I ≡ closedIndices keep I₀ O₀)
+        × (set O i q ≡ closedOffsets keep I₀ O₀)
     closes-done h =
         let s : i ≡ length keep = le-antisymm (r .within) h in
-        let c : q ≡ linksLeft keep I₀ O₀ = r .count ∙ ap (linksBefore keep I₀ O₀) s in
-        (
+        let c : q ≡ linksLeft keep I₀ O₀ = r .count ∙ ap (linksBefore keep I₀ O₀) s in (
           c,
           r .weights .same ∙ ap (λ (x : ℕ). joined (λ h. weightsLeft keep W₀ I₀ O₀ (num keep h)) x ++ drop q W₀) s ∙ ap (λ (x : ℕ). packedWeights keep W₀ I₀ O₀ ++ drop x W₀) c,
           r .indices .same ∙ ap (λ (x : ℕ). joined (λ h. indicesLeft keep I₀ O₀ (num keep h)) x ++ drop q I₀) s ∙ ap (λ (x : ℕ). packedIndices keep I₀ O₀ ++ drop x I₀) c,
           fronts-more q (omega (arith, closes-offset .0, r .offsets .size)) (r .offsets) .same
-          ∙ ap (λ (y : ℕ). each (linksBefore keep I₀ O₀) i ++ (y ∷ []) ++ drop (i + 1) O₀) (r .count)
-          ∙ ap (λ (y : List ℕ). y ++ drop (i + 1) O₀) (sym (joined-more (λ h. linksBefore keep I₀ O₀ h ∷ []) i))
-          ∙ ap (λ (x : ℕ). each (linksBefore keep I₀ O₀) (x + 1) ++ drop (x + 1) O₀) s
+              ∙ ap (λ (y : ℕ). each (linksBefore keep I₀ O₀) i ++ (y ∷ []) ++ drop (i + 1) O₀) (r .count)
+              ∙ ap (λ (y : List ℕ). y ++ drop (i + 1) O₀) (sym (joined-more (λ h. linksBefore keep I₀ O₀ h ∷ []) i))
+              ∙ ap (λ (x : ℕ). each (linksBefore keep I₀ O₀) (x + 1) ++ drop (x + 1) O₀) s,
         )
 
 -- ---- then zeros
@@ -158,13 +156,16 @@ module _ (keep : List ℕ) (W₀ : List Float) (I₀ O₀ : List ℕ) {n w x : �
   left-within e f = omega (arith, e, f, before-all lists I₀ climbs kept (length keep) (le-refl (length keep)))
 
   module _ {q s : ℕ} (e : q ≡ linksLeft keep I₀ O₀) (f : s ≡ num O₀ n) where
-    pub weights-shrunk : {W W' : List Float} → W ≡ packedWeights keep W₀ I₀ O₀ ++ drop (linksLeft keep I₀ O₀) W₀ → W' ≡ clearedFrom zero64 q s W → W' ≡ shrunk zero64 (num O₀ n) (packedWeights keep W₀ I₀ O₀) W₀
+    cleared-to : {A : Type 0} (z : A) (l : List A) → clearedFrom z q s l ≡ clearedFrom z (linksLeft keep I₀ O₀) (num O₀ n) l
+    cleared-to z l = ap (λ (y : ℕ). clearedFrom z y s l) e ∙ ap (λ (y : ℕ). clearedFrom z (linksLeft keep I₀ O₀) y l) f
+
+    pub weights-shrunk : {W W' : List Float} → W ≡ closedWeights keep W₀ I₀ O₀ → W' ≡ clearedFrom zero64 q s W → W' ≡ shrunk zero64 (num O₀ n) (packedWeights keep W₀ I₀ O₀) W₀
     weights-shrunk {W} {W'} g h =
-        front-shrunk zero64 (packedWeights keep W₀ I₀ O₀) W₀ (packed-weights-size keep W₀ I₀ O₀ (length keep)) (left-within refl refl) g (h ∙ ap (λ (x : ℕ). clearedFrom zero64 x s W) e ∙ ap (λ (x : ℕ). clearedFrom zero64 (linksLeft keep I₀ O₀) x W) f)
+        front-shrunk zero64 (packedWeights keep W₀ I₀ O₀) W₀ (packed-weights-size keep W₀ I₀ O₀ (length keep)) (left-within refl refl) g (h ∙ cleared-to zero64 W)
 
-    pub indices-shrunk : {I I' : List ℕ} → I ≡ packedIndices keep I₀ O₀ ++ drop (linksLeft keep I₀ O₀) I₀ → I' ≡ clearedFrom 0 q s I → I' ≡ shrunk 0 (num O₀ n) (packedIndices keep I₀ O₀) I₀
+    pub indices-shrunk : {I I' : List ℕ} → I ≡ closedIndices keep I₀ O₀ → I' ≡ clearedFrom 0 q s I → I' ≡ shrunk 0 (num O₀ n) (packedIndices keep I₀ O₀) I₀
     indices-shrunk {I} {I'} g h =
-        front-shrunk 0 (packedIndices keep I₀ O₀) I₀ (packed-indices-size keep I₀ O₀ (length keep)) (left-within refl refl) g (h ∙ ap (λ (x : ℕ). clearedFrom 0 x s I) e ∙ ap (λ (x : ℕ). clearedFrom 0 (linksLeft keep I₀ O₀) x I) f)
+        front-shrunk 0 (packedIndices keep I₀ O₀) I₀ (packed-indices-size keep I₀ O₀ (length keep)) (left-within refl refl) g (h ∙ cleared-to 0 I)
 
-  pub offsets-shrunk : {O O' : List ℕ} → O ≡ packedOffsets keep I₀ O₀ ++ drop (length keep + 1) O₀ → O' ≡ clearedFrom 0 (length keep + 1) (n + 1) O → O' ≡ shrunk 0 (n + 1) (packedOffsets keep I₀ O₀) O₀
+  pub offsets-shrunk : {O O' : List ℕ} → O ≡ closedOffsets keep I₀ O₀ → O' ≡ clearedFrom 0 (length keep + 1) (n + 1) O → O' ≡ shrunk 0 (n + 1) (packedOffsets keep I₀ O₀) O₀
   offsets-shrunk g h = front-shrunk 0 (packedOffsets keep I₀ O₀) O₀ (packed-offsets-size keep I₀ O₀) (omega (arith, kept .few)) g h

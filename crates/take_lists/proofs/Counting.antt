@@ -1,15 +1,14 @@
 -- How many links are left, counted by the frames that are taken out: in one list, and in the lists of all frames that are not taken out. Assumes nothing.
-use mathlib.Core.Path.{_≡_, refl, sym, ap, subst, _∙_}
+use mathlib.Core.Path.{_≡_, sym, ap, _∙_}
 use mathlib.Core.List.{List, [], _∷_, _++_}
 use mathlib.Core.Bool.{Bool, true, false, not}
-use Prim.Native.Nat.{ℕ, _+_, _-_, _*_, _<_, _≤_}
+use Prim.Native.Nat.{ℕ, _+_, _-_, _<_, _≤_}
 use native.Mathlib.Omega.{arith}
 use native.Mathlib.Nat.{le-antisymm, mul-one}
 use lib.ListN.{length, length-append, List·getD-append}
 use lib.Seq.{getD-append-seam}
 use Rattle.laws.specs.Area.{num}
 use Rattle.laws.specs.Sums.{sum, bit}
-use Rattle.laws.specs.Joined.{those}
 use Rattle.laws.proofs.Sums.{sum-none, sum-more, sum-same, sum-le, sum-const, bit-le}
 use Rattle.laws.proofs.Joined.{length-those, those-none, those-yes, those-no, those-below}
 use Rattle.take_gone.specs.Gone.{isAmong, survivors}
@@ -74,10 +73,10 @@ pub record Tallies (g I O : List ℕ) (n j c : ℕ) : Type 0 where
 left-list : {n w x : ℕ} {O : List ℕ} → Listed n w x O → (g I : List ℕ) → ((i : ℕ) → i < num O n → num I i < n) → (j : ℕ) → j < n → leftOf g I O j ≡ length (keptLinks (survivors g n) I O j)
 left-list {n} {w} {x} {O} lists g I h j m =
     sym (
-      ap length (kept-from (survivors g n) I O j)
-      ∙ length-those (λ t. isAmong (survivors g n) (num I (num O j + t))) (num O (j + 1) - num O j)
-      ∙ sum-same (λ t. bit (isAmong (survivors g n) (num I (num O j + t)))) (λ t. bit (not (isAmong g (num I (num O j + t))))) (num O (j + 1) - num O j)
-      (λ t s. ap bit (left-told g n (num I (num O j + t)) (h (num O j + t) (omega (arith, lists-rise lists (j + 1) n (omega arith) (omega arith))))))
+    ap length (kept-from (survivors g n) I O j)
+    ∙ length-those (λ t. isAmong (survivors g n) (num I (num O j + t))) (num O (j + 1) - num O j)
+    ∙ sum-same (λ t. bit (isAmong (survivors g n) (num I (num O j + t)))) (λ t. bit (not (isAmong g (num I (num O j + t))))) (num O (j + 1) - num O j)
+    (λ t s. ap bit (left-told g n (num I (num O j + t)) (h (num O j + t) (omega (arith, lists-rise lists (j + 1) n (omega arith) (omega arith))))))
     )
 
 module _ {g I O : List ℕ} {n w x : ℕ} (lists : Listed n w x O) where

@@ -3,8 +3,8 @@ use mathlib.Core.Path.{_≡_, refl, sym, ap, subst, _∙_}
 use mathlib.Core.List.{List, [], _∷_, _++_, append-assoc, append-nil}
 use Prim.Native.Nat.{ℕ, _+_, _-_, _<_, _≤_}
 use native.Mathlib.Omega.{arith}
-use lib.ListN.{length, set, take, drop, replicate, length-append, length-replicate, take-append-drop, replicate-append-replicate}
-use lib.Seq.{length-take-le, take-at, drop-at, drop-drop}
+use lib.ListN.{length, set, take, drop, replicate, length-append, take-append-drop, replicate-append-replicate}
+use lib.Seq.{length-take-le, take-at, drop-at}
 use Rattle.laws.specs.Joined.{written}
 use Rattle.laws.proofs.Changed.{drop-later}
 use Rattle.take_gone.proofs.Fronts.{Fronts, fronts-more, fronts-as}

@@ -3,3 +3,4 @@ pub mod OneList
 pub mod Bounds
 pub mod AllLists
 pub mod Counting
+pub mod Theorems

@@ -1,8 +1,8 @@
 -- One list packed: after t links those that name a frame in keep stand from place q on, and what is still to be read is as it was. Assumes nothing.
-use mathlib.Core.Path.{_≡_, refl, sym, ap, subst, _∙_}
+use mathlib.Core.Path.{_≡_, sym, ap, subst, _∙_}
 use mathlib.Core.List.{List, [], _∷_, _++_, map}
 use mathlib.Core.Bool.{Bool, true, false}
-use Prim.Native.Nat.{ℕ, _+_, _-_, _<_, _≤_}
+use Prim.Native.Nat.{ℕ, _+_, _<_, _≤_}
 use native.Mathlib.Omega.{arith}
 use native.Mathlib.Nat.{le-antisymm}
 use lib.ListN.{length, set}
@@ -88,12 +88,16 @@ module _ {keep : List ℕ} {W₀ : List Float} {I₀ : List ℕ} {a k q : ℕ} (
       (appends-upto w ∙ ap (λ (x : ℕ). q + x) (length-map (λ t. at W₀ (a + t)) (keptFrom keep I₀ a k)), appends-done w, appends-done (appends-as (ap (indicesFrom keep I₀ a) s) (r .indices)))
 
 -- what one list gives depends only on its own links
-module _ (keep : List ℕ) (W W₀ : List Float) (I I₀ : List ℕ) (a k : ℕ) (i : (t : ℕ) → t < k → num I (a + t) ≡ num I₀ (a + t)) where
+module _ (keep I I₀ : List ℕ) (a k : ℕ) (i : (t : ℕ) → t < k → num I (a + t) ≡ num I₀ (a + t)) where
   pub kept-same : keptFrom keep I a k ≡ keptFrom keep I₀ a k
   kept-same = those-same (λ t. isAmong keep (num I (a + t))) (λ t. isAmong keep (num I₀ (a + t))) k (λ t l. ap (isAmong keep) (i t l))
 
   pub indices-same : indicesFrom keep I a k ≡ indicesFrom keep I₀ a k
-  indices-same = ap (map (λ t. standsAt keep (num I (a + t)))) kept-same ∙ map-those (λ t. standsAt keep (num I (a + t))) (λ t. standsAt keep (num I₀ (a + t))) (λ t. isAmong keep (num I₀ (a + t))) k (λ t l. ap (standsAt keep) (i t l))
+  indices-same =
+      ap (map (λ t. standsAt keep (num I (a + t)))) kept-same
+      ∙ map-those (λ t. standsAt keep (num I (a + t))) (λ t. standsAt keep (num I₀ (a + t))) (λ t. isAmong keep (num I₀ (a + t))) k (λ t l. ap (standsAt keep) (i t l))
 
-  pub weights-same : ((t : ℕ) → t < k → at W (a + t) ≡ at W₀ (a + t)) → weightsFrom keep W I a k ≡ weightsFrom keep W₀ I₀ a k
-  weights-same w = ap (map (λ t. at W (a + t))) kept-same ∙ map-those (λ t. at W (a + t)) (λ t. at W₀ (a + t)) (λ t. isAmong keep (num I₀ (a + t))) k w
+  pub weights-same : (W W₀ : List Float) → ((t : ℕ) → t < k → at W (a + t) ≡ at W₀ (a + t)) → weightsFrom keep W I a k ≡ weightsFrom keep W₀ I₀ a k
+  weights-same W W₀ w =
+      ap (map (λ t. at W (a + t))) kept-same
+      ∙ map-those (λ t. at W (a + t)) (λ t. at W₀ (a + t)) (λ t. isAmong keep (num I₀ (a + t))) k w

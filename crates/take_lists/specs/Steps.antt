@@ -2,12 +2,13 @@
 use mathlib.Core.List.{List, map, _++_}
 use mathlib.Core.Bool.{not}
 use Prim.Native.Nat.{ℕ, _+_, _-_}
-use lib.ListN.{take, drop, replicate}
+use lib.ListN.{length, take, drop, replicate}
 use lib.Ieee.{Float}
 use Rattle.laws.specs.Sums.{sum, bit}
 use Rattle.laws.specs.Area.{at, num}
 use Rattle.laws.specs.Joined.{those}
 use Rattle.take_gone.specs.Gone.{standsAt, isAmong}
+use Rattle.take_lists.specs.Packed.{linksLeft, packedIndices, packedWeights, packedOffsets}
 
 -- of the k frames named from place a on, how many are not in g
 abbrev pub namedLeft : List ℕ → List ℕ → ℕ → ℕ → ℕ
@@ -24,6 +25,17 @@ indicesFrom keep I a k = map (λ t. standsAt keep (num I (a + t))) (keptFrom kee
 -- and their weights
 abbrev pub weightsFrom : List ℕ → List Float → List ℕ → ℕ → ℕ → List Float
 weightsFrom keep W I a k = map (λ t. at W (a + t)) (keptFrom keep I a k)
+
+-- ---- all lists packed: what is left at the front, then what stood there
+
+abbrev pub closedWeights : List ℕ → List Float → List ℕ → List ℕ → List Float
+closedWeights keep W I O = packedWeights keep W I O ++ drop (linksLeft keep I O) W
+
+abbrev pub closedIndices : List ℕ → List ℕ → List ℕ → List ℕ
+closedIndices keep I O = packedIndices keep I O ++ drop (linksLeft keep I O) I
+
+abbrev pub closedOffsets : List ℕ → List ℕ → List ℕ → List ℕ
+closedOffsets keep I O = packedOffsets keep I O ++ drop (length keep + 1) O
 
 module _ {A : Type 0} where
   -- z in the places from a up to b, all else as it was

@@ -1,16 +1,15 @@
 // The neighbour lists packed in place: the lists of the frames that are left close ranks, links to the others vanish, and the frames named get their new numbers.
 // Writing never passes reading: no list grows, and no frame stands lower than its new place.
 ghost use mathlib.Core.Path.{_≡_};
-ghost use mathlib.Core.List.{_++_};
 ghost use Prim.Native.Nat.{ℕ, _+_, _<_, _≤_};
-ghost use lib.ListN.{length, drop};
+ghost use lib.ListN.{length};
 ghost use Rattle.laws.specs.Area.{num, zero64};
 ghost use Rattle.laws.specs.Domain.{mostFrames};
 ghost use Rattle.laws.specs.Joined.{written};
 ghost use Rattle.take_gone.specs.Gone.{survivors, Climbs};
 ghost use Rattle.take_rows.specs.Rows.{shrunk, Kept};
 ghost use Rattle.take_lists.specs.Packed.{linksLeft, packedIndices, packedWeights, packedOffsets, Listed};
-ghost use Rattle.take_lists.specs.Steps.{namedLeft, keptFrom, indicesFrom, weightsFrom, clearedFrom};
+ghost use Rattle.take_lists.specs.Steps.{namedLeft, keptFrom, indicesFrom, weightsFrom, closedWeights, closedIndices, closedOffsets, clearedFrom};
 use take_gone::is_among;
 use take_gone::place_of;
 
@@ -100,7 +99,7 @@ fn clear_values(area: &mut [f64], a: usize, b: usize)
 }
 
 // The places from a up to b become 0.
-fn clear_indices(area: &mut [u32], a: usize, b: usize)
+fn clear_words(area: &mut [u32], a: usize, b: usize)
     requires { ⌜ (a ≤ b) × (b ≤ length (now area)) ⌝ }
     ensures { λ _. ⌜ now (area .exit) ≡ clearedFrom 0 a b (now (area .entry)) ⌝ }
 {
@@ -121,9 +120,9 @@ fn pack_all(
 ) -> usize
     requires { ⌜ (n ≤ mostFrames) × Climbs (now keep) × Kept (now keep) n × Listed n (length (now weights)) (length (now indices)) (now offsets) ⌝ }
     ensures { λ r. ⌜ r ≡ linksLeft (now (keep .entry)) (now (indices .entry)) (now (offsets .entry)) ⌝ }
-    ensures { λ r. ⌜ now (weights .exit) ≡ packedWeights (now (keep .entry)) (now (weights .entry)) (now (indices .entry)) (now (offsets .entry)) ++ drop (linksLeft (now (keep .entry)) (now (indices .entry)) (now (offsets .entry))) (now (weights .entry)) ⌝ }
-    ensures { λ r. ⌜ now (indices .exit) ≡ packedIndices (now (keep .entry)) (now (indices .entry)) (now (offsets .entry)) ++ drop (linksLeft (now (keep .entry)) (now (indices .entry)) (now (offsets .entry))) (now (indices .entry)) ⌝ }
-    ensures { λ r. ⌜ now (offsets .exit) ≡ packedOffsets (now (keep .entry)) (now (indices .entry)) (now (offsets .entry)) ++ drop (length (now (keep .entry)) + 1) (now (offsets .entry)) ⌝ }
+    ensures { λ _. ⌜ now (weights .exit) ≡ closedWeights (now (keep .entry)) (now (weights .entry)) (now (indices .entry)) (now (offsets .entry)) ⌝ }
+    ensures { λ _. ⌜ now (indices .exit) ≡ closedIndices (now (keep .entry)) (now (indices .entry)) (now (offsets .entry)) ⌝ }
+    ensures { λ _. ⌜ now (offsets .exit) ≡ closedOffsets (now (keep .entry)) (now (indices .entry)) (now (offsets .entry)) ⌝ }
 {
     let mut q = 0;
     let mut i = 0;
@@ -157,6 +156,6 @@ pub fn pack_lists(
     let links = wide(offsets[n]);
     let q = pack_all(weights, indices, offsets, n, keep);
     clear_values(weights, q, links);
-    clear_indices(indices, q, links);
-    clear_indices(offsets, keep.len() + 1, n + 1);
+    clear_words(indices, q, links);
+    clear_words(offsets, keep.len() + 1, n + 1);
 }

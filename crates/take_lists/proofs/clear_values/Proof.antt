@@ -3,11 +3,8 @@ use Prim.Native.Nat.{_-_}
 use Rattle.laws.specs.Area.{zero64}
 use Rattle.take_lists.proofs.Fronting.{Blanks, blanks-start, blanks-more, blanks-done}
 use borrow.Author.Needs.{needs}
-use native.Mathlib.Omega.{arith}
 use Rattle.take_lists.proofs.clear_values.Statement.{statement}
 use Rattle.take_lists.proofs.clear_values.Tie as tie
-use Rattle.take_lists.proofs.clear_values.Reads as reads
-use Rattle.take_lists.proofs.clear_values.Lts as lts
 
 abbrev Inv-loop : tie.InvT-loop
 Inv-loop area₀ a b p₀ area p = Blanks zero64 area₀ a b p area

@@ -1,14 +1,10 @@
-use mathlib.Core.Path.{sym, _∙_}
 -- `take_lists::list_left` meets its contract: t links are looked at (`Sees`). Assumes nothing.
+use mathlib.Core.Path.{sym, _∙_}
 use Prim.Native.Nat.{_-_}
 use Rattle.take_lists.proofs.Counting.{Sees, sees-start, sees-pass, sees-more, sees-done}
 use borrow.Author.Needs.{needs}
-use native.Mathlib.Omega.{arith}
 use Rattle.take_lists.proofs.list_left.Statement.{statement}
 use Rattle.take_lists.proofs.list_left.Tie as tie
-use Rattle.take_lists.proofs.list_left.Reads as reads
-use Rattle.take_lists.proofs.list_left.Lts as lts
-use Rattle.take_gone.proofs.is_among.Reads as is-among-reads
 
 abbrev Inv-loop : tie.InvT-loop
 Inv-loop gone indices a k c₀ t₀ c t = Sees gone indices a k t c

@@ -5,9 +5,6 @@ use borrow.Author.Needs.{needs}
 use native.Mathlib.Omega.{arith}
 use Rattle.take_lists.proofs.pack_list.Statement.{statement}
 use Rattle.take_lists.proofs.pack_list.Tie as tie
-use Rattle.take_lists.proofs.pack_list.Reads as reads
-use Rattle.take_lists.proofs.pack_list.Lts as lts
-use Rattle.take_gone.proofs.place_of.Reads as place-of-reads
 
 abbrev Inv-loop : tie.InvT-loop
 Inv-loop weights₀ indices₀ keep a k q e₀ t₀ weights indices e t = Sifts keep weights₀ indices₀ a k q t e weights indices
@@ -37,34 +34,66 @@ loop-less : tie.Need-loop-less Inv-loop μ-loop
 loop-less c = search needs
 
 loop-again : tie.Need-loop-again Inv-loop μ-loop
-loop-again c = sifts-pass (c .before .before .before .before .before .before .before .before .pre .2) (c .before .before .before .before .before .before .before .before .pre .3) (c .before .before .before .before .before .before .before .before .pre .4) (c .before .before .before .loop-test .taken) (c .before .before .before .before .loop .inv) (c .before .place-of .ensures) (c .if1 .taken)
+loop-again c =
+    let r = c .before .before .before .before .before .before .before .before in
+    let turn = c .before .before .before .before .loop in
+    let test = c .before .before .before .loop-test in
+    sifts-pass (r .pre .2) (r .pre .3) (r .pre .4) (test .taken) (turn .inv) (c .before .place-of .ensures) (omega (arith, c .if1 .taken))
 
 add-weights : tie.Need-add-weights Inv-loop μ-loop
 add-weights c = omega (arith, c .before .before .before .before .before .before .before .before .pre .4, c .before .before .before .loop-test .taken)
 
 mul-weights : tie.Need-mul-weights Inv-loop μ-loop
-mul-weights c = omega (arith, c .before .before .before .before .before .before .before .before .pre .3, c .before .before .before .loop-test .taken, c .before .before .before .before .loop .inv .weights .front .size)
+mul-weights c =
+    let r = c .before .before .before .before .before .before .before .before in
+    let turn = c .before .before .before .before .loop in
+    let test = c .before .before .before .loop-test in
+    omega (arith, r .pre .3, test .taken, turn .inv .weights .front .size)
 
 slice-read-weights : tie.Need-slice-read-weights Inv-loop μ-loop
-slice-read-weights c = omega (arith, c .before .before .before .before .before .before .before .before .before .pre .3, c .before .before .before .before .loop-test .taken, c .before .before .before .before .before .loop .inv .weights .front .size)
+slice-read-weights c =
+    let r = c .before .before .before .before .before .before .before .before .before in
+    let turn = c .before .before .before .before .before .loop in
+    let test = c .before .before .before .before .loop-test in
+    omega (arith, r .pre .3, test .taken, turn .inv .weights .front .size)
 
 mul-weights-2 : tie.Need-mul-weights-2 Inv-loop μ-loop
-mul-weights-2 c = omega (arith, sifts-room (c .before .before .before .before .before .before .before .before .before .pre .2) (c .before .before .before .before .before .before .before .before .before .pre .3) (c .before .before .before .before .before .before .before .before .before .pre .4) (c .before .before .before .before .loop-test .taken) (c .before .before .before .before .before .loop .inv))
+mul-weights-2 c =
+    let r = c .before .before .before .before .before .before .before .before .before in
+    let turn = c .before .before .before .before .before .loop in
+    let test = c .before .before .before .before .loop-test in
+    omega (arith, sifts-room (r .pre .2) (r .pre .3) (r .pre .4) (test .taken) (turn .inv))
 
 slice-write-weights : tie.Need-slice-write-weights Inv-loop μ-loop
-slice-write-weights c = omega (arith, sifts-room (c .before .before .before .before .before .before .before .before .before .pre .2) (c .before .before .before .before .before .before .before .before .before .pre .3) (c .before .before .before .before .before .before .before .before .before .pre .4) (c .before .before .before .before .loop-test .taken) (c .before .before .before .before .before .loop .inv))
+slice-write-weights c =
+    let r = c .before .before .before .before .before .before .before .before .before in
+    let turn = c .before .before .before .before .before .loop in
+    let test = c .before .before .before .before .loop-test in
+    omega (arith, sifts-room (r .pre .2) (r .pre .3) (r .pre .4) (test .taken) (turn .inv))
 
 cast-indices : tie.Need-cast-indices Inv-loop μ-loop
 cast-indices c = omega (arith, c .before .if1 .left, c .before .before .before .before .before .before .before .before .before .pre .1)
 
 mul-indices : tie.Need-mul-indices Inv-loop μ-loop
-mul-indices c = omega (arith, sifts-room (c .before .before .before .before .before .before .before .before .before .pre .2) (c .before .before .before .before .before .before .before .before .before .pre .3) (c .before .before .before .before .before .before .before .before .before .pre .4) (c .before .before .before .before .loop-test .taken) (c .before .before .before .before .before .loop .inv))
+mul-indices c =
+    let r = c .before .before .before .before .before .before .before .before .before in
+    let turn = c .before .before .before .before .before .loop in
+    let test = c .before .before .before .before .loop-test in
+    omega (arith, sifts-room (r .pre .2) (r .pre .3) (r .pre .4) (test .taken) (turn .inv))
 
 slice-write-indices : tie.Need-slice-write-indices Inv-loop μ-loop
-slice-write-indices c = omega (arith, sifts-room (c .before .before .before .before .before .before .before .before .before .pre .2) (c .before .before .before .before .before .before .before .before .before .pre .3) (c .before .before .before .before .before .before .before .before .before .pre .4) (c .before .before .before .before .loop-test .taken) (c .before .before .before .before .before .loop .inv))
+slice-write-indices c =
+    let r = c .before .before .before .before .before .before .before .before .before in
+    let turn = c .before .before .before .before .before .loop in
+    let test = c .before .before .before .before .loop-test in
+    omega (arith, sifts-room (r .pre .2) (r .pre .3) (r .pre .4) (test .taken) (turn .inv))
 
 add-e : tie.Need-add-e Inv-loop μ-loop
-add-e c = omega (arith, sifts-room (c .before .before .before .before .before .before .before .before .before .pre .2) (c .before .before .before .before .before .before .before .before .before .pre .3) (c .before .before .before .before .before .before .before .before .before .pre .4) (c .before .before .before .before .loop-test .taken) (c .before .before .before .before .before .loop .inv))
+add-e c =
+    let r = c .before .before .before .before .before .before .before .before .before in
+    let turn = c .before .before .before .before .before .loop in
+    let test = c .before .before .before .before .loop-test in
+    omega (arith, sifts-room (r .pre .2) (r .pre .3) (r .pre .4) (test .taken) (turn .inv))
 
 add-t-2 : tie.Need-add-t-2 Inv-loop μ-loop
 add-t-2 c = omega (arith, c .before .before .before .before .before .before .before .before .before .pre .4, c .before .before .before .before .loop-test .taken)
@@ -73,7 +102,12 @@ loop-less-2 : tie.Need-loop-less-2 Inv-loop μ-loop
 loop-less-2 c = search needs
 
 loop-again-2 : tie.Need-loop-again-2 Inv-loop μ-loop
-loop-again-2 c = sifts-more (c .before .before .before .before .before .before .before .before .before .pre .2) (c .before .before .before .before .before .before .before .before .before .pre .3) (c .before .before .before .before .before .before .before .before .before .pre .4) (c .before .before .before .before .loop-test .taken) (c .before .before .before .before .before .loop .inv) (c .before .before .place-of .ensures) (c .before .if1 .left)
+loop-again-2 c =
+    let r = c .before .before .before .before .before .before .before .before .before in
+    let turn = c .before .before .before .before .before .loop in
+    let test = c .before .before .before .before .loop-test in
+    let found = c .before .before .place-of in
+    sifts-more (r .pre .2) (r .pre .3) (r .pre .4) (test .taken) (turn .inv) (found .ensures) (c .before .if1 .left)
 
 same-length : tie.Need-same-length Inv-loop μ-loop
 same-length c = c .before .loop .inv .weights .front .size
@@ -82,7 +116,9 @@ same-length-2 : tie.Need-same-length-2 Inv-loop μ-loop
 same-length-2 c = c .before .loop .inv .indices .front .size
 
 returns : tie.Need-returns Inv-loop μ-loop
-returns c = let d = sifts-done (c .before .before .before .before .before .pre .2) (c .before .before .before .before .before .pre .3) (c .before .before .before .before .before .pre .4) (c .loop-test .left) (c .before .loop .inv) in (d .0, (d .1, d .2))
+returns c =
+    let r = c .before .before .before .before .before in
+    let d = sifts-done (r .pre .2) (r .pre .3) (r .pre .4) (c .loop-test .left) (c .before .loop .inv) in (d .0, (d .1, d .2))
 
 pub pack-list-spec : {M : Type 1} → statement M
 pack-list-spec =

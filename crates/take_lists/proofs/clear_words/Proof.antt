@@ -1,12 +1,9 @@
--- `take_lists::clear_indices` meets its contract: the places from a up to p are cleared (`Blanks`). Assumes nothing.
+-- `take_lists::clear_words` meets its contract: the places from a up to p are cleared (`Blanks`). Assumes nothing.
 use Prim.Native.Nat.{_-_}
 use Rattle.take_lists.proofs.Fronting.{Blanks, blanks-start, blanks-more, blanks-done}
 use borrow.Author.Needs.{needs}
-use native.Mathlib.Omega.{arith}
-use Rattle.take_lists.proofs.clear_indices.Statement.{statement}
-use Rattle.take_lists.proofs.clear_indices.Tie as tie
-use Rattle.take_lists.proofs.clear_indices.Reads as reads
-use Rattle.take_lists.proofs.clear_indices.Lts as lts
+use Rattle.take_lists.proofs.clear_words.Statement.{statement}
+use Rattle.take_lists.proofs.clear_words.Tie as tie
 
 abbrev Inv-loop : tie.InvT-loop
 Inv-loop area₀ a b p₀ area p = Blanks 0 area₀ a b p area
@@ -38,8 +35,8 @@ same-length c = search needs
 returns : tie.Need-returns Inv-loop μ-loop
 returns c = blanks-done (c .loop-test .left) (c .before .loop .inv)
 
-pub clear-indices-spec : {M : Type 1} → statement M
-clear-indices-spec =
+pub clear-words-spec : {M : Type 1} → statement M
+clear-words-spec =
     tie.close
     (tie.spec
     Inv-loop
