@@ -78,13 +78,7 @@ fn is_crowded(s: Settings, t: Settings, gone: &[u32], indices: &[u32], offsets: 
 }
 
 // The tests in their order.
-pub fn judge(
-    r: Run,
-    gone: &[u32],
-    positions: &[f64],
-    indices: &[u32],
-    offsets: &[u32],
-) -> Verdict
+pub fn judge(r: Run, gone: &[u32], positions: &[f64], indices: &[u32], offsets: &[u32]) -> Verdict
     requires { ⌜ VerdictRoom r (now positions) (now indices) (now offsets) ⌝ }
     ensures { λ v. ⌜ v ≡ verdictOf r (now (gone .entry)) (now (positions .entry)) (now (indices .entry)) (now (offsets .entry)) ⌝ }
 {

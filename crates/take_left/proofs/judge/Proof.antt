@@ -1,3 +1,5 @@
+use Rattle.take_left.proofs.Judged.{Judging, judging, judging-room, told-crowded, told-left, told-barred}
+use mathlib.Core.Path.{refl}
 use Rattle.take_left.proofs.Judged.{thinned-n}
 use Rattle.run_record.specs.Record.{lateFault}
 use Rattle.run_record.specs.declared.Settings.{Settings}
@@ -51,19 +53,19 @@ returns-4 : tie.Need-returns-4
 returns-4 c = judged-perplexed (c .before .before .before .before .before .before .before .before .before .before .before .before .before .before .args .r) (c .before .before .before .before .before .before .before .before .before .before .before .before .before .before .args .gone .now) (c .before .before .before .before .before .before .before .before .before .before .before .before .before .before .args .positions .now) (c .before .before .before .before .before .before .before .before .before .before .before .before .before .before .args .indices .now) (c .before .before .before .before .before .before .before .before .before .before .before .before .before .before .args .offsets .now) (c .before .before .before .before .before .before .before .before .if1 .left) (sym (c .before .before .before .before .before .before .gone-fine .ensures) ∙ not-false _ (c .before .before .before .before .before .if2 .left)) (omega (arith, (count-left (c .before .before .before .before .before .before .before .before .before .before .before .before .before .before .args .gone .now) (c .before .before .before .before .before .before .before .before .before .before .before .before .before .before .args .r .settings .n) (sym (c .before .before .before .before .before .before .gone-fine .ensures) ∙ not-false _ (c .before .before .before .before .before .if2 .left))), c .before .before .before .if3 .left)) (subst (λ (x : ℕ). lt (c .before .before .before .before .before .before .before .before .before .before .before .before .before .before .args .r .settings .perplexity) (ofInt binary64 (pos x)) ≡ false) ((count-left (c .before .before .before .before .before .before .before .before .before .before .before .before .before .before .args .gone .now) (c .before .before .before .before .before .before .before .before .before .before .before .before .before .before .args .r .settings .n) (sym (c .before .before .before .before .before .before .gone-fine .ensures) ∙ not-false _ (c .before .before .before .before .before .if2 .left))) .1) (late-above (c .before .before .before .before .before .before .before .before .before .before .before .before .before .before .args .r .settings) _ _ (omega (arith, c .before .before .before .if3 .left)) (c .before .late-fault .ensures ∙ ap lateFault (c .before .before .thinned-settings .ensures)) (c .if4 .taken)))
 
 is-crowded-requires : tie.Need-is-crowded-requires
-is-crowded-requires c κs = ?
+is-crowded-requires c κs = judging-room (c .before .before .before .before .before .before .before .before .before .before .before .before .before .before .pre) (judging (c .before .before .before .before .before .before .before .before .before .before .before .before .before .before .args .r) (c .before .before .before .before .before .before .before .before .before .before .before .before .before .before .args .gone .now) _ _ _ (c .before .before .before .before .before .before .before .before .if1 .left) (sym (c .before .before .before .before .before .before .gone-fine .ensures) ∙ not-false _ (c .before .before .before .before .before .if2 .left)) refl (omega (arith, c .before .before .before .if3 .left)) (c .before .before .thinned-settings .ensures) (c .before .late-fault .ensures) (c .if4 .left))
 
 returns-5 : tie.Need-returns-5
-returns-5 c = ?
+returns-5 c = told-crowded _ _ _ (judging (c .before .before .before .before .before .before .before .before .before .before .before .before .before .before .before .before .args .r) (c .before .before .before .before .before .before .before .before .before .before .before .before .before .before .before .before .args .gone .now) _ _ _ (c .before .before .before .before .before .before .before .before .before .before .if1 .left) (sym (c .before .before .before .before .before .before .before .before .gone-fine .ensures) ∙ not-false _ (c .before .before .before .before .before .before .before .if2 .left)) refl (omega (arith, c .before .before .before .before .before .if3 .left)) (c .before .before .before .before .thinned-settings .ensures) (c .before .before .before .late-fault .ensures) (c .before .before .if4 .left)) (sym (c .before .is-crowded .ensures) ∙ c .if5 .taken)
 
 is-calm-left-requires : tie.Need-is-calm-left-requires
-is-calm-left-requires c κs = ?
+is-calm-left-requires c κs = let j = (judging (c .before .before .before .before .before .before .before .before .before .before .before .before .before .before .before .before .args .r) (c .before .before .before .before .before .before .before .before .before .before .before .before .before .before .before .before .args .gone .now) _ _ _ (c .before .before .before .before .before .before .before .before .before .before .if1 .left) (sym (c .before .before .before .before .before .before .before .before .gone-fine .ensures) ∙ not-false _ (c .before .before .before .before .before .before .before .if2 .left)) refl (omega (arith, c .before .before .before .before .before .if3 .left)) (c .before .before .before .before .thinned-settings .ensures) (c .before .before .before .late-fault .ensures) (c .before .before .if4 .left)) in (c .before .before .before .before .before .before .before .before .before .before .before .before .before .before .before .before .pre .settings-good .n-most, c .before .before .before .before .before .before .before .before .before .before .before .before .before .before .before .before .pre .settings-good .c-most, c .before .before .before .before .before .before .before .before .before .before .before .before .before .before .before .before .pre .positions-long, gone-climbs (c .before .before .before .before .before .before .before .before .before .before .before .before .before .before .before .before .args .gone .now) (c .before .before .before .before .before .before .before .before .before .before .before .before .before .before .before .before .args .r .settings .n) (j .listed-fine), j .count)
 
 returns-6 : tie.Need-returns-6
-returns-6 c = ?
+returns-6 c = told-left _ _ _ (judging (c .before .before .before .before .before .before .before .before .before .before .before .before .before .before .before .before .before .before .args .r) (c .before .before .before .before .before .before .before .before .before .before .before .before .before .before .before .before .before .before .args .gone .now) _ _ _ (c .before .before .before .before .before .before .before .before .before .before .before .before .if1 .left) (sym (c .before .before .before .before .before .before .before .before .before .before .gone-fine .ensures) ∙ not-false _ (c .before .before .before .before .before .before .before .before .before .if2 .left)) refl (omega (arith, c .before .before .before .before .before .before .before .if3 .left)) (c .before .before .before .before .before .before .thinned-settings .ensures) (c .before .before .before .before .before .late-fault .ensures) (c .before .before .before .before .if4 .left)) (sym (c .before .before .before .is-crowded .ensures) ∙ c .before .before .if5 .left) (sym (c .before .is-calm-left .ensures) ∙ c .if6 .taken)
 
 returns-7 : tie.Need-returns-7
-returns-7 c = ?
+returns-7 c = told-barred _ _ _ (judging (c .before .before .before .before .before .before .before .before .before .before .before .before .before .before .before .before .before .before .args .r) (c .before .before .before .before .before .before .before .before .before .before .before .before .before .before .before .before .before .before .args .gone .now) _ _ _ (c .before .before .before .before .before .before .before .before .before .before .before .before .if1 .left) (sym (c .before .before .before .before .before .before .before .before .before .before .gone-fine .ensures) ∙ not-false _ (c .before .before .before .before .before .before .before .before .before .if2 .left)) refl (omega (arith, c .before .before .before .before .before .before .before .if3 .left)) (c .before .before .before .before .before .before .thinned-settings .ensures) (c .before .before .before .before .before .late-fault .ensures) (c .before .before .before .before .if4 .left)) (sym (c .before .before .before .is-crowded .ensures) ∙ c .before .before .if5 .left) (sym (c .before .is-calm-left .ensures) ∙ c .if6 .left)
 
 pub judge-spec : {M : Type 1} → statement M
 judge-spec =
