@@ -7,16 +7,17 @@ use lib.Dec.{eqb, leb}
 use lib.ListN.{length, drop}
 use lib.Ieee.{Float}
 use Rattle.laws.specs.Area.{num, zero64}
+use Rattle.laws.specs.Domain.{mostFrames}
 use Rattle.areas.specs.Filled.{filled}
 use Rattle.run_record.specs.declared.Run.{Run}
 use Rattle.run_record.specs.declared.Settings.{Settings}
-use Rattle.run_record.specs.Record.{isTree, settingsFault}
+use Rattle.run_record.specs.Record.{isTree, settingsFault, GoodSettings}
 use Rattle.run_entry.specs.State.{Memory, State}
 use Rattle.run_entry.specs.declared.Fault.{Fault}
 use Rattle.run_entry.specs.Entry.{isFine, faultAt, faultNumber}
-use Rattle.take_gone.specs.Gone.{survivors}
-use Rattle.take_rows.specs.Rows.{shrunk, rowsOf, squareOf, centredRows}
-use Rattle.take_lists.specs.Packed.{packedIndices, packedWeights, packedOffsets}
+use Rattle.take_gone.specs.Gone.{survivors, Climbs}
+use Rattle.take_rows.specs.Rows.{shrunk, rowsOf, squareOf, centredRows, Kept}
+use Rattle.take_lists.specs.Packed.{packedIndices, packedWeights, packedOffsets, Listed}
 use Rattle.take_left.specs.declared.Verdict.{Verdict}
 use Rattle.take_left.specs.declared.Verdict.the-variants.{Left, Inside, Unordered, Few, Perplexed, Crowded, Barred}
 use Rattle.take_left.specs.Verdict.{thinnedRun, verdictOf, verdictNumber, VerdictRoom}
@@ -60,17 +61,25 @@ goesOn Barred = false
 
 -- ---- what is left
 
--- keep: the old places of the survivors. Survivors close ranks, zeros follow up to the old sizes; all forces are zero
+-- keep: the old places of the survivors; W, I and O: affinities, indices and offsets. An exact run has a matrix and no lists
+unfoldable pub affinitiesLeft : Settings → List ℕ → List Float → List ℕ → List ℕ → List Float
+affinitiesLeft s keep W I O = cond (isTree (s .method)) (shrunk zero64 (num O (s .n)) (packedWeights keep W I O) W) (shrunk zero64 (s .n * s .n) (squareOf keep (s .n) W) W)
+
+unfoldable pub indicesPacked : Settings → List ℕ → List ℕ → List ℕ → List ℕ
+indicesPacked s keep I O = cond (isTree (s .method)) (shrunk 0 (num O (s .n)) (packedIndices keep I O) I) I
+
+unfoldable pub offsetsPacked : Settings → List ℕ → List ℕ → List ℕ → List ℕ
+offsetsPacked s keep I O = cond (isTree (s .method)) (shrunk 0 (s .n + 1) (packedOffsets keep I O) O) O
+
+-- survivors close ranks, zeros follow up to the old sizes; all forces are zero
 unfoldable pub packedAreas : Settings → List ℕ → Holdings → Holdings
 packedAreas s keep h = record {
   positions = shrunk zero64 (s .n * s .c) (centredRows keep (s .c) (h .positions)) (h .positions);
   increments = shrunk zero64 (s .n * s .c) (rowsOf keep (s .c) (h .increments)) (h .increments);
   gains = shrunk zero64 (s .n * s .c) (rowsOf keep (s .c) (h .gains)) (h .gains);
-  affinities = cond (isTree (s .method))
-      (shrunk zero64 (num (h .offsets) (s .n)) (packedWeights keep (h .affinities) (h .indices) (h .offsets)) (h .affinities))
-      (shrunk zero64 (s .n * s .n) (squareOf keep (s .n) (h .affinities)) (h .affinities));
-  indices = cond (isTree (s .method)) (shrunk 0 (num (h .offsets) (s .n)) (packedIndices keep (h .indices) (h .offsets)) (h .indices)) (h .indices);
-  offsets = cond (isTree (s .method)) (shrunk 0 (s .n + 1) (packedOffsets keep (h .indices) (h .offsets)) (h .offsets)) (h .offsets);
+  affinities = affinitiesLeft s keep (h .affinities) (h .indices) (h .offsets);
+  indices = indicesPacked s keep (h .indices) (h .offsets);
+  offsets = offsetsPacked s keep (h .indices) (h .offsets);
   forces = filled zero64 (s .n * (2 * s .c + 1)) (h .forces);
   table = shrunk zero64 (s .n * s .f) (rowsOf keep (s .f) (h .table)) (h .table);
   old = keep ++ drop (length keep) (h .old);
@@ -131,5 +140,36 @@ pub record TakeRoom (r : Run) (h : Holdings) : Type 0 where
   pub forces-long : r .settings .n * (2 * r .settings .c + 1) ≤ length (h .forces)
   pub table-long : r .settings .n * r .settings .f ≤ length (h .table)
   pub old-long : r .settings .n ≤ length (h .old)
-  pub weights-long : isTree (r .settings .method) ≡ true → num (h .offsets) (r .settings .n) ≤ length (h .affinities)
+  pub lists-long : isTree (r .settings .method) ≡ true → Listed (r .settings .n) (length (h .affinities)) (length (h .indices)) (h .offsets)
   pub square-long : isTree (r .settings .method) ≡ false → r .settings .n * r .settings .n ≤ length (h .affinities)
+
+-- what the areas with a row for each frame are packed within
+pub record ValuesRoom (s : Settings) (g keep : List ℕ) (p i v t : ℕ) : Type 0 where
+  pub values-good : GoodSettings s
+  pub values-gone : Climbs g
+  pub values-keep : keep ≡ survivors g (s .n)
+  pub p-long : s .n * s .c ≤ p
+  pub i-long : s .n * s .c ≤ i
+  pub v-long : s .n * s .c ≤ v
+  pub t-long : s .n * s .f ≤ t
+
+-- what the affinities are packed within
+pub record LinksRoom (s : Settings) (keep : List ℕ) (a x : ℕ) (O : List ℕ) : Type 0 where
+  pub links-most-frames : s .n ≤ mostFrames
+  pub links-climb : Climbs keep
+  pub links-kept : Kept keep (s .n)
+  pub links-lie : isTree (s .method) ≡ true → Listed (s .n) a x O
+  pub links-square : isTree (s .method) ≡ false → s .n * s .n ≤ a
+
+-- what all areas are packed within
+pub record PackRoom (s : Settings) (g : List ℕ) (h : Holdings) : Type 0 where
+  pub pack-good : GoodSettings s
+  pub pack-gone : Climbs g
+  pub pack-positions : s .n * s .c ≤ length (h .positions)
+  pub pack-increments : s .n * s .c ≤ length (h .increments)
+  pub pack-gains : s .n * s .c ≤ length (h .gains)
+  pub pack-forces : s .n * (2 * s .c + 1) ≤ length (h .forces)
+  pub pack-table : s .n * s .f ≤ length (h .table)
+  pub pack-old : s .n ≤ length (h .old)
+  pub pack-lists : isTree (s .method) ≡ true → Listed (s .n) (length (h .affinities)) (length (h .indices)) (h .offsets)
+  pub pack-square : isTree (s .method) ≡ false → s .n * s .n ≤ length (h .affinities)
