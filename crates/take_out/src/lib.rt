@@ -155,7 +155,7 @@ fn pack_run(
         table,
     );
     pack_affinities(s, &old[..m], affinities, indices, offsets);
-    fill(forces, s.n * (2 * s.c + 1), 0.0);
+    fill(forces, times(s.n, 2 * s.c + 1), 0.0);
 }
 
 // Once the entry tests have found f: refuses, or takes the frames out.

@@ -1,3 +1,5 @@
+use Rattle.take_out.specs.TakeOut.{takeNumber}
+use mathlib.Core.Path.{sym, ap, _∙_}
 use borrow.Author.Needs.{needs}
 use native.Mathlib.Omega.{arith}
 use borrow.Author.Needs.{needs}
@@ -21,10 +23,12 @@ fault-number-requires : tie.Need-fault-number-requires
 fault-number-requires c κs = search needs
 
 returns : tie.Need-returns
-returns c = search needs
+unfolding takeNumber
+returns c = c .number .ensures ∙ ap takeNumber (sym (c .before .before .a .given .1))
 
 returns-2 : tie.Need-returns-2
-returns-2 c = search needs
+unfolding takeNumber
+returns-2 c = c .fault-number .ensures ∙ ap takeNumber (sym (c .before .before .a2 .given .1))
 
 pub number-spec : {M : Type 1} → statement M
 number-spec =

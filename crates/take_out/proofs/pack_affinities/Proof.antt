@@ -1,3 +1,6 @@
+use Rattle.take_out.specs.TakeOut.{affinitiesLeft, indicesPacked, offsetsPacked}
+use borrow.Author.Tests.{not-true, not-false}
+use mathlib.Core.Path.{refl, sym, ap, subst, _∙_}
 use borrow.Author.Needs.{needs}
 use native.Mathlib.Omega.{arith}
 use borrow.Author.Needs.{needs}
@@ -13,28 +16,30 @@ is-tree-requires : tie.Need-is-tree-requires
 is-tree-requires c κs = search needs
 
 pack-lists-requires : tie.Need-pack-lists-requires
-pack-lists-requires c κs = search needs
+pack-lists-requires c κs = (c .before .before .before .before .before .before .before .before .before .pre .links-most-frames, c .before .before .before .before .before .before .before .before .before .pre .links-climb, c .before .before .before .before .before .before .before .before .before .pre .links-kept, c .before .before .before .before .before .before .before .before .before .pre .links-lie (sym (c .before .before .before .before .is-tree .ensures) ∙ c .before .before .before .if1 .taken))
 
 same-length : tie.Need-same-length
-same-length c = search needs
+same-length c = c .before .before .before .before .before .before .pack-lists .kept .0
 
 same-length-2 : tie.Need-same-length-2
-same-length-2 c = search needs
+same-length-2 c = c .before .before .before .before .before .before .pack-lists .kept .1 .0
 
 same-length-3 : tie.Need-same-length-3
-same-length-3 c = search needs
+same-length-3 c = c .before .before .before .before .before .before .pack-lists .kept .1 .1 .0
 
 returns : tie.Need-returns
-returns c = search needs
+unfolding affinitiesLeft indicesPacked offsetsPacked
+returns c = let e = sym (c .before .before .before .before .before .before .before .before .before .before .before .is-tree .ensures) ∙ c .before .before .before .before .before .before .before .before .before .before .if1 .taken in (rw e (c .before .before .before .before .before .before .pack-lists .ensures .0), rw e (c .before .before .before .before .before .before .pack-lists .ensures .1), rw e (c .before .before .before .before .before .before .pack-lists .ensures .2))
 
 pack-square-requires : tie.Need-pack-square-requires
-pack-square-requires c κs = search needs
+pack-square-requires c κs = (c .before .before .before .before .before .before .before .pre .links-most-frames, c .before .before .before .before .before .before .before .pre .links-square (sym (c .before .before .is-tree .ensures) ∙ c .before .if1 .left), c .before .before .before .before .before .before .before .pre .links-kept)
 
 same-length-4 : tie.Need-same-length-4
-same-length-4 c = search needs
+same-length-4 c = c .before .before .pack-square .kept .0
 
 returns-2 : tie.Need-returns-2
-returns-2 c = search needs
+unfolding affinitiesLeft indicesPacked offsetsPacked
+returns-2 c = let e = sym (c .before .before .before .before .before .is-tree .ensures) ∙ c .before .before .before .before .if1 .left in (rw e (c .before .before .pack-square .ensures), rw e refl, rw e refl)
 
 pub pack-affinities-spec : {M : Type 1} → statement M
 pack-affinities-spec =
