@@ -1,2 +1,6 @@
 pub mod Rooms
 pub mod Tested
+pub mod Calls
+pub mod Values
+mod ByValue
+mod CallsTakeTested

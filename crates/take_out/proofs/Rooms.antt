@@ -72,9 +72,9 @@ module _ {s : Settings} {g : List ℕ} {h : Holdings} (r : PackRoom s g h) where
   pub packed-told : (keep old : List ℕ) → keep ≡ survivors g (s .n) → old ≡ survivors g (s .n) ++ drop (length (survivors g (s .n))) (h .old)
       → (p i v t f : List Float) (a : List Float) (x o : List ℕ)
       → (p ≡ shrunk zero64 (s .n * s .c) (centredRows keep (s .c) (h .positions)) (h .positions))
-        × (i ≡ shrunk zero64 (s .n * s .c) (rowsOf keep (s .c) (h .increments)) (h .increments))
-        × (v ≡ shrunk zero64 (s .n * s .c) (rowsOf keep (s .c) (h .gains)) (h .gains))
-        × (t ≡ shrunk zero64 (s .n * s .f) (rowsOf keep (s .f) (h .table)) (h .table))
+      × (i ≡ shrunk zero64 (s .n * s .c) (rowsOf keep (s .c) (h .increments)) (h .increments))
+      × (v ≡ shrunk zero64 (s .n * s .c) (rowsOf keep (s .c) (h .gains)) (h .gains))
+      × (t ≡ shrunk zero64 (s .n * s .f) (rowsOf keep (s .f) (h .table)) (h .table))
       → (a ≡ affinitiesLeft s keep (h .affinities) (h .indices) (h .offsets)) × (x ≡ indicesPacked s keep (h .indices) (h .offsets)) × (o ≡ offsetsPacked s keep (h .indices) (h .offsets))
       → f ≡ filled zero64 (s .n * (2 * s .c + 1)) (h .forces)
       → holdings p i v a x o f t old ≡ packedAreas s (survivors g (s .n)) h

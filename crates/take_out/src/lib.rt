@@ -145,15 +145,7 @@ fn pack_run(
         ⌝ }
 {
     let m = put_survivors(gone, s.n, old);
-    pack_values(
-        s,
-        gone,
-        &old[..m],
-        positions,
-        increments,
-        gains,
-        table,
-    );
+    pack_values(s, gone, &old[..m], positions, increments, gains, table);
     pack_affinities(s, &old[..m], affinities, indices, offsets);
     fill(forces, times(s.n, 2 * s.c + 1), 0.0);
 }

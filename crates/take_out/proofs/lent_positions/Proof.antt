@@ -19,22 +19,18 @@ settings-fault-requires c κs = search needs
 
 returns : tie.Need-returns
 unfolding lentPositions
-
 returns c = rw (ne-eqb _ 0 (λ e. c .if1 .taken (c .before .settings-fault .ensures ∙ e)))
 
 times-requires : tie.Need-times-requires
 times-requires c κs = let g = settings-fine (c .before .before .args .s) (sym (c .before .settings-fault .ensures) ∙ c .if1 .left) in (omega (arith, g .n-most), omega (arith, g .f-most))
 
 returns-2 : tie.Need-returns-2
-
 returns-2 c = lent-no-table (c .before .before .before .before .args .s) (c .before .before .before .before .args .p) (c .before .before .before .before .args .t) (c .before .before .before .before .args .q) (sym (c .before .before .before .settings-fault .ensures) ∙ c .before .before .if1 .left) (omega (arith, c .before .times .ensures, c .if2 .taken))
 
 returns-3 : tie.Need-returns-3
-
 returns-3 c = lent-no-old (c .before .before .before .before .before .before .args .s) (c .before .before .before .before .before .before .args .p) (c .before .before .before .before .before .before .args .t) (c .before .before .before .before .before .before .args .q) (sym (c .before .before .before .before .before .settings-fault .ensures) ∙ c .before .before .before .before .if1 .left) (omega (arith, c .before .before .before .times .ensures, c .before .before .if2 .left)) (c .if3 .taken)
 
 returns-4 : tie.Need-returns-4
-
 returns-4 c = lent-all (c .before .before .before .before .before .before .args .s) (c .before .before .before .before .before .before .args .p) (c .before .before .before .before .before .before .args .t) (c .before .before .before .before .before .before .args .q) (sym (c .before .before .before .before .before .settings-fault .ensures) ∙ c .before .before .before .before .if1 .left) (omega (arith, c .before .before .before .times .ensures, c .before .before .if2 .left)) (c .if3 .left)
 
 pub lent-positions-spec : {M : Type 1} → statement M
