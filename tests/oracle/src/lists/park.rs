@@ -1,7 +1,7 @@
 //! The lists of parked runs: writing and reading, with every refusal among them; and runs and damage for other tests.
 
 use super::descent::{marked_numbers, marks};
-use crate::descent::{Areas, Fault, Method, Record, Settings, Standing};
+use crate::descent::{Areas, Method, Record, Settings, Standing};
 use crate::park::{park, unpark, Refusal, RECORD};
 use crate::scatter::SplitMix64;
 use crate::tree::Node;
@@ -252,8 +252,7 @@ pub(crate) fn contents(areas: &Areas) -> Vec<u64> {
 pub fn place_of(refusal: Refusal) -> u64 {
     match refusal {
         Refusal::Record(place) => place as u64,
-        Refusal::Entry(Fault::Settings(number)) => number,
-        Refusal::Entry(Fault::Offsets(place) | Fault::Index(place) | Fault::Tree(place)) => place as u64,
+        Refusal::Entry(fault) => fault.place(),
         _ => 0,
     }
 }
@@ -321,7 +320,7 @@ fn marked(areas: &Areas, more: usize) -> Areas {
 }
 
 /// One element less in one of the eight areas.
-fn shorten(areas: &mut Areas, which: usize) {
+pub(crate) fn shorten(areas: &mut Areas, which: usize) {
     match which {
         0 => drop(areas.positions.pop()),
         1 => drop(areas.increments.pop()),
