@@ -20,11 +20,11 @@ const NANS: [u64; 4] = [
 pub const STANDINGS: [Standing; 3] = [Standing::Running, Standing::Stopped, Standing::Finished];
 
 /// Choices at random.
-fn below(random: &mut SplitMix64, bound: usize) -> usize {
+pub(super) fn below(random: &mut SplitMix64, bound: usize) -> usize {
     (random.next() % bound as u64) as usize
 }
 
-fn one_of<T: Copy>(random: &mut SplitMix64, choices: &[T]) -> T {
+pub(super) fn one_of<T: Copy>(random: &mut SplitMix64, choices: &[T]) -> T {
     choices[below(random, choices.len())]
 }
 
@@ -223,7 +223,7 @@ pub fn words_of(record: &Record) -> [u64; 14] {
 }
 
 /// How long the eight areas are.
-fn lengths(areas: &Areas) -> [u64; 8] {
+pub(super) fn lengths(areas: &Areas) -> [u64; 8] {
     [
         areas.positions.len(),
         areas.increments.len(),
@@ -258,7 +258,7 @@ pub fn place_of(refusal: Refusal) -> u64 {
 }
 
 /// A length, then what follows it.
-fn counted(words: Vec<u64>) -> Vec<u64> {
+pub(super) fn counted(words: Vec<u64>) -> Vec<u64> {
     let mut case = vec![words.len() as u64 + 1];
     case.extend(words);
     case
