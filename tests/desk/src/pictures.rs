@@ -79,8 +79,14 @@ pub fn told(frames: &[Frame], places: &[u32]) -> String {
         next = Some(place + 1);
     }
     let listed: Vec<String> = ranges.iter().map(Range::to_string).collect();
-    let (count, many) = (places.len(), if places.len() == 1 { "frame" } else { "frames" });
-    format!("{count} {many}, of {}", listed.join(", "))
+    let one = ranges.len() == 1 && ranges[0].first == ranges[0].last;
+    format!(
+        "{} {}, {} {}",
+        places.len(),
+        if places.len() == 1 { "frame" } else { "frames" },
+        if one { "picture" } else { "pictures" },
+        listed.join(", ")
+    )
 }
 
 /// A frame file without the frames at these places.
@@ -149,10 +155,10 @@ mod tests {
     #[test]
     fn what_is_told() {
         let told = |places: &[u32]| told(&frames(), places);
-        assert_eq!(told(&[1, 2]), "2 frames, of 6");
-        assert_eq!(told(&[4]), "1 frame, of 9");
-        assert_eq!(told(&[0, 1, 2, 4]), "4 frames, of 5-6, 9");
-        assert_eq!(told(&[3, 4]), "2 frames, of 7-9");
+        assert_eq!(told(&[1, 2]), "2 frames, picture 6");
+        assert_eq!(told(&[4]), "1 frame, picture 9");
+        assert_eq!(told(&[0, 1, 2, 4]), "4 frames, pictures 5-6, 9");
+        assert_eq!(told(&[3, 4]), "2 frames, pictures 7-9");
     }
 
     #[test]
