@@ -20,14 +20,14 @@ use std::panic::{catch_unwind, AssertUnwindSafe};
 type Told = (u64, u64);
 
 /// How often each thing was met, by its name.
-type Met = BTreeMap<String, usize>;
+pub type Met = BTreeMap<String, usize>;
 
-fn meet(met: &mut Met, what: impl Into<String>) {
+pub fn meet(met: &mut Met, what: impl Into<String>) {
     *met.entry(what.into()).or_default() += 1;
 }
 
 /// The three states, and both methods with the components of small runs.
-const STATES: [&str; 3] = ["running", "stopped", "finished"];
+pub const STATES: [&str; 3] = ["running", "stopped", "finished"];
 const METHODS: [descent::Method; 2] = [descent::Method::Exact, descent::Method::BarnesHut];
 
 /// A run of the other side as the library is lent it.
@@ -363,7 +363,7 @@ fn damaged_files() {
 }
 
 /// Settings of a run that is worked.
-fn settings(random: &mut Random, n: usize, iterations: usize) -> Settings {
+pub fn settings(random: &mut Random, n: usize, iterations: usize) -> Settings {
     let method = random.one_of(&[Method::Exact, Method::BarnesHut]);
     Settings {
         n,
