@@ -15,6 +15,13 @@ impl Refusal {
         }
     }
 
+    /// What a call counted in word 0 of its answer; or the refusal with what comes with it there.
+    pub(crate) fn unless_counted(number: u32, [word]: [u64; 1]) -> Result<usize, (Refusal, u64)> {
+        Refusal::unless_0(number)
+            .map(|()| word as usize)
+            .map_err(|refusal| (refusal, word))
+    }
+
     /// What the number means.
     pub fn meaning(self) -> &'static str {
         match self.0 {

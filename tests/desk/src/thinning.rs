@@ -48,8 +48,5 @@ pub fn take_out(
             answer.len(),
         )
     };
-    let [word] = answer;
-    Refusal::unless_0(number)
-        .map(|()| word as usize)
-        .map_err(|refusal| (refusal, word))
+    Refusal::unless_counted(number, answer)
 }

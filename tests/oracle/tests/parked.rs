@@ -30,16 +30,7 @@ fn written(case: &[u64]) -> bool {
     let record = record(&words.many(14));
     let lengths = words.many(8);
     let bytes = words.one() as usize;
-    let areas = Areas {
-        positions: words.values(lengths[0]),
-        increments: words.values(lengths[1]),
-        gains: words.values(lengths[2]),
-        affinities: words.values(lengths[3]),
-        indices: words.numbers(lengths[4]),
-        offsets: words.numbers(lengths[5]),
-        forces: vec![f64::NAN; lengths[6] as usize],
-        nodes: vec![Node::default(); lengths[7] as usize],
-    };
+    let areas = words.areas(&lengths, vec![f64::NAN; lengths[6] as usize]);
     let answer = words.many(2);
     let mut target: Vec<u8> = (0..bytes).map(|place| (place % 251) as u8 + 1).collect();
     let told = match park(&record, &areas, &mut target) {

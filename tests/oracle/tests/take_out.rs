@@ -9,7 +9,6 @@ mod reading;
 
 use digests::{of_numbers, of_values};
 use marks::{marked_numbers, marked_values};
-use oracle::descent::Areas;
 use oracle::lists::park::words_of;
 use oracle::take_out::take_out;
 use oracle::tree::Node;
@@ -25,16 +24,7 @@ fn right(case: &[u64]) -> bool {
     let mut record = record(&words.many(14));
     let lengths = words.many(8);
     let (table, gone, old) = (words.one(), words.one(), words.one());
-    let mut areas = Areas {
-        positions: words.values(lengths[0]),
-        increments: words.values(lengths[1]),
-        gains: words.values(lengths[2]),
-        affinities: words.values(lengths[3]),
-        indices: words.numbers(lengths[4]),
-        offsets: words.numbers(lengths[5]),
-        forces: marked_values(lengths[6]),
-        nodes: vec![Node::default(); lengths[7] as usize],
-    };
+    let mut areas = words.areas(&lengths, marked_values(lengths[6]));
     let (mut table, gone, mut old) = (words.values(table), words.numbers(gone), marked_numbers(old));
     let mut answer = match take_out(&mut record, &mut areas, &mut table, &gone, &mut old) {
         Ok(left) => vec![0, left as u64],

@@ -16,6 +16,9 @@ const HELP: &str = include_str!("../../help.txt");
 const NO_MAP: u8 = 1;
 const BAD_WORDS: u8 = 2;
 
+/// What is said of pictures that are not as they have to be.
+const WITHOUT: &str = "--without takes pictures and ranges of them, as in 1281-1320,1377";
+
 /// More bytes than any parked run has.
 const MOST_PARKED: u64 = 1 << 30;
 
@@ -83,11 +86,7 @@ fn asked(words: impl Iterator<Item = String>) -> Result<Option<Asked>, String> {
             }
             "--park" => asked.park = Some(words.next().map(PathBuf::from).ok_or("--park takes a file to write")?),
             "--resume" => asked.resume = Some(words.next().map(PathBuf::from).ok_or("--resume takes a parked run")?),
-            "--without" => {
-                let pictures = words.next().and_then(|word| Pictures::read(&word));
-                asked.without =
-                    Some(pictures.ok_or("--without takes pictures and ranges of them, as in 1281-1320,1377")?);
-            }
+            "--without" => asked.without = Some(pictures_of(words.next()).ok_or(WITHOUT)?),
             _ if word.starts_with('-') => return Err(format!("unknown option {word}")),
             _ if file.is_some() => return Err(format!("one frame file at a time, so not {word} too")),
             _ => file = Some(PathBuf::from(word)),
@@ -100,6 +99,10 @@ fn asked(words: impl Iterator<Item = String>) -> Result<Option<Asked>, String> {
 
 fn number(word: Option<String>) -> Option<u64> {
     word.and_then(|word| word.parse().ok())
+}
+
+fn pictures_of(word: Option<String>) -> Option<Pictures> {
+    word.and_then(|word| Pictures::read(&word))
 }
 
 /// Which words need others, or go without them.
@@ -378,14 +381,8 @@ mod tests {
             ),
             ("disc.frames --park", "--park takes a file to write"),
             ("disc.frames --resume", "--resume takes a parked run"),
-            (
-                "disc.frames --without",
-                "--without takes pictures and ranges of them, as in 1281-1320,1377",
-            ),
-            (
-                "disc.frames --without 1320-1281",
-                "--without takes pictures and ranges of them, as in 1281-1320,1377",
-            ),
+            ("disc.frames --without", WITHOUT),
+            ("disc.frames --without 1320-1281", WITHOUT),
             (
                 "disc.frames --until 40",
                 "--until needs --park, which says where the run is kept",

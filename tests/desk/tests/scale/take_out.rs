@@ -3,14 +3,14 @@
 //! word 0, the record and every place of table, old places and all areas have to be the same on both sides, and after a refusal
 //! as they were.
 
-use crate::both::{bits, number, other_side, record_of, same_areas, same_values, Both};
+use crate::both::{self, bits, number, other_side, record_of, same_areas, same_values, Both};
 use crate::case::{marked_nodes, numbers, values, Case};
-use crate::parked::{meet, settings, Met, STATES};
+use crate::met::{all_met, meet, Met};
+use crate::parked::{settings, STATES};
 use crate::random::Random;
-use crate::{damage, damage_record, damage_value, setting};
+use crate::{damage, damage_record, damage_value, each_seed, setting};
 use brothanchor::{sizes, take_out, work, Areas, Method, Settings};
 use oracle::take_out::{self as rules, Refusal};
-use std::panic::{catch_unwind, AssertUnwindSafe};
 use std::time::Instant;
 
 /// A run, and what is lent besides.
@@ -195,22 +195,20 @@ fn settings_of(lent: &Lent) -> Settings {
     }
 }
 
-/// What is lent, by the names of the areas.
-const PARTS: [&str; 10] = [
-    "positions",
-    "increments",
-    "gains",
-    "affinities",
-    "indices",
-    "offsets",
-    "forces",
-    "nodes",
-    "table",
-    "old places",
-];
+/// What is lent: the eight areas, table and old places.
+const PARTS: usize = 10;
+
+fn name(part: usize) -> &'static str {
+    match part {
+        8 => "table",
+        9 => "old places",
+        // The two before the areas are lengths and record.
+        _ => both::PARTS[2 + part],
+    }
+}
 
 /// How much of each part is asked for.
-fn asked(lent: &Lent) -> [usize; 10] {
+fn asked(lent: &Lent) -> [usize; PARTS] {
     let settings = settings_of(lent);
     let sizes = sizes(&settings).expect("good settings");
     let nodes = match (settings.method, lent.is_inside()) {
@@ -264,7 +262,8 @@ fn lengths(random: &mut Random, lent: &Lent, met: &mut Met) {
         "just long enough"
     );
     meet(met, format!("{:?}, just long enough", lent.method()));
-    for (part, name) in PARTS.iter().enumerate().filter(|&(part, _)| asked[part] > 0) {
+    for part in (0..PARTS).filter(|&part| asked[part] > 0) {
+        let name = name(part);
         let mut short = tight.clone();
         cut(&mut short, part, asked[part] - 1);
         // Inside an iteration an arena that is one short of the nodes in use is no area that is short.
@@ -289,7 +288,7 @@ fn damaged(random: &mut Random, lent: &Lent, met: &mut Met) {
         match random.below(8) {
             0 => damage_record(random, &mut other.both),
             1 => {
-                let (part, asked) = (random.below(10), asked(lent));
+                let (part, asked) = (random.below(PARTS), asked(lent));
                 cut(&mut other, part, asked[part].saturating_sub(1));
             }
             2 | 3 => damage_list(random, &mut gone, n),
@@ -397,10 +396,8 @@ fn wanted() -> Vec<String> {
         if tree {
             add("damaged: 18 for the links");
         }
-        for part in PARTS {
-            if tree || !["indices", "offsets", "nodes"].contains(&part) {
-                add(&format!("short {part}"));
-            }
+        for part in (0..PARTS).filter(|part| tree || ![4, 5, 7].contains(part)) {
+            add(&format!("short {}", name(part)));
         }
     }
     wanted
@@ -408,21 +405,36 @@ fn wanted() -> Vec<String> {
 
 #[test]
 fn runs_that_frames_are_taken_out_of() {
-    let (first, count) = (setting("BROTHANCHOR_SEED", 1), setting("BROTHANCHOR_RUNS", 300));
-    let mut met = Met::new();
-    for seed in first..first + count {
-        let one = || run(&mut Random::new(seed), &mut met);
-        if catch_unwind(AssertUnwindSafe(one)).is_err() {
-            panic!("frames taken out: the run of seed {seed} differs");
-        }
-    }
-    println!("frames taken out: seeds {first} to {}: {met:?}", first + count - 1);
-    let missing: Vec<String> = wanted().into_iter().filter(|what| !met.contains_key(what)).collect();
-    assert!(missing.is_empty(), "never met: {missing:?}");
+    let met = each_seed("frames taken out", setting("BROTHANCHOR_RUNS", 300), run);
+    all_met(&met, wanted());
 }
 
-/// As many frames as may be, of which 400 go, by places at random; then every tenth of those that are left. An iteration goes
-/// before, between and after. Taking them out may not take longer than three iterations.
+/// So many frames go, one of each stretch of equal length. That may not take longer than three iterations.
+fn take_share(random: &mut Random, lent: &mut Lent, share: usize) {
+    let n = lent.samples();
+    let from = |i: usize| i * n / share;
+    let gone: Vec<u32> = (0..share)
+        .map(|i| random.within(from(i), from(i + 1) - 1) as u32)
+        .collect();
+    let Lent {
+        mut both,
+        mut table,
+        mut old,
+    } = lent.clone();
+    let begun = Instant::now();
+    let told = take_out(&mut both.record, &mut both.areas, &mut table, &gone, &mut old);
+    let taken = begun.elapsed();
+    assert_eq!(told, Ok(n - share));
+    let mut both = lent.both.clone();
+    let begun = Instant::now();
+    work(&mut both.record, &mut both.areas, settings_of(lent).iteration() as u32);
+    let worked = begun.elapsed();
+    println!("{share} of {n} frames are taken out in {taken:?}, an iteration is done in {worked:?}");
+    assert!(taken < 3 * worked);
+    assert_eq!(lent.take_out(&gone), Ok((n - share) as u64));
+}
+
+/// As many frames as may be, of which 400 go, and then a tenth of those that are left, with an iteration before, between and after.
 fn full_side(method: Method) {
     let random = &mut Random::new(setting("BROTHANCHOR_SEED", 1));
     let settings = Settings {
@@ -439,29 +451,8 @@ fn full_side(method: Method) {
     let case = Case::good(random, settings, 100_000);
     let mut lent = Lent::new(random, &case);
     for share in [400, 369] {
-        let iteration = settings_of(&lent).iteration() as u32;
-        lent.both.work(iteration);
-        let n = lent.samples();
-        let gone: Vec<u32> = (0..share)
-            .map(|i| (i * n / share + random.below(n / share)) as u32)
-            .collect();
-        let mut timed = lent.clone();
-        let begun = Instant::now();
-        work(&mut timed.both.record, &mut timed.both.areas, iteration);
-        let worked = begun.elapsed();
-        let mut timed = lent.clone();
-        let begun = Instant::now();
-        let told = take_out(
-            &mut timed.both.record,
-            &mut timed.both.areas,
-            &mut timed.table,
-            &gone,
-            &mut timed.old,
-        );
-        let taken = begun.elapsed();
-        println!("{method:?}: {share} of {n} frames taken out in {taken:?}, an iteration in {worked:?}");
-        assert!(told.is_ok() && taken < 3 * worked);
-        assert_eq!(lent.take_out(&gone), Ok((n - share) as u64));
+        lent.both.work(settings_of(&lent).iteration() as u32);
+        take_share(random, &mut lent, share);
     }
     lent.both.work(settings_of(&lent).iteration() as u32);
     assert_eq!(lent.both.record.words[10..12], [3, 0]);

@@ -57,6 +57,15 @@ fn settings(random: &mut SplitMix64, method: Method, n: usize, c: usize, standin
     }
 }
 
+/// How many iterations are done in a run that stands so.
+pub(super) fn done(random: &mut SplitMix64, settings: &Settings, standing: Standing) -> usize {
+    match standing {
+        Standing::Running => below(random, settings.iterations),
+        Standing::Stopped => 251 + below(random, settings.iterations - 250),
+        Standing::Finished => settings.iterations,
+    }
+}
+
 /// A value that a step may give.
 fn calm(random: &mut SplitMix64) -> f64 {
     let wide = random.unit() - 0.5;
@@ -78,11 +87,7 @@ fn affinity(random: &mut SplitMix64) -> f64 {
 /// nodes in use, and an exact run's angle.
 pub fn run(random: &mut SplitMix64, method: Method, n: usize, c: usize, standing: Standing) -> (Record, Areas) {
     let settings = settings(random, method, n, c, standing);
-    let done = match standing {
-        Standing::Running => below(random, settings.iterations),
-        Standing::Stopped => 251 + below(random, settings.iterations - 250),
-        Standing::Finished => settings.iterations,
-    };
+    let done = done(random, &settings, standing);
     let record = Record {
         settings,
         standing,

@@ -2,7 +2,7 @@
 
 use super::descent::{digest_numbers, digest_values, digests, marked_numbers, marks};
 use super::gradient::listed;
-use super::park::{below, contents, counted, lengths, one_of, shorten, STANDINGS};
+use super::park::{below, contents, counted, done, lengths, one_of, shorten, STANDINGS};
 use crate::descent::{Areas, Method, Record, Settings, Standing};
 use crate::scatter::SplitMix64;
 use crate::take_out::take_out;
@@ -61,11 +61,7 @@ impl Taking {
     fn new(random: &mut SplitMix64, settings: Settings, standing: Standing) -> Taking {
         let Settings { n, f, c, .. } = settings;
         let tree = settings.method == Method::BarnesHut;
-        let done = match standing {
-            Standing::Running => below(random, settings.iterations),
-            Standing::Stopped => 251 + below(random, settings.iterations - 250),
-            Standing::Finished => settings.iterations,
-        };
+        let done = done(random, &settings, standing);
         let room = if tree { settings.links() } else { 0 };
         let links = room - below(random, room / 2 + 1);
         Taking {

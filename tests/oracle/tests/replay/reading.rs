@@ -1,6 +1,7 @@
 //! Lists whose cases begin with their number of words, as they are read.
 
-use oracle::descent::{Method, Record, Settings, Standing};
+use oracle::descent::{Areas, Method, Record, Settings, Standing};
+use oracle::tree::Node;
 use oracle::words::from_bytes;
 use std::fs;
 use std::path::Path;
@@ -39,6 +40,20 @@ impl Reader<'_> {
 
     pub fn numbers(&mut self, count: u64) -> Vec<u32> {
         self.many(count).into_iter().map(|word| word as u32).collect()
+    }
+
+    /// Areas of these lengths, of which the first six are listed; the forces come from elsewhere, and every node is zeros.
+    pub fn areas(&mut self, lengths: &[u64], forces: Vec<f64>) -> Areas {
+        Areas {
+            positions: self.values(lengths[0]),
+            increments: self.values(lengths[1]),
+            gains: self.values(lengths[2]),
+            affinities: self.values(lengths[3]),
+            indices: self.numbers(lengths[4]),
+            offsets: self.numbers(lengths[5]),
+            forces,
+            nodes: vec![Node::default(); lengths[7] as usize],
+        }
     }
 }
 
