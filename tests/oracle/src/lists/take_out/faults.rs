@@ -11,10 +11,10 @@ const LINKS: usize = 12;
 const METHODS: [Method; 2] = [Method::Exact, Method::BarnesHut];
 
 /// What makes a run be refused: the number, whether an exact run knows it too, and how it comes about.
-pub type Fault = (u64, bool, fn(&mut Taking));
+type Fault = (u64, bool, fn(&mut Taking));
 
 /// The faults in the order in which they are tested.
-pub const FAULTS: [Fault; 14] = [
+const FAULTS: [Fault; 14] = [
     (13, true, |taking| taking.record.settings.rate = 0.0),
     (13, true, |taking| taking.record.units += 1),
     (12, true, |taking| taking.shorten(6)),
@@ -61,7 +61,7 @@ fn inside(taking: &mut Taking, used: usize) {
 }
 
 /// Every fault alone, and every two at once, the later one made first: the number of the earlier one, and the run.
-pub fn pairs(random: &mut SplitMix64) -> Vec<(u64, Taking)> {
+pub(super) fn pairs(random: &mut SplitMix64) -> Vec<(u64, Taking)> {
     let mut found = Vec::new();
     for method in METHODS {
         let known = |fault: &&Fault| fault.1 || method == Method::BarnesHut;
@@ -146,7 +146,7 @@ const POSITIONS: [([f64; N], &[u32]); 13] = [
 ];
 
 /// Each rule by itself, on both sides of its boundary.
-pub fn singles(random: &mut SplitMix64) -> Vec<Taking> {
+pub(super) fn singles(random: &mut SplitMix64) -> Vec<Taking> {
     let mut found = Vec::new();
     let mut add = |method: Method, spoil: &dyn Fn(&mut Taking)| {
         let mut taking = plain(random, method);
