@@ -239,7 +239,7 @@ fn other_node(node: &Node) -> tree::Node {
 }
 
 /// Every place of every area, tails included.
-fn same_areas(ours: &Areas, theirs: &descent::Areas) {
+pub fn same_areas(ours: &Areas, theirs: &descent::Areas) {
     same_values("positions", &ours.positions, &theirs.positions);
     same_values("increments", &ours.increments, &theirs.increments);
     same_values("gains", &ours.gains, &theirs.gains);
@@ -266,7 +266,7 @@ fn same_rows(ours: &Rows, theirs: &descent::Rows) {
     assert!(ours.indices == theirs.indices, "row indices");
 }
 
-fn same_values(area: &str, ours: &[f64], theirs: &[f64]) {
+pub fn same_values(area: &str, ours: &[f64], theirs: &[f64]) {
     assert_eq!(ours.len(), theirs.len(), "{area}");
     for (place, (a, b)) in ours.iter().zip(theirs).enumerate() {
         assert!(bits(*a) == bits(*b), "{area}, place {place}: {a:e} and {b:e}");
