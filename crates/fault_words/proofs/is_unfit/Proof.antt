@@ -1,8 +1,8 @@
 use borrow.Author.Tests.{eq-eqb, ne-eqb}
-use Rattle.desk_divergence.specs.HostDivergence.{unfit}
+use Rattle.fault_words.specs.FaultWords.{unfit}
 use borrow.Author.Needs.{needs}
-use Rattle.desk_divergence.proofs.is_unfit.Statement.{statement}
-use Rattle.desk_divergence.proofs.is_unfit.Tie as tie
+use Rattle.fault_words.proofs.is_unfit.Statement.{statement}
+use Rattle.fault_words.proofs.is_unfit.Tie as tie
 
 returns : tie.Need-returns
 unfolding unfit

@@ -1,0 +1,4 @@
+pub mod Laws
+pub mod CallsTakeOut
+pub mod CallsPutSize
+pub mod CallsPutTaken
