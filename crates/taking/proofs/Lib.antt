@@ -1,1 +1,3 @@
+pub mod Sizes
 pub mod Accepted
+pub mod Honest
