@@ -1,3 +1,4 @@
 pub mod Sizes
 pub mod Accepted
 pub mod Honest
+pub mod OldPlaces
