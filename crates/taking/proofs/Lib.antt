@@ -2,3 +2,4 @@ pub mod Sizes
 pub mod Accepted
 pub mod Honest
 pub mod OldPlaces
+pub mod Composed
