@@ -3,3 +3,4 @@ pub mod Accepted
 pub mod Honest
 pub mod OldPlaces
 pub mod Composed
+pub mod TwicePacked
