@@ -4,3 +4,4 @@ pub mod Honest
 pub mod OldPlaces
 pub mod Composed
 pub mod TwicePacked
+pub mod Twice
