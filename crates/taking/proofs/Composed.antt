@@ -3,7 +3,7 @@ use mathlib.Core.Path.{_≡_, refl, sym, ap, subst, _∙_}
 use mathlib.Core.Logic.{⊎-elim}
 use mathlib.Core.List.{List, [], _∷_, _++_, map, append-nil}
 use mathlib.Core.Bool.{Bool, true, false, cond, not, _&&_, _||_, true≢false}
-use Prim.Native.Nat.{ℕ, zero, suc, _+_, _<_, _≤_}
+use Prim.Native.Nat.{ℕ, zero, suc, _+_, _-_, _<_, _≤_}
 use native.Mathlib.Omega.{arith}
 use native.Mathlib.Decide.{decLt, ℕ-discrete}
 use native.Mathlib.Numerals.{add-one}
@@ -15,11 +15,13 @@ use Rattle.laws.specs.Loops.{first}
 use Rattle.laws.specs.Area.{num}
 use Rattle.laws.specs.Joined.{those}
 use Rattle.laws.proofs.Bools.{two, by-bool}
+use Rattle.laws.proofs.Every.{every-all}
 use Rattle.laws.proofs.First.{first-at, first-none, first-some, first-same}
-use Rattle.laws.proofs.Joined.{those-yes, those-no, those-none, those-at, those-rise, those-same, map-those, map-append, length-map, getD-map-in}
-use Rattle.take_gone.specs.Gone.{standsAt, isAmong, survivors, Climbs}
+use Rattle.laws.proofs.Joined.{those-yes, those-no, those-none, those-at, those-below, those-rise, those-same, spot-yes, spot-no, map-those, map-append, length-map, getD-map-in}
+use Rattle.take_gone.specs.Gone.{standsAt, isAmong, goneFineAt, goneFine, survivors, Climbs}
 use Rattle.take_gone.proofs.Left.{survivors-climb, left-told}
 use Rattle.take_lists.proofs.Theorems.{stands-in, stands-there}
+use Rattle.taking.specs.Union.{takenByEither, Union, unionOf}
 
 -- ---- a test of those that another test has picked
 
@@ -59,11 +61,28 @@ stands-after p n j h y =
     first-at (λ t. eqb (num (those p n) t) j) (length (those p n)) (length (those p j)) (a .0) (eq-eqb (num (those p n) (length (those p j))) j (a .1))
     (λ s l. ne-eqb (num (those p n) s) j (λ e. omega (arith, those-rise p n s (length (those p j)) l (a .0), a .1)))
 
+-- numbers that are picked rise
+picked-fine : (p : ℕ → Bool) (n t : ℕ) → t < length (those p n) → goneFineAt (those p n) n t ≡ true
+unfolding goneFineAt
+picked-fine p n t h = elim (ℕ-discrete t 0) [
+  | yes e ↦ rw (eq-eqb t 0 e, lt-ltb (num (those p n) t) n (those-below p n t h))
+  | no e ↦ rw (ne-eqb t 0 e, lt-ltb (num (those p n) (t - 1)) (num (those p n) t) (those-rise p n (t - 1) t (omega (arith, e)) h), lt-ltb (num (those p n) t) n (those-below p n t h))
+]
+
 -- ---- the frames that two removals leave
 
--- u names what either takes out: the second those that stand, among the frames that the first leaves, where g2 says
-pub record Union (g1 g2 u : List ℕ) (n : ℕ) : Type 0 where
-  pub either : (j : ℕ) → j < n → isAmong u j ≡ (isAmong g1 j || (isAmong (survivors g1 n) j && isAmong g2 (standsAt (survivors g1 n) j)))
+-- every two removals have a union, and it is a list that a removal takes
+pub union-is : (g1 g2 : List ℕ) (n : ℕ) → Union g1 g2 (unionOf g1 g2 n) n
+union-is g1 g2 n = record { either = λ j h. picked (takenByEither g1 g2 n) n j h }
+  where
+    picked : (p : ℕ → Bool) (n j : ℕ) → j < n → isAmong (those p n) j ≡ p j
+    picked p n j h = ⊎-elim
+        (λ y. lt-ltb (standsAt (those p n) j) (length (those p n)) (spot-yes p n j h y) ∙ sym y)
+        (λ y. le-ltb (standsAt (those p n) j) (length (those p n)) (omega (arith, spot-no p n j y)) ∙ sym y)
+        (two (p j))
+
+pub union-fine : (g1 g2 : List ℕ) (n : ℕ) → goneFine (unionOf g1 g2 n) n ≡ true
+union-fine g1 g2 n = every-all (goneFineAt (unionOf g1 g2 n) n) (length (unionOf g1 g2 n)) (λ t h. picked-fine (takenByEither g1 g2 n) n t h)
 
 -- THEOREM: the survivors of the union are the survivors of the second removal, by their places before the first
 pub survivors-union : (g1 g2 u : List ℕ) (n : ℕ) → Union g1 g2 u n → survivors u n ≡ map (num (survivors g1 n)) (survivors g2 (length (survivors g1 n)))

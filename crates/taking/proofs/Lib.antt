@@ -5,3 +5,4 @@ pub mod OldPlaces
 pub mod Composed
 pub mod TwicePacked
 pub mod Twice
+pub mod Removals

@@ -28,8 +28,9 @@ use Rattle.take_lists.proofs.Bounds.{packed-offsets-size}
 use Rattle.take_lists.proofs.Theorems.{packed-indices-count, packed-weights-count, packed-offsets-end, links-left-few, packed-listed}
 use Rattle.take_left.specs.Verdict.{thinned, thinnedRun}
 use Rattle.take_out.specs.TakeOut.{Holdings, affinitiesLeft, indicesPacked, offsetsPacked, packedAreas}
+use Rattle.taking.specs.Union.{Union}
 use Rattle.taking.proofs.Sizes.{rows-size, centred-size, square-size}
-use Rattle.taking.proofs.Composed.{Union, survivors-union, through, through-size, through-at}
+use Rattle.taking.proofs.Composed.{survivors-union, through, through-size, through-at}
 use Rattle.taking.proofs.TwicePacked.{shrunk-twice, filled-twice, row-at, rows-twice, square-twice, packed-indices-twice, links-left-twice, packed-offsets-twice, packed-weights-twice}
 
 -- ---- the record
