@@ -1,9 +1,9 @@
 -- A removal that is refused changes nothing; of one that is not, what its tests have shown and what it leaves. Assumes nothing.
-use mathlib.Core.Path.{_≡_, refl, sym, ap, subst, _∙_}
+use mathlib.Core.Path.{_≡_, refl, sym, ap, _∙_}
 use mathlib.Core.Logic.{_⊎_, ⊎-elim}
 use mathlib.Core.List.{List}
-use mathlib.Core.Bool.{Bool, true, false, cond, not, _&&_, _||_, true≢false}
-use Prim.Native.Nat.{ℕ, _+_, _*_, _<_, _≤_}
+use mathlib.Core.Bool.{Bool, true, false, cond, not, _&&_, true≢false}
+use Prim.Native.Nat.{ℕ, _*_, _<_, _≤_}
 use native.Mathlib.Omega.{arith}
 use native.Mathlib.Nat.{one-mul, mul-le-mul-right}
 use lib.Dec.{eqb, ltb, leb}
@@ -19,7 +19,7 @@ use Rattle.run_record.proofs.Laws.{settings-good}
 use Rattle.run_entry.specs.State.{Memory, State}
 use Rattle.run_entry.specs.declared.Fault.{Fault}
 use Rattle.run_entry.specs.declared.Fault.the-variants.{Fine, Settings as BadSettings, Counters, Areas, Offsets, Index, Tree}
-use Rattle.run_entry.specs.Entry.{isFine, recordFault, areasFit, faultAt, faultOf, faultNumber, GoodAreas, Good}
+use Rattle.run_entry.specs.Entry.{isFine, recordFault, areasFit, faultAt, faultOf, faultNumber, Good}
 use Rattle.run_entry.proofs.Laws.{record-fine, areas-fine, fault-fine}
 use Rattle.take_gone.specs.Gone.{goneFine, survivors}
 use Rattle.take_means.specs.CalmLeft.{calmLeft}
@@ -27,9 +27,8 @@ use Rattle.take_left.specs.declared.Verdict.{Verdict}
 use Rattle.take_left.specs.declared.Verdict.the-variants.{Left, Inside, Unordered, Few, Perplexed, Crowded, Barred}
 use Rattle.take_left.specs.Verdict.{thinnedRun, crowded, verdictOf, verdictNumber}
 use Rattle.take_left.proofs.Judged.{judged-left}
-use Rattle.take_out.specs.declared.Taken.{Taken}
 use Rattle.take_out.specs.declared.Taken.the-variants.{Told, Bad}
-use Rattle.take_out.specs.TakeOut.{Holdings, TookOut, tookOut, TakeOutcome, lentPositions, takeFault, goesOn, packedAreas, takeTested, held, afterTaking, takeOut, takeNumber}
+use Rattle.take_out.specs.TakeOut.{TookOut, tookOut, TakeOutcome, lentPositions, takeFault, goesOn, packedAreas, takeTested, held, afterTaking, takeOut, takeNumber}
 
 -- ---- a refusal
 
@@ -63,6 +62,12 @@ bad-numbered (Offsets i) e z = let y : _≡_ {A = ℕ} 13 0 = z in omega arith
 bad-numbered (Index i) e z = let y : _≡_ {A = ℕ} 13 0 = z in omega arith
 bad-numbered (Tree i) e z = let y : _≡_ {A = ℕ} 13 0 = z in omega arith
 
+-- the record and the areas with the samples of g taken out, where v is told
+abbrev tookAs : Verdict → List ℕ → State → List Float → List ℕ → TookOut
+tookAs v g s t q =
+    let keep = survivors g (s .run .settings .n) in
+    tookOut (Told v) (thinnedRun (s .run) (length keep)) (packedAreas (s .run .settings) keep (held (s .memory) t q))
+
 module _ (g : List ℕ) (s : State) (t : List Float) (q : List ℕ) where
   abbrev fault : Fault
   fault = takeFault (s .run) (s .memory) (length t) (length q)
@@ -84,7 +89,7 @@ module _ (g : List ℕ) (s : State) (t : List Float) (q : List ℕ) where
   unfolding takeOut takeTested
   told-is f e = rw (f, e)
 
-  pub left-is : isFine fault ≡ true → goesOn verdict ≡ true → takeOut g s t q ≡ afterTaking (s .memory) (tookOut (Told verdict) (thinnedRun (s .run) (length (survivors g (s .run .settings .n)))) (packedAreas (s .run .settings) (survivors g (s .run .settings .n)) (held (s .memory) t q)))
+  left-is : isFine fault ≡ true → goesOn verdict ≡ true → takeOut g s t q ≡ afterTaking (s .memory) (tookAs verdict g s t q)
   unfolding takeOut takeTested
   left-is f e = rw (f, e)
 
@@ -157,14 +162,14 @@ module _ (s : State) (t : List Float) (q : List ℕ) where
   long-enough-told h l = rw (lent-all (s .run .settings) (length (s .memory .positions)) (length t) (length q) h l)
 
   -- what they have shown where they pass
-  pub record Entered : Type 0 where
+  pub record TakeEntered : Type 0 where
     pub good : Good s
     pub table-long : s .run .settings .n * s .run .settings .f ≤ length t
     pub old-long : s .run .settings .n ≤ length q
 
-  entered : isFine (takeFault (s .run) (s .memory) (length t) (length q)) ≡ true → Entered
+  entered : isFine (takeFault (s .run) (s .memory) (length t) (length q)) ≡ true → TakeEntered
   unfolding takeFault
-  entered e = by-bool Entered both
+  entered e = by-bool TakeEntered both
       (λ b. let n = s .run .settings .n in
       let h = leb-true (n * s .run .settings .f) (length t) (and-left (leb (n * s .run .settings .f) (length t)) (leb n (length q)) b) in
       let l = leb-true n (length q) (and-right (leb (n * s .run .settings .f) (length t)) (leb n (length q)) b) in
@@ -176,7 +181,8 @@ pub record TooShort (s : State) (t : List Float) (q : List ℕ) : Type 0 where
   pub short : (length t < s .run .settings .n * s .run .settings .f) ⊎ (length q < s .run .settings .n)
 
 -- THEOREM: where the record passes, a table below n·f or fewer than n old places give 12, whatever else is lent and whatever the areas hold
-pub short-table-told : (g : List ℕ) (s : State) (t : List Float) (q : List ℕ) → isFine (recordFault (s .run)) ≡ true → TooShort s t q → (takeOut g s t q .answer ≡ Bad Areas) × (takeNumber (takeOut g s t q .answer) ≡ 12)
+pub short-table-told : (g : List ℕ) (s : State) (t : List Float) (q : List ℕ) → isFine (recordFault (s .run)) ≡ true → TooShort s t q
+    → (takeOut g s t q .answer ≡ Bad Areas) × (takeNumber (takeOut g s t q .answer) ≡ 12)
 unfolding takeNumber faultNumber
 short-table-told g s t q e x = (told, rw told)
   where
@@ -241,13 +247,11 @@ passes-told r g y I O p = judged-left r g y I O (p .between) (p .gone-fine) (p .
 
 -- the record and the areas with the samples of g taken out
 abbrev pub tookFrom : List ℕ → State → List Float → List ℕ → TookOut
-tookFrom g s t q =
-    let keep = survivors g (s .run .settings .n) in
-    tookOut (Told (Left (length keep))) (thinnedRun (s .run) (length keep)) (packedAreas (s .run .settings) keep (held (s .memory) t q))
+tookFrom g s t q = tookAs (Left (length (survivors g (s .run .settings .n)))) g s t q
 
 module _ (g : List ℕ) (s : State) (t : List Float) (q : List ℕ) where
   pub record Accepted : Type 0 where
-    pub entered : Entered s t q
+    pub entered : TakeEntered s t q
     pub passed : Passes (s .run) g (s .memory .positions) (s .memory .indices) (s .memory .offsets)
     pub outcome : takeOut g s t q ≡ afterTaking (s .memory) (tookFrom g s t q)
 
@@ -257,7 +261,9 @@ module _ (g : List ℕ) (s : State) (t : List Float) (q : List ℕ) where
       record {
         entered = entered s t q f;
         passed = p;
-        outcome = left-is g s t q f e ∙ ap (λ (v : Verdict). afterTaking (s .memory) (tookOut (Told v) (thinnedRun (s .run) (length (survivors g (s .run .settings .n)))) (packedAreas (s .run .settings) (survivors g (s .run .settings .n)) (held (s .memory) t q)))) (sym (passes-told (s .run) g (s .memory .positions) (s .memory .indices) (s .memory .offsets) p));
+        outcome =
+            left-is g s t q f e
+            ∙ ap (λ (v : Verdict). afterTaking (s .memory) (tookAs v g s t q)) (sym (passes-told (s .run) g (s .memory .positions) (s .memory .indices) (s .memory .offsets) p));
       }
 
   -- an answer that tells how many are left is that of a removal that was done

@@ -1,16 +1,16 @@
 -- Picked out of what was picked: the numbers that two tests leave one after the other. Premises: those of each law.
 use mathlib.Core.Path.{_≡_, refl, sym, ap, subst, _∙_}
 use mathlib.Core.Logic.{⊎-elim}
-use mathlib.Core.List.{List, [], _∷_, _++_, map, append-nil}
-use mathlib.Core.Bool.{Bool, true, false, cond, not, _&&_, _||_, true≢false}
-use Prim.Native.Nat.{ℕ, zero, suc, _+_, _-_, _<_, _≤_}
+use mathlib.Core.List.{List, [], _∷_, _++_, map}
+use mathlib.Core.Bool.{Bool, true, false, not, _&&_, _||_, true≢false}
+use Prim.Native.Nat.{ℕ, zero, suc, _+_, _-_, _<_}
 use native.Mathlib.Omega.{arith}
 use native.Mathlib.Decide.{decLt, ℕ-discrete}
 use native.Mathlib.Numerals.{add-one}
 use lib.Dec.{eqb, ltb}
 use lib.ListN.{length, length-append, List·getD-append}
 use lib.Seq.{getD-append-seam}
-use borrow.Author.Tests.{eq-eqb, ne-eqb, lt-ltb, le-ltb, ltb-true, ltb-false}
+use borrow.Author.Tests.{eq-eqb, ne-eqb, lt-ltb, le-ltb}
 use Rattle.laws.specs.Loops.{first}
 use Rattle.laws.specs.Area.{num}
 use Rattle.laws.specs.Joined.{those}
@@ -19,7 +19,7 @@ use Rattle.laws.proofs.Every.{every-all}
 use Rattle.laws.proofs.First.{first-at, first-none, first-some, first-same}
 use Rattle.laws.proofs.Joined.{those-yes, those-no, those-none, those-at, those-below, those-rise, those-same, spot-yes, spot-no, map-those, map-append, length-map, getD-map-in}
 use Rattle.take_gone.specs.Gone.{standsAt, isAmong, goneFineAt, goneFine, survivors, Climbs}
-use Rattle.take_gone.proofs.Left.{survivors-climb, left-told}
+use Rattle.take_gone.proofs.Left.{left-told}
 use Rattle.take_lists.proofs.Theorems.{stands-in, stands-there}
 use Rattle.taking.specs.Union.{takenByEither, Union, unionOf}
 
@@ -38,7 +38,9 @@ module _ (p r : ℕ → Bool) where
       let long : length (K ++ (n ∷ [])) ≡ L + 1 = length-append K (n ∷ []) in
       let front : map (num (K ++ (n ∷ []))) (those r L) ≡ map (num K) (those r L) = map-those (num (K ++ (n ∷ []))) (num K) r L (λ t h. List·getD-append K (n ∷ []) 0 t h) in
       rw (those-yes p n y, long) (by-bool (those after (n + 1) ≡ map (num (K ++ (n ∷ []))) (those r (L + 1))) (r L)
-      (λ z. those-yes after n (rw (y, z)) ∙ ap (λ (x : List ℕ). x ++ (n ∷ [])) (e ∙ sym front) ∙ ap (λ (x : ℕ). map (num (K ++ (n ∷ []))) (those r L) ++ (x ∷ [])) (sym (getD-append-seam K n [] 0)) ∙ sym (map-append (num (K ++ (n ∷ []))) (those r L) (L ∷ [])) ∙ ap (map (num (K ++ (n ∷ [])))) (sym (those-yes r L z)))
+      (λ z. those-yes after n (rw (y, z)) ∙ ap (λ (x : List ℕ). x ++ (n ∷ [])) (e ∙ sym front)
+      ∙ ap (λ (x : ℕ). map (num (K ++ (n ∷ []))) (those r L) ++ (x ∷ [])) (sym (getD-append-seam K n [] 0))
+      ∙ sym (map-append (num (K ++ (n ∷ []))) (those r L) (L ∷ [])) ∙ ap (map (num (K ++ (n ∷ [])))) (sym (those-yes r L z)))
       (λ z. those-no after n (rw (y, z)) ∙ e ∙ sym front ∙ ap (map (num (K ++ (n ∷ [])))) (sym (those-no r L z)))))
       (λ y. those-no after n (rw y) ∙ e ∙ sym (ap (λ (x : List ℕ). map (num x) (those r (length x))) (those-no p n y)))
 
@@ -86,7 +88,9 @@ union-fine g1 g2 n = every-all (goneFineAt (unionOf g1 g2 n) n) (length (unionOf
 
 -- THEOREM: the survivors of the union are the survivors of the second removal, by their places before the first
 pub survivors-union : (g1 g2 u : List ℕ) (n : ℕ) → Union g1 g2 u n → survivors u n ≡ map (num (survivors g1 n)) (survivors g2 (length (survivors g1 n)))
-survivors-union g1 g2 u n e = those-same (λ j. not (isAmong u j)) (λ j. p j && r (length (those p j))) n (λ j h. ap not (e .either j h) ∙ rw (left-told g1 n j h) (by j h (isAmong g1 j) refl)) ∙ those-after p r n
+survivors-union g1 g2 u n e =
+    those-same (λ j. not (isAmong u j)) (λ j. p j && r (length (those p j))) n (λ j h. ap not (e .either j h) ∙ rw (left-told g1 n j h) (by j h (isAmong g1 j) refl))
+    ∙ those-after p r n
   where
     p : ℕ → Bool
     p j = not (isAmong g1 j)
@@ -122,7 +126,8 @@ module _ (keep1 keep2 : List ℕ) (climbs : Climbs keep1) (within : (i : ℕ) �
   same-test : (x t : ℕ) → isAmong keep1 x ≡ true → t < length keep2 → eqb (num (through keep1 keep2) t) x ≡ eqb (num keep2 t) (standsAt keep1 x)
   same-test x t e h = elim (ℕ-discrete (num keep2 t) (standsAt keep1 x)) [
     | yes q ↦ eq-eqb (num (through keep1 keep2) t) x (through-at keep1 keep2 t h ∙ ap (num keep1) q ∙ stands-there keep1 x e) ∙ sym (eq-eqb (num keep2 t) (standsAt keep1 x) q)
-    | no q ↦ ne-eqb (num (through keep1 keep2) t) x (λ y. q (one-place (num keep2 t) (standsAt keep1 x) (within t h) (stands-in keep1 x e) (sym (through-at keep1 keep2 t h) ∙ y ∙ sym (stands-there keep1 x e)))) ∙ sym (ne-eqb (num keep2 t) (standsAt keep1 x) q)
+    | no q ↦ ne-eqb (num (through keep1 keep2) t) x (λ y. q
+        (one-place (num keep2 t) (standsAt keep1 x) (within t h) (stands-in keep1 x e) (sym (through-at keep1 keep2 t h) ∙ y ∙ sym (stands-there keep1 x e)))) ∙ sym (ne-eqb (num keep2 t) (standsAt keep1 x) q)
   ]
 
   -- where a number of keep1 stands
@@ -141,6 +146,7 @@ module _ (keep1 keep2 : List ℕ) (climbs : Climbs keep1) (within : (i : ℕ) �
 
   pub through-among : (x : ℕ) → isAmong (through keep1 keep2) x ≡ (isAmong keep1 x && isAmong keep2 (standsAt keep1 x))
   through-among x = ⊎-elim
-      (λ e. ap (λ (y : ℕ). ltb y (length (through keep1 keep2))) (through-stands x e) ∙ ap (ltb (standsAt keep2 (standsAt keep1 x))) (through-size keep1 keep2) ∙ sym (ap (λ (b : Bool). b && isAmong keep2 (standsAt keep1 x)) e))
+      (λ e. ap (λ (y : ℕ). ltb y (length (through keep1 keep2))) (through-stands x e)
+      ∙ ap (ltb (standsAt keep2 (standsAt keep1 x))) (through-size keep1 keep2) ∙ sym (ap (λ (b : Bool). b && isAmong keep2 (standsAt keep1 x)) e))
       (λ e. le-ltb (standsAt (through keep1 keep2) x) (length (through keep1 keep2)) (omega (arith, stands-nowhere x e)) ∙ sym (ap (λ (b : Bool). b && isAmong keep2 (standsAt keep1 x)) e))
       (two (isAmong keep1 x))

@@ -1,28 +1,25 @@
 -- What a removal leaves is honest: so demand 3 and its kin hold from there on, the removal in preparation's place. Assumes nothing.
 use mathlib.Core.Path.{_≡_, refl, sym, ap, subst, _∙_}
 use mathlib.Core.List.{List, _++_}
-use mathlib.Core.Bool.{true, false, cond, _&&_}
-use Prim.Native.Nat.{ℕ, suc, _+_, _-_, _*_, _<_, _≤_, min, max}
+use mathlib.Core.Bool.{true}
+use Prim.Native.Nat.{ℕ, _+_, _-_, _*_, _<_, _≤_, min, max}
 use native.Mathlib.Omega.{arith}
 use native.Mathlib.Decide.{ℕ-discrete}
-use native.Mathlib.Nat.{le-refl, mul-le-mul, mul-assoc}
-use lib.Dec.{eqb, ltb, leb}
+use native.Mathlib.Nat.{le-refl, mul-le-mul}
 use lib.ListN.{length, drop, replicate, List·getD-append}
 use lib.Ieee.{Float, binary64, mul}
 use borrow.Author.Tests.{eq-eqb, ne-eqb, lt-ltb, le-leb, ltb-false, eqb-true}
 use Rattle.laws.specs.Area.{num}
 use Rattle.elementary.specs.Limits.{ceilOf, three64, neighboursOf}
-use Rattle.run_calls.specs.Machine.{together}
 use Rattle.run_record.specs.declared.Settings.{Settings}
-use Rattle.run_record.specs.declared.Run.{Run}
-use Rattle.run_record.specs.Record.{isTree, stateFits, perOf, kOf, sizesOf}
+use Rattle.run_record.specs.Record.{isTree, kOf, sizesOf}
 use Rattle.run_record.proofs.Laws.{per-some}
-use Rattle.run_entry.specs.State.{Memory, State}
-use Rattle.run_entry.specs.Entry.{offsetFine, indexFine, GoodCounters, TreeAreas, GoodAreas, GoodContents, Good}
+use Rattle.run_entry.specs.State.{State}
+use Rattle.run_entry.specs.Entry.{offsetFine, indexFine, GoodCounters, GoodAreas, GoodContents, Good}
 use Rattle.run_entry.proofs.Laws.{links-is}
 use Rattle.run_rooms.proofs.Lists.{offset-rises}
 use Rattle.take_gone.specs.Gone.{survivors, Climbs}
-use Rattle.take_gone.proofs.Left.{survivors-few, survivors-climb}
+use Rattle.take_gone.proofs.Left.{survivors-climb}
 use Rattle.take_rows.specs.Rows.{shrunk, Kept}
 use Rattle.take_rows.proofs.Survive.{survivors-kept}
 use Rattle.take_lists.specs.Packed.{packedIndices, packedOffsets, linksLeft, Listed}
@@ -32,14 +29,14 @@ use Rattle.take_left.specs.declared.Verdict.the-variants.{Left}
 use Rattle.take_left.specs.Verdict.{thinned, thinnedRun, crowded}
 use Rattle.take_left.proofs.Judged.{thinned-fine}
 use Rattle.take_out.specs.declared.Taken.the-variants.{Told}
-use Rattle.take_out.specs.TakeOut.{Holdings, TakeOutcome, indicesPacked, offsetsPacked, packedAreas, held, afterTaking, takeOut, takeNumber}
+use Rattle.take_out.specs.TakeOut.{TakeOutcome, indicesPacked, offsetsPacked, packedAreas, held, afterTaking, takeOut, takeNumber}
 use Rattle.descent.specs.Descent.{work, workNumber, isLast, wholeUnits, works}
 use Rattle.descent.specs.Honest.{Honest, Roomy}
 use Rattle.descent.proofs.Theorems.{OneCall, demand-three, SoMany, after-each, stays-honest, ends-in-time, never-14, Refused, refusal}
 use Rattle.taking.specs.Room.{AreasRoom}
 use Rattle.taking.specs.Stretches.{Reached, begun, called, thinnedTo}
-use Rattle.taking.proofs.Sizes.{SameSizes, areas-keep-sizes, room-left}
-use Rattle.taking.proofs.Accepted.{Entered, Passes, refused-changes-nothing, tookFrom, Accepted, accepted, no-number-left}
+use Rattle.taking.proofs.Sizes.{areas-keep-sizes, room-left}
+use Rattle.taking.proofs.Accepted.{TakeEntered, refused-changes-nothing, tookFrom, Accepted, accepted, no-number-left}
 
 -- ---- fewer samples have no more neighbours
 
@@ -81,7 +78,7 @@ good-lists s g t =
     }
 
 -- with a table and old places
-pub entered-room : (s : State) (t : List Float) (q : List ℕ) → Entered s t q → AreasRoom (s .run .settings) (held (s .memory) t q)
+pub entered-room : (s : State) (t : List Float) (q : List ℕ) → TakeEntered s t q → AreasRoom (s .run .settings) (held (s .memory) t q)
 entered-room s t q e = record {
   positions-room = e .good .areas .positions-long;
   increments-room = e .good .areas .increments-long;

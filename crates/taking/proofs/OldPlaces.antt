@@ -2,13 +2,11 @@
 use mathlib.Core.Path.{_≡_, refl, sym, ap, subst, _∙_}
 use mathlib.Core.List.{List, _++_}
 use mathlib.Core.Bool.{Bool, true, false, not}
-use Prim.Native.Nat.{ℕ, _+_, _*_, _<_, _≤_}
+use Prim.Native.Nat.{ℕ, _+_, _<_}
 use native.Mathlib.Omega.{arith}
-use lib.Dec.{ltb}
 use lib.ListN.{length, take, drop, List·getD-append}
 use lib.Seq.{take-at, drop-at}
 use lib.Ieee.{Float}
-use borrow.Author.Tests.{not-false, not-true, ltb-true}
 use Rattle.laws.specs.Area.{num}
 use Rattle.laws.proofs.Joined.{those-below, those-holds, those-rise, spot-yes, spot-at}
 use Rattle.run_entry.specs.State.{State}
@@ -17,7 +15,7 @@ use Rattle.take_gone.proofs.Left.{survivors-count}
 use Rattle.take_left.specs.declared.Verdict.the-variants.{Left}
 use Rattle.take_out.specs.declared.Taken.the-variants.{Told}
 use Rattle.take_out.specs.TakeOut.{TakeOutcome, packedAreas, takeOut}
-use Rattle.taking.proofs.Accepted.{Accepted, accepted, accepted-count}
+use Rattle.taking.proofs.Accepted.{accepted, accepted-count}
 
 -- q are the old places before a removal of g from n samples that leaves m, old those after it
 pub record OldPlaces (g : List ℕ) (n m : ℕ) (q old : List ℕ) : Type 0 where

@@ -6,10 +6,8 @@ use Prim.Native.Nat.{ℕ, _+_, _<_}
 use lib.ListN.{length, drop, List·getD-append}
 use lib.Ieee.{Float}
 use Rattle.laws.specs.Area.{num, zero64}
-use Rattle.tree_node.specs.declared.Node.{Node}
-use Rattle.run_record.specs.declared.Run.{Run}
 use Rattle.run_record.specs.Record.{isTree}
-use Rattle.run_entry.specs.State.{Memory, State}
+use Rattle.run_entry.specs.State.{State}
 use Rattle.take_gone.specs.Gone.{survivors}
 use Rattle.take_rows.specs.Rows.{shrunk}
 use Rattle.take_rows.proofs.Survive.{survivors-kept}
@@ -18,12 +16,12 @@ use Rattle.take_lists.proofs.Theorems.{BetweenSurvivors, links-between-survivor
 use Rattle.take_left.specs.declared.Verdict.the-variants.{Left}
 use Rattle.take_left.specs.Verdict.{thinned, thinnedRun}
 use Rattle.take_out.specs.declared.Taken.the-variants.{Told}
-use Rattle.take_out.specs.TakeOut.{Holdings, TakeOutcome, affinitiesLeft, indicesPacked, offsetsPacked, packedAreas, held, afterTaking, takeOut}
+use Rattle.take_out.specs.TakeOut.{TakeOutcome, affinitiesLeft, indicesPacked, offsetsPacked, packedAreas, held, afterTaking, takeOut}
 use Rattle.taking.specs.Union.{Union}
-use Rattle.taking.proofs.Accepted.{tookFrom, Accepted, accepted}
+use Rattle.taking.proofs.Accepted.{tookFrom, accepted}
 use Rattle.taking.proofs.Honest.{entered-room}
-use Rattle.taking.proofs.Composed.{survivors-union, through, through-size, through-at}
-use Rattle.taking.proofs.Twice.{TwiceAsOnce, twice-as-once, CentredTwice, positions-centred-twice}
+use Rattle.taking.proofs.Composed.{survivors-union, through-size, through-at}
+use Rattle.taking.proofs.Twice.{twice-as-once, CentredTwice, positions-centred-twice}
 
 -- ---- two removals
 

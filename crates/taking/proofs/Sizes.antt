@@ -1,17 +1,16 @@
 -- Areas from which frames are taken out keep their lengths, and have room for what is left. Premises: `AreasRoom`, `Climbs`, `Kept`.
-use mathlib.Core.Path.{_≡_, refl, sym, ap, subst, _∙_}
+use mathlib.Core.Path.{_≡_}
 use mathlib.Core.List.{List, _++_}
-use mathlib.Core.Bool.{true, false, cond}
-use Prim.Native.Nat.{ℕ, suc, _+_, _-_, _*_, _<_, _≤_}
+use mathlib.Core.Bool.{true}
+use Prim.Native.Nat.{ℕ, _+_, _-_, _*_, _≤_}
 use native.Mathlib.Omega.{arith}
 use native.Mathlib.Nat.{mul-le-mul, mul-le-mul-right}
 use lib.ListN.{length, drop, replicate, length-append, length-drop, length-replicate}
 use lib.Ieee.{Float}
 use Rattle.laws.specs.Area.{at, num, zero64}
-use Rattle.laws.specs.Joined.{joined, each}
+use Rattle.laws.specs.Joined.{each}
 use Rattle.laws.proofs.Bools.{by-bool}
 use Rattle.laws.proofs.Laid.{singles-size, laid-size}
-use Rattle.areas.specs.Filled.{filled}
 use Rattle.areas.proofs.Front.{filled-size}
 use Rattle.run_record.specs.declared.Settings.{Settings}
 use Rattle.run_record.specs.Record.{isTree}
@@ -38,14 +37,15 @@ module _ {A : Type 0} where
 
 -- ---- what is left of rows
 
-pub rows-size : (keep : List ℕ) (w : ℕ) (l : List Float) → length (rowsOf keep w l) ≡ length keep * w
-rows-size keep w l = laid-size w (λ i. each (λ d. at l (num keep i * w + d)) w) (length keep) (λ i h. singles-size (λ d. at l (num keep i * w + d)) w)
+pub rows-left-size : (keep : List ℕ) (w : ℕ) (l : List Float) → length (rowsOf keep w l) ≡ length keep * w
+rows-left-size keep w l = laid-size w (λ i. each (λ d. at l (num keep i * w + d)) w) (length keep) (λ i h. singles-size (λ d. at l (num keep i * w + d)) w)
 
 pub centred-size : (keep : List ℕ) (c : ℕ) (y : List Float) → length (centredRows keep c y) ≡ length keep * c
 centred-size keep c y = laid-size c (λ i. each (λ d. centredLeft keep c y (num keep i) d) c) (length keep) (λ i h. singles-size (λ d. centredLeft keep c y (num keep i) d) c)
 
 pub square-size : (keep : List ℕ) (n : ℕ) (l : List Float) → length (squareOf keep n l) ≡ length keep * length keep
-square-size keep n l = laid-size (length keep) (λ i. each (λ j. at l (num keep i * n + num keep j)) (length keep)) (length keep) (λ i h. singles-size (λ j. at l (num keep i * n + num keep j)) (length keep))
+square-size keep n l =
+    laid-size (length keep) (λ i. each (λ j. at l (num keep i * n + num keep j)) (length keep)) (length keep) (λ i h. singles-size (λ j. at l (num keep i * n + num keep j)) (length keep))
 
 -- ---- every area keeps its length
 
@@ -62,7 +62,7 @@ pub record SameSizes (h k : Holdings) : Type 0 where
 
 module _ (s : Settings) (keep : List ℕ) (h : Holdings) (room : AreasRoom s h) (climbs : Climbs keep) (kept : Kept keep (s .n)) where
   rows-fit : (w : ℕ) (l : List Float) → s .n * w ≤ length l → length (shrunk zero64 (s .n * w) (rowsOf keep w l) l) ≡ length l
-  rows-fit w l k = shrunk-size zero64 (s .n * w) (rowsOf keep w l) l (omega (arith, rows-size keep w l, kept-all kept w)) k
+  rows-fit w l k = shrunk-size zero64 (s .n * w) (rowsOf keep w l) l (omega (arith, rows-left-size keep w l, kept-all kept w)) k
 
   few-left : isTree (s .method) ≡ true → linksLeft keep (h .indices) (h .offsets) ≤ num (h .offsets) (s .n)
   few-left t = links-left-few keep (h .indices) (h .offsets) (room .lists-room t) climbs kept
@@ -91,7 +91,8 @@ module _ (s : Settings) (keep : List ℕ) (h : Holdings) (room : AreasRoom s h) 
   pub areas-keep-sizes : SameSizes h (packedAreas s keep h)
   unfolding packedAreas
   areas-keep-sizes = record {
-    positions-size = shrunk-size zero64 (s .n * s .c) (centredRows keep (s .c) (h .positions)) (h .positions) (omega (arith, centred-size keep (s .c) (h .positions), kept-all kept (s .c))) (room .positions-room);
+    positions-size = shrunk-size zero64 (s .n * s .c) (centredRows keep (s .c) (h .positions)) (h .positions)
+        (omega (arith, centred-size keep (s .c) (h .positions), kept-all kept (s .c))) (room .positions-room);
     increments-size = rows-fit (s .c) (h .increments) (room .increments-room);
     gains-size = rows-fit (s .c) (h .gains) (room .gains-room);
     affinities-size = affinities-fit;

@@ -1,20 +1,18 @@
 -- Two removals one after the other leave what one removal of their union leaves, the centring of positions aside. Premises: the lists lie one after the other.
 use mathlib.Core.Path.{_≡_, refl, sym, ap, subst, _∙_}
-use mathlib.Core.List.{List, [], _++_, map}
-use mathlib.Core.Bool.{Bool, true, false, cond}
-use Prim.Native.Nat.{ℕ, suc, _+_, _-_, _*_, _<_, _≤_}
+use mathlib.Core.List.{List, _++_}
+use mathlib.Core.Bool.{true}
+use Prim.Native.Nat.{ℕ, _+_, _-_, _*_, _<_, _≤_}
 use native.Mathlib.Omega.{arith}
-use native.Mathlib.Nat.{le-refl, mul-le-mul, mul-le-mul-right}
+use native.Mathlib.Nat.{mul-le-mul, mul-le-mul-right}
 use lib.IntN.{pos}
 use lib.ListN.{length, drop, replicate, List·getD-append}
 use lib.Seq.{drop-at}
 use lib.Ieee.{Float, nan, binary64, ofInt, add, sub, div}
 use Rattle.laws.specs.Area.{at, num, zero64}
-use Rattle.laws.specs.Joined.{joined, each}
-use Rattle.laws.specs.Loops.{loop}
 use Rattle.laws.proofs.Bools.{by-bool}
 use Rattle.laws.proofs.Loops.{loop-same}
-use Rattle.centring.specs.Centring.{plusNext, sumOf, averageOf}
+use Rattle.centring.specs.Centring.{plusNext, averageOf}
 use Rattle.run_record.specs.declared.Settings.{Settings}
 use Rattle.run_record.specs.declared.Run.{Run}
 use Rattle.run_record.specs.Record.{isTree}
@@ -29,7 +27,7 @@ use Rattle.take_lists.proofs.Theorems.{packed-indices-count, packed-weights-cou
 use Rattle.take_left.specs.Verdict.{thinned, thinnedRun}
 use Rattle.take_out.specs.TakeOut.{Holdings, affinitiesLeft, indicesPacked, offsetsPacked, packedAreas}
 use Rattle.taking.specs.Union.{Union}
-use Rattle.taking.proofs.Sizes.{rows-size, centred-size, square-size}
+use Rattle.taking.proofs.Sizes.{rows-left-size, centred-size, square-size}
 use Rattle.taking.proofs.Composed.{survivors-union, through, through-size, through-at}
 use Rattle.taking.proofs.TwicePacked.{shrunk-twice, filled-twice, row-at, rows-twice, square-twice, packed-indices-twice, links-left-twice, packed-offsets-twice, packed-weights-twice}
 
@@ -65,7 +63,7 @@ module _ (s : Settings) (keep1 keep2 : List ℕ) (climbs1 : Climbs keep1) (kept1
       let Y = rowsOf (through keep1 keep2) w l in
       let few : length keep2 * w ≤ length keep1 * w = kept-all kept2 w in
       ap (λ (x : List Float). shrunk zero64 (length keep1 * w) x (shrunk zero64 (s .n * w) X l)) (rows-twice keep1 keep2 (kept2 .below) w l (replicate (s .n * w - length X) zero64 ++ drop (s .n * w) l))
-      ∙ shrunk-twice zero64 (s .n * w) (length keep1 * w) X Y l (rows-size keep1 w l) (omega (arith, few, rows-size (through keep1 keep2) w l, ap (λ (x : ℕ). x * w) (through-size keep1 keep2))) (kept-all kept1 w)
+      ∙ shrunk-twice zero64 (s .n * w) (length keep1 * w) X Y l (rows-left-size keep1 w l) (omega (arith, few, rows-left-size (through keep1 keep2) w l, ap (λ (x : ℕ). x * w) (through-size keep1 keep2))) (kept-all kept1 w)
 
   square-again : (l : List Float) → shrunk zero64 (length keep1 * length keep1) (squareOf keep2 (length keep1) (shrunk zero64 (s .n * s .n) (squareOf keep1 (s .n) l) l)) (shrunk zero64 (s .n * s .n) (squareOf keep1 (s .n) l) l) ≡ shrunk zero64 (s .n * s .n) (squareOf (through keep1 keep2) (s .n) l) l
   square-again l =

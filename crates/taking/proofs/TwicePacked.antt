@@ -1,26 +1,25 @@
 -- Areas packed twice are packed once: rows, a matrix, neighbour lists. keep1 are the old places of what the first packing leaves, keep2 places among those. Premises: those of each law.
-use mathlib.Core.Path.{_≡_, refl, sym, ap, subst, _∙_}
-use mathlib.Core.List.{List, [], _∷_, _++_, map, map-map, append-assoc, append-nil}
-use mathlib.Core.Bool.{Bool, true, false, _&&_}
-use Prim.Native.Nat.{ℕ, suc, _+_, _-_, _*_, _<_, _≤_}
+use mathlib.Core.Path.{_≡_, sym, ap, subst, _∙_}
+use mathlib.Core.List.{List, [], _++_, map, map-map, append-assoc, append-nil}
+use mathlib.Core.Bool.{_&&_}
+use Prim.Native.Nat.{ℕ, _+_, _-_, _*_, _<_, _≤_}
 use native.Mathlib.Omega.{arith}
 use native.Mathlib.Nat.{le-refl}
-use lib.ListN.{length, getD, drop, replicate, length-append, length-replicate, replicate-append-replicate, List·getD-append}
+use lib.ListN.{length, getD, drop, replicate, length-replicate, replicate-append-replicate, List·getD-append}
 use lib.Seq.{drop-at}
 use lib.Ieee.{Float, nan}
-use Rattle.laws.specs.Area.{at, num, zero64}
+use Rattle.laws.specs.Area.{at, num}
 use Rattle.laws.specs.Joined.{those, joined, each}
-use Rattle.laws.specs.Sums.{sum}
 use Rattle.laws.proofs.Sums.{sum-same}
 use Rattle.laws.proofs.Joined.{joined-mono, length-map, those-same, map-those}
-use Rattle.laws.proofs.Laid.{singles-size, singles-get, laid-size, laid-at}
+use Rattle.laws.proofs.Laid.{singles-size, singles-get, laid-at}
 use Rattle.areas.specs.Filled.{filled}
 use Rattle.take_gone.specs.Gone.{standsAt, isAmong, Climbs}
 use Rattle.take_rows.specs.Rows.{shrunk, rowsOf, squareOf}
 use Rattle.take_rows.proofs.Packing.{joined-same, each-same}
 use Rattle.take_lists.specs.Packed.{keptLinks, indicesLeft, weightsLeft, linksBefore, linksLeft, packedIndices, packedWeights, packedOffsets}
 use Rattle.take_lists.proofs.Bounds.{packed-indices-size, packed-offsets-size}
-use Rattle.take_lists.proofs.Theorems.{kept-link-among, packed-offset-at, packed-offsets-step, packed-offsets-end, packed-index-at, packed-weight-at, packed-indices-count, packed-weights-count}
+use Rattle.take_lists.proofs.Theorems.{kept-link-among, packed-offset-at, packed-offsets-step, packed-index-at, packed-weight-at, packed-indices-count, packed-weights-count}
 use Rattle.taking.proofs.Composed.{those-both, through, through-size, through-at, through-stands, through-among}
 
 -- ---- an area whose front is written twice, zeros following: a is the first size, b the second
