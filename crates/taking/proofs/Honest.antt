@@ -29,7 +29,7 @@ use Rattle.take_left.specs.declared.Verdict.the-variants.{Left}
 use Rattle.take_left.specs.Verdict.{thinned, thinnedRun, crowded}
 use Rattle.take_left.proofs.Judged.{thinned-fine}
 use Rattle.take_out.specs.declared.Taken.the-variants.{Told}
-use Rattle.take_out.specs.TakeOut.{TakeOutcome, indicesPacked, offsetsPacked, packedAreas, held, afterTaking, takeOut, takeNumber}
+use Rattle.take_out.specs.TakeOut.{Holdings, TakeOutcome, indicesPacked, offsetsPacked, packedAreas, held, afterTaking, takeOut, takeNumber}
 use Rattle.descent.specs.Descent.{work, workNumber, isLast, wholeUnits, works}
 use Rattle.descent.specs.Honest.{Honest, Roomy}
 use Rattle.descent.proofs.Theorems.{OneCall, demand-three, SoMany, after-each, stays-honest, ends-in-time, never-14, Refused, refusal}
@@ -57,7 +57,8 @@ fewer-links s m h = mul-le-mul (twice m (s .n) h) (fewer-neighbours (s .perplexi
 -- ---- what a good state lends
 
 -- its lists lie one after the other
-good-lists : (s : State) → Good s → isTree (s .run .settings .method) ≡ true → Listed (s .run .settings .n) (length (s .memory .affinities)) (length (s .memory .indices)) (s .memory .offsets)
+good-lists : (s : State) → Good s → isTree (s .run .settings .method) ≡ true
+    → Listed (s .run .settings .n) (length (s .memory .affinities)) (length (s .memory .indices)) (s .memory .offsets)
 unfolding offsetFine
 good-lists s g t =
     let r = s .run in
@@ -135,12 +136,17 @@ module _ (g : List ℕ) (s : State) (t : List Float) (q : List ℕ) (a : Accepte
         total = omega arith;
       }
 
-  areas-left : GoodAreas (thinned (s .run .settings) (length keep)) (length (leftState g s t q .memory .positions)) (length (leftState g s t q .memory .increments)) (length (leftState g s t q .memory .gains)) (length (leftState g s t q .memory .affinities)) (length (leftState g s t q .memory .indices)) (length (leftState g s t q .memory .offsets)) (length (leftState g s t q .memory .forces)) (length (s .memory .nodes))
+  abbrev after : Holdings
+  after = packedAreas (s .run .settings) keep (held (s .memory) t q)
+
+  areas-left : GoodAreas (thinned (s .run .settings) (length keep)) (length (after .positions)) (length (after .increments)) (length (after .gains)) (length (after .affinities))
+      (length (after .indices)) (length (after .offsets)) (length (after .forces)) (length (s .memory .nodes))
   unfolding thinned
   areas-left =
       let z = areas-keep-sizes (s .run .settings) keep (held (s .memory) t q) room climbs kept in
       let r = room-left (s .run .settings) keep (held (s .memory) t q) room climbs kept in
-      let fewer : 2 * length keep * neighboursOf (s .run .settings .perplexity) (length keep) ≤ 2 * s .run .settings .n * kOf (s .run .settings) = fewer-links (s .run .settings) (length keep) (kept .few) in
+      let p = s .run .settings .perplexity in
+      let fewer : 2 * length keep * neighboursOf p (length keep) ≤ 2 * s .run .settings .n * kOf (s .run .settings) = fewer-links (s .run .settings) (length keep) (kept .few) in
       record {
         positions-long = r .positions-room;
         increments-long = r .increments-room;
@@ -157,18 +163,20 @@ module _ (g : List ℕ) (s : State) (t : List Float) (q : List ℕ) (a : Accepte
       }
 
   -- at the front of the offsets stands where each list begins, and no list passes the slots
-  last-offset : num (shrunk 0 (s .run .settings .n + 1) (packedOffsets keep (s .memory .indices) (s .memory .offsets)) (s .memory .offsets)) (length keep) ≡ linksLeft keep (s .memory .indices) (s .memory .offsets)
+  last-offset : num (shrunk 0 (s .run .settings .n + 1) (packedOffsets keep (s .memory .indices) (s .memory .offsets)) (s .memory .offsets)) (length keep)
+      ≡ linksLeft keep (s .memory .indices) (s .memory .offsets)
   last-offset =
       let I = s .memory .indices in
       let O = s .memory .offsets in
       let P = packedOffsets keep I O in
-      List·getD-append P (replicate (s .run .settings .n + 1 - length P) 0 ++ drop (s .run .settings .n + 1) O) 0 (length keep) (omega (arith, packed-offsets-size keep I O)) ∙ packed-offsets-end keep I O
+      List·getD-append P (replicate (s .run .settings .n + 1 - length P) 0 ++ drop (s .run .settings .n + 1) O) 0 (length keep) (omega (arith, packed-offsets-size keep I O))
+      ∙ packed-offsets-end keep I O
 
   links-fit : isTree (s .run .settings .method) ≡ true → linksLeft keep (s .memory .indices) (s .memory .offsets) ≤ sizesOf (thinned (s .run .settings) (length keep)) .links
   unfolding crowded
   links-fit x = ltb-false (sizesOf (thinned (s .run .settings) (length keep)) .links) (linksLeft keep (s .memory .indices) (s .memory .offsets)) (rw x at (a .passed .room))
 
-  contents-left : isTree (s .run .settings .method) ≡ true → GoodContents (length keep) (thinnedRun (s .run) (length keep)) (leftState g s t q .memory .indices) (leftState g s t q .memory .offsets) (s .memory .nodes)
+  contents-left : isTree (s .run .settings .method) ≡ true → GoodContents (length keep) (thinnedRun (s .run) (length keep)) (after .indices) (after .offsets) (s .memory .nodes)
   unfolding packedAreas indicesPacked offsetsPacked thinnedRun thinned
   contents-left x =
       let I = s .memory .indices in
@@ -217,7 +225,8 @@ module _ (g : List ℕ) (s : State) (t : List Float) (q : List ℕ) (m : ℕ) (l
   ends-in-time-after-taking b h = ends-in-time b (takeOut g s t q .left) what-is-left-is-honest h
 
   -- with room for all splits no call is refused by 14
-  pub never-14-after-taking : Roomy (takeOut g s t q .left .run .settings) (length (takeOut g s t q .left .memory .nodes)) → (bs : List ℕ) (b : ℕ) → workNumber (work b (works bs (takeOut g s t q .left)) .answer) ≡ 14 → ⊥
+  pub never-14-after-taking : Roomy (takeOut g s t q .left .run .settings) (length (takeOut g s t q .left .memory .nodes))
+      → (bs : List ℕ) (b : ℕ) → workNumber (work b (works bs (takeOut g s t q .left)) .answer) ≡ 14 → ⊥
   never-14-after-taking room bs b e = never-14 bs b (takeOut g s t q .left) what-is-left-is-honest room e
 
   -- a call that is refused leaves the state of the units that it tells

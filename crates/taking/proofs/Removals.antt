@@ -39,7 +39,8 @@ pub record OneRemoval (g1 u : List ℕ) (s : State) (first second one : TakeOutc
   -- the old places one after the other
   pub old : (i : ℕ) → i < length (survivors u (s .run .settings .n)) → num (first .old) (num (second .old) i) ≡ num (one .old) i
   -- the positions are centred once more
-  pub positions : CentredTwice (s .run .settings .n) (s .run .settings .c) (survivors g1 (s .run .settings .n)) (survivors u (s .run .settings .n)) (s .memory .positions) (first .left .memory .positions) (second .left .memory .positions) (one .left .memory .positions)
+  pub positions : CentredTwice (s .run .settings .n) (s .run .settings .c) (survivors g1 (s .run .settings .n)) (survivors u (s .run .settings .n)) (s .memory .positions)
+      (first .left .memory .positions) (second .left .memory .positions) (one .left .memory .positions)
 
 -- what a removal that is not refused leaves
 abbrev done : List ℕ → State → List Float → List ℕ → TakeOutcome
@@ -68,7 +69,8 @@ module _ (g1 g2 u : List ℕ) (s : State) (t : List Float) (q1 q2 q3 : List ℕ)
   unfolding thinnedRun thinned
   record-one = ap (thinnedRun (s .run)) same-count
 
-  old-one : (i : ℕ) → i < length (survivors u (s .run .settings .n)) → num (keep1 ++ drop (length keep1) q1) (num (keep2 ++ drop (length keep2) q2) i) ≡ num (survivors u (s .run .settings .n) ++ drop (length (survivors u (s .run .settings .n))) q3) i
+  old-one : (i : ℕ) → i < length (survivors u (s .run .settings .n))
+      → num (keep1 ++ drop (length keep1) q1) (num (keep2 ++ drop (length keep2) q2) i) ≡ num (survivors u (s .run .settings .n) ++ drop (length (survivors u (s .run .settings .n))) q3) i
   old-one i h =
       let k : i < length keep2 = subst (λ (x : ℕ). i < x) (sym same-count) h in
       let n = s .run .settings .n in
@@ -78,7 +80,8 @@ module _ (g1 g2 u : List ℕ) (s : State) (t : List Float) (q1 q2 q3 : List ℕ)
       ∙ ap (λ (x : List ℕ). num x i) (sym (survivors-union g1 g2 u n e))
       ∙ sym (List·getD-append (survivors u n) (drop (length (survivors u n)) q3) 0 i h)
 
-  one-removal : (isTree (s .run .settings .method) ≡ true → Listed (s .run .settings .n) (length (s .memory .affinities)) (length (s .memory .indices)) (s .memory .offsets)) → OneRemoval g1 u s first second one
+  one-removal : (isTree (s .run .settings .method) ≡ true → Listed (s .run .settings .n) (length (s .memory .affinities)) (length (s .memory .indices)) (s .memory .offsets))
+      → OneRemoval g1 u s first second one
   unfolding thinnedRun thinned packedAreas
   one-removal lists =
       let a = twice-as-once (s .run .settings) g1 g2 u (held (s .memory) t q1) e lists in
@@ -108,7 +111,8 @@ two-removals-as-one g1 g2 u s t q1 q2 q3 m1 m2 m3 e a1 a2 a3 =
     let b1 = accepted g1 s t q1 m1 a1 in
     let b2 = accepted g2 (x1 .left) (x1 .table) q2 m2 a2 in
     let b3 = accepted u s t q3 m3 a3 in
-    let base : OneRemoval g1 u s (first g1 g2 u s t q1 q2 q3 e) (second g1 g2 u s t q1 q2 q3 e) (one g1 g2 u s t q1 q2 q3 e) = one-removal g1 g2 u s t q1 q2 q3 e (entered-room s t q1 (b1 .entered) .lists-room) in
+    let base : OneRemoval g1 u s (first g1 g2 u s t q1 q2 q3 e) (second g1 g2 u s t q1 q2 q3 e) (one g1 g2 u s t q1 q2 q3 e) =
+    one-removal g1 g2 u s t q1 q2 q3 e (entered-room s t q1 (b1 .entered) .lists-room) in
     subst (λ (o : TakeOutcome). OneRemoval g1 u s x1 x2 o) (sym (b3 .outcome))
     (subst (λ (o : TakeOutcome). OneRemoval g1 u s x1 o (done u s t q3)) (sym (b2 .outcome))
     (subst (λ (o : TakeOutcome). OneRemoval g1 u s o (done g2 (o .left) (o .table) q2) (done u s t q3)) (sym (b1 .outcome)) base))
@@ -118,14 +122,22 @@ two-removals-as-one g1 g2 u s t q1 q2 q3 m1 m2 m3 e a1 a2 a3 =
 -- from s, a removal of g has left x: the lists of the survivors stand at the front of the areas, one after the other, and their links are exactly the old ones between survivors, with their weights
 pub record LinksLeft (g : List ℕ) (s x : State) : Type 0 where
   pub offsets : x .memory .offsets ≡ shrunk 0 (s .run .settings .n + 1) (packedOffsets (survivors g (s .run .settings .n)) (s .memory .indices) (s .memory .offsets)) (s .memory .offsets)
-  pub indices : x .memory .indices ≡ shrunk 0 (num (s .memory .offsets) (s .run .settings .n)) (packedIndices (survivors g (s .run .settings .n)) (s .memory .indices) (s .memory .offsets)) (s .memory .indices)
-  pub weights : x .memory .affinities ≡ shrunk zero64 (num (s .memory .offsets) (s .run .settings .n)) (packedWeights (survivors g (s .run .settings .n)) (s .memory .affinities) (s .memory .indices) (s .memory .offsets)) (s .memory .affinities)
+  pub indices : x .memory .indices
+      ≡ shrunk 0 (num (s .memory .offsets) (s .run .settings .n)) (packedIndices (survivors g (s .run .settings .n)) (s .memory .indices) (s .memory .offsets)) (s .memory .indices)
+  pub weights : x .memory .affinities
+      ≡ shrunk zero64 (num (s .memory .offsets) (s .run .settings .n)) (packedWeights (survivors g (s .run .settings .n)) (s .memory .affinities) (s .memory .indices) (s .memory .offsets)) (s .memory .affinities)
   pub between : BetweenSurvivors (survivors g (s .run .settings .n)) (s .memory .affinities) (s .memory .indices) (s .memory .offsets)
 
 links-of : (g : List ℕ) (s : State) (t : List Float) (q : List ℕ) → isTree (s .run .settings .method) ≡ true → LinksLeft g s (done g s t q .left)
 unfolding packedAreas affinitiesLeft indicesPacked offsetsPacked
-links-of g s t q b = record { offsets = rw b; indices = rw b; weights = rw b; between = links-between-survivors (survivors g (s .run .settings .n)) (s .memory .affinities) (s .memory .indices) (s .memory .offsets) }
+links-of g s t q b = record {
+  offsets = rw b;
+  indices = rw b;
+  weights = rw b;
+  between = links-between-survivors (survivors g (s .run .settings .n)) (s .memory .affinities) (s .memory .indices) (s .memory .offsets);
+}
 
 -- THEOREM: the links and weights that a removal leaves are those between survivors
-pub links-left-told : (g : List ℕ) (s : State) (t : List Float) (q : List ℕ) (m : ℕ) → takeOut g s t q .answer ≡ Told (Left m) → isTree (s .run .settings .method) ≡ true → LinksLeft g s (takeOut g s t q .left)
+pub links-left-told : (g : List ℕ) (s : State) (t : List Float) (q : List ℕ) (m : ℕ) → takeOut g s t q .answer ≡ Told (Left m) → isTree (s .run .settings .method) ≡ true
+    → LinksLeft g s (takeOut g s t q .left)
 links-left-told g s t q m a b = subst (λ (o : TakeOutcome). LinksLeft g s (o .left)) (sym (accepted g s t q m a .outcome)) (links-of g s t q b)

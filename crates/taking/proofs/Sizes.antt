@@ -70,7 +70,8 @@ module _ (s : Settings) (keep : List ℕ) (h : Holdings) (room : AreasRoom s h) 
   affinities-fit : length (affinitiesLeft s keep (h .affinities) (h .indices) (h .offsets)) ≡ length (h .affinities)
   unfolding affinitiesLeft
   affinities-fit = by-bool (length (affinitiesLeft s keep (h .affinities) (h .indices) (h .offsets)) ≡ length (h .affinities)) (isTree (s .method))
-      (λ t. rw t (shrunk-size zero64 (num (h .offsets) (s .n)) (packedWeights keep (h .affinities) (h .indices) (h .offsets)) (h .affinities) (omega (arith, packed-weights-count keep (h .affinities) (h .indices) (h .offsets), few-left t)) (room .lists-room t .weights-long)))
+      (λ t. rw t (shrunk-size zero64 (num (h .offsets) (s .n)) (packedWeights keep (h .affinities) (h .indices) (h .offsets)) (h .affinities)
+      (omega (arith, packed-weights-count keep (h .affinities) (h .indices) (h .offsets), few-left t)) (room .lists-room t .weights-long)))
       (λ t. rw t (shrunk-size zero64 (s .n * s .n) (squareOf keep (s .n) (h .affinities)) (h .affinities) (omega (arith, square-size keep (s .n) (h .affinities), square-few)) (room .square-room t)))
     where
       square-few : length keep * length keep ≤ s .n * s .n
@@ -79,13 +80,15 @@ module _ (s : Settings) (keep : List ℕ) (h : Holdings) (room : AreasRoom s h) 
   indices-fit : length (indicesPacked s keep (h .indices) (h .offsets)) ≡ length (h .indices)
   unfolding indicesPacked
   indices-fit = by-bool (length (indicesPacked s keep (h .indices) (h .offsets)) ≡ length (h .indices)) (isTree (s .method))
-      (λ t. rw t (shrunk-size 0 (num (h .offsets) (s .n)) (packedIndices keep (h .indices) (h .offsets)) (h .indices) (omega (arith, packed-indices-count keep (h .indices) (h .offsets), few-left t)) (room .lists-room t .indices-long)))
+      (λ t. rw t (shrunk-size 0 (num (h .offsets) (s .n)) (packedIndices keep (h .indices) (h .offsets)) (h .indices)
+      (omega (arith, packed-indices-count keep (h .indices) (h .offsets), few-left t)) (room .lists-room t .indices-long)))
       (λ t. rw t)
 
   offsets-fit : length (offsetsPacked s keep (h .indices) (h .offsets)) ≡ length (h .offsets)
   unfolding offsetsPacked
   offsets-fit = by-bool (length (offsetsPacked s keep (h .indices) (h .offsets)) ≡ length (h .offsets)) (isTree (s .method))
-      (λ t. rw t (shrunk-size 0 (s .n + 1) (packedOffsets keep (h .indices) (h .offsets)) (h .offsets) (omega (arith, packed-offsets-size keep (h .indices) (h .offsets), kept .few)) (room .lists-room t .offsets-long)))
+      (λ t. rw t (shrunk-size 0 (s .n + 1) (packedOffsets keep (h .indices) (h .offsets)) (h .offsets)
+      (omega (arith, packed-offsets-size keep (h .indices) (h .offsets), kept .few)) (room .lists-room t .offsets-long)))
       (λ t. rw t)
 
   pub areas-keep-sizes : SameSizes h (packedAreas s keep h)

@@ -57,22 +57,30 @@ pub record TwiceAsOnce (keep1 : List ℕ) (m : ℕ) (twice once : Holdings) : Ty
   pub old : (i : ℕ) → i < m → num keep1 (num (twice .old) i) ≡ num (once .old) i
 
 module _ (s : Settings) (keep1 keep2 : List ℕ) (climbs1 : Climbs keep1) (kept1 : Kept keep1 (s .n)) (climbs2 : Climbs keep2) (kept2 : Kept keep2 (length keep1)) where
-  rows-again : (w : ℕ) (l : List Float) → shrunk zero64 (length keep1 * w) (rowsOf keep2 w (shrunk zero64 (s .n * w) (rowsOf keep1 w l) l)) (shrunk zero64 (s .n * w) (rowsOf keep1 w l) l) ≡ shrunk zero64 (s .n * w) (rowsOf (through keep1 keep2) w l) l
+  rows-again : (w : ℕ) (l : List Float)
+      → shrunk zero64 (length keep1 * w) (rowsOf keep2 w (shrunk zero64 (s .n * w) (rowsOf keep1 w l) l)) (shrunk zero64 (s .n * w) (rowsOf keep1 w l) l)
+      ≡ shrunk zero64 (s .n * w) (rowsOf (through keep1 keep2) w l) l
   rows-again w l =
       let X = rowsOf keep1 w l in
       let Y = rowsOf (through keep1 keep2) w l in
       let few : length keep2 * w ≤ length keep1 * w = kept-all kept2 w in
-      ap (λ (x : List Float). shrunk zero64 (length keep1 * w) x (shrunk zero64 (s .n * w) X l)) (rows-twice keep1 keep2 (kept2 .below) w l (replicate (s .n * w - length X) zero64 ++ drop (s .n * w) l))
-      ∙ shrunk-twice zero64 (s .n * w) (length keep1 * w) X Y l (rows-left-size keep1 w l) (omega (arith, few, rows-left-size (through keep1 keep2) w l, ap (λ (x : ℕ). x * w) (through-size keep1 keep2))) (kept-all kept1 w)
+      ap (λ (x : List Float). shrunk zero64 (length keep1 * w) x (shrunk zero64 (s .n * w) X l))
+      (rows-twice keep1 keep2 (kept2 .below) w l (replicate (s .n * w - length X) zero64 ++ drop (s .n * w) l))
+      ∙ shrunk-twice zero64 (s .n * w) (length keep1 * w) X Y l (rows-left-size keep1 w l)
+      (omega (arith, few, rows-left-size (through keep1 keep2) w l, ap (λ (x : ℕ). x * w) (through-size keep1 keep2))) (kept-all kept1 w)
 
-  square-again : (l : List Float) → shrunk zero64 (length keep1 * length keep1) (squareOf keep2 (length keep1) (shrunk zero64 (s .n * s .n) (squareOf keep1 (s .n) l) l)) (shrunk zero64 (s .n * s .n) (squareOf keep1 (s .n) l) l) ≡ shrunk zero64 (s .n * s .n) (squareOf (through keep1 keep2) (s .n) l) l
+  square-again : (l : List Float)
+      → shrunk zero64 (length keep1 * length keep1) (squareOf keep2 (length keep1) (shrunk zero64 (s .n * s .n) (squareOf keep1 (s .n) l) l)) (shrunk zero64 (s .n * s .n) (squareOf keep1 (s .n) l) l)
+      ≡ shrunk zero64 (s .n * s .n) (squareOf (through keep1 keep2) (s .n) l) l
   square-again l =
       let X = squareOf keep1 (s .n) l in
       let Y = squareOf (through keep1 keep2) (s .n) l in
       let size = s .n * s .n in
       let few : length keep2 * length keep2 ≤ length keep1 * length keep1 = mul-le-mul (kept2 .few) (kept2 .few) in
-      ap (λ (x : List Float). shrunk zero64 (length keep1 * length keep1) x (shrunk zero64 size X l)) (square-twice keep1 keep2 (kept2 .below) (s .n) l (replicate (size - length X) zero64 ++ drop size l))
-      ∙ shrunk-twice zero64 size (length keep1 * length keep1) X Y l (square-size keep1 (s .n) l) (omega (arith, few, square-size (through keep1 keep2) (s .n) l, ap (λ (x : ℕ). x * x) (through-size keep1 keep2))) (mul-le-mul (kept1 .few) (kept1 .few))
+      ap (λ (x : List Float). shrunk zero64 (length keep1 * length keep1) x (shrunk zero64 size X l))
+      (square-twice keep1 keep2 (kept2 .below) (s .n) l (replicate (size - length X) zero64 ++ drop size l))
+      ∙ shrunk-twice zero64 size (length keep1 * length keep1) X Y l (square-size keep1 (s .n) l)
+      (omega (arith, few, square-size (through keep1 keep2) (s .n) l, ap (λ (x : ℕ). x * x) (through-size keep1 keep2))) (mul-le-mul (kept1 .few) (kept1 .few))
 
   -- the lists: W, I and O are weights, indices and offsets
   module _ (W : List Float) (I O : List ℕ) {w x : ℕ} (lists : Listed (s .n) w x O) where
@@ -128,7 +136,8 @@ module _ (s : Settings) (keep1 keep2 : List ℕ) (climbs1 : Climbs keep1) (kept1
         let X = packedOffsets keep1 I O in
         let Y = packedOffsets (through keep1 keep2) I O in
         ap (λ (y : List ℕ). shrunk 0 (length keep1 + 1) y O1) (packed-offsets-twice keep1 keep2 climbs1 (kept2 .below) I O P Q)
-        ∙ shrunk-twice 0 (n + 1) (length keep1 + 1) X Y O (packed-offsets-size keep1 I O) (omega (arith, packed-offsets-size (through keep1 keep2) I O, through-size keep1 keep2, kept2 .few)) (omega (arith, kept1 .few))
+        ∙ shrunk-twice 0 (n + 1) (length keep1 + 1) X Y O (packed-offsets-size keep1 I O)
+        (omega (arith, packed-offsets-size (through keep1 keep2) I O, through-size keep1 keep2, kept2 .few)) (omega (arith, kept1 .few))
 
   -- ---- all areas, h before both removals
 
@@ -191,7 +200,8 @@ twice-as-once s g1 g2 u h e lists =
     let keep1 = survivors g1 (s .n) in
     let keep2 = survivors g2 (length keep1) in
     let k = packedAreas (thinned s (length keep1)) keep2 (packedAreas s keep1 h) in
-    let p : TwiceAsOnce keep1 (length (through keep1 keep2)) k (packedAreas s (through keep1 keep2) h) = rw (through-size keep1 keep2) (packed-twice s keep1 keep2 (survivors-climb g1 (s .n)) (survivors-kept g1 (s .n)) (survivors-climb g2 (length keep1)) (survivors-kept g2 (length keep1)) h lists) in
+    let p : TwiceAsOnce keep1 (length (through keep1 keep2)) k (packedAreas s (through keep1 keep2) h) =
+    rw (through-size keep1 keep2) (packed-twice s keep1 keep2 (survivors-climb g1 (s .n)) (survivors-kept g1 (s .n)) (survivors-climb g2 (length keep1)) (survivors-kept g2 (length keep1)) h lists) in
     subst (λ (x : List ℕ). TwiceAsOnce keep1 (length x) k (packedAreas s x h)) (sym (survivors-union g1 g2 u (s .n) e)) p
 
 -- ---- the positions
@@ -230,15 +240,18 @@ module _ (n c : ℕ) (keep1 keep2 : List ℕ) (kept1 : Kept keep1 n) (kept2 : Ke
   of-second : (i d : ℕ) → i < length keep2 → d < c → at y1 (num keep2 i * c + d) ≡ centredLeft keep1 c y (num (through keep1 keep2) i) d
   of-second i d h k = after-first (num keep2 i) d (kept2 .below i h) k ∙ ap (λ (x : ℕ). centredLeft keep1 c y x d) (sym (through-at keep1 keep2 i h))
 
-  after-second : (i d : ℕ) → i < length keep2 → d < c → at y2 (i * c + d) ≡ sub binary64 (centredLeft keep1 c y (num (through keep1 keep2) i) d) (averageOf (λ k. centredLeft keep1 c y (num (through keep1 keep2) k) d) (length keep2))
+  after-second : (i d : ℕ) → i < length keep2 → d < c → at y2 (i * c + d)
+      ≡ sub binary64 (centredLeft keep1 c y (num (through keep1 keep2) i) d) (averageOf (λ k. centredLeft keep1 c y (num (through keep1 keep2) k) d) (length keep2))
   after-second i d h k =
       centred-at keep2 c y1 (replicate (length keep1 * c - length (centredRows keep2 c y1)) zero64 ++ drop (length keep1 * c) y1) i d h k
       ∙ ap (λ (x : Float). sub binary64 x (averageLeft keep2 c y1 d)) (of-second i d h k)
-      ∙ ap (sub binary64 (centredLeft keep1 c y (num (through keep1 keep2) i) d)) (average-same (λ j. at y1 (num keep2 j * c + d)) (λ j. centredLeft keep1 c y (num (through keep1 keep2) j) d) (length keep2) (λ j l. of-second j d l k))
+      ∙ ap (sub binary64 (centredLeft keep1 c y (num (through keep1 keep2) i) d))
+      (average-same (λ j. at y1 (num keep2 j * c + d)) (λ j. centredLeft keep1 c y (num (through keep1 keep2) j) d) (length keep2) (λ j l. of-second j d l k))
 
   -- what the second leaves: its rows in front, and behind them all as one removal leaves it
   whole : y2 ≡ shrunk zero64 (n * c) (centredRows keep2 c y1) y
-  whole = shrunk-twice zero64 (n * c) (length keep1 * c) (centredRows keep1 c y) (centredRows keep2 c y1) y (centred-size keep1 c y) (omega (arith, centred-size keep2 c y1, kept-all kept2 c)) (kept-all kept1 c)
+  whole = shrunk-twice zero64 (n * c) (length keep1 * c) (centredRows keep1 c y) (centredRows keep2 c y1) y (centred-size keep1 c y)
+      (omega (arith, centred-size keep2 c y1, kept-all kept2 c)) (kept-all kept1 c)
 
   behind : drop (length keep2 * c) y2 ≡ drop (length keep2 * c) yu
   behind =

@@ -26,7 +26,9 @@ use Rattle.taking.proofs.Composed.{those-both, through, through-size, t
 
 module _ {A : Type 0} (z : A) (a b : ℕ) where
   zeros-join : (y : ℕ) (r : List A) → y ≤ b → b ≤ a → replicate (b - y) z ++ (replicate (a - b) z ++ r) ≡ replicate (a - y) z ++ r
-  zeros-join y r h k = sym (append-assoc (replicate (b - y) z) (replicate (a - b) z) r) ∙ ap (λ (x : List A). x ++ r) (replicate-append-replicate (b - y) (a - b) z ∙ ap (λ (x : ℕ). replicate x z) (whole y h k))
+  zeros-join y r h k =
+      sym (append-assoc (replicate (b - y) z) (replicate (a - b) z) r)
+      ∙ ap (λ (x : List A). x ++ r) (replicate-append-replicate (b - y) (a - b) z ∙ ap (λ (x : ℕ). replicate x z) (whole y h k))
     where
       whole : (y : ℕ) → y ≤ b → b ≤ a → b - y + (a - b) ≡ a - y
       whole y h k = omega arith
@@ -74,7 +76,8 @@ module _ (keep1 keep2 : List ℕ) (within : (i : ℕ) → i < length keep2 → n
 
   pub square-twice : (n : ℕ) (l r : List Float) → squareOf keep2 (length keep1) (squareOf keep1 n l ++ r) ≡ squareOf (through keep1 keep2) n l
   square-twice n l r =
-      joined-same (λ i. each (λ j. at (squareOf keep1 n l ++ r) (num keep2 i * length keep1 + num keep2 j)) (length keep2)) (λ i. each (λ j. at l (num (through keep1 keep2) i * n + num (through keep1 keep2) j)) (length keep2)) (length keep2) (λ i h.
+      joined-same (λ i. each (λ j. at (squareOf keep1 n l ++ r) (num keep2 i * length keep1 + num keep2 j)) (length keep2))
+      (λ i. each (λ j. at l (num (through keep1 keep2) i * n + num (through keep1 keep2) j)) (length keep2)) (length keep2) (λ i h.
       each-same (λ j. at (squareOf keep1 n l ++ r) (num keep2 i * length keep1 + num keep2 j)) (λ j. at l (num (through keep1 keep2) i * n + num (through keep1 keep2) j)) (length keep2) (λ j k.
       row-at (λ i j. at l (num keep1 i * n + num keep1 j)) (length keep1) (length keep1) (num keep2 i) (num keep2 j) r nan (within i h) (within j k)
       ∙ ap (λ (x : ℕ). at l (x * n + num keep1 (num keep2 j))) (sym (through-at keep1 keep2 i h))
@@ -131,7 +134,8 @@ module _ (keep1 keep2 : List ℕ) (climbs : Climbs keep1) (within : (i : ℕ) �
   links-twice i h =
       let j = num keep1 i in
       let N = num O (j + 1) - num O j in
-      those-same (λ t. isAmong (through keep1 keep2) (num I (num O j + t))) (λ t. isAmong keep1 (num I (num O j + t)) && isAmong keep2 (standsAt keep1 (num I (num O j + t)))) N (λ t k. through-among keep1 keep2 climbs within (num I (num O j + t)))
+      those-same (λ t. isAmong (through keep1 keep2) (num I (num O j + t))) (λ t. isAmong keep1 (num I (num O j + t)) && isAmong keep2 (standsAt keep1 (num I (num O j + t)))) N
+      (λ t k. through-among keep1 keep2 climbs within (num I (num O j + t)))
       ∙ those-both (λ t. isAmong keep1 (num I (num O j + t))) (λ t. isAmong keep2 (standsAt keep1 (num I (num O j + t)))) N
       ∙ ap (map (num (first-kept i)))
       (those-same (λ t. isAmong keep2 (standsAt keep1 (named i t))) (λ t. isAmong keep2 (num I1 (num O1 i + t))) (length (first-kept i)) (λ t k. ap (isAmong keep2) (sym (index1 i t h k)))
@@ -142,7 +146,8 @@ module _ (keep1 keep2 : List ℕ) (climbs : Climbs keep1) (within : (i : ℕ) �
   map-kept f g i e = map-those f g (λ t. isAmong keep2 (num I1 (num O1 i + t))) (num O1 (i + 1) - num O1 i) e
 
   -- the same of what is told of each link
-  told-twice : {A : Type 0} (f g : ℕ → A) (i : ℕ) → i < length keep1 → ((t : ℕ) → t < length (first-kept i) → f t ≡ g (num (first-kept i) t)) → map f (keptLinks keep2 I1 O1 i) ≡ map g (keptLinks (through keep1 keep2) I O (num keep1 i))
+  told-twice : {A : Type 0} (f g : ℕ → A) (i : ℕ) → i < length keep1 → ((t : ℕ) → t < length (first-kept i) → f t ≡ g (num (first-kept i) t))
+      → map f (keptLinks keep2 I1 O1 i) ≡ map g (keptLinks (through keep1 keep2) I O (num keep1 i))
   told-twice f g i h e = agree ∙ sym (map-map g (num (first-kept i)) (keptLinks keep2 I1 O1 i)) ∙ ap (map g) (sym (links-twice i h))
     where
       agree : map f (keptLinks keep2 I1 O1 i) ≡ map (λ t. g (num (first-kept i) t)) (keptLinks keep2 I1 O1 i)
