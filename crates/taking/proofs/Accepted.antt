@@ -93,6 +93,12 @@ module _ (g : List ℕ) (s : State) (t : List Float) (q : List ℕ) where
   unfolding takeOut takeTested
   left-is f e = rw (f, e)
 
+  -- once the entry tests have passed, the verdict is told
+  pub verdict-told : isFine fault ≡ true → takeOut g s t q .answer ≡ Told verdict
+  verdict-told f = by-bool (takeOut g s t q .answer ≡ Told verdict) (goesOn verdict)
+      (λ e. ap (λ (o : TakeOutcome). o .answer) (left-is f e))
+      (λ e. ap (λ (o : TakeOutcome). o .answer) (told-is f e))
+
   -- THEOREM: a removal whose answer has a number, and so is refused, changes nothing
   pub refused-changes-nothing : (takeNumber (takeOut g s t q .answer) ≡ 0 → ⊥) → Unchanged
   unfolding takeNumber

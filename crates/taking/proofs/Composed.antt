@@ -127,7 +127,8 @@ module _ (keep1 keep2 : List ℕ) (climbs : Climbs keep1) (within : (i : ℕ) �
   same-test x t e h = elim (ℕ-discrete (num keep2 t) (standsAt keep1 x)) [
     | yes q ↦ eq-eqb (num (through keep1 keep2) t) x (through-at keep1 keep2 t h ∙ ap (num keep1) q ∙ stands-there keep1 x e) ∙ sym (eq-eqb (num keep2 t) (standsAt keep1 x) q)
     | no q ↦ ne-eqb (num (through keep1 keep2) t) x (λ y. q
-        (one-place (num keep2 t) (standsAt keep1 x) (within t h) (stands-in keep1 x e) (sym (through-at keep1 keep2 t h) ∙ y ∙ sym (stands-there keep1 x e)))) ∙ sym (ne-eqb (num keep2 t) (standsAt keep1 x) q)
+        (one-place (num keep2 t) (standsAt keep1 x) (within t h) (stands-in keep1 x e) (sym (through-at keep1 keep2 t h) ∙ y ∙ sym (stands-there keep1 x e))))
+        ∙ sym (ne-eqb (num keep2 t) (standsAt keep1 x) q)
   ]
 
   -- where a number of keep1 stands

@@ -1,26 +1,38 @@
 -- Removals as the call leaves them: two one after the other beside one of their union, and the links that are left. Assumes nothing.
 use mathlib.Core.Path.{_≡_, refl, sym, ap, subst, _∙_}
+use mathlib.Core.Logic.{_⊎_, inl, inr, ⊎-elim}
 use mathlib.Core.List.{List, _++_}
-use mathlib.Core.Bool.{true}
-use Prim.Native.Nat.{ℕ, _+_, _<_}
-use lib.ListN.{length, drop, List·getD-append}
-use lib.Ieee.{Float}
+use mathlib.Core.Bool.{true, false}
+use Prim.Native.Nat.{ℕ, _+_, _-_, _<_, _≤_}
+use native.Mathlib.Omega.{arith}
+use lib.IntN.{pos}
+use lib.ListN.{length, drop, replicate, List·getD-append}
+use lib.Ieee.{Float, binary64, ofInt, lt}
+use Rattle.laws.proofs.Bools.{by-bool, two}
+use borrow.Author.Tests.{ltb-false, le-ltb}
 use Rattle.laws.specs.Area.{num, zero64}
-use Rattle.run_record.specs.Record.{isTree}
+use Rattle.run_record.specs.declared.Settings.{Settings}
+use Rattle.run_record.specs.Record.{isTree, sizesOf}
 use Rattle.run_entry.specs.State.{State}
-use Rattle.take_gone.specs.Gone.{survivors}
+use Rattle.run_entry.specs.Entry.{isFine}
+use Rattle.run_entry.proofs.Laws.{fault-good}
+use Rattle.take_gone.specs.Gone.{goneFine, survivors}
+use Rattle.take_gone.proofs.Left.{survivors-climb}
 use Rattle.take_rows.specs.Rows.{shrunk}
 use Rattle.take_rows.proofs.Survive.{survivors-kept}
-use Rattle.take_lists.specs.Packed.{packedIndices, packedWeights, packedOffsets, Listed}
+use Rattle.take_lists.specs.Packed.{linksLeft, packedIndices, packedWeights, packedOffsets, Listed}
+use Rattle.take_means.specs.CalmLeft.{calmLeft}
 use Rattle.take_lists.proofs.Theorems.{BetweenSurvivors, links-between-survivors}
-use Rattle.take_left.specs.declared.Verdict.the-variants.{Left}
-use Rattle.take_left.specs.Verdict.{thinned, thinnedRun}
+use Rattle.take_left.specs.declared.Verdict.the-variants.{Left, Barred}
+use Rattle.take_left.specs.Verdict.{thinned, thinnedRun, crowded}
+use Rattle.take_left.proofs.Judged.{exact-not-crowded, judged-left, judged-barred}
 use Rattle.take_out.specs.declared.Taken.the-variants.{Told}
-use Rattle.take_out.specs.TakeOut.{TakeOutcome, affinitiesLeft, indicesPacked, offsetsPacked, packedAreas, held, afterTaking, takeOut}
+use Rattle.take_out.specs.TakeOut.{TakeOutcome, affinitiesLeft, indicesPacked, offsetsPacked, packedAreas, held, afterTaking, takeFault, takeOut}
 use Rattle.taking.specs.Union.{Union}
-use Rattle.taking.proofs.Accepted.{tookFrom, accepted}
+use Rattle.taking.proofs.Accepted.{verdict-told, long-enough-told, Passes, tookFrom, Accepted, accepted}
 use Rattle.taking.proofs.Honest.{entered-room}
 use Rattle.taking.proofs.Composed.{survivors-union, through-size, through-at}
+use Rattle.taking.proofs.TwicePacked.{links-left-twice}
 use Rattle.taking.proofs.Twice.{twice-as-once, CentredTwice, positions-centred-twice}
 
 -- ---- two removals
@@ -117,6 +129,94 @@ two-removals-as-one g1 g2 u s t q1 q2 q3 m1 m2 m3 e a1 a2 a3 =
     (subst (λ (o : TakeOutcome). OneRemoval g1 u s x1 o (done u s t q3)) (sym (b2 .outcome))
     (subst (λ (o : TakeOutcome). OneRemoval g1 u s o (done g2 (o .left) (o .table) q2) (done u s t q3)) (sym (b1 .outcome)) base))
 
+-- ---- whether the union is taken
+
+crowd-few : (s : Settings) (keep I O : List ℕ) → isTree (s .method) ≡ true → crowded s keep I O ≡ false → linksLeft keep I O ≤ sizesOf (thinned s (length keep)) .links
+unfolding crowded
+crowd-few s keep I O b e = ltb-false (sizesOf (thinned s (length keep)) .links) (linksLeft keep I O) (rw b at e)
+
+crowd-fits : (s : Settings) (keep I O : List ℕ) → isTree (s .method) ≡ true → linksLeft keep I O ≤ sizesOf (thinned s (length keep)) .links → crowded s keep I O ≡ false
+unfolding crowded
+crowd-fits s keep I O b h = rw (b, le-ltb (sizesOf (thinned s (length keep)) .links) (linksLeft keep I O) h)
+
+module _ (g1 g2 u : List ℕ) (s : State) (t : List Float) (q1 q2 q3 : List ℕ) (e : Union g1 g2 u (s .run .settings .n)) (a : Accepted g1 s t q1) where
+  abbrev keepU : List ℕ
+  keepU = survivors u (s .run .settings .n)
+
+  abbrev keepA : List ℕ
+  keepA = survivors g1 (s .run .settings .n)
+
+  abbrev keepB : List ℕ
+  keepB = survivors g2 (length keepA)
+
+  abbrev next : State
+  next = done g1 s t q1 .left
+
+  -- the second has passed its tests
+  abbrev Passed : Type 0
+  Passed = Passes (next .run) g2 (next .memory .positions) (next .memory .indices) (next .memory .offsets)
+
+  -- what has been shown before the second, of the union
+  union-passes : Passed
+      → (2 ≤ length keepU) × (lt (s .run .settings .perplexity) (ofInt binary64 (pos (length keepU))) ≡ true)
+  unfolding thinnedRun thinned
+  union-passes p =
+      let c = same-count g1 g2 u s t q1 q2 q3 e in
+      (subst (λ (x : ℕ). 2 ≤ x) c (p .enough), subst (λ (x : ℕ). lt (s .run .settings .perplexity) (ofInt binary64 (pos x)) ≡ true) c (p .below))
+
+  links-one : isTree (s .run .settings .method) ≡ true
+      → linksLeft keepB (next .memory .indices) (next .memory .offsets) ≡ linksLeft keepU (s .memory .indices) (s .memory .offsets)
+  unfolding packedAreas indicesPacked offsetsPacked
+  links-one b =
+      let n = s .run .settings .n in
+      let I = s .memory .indices in
+      let O = s .memory .offsets in
+      let P = replicate (num O n - length (packedIndices keepA I O)) 0 ++ drop (num O n) I in
+      let Q = replicate (n + 1 - length (packedOffsets keepA I O)) 0 ++ drop (n + 1) O in
+      rw b (links-left-twice keepA keepB (survivors-climb g1 n) (survivors-kept g2 (length keepA) .below) I O P Q ∙ ap (λ (x : List ℕ). linksLeft x I O) (sym (survivors-union g1 g2 u n e)))
+
+  union-not-crowded : Passed → crowded (s .run .settings) keepU (s .memory .indices) (s .memory .offsets) ≡ false
+  unfolding thinnedRun thinned
+  union-not-crowded p = by-bool (crowded (s .run .settings) keepU (s .memory .indices) (s .memory .offsets) ≡ false) (isTree (s .run .settings .method))
+      (λ b.
+      let S = s .run .settings in
+      let few : linksLeft keepB (next .memory .indices) (next .memory .offsets) ≤ sizesOf (thinned S (length keepB)) .links =
+      crowd-few (thinned S (length keepA)) keepB (next .memory .indices) (next .memory .offsets) b (p .room) in
+      crowd-fits S keepU (s .memory .indices) (s .memory .offsets) b (omega (arith, links-one b, ap (λ (x : ℕ). sizesOf (thinned S x) .links) (same-count g1 g2 u s t q1 q2 q3 e))))
+      (λ b. sym (exact-not-crowded (s .run .settings) keepU (s .memory .indices) (s .memory .offsets) b))
+
+  union-fault : s .run .settings .n ≤ length q3 → isFine (takeFault (s .run) (s .memory) (length t) (length q3)) ≡ true
+  union-fault l = ap isFine (long-enough-told s t q3 (a .entered .table-long) l ∙ fault-good s (a .entered .good))
+
+  union-told : Passed → goneFine u (s .run .settings .n) ≡ true → s .run .settings .n ≤ length q3
+      → (takeOut u s t q3 .answer ≡ Told (Left (length keepU))) ⊎ (takeOut u s t q3 .answer ≡ Told Barred)
+  union-told p f l =
+      let r = s .run in
+      let y = s .memory .positions in
+      let I = s .memory .indices in
+      let O = s .memory .offsets in
+      let z = union-passes p in
+      let c = union-not-crowded p in
+      let v = verdict-told u s t q3 (union-fault l) in
+      ⊎-elim
+      (λ b. inl (v ∙ ap Told (sym (judged-left r u y I O (a .passed .between) f (z .0) (z .1) (length keepU) refl c b))))
+      (λ b. inr (v ∙ ap Told (sym (judged-barred r u y I O (a .passed .between) f (z .0) (z .1) c b))))
+      (two (calmLeft keepU (r .settings .c) y))
+
+-- THEOREM: where two removals are not refused, one of their union is not refused either, but perhaps by 15: its positions are centred otherwise
+pub union-taken-or-barred : (g1 g2 u : List ℕ) (s : State) (t : List Float) (q1 q2 q3 : List ℕ) (m1 m2 : ℕ) → Union g1 g2 u (s .run .settings .n)
+    → goneFine u (s .run .settings .n) ≡ true
+    → s .run .settings .n ≤ length q3
+    → takeOut g1 s t q1 .answer ≡ Told (Left m1)
+    → takeOut g2 (takeOut g1 s t q1 .left) (takeOut g1 s t q1 .table) q2 .answer ≡ Told (Left m2)
+    → (takeOut u s t q3 .answer ≡ Told (Left (length (survivors u (s .run .settings .n))))) ⊎ (takeOut u s t q3 .answer ≡ Told Barred)
+union-taken-or-barred g1 g2 u s t q1 q2 q3 m1 m2 e f l a1 a2 =
+    let x1 = takeOut g1 s t q1 in
+    let b1 = accepted g1 s t q1 m1 a1 in
+    let b2 = accepted g2 (x1 .left) (x1 .table) q2 m2 a2 in
+    union-told g1 g2 u s t q1 q2 q3 e b1
+    (subst (λ (o : TakeOutcome). Passes (o .left .run) g2 (o .left .memory .positions) (o .left .memory .indices) (o .left .memory .offsets)) (b1 .outcome) (b2 .passed)) f l
+
 -- ---- the links
 
 -- from s, a removal of g has left x: the lists of the survivors stand at the front of the areas, one after the other, and their links are exactly the old ones between survivors, with their weights
@@ -125,7 +225,8 @@ pub record LinksLeft (g : List ℕ) (s x : State) : Type 0 where
   pub indices : x .memory .indices
       ≡ shrunk 0 (num (s .memory .offsets) (s .run .settings .n)) (packedIndices (survivors g (s .run .settings .n)) (s .memory .indices) (s .memory .offsets)) (s .memory .indices)
   pub weights : x .memory .affinities
-      ≡ shrunk zero64 (num (s .memory .offsets) (s .run .settings .n)) (packedWeights (survivors g (s .run .settings .n)) (s .memory .affinities) (s .memory .indices) (s .memory .offsets)) (s .memory .affinities)
+      ≡ shrunk zero64 (num (s .memory .offsets) (s .run .settings .n))
+      (packedWeights (survivors g (s .run .settings .n)) (s .memory .affinities) (s .memory .indices) (s .memory .offsets)) (s .memory .affinities)
   pub between : BetweenSurvivors (survivors g (s .run .settings .n)) (s .memory .affinities) (s .memory .indices) (s .memory .offsets)
 
 links-of : (g : List ℕ) (s : State) (t : List Float) (q : List ℕ) → isTree (s .run .settings .method) ≡ true → LinksLeft g s (done g s t q .left)
