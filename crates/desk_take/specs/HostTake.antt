@@ -9,13 +9,13 @@ use Rattle.run_record.specs.declared.Run.{Run}
 use Rattle.run_entry.specs.State.{Memory, state}
 use Rattle.record_words.specs.RecordWords.{runOf, Worded}
 use Rattle.fault_words.specs.FaultWords.{faultValue, unfit, unfitTold}
-use Rattle.take_left.specs.declared.Verdict.{Verdict}
-use Rattle.take_left.specs.declared.Verdict.the-variants.{Left, Inside, Unordered, Few, Perplexed, Crowded, Barred}
+use Rattle.take_left.specs.declared.Outlook.{Outlook}
+use Rattle.take_left.specs.declared.Outlook.the-variants.{Left, Inside, Unordered, Few, Perplexed, Crowded, Barred}
 use Rattle.take_out.specs.declared.Taken.{Taken}
 use Rattle.take_out.specs.declared.Taken.the-variants.{Told, Bad}
 use Rattle.take_out.specs.TakeOut.{TakeOutcome, takeOut, takeNumber}
 
-abbrev pub leftTold : Verdict → ℕ
+abbrev pub leftTold : Outlook → ℕ
 leftTold (Left m) = m
 leftTold Inside = 0
 leftTold Unordered = 0

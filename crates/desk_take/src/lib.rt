@@ -11,22 +11,22 @@ use fault_words::is_unfit;
 use fault_words::put_unfit;
 use record_words::run_of;
 use run_record::Run;
-use take_left::Verdict;
+use take_left::Outlook;
 use take_out::Taken;
 use take_out::take_out;
 use tree_node::Cell;
 
-fn left_told(v: Verdict) -> u64
+fn left_told(v: Outlook) -> u64
     ensures { λ w. ⌜ w ≡ leftTold v ⌝ }
 {
     match v {
-        Verdict::Left(m) => m as u64,
-        Verdict::Inside => 0,
-        Verdict::Unordered => 0,
-        Verdict::Few => 0,
-        Verdict::Perplexed => 0,
-        Verdict::Crowded => 0,
-        Verdict::Barred => 0,
+        Outlook::Left(m) => m as u64,
+        Outlook::Inside => 0,
+        Outlook::Unordered => 0,
+        Outlook::Few => 0,
+        Outlook::Perplexed => 0,
+        Outlook::Crowded => 0,
+        Outlook::Barred => 0,
     }
 }
 

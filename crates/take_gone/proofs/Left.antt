@@ -80,8 +80,8 @@ pub survivors-climb : (g : List ℕ) (n : ℕ) → Climbs (survivors g n)
 survivors-climb g n = record { climb = those-rise (λ j. not (isAmong g j)) n }
 
 -- a sample is left where it is not taken out
-pub left-told : (g : List ℕ) (n j : ℕ) → j < n → isAmong (survivors g n) j ≡ not (isAmong g j)
-left-told g n j h = by (isAmong g j) refl
+pub left-among : (g : List ℕ) (n j : ℕ) → j < n → isAmong (survivors g n) j ≡ not (isAmong g j)
+left-among g n j h = by (isAmong g j) refl
   where
     p : ℕ → Bool
     p j = not (isAmong g j)

@@ -22,9 +22,9 @@ use Rattle.take_rows.proofs.Survive.{survivors-kept}
 use Rattle.take_means.specs.CalmLeft.{calmLeft}
 use Rattle.take_lists.specs.Packed.{linksLeft, Listed}
 use Rattle.take_lists.proofs.Bounds.{before-all}
-use Rattle.take_left.specs.declared.Verdict.{Verdict}
-use Rattle.take_left.specs.declared.Verdict.the-variants.{Left, Inside, Unordered, Few, Perplexed, Crowded, Barred}
-use Rattle.take_left.specs.Verdict.{thinned, crowded, verdictOf, VerdictRoom, CountRoom}
+use Rattle.take_left.specs.declared.Outlook.{Outlook}
+use Rattle.take_left.specs.declared.Outlook.the-variants.{Left, Inside, Unordered, Few, Perplexed, Crowded, Barred}
+use Rattle.take_left.specs.Outlook.{thinned, crowded, outlookOf, OutlookRoom, CountRoom}
 
 -- so many are left
 pub count-left : (g : List ℕ) (n : ℕ) → goneFine g n ≡ true → (length g ≤ n) × (n - length g ≡ length (survivors g n))
@@ -120,7 +120,7 @@ judging r g m k t p f e h q l z =
     }
 
 -- the links may be counted
-pub judging-room : {r : Run} {g : List ℕ} {m : ℕ} {t : Settings} {y : List Float} {I O : List ℕ} → VerdictRoom r y I O → Judging r g m t → CountRoom (r .settings) t g I O
+pub judging-room : {r : Run} {g : List ℕ} {m : ℕ} {t : Settings} {y : List Float} {I O : List ℕ} → OutlookRoom r y I O → Judging r g m t → CountRoom (r .settings) t g I O
 judging-room {r} {g} {m} {t} v j = record {
   samples-most = v .settings-good .n-most;
   thinned-as = j .settings ∙ ap (thinned (r .settings)) (j .count);
@@ -130,45 +130,45 @@ judging-room {r} {g} {m} {t} v j = record {
   counted-name = v .lists-name;
 }
 
--- ---- the verdict
+-- ---- the outlook
 
 module _ (r : Run) (g : List ℕ) (y : List Float) (I O : List ℕ) where
-  pub judged-inside : (r .phase ≡ 0 → ⊥) → Inside ≡ verdictOf r g y I O
-  unfolding verdictOf
+  pub judged-inside : (r .phase ≡ 0 → ⊥) → Inside ≡ outlookOf r g y I O
+  unfolding outlookOf
   judged-inside p = rw (ne-eqb (r .phase) 0 p)
 
-  pub judged-unordered : r .phase ≡ 0 → goneFine g (r .settings .n) ≡ false → Unordered ≡ verdictOf r g y I O
-  unfolding verdictOf
+  pub judged-unordered : r .phase ≡ 0 → goneFine g (r .settings .n) ≡ false → Unordered ≡ outlookOf r g y I O
+  unfolding outlookOf
   judged-unordered p f = rw (eq-eqb (r .phase) 0 p, f)
 
   module _ (p : r .phase ≡ 0) (f : goneFine g (r .settings .n) ≡ true) where
-    pub judged-few : length (survivors g (r .settings .n)) < 2 → Few ≡ verdictOf r g y I O
-    unfolding verdictOf
+    pub judged-few : length (survivors g (r .settings .n)) < 2 → Few ≡ outlookOf r g y I O
+    unfolding outlookOf
     judged-few h = rw (eq-eqb (r .phase) 0 p, f, lt-ltb (length (survivors g (r .settings .n))) 2 h)
 
     module _ (m : 2 ≤ length (survivors g (r .settings .n))) where
-      pub judged-perplexed : lt (r .settings .perplexity) (ofInt binary64 (pos (length (survivors g (r .settings .n))))) ≡ false → Perplexed ≡ verdictOf r g y I O
-      unfolding verdictOf
+      pub judged-perplexed : lt (r .settings .perplexity) (ofInt binary64 (pos (length (survivors g (r .settings .n))))) ≡ false → Perplexed ≡ outlookOf r g y I O
+      unfolding outlookOf
       judged-perplexed b = rw (eq-eqb (r .phase) 0 p, f, le-ltb (length (survivors g (r .settings .n))) 2 m, b)
 
       module _ (b : lt (r .settings .perplexity) (ofInt binary64 (pos (length (survivors g (r .settings .n))))) ≡ true) where
-        pub judged-crowded : crowded (r .settings) (survivors g (r .settings .n)) I O ≡ true → Crowded ≡ verdictOf r g y I O
-        unfolding verdictOf
+        pub judged-crowded : crowded (r .settings) (survivors g (r .settings .n)) I O ≡ true → Crowded ≡ outlookOf r g y I O
+        unfolding outlookOf
         judged-crowded e = rw (eq-eqb (r .phase) 0 p, f, le-ltb (length (survivors g (r .settings .n))) 2 m, b, e)
 
-        pub judged-left : (k : ℕ) → k ≡ length (survivors g (r .settings .n)) → crowded (r .settings) (survivors g (r .settings .n)) I O ≡ false → calmLeft (survivors g (r .settings .n)) (r .settings .c) y ≡ true → Left k ≡ verdictOf r g y I O
-        unfolding verdictOf
+        pub judged-left : (k : ℕ) → k ≡ length (survivors g (r .settings .n)) → crowded (r .settings) (survivors g (r .settings .n)) I O ≡ false → calmLeft (survivors g (r .settings .n)) (r .settings .c) y ≡ true → Left k ≡ outlookOf r g y I O
+        unfolding outlookOf
         judged-left k q e c = rw (eq-eqb (r .phase) 0 p, f, le-ltb (length (survivors g (r .settings .n))) 2 m, b, e, c) (ap Left q)
 
-        pub judged-barred : crowded (r .settings) (survivors g (r .settings .n)) I O ≡ false → calmLeft (survivors g (r .settings .n)) (r .settings .c) y ≡ false → Barred ≡ verdictOf r g y I O
-        unfolding verdictOf
+        pub judged-barred : crowded (r .settings) (survivors g (r .settings .n)) I O ≡ false → calmLeft (survivors g (r .settings .n)) (r .settings .c) y ≡ false → Barred ≡ outlookOf r g y I O
+        unfolding outlookOf
         judged-barred e c = rw (eq-eqb (r .phase) 0 p, f, le-ltb (length (survivors g (r .settings .n))) 2 m, b, e, c)
 
-pub told-crowded : {r : Run} {g : List ℕ} {m : ℕ} {t : Settings} (y : List Float) (I O : List ℕ) → Judging r g m t → crowded (r .settings) (survivors g (r .settings .n)) I O ≡ true → Crowded ≡ verdictOf r g y I O
+pub told-crowded : {r : Run} {g : List ℕ} {m : ℕ} {t : Settings} (y : List Float) (I O : List ℕ) → Judging r g m t → crowded (r .settings) (survivors g (r .settings .n)) I O ≡ true → Crowded ≡ outlookOf r g y I O
 told-crowded {r} {g} y I O j e = judged-crowded r g y I O (j .between) (j .listed-fine) (j .enough) (j .below) e
 
-pub told-left : {r : Run} {g : List ℕ} {m : ℕ} {t : Settings} (y : List Float) (I O : List ℕ) → Judging r g m t → crowded (r .settings) (survivors g (r .settings .n)) I O ≡ false → calmLeft (survivors g (r .settings .n)) (r .settings .c) y ≡ true → Left m ≡ verdictOf r g y I O
+pub told-left : {r : Run} {g : List ℕ} {m : ℕ} {t : Settings} (y : List Float) (I O : List ℕ) → Judging r g m t → crowded (r .settings) (survivors g (r .settings .n)) I O ≡ false → calmLeft (survivors g (r .settings .n)) (r .settings .c) y ≡ true → Left m ≡ outlookOf r g y I O
 told-left {r} {g} {m} y I O j e c = judged-left r g y I O (j .between) (j .listed-fine) (j .enough) (j .below) m (j .count) e c
 
-pub told-barred : {r : Run} {g : List ℕ} {m : ℕ} {t : Settings} (y : List Float) (I O : List ℕ) → Judging r g m t → crowded (r .settings) (survivors g (r .settings .n)) I O ≡ false → calmLeft (survivors g (r .settings .n)) (r .settings .c) y ≡ false → Barred ≡ verdictOf r g y I O
+pub told-barred : {r : Run} {g : List ℕ} {m : ℕ} {t : Settings} (y : List Float) (I O : List ℕ) → Judging r g m t → crowded (r .settings) (survivors g (r .settings .n)) I O ≡ false → calmLeft (survivors g (r .settings .n)) (r .settings .c) y ≡ false → Barred ≡ outlookOf r g y I O
 told-barred {r} {g} y I O j e c = judged-barred r g y I O (j .between) (j .listed-fine) (j .enough) (j .below) e c

@@ -7,7 +7,7 @@ ghost use Rattle.laws.specs.Domain.{mostFrames};
 ghost use Rattle.run_record.specs.Record.{GoodSettings, isTree};
 ghost use Rattle.take_gone.specs.Gone.{survivors, Climbs};
 ghost use Rattle.take_lists.specs.Packed.{Listed};
-ghost use Rattle.take_left.specs.Verdict.{thinned, thinnedRun, crowded, verdictOf, verdictNumber, VerdictRoom, CountRoom};
+ghost use Rattle.take_left.specs.Outlook.{thinned, thinnedRun, crowded, outlookOf, outlookNumber, OutlookRoom, CountRoom};
 use run_record::Run;
 use run_record::Settings;
 use run_record::counters::per;
@@ -19,7 +19,7 @@ use take_lists::links_left;
 use take_means::is_calm_left;
 
 // What the tests say.
-pub enum Verdict {
+pub enum Outlook {
     // so many survivors
     Left(usize),
     // 17: a unit of an iteration is done, and the iteration is not
@@ -78,32 +78,38 @@ fn is_crowded(s: Settings, t: Settings, gone: &[u32], indices: &[u32], offsets: 
 }
 
 // The tests in their order.
-pub fn judge(r: Run, gone: &[u32], positions: &[f64], indices: &[u32], offsets: &[u32]) -> Verdict
-    requires { ⌜ VerdictRoom r (now positions) (now indices) (now offsets) ⌝ }
-    ensures { λ v. ⌜ v ≡ verdictOf r (now (gone .entry)) (now (positions .entry)) (now (indices .entry)) (now (offsets .entry)) ⌝ }
+pub fn look_ahead(
+    r: Run,
+    gone: &[u32],
+    positions: &[f64],
+    indices: &[u32],
+    offsets: &[u32],
+) -> Outlook
+    requires { ⌜ OutlookRoom r (now positions) (now indices) (now offsets) ⌝ }
+    ensures { λ v. ⌜ v ≡ outlookOf r (now (gone .entry)) (now (positions .entry)) (now (indices .entry)) (now (offsets .entry)) ⌝ }
 {
     if r.phase != 0 {
-        return Verdict::Inside;
+        return Outlook::Inside;
     }
     let s = r.settings;
     if !gone_fine(gone, s.n) {
-        return Verdict::Unordered;
+        return Outlook::Unordered;
     }
     let m = s.n - gone.len();
     if m < 2 {
-        return Verdict::Few;
+        return Outlook::Few;
     }
     let t = thinned_settings(s, m);
     if late_fault(t) != 0 {
-        return Verdict::Perplexed;
+        return Outlook::Perplexed;
     }
     if is_crowded(s, t, gone, indices, offsets) {
-        return Verdict::Crowded;
+        return Outlook::Crowded;
     }
     if is_calm_left(positions, gone, s.n, s.c, m) {
-        return Verdict::Left(m);
+        return Outlook::Left(m);
     }
-    Verdict::Barred
+    Outlook::Barred
 }
 
 // The record of m survivors: the iterations done stay done.
@@ -127,16 +133,16 @@ pub fn thinned_run(r: Run, m: usize) -> Run
 }
 
 // The number of a refusal; 0: it is none.
-pub fn number(v: Verdict) -> u8
-    ensures { λ k. ⌜ k ≡ verdictNumber v ⌝ }
+pub fn number(v: Outlook) -> u8
+    ensures { λ k. ⌜ k ≡ outlookNumber v ⌝ }
 {
     match v {
-        Verdict::Left(_) => 0,
-        Verdict::Inside => 17,
-        Verdict::Unordered => 18,
-        Verdict::Few => 9,
-        Verdict::Perplexed => 10,
-        Verdict::Crowded => 18,
-        Verdict::Barred => 15,
+        Outlook::Left(_) => 0,
+        Outlook::Inside => 17,
+        Outlook::Unordered => 18,
+        Outlook::Few => 9,
+        Outlook::Perplexed => 10,
+        Outlook::Crowded => 18,
+        Outlook::Barred => 15,
     }
 }

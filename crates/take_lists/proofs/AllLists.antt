@@ -1,4 +1,4 @@
--- All lists packed: after i of them the links left stand at the front, and their offsets; what is still to be read is as it was. Premises: `Listed`, `Climbs`, `Kept`.
+-- All lists packed: after i of them the links left stand at the front, and their offsets; what is still to be read is as it was. Premises: `Listed`, `Climbs`, `Staying`.
 use mathlib.Core.Path.{_≡_, refl, sym, ap, subst, _∙_}
 use mathlib.Core.List.{List, [], _∷_, _++_, map}
 use Prim.Native.Nat.{ℕ, _+_, _-_, _<_, _≤_}
@@ -11,9 +11,10 @@ use Rattle.laws.specs.Joined.{joined, each, written}
 use Rattle.laws.proofs.Joined.{joined-none, joined-more, length-map}
 use Rattle.take_gone.specs.Gone.{standsAt, Climbs}
 use Rattle.take_gone.proofs.Fronts.{Fronts, fronts-start, fronts-more, fronts-at, fronts-as}
-use Rattle.take_rows.specs.Rows.{shrunk, Kept}
+use Rattle.take_rows.specs.Rows.{shrunk, Staying}
 use Rattle.take_lists.specs.Packed.{keptLinks, indicesLeft, weightsLeft, linksBefore, linksLeft, packedIndices, packedWeights, packedOffsets, Listed}
-use Rattle.take_lists.specs.Steps.{keptFrom, indicesFrom, weightsFrom, closedWeights, closedIndices, closedOffsets, clearedFrom}
+use Rattle.take_lists.specs.Steps.{keptFrom, indicesFrom, weightsFrom, closedWeights, closedIndices, closedOffsets}
+use Rattle.take_rows.specs.Rows.{clearedFrom}
 use Rattle.take_lists.proofs.Fronting.{fronts-join, front-shrunk}
 use Rattle.take_lists.proofs.OneList.{kept-same, indices-same, weights-same}
 use Rattle.take_lists.proofs.Bounds.{kept-from, lists-rise, before-none, before-more, before-low, before-all, packed-indices-size, packed-weights-size, packed-offsets-size}
@@ -25,7 +26,7 @@ pub record Closes (keep : List ℕ) (W₀ : List Float) (I₀ O₀ : List ℕ) (
   pub indices : Fronts I₀ (joined (λ h. indicesLeft keep I₀ O₀ (num keep h)) i) q I
   pub offsets : Fronts O₀ (each (linksBefore keep I₀ O₀) i) i O
 
-module _ {keep : List ℕ} {W₀ : List Float} {I₀ O₀ : List ℕ} {n : ℕ} (climbs : Climbs keep) (kept : Kept keep n) (lists : Listed n (length W₀) (length I₀) O₀) where
+module _ {keep : List ℕ} {W₀ : List Float} {I₀ O₀ : List ℕ} {n : ℕ} (climbs : Climbs keep) (kept : Staying keep n) (lists : Listed n (length W₀) (length I₀) O₀) where
   pub closes-start : Closes keep W₀ I₀ O₀ 0 0 W₀ I₀ O₀
   closes-start = record {
     within = omega arith;
@@ -151,7 +152,7 @@ module _ {keep : List ℕ} {W₀ : List Float} {I₀ O₀ : List ℕ} {n : ℕ} 
 
 -- ---- then zeros
 
-module _ (keep : List ℕ) (W₀ : List Float) (I₀ O₀ : List ℕ) {n w x : ℕ} (climbs : Climbs keep) (kept : Kept keep n) (lists : Listed n w x O₀) where
+module _ (keep : List ℕ) (W₀ : List Float) (I₀ O₀ : List ℕ) {n w x : ℕ} (climbs : Climbs keep) (kept : Staying keep n) (lists : Listed n w x O₀) where
   pub left-within : {q s : ℕ} → q ≡ linksLeft keep I₀ O₀ → s ≡ num O₀ n → q ≤ s
   left-within e f = omega (arith, e, f, before-all lists I₀ climbs kept (length keep) (le-refl (length keep)))
 

@@ -1,4 +1,4 @@
--- How many links are left: no list grows, so what is written ends no higher than the list that is read begins. Premises: `Listed`, `Climbs`, `Kept`.
+-- How many links are left: no list grows, so what is written ends no higher than the list that is read begins. Premises: `Listed`, `Climbs`, `Staying`.
 use mathlib.Core.Path.{_≡_, refl, ap, subst, _∙_}
 use mathlib.Core.List.{List, map}
 use mathlib.Core.Bool.{Bool}
@@ -16,7 +16,7 @@ use Rattle.laws.proofs.Sums.{sum-none, sum-more, sum-same, sum-le, sum-const, b
 use Rattle.laws.proofs.Joined.{length-those, length-joined, length-map}
 use Rattle.laws.proofs.Laid.{singles-size}
 use Rattle.take_gone.specs.Gone.{standsAt, isAmong, Climbs}
-use Rattle.take_rows.specs.Rows.{Kept}
+use Rattle.take_rows.specs.Rows.{Staying}
 use Rattle.take_lists.specs.Packed.{keptLinks, linksBefore, packedOffsets, Listed}
 use Rattle.take_lists.specs.Steps.{keptFrom}
 
@@ -68,7 +68,7 @@ module _ {n w x : ℕ} {O : List ℕ} (lists : Listed n w x O) where
     | no d ↦ omega (arith, lists-rise i j (omega arith) (omega arith), lists .offsets-rise j (omega arith), ap (num O) (add-one j))
   ]
 
-  module _ {keep : List ℕ} (I : List ℕ) (climbs : Climbs keep) (kept : Kept keep n) where
+  module _ {keep : List ℕ} (I : List ℕ) (climbs : Climbs keep) (kept : Staying keep n) where
     -- the first i lists give no more links than lie before the next that is read
     pub before-low : (i : ℕ) → i < length keep → linksBefore keep I O i ≤ num O (num keep i)
     before-low zero l = omega (arith, before-none keep I O)

@@ -12,7 +12,7 @@ use Rattle.laws.specs.Sums.{sum, bit}
 use Rattle.laws.proofs.Sums.{sum-none, sum-more, sum-same, sum-le, sum-const, bit-le}
 use Rattle.laws.proofs.Joined.{length-those, those-none, those-yes, those-no, those-below}
 use Rattle.take_gone.specs.Gone.{isAmong, survivors}
-use Rattle.take_gone.proofs.Left.{left-told}
+use Rattle.take_gone.proofs.Left.{left-among}
 use Rattle.take_lists.specs.Packed.{keptLinks, linksLeft, Listed}
 use Rattle.take_lists.specs.Steps.{namedLeft}
 use Rattle.take_lists.proofs.Bounds.{kept-from, lists-rise}
@@ -76,7 +76,7 @@ left-list {n} {w} {x} {O} lists g I h j m =
     ap length (kept-from (survivors g n) I O j)
     ∙ length-those (λ t. isAmong (survivors g n) (num I (num O j + t))) (num O (j + 1) - num O j)
     ∙ sum-same (λ t. bit (isAmong (survivors g n) (num I (num O j + t)))) (λ t. bit (not (isAmong g (num I (num O j + t))))) (num O (j + 1) - num O j)
-    (λ t s. ap bit (left-told g n (num I (num O j + t)) (h (num O j + t) (omega (arith, lists-rise lists (j + 1) n (omega arith) (omega arith))))))
+    (λ t s. ap bit (left-among g n (num I (num O j + t)) (h (num O j + t) (omega (arith, lists-rise lists (j + 1) n (omega arith) (omega arith))))))
     )
 
 module _ {g I O : List ℕ} {n w x : ℕ} (lists : Listed n w x O) where

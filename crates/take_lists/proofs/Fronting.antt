@@ -9,7 +9,7 @@ use Rattle.laws.specs.Joined.{written}
 use Rattle.laws.proofs.Changed.{drop-later}
 use Rattle.take_gone.proofs.Fronts.{Fronts, fronts-more, fronts-as}
 use Rattle.take_rows.specs.Rows.{shrunk}
-use Rattle.take_lists.specs.Steps.{clearedFrom}
+use Rattle.take_rows.specs.Rows.{clearedFrom}
 
 module _ {A : Type 0} where
   -- ---- w is written from place q on, up to e: what stood below q is a part of the front

@@ -15,7 +15,7 @@ use Rattle.laws.proofs.First.{first-holds}
 use Rattle.laws.proofs.Joined.{joined-at, joined-all, those-below, those-holds, those-at, those-rise, getD-map-in, length-map}
 use Rattle.laws.proofs.Laid.{singles-get}
 use Rattle.take_gone.specs.Gone.{standsAt, isAmong, Climbs}
-use Rattle.take_rows.specs.Rows.{shrunk, Kept}
+use Rattle.take_rows.specs.Rows.{shrunk, Staying}
 use Rattle.take_lists.specs.Packed.{keptLinks, indicesLeft, weightsLeft, linksBefore, linksLeft, packedIndices, packedWeights, packedOffsets, Listed}
 use Rattle.take_lists.specs.Steps.{keptFrom}
 use Rattle.take_lists.proofs.Bounds.{before-none, before-more, before-all, packed-indices-size, packed-weights-size, packed-offsets-size}
@@ -45,7 +45,7 @@ module _ (keep I O : List ℕ) where
   packed-indices-count = packed-indices-size keep I O (length keep)
 
   -- no more links are left than there were
-  pub links-left-few : {n w x : ℕ} → Listed n w x O → Climbs keep → Kept keep n → linksLeft keep I O ≤ num O n
+  pub links-left-few : {n w x : ℕ} → Listed n w x O → Climbs keep → Staying keep n → linksLeft keep I O ≤ num O n
   links-left-few lists climbs kept = before-all lists I climbs kept (length keep) (le-refl (length keep))
 
   -- ---- the offsets: what the lists before have
@@ -178,7 +178,7 @@ links-between-survivors keep W I O = record {
 
 -- ---- the areas as they are left
 
-module _ (keep I O : List ℕ) {n w x : ℕ} (lists : Listed n w x O) (climbs : Climbs keep) (kept : Kept keep n) where
+module _ (keep I O : List ℕ) {n w x : ℕ} (lists : Listed n w x O) (climbs : Climbs keep) (kept : Staying keep n) where
   -- at the front of the offsets stand the packed ones
   left-offset : (i : ℕ) → i ≤ length keep → num (shrunk 0 (n + 1) (packedOffsets keep I O) O) i ≡ num (packedOffsets keep I O) i
   left-offset i h = List·getD-append (packedOffsets keep I O) (replicate (n + 1 - length (packedOffsets keep I O)) 0 ++ drop (n + 1) O) 0 i (omega (arith, packed-offsets-size keep I O))

@@ -1,8 +1,8 @@
--- What the smaller functions give: the links of one list, from place a on, and a part of an area cleared. Definitions only.
+-- What the smaller functions give: the links of one list, from place a on. Definitions only.
 use mathlib.Core.List.{List, map, _++_}
 use mathlib.Core.Bool.{not}
-use Prim.Native.Nat.{ℕ, _+_, _-_}
-use lib.ListN.{length, take, drop, replicate}
+use Prim.Native.Nat.{ℕ, _+_}
+use lib.ListN.{length, drop}
 use lib.Ieee.{Float}
 use Rattle.laws.specs.Sums.{sum, bit}
 use Rattle.laws.specs.Area.{at, num}
@@ -36,8 +36,3 @@ closedIndices keep I O = packedIndices keep I O ++ drop (linksLeft keep I O) I
 
 abbrev pub closedOffsets : List ℕ → List ℕ → List ℕ → List ℕ
 closedOffsets keep I O = packedOffsets keep I O ++ drop (length keep + 1) O
-
-module _ {A : Type 0} where
-  -- z in the places from a up to b, all else as it was
-  abbrev pub clearedFrom : A → ℕ → ℕ → List A → List A
-  clearedFrom z a b l = take a l ++ (replicate (b - a) z ++ drop b l)

@@ -7,11 +7,12 @@ ghost use Rattle.laws.specs.Area.{num, zero64};
 ghost use Rattle.laws.specs.Domain.{mostFrames};
 ghost use Rattle.laws.specs.Joined.{written};
 ghost use Rattle.take_gone.specs.Gone.{survivors, Climbs};
-ghost use Rattle.take_rows.specs.Rows.{shrunk, Kept};
+ghost use Rattle.take_rows.specs.Rows.{shrunk, clearedFrom, Staying};
 ghost use Rattle.take_lists.specs.Packed.{linksLeft, packedIndices, packedWeights, packedOffsets, Listed};
-ghost use Rattle.take_lists.specs.Steps.{namedLeft, keptFrom, indicesFrom, weightsFrom, closedWeights, closedIndices, closedOffsets, clearedFrom};
+ghost use Rattle.take_lists.specs.Steps.{namedLeft, keptFrom, indicesFrom, weightsFrom, closedWeights, closedIndices, closedOffsets};
 use take_gone::is_among;
 use take_gone::place_of;
+use take_rows::clear_between;
 
 fn wide(x: u32) -> usize
     ensures { λ r. ⌜ r ≡ x ⌝ }
@@ -86,18 +87,6 @@ fn pack_list(
     e
 }
 
-// The places from a up to b become +0.0.
-fn clear_values(area: &mut [f64], a: usize, b: usize)
-    requires { ⌜ (a ≤ b) × (b ≤ length (now area)) ⌝ }
-    ensures { λ _. ⌜ now (area .exit) ≡ clearedFrom zero64 a b (now (area .entry)) ⌝ }
-{
-    let mut p = a;
-    while p < b {
-        area[p] = 0.0;
-        p += 1;
-    }
-}
-
 // The places from a up to b become 0.
 fn clear_words(area: &mut [u32], a: usize, b: usize)
     requires { ⌜ (a ≤ b) × (b ≤ length (now area)) ⌝ }
@@ -118,7 +107,7 @@ fn pack_all(
     n: usize,
     keep: &[u32],
 ) -> usize
-    requires { ⌜ (n ≤ mostFrames) × Climbs (now keep) × Kept (now keep) n × Listed n (length (now weights)) (length (now indices)) (now offsets) ⌝ }
+    requires { ⌜ (n ≤ mostFrames) × Climbs (now keep) × Staying (now keep) n × Listed n (length (now weights)) (length (now indices)) (now offsets) ⌝ }
     ensures { λ r. ⌜ r ≡ linksLeft (now (keep .entry)) (now (indices .entry)) (now (offsets .entry)) ⌝ }
     ensures { λ _. ⌜ now (weights .exit) ≡ closedWeights (now (keep .entry)) (now (weights .entry)) (now (indices .entry)) (now (offsets .entry)) ⌝ }
     ensures { λ _. ⌜ now (indices .exit) ≡ closedIndices (now (keep .entry)) (now (indices .entry)) (now (offsets .entry)) ⌝ }
@@ -146,7 +135,7 @@ pub fn pack_lists(
     n: usize,
     keep: &[u32],
 )
-    requires { ⌜ (n ≤ mostFrames) × Climbs (now keep) × Kept (now keep) n × Listed n (length (now weights)) (length (now indices)) (now offsets) ⌝ }
+    requires { ⌜ (n ≤ mostFrames) × Climbs (now keep) × Staying (now keep) n × Listed n (length (now weights)) (length (now indices)) (now offsets) ⌝ }
     ensures { λ _. ⌜
         (now (weights .exit) ≡ shrunk zero64 (num (now (offsets .entry)) n) (packedWeights (now (keep .entry)) (now (weights .entry)) (now (indices .entry)) (now (offsets .entry))) (now (weights .entry)))
         × (now (indices .exit) ≡ shrunk 0 (num (now (offsets .entry)) n) (packedIndices (now (keep .entry)) (now (indices .entry)) (now (offsets .entry))) (now (indices .entry)))
@@ -155,7 +144,7 @@ pub fn pack_lists(
 {
     let links = wide(offsets[n]);
     let q = pack_all(weights, indices, offsets, n, keep);
-    clear_values(weights, q, links);
+    clear_between(weights, q, links);
     clear_words(indices, q, links);
     clear_words(offsets, keep.len() + 1, n + 1);
 }

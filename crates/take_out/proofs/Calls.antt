@@ -26,7 +26,7 @@ use Rattle.run_entry.specs.Entry.{offsetFine, faultAt, faultOf, isFine, Good, T
 use Rattle.run_entry.proofs.Laws.{fault-fine, links-is}
 use Rattle.run_rooms.proofs.Lists.{offset-rises, index-below}
 use Rattle.take_lists.specs.Packed.{Listed}
-use Rattle.take_left.specs.Verdict.{VerdictRoom}
+use Rattle.take_left.specs.Outlook.{OutlookRoom}
 use Rattle.take_out.specs.declared.Took.{Took}
 use Rattle.take_out.specs.TakeOut.{Holdings, holdings, held, lentPositions, takeFault, tookOut, takeTested, takeOutcome, afterTaking, takeOut, TakeRoom}
 use Rattle.take_out.proofs.Rooms.{lent-no-table, lent-no-old, lent-all}
@@ -104,7 +104,7 @@ room-shown s t q e = go (fault-fine (state (s .run) (cut p m)) (subst (λ (x : �
         let some : 1 ≤ r .settings .n * r .settings .c = frames (r .settings .n) (r .settings .c) (g .settings .n-some) (g .settings .c-some) in
         let l = lent-told (r .settings) (length (m .positions)) (length t) (length q) (g .settings) (omega (arith, g .areas .positions-long, cut-long, some)) in
         record {
-          verdict-room = record {
+          outlook-room = record {
             settings-good = g .settings;
             positions-long = omega (arith, g .areas .positions-long, cut-long, p-within);
             lists-lie = λ b. lies g b;

@@ -18,7 +18,7 @@ use Rattle.run_record.specs.Record.{isTree, settingsFault, GoodSettings}
 use Rattle.take_gone.specs.Gone.{survivors, Climbs, goneFine}
 use Rattle.take_gone.proofs.Left.{survivors-climb, survivors-few}
 use Rattle.areas.specs.Filled.{filled}
-use Rattle.take_rows.specs.Rows.{shrunk, rowsOf, centredRows, Kept, Means}
+use Rattle.take_rows.specs.Rows.{shrunk, keptRows, centredRows, Staying, Means}
 use Rattle.take_rows.proofs.Survive.{survivors-kept}
 use Rattle.take_means.specs.CalmLeft.{meanAt}
 use Rattle.take_means.proofs.Over.{means-written}
@@ -43,8 +43,8 @@ module _ (s : Settings) (p t q : ℕ) (f : settingsFault s ≡ 0) where
 -- ---- areas with a row for each frame
 
 module _ {s : Settings} {g keep : List ℕ} {p i v t : ℕ} (r : ValuesRoom s g keep p i v t) where
-  pub values-kept : Kept keep (s .n)
-  values-kept = subst (λ (k : List ℕ). Kept k (s .n)) (sym (r .values-keep)) (survivors-kept g (s .n))
+  pub values-kept : Staying keep (s .n)
+  values-kept = subst (λ (k : List ℕ). Staying k (s .n)) (sym (r .values-keep)) (survivors-kept g (s .n))
 
   pub values-means : (y means : List Float) → means ≡ loop (meanAt (survivors g (s .n)) (s .c) y) (s .c) 0 zeros8 → Means keep (s .c) y means
   values-means y means e = subst (λ (k : List ℕ). Means k (s .c) y means) (sym (r .values-keep)) (means-written (survivors g (s .n)) (s .c) y zeros8 means refl (r .values-good .c-most) e)
@@ -53,8 +53,8 @@ module _ {s : Settings} {g keep : List ℕ} {p i v t : ℕ} (r : ValuesRoom s g 
 
 module _ {s : Settings} {g : List ℕ} {h : Holdings} (r : PackRoom s g h) where
   -- the old places that have been written, m of them, are the survivors
-  pub front-is : (old : List ℕ) (m : ℕ) → m ≡ length (survivors g (s .n)) → old ≡ survivors g (s .n) ++ drop (length (survivors g (s .n))) (h .old) → take m old ≡ survivors g (s .n)
-  front-is old m e o = ap (take m) o ∙ take-at (survivors g (s .n)) (drop (length (survivors g (s .n))) (h .old)) m (sym e)
+  pub front-survives : (old : List ℕ) (m : ℕ) → m ≡ length (survivors g (s .n)) → old ≡ survivors g (s .n) ++ drop (length (survivors g (s .n))) (h .old) → take m old ≡ survivors g (s .n)
+  front-survives old m e o = ap (take m) o ∙ take-at (survivors g (s .n)) (drop (length (survivors g (s .n))) (h .old)) m (sym e)
 
   pub pack-values-room : (keep : List ℕ) → keep ≡ survivors g (s .n) → ValuesRoom s g keep (length (h .positions)) (length (h .increments)) (length (h .gains)) (length (h .table))
   pack-values-room keep e = record { values-good = r .pack-good; values-gone = r .pack-gone; values-keep = e; p-long = r .pack-positions; i-long = r .pack-increments; v-long = r .pack-gains; t-long = r .pack-table }
@@ -63,7 +63,7 @@ module _ {s : Settings} {g : List ℕ} {h : Holdings} (r : PackRoom s g h) where
   pack-links-room keep e = record {
     links-most-frames = r .pack-good .n-most;
     links-climb = subst Climbs (sym e) (survivors-climb g (s .n));
-    links-kept = subst (λ (k : List ℕ). Kept k (s .n)) (sym e) (survivors-kept g (s .n));
+    links-kept = subst (λ (k : List ℕ). Staying k (s .n)) (sym e) (survivors-kept g (s .n));
     links-lie = r .pack-lists;
     links-square = r .pack-square;
   }
@@ -72,9 +72,9 @@ module _ {s : Settings} {g : List ℕ} {h : Holdings} (r : PackRoom s g h) where
   pub packed-told : (keep old : List ℕ) → keep ≡ survivors g (s .n) → old ≡ survivors g (s .n) ++ drop (length (survivors g (s .n))) (h .old)
       → (p i v t f : List Float) (a : List Float) (x o : List ℕ)
       → (p ≡ shrunk zero64 (s .n * s .c) (centredRows keep (s .c) (h .positions)) (h .positions))
-      × (i ≡ shrunk zero64 (s .n * s .c) (rowsOf keep (s .c) (h .increments)) (h .increments))
-      × (v ≡ shrunk zero64 (s .n * s .c) (rowsOf keep (s .c) (h .gains)) (h .gains))
-      × (t ≡ shrunk zero64 (s .n * s .f) (rowsOf keep (s .f) (h .table)) (h .table))
+      × (i ≡ shrunk zero64 (s .n * s .c) (keptRows keep (s .c) (h .increments)) (h .increments))
+      × (v ≡ shrunk zero64 (s .n * s .c) (keptRows keep (s .c) (h .gains)) (h .gains))
+      × (t ≡ shrunk zero64 (s .n * s .f) (keptRows keep (s .f) (h .table)) (h .table))
       → (a ≡ affinitiesLeft s keep (h .affinities) (h .indices) (h .offsets)) × (x ≡ indicesPacked s keep (h .indices) (h .offsets)) × (o ≡ offsetsPacked s keep (h .indices) (h .offsets))
       → f ≡ filled zero64 (s .n * (2 * s .c + 1)) (h .forces)
       → holdings p i v a x o f t old ≡ packedAreas s (survivors g (s .n)) h

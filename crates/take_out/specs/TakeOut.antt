@@ -16,11 +16,11 @@ use Rattle.run_entry.specs.State.{Memory, State}
 use Rattle.run_entry.specs.declared.Fault.{Fault}
 use Rattle.run_entry.specs.Entry.{isFine, faultAt, faultNumber}
 use Rattle.take_gone.specs.Gone.{survivors, Climbs}
-use Rattle.take_rows.specs.Rows.{shrunk, rowsOf, squareOf, centredRows, Kept}
+use Rattle.take_rows.specs.Rows.{shrunk, keptRows, keptSquare, centredRows, Staying}
 use Rattle.take_lists.specs.Packed.{packedIndices, packedWeights, packedOffsets, Listed}
-use Rattle.take_left.specs.declared.Verdict.{Verdict}
-use Rattle.take_left.specs.declared.Verdict.the-variants.{Left, Inside, Unordered, Few, Perplexed, Crowded, Barred}
-use Rattle.take_left.specs.Verdict.{thinnedRun, verdictOf, verdictNumber, VerdictRoom}
+use Rattle.take_left.specs.declared.Outlook.{Outlook}
+use Rattle.take_left.specs.declared.Outlook.the-variants.{Left, Inside, Unordered, Few, Perplexed, Crowded, Barred}
+use Rattle.take_left.specs.Outlook.{thinnedRun, outlookOf, outlookNumber, OutlookRoom}
 use Rattle.take_out.specs.declared.Taken.{Taken}
 use Rattle.take_out.specs.declared.Taken.the-variants.{Told, Bad}
 
@@ -50,20 +50,20 @@ lentPositions s p t q = cond (not (eqb (settingsFault s) 0) || (leb (s .n * s .f
 unfoldable pub takeFault : Run → Memory → ℕ → ℕ → Fault
 takeFault r m t q = faultAt r (lentPositions (r .settings) (length (m .positions)) t q) (length (m .increments)) (length (m .gains)) (length (m .affinities)) (length (m .forces)) (m .indices) (m .offsets) (m .nodes)
 
-abbrev pub goesOn : Verdict → Bool
-goesOn (Left m) = true
-goesOn Inside = false
-goesOn Unordered = false
-goesOn Few = false
-goesOn Perplexed = false
-goesOn Crowded = false
-goesOn Barred = false
+abbrev pub isAccepted : Outlook → Bool
+isAccepted (Left m) = true
+isAccepted Inside = false
+isAccepted Unordered = false
+isAccepted Few = false
+isAccepted Perplexed = false
+isAccepted Crowded = false
+isAccepted Barred = false
 
 -- ---- what is left
 
 -- keep: the old places of the survivors; W, I and O: affinities, indices and offsets. An exact run has a matrix and no lists
 unfoldable pub affinitiesLeft : Settings → List ℕ → List Float → List ℕ → List ℕ → List Float
-affinitiesLeft s keep W I O = cond (isTree (s .method)) (shrunk zero64 (num O (s .n)) (packedWeights keep W I O) W) (shrunk zero64 (s .n * s .n) (squareOf keep (s .n) W) W)
+affinitiesLeft s keep W I O = cond (isTree (s .method)) (shrunk zero64 (num O (s .n)) (packedWeights keep W I O) W) (shrunk zero64 (s .n * s .n) (keptSquare keep (s .n) W) W)
 
 unfoldable pub indicesPacked : Settings → List ℕ → List ℕ → List ℕ → List ℕ
 indicesPacked s keep I O = cond (isTree (s .method)) (shrunk 0 (num O (s .n)) (packedIndices keep I O) I) I
@@ -75,13 +75,13 @@ offsetsPacked s keep I O = cond (isTree (s .method)) (shrunk 0 (s .n + 1) (packe
 unfoldable pub packedAreas : Settings → List ℕ → Holdings → Holdings
 packedAreas s keep h = record {
   positions = shrunk zero64 (s .n * s .c) (centredRows keep (s .c) (h .positions)) (h .positions);
-  increments = shrunk zero64 (s .n * s .c) (rowsOf keep (s .c) (h .increments)) (h .increments);
-  gains = shrunk zero64 (s .n * s .c) (rowsOf keep (s .c) (h .gains)) (h .gains);
+  increments = shrunk zero64 (s .n * s .c) (keptRows keep (s .c) (h .increments)) (h .increments);
+  gains = shrunk zero64 (s .n * s .c) (keptRows keep (s .c) (h .gains)) (h .gains);
   affinities = affinitiesLeft s keep (h .affinities) (h .indices) (h .offsets);
   indices = indicesPacked s keep (h .indices) (h .offsets);
   offsets = offsetsPacked s keep (h .indices) (h .offsets);
   forces = filled zero64 (s .n * (2 * s .c + 1)) (h .forces);
-  table = shrunk zero64 (s .n * s .f) (rowsOf keep (s .f) (h .table)) (h .table);
+  table = shrunk zero64 (s .n * s .f) (keptRows keep (s .f) (h .table)) (h .table);
   old = keep ++ drop (length keep) (h .old);
 }
 
@@ -97,10 +97,10 @@ tookOut a r h = record { answer = a; run = r; areas = h }
 -- once the entry tests have found f: a refusal changes nothing
 unfoldable pub takeTested : Fault → Run → List ℕ → Holdings → TookOut
 takeTested f r g h =
-    let v = verdictOf r g (h .positions) (h .indices) (h .offsets) in
+    let v = outlookOf r g (h .positions) (h .indices) (h .offsets) in
     let keep = survivors g (r .settings .n) in
     cond (isFine f)
-    (cond (goesOn v) (tookOut (Told v) (thinnedRun r (length keep)) (packedAreas (r .settings) keep h)) (tookOut (Told v) r h))
+    (cond (isAccepted v) (tookOut (Told v) (thinnedRun r (length keep)) (packedAreas (r .settings) keep h)) (tookOut (Told v) r h))
     (tookOut (Bad f) r h)
 
 -- ---- the whole call
@@ -127,13 +127,13 @@ takeOut g s t q = afterTaking (s .memory) (takeTested (takeFault (s .run) (s .me
 
 -- the number of a refusal; 0 where there is none
 unfoldable pub takeNumber : Taken → ℕ
-takeNumber (Told v) = verdictNumber v
+takeNumber (Told v) = outlookNumber v
 takeNumber (Bad f) = faultNumber f
 
 -- ---- what the entry tests have shown
 
 pub record TakeRoom (r : Run) (h : Holdings) : Type 0 where
-  pub verdict-room : VerdictRoom r (h .positions) (h .indices) (h .offsets)
+  pub outlook-room : OutlookRoom r (h .positions) (h .indices) (h .offsets)
   pub done-most : r .done ≤ 65535
   pub increments-long : r .settings .n * r .settings .c ≤ length (h .increments)
   pub gains-long : r .settings .n * r .settings .c ≤ length (h .gains)
@@ -157,7 +157,7 @@ pub record ValuesRoom (s : Settings) (g keep : List ℕ) (p i v t : ℕ) : Type 
 pub record LinksRoom (s : Settings) (keep : List ℕ) (a x : ℕ) (O : List ℕ) : Type 0 where
   pub links-most-frames : s .n ≤ mostFrames
   pub links-climb : Climbs keep
-  pub links-kept : Kept keep (s .n)
+  pub links-kept : Staying keep (s .n)
   pub links-lie : isTree (s .method) ≡ true → Listed (s .n) a x O
   pub links-square : isTree (s .method) ≡ false → s .n * s .n ≤ a
 

@@ -7,8 +7,8 @@ ghost use Rattle.laws.specs.Area.{zero64};
 ghost use Rattle.run_entry.specs.State.{memory, state};
 ghost use Rattle.run_entry.specs.Entry.{isFine};
 ghost use Rattle.take_gone.specs.Gone.{survivors};
-ghost use Rattle.take_rows.specs.Rows.{shrunk, rowsOf, centredRows};
-ghost use Rattle.take_out.specs.TakeOut.{holdings, lentPositions, goesOn, affinitiesLeft, indicesPacked, offsetsPacked, packedAreas, tookOut, takeTested, takeOutcome, takeOut, takeNumber, TakeRoom, ValuesRoom, LinksRoom, PackRoom};
+ghost use Rattle.take_rows.specs.Rows.{shrunk, keptRows, centredRows};
+ghost use Rattle.take_out.specs.TakeOut.{holdings, lentPositions, isAccepted, affinitiesLeft, indicesPacked, offsetsPacked, packedAreas, tookOut, takeTested, takeOutcome, takeOut, takeNumber, TakeRoom, ValuesRoom, LinksRoom, PackRoom};
 use areas::fill;
 use run_entry::Fault;
 use run_entry::fault_at;
@@ -20,8 +20,8 @@ use run_record::faults::is_tree;
 use run_record::faults::settings_fault;
 use run_record::faults::times;
 use take_gone::put_survivors;
-use take_left::Verdict;
-use take_left::judge;
+use take_left::Outlook;
+use take_left::look_ahead;
 use take_left::thinned_run;
 use take_lists::pack_lists;
 use take_means::means_left;
@@ -33,7 +33,7 @@ use tree_node::Cell;
 // What is answered.
 pub enum Taken {
     // what the tests of what would be left say
-    Told(Verdict),
+    Told(Outlook),
     // what the entry tests found
     Bad(Fault),
 }
@@ -61,17 +61,17 @@ fn lent_positions(s: Settings, p: usize, t: usize, q: usize) -> usize
 }
 
 // Whether the tests have passed.
-fn goes_on(v: Verdict) -> bool
-    ensures { λ b. ⌜ b ≡ goesOn v ⌝ }
+fn is_accepted(v: Outlook) -> bool
+    ensures { λ b. ⌜ b ≡ isAccepted v ⌝ }
 {
     match v {
-        Verdict::Left(_) => true,
-        Verdict::Inside => false,
-        Verdict::Unordered => false,
-        Verdict::Few => false,
-        Verdict::Perplexed => false,
-        Verdict::Crowded => false,
-        Verdict::Barred => false,
+        Outlook::Left(_) => true,
+        Outlook::Inside => false,
+        Outlook::Unordered => false,
+        Outlook::Few => false,
+        Outlook::Perplexed => false,
+        Outlook::Crowded => false,
+        Outlook::Barred => false,
     }
 }
 
@@ -88,9 +88,9 @@ fn pack_values(
     requires { ⌜ ValuesRoom s (now gone) (now keep) (length (now positions)) (length (now increments)) (length (now gains)) (length (now table)) ⌝ }
     ensures { λ _. ⌜
         (now (positions .exit) ≡ shrunk zero64 (s .n * s .c) (centredRows (now (keep .entry)) (s .c) (now (positions .entry))) (now (positions .entry)))
-        × (now (increments .exit) ≡ shrunk zero64 (s .n * s .c) (rowsOf (now (keep .entry)) (s .c) (now (increments .entry))) (now (increments .entry)))
-        × (now (gains .exit) ≡ shrunk zero64 (s .n * s .c) (rowsOf (now (keep .entry)) (s .c) (now (gains .entry))) (now (gains .entry)))
-        × (now (table .exit) ≡ shrunk zero64 (s .n * s .f) (rowsOf (now (keep .entry)) (s .f) (now (table .entry))) (now (table .entry)))
+        × (now (increments .exit) ≡ shrunk zero64 (s .n * s .c) (keptRows (now (keep .entry)) (s .c) (now (increments .entry))) (now (increments .entry)))
+        × (now (gains .exit) ≡ shrunk zero64 (s .n * s .c) (keptRows (now (keep .entry)) (s .c) (now (gains .entry))) (now (gains .entry)))
+        × (now (table .exit) ≡ shrunk zero64 (s .n * s .f) (keptRows (now (keep .entry)) (s .f) (now (table .entry))) (now (table .entry)))
         ⌝ }
 {
     let mut means = [0.0; 8];
@@ -177,9 +177,9 @@ fn take_tested(
             run: r,
         };
     }
-    let v = judge(r, gone, positions, indices, offsets);
+    let v = look_ahead(r, gone, positions, indices, offsets);
     let answer = Taken::Told(v);
-    if !goes_on(v) {
+    if !is_accepted(v) {
         return Took {
             answer: answer,
             run: r,

@@ -11,14 +11,14 @@ use Rattle.laws.specs.Joined.{each}
 use Rattle.laws.proofs.Numbers.{row-in}
 use Rattle.laws.proofs.Laid.{singles-size}
 use Rattle.take_gone.proofs.Fronts.{fronts-at}
-use Rattle.take_rows.specs.Rows.{Kept, Means, centredLeft, averageLeft}
+use Rattle.take_rows.specs.Rows.{Staying, Means, centredLeft, averageLeft}
 use Rattle.take_rows.proofs.Packing.{Packs, each-same, kept-no-lower, kept-within}
 
 -- a row of a matrix gives as many values as frames are kept
-square-no-lower : {keep : List ℕ} {n : ℕ} → Kept keep n → (i : ℕ) → i < length keep → i * length keep ≤ num keep i * n
+square-no-lower : {keep : List ℕ} {n : ℕ} → Staying keep n → (i : ℕ) → i < length keep → i * length keep ≤ num keep i * n
 square-no-lower k i h = mul-le-mul (k .no-lower i h) (k .few)
 
-module _ {keep : List ℕ} {n : ℕ} (k : Kept keep n) {row : ℕ → List Float} {l₀ l : List Float} {i x : ℕ} where
+module _ {keep : List ℕ} {n : ℕ} (k : Staying keep n) {row : ℕ → List Float} {l₀ l : List Float} {i x : ℕ} where
   -- the row of frame x, of w values, lies no lower than where it goes to, and within the area
   pub row-room : (w : ℕ) → Packs row w (length keep) l₀ i l → i < length keep → x ≡ num keep i → n * w ≤ length l₀ → (i * w ≤ x * w) × (x * w + w ≤ length l)
   row-room w p h e s = subst (λ (y : ℕ). (i * w ≤ y * w) × (y * w + w ≤ length l)) (sym e) (kept-no-lower k w i h, omega (arith, kept-within k w i (length l₀) h s, p .front .size))
@@ -46,5 +46,5 @@ pub row-long : (g : ℕ → Float) (w : ℕ) → length (each g w) ≡ w
 row-long g w = singles-size g w
 
 -- the matrix that is left is no larger
-pub square-few : {keep : List ℕ} {n : ℕ} → Kept keep n → length keep * length keep ≤ n * n
+pub square-few : {keep : List ℕ} {n : ℕ} → Staying keep n → length keep * length keep ≤ n * n
 square-few k = mul-le-mul (k .few) (k .few)

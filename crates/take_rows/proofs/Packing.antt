@@ -14,7 +14,7 @@ use Rattle.laws.proofs.Joined.{joined-more, joined-none}
 use Rattle.laws.proofs.Changed.{drop-later}
 use Rattle.laws.proofs.Laid.{singles-size}
 use Rattle.take_gone.proofs.Fronts.{Fronts, fronts-more, fronts-at, fronts-as}
-use Rattle.take_rows.specs.Rows.{shrunk, Kept}
+use Rattle.take_rows.specs.Rows.{shrunk, Staying}
 
 module _ {A : Type 0} where
   pub joined-same : (f g : ℕ → List A) (n : ℕ) → ((i : ℕ) → i < n → f i ≡ g i) → joined f n ≡ joined g n
@@ -97,8 +97,8 @@ module _ {A : Type 0} where
     }
 
     module _ {i : ℕ} {l : List A} (p : Packs row w m l₀ i l) where
-      front-is : take (i * w) l ≡ joined row i
-      front-is = ap (take (i * w)) (p .front .same) ∙ take-at (joined row i) (drop (i * w) l₀) (i * w) (p .front .long)
+      front-survives : take (i * w) l ≡ joined row i
+      front-survives = ap (take (i * w)) (p .front .same) ∙ take-at (joined row i) (drop (i * w) l₀) (i * w) (p .front .long)
 
       behind : (q : ℕ) → i * w ≤ q → drop q l ≡ drop q l₀
       behind q h = drop-later l l₀ (i * w) q h (ap (drop (i * w)) (p .front .same) ∙ drop-at (joined row i) (drop (i * w) l₀) (i * w) (p .front .long))
@@ -111,7 +111,7 @@ module _ {A : Type 0} where
           long = ap length (joined-more row i) ∙ length-append (joined row i) (row i) ∙ rw (p .front .long, s) (next i);
           size = k ∙ p .front .size;
           same =
-              u ∙ rw (front-is, e, behind (i * w + w) (omega arith)) (sym (append-assoc (joined row i) (row i) (drop (i * w + w) l₀)))
+              u ∙ rw (front-survives, e, behind (i * w + w) (omega arith)) (sym (append-assoc (joined row i) (row i) (drop (i * w + w) l₀)))
               ∙ ap (λ (x : List A). x ++ drop (i * w + w) l₀) (sym (joined-more row i))
               ∙ ap (λ (x : ℕ). joined row (i + 1) ++ drop x l₀) (next i);
         };
@@ -124,7 +124,7 @@ module _ {A : Type 0} where
       pub packs-done : {l' : List A} (z : A) (size : ℕ) → m ≤ i → m * w ≤ size → l' ≡ take (m * w) l ++ (replicate (size - m * w) z ++ drop size l) → l' ≡ shrunk z size (joined row m) l₀
       packs-done {l'} z size h k u =
           u ∙ ap (λ (x : ℕ). take (x * w) l ++ (replicate (size - m * w) z ++ drop size l)) (sym here)
-          ∙ rw (front-is, behind size (omega (arith, ap (λ (x : ℕ). x * w) here))) (ap (λ (x : ℕ). joined row x ++ (replicate (size - m * w) z ++ drop size l₀)) here)
+          ∙ rw (front-survives, behind size (omega (arith, ap (λ (x : ℕ). x * w) here))) (ap (λ (x : ℕ). joined row x ++ (replicate (size - m * w) z ++ drop size l₀)) here)
           ∙ ap (λ (x : ℕ). joined row m ++ (replicate (size - x) z ++ drop size l₀)) (sym (ap (λ (x : ℕ). length (joined row x)) (sym here) ∙ p .front .long ∙ ap (λ (x : ℕ). x * w) here))
         where
           here : i ≡ m
@@ -132,7 +132,7 @@ module _ {A : Type 0} where
 
 -- ---- the frames that are kept: where their rows stand
 
-module _ {keep : List ℕ} {n : ℕ} (k : Kept keep n) (w : ℕ) where
+module _ {keep : List ℕ} {n : ℕ} (k : Staying keep n) (w : ℕ) where
   -- row i comes from no lower down
   pub kept-no-lower : (i : ℕ) → i < length keep → i * w ≤ num keep i * w
   kept-no-lower i h = mul-le-mul-right w (k .no-lower i h)

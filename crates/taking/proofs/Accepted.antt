@@ -23,17 +23,17 @@ use Rattle.run_entry.specs.Entry.{isFine, recordFault, areasFit, faultAt, fault
 use Rattle.run_entry.proofs.Laws.{record-fine, areas-fine, fault-fine}
 use Rattle.take_gone.specs.Gone.{goneFine, survivors}
 use Rattle.take_means.specs.CalmLeft.{calmLeft}
-use Rattle.take_left.specs.declared.Verdict.{Verdict}
-use Rattle.take_left.specs.declared.Verdict.the-variants.{Left, Inside, Unordered, Few, Perplexed, Crowded, Barred}
-use Rattle.take_left.specs.Verdict.{thinnedRun, crowded, verdictOf, verdictNumber}
+use Rattle.take_left.specs.declared.Outlook.{Outlook}
+use Rattle.take_left.specs.declared.Outlook.the-variants.{Left, Inside, Unordered, Few, Perplexed, Crowded, Barred}
+use Rattle.take_left.specs.Outlook.{thinnedRun, crowded, outlookOf, outlookNumber}
 use Rattle.take_left.proofs.Judged.{judged-left}
 use Rattle.take_out.specs.declared.Taken.the-variants.{Told, Bad}
-use Rattle.take_out.specs.TakeOut.{TookOut, tookOut, TakeOutcome, lentPositions, takeFault, goesOn, packedAreas, takeTested, held, afterTaking, takeOut, takeNumber}
+use Rattle.take_out.specs.TakeOut.{TookOut, tookOut, TakeOutcome, lentPositions, takeFault, isAccepted, packedAreas, takeTested, held, afterTaking, takeOut, takeNumber}
 
 -- ---- a refusal
 
-no-number : (v : Verdict) → goesOn v ≡ true → verdictNumber v ≡ 0
-unfolding verdictNumber
+no-number : (v : Outlook) → isAccepted v ≡ true → outlookNumber v ≡ 0
+unfolding outlookNumber
 no-number (Left m) e = refl
 no-number Inside e = absurd (true≢false (sym e))
 no-number Unordered e = absurd (true≢false (sym e))
@@ -42,8 +42,8 @@ no-number Perplexed e = absurd (true≢false (sym e))
 no-number Crowded e = absurd (true≢false (sym e))
 no-number Barred e = absurd (true≢false (sym e))
 
-told-numbered : (v : Verdict) → goesOn v ≡ false → takeNumber (Told v) ≡ 0 → ⊥
-unfolding takeNumber verdictNumber
+told-numbered : (v : Outlook) → isAccepted v ≡ false → takeNumber (Told v) ≡ 0 → ⊥
+unfolding takeNumber outlookNumber
 told-numbered (Left m) e z = true≢false e
 told-numbered Inside e z = let y : _≡_ {A = ℕ} 17 0 = z in omega arith
 told-numbered Unordered e z = let y : _≡_ {A = ℕ} 18 0 = z in omega arith
@@ -63,7 +63,7 @@ bad-numbered (Index i) e z = let y : _≡_ {A = ℕ} 13 0 = z in omega arith
 bad-numbered (Tree i) e z = let y : _≡_ {A = ℕ} 13 0 = z in omega arith
 
 -- the record and the areas with the samples of g taken out, where v is told
-abbrev tookAs : Verdict → List ℕ → State → List Float → List ℕ → TookOut
+abbrev tookAs : Outlook → List ℕ → State → List Float → List ℕ → TookOut
 tookAs v g s t q =
     let keep = survivors g (s .run .settings .n) in
     tookOut (Told v) (thinnedRun (s .run) (length keep)) (packedAreas (s .run .settings) keep (held (s .memory) t q))
@@ -72,8 +72,8 @@ module _ (g : List ℕ) (s : State) (t : List Float) (q : List ℕ) where
   abbrev fault : Fault
   fault = takeFault (s .run) (s .memory) (length t) (length q)
 
-  abbrev verdict : Verdict
-  verdict = verdictOf (s .run) g (s .memory .positions) (s .memory .indices) (s .memory .offsets)
+  abbrev outlook : Outlook
+  outlook = outlookOf (s .run) g (s .memory .positions) (s .memory .indices) (s .memory .offsets)
 
   -- record, areas, table and old places as they were
   pub record Unchanged : Type 0 where
@@ -85,17 +85,17 @@ module _ (g : List ℕ) (s : State) (t : List Float) (q : List ℕ) where
   unfolding takeOut takeTested
   bad-is f = rw f
 
-  told-is : isFine fault ≡ true → goesOn verdict ≡ false → takeOut g s t q ≡ afterTaking (s .memory) (tookOut (Told verdict) (s .run) (held (s .memory) t q))
+  told-is : isFine fault ≡ true → isAccepted outlook ≡ false → takeOut g s t q ≡ afterTaking (s .memory) (tookOut (Told outlook) (s .run) (held (s .memory) t q))
   unfolding takeOut takeTested
   told-is f e = rw (f, e)
 
-  left-is : isFine fault ≡ true → goesOn verdict ≡ true → takeOut g s t q ≡ afterTaking (s .memory) (tookAs verdict g s t q)
+  left-is : isFine fault ≡ true → isAccepted outlook ≡ true → takeOut g s t q ≡ afterTaking (s .memory) (tookAs outlook g s t q)
   unfolding takeOut takeTested
   left-is f e = rw (f, e)
 
-  -- once the entry tests have passed, the verdict is told
-  pub verdict-told : isFine fault ≡ true → takeOut g s t q .answer ≡ Told verdict
-  verdict-told f = by-bool (takeOut g s t q .answer ≡ Told verdict) (goesOn verdict)
+  -- once the entry tests have passed, the outlook is told
+  pub outlook-told : isFine fault ≡ true → takeOut g s t q .answer ≡ Told outlook
+  outlook-told f = by-bool (takeOut g s t q .answer ≡ Told outlook) (isAccepted outlook)
       (λ e. ap (λ (o : TakeOutcome). o .answer) (left-is f e))
       (λ e. ap (λ (o : TakeOutcome). o .answer) (told-is f e))
 
@@ -103,8 +103,8 @@ module _ (g : List ℕ) (s : State) (t : List Float) (q : List ℕ) where
   pub refused-changes-nothing : (takeNumber (takeOut g s t q .answer) ≡ 0 → ⊥) → Unchanged
   unfolding takeNumber
   refused-changes-nothing n = by-bool Unchanged (isFine fault)
-      (λ f. by-bool Unchanged (goesOn verdict)
-      (λ e. absurd (n (rw (left-is f e) (no-number verdict e))))
+      (λ f. by-bool Unchanged (isAccepted outlook)
+      (λ e. absurd (n (rw (left-is f e) (no-number outlook e))))
       (λ e. record { left = rw (told-is f e); table = rw (told-is f e); old = rw (told-is f e) }))
       (λ f. record { left = rw (bad-is f); table = rw (bad-is f); old = rw (bad-is f) })
 
@@ -214,16 +214,16 @@ pub record Passes (r : Run) (g : List ℕ) (y : List Float) (I O : List ℕ) : T
   pub room : crowded (r .settings) (survivors g (r .settings .n)) I O ≡ false
   pub calm : calmLeft (survivors g (r .settings .n)) (r .settings .c) y ≡ true
 
-on-cond : (b : Bool) (x y : Verdict) → goesOn x ≡ false → goesOn (cond b x y) ≡ true → (b ≡ false) × (goesOn y ≡ true)
+on-cond : (b : Bool) (x y : Outlook) → isAccepted x ≡ false → isAccepted (cond b x y) ≡ true → (b ≡ false) × (isAccepted y ≡ true)
 on-cond true x y n e = absurd (true≢false (sym e ∙ n))
 on-cond false x y n e = (refl, e)
 
-on-else : (b : Bool) (x y : Verdict) → goesOn y ≡ false → goesOn (cond b x y) ≡ true → b ≡ true
+on-else : (b : Bool) (x y : Outlook) → isAccepted y ≡ false → isAccepted (cond b x y) ≡ true → b ≡ true
 on-else true x y n e = refl
 on-else false x y n e = absurd (true≢false (sym e ∙ n))
 
-passes : (r : Run) (g : List ℕ) (y : List Float) (I O : List ℕ) → goesOn (verdictOf r g y I O) ≡ true → Passes r g y I O
-unfolding verdictOf
+passes : (r : Run) (g : List ℕ) (y : List Float) (I O : List ℕ) → isAccepted (outlookOf r g y I O) ≡ true → Passes r g y I O
+unfolding outlookOf
 passes r g y I O e =
     let s = r .settings in
     let keep = survivors g (s .n) in
@@ -246,7 +246,7 @@ passes r g y I O e =
       calm = on-else (calmLeft keep (s .c) y) (Left (length keep)) Barred refl (f .1);
     }
 
-passes-told : (r : Run) (g : List ℕ) (y : List Float) (I O : List ℕ) → Passes r g y I O → Left (length (survivors g (r .settings .n))) ≡ verdictOf r g y I O
+passes-told : (r : Run) (g : List ℕ) (y : List Float) (I O : List ℕ) → Passes r g y I O → Left (length (survivors g (r .settings .n))) ≡ outlookOf r g y I O
 passes-told r g y I O p = judged-left r g y I O (p .between) (p .gone-fine) (p .enough) (p .below) (length (survivors g (r .settings .n))) refl (p .room) (p .calm)
 
 -- ---- a removal that is not refused
@@ -261,7 +261,7 @@ module _ (g : List ℕ) (s : State) (t : List Float) (q : List ℕ) where
     pub passed : Passes (s .run) g (s .memory .positions) (s .memory .indices) (s .memory .offsets)
     pub outcome : takeOut g s t q ≡ afterTaking (s .memory) (tookFrom g s t q)
 
-  accepts : isFine (fault g s t q) ≡ true → goesOn (verdict g s t q) ≡ true → Accepted
+  accepts : isFine (fault g s t q) ≡ true → isAccepted (outlook g s t q) ≡ true → Accepted
   accepts f e =
       let p = passes (s .run) g (s .memory .positions) (s .memory .indices) (s .memory .offsets) e in
       record {
@@ -269,17 +269,17 @@ module _ (g : List ℕ) (s : State) (t : List Float) (q : List ℕ) where
         passed = p;
         outcome =
             left-is g s t q f e
-            ∙ ap (λ (v : Verdict). afterTaking (s .memory) (tookAs v g s t q)) (sym (passes-told (s .run) g (s .memory .positions) (s .memory .indices) (s .memory .offsets) p));
+            ∙ ap (λ (v : Outlook). afterTaking (s .memory) (tookAs v g s t q)) (sym (passes-told (s .run) g (s .memory .positions) (s .memory .indices) (s .memory .offsets) p));
       }
 
   -- an answer that tells how many are left is that of a removal that was done
   pub accepted : (m : ℕ) → takeOut g s t q .answer ≡ Told (Left m) → Accepted
   accepted m a = by-bool Accepted (isFine (fault g s t q))
-      (λ f. by-bool Accepted (goesOn (verdict g s t q)) (accepts f)
-      (λ e. absurd (true≢false (sym (ap goesOn (same (sym (ap (λ (o : TakeOutcome). o .answer) (told-is g s t q f e)) ∙ a))) ∙ e))))
+      (λ f. by-bool Accepted (isAccepted (outlook g s t q)) (accepts f)
+      (λ e. absurd (true≢false (sym (ap isAccepted (same (sym (ap (λ (o : TakeOutcome). o .answer) (told-is g s t q f e)) ∙ a))) ∙ e))))
       (λ f. absurd (let z : Bad (fault g s t q) ≡ Told (Left m) = sym (ap (λ (o : TakeOutcome). o .answer) (bad-is g s t q f)) ∙ a in let y : _≡_ {A = ℕ} 0 1 = cc in omega arith))
     where
-      same : {v w : Verdict} → Told v ≡ Told w → v ≡ w
+      same : {v w : Outlook} → Told v ≡ Told w → v ≡ w
       same e = cc
 
   -- and it tells their number
@@ -289,9 +289,9 @@ module _ (g : List ℕ) (s : State) (t : List Float) (q : List ℕ) where
   -- the answers without a number are just those
   pub no-number-left : takeNumber (takeOut g s t q .answer) ≡ 0 → takeOut g s t q .answer ≡ Told (Left (length (survivors g (s .run .settings .n))))
   no-number-left z = by-bool Goal (isFine (fault g s t q))
-      (λ f. by-bool Goal (goesOn (verdict g s t q))
+      (λ f. by-bool Goal (isAccepted (outlook g s t q))
       (λ e. ap (λ (o : TakeOutcome). o .answer) (accepts f e .outcome))
-      (λ e. absurd (told-numbered (verdict g s t q) e (sym (ap (λ (o : TakeOutcome). takeNumber (o .answer)) (told-is g s t q f e)) ∙ z))))
+      (λ e. absurd (told-numbered (outlook g s t q) e (sym (ap (λ (o : TakeOutcome). takeNumber (o .answer)) (told-is g s t q f e)) ∙ z))))
       (λ f. absurd (bad-numbered (fault g s t q) f (sym (ap (λ (o : TakeOutcome). takeNumber (o .answer)) (bad-is g s t q f)) ∙ z)))
     where
       Goal : Type 0

@@ -19,7 +19,7 @@ use Rattle.laws.proofs.Every.{every-all}
 use Rattle.laws.proofs.First.{first-at, first-none, first-some, first-same}
 use Rattle.laws.proofs.Joined.{those-yes, those-no, those-none, those-at, those-below, those-rise, those-same, spot-yes, spot-no, map-those, map-append, length-map, getD-map-in}
 use Rattle.take_gone.specs.Gone.{standsAt, isAmong, goneFineAt, goneFine, survivors, Climbs}
-use Rattle.take_gone.proofs.Left.{left-told}
+use Rattle.take_gone.proofs.Left.{left-among}
 use Rattle.take_lists.proofs.Theorems.{stands-in, stands-there}
 use Rattle.taking.specs.Union.{takenByEither, Union, unionOf}
 
@@ -89,7 +89,7 @@ union-fine g1 g2 n = every-all (goneFineAt (unionOf g1 g2 n) n) (length (unionOf
 -- THEOREM: the survivors of the union are the survivors of the second removal, by their places before the first
 pub survivors-union : (g1 g2 u : List ℕ) (n : ℕ) → Union g1 g2 u n → survivors u n ≡ map (num (survivors g1 n)) (survivors g2 (length (survivors g1 n)))
 survivors-union g1 g2 u n e =
-    those-same (λ j. not (isAmong u j)) (λ j. p j && r (length (those p j))) n (λ j h. ap not (e .either j h) ∙ rw (left-told g1 n j h) (by j h (isAmong g1 j) refl))
+    those-same (λ j. not (isAmong u j)) (λ j. p j && r (length (those p j))) n (λ j h. ap not (e .either j h) ∙ rw (left-among g1 n j h) (by j h (isAmong g1 j) refl))
     ∙ those-after p r n
   where
     p : ℕ → Bool

@@ -20,13 +20,13 @@ use Rattle.run_entry.proofs.Laws.{links-is}
 use Rattle.run_rooms.proofs.Lists.{offset-rises}
 use Rattle.take_gone.specs.Gone.{survivors, Climbs}
 use Rattle.take_gone.proofs.Left.{survivors-climb}
-use Rattle.take_rows.specs.Rows.{shrunk, Kept}
+use Rattle.take_rows.specs.Rows.{shrunk, Staying}
 use Rattle.take_rows.proofs.Survive.{survivors-kept}
 use Rattle.take_lists.specs.Packed.{packedIndices, packedOffsets, linksLeft, Listed}
 use Rattle.take_lists.proofs.Bounds.{lists-rise, packed-offsets-size}
 use Rattle.take_lists.proofs.Theorems.{packed-offsets-end, packed-listed, packed-named}
-use Rattle.take_left.specs.declared.Verdict.the-variants.{Left}
-use Rattle.take_left.specs.Verdict.{thinned, thinnedRun, crowded}
+use Rattle.take_left.specs.declared.Outlook.the-variants.{Left}
+use Rattle.take_left.specs.Outlook.{thinned, thinnedRun, crowded}
 use Rattle.take_left.proofs.Judged.{thinned-fine}
 use Rattle.take_out.specs.declared.Taken.the-variants.{Told}
 use Rattle.take_out.specs.TakeOut.{Holdings, TakeOutcome, indicesPacked, offsetsPacked, packedAreas, held, afterTaking, takeOut, takeNumber}
@@ -123,7 +123,7 @@ module _ (g : List ℕ) (s : State) (t : List Float) (q : List ℕ) (a : Accepte
   climbs : Climbs keep
   climbs = survivors-climb g (s .run .settings .n)
 
-  kept : Kept keep (s .run .settings .n)
+  kept : Staying keep (s .run .settings .n)
   kept = survivors-kept g (s .run .settings .n)
 
   counters-left : GoodCounters (thinnedRun (s .run) (length keep))

@@ -12,7 +12,7 @@ use Rattle.laws.proofs.Joined.{those-below, those-holds, those-rise, spot-yes, 
 use Rattle.run_entry.specs.State.{State}
 use Rattle.take_gone.specs.Gone.{standsAt, isAmong, survivors}
 use Rattle.take_gone.proofs.Left.{survivors-count}
-use Rattle.take_left.specs.declared.Verdict.the-variants.{Left}
+use Rattle.take_left.specs.declared.Outlook.the-variants.{Left}
 use Rattle.take_out.specs.declared.Taken.the-variants.{Told}
 use Rattle.take_out.specs.TakeOut.{TakeOutcome, packedAreas, takeOut}
 use Rattle.taking.proofs.Accepted.{accepted, accepted-count}

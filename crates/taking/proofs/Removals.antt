@@ -23,13 +23,13 @@ use Rattle.take_rows.proofs.Survive.{survivors-kept}
 use Rattle.take_lists.specs.Packed.{linksLeft, packedIndices, packedWeights, packedOffsets, Listed}
 use Rattle.take_means.specs.CalmLeft.{calmLeft}
 use Rattle.take_lists.proofs.Theorems.{BetweenSurvivors, links-between-survivors}
-use Rattle.take_left.specs.declared.Verdict.the-variants.{Left, Barred}
-use Rattle.take_left.specs.Verdict.{thinned, thinnedRun, crowded}
+use Rattle.take_left.specs.declared.Outlook.the-variants.{Left, Barred}
+use Rattle.take_left.specs.Outlook.{thinned, thinnedRun, crowded}
 use Rattle.take_left.proofs.Judged.{exact-not-crowded, judged-left, judged-barred}
 use Rattle.take_out.specs.declared.Taken.the-variants.{Told}
 use Rattle.take_out.specs.TakeOut.{TakeOutcome, affinitiesLeft, indicesPacked, offsetsPacked, packedAreas, held, afterTaking, takeFault, takeOut}
 use Rattle.taking.specs.Union.{Union}
-use Rattle.taking.proofs.Accepted.{verdict-told, long-enough-told, Passes, tookFrom, Accepted, accepted}
+use Rattle.taking.proofs.Accepted.{outlook-told, long-enough-told, Passes, tookFrom, Accepted, accepted}
 use Rattle.taking.proofs.Honest.{entered-room}
 use Rattle.taking.proofs.Composed.{survivors-union, through-size, through-at}
 use Rattle.taking.proofs.TwicePacked.{links-left-twice}
@@ -197,7 +197,7 @@ module _ (g1 g2 u : List ℕ) (s : State) (t : List Float) (q1 q2 q3 : List ℕ)
       let O = s .memory .offsets in
       let z = union-passes p in
       let c = union-not-crowded p in
-      let v = verdict-told u s t q3 (union-fault l) in
+      let v = outlook-told u s t q3 (union-fault l) in
       ⊎-elim
       (λ b. inl (v ∙ ap Told (sym (judged-left r u y I O (a .passed .between) f (z .0) (z .1) (length keepU) refl c b))))
       (λ b. inr (v ∙ ap Told (sym (judged-barred r u y I O (a .passed .between) f (z .0) (z .1) c b))))
@@ -239,6 +239,6 @@ links-of g s t q b = record {
 }
 
 -- THEOREM: the links and weights that a removal leaves are those between survivors
-pub links-left-told : (g : List ℕ) (s : State) (t : List Float) (q : List ℕ) (m : ℕ) → takeOut g s t q .answer ≡ Told (Left m) → isTree (s .run .settings .method) ≡ true
+pub links-left-among : (g : List ℕ) (s : State) (t : List Float) (q : List ℕ) (m : ℕ) → takeOut g s t q .answer ≡ Told (Left m) → isTree (s .run .settings .method) ≡ true
     → LinksLeft g s (takeOut g s t q .left)
-links-left-told g s t q m a b = subst (λ (o : TakeOutcome). LinksLeft g s (o .left)) (sym (accepted g s t q m a .outcome)) (links-of g s t q b)
+links-left-among g s t q m a b = subst (λ (o : TakeOutcome). LinksLeft g s (o .left)) (sym (accepted g s t q m a .outcome)) (links-of g s t q b)

@@ -1,4 +1,4 @@
--- Areas from which frames are taken out keep their lengths, and have room for what is left. Premises: `AreasRoom`, `Climbs`, `Kept`.
+-- Areas from which frames are taken out keep their lengths, and have room for what is left. Premises: `AreasRoom`, `Climbs`, `Staying`.
 use mathlib.Core.Path.{_≡_}
 use mathlib.Core.List.{List, _++_}
 use mathlib.Core.Bool.{true}
@@ -15,12 +15,12 @@ use Rattle.areas.proofs.Front.{filled-size}
 use Rattle.run_record.specs.declared.Settings.{Settings}
 use Rattle.run_record.specs.Record.{isTree}
 use Rattle.take_gone.specs.Gone.{Climbs}
-use Rattle.take_rows.specs.Rows.{shrunk, rowsOf, squareOf, centredLeft, centredRows, Kept}
+use Rattle.take_rows.specs.Rows.{shrunk, keptRows, keptSquare, centredLeft, centredRows, Staying}
 use Rattle.take_rows.proofs.Packing.{kept-all}
 use Rattle.take_lists.specs.Packed.{packedIndices, packedWeights, packedOffsets, linksLeft, Listed}
 use Rattle.take_lists.proofs.Bounds.{packed-offsets-size}
 use Rattle.take_lists.proofs.Theorems.{packed-indices-count, packed-weights-count, links-left-few, packed-listed}
-use Rattle.take_left.specs.Verdict.{thinned}
+use Rattle.take_left.specs.Outlook.{thinned}
 use Rattle.take_out.specs.TakeOut.{Holdings, affinitiesLeft, indicesPacked, offsetsPacked, packedAreas}
 use Rattle.taking.specs.Room.{AreasRoom}
 
@@ -37,13 +37,13 @@ module _ {A : Type 0} where
 
 -- ---- what is left of rows
 
-pub rows-left-size : (keep : List ℕ) (w : ℕ) (l : List Float) → length (rowsOf keep w l) ≡ length keep * w
+pub rows-left-size : (keep : List ℕ) (w : ℕ) (l : List Float) → length (keptRows keep w l) ≡ length keep * w
 rows-left-size keep w l = laid-size w (λ i. each (λ d. at l (num keep i * w + d)) w) (length keep) (λ i h. singles-size (λ d. at l (num keep i * w + d)) w)
 
 pub centred-size : (keep : List ℕ) (c : ℕ) (y : List Float) → length (centredRows keep c y) ≡ length keep * c
 centred-size keep c y = laid-size c (λ i. each (λ d. centredLeft keep c y (num keep i) d) c) (length keep) (λ i h. singles-size (λ d. centredLeft keep c y (num keep i) d) c)
 
-pub square-size : (keep : List ℕ) (n : ℕ) (l : List Float) → length (squareOf keep n l) ≡ length keep * length keep
+pub square-size : (keep : List ℕ) (n : ℕ) (l : List Float) → length (keptSquare keep n l) ≡ length keep * length keep
 square-size keep n l =
     laid-size (length keep) (λ i. each (λ j. at l (num keep i * n + num keep j)) (length keep)) (length keep) (λ i h. singles-size (λ j. at l (num keep i * n + num keep j)) (length keep))
 
@@ -60,9 +60,9 @@ pub record SameSizes (h k : Holdings) : Type 0 where
   pub table-size : length (k .table) ≡ length (h .table)
   pub old-size : length (k .old) ≡ length (h .old)
 
-module _ (s : Settings) (keep : List ℕ) (h : Holdings) (room : AreasRoom s h) (climbs : Climbs keep) (kept : Kept keep (s .n)) where
-  rows-fit : (w : ℕ) (l : List Float) → s .n * w ≤ length l → length (shrunk zero64 (s .n * w) (rowsOf keep w l) l) ≡ length l
-  rows-fit w l k = shrunk-size zero64 (s .n * w) (rowsOf keep w l) l (omega (arith, rows-left-size keep w l, kept-all kept w)) k
+module _ (s : Settings) (keep : List ℕ) (h : Holdings) (room : AreasRoom s h) (climbs : Climbs keep) (kept : Staying keep (s .n)) where
+  rows-fit : (w : ℕ) (l : List Float) → s .n * w ≤ length l → length (shrunk zero64 (s .n * w) (keptRows keep w l) l) ≡ length l
+  rows-fit w l k = shrunk-size zero64 (s .n * w) (keptRows keep w l) l (omega (arith, rows-left-size keep w l, kept-all kept w)) k
 
   few-left : isTree (s .method) ≡ true → linksLeft keep (h .indices) (h .offsets) ≤ num (h .offsets) (s .n)
   few-left t = links-left-few keep (h .indices) (h .offsets) (room .lists-room t) climbs kept
@@ -72,7 +72,7 @@ module _ (s : Settings) (keep : List ℕ) (h : Holdings) (room : AreasRoom s h) 
   affinities-fit = by-bool (length (affinitiesLeft s keep (h .affinities) (h .indices) (h .offsets)) ≡ length (h .affinities)) (isTree (s .method))
       (λ t. rw t (shrunk-size zero64 (num (h .offsets) (s .n)) (packedWeights keep (h .affinities) (h .indices) (h .offsets)) (h .affinities)
       (omega (arith, packed-weights-count keep (h .affinities) (h .indices) (h .offsets), few-left t)) (room .lists-room t .weights-long)))
-      (λ t. rw t (shrunk-size zero64 (s .n * s .n) (squareOf keep (s .n) (h .affinities)) (h .affinities) (omega (arith, square-size keep (s .n) (h .affinities), square-few)) (room .square-room t)))
+      (λ t. rw t (shrunk-size zero64 (s .n * s .n) (keptSquare keep (s .n) (h .affinities)) (h .affinities) (omega (arith, square-size keep (s .n) (h .affinities), square-few)) (room .square-room t)))
     where
       square-few : length keep * length keep ≤ s .n * s .n
       square-few = mul-le-mul (kept .few) (kept .few)

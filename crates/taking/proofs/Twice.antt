@@ -18,13 +18,13 @@ use Rattle.run_record.specs.declared.Run.{Run}
 use Rattle.run_record.specs.Record.{isTree}
 use Rattle.take_gone.specs.Gone.{survivors, Climbs}
 use Rattle.take_gone.proofs.Left.{survivors-climb}
-use Rattle.take_rows.specs.Rows.{shrunk, rowsOf, squareOf, averageLeft, centredLeft, centredRows, Kept}
+use Rattle.take_rows.specs.Rows.{shrunk, keptRows, keptSquare, averageLeft, centredLeft, centredRows, Staying}
 use Rattle.take_rows.proofs.Packing.{kept-all}
 use Rattle.take_rows.proofs.Survive.{survivors-kept}
 use Rattle.take_lists.specs.Packed.{linksLeft, packedIndices, packedWeights, packedOffsets, Listed}
 use Rattle.take_lists.proofs.Bounds.{packed-offsets-size}
 use Rattle.take_lists.proofs.Theorems.{packed-indices-count, packed-weights-count, packed-offsets-end, links-left-few, packed-listed}
-use Rattle.take_left.specs.Verdict.{thinned, thinnedRun}
+use Rattle.take_left.specs.Outlook.{thinned, thinnedRun}
 use Rattle.take_out.specs.TakeOut.{Holdings, affinitiesLeft, indicesPacked, offsetsPacked, packedAreas}
 use Rattle.taking.specs.Union.{Union}
 use Rattle.taking.proofs.Sizes.{rows-left-size, centred-size, square-size}
@@ -56,13 +56,13 @@ pub record TwiceAsOnce (keep1 : List ℕ) (m : ℕ) (twice once : Holdings) : Ty
   -- the place that the second tells is one among the frames that the first left
   pub old : (i : ℕ) → i < m → num keep1 (num (twice .old) i) ≡ num (once .old) i
 
-module _ (s : Settings) (keep1 keep2 : List ℕ) (climbs1 : Climbs keep1) (kept1 : Kept keep1 (s .n)) (climbs2 : Climbs keep2) (kept2 : Kept keep2 (length keep1)) where
+module _ (s : Settings) (keep1 keep2 : List ℕ) (climbs1 : Climbs keep1) (kept1 : Staying keep1 (s .n)) (climbs2 : Climbs keep2) (kept2 : Staying keep2 (length keep1)) where
   rows-again : (w : ℕ) (l : List Float)
-      → shrunk zero64 (length keep1 * w) (rowsOf keep2 w (shrunk zero64 (s .n * w) (rowsOf keep1 w l) l)) (shrunk zero64 (s .n * w) (rowsOf keep1 w l) l)
-      ≡ shrunk zero64 (s .n * w) (rowsOf (through keep1 keep2) w l) l
+      → shrunk zero64 (length keep1 * w) (keptRows keep2 w (shrunk zero64 (s .n * w) (keptRows keep1 w l) l)) (shrunk zero64 (s .n * w) (keptRows keep1 w l) l)
+      ≡ shrunk zero64 (s .n * w) (keptRows (through keep1 keep2) w l) l
   rows-again w l =
-      let X = rowsOf keep1 w l in
-      let Y = rowsOf (through keep1 keep2) w l in
+      let X = keptRows keep1 w l in
+      let Y = keptRows (through keep1 keep2) w l in
       let few : length keep2 * w ≤ length keep1 * w = kept-all kept2 w in
       ap (λ (x : List Float). shrunk zero64 (length keep1 * w) x (shrunk zero64 (s .n * w) X l))
       (rows-twice keep1 keep2 (kept2 .below) w l (replicate (s .n * w - length X) zero64 ++ drop (s .n * w) l))
@@ -70,11 +70,11 @@ module _ (s : Settings) (keep1 keep2 : List ℕ) (climbs1 : Climbs keep1) (kept1
       (omega (arith, few, rows-left-size (through keep1 keep2) w l, ap (λ (x : ℕ). x * w) (through-size keep1 keep2))) (kept-all kept1 w)
 
   square-again : (l : List Float)
-      → shrunk zero64 (length keep1 * length keep1) (squareOf keep2 (length keep1) (shrunk zero64 (s .n * s .n) (squareOf keep1 (s .n) l) l)) (shrunk zero64 (s .n * s .n) (squareOf keep1 (s .n) l) l)
-      ≡ shrunk zero64 (s .n * s .n) (squareOf (through keep1 keep2) (s .n) l) l
+      → shrunk zero64 (length keep1 * length keep1) (keptSquare keep2 (length keep1) (shrunk zero64 (s .n * s .n) (keptSquare keep1 (s .n) l) l)) (shrunk zero64 (s .n * s .n) (keptSquare keep1 (s .n) l) l)
+      ≡ shrunk zero64 (s .n * s .n) (keptSquare (through keep1 keep2) (s .n) l) l
   square-again l =
-      let X = squareOf keep1 (s .n) l in
-      let Y = squareOf (through keep1 keep2) (s .n) l in
+      let X = keptSquare keep1 (s .n) l in
+      let Y = keptSquare (through keep1 keep2) (s .n) l in
       let size = s .n * s .n in
       let few : length keep2 * length keep2 ≤ length keep1 * length keep1 = mul-le-mul (kept2 .few) (kept2 .few) in
       ap (λ (x : List Float). shrunk zero64 (length keep1 * length keep1) x (shrunk zero64 size X l))
@@ -224,7 +224,7 @@ pub record CentredTwice (n c : ℕ) (keep1 keep : List ℕ) (y y1 y2 yu : List F
 centred-at : (keep : List ℕ) (c : ℕ) (y r : List Float) (i d : ℕ) → i < length keep → d < c → at (centredRows keep c y ++ r) (i * c + d) ≡ centredLeft keep c y (num keep i) d
 centred-at keep c y r i d h k = row-at (λ i d. centredLeft keep c y (num keep i) d) c (length keep) i d r nan h k
 
-module _ (n c : ℕ) (keep1 keep2 : List ℕ) (kept1 : Kept keep1 n) (kept2 : Kept keep2 (length keep1)) (y : List Float) where
+module _ (n c : ℕ) (keep1 keep2 : List ℕ) (kept1 : Staying keep1 n) (kept2 : Staying keep2 (length keep1)) (y : List Float) where
   abbrev y1 : List Float
   y1 = shrunk zero64 (n * c) (centredRows keep1 c y) y
 

@@ -15,7 +15,7 @@ use Rattle.laws.proofs.Joined.{joined-mono, length-map, those-same, map-those}
 use Rattle.laws.proofs.Laid.{singles-size, singles-get, laid-at}
 use Rattle.areas.specs.Filled.{filled}
 use Rattle.take_gone.specs.Gone.{standsAt, isAmong, Climbs}
-use Rattle.take_rows.specs.Rows.{shrunk, rowsOf, squareOf}
+use Rattle.take_rows.specs.Rows.{shrunk, keptRows, keptSquare}
 use Rattle.take_rows.proofs.Packing.{joined-same, each-same}
 use Rattle.take_lists.specs.Packed.{keptLinks, indicesLeft, weightsLeft, linksBefore, linksLeft, packedIndices, packedWeights, packedOffsets}
 use Rattle.take_lists.proofs.Bounds.{packed-indices-size, packed-offsets-size}
@@ -66,19 +66,19 @@ module _ {A : Type 0} where
 
 module _ (keep1 keep2 : List ℕ) (within : (i : ℕ) → i < length keep2 → num keep2 i < length keep1) where
   -- rows of rows, whatever follows them
-  pub rows-twice : (w : ℕ) (l r : List Float) → rowsOf keep2 w (rowsOf keep1 w l ++ r) ≡ rowsOf (through keep1 keep2) w l
+  pub rows-twice : (w : ℕ) (l r : List Float) → keptRows keep2 w (keptRows keep1 w l ++ r) ≡ keptRows (through keep1 keep2) w l
   rows-twice w l r =
-      joined-same (λ i. each (λ d. at (rowsOf keep1 w l ++ r) (num keep2 i * w + d)) w) (λ i. each (λ d. at l (num (through keep1 keep2) i * w + d)) w) (length keep2) (λ i h.
-      each-same (λ d. at (rowsOf keep1 w l ++ r) (num keep2 i * w + d)) (λ d. at l (num (through keep1 keep2) i * w + d)) w (λ d k.
+      joined-same (λ i. each (λ d. at (keptRows keep1 w l ++ r) (num keep2 i * w + d)) w) (λ i. each (λ d. at l (num (through keep1 keep2) i * w + d)) w) (length keep2) (λ i h.
+      each-same (λ d. at (keptRows keep1 w l ++ r) (num keep2 i * w + d)) (λ d. at l (num (through keep1 keep2) i * w + d)) w (λ d k.
       row-at (λ i d. at l (num keep1 i * w + d)) w (length keep1) (num keep2 i) d r nan (within i h) k
       ∙ ap (λ (x : ℕ). at l (x * w + d)) (sym (through-at keep1 keep2 i h))))
       ∙ ap (joined (λ i. each (λ d. at l (num (through keep1 keep2) i * w + d)) w)) (sym (through-size keep1 keep2))
 
-  pub square-twice : (n : ℕ) (l r : List Float) → squareOf keep2 (length keep1) (squareOf keep1 n l ++ r) ≡ squareOf (through keep1 keep2) n l
+  pub square-twice : (n : ℕ) (l r : List Float) → keptSquare keep2 (length keep1) (keptSquare keep1 n l ++ r) ≡ keptSquare (through keep1 keep2) n l
   square-twice n l r =
-      joined-same (λ i. each (λ j. at (squareOf keep1 n l ++ r) (num keep2 i * length keep1 + num keep2 j)) (length keep2))
+      joined-same (λ i. each (λ j. at (keptSquare keep1 n l ++ r) (num keep2 i * length keep1 + num keep2 j)) (length keep2))
       (λ i. each (λ j. at l (num (through keep1 keep2) i * n + num (through keep1 keep2) j)) (length keep2)) (length keep2) (λ i h.
-      each-same (λ j. at (squareOf keep1 n l ++ r) (num keep2 i * length keep1 + num keep2 j)) (λ j. at l (num (through keep1 keep2) i * n + num (through keep1 keep2) j)) (length keep2) (λ j k.
+      each-same (λ j. at (keptSquare keep1 n l ++ r) (num keep2 i * length keep1 + num keep2 j)) (λ j. at l (num (through keep1 keep2) i * n + num (through keep1 keep2) j)) (length keep2) (λ j k.
       row-at (λ i j. at l (num keep1 i * n + num keep1 j)) (length keep1) (length keep1) (num keep2 i) (num keep2 j) r nan (within i h) (within j k)
       ∙ ap (λ (x : ℕ). at l (x * n + num keep1 (num keep2 j))) (sym (through-at keep1 keep2 i h))
       ∙ ap (λ (x : ℕ). at l (num (through keep1 keep2) i * n + x)) (sym (through-at keep1 keep2 j k))))

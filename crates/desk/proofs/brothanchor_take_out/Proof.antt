@@ -79,7 +79,7 @@ module _ {M : Type 1} (𝓤 : URA M) (H : Heap 𝓤) (A : Atoms 𝓤) (W : Given
   Post = walkOf 𝓤 H A f.ended stayed (f.clauses 𝓤 H A mem run-of) .post (((s-words .life, (s-positions .life, (s-increments .life, (s-gains .life, (s-affinities .life, (s-indices .life, (s-offsets .life, (s-forces .life, (s-cells .life, (s-table .life, (s-gone .life, (s-old .life, (s-answer .life, tt))))))))))))), (s-words .share, (s-positions .share, (s-increments .share, (s-gains .share, (s-affinities .share, (s-indices .share, (s-offsets .share, (s-forces .share, (s-cells .share, (s-table .share, (s-gone .share, (s-old .share, (s-answer .share, tt))))))))))))), tt, x, at), tt)
 
   exits : (res : ℕ) (words′ : List ℕ) (positions′ : List Float) (increments′ : List Float) (gains′ : List Float) (affinities′ : List Float) (indices′ : List ℕ) (offsets′ : List ℕ) (forces′ : List Float) (table′ : List Float) (old′ : List ℕ) (answer′ : List ℕ) → res < 2 ^ 32 → length words′ ≡ s-words .count → length positions′ ≡ s-positions .count → length increments′ ≡ s-increments .count → length gains′ ≡ s-gains .count → length affinities′ ≡ s-affinities .count → length indices′ ≡ s-indices .count → length offsets′ ≡ s-offsets .count → length forces′ ≡ s-forces .count → length table′ ≡ s-table .count → length old′ ≡ s-old .count → length answer′ ≡ s-answer .count → hostTook res answer′ words′ (memory positions′ increments′ gains′ affinities′ indices′ offsets′ forces′ cells) table′ old′ ≡ hostTake gone words (memory positions increments gains affinities indices offsets forces cells) table old answer → ent 𝓤 (⋆ 𝓤 H A (‵ (Mut u64 s-words words′) ∷ ‵ (Tok s-words) ∷ ‵ (Mut f64 s-positions positions′) ∷ ‵ (Tok s-positions) ∷ ‵ (Mut f64 s-increments increments′) ∷ ‵ (Tok s-increments) ∷ ‵ (Mut f64 s-gains gains′) ∷ ‵ (Tok s-gains) ∷ ‵ (Mut f64 s-affinities affinities′) ∷ ‵ (Tok s-affinities) ∷ ‵ (Mut u32 s-indices indices′) ∷ ‵ (Tok s-indices) ∷ ‵ (Mut u32 s-offsets offsets′) ∷ ‵ (Tok s-offsets) ∷ ‵ (Mut f64 s-forces forces′) ∷ ‵ (Tok s-forces) ∷ ‵ (Shr Cell′.the-row s-cells cells) ∷ ‵ (Tok s-cells) ∷ ‵ (Mut f64 s-table table′) ∷ ‵ (Tok s-table) ∷ ‵ (Shr u32 s-gone gone) ∷ ‵ (Tok s-gone) ∷ ‵ (Mut u32 s-old old′) ∷ ‵ (Tok s-old) ∷ ‵ (Mut u64 s-answer answer′) ∷ ‵ (Tok s-answer) ∷ [])) (Post (vint w32 res))
-  exits res words′ positions′ increments′ gains′ affinities′ indices′ offsets′ forces′ table′ old′ answer′  is le-words le-positions le-increments le-gains le-affinities le-indices le-offsets le-forces le-table le-old le-answer e =
+  exits res words′ positions′ increments′ gains′ affinities′ indices′ offsets′ forces′ table′ old′ answer′ is le-words le-positions le-increments le-gains le-affinities le-indices le-offsets le-forces le-table le-old le-answer e =
       qed W (‵ (Mut u64 s-words words′) ∷ ‵ (Tok s-words) ∷ ‵ (Mut f64 s-positions positions′) ∷ ‵ (Tok s-positions) ∷ ‵ (Mut f64 s-increments increments′) ∷ ‵ (Tok s-increments) ∷ ‵ (Mut f64 s-gains gains′) ∷ ‵ (Tok s-gains) ∷ ‵ (Mut f64 s-affinities affinities′) ∷ ‵ (Tok s-affinities) ∷ ‵ (Mut u32 s-indices indices′) ∷ ‵ (Tok s-indices) ∷ ‵ (Mut u32 s-offsets offsets′) ∷ ‵ (Tok s-offsets) ∷ ‵ (Mut f64 s-forces forces′) ∷ ‵ (Tok s-forces) ∷ ‵ (Shr Cell′.the-row s-cells cells) ∷ ‵ (Tok s-cells) ∷ ‵ (Mut f64 s-table table′) ∷ ‵ (Tok s-table) ∷ ‵ (Shr u32 s-gone gone) ∷ ‵ (Tok s-gone) ∷ ‵ (Mut u32 s-old old′) ∷ ‵ (Tok s-old) ∷ ‵ (Mut u64 s-answer answer′) ∷ ‵ (Tok s-answer) ∷ []) ∵
       suffices ! _ (ends-at 𝓤 H A f.ended stayed (f.clauses 𝓤 H A mem run-of) W (((s-words .life, (s-positions .life, (s-increments .life, (s-gains .life, (s-affinities .life, (s-indices .life, (s-offsets .life, (s-forces .life, (s-cells .life, (s-table .life, (s-gone .life, (s-old .life, (s-answer .life, tt))))))))))))), (s-words .share, (s-positions .share, (s-increments .share, (s-gains .share, (s-affinities .share, (s-indices .share, (s-offsets .share, (s-forces .share, (s-cells .share, (s-table .share, (s-gone .share, (s-old .share, (s-answer .share, tt))))))))))))), tt, x, at), tt) (vint w32 res) res (words′, (positions′, (increments′, (gains′, (affinities′, (indices′, (offsets′, (forces′, (tt, (table′, (tt, (old′, (answer′, tt))))))))))))) (le-words ∙ sym ln-words, (le-positions ∙ sym ln-positions, (le-increments ∙ sym ln-increments, (le-gains ∙ sym ln-gains, (le-affinities ∙ sym ln-affinities, (le-indices ∙ sym ln-indices, (le-offsets ∙ sym ln-offsets, (le-forces ∙ sym ln-forces, (tt, (le-table ∙ sym ln-table, (tt, (le-old ∙ sym ln-old, (le-answer ∙ sym ln-answer, tt)))))))))))))) $ says ! e $
       nothing ! $ move ! (26 ∷ 0 ∷ []) $ join ! $ move ! (24 ∷ 0 ∷ []) $ join ! $ move ! (22 ∷ 0 ∷ []) $ join ! $ move ! (20 ∷ 0 ∷ []) $ join ! $ move ! (18 ∷ 0 ∷ []) $ join ! $ move ! (16 ∷ 0 ∷ []) $ join ! $ move ! (14 ∷ 0 ∷ []) $ join ! $ move ! (12 ∷ 0 ∷ []) $ join ! $ move ! (10 ∷ 0 ∷ []) $ join ! $ move ! (8 ∷ 0 ∷ []) $ join ! $ move ! (6 ∷ 0 ∷ []) $ join ! $ move ! (4 ∷ 0 ∷ []) $ join ! $ move ! (2 ∷ 0 ∷ []) $ join ! $ frame ! $ nothing ! $ move ! (13 ∷ 0 ∷ []) $ fjoin ! $ move ! (12 ∷ 0 ∷ []) $ fjoin ! $ move ! (11 ∷ 0 ∷ []) $ fjoin ! $ move ! (10 ∷ 0 ∷ []) $ fjoin ! $ move ! (9 ∷ 0 ∷ []) $ fjoin ! $ move ! (8 ∷ 0 ∷ []) $ fjoin ! $ move ! (7 ∷ 0 ∷ []) $ fjoin ! $ move ! (6 ∷ 0 ∷ []) $ fjoin ! $ move ! (5 ∷ 0 ∷ []) $ fjoin ! $ move ! (4 ∷ 0 ∷ []) $ fjoin ! $ move ! (3 ∷ 0 ∷ []) $ fjoin ! $ move ! (2 ∷ 0 ∷ []) $ fjoin ! $ move ! (1 ∷ 0 ∷ []) $ fjoin ! $ frame ! $ owned ! u32 (Is u32) (uint-makes 𝓤 H A W w32) res _ (refl, is) $ done !
@@ -113,12 +113,12 @@ module _ {M : Type 1} (𝓤 : URA M) (H : Heap 𝓤) (A : Atoms 𝓤) (W : Given
         assigns ! (agg ! (and-then ! (load ! (from ! (stop !)) (look ! 32 refl)) (and-then ! (load ! (from ! (fld ! refl (stop !))) (look-in ! 74 (sub ! 1 refl (whole !)))) (no-more !)))) (from ! (stop !)) (init ! 30 refl (tt, (tt, (record { fits = room-old .0 }, tt)))) $
         assigns ! (addr ! (from ! (fld ! refl (hop ! (look-in ! 72 (sub ! 0 refl (whole !))) (stop !))))) (from ! (stop !)) (init ! 28 refl (tt, tt)) $
         assigns ! (agg ! (and-then ! (load ! (from ! (stop !)) (look ! 28 refl)) (and-then ! (load ! (from ! (fld ! refl (stop !))) (look-in ! 72 (sub ! 1 refl (whole !)))) (no-more !)))) (from ! (stop !)) (init ! 26 refl (tt, (tt, (record { fits = room-answer .0 }, tt)))) $
-        calls-host-take-out-mmmmmmmmcmcmm ! fm mem run-of known-host-take-out s-words words s-positions positions s-increments increments s-gains gains s-affinities affinities s-indices indices s-offsets offsets s-forces forces s-cells cells s-table table s-gone gone s-old old s-answer answer ln-words ln-positions ln-increments ln-gains ln-affinities ln-indices ln-offsets ln-forces ln-table ln-old ln-answer   (λ _ _ _ _ _ _ _ _ _ _ _ _ _ _. and-then ! (load ! (from ! (stop !)) (look ! 54 refl)) (and-then ! (load ! (from ! (stop !)) (look ! 50 refl)) (and-then ! (load ! (from ! (stop !)) (look ! 46 refl)) (and-then ! (load ! (from ! (stop !)) (look ! 42 refl)) (and-then ! (load ! (from ! (stop !)) (look ! 38 refl)) (and-then ! (load ! (from ! (stop !)) (look ! 34 refl)) (and-then ! (load ! (from ! (stop !)) (look ! 30 refl)) (and-then ! (load ! (from ! (stop !)) (look ! 26 refl)) (and-then ! (load ! (from ! (stop !)) (look ! 68 refl)) (and-then ! (load ! (from ! (stop !)) (look ! 22 refl)) (and-then ! (load ! (from ! (stop !)) (look ! 64 refl)) (and-then ! (load ! (from ! (stop !)) (look ! 18 refl)) (and-then ! (load ! (from ! (stop !)) (look ! 14 refl)) (no-more !)))))))))))))) (λ r1 words1 positions1 increments1 gains1 affinities1 indices1 offsets1 forces1 table1 old1 answer1 e1 is1 l-words1 l-positions1 l-increments1 l-gains1 l-affinities1 l-indices1 l-offsets1 l-forces1 l-table1 l-old1 l-answer1.
+        calls-host-take-out-mmmmmmmmcmcmm ! fm mem run-of known-host-take-out s-words words s-positions positions s-increments increments s-gains gains s-affinities affinities s-indices indices s-offsets offsets s-forces forces s-cells cells s-table table s-gone gone s-old old s-answer answer ln-words ln-positions ln-increments ln-gains ln-affinities ln-indices ln-offsets ln-forces ln-table ln-old ln-answer (λ _ _ _ _ _ _ _ _ _ _ _ _ _ _. and-then ! (load ! (from ! (stop !)) (look ! 54 refl)) (and-then ! (load ! (from ! (stop !)) (look ! 50 refl)) (and-then ! (load ! (from ! (stop !)) (look ! 46 refl)) (and-then ! (load ! (from ! (stop !)) (look ! 42 refl)) (and-then ! (load ! (from ! (stop !)) (look ! 38 refl)) (and-then ! (load ! (from ! (stop !)) (look ! 34 refl)) (and-then ! (load ! (from ! (stop !)) (look ! 30 refl)) (and-then ! (load ! (from ! (stop !)) (look ! 26 refl)) (and-then ! (load ! (from ! (stop !)) (look ! 68 refl)) (and-then ! (load ! (from ! (stop !)) (look ! 22 refl)) (and-then ! (load ! (from ! (stop !)) (look ! 64 refl)) (and-then ! (load ! (from ! (stop !)) (look ! 18 refl)) (and-then ! (load ! (from ! (stop !)) (look ! 14 refl)) (no-more !)))))))))))))) (λ r1 words1 positions1 increments1 gains1 affinities1 indices1 offsets1 forces1 table1 old1 answer1 e1 is1 l-words1 l-positions1 l-increments1 l-gains1 l-affinities1 l-indices1 l-offsets1 l-forces1 l-table1 l-old1 l-answer1.
         land ! (from ! (stop !)) (init ! 70 refl (tt, record { fits = is1 .1 })) $
         assigns ! (of-opd ! (load ! (from ! (stop !)) (look ! 70 refl))) (from ! (stop !)) (init ! 98 refl (tt, record { fits = is1 .1 })) $
         returns ! (look ! 98 refl) $ forget ! 26 refl $ forget ! 28 refl $ forget ! 30 refl $ forget ! 32 refl $ forget ! 34 refl $ forget ! 36 refl $ forget ! 38 refl $ forget ! 40 refl $ forget ! 42 refl $ forget ! 44 refl $ forget ! 46 refl $ forget ! 48 refl $ forget ! 50 refl $ forget ! 52 refl $ forget ! 54 refl $ forget ! 56 refl $ forget ! 58 refl $ forget ! 60 refl $ forget ! 62 refl $ forget ! 64 refl $ forget ! 66 refl $ forget ! 68 refl $ forget ! 70 refl $ forget ! 72 refl $ forget ! 74 refl $ forget ! 76 refl $ forget ! 78 refl $ forget ! 80 refl $ forget ! 82 refl $ forget ! 84 refl $ forget ! 86 refl $ forget ! 88 refl $ forget ! 90 refl $ forget ! 92 refl $ forget ! 94 refl $ forget ! 96 refl $ forget ! 98 refl $
         move ! (98 ∷ 99 ∷ []) $ free1 ! $ move ! (96 ∷ 97 ∷ []) $ free1 ! $ move ! (94 ∷ 95 ∷ []) $ free1 ! $ move ! (92 ∷ 93 ∷ []) $ free1 ! $ move ! (90 ∷ 91 ∷ []) $ free1 ! $ move ! (88 ∷ 89 ∷ []) $ free1 ! $ move ! (86 ∷ 87 ∷ []) $ free1 ! $ move ! (84 ∷ 85 ∷ []) $ free1 ! $ move ! (82 ∷ 83 ∷ []) $ free1 ! $ move ! (80 ∷ 81 ∷ []) $ free1 ! $ move ! (78 ∷ 79 ∷ []) $ free1 ! $ move ! (76 ∷ 77 ∷ []) $ free1 ! $ move ! (74 ∷ 75 ∷ []) $ free1 ! $ move ! (72 ∷ 73 ∷ []) $ free1 ! $ move ! (70 ∷ 71 ∷ []) $ free1 ! $ move ! (68 ∷ 69 ∷ []) $ free1 ! $ move ! (66 ∷ 67 ∷ []) $ free1 ! $ move ! (64 ∷ 65 ∷ []) $ free1 ! $ move ! (62 ∷ 63 ∷ []) $ free1 ! $ move ! (60 ∷ 61 ∷ []) $ free1 ! $ move ! (58 ∷ 59 ∷ []) $ free1 ! $ move ! (56 ∷ 57 ∷ []) $ free1 ! $ move ! (54 ∷ 55 ∷ []) $ free1 ! $ move ! (52 ∷ 53 ∷ []) $ free1 ! $ move ! (50 ∷ 51 ∷ []) $ free1 ! $ move ! (48 ∷ 49 ∷ []) $ free1 ! $ move ! (46 ∷ 47 ∷ []) $ free1 ! $ move ! (44 ∷ 45 ∷ []) $ free1 ! $ move ! (42 ∷ 43 ∷ []) $ free1 ! $ move ! (40 ∷ 41 ∷ []) $ free1 ! $ move ! (38 ∷ 39 ∷ []) $ free1 ! $ move ! (36 ∷ 37 ∷ []) $ free1 ! $ move ! (34 ∷ 35 ∷ []) $ free1 ! $ move ! (32 ∷ 33 ∷ []) $ free1 ! $ move ! (30 ∷ 31 ∷ []) $ free1 ! $ move ! (28 ∷ 29 ∷ []) $ free1 ! $ move ! (26 ∷ 27 ∷ []) $ free1 ! $ free0 ! $
-        keep ! (0 ∷ 1 ∷ 2 ∷ 3 ∷ 4 ∷ 5 ∷ 6 ∷ 7 ∷ 8 ∷ 9 ∷ 10 ∷ 11 ∷ 12 ∷ 13 ∷ 14 ∷ 15 ∷ 16 ∷ 17 ∷ 18 ∷ 19 ∷ 20 ∷ 21 ∷ 22 ∷ 23 ∷ 24 ∷ 25 ∷ []) $ by ! (exits r1 words1 positions1 increments1 gains1 affinities1 indices1 offsets1 forces1 table1 old1 answer1  (is1 .1) l-words1 l-positions1 l-increments1 l-gains1 l-affinities1 l-indices1 l-offsets1 l-forces1 l-table1 l-old1 l-answer1 e1)))))))))))))))))))))))))))))))))))))))
+        keep ! (0 ∷ 1 ∷ 2 ∷ 3 ∷ 4 ∷ 5 ∷ 6 ∷ 7 ∷ 8 ∷ 9 ∷ 10 ∷ 11 ∷ 12 ∷ 13 ∷ 14 ∷ 15 ∷ 16 ∷ 17 ∷ 18 ∷ 19 ∷ 20 ∷ 21 ∷ 22 ∷ 23 ∷ 24 ∷ 25 ∷ []) $ by ! (exits r1 words1 positions1 increments1 gains1 affinities1 indices1 offsets1 forces1 table1 old1 answer1 (is1 .1) l-words1 l-positions1 l-increments1 l-gains1 l-affinities1 l-indices1 l-offsets1 l-forces1 l-table1 l-old1 l-answer1 e1)))))))))))))))))))))))))))))))))))))))
 
 module _ {M : Type 1} (𝓤 : URA M) (H : Heap 𝓤) (A : Atoms 𝓤) (W : Given 𝓤 H A) (mem : Memory → SProp 𝓤) (run-of : Routine → Fun 𝓤) where
   brothanchor-take-out-walks : (C : Calls 𝓤 H) (Λ : Loops 𝓤 H) → FmC 𝓤 H (W .laws) C → Triple 𝓤 (C #desk-take·host-take-out) (Contract-host-take-out 𝓤 H A mem run-of) → Walks 𝓤 H A f.ended stayed (WpFn 𝓤 H C Λ code.function) (f.clauses 𝓤 H A mem run-of)

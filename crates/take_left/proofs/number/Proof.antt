@@ -1,4 +1,4 @@
-use Rattle.take_left.specs.Verdict.{verdictNumber}
+use Rattle.take_left.specs.Outlook.{outlookNumber}
 use borrow.Author.Needs.{needs}
 use native.Mathlib.Omega.{arith}
 use borrow.Author.Needs.{needs}
@@ -29,31 +29,31 @@ enum-told-7 : tie.Need-enum-told-7
 enum-told-7 c = search needs
 
 returns : tie.Need-returns
-unfolding verdictNumber
+unfolding outlookNumber
 returns c = rw (c .enum-told .given .1)
 
 returns-2 : tie.Need-returns-2
-unfolding verdictNumber
+unfolding outlookNumber
 returns-2 c = rw (c .enum-told2 .given .1)
 
 returns-3 : tie.Need-returns-3
-unfolding verdictNumber
+unfolding outlookNumber
 returns-3 c = rw (c .enum-told3 .given .1)
 
 returns-4 : tie.Need-returns-4
-unfolding verdictNumber
+unfolding outlookNumber
 returns-4 c = rw (c .enum-told4 .given .1)
 
 returns-5 : tie.Need-returns-5
-unfolding verdictNumber
+unfolding outlookNumber
 returns-5 c = rw (c .enum-told5 .given .1)
 
 returns-6 : tie.Need-returns-6
-unfolding verdictNumber
+unfolding outlookNumber
 returns-6 c = rw (c .enum-told6 .given .1)
 
 returns-7 : tie.Need-returns-7
-unfolding verdictNumber
+unfolding outlookNumber
 returns-7 c = rw (c .enum-told7 .given .1)
 
 pub number-spec : {M : Type 1} → statement M

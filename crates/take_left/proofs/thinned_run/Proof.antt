@@ -4,7 +4,7 @@ use Rattle.run_record.specs.declared.Settings.{Settings}
 use native.Mathlib.Nat.{le-refl}
 use Rattle.run_record.proofs.Laws.{product-fits}
 use Prim.Native.Nat.{_*_}
-use Rattle.take_left.specs.Verdict.{thinned, thinnedRun}
+use Rattle.take_left.specs.Outlook.{thinned, thinnedRun}
 use mathlib.Core.Path.{refl, ap, sym, _∙_}
 use borrow.Author.Needs.{needs}
 use native.Mathlib.Omega.{arith}

@@ -1,4 +1,4 @@
-use Rattle.take_left.specs.Verdict.{thinned}
+use Rattle.take_left.specs.Outlook.{thinned}
 use mathlib.Core.Path.{refl}
 use borrow.Author.Needs.{needs}
 use native.Mathlib.Omega.{arith}

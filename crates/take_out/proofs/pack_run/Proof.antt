@@ -1,6 +1,6 @@
 use Rattle.laws.specs.Area.{zero64}
 use Rattle.areas.specs.Filled.{filled}
-use Rattle.take_out.proofs.Rooms.{front-is, pack-values-room, pack-links-room, packed-told}
+use Rattle.take_out.proofs.Rooms.{front-survives, pack-values-room, pack-links-room, packed-told}
 use Rattle.take_gone.proofs.Left.{survivors-few}
 use lib.ListN.{length}
 use mathlib.Core.List.{List}
@@ -26,19 +26,19 @@ slice-reshare-prefix-pack-values : tie.Need-slice-reshare-prefix-pack-values
 slice-reshare-prefix-pack-values c = omega (arith, c .before .before .put-survivors .ensures .0, c .before .before .put-survivors .kept .1 .1 .0, survivors-few (c .before .before .before .before .before .before .before .before .before .before .before .before .before .before .args .gone .now) (c .before .before .before .before .before .before .before .before .before .before .before .before .before .before .args .s .n), c .before .before .before .before .before .before .before .before .before .before .before .before .before .before .pre .pack-old)
 
 slice-aggregate-pack-values : tie.Need-slice-aggregate-pack-values
-slice-aggregate-pack-values c = c .before .before .before .put-survivors .ensures .0 ∙ ap length (sym (front-is (c .before .before .before .before .before .before .before .before .before .before .before .before .before .before .before .pre) _ _ (c .before .before .before .put-survivors .ensures .0) (c .before .before .before .put-survivors .ensures .1)))
+slice-aggregate-pack-values c = c .before .before .before .put-survivors .ensures .0 ∙ ap length (sym (front-survives (c .before .before .before .before .before .before .before .before .before .before .before .before .before .before .before .pre) _ _ (c .before .before .before .put-survivors .ensures .0) (c .before .before .before .put-survivors .ensures .1)))
 
 pack-values-requires : tie.Need-pack-values-requires
-pack-values-requires c κs = pack-values-room (c .before .before .before .before .before .before .before .before .before .before .before .before .before .before .before .before .before .before .before .pre) _ (front-is (c .before .before .before .before .before .before .before .before .before .before .before .before .before .before .before .before .before .before .before .pre) _ _ (c .before .before .before .before .before .before .before .put-survivors .ensures .0) (c .before .before .before .before .before .before .before .put-survivors .ensures .1))
+pack-values-requires c κs = pack-values-room (c .before .before .before .before .before .before .before .before .before .before .before .before .before .before .before .before .before .before .before .pre) _ (front-survives (c .before .before .before .before .before .before .before .before .before .before .before .before .before .before .before .before .before .before .before .pre) _ _ (c .before .before .before .before .before .before .before .put-survivors .ensures .0) (c .before .before .before .before .before .before .before .put-survivors .ensures .1))
 
 slice-reshare-prefix-pack-affinities : tie.Need-slice-reshare-prefix-pack-affinities
 slice-reshare-prefix-pack-affinities c = omega (arith, c .before .before .before .before .before .before .before .before .before .before .before .before .before .before .before .before .put-survivors .ensures .0, c .before .before .before .before .before .before .before .before .before .before .before .before .before .before .before .before .put-survivors .kept .1 .1 .0, survivors-few (c .before .before .before .before .before .before .before .before .before .before .before .before .before .before .before .before .before .before .before .before .before .before .before .before .before .before .before .before .args .gone .now) (c .before .before .before .before .before .before .before .before .before .before .before .before .before .before .before .before .before .before .before .before .before .before .before .before .before .before .before .before .args .s .n), c .before .before .before .before .before .before .before .before .before .before .before .before .before .before .before .before .before .before .before .before .before .before .before .before .before .before .before .before .pre .pack-old)
 
 slice-aggregate-pack-affinities : tie.Need-slice-aggregate-pack-affinities
-slice-aggregate-pack-affinities c = c .before .before .before .before .before .before .before .before .before .before .before .before .before .before .before .before .before .put-survivors .ensures .0 ∙ ap length (sym (front-is (c .before .before .before .before .before .before .before .before .before .before .before .before .before .before .before .before .before .before .before .before .before .before .before .before .before .before .before .before .before .pre) _ _ (c .before .before .before .before .before .before .before .before .before .before .before .before .before .before .before .before .before .put-survivors .ensures .0) (c .before .before .before .before .before .before .before .before .before .before .before .before .before .before .before .before .before .put-survivors .ensures .1)))
+slice-aggregate-pack-affinities c = c .before .before .before .before .before .before .before .before .before .before .before .before .before .before .before .before .before .put-survivors .ensures .0 ∙ ap length (sym (front-survives (c .before .before .before .before .before .before .before .before .before .before .before .before .before .before .before .before .before .before .before .before .before .before .before .before .before .before .before .before .before .pre) _ _ (c .before .before .before .before .before .before .before .before .before .before .before .before .before .before .before .before .before .put-survivors .ensures .0) (c .before .before .before .before .before .before .before .before .before .before .before .before .before .before .before .before .before .put-survivors .ensures .1)))
 
 pack-affinities-requires : tie.Need-pack-affinities-requires
-pack-affinities-requires c κs = pack-links-room (c .before .before .before .before .before .before .before .before .before .before .before .before .before .before .before .before .before .before .before .before .before .before .before .before .before .before .before .before .before .before .before .before .pre) _ (front-is (c .before .before .before .before .before .before .before .before .before .before .before .before .before .before .before .before .before .before .before .before .before .before .before .before .before .before .before .before .before .before .before .before .pre) _ _ (c .before .before .before .before .before .before .before .before .before .before .before .before .before .before .before .before .before .before .before .before .put-survivors .ensures .0) (c .before .before .before .before .before .before .before .before .before .before .before .before .before .before .before .before .before .before .before .before .put-survivors .ensures .1))
+pack-affinities-requires c κs = pack-links-room (c .before .before .before .before .before .before .before .before .before .before .before .before .before .before .before .before .before .before .before .before .before .before .before .before .before .before .before .before .before .before .before .before .pre) _ (front-survives (c .before .before .before .before .before .before .before .before .before .before .before .before .before .before .before .before .before .before .before .before .before .before .before .before .before .before .before .before .before .before .before .before .pre) _ _ (c .before .before .before .before .before .before .before .before .before .before .before .before .before .before .before .before .before .before .before .before .put-survivors .ensures .0) (c .before .before .before .before .before .before .before .before .before .before .before .before .before .before .before .before .before .before .before .before .put-survivors .ensures .1))
 
 mul-times : tie.Need-mul-times
 mul-times c = omega (arith, c .before .before .before .before .before .before .before .before .before .before .before .before .before .before .before .before .before .before .before .before .before .before .before .before .before .before .before .before .before .before .before .before .before .before .before .before .before .before .before .before .before .pre .pack-good .c-most)
@@ -80,7 +80,7 @@ same-length-9 : tie.Need-same-length-9
 same-length-9 c = c .before .before .before .before .before .before .before .before .before .before .before .before .before .before .before .before .before .before .before .before .before .before .before .before .before .before .before .before .before .before .before .before .before .put-survivors .kept .1 .1 .0
 
 returns : tie.Need-returns
-returns c = packed-told (c .before .before .before .before .before .before .before .before .before .before .before .before .before .before .before .before .before .before .before .before .before .before .before .before .before .before .before .before .before .before .before .before .before .before .before .before .before .before .before .before .before .before .before .before .before .pre) _ _ (front-is (c .before .before .before .before .before .before .before .before .before .before .before .before .before .before .before .before .before .before .before .before .before .before .before .before .before .before .before .before .before .before .before .before .before .before .before .before .before .before .before .before .before .before .before .before .before .pre) _ _ (c .before .before .before .before .before .before .before .before .before .before .before .before .before .before .before .before .before .before .before .before .before .before .before .before .before .before .before .before .before .before .before .before .before .put-survivors .ensures .0) (c .before .before .before .before .before .before .before .before .before .before .before .before .before .before .before .before .before .before .before .before .before .before .before .before .before .before .before .before .before .before .before .before .before .put-survivors .ensures .1)) (c .before .before .before .before .before .before .before .before .before .before .before .before .before .before .before .before .before .before .before .before .before .before .before .before .before .before .before .before .before .before .before .before .before .put-survivors .ensures .1) _ _ _ _ _ _ _ _ (c .before .before .before .before .before .before .before .before .before .before .before .before .before .before .before .before .before .before .before .before .before .before .before .before .before .pack-values .ensures) (c .before .before .before .before .before .before .before .before .before .before .before .before .pack-affinities .ensures) (c .before .before .fill .ensures ∙ ap (λ (k : ℕ). filled zero64 k (c .before .before .before .before .before .before .before .before .before .before .before .before .before .before .before .before .before .before .before .before .before .before .before .before .before .before .before .before .before .before .before .before .before .before .before .before .before .before .before .before .before .before .before .before .before .args .forces .now)) (c .before .before .before .times .ensures))
+returns c = packed-told (c .before .before .before .before .before .before .before .before .before .before .before .before .before .before .before .before .before .before .before .before .before .before .before .before .before .before .before .before .before .before .before .before .before .before .before .before .before .before .before .before .before .before .before .before .before .pre) _ _ (front-survives (c .before .before .before .before .before .before .before .before .before .before .before .before .before .before .before .before .before .before .before .before .before .before .before .before .before .before .before .before .before .before .before .before .before .before .before .before .before .before .before .before .before .before .before .before .before .pre) _ _ (c .before .before .before .before .before .before .before .before .before .before .before .before .before .before .before .before .before .before .before .before .before .before .before .before .before .before .before .before .before .before .before .before .before .put-survivors .ensures .0) (c .before .before .before .before .before .before .before .before .before .before .before .before .before .before .before .before .before .before .before .before .before .before .before .before .before .before .before .before .before .before .before .before .before .put-survivors .ensures .1)) (c .before .before .before .before .before .before .before .before .before .before .before .before .before .before .before .before .before .before .before .before .before .before .before .before .before .before .before .before .before .before .before .before .before .put-survivors .ensures .1) _ _ _ _ _ _ _ _ (c .before .before .before .before .before .before .before .before .before .before .before .before .before .before .before .before .before .before .before .before .before .before .before .before .before .pack-values .ensures) (c .before .before .before .before .before .before .before .before .before .before .before .before .pack-affinities .ensures) (c .before .before .fill .ensures ∙ ap (λ (k : ℕ). filled zero64 k (c .before .before .before .before .before .before .before .before .before .before .before .before .before .before .before .before .before .before .before .before .before .before .before .before .before .before .before .before .before .before .before .before .before .before .before .before .before .before .before .before .before .before .before .before .before .args .forces .now)) (c .before .before .before .times .ensures))
 
 pub pack-run-spec : {M : Type 1} → statement M
 pack-run-spec =

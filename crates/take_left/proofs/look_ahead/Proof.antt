@@ -18,10 +18,10 @@ use mathlib.Core.Path.{sym, ap, subst, _∙_}
 use borrow.Author.Needs.{needs}
 use native.Mathlib.Omega.{arith}
 use borrow.Author.Needs.{needs}
-use Rattle.take_left.proofs.judge.Statement.{statement}
-use Rattle.take_left.proofs.judge.Tie as tie
-use Rattle.take_left.proofs.judge.Reads as reads
-use Rattle.take_left.proofs.judge.Lts as lts
+use Rattle.take_left.proofs.look_ahead.Statement.{statement}
+use Rattle.take_left.proofs.look_ahead.Tie as tie
+use Rattle.take_left.proofs.look_ahead.Reads as reads
+use Rattle.take_left.proofs.look_ahead.Lts as lts
 use Rattle.run_record.proofs.faults.late_fault.Reads as late-fault-reads
 use Rattle.take_gone.proofs.gone_fine.Reads as gone-fine-reads
 use Rattle.take_left.proofs.is_crowded.Reads as is-crowded-reads
@@ -67,8 +67,8 @@ returns-6 c = told-left _ _ _ (judging (c .before .before .before .before .befor
 returns-7 : tie.Need-returns-7
 returns-7 c = told-barred _ _ _ (judging (c .before .before .before .before .before .before .before .before .before .before .before .before .before .before .before .before .before .before .args .r) (c .before .before .before .before .before .before .before .before .before .before .before .before .before .before .before .before .before .before .args .gone .now) _ _ _ (c .before .before .before .before .before .before .before .before .before .before .before .before .if1 .left) (sym (c .before .before .before .before .before .before .before .before .before .before .gone-fine .ensures) ∙ not-false _ (c .before .before .before .before .before .before .before .before .before .if2 .left)) refl (omega (arith, c .before .before .before .before .before .before .before .if3 .left)) (c .before .before .before .before .before .before .thinned-settings .ensures) (c .before .before .before .before .before .late-fault .ensures) (c .before .before .before .before .if4 .left)) (sym (c .before .before .before .is-crowded .ensures) ∙ c .before .before .if5 .left) (sym (c .before .is-calm-left .ensures) ∙ c .if6 .left)
 
-pub judge-spec : {M : Type 1} → statement M
-judge-spec =
+pub look-ahead-spec : {M : Type 1} → statement M
+look-ahead-spec =
     tie.close
     (tie.spec
     returns

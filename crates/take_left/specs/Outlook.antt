@@ -15,8 +15,8 @@ use Rattle.run_record.specs.Record.{isTree, sizesOf, perOf, GoodSettings}
 use Rattle.take_gone.specs.Gone.{goneFine, survivors, Climbs}
 use Rattle.take_means.specs.CalmLeft.{calmLeft}
 use Rattle.take_lists.specs.Packed.{linksLeft, Listed}
-use Rattle.take_left.specs.declared.Verdict.{Verdict}
-use Rattle.take_left.specs.declared.Verdict.the-variants.{Left, Inside, Unordered, Few, Perplexed, Crowded, Barred}
+use Rattle.take_left.specs.declared.Outlook.{Outlook}
+use Rattle.take_left.specs.declared.Outlook.the-variants.{Left, Inside, Unordered, Few, Perplexed, Crowded, Barred}
 
 -- ---- the record of m survivors
 
@@ -35,8 +35,8 @@ unfoldable pub crowded : Settings → List ℕ → List ℕ → List ℕ → Boo
 crowded s keep I O = isTree (s .method) && ltb (sizesOf (thinned s (length keep)) .links) (linksLeft keep I O)
 
 -- 17 inside an iteration; 18 for a list that does not rise or names no sample; then of what would be left 9, 10, 18 for its links, 15 for its positions y
-unfoldable pub verdictOf : Run → List ℕ → List Float → List ℕ → List ℕ → Verdict
-verdictOf r g y I O =
+unfoldable pub outlookOf : Run → List ℕ → List Float → List ℕ → List ℕ → Outlook
+outlookOf r g y I O =
     let s = r .settings in
     let keep = survivors g (s .n) in
     cond (not (eqb (r .phase) 0)) Inside
@@ -47,17 +47,17 @@ verdictOf r g y I O =
     (cond (calmLeft keep (s .c) y) (Left (length keep)) Barred)))))
 
 -- the number of a refusal; 0 where there is none
-unfoldable pub verdictNumber : Verdict → ℕ
-verdictNumber (Left m) = 0
-verdictNumber Inside = 17
-verdictNumber Unordered = 18
-verdictNumber Few = 9
-verdictNumber Perplexed = 10
-verdictNumber Crowded = 18
-verdictNumber Barred = 15
+unfoldable pub outlookNumber : Outlook → ℕ
+outlookNumber (Left m) = 0
+outlookNumber Inside = 17
+outlookNumber Unordered = 18
+outlookNumber Few = 9
+outlookNumber Perplexed = 10
+outlookNumber Crowded = 18
+outlookNumber Barred = 15
 
 -- what the tests of a work call have shown
-pub record VerdictRoom (r : Run) (y : List Float) (I O : List ℕ) : Type 0 where
+pub record OutlookRoom (r : Run) (y : List Float) (I O : List ℕ) : Type 0 where
   pub settings-good : GoodSettings (r .settings)
   pub positions-long : r .settings .n * r .settings .c ≤ length y
   pub lists-lie : isTree (r .settings .method) ≡ true → Listed (r .settings .n) (length I) (length I) O
