@@ -1,0 +1,3 @@
+pub mod Told
+pub mod ByValue
+pub mod CallsTakeOut
