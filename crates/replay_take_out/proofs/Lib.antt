@@ -1,3 +1,4 @@
+mod Within
 pub mod Told
 pub mod ByValue
 pub mod CallsTakeOut

@@ -6,7 +6,7 @@ mod taking;
 
 use replay::areas::plus;
 use replay::word_at;
-use taking::taken_right;
+use taking::case_right;
 
 // A case that does not lead on ends the replay, and counts as wrong.
 fn cases(list: &[u8]) -> replay::Tally {
@@ -14,7 +14,7 @@ fn cases(list: &[u8]) -> replay::Tally {
     let mut t = replay::Tally::new();
     let mut a: usize = 0;
     while a < count {
-        t = t.with(taken_right(list, a));
+        t = t.with(case_right(list, a));
         let at = plus(a, word_at(list, a) as usize);
         if at <= a {
             return t.with(false);

@@ -7,6 +7,7 @@ use crate::areas::values_at;
 use crate::lending::empty_cells;
 use crate::lending::take_lent;
 use crate::lengths::Lengths;
+use crate::lengths::Places;
 use crate::lengths::lengths_at;
 use crate::lengths::places_from;
 use fault_words::fault_value;
@@ -148,30 +149,30 @@ fn same_state(
     both(both(p, q), both(g, v))
 }
 
-// Indices, offsets, forces, table and old places.
-fn same_rest(
+// Indices, offsets and old places.
+fn same_lists(
     list: &[u8],
     l: Lengths,
     j: usize,
     indices: [u32; 64],
     offsets: [u32; 64],
-    forces: [f64; 96],
-    table: [f64; 96],
     old: [u32; 64],
 ) -> bool {
     let x = same_numbers(&indices, l.indices, list, plus(j, 4));
     let o = same_numbers(&offsets, l.offsets, list, plus(j, 5));
-    let f = same_values(&forces, l.forces, list, plus(j, 6));
-    let t = same_values(&table, l.table, list, plus(j, 7));
-    let q = same_numbers(&old, l.old, list, plus(j, 8));
-    both(both(both(x, o), both(f, t)), q)
+    both(both(x, o), same_numbers(&old, l.old, list, plus(j, 8)))
 }
 
-// The case from word a on: what is told, the record, every place of all areas, and that the case ends with them.
-pub(crate) fn taken_right(list: &[u8], a: usize) -> bool {
-    let l = lengths_at(list, plus(a, 15));
-    let at = places_from(l, plus(a, 26));
-    let words = record_at(list, plus(a, 1));
+// Forces and table.
+fn same_rest(list: &[u8], l: Lengths, j: usize, forces: [f64; 96], table: [f64; 96]) -> bool {
+    let f = same_values(&forces, l.forces, list, plus(j, 6));
+    both(f, same_values(&table, l.table, list, plus(j, 7)))
+}
+
+// The call on the run whose areas stand at their places: what is told, the record, and every place of all areas.
+fn run_right(list: &[u8], l: Lengths, at: Places, words: [u64; 14]) -> bool
+    requires { ⌜ (l .positions ≤ 96) × (l .increments ≤ 96) × (l .gains ≤ 96) × (l .affinities ≤ 96) × (l .indices ≤ 64) × (l .offsets ≤ 64) × (l .forces ≤ 96) × (l .nodes ≤ 4) × (l .table ≤ 96) × (l .gone ≤ 64) × (l .old ≤ 64) ⌝ }
+{
     let mut positions = values_at(list, at.positions, l.positions);
     let mut increments = values_at(list, at.increments, l.increments);
     let mut gains = values_at(list, at.gains, l.gains);
@@ -196,14 +197,19 @@ pub(crate) fn taken_right(list: &[u8], a: usize) -> bool {
         &gone[..l.gone],
         &mut old[..l.old],
     );
-    let told = both(
-        same_told(t, list, at.end),
-        plus(at.end, 25) == plus(a, word_at(list, a) as usize),
-    );
     let j = plus(at.end, 16);
+    let told = same_told(t, list, at.end);
     let state = same_state(list, l, j, positions, increments, gains, affinities);
-    both(
-        both(told, state),
-        same_rest(list, l, j, indices, offsets, forces, table, old),
-    )
+    let lists = same_lists(list, l, j, indices, offsets, old);
+    let rest = same_rest(list, l, j, forces, table);
+    both(both(told, state), both(lists, rest))
+}
+
+// The case from word a on; it has to end with what is compared.
+pub(crate) fn case_right(list: &[u8], a: usize) -> bool {
+    let l = lengths_at(list, plus(a, 15));
+    let at = places_from(l, plus(a, 26));
+    let words = record_at(list, plus(a, 1));
+    let ends = plus(at.end, 25) == plus(a, word_at(list, a) as usize);
+    both(ends, run_right(list, l, at, words))
 }

@@ -15,8 +15,8 @@ new-requires c κs = search needs
 loop-holds : tie.Need-loop-holds Inv-loop μ-loop
 loop-holds c = search needs
 
-taken-right-requires : tie.Need-taken-right-requires Inv-loop μ-loop
-taken-right-requires c κs = search needs
+case-right-requires : tie.Need-case-right-requires Inv-loop μ-loop
+case-right-requires c κs = search needs
 
 with-requires : tie.Need-with-requires Inv-loop μ-loop
 with-requires c κs = search needs
@@ -50,7 +50,7 @@ cases-spec =
     μ-loop
     new-requires
     loop-holds
-    taken-right-requires
+    case-right-requires
     with-requires
     word-at-requires
     plus-requires

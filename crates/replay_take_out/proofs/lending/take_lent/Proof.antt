@@ -111,7 +111,7 @@ module _ {M : Type 1} (𝓤 : URA M) (H : Heap 𝓤) (A : Atoms 𝓤) (W : Given
   typed-Took v g = LL.lawful Took′.the-type Took″.the-laws 𝓤 H A W .typed v _ g .0
 
   exits : (res : Took) (positions′ : List Float) (increments′ : List Float) (gains′ : List Float) (affinities′ : List Float) (indices′ : List ℕ) (offsets′ : List ℕ) (forces′ : List Float) (table′ : List Float) (old′ : List ℕ) → IsTook res → length positions′ ≡ s-positions .count → length increments′ ≡ s-increments .count → length gains′ ≡ s-gains .count → length affinities′ ≡ s-affinities .count → length indices′ ≡ s-indices .count → length offsets′ ≡ s-offsets .count → length forces′ ≡ s-forces .count → length table′ ≡ s-table .count → length old′ ≡ s-old .count → takeOutcome (res .answer) (state (res .run) (memory positions′ increments′ gains′ affinities′ indices′ offsets′ forces′ (take k₀ cells))) table′ old′ ≡ takeOut gone (state r (memory positions increments gains affinities indices offsets forces (take k₀ cells))) table old → ent 𝓤 (⋆ 𝓤 H A (‵ (Mut f64 s-positions positions′) ∷ ‵ (Tok s-positions) ∷ ‵ (Mut f64 s-increments increments′) ∷ ‵ (Tok s-increments) ∷ ‵ (Mut f64 s-gains gains′) ∷ ‵ (Tok s-gains) ∷ ‵ (Mut f64 s-affinities affinities′) ∷ ‵ (Tok s-affinities) ∷ ‵ (Mut u32 s-indices indices′) ∷ ‵ (Tok s-indices) ∷ ‵ (Mut u32 s-offsets offsets′) ∷ ‵ (Tok s-offsets) ∷ ‵ (Mut f64 s-forces forces′) ∷ ‵ (Tok s-forces) ∷ ‵ (Mut f64 s-table table′) ∷ ‵ (Tok s-table) ∷ ‵ (Shr u32 s-gone gone) ∷ ‵ (Tok s-gone) ∷ ‵ (Mut u32 s-old old′) ∷ ‵ (Tok s-old) ∷ [])) (Post (val-Took res))
-  exits res positions′ increments′ gains′ affinities′ indices′ offsets′ forces′ table′ old′  is le-positions le-increments le-gains le-affinities le-indices le-offsets le-forces le-table le-old e =
+  exits res positions′ increments′ gains′ affinities′ indices′ offsets′ forces′ table′ old′ is le-positions le-increments le-gains le-affinities le-indices le-offsets le-forces le-table le-old e =
       qed W (‵ (Mut f64 s-positions positions′) ∷ ‵ (Tok s-positions) ∷ ‵ (Mut f64 s-increments increments′) ∷ ‵ (Tok s-increments) ∷ ‵ (Mut f64 s-gains gains′) ∷ ‵ (Tok s-gains) ∷ ‵ (Mut f64 s-affinities affinities′) ∷ ‵ (Tok s-affinities) ∷ ‵ (Mut u32 s-indices indices′) ∷ ‵ (Tok s-indices) ∷ ‵ (Mut u32 s-offsets offsets′) ∷ ‵ (Tok s-offsets) ∷ ‵ (Mut f64 s-forces forces′) ∷ ‵ (Tok s-forces) ∷ ‵ (Mut f64 s-table table′) ∷ ‵ (Tok s-table) ∷ ‵ (Shr u32 s-gone gone) ∷ ‵ (Tok s-gone) ∷ ‵ (Mut u32 s-old old′) ∷ ‵ (Tok s-old) ∷ []) ∵
       suffices ! _ (ends-at 𝓤 H A f.ended stayed (f.clauses 𝓤 H A mem run-of) W (((s-positions .life, (s-increments .life, (s-gains .life, (s-affinities .life, (s-indices .life, (s-offsets .life, (s-forces .life, (s-table .life, (s-gone .life, (s-old .life, tt)))))))))), (s-positions .share, (s-increments .share, (s-gains .share, (s-affinities .share, (s-indices .share, (s-offsets .share, (s-forces .share, (s-table .share, (s-gone .share, (s-old .share, tt)))))))))), tt, x, at), tt) (val-Took res) res (tt, (positions′, (increments′, (gains′, (affinities′, (indices′, (offsets′, (forces′, (tt, (tt, (table′, (tt, (old′, tt))))))))))))) (tt, (le-positions ∙ sym ln-positions, (le-increments ∙ sym ln-increments, (le-gains ∙ sym ln-gains, (le-affinities ∙ sym ln-affinities, (le-indices ∙ sym ln-indices, (le-offsets ∙ sym ln-offsets, (le-forces ∙ sym ln-forces, (tt, (tt, (le-table ∙ sym ln-table, (tt, (le-old ∙ sym ln-old, tt)))))))))))))) $ says ! e $
       nothing ! $ move ! (20 ∷ 0 ∷ []) $ join ! $ move ! (18 ∷ 0 ∷ []) $ join ! $ move ! (16 ∷ 0 ∷ []) $ join ! $ move ! (14 ∷ 0 ∷ []) $ join ! $ move ! (12 ∷ 0 ∷ []) $ join ! $ move ! (10 ∷ 0 ∷ []) $ join ! $ move ! (8 ∷ 0 ∷ []) $ join ! $ move ! (6 ∷ 0 ∷ []) $ join ! $ move ! (4 ∷ 0 ∷ []) $ join ! $ move ! (2 ∷ 0 ∷ []) $ join ! $ frame ! $ nothing ! $ move ! (10 ∷ 0 ∷ []) $ fjoin ! $ move ! (9 ∷ 0 ∷ []) $ fjoin ! $ move ! (8 ∷ 0 ∷ []) $ fjoin ! $ owned ! usize (Is usize) (uint-makes 𝓤 H A W w64) k₀ _ (refl, g-k₀) $ fjoin ! $ owned ! (Array Cell′.the-row 4) (Is (Array Cell′.the-row 4)) (array-makes 𝓤 H A W Cell′.the-row ((LL.makes Cell′.the-type Cell″.the-plain) 𝓤 H A) 4) cells _ g-cells $ fjoin ! $ move ! (7 ∷ 0 ∷ []) $ fjoin ! $ move ! (6 ∷ 0 ∷ []) $ fjoin ! $ move ! (5 ∷ 0 ∷ []) $ fjoin ! $ move ! (4 ∷ 0 ∷ []) $ fjoin ! $ move ! (3 ∷ 0 ∷ []) $ fjoin ! $ move ! (2 ∷ 0 ∷ []) $ fjoin ! $ move ! (1 ∷ 0 ∷ []) $ fjoin ! $ owned ! Run′.the-row (Is Run′.the-row) ((LL.makes Run′.the-type Run″.the-plain) 𝓤 H A) r _ g-r $ fjoin ! $ frame ! $ owned ! Took′.the-row (Is Took′.the-row) ((LL.makes Took′.the-type Took″.the-plain) 𝓤 H A) res _ is $ done !
@@ -151,17 +151,17 @@ module _ {M : Type 1} (𝓤 : URA M) (H : Heap 𝓤) (A : Atoms 𝓤) (W : Given
         move ! (71 ∷ []) $
         lend-front-shr ! tt Cell′.the-row tt (LL.vals Cell′.the-type Cell″.the-laws) ((LL.makes Cell′.the-type Cell″.the-plain) 𝓤 H A) 4 l15 k₀ cells g-cells (lit< tt, lit< tt) ready (λ ν-own15 δ-own15 count-own15.
         move ! (3 ∷ 4 ∷ 6 ∷ 7 ∷ 8 ∷ 9 ∷ 10 ∷ 11 ∷ 12 ∷ 13 ∷ 14 ∷ 15 ∷ 16 ∷ 17 ∷ 18 ∷ 19 ∷ 0 ∷ 1 ∷ 20 ∷ 21 ∷ 22 ∷ 23 ∷ 24 ∷ 25 ∷ []) $
-        calls-take-out-rmmmmmmmcmcm ! fm mem run-of known-take-out (local-at l14 1 ν-own14 δ-own14) r s-positions positions s-increments increments s-gains gains s-affinities affinities s-indices indices s-offsets offsets s-forces forces (local-at l15 k₀ ν-own15 δ-own15) (take k₀ cells) s-table table s-gone gone s-old old ln-positions ln-increments ln-gains ln-affinities ln-indices ln-offsets ln-forces ln-table ln-old   (λ _ _ _ _ _ _ _ _ _ _ _ _ _. and-then ! (load ! (from ! (stop !)) (look ! 57 refl)) (and-then ! (load ! (from ! (stop !)) (look ! 53 refl)) (and-then ! (load ! (from ! (stop !)) (look ! 49 refl)) (and-then ! (load ! (from ! (stop !)) (look ! 45 refl)) (and-then ! (load ! (from ! (stop !)) (look ! 41 refl)) (and-then ! (load ! (from ! (stop !)) (look ! 37 refl)) (and-then ! (load ! (from ! (stop !)) (look ! 33 refl)) (and-then ! (load ! (from ! (stop !)) (look ! 29 refl)) (and-then ! (load ! (from ! (stop !)) (look ! 25 refl)) (and-then ! (load ! (from ! (stop !)) (look ! 21 refl)) (and-then ! (load ! (from ! (stop !)) (look ! 67 refl)) (and-then ! (load ! (from ! (stop !)) (look ! 17 refl)) (no-more !))))))))))))) (λ r1 own141 positions1 increments1 gains1 affinities1 indices1 offsets1 forces1 table1 old1 e1 is1 l-positions1 l-increments1 l-gains1 l-affinities1 l-indices1 l-offsets1 l-forces1 l-table1 l-old1.
+        calls-take-out-rmmmmmmmcmcm ! fm mem run-of known-take-out (local-at l14 1 ν-own14 δ-own14) r s-positions positions s-increments increments s-gains gains s-affinities affinities s-indices indices s-offsets offsets s-forces forces (local-at l15 k₀ ν-own15 δ-own15) (take k₀ cells) s-table table s-gone gone s-old old ln-positions ln-increments ln-gains ln-affinities ln-indices ln-offsets ln-forces ln-table ln-old (λ _ _ _ _ _ _ _ _ _ _ _ _ _. and-then ! (load ! (from ! (stop !)) (look ! 57 refl)) (and-then ! (load ! (from ! (stop !)) (look ! 53 refl)) (and-then ! (load ! (from ! (stop !)) (look ! 49 refl)) (and-then ! (load ! (from ! (stop !)) (look ! 45 refl)) (and-then ! (load ! (from ! (stop !)) (look ! 41 refl)) (and-then ! (load ! (from ! (stop !)) (look ! 37 refl)) (and-then ! (load ! (from ! (stop !)) (look ! 33 refl)) (and-then ! (load ! (from ! (stop !)) (look ! 29 refl)) (and-then ! (load ! (from ! (stop !)) (look ! 25 refl)) (and-then ! (load ! (from ! (stop !)) (look ! 21 refl)) (and-then ! (load ! (from ! (stop !)) (look ! 67 refl)) (and-then ! (load ! (from ! (stop !)) (look ! 17 refl)) (no-more !))))))))))))) (λ r1 own141 positions1 increments1 gains1 affinities1 indices1 offsets1 forces1 table1 old1 e1 is1 l-positions1 l-increments1 l-gains1 l-affinities1 l-indices1 l-offsets1 l-forces1 l-table1 l-old1.
         land ! (from ! (stop !)) (init ! 72 refl (typed-Taken r1 is1)) $
         move ! (0 ∷ 1 ∷ 25 ∷ []) $ back-struct ! tt Run′.the-row tt val-Run (LL.tells Run′.the-type Run″.the-laws) l14 ν-own14 δ-own14 own141 (λ is-own141.
         move ! (15 ∷ 16 ∷ 23 ∷ []) $ back-front-shr ! tt Cell′.the-row (LL.vals Cell′.the-type Cell″.the-laws) (LL.tells Cell′.the-type Cell″.the-laws) 4 l15 k₀ ν-own15 δ-own15 cells (g-cells .1 .0 .1) $
         assigns ! (of-opd ! (load ! (from ! (stop !)) (look ! 1 refl))) (from ! (stop !)) (init ! 22 refl (typed-Run own141 is-own141)) $
-        calls-took-of ! fm mem run-of known-took-of r1 own141 is1 is-own141  (λ _. and-then ! (load ! (from ! (stop !)) (look ! 69 refl)) (and-then ! (load ! (from ! (stop !)) (look ! 23 refl)) (no-more !))) (λ r2 e2 is2.
+        calls-took-of ! fm mem run-of known-took-of r1 own141 is1 is-own141 (λ _. and-then ! (load ! (from ! (stop !)) (look ! 69 refl)) (and-then ! (load ! (from ! (stop !)) (look ! 23 refl)) (no-more !))) (λ r2 e2 is2.
         land ! (from ! (stop !)) (init ! 66 refl (typed-Took r2 is2)) $
         assigns ! (of-opd ! (load ! (from ! (stop !)) (look ! 66 refl))) (from ! (stop !)) (init ! 98 refl (typed-Took r2 is2)) $
         returns ! (look ! 98 refl) $ forget ! 22 refl $ forget ! 24 refl $ forget ! 26 refl $ forget ! 28 refl $ forget ! 30 refl $ forget ! 32 refl $ forget ! 34 refl $ forget ! 36 refl $ forget ! 38 refl $ forget ! 40 refl $ forget ! 42 refl $ forget ! 44 refl $ forget ! 46 refl $ forget ! 48 refl $ forget ! 50 refl $ forget ! 52 refl $ forget ! 54 refl $ forget ! 56 refl $ forget ! 58 refl $ forget ! 60 refl $ forget ! 62 refl $ forget ! 64 refl $ forget ! 66 refl $ forget ! 68 refl $ forget ! 0 refl $ forget ! 1 refl $ forget ! 72 refl $ forget ! 74 refl $ forget ! 76 refl $ forget ! 78 refl $ forget ! 80 refl $ forget ! 82 refl $ forget ! 84 refl $ forget ! 86 refl $ forget ! 88 refl $ forget ! 90 refl $ forget ! 92 refl $ forget ! 94 refl $ forget ! 96 refl $ forget ! 98 refl $
         move ! (98 ∷ 99 ∷ []) $ free1 ! $ move ! (96 ∷ 97 ∷ []) $ free1 ! $ move ! (94 ∷ 95 ∷ []) $ free1 ! $ move ! (92 ∷ 93 ∷ []) $ free1 ! $ move ! (90 ∷ 91 ∷ []) $ free1 ! $ move ! (88 ∷ 89 ∷ []) $ free1 ! $ move ! (86 ∷ 87 ∷ []) $ free1 ! $ move ! (84 ∷ 85 ∷ []) $ free1 ! $ move ! (82 ∷ 83 ∷ []) $ free1 ! $ move ! (80 ∷ 81 ∷ []) $ free1 ! $ move ! (78 ∷ 79 ∷ []) $ free1 ! $ move ! (76 ∷ 77 ∷ []) $ free1 ! $ move ! (74 ∷ 75 ∷ []) $ free1 ! $ move ! (72 ∷ 73 ∷ []) $ free1 ! $ move ! (1 ∷ 71 ∷ []) $ free1 ! $ move ! (0 ∷ 69 ∷ []) $ free1 ! $ move ! (66 ∷ 67 ∷ []) $ free1 ! $ move ! (64 ∷ 65 ∷ []) $ free1 ! $ move ! (62 ∷ 63 ∷ []) $ free1 ! $ move ! (60 ∷ 61 ∷ []) $ free1 ! $ move ! (58 ∷ 59 ∷ []) $ free1 ! $ move ! (56 ∷ 57 ∷ []) $ free1 ! $ move ! (54 ∷ 55 ∷ []) $ free1 ! $ move ! (52 ∷ 53 ∷ []) $ free1 ! $ move ! (50 ∷ 51 ∷ []) $ free1 ! $ move ! (48 ∷ 49 ∷ []) $ free1 ! $ move ! (46 ∷ 47 ∷ []) $ free1 ! $ move ! (44 ∷ 45 ∷ []) $ free1 ! $ move ! (42 ∷ 43 ∷ []) $ free1 ! $ move ! (40 ∷ 41 ∷ []) $ free1 ! $ move ! (38 ∷ 39 ∷ []) $ free1 ! $ move ! (36 ∷ 37 ∷ []) $ free1 ! $ move ! (34 ∷ 35 ∷ []) $ free1 ! $ move ! (32 ∷ 33 ∷ []) $ free1 ! $ move ! (30 ∷ 31 ∷ []) $ free1 ! $ move ! (28 ∷ 29 ∷ []) $ free1 ! $ move ! (26 ∷ 27 ∷ []) $ free1 ! $ move ! (24 ∷ 25 ∷ []) $ free1 ! $ move ! (22 ∷ 23 ∷ []) $ free1 ! $ move ! (20 ∷ 21 ∷ []) $ free1 ! $ free0 ! $
-        keep ! (0 ∷ 1 ∷ 2 ∷ 3 ∷ 4 ∷ 5 ∷ 6 ∷ 7 ∷ 8 ∷ 9 ∷ 10 ∷ 11 ∷ 12 ∷ 13 ∷ 14 ∷ 15 ∷ 16 ∷ 17 ∷ 18 ∷ 19 ∷ []) $ by ! (exits r2 positions1 increments1 gains1 affinities1 indices1 offsets1 forces1 table1 old1  is2 l-positions1 l-increments1 l-gains1 l-affinities1 l-indices1 l-offsets1 l-forces1 l-table1 l-old1 (took-told positions1 increments1 gains1 affinities1 indices1 offsets1 forces1 (take k₀ cells) table1 old1 _ own141 r1 e1 r2 e2)))))))))))))))))))))))))))))))))))))))))))))))
+        keep ! (0 ∷ 1 ∷ 2 ∷ 3 ∷ 4 ∷ 5 ∷ 6 ∷ 7 ∷ 8 ∷ 9 ∷ 10 ∷ 11 ∷ 12 ∷ 13 ∷ 14 ∷ 15 ∷ 16 ∷ 17 ∷ 18 ∷ 19 ∷ []) $ by ! (exits r2 positions1 increments1 gains1 affinities1 indices1 offsets1 forces1 table1 old1 is2 l-positions1 l-increments1 l-gains1 l-affinities1 l-indices1 l-offsets1 l-forces1 l-table1 l-old1 (took-told positions1 increments1 gains1 affinities1 indices1 offsets1 forces1 (take k₀ cells) table1 old1 _ own141 r1 e1 r2 e2)))))))))))))))))))))))))))))))))))))))))))))))
 
 module _ {M : Type 1} (𝓤 : URA M) (H : Heap 𝓤) (A : Atoms 𝓤) (W : Given 𝓤 H A) (mem : Memory → SProp 𝓤) (run-of : Routine → Fun 𝓤) where
   take-lent-walks : (C : Calls 𝓤 H) (Λ : Loops 𝓤 H) → FmC 𝓤 H (W .laws) C → Triple 𝓤 (C #take-out·take-out) (Contract-take-out 𝓤 H A mem run-of) → Triple 𝓤 (C #replay-take-out·lending·took-of) (Contract-took-of 𝓤 H A mem run-of) → Walks 𝓤 H A f.ended stayed (WpFn 𝓤 H C Λ code.function) (f.clauses 𝓤 H A mem run-of)
