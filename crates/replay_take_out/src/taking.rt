@@ -40,7 +40,7 @@ fn words_of(r: Run) -> [u64; 14] {
     words
 }
 
-// The words from i on.
+// Whether they are the words from a on.
 fn same_record(words: [u64; 14], list: &[u8], a: usize) -> bool {
     let mut i: usize = 0;
     while i < 14 {
@@ -52,7 +52,7 @@ fn same_record(words: [u64; 14], list: &[u8], a: usize) -> bool {
     true
 }
 
-// How many are left.
+// How many are left; nothing comes with a refusal.
 fn left(v: Verdict) -> u64 {
     match v {
         Verdict::Left(m) => m as u64,
@@ -79,7 +79,7 @@ struct Told {
     words: [u64; 14],
 }
 
-// Number and value are the words from i on, and the record follows.
+// Number and value are the words from i on, and those of the record follow.
 fn same_told(t: Told, list: &[u8], i: usize) -> bool {
     let a = t.answer;
     let words = t.words;
