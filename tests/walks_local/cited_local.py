@@ -1,6 +1,6 @@
 """What the printed walks of functions that lend locals cite (as tests/walks/cited.py). within: that the count of a part that is lent is at most the array's length."""
 
-HOME = {'record_words::run_of': 'fault_words', 'record_words::run_fine': 'words_entry', 'fault_words::unread_fault': 'words_entry', 'words_entry::words_fault': 'park', 'answer_words::put_after': 'desk_work', 'answer_words::put_answer': 'desk_work', 'desk_work::host_work': 'desk', 'divergence::divergence': 'desk_divergence', 'desk_divergence::host_divergence': 'desk', 'desk_park::host_park': 'desk', 'take_out::take_out': 'desk_take', 'desk_take::host_take_out': 'desk'}
+HOME = {'record_words::run_of': 'fault_words', 'record_words::run_fine': 'words_entry', 'fault_words::unread_fault': 'words_entry', 'words_entry::words_fault': 'park', 'answer_words::put_after': 'desk_work', 'answer_words::put_answer': 'desk_work', 'desk_work::host_work': 'desk', 'divergence::divergence': 'desk_divergence', 'desk_divergence::host_divergence': 'desk', 'desk_park::host_park': 'desk', 'desk_take::host_take_out': 'desk'}
 
 WALKS = {
     'lent_examples::put_in': dict(req={'put_cell': '(subst (λ (m : ℕ). i < m) (sym {len_own4}) ready)'}, returns=['e1']),
@@ -48,4 +48,5 @@ WALKS = {
     'bench_mapping::work_on': dict(returns=['(ap (λ (w : Worked). w .answer) e1, ap (λ (w : Worked). w .left .memory .positions) e1)'], uses=['Rattle.run_budget.specs.Budget.{Worked}']),
     'replay_park::lending::park_in': dict(within='ready', returns=['e1']),
     'replay_descent::lending::work_lent': dict(within='ready', uses=['Told.{left-told}'], returns=['(left-told k₀ cells positions1 increments1 gains1 affinities indices offsets forces1 _ {own12} r1 own131 e1 {len_own13} r2 e2)']),
+    'replay_take_out::lending::take_lent': dict(within='ready', uses=['Told.{took-told}'], returns=['(took-told positions1 increments1 gains1 affinities1 indices1 offsets1 forces1 (take k₀ cells) table1 old1 _ {own14} r1 e1 r2 e2)']),
 }

@@ -1,4 +1,3 @@
 pub mod Laws
-pub mod CallsTakeOut
 pub mod CallsPutSize
 pub mod CallsPutTaken

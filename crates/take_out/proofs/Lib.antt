@@ -4,3 +4,4 @@ pub mod Calls
 pub mod Values
 mod ByValue
 mod CallsTakeTested
+pub mod CallsTakeOut

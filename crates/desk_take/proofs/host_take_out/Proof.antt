@@ -65,7 +65,7 @@ use Rattle.fault_words.proofs.CallsRunOf.{Contract-run-of, calls-run-of-s}
 use Rattle.record_words.proofs.run_of.Symbol as run-of-def
 use Rattle.record_words.proofs.run_of.Symbol.{name as #record-words·run-of}
 use Rattle.record_words.proofs.run_of.Met as run-of-thm
-use Rattle.desk_take.proofs.CallsTakeOut.{Contract-take-out, calls-take-out-rmmmmmmmcmcm}
+use Rattle.take_out.proofs.CallsTakeOut.{Contract-take-out, calls-take-out-rmmmmmmmcmcm}
 use Rattle.take_out.proofs.take_out.Symbol as take-out-def
 use Rattle.take_out.proofs.take_out.Symbol.{name as #take-out·take-out}
 use Rattle.take_out.proofs.take_out.Met as take-out-thm
