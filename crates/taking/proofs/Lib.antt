@@ -6,3 +6,4 @@ pub mod Composed
 pub mod TwicePacked
 pub mod Twice
 pub mod Removals
+pub mod Words

@@ -1,0 +1,55 @@
+-- Removals through words: the record's words afterwards say the record that is left, so a removal that answers 0 leaves words and areas that are an honest state. Assumes nothing.
+use mathlib.Core.Path.{_≡_, refl, sym, ap, subst, _∙_}
+use mathlib.Core.List.{List}
+use mathlib.Core.Bool.{Bool, true, false}
+use Prim.Native.Nat.{ℕ, _*_, _<_, _≤_}
+use native.Mathlib.Omega.{arith}
+use lib.ListN.{length, set, length-set}
+use lib.Seq.{getD-set-same, getD-set-other}
+use lib.Ieee.{Float}
+use Rattle.laws.specs.Area.{num}
+use Rattle.laws.proofs.Bools.{by-bool}
+use Rattle.run_record.specs.declared.Run.{Run}
+use Rattle.run_entry.specs.State.{State, Memory, state}
+use Rattle.record_words.specs.RecordWords.{settingsOf, standingOf, runOf}
+use Rattle.fault_words.specs.FaultWords.{unfit}
+use Rattle.fault_words.proofs.Fit.{fit-long}
+use Rattle.take_gone.specs.Gone.{survivors}
+use Rattle.take_left.specs.declared.Outlook.the-variants.{Left}
+use Rattle.take_left.specs.Outlook.{thinned, thinnedRun}
+use Rattle.take_out.specs.declared.Taken.the-variants.{Told}
+use Rattle.take_out.specs.TakeOut.{takeOut, takeNumber}
+use Rattle.desk_take.specs.HostTake.{sizePut, hostTook, takenIn, hostTake}
+use Rattle.descent.specs.Honest.{Honest}
+use Rattle.taking.proofs.Accepted.{refused-changes-nothing, no-number-left, accepted, accepted-count}
+use Rattle.taking.proofs.Honest.{what-is-left-is-honest}
+
+-- ---- the two words
+
+module _ (w : List ℕ) (n u : ℕ) (h : 14 ≤ length w) where
+  abbrev put : List ℕ
+  put = set (set w 0 n) 12 u
+
+  other : (i : ℕ) → (i ≡ 12 → ⊥) → (i ≡ 0 → ⊥) → num put i ≡ num w i
+  other i a b = getD-set-other (set w 0 n) 12 i u 0 a ∙ getD-set-other w 0 i n 0 b
+
+  samples : num put 0 ≡ n
+  samples = getD-set-other (set w 0 n) 12 0 u 0 (λ e. omega arith) ∙ getD-set-same w 0 n 0 (omega arith)
+
+  total : num put 12 ≡ u
+  total = getD-set-same (set w 0 n) 12 u 0 (omega (arith, length-set w 0 n))
+
+  -- what they say with the words beside them
+  said : runOf put ≡ record { settings = thinned (settingsOf w) n; standing = standingOf (num w 9); done = num w 10; phase = num w 11; units = u; used = num w 13 }
+  unfolding runOf settingsOf thinned
+  said = rw (samples, total, other 1 (λ e. omega arith) (λ e. omega arith), other 2 (λ e. omega arith) (λ e. omega arith), other 3 (λ e. omega arith) (λ e. omega arith), other 4 (λ e. omega arith) (λ e. omega arith), other 5 (λ e. omega arith) (λ e. omega arith), other 6 (λ e. omega arith) (λ e. omega arith), other 7 (λ e. omega arith) (λ e. omega arith), other 8 (λ e. omega arith) (λ e. omega arith), other 9 (λ e. omega arith) (λ e. omega arith), other 10 (λ e. omega arith) (λ e. omega arith), other 11 (λ e. omega arith) (λ e. omega arith), other 13 (λ e. omega arith) (λ e. omega arith))
+
+-- the words of the record that they were read from stay as they say
+size-same : (w : List ℕ) → 14 ≤ length w → runOf (sizePut (runOf w) w) ≡ runOf w
+unfolding sizePut runOf settingsOf thinned
+size-same w h = said w (num w 0) (num w 12) h
+
+-- those of the record of m samples say it, between two iterations
+size-thinned : (w : List ℕ) (m : ℕ) → 14 ≤ length w → runOf w .phase ≡ 0 → runOf (sizePut (thinnedRun (runOf w) m) w) ≡ thinnedRun (runOf w) m
+unfolding sizePut runOf thinnedRun
+size-thinned w m h p = ?
