@@ -19,7 +19,7 @@ use Rattle.run_record.specs.Record.{isTree, sizesOf, lateFault, GoodSettings}
 use Rattle.take_gone.specs.Gone.{goneFine, survivors, Climbs}
 use Rattle.take_gone.proofs.Left.{survivors-count, survivors-few, survivors-climb, gone-climbs}
 use Rattle.take_rows.proofs.Survive.{survivors-kept}
-use Rattle.take_means.specs.CalmLeft.{calmLeft}
+use Rattle.take_calm.specs.CalmLeft.{calmLeft}
 use Rattle.take_lists.specs.Packed.{linksLeft, Listed}
 use Rattle.take_lists.proofs.Bounds.{before-all}
 use Rattle.take_left.specs.declared.Outlook.{Outlook}

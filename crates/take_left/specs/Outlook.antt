@@ -13,7 +13,7 @@ use Rattle.run_record.specs.declared.Settings.{Settings}
 use Rattle.run_record.specs.declared.Run.{Run}
 use Rattle.run_record.specs.Record.{isTree, sizesOf, perOf, GoodSettings}
 use Rattle.take_gone.specs.Gone.{goneFine, survivors, Climbs}
-use Rattle.take_means.specs.CalmLeft.{calmLeft}
+use Rattle.take_calm.specs.CalmLeft.{calmLeft}
 use Rattle.take_lists.specs.Packed.{linksLeft, Listed}
 use Rattle.take_left.specs.declared.Outlook.{Outlook}
 use Rattle.take_left.specs.declared.Outlook.the-variants.{Left, Inside, Unordered, Few, Perplexed, Crowded, Barred}

@@ -16,7 +16,7 @@ use run_record::faults::late_fault;
 use run_record::faults::sizes_of;
 use take_gone::gone_fine;
 use take_lists::links_left;
-use take_means::is_calm_left;
+use take_calm::is_calm_left;
 
 // What the tests say.
 pub enum Outlook {
@@ -37,7 +37,7 @@ pub enum Outlook {
 }
 
 // The settings of m samples.
-pub fn thinned_settings(s: Settings, m: usize) -> Settings
+fn thinned_settings(s: Settings, m: usize) -> Settings
     ensures { λ t. ⌜ t ≡ thinned s m ⌝ }
 {
     let method = s.method;

@@ -20,10 +20,10 @@ use Rattle.take_gone.proofs.Left.{survivors-climb, survivors-few}
 use Rattle.areas.specs.Filled.{filled}
 use Rattle.take_rows.specs.Rows.{shrunk, keptRows, centredRows, Staying, Means}
 use Rattle.take_rows.proofs.Survive.{survivors-kept}
-use Rattle.take_means.specs.CalmLeft.{meanAt}
-use Rattle.take_means.proofs.Over.{means-written}
+use Rattle.take_calm.specs.CalmLeft.{meanAt}
+use Rattle.take_calm.proofs.Over.{means-written}
 use Rattle.take_lists.specs.Packed.{Listed}
-use Rattle.take_out.specs.TakeOut.{Holdings, holdings, lentPositions, affinitiesLeft, indicesPacked, offsetsPacked, packedAreas, TakeRoom, ValuesRoom, LinksRoom, PackRoom}
+use Rattle.take_out.specs.TakeOut.{Holdings, holdings, lentPositions, affinitiesAfter, indicesAfter, offsetsAfter, packedAreas, TakeRoom, ValuesRoom, LinksRoom, PackRoom}
 
 -- ---- the positions that count as lent
 
@@ -75,7 +75,7 @@ module _ {s : Settings} {g : List ℕ} {h : Holdings} (r : PackRoom s g h) where
       × (i ≡ shrunk zero64 (s .n * s .c) (keptRows keep (s .c) (h .increments)) (h .increments))
       × (v ≡ shrunk zero64 (s .n * s .c) (keptRows keep (s .c) (h .gains)) (h .gains))
       × (t ≡ shrunk zero64 (s .n * s .f) (keptRows keep (s .f) (h .table)) (h .table))
-      → (a ≡ affinitiesLeft s keep (h .affinities) (h .indices) (h .offsets)) × (x ≡ indicesPacked s keep (h .indices) (h .offsets)) × (o ≡ offsetsPacked s keep (h .indices) (h .offsets))
+      → (a ≡ affinitiesAfter s keep (h .affinities) (h .indices) (h .offsets)) × (x ≡ indicesAfter s keep (h .indices) (h .offsets)) × (o ≡ offsetsAfter s keep (h .indices) (h .offsets))
       → f ≡ filled zero64 (s .n * (2 * s .c + 1)) (h .forces)
       → holdings p i v a x o f t old ≡ packedAreas s (survivors g (s .n)) h
   unfolding packedAreas

@@ -1,4 +1,4 @@
--- Once the entry tests have been made: what each way leaves, and what a outlook that lets the call go on has shown. Assumes nothing.
+-- Once the entry tests have been made: what each way leaves, and what an outlook that lets the call go on has shown. Assumes nothing.
 use mathlib.Core.Path.{_≡_, refl, sym, ap, subst, _∙_}
 use mathlib.Core.Logic.{⊎-elim}
 use mathlib.Core.List.{List}
@@ -23,7 +23,7 @@ use Rattle.take_out.specs.declared.Taken.{Taken}
 use Rattle.take_out.specs.declared.Taken.the-variants.{Told, Bad}
 use Rattle.take_out.specs.TakeOut.{Holdings, isAccepted, packedAreas, tookOut, takeTested, TakeRoom, PackRoom}
 
--- a outlook that lets the call go on comes of a list that is in order
+-- an outlook that lets the call go on comes of a list that is in order
 pub accepted-fine : (r : Run) (g : List ℕ) (y : List Float) (I O : List ℕ) → isAccepted (outlookOf r g y I O) ≡ true → goneFine g (r .settings .n) ≡ true
 accepted-fine r g y I O e = elim (ℕ-discrete (r .phase) 0) [
   | yes p ↦ ⊎-elim (λ f. f) (λ f. absurd (true≢false (sym e ∙ ap isAccepted (sym (judged-unordered r g y I O p f))))) (two (goneFine g (r .settings .n)))

@@ -42,7 +42,7 @@ holdings p i g a x o f t q = record { positions = p; increments = i; gains = g; 
 
 -- ---- the tests
 
--- 12 also for a table below n·f or fewer than n old places: then no position counts as lent
+-- 12 also for a table below n·f or fewer than n old places: then no position counts as lent. (Where the settings are bad nothing is asked of the areas, and n·f need not be worked out.)
 unfoldable pub lentPositions : Settings → ℕ → ℕ → ℕ → ℕ
 lentPositions s p t q = cond (not (eqb (settingsFault s) 0) || (leb (s .n * s .f) t && leb (s .n) q)) p 0
 
@@ -62,14 +62,14 @@ isAccepted Barred = false
 -- ---- what is left
 
 -- keep: the old places of the survivors; W, I and O: affinities, indices and offsets. An exact run has a matrix and no lists
-unfoldable pub affinitiesLeft : Settings → List ℕ → List Float → List ℕ → List ℕ → List Float
-affinitiesLeft s keep W I O = cond (isTree (s .method)) (shrunk zero64 (num O (s .n)) (packedWeights keep W I O) W) (shrunk zero64 (s .n * s .n) (keptSquare keep (s .n) W) W)
+unfoldable pub affinitiesAfter : Settings → List ℕ → List Float → List ℕ → List ℕ → List Float
+affinitiesAfter s keep W I O = cond (isTree (s .method)) (shrunk zero64 (num O (s .n)) (packedWeights keep W I O) W) (shrunk zero64 (s .n * s .n) (keptSquare keep (s .n) W) W)
 
-unfoldable pub indicesPacked : Settings → List ℕ → List ℕ → List ℕ → List ℕ
-indicesPacked s keep I O = cond (isTree (s .method)) (shrunk 0 (num O (s .n)) (packedIndices keep I O) I) I
+unfoldable pub indicesAfter : Settings → List ℕ → List ℕ → List ℕ → List ℕ
+indicesAfter s keep I O = cond (isTree (s .method)) (shrunk 0 (num O (s .n)) (packedIndices keep I O) I) I
 
-unfoldable pub offsetsPacked : Settings → List ℕ → List ℕ → List ℕ → List ℕ
-offsetsPacked s keep I O = cond (isTree (s .method)) (shrunk 0 (s .n + 1) (packedOffsets keep I O) O) O
+unfoldable pub offsetsAfter : Settings → List ℕ → List ℕ → List ℕ → List ℕ
+offsetsAfter s keep I O = cond (isTree (s .method)) (shrunk 0 (s .n + 1) (packedOffsets keep I O) O) O
 
 -- survivors close ranks, zeros follow up to the old sizes; all forces are zero
 unfoldable pub packedAreas : Settings → List ℕ → Holdings → Holdings
@@ -77,9 +77,9 @@ packedAreas s keep h = record {
   positions = shrunk zero64 (s .n * s .c) (centredRows keep (s .c) (h .positions)) (h .positions);
   increments = shrunk zero64 (s .n * s .c) (keptRows keep (s .c) (h .increments)) (h .increments);
   gains = shrunk zero64 (s .n * s .c) (keptRows keep (s .c) (h .gains)) (h .gains);
-  affinities = affinitiesLeft s keep (h .affinities) (h .indices) (h .offsets);
-  indices = indicesPacked s keep (h .indices) (h .offsets);
-  offsets = offsetsPacked s keep (h .indices) (h .offsets);
+  affinities = affinitiesAfter s keep (h .affinities) (h .indices) (h .offsets);
+  indices = indicesAfter s keep (h .indices) (h .offsets);
+  offsets = offsetsAfter s keep (h .indices) (h .offsets);
   forces = filled zero64 (s .n * (2 * s .c + 1)) (h .forces);
   table = shrunk zero64 (s .n * s .f) (keptRows keep (s .f) (h .table)) (h .table);
   old = keep ++ drop (length keep) (h .old);

@@ -8,7 +8,7 @@ ghost use Rattle.run_entry.specs.State.{memory, state};
 ghost use Rattle.run_entry.specs.Entry.{isFine};
 ghost use Rattle.take_gone.specs.Gone.{survivors};
 ghost use Rattle.take_rows.specs.Rows.{shrunk, keptRows, centredRows};
-ghost use Rattle.take_out.specs.TakeOut.{holdings, lentPositions, isAccepted, affinitiesLeft, indicesPacked, offsetsPacked, packedAreas, tookOut, takeTested, takeOutcome, takeOut, takeNumber, TakeRoom, ValuesRoom, LinksRoom, PackRoom};
+ghost use Rattle.take_out.specs.TakeOut.{holdings, lentPositions, isAccepted, affinitiesAfter, indicesAfter, offsetsAfter, packedAreas, tookOut, takeTested, takeOutcome, takeOut, takeNumber, TakeRoom, ValuesRoom, LinksRoom, PackRoom};
 use areas::fill;
 use run_entry::Fault;
 use run_entry::fault_at;
@@ -24,7 +24,7 @@ use take_left::Outlook;
 use take_left::look_ahead;
 use take_left::thinned_run;
 use take_lists::pack_lists;
-use take_means::means_left;
+use take_calm::means_left;
 use take_rows::pack_centred;
 use take_rows::pack_rows;
 use take_rows::pack_square;
@@ -111,9 +111,9 @@ fn pack_affinities(
 )
     requires { ⌜ LinksRoom s (now keep) (length (now affinities)) (length (now indices)) (now offsets) ⌝ }
     ensures { λ _. ⌜
-        (now (affinities .exit) ≡ affinitiesLeft s (now (keep .entry)) (now (affinities .entry)) (now (indices .entry)) (now (offsets .entry)))
-        × (now (indices .exit) ≡ indicesPacked s (now (keep .entry)) (now (indices .entry)) (now (offsets .entry)))
-        × (now (offsets .exit) ≡ offsetsPacked s (now (keep .entry)) (now (indices .entry)) (now (offsets .entry)))
+        (now (affinities .exit) ≡ affinitiesAfter s (now (keep .entry)) (now (affinities .entry)) (now (indices .entry)) (now (offsets .entry)))
+        × (now (indices .exit) ≡ indicesAfter s (now (keep .entry)) (now (indices .entry)) (now (offsets .entry)))
+        × (now (offsets .exit) ≡ offsetsAfter s (now (keep .entry)) (now (indices .entry)) (now (offsets .entry)))
         ⌝ }
 {
     let m = s.method;

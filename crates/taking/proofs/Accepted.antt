@@ -22,7 +22,7 @@ use Rattle.run_entry.specs.declared.Fault.the-variants.{Fine, Settings as BadSe
 use Rattle.run_entry.specs.Entry.{isFine, recordFault, areasFit, faultAt, faultOf, faultNumber, Good}
 use Rattle.run_entry.proofs.Laws.{record-fine, areas-fine, fault-fine}
 use Rattle.take_gone.specs.Gone.{goneFine, survivors}
-use Rattle.take_means.specs.CalmLeft.{calmLeft}
+use Rattle.take_calm.specs.CalmLeft.{calmLeft}
 use Rattle.take_left.specs.declared.Outlook.{Outlook}
 use Rattle.take_left.specs.declared.Outlook.the-variants.{Left, Inside, Unordered, Few, Perplexed, Crowded, Barred}
 use Rattle.take_left.specs.Outlook.{thinnedRun, crowded, outlookOf, outlookNumber}

@@ -29,7 +29,7 @@ use Rattle.take_left.specs.declared.Outlook.the-variants.{Left}
 use Rattle.take_left.specs.Outlook.{thinned, thinnedRun, crowded}
 use Rattle.take_left.proofs.Judged.{thinned-fine}
 use Rattle.take_out.specs.declared.Taken.the-variants.{Told}
-use Rattle.take_out.specs.TakeOut.{Holdings, TakeOutcome, indicesPacked, offsetsPacked, packedAreas, held, afterTaking, takeOut, takeNumber}
+use Rattle.take_out.specs.TakeOut.{Holdings, TakeOutcome, indicesAfter, offsetsAfter, packedAreas, held, afterTaking, takeOut, takeNumber}
 use Rattle.descent.specs.Descent.{work, workNumber, isLast, wholeUnits, works}
 use Rattle.descent.specs.Honest.{Honest, Roomy}
 use Rattle.descent.proofs.Theorems.{OneCall, demand-three, SoMany, after-each, stays-honest, ends-in-time, never-14, Refused, refusal}
@@ -177,7 +177,7 @@ module _ (g : List ℕ) (s : State) (t : List Float) (q : List ℕ) (a : Accepte
   links-fit x = ltb-false (sizesOf (thinned (s .run .settings) (length keep)) .links) (linksLeft keep (s .memory .indices) (s .memory .offsets)) (rw x at (a .passed .room))
 
   contents-left : isTree (s .run .settings .method) ≡ true → GoodContents (length keep) (thinnedRun (s .run) (length keep)) (after .indices) (after .offsets) (s .memory .nodes)
-  unfolding packedAreas indicesPacked offsetsPacked thinnedRun thinned
+  unfolding packedAreas indicesAfter offsetsAfter thinnedRun thinned
   contents-left x =
       let I = s .memory .indices in
       let O = s .memory .offsets in

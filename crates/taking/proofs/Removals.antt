@@ -3,14 +3,14 @@ use mathlib.Core.Path.{_≡_, refl, sym, ap, subst, _∙_}
 use mathlib.Core.Logic.{_⊎_, inl, inr, ⊎-elim}
 use mathlib.Core.List.{List, _++_}
 use mathlib.Core.Bool.{true, false}
-use Prim.Native.Nat.{ℕ, _+_, _-_, _<_, _≤_}
+use Prim.Native.Nat.{ℕ, _+_, _-_, _*_, _<_, _≤_}
 use native.Mathlib.Omega.{arith}
 use lib.IntN.{pos}
 use lib.ListN.{length, drop, replicate, List·getD-append}
-use lib.Ieee.{Float, binary64, ofInt, lt}
+use lib.Ieee.{Float, nan, binary64, ofInt, lt}
 use Rattle.laws.proofs.Bools.{by-bool, two}
 use borrow.Author.Tests.{ltb-false, le-ltb}
-use Rattle.laws.specs.Area.{num, zero64}
+use Rattle.laws.specs.Area.{at, num, zero64}
 use Rattle.run_record.specs.declared.Settings.{Settings}
 use Rattle.run_record.specs.Record.{isTree, sizesOf}
 use Rattle.run_entry.specs.State.{State}
@@ -21,18 +21,18 @@ use Rattle.take_gone.proofs.Left.{survivors-climb}
 use Rattle.take_rows.specs.Rows.{shrunk}
 use Rattle.take_rows.proofs.Survive.{survivors-kept}
 use Rattle.take_lists.specs.Packed.{linksLeft, packedIndices, packedWeights, packedOffsets, Listed}
-use Rattle.take_means.specs.CalmLeft.{calmLeft}
+use Rattle.take_calm.specs.CalmLeft.{calmLeft}
 use Rattle.take_lists.proofs.Theorems.{BetweenSurvivors, links-between-survivors}
 use Rattle.take_left.specs.declared.Outlook.the-variants.{Left, Barred}
 use Rattle.take_left.specs.Outlook.{thinned, thinnedRun, crowded}
 use Rattle.take_left.proofs.Judged.{exact-not-crowded, judged-left, judged-barred}
 use Rattle.take_out.specs.declared.Taken.the-variants.{Told}
-use Rattle.take_out.specs.TakeOut.{TakeOutcome, affinitiesLeft, indicesPacked, offsetsPacked, packedAreas, held, afterTaking, takeFault, takeOut}
+use Rattle.take_out.specs.TakeOut.{TakeOutcome, affinitiesAfter, indicesAfter, offsetsAfter, packedAreas, held, afterTaking, takeFault, takeOut}
 use Rattle.taking.specs.Union.{Union}
 use Rattle.taking.proofs.Accepted.{outlook-told, long-enough-told, Passes, tookFrom, Accepted, accepted}
 use Rattle.taking.proofs.Honest.{entered-room}
 use Rattle.taking.proofs.Composed.{survivors-union, through-size, through-at}
-use Rattle.taking.proofs.TwicePacked.{links-left-twice}
+use Rattle.taking.proofs.TwicePacked.{row-at, links-left-twice}
 use Rattle.taking.proofs.Twice.{twice-as-once, CentredTwice, positions-centred-twice}
 
 -- ---- two removals
@@ -166,7 +166,7 @@ module _ (g1 g2 u : List ℕ) (s : State) (t : List Float) (q1 q2 q3 : List ℕ)
 
   links-one : isTree (s .run .settings .method) ≡ true
       → linksLeft keepB (next .memory .indices) (next .memory .offsets) ≡ linksLeft keepU (s .memory .indices) (s .memory .offsets)
-  unfolding packedAreas indicesPacked offsetsPacked
+  unfolding packedAreas indicesAfter offsetsAfter
   links-one b =
       let n = s .run .settings .n in
       let I = s .memory .indices in
@@ -230,7 +230,7 @@ pub record LinksLeft (g : List ℕ) (s x : State) : Type 0 where
   pub between : BetweenSurvivors (survivors g (s .run .settings .n)) (s .memory .affinities) (s .memory .indices) (s .memory .offsets)
 
 links-of : (g : List ℕ) (s : State) (t : List Float) (q : List ℕ) → isTree (s .run .settings .method) ≡ true → LinksLeft g s (done g s t q .left)
-unfolding packedAreas affinitiesLeft indicesPacked offsetsPacked
+unfolding packedAreas affinitiesAfter indicesAfter offsetsAfter
 links-of g s t q b = record {
   offsets = rw b;
   indices = rw b;
@@ -239,6 +239,17 @@ links-of g s t q b = record {
 }
 
 -- THEOREM: the links and weights that a removal leaves are those between survivors
-pub links-left-among : (g : List ℕ) (s : State) (t : List Float) (q : List ℕ) (m : ℕ) → takeOut g s t q .answer ≡ Told (Left m) → isTree (s .run .settings .method) ≡ true
+pub links-left-told : (g : List ℕ) (s : State) (t : List Float) (q : List ℕ) (m : ℕ) → takeOut g s t q .answer ≡ Told (Left m) → isTree (s .run .settings .method) ≡ true
     → LinksLeft g s (takeOut g s t q .left)
-links-left-among g s t q m a b = subst (λ (o : TakeOutcome). LinksLeft g s (o .left)) (sym (accepted g s t q m a .outcome)) (links-of g s t q b)
+links-left-told g s t q m a b = subst (λ (o : TakeOutcome). LinksLeft g s (o .left)) (sym (accepted g s t q m a .outcome)) (links-of g s t q b)
+
+-- the same of an exact run: the value for survivors i and j is the one that the matrix had for them
+pub matrix-left-told : (g : List ℕ) (s : State) (t : List Float) (q : List ℕ) (m : ℕ) → takeOut g s t q .answer ≡ Told (Left m) → isTree (s .run .settings .method) ≡ false
+    → (i j : ℕ) → i < length (survivors g (s .run .settings .n)) → j < length (survivors g (s .run .settings .n))
+    → at (takeOut g s t q .left .memory .affinities) (i * length (survivors g (s .run .settings .n)) + j)
+      ≡ at (s .memory .affinities) (num (survivors g (s .run .settings .n)) i * s .run .settings .n + num (survivors g (s .run .settings .n)) j)
+unfolding packedAreas affinitiesAfter
+matrix-left-told g s t q m a b i j hi hj =
+    let keep = survivors g (s .run .settings .n) in
+    ap (λ (o : TakeOutcome). at (o .left .memory .affinities) (i * length keep + j)) (accepted g s t q m a .outcome)
+    ∙ rw b (row-at (λ i j. at (s .memory .affinities) (num keep i * s .run .settings .n + num keep j)) (length keep) (length keep) i j _ nan hi hj)

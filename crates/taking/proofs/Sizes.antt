@@ -21,7 +21,7 @@ use Rattle.take_lists.specs.Packed.{packedIndices, packedWeights, packedOffsets
 use Rattle.take_lists.proofs.Bounds.{packed-offsets-size}
 use Rattle.take_lists.proofs.Theorems.{packed-indices-count, packed-weights-count, links-left-few, packed-listed}
 use Rattle.take_left.specs.Outlook.{thinned}
-use Rattle.take_out.specs.TakeOut.{Holdings, affinitiesLeft, indicesPacked, offsetsPacked, packedAreas}
+use Rattle.take_out.specs.TakeOut.{Holdings, affinitiesAfter, indicesAfter, offsetsAfter, packedAreas}
 use Rattle.taking.specs.Room.{AreasRoom}
 
 module _ {A : Type 0} where
@@ -67,9 +67,9 @@ module _ (s : Settings) (keep : List ℕ) (h : Holdings) (room : AreasRoom s h) 
   few-left : isTree (s .method) ≡ true → linksLeft keep (h .indices) (h .offsets) ≤ num (h .offsets) (s .n)
   few-left t = links-left-few keep (h .indices) (h .offsets) (room .lists-room t) climbs kept
 
-  affinities-fit : length (affinitiesLeft s keep (h .affinities) (h .indices) (h .offsets)) ≡ length (h .affinities)
-  unfolding affinitiesLeft
-  affinities-fit = by-bool (length (affinitiesLeft s keep (h .affinities) (h .indices) (h .offsets)) ≡ length (h .affinities)) (isTree (s .method))
+  affinities-fit : length (affinitiesAfter s keep (h .affinities) (h .indices) (h .offsets)) ≡ length (h .affinities)
+  unfolding affinitiesAfter
+  affinities-fit = by-bool (length (affinitiesAfter s keep (h .affinities) (h .indices) (h .offsets)) ≡ length (h .affinities)) (isTree (s .method))
       (λ t. rw t (shrunk-size zero64 (num (h .offsets) (s .n)) (packedWeights keep (h .affinities) (h .indices) (h .offsets)) (h .affinities)
       (omega (arith, packed-weights-count keep (h .affinities) (h .indices) (h .offsets), few-left t)) (room .lists-room t .weights-long)))
       (λ t. rw t (shrunk-size zero64 (s .n * s .n) (keptSquare keep (s .n) (h .affinities)) (h .affinities) (omega (arith, square-size keep (s .n) (h .affinities), square-few)) (room .square-room t)))
@@ -77,16 +77,16 @@ module _ (s : Settings) (keep : List ℕ) (h : Holdings) (room : AreasRoom s h) 
       square-few : length keep * length keep ≤ s .n * s .n
       square-few = mul-le-mul (kept .few) (kept .few)
 
-  indices-fit : length (indicesPacked s keep (h .indices) (h .offsets)) ≡ length (h .indices)
-  unfolding indicesPacked
-  indices-fit = by-bool (length (indicesPacked s keep (h .indices) (h .offsets)) ≡ length (h .indices)) (isTree (s .method))
+  indices-fit : length (indicesAfter s keep (h .indices) (h .offsets)) ≡ length (h .indices)
+  unfolding indicesAfter
+  indices-fit = by-bool (length (indicesAfter s keep (h .indices) (h .offsets)) ≡ length (h .indices)) (isTree (s .method))
       (λ t. rw t (shrunk-size 0 (num (h .offsets) (s .n)) (packedIndices keep (h .indices) (h .offsets)) (h .indices)
       (omega (arith, packed-indices-count keep (h .indices) (h .offsets), few-left t)) (room .lists-room t .indices-long)))
       (λ t. rw t)
 
-  offsets-fit : length (offsetsPacked s keep (h .indices) (h .offsets)) ≡ length (h .offsets)
-  unfolding offsetsPacked
-  offsets-fit = by-bool (length (offsetsPacked s keep (h .indices) (h .offsets)) ≡ length (h .offsets)) (isTree (s .method))
+  offsets-fit : length (offsetsAfter s keep (h .indices) (h .offsets)) ≡ length (h .offsets)
+  unfolding offsetsAfter
+  offsets-fit = by-bool (length (offsetsAfter s keep (h .indices) (h .offsets)) ≡ length (h .offsets)) (isTree (s .method))
       (λ t. rw t (shrunk-size 0 (s .n + 1) (packedOffsets keep (h .indices) (h .offsets)) (h .offsets)
       (omega (arith, packed-offsets-size keep (h .indices) (h .offsets), kept .few)) (room .lists-room t .offsets-long)))
       (λ t. rw t)
@@ -107,8 +107,8 @@ module _ (s : Settings) (keep : List ℕ) (h : Holdings) (room : AreasRoom s h) 
   }
 
   -- the lists that are left lie as lists do
-  lists-left : isTree (s .method) ≡ true → Listed (length keep) (length (h .affinities)) (length (h .indices)) (offsetsPacked s keep (h .indices) (h .offsets))
-  unfolding offsetsPacked
+  lists-left : isTree (s .method) ≡ true → Listed (length keep) (length (h .affinities)) (length (h .indices)) (offsetsAfter s keep (h .indices) (h .offsets))
+  unfolding offsetsAfter
   lists-left t = rw t (packed-listed keep (h .indices) (h .offsets) (room .lists-room t) climbs kept)
 
   -- so there is room for what is left, and for taking out again

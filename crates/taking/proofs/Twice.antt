@@ -25,7 +25,7 @@ use Rattle.take_lists.specs.Packed.{linksLeft, packedIndices, packedWeights, pa
 use Rattle.take_lists.proofs.Bounds.{packed-offsets-size}
 use Rattle.take_lists.proofs.Theorems.{packed-indices-count, packed-weights-count, packed-offsets-end, links-left-few, packed-listed}
 use Rattle.take_left.specs.Outlook.{thinned, thinnedRun}
-use Rattle.take_out.specs.TakeOut.{Holdings, affinitiesLeft, indicesPacked, offsetsPacked, packedAreas}
+use Rattle.take_out.specs.TakeOut.{Holdings, affinitiesAfter, indicesAfter, offsetsAfter, packedAreas}
 use Rattle.taking.specs.Union.{Union}
 use Rattle.taking.proofs.Sizes.{rows-left-size, centred-size, square-size}
 use Rattle.taking.proofs.Composed.{survivors-union, through, through-size, through-at}
@@ -153,19 +153,19 @@ module _ (s : Settings) (keep1 keep2 : List ℕ) (climbs1 : Climbs keep1) (kept1
     once = packedAreas s (through keep1 keep2) h
 
     affinities-once : twice .affinities ≡ once .affinities
-    unfolding packedAreas affinitiesLeft indicesPacked offsetsPacked thinned
+    unfolding packedAreas affinitiesAfter indicesAfter offsetsAfter thinned
     affinities-once = by-bool (twice .affinities ≡ once .affinities) (isTree (s .method))
         (λ t. rw t (weights-again (h .affinities) (h .indices) (h .offsets) (lists t)))
         (λ t. rw t (square-again (h .affinities)))
 
     indices-once : twice .indices ≡ once .indices
-    unfolding packedAreas indicesPacked offsetsPacked thinned
+    unfolding packedAreas indicesAfter offsetsAfter thinned
     indices-once = by-bool (twice .indices ≡ once .indices) (isTree (s .method))
         (λ t. rw t (indices-again (h .affinities) (h .indices) (h .offsets) (lists t)))
         (λ t. rw t)
 
     offsets-once : twice .offsets ≡ once .offsets
-    unfolding packedAreas indicesPacked offsetsPacked thinned
+    unfolding packedAreas indicesAfter offsetsAfter thinned
     offsets-once = by-bool (twice .offsets ≡ once .offsets) (isTree (s .method))
         (λ t. rw t (offsets-again (h .affinities) (h .indices) (h .offsets) (lists t)))
         (λ t. rw t)

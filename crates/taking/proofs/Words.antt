@@ -1,11 +1,11 @@
 -- Removals through words: the record's words afterwards say the record that is left, so a removal that answers 0 leaves words and areas that are an honest state. Assumes nothing.
 use mathlib.Core.Path.{_≡_, refl, sym, ap, subst, _∙_}
 use mathlib.Core.List.{List}
-use mathlib.Core.Bool.{false}
+use mathlib.Core.Bool.{Bool, true, false}
 use Prim.Native.Nat.{ℕ, zero, suc, _*_, _≤_}
 use native.Mathlib.Omega.{arith}
 use lib.ListN.{length, set, length-set}
-use lib.Seq.{getD-set-same, getD-set-other}
+use lib.Seq.{getD-set-same, getD-set-other, set-getD}
 use lib.Ieee.{Float}
 use Rattle.laws.specs.Area.{num}
 use Rattle.run_record.specs.declared.Run.{Run}
@@ -88,3 +88,35 @@ module _ (g w : List ℕ) (y : Memory) (t : List Float) (q a : List ℕ) (fit : 
       let z : takeNumber (takeOut g (state (runOf w) y) t q .answer) ≡ 0 = sym (ap (λ (x : HostTook). x .number) took) ∙ e in
       let h = what-is-left-is-honest g (state (runOf w) y) t q _ (no-number-left g (state (runOf w) y) t q z) in
       subst Honest (sym (ap (λ (r : Run). state r (hostTake g w y t q a .memory)) words-left-told ∙ ap (λ (m : Memory). state (left .run) m) (ap (λ (x : HostTook). x .memory) took))) h
+
+-- ---- a refusal
+
+size-kept : (w : List ℕ) → sizePut (runOf w) w ≡ w
+unfolding sizePut runOf settingsOf
+size-kept w = ap (λ (x : List ℕ). set x 12 (num w 12)) (set-getD w 0 0) ∙ set-getD w 12 0
+
+-- record, areas, table and old places are as they were
+pub record HostUnchanged (w : List ℕ) (y : Memory) (t : List Float) (q : List ℕ) (o : HostTook) : Type 0 where
+  pub words : o .run ≡ w
+  pub areas : o .memory ≡ y
+  pub table : o .table ≡ t
+  pub old : o .old ≡ q
+
+-- a removal that answers a number changes nothing but the answer's word
+pub host-refused-changes-nothing : (g w : List ℕ) (y : Memory) (t : List Float) (q a : List ℕ) → (hostTake g w y t q a .number ≡ 0 → ⊥) → HostUnchanged w y t q (hostTake g w y t q a)
+unfolding hostTake
+host-refused-changes-nothing g w y t q a n = by (unfit w (length a)) refl
+  where
+    s : State
+    s = state (runOf w) y
+
+    by : (b : Bool) → unfit w (length a) ≡ b → HostUnchanged w y t q (hostTake g w y t q a)
+    by true e = rw e (record { words = refl; areas = refl; table = refl; old = refl })
+    by false e =
+        let u = refused-changes-nothing g s t q (λ z. n (ap (λ (x : HostTook). x .number) (took g w y t q a e) ∙ z)) in
+        rw e (record {
+          words = ap (λ (x : State). sizePut (x .run) w) (u .left) ∙ size-kept w;
+          areas = ap (λ (x : State). x .memory) (u .left);
+          table = u .table;
+          old = u .old;
+        })

@@ -26,7 +26,7 @@ use Rattle.run_record.proofs.faults.late_fault.Reads as late-fault-reads
 use Rattle.take_gone.proofs.gone_fine.Reads as gone-fine-reads
 use Rattle.take_left.proofs.is_crowded.Reads as is-crowded-reads
 use Rattle.take_left.proofs.thinned_settings.Reads as thinned-settings-reads
-use Rattle.take_means.proofs.is_calm_left.Reads as is-calm-left-reads
+use Rattle.take_calm.proofs.is_calm_left.Reads as is-calm-left-reads
 
 returns : tie.Need-returns
 returns c = judged-inside (c .before .before .before .before .before .before .args .r) (c .before .before .before .before .before .before .args .gone .now) (c .before .before .before .before .before .before .args .positions .now) (c .before .before .before .before .before .before .args .indices .now) (c .before .before .before .before .before .before .args .offsets .now) (c .if1 .taken)

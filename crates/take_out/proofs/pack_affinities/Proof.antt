@@ -1,4 +1,4 @@
-use Rattle.take_out.specs.TakeOut.{affinitiesLeft, indicesPacked, offsetsPacked}
+use Rattle.take_out.specs.TakeOut.{affinitiesAfter, indicesAfter, offsetsAfter}
 use borrow.Author.Tests.{not-true, not-false}
 use mathlib.Core.Path.{refl, sym, ap, subst, _∙_}
 use borrow.Author.Needs.{needs}
@@ -28,7 +28,7 @@ same-length-3 : tie.Need-same-length-3
 same-length-3 c = c .before .before .before .before .before .before .pack-lists .kept .1 .1 .0
 
 returns : tie.Need-returns
-unfolding affinitiesLeft indicesPacked offsetsPacked
+unfolding affinitiesAfter indicesAfter offsetsAfter
 returns c = let e = sym (c .before .before .before .before .before .before .before .before .before .before .before .is-tree .ensures) ∙ c .before .before .before .before .before .before .before .before .before .before .if1 .taken in (rw e (c .before .before .before .before .before .before .pack-lists .ensures .0), rw e (c .before .before .before .before .before .before .pack-lists .ensures .1), rw e (c .before .before .before .before .before .before .pack-lists .ensures .2))
 
 pack-square-requires : tie.Need-pack-square-requires
@@ -38,7 +38,7 @@ same-length-4 : tie.Need-same-length-4
 same-length-4 c = c .before .before .pack-square .kept .0
 
 returns-2 : tie.Need-returns-2
-unfolding affinitiesLeft indicesPacked offsetsPacked
+unfolding affinitiesAfter indicesAfter offsetsAfter
 returns-2 c = let e = sym (c .before .before .before .before .before .is-tree .ensures) ∙ c .before .before .before .before .if1 .left in (rw e (c .before .before .pack-square .ensures), rw e refl, rw e refl)
 
 pub pack-affinities-spec : {M : Type 1} → statement M

@@ -8,7 +8,7 @@ use Rattle.take_out.proofs.pack_values.Statement.{statement}
 use Rattle.take_out.proofs.pack_values.Tie as tie
 use Rattle.take_out.proofs.pack_values.Reads as reads
 use Rattle.take_out.proofs.pack_values.Lts as lts
-use Rattle.take_means.proofs.means_left.Reads as means-left-reads
+use Rattle.take_calm.proofs.means_left.Reads as means-left-reads
 use Rattle.take_rows.proofs.pack_centred.Reads as pack-centred-reads
 use Rattle.take_rows.proofs.pack_rows.Reads as pack-rows-reads
 

@@ -1,5 +1,5 @@
-use Rattle.take_means.proofs.Over.{TestsLeft, tests-left-start, tests-left-pass, tests-left-more, tests-left-no, tests-left-done, calm-row-same}
-use Rattle.take_means.specs.CalmLeft.{calmLeft}
+use Rattle.take_calm.proofs.Over.{TestsLeft, tests-left-start, tests-left-pass, tests-left-more, tests-left-no, tests-left-done, calm-row-same}
+use Rattle.take_calm.specs.CalmLeft.{calmLeft}
 use Rattle.take_rows.specs.Rows.{centredLeft}
 use Rattle.take_gone.specs.Gone.{survivors}
 use Rattle.elementary.specs.Limits.{calm}
@@ -10,12 +10,12 @@ use mathlib.Core.Path.{sym, ap, _∙_}
 use Prim.Native.Nat.{ℕ, _+_, _*_, _-_}
 use borrow.Author.Needs.{needs}
 use native.Mathlib.Omega.{arith}
-use Rattle.take_means.proofs.is_calm_by.Statement.{statement}
-use Rattle.take_means.proofs.is_calm_by.Tie as tie
-use Rattle.take_means.proofs.is_calm_by.Reads as reads
-use Rattle.take_means.proofs.is_calm_by.Lts as lts
+use Rattle.take_calm.proofs.is_calm_by.Statement.{statement}
+use Rattle.take_calm.proofs.is_calm_by.Tie as tie
+use Rattle.take_calm.proofs.is_calm_by.Reads as reads
+use Rattle.take_calm.proofs.is_calm_by.Lts as lts
 use Rattle.take_gone.proofs.is_among.Reads as is-among-reads
-use Rattle.take_means.proofs.is_calm_row.Reads as is-calm-row-reads
+use Rattle.take_calm.proofs.is_calm_row.Reads as is-calm-row-reads
 
 abbrev Inv-loop : tie.InvT-loop
 Inv-loop positions gone n c means j₀ j = TestsLeft (λ i. every (λ d. calm (centredLeft (survivors gone n) c positions i d)) c) gone n j

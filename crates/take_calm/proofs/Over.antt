@@ -19,7 +19,7 @@ use Rattle.elementary.specs.Limits.{calm}
 use Rattle.centring.specs.Centring.{plusNext, sumOf, averageOf}
 use Rattle.take_gone.specs.Gone.{isAmong, survivors}
 use Rattle.take_rows.specs.Rows.{averageLeft, centredLeft, Means}
-use Rattle.take_means.specs.CalmLeft.{calmLeft, meanAt}
+use Rattle.take_calm.specs.CalmLeft.{calmLeft, meanAt}
 
 -- ---- over a list, and one number more
 

@@ -1,16 +1,16 @@
-use Rattle.take_means.proofs.Over.{means-written}
+use Rattle.take_calm.proofs.Over.{means-written}
 use Rattle.laws.specs.Area.{zeros8}
 use Rattle.take_gone.specs.Gone.{survivors}
 use mathlib.Core.Path.{refl}
 use borrow.Author.Needs.{needs}
 use native.Mathlib.Omega.{arith}
 use borrow.Author.Needs.{needs}
-use Rattle.take_means.proofs.is_calm_left.Statement.{statement}
-use Rattle.take_means.proofs.is_calm_left.Tie as tie
-use Rattle.take_means.proofs.is_calm_left.Reads as reads
-use Rattle.take_means.proofs.is_calm_left.Lts as lts
-use Rattle.take_means.proofs.is_calm_by.Reads as is-calm-by-reads
-use Rattle.take_means.proofs.means_left.Reads as means-left-reads
+use Rattle.take_calm.proofs.is_calm_left.Statement.{statement}
+use Rattle.take_calm.proofs.is_calm_left.Tie as tie
+use Rattle.take_calm.proofs.is_calm_left.Reads as reads
+use Rattle.take_calm.proofs.is_calm_left.Lts as lts
+use Rattle.take_calm.proofs.is_calm_by.Reads as is-calm-by-reads
+use Rattle.take_calm.proofs.means_left.Reads as means-left-reads
 
 means-left-requires : tie.Need-means-left-requires
 means-left-requires c κs = search needs

@@ -9,10 +9,10 @@ use mathlib.Core.Path.{_≡_, sym, _∙_}
 use Prim.Native.Nat.{_+_, _-_, _≤_}
 use borrow.Author.Needs.{needs}
 use native.Mathlib.Omega.{arith}
-use Rattle.take_means.proofs.is_calm_row.Statement.{statement}
-use Rattle.take_means.proofs.is_calm_row.Tie as tie
-use Rattle.take_means.proofs.is_calm_row.Reads as reads
-use Rattle.take_means.proofs.is_calm_row.Lts as lts
+use Rattle.take_calm.proofs.is_calm_row.Statement.{statement}
+use Rattle.take_calm.proofs.is_calm_row.Tie as tie
+use Rattle.take_calm.proofs.is_calm_row.Reads as reads
+use Rattle.take_calm.proofs.is_calm_row.Lts as lts
 use Rattle.elementary.proofs.is_calm.Reads as is-calm-reads
 
 abbrev Inv-loop : tie.InvT-loop

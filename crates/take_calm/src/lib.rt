@@ -9,7 +9,7 @@ ghost use Rattle.laws.specs.Loops.{every, loop};
 ghost use Rattle.elementary.specs.Limits.{calm};
 ghost use Rattle.take_gone.specs.Gone.{survivors, Climbs};
 ghost use Rattle.take_rows.specs.Rows.{averageLeft, Means};
-ghost use Rattle.take_means.specs.CalmLeft.{calmLeft, meanAt};
+ghost use Rattle.take_calm.specs.CalmLeft.{calmLeft, meanAt};
 use elementary::limits::is_calm;
 use take_gone::is_among;
 

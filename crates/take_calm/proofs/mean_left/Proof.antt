@@ -1,5 +1,5 @@
 use Rattle.take_gone.specs.Gone.{survivors}
-use Rattle.take_means.proofs.Over.{SumsLeft, sums-left-start, sums-left-pass, sums-left-more, sums-left-done, sumOver}
+use Rattle.take_calm.proofs.Over.{SumsLeft, sums-left-start, sums-left-pass, sums-left-more, sums-left-done, sumOver}
 use Rattle.take_gone.proofs.Left.{survivors-few}
 use Rattle.laws.proofs.Numbers.{row-in}
 use Rattle.laws.specs.Area.{at}
@@ -10,10 +10,10 @@ use mathlib.Core.Path.{sym, ap, _∙_}
 use Prim.Native.Nat.{ℕ, _+_, _*_, _-_, _^_}
 use borrow.Author.Needs.{needs}
 use native.Mathlib.Omega.{arith}
-use Rattle.take_means.proofs.mean_left.Statement.{statement}
-use Rattle.take_means.proofs.mean_left.Tie as tie
-use Rattle.take_means.proofs.mean_left.Reads as reads
-use Rattle.take_means.proofs.mean_left.Lts as lts
+use Rattle.take_calm.proofs.mean_left.Statement.{statement}
+use Rattle.take_calm.proofs.mean_left.Tie as tie
+use Rattle.take_calm.proofs.mean_left.Reads as reads
+use Rattle.take_calm.proofs.mean_left.Lts as lts
 use Rattle.take_gone.proofs.is_among.Reads as is-among-reads
 
 abbrev Inv-loop : tie.InvT-loop

@@ -1,4 +1,4 @@
-use Rattle.take_means.specs.CalmLeft.{meanAt}
+use Rattle.take_calm.specs.CalmLeft.{meanAt}
 use Rattle.take_gone.specs.Gone.{survivors}
 use lib.Ieee.{Float}
 use lib.ListN.{set}
@@ -7,11 +7,11 @@ use Prim.Native.Nat.{_-_}
 use Rattle.laws.proofs.Loops.{Loops, loop-start, loop-more, loop-done}
 use borrow.Author.Needs.{needs}
 use native.Mathlib.Omega.{arith}
-use Rattle.take_means.proofs.means_left.Statement.{statement}
-use Rattle.take_means.proofs.means_left.Tie as tie
-use Rattle.take_means.proofs.means_left.Reads as reads
-use Rattle.take_means.proofs.means_left.Lts as lts
-use Rattle.take_means.proofs.mean_left.Reads as mean-left-reads
+use Rattle.take_calm.proofs.means_left.Statement.{statement}
+use Rattle.take_calm.proofs.means_left.Tie as tie
+use Rattle.take_calm.proofs.means_left.Reads as reads
+use Rattle.take_calm.proofs.means_left.Lts as lts
+use Rattle.take_calm.proofs.mean_left.Reads as mean-left-reads
 
 abbrev Inv-loop : tie.InvT-loop
 Inv-loop positions gone n c m means₀ d₀ means d = Loops (meanAt (survivors gone n) c positions) c means₀ d means
