@@ -266,7 +266,7 @@ fn same_rows(ours: &Rows, theirs: &descent::Rows) {
     assert!(ours.indices == theirs.indices, "row indices");
 }
 
-pub fn same_values(area: &str, ours: &[f64], theirs: &[f64]) {
+fn same_values(area: &str, ours: &[f64], theirs: &[f64]) {
     assert_eq!(ours.len(), theirs.len(), "{area}");
     for (place, (a, b)) in ours.iter().zip(theirs).enumerate() {
         assert!(bits(*a) == bits(*b), "{area}, place {place}: {a:e} and {b:e}");

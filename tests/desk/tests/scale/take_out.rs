@@ -1,9 +1,9 @@
 //! Frames taken out of runs, against the independent implementation: running, stopped and finished runs of both methods, thinned
 //! again and again with units between; lists, records and areas that are damaged, short and longer. After each call number and
 //! word 0, the record and every place of table, old places and all areas have to be the same on both sides, and after a refusal
-//! as they were.
+//! as they were. In increments, gains, affinities and table, which are only moved, a NaN is its bits.
 
-use crate::both::{self, bits, number, other_side, record_of, same_areas, same_values, Both};
+use crate::both::{self, bits, number, other_side, record_of, same_areas, Both};
 use crate::case::{marked_nodes, numbers, values, Case};
 use crate::met::{all_met, meet, Met};
 use crate::parked::{settings, STATES};
@@ -103,8 +103,12 @@ impl Lent {
             named(told)
         };
         same_record(&self.both.record.words, &words);
-        same_areas(&self.both.areas, &areas);
-        same_values("table", &self.table, &table);
+        let ours = &self.both.areas;
+        same_areas(ours, &areas);
+        same_bits("increments", &ours.increments, &areas.increments);
+        same_bits("gains", &ours.gains, &areas.gains);
+        same_bits("affinities", &ours.affinities, &areas.affinities);
+        same_bits("table", &self.table, &table);
         assert_eq!(self.old, old, "old places");
         told
     }
@@ -118,6 +122,15 @@ fn same_record(ours: &[u64; 14], theirs: &[u64; 14]) {
             _ => a == b,
         };
         assert!(same, "word {place} of the record: {a:x} and {b:x}");
+    }
+}
+
+/// Every place of what is only moved; NaNs by their bits.
+fn same_bits(area: &str, ours: &[f64], theirs: &[f64]) {
+    assert_eq!(ours.len(), theirs.len(), "{area}");
+    for (place, (a, b)) in ours.iter().zip(theirs).enumerate() {
+        let [a, b] = [a, b].map(|v| v.to_bits());
+        assert!(a == b, "{area}, place {place}: {a:x} and {b:x}");
     }
 }
 
@@ -407,6 +420,87 @@ fn wanted() -> Vec<String> {
 fn runs_that_frames_are_taken_out_of() {
     let met = each_seed("frames taken out", setting("BROTHANCHOR_RUNS", 300), run);
     all_met(&met, wanted());
+}
+
+/// NaNs with payloads, quiet and signalling, of both signs, and −0.0.
+const ODD: [u64; 5] = [
+    0x7ff8_0000_0000_0abc,
+    0x7ff0_0000_0000_0001,
+    0xfff8_dead_beef_0123,
+    0xfff0_0000_0000_0077,
+    0x8000_0000_0000_0000,
+];
+
+/// What a removal moves and does not look into, as far as it is in use.
+const MOVED: [&str; 4] = ["increments", "gains", "affinities", "table"];
+
+fn moved(lent: &mut Lent) -> [&mut [f64]; 4] {
+    let Settings { n, f, c, method, .. } = settings_of(lent);
+    let areas = &mut lent.both.areas;
+    let held = match method {
+        Method::Exact => n * n,
+        Method::BarnesHut => areas.offsets[n] as usize,
+    };
+    [
+        &mut areas.increments[..n * c],
+        &mut areas.gains[..n * c],
+        &mut areas.affinities[..held],
+        &mut lent.table[..n * f],
+    ]
+}
+
+/// The name of odd bits that are left somewhere.
+fn kept(method: Method, part: &str, bits: u64) -> String {
+    format!("{method:?}, {part} keep {bits:x}")
+}
+
+/// Frames are taken out of a copy of what is lent, in which half of what is only moved is odd.
+fn odd(random: &mut Random, lent: &Lent, met: &mut Met) {
+    let mut other = lent.clone();
+    for value in moved(&mut other).into_iter().flatten() {
+        if random.once_in(2) {
+            *value = f64::from_bits(random.one_of(&ODD));
+        }
+    }
+    let (kind, method) = (random.one_of(&KINDS), lent.method());
+    let gone = samples(random, kind, lent.samples());
+    if other.take_out(&gone).is_err() || gone.is_empty() {
+        return;
+    }
+    for (part, values) in MOVED.iter().zip(moved(&mut other)) {
+        let is_left = |bits: &u64| values.iter().any(|v| v.to_bits() == *bits);
+        ODD.iter()
+            .copied()
+            .filter(is_left)
+            .for_each(|bits| meet(met, kept(method, part, bits)));
+    }
+}
+
+/// One run of few frames, with a copy made odd before each of its calls.
+fn odd_run(random: &mut Random, met: &mut Met) {
+    let (n, iterations) = (random.within(3, 16), random.within(1, 4));
+    let mut settings = settings(random, n, iterations);
+    settings.perplexity = random.between(0.5, 1.9);
+    let case = Case::good(random, settings, 40 + 10 * n);
+    let mut lent = Lent::new(random, &case);
+    for _ in 0..4 {
+        odd(random, &lent, met);
+        if go_on(random, &mut lent).is_none() {
+            return;
+        }
+    }
+}
+
+#[test]
+fn what_is_moved_keeps_its_bits() {
+    let met = each_seed("odd bits moved", setting("BROTHANCHOR_RUNS", 300), odd_run);
+    let mut wanted = Vec::new();
+    for method in [Method::Exact, Method::BarnesHut] {
+        for part in MOVED {
+            wanted.extend(ODD.map(|bits| kept(method, part, bits)));
+        }
+    }
+    all_met(&met, wanted);
 }
 
 /// So many frames go, one of each stretch of equal length. That may not take longer than three iterations.

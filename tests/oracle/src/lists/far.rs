@@ -217,11 +217,11 @@ mod tests {
         }
         assert_eq!(met.len(), EXPONENTS.count());
         let answer = |x: f64| cases.iter().find(|case| case[0] == x.to_bits()).map(|case| case[1]);
-        let next = |x: f64, steps: i64| f64::from_bits(x.to_bits().wrapping_add(steps as u64));
+        let next = |x: f64, steps: i64| f64::from_bits(x.to_bits().wrapping_add_signed(steps));
         assert_eq!((answer(LOWEST), answer(next(LOWEST, 1))), (Some(1), Some(0)));
         for steps in -1..=1 {
             assert!(
-                answer(next(LOWEST_NORMAL, steps)).map_or(false, |bits| bits > 0),
+                answer(next(LOWEST_NORMAL, steps)).is_some_and(|bits| bits > 0),
                 "{steps}"
             );
         }

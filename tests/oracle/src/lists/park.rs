@@ -66,6 +66,18 @@ pub(super) fn done(random: &mut SplitMix64, settings: &Settings, standing: Stand
     }
 }
 
+/// The record of a run between two iterations. Nodes in use are what a caller may have left there.
+pub(super) fn between(random: &mut SplitMix64, settings: Settings, standing: Standing, done: usize) -> Record {
+    Record {
+        settings,
+        standing,
+        done,
+        phase: 0,
+        units: done * settings.iteration(),
+        used: one_of(random, &[0, 1, 9, 70_000]),
+    }
+}
+
 /// A value that a step may give.
 fn calm(random: &mut SplitMix64) -> f64 {
     let wide = random.unit() - 0.5;
@@ -88,14 +100,7 @@ fn affinity(random: &mut SplitMix64) -> f64 {
 pub fn run(random: &mut SplitMix64, method: Method, n: usize, c: usize, standing: Standing) -> (Record, Areas) {
     let settings = settings(random, method, n, c, standing);
     let done = done(random, &settings, standing);
-    let record = Record {
-        settings,
-        standing,
-        done,
-        phase: 0,
-        units: done * settings.iteration(),
-        used: one_of(random, &[0, 1, 9, 70_000]),
-    };
+    let record = between(random, settings, standing, done);
     let mut cells = || (0..n * c).map(|_| calm(random)).collect();
     let (positions, increments, gains) = (cells(), cells(), cells());
     let room = if method == Method::Exact { 0 } else { settings.links() };

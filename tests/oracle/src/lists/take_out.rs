@@ -2,7 +2,7 @@
 
 use super::descent::{digest_numbers, digest_values, digests, marked_numbers, marks};
 use super::gradient::listed;
-use super::park::{below, contents, counted, done, lengths, one_of, shorten, STANDINGS};
+use super::park::{below, between, contents, counted, done, lengths, one_of, shorten, STANDINGS};
 use crate::descent::{Areas, Method, Record, Settings, Standing};
 use crate::scatter::SplitMix64;
 use crate::take_out::take_out;
@@ -65,14 +65,7 @@ impl Taking {
         let room = if tree { settings.links() } else { 0 };
         let links = room - below(random, room / 2 + 1);
         Taking {
-            record: Record {
-                settings,
-                standing,
-                done,
-                phase: 0,
-                units: done * settings.iteration(),
-                used: one_of(random, &[0, 1, 9, 70_000]),
-            },
+            record: between(random, settings, standing, done),
             areas: Areas {
                 positions: (0..n * c).map(|_| random.unit() * 20.0 - 10.0).collect(),
                 increments: values(random, n * c),

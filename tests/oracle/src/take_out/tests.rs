@@ -238,6 +238,35 @@ fn increments_and_gains_may_hold_anything() {
 }
 
 #[test]
+fn what_is_moved_keeps_its_bits() {
+    // Signalling and quiet NaNs of both signs, and −0.0 last.
+    let odd = [
+        0xfff0_0000_0000_0077,
+        0x7ff8_0000_0000_0abc,
+        0x7ff0_0000_0000_0001,
+        1 << 63,
+    ]
+    .map(f64::from_bits);
+    for method in [Method::Exact, Method::BarnesHut] {
+        let mut lent = four(method);
+        let areas = &mut lent.areas;
+        for area in [&mut areas.increments, &mut areas.gains, &mut areas.affinities] {
+            area[..4].copy_from_slice(&odd);
+        }
+        lent.table[4..8].copy_from_slice(&odd);
+        assert_eq!(lent.take_out(&[2]), Ok(3));
+        let stay = bits(&[odd[0], odd[1], odd[3]]);
+        for area in [&lent.areas.increments, &lent.areas.gains] {
+            assert_eq!(bits(&area[..3]), stay);
+        }
+        // The four links are not of frame 2; of the matrix the third column is.
+        let weights = if method == Method::Exact { stay } else { bits(&odd) };
+        assert_eq!(bits(&lent.areas.affinities[..weights.len()]), weights);
+        assert_eq!(bits(&lent.table[4..6]), bits(&odd[2..]));
+    }
+}
+
+#[test]
 fn areas_that_are_too_short() {
     for method in [Method::Exact, Method::BarnesHut] {
         let tree = method == Method::BarnesHut;
