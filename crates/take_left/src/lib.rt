@@ -14,9 +14,9 @@ use run_record::counters::per;
 use run_record::faults::is_tree;
 use run_record::faults::late_fault;
 use run_record::faults::sizes_of;
+use take_calm::is_calm_left;
 use take_gone::gone_fine;
 use take_lists::links_left;
-use take_calm::is_calm_left;
 
 // What the tests say.
 pub enum Outlook {

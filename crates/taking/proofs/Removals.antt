@@ -247,7 +247,7 @@ links-left-told g s t q m a b = subst (λ (o : TakeOutcome). LinksLeft g s (o .l
 pub matrix-left-told : (g : List ℕ) (s : State) (t : List Float) (q : List ℕ) (m : ℕ) → takeOut g s t q .answer ≡ Told (Left m) → isTree (s .run .settings .method) ≡ false
     → (i j : ℕ) → i < length (survivors g (s .run .settings .n)) → j < length (survivors g (s .run .settings .n))
     → at (takeOut g s t q .left .memory .affinities) (i * length (survivors g (s .run .settings .n)) + j)
-      ≡ at (s .memory .affinities) (num (survivors g (s .run .settings .n)) i * s .run .settings .n + num (survivors g (s .run .settings .n)) j)
+    ≡ at (s .memory .affinities) (num (survivors g (s .run .settings .n)) i * s .run .settings .n + num (survivors g (s .run .settings .n)) j)
 unfolding packedAreas affinitiesAfter
 matrix-left-told g s t q m a b i j hi hj =
     let keep = survivors g (s .run .settings .n) in
