@@ -2,8 +2,8 @@
  *
  * Link libdesk.a (rt staticlib desk), for x86-64 Linux. All memory is lent by the caller; nothing is kept between calls.
  * An area is a pointer and its number of elements; an empty area may have any pointer. Areas of one call must not overlap.
- * A call that is refused at its entry changes nothing, but for the answer of a work call, of a divergence, of a parking or of a
- * reading. Longer areas keep what lies past what is asked for.
+ * A call that is refused at its entry changes nothing, but for the answer of a work call, of a divergence, of a parking, of a
+ * reading or of a removal. Longer areas keep what lies past what is asked for.
  *
  * Refusal numbers (0: none)
  *   1  c is 0 or above 8
@@ -14,15 +14,19 @@
  *   6  a Barnes-Hut run has c above 3
  *   7  n is 0 or above 4096, f is 0 or above 256, or the table's length is not n*f
  *   8  a table value is not finite or above 2^20 in magnitude
- *   9  n is 1
- *  10  the perplexity is not below n
+ *   9  n is 1; removal: fewer than two frames would be left
+ *  10  the perplexity is not below n; removal: not below the number of frames that would be left
  *  11  the start's length is not n*c, or a start value is not finite or above 2^20 in magnitude
  *  12  a lent area is too short
  *  13  the words are no settings or no record, or record and areas are not well formed
  *  14  the next point needs more nodes than the arena has left; with a longer arena the run goes on
- *  15  the step would give a value that is NaN or above 2^100 in magnitude; parking: a position, increment or gain is one
+ *  15  the step would give a value that is NaN or above 2^100 in magnitude; parking: a position, increment or gain is one;
+ *      removal: a centred position would be one
  *  16  a record of a frame file or of a parked run is bad
- *  17  no iteration has just ended, or the forces give a total of 0; parking: a unit of an iteration is done, and not its last
+ *  17  no iteration has just ended, or the forces give a total of 0; parking and removal: a unit of an iteration is done, and not
+ *      its last
+ *  18  removal: the list does not rise strictly or names a sample that there is not, or more links would be left than the lists
+ *      of so many frames may have
  */
 
 /* What areas may hold: any bits, NaNs of every kind among them. A call tests whatever it goes by, so no contents can lead it
@@ -35,7 +39,8 @@
  *   work, refused at its entry       (12, 13) the answer and nothing else; with an answer area that is too short nothing
  *   work, refused by a unit          (14, 15) all that the units before it wrote: record and memory are as after these units,
  *                                    which the answer counts, and the refused unit has changed nothing
- *   divergence, park, unpark         the first word of the answer; with an answer area that is empty nothing
+ *   divergence, park, unpark,        the first word of the answer; with an answer area that is empty nothing
+ *   take_out
  * After 14 or 15 the run is still running, and the next call begins with the refused unit. After 14 it goes on where the nodes
  * are moved to a longer arena, those in use with their contents.
  *
@@ -244,6 +249,47 @@ uint32_t brothanchor_unpark(
     uint32_t *offsets, size_t offsets_length,
     double *forces, size_t forces_length,
     size_t nodes_length,
+    uint64_t *answer, size_t answer_length);
+
+/* Frames taken out of a run and of its table. The list names the samples that go, rising strictly; an empty list is a removal too.
+ * Those that stay close ranks in their order, in the front of each area: the rows of the table (f values each), positions,
+ * increments and gains (c values each), the rows and columns of an exact run's affinities, a Barnes-Hut run's lists, in which
+ * links to samples that went are left out and the others have their new numbers; weights keep their bits. Then the positions are
+ * centred: of each component the mean of those that are left is taken off. The first words of old tell where each that is left
+ * stood before; as many places as there were samples are asked for, and those past the samples left keep what they held. What
+ * becomes free is set to 0 as far as it was in use: the table to n*f values, positions, increments and gains to n*c, the matrix
+ * to n*n, offsets to n+1, indices and weights to the links that were listed, with n as it was before; and all n*(2c+1) forces.
+ * Nodes are only read. An exact run's indices and offsets are left alone.
+ *
+ * In the record n and the units done are new: iterations done times the units of an iteration of so many samples. A run that has
+ * ended may be thinned and has ended still. The run goes on with the areas as they are, or with any that are long enough for the
+ * new n. There is no divergence (17) until the next iteration has ended.
+ *
+ * Answers 0, and writes the number of samples left to the first word of the answer; or the number of the refusal, and writes what
+ * comes with it there: with 13 what brothanchor_divergence tells, else 0. Refused, it writes nothing else. In this order:
+ *   12  the answer area is empty: nothing can be told
+ *   13  the words are no record (13 comes with a method that there is not, else 0); settings or counters are not well formed
+ *   12  an area is too short, as in a work call, or the table has fewer than n*f values, or old fewer than n places
+ *   13  the contents are not well formed
+ *   17  a unit of the next iteration is done: frames are taken out between two iterations, before the first, or at the end
+ *   18  the list does not rise strictly, or names a sample that is not below n
+ *    9  fewer than two samples would be left
+ *   10  the perplexity is not below the number of samples that would be left
+ *   18  more links would be left than 2*n*k, with the new n and its k (Barnes-Hut)
+ *   15  a centred position would be NaN or above 2^100 in magnitude */
+uint32_t brothanchor_take_out(
+    uint64_t *record, size_t record_length,
+    double *positions, size_t positions_length,
+    double *increments, size_t increments_length,
+    double *gains, size_t gains_length,
+    double *affinities, size_t affinities_length,
+    uint32_t *indices, size_t indices_length,
+    uint32_t *offsets, size_t offsets_length,
+    double *forces, size_t forces_length,
+    const struct brothanchor_node *nodes, size_t nodes_length,
+    double *table, size_t table_length,
+    const uint32_t *gone, size_t gone_length,
+    uint32_t *old, size_t old_length,
     uint64_t *answer, size_t answer_length);
 
 /* What a record says. The state is 3, the numbers are 0, where the words are no record. */

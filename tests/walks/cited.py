@@ -79,4 +79,7 @@ WALKS = {
     'divergence::divergence': dict(uses=['Laws.{divergence-asks, divergence-told}'],
         req={'after_tests': '(divergence-asks r positions increments gains affinities indices offsets forces cells copy _ _ _ _ _ _ ln-positions ln-increments ln-gains ln-affinities ln-forces ln-copy r1 e1 r2 e2)'},
         returns=['(divergence-told r positions increments gains affinities indices offsets forces cells copy _ _ _ _ _ _ ln-positions ln-increments ln-gains ln-affinities ln-forces ln-copy r1 e1 r2 e2 r3 e3)']),
+    'take_out::take_out': dict(uses=['Calls.{taking-asks, taking-told}'],
+        req={'take_tested': '(taking-asks run₀ positions increments gains affinities indices offsets forces cells table gone old _ _ _ _ _ _ _ ln-positions ln-increments ln-gains ln-affinities ln-forces ln-table ln-old r1 e1 r2 e2)'},
+        returns=['(taking-told run₀ positions increments gains affinities indices offsets forces cells table gone old _ _ _ _ _ _ _ ln-positions ln-increments ln-gains ln-affinities ln-forces ln-table ln-old r1 e1 r2 e2 r3 positions3 increments3 gains3 affinities3 indices3 offsets3 forces3 table3 old3 e3)']),
 }

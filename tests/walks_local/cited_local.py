@@ -1,6 +1,6 @@
 """What the printed walks of functions that lend locals cite (as tests/walks/cited.py). within: that the count of a part that is lent is at most the array's length."""
 
-HOME = {'record_words::run_of': 'fault_words', 'record_words::run_fine': 'words_entry', 'fault_words::unread_fault': 'words_entry', 'words_entry::words_fault': 'park', 'answer_words::put_after': 'desk_work', 'answer_words::put_answer': 'desk_work', 'desk_work::host_work': 'desk', 'divergence::divergence': 'desk_divergence', 'desk_divergence::host_divergence': 'desk', 'desk_park::host_park': 'desk'}
+HOME = {'record_words::run_of': 'fault_words', 'record_words::run_fine': 'words_entry', 'fault_words::unread_fault': 'words_entry', 'words_entry::words_fault': 'park', 'answer_words::put_after': 'desk_work', 'answer_words::put_answer': 'desk_work', 'desk_work::host_work': 'desk', 'divergence::divergence': 'desk_divergence', 'desk_divergence::host_divergence': 'desk', 'desk_park::host_park': 'desk', 'desk_take::host_take_out': 'desk'}
 
 WALKS = {
     'lent_examples::put_in': dict(req={'put_cell': '(subst (λ (m : ℕ). i < m) (sym {len_own4}) ready)'}, returns=['e1']),
@@ -34,6 +34,10 @@ WALKS = {
         req={'put_parked': '(word-room (storedOf words positions increments gains affinities indices offsets) (length forces) (nodesOf cells) target answer _ ln-answer r1 e1 no1)'},
         returns=['(mute-said (storedOf words positions increments gains affinities indices offsets) (length forces) (nodesOf cells) target answer _ ln-answer r1 e1 yes1)', '(parked-said (storedOf words positions increments gains affinities indices offsets) (length forces) (nodesOf cells) target answer _ ln-answer r1 e1 no1 _ ln-forces r2 target2 e2 r3 answer3 e3)']),
     'desk::brothanchor_park': dict(returns=['e1']),
+    'desk_take::host_take_out': dict(uses=['Laws.{unfit-told, told-room, record-long, taken-said}'],
+        req={'run_of': '(record-long gone words (memory positions increments gains affinities indices offsets forces cells) table old answer _ ln-answer r1 e1 no1)', 'put_size': '(record-long gone words (memory positions increments gains affinities indices offsets forces cells) table old answer _ ln-answer r1 e1 no1)', 'put_taken': '(told-room gone words (memory positions increments gains affinities indices offsets forces cells) table old answer _ ln-answer r1 e1 no1)'},
+        returns=['(unfit-told gone words (memory positions increments gains affinities indices offsets forces cells) table old answer _ ln-answer r1 e1 yes1 r2 answer2 e2)', '(taken-said gone words (memory positions increments gains affinities indices offsets forces cells) table old answer _ ln-answer r1 e1 no1 r3 e3 r4 own164 (memory positions4 increments4 gains4 affinities4 indices4 offsets4 forces4 cells) table4 old4 e4 words5 e5 r6 answer6 e6)']),
+    'desk::brothanchor_take_out': dict(returns=['e1']),
     'desk::brothanchor_work': dict(returns=['e1']),
     'desk::brothanchor_divergence': dict(returns=['e1']),
     'replay_arena::plant_in': dict(within='(ready .3)', uses=['Told.{plant-asks, plant-told}'], req={'plant': '(plant-asks n c k₀ cells positions ready count-own6)'}, returns=['(plant-told n c k₀ cells positions ready count-own6 own61 e1)']),
@@ -44,4 +48,5 @@ WALKS = {
     'bench_mapping::work_on': dict(returns=['(ap (λ (w : Worked). w .answer) e1, ap (λ (w : Worked). w .left .memory .positions) e1)'], uses=['Rattle.run_budget.specs.Budget.{Worked}']),
     'replay_park::lending::park_in': dict(within='ready', returns=['e1']),
     'replay_descent::lending::work_lent': dict(within='ready', uses=['Told.{left-told}'], returns=['(left-told k₀ cells positions1 increments1 gains1 affinities indices offsets forces1 _ {own12} r1 own131 e1 {len_own13} r2 e2)']),
+    'replay_take_out::lending::take_lent': dict(within='ready', uses=['Told.{took-told}'], returns=['(took-told positions1 increments1 gains1 affinities1 indices1 offsets1 forces1 (take k₀ cells) table1 old1 _ {own14} r1 e1 r2 e2)']),
 }

@@ -14,6 +14,7 @@ ghost use lib.ListN.{length};
 ghost use Rattle.tree_node.specs.Arena.{nodesOf};
 ghost use Rattle.parked.specs.Parked.{storedOf};
 ghost use Rattle.desk_park.specs.HostPark.{hostParked, hostPark};
+ghost use Rattle.desk_take.specs.HostTake.{hostTook, hostTake};
 ghost use Rattle.desk_unpark.specs.HostUnpark.{hostUnparked, hostUnpark};
 use desk_divergence::host_divergence;
 use desk_files::host_frame;
@@ -25,6 +26,7 @@ use desk_record::host_iterations;
 use desk_record::host_sizes;
 use desk_record::host_state;
 use desk_record::host_units;
+use desk_take::host_take_out;
 use desk_unpark::host_unpark;
 use desk_work::host_work;
 use tree_node::Cell;
@@ -367,4 +369,71 @@ pub extern "C" fn brothanchor_unpark(
         nodes,
         answer,
     )
+}
+
+// Takes frames out of a run. Answers 0, or the number of the refusal; then nothing is changed but the answer's word.
+#[no_mangle]
+pub extern "C" fn brothanchor_take_out(
+    words: &mut [u64],
+    positions: &mut [f64],
+    increments: &mut [f64],
+    gains: &mut [f64],
+    affinities: &mut [f64],
+    indices: &mut [u32],
+    offsets: &mut [u32],
+    forces: &mut [f64],
+    cells: &[Cell],
+    table: &mut [f64],
+    gone: &[u32],
+    old: &mut [u32],
+    answer: &mut [u64],
+) -> u32
+    ensures { λ k. ⌜
+        hostTook k
+        (now (answer .exit))
+        (now (words .exit))
+        (memory
+        (now (positions .exit))
+        (now (increments .exit))
+        (now (gains .exit))
+        (now (affinities .exit))
+        (now (indices .exit))
+        (now (offsets .exit))
+        (now (forces .exit))
+        (now (cells .entry)))
+        (now (table .exit))
+        (now (old .exit))
+        ≡ hostTake
+        (now (gone .entry))
+        (now (words .entry))
+        (memory
+        (now (positions .entry))
+        (now (increments .entry))
+        (now (gains .entry))
+        (now (affinities .entry))
+        (now (indices .entry))
+        (now (offsets .entry))
+        (now (forces .entry))
+        (now (cells .entry)))
+        (now (table .entry))
+        (now (old .entry))
+        (now (answer .entry))
+        ⌝ }
+{
+    let k = host_take_out(
+        words,
+        positions,
+        increments,
+        gains,
+        affinities,
+        indices,
+        offsets,
+        forces,
+        cells,
+        table,
+        gone,
+        old,
+        answer,
+    );
+    k
 }

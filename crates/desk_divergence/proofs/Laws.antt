@@ -4,30 +4,18 @@ use mathlib.Core.List.{List}
 use mathlib.Core.Bool.{Bool, true, false, not}
 use Prim.Native.Nat.{ℕ, _≤_}
 use native.Mathlib.Omega.{arith}
-use lib.Dec.{T, eqb}
+use lib.Dec.{T}
 use lib.ListN.{length}
 use lib.Ieee.{Float}
-use borrow.Author.Tests.{eqb-false, not-false}
-use Rattle.laws.proofs.Bools.{or-left, or-right}
 use Rattle.lent.proofs.Holds.{holds-as, fails-as}
 use Rattle.run_record.specs.declared.Run.{Run}
 use Rattle.run_entry.specs.State.{Memory}
 use Rattle.divergence.specs.declared.Diverged.{Diverged}
 use Rattle.divergence.specs.Divergence.{divergenceOf}
-use Rattle.record_words.specs.RecordWords.{runFine, runOf, worded}
-use Rattle.record_words.proofs.Laws.{run-long}
-use Rattle.desk_divergence.specs.HostDivergence.{divergedTold, unfit, unfitTold, hostDivergence}
-
--- an answer with a word, and words that are a record
-fit-room : (w : List ℕ) (k : ℕ) → unfit w k ≡ false → 1 ≤ k
-unfolding unfit
-fit-room w k e =
-    let ne = eqb-false k 0 (or-left (eqb k 0) (not (runFine w)) e) in
-    omega (arith, ne)
-
-fit-long : (w : List ℕ) (k : ℕ) → unfit w k ≡ false → 14 ≤ length w
-unfolding unfit
-fit-long w k e = run-long w (not-false (runFine w) (or-right (eqb k 0) (not (runFine w)) e))
+use Rattle.record_words.specs.RecordWords.{runOf, worded}
+use Rattle.fault_words.specs.FaultWords.{unfit, unfitTold}
+use Rattle.fault_words.proofs.Fit.{fit-room, fit-long}
+use Rattle.desk_divergence.specs.HostDivergence.{divergedTold, hostDivergence}
 
 module _ (w : List ℕ) (m : Memory) (y : List Float) (a : List ℕ) (n : ℕ) (ln : length a ≡ n) (x1 : Bool) (e1 : x1 ≡ unfit w n) where
   pub unfit-said : T x1 → (k : ℕ) (a' : List ℕ) → worded k a' ≡ unfitTold w a → worded k a' ≡ hostDivergence w m y a

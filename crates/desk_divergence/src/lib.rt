@@ -4,14 +4,14 @@ ghost use Prim.Native.Nat.{_≤_};
 ghost use lib.ListN.{length};
 ghost use Rattle.run_entry.specs.State.{memory};
 ghost use Rattle.record_words.specs.RecordWords.{worded};
-ghost use Rattle.desk_divergence.specs.HostDivergence.{divergedWord, divergedTold, unfit, unfitTold, hostDivergence};
+ghost use Rattle.desk_divergence.specs.HostDivergence.{divergedWord, divergedTold, hostDivergence};
 use divergence::Diverged;
 use divergence::divergence;
 use divergence::number;
 use elementary::words::bits_of;
 use fault_words::fault_value;
-use fault_words::unread_fault;
-use record_words::run_fine;
+use fault_words::is_unfit;
+use fault_words::put_unfit;
 use record_words::run_of;
 use tree_node::Cell;
 
@@ -32,28 +32,6 @@ fn put_diverged(answer: &mut [u64], d: Diverged) -> u32
 {
     answer[0] = diverged_word(d);
     number(d) as u32
-}
-
-// Whether an answer of so many words has none, or the words are no record.
-fn is_unfit(words: &[u64], told: usize) -> bool
-    ensures { λ b. ⌜ b ≡ unfit (now (words .entry)) told ⌝ }
-{
-    if told == 0 {
-        return true;
-    }
-    !run_fine(words)
-}
-
-// Answers 12, or 13 and tells what is wrong with the words.
-fn put_unfit(words: &[u64], answer: &mut [u64]) -> u32
-    ensures { λ k. ⌜ worded k (now (answer .exit)) ≡ unfitTold (now (words .entry)) (now (answer .entry)) ⌝ }
-{
-    if answer.len() == 0 {
-        return 12;
-    }
-    let f = unread_fault(words);
-    answer[0] = fault_value(f);
-    13
 }
 
 // The figure of the iteration just finished. Answers 0, or the number of the refusal, and writes the answer's first word.

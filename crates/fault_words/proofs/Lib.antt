@@ -1,1 +1,4 @@
 pub mod CallsRunOf
+pub mod Fit
+pub mod CallsIsUnfit
+pub mod CallsPutUnfit

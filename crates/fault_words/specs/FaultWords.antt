@@ -1,12 +1,12 @@
 -- A fault and what comes with it, as plain words of 64 bits; and what is told of words that are no record. Definitions only.
 use mathlib.Core.List.{List}
-use mathlib.Core.Bool.{cond}
+use mathlib.Core.Bool.{Bool, cond, not, _||_}
 use Prim.Native.Nat.{ℕ}
-use lib.Dec.{ltb}
-use lib.ListN.{length}
+use lib.Dec.{eqb, ltb}
+use lib.ListN.{length, set}
 use Rattle.run_entry.specs.declared.Fault.{Fault}
 use Rattle.run_entry.specs.declared.Fault.the-variants.{Fine, Settings as BadSettings, Counters, Areas, Offsets, Index, Tree}
-use Rattle.record_words.specs.RecordWords.{settingsFine}
+use Rattle.record_words.specs.RecordWords.{settingsFine, runFine, Worded, worded}
 
 -- 0 none, 1 settings, 2 counters, 3 areas, 4 offsets, 5 listed index, 6 tree
 abbrev pub faultWord : Fault → ℕ
@@ -31,3 +31,13 @@ faultValue (Tree i) = i
 -- what is told of words that are no record, each of these 13: too few words, as counters; a method that there is not, as settings, with the 13 that preparation would give; a state that there is not, as counters
 abbrev pub unreadFault : List ℕ → Fault
 unreadFault w = cond (ltb (length w) 14) Counters (cond (settingsFine w) Counters (BadSettings 13))
+
+-- ---- a call that is lent a record as words, and words to answer in
+
+-- an answer of k words has none, or the words w are no record
+unfoldable pub unfit : List ℕ → ℕ → Bool
+unfit w k = eqb k 0 || not (runFine w)
+
+-- an answer without a word: 12, and nothing can be told; else 13, and what is wrong with the words
+unfoldable pub unfitTold : List ℕ → List ℕ → Worded
+unfitTold w a = cond (eqb (length a) 0) (worded 12 a) (worded 13 (set a 0 (faultValue (unreadFault w))))

@@ -1,6 +1,8 @@
 // A fault and what comes with it, as plain words of 64 bits; and what is wrong with words that are no record.
 ghost use mathlib.Core.Path.{_≡_};
-ghost use Rattle.fault_words.specs.FaultWords.{faultWord, faultValue, unreadFault};
+ghost use Rattle.record_words.specs.RecordWords.{worded};
+ghost use Rattle.fault_words.specs.FaultWords.{faultWord, faultValue, unreadFault, unfit, unfitTold};
+use record_words::run_fine;
 use record_words::settings_fine;
 use run_entry::Fault;
 
@@ -43,4 +45,26 @@ pub fn unread_fault(words: &[u64]) -> Fault
         return Fault::Counters;
     }
     Fault::Settings(13)
+}
+
+// Whether an answer of so many words has none, or the words are no record.
+pub fn is_unfit(words: &[u64], told: usize) -> bool
+    ensures { λ b. ⌜ b ≡ unfit (now (words .entry)) told ⌝ }
+{
+    if told == 0 {
+        return true;
+    }
+    !run_fine(words)
+}
+
+// Answers 12, or 13 and tells what is wrong with the words.
+pub fn put_unfit(words: &[u64], answer: &mut [u64]) -> u32
+    ensures { λ k. ⌜ worded k (now (answer .exit)) ≡ unfitTold (now (words .entry)) (now (answer .entry)) ⌝ }
+{
+    if answer.len() == 0 {
+        return 12;
+    }
+    let f = unread_fault(words);
+    answer[0] = fault_value(f);
+    13
 }

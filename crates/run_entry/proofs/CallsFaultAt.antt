@@ -89,3 +89,21 @@ module _ {M : Type 1} {𝓤 : URA M} {H : Heap 𝓤} {A : Atoms 𝓤} {K : Type 
       split t $ move t (1 ∷ []) $ use1 W (some (λ (ws : Unit {0} × (Unit {0} × (Unit {0} × (Unit {0} × (Unit {0} × (Unit {0} × (Unit {0} × (Unit {0} × (Unit {0} × (Unit {0})))))))))). ‵ (lasts callee.ended (s-indices .life, (s-offsets .life, (s-cells .life, tt))) (r, (p, (i, (g₀, (a₀, (f₀, (ref-at s-indices indices, (ref-at s-offsets offsets, (ref-at s-cells cells, tt))))))))) ws) ⊛ raw (fact 𝓤 (Ensured-fault-at r p i g₀ a₀ f₀ indices offsets cells res)))) (id⊢ 𝓤 _) $ pick t (λ ws. split t $ move t (1 ∷ []) $ heard t (Ensured-fault-at r p i g₀ a₀ f₀ indices offsets cells res) (λ e. fsplit t $ drop t $ fsplit t $ drop t $ fsplit t $ drop t $ fsplit t $ drop t $ fsplit t $ drop t $ fsplit t $ drop t $ fsplit t $ drop t $ fsplit t $ drop t $ fsplit t $ drop t $ drop t $ split t $ move t (1 ∷ []) $ peeks t Fault′.the-row (Is Fault′.the-row) (shows 𝓤 H A Fault′.the-row) res (out ∷ []) (λ is. drop t $ split t $ move t (1 ∷ []) $ split t $ move t (1 ∷ []) $ split t $ move t (1 ∷ []) $ drop t $
       move t (5 ∷ 2 ∷ 4 ∷ 1 ∷ 3 ∷ 0 ∷ []) $
       subst (λ (u : Val). Seq K W (‵ (Shr u32 s-indices indices) ∷ ‵ (Tok s-indices) ∷ ‵ (Shr u32 s-offsets offsets) ∷ ‵ (Tok s-offsets) ∷ ‵ (Shr Cell′.the-row s-cells cells) ∷ ‵ (Tok s-cells) ∷ Γ) (lands C Λ E d u rest q)) (sym (ap only (EL.tells Fault′.the-type Fault″.the-laws res (out ∷ []) is))) (k res e (subst (Is Fault′.the-row res) (EL.tells Fault′.the-type Fault″.the-laws res (out ∷ []) is) is)))))))
+
+  pub calls-fault-at-ssc : K → FmC 𝓤 H (W .laws) C → (mem : Memory → SProp 𝓤) (run : Routine → Fun 𝓤) → Triple 𝓤 (C #run-entry·fault-at) (Contract-fault-at 𝓤 H A mem run)
+      → (r : Run) (p : ℕ) (i : ℕ) (g₀ : ℕ) (a₀ : ℕ) (f₀ : ℕ) (s-indices : Seat) (indices : List ℕ) (s-offsets : Seat) (offsets : List ℕ) (s-cells : Seat) (cells : List Cell) → IsRun r → p < 2 ^ 64 → i < 2 ^ 64 → g₀ < 2 ^ 64 → a₀ < 2 ^ 64 → f₀ < 2 ^ 64
+      → ((P Ω0 Ω1 Ω2 : Item 𝓤) → Opds K W (P ∷ Ω0 ∷ Ω1 ∷ Ω2 ∷ Γ) E xs (val-Run r ∷ vint w64 p ∷ vint w64 i ∷ vint w64 g₀ ∷ vint w64 a₀ ∷ vint w64 f₀ ∷ word s-indices ∷ word s-offsets ∷ word s-cells ∷ []))
+      → ((res : Fault) → Ensured-fault-at r p i g₀ a₀ f₀ indices offsets cells res → Is Fault′.the-row res (val-Fault res ∷ []) → Seq K W (‵ (Mut u32 s-indices indices) ∷ ‵ (Tok s-indices) ∷ ‵ (Mut u32 s-offsets offsets) ∷ ‵ (Tok s-offsets) ∷ ‵ (Shr Cell′.the-row s-cells cells) ∷ ‵ (Tok s-cells) ∷ Γ) (lands C Λ E d (val-Fault res) rest q))
+      → Seq K W (‵ (Mut u32 s-indices indices) ∷ ‵ (Tok s-indices) ∷ ‵ (Mut u32 s-offsets offsets) ∷ ‵ (Tok s-offsets) ∷ ‵ (Shr Cell′.the-row s-cells cells) ∷ ‵ (Tok s-cells) ∷ Γ) (runs C Λ E (seq (call #run-entry·fault-at xs d) rest) q)
+  calls-fault-at-ssc t fm mem run met r p i g₀ a₀ f₀ s-indices indices s-offsets offsets s-cells cells g-r g-p g-i g-g₀ g-a₀ g-f₀ os k =
+      lend-shr t tt u32 s-indices indices (λ ν-indices δ-indices w-indices.
+      move t (3 ∷ 4 ∷ []) $ lend-shr t tt u32 s-offsets offsets (λ ν-offsets δ-offsets w-offsets.
+      move t (6 ∷ 7 ∷ []) $ lend-copy t Cell′.the-row s-cells cells $
+      move t (6 ∷ 3 ∷ 0 ∷ 7 ∷ 4 ∷ 1 ∷ []) $ group t 6 $ use1 W (raw (Contract-fault-at 𝓤 H A mem run .pre (to 𝓤 H A mem run r p i g₀ a₀ f₀ (lent-to s-indices ν-indices δ-indices) indices (lent-to s-offsets ν-offsets δ-offsets) offsets s-cells cells))) (goes 𝓤 H A mem run W r p i g₀ a₀ f₀ (lent-to s-indices ν-indices δ-indices) indices (lent-to s-offsets ν-offsets δ-offsets) offsets s-cells cells g-r g-p g-i g-g₀ g-a₀ g-f₀) $
+      calls-at t fm (Contract-fault-at 𝓤 H A mem run) met (to 𝓤 H A mem run r p i g₀ a₀ f₀ (lent-to s-indices ν-indices δ-indices) indices (lent-to s-offsets ν-offsets δ-offsets) offsets s-cells cells) (os _ _ _ _) (λ out.
+      use1 W (later (some (λ (res : Fault). ((‵ (Tok (lent-to s-indices ν-indices δ-indices)) ⊛ ‵ (Tok (lent-to s-offsets ν-offsets δ-offsets)) ⊛ ‵ (Tok s-cells) ⊛ ‵ ftrue) ⊛ ‵ (Fault′.the-row .own res (out ∷ []))) ⊛ raw (ensured 𝓤 H A callee.ended (callee.clauses 𝓤 H A mem run) (ν-indices ∷ [], (ν-offsets ∷ [], (s-cells .life, tt))) (r, (p, (i, (g₀, (a₀, (f₀, (ref-at (lent-to s-indices ν-indices δ-indices) indices, (ref-at (lent-to s-offsets ν-offsets δ-offsets) offsets, (ref-at s-cells cells, tt))))))))) tt res)))) (id⊢ 𝓤 _) $ await t tt $ pick t (λ res.
+      split t $ move t (1 ∷ []) $ use1 W (some (λ (ws : Unit {0} × (Unit {0} × (Unit {0} × (Unit {0} × (Unit {0} × (Unit {0} × (Unit {0} × (Unit {0} × (Unit {0} × (Unit {0})))))))))). ‵ (lasts callee.ended (ν-indices ∷ [], (ν-offsets ∷ [], (s-cells .life, tt))) (r, (p, (i, (g₀, (a₀, (f₀, (ref-at (lent-to s-indices ν-indices δ-indices) indices, (ref-at (lent-to s-offsets ν-offsets δ-offsets) offsets, (ref-at s-cells cells, tt))))))))) ws) ⊛ raw (fact 𝓤 (Ensured-fault-at r p i g₀ a₀ f₀ indices offsets cells res)))) (id⊢ 𝓤 _) $ pick t (λ ws. split t $ move t (1 ∷ []) $ heard t (Ensured-fault-at r p i g₀ a₀ f₀ indices offsets cells res) (λ e. fsplit t $ drop t $ fsplit t $ drop t $ fsplit t $ drop t $ fsplit t $ drop t $ fsplit t $ drop t $ fsplit t $ drop t $ fsplit t $ drop t $ fsplit t $ drop t $ fsplit t $ drop t $ drop t $ split t $ move t (1 ∷ []) $ peeks t Fault′.the-row (Is Fault′.the-row) (shows 𝓤 H A Fault′.the-row) res (out ∷ []) (λ is. drop t $ split t $ move t (1 ∷ []) $ split t $ move t (1 ∷ []) $ split t $ move t (1 ∷ []) $ drop t $
+      move t (2 ∷ 5 ∷ []) $ back-shr t tt u32 s-indices ν-indices δ-indices indices w-indices $
+      move t (3 ∷ 5 ∷ []) $ back-shr t tt u32 s-offsets ν-offsets δ-offsets offsets w-offsets $
+      move t (2 ∷ 3 ∷ 0 ∷ 1 ∷ 5 ∷ 4 ∷ []) $
+      subst (λ (u : Val). Seq K W (‵ (Mut u32 s-indices indices) ∷ ‵ (Tok s-indices) ∷ ‵ (Mut u32 s-offsets offsets) ∷ ‵ (Tok s-offsets) ∷ ‵ (Shr Cell′.the-row s-cells cells) ∷ ‵ (Tok s-cells) ∷ Γ) (lands C Λ E d u rest q)) (sym (ap only (EL.tells Fault′.the-type Fault″.the-laws res (out ∷ []) is))) (k res e (subst (Is Fault′.the-row res) (EL.tells Fault′.the-type Fault″.the-laws res (out ∷ []) is) is)))))))))

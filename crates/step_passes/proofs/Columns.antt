@@ -8,17 +8,20 @@ use native.Mathlib.Numerals.{add-one}
 use native.Mathlib.Nat.{mul-add-mod-self-right, mod-eq-of-lt, suc-mul, zero-mul, zero-add, le-trans, le-of-eq}
 use lib.ListN.{length, set, length-set}
 use lib.Seq.{getD-set-same, getD-set-other}
-use lib.Ieee.{Float, nan, binary64, add}
+use lib.IntN.{pos}
+use lib.Ieee.{Float, nan, binary64, ofInt, add, div}
 use Rattle.laws.specs.Area.{at, zero64, zeros8}
 use Rattle.laws.specs.Loops.{loop}
 use Rattle.laws.proofs.Loops.{loop-add, loop-keeps}
-use Rattle.step_passes.specs.Passes.{Before, elementAt, sumStep, sumsOf}
+use Rattle.laws.proofs.Changed.{changed-at}
+use Rattle.centring.specs.Centring.{plusNext, sumOf, averageOf}
+use Rattle.step_passes.specs.Passes.{Before, elementAt, sumStep, sumsOf, meansOf}
 
 abbrev pub columnStep : Before → ℕ → ℕ → ℕ → Float → Float
-columnStep b c d i s = add binary64 s (elementAt b (i * c + d) .moved)
+columnStep b c d = plusNext (λ i. elementAt b (i * c + d) .moved)
 
 abbrev pub columnOf : Before → ℕ → ℕ → ℕ → Float
-columnOf b n c d = loop (columnStep b c d) n 0 zero64
+columnOf b n c d = sumOf (λ i. elementAt b (i * c + d) .moved) n
 
 differ : (a b : ℕ) → (a ≡ b) ⊎ (a ≡ b → ⊥)
 differ zero zero = inl refl
@@ -116,3 +119,9 @@ columns b c d h l (suc n) =
 -- the sums of the step are the components' own
 pub sums-by-column : (b : Before) (n c d : ℕ) → d < c → c ≤ 8 → at (sumsOf b n c) d ≡ columnOf b n c d
 sums-by-column b n c d h l = columns b c d h l n .sum
+
+-- and its means are the components' own
+pub means-by-column : (b : Before) (n c d : ℕ) → d < c → c ≤ 8 → at (meansOf b n c) d ≡ averageOf (λ i. elementAt b (i * c + d) .moved) n
+means-by-column b n c d h l =
+    changed-at nan (λ _ x. div binary64 x (ofInt binary64 (pos n))) c (sumsOf b n c) (omega (arith, columns b c d h l n .size)) d h
+    ∙ ap (λ (x : Float). div binary64 x (ofInt binary64 (pos n))) (sums-by-column b n c d h l)

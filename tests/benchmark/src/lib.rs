@@ -6,7 +6,7 @@ pub mod frame_file;
 pub mod library;
 
 use contest::{contest, Contestant};
-use library::{prepared, Copying, Parking, Preparing, Reading, Run, Telling, Working};
+use library::{prepared, Copying, Parking, Preparing, Reading, Run, Telling, Thinning, Working};
 use oracle::scatter::SplitMix64;
 
 /// What someone else brings to a contest, where they have it.
@@ -77,27 +77,31 @@ pub fn all(others: &dyn Others) {
             vec![Box::new(Preparing::new(&run)), Box::new(array::Preparation::new(&run))];
         contest(title, ours.into_iter().chain(others.preparation(&run)).collect(), 7);
     }
-    for (method, n, title) in [
-        (
-            brothanchor::Method::BarnesHut,
-            4096,
-            "divergence, Barnes-Hut, n 4096, beside an iteration",
-        ),
-        (
-            brothanchor::Method::Exact,
-            1024,
-            "divergence, exact, n 1024, beside an iteration",
-        ),
+    beside_an_iteration();
+    parking();
+    a_full_side();
+}
+
+/// What is asked of a run between two iterations, beside an iteration.
+pub fn beside_an_iteration() {
+    for (method, n, name) in [
+        (brothanchor::Method::BarnesHut, 4096, "Barnes-Hut, n 4096"),
+        (brothanchor::Method::Exact, 1024, "exact, n 1024"),
     ] {
         let run = prepared(method, n, 10);
+        let working = || Box::new(Working::new(&run));
         contest(
-            title,
-            vec![Box::new(Telling::new(&run)), Box::new(Working::new(&run))],
+            &format!("divergence, {name}, beside an iteration"),
+            vec![Box::new(Telling::new(&run)), working()],
+            11,
+        );
+        let tenth = n as u32 / 1000 * 100;
+        contest(
+            &format!("taking {tenth} frames out, {name}, beside an iteration"),
+            vec![Box::new(Thinning::new(&run, tenth)), working()],
             11,
         );
     }
-    parking();
-    a_full_side();
 }
 
 /// The frame file of a full side, read.

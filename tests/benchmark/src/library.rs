@@ -3,7 +3,7 @@
 use crate::contest::Contestant;
 use crate::frames;
 use brothanchor::{
-    divergence, park, parked, prepare, scatter, sizes, unpark, work, Areas, Method, Record, Rows, Settings,
+    divergence, park, parked, prepare, scatter, sizes, take_out, unpark, work, Areas, Method, Record, Rows, Settings,
 };
 
 /// A run at the start of an iteration.
@@ -168,6 +168,51 @@ impl Contestant for Telling {
 
     fn work(&mut self) {
         self.figure = divergence(&self.record, &self.areas, &self.copy).expect("an iteration has just ended");
+    }
+
+    fn result(&self) -> Option<Vec<f64>> {
+        None
+    }
+}
+
+/// So many frames taken out of a run, every tenth from the first on.
+pub struct Thinning {
+    from: (Record, Areas, Vec<f64>),
+    gone: Vec<u32>,
+    record: Record,
+    areas: Areas,
+    table: Vec<f64>,
+    old: Vec<u32>,
+}
+
+impl Thinning {
+    pub fn new(run: &Run, frames: u32) -> Thinning {
+        Thinning {
+            from: (run.record, run.areas.clone(), run.table.clone()),
+            gone: (0..frames).map(|i| 10 * i).collect(),
+            record: run.record,
+            areas: run.areas.clone(),
+            table: run.table.clone(),
+            old: vec![0; run.settings.n],
+        }
+    }
+}
+
+impl Contestant for Thinning {
+    fn name(&self) -> &'static str {
+        "taking frames out"
+    }
+
+    fn reset(&mut self) {
+        self.record = self.from.0;
+        self.areas.clone_from(&self.from.1);
+        self.table.clone_from(&self.from.2);
+    }
+
+    fn work(&mut self) {
+        let (areas, table) = (&mut self.areas, &mut self.table);
+        let left = take_out(&mut self.record, areas, table, &self.gone, &mut self.old);
+        assert_eq!(left, Ok(self.old.len() - self.gone.len()));
     }
 
     fn result(&self) -> Option<Vec<f64>> {

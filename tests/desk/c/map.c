@@ -1,7 +1,8 @@
-/* Maps a frame file through include/brothanchor.h, as the wrapper's map program does: map FILE [SEED].
+/* Maps a frame file through include/brothanchor.h, as the wrapper's map program does: map FILE [SEED [FIRST LAST]].
  * Prints a line for each frame: picture, side, field, both coordinates by their bits; then how the run ended, and its divergence. On
- * its way the run is parked, forgotten and read back. It is compiled as C and as C++, and calls every function of the header. A
- * refusal ends it with its number and where it came. */
+ * its way the run is parked, forgotten and read back; then the frames of the pictures from FIRST to LAST are taken out. A seed that
+ * is no number, as -, is none. It is compiled as C and as C++, and calls every function of the header. A refusal ends it with its
+ * number and where it came. */
 #include <inttypes.h>
 #include <stdio.h>
 #include <stdlib.h>
@@ -203,6 +204,42 @@ static void overnight(struct areas *a, const uint64_t *sizes) {
     free(again);
 }
 
+/* A removal by the first so many words of the record, of the first so many samples of a list, with so many places to tell in. */
+static uint32_t take_out(struct areas *a, const uint64_t *sizes, size_t words, double *table, const uint32_t *gone, size_t count,
+                         uint32_t *old, size_t places, uint64_t *answer, size_t length) {
+    return brothanchor_take_out(
+        a->record, words,
+        a->positions, sizes[BROTHANCHOR_CELLS], a->increments, sizes[BROTHANCHOR_CELLS], a->gains, sizes[BROTHANCHOR_CELLS],
+        a->affinities, sizes[BROTHANCHOR_AFFINITIES], a->indices, sizes[BROTHANCHOR_INDICES],
+        a->offsets, sizes[BROTHANCHOR_OFFSETS], a->forces, sizes[BROTHANCHOR_FORCES],
+        a->nodes, sizes[BROTHANCHOR_NODES], table, a->record[BROTHANCHOR_N] * FEATURES, gone, count, old, places, answer, length);
+}
+
+/* Takes the frames of the pictures from first to last out, before that as only C can ask for it: no word to tell in, a record that
+ * lacks a word. How many are left, and in old their places in the file. */
+static size_t thin(struct areas *a, const uint64_t *sizes, double *table, const uint8_t *file, size_t length, char **ends,
+                   uint32_t *old) {
+    static const uint32_t twice[2] = {1, 1};
+    static uint32_t gone[MOST_FRAMES];
+    const size_t n = (size_t)a->record[BROTHANCHOR_N], words = BROTHANCHOR_RECORD_WORDS;
+    const uint64_t first = strtoull(ends[0], NULL, 10), last = strtoull(ends[1], NULL, 10);
+    size_t count = 0;
+    uint64_t answer[2] = {5, 7};
+    for (size_t i = 0; i < n; i++) {
+        uint64_t frame[FRAME_WORDS];
+        refused("frame", brothanchor_frame(file, length, i, frame, FRAME_WORDS));
+        if (frame[0] >= first && frame[0] <= last) gone[count++] = (uint32_t)i;
+    }
+    told("take_out, no answer", take_out(a, sizes, words, table, gone, count, old, n, answer, 0), 12, answer, 5);
+    told("take_out, thirteen words", take_out(a, sizes, words - 1, table, gone, count, old, n, answer, 2), 13, answer, 0);
+    answer[0] = 5;
+    told("take_out, a place short", take_out(a, sizes, words, table, gone, count, old, n - 1, answer, 1), 12, answer, 0);
+    answer[0] = 5;
+    told("take_out, a sample twice", take_out(a, sizes, words, table, twice, 2, old, n, answer, 1), 18, answer, 0);
+    told("take_out", take_out(a, sizes, words, table, gone, count, old, n, answer, 2), 0, answer, n - count);
+    return n - count;
+}
+
 static size_t read_file(const char *name, uint8_t *file, size_t most) {
     FILE *in = fopen(name, "rb");
     size_t length;
@@ -228,11 +265,12 @@ static void rows(const uint8_t *file, size_t length, size_t n, const char *seed,
     }
 }
 
-static void print(const uint8_t *file, size_t length, size_t n, const struct areas *a) {
+/* The frames on the map, by their places in the file. */
+static void print(const uint8_t *file, size_t length, size_t n, const uint32_t *places, const struct areas *a) {
     static const char *const states[] = {"running", "stopped", "finished", "no record"};
     for (size_t i = 0; i < n; i++) {
         uint64_t frame[FRAME_WORDS];
-        refused("frame", brothanchor_frame(file, length, i, frame, FRAME_WORDS));
+        refused("frame", brothanchor_frame(file, length, places[i], frame, FRAME_WORDS));
         printf("%" PRIu64 " %" PRIu64 " %" PRIu64 " %016" PRIx64 " %016" PRIx64 "\n", frame[0], frame[1], frame[2],
                bits(a->positions[i * STARTS]), bits(a->positions[i * STARTS + 1]));
     }
@@ -245,25 +283,30 @@ static void print(const uint8_t *file, size_t length, size_t n, const struct are
 int main(int words, char **word) {
     static uint8_t file[MOST_FRAMES * FRAME_BYTES];
     static double table[MOST_FRAMES * FEATURES], start[MOST_FRAMES * STARTS];
+    static uint32_t places[MOST_FRAMES];
     uint64_t settings[BROTHANCHOR_SETTINGS_WORDS], sizes[BROTHANCHOR_SIZES_WORDS], n;
     struct areas areas;
     size_t length;
     if (words < 2) {
-        fprintf(stderr, "map FILE [SEED]\n");
+        fprintf(stderr, "map FILE [SEED [FIRST LAST]]\n");
         return 2;
     }
     length = read_file(word[1], file, sizeof file);
     refused("frames", brothanchor_frames(file, length, &n, 1));
-    rows(file, length, n, words > 2 ? word[2] : NULL, table, start);
+    rows(file, length, n, words > 2 && strcmp(word[2], "-") != 0 ? word[2] : NULL, table, start);
+    for (uint32_t i = 0; i < n; i++) places[i] = i;
     set(settings, n);
     refused("sizes", brothanchor_sizes(settings, BROTHANCHOR_SETTINGS_WORDS, sizes, BROTHANCHOR_SIZES_WORDS));
     lend(&areas, sizes);
     prepare(&areas, settings, sizes, table, start);
     do {
-        if (brothanchor_iterations(areas.record, BROTHANCHOR_RECORD_WORDS) == NIGHT) overnight(&areas, sizes);
+        if (brothanchor_iterations(areas.record, BROTHANCHOR_RECORD_WORDS) == NIGHT) {
+            overnight(&areas, sizes);
+            if (words > 4) n = thin(&areas, sizes, table, file, length, word + 3, places);
+        }
         memcpy(areas.copy, areas.positions, sizes[BROTHANCHOR_CELLS] * sizeof(double));
     } while (work(&areas, sizes, (uint32_t)(2 * n + 2)) == 0);
-    print(file, length, n, &areas);
+    print(file, length, n, places, &areas);
     printf("its divergence: %.6f\n", divergence(&areas, sizes));
     return 0;
 }

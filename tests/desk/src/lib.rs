@@ -9,14 +9,17 @@ mod library;
 pub mod map;
 mod parking;
 mod picture;
+pub mod pictures;
 mod refusal;
 mod run;
+mod thinning;
 
 pub use parking::{park, parked, parked_bytes, unpark, unpark_words, wake, PARKED_RECORD};
 pub use refusal::Refusal;
 pub use run::{
     divergence, prepare, sizes, work, Areas, Fault, Kind, Method, Node, Record, Rows, Settings, Sizes, State, Worked,
 };
+pub use thinning::take_out;
 
 /// Components of a frame file's starts, features of its frames.
 pub const STARTS: usize = 2;

@@ -134,6 +134,35 @@ extern "C" {
         answer_length: usize,
     ) -> u32;
 
+    pub fn brothanchor_take_out(
+        record: *mut u64,
+        record_length: usize,
+        positions: *mut f64,
+        positions_length: usize,
+        increments: *mut f64,
+        increments_length: usize,
+        gains: *mut f64,
+        gains_length: usize,
+        affinities: *mut f64,
+        affinities_length: usize,
+        indices: *mut u32,
+        indices_length: usize,
+        offsets: *mut u32,
+        offsets_length: usize,
+        forces: *mut f64,
+        forces_length: usize,
+        nodes: *const Node,
+        nodes_length: usize,
+        table: *mut f64,
+        table_length: usize,
+        gone: *const u32,
+        gone_length: usize,
+        old: *mut u32,
+        old_length: usize,
+        answer: *mut u64,
+        answer_length: usize,
+    ) -> u32;
+
     pub fn brothanchor_state(record: *const u64, record_length: usize) -> u64;
     pub fn brothanchor_iterations(record: *const u64, record_length: usize) -> u64;
     pub fn brothanchor_units(record: *const u64, record_length: usize) -> u64;

@@ -3,6 +3,7 @@
 use crate::parking::{parked, wake};
 use crate::picture;
 use crate::run::{divergence, prepare, sizes, work, Areas, Kind, Method, Record, Rows, Settings, State};
+use crate::thinning::take_out;
 use crate::{frame, frames, scatter, Frame, Refusal, FEATURES, STARTS};
 use std::fmt;
 
@@ -114,7 +115,7 @@ impl Run {
         let n = frames.len();
         let settings = settings(n, iterations);
         let sizes = sizes(&settings)?;
-        let table: Vec<f64> = frames.iter().flat_map(|frame| frame.features).collect();
+        let table = table(&frames);
         let mut start: Vec<f64> = frames.iter().flat_map(|frame| frame.starts).collect();
         if let Some(seed) = seed {
             scatter(&mut start, n as u32, STARTS as u32, seed)?;
@@ -179,9 +180,20 @@ impl Run {
         self.record.state() != Some(State::Running)
     }
 
-    /// How many frames it has.
-    pub fn frames(&self) -> usize {
-        self.frames.len()
+    /// The frames on its map, in capture order.
+    pub fn frames(&self) -> &[Frame] {
+        &self.frames
+    }
+
+    /// Takes the frames at these places out, which have to rise, and centres what is left.
+    pub fn take_out(&mut self, places: &[u32]) -> Result<(), Refusal> {
+        let mut table = table(&self.frames);
+        let mut old = vec![0; self.frames.len()];
+        let left = take_out(&mut self.record, &mut self.areas, &mut table, places, &mut old)
+            .map_err(|(refusal, _)| refusal)?;
+        self.frames = old[..left].iter().map(|&place| self.frames[place as usize]).collect();
+        self.copy.copy_from_slice(&self.areas.positions);
+        Ok(())
     }
 
     /// The run as a file.
@@ -196,13 +208,21 @@ impl Run {
             Err((Refusal(17), _)) => None,
             Err((refusal, _)) => return Err(refusal.into()),
         };
+        // After a removal the areas are longer than what is left.
+        let mut positions = self.areas.positions;
+        positions.truncate(STARTS * self.frames.len());
         Ok(Map {
             frames: self.frames,
-            positions: self.areas.positions,
+            positions,
             record: self.record,
             divergence,
         })
     }
+}
+
+/// The frames' rows.
+fn table(frames: &[Frame]) -> Vec<f64> {
+    frames.iter().flat_map(|frame| frame.features).collect()
 }
 
 /// Why a run is not resumed.
@@ -233,7 +253,7 @@ impl fmt::Display for NoRun {
 }
 
 /// The frames of a file; 7 where it is too long, before any record is tested.
-fn read(file: &[u8]) -> Result<Vec<Frame>, NoMap> {
+pub fn read(file: &[u8]) -> Result<Vec<Frame>, NoMap> {
     if file.len() > MOST_FRAMES * RECORD {
         return Err(Refusal(7).into());
     }

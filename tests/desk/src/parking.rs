@@ -41,10 +41,7 @@ pub fn park(record: &Record, areas: &Areas, target: &mut [u8]) -> Result<usize, 
             answer.len(),
         )
     };
-    let [word] = answer;
-    Refusal::unless_0(number)
-        .map(|()| word as usize)
-        .map_err(|refusal| (refusal, word))
+    Refusal::unless_counted(number, answer)
 }
 
 /// Reads a parked run into areas that may be longer, and answers its record. Of the arena it takes the number of nodes alone.
@@ -83,10 +80,7 @@ pub fn unpark_words(file: &[u8], words: &mut [u64], areas: &mut Areas) -> Result
             answer.len(),
         )
     };
-    let [word] = answer;
-    Refusal::unless_0(number)
-        .map(|()| word as usize)
-        .map_err(|refusal| (refusal, word))
+    Refusal::unless_counted(number, answer)
 }
 
 /// How long the file of a run is, in bytes; of a record that is not well formed any number.

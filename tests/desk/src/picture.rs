@@ -23,7 +23,7 @@ pub fn svg(map: &Map) -> String {
         "<svg xmlns=\"http://www.w3.org/2000/svg\" viewBox=\"0 0 {SIDE} {foot}\" width=\"{SIDE}\" height=\"{foot}\" font-family=\"sans-serif\" font-size=\"12\">"
     );
     let _ = writeln!(text, "<rect width=\"100%\" height=\"100%\" fill=\"white\"/>");
-    text += &lines(&dots);
+    text += &lines(map, &dots);
     text += &circles(map, &dots);
     text += &numbers(&names, &labels, &cuts);
     text += &legend(map);
@@ -55,12 +55,14 @@ fn colour(i: usize, n: usize) -> String {
     format!("hsl({hue:.0},80%,45%)")
 }
 
-/// A line from each frame to the next.
-fn lines(dots: &[[f64; 2]]) -> String {
+/// A line from each frame to the next, dashed where the map lacks pictures between them.
+fn lines(map: &Map, dots: &[[f64; 2]]) -> String {
     let line = |(i, pair): (usize, &[[f64; 2]])| {
         let [[x1, y1], [x2, y2]] = [pair[0], pair[1]];
         let colour = colour(i, dots.len());
-        format!("<line x1=\"{x1:.2}\" y1=\"{y1:.2}\" x2=\"{x2:.2}\" y2=\"{y2:.2}\" stroke=\"{colour}\" stroke-opacity=\"0.4\"/>\n")
+        let gap = map.frames[i + 1].picture > map.frames[i].picture + 1;
+        let dashes = if gap { " stroke-dasharray=\"6 4\"" } else { "" };
+        format!("<line x1=\"{x1:.2}\" y1=\"{y1:.2}\" x2=\"{x2:.2}\" y2=\"{y2:.2}\" stroke=\"{colour}\" stroke-opacity=\"0.4\"{dashes}/>\n")
     };
     dots.windows(2).enumerate().map(line).collect()
 }

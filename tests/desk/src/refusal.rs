@@ -2,7 +2,7 @@
 
 use std::fmt;
 
-/// The number of a refusal, from 1 to 17.
+/// The number of a refusal, from 1 to 18.
 #[derive(Clone, Copy, Debug, PartialEq, Eq)]
 pub struct Refusal(pub u32);
 
@@ -13,6 +13,13 @@ impl Refusal {
             0 => Ok(()),
             _ => Err(Refusal(number)),
         }
+    }
+
+    /// What a call counted in word 0 of its answer; or the refusal with what comes with it there.
+    pub(crate) fn unless_counted(number: u32, [word]: [u64; 1]) -> Result<usize, (Refusal, u64)> {
+        Refusal::unless_0(number)
+            .map(|()| word as usize)
+            .map_err(|refusal| (refusal, word))
     }
 
     /// What the number means.
@@ -26,8 +33,8 @@ impl Refusal {
             6 => "a Barnes-Hut run has more than 3 components",
             7 => "there are no frames or more than 4096, no features or more than 256, or the table has another length",
             8 => "a feature is not finite or above 2^20 in magnitude",
-            9 => "a single frame has no map",
-            10 => "the perplexity is not below the number of frames",
+            9 => "a single frame has no map, and at least two have to be left",
+            10 => "the perplexity is not below the number of frames, or of those that would be left",
             11 => "the start has another length, or a value that is not finite or above 2^20 in magnitude",
             12 => "a lent area is too short",
             13 => "the settings, the record or the areas are not well formed",
@@ -35,6 +42,7 @@ impl Refusal {
             15 => "a value has left, or the step would leave, the range of numbers that a map may have",
             16 => "a record of the file is bad",
             17 => "the run is inside an iteration, or no iteration has just ended, or the forces give a total of 0",
+            18 => "the samples to be taken out do not rise or are not there, or more links would be left than their lists may have",
             _ => "no known number",
         }
     }

@@ -1,57 +1,93 @@
 //! The map of a frame file: against the independent implementation of the rules, and what is said and drawn.
 
 use brothanchor::map::{map, map_in, settings, Map, NoMap, NoRun, Run, MOST_FRAMES, RECORD};
+use brothanchor::pictures::left;
 use brothanchor::{parked, prepare, sizes, work, Refusal, Settings};
-use oracle::descent::{self, Areas, Method, Rows, Standing};
+use oracle::descent::{self, Areas, Method, Record, Rows, Standing};
 use oracle::divergence::divergence;
 use oracle::frames::fetch;
 use oracle::lists::sample;
 use oracle::scatter::scatter;
+use oracle::take_out::take_out;
 use oracle::tree::Node;
 
-/// Positions and divergence that the rules give, from the file's starts or by a seed.
-fn by_the_rules(file: &[u8], seed: Option<u64>, iterations: usize) -> (Vec<f64>, f64) {
-    let frames: Vec<_> = (0..file.len() / RECORD).filter_map(|i| fetch(file, i)).collect();
-    let (n, ours) = (frames.len(), settings(frames.len(), iterations));
-    let sizes = sizes(&ours).expect("good settings");
-    let table: Vec<f64> = frames.iter().flat_map(|frame| frame.features).collect();
-    let mut start: Vec<f64> = frames.iter().flat_map(|frame| frame.starts).collect();
-    if let Some(seed) = seed {
-        scatter(seed, n, 2, &mut start).expect("room for all");
-    }
-    let mut areas = Areas {
-        positions: vec![0.0; sizes.cells],
-        increments: vec![0.0; sizes.cells],
-        gains: vec![0.0; sizes.cells],
-        affinities: vec![0.0; sizes.affinities],
-        indices: vec![0; sizes.indices],
-        offsets: vec![0; sizes.offsets],
-        forces: vec![0.0; sizes.forces],
-        nodes: vec![Node::default(); sizes.nodes],
-    };
-    let mut rows = Rows {
-        values: vec![0.0; n],
-        indices: vec![0; n],
-    };
-    let rules = descent::Settings {
-        n,
+/// A run by the rules alone.
+struct Rules {
+    record: Record,
+    areas: Areas,
+    table: Vec<f64>,
+    /// The positions before the last step.
+    copy: Vec<f64>,
+}
+
+/// What the rules go by where the map program goes by these.
+fn rules_of(ours: &Settings) -> descent::Settings {
+    descent::Settings {
+        n: ours.n,
         f: ours.f,
         c: ours.c,
         method: Method::BarnesHut,
         perplexity: ours.perplexity,
         rate: ours.rate,
-        iterations,
+        iterations: ours.iterations,
         angle: ours.angle,
         minimum: ours.minimum,
-    };
-    let mut record = descent::prepare(rules, &table, &start, &mut areas, &mut rows).expect("a good run");
-    let mut copy = Vec::new();
-    while record.standing == Standing::Running {
-        copy = areas.positions.clone();
-        descent::work(&mut record, &mut areas, rules.iteration() as u32);
     }
-    let figure = divergence(&record, &areas, &copy).expect("an iteration has just ended");
-    (areas.positions, figure)
+}
+
+impl Rules {
+    /// Prepared from the file's starts or by a seed.
+    fn begin(file: &[u8], seed: Option<u64>, iterations: usize) -> Rules {
+        let frames: Vec<_> = (0..file.len() / RECORD).filter_map(|i| fetch(file, i)).collect();
+        let (n, ours) = (frames.len(), settings(frames.len(), iterations));
+        let sizes = sizes(&ours).expect("good settings");
+        let table: Vec<f64> = frames.iter().flat_map(|frame| frame.features).collect();
+        let mut start: Vec<f64> = frames.iter().flat_map(|frame| frame.starts).collect();
+        if let Some(seed) = seed {
+            scatter(seed, n, 2, &mut start).expect("room for all");
+        }
+        let mut areas = Areas {
+            positions: vec![0.0; sizes.cells],
+            increments: vec![0.0; sizes.cells],
+            gains: vec![0.0; sizes.cells],
+            affinities: vec![0.0; sizes.affinities],
+            indices: vec![0; sizes.indices],
+            offsets: vec![0; sizes.offsets],
+            forces: vec![0.0; sizes.forces],
+            nodes: vec![Node::default(); sizes.nodes],
+        };
+        let mut rows = Rows {
+            values: vec![0.0; n],
+            indices: vec![0; n],
+        };
+        let record = descent::prepare(rules_of(&ours), &table, &start, &mut areas, &mut rows).expect("a good run");
+        let copy = areas.positions.clone();
+        Rules {
+            record,
+            areas,
+            table,
+            copy,
+        }
+    }
+
+    /// So many iterations, or as many as there are left.
+    fn work(&mut self, iterations: usize) {
+        for _ in 0..iterations {
+            if self.record.standing == Standing::Running {
+                self.copy = self.areas.positions.clone();
+                let units = self.record.settings.iteration();
+                descent::work(&mut self.record, &mut self.areas, units as u32);
+            }
+        }
+    }
+
+    /// Positions and divergence at the end.
+    fn end(mut self) -> (Vec<f64>, f64) {
+        self.work(self.record.settings.iterations);
+        let figure = divergence(&self.record, &self.areas, &self.copy).expect("an iteration has just ended");
+        self.areas.positions.truncate(2 * self.record.settings.n);
+        (self.areas.positions, figure)
+    }
 }
 
 fn bits(values: &[f64]) -> Vec<u64> {
@@ -78,7 +114,7 @@ fn maps_are_those_of_the_rules() {
     ] {
         let file = few(frames);
         let ours = map_in(&file, seed, iterations, |_, _| ()).expect("a good file");
-        let (positions, figure) = by_the_rules(&file, seed, iterations);
+        let (positions, figure) = Rules::begin(&file, seed, iterations).end();
         assert_eq!(bits(&ours.positions), bits(&positions), "{frames} frames");
         assert_eq!(
             ours.divergence.map(f64::to_bits),
@@ -113,7 +149,7 @@ fn a_parked_run_gives_the_same_map() {
     for night in [0, 1, 40, 250, 251, last - 1] {
         let parked = begun(&file, night).park().expect("between two iterations");
         let resumed = Run::resume(&file, &parked).expect("what was parked");
-        assert_eq!((resumed.done(), resumed.frames()), (night, 9));
+        assert_eq!((resumed.done(), resumed.frames().len()), (night, 9));
         assert_eq!(resumed.park(), Ok(parked));
         assert_eq!(ended(resumed), whole, "parked after {night}");
     }
@@ -121,6 +157,71 @@ fn a_parked_run_gives_the_same_map() {
     let resumed = ended(Run::resume(&file, &parked).expect("what was parked"));
     assert_eq!(bits(&resumed.positions), bits(&whole.positions));
     assert_eq!((resumed.divergence, resumed.ending()), (None, whole.ending()));
+}
+
+/// Lists of places, from none to so many that eight of 24 frames are left, the fewest that their perplexity allows.
+const GONE: [&[u32]; 6] = [
+    &[],
+    &[0],
+    &[23],
+    &[17, 18],
+    &[2, 3, 4, 5, 6, 20],
+    &[0, 1, 2, 3, 4, 5, 6, 7, 9, 11, 13, 15, 17, 19, 21, 23],
+];
+
+#[test]
+fn a_thinned_run_is_that_of_the_rules() {
+    let file = few(24);
+    for (gone, night) in GONE.into_iter().zip([3, 0, 40, 1, 251, 7]) {
+        let mut rules = Rules::begin(&file, None, 1000);
+        rules.work(night);
+        let mut old = [0; 24];
+        let told = take_out(&mut rules.record, &mut rules.areas, &mut rules.table, gone, &mut old);
+        assert_eq!(told, Ok(24 - gone.len()));
+        let mut run = begun(&file, night as u64);
+        run.take_out(gone).expect("a good list");
+        assert_eq!((run.done(), run.frames().len()), (night as u64, 24 - gone.len()));
+        let rest = left(&file, gone);
+        let parked = run.park().expect("between two iterations");
+        let whole = ended(run);
+        assert!(whole
+            .frames
+            .iter()
+            .zip(&old)
+            .all(|(ours, &i)| fetch(&file, i as usize).map(|frame| frame.features) == Some(ours.features)));
+        let (positions, figure) = rules.end();
+        assert_eq!(bits(&whole.positions), bits(&positions), "{gone:?}");
+        assert_eq!(whole.divergence.map(f64::to_bits), Some(figure.to_bits()));
+        let resumed = Run::resume(&rest, &parked).expect("the frames that are left");
+        assert_eq!(ended(resumed), whole, "parked when it was thinned");
+    }
+}
+
+#[test]
+fn an_ended_run_may_be_thinned() {
+    let file = few(24);
+    let mut run = begun(&file, 1000);
+    run.take_out(&[1, 2]).expect("a good list");
+    assert!(run.has_ended());
+    let map = ended(run);
+    assert_eq!((map.frames.len(), map.positions.len(), map.divergence), (22, 44, None));
+    assert_eq!((map.ending(), map.lines().lines().count()), ("finished", 22));
+}
+
+#[test]
+fn what_is_not_taken_out() {
+    let run = begun(&few(24), 3);
+    let refused = |gone: &[u32]| {
+        let mut other = run.clone();
+        let told = other.take_out(gone).expect_err("bad");
+        assert_eq!((other.park(), other.frames()), (run.park(), run.frames()));
+        told.0
+    };
+    assert_eq!(refused(&[3, 3]), 18);
+    assert_eq!(refused(&[24]), 18);
+    assert_eq!(refused(&(0..23).collect::<Vec<u32>>()), 9);
+    assert_eq!(refused(&(0..24).collect::<Vec<u32>>()), 9);
+    assert_eq!(refused(&(0..17).collect::<Vec<u32>>()), 10);
 }
 
 #[test]
@@ -229,7 +330,7 @@ fn what_is_refused() {
         none.to_string(),
         "refused 16: a record of the file is bad (record 3, counted from 0)"
     );
-    for number in 1..=17 {
+    for number in 1..=18 {
         assert!(!Refusal(number).meaning().starts_with("no known"));
     }
 }
@@ -277,4 +378,21 @@ fn lines_and_picture() {
         ..made
     };
     assert!(none.svg().contains("; divergence none</text>"));
+}
+
+/// A line over pictures that are not on the map is dashed.
+#[test]
+fn a_gap_in_the_pictures() {
+    let mut run = begun(&few(24), 3);
+    let dashed = |run: &Run| {
+        run.clone()
+            .map()
+            .expect("a map")
+            .svg()
+            .matches("stroke-dasharray")
+            .count()
+    };
+    assert_eq!(dashed(&run), 0, "not between the fields of a still either");
+    run.take_out(&[0, 4, 5, 17, 18, 23]).expect("a good list");
+    assert_eq!(dashed(&run), 2, "not at the ends");
 }

@@ -1,4 +1,4 @@
-//! The picture of made-up maps: which frames have their picture's number beside them, and where it stands.
+//! The picture of made-up maps: which frames have their picture's number beside them, where it stands, and which lines are dashed.
 
 use brothanchor::map::Map;
 use brothanchor::{Frame, Record};
@@ -195,6 +195,34 @@ fn numbers_hide_no_dots_where_there_is_room() {
         let [left, right, top, foot] = number.sides();
         let hides = |[x, y]: &&[f64; 2]| left < *x && *x < right && top < *y && *y < foot;
         assert_eq!(dots.iter().find(hides), None, "{}", number.picture);
+    }
+}
+
+#[test]
+fn lines_are_dashed_where_the_next_picture_is_not_the_following_number() {
+    // The file has no pictures 105 to 107 and 111, and of the still 113 one field alone.
+    let frames = [
+        (102, 0, false),
+        (103, 0, false),
+        (104, 1, false),
+        (104, 2, true),
+        (108, 0, false),
+        (109, 0, false),
+        (110, 1, false),
+        (110, 2, true),
+        (112, 0, false),
+        (113, 2, false),
+        (114, 0, false),
+    ];
+    let mut map = map_of(0, &shot(frames.len(), [0.0, 0.0], 1.0));
+    for (frame, (picture, field, _)) in map.frames.iter_mut().zip(frames) {
+        (frame.picture, frame.field) = (picture, field);
+    }
+    let picture = map.svg();
+    let lines: Vec<&str> = picture.lines().filter(|line| line.starts_with("<line ")).collect();
+    assert_eq!(lines.len(), frames.len() - 1);
+    for (line, (picture, field, gap)) in lines.iter().zip(frames) {
+        assert_eq!(line.contains(" stroke-dasharray="), gap, "from {picture}.{field} on");
     }
 }
 

@@ -199,6 +199,15 @@ impl Fault {
             _ => 13,
         }
     }
+
+    /// What comes with the number: a number of the settings, a frame, a place, a node; else 0.
+    pub fn place(self) -> u64 {
+        match self {
+            Fault::Settings(number) => number,
+            Fault::Offsets(place) | Fault::Index(place) | Fault::Tree(place) => place as u64,
+            Fault::Counters | Fault::Areas => 0,
+        }
+    }
 }
 
 /// What a work call answers: a state with the units done, or the number of a refusal with the units done before it.
@@ -322,6 +331,11 @@ fn refusal(settings: &Settings, table: &[f64], start: &[f64], areas: &Areas, row
 
 /// What a work call would be refused by at its entry: the record first, then the areas, then the contents.
 pub fn fault(record: &Record, areas: &Areas) -> Option<Fault> {
+    fault_beside(record, areas, |_| true)
+}
+
+/// The same of a call that is lent something besides, which has to be long enough by good settings: it is tested with the areas.
+pub fn fault_beside(record: &Record, areas: &Areas, beside: impl Fn(&Settings) -> bool) -> Option<Fault> {
     let settings = &record.settings;
     if let Some(number) = settings.early_fault().or_else(|| settings.late_fault()) {
         return Some(Fault::Settings(number));
@@ -329,7 +343,7 @@ pub fn fault(record: &Record, areas: &Areas) -> Option<Fault> {
     if !record.counters_fit() {
         return Some(Fault::Counters);
     }
-    if !areas.fit(settings) {
+    if !areas.fit(settings) || !beside(settings) {
         return Some(Fault::Areas);
     }
     match settings.method {

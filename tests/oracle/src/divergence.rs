@@ -1,6 +1,6 @@
 //! The Kullback-Leibler figure of the iteration just finished, from the text of change request 2026-01.
 
-use crate::descent::{fault, Areas, Fault, Method, Record, Settings};
+use crate::descent::{fault_beside, Areas, Fault, Method, Record, Settings};
 use crate::elementary::{at_least, ln};
 
 /// The iterations with exaggeration.
@@ -29,7 +29,10 @@ impl Refusal {
 
 /// The figure. The copy holds the positions before the last step.
 pub fn divergence(record: &Record, areas: &Areas, copy: &[f64]) -> Result<f64, Refusal> {
-    entry(record, areas, copy)?;
+    let beside = |settings: &Settings| copy.len() >= settings.n * settings.c;
+    if let Some(fault) = fault_beside(record, areas, beside) {
+        return Err(Refusal::Entry(fault));
+    }
     let Settings { n, c, method, .. } = record.settings;
     let total = match method {
         Method::Exact => areas.forces[n * c],
@@ -52,18 +55,6 @@ pub fn divergence(record: &Record, areas: &Areas, copy: &[f64]) -> Result<f64, R
             map.over_lists(&areas.offsets, &areas.indices, &areas.affinities, z)
         }
     })
-}
-
-/// Record, then areas and copy, then contents.
-fn entry(record: &Record, areas: &Areas, copy: &[f64]) -> Result<(), Refusal> {
-    let found = fault(record, areas);
-    if let Some(Fault::Settings(_) | Fault::Counters | Fault::Areas) = found {
-        return found.map_or(Ok(()), |fault| Err(Refusal::Entry(fault)));
-    }
-    if copy.len() < record.settings.n * record.settings.c {
-        return Err(Refusal::Entry(Fault::Areas));
-    }
-    found.map_or(Ok(()), |fault| Err(Refusal::Entry(fault)))
 }
 
 /// The sum of what the points have to give to Z.

@@ -18,5 +18,6 @@ pub mod preparation;
 pub mod scatter;
 pub mod sigma;
 pub mod step;
+pub mod take_out;
 pub mod tree;
 pub mod words;

@@ -15,6 +15,7 @@ pub mod sample;
 pub mod scatter;
 pub mod sigma;
 pub mod step;
+pub mod take_out;
 
 use crate::bench::printed;
 use std::path::{Path, PathBuf};
@@ -72,6 +73,7 @@ pub fn all() -> Vec<List> {
         List::new("replay_descent", "faults", &descent::fault_cases()),
         List::new("replay_park", "parks", &park::park_cases()),
         List::new("replay_park", "unparks", &park::unpark_cases()),
+        List::new("replay_take_out", "takes", &take_out::cases()),
         List::new("bench_cases", "files", &bench::cases()),
     ]
 }

@@ -55,7 +55,7 @@ impl Moving {
 }
 
 /// Takes the mean of each component off: the sum by rising frame over the number of frames.
-fn centre(positions: &mut [f64], c: usize) {
+pub fn centre(positions: &mut [f64], c: usize) {
     let count = (positions.len() / c) as f64;
     for d in 0..c {
         let mut sum = 0.0;

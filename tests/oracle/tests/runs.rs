@@ -1,7 +1,14 @@
 //! Replays the lists of whole runs by the format that `tests/README.md` describes, as a program of the port is to do.
 
+#[path = "replay/digests.rs"]
+mod digests;
+#[path = "replay/marks.rs"]
+mod marks;
+
+use digests::{digest, listed, of_numbers, of_values};
+use marks::{marked_numbers, marked_values};
 use oracle::descent::{prepare, work, Answer, Areas, Method, Record, Rows, Settings, Standing};
-use oracle::scatter::{mix, SplitMix64};
+use oracle::scatter::SplitMix64;
 use oracle::tree::Node;
 use oracle::{lists, words};
 
@@ -37,22 +44,6 @@ impl Words<'_> {
     }
 }
 
-fn listed(v: f64) -> u64 {
-    if v.is_nan() {
-        0x7FF8_0000_0000_0000
-    } else {
-        v.to_bits()
-    }
-}
-
-fn marked(length: usize) -> Vec<f64> {
-    (0..length).map(|i| f64::from_bits((1 << 62) + i as u64)).collect()
-}
-
-fn marked_numbers(length: usize) -> Vec<u32> {
-    (0..length).map(|i| (1 << 30) + i as u32).collect()
-}
-
 /// Of a node's twelve words nine are values, the marks as in an area of values; three are numbers.
 fn marked_nodes(length: usize) -> Vec<Node> {
     let value = |place: usize| f64::from_bits((1 << 62) + place as u64);
@@ -67,22 +58,6 @@ fn marked_nodes(length: usize) -> Vec<Node> {
         leaf: number(12 * i + 11),
     };
     (0..length).map(node).collect()
-}
-
-fn digest(elements: usize, words: Vec<u64>) -> u64 {
-    let mut digest = elements as u64;
-    for word in words {
-        digest = mix(digest.wrapping_add(word));
-    }
-    digest
-}
-
-fn of_values(values: &[f64]) -> u64 {
-    digest(values.len(), values.iter().map(|&v| listed(v)).collect())
-}
-
-fn of_numbers(numbers: &[u32]) -> u64 {
-    digest(numbers.len(), numbers.iter().map(|&v| u64::from(v)).collect())
 }
 
 fn of_nodes(nodes: &[Node]) -> u64 {
@@ -228,22 +203,22 @@ fn call_right(list: &mut Words, record: &mut Record, areas: &mut Areas) -> bool 
     same == [true; 3]
 }
 
-fn marked_areas(lengths: &[usize]) -> Areas {
+fn marked_areas(lengths: &[u64]) -> Areas {
     Areas {
-        positions: marked(lengths[0]),
-        increments: marked(lengths[1]),
-        gains: marked(lengths[2]),
-        affinities: marked(lengths[3]),
+        positions: marked_values(lengths[0]),
+        increments: marked_values(lengths[1]),
+        gains: marked_values(lengths[2]),
+        affinities: marked_values(lengths[3]),
         indices: marked_numbers(lengths[4]),
         offsets: marked_numbers(lengths[5]),
-        forces: marked(lengths[6]),
-        nodes: marked_nodes(lengths[7]),
+        forces: marked_values(lengths[6]),
+        nodes: marked_nodes(lengths[7] as usize),
     }
 }
 
-fn marked_rows(lengths: &[usize]) -> Rows {
+fn marked_rows(lengths: &[u64]) -> Rows {
     Rows {
-        values: marked(lengths[8]),
+        values: marked_values(lengths[8]),
         indices: marked_numbers(lengths[9]),
     }
 }
@@ -263,7 +238,7 @@ fn case_right(case: &[u64]) -> bool {
         angle: list.value(),
         minimum: list.value(),
     };
-    let lengths = list.numbers(10);
+    let lengths: Vec<u64> = (0..10).map(|_| list.one()).collect();
     let (table, start) = (list.number(), list.number());
     let (table, start) = (list.values(table), list.values(start));
     let (mut areas, mut rows) = (marked_areas(&lengths), marked_rows(&lengths));

@@ -53,14 +53,14 @@ use Rattle.run_record.proofs.Run as Run′
 use Rattle.run_record.proofs.Run.Laws as Run″
 use Rattle.divergence.proofs.Values.{val-Diverged, IsDiverged}
 use Rattle.run_entry.proofs.Values.{val-Run, IsRun}
-use Rattle.desk_divergence.proofs.CallsIsUnfit.{Contract-is-unfit, calls-is-unfit-c}
-use Rattle.desk_divergence.proofs.is_unfit.Symbol as is-unfit-def
-use Rattle.desk_divergence.proofs.is_unfit.Symbol.{name as #desk-divergence·is-unfit}
-use Rattle.desk_divergence.proofs.is_unfit.Met as is-unfit-thm
-use Rattle.desk_divergence.proofs.CallsPutUnfit.{Contract-put-unfit, calls-put-unfit-cm}
-use Rattle.desk_divergence.proofs.put_unfit.Symbol as put-unfit-def
-use Rattle.desk_divergence.proofs.put_unfit.Symbol.{name as #desk-divergence·put-unfit}
-use Rattle.desk_divergence.proofs.put_unfit.Met as put-unfit-thm
+use Rattle.fault_words.proofs.CallsIsUnfit.{Contract-is-unfit, calls-is-unfit-c}
+use Rattle.fault_words.proofs.is_unfit.Symbol as is-unfit-def
+use Rattle.fault_words.proofs.is_unfit.Symbol.{name as #fault-words·is-unfit}
+use Rattle.fault_words.proofs.is_unfit.Met as is-unfit-thm
+use Rattle.fault_words.proofs.CallsPutUnfit.{Contract-put-unfit, calls-put-unfit-cm}
+use Rattle.fault_words.proofs.put_unfit.Symbol as put-unfit-def
+use Rattle.fault_words.proofs.put_unfit.Symbol.{name as #fault-words·put-unfit}
+use Rattle.fault_words.proofs.put_unfit.Met as put-unfit-thm
 use Rattle.fault_words.proofs.CallsRunOf.{Contract-run-of, calls-run-of-c}
 use Rattle.record_words.proofs.run_of.Symbol as run-of-def
 use Rattle.record_words.proofs.run_of.Symbol.{name as #record-words·run-of}
@@ -118,7 +118,7 @@ module _ {M : Type 1} (𝓤 : URA M) (H : Heap 𝓤) (A : Atoms 𝓤) (W : Given
       suffices ! _ (ends-at 𝓤 H A f.ended stayed (f.clauses 𝓤 H A mem run-of) W (((s-words .life, (s-positions .life, (s-increments .life, (s-gains .life, (s-affinities .life, (s-indices .life, (s-offsets .life, (s-forces .life, (s-cells .life, (s-copy .life, (s-answer .life, tt))))))))))), (s-words .share, (s-positions .share, (s-increments .share, (s-gains .share, (s-affinities .share, (s-indices .share, (s-offsets .share, (s-forces .share, (s-cells .share, (s-copy .share, (s-answer .share, tt))))))))))), tt, x, at), tt) (vint w32 res) res (tt, (tt, (tt, (tt, (tt, (tt, (tt, (tt, (tt, (tt, (answer′, tt))))))))))) (tt, (tt, (tt, (tt, (tt, (tt, (tt, (tt, (tt, (tt, (le-answer ∙ sym ln-answer, tt)))))))))))) $ says ! e $
       nothing ! $ move ! (22 ∷ 0 ∷ []) $ join ! $ move ! (20 ∷ 0 ∷ []) $ join ! $ move ! (18 ∷ 0 ∷ []) $ join ! $ move ! (16 ∷ 0 ∷ []) $ join ! $ move ! (14 ∷ 0 ∷ []) $ join ! $ move ! (12 ∷ 0 ∷ []) $ join ! $ move ! (10 ∷ 0 ∷ []) $ join ! $ move ! (8 ∷ 0 ∷ []) $ join ! $ move ! (6 ∷ 0 ∷ []) $ join ! $ move ! (4 ∷ 0 ∷ []) $ join ! $ move ! (2 ∷ 0 ∷ []) $ join ! $ frame ! $ nothing ! $ move ! (11 ∷ 0 ∷ []) $ fjoin ! $ move ! (10 ∷ 0 ∷ []) $ fjoin ! $ move ! (9 ∷ 0 ∷ []) $ fjoin ! $ move ! (8 ∷ 0 ∷ []) $ fjoin ! $ move ! (7 ∷ 0 ∷ []) $ fjoin ! $ move ! (6 ∷ 0 ∷ []) $ fjoin ! $ move ! (5 ∷ 0 ∷ []) $ fjoin ! $ move ! (4 ∷ 0 ∷ []) $ fjoin ! $ move ! (3 ∷ 0 ∷ []) $ fjoin ! $ move ! (2 ∷ 0 ∷ []) $ fjoin ! $ move ! (1 ∷ 0 ∷ []) $ fjoin ! $ frame ! $ owned ! u32 (Is u32) (uint-makes 𝓤 H A W w32) res _ (refl, is) $ done !
 
-  module _ (C : Calls 𝓤 H) (Λ : Loops 𝓤 H) (fm : FmC 𝓤 H (W .laws) C) (known-is-unfit : Triple 𝓤 (C #desk-divergence·is-unfit) (Contract-is-unfit 𝓤 H A mem run-of)) (known-put-unfit : Triple 𝓤 (C #desk-divergence·put-unfit) (Contract-put-unfit 𝓤 H A mem run-of)) (known-run-of : Triple 𝓤 (C #record-words·run-of) (Contract-run-of 𝓤 H A mem run-of)) (known-divergence : Triple 𝓤 (C #divergence·divergence) (Contract-divergence 𝓤 H A mem run-of)) (known-put-diverged : Triple 𝓤 (C #desk-divergence·put-diverged) (Contract-put-diverged 𝓤 H A mem run-of)) where
+  module _ (C : Calls 𝓤 H) (Λ : Loops 𝓤 H) (fm : FmC 𝓤 H (W .laws) C) (known-is-unfit : Triple 𝓤 (C #fault-words·is-unfit) (Contract-is-unfit 𝓤 H A mem run-of)) (known-put-unfit : Triple 𝓤 (C #fault-words·put-unfit) (Contract-put-unfit 𝓤 H A mem run-of)) (known-run-of : Triple 𝓤 (C #record-words·run-of) (Contract-run-of 𝓤 H A mem run-of)) (known-divergence : Triple 𝓤 (C #divergence·divergence) (Contract-divergence 𝓤 H A mem run-of)) (known-put-diverged : Triple 𝓤 (C #desk-divergence·put-diverged) (Contract-put-diverged 𝓤 H A mem run-of)) where
     abbrev τ : ℕ → Ty
     τ k = type-of k pieces.locals
 
@@ -163,7 +163,7 @@ module _ {M : Type 1} (𝓤 : URA M) (H : Heap 𝓤) (A : Atoms 𝓤) (W : Given
         keep ! (20 ∷ 21 ∷ 2 ∷ 3 ∷ 4 ∷ 5 ∷ 6 ∷ 7 ∷ 8 ∷ 9 ∷ 10 ∷ 11 ∷ 12 ∷ 13 ∷ 14 ∷ 15 ∷ 16 ∷ 17 ∷ 18 ∷ 19 ∷ 0 ∷ 1 ∷ []) $ by ! (exits r5 answer5 (is5 .1) l-answer5 (figure-said words (memory positions increments gains affinities indices offsets forces cells) copy answer _ ln-answer r1 e1 no1 r3 e3 r4 e4 r5 answer5 e5))))))))))))))))))))))))))))))
 
 module _ {M : Type 1} (𝓤 : URA M) (H : Heap 𝓤) (A : Atoms 𝓤) (W : Given 𝓤 H A) (mem : Memory → SProp 𝓤) (run-of : Routine → Fun 𝓤) where
-  host-divergence-walks : (C : Calls 𝓤 H) (Λ : Loops 𝓤 H) → FmC 𝓤 H (W .laws) C → Triple 𝓤 (C #desk-divergence·is-unfit) (Contract-is-unfit 𝓤 H A mem run-of) → Triple 𝓤 (C #desk-divergence·put-unfit) (Contract-put-unfit 𝓤 H A mem run-of) → Triple 𝓤 (C #record-words·run-of) (Contract-run-of 𝓤 H A mem run-of) → Triple 𝓤 (C #divergence·divergence) (Contract-divergence 𝓤 H A mem run-of) → Triple 𝓤 (C #desk-divergence·put-diverged) (Contract-put-diverged 𝓤 H A mem run-of) → Walks 𝓤 H A f.ended stayed (WpFn 𝓤 H C Λ code.function) (f.clauses 𝓤 H A mem run-of)
+  host-divergence-walks : (C : Calls 𝓤 H) (Λ : Loops 𝓤 H) → FmC 𝓤 H (W .laws) C → Triple 𝓤 (C #fault-words·is-unfit) (Contract-is-unfit 𝓤 H A mem run-of) → Triple 𝓤 (C #fault-words·put-unfit) (Contract-put-unfit 𝓤 H A mem run-of) → Triple 𝓤 (C #record-words·run-of) (Contract-run-of 𝓤 H A mem run-of) → Triple 𝓤 (C #divergence·divergence) (Contract-divergence 𝓤 H A mem run-of) → Triple 𝓤 (C #desk-divergence·put-diverged) (Contract-put-diverged 𝓤 H A mem run-of) → Walks 𝓤 H A f.ended stayed (WpFn 𝓤 H C Λ code.function) (f.clauses 𝓤 H A mem run-of)
   host-divergence-walks C Λ fm known-is-unfit known-put-unfit known-run-of known-divergence known-put-diverged = walked 𝓤 H A f.ended stayed (f.clauses 𝓤 H A mem run-of) (WpFn 𝓤 H C Λ code.function)
       (λ κs. (slice-vals, (slice-vals, (slice-vals, (slice-vals, (slice-vals, (slice-vals, (slice-vals, (slice-vals, (slice-vals, (slice-vals, (slice-vals, tt))))))))))))
       (λ κs. (shr-slice-tells (named 0) (κs .0) u64, (shr-slice-tells (named 1) (κs .1 .0) f64, (shr-slice-tells (named 2) (κs .1 .1 .0) f64, (shr-slice-tells (named 3) (κs .1 .1 .1 .0) f64, (shr-slice-tells (named 4) (κs .1 .1 .1 .1 .0) f64, (shr-slice-tells (named 5) (κs .1 .1 .1 .1 .1 .0) u32, (shr-slice-tells (named 6) (κs .1 .1 .1 .1 .1 .1 .0) u32, (shr-slice-tells (named 7) (κs .1 .1 .1 .1 .1 .1 .1 .0) f64, (shr-slice-tells (named 8) (κs .1 .1 .1 .1 .1 .1 .1 .1 .0) Cell′.the-row, (shr-slice-tells (named 9) (κs .1 .1 .1 .1 .1 .1 .1 .1 .1 .0) f64, (mut-slice-tells (named 10) (κs .1 .1 .1 .1 .1 .1 .1 .1 .1 .1 .0) u64, tt))))))))))))
@@ -194,7 +194,7 @@ module _ {M : Type 1} (𝓤 : URA M) (H : Heap 𝓤) (A : Atoms 𝓤) (W : Given
       C Λ fm known-is-unfit known-put-unfit known-run-of known-divergence known-put-diverged))
 
 host-divergence-meets : {M : Type 1} (𝓤 : URA M) (H : Heap 𝓤) (A : Atoms 𝓤) → Given 𝓤 H A → (mem : Memory → SProp 𝓤) (run-of : Routine → Fun 𝓤) (𝓣 : Tables 𝓤 H)
-    → Triple 𝓤 (𝓣 .C #desk-divergence·is-unfit) (Contract-is-unfit 𝓤 H A mem run-of) → Triple 𝓤 (𝓣 .C #desk-divergence·put-unfit) (Contract-put-unfit 𝓤 H A mem run-of) → Triple 𝓤 (𝓣 .C #record-words·run-of) (Contract-run-of 𝓤 H A mem run-of) → Triple 𝓤 (𝓣 .C #divergence·divergence) (Contract-divergence 𝓤 H A mem run-of) → Triple 𝓤 (𝓣 .C #desk-divergence·put-diverged) (Contract-put-diverged 𝓤 H A mem run-of)
+    → Triple 𝓤 (𝓣 .C #fault-words·is-unfit) (Contract-is-unfit 𝓤 H A mem run-of) → Triple 𝓤 (𝓣 .C #fault-words·put-unfit) (Contract-put-unfit 𝓤 H A mem run-of) → Triple 𝓤 (𝓣 .C #record-words·run-of) (Contract-run-of 𝓤 H A mem run-of) → Triple 𝓤 (𝓣 .C #divergence·divergence) (Contract-divergence 𝓤 H A mem run-of) → Triple 𝓤 (𝓣 .C #desk-divergence·put-diverged) (Contract-put-diverged 𝓤 H A mem run-of)
     → Meets 𝓤 H A f.signature (WpFn 𝓤 H (𝓣 .C) (𝓣 .Λ) code.function) (f.spec 𝓤 H A mem run-of)
 host-divergence-meets 𝓤 H A W mem run-of 𝓣 known-is-unfit known-put-unfit known-run-of known-divergence known-put-diverged =
     walk-meets 𝓤 H A f.ended stayed W (goes-none-slice 𝓤 H A W 11 (0 ∷ []) tt (plain (λ _. u64)) yes, (goes-none-slice 𝓤 H A W 11 (1 ∷ []) tt (plain (λ _. f64)) yes, (goes-none-slice 𝓤 H A W 11 (2 ∷ []) tt (plain (λ _. f64)) yes, (goes-none-slice 𝓤 H A W 11 (3 ∷ []) tt (plain (λ _. f64)) yes, (goes-none-slice 𝓤 H A W 11 (4 ∷ []) tt (plain (λ _. f64)) yes, (goes-none-slice 𝓤 H A W 11 (5 ∷ []) tt (plain (λ _. u32)) yes, (goes-none-slice 𝓤 H A W 11 (6 ∷ []) tt (plain (λ _. u32)) yes, (goes-none-slice 𝓤 H A W 11 (7 ∷ []) tt (plain (λ _. f64)) yes, (goes-none-slice 𝓤 H A W 11 (8 ∷ []) tt (plain (λ _. Cell′.the-row)) yes, (goes-none-slice 𝓤 H A W 11 (9 ∷ []) tt (plain (λ _. f64)) yes, (goes-slice 𝓤 H A W 11 10 tt (plain (λ _. u64)), tt))))))))))) (f.clauses 𝓤 H A mem run-of)
@@ -206,8 +206,8 @@ host-divergence-spec 𝓤 H 𝓜 𝓖 𝓡 =
     entered 𝓤 H (tripleOf 𝓤 H (𝓖 .A) f.signature (f.spec 𝓤 H (𝓖 .A) (𝓜 .mem) (𝓡 .run)))
     (tables 𝓤 H 𝓜 𝓡 code.env .C) (tables 𝓤 H 𝓜 𝓡 code.env .Λ) #desk-divergence·host-divergence code.function (code.unfolded 𝓤 H 𝓜 𝓡)
     (host-divergence-meets 𝓤 H (𝓖 .A) (givenOf 𝓤 H 𝓜 𝓖) (𝓜 .mem) (𝓡 .run) (tablesOf 𝓤 H 𝓜 (tables 𝓤 H 𝓜 𝓡 code.env))
-    (cited 𝓤 H (Contract-is-unfit 𝓤 H (𝓖 .A) (𝓜 .mem) (𝓡 .run)) 𝓜 𝓡 code.env #desk-divergence·is-unfit is-unfit-def.routine code.calls-desk-divergence·is-unfit (is-unfit-thm.met 𝓤 H 𝓜 𝓖 𝓡))
-    (cited 𝓤 H (Contract-put-unfit 𝓤 H (𝓖 .A) (𝓜 .mem) (𝓡 .run)) 𝓜 𝓡 code.env #desk-divergence·put-unfit put-unfit-def.routine code.calls-desk-divergence·put-unfit (put-unfit-thm.met 𝓤 H 𝓜 𝓖 𝓡))
+    (cited 𝓤 H (Contract-is-unfit 𝓤 H (𝓖 .A) (𝓜 .mem) (𝓡 .run)) 𝓜 𝓡 code.env #fault-words·is-unfit is-unfit-def.routine code.calls-fault-words·is-unfit (is-unfit-thm.met 𝓤 H 𝓜 𝓖 𝓡))
+    (cited 𝓤 H (Contract-put-unfit 𝓤 H (𝓖 .A) (𝓜 .mem) (𝓡 .run)) 𝓜 𝓡 code.env #fault-words·put-unfit put-unfit-def.routine code.calls-fault-words·put-unfit (put-unfit-thm.met 𝓤 H 𝓜 𝓖 𝓡))
     (cited 𝓤 H (Contract-run-of 𝓤 H (𝓖 .A) (𝓜 .mem) (𝓡 .run)) 𝓜 𝓡 code.env #record-words·run-of run-of-def.routine code.calls-record-words·run-of (run-of-thm.met 𝓤 H 𝓜 𝓖 𝓡))
     (cited 𝓤 H (Contract-divergence 𝓤 H (𝓖 .A) (𝓜 .mem) (𝓡 .run)) 𝓜 𝓡 code.env #divergence·divergence divergence-def.routine code.calls-divergence·divergence (divergence-thm.met 𝓤 H 𝓜 𝓖 𝓡))
     (cited 𝓤 H (Contract-put-diverged 𝓤 H (𝓖 .A) (𝓜 .mem) (𝓡 .run)) 𝓜 𝓡 code.env #desk-divergence·put-diverged put-diverged-def.routine code.calls-desk-divergence·put-diverged (put-diverged-thm.met 𝓤 H 𝓜 𝓖 𝓡)))

@@ -1,10 +1,11 @@
-//! `map FILE [--seed NUMBER] [--out FOLDER] [--until N] [--park RUN] [--every N] [--resume RUN] [--progress]`: maps a frame
-//! file, as `help.txt` tells. What goes wrong gets one line on standard error.
+//! `map FILE [--seed NUMBER] [--out FOLDER] [--until N] [--park RUN] [--every N] [--resume RUN] [--without PICTURES]
+//! [--progress]`: maps a frame file, as `help.txt` tells. What goes wrong gets one line on standard error.
 
 use brothanchor::beside;
-use brothanchor::map::{Map, NoRun, Run, MOST_FRAMES, RECORD};
+use brothanchor::map::{self, Map, NoRun, Run, MOST_FRAMES, RECORD};
+use brothanchor::pictures::{self, Pictures};
 use std::fs::{self, File};
-use std::io::Read;
+use std::io::{ErrorKind, Read};
 use std::path::{Path, PathBuf};
 use std::process::ExitCode;
 
@@ -14,6 +15,9 @@ const HELP: &str = include_str!("../../help.txt");
 /// The exit statuses where there is no map: because of the file or the folder, and because of the command line.
 const NO_MAP: u8 = 1;
 const BAD_WORDS: u8 = 2;
+
+/// What is said of pictures that are not as they have to be.
+const WITHOUT: &str = "--without takes pictures and ranges of them, as in 1281-1320,1377";
 
 /// More bytes than any parked run has.
 const MOST_PARKED: u64 = 1 << 30;
@@ -49,6 +53,8 @@ struct Asked {
     every: Option<u64>,
     /// Goes on from here.
     resume: Option<PathBuf>,
+    /// Takes the frames of these pictures out.
+    without: Option<Pictures>,
     progress: bool,
 }
 
@@ -62,6 +68,7 @@ fn asked(words: impl Iterator<Item = String>) -> Result<Option<Asked>, String> {
         park: None,
         every: None,
         resume: None,
+        without: None,
         progress: false,
     };
     let mut file = None;
@@ -79,6 +86,7 @@ fn asked(words: impl Iterator<Item = String>) -> Result<Option<Asked>, String> {
             }
             "--park" => asked.park = Some(words.next().map(PathBuf::from).ok_or("--park takes a file to write")?),
             "--resume" => asked.resume = Some(words.next().map(PathBuf::from).ok_or("--resume takes a parked run")?),
+            "--without" => asked.without = Some(pictures_of(words.next()).ok_or(WITHOUT)?),
             _ if word.starts_with('-') => return Err(format!("unknown option {word}")),
             _ if file.is_some() => return Err(format!("one frame file at a time, so not {word} too")),
             _ => file = Some(PathBuf::from(word)),
@@ -91,6 +99,10 @@ fn asked(words: impl Iterator<Item = String>) -> Result<Option<Asked>, String> {
 
 fn number(word: Option<String>) -> Option<u64> {
     word.and_then(|word| word.parse().ok())
+}
+
+fn pictures_of(word: Option<String>) -> Option<Pictures> {
+    word.and_then(|word| Pictures::read(&word))
 }
 
 /// Which words need others, or go without them.
@@ -121,27 +133,23 @@ fn run(asked: &Asked) -> Result<String, String> {
     if let Some(path) = &asked.park {
         beside::test(path).map_err(|error| fault(path, error))?;
     }
-    let mut run = begin(asked)?;
+    let Begun { mut run, gone, rest } = begin(asked)?;
+    let kept = kept(asked, rest)?;
     let worked = work(&mut run, asked);
     if asked.progress {
         eprint!("\r\x1b[K");
     }
     worked?;
-    let (frames, done, of) = (run.frames(), run.done(), run.of());
-    let kept = asked
-        .park
-        .as_ref()
-        .map(|path| format!("the parked run: {}\n", path.display()));
-    let kept = kept.unwrap_or_default();
+    let (frames, done, of) = (run.frames().len(), run.done(), run.of());
     if !run.has_ended() {
         return Ok(format!(
-            "{name}: {frames} frames, parked after {done} of {of} iterations\n{kept}"
+            "{gone}{name}: {frames} frames, parked after {done} of {of} iterations\n{kept}"
         ));
     }
     let made = run.map().map_err(|none| format!("{name}: {none}"))?;
     let (lines, picture) = write(&made, asked)?;
     Ok(format!(
-        "{name}: {frames} frames, {} after {done} iterations ({} units)\nits divergence: {}\nthe map: {}\nits picture: {}\n{kept}",
+        "{gone}{name}: {frames} frames, {} after {done} iterations ({} units)\nits divergence: {}\nthe map: {}\nits picture: {}\n{kept}",
         made.ending(),
         made.record.units(),
         made.told_divergence(),
@@ -150,19 +158,99 @@ fn run(asked: &Asked) -> Result<String, String> {
     ))
 }
 
-/// The run that is asked for, prepared or read back.
-fn begin(asked: &Asked) -> Result<Run, String> {
+/// A run that is to be worked.
+struct Begun {
+    run: Run,
+    /// What there is to say of the frames that were taken out.
+    gone: String,
+    /// The frame file of what is left, where something was.
+    rest: Option<Vec<u8>>,
+}
+
+/// The run that is asked for, prepared or read back, without the frames that are to go.
+fn begin(asked: &Asked) -> Result<Begun, String> {
     let name = asked.file.display();
     let bytes = read(&asked.file, (MOST_FRAMES * RECORD) as u64).map_err(|error| fault(&asked.file, error))?;
+    let pictures = match &asked.without {
+        Some(pictures) => pictures,
+        None => {
+            return Ok(Begun {
+                run: whole(asked, &bytes)?,
+                gone: String::new(),
+                rest: None,
+            })
+        }
+    };
+    let frames = map::read(&bytes).map_err(|none| format!("{name}: {none}"))?;
+    let places = pictures
+        .places(&frames)
+        .map_err(|range| format!("{name}: no frame is of picture {range}"))?;
+    let rest = pictures::left(&bytes, &places);
+    let run = match &asked.resume {
+        None => whole(asked, &rest)?,
+        Some(path) => {
+            let mut run = whole(asked, &bytes)?;
+            run.take_out(&places)
+                .map_err(|refusal| format!("{}: {refusal}", path.display()))?;
+            run
+        }
+    };
+    Ok(Begun {
+        run,
+        gone: format!("{name}: taken out: {}\n", pictures::told(&frames, &places)),
+        rest: Some(rest),
+    })
+}
+
+/// A run of all frames of a file, prepared or read back.
+fn whole(asked: &Asked, bytes: &[u8]) -> Result<Run, String> {
+    let name = asked.file.display();
     let path = match &asked.resume {
         Some(path) => path,
-        None => return Run::begin(&bytes, asked.seed).map_err(|none| format!("{name}: {none}")),
+        None => return Run::begin(bytes, asked.seed).map_err(|none| format!("{name}: {none}")),
     };
     let parked = read(path, MOST_PARKED).map_err(|error| fault(path, error))?;
-    Run::resume(&bytes, &parked).map_err(|none| match none {
+    Run::resume(bytes, &parked).map_err(|none| match none {
         NoRun::Frames(_) => format!("{name}: {none}"),
         _ => format!("{}: {none}", path.display()),
     })
+}
+
+/// What there is to say of the parked run; and of its frame file, which is written first where frames were taken out.
+fn kept(asked: &Asked, rest: Option<Vec<u8>>) -> Result<String, String> {
+    let path = match &asked.park {
+        Some(path) => path,
+        None => return Ok(String::new()),
+    };
+    let mut said = format!("the parked run: {}\n", path.display());
+    if let Some(rest) = rest {
+        let frames = path.with_extension("frames");
+        keep(&rest, &frames, path)?;
+        said += &format!("its frames: {}\n", frames.display());
+    }
+    Ok(said)
+}
+
+/// Writes the frames that are left, without which a parked run is no use. A file that is there has to hold just these, so that
+/// no frame file is ever lost and none gets the wrong run.
+fn keep(rest: &[u8], frames: &Path, run: &Path) -> Result<(), String> {
+    let other = |why| {
+        Err(format!(
+            "{}: {why}, so park the run under another name",
+            frames.display()
+        ))
+    };
+    if frames == run {
+        return other("the frames that are left go here");
+    }
+    match read(frames, rest.len() as u64) {
+        Ok(there) if there == rest => Ok(()),
+        Ok(_) => other("the frames that are left go here, but it holds others"),
+        Err(error) if error.kind() == ErrorKind::NotFound => {
+            beside::write(frames, rest).map_err(|error| fault(frames, error))
+        }
+        Err(error) => Err(fault(frames, error)),
+    }
 }
 
 /// Works the run to its end or as far as asked for, and parks it where that is asked for.
@@ -236,9 +324,10 @@ mod tests {
             park: Some(PathBuf::from("disc.parked")),
             every: Some(10),
             resume: None,
+            without: Pictures::read("7,1281-1320"),
             progress: true,
         };
-        let words = "--progress --out there --until 40 disc.frames --every 10 --seed 3 --park disc.parked";
+        let words = "--progress --out there --until 40 disc.frames --every 10 --seed 3 --without 7,1281-1320 --park disc.parked";
         assert_eq!(of(words), Ok(Some(all)));
         let bare = of("disc.frames").expect("a file").expect("no help");
         assert_eq!(
@@ -262,6 +351,7 @@ mod tests {
             "--park RUN.parked",
             "--every N",
             "--resume RUN.parked",
+            "--without PICTURES",
             "--progress",
             "-h, --help",
         ] {
@@ -291,6 +381,8 @@ mod tests {
             ),
             ("disc.frames --park", "--park takes a file to write"),
             ("disc.frames --resume", "--resume takes a parked run"),
+            ("disc.frames --without", WITHOUT),
+            ("disc.frames --without 1320-1281", WITHOUT),
             (
                 "disc.frames --until 40",
                 "--until needs --park, which says where the run is kept",

@@ -239,7 +239,7 @@ fn other_node(node: &Node) -> tree::Node {
 }
 
 /// Every place of every area, tails included.
-fn same_areas(ours: &Areas, theirs: &descent::Areas) {
+pub fn same_areas(ours: &Areas, theirs: &descent::Areas) {
     same_values("positions", &ours.positions, &theirs.positions);
     same_values("increments", &ours.increments, &theirs.increments);
     same_values("gains", &ours.gains, &theirs.gains);

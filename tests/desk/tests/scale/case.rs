@@ -206,11 +206,11 @@ fn areas(random: &mut Random, sizes: &Sizes, nodes: usize) -> (Areas, Rows) {
 }
 
 /// A mark for each place.
-fn values(length: usize) -> Vec<f64> {
+pub fn values(length: usize) -> Vec<f64> {
     (0..length).map(value).collect()
 }
 
-fn numbers(length: usize) -> Vec<u32> {
+pub fn numbers(length: usize) -> Vec<u32> {
     (0..length).map(number).collect()
 }
 

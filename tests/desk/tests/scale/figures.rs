@@ -4,12 +4,11 @@
 
 use crate::both::{bits, fault_words, number, other_side, record_of, Both};
 use crate::case::{marked_nodes, Case};
+use crate::met::{all_met, meet, Met};
 use crate::random::Random;
-use crate::{damage_node, damage_record, damage_value, setting};
+use crate::{damage_node, damage_record, damage_value, each_seed, setting};
 use brothanchor::{divergence, sizes, Kind, Method, Settings, Sizes, State};
 use oracle::divergence::{self as rules, Refusal};
-use std::collections::BTreeMap;
-use std::panic::{catch_unwind, AssertUnwindSafe};
 
 /// The most frames of most runs, and of one in twenty.
 const FEW: usize = 60;
@@ -31,13 +30,6 @@ enum Wanted {
     Figure,
     /// What the rules say.
     Anything,
-}
-
-/// How often each thing was met, by its name.
-type Met = BTreeMap<String, usize>;
-
-fn meet(met: &mut Met, what: String) {
-    *met.entry(what).or_default() += 1;
 }
 
 /// A run that stands after an iteration, with the positions before its step.
@@ -545,19 +537,10 @@ const BY_ONE: &[&str] = &[
 
 #[test]
 fn figures() {
-    let (first, count) = (setting("BROTHANCHOR_SEED", 1), setting("BROTHANCHOR_RUNS", 300));
-    let mut met = Met::new();
-    for seed in first..first + count {
-        let one = || run(&mut Random::new(seed), &mut met);
-        if catch_unwind(AssertUnwindSafe(one)).is_err() {
-            panic!("figures: the run of seed {seed} differs");
-        }
-    }
-    println!("figures: seeds {first} to {}: {met:?}", first + count - 1);
+    let met = each_seed("figures", setting("BROTHANCHOR_RUNS", 300), run);
     let both = BY_BOTH
         .iter()
         .flat_map(|what| ["Exact", "BarnesHut"].map(|method| format!("{method}, {what}")));
     let wanted = both.chain(BY_ONE.iter().map(|what| what.to_string()));
-    let missing: Vec<String> = wanted.filter(|what| !met.contains_key(what)).collect();
-    assert!(missing.is_empty(), "never met: {missing:?}");
+    all_met(&met, wanted);
 }

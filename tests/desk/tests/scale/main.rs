@@ -5,22 +5,25 @@
 //! damaged now and then, an arena that grows when 14 comes. Each failure names its seed; BROTHANCHOR_SEED and
 //! BROTHANCHOR_RUNS choose others than the gate's few. The module `deep` has the force walk over altered arenas, `far` frames
 //! with subnormal weights, `figures` the divergence, `neighbours` preparations of frames that are equally near, `parked` runs
-//! that are written and read back.
+//! that are written and read back, `take_out` runs that frames are taken out of.
 
 mod both;
 mod case;
 mod deep;
 mod far;
 mod figures;
+mod met;
 mod neighbours;
 mod parked;
 mod random;
+mod take_out;
 
 use both::{number, Both, PARTS};
 use brothanchor::{Kind, Method, Node, State, Worked};
 use case::{marked_nodes, shorten, Case, Scope};
 use random::Random;
 use std::env;
+use std::fmt::Debug;
 use std::panic::{catch_unwind, AssertUnwindSafe};
 
 /// A number from the environment, or another.
@@ -54,18 +57,23 @@ impl Met {
     }
 }
 
-/// So many runs within a scope, each from a seed of its own.
-fn runs(name: &str, count: u64, scope: Scope) -> Met {
+/// What is done from each of so many seeds, and what was met; a failure names its seed.
+fn each_seed<M: Debug + Default>(name: &str, count: u64, mut one: impl FnMut(&mut Random, &mut M)) -> M {
     let first = setting("BROTHANCHOR_SEED", 1);
-    let mut met = Met::default();
+    let mut met = M::default();
     for seed in first..first + count {
-        let one = || run(&mut Random::new(seed), scope, &mut met);
-        if catch_unwind(AssertUnwindSafe(one)).is_err() {
+        let run = || one(&mut Random::new(seed), &mut met);
+        if catch_unwind(AssertUnwindSafe(run)).is_err() {
             panic!("{name}: the run of seed {seed} differs");
         }
     }
     println!("{name}: seeds {first} to {}: {met:?}", first + count - 1);
     met
+}
+
+/// So many runs within a scope, each from a seed of its own.
+fn runs(name: &str, count: u64, scope: Scope) -> Met {
+    each_seed(name, count, |random, met| run(random, scope, met))
 }
 
 /// One run, to its end or through so many calls.

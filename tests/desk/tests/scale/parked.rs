@@ -4,8 +4,9 @@
 
 use crate::both::{fault_words, node_bits, number, other_side, record_of, Both};
 use crate::case::{marked_nodes, shorten, Case};
+use crate::met::{all_met, meet, Met};
 use crate::random::Random;
-use crate::{damage, damage_record, setting};
+use crate::{damage, damage_record, each_seed, setting};
 use brothanchor::{
     park, parked, parked_bytes, unpark_words, Areas, Kind, Method, Node, Record, Settings, PARKED_RECORD,
 };
@@ -13,21 +14,12 @@ use oracle::descent::{self, Standing};
 use oracle::lists::park as made;
 use oracle::park::{self as rules, Refusal};
 use oracle::tree;
-use std::collections::BTreeMap;
-use std::panic::{catch_unwind, AssertUnwindSafe};
 
 /// What is told: 0 and the number of records, or the number of the refusal and what comes with it.
 type Told = (u64, u64);
 
-/// How often each thing was met, by its name.
-type Met = BTreeMap<String, usize>;
-
-fn meet(met: &mut Met, what: impl Into<String>) {
-    *met.entry(what.into()).or_default() += 1;
-}
-
 /// The three states, and both methods with the components of small runs.
-const STATES: [&str; 3] = ["running", "stopped", "finished"];
+pub const STATES: [&str; 3] = ["running", "stopped", "finished"];
 const METHODS: [descent::Method; 2] = [descent::Method::Exact, descent::Method::BarnesHut];
 
 /// A run of the other side as the library is lent it.
@@ -333,15 +325,7 @@ fn nans(both: &Both, met: &mut Met) {
 
 #[test]
 fn damaged_files() {
-    let (first, count) = (setting("BROTHANCHOR_SEED", 1), setting("BROTHANCHOR_RUNS", 300));
-    let mut met = Met::new();
-    for seed in first..first + count {
-        let one = || damaged_file(&mut Random::new(seed), &mut met);
-        if catch_unwind(AssertUnwindSafe(one)).is_err() {
-            panic!("damaged files: the run of seed {seed} differs");
-        }
-    }
-    println!("damaged files: seeds {first} to {}: {met:?}", first + count - 1);
+    let met = each_seed("damaged files", setting("BROTHANCHOR_RUNS", 300), damaged_file);
     let both = ["0", "12", "16"].map(|number| METHODS.map(|method| format!("{method:?}, {number}")));
     let wanted = [
         "a NaN minimum",
@@ -358,12 +342,11 @@ fn damaged_files() {
         "16 at an area",
     ];
     let wanted = wanted.map(String::from).into_iter().chain(both.into_iter().flatten());
-    let missing: Vec<String> = wanted.filter(|what| !met.contains_key(what)).collect();
-    assert!(missing.is_empty(), "never met: {missing:?}");
+    all_met(&met, wanted);
 }
 
 /// Settings of a run that is worked.
-fn settings(random: &mut Random, n: usize, iterations: usize) -> Settings {
+pub fn settings(random: &mut Random, n: usize, iterations: usize) -> Settings {
     let method = random.one_of(&[Method::Exact, Method::BarnesHut]);
     Settings {
         n,
@@ -430,21 +413,12 @@ fn worked(random: &mut Random, met: &mut Met) {
 
 #[test]
 fn runs_that_are_parked_as_they_go() {
-    let (first, count) = (setting("BROTHANCHOR_SEED", 1), setting("BROTHANCHOR_RUNS", 300));
-    let mut met = Met::new();
-    for seed in first..first + count {
-        let one = || worked(&mut Random::new(seed), &mut met);
-        if catch_unwind(AssertUnwindSafe(one)).is_err() {
-            panic!("parked as they go: the run of seed {seed} differs");
-        }
-    }
-    println!("parked as they go: seeds {first} to {}: {met:?}", first + count - 1);
+    let met = each_seed("parked as they go", setting("BROTHANCHOR_RUNS", 300), worked);
     let methods =
         ["0", "17", "Stopped", "Finished"].map(|what| [format!("Exact, {what}"), format!("BarnesHut, {what}")]);
     let numbers = ["0", "12", "13", "13 with a place", "15", "17"].map(|number| format!("damaged: {number}"));
     let wanted = methods.into_iter().flatten().chain(numbers);
-    let missing: Vec<String> = wanted.filter(|what| !met.contains_key(what)).collect();
-    assert!(missing.is_empty(), "never met: {missing:?}");
+    all_met(&met, wanted);
 }
 
 /// So many units by the library alone; nothing where it is refused.
@@ -539,34 +513,28 @@ fn sizes_of(record: &Record) -> Settings {
     }
 }
 
+/// A run of few frames, parked at borders at random.
+fn night(random: &mut Random, met: &mut Met) {
+    let most = random.one_of(&[12, 40]);
+    let n = random.within(2, most);
+    let iterations = if n < 12 { 270 } else { 12 };
+    let mut settings = settings(random, n, iterations);
+    // An exact run's angle is read back as +0.0, which is another record.
+    settings.angle = if settings.method == Method::Exact {
+        0.0
+    } else {
+        settings.angle
+    };
+    settings.minimum = random.one_of(&[0.0, 1e-3, 1e9]);
+    let nodes = brothanchor::sizes(&settings).expect("good settings").nodes;
+    let case = Case::good(random, settings, nodes);
+    overnight(random, &case, iterations, met);
+}
+
 #[test]
 fn nights() {
-    let first = setting("BROTHANCHOR_SEED", 1);
     let count = setting("BROTHANCHOR_RUNS", 300).div_euclid(5).max(1);
-    let mut met = Met::new();
-    for seed in first..first + count {
-        let one = || {
-            let random = &mut Random::new(seed);
-            let most = random.one_of(&[12, 40]);
-            let n = random.within(2, most);
-            let iterations = if n < 12 { 270 } else { 12 };
-            let mut settings = settings(random, n, iterations);
-            // An exact run's angle is read back as +0.0, which is another record.
-            settings.angle = if settings.method == Method::Exact {
-                0.0
-            } else {
-                settings.angle
-            };
-            settings.minimum = random.one_of(&[0.0, 1e-3, 1e9]);
-            let nodes = brothanchor::sizes(&settings).expect("good settings").nodes;
-            let case = Case::good(random, settings, nodes);
-            overnight(random, &case, iterations, &mut met);
-        };
-        if catch_unwind(AssertUnwindSafe(one)).is_err() {
-            panic!("nights: the run of seed {seed} differs");
-        }
-    }
-    println!("nights: seeds {first} to {}: {met:?}", first + count - 1);
+    let met = each_seed("nights", count, night);
     for what in ["Exact, parked often", "BarnesHut, parked often"] {
         assert!(met.contains_key(what), "never met: {what}");
     }

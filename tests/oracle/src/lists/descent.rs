@@ -96,11 +96,11 @@ fn digest(length: usize, words: impl Iterator<Item = u64>) -> u64 {
     words.fold(length as u64, |digest, word| mix(digest.wrapping_add(word)))
 }
 
-fn digest_values(values: &[f64]) -> u64 {
+pub(super) fn digest_values(values: &[f64]) -> u64 {
     digest(values.len(), values.iter().map(|&v| listed(v)))
 }
 
-fn digest_numbers(numbers: &[u32]) -> u64 {
+pub(super) fn digest_numbers(numbers: &[u32]) -> u64 {
     digest(numbers.len(), numbers.iter().map(|&v| u64::from(v)))
 }
 
@@ -110,7 +110,7 @@ fn digest_nodes(nodes: &[Node]) -> u64 {
 }
 
 /// The digests of the eight areas.
-fn digests(areas: &Areas) -> [u64; LENT] {
+pub(super) fn digests(areas: &Areas) -> [u64; LENT] {
     [
         digest_values(&areas.positions),
         digest_values(&areas.increments),
@@ -197,7 +197,7 @@ impl Settings {
 
 impl Record {
     /// The record as words: the settings, the state, iterations done, units of the iteration, all units, nodes in use.
-    fn words(&self) -> Vec<u64> {
+    pub(super) fn words(&self) -> Vec<u64> {
         let mut words = self.settings.words().to_vec();
         words.extend([
             match self.standing {

@@ -1,7 +1,7 @@
 //! The lists of parked runs: writing and reading, with every refusal among them; and runs and damage for other tests.
 
 use super::descent::{marked_numbers, marks};
-use crate::descent::{Areas, Fault, Method, Record, Settings, Standing};
+use crate::descent::{Areas, Method, Record, Settings, Standing};
 use crate::park::{park, unpark, Refusal, RECORD};
 use crate::scatter::SplitMix64;
 use crate::tree::Node;
@@ -20,11 +20,11 @@ const NANS: [u64; 4] = [
 pub const STANDINGS: [Standing; 3] = [Standing::Running, Standing::Stopped, Standing::Finished];
 
 /// Choices at random.
-fn below(random: &mut SplitMix64, bound: usize) -> usize {
+pub(super) fn below(random: &mut SplitMix64, bound: usize) -> usize {
     (random.next() % bound as u64) as usize
 }
 
-fn one_of<T: Copy>(random: &mut SplitMix64, choices: &[T]) -> T {
+pub(super) fn one_of<T: Copy>(random: &mut SplitMix64, choices: &[T]) -> T {
     choices[below(random, choices.len())]
 }
 
@@ -57,6 +57,27 @@ fn settings(random: &mut SplitMix64, method: Method, n: usize, c: usize, standin
     }
 }
 
+/// How many iterations are done in a run that stands so.
+pub(super) fn done(random: &mut SplitMix64, settings: &Settings, standing: Standing) -> usize {
+    match standing {
+        Standing::Running => below(random, settings.iterations),
+        Standing::Stopped => 251 + below(random, settings.iterations - 250),
+        Standing::Finished => settings.iterations,
+    }
+}
+
+/// The record of a run between two iterations. Nodes in use are what a caller may have left there.
+pub(super) fn between(random: &mut SplitMix64, settings: Settings, standing: Standing, done: usize) -> Record {
+    Record {
+        settings,
+        standing,
+        done,
+        phase: 0,
+        units: done * settings.iteration(),
+        used: one_of(random, &[0, 1, 9, 70_000]),
+    }
+}
+
 /// A value that a step may give.
 fn calm(random: &mut SplitMix64) -> f64 {
     let wide = random.unit() - 0.5;
@@ -78,19 +99,8 @@ fn affinity(random: &mut SplitMix64) -> f64 {
 /// nodes in use, and an exact run's angle.
 pub fn run(random: &mut SplitMix64, method: Method, n: usize, c: usize, standing: Standing) -> (Record, Areas) {
     let settings = settings(random, method, n, c, standing);
-    let done = match standing {
-        Standing::Running => below(random, settings.iterations),
-        Standing::Stopped => 251 + below(random, settings.iterations - 250),
-        Standing::Finished => settings.iterations,
-    };
-    let record = Record {
-        settings,
-        standing,
-        done,
-        phase: 0,
-        units: done * settings.iteration(),
-        used: one_of(random, &[0, 1, 9, 70_000]),
-    };
+    let done = done(random, &settings, standing);
+    let record = between(random, settings, standing, done);
     let mut cells = || (0..n * c).map(|_| calm(random)).collect();
     let (positions, increments, gains) = (cells(), cells(), cells());
     let room = if method == Method::Exact { 0 } else { settings.links() };
@@ -223,7 +233,7 @@ pub fn words_of(record: &Record) -> [u64; 14] {
 }
 
 /// How long the eight areas are.
-fn lengths(areas: &Areas) -> [u64; 8] {
+pub(super) fn lengths(areas: &Areas) -> [u64; 8] {
     [
         areas.positions.len(),
         areas.increments.len(),
@@ -252,14 +262,13 @@ pub(crate) fn contents(areas: &Areas) -> Vec<u64> {
 pub fn place_of(refusal: Refusal) -> u64 {
     match refusal {
         Refusal::Record(place) => place as u64,
-        Refusal::Entry(Fault::Settings(number)) => number,
-        Refusal::Entry(Fault::Offsets(place) | Fault::Index(place) | Fault::Tree(place)) => place as u64,
+        Refusal::Entry(fault) => fault.place(),
         _ => 0,
     }
 }
 
 /// A length, then what follows it.
-fn counted(words: Vec<u64>) -> Vec<u64> {
+pub(super) fn counted(words: Vec<u64>) -> Vec<u64> {
     let mut case = vec![words.len() as u64 + 1];
     case.extend(words);
     case
@@ -321,7 +330,7 @@ fn marked(areas: &Areas, more: usize) -> Areas {
 }
 
 /// One element less in one of the eight areas.
-fn shorten(areas: &mut Areas, which: usize) {
+pub(crate) fn shorten(areas: &mut Areas, which: usize) {
     match which {
         0 => drop(areas.positions.pop()),
         1 => drop(areas.increments.pop()),

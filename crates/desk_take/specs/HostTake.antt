@@ -1,0 +1,55 @@
+-- Frames taken out, with record and answer as plain words. Definitions only.
+-- w are the record's words, a the answer's: word 0 tells how many are left, or, refused, the place that comes with the number, 0 where none does.
+use mathlib.Core.List.{List}
+use mathlib.Core.Bool.{cond}
+use Prim.Native.Nat.{ℕ}
+use lib.ListN.{length, set}
+use lib.Ieee.{Float}
+use Rattle.run_record.specs.declared.Run.{Run}
+use Rattle.run_entry.specs.State.{Memory, state}
+use Rattle.record_words.specs.RecordWords.{runOf, Worded}
+use Rattle.fault_words.specs.FaultWords.{faultValue, unfit, unfitTold}
+use Rattle.take_left.specs.declared.Outlook.{Outlook}
+use Rattle.take_left.specs.declared.Outlook.the-variants.{Left, Inside, Unordered, Few, Perplexed, Crowded, Barred}
+use Rattle.take_out.specs.declared.Taken.{Taken}
+use Rattle.take_out.specs.declared.Taken.the-variants.{Told, Bad}
+use Rattle.take_out.specs.TakeOut.{TakeOutcome, takeOut, takeNumber}
+
+abbrev pub leftTold : Outlook → ℕ
+leftTold (Left m) = m
+leftTold Inside = 0
+leftTold Unordered = 0
+leftTold Few = 0
+leftTold Perplexed = 0
+leftTold Crowded = 0
+leftTold Barred = 0
+
+unfoldable pub takenTold : Taken → ℕ
+takenTold (Told v) = leftTold v
+takenTold (Bad f) = faultValue f
+
+-- the two words that a removal can change: the samples, and the units done in all
+unfoldable pub sizePut : Run → List ℕ → List ℕ
+sizePut r w = set (set w 0 (r .settings .n)) 12 (r .units)
+
+-- the number, and answer, record and areas as they are left
+pub record HostTook : Type 0 where
+  pub number : ℕ
+  pub answer : List ℕ
+  pub run : List ℕ
+  pub memory : Memory
+  pub table : List Float
+  pub old : List ℕ
+
+abbrev pub hostTook : ℕ → List ℕ → List ℕ → Memory → List Float → List ℕ → HostTook
+hostTook k a w m t q = record { number = k; answer = a; run = w; memory = m; table = t; old = q }
+
+abbrev pub takenIn : TakeOutcome → List ℕ → List ℕ → HostTook
+takenIn o a w = hostTook (takeNumber (o .answer)) (set a 0 (takenTold (o .answer))) (sizePut (o .left .run) w) (o .left .memory) (o .table) (o .old)
+
+abbrev pub unfitIn : Worded → List ℕ → Memory → List Float → List ℕ → HostTook
+unfitIn k w m t q = hostTook (k .number) (k .words) w m t q
+
+-- an answer without a word: 12; words that are no record: 13; else as `takeOut` has it, with the list g, the table t and the old places q
+unfoldable pub hostTake : List ℕ → List ℕ → Memory → List Float → List ℕ → List ℕ → HostTook
+hostTake g w m t q a = cond (unfit w (length a)) (unfitIn (unfitTold w a) w m t q) (takenIn (takeOut g (state (runOf w) m) t q) a w)

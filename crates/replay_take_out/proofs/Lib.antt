@@ -1,0 +1,3 @@
+mod Within
+pub mod Told
+pub mod ByValue

@@ -1,0 +1,170 @@
+-- `run_right`: each part that is lent is within its area. Assumes nothing.
+use borrow.Author.Needs.{needs}
+use Rattle.replay_take_out.proofs.Within.{front-within, front-long}
+use Rattle.replay_take_out.proofs.taking.run_right.Statement.{statement}
+use Rattle.replay_take_out.proofs.taking.run_right.Tie as tie
+
+values-at-requires : tie.Need-values-at-requires
+values-at-requires c κs = c .before .pre .0
+
+values-at-requires-2 : tie.Need-values-at-requires-2
+values-at-requires-2 c κs = c .before .before .pre .1
+
+values-at-requires-3 : tie.Need-values-at-requires-3
+values-at-requires-3 c κs = c .before .before .before .pre .2
+
+values-at-requires-4 : tie.Need-values-at-requires-4
+values-at-requires-4 c κs = c .before .before .before .before .pre .3
+
+numbers-at-requires : tie.Need-numbers-at-requires
+numbers-at-requires c κs = c .before .before .before .before .before .pre .4
+
+numbers-at-requires-2 : tie.Need-numbers-at-requires-2
+numbers-at-requires-2 c κs = c .before .before .before .before .before .before .pre .5
+
+values-at-requires-5 : tie.Need-values-at-requires-5
+values-at-requires-5 c κs = search needs
+
+values-at-requires-6 : tie.Need-values-at-requires-6
+values-at-requires-6 c κs = c .before .before .before .before .before .before .before .before .pre .8
+
+numbers-at-requires-3 : tie.Need-numbers-at-requires-3
+numbers-at-requires-3 c κs = c .before .before .before .before .before .before .before .before .before .pre .9
+
+numbers-at-requires-4 : tie.Need-numbers-at-requires-4
+numbers-at-requires-4 c κs = search needs
+
+array-borrow-prefix-positions : tie.Need-array-borrow-prefix-positions
+array-borrow-prefix-positions c = front-within (c .before .before .before .before .before .before .before .before .before .values-at .result) (c .before .before .before .before .before .before .before .before .before .before .before .args .l .positions) 96 (c .before .before .before .before .before .before .before .before .before .values-at .ok .1 .0 .1) (c .before .before .before .before .before .before .before .before .before .before .before .pre .0)
+
+slice-aggregate-taken : tie.Need-slice-aggregate-taken
+slice-aggregate-taken c = front-long (c .before .before .before .before .before .before .before .before .before .before .values-at .result) (c .before .before .before .before .before .before .before .before .before .before .before .before .args .l .positions) 96 (c .before .before .before .before .before .before .before .before .before .before .values-at .ok .1 .0 .1) (c .before .before .before .before .before .before .before .before .before .before .before .before .pre .0)
+
+array-borrow-prefix-increments : tie.Need-array-borrow-prefix-increments
+array-borrow-prefix-increments c = front-within (c .before .before .before .before .before .before .before .before .before .values-at2 .result) (c .before .before .before .before .before .before .before .before .before .before .before .before .args .l .increments) 96 (c .before .before .before .before .before .before .before .before .before .values-at2 .ok .1 .0 .1) (c .before .before .before .before .before .before .before .before .before .before .before .before .pre .1)
+
+slice-aggregate-taken-2 : tie.Need-slice-aggregate-taken-2
+slice-aggregate-taken-2 c = front-long (c .before .before .before .before .before .before .before .before .before .before .values-at2 .result) (c .before .before .before .before .before .before .before .before .before .before .before .before .before .args .l .increments) 96 (c .before .before .before .before .before .before .before .before .before .before .values-at2 .ok .1 .0 .1) (c .before .before .before .before .before .before .before .before .before .before .before .before .before .pre .1)
+
+array-borrow-prefix-gains : tie.Need-array-borrow-prefix-gains
+array-borrow-prefix-gains c = front-within (c .before .before .before .before .before .before .before .before .before .values-at3 .result) (c .before .before .before .before .before .before .before .before .before .before .before .before .before .args .l .gains) 96 (c .before .before .before .before .before .before .before .before .before .values-at3 .ok .1 .0 .1) (c .before .before .before .before .before .before .before .before .before .before .before .before .before .pre .2)
+
+slice-aggregate-taken-3 : tie.Need-slice-aggregate-taken-3
+slice-aggregate-taken-3 c = front-long (c .before .before .before .before .before .before .before .before .before .before .values-at3 .result) (c .before .before .before .before .before .before .before .before .before .before .before .before .before .before .args .l .gains) 96 (c .before .before .before .before .before .before .before .before .before .before .values-at3 .ok .1 .0 .1) (c .before .before .before .before .before .before .before .before .before .before .before .before .before .before .pre .2)
+
+array-borrow-prefix-affinities : tie.Need-array-borrow-prefix-affinities
+array-borrow-prefix-affinities c = front-within (c .before .before .before .before .before .before .before .before .before .values-at4 .result) (c .before .before .before .before .before .before .before .before .before .before .before .before .before .before .args .l .affinities) 96 (c .before .before .before .before .before .before .before .before .before .values-at4 .ok .1 .0 .1) (c .before .before .before .before .before .before .before .before .before .before .before .before .before .before .pre .3)
+
+slice-aggregate-taken-4 : tie.Need-slice-aggregate-taken-4
+slice-aggregate-taken-4 c = front-long (c .before .before .before .before .before .before .before .before .before .before .values-at4 .result) (c .before .before .before .before .before .before .before .before .before .before .before .before .before .before .before .args .l .affinities) 96 (c .before .before .before .before .before .before .before .before .before .before .values-at4 .ok .1 .0 .1) (c .before .before .before .before .before .before .before .before .before .before .before .before .before .before .before .pre .3)
+
+array-borrow-prefix-indices : tie.Need-array-borrow-prefix-indices
+array-borrow-prefix-indices c = front-within (c .before .before .before .before .before .before .before .before .before .numbers-at .result) (c .before .before .before .before .before .before .before .before .before .before .before .before .before .before .before .args .l .indices) 64 (c .before .before .before .before .before .before .before .before .before .numbers-at .ok .1 .0 .1) (c .before .before .before .before .before .before .before .before .before .before .before .before .before .before .before .pre .4)
+
+slice-aggregate-taken-5 : tie.Need-slice-aggregate-taken-5
+slice-aggregate-taken-5 c = front-long (c .before .before .before .before .before .before .before .before .before .before .numbers-at .result) (c .before .before .before .before .before .before .before .before .before .before .before .before .before .before .before .before .args .l .indices) 64 (c .before .before .before .before .before .before .before .before .before .before .numbers-at .ok .1 .0 .1) (c .before .before .before .before .before .before .before .before .before .before .before .before .before .before .before .before .pre .4)
+
+array-borrow-prefix-offsets : tie.Need-array-borrow-prefix-offsets
+array-borrow-prefix-offsets c = front-within (c .before .before .before .before .before .before .before .before .before .numbers-at2 .result) (c .before .before .before .before .before .before .before .before .before .before .before .before .before .before .before .before .args .l .offsets) 64 (c .before .before .before .before .before .before .before .before .before .numbers-at2 .ok .1 .0 .1) (c .before .before .before .before .before .before .before .before .before .before .before .before .before .before .before .before .pre .5)
+
+slice-aggregate-taken-6 : tie.Need-slice-aggregate-taken-6
+slice-aggregate-taken-6 c = front-long (c .before .before .before .before .before .before .before .before .before .before .numbers-at2 .result) (c .before .before .before .before .before .before .before .before .before .before .before .before .before .before .before .before .before .args .l .offsets) 64 (c .before .before .before .before .before .before .before .before .before .before .numbers-at2 .ok .1 .0 .1) (c .before .before .before .before .before .before .before .before .before .before .before .before .before .before .before .before .before .pre .5)
+
+array-borrow-prefix-forces : tie.Need-array-borrow-prefix-forces
+array-borrow-prefix-forces c = front-within (c .before .before .before .before .before .before .before .before .before .values-at5 .result) (c .before .before .before .before .before .before .before .before .before .before .before .before .before .before .before .before .before .args .l .forces) 96 (c .before .before .before .before .before .before .before .before .before .values-at5 .ok .1 .0 .1) (c .before .before .before .before .before .before .before .before .before .before .before .before .before .before .before .before .before .pre .6)
+
+slice-aggregate-taken-7 : tie.Need-slice-aggregate-taken-7
+slice-aggregate-taken-7 c = front-long (c .before .before .before .before .before .before .before .before .before .before .values-at5 .result) (c .before .before .before .before .before .before .before .before .before .before .before .before .before .before .before .before .before .before .args .l .forces) 96 (c .before .before .before .before .before .before .before .before .before .before .values-at5 .ok .1 .0 .1) (c .before .before .before .before .before .before .before .before .before .before .before .before .before .before .before .before .before .before .pre .6)
+
+array-borrow-prefix-table : tie.Need-array-borrow-prefix-table
+array-borrow-prefix-table c = front-within (c .before .before .before .before .before .before .before .before .before .values-at6 .result) (c .before .before .before .before .before .before .before .before .before .before .before .before .before .before .before .before .before .before .args .l .table) 96 (c .before .before .before .before .before .before .before .before .before .values-at6 .ok .1 .0 .1) (c .before .before .before .before .before .before .before .before .before .before .before .before .before .before .before .before .before .before .pre .8)
+
+slice-aggregate-taken-8 : tie.Need-slice-aggregate-taken-8
+slice-aggregate-taken-8 c = front-long (c .before .before .before .before .before .before .before .before .before .before .values-at6 .result) (c .before .before .before .before .before .before .before .before .before .before .before .before .before .before .before .before .before .before .before .args .l .table) 96 (c .before .before .before .before .before .before .before .before .before .before .values-at6 .ok .1 .0 .1) (c .before .before .before .before .before .before .before .before .before .before .before .before .before .before .before .before .before .before .before .pre .8)
+
+array-share-prefix-gone : tie.Need-array-share-prefix-gone
+array-share-prefix-gone c = front-within (c .before .before .before .before .before .before .before .before .before .numbers-at3 .result) (c .before .before .before .before .before .before .before .before .before .before .before .before .before .before .before .before .before .before .before .args .l .gone) 64 (c .before .before .before .before .before .before .before .before .before .numbers-at3 .ok .1 .0 .1) (c .before .before .before .before .before .before .before .before .before .before .before .before .before .before .before .before .before .before .before .pre .9)
+
+slice-aggregate-taken-9 : tie.Need-slice-aggregate-taken-9
+slice-aggregate-taken-9 c = front-long (c .before .before .before .before .before .before .before .before .before .before .numbers-at3 .result) (c .before .before .before .before .before .before .before .before .before .before .before .before .before .before .before .before .before .before .before .before .args .l .gone) 64 (c .before .before .before .before .before .before .before .before .before .before .numbers-at3 .ok .1 .0 .1) (c .before .before .before .before .before .before .before .before .before .before .before .before .before .before .before .before .before .before .before .before .pre .9)
+
+array-borrow-prefix-old : tie.Need-array-borrow-prefix-old
+array-borrow-prefix-old c = front-within (c .before .before .before .before .before .before .before .before .before .numbers-at4 .result) (c .before .before .before .before .before .before .before .before .before .before .before .before .before .before .before .before .before .before .before .before .args .l .old) 64 (c .before .before .before .before .before .before .before .before .before .numbers-at4 .ok .1 .0 .1) (c .before .before .before .before .before .before .before .before .before .before .before .before .before .before .before .before .before .before .before .before .pre .10)
+
+slice-aggregate-taken-10 : tie.Need-slice-aggregate-taken-10
+slice-aggregate-taken-10 c = front-long (c .before .before .before .before .before .before .before .before .before .before .numbers-at4 .result) (c .before .before .before .before .before .before .before .before .before .before .before .before .before .before .before .before .before .before .before .before .before .args .l .old) 64 (c .before .before .before .before .before .before .before .before .before .before .numbers-at4 .ok .1 .0 .1) (c .before .before .before .before .before .before .before .before .before .before .before .before .before .before .before .before .before .before .before .before .before .pre .10)
+
+taken-requires : tie.Need-taken-requires
+taken-requires c κs = c .before .before .before .before .before .before .before .before .before .before .before .before .before .before .before .before .before .before .before .before .before .pre .7
+
+plus-requires : tie.Need-plus-requires
+plus-requires c κs = search needs
+
+same-told-requires : tie.Need-same-told-requires
+same-told-requires c κs = search needs
+
+same-state-requires : tie.Need-same-state-requires
+same-state-requires c κs = search needs
+
+same-lists-requires : tie.Need-same-lists-requires
+same-lists-requires c κs = search needs
+
+same-rest-requires : tie.Need-same-rest-requires
+same-rest-requires c κs = search needs
+
+both-requires : tie.Need-both-requires
+both-requires c κs = search needs
+
+both-requires-2 : tie.Need-both-requires-2
+both-requires-2 c κs = search needs
+
+both-requires-3 : tie.Need-both-requires-3
+both-requires-3 c κs = search needs
+
+returns : tie.Need-returns
+returns c = search needs
+
+pub run-right-spec : {M : Type 1} → statement M
+run-right-spec =
+    tie.close
+    (tie.spec
+    values-at-requires
+    values-at-requires-2
+    values-at-requires-3
+    values-at-requires-4
+    numbers-at-requires
+    numbers-at-requires-2
+    values-at-requires-5
+    values-at-requires-6
+    numbers-at-requires-3
+    numbers-at-requires-4
+    array-borrow-prefix-positions
+    slice-aggregate-taken
+    array-borrow-prefix-increments
+    slice-aggregate-taken-2
+    array-borrow-prefix-gains
+    slice-aggregate-taken-3
+    array-borrow-prefix-affinities
+    slice-aggregate-taken-4
+    array-borrow-prefix-indices
+    slice-aggregate-taken-5
+    array-borrow-prefix-offsets
+    slice-aggregate-taken-6
+    array-borrow-prefix-forces
+    slice-aggregate-taken-7
+    array-borrow-prefix-table
+    slice-aggregate-taken-8
+    array-share-prefix-gone
+    slice-aggregate-taken-9
+    array-borrow-prefix-old
+    slice-aggregate-taken-10
+    taken-requires
+    plus-requires
+    same-told-requires
+    same-state-requires
+    same-lists-requires
+    same-rest-requires
+    both-requires
+    both-requires-2
+    both-requires-3
+    returns)

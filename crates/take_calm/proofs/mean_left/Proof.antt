@@ -1,0 +1,91 @@
+use Rattle.take_gone.specs.Gone.{survivors}
+use Rattle.take_calm.proofs.Over.{SumsLeft, sums-left-start, sums-left-pass, sums-left-more, sums-left-done, sumOver}
+use Rattle.take_gone.proofs.Left.{survivors-few}
+use Rattle.laws.proofs.Numbers.{row-in}
+use Rattle.laws.specs.Area.{at}
+use lib.Ieee.{Float, inFloat, binary64, ofInt, div}
+use lib.IntN.{pos}
+use lib.Dec.{le→leb}
+use mathlib.Core.Path.{sym, ap, _∙_}
+use Prim.Native.Nat.{ℕ, _+_, _*_, _-_, _^_}
+use borrow.Author.Needs.{needs}
+use native.Mathlib.Omega.{arith}
+use Rattle.take_calm.proofs.mean_left.Statement.{statement}
+use Rattle.take_calm.proofs.mean_left.Tie as tie
+use Rattle.take_calm.proofs.mean_left.Reads as reads
+use Rattle.take_calm.proofs.mean_left.Lts as lts
+use Rattle.take_gone.proofs.is_among.Reads as is-among-reads
+
+abbrev Inv-loop : tie.InvT-loop
+Inv-loop positions gone n c d m s₀ j₀ s j = SumsLeft (λ i. at positions (i * c + d)) gone n j s
+
+abbrev μ-loop : tie.MeasureT-loop
+μ-loop positions gone n c d m s₀ j₀ s j = n - j
+
+loop-holds : tie.Need-loop-holds Inv-loop μ-loop
+loop-holds c = sums-left-start
+
+cast-is-among : tie.Need-cast-is-among Inv-loop μ-loop
+cast-is-among c = omega (arith, c .before .before .before .before .pre .0, c .loop-test .taken)
+
+is-among-requires : tie.Need-is-among-requires Inv-loop μ-loop
+is-among-requires c κs = c .before .before .before .before .pre .3
+
+add-j : tie.Need-add-j Inv-loop μ-loop
+add-j c = search needs
+
+loop-less : tie.Need-loop-less Inv-loop μ-loop
+loop-less c = search needs
+
+loop-again : tie.Need-loop-again Inv-loop μ-loop
+loop-again c = sums-left-pass (c .before .before .before .loop .inv) (c .before .before .loop-test .taken) (sym (c .before .is-among .ensures) ∙ c .if1 .taken)
+
+mul-s : tie.Need-mul-s Inv-loop μ-loop
+mul-s c = omega (arith, row-in (c .before .before .before .loop .j) (c .before .before .before .before .before .before .args .n) (c .before .before .before .before .before .before .args .c) _ (c .before .before .loop-test .taken) (c .before .before .before .before .before .before .pre .2), c .before .before .before .before .before .before .pre .1)
+
+add-s : tie.Need-add-s Inv-loop μ-loop
+add-s c = omega (arith, row-in (c .before .before .before .loop .j) (c .before .before .before .before .before .before .args .n) (c .before .before .before .before .before .before .args .c) _ (c .before .before .loop-test .taken) (c .before .before .before .before .before .before .pre .2), c .before .before .before .before .before .before .pre .1)
+
+mul-s-2 : tie.Need-mul-s-2 Inv-loop μ-loop
+mul-s-2 c = omega (arith, row-in (c .before .before .before .loop .j) (c .before .before .before .before .before .before .args .n) (c .before .before .before .before .before .before .args .c) _ (c .before .before .loop-test .taken) (c .before .before .before .before .before .before .pre .2), c .before .before .before .before .before .before .pre .1)
+
+shared-slice-read-s : tie.Need-shared-slice-read-s Inv-loop μ-loop
+shared-slice-read-s c = omega (arith, row-in (c .before .before .before .before .loop .j) (c .before .before .before .before .before .before .before .args .n) (c .before .before .before .before .before .before .before .args .c) _ (c .before .before .before .loop-test .taken) (c .before .before .before .before .before .before .before .pre .2), c .before .before .before .before .before .before .before .pre .1)
+
+add-j-2 : tie.Need-add-j-2 Inv-loop μ-loop
+add-j-2 c = search needs
+
+loop-less-2 : tie.Need-loop-less-2 Inv-loop μ-loop
+loop-less-2 c = search needs
+
+loop-again-2 : tie.Need-loop-again-2 Inv-loop μ-loop
+loop-again-2 c = sums-left-more (c .before .before .before .before .loop .inv) (c .before .before .before .loop-test .taken) (sym (c .before .before .is-among .ensures) ∙ c .before .if1 .left)
+
+int-to-float-result : tie.Need-int-to-float-result Inv-loop μ-loop
+unfolding inFloat
+int-to-float-result c = le→leb (c .before .before .before .before .before .args .m) (2 ^ 53) (omega (arith, c .before .before .before .before .before .pre .0, c .before .before .before .before .before .pre .4, survivors-few (c .before .before .before .before .before .args .gone .now) (c .before .before .before .before .before .args .n)))
+
+returns : tie.Need-returns Inv-loop μ-loop
+returns c = ap (λ (x : Float). div binary64 x (ofInt binary64 (pos (c .before .before .before .before .before .args .m)))) (sums-left-done (c .before .before .loop .inv) (c .before .loop-test .left)) ∙ ap (λ (k : ℕ). div binary64 (sumOver (λ i. at (c .before .before .before .before .before .args .positions .now) (i * c .before .before .before .before .before .args .c + c .before .before .before .before .before .args .d)) (survivors (c .before .before .before .before .before .args .gone .now) (c .before .before .before .before .before .args .n))) (ofInt binary64 (pos k))) (c .before .before .before .before .before .pre .4)
+
+pub mean-left-spec : {M : Type 1} → statement M
+mean-left-spec =
+    tie.close
+    (tie.spec
+    Inv-loop
+    μ-loop
+    loop-holds
+    cast-is-among
+    is-among-requires
+    add-j
+    loop-less
+    loop-again
+    mul-s
+    add-s
+    mul-s-2
+    shared-slice-read-s
+    add-j-2
+    loop-less-2
+    loop-again-2
+    int-to-float-result
+    returns)

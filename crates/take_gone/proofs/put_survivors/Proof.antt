@@ -1,0 +1,85 @@
+use Rattle.take_gone.proofs.Left.{Surviving, surviving-start, surviving-room, surviving-pass, surviving-more, surviving-done}
+use lib.ListN.{length-set}
+use borrow.Author.Tests.{not-true, not-false}
+use mathlib.Core.Path.{sym, _∙_}
+use Prim.Native.Nat.{_-_}
+use borrow.Author.Needs.{needs}
+use native.Mathlib.Omega.{arith}
+use Rattle.take_gone.proofs.put_survivors.Statement.{statement}
+use Rattle.take_gone.proofs.put_survivors.Tie as tie
+use Rattle.take_gone.proofs.put_survivors.Reads as reads
+use Rattle.take_gone.proofs.put_survivors.Lts as lts
+use Rattle.take_gone.proofs.is_among.Reads as is-among-reads
+
+abbrev Inv-loop : tie.InvT-loop
+Inv-loop gone n old₀ q₀ j₀ old q j = Surviving gone n old₀ q j old
+
+abbrev μ-loop : tie.MeasureT-loop
+μ-loop gone n old₀ q₀ j₀ old q j = n - j
+
+loop-holds : tie.Need-loop-holds Inv-loop μ-loop
+loop-holds c = surviving-start
+
+cast-is-among : tie.Need-cast-is-among Inv-loop μ-loop
+cast-is-among c = omega (arith, c .before .before .before .before .pre .0, c .loop-test .taken)
+
+is-among-requires : tie.Need-is-among-requires Inv-loop μ-loop
+is-among-requires c κs = c .before .before .before .before .pre .2
+
+add-j : tie.Need-add-j Inv-loop μ-loop
+add-j c = search needs
+
+loop-less : tie.Need-loop-less Inv-loop μ-loop
+loop-less c = search needs
+
+loop-again : tie.Need-loop-again Inv-loop μ-loop
+loop-again c = surviving-pass (c .before .before .before .loop .inv) (c .before .before .loop-test .taken) (sym (c .before .is-among .ensures) ∙ c .if1 .taken)
+
+cast-old : tie.Need-cast-old Inv-loop μ-loop
+cast-old c = omega (arith, c .before .before .before .before .before .before .pre .0, c .before .before .loop-test .taken)
+
+mul-old : tie.Need-mul-old Inv-loop μ-loop
+mul-old c = omega (arith, surviving-room (c .before .before .before .loop .inv) (c .before .before .loop-test .taken) (c .before .before .before .before .before .before .pre .1), c .before .before .before .loop .inv .front .size)
+
+slice-write-old : tie.Need-slice-write-old Inv-loop μ-loop
+slice-write-old c = omega (arith, surviving-room (c .before .before .before .loop .inv) (c .before .before .loop-test .taken) (c .before .before .before .before .before .before .pre .1), c .before .before .before .loop .inv .front .size)
+
+add-q : tie.Need-add-q Inv-loop μ-loop
+add-q c = omega (arith, surviving-room (c .before .before .before .loop .inv) (c .before .before .loop-test .taken) (c .before .before .before .before .before .before .pre .1), c .before .before .before .loop .inv .front .size)
+
+add-j-2 : tie.Need-add-j-2 Inv-loop μ-loop
+add-j-2 c = search needs
+
+loop-less-2 : tie.Need-loop-less-2 Inv-loop μ-loop
+loop-less-2 c = search needs
+
+loop-again-2 : tie.Need-loop-again-2 Inv-loop μ-loop
+loop-again-2 c = surviving-more (c .before .before .before .loop .inv) (c .before .before .loop-test .taken) (c .before .before .before .before .before .before .pre .1) (sym (c .before .is-among .ensures) ∙ c .if1 .left)
+
+same-length : tie.Need-same-length Inv-loop μ-loop
+same-length c = c .before .loop .inv .front .size
+
+returns : tie.Need-returns Inv-loop μ-loop
+returns c = surviving-done (c .before .loop .inv) (c .loop-test .left)
+
+pub put-survivors-spec : {M : Type 1} → statement M
+put-survivors-spec =
+    tie.close
+    (tie.spec
+    Inv-loop
+    μ-loop
+    loop-holds
+    cast-is-among
+    is-among-requires
+    add-j
+    loop-less
+    loop-again
+    cast-old
+    mul-old
+    slice-write-old
+    add-q
+    add-j-2
+    loop-less-2
+    loop-again-2
+    same-length
+    returns)

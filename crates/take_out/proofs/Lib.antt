@@ -1,0 +1,7 @@
+pub mod Rooms
+pub mod Tested
+pub mod Calls
+pub mod Values
+mod ByValue
+mod CallsTakeTested
+pub mod CallsTakeOut

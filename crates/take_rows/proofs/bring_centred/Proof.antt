@@ -1,0 +1,80 @@
+use Rattle.take_rows.proofs.Packing.{Brings, brings-start, brings-more, brings-at, brings-done}
+use Rattle.laws.specs.Area.{at}
+use lib.Ieee.{Float, nan, binary64, sub}
+use mathlib.Core.Path.{refl, sym, ap, _∙_}
+use Prim.Native.Nat.{_+_, _-_}
+use borrow.Author.Needs.{needs}
+use native.Mathlib.Omega.{arith}
+use Rattle.take_rows.proofs.bring_centred.Statement.{statement}
+use Rattle.take_rows.proofs.bring_centred.Tie as tie
+use Rattle.take_rows.proofs.bring_centred.Reads as reads
+use Rattle.take_rows.proofs.bring_centred.Lts as lts
+
+abbrev Inv-loop : tie.InvT-loop
+Inv-loop area₀ from to c means d₀ area d = Brings (λ j. sub binary64 (at area₀ (from + j)) (at means j)) to c area₀ d area
+
+abbrev μ-loop : tie.MeasureT-loop
+μ-loop area₀ from to c means d₀ area d = c - d
+
+loop-holds : tie.Need-loop-holds Inv-loop μ-loop
+loop-holds c = brings-start (omega (arith, c .pre))
+
+add-area : tie.Need-add-area Inv-loop μ-loop
+add-area c = omega (arith, c .before .before .pre, c .loop-test .taken, c .before .loop .inv .front .size)
+
+mul-area : tie.Need-mul-area Inv-loop μ-loop
+mul-area c = omega (arith, c .before .before .pre, c .loop-test .taken, c .before .loop .inv .front .size)
+
+slice-read-area : tie.Need-slice-read-area Inv-loop μ-loop
+slice-read-area c = omega (arith, c .before .before .before .pre, c .before .loop-test .taken, c .before .before .loop .inv .front .size)
+
+mul-area-2 : tie.Need-mul-area-2 Inv-loop μ-loop
+mul-area-2 c = search needs
+
+element-copy-out-area : tie.Need-element-copy-out-area Inv-loop μ-loop
+element-copy-out-area c = search needs
+
+add-area-2 : tie.Need-add-area-2 Inv-loop μ-loop
+add-area-2 c = omega (arith, c .before .before .before .before .pre, c .before .before .loop-test .taken, c .before .before .before .loop .inv .front .size)
+
+mul-area-3 : tie.Need-mul-area-3 Inv-loop μ-loop
+mul-area-3 c = omega (arith, c .before .before .before .before .pre, c .before .before .loop-test .taken, c .before .before .before .loop .inv .front .size)
+
+slice-write-area : tie.Need-slice-write-area Inv-loop μ-loop
+slice-write-area c = omega (arith, c .before .before .before .before .pre, c .before .before .loop-test .taken, c .before .before .before .loop .inv .front .size)
+
+add-d : tie.Need-add-d Inv-loop μ-loop
+add-d c = omega (arith, c .before .before .before .before .pre, c .before .before .loop-test .taken, c .before .before .before .loop .inv .front .size)
+
+loop-less : tie.Need-loop-less Inv-loop μ-loop
+loop-less c = search needs
+
+loop-again : tie.Need-loop-again Inv-loop μ-loop
+loop-again c = brings-more (c .before .before .before .loop .inv) _ (ap (λ (x : Float). sub binary64 x (at (c .before .before .before .before .args .means .now) (c .before .before .before .loop .d))) (brings-at (c .before .before .before .loop .inv) nan (c .before .before .before .before .args .from + c .before .before .before .loop .d) (omega (arith, c .before .before .before .before .pre)))) (omega (arith, c .before .before .before .before .pre)) (c .before .before .loop-test .taken)
+
+same-length : tie.Need-same-length Inv-loop μ-loop
+same-length c = c .before .loop .inv .front .size
+
+returns : tie.Need-returns Inv-loop μ-loop
+returns c = brings-done (c .before .loop .inv) (c .loop-test .left)
+
+pub bring-centred-spec : {M : Type 1} → statement M
+bring-centred-spec =
+    tie.close
+    (tie.spec
+    Inv-loop
+    μ-loop
+    loop-holds
+    add-area
+    mul-area
+    slice-read-area
+    mul-area-2
+    element-copy-out-area
+    add-area-2
+    mul-area-3
+    slice-write-area
+    add-d
+    loop-less
+    loop-again
+    same-length
+    returns)
