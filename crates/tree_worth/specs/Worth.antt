@@ -1,0 +1,81 @@
+-- What the theorems on the tree speak of: a node's depth, its children's counts, the leaves that count a point, the sum over them. Definitions only.
+use mathlib.Core.Path.{_≡_}
+use mathlib.Core.Logic.{_⊎_}
+use mathlib.Core.List.{List, [], _∷_}
+use mathlib.Core.Bool.{Bool, true, false, cond, _&&_}
+use Prim.Native.Nat.{ℕ, zero, suc, _+_, _^_, _<_, _≤_}
+use lib.Dec.{eqb}
+use lib.Ieee.{Float}
+use Rattle.laws.specs.Area.{bits, zero64}
+use Rattle.laws.specs.Domain.{deepest}
+use Rattle.laws.specs.Sums.{sum}
+use Rattle.laws.specs.Joined.{joined}
+use Rattle.tree_node.specs.declared.Node.{Node}
+use Rattle.tree_node.specs.declared.Leaf.{Leaf}
+use Rattle.tree_node.specs.declared.Leaf.the-variants.{Empty, Occupied}
+use Rattle.tree_node.specs.Arena.{nodeAt}
+use Rattle.tree_bodies.specs.declared.Acc.{Acc}
+use Rattle.tree_bodies.specs.Bodies.{bodyOf}
+
+-- ---- counts
+
+-- the counts of the 2^c nodes from node f on, added up
+abbrev pub blockCounts : ℕ → List Node → ℕ → ℕ
+blockCounts c ns f = sum (λ b. nodeAt ns (f + b) .count) (2 ^ c)
+
+-- .. those of node i's children
+abbrev pub childCounts : ℕ → List Node → ℕ → ℕ
+childCounts c ns i = blockCounts c ns (nodeAt ns i .first)
+
+-- ---- depth: d steps down from the root, each to a child of a node that has children, lead to node i
+
+unfoldable pub Deep : ℕ → List Node → ℕ → ℕ → Type 0
+Deep c ns zero i = i ≡ 0
+Deep c ns (suc d) i = (k : ℕ) × (b : ℕ) × (nodeAt ns k .first ≡ 0 → ⊥) × (b < 2 ^ c) × (i ≡ nodeAt ns k .first + b) × Deep c ns d k
+
+-- a leaf that counts n points and holds none, or its first one
+abbrev pub LeafCounts : ℕ → ℕ → Leaf → Type 0
+LeafCounts d n Empty = n ≡ 0
+LeafCounts d n (Occupied o) = (0 < n) × (d < deepest → n ≡ 1)
+
+-- ---- the leaves below node i that count a point, depth first, children rising; at most g levels
+
+unfoldable pub leavesOf : ℕ → ℕ → List Node → ℕ → List ℕ
+unfolding joined
+leavesOf zero c ns i = []
+leavesOf (suc g) c ns i =
+    elim (eqb (nodeAt ns i .first) 0) [
+      | true ↦ cond (eqb (nodeAt ns i .count) 0) [] (i ∷ [])
+      | false ↦ joined (λ b. leavesOf g c ns (nodeAt ns i .first + b)) (2 ^ c)
+    ]
+
+-- how often a number stands in a list
+unfoldable pub timesIn : ℕ → List ℕ → ℕ
+timesIn k [] = 0
+timesIn k (x ∷ l) = cond (eqb x k) 1 0 + timesIn k l
+
+-- the counts of the nodes that a list names, added up
+unfoldable pub countsOf : List Node → List ℕ → ℕ
+countsOf ns [] = 0
+countsOf ns (x ∷ l) = nodeAt ns x .count + countsOf ns l
+
+-- ---- the sum over leaves
+
+-- a leaf that holds point q and no other
+abbrev pub holdsAlone : ℕ → ℕ → Leaf → Bool
+holdsAlone q n Empty = false
+holdsAlone q n (Occupied o) = eqb o q && eqb n 1
+
+-- what a leaf adds to the repulsion on point q with coordinates p: itself as one body, unless it holds q alone
+abbrev pub leafAdds : ℕ → ℕ → List Float → Node → Acc → Acc
+leafAdds c q p v a = cond (holdsAlone q (v .count) (v .leaf)) a (bodyOf c p v a)
+
+-- leaf after leaf, in the order of the list
+unfoldable pub leavesAdd : ℕ → ℕ → List Float → List Node → List ℕ → Acc → Acc
+unfolding bodyOf
+leavesAdd c q p ns [] a = a
+leavesAdd c q p ns (x ∷ l) a = leavesAdd c q p ns l (leafAdds c q p (nodeAt ns x) a)
+
+-- +0.0 or -0.0
+abbrev pub NoAngle : Float → Type 0
+NoAngle a = (a ≡ zero64) ⊎ (a ≡ bits 0x8000000000000000)
