@@ -45,11 +45,12 @@ owed-out c f i n =
       ]
     ]
 
--- ghosts: each node's parent and depth
-pub record Tallied (c i : ℕ) (t : Tree) : Type 0 where
+-- every node has a parent and a depth; node i, at depth d, is yet to count the point. Where i is the root, no count is owed
+pub record Tallied (c d i : ℕ) (t : Tree) : Type 0 where
   pub up : ℕ → ℕ
   pub deep : ℕ → ℕ
   pub at-root : deep 0 ≡ 0
+  pub depth : deep i ≡ d
   pub above : (k : ℕ) → k < t .used → (nodeAt (t .nodes) k .first ≡ 0 → ⊥) → (k < nodeAt (t .nodes) k .first) × (nodeAt (t .nodes) k .first + 2 ^ c ≤ t .used)
   pub of-child : (k : ℕ) → k < t .used → (nodeAt (t .nodes) k .first ≡ 0 → ⊥) → (b : ℕ) → b < 2 ^ c → (up (nodeAt (t .nodes) k .first + b) ≡ k) × (deep (nodeAt (t .nodes) k .first + b) ≡ deep k + 1)
   pub has-parent : (k : ℕ) → 0 < k → k < t .used → (up k < k) × (nodeAt (t .nodes) (up k) .first ≡ 0 → ⊥) × (nodeAt (t .nodes) (up k) .first ≤ k) × (k < nodeAt (t .nodes) (up k) .first + 2 ^ c)
@@ -78,7 +79,7 @@ block-owed c i f ns ms e s =
         (rw q e)
         (λ k l z. s (f + k) (omega arith) (omega arith) (λ w. z (omega (arith, w, q)))))
 
-module _ (c i u : ℕ) (ns : List Node) (k : Tallied c i (tree u ns)) (li : i < u) (room : u ≤ length ns) where
+module _ (c d i u : ℕ) (ns : List Node) (k : Tallied c d i (tree u ns)) (li : i < u) (room : u ≤ length ns) where
   abbrev v : Node
   v = nodeAt ns i
 
@@ -110,7 +111,7 @@ module _ (c i u : ℕ) (ns : List Node) (k : Tallied c i (tree u ns)) (li : i < 
     sums-on : (f : ℕ) → blockCounts c ms f ≡ blockCounts c ns f + owed c f i
     sums-on f = block-owed c i f ns ms count-here (λ x a b n. ap (λ (y : Node). y .count) (other x n))
 
-    module _ (next : ℕ) (here-owed : (v .first ≡ 0 → ⊥) → owed c (v .first) next ≡ 1) (none-owed : (x : ℕ) → x < u → (x ≡ i → ⊥) → (nodeAt ns x .first ≡ 0 → ⊥) → owed c (nodeAt ns x .first) next ≡ 0)
+    module _ (e next : ℕ) (depth-next : k .deep next ≡ e) (here-owed : (v .first ≡ 0 → ⊥) → owed c (v .first) next ≡ 1) (none-owed : (x : ℕ) → x < u → (x ≡ i → ⊥) → (nodeAt ns x .first ≡ 0 → ⊥) → owed c (nodeAt ns x .first) next ≡ 0)
         (says : v .first ≡ 0 → LeafCounts (k .deep i) (w .count) (w .leaf)) where
       tally-on : (x : ℕ) → x < u → (nodeAt ns x .first ≡ 0 → ⊥) → nodeAt ms x .count ≡ blockCounts c ms (nodeAt ns x .first) + owed c (nodeAt ns x .first) next
       tally-on x lx z =
@@ -134,11 +135,12 @@ module _ (c i u : ℕ) (ns : List Node) (k : Tallied c i (tree u ns)) (li : i < 
             | no n ↦ rw (other x n) (k .leaf x lx z)
           ]
 
-      pub stored-tallied : Tallied c next (tree u ms)
+      pub stored-tallied : Tallied c e next (tree u ms)
       stored-tallied = record {
         up = k .up;
         deep = k .deep;
         at-root = k .at-root;
+        depth = depth-next;
         above = λ x lx z. rw (first-same x) (k .above x lx (λ e. z (first-same x ∙ e)));
         of-child = λ x lx z b lb. rw (first-same x) (k .of-child x lx (λ e. z (first-same x ∙ e)) b lb);
         has-parent = λ x a b. rw (first-same (k .up x)) (k .has-parent x a b);
@@ -147,18 +149,18 @@ module _ (c i u : ℕ) (ns : List Node) (k : Tallied c i (tree u ns)) (li : i < 
       }
 
   -- the point goes on into a child
-  pub inner-tallied : (w : Node) → w .first ≡ v .first → w .count ≡ v .count + 1 → (v .first ≡ 0 → ⊥) → (b : ℕ) → b < 2 ^ c → Tallied c (v .first + b) (tree u (set ns i w))
+  pub inner-tallied : (w : Node) → w .first ≡ v .first → w .count ≡ v .count + 1 → (v .first ≡ 0 → ⊥) → (b : ℕ) → b < 2 ^ c → Tallied c (d + 1) (v .first + b) (tree u (set ns i w))
   inner-tallied w ef ec z b lb =
-      stored-tallied w ef ec (v .first + b) (λ _. owed-in c (v .first) (v .first + b) (omega arith) (omega (arith, lb)))
+      stored-tallied w ef ec (d + 1) (v .first + b) (k .of-child i li z b lb .1 ∙ ap (λ (x : ℕ). x + 1) (k .depth)) (λ _. owed-in c (v .first) (v .first + b) (omega arith) (omega (arith, lb)))
       (λ x lx n zx. owed-out c (nodeAt ns x .first) (v .first + b) (λ h l. n (one-block x i lx li zx z b lb h l)))
       (λ e. absurd (z e))
 
   -- the point is in
-  pub last-tallied : (w : Node) → w .first ≡ v .first → w .count ≡ v .count + 1 → v .first ≡ 0 → LeafCounts (k .deep i) (w .count) (w .leaf) → Tallied c 0 (tree u (set ns i w))
+  pub last-tallied : (w : Node) → w .first ≡ v .first → w .count ≡ v .count + 1 → v .first ≡ 0 → LeafCounts d (w .count) (w .leaf) → Tallied c 0 0 (tree u (set ns i w))
   last-tallied w ef ec z says =
-      stored-tallied w ef ec 0 (λ n. absurd (n z))
+      stored-tallied w ef ec 0 0 (k .at-root) (λ n. absurd (n z))
       (λ x lx n zx. owed-out c (nodeAt ns x .first) 0 (λ h l. zx (omega (arith, h))))
-      (λ _. says)
+      (λ _. rw (k .depth) says)
 
   -- ---- a level that splits its node
 
@@ -251,11 +253,12 @@ module _ (c i u : ℕ) (ns : List Node) (k : Tallied c i (tree u ns)) (li : i < 
     no-child : (x : ℕ) → 0 < x → x < u → k .up x ≡ i → ⊥
     no-child x h l e = k .has-parent x h l .1 (ap (λ (y : ℕ). nodeAt ns y .first) e ∙ z)
 
-    pub split-tallied : (b : ℕ) → b < 2 ^ c → Tallied c (u + b) (tree (u + 2 ^ c) new)
+    pub split-tallied : (b : ℕ) → b < 2 ^ c → Tallied c (d + 1) (u + b) (tree (u + 2 ^ c) new)
     split-tallied b lb = record {
       up = up';
       deep = deep';
       at-root = deep-old 0 (omega (arith, li)) ∙ k .at-root;
+      depth = deep-new (u + b) (omega arith) ∙ ap (λ (y : ℕ). y + 1) (k .depth);
       above = each-node (λ x. (nodeAt new x .first ≡ 0 → ⊥) → (x < nodeAt new x .first) × (nodeAt new x .first + 2 ^ c ≤ u + 2 ^ c))
           (λ _. rw first-i (li, omega arith))
           (λ x l n. rw (first-old x l n) (λ h. (k .above x l h .0, omega (arith, k .above x l h .1))))
