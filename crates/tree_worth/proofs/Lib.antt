@@ -1,3 +1,4 @@
 pub mod Sums
 pub mod Tallies
 pub mod Counts
+pub mod Theorems

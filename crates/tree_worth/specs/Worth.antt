@@ -33,7 +33,22 @@ unfoldable pub Deep : ℕ → List Node → ℕ → ℕ → Type 0
 Deep c ns zero i = i ≡ 0
 Deep c ns (suc d) i = (k : ℕ) × (b : ℕ) × (nodeAt ns k .first ≡ 0 → ⊥) × (b < 2 ^ c) × (i ≡ nodeAt ns k .first + b) × Deep c ns d k
 
--- a leaf that counts n points and holds none, or its first one
+-- node x is one of the children of node p
+abbrev pub ChildOf : ℕ → List Node → ℕ → ℕ → Type 0
+ChildOf c ns p x = (nodeAt ns p .first ≡ 0 → ⊥) × (nodeAt ns p .first ≤ x) × (x < nodeAt ns p .first + 2 ^ c)
+
+-- ---- what a leaf holds: nothing, and counts none; one point, and counts it; its first point, and counts some
+
+abbrev pub EmptyLeaf : Node → Type 0
+EmptyLeaf v = (v .leaf ≡ Empty) × (v .count ≡ 0)
+
+abbrev pub HoldsOne : Node → Type 0
+HoldsOne v = (o : ℕ) × (v .leaf ≡ Occupied o) × (v .count ≡ 1)
+
+abbrev pub HoldsSome : Node → Type 0
+HoldsSome v = (o : ℕ) × (v .leaf ≡ Occupied o) × (0 < v .count)
+
+-- of a leaf at depth d that counts n, all this together
 abbrev pub LeafCounts : ℕ → ℕ → Leaf → Type 0
 LeafCounts d n Empty = n ≡ 0
 LeafCounts d n (Occupied o) = (0 < n) × (d < deepest → n ≡ 1)
