@@ -4,3 +4,4 @@ pub mod Counts
 pub mod Theorems
 pub mod Leaves
 pub mod Zero
+pub mod Angle
