@@ -17,7 +17,7 @@ use Rattle.tree.specs.Insert.{Tree}
 use Rattle.tree_worth.specs.Worth.{leavesOf, timesIn, countsOf, childCounts}
 use Rattle.tree_worth.proofs.Sums.{sum-nothing, term-le, sum-some, sum-one-only}
 use Rattle.tree_worth.proofs.Tallies.{Tallied}
-use Rattle.tree_worth.proofs.Theorems.{tally-whole}
+use Rattle.tree_worth.proofs.Ways.{tally-whole}
 
 -- ---- lists that are joined
 

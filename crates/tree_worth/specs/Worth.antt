@@ -5,7 +5,7 @@ use mathlib.Core.List.{List, [], _∷_}
 use mathlib.Core.Bool.{Bool, true, false, cond, _&&_}
 use Prim.Native.Nat.{ℕ, zero, suc, _+_, _^_, _<_, _≤_}
 use lib.Dec.{eqb}
-use lib.Ieee.{Float}
+use lib.Ieee.{Float, binary64, mul}
 use Rattle.laws.specs.Area.{bits, zero64}
 use Rattle.laws.specs.Domain.{deepest}
 use Rattle.laws.specs.Sums.{sum}
@@ -16,6 +16,8 @@ use Rattle.tree_node.specs.declared.Leaf.the-variants.{Empty, Occupied}
 use Rattle.tree_node.specs.Arena.{nodeAt}
 use Rattle.tree_bodies.specs.declared.Acc.{Acc}
 use Rattle.tree_bodies.specs.Bodies.{bodyOf}
+use Rattle.tree_walk.specs.Repel.{repelled, nothing}
+use Rattle.tree.specs.Insert.{Tree}
 
 -- ---- counts
 
@@ -94,3 +96,30 @@ leavesAdd c q p ns (x ∷ l) a = leavesAdd c q p ns l (leafAdds c q p (nodeAt ns
 -- +0.0 or -0.0
 abbrev pub NoAngle : Float → Type 0
 NoAngle a = (a ≡ zero64) ⊎ (a ≡ bits 0x8000000000000000)
+
+-- ---- all of it
+
+-- those of a whole tree
+abbrev pub leavesIn : ℕ → Tree → List ℕ
+leavesIn c t = leavesOf (t .used) c (t .nodes) 0
+
+-- a tree in c components that i points went into
+pub record Worth (c i : ℕ) (t : Tree) : Type 0 where
+  -- the root counts them all
+  pub root : nodeAt (t .nodes) 0 .count ≡ i
+  -- a node with children counts what they count
+  pub splits : (k : ℕ) → k < t .used → (nodeAt (t .nodes) k .first ≡ 0 → ⊥) → nodeAt (t .nodes) k .count ≡ childCounts c (t .nodes) k
+  -- a leaf above the deepest level holds one point at most
+  pub shallow : (k d : ℕ) → k < t .used → nodeAt (t .nodes) k .first ≡ 0 → Deep c (t .nodes) d k → d < deepest → EmptyLeaf (nodeAt (t .nodes) k) ⊎ HoldsOne (nodeAt (t .nodes) k)
+  -- any leaf counts none exactly where it holds none
+  pub leaf : (k : ℕ) → k < t .used → nodeAt (t .nodes) k .first ≡ 0 → EmptyLeaf (nodeAt (t .nodes) k) ⊎ HoldsSome (nodeAt (t .nodes) k)
+  -- with an angle of zero repulsion adds up the leaves that count a point
+  pub flat : (q : ℕ) (p : List Float) (angle : Float) → NoAngle angle → repelled (t .used) c q p (mul binary64 angle angle) (t .nodes) ≡ leavesAdd c q p (t .nodes) (leavesIn c t) nothing
+  -- each once, none missing, nothing else; their counts together
+  pub once : (k : ℕ) → timesIn k (leavesIn c t) ≤ 1
+  pub all : (k : ℕ) → k < t .used → nodeAt (t .nodes) k .first ≡ 0 → (nodeAt (t .nodes) k .count ≡ 0 → ⊥) → timesIn k (leavesIn c t) ≡ 1
+  pub only : (k : ℕ) → 0 < timesIn k (leavesIn c t) → (k < t .used) × (nodeAt (t .nodes) k .first ≡ 0) × (nodeAt (t .nodes) k .count ≡ 0 → ⊥)
+  pub together : countsOf (t .nodes) (leavesIn c t) ≡ i
+  -- every used node but the root has one parent, and every used node one depth
+  pub parent : (k : ℕ) → 0 < k → k < t .used → (p : ℕ) × (p < t .used) × ChildOf c (t .nodes) p k × ((q : ℕ) → q < t .used → ChildOf c (t .nodes) q k → q ≡ p)
+  pub depth : (k : ℕ) → k < t .used → (d : ℕ) × Deep c (t .nodes) d k × ((e : ℕ) → Deep c (t .nodes) e k → e ≡ d)
