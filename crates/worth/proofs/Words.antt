@@ -1,0 +1,1 @@
+-- The same with the record as words. Assumes nothing.
