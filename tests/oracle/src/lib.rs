@@ -20,3 +20,4 @@ pub mod sigma;
 pub mod step;
 pub mod tree;
 pub mod words;
+pub mod worth;
