@@ -23,9 +23,9 @@ use Rattle.tree_node.specs.Arena.{nodeAt}
 use Rattle.tree_walk.specs.Repel.{repelled, nothing}
 use Rattle.tree.specs.Insert.{Tree, Insertion, insertion, built}
 use Rattle.tree.specs.Box.{boxed}
-use Rattle.tree_worth.specs.Worth.{childCounts, Deep, LeafCounts, EmptyLeaf, HoldsOne, HoldsSome, ChildOf, timesIn, countsOf, leavesAdd, NoAngle, leavesIn, Worth}
+use Rattle.tree_worth.specs.Worth.{childCounts, Deep, LeafCounts, EmptyLeaf, HoldsOne, HoldsSome, IsChild, timesIn, countsOf, leavesAdd, NoAngle, leavesIn, Worth}
 use Rattle.tree_worth.proofs.Tallies.{Tallied}
-use Rattle.tree_worth.proofs.Counts.{Stands, built-stands}
+use Rattle.tree_worth.proofs.Counts.{Accounted, built-stands}
 use Rattle.tree_worth.proofs.Ways.{tally-whole, way-deep, way-there, parent-there, parent-only}
 use Rattle.tree_worth.proofs.Leaves.{below-counts, below-only, below-once, below-all}
 use Rattle.tree_worth.proofs.Angle.{walk-adds}
@@ -41,8 +41,8 @@ holds-one d n v (Occupied o) s e f h = inr (o, e, f ∙ h .1 s)
 -- ---- the theorems
 
 module _ (y : List Float) (n c i : ℕ) (before : List Node) (nodes-some : 0 < length before) (few : i ≤ n) (t : Tree) (made : insertion false t ≡ built y c i (boxed y n c before)) where
-  pub worth-stands : Stands n c i t
-  worth-stands = subst (Stands n c i) (sym (ap (λ (r : Insertion). r .tree) made)) (built-stands y n c before nodes-some i few (sym (ap (λ (r : Insertion). r .full) made)))
+  pub worth-stands : Accounted n c i t
+  worth-stands = subst (Accounted n c i) (sym (ap (λ (r : Insertion). r .tree) made)) (built-stands y n c before nodes-some i few (sym (ap (λ (r : Insertion). r .full) made)))
 
   abbrev tallied : Tallied c 0 0 t
   tallied = worth-stands .settled .tallied
@@ -64,7 +64,7 @@ module _ (y : List Float) (n c i : ℕ) (before : List Node) (nodes-some : 0 < l
   one-depth k l = let w = way-there c t tallied (worth-stands .some) k l in (w .0, w .1, λ e x. sym (way-deep c t tallied (worth-stands .some) e k x .1) ∙ way-deep c t tallied (worth-stands .some) (w .0) k (w .1) .1)
 
   -- every used node but the root is the child of a used node, and of no other
-  pub one-parent : (k : ℕ) → 0 < k → k < t .used → (p : ℕ) × (p < t .used) × ChildOf c (t .nodes) p k × ((q : ℕ) → q < t .used → ChildOf c (t .nodes) q k → q ≡ p)
+  pub one-parent : (k : ℕ) → 0 < k → k < t .used → (p : ℕ) × (p < t .used) × IsChild c (t .nodes) p k × ((q : ℕ) → q < t .used → IsChild c (t .nodes) q k → q ≡ p)
   one-parent k h l = let w = parent-there c t tallied (worth-stands .some) k h l in (w .0, w .1, w .2, λ q lq x. parent-only c t tallied (worth-stands .some) k q (w .0) lq (w .1) x (w .2))
 
   -- of a point q with coordinates p

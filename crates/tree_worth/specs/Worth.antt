@@ -36,8 +36,8 @@ Deep c ns zero i = i ≡ 0
 Deep c ns (suc d) i = (k : ℕ) × (b : ℕ) × (nodeAt ns k .first ≡ 0 → ⊥) × (b < 2 ^ c) × (i ≡ nodeAt ns k .first + b) × Deep c ns d k
 
 -- node x is one of the children of node p
-abbrev pub ChildOf : ℕ → List Node → ℕ → ℕ → Type 0
-ChildOf c ns p x = (nodeAt ns p .first ≡ 0 → ⊥) × (nodeAt ns p .first ≤ x) × (x < nodeAt ns p .first + 2 ^ c)
+abbrev pub IsChild : ℕ → List Node → ℕ → ℕ → Type 0
+IsChild c ns p x = (nodeAt ns p .first ≡ 0 → ⊥) × (nodeAt ns p .first ≤ x) × (x < nodeAt ns p .first + 2 ^ c)
 
 -- ---- what a leaf holds: nothing, and counts none; one point, and counts it; its first point, and counts some
 
@@ -121,5 +121,5 @@ pub record Worth (c i : ℕ) (t : Tree) : Type 0 where
   pub only : (k : ℕ) → 0 < timesIn k (leavesIn c t) → (k < t .used) × (nodeAt (t .nodes) k .first ≡ 0) × (nodeAt (t .nodes) k .count ≡ 0 → ⊥)
   pub together : countsOf (t .nodes) (leavesIn c t) ≡ i
   -- every used node but the root has one parent, and every used node one depth
-  pub parent : (k : ℕ) → 0 < k → k < t .used → (p : ℕ) × (p < t .used) × ChildOf c (t .nodes) p k × ((q : ℕ) → q < t .used → ChildOf c (t .nodes) q k → q ≡ p)
+  pub parent : (k : ℕ) → 0 < k → k < t .used → (p : ℕ) × (p < t .used) × IsChild c (t .nodes) p k × ((q : ℕ) → q < t .used → IsChild c (t .nodes) q k → q ≡ p)
   pub depth : (k : ℕ) → k < t .used → (d : ℕ) × Deep c (t .nodes) d k × ((e : ℕ) → Deep c (t .nodes) e k → e ≡ d)

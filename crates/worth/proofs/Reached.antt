@@ -32,7 +32,7 @@ use Rattle.prepare.specs.Prepare.{Lent, lengthsOf, prepareFault, prepared, fres
 use Rattle.prepare.proofs.Begins.{begunState, preparation-honest}
 use Rattle.tree_worth.specs.Worth.{leavesAdd, leavesIn, NoAngle, Worth}
 use Rattle.tree_worth.proofs.Theorems.{tree-worth}
-use Rattle.worth.specs.Insertions.{insertionsIn, Inside, treeIn}
+use Rattle.worth.specs.Insertions.{insertionsIn, Midway, treeIn}
 
 -- the phase is what the total leaves
 module _ (s : State) (g : Good s) (tree : isTree (s .run .settings .method) ≡ true) where
@@ -52,7 +52,7 @@ module _ (s : State) (g : Good s) (tree : isTree (s .run .settings .method) ≡ 
 
 -- ---- an honest state between box and finish
 
-module _ (s : State) (h : Honest s) (tree : isTree (s .run .settings .method) ≡ true) (inside : Inside (s .run .settings .n) (s .run .units)) where
+module _ (s : State) (h : Honest s) (tree : isTree (s .run .settings .method) ≡ true) (inside : Midway (s .run .settings .n) (s .run .units)) where
   abbrev left : s .run .units % (2 * s .run .settings .n + 2) ≡ s .run .phase
   left = phase-left s (h .good) tree
 
@@ -89,7 +89,7 @@ module _ (s : State) (h : Honest s) (tree : isTree (s .run .settings .method) �
   abbrev done : ℕ
   done = s .run .units + toldAll bs s
 
-  pub works-worth : Inside (s .run .settings .n) done → Worth (s .run .settings .c) (insertionsIn (s .run .settings .n) done) (treeIn (works bs s))
+  pub works-worth : Midway (s .run .settings .n) done → Worth (s .run .settings .c) (insertionsIn (s .run .settings .n) done) (treeIn (works bs s))
   works-worth inside =
       let t = works bs s in
       let e = works-settings bs s h in
@@ -119,11 +119,11 @@ module _ (s : Settings) (table start : List Float) (cs : List Cell) (l : Lent) (
   unfolding freshRun
   fresh-units = ap (λ (x : Run). x .units) fresh-is
 
-  pub begun-worth : (bs : List ℕ) → isTree (s .method) ≡ true → Inside (s .n) (toldAll bs begun) → Worth (s .c) (insertionsIn (s .n) (toldAll bs begun)) (treeIn (works bs begun))
+  pub begun-worth : (bs : List ℕ) → isTree (s .method) ≡ true → Midway (s .n) (toldAll bs begun) → Worth (s .c) (insertionsIn (s .n) (toldAll bs begun)) (treeIn (works bs begun))
   begun-worth bs tree =
       let told = toldAll bs begun in
       let t = treeIn (works bs begun) in
       let u : begun .run .units + told ≡ told = ap (λ (x : ℕ). x + told) fresh-units ∙ zero-add told in
-      let w : Inside (run .settings .n) (begun .run .units + told) → Worth (run .settings .c) (insertionsIn (run .settings .n) (begun .run .units + told)) t = works-worth begun (preparation-honest s table start cs l run ready) (ap (λ (x : Settings). isTree (x .method)) fresh-settings ∙ tree) bs in
-      subst (λ (x : Settings). Inside (x .n) told → Worth (x .c) (insertionsIn (x .n) told) t) fresh-settings
-      (subst (λ (x : ℕ). Inside (run .settings .n) x → Worth (run .settings .c) (insertionsIn (run .settings .n) x) t) u w)
+      let w : Midway (run .settings .n) (begun .run .units + told) → Worth (run .settings .c) (insertionsIn (run .settings .n) (begun .run .units + told)) t = works-worth begun (preparation-honest s table start cs l run ready) (ap (λ (x : Settings). isTree (x .method)) fresh-settings ∙ tree) bs in
+      subst (λ (x : Settings). Midway (x .n) told → Worth (x .c) (insertionsIn (x .n) told) t) fresh-settings
+      (subst (λ (x : ℕ). Midway (run .settings .n) x → Worth (run .settings .c) (insertionsIn (run .settings .n) x) t) u w)

@@ -9,8 +9,8 @@ abbrev pub insertionsIn : ℕ → ℕ → ℕ
 insertionsIn n u = min (u % (2 * n + 2) - 1) n
 
 -- between an iteration's box and its finish
-abbrev pub Inside : ℕ → ℕ → Type 0
-Inside n u = u % (2 * n + 2) ≡ 0 → ⊥
+abbrev pub Midway : ℕ → ℕ → Type 0
+Midway n u = u % (2 * n + 2) ≡ 0 → ⊥
 
 -- the tree that a state holds
 abbrev pub treeIn : State → Tree

@@ -175,7 +175,11 @@ mod tests {
                 for angle in [0.0, -0.0] {
                     for q in 0..n {
                         let walked = repulsion(&nodes, &positions, c, q, angle);
-                        assert_eq!(bits(walked), bits(tree.over_leaves(&positions, q)), "round {round}, {i} points, point {q}");
+                        assert_eq!(
+                            bits(walked),
+                            bits(tree.over_leaves(&positions, q)),
+                            "round {round}, {i} points, point {q}"
+                        );
                     }
                 }
                 if i < n {
@@ -214,7 +218,10 @@ mod tests {
             leaf: 1,
             ..Node::default()
         }];
-        assert_eq!(Tree::new(&crowd, 1, 2).holds(2), Err("leaf 0 at depth 0 counts 2".into()));
+        assert_eq!(
+            Tree::new(&crowd, 1, 2).holds(2),
+            Err("leaf 0 at depth 0 counts 2".into())
+        );
     }
 
     /// With an angle that is not zero a far cell is one body, and the sum is another.
@@ -225,7 +232,13 @@ mod tests {
         plant(&mut nodes, &positions, 3, 1);
         let used = (0..3).fold(1, |used, j| insert(&mut nodes, used, &positions, 1, j).expect("room"));
         let tree = Tree::new(&nodes, used, 1);
-        assert_eq!(bits(repulsion(&nodes, &positions, 1, 0, 0.0)), bits(tree.over_leaves(&positions, 0)));
-        assert_ne!(bits(repulsion(&nodes, &positions, 1, 0, 0.9)), bits(tree.over_leaves(&positions, 0)));
+        assert_eq!(
+            bits(repulsion(&nodes, &positions, 1, 0, 0.0)),
+            bits(tree.over_leaves(&positions, 0))
+        );
+        assert_ne!(
+            bits(repulsion(&nodes, &positions, 1, 0, 0.9)),
+            bits(tree.over_leaves(&positions, 0))
+        );
     }
 }
