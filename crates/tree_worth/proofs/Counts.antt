@@ -121,7 +121,7 @@ module _ (n c m cap N r : ℕ) (y p : List Float) (j : ℕ) (hj : j < n) (hm : 1
         apart : t .used + childIndex c (v .centre) p ≡ 0 → ⊥
         apart q = omega (arith, q, ok .node)
 
-    comes : Goal (turnAt c p j d i t)
+    pub comes : Goal (turnAt c p j d i t)
     unfolding absorbed
     comes = turn-cases c p j d (t .used) v Goal
         (λ z _. (

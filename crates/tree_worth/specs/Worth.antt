@@ -8,12 +8,14 @@ use lib.Dec.{eqb}
 use lib.Ieee.{Float, binary64, mul}
 use Rattle.laws.specs.Area.{bits, zero64}
 use Rattle.laws.specs.Domain.{deepest}
-use Rattle.laws.specs.Sums.{sum}
+use Rattle.laws.specs.Sums.{sum, bit}
 use Rattle.laws.specs.Joined.{joined}
 use Rattle.tree_node.specs.declared.Node.{Node}
 use Rattle.tree_node.specs.declared.Leaf.{Leaf}
 use Rattle.tree_node.specs.declared.Leaf.the-variants.{Empty, Occupied}
+use Rattle.tree_node.specs.Node.{pointOf}
 use Rattle.tree_node.specs.Arena.{nodeAt}
+use Rattle.tree_children.specs.Children.{childIndex}
 use Rattle.tree_bodies.specs.declared.Acc.{Acc}
 use Rattle.tree_bodies.specs.Bodies.{bodyOf}
 use Rattle.tree_walk.specs.Repel.{repelled, nothing}
@@ -65,6 +67,24 @@ leavesOf (suc g) c ns i =
       | true ↦ cond (eqb (nodeAt ns i .count) 0) [] (i ∷ [])
       | false ↦ joined (λ b. leavesOf g c ns (nodeAt ns i .first + b)) (2 ^ c)
     ]
+
+-- the leaf that a point with coordinates p comes to from node i: at each node that has children, on to the child whose cell it lies in; at most g levels
+unfoldable pub leafFor : ℕ → ℕ → List Float → List Node → ℕ → ℕ
+unfolding childIndex
+leafFor zero c p ns i = i
+leafFor (suc g) c p ns i =
+    elim (eqb (nodeAt ns i .first) 0) [
+      | true ↦ i
+      | false ↦ leafFor g c p ns (nodeAt ns i .first + childIndex c (nodeAt ns i .centre) p)
+    ]
+
+-- the leaf in whose cell point j lies
+abbrev pub leafIn : List Float → ℕ → Tree → ℕ → ℕ
+leafIn y c t j = leafFor (t .used) c (pointOf y c j) (t .nodes) 0
+
+-- how many of the first i points lie in the cell of leaf k
+abbrev pub pointsOf : List Float → ℕ → Tree → ℕ → ℕ → ℕ
+pointsOf y c t i k = sum (λ j. bit (eqb (leafIn y c t j) k)) i
 
 -- how often a number stands in a list
 unfoldable pub timesIn : ℕ → List ℕ → ℕ
