@@ -66,7 +66,7 @@ deep-says d n l o e h = rw e (omega arith, λ x. absurd (apart x h))
 empty-says : (d n : ℕ) (l : Leaf) (j : ℕ) → l ≡ Empty → LeafCounts d n l → LeafCounts d (n + 1) (Occupied j)
 empty-says d n l j e h = let z : n ≡ 0 = rw e at h in rw z (omega arith, λ _. refl)
 
-one-held : (d n : ℕ) (l : Leaf) (o : ℕ) → l ≡ Occupied o → d < deepest → LeafCounts d n l → n ≡ 1
+pub one-held : (d n : ℕ) (l : Leaf) (o : ℕ) → l ≡ Occupied o → d < deepest → LeafCounts d n l → n ≡ 1
 one-held d n l o e lt h = let k : (0 < n) × (d < deepest → n ≡ 1) = rw e at h in k .1 lt
 
 module _ (n c m cap N r : ℕ) (y p : List Float) (j : ℕ) (hj : j < n) (hm : 1 ≤ m) (fit : N ≤ cap) where

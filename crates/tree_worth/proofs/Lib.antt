@@ -6,4 +6,5 @@ pub mod Leaves
 pub mod Zero
 pub mod Angle
 pub mod Routes
+pub mod Points
 pub mod Theorems
