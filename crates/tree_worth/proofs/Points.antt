@@ -39,7 +39,7 @@ use Rattle.tree_worth.proofs.Counts.{Comes, comes, one-held, Settled, A
 use Rattle.tree_worth.proofs.Routes.{nextOf, routeOf, route-same, route-leaf, route-inner, route-ends, split-route}
 
 -- of the first j points
-pub record Placed (y : List Float) (c j : ℕ) (t : Tree) : Type 0 where
+pub record Lodged (y : List Float) (c j : ℕ) (t : Tree) : Type 0 where
   pub counts : (k : ℕ) → k < t .used → nodeAt (t .nodes) k .first ≡ 0 → nodeAt (t .nodes) k .count ≡ pointsOf y c t j k
   pub named : (k o : ℕ) → k < t .used → nodeAt (t .nodes) k .first ≡ 0 → nodeAt (t .nodes) k .leaf ≡ Occupied o → (o < j) × (leafIn y c t o ≡ k)
 
@@ -53,7 +53,7 @@ bit-no x k n = rw (ne-eqb x k n)
 
 -- ---- a level that only stores its node
 
-module _ (y : List Float) (c j i u : ℕ) (ns : List Node) (h : Placed y c j (tree u ns)) (li : i < u) (room : u ≤ length ns) (w : Node) (ef : w .first ≡ nodeAt ns i .first) (ez : w .centre ≡ nodeAt ns i .centre) where
+module _ (y : List Float) (c j i u : ℕ) (ns : List Node) (h : Lodged y c j (tree u ns)) (li : i < u) (room : u ≤ length ns) (w : Node) (ef : w .first ≡ nodeAt ns i .first) (ez : w .centre ≡ nodeAt ns i .centre) where
   abbrev ms : List Node
   ms = set ns i w
 
@@ -75,7 +75,7 @@ module _ (y : List Float) (c j i u : ℕ) (ns : List Node) (h : Placed y c j (tr
   points-kept : (m k : ℕ) → pointsOf y c (tree u ms) m k ≡ pointsOf y c (tree u ns) m k
   points-kept m k = sum-same (λ x. bit (eqb (leafIn y c (tree u ms) x) k)) (λ x. bit (eqb (leafIn y c (tree u ns) x) k)) m (λ x _. ap (λ (z : ℕ). bit (eqb z k)) (routes-kept (pointOf y c x) 0))
 
-  pub inner-placed : (nodeAt ns i .first ≡ 0 → ⊥) → Placed y c j (tree u ms)
+  pub inner-placed : (nodeAt ns i .first ≡ 0 → ⊥) → Lodged y c j (tree u ms)
   inner-placed z = record {
     counts = λ k l e. (let n = not-i k e in ap (λ (v : Node). v .count) (other k n) ∙ h .counts k l (sym (first-same k) ∙ e) ∙ sym (points-kept j k));
     named = λ k o l e q. (let n = not-i k e in let r = h .named k o l (sym (first-same k) ∙ e) (sym (ap (λ (v : Node). v .leaf) (other k n)) ∙ q) in (r .0, routes-kept (pointOf y c o) 0 ∙ r .1));
@@ -84,19 +84,19 @@ module _ (y : List Float) (c j i u : ℕ) (ns : List Node) (h : Placed y c j (tr
       not-i : (k : ℕ) → nodeAt ms k .first ≡ 0 → k ≡ i → ⊥
       not-i k e x = z (ap (λ (y : ℕ). nodeAt ns y .first) (sym x) ∙ (sym (first-same k) ∙ e))
 
-  pub last-placed : w .count ≡ nodeAt ns i .count + 1 → nodeAt ns i .first ≡ 0 → leafIn y c (tree u ns) j ≡ i → ((o : ℕ) → w .leaf ≡ Occupied o → (o < j + 1) × (leafIn y c (tree u ns) o ≡ i)) → Placed y c (j + 1) (tree u ms)
+  pub last-placed : w .count ≡ nodeAt ns i .count + 1 → nodeAt ns i .first ≡ 0 → leafIn y c (tree u ns) j ≡ i → ((o : ℕ) → w .leaf ≡ Occupied o → (o < j + 1) × (leafIn y c (tree u ns) o ≡ i)) → Lodged y c (j + 1) (tree u ms)
   last-placed ec z at wn = record {
     counts = λ k l e.
-      let s : pointsOf y c (tree u ms) (j + 1) k ≡ pointsOf y c (tree u ns) j k + bit (eqb (leafIn y c (tree u ns) j) k) = points-kept (j + 1) k ∙ sum-more (λ x. bit (eqb (leafIn y c (tree u ns) x) k)) j in
-      elim (ℕ-discrete k i) [
-        | yes x ↦
-            let a : nodeAt ms k .count ≡ nodeAt ns i .count + 1 = ap (λ (y : ℕ). nodeAt ms y .count) x ∙ ap (λ (v : Node). v .count) here ∙ ec in
-            let b : nodeAt ns i .count ≡ pointsOf y c (tree u ns) j k = h .counts i li z ∙ ap (pointsOf y c (tree u ns) j) (sym x) in
-            omega (arith, s, a, b, bit-yes (leafIn y c (tree u ns) j) k (at ∙ sym x))
-        | no x ↦
-            let a : nodeAt ms k .count ≡ nodeAt ns k .count = ap (λ (v : Node). v .count) (other k x) in
-            omega (arith, s, a, h .counts k l (sym (first-same k) ∙ e), bit-no (leafIn y c (tree u ns) j) k (λ q. x (sym q ∙ at)))
-      ];
+        let s : pointsOf y c (tree u ms) (j + 1) k ≡ pointsOf y c (tree u ns) j k + bit (eqb (leafIn y c (tree u ns) j) k) = points-kept (j + 1) k ∙ sum-more (λ x. bit (eqb (leafIn y c (tree u ns) x) k)) j in
+        elim (ℕ-discrete k i) [
+          | yes x ↦
+              let a : nodeAt ms k .count ≡ nodeAt ns i .count + 1 = ap (λ (y : ℕ). nodeAt ms y .count) x ∙ ap (λ (v : Node). v .count) here ∙ ec in
+              let b : nodeAt ns i .count ≡ pointsOf y c (tree u ns) j k = h .counts i li z ∙ ap (pointsOf y c (tree u ns) j) (sym x) in
+              omega (arith, s, a, b, bit-yes (leafIn y c (tree u ns) j) k (at ∙ sym x))
+          | no x ↦
+              let a : nodeAt ms k .count ≡ nodeAt ns k .count = ap (λ (v : Node). v .count) (other k x) in
+              omega (arith, s, a, h .counts k l (sym (first-same k) ∙ e), bit-no (leafIn y c (tree u ns) j) k (λ q. x (sym q ∙ at)))
+        ];
     named = λ k o l e q. elim (ℕ-discrete k i) [
       | yes x ↦ (let r = wn o (sym (ap (λ (v : Node). v .leaf) here) ∙ (ap (λ (y : ℕ). nodeAt ms y .leaf) (sym x) ∙ q)) in (r .0, routes-kept (pointOf y c o) 0 ∙ r .1 ∙ sym x))
       | no x ↦ (let r = h .named k o l (sym (first-same k) ∙ e) (sym (ap (λ (v : Node). v .leaf) (other k x)) ∙ q) in (omega (arith, r .0), routes-kept (pointOf y c o) 0 ∙ r .1))
@@ -118,7 +118,7 @@ child-named c v o q b o' = elim (ℕ-discrete b (childIndex c (v .centre) q)) [
   | no x ↦ rw (ne-eqb b (childIndex c (v .centre) q) x) (λ e. absurd (word-apart o' e))
 ]
 
-module _ (y : List Float) (c j d i u : ℕ) (ns : List Node) (h : Placed y c j (tree u ns)) (k : Tallied c d i (tree u ns)) (li : i < u) (room : u ≤ length ns)
+module _ (y : List Float) (c j d i u : ℕ) (ns : List Node) (h : Lodged y c j (tree u ns)) (k : Tallied c d i (tree u ns)) (li : i < u) (room : u ≤ length ns)
     (p : List Float) (o : ℕ) (z : nodeAt ns i .first ≡ 0) (one : nodeAt ns i .count ≡ 1) (space : u + 2 ^ c ≤ length ns) (occ : nodeAt ns i .leaf ≡ Occupied o) where
   abbrev q : List Float
   q = pointOf y c o
@@ -197,7 +197,7 @@ module _ (y : List Float) (c j d i u : ℕ) (ns : List Node) (h : Placed y c j (
     | no x ↦ child-empty c d i u ns k li room p o q z one space b x ∙ sym (bit-no (u + corner q) (u + b) (λ w. x (omega (arith, w))))
   ]
 
-  pub split-placed : Placed y c j t'
+  pub split-placed : Lodged y c j t'
   unfolding absorbed
   split-placed = record {
     counts = λ m l e. elim (decLt m u) [
@@ -237,7 +237,7 @@ module _ (n c m cap N r : ℕ) (y : List Float) (j : ℕ) (hj : j < n) (hm : 1 �
 
   -- the first j points are in, and the way of point j leads through node i
   pub record Enters (i : ℕ) (t : Tree) : Type 0 where
-    pub placed : Placed y c j t
+    pub placed : Lodged y c j t
     pub way : leafFor (t .used) c p (t .nodes) 0 ≡ leafFor (t .used) c p (t .nodes) i
 
   module _ (d i : ℕ) (t : Tree) (ok : Ok n c m cap N y p d i t) (k : Comes c d i r t) (e : Enters i t) where
@@ -260,7 +260,7 @@ module _ (n c m cap N r : ℕ) (y : List Float) (j : ℕ) (hj : j < n) (hm : 1 �
     comes-here z = e .way ∙ route-leaf c p u ns (k .tallied .above) i z
 
     abbrev Step : Out → Type 0
-    Step x = (x .last ≡ false → Ok n c m cap N y p (d + 1) (x .next) (levelled y c i x t)) → (x .last ≡ false → Enters (x .next) (levelled y c i x t)) × (x .last ≡ true → Placed y c (j + 1) (levelled y c i x t))
+    Step x = (x .last ≡ false → Ok n c m cap N y p (d + 1) (x .next) (levelled y c i x t)) → (x .last ≡ false → Enters (x .next) (levelled y c i x t)) × (x .last ≡ true → Lodged y c (j + 1) (levelled y c i x t))
 
     inner : (v .first ≡ 0 → ⊥) → Enters (v .first + childIndex c (v .centre) p) (tree u (set ns i (absorbed c p v)))
     unfolding absorbed
@@ -272,7 +272,7 @@ module _ (n c m cap N r : ℕ) (y : List Float) (j : ℕ) (hj : j < n) (hm : 1 �
         kept : (x : ℕ) → leafFor u c p (set ns i (absorbed c p v)) x ≡ leafFor u c p ns x
         kept x = routes-kept y c j i u ns (e .placed) (ok .node) whole (absorbed c p v) refl refl p x
 
-    ends : (w : Node) → w .first ≡ v .first → w .centre ≡ v .centre → w .count ≡ v .count + 1 → v .first ≡ 0 → ((o : ℕ) → w .leaf ≡ Occupied o → (o < j + 1) × (leafIn y c t o ≡ i)) → Placed y c (j + 1) (tree u (set ns i w))
+    ends : (w : Node) → w .first ≡ v .first → w .centre ≡ v .centre → w .count ≡ v .count + 1 → v .first ≡ 0 → ((o : ℕ) → w .leaf ≡ Occupied o → (o < j + 1) × (leafIn y c t o ≡ i)) → Lodged y c (j + 1) (tree u (set ns i w))
     ends w ef ez ec z wn = last-placed y c j i u ns (e .placed) (ok .node) whole w ef ez ec z (comes-here z) wn
 
     splits : (o : ℕ) → v .first ≡ 0 → v .leaf ≡ Occupied o → d < deepest → u + 2 ^ c ≤ length ns → Enters (u + childIndex c (v .centre) p) (levelled y c i (out (parent u (absorbed c p v)) (u + childIndex c (v .centre) p) (2 ^ c) o false) t)
@@ -287,33 +287,37 @@ module _ (n c m cap N r : ℕ) (y : List Float) (j : ℕ) (hj : j < n) (hm : 1 �
     unfolding absorbed
     enters = turn-cases c p j d u v Step
         (λ z _. (
-        (λ _. subst (Enters (v .first + childIndex c (v .centre) p)) (sym (level-plain y c i (absorbed c p v) (v .first + childIndex c (v .centre) p) j false t)) (inner z)),
-        λ x. absurd (true≢false (sym x))))
+          (λ _. subst (Enters (v .first + childIndex c (v .centre) p)) (sym (level-plain y c i (absorbed c p v) (v .first + childIndex c (v .centre) p) j false t)) (inner z)),
+          λ x. absurd (true≢false (sym x)),
+        ))
         (λ z q _. (
-        (λ x. absurd (true≢false x)),
-        λ _. subst (Placed y c (j + 1)) (sym (level-plain y c i (occupied j (absorbed c p v)) 0 j true t)) (ends (occupied j (absorbed c p v)) refl refl refl z (λ o w. subst (λ (x : ℕ). (x < j + 1) × (leafIn y c t x ≡ i)) (sym (word-same j o w)) (omega arith, comes-here z)))))
+          (λ x. absurd (true≢false x)),
+          λ _. subst (Lodged y c (j + 1)) (sym (level-plain y c i (occupied j (absorbed c p v)) 0 j true t)) (ends (occupied j (absorbed c p v)) refl refl refl z (λ o w. subst (λ (x : ℕ). (x < j + 1) × (leafIn y c t x ≡ i)) (sym (word-same j o w)) (omega arith, comes-here z))),
+        ))
         (λ o z q l _. (
-        (λ x. absurd (true≢false x)),
-        λ _. subst (Placed y c (j + 1)) (sym (level-plain y c i (absorbed c p v) 0 j true t)) (ends (absorbed c p v) refl refl refl z (λ o' w. let g = e .placed .named i o' (ok .node) z w in (omega (arith, g .0), g .1)))))
+          (λ x. absurd (true≢false x)),
+          λ _. subst (Lodged y c (j + 1)) (sym (level-plain y c i (absorbed c p v) 0 j true t)) (ends (absorbed c p v) refl refl refl z (λ o' w. let g = e .placed .named i o' (ok .node) z w in (omega (arith, g .0), g .1))),
+        ))
         (λ o z q l next. (
-        (λ x. splits o z q l (omega (arith, next x .room, ok .nodes))),
-        λ x. absurd (true≢false (sym x))))
+          (λ x. splits o z q l (omega (arith, next x .room, ok .nodes))),
+          λ x. absurd (true≢false (sym x)),
+        ))
 
-  places : (g d i : ℕ) (t : Tree) → g ≡ cap - d → Ok n c m cap N y p d i t → Comes c d i r t → Enters i t → Placed y c (j + 1) (inserted g y c p j d i t)
+  places : (g d i : ℕ) (t : Tree) → g ≡ cap - d → Ok n c m cap N y p d i t → Comes c d i r t → Enters i t → Lodged y c (j + 1) (inserted g y c p j d i t)
   places zero d i t z ok k e = absurd (none-left z (ok .deep) (ok .node) (ok .room))
     where
       none-left : {d i u : ℕ} → 0 ≡ cap - d → d ≤ i → i < u → u ≤ cap → ⊥
       none-left e a b c = omega (arith, e, a, b, c)
   places (suc g) d i t z ok k e =
       let next = ok-next n c m cap N y p j hj hm fit d i t ok in
-      by-bool (Placed y c (j + 1) (inserted (suc g) y c p j d i t)) (turnAt c p j d i t .last)
+      by-bool (Lodged y c (j + 1) (inserted (suc g) y c p j d i t)) (turnAt c p j d i t .last)
       (λ x. rw (inserted-last g y c p j d i t (turnAt c p j d i t) refl x) (enters d i t ok k e next .1 x))
       (λ x. rw (inserted-next g y c p j d i t (turnAt c p j d i t) refl x) (places g (d + 1) (turnAt c p j d i t .next) (levelAt y c p j d i t) (omega (arith, z)) (next x) (comes n c m cap N r y p j hj hm fit d i t ok k next .0 x) (enters d i t ok k e next .0 x)))
 
 -- ---- all of them, from the box on
 
 module _ (y : List Float) (n c : ℕ) where
-  one-more : (m j r : ℕ) (t : Tree) → j < n → 1 ≤ m → treeOk n m c t ≡ true → 0 < t .used → t .used ≤ length (t .nodes) → t .used + needed y c j t ≤ nameable (length (t .nodes)) → Settled c r t → Placed y c j t → Placed y c (j + 1) (insertOf y c j t .tree)
+  one-more : (m j r : ℕ) (t : Tree) → j < n → 1 ≤ m → treeOk n m c t ≡ true → 0 < t .used → t .used ≤ length (t .nodes) → t .used + needed y c j t ≤ nameable (length (t .nodes)) → Settled c r t → Lodged y c j t → Lodged y c (j + 1) (insertOf y c j t .tree)
   one-more m j r t hj hm ok some inside fit k e =
       rw (taken y c j t fit)
       (places n c m (length (t .nodes)) (t .used + needed y c j t) (r + 1) y j hj hm (omega (arith, fit, nameable-most (length (t .nodes)))) (length (t .nodes)) 0 0 t (less (length (t .nodes))) (ok-start n c m y (pointOf y c j) t ok some inside)
@@ -327,7 +331,7 @@ module _ (y : List Float) (n c : ℕ) where
   unfolding boxOf
   box-empty v rest = (refl, refl)
 
-  box-placed : (before : List Node) → 0 < length before → Placed y c 0 (boxed y n c before)
+  box-placed : (before : List Node) → 0 < length before → Lodged y c 0 (boxed y n c before)
   box-placed [] h = absurd (not-suc-le-zero h)
   box-placed (v ∷ rest) h = record {
     counts = λ k l z. box-count k l ∙ sym (sum-none (λ j. bit (eqb (leafIn y c (boxed y n c (v ∷ rest)) j) k)));
@@ -347,14 +351,14 @@ module _ (y : List Float) (n c : ℕ) where
     abbrev boxedTree : Tree
     boxedTree = boxed y n c before
 
-    pub built-placed : (i : ℕ) → i ≤ n → built y c i boxedTree .full ≡ false → Placed y c i (built y c i boxedTree .tree)
+    pub built-placed : (i : ℕ) → i ≤ n → built y c i boxedTree .full ≡ false → Lodged y c i (built y c i boxedTree .tree)
     unfolding built loop
     built-placed zero l e = box-placed before h
-    built-placed (suc i) l e = by-bool (Placed y c (suc i) (built y c (suc i) boxedTree .tree)) (built y c i boxedTree .full)
+    built-placed (suc i) l e = by-bool (Lodged y c (suc i) (built y c (suc i) boxedTree .tree)) (built y c i boxedTree .full)
         (λ f. absurd (true≢false (sym (built-full y c boxedTree i f) ∙ e)))
         (λ f. more f (built-placed i (omega arith) f))
       where
-        more : built y c i boxedTree .full ≡ false → Placed y c i (built y c i boxedTree .tree) → Placed y c (suc i) (built y c (suc i) boxedTree .tree)
+        more : built y c i boxedTree .full ≡ false → Lodged y c i (built y c i boxedTree .tree) → Lodged y c (suc i) (built y c (suc i) boxedTree .tree)
         more f s =
             let t = built y c i boxedTree .tree in
             let q : insertOf y c i t .full ≡ false = rw (built-more y c boxedTree i f) at e in

@@ -6,6 +6,7 @@
 --     angle-zero-sums-leaves      with an angle of zero the repulsion on a point is the sum over the leaves that count a point, apart from one that holds it alone
 --     leaves-once, leaves-all, leaves-only, leaves-add-up     that list has each of these leaves once and nothing else, and their counts add up to i
 --     one-parent, one-depth       every used node but the root is the child of exactly one used node, and every used node has one depth
+--     point-in-leaf, leaf-counts-points, leaf-holds-its-point     every point lies in the cell of one leaf; a leaf counts those of the first i that lie in its cell, and the one that it holds is one of them
 --     tree-worth                  all of this together
 use mathlib.Core.Path.{_≡_, refl, sym, ap, subst, _∙_}
 use mathlib.Core.Logic.{_⊎_, inl, inr}
@@ -19,16 +20,19 @@ use Rattle.laws.specs.Domain.{deepest}
 use Rattle.tree_node.specs.declared.Node.{Node}
 use Rattle.tree_node.specs.declared.Leaf.{Leaf}
 use Rattle.tree_node.specs.declared.Leaf.the-variants.{Empty, Occupied}
+use Rattle.tree_node.specs.Node.{pointOf}
 use Rattle.tree_node.specs.Arena.{nodeAt}
 use Rattle.tree_walk.specs.Repel.{repelled, nothing}
 use Rattle.tree.specs.Insert.{Tree, Insertion, insertion, built}
 use Rattle.tree.specs.Box.{boxed}
-use Rattle.tree_worth.specs.Worth.{childCounts, Deep, LeafCounts, EmptyLeaf, HoldsOne, HoldsSome, IsChild, timesIn, countsOf, leavesAdd, NoAngle, leavesIn, Worth}
+use Rattle.tree_worth.specs.Worth.{childCounts, Deep, LeafCounts, EmptyLeaf, HoldsOne, HoldsSome, IsChild, timesIn, countsOf, leavesAdd, NoAngle, leavesIn, leafIn, pointsOf, Worth}
 use Rattle.tree_worth.proofs.Tallies.{Tallied}
 use Rattle.tree_worth.proofs.Counts.{Accounted, built-stands}
 use Rattle.tree_worth.proofs.Ways.{tally-whole, way-deep, way-there, parent-there, parent-only}
 use Rattle.tree_worth.proofs.Leaves.{below-counts, below-only, below-once, below-all}
 use Rattle.tree_worth.proofs.Angle.{walk-adds}
+use Rattle.tree_worth.proofs.Routes.{route-ends}
+use Rattle.tree_worth.proofs.Points.{Lodged, built-placed}
 
 holds-some : (d n : ℕ) (v : Node) (l : Leaf) → v .leaf ≡ l → v .count ≡ n → LeafCounts d n l → EmptyLeaf v ⊎ HoldsSome v
 holds-some d n v Empty e f h = inl (e, f ∙ h)
@@ -84,7 +88,20 @@ module _ (y : List Float) (n c i : ℕ) (before : List Node) (nodes-some : 0 < l
   pub leaves-add-up : countsOf (t .nodes) (leavesIn c t) ≡ i
   leaves-add-up = below-counts c t tallied (worth-stands .some) (t .used) 0 (worth-stands .some) (omega arith) ∙ root-counts
 
-  pub tree-worth : Worth c i t
+  pub worth-placed : Lodged y c i t
+  worth-placed = subst (Lodged y c i) (sym (ap (λ (r : Insertion). r .tree) made)) (built-placed y n c before nodes-some i few (sym (ap (λ (r : Insertion). r .full) made)))
+
+  -- any point, be it in yet or not
+  pub point-in-leaf : (j : ℕ) → (leafIn y c t j < t .used) × (nodeAt (t .nodes) (leafIn y c t j) .first ≡ 0)
+  point-in-leaf j = route-ends c (pointOf y c j) (t .used) (t .nodes) (tallied .above) 0 (worth-stands .some)
+
+  pub leaf-counts-points : (k : ℕ) → k < t .used → nodeAt (t .nodes) k .first ≡ 0 → nodeAt (t .nodes) k .count ≡ pointsOf y c t i k
+  leaf-counts-points = worth-placed .counts
+
+  pub leaf-holds-its-point : (k o : ℕ) → k < t .used → nodeAt (t .nodes) k .first ≡ 0 → nodeAt (t .nodes) k .leaf ≡ Occupied o → (o < i) × (leafIn y c t o ≡ k)
+  leaf-holds-its-point = worth-placed .named
+
+  pub tree-worth : Worth y c i t
   tree-worth = record {
     root = root-counts;
     splits = split-counts;
@@ -95,6 +112,9 @@ module _ (y : List Float) (n c i : ℕ) (before : List Node) (nodes-some : 0 < l
     all = leaves-all;
     only = leaves-only;
     together = leaves-add-up;
+    point = point-in-leaf;
+    points = leaf-counts-points;
+    held = leaf-holds-its-point;
     parent = one-parent;
     depth = one-depth;
   }

@@ -123,8 +123,8 @@ NoAngle a = (a ≡ zero64) ⊎ (a ≡ bits 0x8000000000000000)
 abbrev pub leavesIn : ℕ → Tree → List ℕ
 leavesIn c t = leavesOf (t .used) c (t .nodes) 0
 
--- a tree in c components that i points went into
-pub record Worth (c i : ℕ) (t : Tree) : Type 0 where
+-- a tree in c components that the first i points of y went into
+pub record Worth (y : List Float) (c i : ℕ) (t : Tree) : Type 0 where
   -- the root counts them all
   pub root : nodeAt (t .nodes) 0 .count ≡ i
   -- a node with children counts what they count
@@ -140,6 +140,10 @@ pub record Worth (c i : ℕ) (t : Tree) : Type 0 where
   pub all : (k : ℕ) → k < t .used → nodeAt (t .nodes) k .first ≡ 0 → (nodeAt (t .nodes) k .count ≡ 0 → ⊥) → timesIn k (leavesIn c t) ≡ 1
   pub only : (k : ℕ) → 0 < timesIn k (leavesIn c t) → (k < t .used) × (nodeAt (t .nodes) k .first ≡ 0) × (nodeAt (t .nodes) k .count ≡ 0 → ⊥)
   pub together : countsOf (t .nodes) (leavesIn c t) ≡ i
+  -- every point lies in the cell of a used leaf; a leaf counts those of the first i that lie in its cell, and the one that it holds is one of them
+  pub point : (j : ℕ) → (leafIn y c t j < t .used) × (nodeAt (t .nodes) (leafIn y c t j) .first ≡ 0)
+  pub points : (k : ℕ) → k < t .used → nodeAt (t .nodes) k .first ≡ 0 → nodeAt (t .nodes) k .count ≡ pointsOf y c t i k
+  pub held : (k o : ℕ) → k < t .used → nodeAt (t .nodes) k .first ≡ 0 → nodeAt (t .nodes) k .leaf ≡ Occupied o → (o < i) × (leafIn y c t o ≡ k)
   -- every used node but the root has one parent, and every used node one depth
   pub parent : (k : ℕ) → 0 < k → k < t .used → (p : ℕ) × (p < t .used) × IsChild c (t .nodes) p k × ((q : ℕ) → q < t .used → IsChild c (t .nodes) q k → q ≡ p)
   pub depth : (k : ℕ) → k < t .used → (d : ℕ) × Deep c (t .nodes) d k × ((e : ℕ) → Deep c (t .nodes) e k → e ≡ d)

@@ -39,7 +39,9 @@ fn ask(both: &Both, met: &mut Met) {
     }
     let nodes: Vec<Node> = both.areas.nodes.iter().map(other_node).collect();
     let tree = Tree::new(&nodes, used, c);
-    assert_eq!(tree.holds((phase - 1).min(n)), Ok(()));
+    let points = (phase - 1).min(n);
+    assert_eq!(tree.holds(points), Ok(()));
+    assert_eq!(tree.places(&both.areas.positions, points), Ok(()));
     met.arenas += 1;
     met.crowded += tree.leaves().iter().filter(|&&k| nodes[k].count > 1).count();
     for q in 0..phase.saturating_sub(n + 1) {
