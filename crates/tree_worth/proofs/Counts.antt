@@ -66,7 +66,7 @@ deep-says d n l o e h = rw e (omega arith, λ x. absurd (apart x h))
 empty-says : (d n : ℕ) (l : Leaf) (j : ℕ) → l ≡ Empty → LeafCounts d n l → LeafCounts d (n + 1) (Occupied j)
 empty-says d n l j e h = let z : n ≡ 0 = rw e at h in rw z (omega arith, λ _. refl)
 
-one-held : (d n : ℕ) (l : Leaf) (o : ℕ) → l ≡ Occupied o → d < deepest → LeafCounts d n l → n ≡ 1
+pub one-held : (d n : ℕ) (l : Leaf) (o : ℕ) → l ≡ Occupied o → d < deepest → LeafCounts d n l → n ≡ 1
 one-held d n l o e lt h = let k : (0 < n) × (d < deepest → n ≡ 1) = rw e at h in k .1 lt
 
 module _ (n c m cap N r : ℕ) (y p : List Float) (j : ℕ) (hj : j < n) (hm : 1 ≤ m) (fit : N ≤ cap) where
@@ -121,21 +121,25 @@ module _ (n c m cap N r : ℕ) (y p : List Float) (j : ℕ) (hj : j < n) (hm : 1
         apart : t .used + childIndex c (v .centre) p ≡ 0 → ⊥
         apart q = omega (arith, q, ok .node)
 
-    comes : Goal (turnAt c p j d i t)
+    pub comes : Goal (turnAt c p j d i t)
     unfolding absorbed
     comes = turn-cases c p j d (t .used) v Goal
         (λ z _. (
-        (λ _. subst (Comes c (d + 1) (v .first + childIndex c (v .centre) p) r) (sym (level-plain y c i (absorbed c p v) (v .first + childIndex c (v .centre) p) j false t)) (inner z)),
-        λ e. absurd (true≢false (sym e))))
+          (λ _. subst (Comes c (d + 1) (v .first + childIndex c (v .centre) p) r) (sym (level-plain y c i (absorbed c p v) (v .first + childIndex c (v .centre) p) j false t)) (inner z)),
+          λ e. absurd (true≢false (sym e)),
+        ))
         (λ z e _. (
-        (λ x. absurd (true≢false x)),
-        λ _. subst (Settled c r) (sym (level-plain y c i (occupied j (absorbed c p v)) 0 j true t)) (ends (occupied j (absorbed c p v)) refl refl z (empty-says d (v .count) (v .leaf) j e (says z)))))
+          (λ x. absurd (true≢false x)),
+          λ _. subst (Settled c r) (sym (level-plain y c i (occupied j (absorbed c p v)) 0 j true t)) (ends (occupied j (absorbed c p v)) refl refl z (empty-says d (v .count) (v .leaf) j e (says z))),
+        ))
         (λ o z e l _. (
-        (λ x. absurd (true≢false x)),
-        λ _. subst (Settled c r) (sym (level-plain y c i (absorbed c p v) 0 j true t)) (ends (absorbed c p v) refl refl z (deep-says d (v .count) (v .leaf) o e l))))
+          (λ x. absurd (true≢false x)),
+          λ _. subst (Settled c r) (sym (level-plain y c i (absorbed c p v) 0 j true t)) (ends (absorbed c p v) refl refl z (deep-says d (v .count) (v .leaf) o e l)),
+        ))
         (λ o z e l next. (
-        (λ x. split o z e l (omega (arith, next x .room, ok .nodes))),
-        λ x. absurd (true≢false (sym x))))
+          (λ x. split o z e l (omega (arith, next x .room, ok .nodes))),
+          λ x. absurd (true≢false (sym x)),
+        ))
 
   -- the whole descent
   descends : (g d i : ℕ) (t : Tree) → g ≡ cap - d → Ok n c m cap N y p d i t → Comes c d i r t → Settled c r (inserted g y c p j d i t)
@@ -160,7 +164,7 @@ insert-settles y n c m j r t hj hm ok some inside fit k =
 
 -- ---- all of them, from the box on
 
-pub record Stands (n c i : ℕ) (t : Tree) : Type 0 where
+pub record Accounted (n c i : ℕ) (t : Tree) : Type 0 where
   pub some : 0 < t .used
   pub within : t .used ≤ length (t .nodes)
   pub tree : treeOk n (i + 1) c t ≡ true
@@ -191,7 +195,7 @@ module _ (y : List Float) (n c : ℕ) where
   unfolding boxOf
   box-count v rest = refl
 
-  box-stands : (before : List Node) → 0 < length before → Stands n c 0 (boxed y n c before)
+  box-stands : (before : List Node) → 0 < length before → Accounted n c 0 (boxed y n c before)
   box-stands [] h = absurd (not-suc-le-zero h)
   box-stands (v ∷ rest) h = record {
     some = omega arith;
@@ -221,14 +225,14 @@ module _ (y : List Float) (n c : ℕ) where
     boxedTree = boxed y n c before
 
     -- none was refused: so all of this holds after i of them
-    pub built-stands : (i : ℕ) → i ≤ n → built y c i boxedTree .full ≡ false → Stands n c i (built y c i boxedTree .tree)
+    pub built-stands : (i : ℕ) → i ≤ n → built y c i boxedTree .full ≡ false → Accounted n c i (built y c i boxedTree .tree)
     unfolding built loop
     built-stands zero l e = box-stands before h
-    built-stands (suc i) l e = by-bool (Stands n c (suc i) (built y c (suc i) boxedTree .tree)) (built y c i boxedTree .full)
+    built-stands (suc i) l e = by-bool (Accounted n c (suc i) (built y c (suc i) boxedTree .tree)) (built y c i boxedTree .full)
         (λ f. absurd (true≢false (sym (built-full y c boxedTree i f) ∙ e)))
         (λ f. more f (built-stands i (omega arith) f))
       where
-        more : built y c i boxedTree .full ≡ false → Stands n c i (built y c i boxedTree .tree) → Stands n c (suc i) (built y c (suc i) boxedTree .tree)
+        more : built y c i boxedTree .full ≡ false → Accounted n c i (built y c i boxedTree .tree) → Accounted n c (suc i) (built y c (suc i) boxedTree .tree)
         more f s =
             let t = built y c i boxedTree .tree in
             let q : insertOf y c i t .full ≡ false = rw (built-more y c boxedTree i f) at e in

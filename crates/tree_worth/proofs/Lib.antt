@@ -5,4 +5,6 @@ pub mod Ways
 pub mod Leaves
 pub mod Zero
 pub mod Angle
+pub mod Routes
+pub mod Points
 pub mod Theorems

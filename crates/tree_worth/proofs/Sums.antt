@@ -56,3 +56,24 @@ sum-one-only f (suc n) h o = elim (ℕ-discrete (f n) 0) [
   where
     apart : (b : ℕ) → b < n → b ≡ n → ⊥
     apart b l e = omega (arith, l, e)
+
+-- one term alone counts
+pub sum-at : (f : ℕ → ℕ) (n k : ℕ) → k < n → ((b : ℕ) → b < n → (b ≡ k → ⊥) → f b ≡ 0) → sum f n ≡ f k
+unfolding sum
+sum-at f zero k l h = absurd (not-suc-le-zero l)
+sum-at f (suc n) k l h = elim (ℕ-discrete k n) [
+  | yes x ↦
+      let r : sum f n ≡ 0 = sum-same f (λ _. 0) n (λ b lb. h b (omega arith) (λ z. omega (arith, z, x, lb))) ∙ sum-const 0 n ∙ mul-zero n in
+      let e : f n ≡ f k = ap f (sym x) in
+      omega (arith, r, e)
+  | no x ↦ omega (arith, h n (omega arith) (λ z. x (sym z)), sum-at f n k (omega (arith, x, l)) (λ b lb. h b (omega arith)))
+]
+
+-- two terms that count are two at least
+pub sum-two : (f : ℕ → ℕ) (n a b : ℕ) → a < b → b < n → 0 < f a → 0 < f b → 2 ≤ sum f n
+unfolding sum
+sum-two f zero a b l h x y = absurd (not-suc-le-zero h)
+sum-two f (suc n) a b l h x y = elim (ℕ-discrete b n) [
+  | yes z ↦ (let e : f b ≡ f n = ap f z in omega (arith, e, x, y, term-le f n a (omega (arith, l, z))))
+  | no z ↦ omega (arith, sum-two f n a b l (omega (arith, h, z)) x y)
+]

@@ -171,24 +171,24 @@ module _ (c d i u : ℕ) (ns : List Node) (k : Tallied c d i (tree u ns)) (li : 
     abbrev new : List Node
     new = subdivided c a o q (2 ^ c) (set ns i a)
 
-    new-here : nodeAt new i ≡ a
+    pub new-here : nodeAt new i ≡ a
     new-here = filled-out c a o q (2 ^ c) (set ns i a) i (λ s t. omega (arith, s, li)) ∙ getD-set-same ns i a blank (omega (arith, li, room))
 
-    new-old : (x : ℕ) → x < u → (x ≡ i → ⊥) → nodeAt new x ≡ nodeAt ns x
+    pub new-old : (x : ℕ) → x < u → (x ≡ i → ⊥) → nodeAt new x ≡ nodeAt ns x
     new-old x lx n = filled-out c a o q (2 ^ c) (set ns i a) x (λ s t. omega (arith, s, lx)) ∙ getD-set-other ns i x a blank n
 
-    new-child : (b : ℕ) → b < 2 ^ c → nodeAt new (u + b) ≡ childOf c a o q b
+    pub new-child : (b : ℕ) → b < 2 ^ c → nodeAt new (u + b) ≡ childOf c a o q b
     new-child b lb = filled-in c a o q (2 ^ c) (set ns i a) b lb (omega (arith, lb, space, length-set ns i a))
 
-    child-first : (b : ℕ) → childOf c a o q b .first ≡ 0
+    pub child-first : (b : ℕ) → childOf c a o q b .first ≡ 0
     unfolding childOf absorbed
     child-first b = elim (ℕ-discrete b (childIndex c (a .centre) q)) [ yes e ↦ rw (eq-eqb b (childIndex c (a .centre) q) e) | no n ↦ rw (ne-eqb b (childIndex c (a .centre) q) n) ]
 
-    child-count : childOf c a o q (childIndex c (a .centre) q) .count ≡ 1
+    pub child-count : childOf c a o q (childIndex c (a .centre) q) .count ≡ 1
     unfolding childOf absorbed
     child-count = rw (eq-eqb (childIndex c (a .centre) q) (childIndex c (a .centre) q) refl)
 
-    child-empty : (b : ℕ) → (b ≡ childIndex c (a .centre) q → ⊥) → childOf c a o q b .count ≡ 0
+    pub child-empty : (b : ℕ) → (b ≡ childIndex c (a .centre) q → ⊥) → childOf c a o q b .count ≡ 0
     unfolding childOf absorbed
     child-empty b n = rw (ne-eqb b (childIndex c (a .centre) q) n)
 
@@ -239,14 +239,14 @@ module _ (c d i u : ℕ) (ns : List Node) (k : Tallied c d i (tree u ns)) (li : 
           | no h ↦ (let e : u + (x - u) ≡ x = omega (arith, h) in subst P e (pn (x - u) (omega (arith, h, l))))
         ]
 
-    first-i : nodeAt new i .first ≡ u
+    pub first-i : nodeAt new i .first ≡ u
     unfolding absorbed
     first-i = ap (λ (y : Node). y .first) new-here
 
     first-old : (x : ℕ) → x < u → (x ≡ i → ⊥) → nodeAt new x .first ≡ nodeAt ns x .first
     first-old x l n = ap (λ (y : Node). y .first) (new-old x l n)
 
-    first-new : (b : ℕ) → b < 2 ^ c → nodeAt new (u + b) .first ≡ 0
+    pub first-new : (b : ℕ) → b < 2 ^ c → nodeAt new (u + b) .first ≡ 0
     first-new b l = ap (λ (y : Node). y .first) (new-child b l) ∙ child-first b
 
     -- node i had no children, so it was nobody's parent

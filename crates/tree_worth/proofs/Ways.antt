@@ -9,7 +9,7 @@ use native.Mathlib.Nat.{not-suc-le-zero, add-zero}
 use Rattle.tree_node.specs.declared.Node.{Node}
 use Rattle.tree_node.specs.Arena.{nodeAt}
 use Rattle.tree.specs.Insert.{Tree}
-use Rattle.tree_worth.specs.Worth.{childCounts, Deep, ChildOf}
+use Rattle.tree_worth.specs.Worth.{childCounts, Deep, IsChild}
 use Rattle.tree_worth.proofs.Tallies.{Tallied, owed-out}
 
 module _ (c : ℕ) (t : Tree) (k : Tallied c 0 0 t) (some : 0 < t .used) where
@@ -42,10 +42,10 @@ module _ (c : ℕ) (t : Tree) (k : Tallied c 0 0 t) (some : 0 < t .used) where
   pub way-there : (x : ℕ) → x < t .used → (d : ℕ) × Deep c ns d x
   way-there x u = way-up (suc x) x (omega arith) u
 
-  pub parent-there : (x : ℕ) → 0 < x → x < t .used → (p : ℕ) × (p < t .used) × ChildOf c ns p x
+  pub parent-there : (x : ℕ) → 0 < x → x < t .used → (p : ℕ) × (p < t .used) × IsChild c ns p x
   parent-there x h u = let g = k .has-parent x h u in (k .up x, omega (arith, g .0, u), (g .1, g .2, g .3))
 
-  pub parent-only : (x p q : ℕ) → p < t .used → q < t .used → ChildOf c ns p x → ChildOf c ns q x → p ≡ q
+  pub parent-only : (x p q : ℕ) → p < t .used → q < t .used → IsChild c ns p x → IsChild c ns q x → p ≡ q
   parent-only x p q lp lq (zp, ap', bp) (zq, aq, bq) = sym (up-is p lp zp ap' bp) ∙ up-is q lq zq aq bq
     where
       up-is : (p : ℕ) → p < t .used → (nodeAt ns p .first ≡ 0 → ⊥) → nodeAt ns p .first ≤ x → x < nodeAt ns p .first + 2 ^ c → k .up x ≡ p

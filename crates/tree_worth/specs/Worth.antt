@@ -8,12 +8,14 @@ use lib.Dec.{eqb}
 use lib.Ieee.{Float, binary64, mul}
 use Rattle.laws.specs.Area.{bits, zero64}
 use Rattle.laws.specs.Domain.{deepest}
-use Rattle.laws.specs.Sums.{sum}
+use Rattle.laws.specs.Sums.{sum, bit}
 use Rattle.laws.specs.Joined.{joined}
 use Rattle.tree_node.specs.declared.Node.{Node}
 use Rattle.tree_node.specs.declared.Leaf.{Leaf}
 use Rattle.tree_node.specs.declared.Leaf.the-variants.{Empty, Occupied}
+use Rattle.tree_node.specs.Node.{pointOf}
 use Rattle.tree_node.specs.Arena.{nodeAt}
+use Rattle.tree_children.specs.Children.{childIndex}
 use Rattle.tree_bodies.specs.declared.Acc.{Acc}
 use Rattle.tree_bodies.specs.Bodies.{bodyOf}
 use Rattle.tree_walk.specs.Repel.{repelled, nothing}
@@ -36,8 +38,8 @@ Deep c ns zero i = i ≡ 0
 Deep c ns (suc d) i = (k : ℕ) × (b : ℕ) × (nodeAt ns k .first ≡ 0 → ⊥) × (b < 2 ^ c) × (i ≡ nodeAt ns k .first + b) × Deep c ns d k
 
 -- node x is one of the children of node p
-abbrev pub ChildOf : ℕ → List Node → ℕ → ℕ → Type 0
-ChildOf c ns p x = (nodeAt ns p .first ≡ 0 → ⊥) × (nodeAt ns p .first ≤ x) × (x < nodeAt ns p .first + 2 ^ c)
+abbrev pub IsChild : ℕ → List Node → ℕ → ℕ → Type 0
+IsChild c ns p x = (nodeAt ns p .first ≡ 0 → ⊥) × (nodeAt ns p .first ≤ x) × (x < nodeAt ns p .first + 2 ^ c)
 
 -- ---- what a leaf holds: nothing, and counts none; one point, and counts it; its first point, and counts some
 
@@ -65,6 +67,24 @@ leavesOf (suc g) c ns i =
       | true ↦ cond (eqb (nodeAt ns i .count) 0) [] (i ∷ [])
       | false ↦ joined (λ b. leavesOf g c ns (nodeAt ns i .first + b)) (2 ^ c)
     ]
+
+-- the leaf that a point with coordinates p comes to from node i: at each node that has children, on to the child whose cell it lies in; at most g levels
+unfoldable pub leafFor : ℕ → ℕ → List Float → List Node → ℕ → ℕ
+unfolding childIndex
+leafFor zero c p ns i = i
+leafFor (suc g) c p ns i =
+    elim (eqb (nodeAt ns i .first) 0) [
+      | true ↦ i
+      | false ↦ leafFor g c p ns (nodeAt ns i .first + childIndex c (nodeAt ns i .centre) p)
+    ]
+
+-- the leaf in whose cell point j lies
+abbrev pub leafIn : List Float → ℕ → Tree → ℕ → ℕ
+leafIn y c t j = leafFor (t .used) c (pointOf y c j) (t .nodes) 0
+
+-- how many of the first i points lie in the cell of leaf k
+abbrev pub pointsOf : List Float → ℕ → Tree → ℕ → ℕ → ℕ
+pointsOf y c t i k = sum (λ j. bit (eqb (leafIn y c t j) k)) i
 
 -- how often a number stands in a list
 unfoldable pub timesIn : ℕ → List ℕ → ℕ
@@ -103,8 +123,8 @@ NoAngle a = (a ≡ zero64) ⊎ (a ≡ bits 0x8000000000000000)
 abbrev pub leavesIn : ℕ → Tree → List ℕ
 leavesIn c t = leavesOf (t .used) c (t .nodes) 0
 
--- a tree in c components that i points went into
-pub record Worth (c i : ℕ) (t : Tree) : Type 0 where
+-- a tree in c components that the first i points of y went into
+pub record Worth (y : List Float) (c i : ℕ) (t : Tree) : Type 0 where
   -- the root counts them all
   pub root : nodeAt (t .nodes) 0 .count ≡ i
   -- a node with children counts what they count
@@ -120,6 +140,10 @@ pub record Worth (c i : ℕ) (t : Tree) : Type 0 where
   pub all : (k : ℕ) → k < t .used → nodeAt (t .nodes) k .first ≡ 0 → (nodeAt (t .nodes) k .count ≡ 0 → ⊥) → timesIn k (leavesIn c t) ≡ 1
   pub only : (k : ℕ) → 0 < timesIn k (leavesIn c t) → (k < t .used) × (nodeAt (t .nodes) k .first ≡ 0) × (nodeAt (t .nodes) k .count ≡ 0 → ⊥)
   pub together : countsOf (t .nodes) (leavesIn c t) ≡ i
+  -- every point lies in the cell of a used leaf; a leaf counts those of the first i that lie in its cell, and the one that it holds is one of them
+  pub point : (j : ℕ) → (leafIn y c t j < t .used) × (nodeAt (t .nodes) (leafIn y c t j) .first ≡ 0)
+  pub points : (k : ℕ) → k < t .used → nodeAt (t .nodes) k .first ≡ 0 → nodeAt (t .nodes) k .count ≡ pointsOf y c t i k
+  pub held : (k o : ℕ) → k < t .used → nodeAt (t .nodes) k .first ≡ 0 → nodeAt (t .nodes) k .leaf ≡ Occupied o → (o < i) × (leafIn y c t o ≡ k)
   -- every used node but the root has one parent, and every used node one depth
-  pub parent : (k : ℕ) → 0 < k → k < t .used → (p : ℕ) × (p < t .used) × ChildOf c (t .nodes) p k × ((q : ℕ) → q < t .used → ChildOf c (t .nodes) q k → q ≡ p)
+  pub parent : (k : ℕ) → 0 < k → k < t .used → (p : ℕ) × (p < t .used) × IsChild c (t .nodes) p k × ((q : ℕ) → q < t .used → IsChild c (t .nodes) q k → q ≡ p)
   pub depth : (k : ℕ) → k < t .used → (d : ℕ) × Deep c (t .nodes) d k × ((e : ℕ) → Deep c (t .nodes) e k → e ≡ d)

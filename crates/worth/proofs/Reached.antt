@@ -30,9 +30,9 @@ use Rattle.descent.proofs.Framed.{work-frames}
 use Rattle.prepare.specs.declared.Prepared.the-variants.{Ready, Refused}
 use Rattle.prepare.specs.Prepare.{Lent, lengthsOf, prepareFault, prepared, freshRun}
 use Rattle.prepare.proofs.Begins.{begunState, preparation-honest}
-use Rattle.tree_worth.specs.Worth.{leavesAdd, leavesIn, NoAngle, Worth}
+use Rattle.tree_worth.specs.Worth.{leavesAdd, leavesIn, NoAngle}
 use Rattle.tree_worth.proofs.Theorems.{tree-worth}
-use Rattle.worth.specs.Insertions.{insertionsIn, Inside, treeIn}
+use Rattle.worth.specs.Insertions.{insertionsIn, Midway, treeIn, TreeWorth}
 
 -- the phase is what the total leaves
 module _ (s : State) (g : Good s) (tree : isTree (s .run .settings .method) ≡ true) where
@@ -52,18 +52,18 @@ module _ (s : State) (g : Good s) (tree : isTree (s .run .settings .method) ≡ 
 
 -- ---- an honest state between box and finish
 
-module _ (s : State) (h : Honest s) (tree : isTree (s .run .settings .method) ≡ true) (inside : Inside (s .run .settings .n) (s .run .units)) where
+module _ (s : State) (h : Honest s) (tree : isTree (s .run .settings .method) ≡ true) (inside : Midway (s .run .settings .n) (s .run .units)) where
   abbrev left : s .run .units % (2 * s .run .settings .n + 2) ≡ s .run .phase
   left = phase-left s (h .good) tree
 
   points-are : pointsIn (s .run) ≡ insertionsIn (s .run .settings .n) (s .run .units)
   points-are = ap (λ (x : ℕ). min (x - 1) (s .run .settings .n)) (sym left)
 
-  pub honest-worth : Worth (s .run .settings .c) (insertionsIn (s .run .settings .n) (s .run .units)) (treeIn s)
+  pub honest-worth : TreeWorth (s .run .settings .c) (insertionsIn (s .run .settings .n) (s .run .units)) s
   honest-worth =
       let b = h .grown tree (λ z. inside (left ∙ z)) in
       let y = s .memory .positions in
-      subst (λ (i : ℕ). Worth (s .run .settings .c) i (treeIn s)) points-are
+      subst (λ (i : ℕ). TreeWorth (s .run .settings .c) i s) points-are
       (tree-worth y (s .run .settings .n) (s .run .settings .c) (pointsIn (s .run)) (b .before) (b .some) (min-le-right (s .run .phase - 1) (s .run .settings .n)) (treeIn s) (b .same))
 
   -- the forces unit of point q, whatever the lists and the forces area hold
@@ -89,13 +89,13 @@ module _ (s : State) (h : Honest s) (tree : isTree (s .run .settings .method) �
   abbrev done : ℕ
   done = s .run .units + toldAll bs s
 
-  pub works-worth : Inside (s .run .settings .n) done → Worth (s .run .settings .c) (insertionsIn (s .run .settings .n) done) (treeIn (works bs s))
+  pub works-worth : Midway (s .run .settings .n) done → TreeWorth (s .run .settings .c) (insertionsIn (s .run .settings .n) done) (works bs s)
   works-worth inside =
       let t = works bs s in
       let e = works-settings bs s h in
       let u : t .run .units ≡ done = after-each bs s .total in
-      let w : Worth (t .run .settings .c) (insertionsIn (t .run .settings .n) (t .run .units)) (treeIn t) = honest-worth t (stays-honest bs s h) (ap (λ (x : Settings). isTree (x .method)) e ∙ tree) (λ z. inside (ap (λ (x : Settings). done % (2 * x .n + 2)) (sym e) ∙ ap (λ (x : ℕ). x % (2 * t .run .settings .n + 2)) (sym u) ∙ z)) in
-      subst (λ (x : Settings). Worth (x .c) (insertionsIn (x .n) done) (treeIn t)) e (subst (λ (x : ℕ). Worth (t .run .settings .c) (insertionsIn (t .run .settings .n) x) (treeIn t)) u w)
+      let w : TreeWorth (t .run .settings .c) (insertionsIn (t .run .settings .n) (t .run .units)) t = honest-worth t (stays-honest bs s h) (ap (λ (x : Settings). isTree (x .method)) e ∙ tree) (λ z. inside (ap (λ (x : Settings). done % (2 * x .n + 2)) (sym e) ∙ ap (λ (x : ℕ). x % (2 * t .run .settings .n + 2)) (sym u) ∙ z)) in
+      subst (λ (x : Settings). TreeWorth (x .c) (insertionsIn (x .n) done) t) e (subst (λ (x : ℕ). TreeWorth (t .run .settings .c) (insertionsIn (t .run .settings .n) x) t) u w)
 
 -- ---- from preparation on: the answers tell all units
 
@@ -119,11 +119,11 @@ module _ (s : Settings) (table start : List Float) (cs : List Cell) (l : Lent) (
   unfolding freshRun
   fresh-units = ap (λ (x : Run). x .units) fresh-is
 
-  pub begun-worth : (bs : List ℕ) → isTree (s .method) ≡ true → Inside (s .n) (toldAll bs begun) → Worth (s .c) (insertionsIn (s .n) (toldAll bs begun)) (treeIn (works bs begun))
+  pub begun-worth : (bs : List ℕ) → isTree (s .method) ≡ true → Midway (s .n) (toldAll bs begun) → TreeWorth (s .c) (insertionsIn (s .n) (toldAll bs begun)) (works bs begun)
   begun-worth bs tree =
       let told = toldAll bs begun in
-      let t = treeIn (works bs begun) in
+      let t = works bs begun in
       let u : begun .run .units + told ≡ told = ap (λ (x : ℕ). x + told) fresh-units ∙ zero-add told in
-      let w : Inside (run .settings .n) (begun .run .units + told) → Worth (run .settings .c) (insertionsIn (run .settings .n) (begun .run .units + told)) t = works-worth begun (preparation-honest s table start cs l run ready) (ap (λ (x : Settings). isTree (x .method)) fresh-settings ∙ tree) bs in
-      subst (λ (x : Settings). Inside (x .n) told → Worth (x .c) (insertionsIn (x .n) told) t) fresh-settings
-      (subst (λ (x : ℕ). Inside (run .settings .n) x → Worth (run .settings .c) (insertionsIn (run .settings .n) x) t) u w)
+      let w : Midway (run .settings .n) (begun .run .units + told) → TreeWorth (run .settings .c) (insertionsIn (run .settings .n) (begun .run .units + told)) t = works-worth begun (preparation-honest s table start cs l run ready) (ap (λ (x : Settings). isTree (x .method)) fresh-settings ∙ tree) bs in
+      subst (λ (x : Settings). Midway (x .n) told → TreeWorth (x .c) (insertionsIn (x .n) told) t) fresh-settings
+      (subst (λ (x : ℕ). Midway (run .settings .n) x → TreeWorth (run .settings .c) (insertionsIn (run .settings .n) x) t) u w)

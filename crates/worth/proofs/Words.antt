@@ -29,8 +29,7 @@ use Rattle.desk_prepare.specs.HostPrepare.{hostPrepare}
 use Rattle.desk_work.specs.HostWork.{HostWorked}
 use Rattle.desk_demands.specs.HostCalls.{hostState, hostWorks, hostTold}
 use Rattle.desk_demands.proofs.Theorems.{Readable, works-state, told-is, hostBegun, begun-readable, host-begun-honest, begun-fresh}
-use Rattle.tree_worth.specs.Worth.{Worth}
-use Rattle.worth.specs.Insertions.{insertionsIn, Inside, treeIn}
+use Rattle.worth.specs.Insertions.{insertionsIn, Midway, TreeWorth}
 use Rattle.worth.proofs.Reached.{works-worth}
 
 module _ (h : HostWorked) (g : Readable h) (honest : Honest (hostState h)) (tree : isTree (hostState h .run .settings .method) ≡ true) (bs : List ℕ) where
@@ -40,23 +39,23 @@ module _ (h : HostWorked) (g : Readable h) (honest : Honest (hostState h)) (tree
   abbrev done : ℕ
   done = hostState h .run .units + hostTold bs h
 
-  pub host-worth : Inside (S .n) done → Worth (S .c) (insertionsIn (S .n) done) (treeIn (hostState (hostWorks bs h)))
-  host-worth = subst (λ (t : State). Inside (S .n) done → Worth (S .c) (insertionsIn (S .n) done) (treeIn t)) (sym (works-state bs h g))
-      (subst (λ (x : ℕ). Inside (S .n) (hostState h .run .units + x) → Worth (S .c) (insertionsIn (S .n) (hostState h .run .units + x)) (treeIn (works bs (hostState h)))) (sym (told-is bs h g)) (works-worth (hostState h) honest tree bs))
+  pub host-worth : Midway (S .n) done → TreeWorth (S .c) (insertionsIn (S .n) done) (hostState (hostWorks bs h))
+  host-worth = subst (λ (t : State). Midway (S .n) done → TreeWorth (S .c) (insertionsIn (S .n) done) t) (sym (works-state bs h g))
+      (subst (λ (x : ℕ). Midway (S .n) (hostState h .run .units + x) → TreeWorth (S .c) (insertionsIn (S .n) (hostState h .run .units + x)) (works bs (hostState h))) (sym (told-is bs h g)) (works-worth (hostState h) honest tree bs))
 
 module _ (s : List ℕ) (table start : List Float) (cs : List Cell) (l : Lent) (w : List ℕ) (ready : hostPrepare s table start (length cs) l w .number ≡ 0) (a : List ℕ) (room : 5 ≤ length a) where
   abbrev begun : HostWorked
   begun = hostBegun s table start cs l w ready a room
 
-  pub host-begun-worth : (bs : List ℕ) → isTree (settingsOf s .method) ≡ true → Inside (settingsOf s .n) (hostTold bs begun) → Worth (settingsOf s .c) (insertionsIn (settingsOf s .n) (hostTold bs begun)) (treeIn (hostState (hostWorks bs begun)))
+  pub host-begun-worth : (bs : List ℕ) → isTree (settingsOf s .method) ≡ true → Midway (settingsOf s .n) (hostTold bs begun) → TreeWorth (settingsOf s .c) (insertionsIn (settingsOf s .n) (hostTold bs begun)) (hostState (hostWorks bs begun))
   unfolding freshRun
   host-begun-worth bs tree =
       let f : hostState begun .run ≡ freshRun (settingsOf s) = begun-fresh s table start cs l w ready a room in
       let S : hostState begun .run .settings ≡ settingsOf s = ap (λ (r : Run). r .settings) f in
       let u : hostState begun .run .units + hostTold bs begun ≡ hostTold bs begun = ap (λ (r : Run). r .units + hostTold bs begun) f ∙ zero-add (hostTold bs begun) in
       let w = host-worth begun (begun-readable s table start cs l w ready a room) (host-begun-honest s table start cs l w ready a room) (ap (λ (x : Settings). isTree (x .method)) S ∙ tree) bs in
-      subst (λ (x : Settings). Inside (x .n) (hostTold bs begun) → Worth (x .c) (insertionsIn (x .n) (hostTold bs begun)) (treeIn (hostState (hostWorks bs begun)))) S
-      (subst (λ (x : ℕ). Inside (hostState begun .run .settings .n) x → Worth (hostState begun .run .settings .c) (insertionsIn (hostState begun .run .settings .n) x) (treeIn (hostState (hostWorks bs begun)))) u w)
+      subst (λ (x : Settings). Midway (x .n) (hostTold bs begun) → TreeWorth (x .c) (insertionsIn (x .n) (hostTold bs begun)) (hostState (hostWorks bs begun))) S
+      (subst (λ (x : ℕ). Midway (hostState begun .run .settings .n) x → TreeWorth (hostState begun .run .settings .c) (insertionsIn (hostState begun .run .settings .n) x) (hostState (hostWorks bs begun))) u w)
 
 -- ---- a run that was read
 
@@ -64,6 +63,6 @@ module _ (f : List ℕ) (d : Stored) (F : List Float) (nodes k : ℕ) (answer : 
   abbrev readState : State
   readState = stateIn (unparkOf f d F nodes .left) (unparkOf f d F nodes .forces) ns
 
-  pub read-worth : (bs : List ℕ) → isTree (readState .run .settings .method) ≡ true → Inside (readState .run .settings .n) (readState .run .units + toldAll bs readState)
-      → Worth (readState .run .settings .c) (insertionsIn (readState .run .settings .n) (readState .run .units + toldAll bs readState)) (treeIn (works bs readState))
+  pub read-worth : (bs : List ℕ) → isTree (readState .run .settings .method) ≡ true → Midway (readState .run .settings .n) (readState .run .units + toldAll bs readState)
+      → TreeWorth (readState .run .settings .c) (insertionsIn (readState .run .settings .n) (readState .run .units + toldAll bs readState)) (works bs readState)
   read-worth bs tree = works-worth readState (what-is-read-is-honest f d F nodes k answer ns some) tree bs

@@ -99,6 +99,30 @@ impl<'a> Tree<'a> {
         Ok(())
     }
 
+    /// Whether every leaf counts just those of the first i points that lie in its cell, and holds one of them.
+    pub fn places(&self, positions: &[f64], i: usize) -> Result<(), String> {
+        let mut within = vec![Vec::new(); self.nodes.len()];
+        for (j, place) in positions.chunks(self.c).take(i).enumerate() {
+            let mut k = 0;
+            while self.nodes[k].first != 0 {
+                let node = &self.nodes[k];
+                let above = place.iter().zip(&node.centre).map(|(x, z)| usize::from(x > z));
+                k = node.first as usize + above.enumerate().map(|(d, bit)| bit << d).sum::<usize>();
+            }
+            within[k].push(j as u32 + 1);
+        }
+        for (k, node) in self.nodes.iter().enumerate().filter(|(_, node)| node.first == 0) {
+            let held = node.leaf == 0 || within[k].contains(&node.leaf);
+            if node.count as usize != within[k].len() || !held {
+                return Err(format!(
+                    "leaf {k} counts {} and has the word {} for {:?}",
+                    node.count, node.leaf, within[k]
+                ));
+            }
+        }
+        Ok(())
+    }
+
     /// The repulsion on point q and its share of the normaliser, as the sum from +0.0 over the leaves, apart from one that
     /// holds q alone.
     pub fn over_leaves(&self, positions: &[f64], q: usize) -> ([f64; 3], f64) {
@@ -172,10 +196,15 @@ mod tests {
             for i in 0..=n {
                 let tree = Tree::new(&nodes, used, c);
                 assert_eq!(tree.holds(i), Ok(()), "round {round}, {i} points");
+                assert_eq!(tree.places(&positions, i), Ok(()), "round {round}, {i} points");
                 for angle in [0.0, -0.0] {
                     for q in 0..n {
                         let walked = repulsion(&nodes, &positions, c, q, angle);
-                        assert_eq!(bits(walked), bits(tree.over_leaves(&positions, q)), "round {round}, {i} points, point {q}");
+                        assert_eq!(
+                            bits(walked),
+                            bits(tree.over_leaves(&positions, q)),
+                            "round {round}, {i} points, point {q}"
+                        );
                     }
                 }
                 if i < n {
@@ -214,7 +243,23 @@ mod tests {
             leaf: 1,
             ..Node::default()
         }];
-        assert_eq!(Tree::new(&crowd, 1, 2).holds(2), Err("leaf 0 at depth 0 counts 2".into()));
+        assert_eq!(
+            Tree::new(&crowd, 1, 2).holds(2),
+            Err("leaf 0 at depth 0 counts 2".into())
+        );
+    }
+
+    /// Two points of a tree that change places are in each other's leaf.
+    #[test]
+    fn a_point_in_another_cell_is_told() {
+        let positions = [0.0, 1.0, 3.0];
+        let mut nodes = vec![Node::default(); 9];
+        plant(&mut nodes, &positions, 3, 1);
+        let used = (0..3).fold(1, |used, j| insert(&mut nodes, used, &positions, 1, j).expect("room"));
+        let tree = Tree::new(&nodes, used, 1);
+        assert_eq!(tree.places(&positions, 3), Ok(()));
+        let told = tree.places(&[3.0, 1.0, 0.0], 3).expect_err("other places");
+        assert_eq!(told, "leaf 2 counts 1 and has the word 3 for [1]");
     }
 
     /// With an angle that is not zero a far cell is one body, and the sum is another.
@@ -225,7 +270,13 @@ mod tests {
         plant(&mut nodes, &positions, 3, 1);
         let used = (0..3).fold(1, |used, j| insert(&mut nodes, used, &positions, 1, j).expect("room"));
         let tree = Tree::new(&nodes, used, 1);
-        assert_eq!(bits(repulsion(&nodes, &positions, 1, 0, 0.0)), bits(tree.over_leaves(&positions, 0)));
-        assert_ne!(bits(repulsion(&nodes, &positions, 1, 0, 0.9)), bits(tree.over_leaves(&positions, 0)));
+        assert_eq!(
+            bits(repulsion(&nodes, &positions, 1, 0, 0.0)),
+            bits(tree.over_leaves(&positions, 0))
+        );
+        assert_ne!(
+            bits(repulsion(&nodes, &positions, 1, 0, 0.9)),
+            bits(tree.over_leaves(&positions, 0))
+        );
     }
 }
