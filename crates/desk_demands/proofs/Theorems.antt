@@ -167,7 +167,7 @@ works-run (b ∷ bs) h g =
     ∙ progress-again (works bs (hostState n) .run) (work b (hostState h) .left .run) (h .run) (run-long (h .run) (g .fine))
     ∙ ap (λ (s : State). progressPut (works bs s .run) (h .run)) (next-state b h g)
 
-told-is : (bs : List ℕ) (h : HostWorked) → Readable h → hostTold bs h ≡ toldAll bs (hostState h)
+pub told-is : (bs : List ℕ) (h : HostWorked) → Readable h → hostTold bs h ≡ toldAll bs (hostState h)
 unfolding hostTold toldAll
 told-is [] h g = refl
 told-is (b ∷ bs) h g =
@@ -300,13 +300,14 @@ module _ (s : List ℕ) (table start : List Float) (cs : List Cell) (l : Lent) (
     pub begun-readable : Readable hostBegun
     begun-readable = record { fine = rw run-is (run-back-fine fresh w (told-passed ready .long)); room = room }
 
-    read-fresh : runOf (answered .run) ≡ fresh
+    -- its words say a run that has not begun
+    pub begun-fresh : runOf (answered .run) ≡ fresh
     unfolding freshRun
-    read-fresh = rw run-is (run-back fresh (read-sayable s) w (told-passed ready .long))
+    begun-fresh = rw run-is (run-back fresh (read-sayable s) w (told-passed ready .long))
 
     pub host-begun-honest : Honest (hostState hostBegun)
     host-begun-honest =
-        rw (read-fresh, prepared-is) (preparation-honest (settingsOf s) table start cs l fresh answer-is)
+        rw (begun-fresh, prepared-is) (preparation-honest (settingsOf s) table start cs l fresh answer-is)
 
     pub begun-demand-three : (bs : List ℕ) (b : ℕ) → 1 ≤ b → HostOneCall bs b hostBegun
     begun-demand-three = host-demand-three hostBegun begun-readable host-begun-honest

@@ -21,3 +21,4 @@ pub mod step;
 pub mod take_out;
 pub mod tree;
 pub mod words;
+pub mod worth;

@@ -227,7 +227,7 @@ pub fn other_side(areas: &Areas) -> descent::Areas {
     }
 }
 
-fn other_node(node: &Node) -> tree::Node {
+pub fn other_node(node: &Node) -> tree::Node {
     tree::Node {
         centre: node.centre,
         half: node.half,

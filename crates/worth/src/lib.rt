@@ -1,0 +1,1 @@
+// No code: what the tree of a run is worth after any calls, as theorems over the definitions of the calls (proofs/).
