@@ -2,3 +2,4 @@ pub mod Fine
 pub mod Halves
 pub mod Mirrors
 pub mod Judged
+pub mod Accepted

@@ -1,1 +1,2 @@
 pub mod Partner
+pub mod Rules

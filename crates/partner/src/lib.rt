@@ -6,7 +6,7 @@ ghost use Prim.Native.Nat.{_+_, _-_, _<_, _≤_};
 ghost use lib.Dec.{eqb, ltb, leb};
 ghost use lib.ListN.{length};
 ghost use Rattle.laws.specs.Loops.{first};
-ghost use Rattle.partner.specs.Partner.{wholeLinks, linkFrom, linkTo, linkWeight, linkPair, turnedPair, linkFine, isMirror, mirroredIn, mirrored, firstBadLink, PairsRise};
+ghost use Rattle.partner.specs.Partner.{wholeLinks, givenLinks, linkFrom, linkTo, linkWeight, linkPair, turnedPair, linkFine, isMirror, mirroredIn, mirrored, firstBadLink, PairsRise};
 use elementary::words::value_of;
 use little::half_word;
 use little::word;
@@ -14,6 +14,17 @@ use run_record::faults::is_positive;
 
 // How long a record is.
 pub const LINK_BYTES: usize = 16;
+
+// The records given: a stray tail is one more.
+pub fn given_links(file: &[u8]) -> usize
+    ensures { λ r. ⌜ r ≡ givenLinks (now (file .entry)) ⌝ }
+{
+    let whole = file.len() / LINK_BYTES;
+    if file.len() % LINK_BYTES == 0 {
+        return whole;
+    }
+    whole + 1
+}
 
 // The frame whose link record i is.
 pub fn link_from(file: &[u8], i: usize) -> u64
