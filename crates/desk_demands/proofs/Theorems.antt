@@ -38,12 +38,12 @@ use Rattle.prepare.specs.declared.Prepared.{Prepared}
 use Rattle.prepare.specs.declared.Prepared.the-variants.{Ready}
 use Rattle.prepare.specs.Prepare.{Lent, lengthsOf, prepareFault, prepared, memoryOf, prepareNumber}
 use Rattle.prepare.proofs.Begins.{preparation-honest}
-use Rattle.record_words.specs.RecordWords.{settingsFine, settingsOf, runFine, runOf, progressPut, runPut}
+use Rattle.record_words.specs.RecordWords.{settingsFine, settingsOf, runFine, runOf, progressPut, runPut, shortNumber}
 use Rattle.answer_words.specs.AnswerWords.{kindWord, isBad, runAfter, answerPut}
 use Rattle.record_words.proofs.Laws.{run-long}
 use Rattle.answer_words.proofs.Laws.{answer-back}
 use Rattle.record_words.proofs.Roundtrip.{read-sayable, run-back, run-back-fine, progress-back, progress-fine, progress-again, progress-same}
-use Rattle.desk_prepare.specs.HostPrepare.{HostPrepared, recorded, preparedIn, shortNumber, hostPrepare}
+use Rattle.desk_prepare.specs.HostPrepare.{HostPrepared, recorded, preparedIn, hostPrepare}
 use Rattle.desk_work.specs.HostWork.{HostWorked, hostWorked, workedIn, hostWork}
 use Rattle.desk_demands.specs.HostCalls.{hostState, hostNext, hostWorks, hostTold, inCells}
 

@@ -42,7 +42,7 @@ returns-2 : tie.Need-returns-2
 returns-2 c = import-bad _ _ _ _ (loading (c .before .before .before .before .before .before .before .before .before .before .before .before .before .before .before .before .args .positions .now) (c .before .before .before .before .before .before .before .before .before .before .before .before .before .before .before .before .args .increments .now) (c .before .before .before .before .before .before .before .before .before .before .before .before .before .before .before .before .args .gains .now) (c .before .before .before .before .before .before .before .before .before .before .before .before .before .before .before .before .args .affinities .now) (c .before .before .before .before .before .before .before .before .before .before .before .before .before .before .before .before .args .indices .now) (c .before .before .before .before .before .before .before .before .before .before .before .before .before .before .before .before .args .offsets .now) (c .before .before .before .before .before .before .before .before .before .before .before .before .before .before .before .before .args .forces .now)) (c .before .before .before .before .before .before .tree-settings .ensures) (sym (c .before .before .before .before .before .import-fault .ensures) ∙ c .before .before .before .before .if1 .left) (rw (c .before .before .before .sizes-of .ensures) at (c .before .before .first-bad-link .ensures)) (λ q. c .if2 .taken (q ∙ sym (c .before .given-links .ensures)))
 
 load-lists-requires : tie.Need-load-lists-requires
-load-lists-requires c κs = let z = list-room (let-in _ _ _ (sym (c .before .before .before .before .before .before .before .before .import-fault .ensures) ∙ c .before .before .before .before .before .before .before .if1 .left)) _ (c .before .before .before .before .before .before .before .before .before .tree-settings .ensures) in ((let-in _ _ _ (sym (c .before .before .before .before .before .before .before .before .import-fault .ensures) ∙ c .before .before .before .before .before .before .before .if1 .left)) .good, eq-eqb _ _ (sym (rw (c .before .before .before .before .before .before .sizes-of .ensures) at (c .before .before .before .before .before .first-bad-link .ensures)) ∙ c .before .before .before .if2 .left ∙ c .before .before .before .before .given-links .ensures), z .0, z .1, z .2)
+load-lists-requires c κs = let z = list-room (let-in _ _ _ (sym (c .before .before .before .before .before .before .before .before .import-fault .ensures) ∙ c .before .before .before .before .before .before .before .if1 .left)) (c .before .before .before .before .before .before .before .before .before .before .before .before .before .before .before .before .before .before .before .args .s) (c .before .before .before .before .before .before .before .before .before .tree-settings .ensures) in ((let-in _ _ _ (sym (c .before .before .before .before .before .before .before .before .import-fault .ensures) ∙ c .before .before .before .before .before .before .before .if1 .left)) .good, eq-eqb _ _ (sym (rw (c .before .before .before .before .before .before .sizes-of .ensures) at (c .before .before .before .before .before .first-bad-link .ensures)) ∙ c .before .before .before .if2 .left ∙ c .before .before .before .before .given-links .ensures), z .0, z .1, z .2)
 
 set-out-words-requires : tie.Need-set-out-words-requires
 set-out-words-requires c κs = rw (c .before .before .before .before .before .before .before .before .before .before .before .before .before .before .before .before .before .sizes-of .ensures) (begin-room (let-in _ _ _ (sym (c .before .before .before .before .before .before .before .before .before .before .before .before .before .before .before .before .before .before .before .import-fault .ensures) ∙ c .before .before .before .before .before .before .before .before .before .before .before .before .before .before .before .before .before .before .if1 .left)))
