@@ -177,10 +177,14 @@ fn settings_by_tree(settings: Settings) -> Settings {
 
 /// A list with each rule broken at each of its places, and one with several broken.
 fn rules_at_places(random: &mut Random, met: &mut Met) {
-    let n = random.within(2, 7);
+    let n = random.within(2, 9);
     let loading = Loading::small(random, n, 0);
     let good = loading.good(random);
     assert_eq!(loading.load(random, &file_of(&good), met).0, 0);
+    // As many links as may be and more of them, where so many frames have so many.
+    let pairs = loading.most() / 2 + random.below(4);
+    let over = made::good(random.source(), n, pairs);
+    loading.load(random, &file_of(&over), met);
     for place in 0..good.len() {
         for way in 0..WAYS {
             let mut links = good.clone();
