@@ -195,8 +195,12 @@ fn load(areas: &mut Areas, n: usize, links: &[Link]) {
         areas.indices[place] = link.to;
         areas.affinities[place] = f64::from_bits(link.weight);
     }
+    let mut lengths = vec![0; n];
+    for link in links {
+        lengths[link.from as usize] += 1;
+    }
     for (frame, offset) in areas.offsets[..=n].iter_mut().enumerate() {
-        *offset = links.iter().filter(|link| (link.from as usize) < frame).count() as u32;
+        *offset = lengths[..frame].iter().sum();
     }
 }
 
