@@ -525,6 +525,9 @@ fn written(random: &mut Random, met: &mut Met) {
             meet(met, if zeros.count() > 0 { "zeros" } else { "no zeros" });
         }
         meet(met, format!("{:?}, {}", settings.method, told.0));
+        if !exact && bytes > 0 {
+            odd_weights(random, &both, bytes, met);
+        }
         for _ in 0..4 {
             let mut other = both.clone();
             match random.below(5) {
@@ -551,6 +554,34 @@ fn written(random: &mut Random, met: &mut Met) {
     }
 }
 
+/// Weights that no good list has: NaNs of several payloads, quiet and signalling, with both signs, infinities, zeros.
+const ODD: [u64; 8] = [
+    0x7ff8_0000_0000_0000,
+    0x7ff0_0000_0000_0001,
+    0xfff8_dead_beef_0123,
+    u64::MAX,
+    0x7ff0_0000_0000_0000,
+    0xfff0_0000_0000_0000,
+    0,
+    1 << 63,
+];
+
+/// Lists with such a weight are written with its bits; no rule takes them back.
+fn odd_weights(random: &mut Random, both: &Both, bytes: usize, met: &mut Met) {
+    for odd in ODD {
+        let mut other = both.clone();
+        let place = random.below(bytes / LINK_RECORD);
+        other.areas.affinities[place] = f64::from_bits(odd);
+        let (told, file) = write_both(&other, bytes);
+        assert_eq!(told, (0, (bytes / LINK_RECORD) as u64));
+        let at = LINK_RECORD * place + 8;
+        assert_eq!(file[at..at + 8], odd.to_le_bytes(), "a weight is written otherwise");
+        let n = other.record.words[0] as usize;
+        assert!(first_bad(&file, n, usize::MAX).is_some(), "an odd weight is taken back");
+        meet(met, format!("written {odd:x}"));
+    }
+}
+
 fn iterations_of(n: usize) -> usize {
     if n < 8 {
         252
@@ -564,7 +595,8 @@ fn lists_of_runs_as_they_go() {
     let met = each_seed("lists as they go", setting("BROTHANCHOR_RUNS", 300), written);
     let numbers = ["0", "12", "13", "13 with a place", "17"].map(|number| format!("damaged: {number}"));
     let named = ["Exact, 17", "BarnesHut, 0", "no zeros"].map(String::from);
-    all_met(&met, numbers.into_iter().chain(named));
+    let odd = ODD.map(|odd| format!("written {odd:x}"));
+    all_met(&met, numbers.into_iter().chain(named).chain(odd));
 }
 
 /// A full side: n 4096, k 91, every list as long as may be, in rings of neighbours.
