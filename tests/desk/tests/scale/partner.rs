@@ -317,9 +317,10 @@ fn every_length_of_small_lists() {
         let loading = Loading::small(random, n, 0);
         let good = file_of(&made::good(random.source(), n, n));
         for length in 0..good.len() {
+            // Cut where every link so far has its mirror, it is a good list; the rules say which.
             let (number, place) = loading.load(random, &good[..length], &mut met);
             assert!(number == 0 || place <= (length / LINK_RECORD) as u64, "{length} bytes");
-            assert_eq!(number == 0, length == 0, "{length} bytes");
+            assert!(number == 19 || length % LINK_RECORD == 0, "{length} bytes");
         }
         let mut longer = good.clone();
         for _ in 1..LINK_RECORD {
