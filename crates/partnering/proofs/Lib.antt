@@ -1,0 +1,3 @@
+pub mod Loaded
+pub mod Honest
+pub mod Written
