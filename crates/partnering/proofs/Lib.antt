@@ -1,3 +1,6 @@
 pub mod Loaded
 pub mod Honest
 pub mod Written
+pub mod Positive
+pub mod Own
+pub mod Prepared
