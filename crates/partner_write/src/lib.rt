@@ -40,14 +40,7 @@ fn put_link(target: &mut [u8], a: usize, from: u64, to: u64, weight: u64)
 }
 
 // Writes the list of one frame: the k links from place a on.
-fn put_list(
-    target: &mut [u8],
-    weights: &[u64],
-    indices: &[u32],
-    from: u64,
-    a: usize,
-    k: usize,
-)
+fn put_list(target: &mut [u8], weights: &[u64], indices: &[u32], from: u64, a: usize, k: usize)
     requires { ⌜ (a + k ≤ length (now weights)) × (a + k ≤ length (now indices)) × (16 * (a + k) ≤ length (now target)) ⌝ }
     ensures { λ _. ⌜ now (target .exit) ≡ written (joined (linkAt (now (weights .entry)) (now (indices .entry)) from a) k) (16 * a) (now (target .entry)) ⌝ }
 {
