@@ -11,6 +11,7 @@ ghost use Rattle.take_rows.specs.Rows.{shrunk, clearedFrom, Staying};
 ghost use Rattle.take_lists.specs.Packed.{linksLeft, packedIndices, packedWeights, packedOffsets, Listed};
 ghost use Rattle.take_lists.specs.Steps.{namedLeft, keptFrom, indicesFrom, weightsFrom, closedWeights, closedIndices, closedOffsets};
 use take_gone::is_among;
+use take_gone::is_next;
 use take_gone::place_of;
 use take_rows::clear_between;
 
@@ -44,9 +45,11 @@ pub fn links_left(gone: &[u32], n: usize, indices: &[u32], offsets: &[u32]) -> u
     ensures { λ r. ⌜ r ≡ linksLeft (survivors (now (gone .entry)) n) (now (indices .entry)) (now (offsets .entry)) ⌝ }
 {
     let mut c = 0;
+    let mut g = 0;
     let mut j = 0;
     while j < n {
-        if is_among(gone, j as u32) {
+        if is_next(gone, g, j as u32) {
+            g += 1;
             j += 1;
             continue;
         }
