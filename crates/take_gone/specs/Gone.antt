@@ -32,8 +32,8 @@ survivors g n = those (λ j. not (isAmong g j)) n
 pub record Climbs (l : List ℕ) : Type 0 where
   pub climb : (s t : ℕ) → s < t → t < length l → num l s < num l t
 
--- a list that rises is followed up to j: so many as g are below j, and those from place g on are not
-pub record Reached (l : List ℕ) (g j : ℕ) : Type 0 where
+-- an index g into a list that rises is abreast of j: those before it are below j, those from it on are not
+pub record Abreast (l : List ℕ) (g j : ℕ) : Type 0 where
   pub rises : Climbs l
   pub within : g ≤ length l
   pub passed : (t : ℕ) → t < g → num l t < j

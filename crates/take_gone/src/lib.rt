@@ -7,7 +7,7 @@ ghost use lib.Dec.{ltb, leb};
 ghost use lib.ListN.{length, drop};
 ghost use Rattle.laws.specs.Area.{num};
 ghost use Rattle.laws.specs.Domain.{mostFrames};
-ghost use Rattle.take_gone.specs.Gone.{standsAt, isAmong, goneFineAt, goneFine, survivors, Climbs, Reached};
+ghost use Rattle.take_gone.specs.Gone.{standsAt, isAmong, goneFineAt, goneFine, survivors, Climbs, Abreast};
 
 fn names(x: u32, n: usize) -> bool
     ensures { λ b. ⌜ b ≡ ltb x n ⌝ }
@@ -83,9 +83,9 @@ pub fn is_among(list: &[u32], j: u32) -> bool
     place_of(list, j) < list.len()
 }
 
-// Whether j is in a list that is followed from its start with rising numbers: all before place g are below j, so only that place is looked at.
+// Whether j is in the list, where g keeps abreast of it: all before place g are below j, so only that place is looked at.
 pub fn is_next(list: &[u32], g: usize, j: u32) -> bool
-    requires { ⌜ Reached (now list) g j ⌝ }
+    requires { ⌜ Abreast (now list) g j ⌝ }
     ensures { λ b. ⌜ b ≡ isAmong (now (list .entry)) j ⌝ }
 {
     if g < list.len() {

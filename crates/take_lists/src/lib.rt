@@ -1,9 +1,9 @@
-// The neighbour lists packed in place: the lists of the frames that are left close ranks, links to the others vanish, and the frames named get their new numbers.
+// The neighbour lists packed in place: the lists of the frames that are left close ranks, links to the others vanish, and the frames named get their new numbers. Weights are only moved and stand as words, by their bits.
 // Writing never passes reading: no list grows, and no frame stands lower than its new place.
 ghost use mathlib.Core.Path.{_≡_};
 ghost use Prim.Native.Nat.{ℕ, _+_, _<_, _≤_};
 ghost use lib.ListN.{length};
-ghost use Rattle.laws.specs.Area.{num, zero64};
+ghost use Rattle.laws.specs.Area.{num};
 ghost use Rattle.laws.specs.Domain.{mostFrames};
 ghost use Rattle.laws.specs.Joined.{written};
 ghost use Rattle.take_gone.specs.Gone.{survivors, Climbs};
@@ -13,7 +13,7 @@ ghost use Rattle.take_lists.specs.Steps.{namedLeft, keptFrom, indicesFro
 use take_gone::is_among;
 use take_gone::is_next;
 use take_gone::place_of;
-use take_rows::clear_between;
+use take_rows::clear_bits;
 
 fn wide(x: u32) -> usize
     ensures { λ r. ⌜ r ≡ x ⌝ }
@@ -62,7 +62,7 @@ pub fn links_left(gone: &[u32], n: usize, indices: &[u32], offsets: &[u32]) -> u
 
 // Writes the links that are left of the k from place a on, from place q on. Answers where they end.
 fn pack_list(
-    weights: &mut [f64],
+    weights: &mut [u64],
     indices: &mut [u32],
     keep: &[u32],
     a: usize,
@@ -104,7 +104,7 @@ fn clear_words(area: &mut [u32], a: usize, b: usize)
 
 // The lists of all frames in `keep`, one after the other, and where each begins and the last one ends. Answers how many links there are.
 fn pack_all(
-    weights: &mut [f64],
+    weights: &mut [u64],
     indices: &mut [u32],
     offsets: &mut [u32],
     n: usize,
@@ -132,7 +132,7 @@ fn pack_all(
 
 // Packs weights, indices and offsets of n lists; zeros follow up to the old number of links and of offsets.
 pub fn pack_lists(
-    weights: &mut [f64],
+    weights: &mut [u64],
     indices: &mut [u32],
     offsets: &mut [u32],
     n: usize,
@@ -140,14 +140,14 @@ pub fn pack_lists(
 )
     requires { ⌜ (n ≤ mostFrames) × Climbs (now keep) × Staying (now keep) n × Listed n (length (now weights)) (length (now indices)) (now offsets) ⌝ }
     ensures { λ _. ⌜
-        (now (weights .exit) ≡ shrunk zero64 (num (now (offsets .entry)) n) (packedWeights (now (keep .entry)) (now (weights .entry)) (now (indices .entry)) (now (offsets .entry))) (now (weights .entry)))
+        (now (weights .exit) ≡ shrunk 0 (num (now (offsets .entry)) n) (packedWeights (now (keep .entry)) (now (weights .entry)) (now (indices .entry)) (now (offsets .entry))) (now (weights .entry)))
         × (now (indices .exit) ≡ shrunk 0 (num (now (offsets .entry)) n) (packedIndices (now (keep .entry)) (now (indices .entry)) (now (offsets .entry))) (now (indices .entry)))
         × (now (offsets .exit) ≡ shrunk 0 (n + 1) (packedOffsets (now (keep .entry)) (now (indices .entry)) (now (offsets .entry))) (now (offsets .entry)))
         ⌝ }
 {
     let links = wide(offsets[n]);
     let q = pack_all(weights, indices, offsets, n, keep);
-    clear_between(weights, q, links);
+    clear_bits(weights, q, links);
     clear_words(indices, q, links);
     clear_words(offsets, keep.len() + 1, n + 1);
 }

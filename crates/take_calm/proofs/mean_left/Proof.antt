@@ -1,5 +1,5 @@
-use Rattle.take_gone.specs.Gone.{Reached}
-use Rattle.take_gone.proofs.Next.{reached-start, reached-room, reached-pass, reached-more}
+use Rattle.take_gone.specs.Gone.{Abreast}
+use Rattle.take_gone.proofs.Next.{abreast-start, abreast-room, abreast-pass, abreast-more}
 use Rattle.take_gone.specs.Gone.{survivors}
 use Rattle.take_calm.proofs.Over.{SumsLeft, sums-left-start, sums-left-pass, sums-left-more, sums-left-done, sumOver}
 use Rattle.take_gone.proofs.Left.{survivors-few}
@@ -19,13 +19,13 @@ use Rattle.take_calm.proofs.mean_left.Lts as lts
 use Rattle.take_gone.proofs.is_next.Reads as is-next-reads
 
 abbrev Inv-loop : tie.InvT-loop
-Inv-loop positions gone n c d m s₀ g₀ j₀ s g j = SumsLeft (λ i. at positions (i * c + d)) gone n j s × Reached gone g j
+Inv-loop positions gone n c d m s₀ g₀ j₀ s g j = SumsLeft (λ i. at positions (i * c + d)) gone n j s × Abreast gone g j
 
 abbrev μ-loop : tie.MeasureT-loop
 μ-loop positions gone n c d m s₀ g₀ j₀ s g j = n - j
 
 loop-holds : tie.Need-loop-holds Inv-loop μ-loop
-loop-holds c = (sums-left-start, reached-start (c .before .before .pre .3))
+loop-holds c = (sums-left-start, abreast-start (c .before .before .pre .3))
 
 cast-is-next : tie.Need-cast-is-next Inv-loop μ-loop
 cast-is-next c = omega (arith, c .before .before .before .before .pre .0, c .loop-test .taken)
@@ -34,7 +34,7 @@ is-next-requires : tie.Need-is-next-requires Inv-loop μ-loop
 is-next-requires c κs = c .before .loop .inv .1
 
 add-g : tie.Need-add-g Inv-loop μ-loop
-add-g c = omega (arith, reached-room (c .before .before .before .loop .inv .1) (sym (c .before .is-next .ensures) ∙ c .if1 .taken))
+add-g c = omega (arith, abreast-room (c .before .before .before .loop .inv .1) (sym (c .before .is-next .ensures) ∙ c .if1 .taken))
 
 add-j : tie.Need-add-j Inv-loop μ-loop
 add-j c = search needs
@@ -43,7 +43,7 @@ loop-less : tie.Need-loop-less Inv-loop μ-loop
 loop-less c = search needs
 
 loop-again : tie.Need-loop-again Inv-loop μ-loop
-loop-again c = (sums-left-pass (c .before .before .before .loop .inv .0) (c .before .before .loop-test .taken) (sym (c .before .is-next .ensures) ∙ c .if1 .taken), reached-pass (c .before .before .before .loop .inv .1) (sym (c .before .is-next .ensures) ∙ c .if1 .taken))
+loop-again c = (sums-left-pass (c .before .before .before .loop .inv .0) (c .before .before .loop-test .taken) (sym (c .before .is-next .ensures) ∙ c .if1 .taken), abreast-pass (c .before .before .before .loop .inv .1) (sym (c .before .is-next .ensures) ∙ c .if1 .taken))
 
 mul-s : tie.Need-mul-s Inv-loop μ-loop
 mul-s c = omega (arith, row-in (c .before .before .before .loop .j) (c .before .before .before .before .before .before .args .n) (c .before .before .before .before .before .before .args .c) _ (c .before .before .loop-test .taken) (c .before .before .before .before .before .before .pre .2), c .before .before .before .before .before .before .pre .1)
@@ -64,7 +64,7 @@ loop-less-2 : tie.Need-loop-less-2 Inv-loop μ-loop
 loop-less-2 c = search needs
 
 loop-again-2 : tie.Need-loop-again-2 Inv-loop μ-loop
-loop-again-2 c = (sums-left-more (c .before .before .before .before .loop .inv .0) (c .before .before .before .loop-test .taken) (sym (c .before .before .is-next .ensures) ∙ c .before .if1 .left), reached-more (c .before .before .before .before .loop .inv .1) (sym (c .before .before .is-next .ensures) ∙ c .before .if1 .left))
+loop-again-2 c = (sums-left-more (c .before .before .before .before .loop .inv .0) (c .before .before .before .loop-test .taken) (sym (c .before .before .is-next .ensures) ∙ c .before .if1 .left), abreast-more (c .before .before .before .before .loop .inv .1) (sym (c .before .before .is-next .ensures) ∙ c .before .if1 .left))
 
 int-to-float-result : tie.Need-int-to-float-result Inv-loop μ-loop
 unfolding inFloat

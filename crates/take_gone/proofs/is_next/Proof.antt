@@ -1,4 +1,4 @@
-use Rattle.take_gone.proofs.Next.{reached-here, reached-end}
+use Rattle.take_gone.proofs.Next.{abreast-here, abreast-end}
 use borrow.Author.Needs.{needs}
 use native.Mathlib.Omega.{arith}
 use borrow.Author.Needs.{needs}
@@ -14,10 +14,10 @@ shared-slice-read-result : tie.Need-shared-slice-read-result
 shared-slice-read-result c = search needs
 
 returns : tie.Need-returns
-returns c = reached-here (c .before .before .pre) (c .before .if1 .taken)
+returns c = abreast-here (c .before .before .pre) (c .before .if1 .taken)
 
 returns-2 : tie.Need-returns-2
-returns-2 c = reached-end (c .before .pre) (c .if1 .left)
+returns-2 c = abreast-end (c .before .pre) (c .if1 .left)
 
 pub is-next-spec : {M : Type 1} → statement M
 is-next-spec = tie.close (tie.spec mul-result shared-slice-read-result returns returns-2)

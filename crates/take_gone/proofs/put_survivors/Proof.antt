@@ -1,5 +1,5 @@
-use Rattle.take_gone.specs.Gone.{Reached}
-use Rattle.take_gone.proofs.Next.{reached-start, reached-room, reached-pass, reached-more}
+use Rattle.take_gone.specs.Gone.{Abreast}
+use Rattle.take_gone.proofs.Next.{abreast-start, abreast-room, abreast-pass, abreast-more}
 use Rattle.take_gone.proofs.Left.{Surviving, surviving-start, surviving-room, surviving-pass, surviving-more, surviving-done}
 use lib.ListN.{length-set}
 use borrow.Author.Tests.{not-true, not-false}
@@ -14,13 +14,13 @@ use Rattle.take_gone.proofs.put_survivors.Lts as lts
 use Rattle.take_gone.proofs.is_next.Reads as is-next-reads
 
 abbrev Inv-loop : tie.InvT-loop
-Inv-loop gone n old₀ g₀ q₀ j₀ old g q j = Surviving gone n old₀ q j old × Reached gone g j
+Inv-loop gone n old₀ g₀ q₀ j₀ old g q j = Surviving gone n old₀ q j old × Abreast gone g j
 
 abbrev μ-loop : tie.MeasureT-loop
 μ-loop gone n old₀ g₀ q₀ j₀ old g q j = n - j
 
 loop-holds : tie.Need-loop-holds Inv-loop μ-loop
-loop-holds c = (surviving-start, reached-start (c .before .before .pre .2))
+loop-holds c = (surviving-start, abreast-start (c .before .before .pre .2))
 
 cast-is-next : tie.Need-cast-is-next Inv-loop μ-loop
 cast-is-next c = omega (arith, c .before .before .before .before .pre .0, c .loop-test .taken)
@@ -29,7 +29,7 @@ is-next-requires : tie.Need-is-next-requires Inv-loop μ-loop
 is-next-requires c κs = c .before .loop .inv .1
 
 add-g : tie.Need-add-g Inv-loop μ-loop
-add-g c = omega (arith, reached-room (c .before .before .before .loop .inv .1) (sym (c .before .is-next .ensures) ∙ c .if1 .taken))
+add-g c = omega (arith, abreast-room (c .before .before .before .loop .inv .1) (sym (c .before .is-next .ensures) ∙ c .if1 .taken))
 
 add-j : tie.Need-add-j Inv-loop μ-loop
 add-j c = search needs
@@ -38,7 +38,7 @@ loop-less : tie.Need-loop-less Inv-loop μ-loop
 loop-less c = search needs
 
 loop-again : tie.Need-loop-again Inv-loop μ-loop
-loop-again c = (surviving-pass (c .before .before .before .loop .inv .0) (c .before .before .loop-test .taken) (sym (c .before .is-next .ensures) ∙ c .if1 .taken), reached-pass (c .before .before .before .loop .inv .1) (sym (c .before .is-next .ensures) ∙ c .if1 .taken))
+loop-again c = (surviving-pass (c .before .before .before .loop .inv .0) (c .before .before .loop-test .taken) (sym (c .before .is-next .ensures) ∙ c .if1 .taken), abreast-pass (c .before .before .before .loop .inv .1) (sym (c .before .is-next .ensures) ∙ c .if1 .taken))
 
 cast-old : tie.Need-cast-old Inv-loop μ-loop
 cast-old c = omega (arith, c .before .before .before .before .before .before .pre .0, c .before .before .loop-test .taken)
@@ -59,7 +59,7 @@ loop-less-2 : tie.Need-loop-less-2 Inv-loop μ-loop
 loop-less-2 c = search needs
 
 loop-again-2 : tie.Need-loop-again-2 Inv-loop μ-loop
-loop-again-2 c = (surviving-more (c .before .before .before .loop .inv .0) (c .before .before .loop-test .taken) (c .before .before .before .before .before .before .pre .1) (sym (c .before .is-next .ensures) ∙ c .if1 .left), reached-more (c .before .before .before .loop .inv .1) (sym (c .before .is-next .ensures) ∙ c .if1 .left))
+loop-again-2 c = (surviving-more (c .before .before .before .loop .inv .0) (c .before .before .loop-test .taken) (c .before .before .before .before .before .before .pre .1) (sym (c .before .is-next .ensures) ∙ c .if1 .left), abreast-more (c .before .before .before .loop .inv .1) (sym (c .before .is-next .ensures) ∙ c .if1 .left))
 
 same-length : tie.Need-same-length Inv-loop μ-loop
 same-length c = c .before .loop .inv .0 .front .size

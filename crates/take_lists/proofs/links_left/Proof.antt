@@ -1,6 +1,6 @@
 -- `take_lists::links_left` meets its contract: the lists of j frames are looked at (`Tallies`). Assumes nothing.
-use Rattle.take_gone.specs.Gone.{Reached}
-use Rattle.take_gone.proofs.Next.{reached-start, reached-room, reached-pass, reached-more}
+use Rattle.take_gone.specs.Gone.{Abreast}
+use Rattle.take_gone.proofs.Next.{abreast-start, abreast-room, abreast-pass, abreast-more}
 use Rattle.take_lists.proofs.Counting.{Tallies, tallies-start, tallies-pass, tallies-inside, tallies-room, tallies-more, tallies-done}
 use mathlib.Core.Path.{sym, _∙_}
 use Prim.Native.Nat.{_+_, _-_}
@@ -10,13 +10,13 @@ use Rattle.take_lists.proofs.links_left.Statement.{statement}
 use Rattle.take_lists.proofs.links_left.Tie as tie
 
 abbrev Inv-loop : tie.InvT-loop
-Inv-loop gone n indices offsets c₀ g₀ j₀ c g j = Tallies gone indices offsets n j c × Reached gone g j
+Inv-loop gone n indices offsets c₀ g₀ j₀ c g j = Tallies gone indices offsets n j c × Abreast gone g j
 
 abbrev μ-loop : tie.MeasureT-loop
 μ-loop gone n indices offsets c₀ g₀ j₀ c g j = n - j
 
 loop-holds : tie.Need-loop-holds Inv-loop μ-loop
-loop-holds c = (tallies-start (c .before .before .before .pre .2), reached-start (c .before .before .before .pre .1))
+loop-holds c = (tallies-start (c .before .before .before .pre .2), abreast-start (c .before .before .before .pre .1))
 
 cast-is-next : tie.Need-cast-is-next Inv-loop μ-loop
 cast-is-next c = omega (arith, c .before .before .before .before .before .pre .0, c .loop-test .taken)
@@ -25,7 +25,7 @@ is-next-requires : tie.Need-is-next-requires Inv-loop μ-loop
 is-next-requires c κs = c .before .loop .inv .1
 
 add-g : tie.Need-add-g Inv-loop μ-loop
-add-g c = omega (arith, reached-room (c .before .before .before .loop .inv .1) (sym (c .before .is-next .ensures) ∙ c .if1 .taken))
+add-g c = omega (arith, abreast-room (c .before .before .before .loop .inv .1) (sym (c .before .is-next .ensures) ∙ c .if1 .taken))
 
 add-j : tie.Need-add-j Inv-loop μ-loop
 add-j c = omega (arith, c .before .before .before .before .before .before .before .pre .0, c .before .before .loop-test .taken)
@@ -39,7 +39,7 @@ loop-again c =
     let turn = c .before .before .before .loop in
     let test = c .before .before .loop-test in
     let found = sym (c .before .is-next .ensures) ∙ c .if1 .taken in
-    (tallies-pass (r .pre .2) (test .taken) (turn .inv .0) (sym found), reached-pass (turn .inv .1) found)
+    (tallies-pass (r .pre .2) (test .taken) (turn .inv .0) (sym found), abreast-pass (turn .inv .1) found)
 
 mul-wide : tie.Need-mul-wide Inv-loop μ-loop
 mul-wide c = omega (arith, c .before .before .before .before .before .before .before .pre .2 .offsets-long, c .before .before .loop-test .taken)
@@ -108,7 +108,7 @@ loop-again-2 c =
     let case = c .before .before .before .before .before .if1 in
     let first = c .before .before .before .wide in
     let no = sym (found .ensures) ∙ case .left in
-    (tallies-more (r .pre .2) (test .taken) (turn .inv .0) (first .ensures) (c .before .wide2 .ensures) (c .list-left .ensures) (sym no), reached-more (turn .inv .1) no)
+    (tallies-more (r .pre .2) (test .taken) (turn .inv .0) (first .ensures) (c .before .wide2 .ensures) (c .list-left .ensures) (sym no), abreast-more (turn .inv .1) no)
 
 returns : tie.Need-returns Inv-loop μ-loop
 returns c = tallies-done (c .before .before .before .before .before .pre .2) (c .before .before .before .before .before .pre .3) (c .loop-test .left) (c .before .loop .inv .0)
