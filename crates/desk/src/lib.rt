@@ -14,6 +14,7 @@ ghost use lib.ListN.{length};
 ghost use Rattle.tree_node.specs.Arena.{nodesOf};
 ghost use Rattle.parked.specs.Parked.{storedOf};
 ghost use Rattle.desk_park.specs.HostPark.{hostParked, hostPark};
+ghost use Rattle.take_out.specs.TakeOut.{holdings};
 ghost use Rattle.desk_take.specs.HostTake.{hostTook, hostTake};
 ghost use Rattle.desk_unpark.specs.HostUnpark.{hostUnparked, hostUnpark};
 use desk_divergence::host_divergence;
@@ -371,53 +372,29 @@ pub extern "C" fn brothanchor_unpark(
     )
 }
 
-// Takes frames out of a run. Answers 0, or the number of the refusal; then nothing is changed but the answer's word.
+// Takes frames out of a run. Answers 0, or the number of the refusal; then nothing is changed but the answer's word. Values that are only moved are lent as words, by their bits.
 #[no_mangle]
 pub extern "C" fn brothanchor_take_out(
     words: &mut [u64],
     positions: &mut [f64],
-    increments: &mut [f64],
-    gains: &mut [f64],
-    affinities: &mut [f64],
+    increments: &mut [u64],
+    gains: &mut [u64],
+    affinities: &mut [u64],
     indices: &mut [u32],
     offsets: &mut [u32],
     forces: &mut [f64],
     cells: &[Cell],
-    table: &mut [f64],
+    table: &mut [u64],
     gone: &[u32],
     old: &mut [u32],
     answer: &mut [u64],
 ) -> u32
     ensures { λ k. ⌜
-        hostTook k
-        (now (answer .exit))
-        (now (words .exit))
-        (memory
-        (now (positions .exit))
-        (now (increments .exit))
-        (now (gains .exit))
-        (now (affinities .exit))
-        (now (indices .exit))
-        (now (offsets .exit))
-        (now (forces .exit))
-        (now (cells .entry)))
-        (now (table .exit))
-        (now (old .exit))
-        ≡ hostTake
-        (now (gone .entry))
-        (now (words .entry))
-        (memory
-        (now (positions .entry))
-        (now (increments .entry))
-        (now (gains .entry))
-        (now (affinities .entry))
-        (now (indices .entry))
-        (now (offsets .entry))
-        (now (forces .entry))
-        (now (cells .entry)))
-        (now (table .entry))
-        (now (old .entry))
-        (now (answer .entry))
+        hostTook k (now (answer .exit)) (now (words .exit))
+        (holdings (now (positions .exit)) (now (increments .exit)) (now (gains .exit)) (now (affinities .exit)) (now (indices .exit)) (now (offsets .exit)) (now (forces .exit)) (now (table .exit)) (now (old .exit)))
+        ≡ hostTake (now (gone .entry)) (now (words .entry))
+        (holdings (now (positions .entry)) (now (increments .entry)) (now (gains .entry)) (now (affinities .entry)) (now (indices .entry)) (now (offsets .entry)) (now (forces .entry)) (now (table .entry)) (now (old .entry)))
+        (nodesOf (now (cells .entry))) (now (answer .entry))
         ⌝ }
 {
     let k = host_take_out(

@@ -4,16 +4,15 @@ use mathlib.Core.List.{List}
 use mathlib.Core.Bool.{cond}
 use Prim.Native.Nat.{ℕ}
 use lib.ListN.{length, set}
-use lib.Ieee.{Float}
 use Rattle.run_record.specs.declared.Run.{Run}
-use Rattle.run_entry.specs.State.{Memory, state}
+use Rattle.tree_node.specs.declared.Node.{Node}
 use Rattle.record_words.specs.RecordWords.{runOf, Worded}
 use Rattle.fault_words.specs.FaultWords.{faultValue, unfit, unfitTold}
 use Rattle.take_left.specs.declared.Outlook.{Outlook}
 use Rattle.take_left.specs.declared.Outlook.the-variants.{Left, Inside, Unordered, Few, Perplexed, Crowded, Barred}
 use Rattle.take_out.specs.declared.Taken.{Taken}
 use Rattle.take_out.specs.declared.Taken.the-variants.{Told, Bad}
-use Rattle.take_out.specs.TakeOut.{TakeOutcome, takeOut, takeNumber}
+use Rattle.take_out.specs.TakeOut.{Holdings, TookOut, takeOut, takeNumber}
 
 abbrev pub leftTold : Outlook → ℕ
 leftTold (Left m) = m
@@ -37,19 +36,17 @@ pub record HostTook : Type 0 where
   pub number : ℕ
   pub answer : List ℕ
   pub run : List ℕ
-  pub memory : Memory
-  pub table : List Float
-  pub old : List ℕ
+  pub areas : Holdings
 
-abbrev pub hostTook : ℕ → List ℕ → List ℕ → Memory → List Float → List ℕ → HostTook
-hostTook k a w m t q = record { number = k; answer = a; run = w; memory = m; table = t; old = q }
+abbrev pub hostTook : ℕ → List ℕ → List ℕ → Holdings → HostTook
+hostTook k a w h = record { number = k; answer = a; run = w; areas = h }
 
-abbrev pub takenIn : TakeOutcome → List ℕ → List ℕ → HostTook
-takenIn o a w = hostTook (takeNumber (o .answer)) (set a 0 (takenTold (o .answer))) (sizePut (o .left .run) w) (o .left .memory) (o .table) (o .old)
+abbrev pub takenIn : TookOut → List ℕ → List ℕ → HostTook
+takenIn o a w = hostTook (takeNumber (o .answer)) (set a 0 (takenTold (o .answer))) (sizePut (o .run) w) (o .areas)
 
-abbrev pub unfitIn : Worded → List ℕ → Memory → List Float → List ℕ → HostTook
-unfitIn k w m t q = hostTook (k .number) (k .words) w m t q
+abbrev pub unfitIn : Worded → List ℕ → Holdings → HostTook
+unfitIn k w h = hostTook (k .number) (k .words) w h
 
--- an answer without a word: 12; words that are no record: 13; else as `takeOut` has it, with the list g, the table t and the old places q
-unfoldable pub hostTake : List ℕ → List ℕ → Memory → List Float → List ℕ → List ℕ → HostTook
-hostTake g w m t q a = cond (unfit w (length a)) (unfitIn (unfitTold w a) w m t q) (takenIn (takeOut g (state (runOf w) m) t q) a w)
+-- an answer without a word: 12; words that are no record: 13; else as `takeOut` has it, with the list g, the areas h and the nodes ns
+unfoldable pub hostTake : List ℕ → List ℕ → Holdings → List Node → List ℕ → HostTook
+hostTake g w h ns a = cond (unfit w (length a)) (unfitIn (unfitTold w a) w h) (takenIn (takeOut g (runOf w) h ns) a w)

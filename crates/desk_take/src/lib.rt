@@ -1,10 +1,10 @@
-// Taking frames out of a run, with record and answer as plain words.
+// Taking frames out of a run, with record and answer as plain words, and values that are only moved as words too.
 ghost use mathlib.Core.Path.{_≡_};
 ghost use Prim.Native.Nat.{_≤_};
 ghost use lib.ListN.{length, set};
-ghost use Rattle.run_entry.specs.State.{memory};
+ghost use Rattle.tree_node.specs.Arena.{nodesOf};
 ghost use Rattle.record_words.specs.RecordWords.{worded};
-ghost use Rattle.take_out.specs.TakeOut.{takeNumber};
+ghost use Rattle.take_out.specs.TakeOut.{holdings, takeNumber};
 ghost use Rattle.desk_take.specs.HostTake.{leftTold, takenTold, sizePut, hostTook, hostTake};
 use fault_words::fault_value;
 use fault_words::is_unfit;
@@ -62,48 +62,24 @@ fn put_size(words: &mut [u64], r: Run)
 pub fn host_take_out(
     words: &mut [u64],
     positions: &mut [f64],
-    increments: &mut [f64],
-    gains: &mut [f64],
-    affinities: &mut [f64],
+    increments: &mut [u64],
+    gains: &mut [u64],
+    affinities: &mut [u64],
     indices: &mut [u32],
     offsets: &mut [u32],
     forces: &mut [f64],
     cells: &[Cell],
-    table: &mut [f64],
+    table: &mut [u64],
     gone: &[u32],
     old: &mut [u32],
     answer: &mut [u64],
 ) -> u32
     ensures { λ k. ⌜
-        hostTook k
-        (now (answer .exit))
-        (now (words .exit))
-        (memory
-        (now (positions .exit))
-        (now (increments .exit))
-        (now (gains .exit))
-        (now (affinities .exit))
-        (now (indices .exit))
-        (now (offsets .exit))
-        (now (forces .exit))
-        (now (cells .entry)))
-        (now (table .exit))
-        (now (old .exit))
-        ≡ hostTake
-        (now (gone .entry))
-        (now (words .entry))
-        (memory
-        (now (positions .entry))
-        (now (increments .entry))
-        (now (gains .entry))
-        (now (affinities .entry))
-        (now (indices .entry))
-        (now (offsets .entry))
-        (now (forces .entry))
-        (now (cells .entry)))
-        (now (table .entry))
-        (now (old .entry))
-        (now (answer .entry))
+        hostTook k (now (answer .exit)) (now (words .exit))
+        (holdings (now (positions .exit)) (now (increments .exit)) (now (gains .exit)) (now (affinities .exit)) (now (indices .exit)) (now (offsets .exit)) (now (forces .exit)) (now (table .exit)) (now (old .exit)))
+        ≡ hostTake (now (gone .entry)) (now (words .entry))
+        (holdings (now (positions .entry)) (now (increments .entry)) (now (gains .entry)) (now (affinities .entry)) (now (indices .entry)) (now (offsets .entry)) (now (forces .entry)) (now (table .entry)) (now (old .entry)))
+        (nodesOf (now (cells .entry))) (now (answer .entry))
         ⌝ }
 {
     let unfit = is_unfit(words, answer.len());

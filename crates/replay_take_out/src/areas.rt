@@ -54,6 +54,25 @@ pub(crate) fn numbers_at(list: &[u8], a: usize, m: usize) -> [u32; 64]
     area
 }
 
+// What place i of an area of words holds at first: the word a + i of the list where i is below m, else its mark.
+fn bits_before(list: &[u8], a: usize, m: usize, i: usize) -> u64 {
+    if i < m {
+        return word_at(list, plus(a, i));
+    }
+    std::num::wrapping_add_u64(0x4000000000000000, i as u64)
+}
+
+// The same of values that are lent as words.
+pub(crate) fn bits_at(list: &[u8], a: usize, m: usize) -> [u64; 96] {
+    let mut area = [0u64; 96];
+    let mut i: usize = 0;
+    while i < 96 {
+        area[i] = bits_before(list, a, m, i);
+        i += 1;
+    }
+    area
+}
+
 // The digest with one word more.
 fn more(digest: u64, word: u64) -> u64 {
     scatter::mix(std::num::wrapping_add_u64(digest, word))
@@ -87,6 +106,33 @@ fn digest_words(area: &[u32], m: usize) -> u64
         i += 1;
     }
     d
+}
+
+// The same of values that are lent as words.
+fn digest_bits(area: &[u64], m: usize) -> u64
+    requires { ⌜ m ≤ length (now area) ⌝ }
+{
+    let mut d = m as u64;
+    let mut i = 0;
+    while i < m {
+        d = more(d, area[i]);
+        i += 1;
+    }
+    d
+}
+
+// From place m on each word is its mark.
+fn bits_marked(area: &[u64], m: usize) -> bool {
+    let mut i: usize = 0;
+    while i < area.len() {
+        if i >= m {
+            if area[i] != std::num::wrapping_add_u64(0x4000000000000000, i as u64) {
+                return false;
+            }
+        }
+        i += 1;
+    }
+    true
 }
 
 // From place m on each number is its mark.
@@ -123,4 +169,15 @@ pub(crate) fn same_numbers(area: &[u32], m: usize, list: &[u8], j: usize) -> boo
         return false;
     }
     still_marked(area, m)
+}
+
+// The same of values that are lent as words.
+pub(crate) fn same_bits(area: &[u64], m: usize, list: &[u8], j: usize) -> bool {
+    if m > area.len() {
+        return false;
+    }
+    if digest_bits(area, m) != word_at(list, j) {
+        return false;
+    }
+    bits_marked(area, m)
 }

@@ -2,8 +2,8 @@
 ghost use mathlib.Core.Path.{_≡_};
 ghost use Prim.Native.Nat.{_≤_};
 ghost use lib.ListN.{take};
-ghost use Rattle.run_entry.specs.State.{memory, state};
-ghost use Rattle.take_out.specs.TakeOut.{takeOutcome, takeOut};
+ghost use Rattle.tree_node.specs.Arena.{nodesOf};
+ghost use Rattle.take_out.specs.TakeOut.{holdings, tookOut, takeOut};
 ghost use Rattle.replay_take_out.specs.Lending.{tookOf};
 use run_record::Run;
 use take_out::Taken;
@@ -34,42 +34,25 @@ pub(crate) fn took_of(answer: Taken, run: Run) -> Took
 pub(crate) fn take_lent(
     r: Run,
     positions: &mut [f64],
-    increments: &mut [f64],
-    gains: &mut [f64],
-    affinities: &mut [f64],
+    increments: &mut [u64],
+    gains: &mut [u64],
+    affinities: &mut [u64],
     indices: &mut [u32],
     offsets: &mut [u32],
     forces: &mut [f64],
     cells: [Cell; 4],
     k: usize,
-    table: &mut [f64],
+    table: &mut [u64],
     gone: &[u32],
     old: &mut [u32],
 ) -> Took
     requires { ⌜ k ≤ 4 ⌝ }
     ensures { λ t. ⌜
-        takeOutcome (t .answer) (state (t .run) (memory
-        (now (positions .exit))
-        (now (increments .exit))
-        (now (gains .exit))
-        (now (affinities .exit))
-        (now (indices .exit))
-        (now (offsets .exit))
-        (now (forces .exit))
-        (take k cells)))
-        (now (table .exit))
-        (now (old .exit))
-        ≡ takeOut (now (gone .entry)) (state r (memory
-        (now (positions .entry))
-        (now (increments .entry))
-        (now (gains .entry))
-        (now (affinities .entry))
-        (now (indices .entry))
-        (now (offsets .entry))
-        (now (forces .entry))
-        (take k cells)))
-        (now (table .entry))
-        (now (old .entry))
+        tookOut (t .answer) (t .run)
+        (holdings (now (positions .exit)) (now (increments .exit)) (now (gains .exit)) (now (affinities .exit)) (now (indices .exit)) (now (offsets .exit)) (now (forces .exit)) (now (table .exit)) (now (old .exit)))
+        ≡ takeOut (now (gone .entry)) r
+        (holdings (now (positions .entry)) (now (increments .entry)) (now (gains .entry)) (now (affinities .entry)) (now (indices .entry)) (now (offsets .entry)) (now (forces .entry)) (now (table .entry)) (now (old .entry)))
+        (nodesOf (take k cells))
         ⌝ }
 {
     let mut run = r;

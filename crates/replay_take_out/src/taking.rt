@@ -1,6 +1,8 @@
 // A case: the run of a list, frames taken out of it, and what comes of it.
+use crate::areas::bits_at;
 use crate::areas::both;
 use crate::areas::numbers_at;
+use crate::areas::same_bits;
 use crate::areas::same_numbers;
 use crate::areas::same_values;
 use crate::areas::values_at;
@@ -92,14 +94,14 @@ fn same_told(t: Told, list: &[u8], i: usize) -> bool {
 fn taken(
     words: [u64; 14],
     positions: &mut [f64],
-    increments: &mut [f64],
-    gains: &mut [f64],
-    affinities: &mut [f64],
+    increments: &mut [u64],
+    gains: &mut [u64],
+    affinities: &mut [u64],
     indices: &mut [u32],
     offsets: &mut [u32],
     forces: &mut [f64],
     nodes: usize,
-    table: &mut [f64],
+    table: &mut [u64],
     gone: &[u32],
     old: &mut [u32],
 ) -> Told
@@ -138,14 +140,14 @@ fn same_state(
     l: Lengths,
     j: usize,
     positions: [f64; 96],
-    increments: [f64; 96],
-    gains: [f64; 96],
-    affinities: [f64; 96],
+    increments: [u64; 96],
+    gains: [u64; 96],
+    affinities: [u64; 96],
 ) -> bool {
     let p = same_values(&positions, l.positions, list, j);
-    let q = same_values(&increments, l.increments, list, plus(j, 1));
-    let g = same_values(&gains, l.gains, list, plus(j, 2));
-    let v = same_values(&affinities, l.affinities, list, plus(j, 3));
+    let q = same_bits(&increments, l.increments, list, plus(j, 1));
+    let g = same_bits(&gains, l.gains, list, plus(j, 2));
+    let v = same_bits(&affinities, l.affinities, list, plus(j, 3));
     both(both(p, q), both(g, v))
 }
 
@@ -164,9 +166,9 @@ fn same_lists(
 }
 
 // Forces and table.
-fn same_rest(list: &[u8], l: Lengths, j: usize, forces: [f64; 96], table: [f64; 96]) -> bool {
+fn same_rest(list: &[u8], l: Lengths, j: usize, forces: [f64; 96], table: [u64; 96]) -> bool {
     let f = same_values(&forces, l.forces, list, plus(j, 6));
-    both(f, same_values(&table, l.table, list, plus(j, 7)))
+    both(f, same_bits(&table, l.table, list, plus(j, 7)))
 }
 
 // The call on the run whose areas stand at their places: what is told, the record, and every place of all areas.
@@ -174,13 +176,13 @@ fn run_right(list: &[u8], l: Lengths, at: Places, words: [u64; 14]) -> bool
     requires { ⌜ (l .positions ≤ 96) × (l .increments ≤ 96) × (l .gains ≤ 96) × (l .affinities ≤ 96) × (l .indices ≤ 64) × (l .offsets ≤ 64) × (l .forces ≤ 96) × (l .nodes ≤ 4) × (l .table ≤ 96) × (l .gone ≤ 64) × (l .old ≤ 64) ⌝ }
 {
     let mut positions = values_at(list, at.positions, l.positions);
-    let mut increments = values_at(list, at.increments, l.increments);
-    let mut gains = values_at(list, at.gains, l.gains);
-    let mut affinities = values_at(list, at.affinities, l.affinities);
+    let mut increments = bits_at(list, at.increments, l.increments);
+    let mut gains = bits_at(list, at.gains, l.gains);
+    let mut affinities = bits_at(list, at.affinities, l.affinities);
     let mut indices = numbers_at(list, at.indices, l.indices);
     let mut offsets = numbers_at(list, at.offsets, l.offsets);
     let mut forces = values_at(list, 0, 0);
-    let mut table = values_at(list, at.table, l.table);
+    let mut table = bits_at(list, at.table, l.table);
     let gone = numbers_at(list, at.gone, l.gone);
     let mut old = numbers_at(list, 0, 0);
     let t = taken(

@@ -11,7 +11,7 @@ ghost use Rattle.take_gone.specs.Gone.{survivors, Climbs};
 ghost use Rattle.take_rows.specs.Rows.{averageLeft, Means};
 ghost use Rattle.take_calm.specs.CalmLeft.{calmLeft, meanAt};
 use elementary::limits::is_calm;
-use take_gone::is_among;
+use take_gone::is_next;
 
 // Component d's mean over the m frames that are not in `gone`: the sum starts at +0.0 and runs by rising number.
 fn mean_left(positions: &[f64], gone: &[u32], n: usize, c: usize, d: usize, m: usize) -> f64
@@ -19,9 +19,11 @@ fn mean_left(positions: &[f64], gone: &[u32], n: usize, c: usize, d: usize, m: u
     ensures { λ x. ⌜ x ≡ averageLeft (survivors (now (gone .entry)) n) c (now (positions .entry)) d ⌝ }
 {
     let mut s = 0.0;
+    let mut g = 0;
     let mut j = 0;
     while j < n {
-        if is_among(gone, j as u32) {
+        if is_next(gone, g, j as u32) {
+            g += 1;
             j += 1;
             continue;
         }
@@ -70,9 +72,11 @@ fn is_calm_by(positions: &[f64], gone: &[u32], n: usize, c: usize, means: &[f64;
     requires { ⌜ (n ≤ mostFrames) × (c ≤ 8) × (n * c ≤ length (now positions)) × Climbs (now gone) × Means (survivors (now gone) n) c (now positions) (now means) ⌝ }
     ensures { λ b. ⌜ b ≡ calmLeft (survivors (now (gone .entry)) n) c (now (positions .entry)) ⌝ }
 {
+    let mut g = 0;
     let mut j = 0;
     while j < n {
-        if is_among(gone, j as u32) {
+        if is_next(gone, g, j as u32) {
+            g += 1;
             j += 1;
             continue;
         }

@@ -1,3 +1,4 @@
 pub mod Fronts
 pub mod Search
+pub mod Next
 pub mod Left

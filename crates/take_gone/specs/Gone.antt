@@ -2,7 +2,7 @@
 use mathlib.Core.List.{List}
 use mathlib.Core.Path.{_≡_}
 use mathlib.Core.Bool.{Bool, not, _&&_, _||_}
-use Prim.Native.Nat.{ℕ, _-_, _<_}
+use Prim.Native.Nat.{ℕ, _-_, _<_, _≤_}
 use lib.Dec.{eqb, ltb}
 use lib.ListN.{length}
 use Rattle.laws.specs.Loops.{first, every}
@@ -31,3 +31,10 @@ survivors g n = those (λ j. not (isAmong g j)) n
 -- the numbers of a list rise strictly
 pub record Climbs (l : List ℕ) : Type 0 where
   pub climb : (s t : ℕ) → s < t → t < length l → num l s < num l t
+
+-- an index g into a list that rises is abreast of j: those before it are below j, those from it on are not
+pub record Abreast (l : List ℕ) (g j : ℕ) : Type 0 where
+  pub rises : Climbs l
+  pub within : g ≤ length l
+  pub passed : (t : ℕ) → t < g → num l t < j
+  pub ahead : (t : ℕ) → g ≤ t → t < length l → j ≤ num l t

@@ -7,7 +7,7 @@ ghost use lib.Dec.{ltb, leb};
 ghost use lib.ListN.{length, drop};
 ghost use Rattle.laws.specs.Area.{num};
 ghost use Rattle.laws.specs.Domain.{mostFrames};
-ghost use Rattle.take_gone.specs.Gone.{standsAt, isAmong, goneFineAt, goneFine, survivors, Climbs};
+ghost use Rattle.take_gone.specs.Gone.{standsAt, isAmong, goneFineAt, goneFine, survivors, Climbs, Abreast};
 
 fn names(x: u32, n: usize) -> bool
     ensures { λ b. ⌜ b ≡ ltb x n ⌝ }
@@ -83,16 +83,29 @@ pub fn is_among(list: &[u32], j: u32) -> bool
     place_of(list, j) < list.len()
 }
 
+// Whether j is in the list, where g keeps abreast of it: all before place g are below j, so only that place is looked at.
+pub fn is_next(list: &[u32], g: usize, j: u32) -> bool
+    requires { ⌜ Abreast (now list) g j ⌝ }
+    ensures { λ b. ⌜ b ≡ isAmong (now (list .entry)) j ⌝ }
+{
+    if g < list.len() {
+        return list[g] == j;
+    }
+    false
+}
+
 // Writes the samples that are left, by their old places, to the front of `old`. Answers how many there are.
 pub fn put_survivors(gone: &[u32], n: usize, old: &mut [u32]) -> usize
     requires { ⌜ (n ≤ mostFrames) × (n ≤ length (now old)) × Climbs (now gone) ⌝ }
     ensures { λ m. ⌜ m ≡ length (survivors (now (gone .entry)) n) ⌝ }
     ensures { λ _. ⌜ now (old .exit) ≡ survivors (now (gone .entry)) n ++ drop (length (survivors (now (gone .entry)) n)) (now (old .entry)) ⌝ }
 {
+    let mut g = 0;
     let mut q = 0;
     let mut j = 0;
     while j < n {
-        if is_among(gone, j as u32) {
+        if is_next(gone, g, j as u32) {
+            g += 1;
             j += 1;
             continue;
         }

@@ -5,8 +5,7 @@ use Prim.Native.Nat.{ℕ, _+_, _-_, _<_, _≤_}
 use native.Mathlib.Omega.{arith}
 use native.Mathlib.Nat.{le-antisymm, le-refl}
 use lib.ListN.{length, set, drop}
-use lib.Ieee.{Float, nan}
-use Rattle.laws.specs.Area.{at, num, zero64}
+use Rattle.laws.specs.Area.{num}
 use Rattle.laws.specs.Joined.{joined, each, written}
 use Rattle.laws.proofs.Joined.{joined-none, joined-more, length-map}
 use Rattle.take_gone.specs.Gone.{standsAt, Climbs}
@@ -19,14 +18,14 @@ use Rattle.take_lists.proofs.Fronting.{fronts-join, front-shrunk}
 use Rattle.take_lists.proofs.OneList.{kept-same, indices-same, weights-same}
 use Rattle.take_lists.proofs.Bounds.{kept-from, lists-rise, before-none, before-more, before-low, before-all, packed-indices-size, packed-weights-size, packed-offsets-size}
 
-pub record Closes (keep : List ℕ) (W₀ : List Float) (I₀ O₀ : List ℕ) (i q : ℕ) (W : List Float) (I O : List ℕ) : Type 0 where
+pub record Closes (keep W₀ I₀ O₀ : List ℕ) (i q : ℕ) (W I O : List ℕ) : Type 0 where
   pub within : i ≤ length keep
   pub count : q ≡ linksBefore keep I₀ O₀ i
   pub weights : Fronts W₀ (joined (λ h. weightsLeft keep W₀ I₀ O₀ (num keep h)) i) q W
   pub indices : Fronts I₀ (joined (λ h. indicesLeft keep I₀ O₀ (num keep h)) i) q I
   pub offsets : Fronts O₀ (each (linksBefore keep I₀ O₀) i) i O
 
-module _ {keep : List ℕ} {W₀ : List Float} {I₀ O₀ : List ℕ} {n : ℕ} (climbs : Climbs keep) (kept : Staying keep n) (lists : Listed n (length W₀) (length I₀) O₀) where
+module _ {keep W₀ I₀ O₀ : List ℕ} {n : ℕ} (climbs : Climbs keep) (kept : Staying keep n) (lists : Listed n (length W₀) (length I₀) O₀) where
   pub closes-start : Closes keep W₀ I₀ O₀ 0 0 W₀ I₀ O₀
   closes-start = record {
     within = omega arith;
@@ -36,7 +35,7 @@ module _ {keep : List ℕ} {W₀ : List Float} {I₀ O₀ : List ℕ} {n : ℕ} 
     offsets = fronts-as (sym (joined-none (λ h. linksBefore keep I₀ O₀ h ∷ []))) (fronts-start O₀);
   }
 
-  module _ {i q : ℕ} {W : List Float} {I O : List ℕ} (r : Closes keep W₀ I₀ O₀ i q W I O) where
+  module _ {i q : ℕ} {W I O : List ℕ} (r : Closes keep W₀ I₀ O₀ i q W I O) where
     -- an offset more fits, and what it says is no more than there were links
     pub closes-offset : (i < length O) × (q ≤ num O₀ n)
     closes-offset = (
@@ -83,8 +82,8 @@ module _ {keep : List ℕ} {W₀ : List Float} {I₀ O₀ : List ℕ} {n : ℕ} 
         indices-stand : (t : ℕ) → t < k₀ → num I (a₀ + t) ≡ num I₀ (a₀ + t)
         indices-stand t m = fronts-at (r .indices) 0 (a₀ + t) (omega (arith, low))
 
-        weights-stand : (t : ℕ) → t < k₀ → at W (a₀ + t) ≡ at W₀ (a₀ + t)
-        weights-stand t m = fronts-at (r .weights) nan (a₀ + t) (omega (arith, low))
+        weights-stand : (t : ℕ) → t < k₀ → num W (a₀ + t) ≡ num W₀ (a₀ + t)
+        weights-stand t m = fronts-at (r .weights) 0 (a₀ + t) (omega (arith, low))
 
         indices-given : indicesFrom keep I a (b - a) ≡ indicesLeft keep I₀ O₀ (num keep i)
         indices-given =
@@ -98,7 +97,7 @@ module _ {keep : List ℕ} {W₀ : List Float} {I₀ O₀ : List ℕ} {n : ℕ} 
             ap (λ (x : ℕ). weightsFrom keep W I x (b - a)) start-same
             ∙ ap (weightsFrom keep W I a₀) size-same
             ∙ weights-same keep I I₀ a₀ k₀ indices-stand W W₀ weights-stand
-            ∙ ap (map (λ t. at W₀ (a₀ + t))) (sym (kept-from keep I₀ O₀ (num keep i)))
+            ∙ ap (map (λ t. num W₀ (a₀ + t))) (sym (kept-from keep I₀ O₀ (num keep i)))
 
         kept-given : keptFrom keep I a (b - a) ≡ keptLinks keep I₀ O₀ (num keep i)
         kept-given =
@@ -108,7 +107,7 @@ module _ {keep : List ℕ} {W₀ : List Float} {I₀ O₀ : List ℕ} {n : ℕ} 
             ∙ sym (kept-from keep I₀ O₀ (num keep i))
 
         -- a list more
-        pub closes-more : {q' : ℕ} {W' : List Float} {I' : List ℕ}
+        pub closes-more : {q' : ℕ} {W' I' : List ℕ}
             → q' ≡ q + length (keptFrom keep I a (b - a))
             → W' ≡ written (weightsFrom keep W I a (b - a)) q W
             → I' ≡ written (indicesFrom keep I a (b - a)) q I
@@ -117,14 +116,14 @@ module _ {keep : List ℕ} {W₀ : List Float} {I₀ O₀ : List ℕ} {n : ℕ} 
             → Closes keep W₀ I₀ O₀ (i + 1) q' W' I' (set O i q)
         closes-more {q'} {W'} {I'} e w x sw sx =
             let c : q' ≡ q + length (keptLinks keep I₀ O₀ (num keep i)) = e ∙ ap (λ (y : List ℕ). q + length y) kept-given in
-            let ew : q + length (weightsLeft keep W₀ I₀ O₀ (num keep i)) ≡ q' = ap (λ (y : ℕ). q + y) (length-map (λ t. at W₀ (a₀ + t)) (keptLinks keep I₀ O₀ (num keep i))) ∙ sym c in
+            let ew : q + length (weightsLeft keep W₀ I₀ O₀ (num keep i)) ≡ q' = ap (λ (y : ℕ). q + y) (length-map (λ t. num W₀ (a₀ + t)) (keptLinks keep I₀ O₀ (num keep i))) ∙ sym c in
             let ex : q + length (indicesLeft keep I₀ O₀ (num keep i)) ≡ q' = ap (λ (y : ℕ). q + y) (length-map (λ t. standsAt keep (num I₀ (a₀ + t))) (keptLinks keep I₀ O₀ (num keep i))) ∙ sym c in
             record {
               within = omega arith;
               count = omega (arith, c, r .count, before-more keep I₀ O₀ i);
               weights = fronts-as (sym (joined-more (λ h. weightsLeft keep W₀ I₀ O₀ (num keep h)) i))
                   (subst (λ (y : ℕ). Fronts W₀ (joined (λ h. weightsLeft keep W₀ I₀ O₀ (num keep h)) i ++ weightsLeft keep W₀ I₀ O₀ (num keep i)) y W') ew
-                  (fronts-join (weightsLeft keep W₀ I₀ O₀ (num keep i)) (w ∙ ap (λ (y : List Float). written y q W) weights-given) sw (r .weights)));
+                  (fronts-join (weightsLeft keep W₀ I₀ O₀ (num keep i)) (w ∙ ap (λ (y : List ℕ). written y q W) weights-given) sw (r .weights)));
               indices = fronts-as (sym (joined-more (λ h. indicesLeft keep I₀ O₀ (num keep h)) i))
                   (subst (λ (y : ℕ). Fronts I₀ (joined (λ h. indicesLeft keep I₀ O₀ (num keep h)) i ++ indicesLeft keep I₀ O₀ (num keep i)) y I') ex
                   (fronts-join (indicesLeft keep I₀ O₀ (num keep i)) (x ∙ ap (λ (y : List ℕ). written y q I) indices-given) sx (r .indices)));
@@ -152,7 +151,7 @@ module _ {keep : List ℕ} {W₀ : List Float} {I₀ O₀ : List ℕ} {n : ℕ} 
 
 -- ---- then zeros
 
-module _ (keep : List ℕ) (W₀ : List Float) (I₀ O₀ : List ℕ) {n w x : ℕ} (climbs : Climbs keep) (kept : Staying keep n) (lists : Listed n w x O₀) where
+module _ (keep W₀ I₀ O₀ : List ℕ) {n w x : ℕ} (climbs : Climbs keep) (kept : Staying keep n) (lists : Listed n w x O₀) where
   pub left-within : {q s : ℕ} → q ≡ linksLeft keep I₀ O₀ → s ≡ num O₀ n → q ≤ s
   left-within e f = omega (arith, e, f, before-all lists I₀ climbs kept (length keep) (le-refl (length keep)))
 
@@ -160,9 +159,9 @@ module _ (keep : List ℕ) (W₀ : List Float) (I₀ O₀ : List ℕ) {n w x : �
     cleared-to : {A : Type 0} (z : A) (l : List A) → clearedFrom z q s l ≡ clearedFrom z (linksLeft keep I₀ O₀) (num O₀ n) l
     cleared-to z l = ap (λ (y : ℕ). clearedFrom z y s l) e ∙ ap (λ (y : ℕ). clearedFrom z (linksLeft keep I₀ O₀) y l) f
 
-    pub weights-shrunk : {W W' : List Float} → W ≡ closedWeights keep W₀ I₀ O₀ → W' ≡ clearedFrom zero64 q s W → W' ≡ shrunk zero64 (num O₀ n) (packedWeights keep W₀ I₀ O₀) W₀
+    pub weights-shrunk : {W W' : List ℕ} → W ≡ closedWeights keep W₀ I₀ O₀ → W' ≡ clearedFrom 0 q s W → W' ≡ shrunk 0 (num O₀ n) (packedWeights keep W₀ I₀ O₀) W₀
     weights-shrunk {W} {W'} g h =
-        front-shrunk zero64 (packedWeights keep W₀ I₀ O₀) W₀ (packed-weights-size keep W₀ I₀ O₀ (length keep)) (left-within refl refl) g (h ∙ cleared-to zero64 W)
+        front-shrunk 0 (packedWeights keep W₀ I₀ O₀) W₀ (packed-weights-size keep W₀ I₀ O₀ (length keep)) (left-within refl refl) g (h ∙ cleared-to 0 W)
 
     pub indices-shrunk : {I I' : List ℕ} → I ≡ closedIndices keep I₀ O₀ → I' ≡ clearedFrom 0 q s I → I' ≡ shrunk 0 (num O₀ n) (packedIndices keep I₀ O₀) I₀
     indices-shrunk {I} {I'} g h =

@@ -8,9 +8,8 @@ use native.Mathlib.Decide.{ℕ-discrete}
 use native.Mathlib.Numerals.{add-one}
 use native.Mathlib.Nat.{le-refl, mul-one}
 use lib.ListN.{length}
-use lib.Ieee.{Float}
 use Rattle.laws.specs.Sums.{bit}
-use Rattle.laws.specs.Area.{at, num}
+use Rattle.laws.specs.Area.{num}
 use Rattle.laws.specs.Joined.{those, joined}
 use Rattle.laws.proofs.Sums.{sum-none, sum-more, sum-same, sum-le, sum-const, bit-le}
 use Rattle.laws.proofs.Joined.{length-those, length-joined, length-map}
@@ -40,12 +39,12 @@ packed-indices-size keep I O i =
     ∙ sum-same (λ h. length (map (λ t. standsAt keep (num I (num O (num keep h) + t))) (keptLinks keep I O (num keep h)))) (λ h. length (keptLinks keep I O (num keep h))) i
     (λ h l. length-map (λ t. standsAt keep (num I (num O (num keep h) + t))) (keptLinks keep I O (num keep h)))
 
-pub packed-weights-size : (keep : List ℕ) (W : List Float) (I O : List ℕ) (i : ℕ)
-    → length (joined (λ h. map (λ t. at W (num O (num keep h) + t)) (keptLinks keep I O (num keep h))) i) ≡ linksBefore keep I O i
+pub packed-weights-size : (keep W I O : List ℕ) (i : ℕ)
+    → length (joined (λ h. map (λ t. num W (num O (num keep h) + t)) (keptLinks keep I O (num keep h))) i) ≡ linksBefore keep I O i
 packed-weights-size keep W I O i =
-    length-joined (λ h. map (λ t. at W (num O (num keep h) + t)) (keptLinks keep I O (num keep h))) i
-    ∙ sum-same (λ h. length (map (λ t. at W (num O (num keep h) + t)) (keptLinks keep I O (num keep h)))) (λ h. length (keptLinks keep I O (num keep h))) i
-    (λ h l. length-map (λ t. at W (num O (num keep h) + t)) (keptLinks keep I O (num keep h)))
+    length-joined (λ h. map (λ t. num W (num O (num keep h) + t)) (keptLinks keep I O (num keep h))) i
+    ∙ sum-same (λ h. length (map (λ t. num W (num O (num keep h) + t)) (keptLinks keep I O (num keep h)))) (λ h. length (keptLinks keep I O (num keep h))) i
+    (λ h l. length-map (λ t. num W (num O (num keep h) + t)) (keptLinks keep I O (num keep h)))
 
 pub packed-offsets-size : (keep I O : List ℕ) → length (packedOffsets keep I O) ≡ length keep + 1
 packed-offsets-size keep I O = singles-size (linksBefore keep I O) (length keep + 1)

@@ -6,9 +6,8 @@ use Prim.Native.Nat.{ℕ, _+_, _<_, _≤_}
 use native.Mathlib.Omega.{arith}
 use native.Mathlib.Nat.{le-antisymm}
 use lib.ListN.{length, set}
-use lib.Ieee.{Float, nan}
 use borrow.Author.Tests.{lt-ltb, le-ltb}
-use Rattle.laws.specs.Area.{at, num}
+use Rattle.laws.specs.Area.{num}
 use Rattle.laws.specs.Joined.{those, written}
 use Rattle.laws.proofs.Joined.{those-none, those-yes, those-no, those-same, map-those, map-append, length-map}
 use Rattle.take_gone.specs.Gone.{standsAt, isAmong}
@@ -26,27 +25,27 @@ module _ {A : Type 0} (f : ℕ → A) (p : ℕ → Bool) where
   map-yes : (t : ℕ) → p t ≡ true → map f (those p t) ++ (f t ∷ []) ≡ map f (those p (t + 1))
   map-yes t e = sym (ap (map f) (those-yes p t e) ∙ map-append f (those p t) (t ∷ []))
 
-pub record Sifts (keep : List ℕ) (W₀ : List Float) (I₀ : List ℕ) (a k q t e : ℕ) (W : List Float) (I : List ℕ) : Type 0 where
+pub record Sifts (keep W₀ I₀ : List ℕ) (a k q t e : ℕ) (W I : List ℕ) : Type 0 where
   pub within : t ≤ k
   pub few : e ≤ q + t
   pub weights : Appends W₀ q (weightsFrom keep W₀ I₀ a t) e W
   pub indices : Appends I₀ q (indicesFrom keep I₀ a t) e I
 
-module _ {keep : List ℕ} {W₀ : List Float} {I₀ : List ℕ} {a k q : ℕ} (low : q ≤ a) (wide : a + k ≤ length W₀) (long : a + k ≤ length I₀) where
+module _ {keep W₀ I₀ : List ℕ} {a k q : ℕ} (low : q ≤ a) (wide : a + k ≤ length W₀) (long : a + k ≤ length I₀) where
   pub sifts-start : Sifts keep W₀ I₀ a k q 0 q W₀ I₀
   sifts-start = record {
     within = omega arith;
     few = omega arith;
-    weights = appends-as (map-none (λ t. at W₀ (a + t)) (λ t. isAmong keep (num I₀ (a + t)))) (appends-start W₀ q (omega arith));
+    weights = appends-as (map-none (λ t. num W₀ (a + t)) (λ t. isAmong keep (num I₀ (a + t)))) (appends-start W₀ q (omega arith));
     indices = appends-as (map-none (λ t. standsAt keep (num I₀ (a + t))) (λ t. isAmong keep (num I₀ (a + t)))) (appends-start I₀ q (omega arith));
   }
 
-  module _ {t e : ℕ} {W : List Float} {I : List ℕ} (l : t < k) (r : Sifts keep W₀ I₀ a k q t e W I) where
+  module _ {t e : ℕ} {W I : List ℕ} (l : t < k) (r : Sifts keep W₀ I₀ a k q t e W I) where
     index-same : num I (a + t) ≡ num I₀ (a + t)
     index-same = fronts-at (r .indices .front) 0 (a + t) (omega (arith, r .few))
 
-    weight-same : at W (a + t) ≡ at W₀ (a + t)
-    weight-same = fronts-at (r .weights .front) nan (a + t) (omega (arith, r .few))
+    weight-same : num W (a + t) ≡ num W₀ (a + t)
+    weight-same = fronts-at (r .weights .front) 0 (a + t) (omega (arith, r .few))
 
     -- there is room for one more
     pub sifts-room : (e < length W) × (e < length I)
@@ -62,30 +61,30 @@ module _ {keep : List ℕ} {W₀ : List Float} {I₀ : List ℕ} {a k q : ℕ} (
           record {
             within = omega arith;
             few = omega (arith, r .few);
-            weights = appends-as (map-no (λ t. at W₀ (a + t)) (λ t. isAmong keep (num I₀ (a + t))) t no) (r .weights);
+            weights = appends-as (map-no (λ t. num W₀ (a + t)) (λ t. isAmong keep (num I₀ (a + t))) t no) (r .weights);
             indices = appends-as (map-no (λ t. standsAt keep (num I₀ (a + t))) (λ t. isAmong keep (num I₀ (a + t))) t no) (r .indices);
           }
 
-      pub sifts-more : x < length keep → Sifts keep W₀ I₀ a k q (t + 1) (e + 1) (set W e (at W (a + t))) (set I e x)
+      pub sifts-more : x < length keep → Sifts keep W₀ I₀ a k q (t + 1) (e + 1) (set W e (num W (a + t))) (set I e x)
       sifts-more h =
           let yes : isAmong keep (num I₀ (a + t)) ≡ true = lt-ltb _ _ (subst (λ (y : ℕ). y < length keep) stands h) in
           record {
             within = omega arith;
             few = omega (arith, r .few);
             weights = appends-as
-                (ap (λ (v : Float). weightsFrom keep W₀ I₀ a t ++ (v ∷ [])) weight-same ∙ map-yes (λ t. at W₀ (a + t)) (λ t. isAmong keep (num I₀ (a + t))) t yes)
-                (appends-more (at W (a + t)) (omega (arith, r .few)) (r .weights));
+                (ap (λ (v : ℕ). weightsFrom keep W₀ I₀ a t ++ (v ∷ [])) weight-same ∙ map-yes (λ t. num W₀ (a + t)) (λ t. isAmong keep (num I₀ (a + t))) t yes)
+                (appends-more (num W (a + t)) (omega (arith, r .few)) (r .weights));
             indices = appends-as
                 (ap (λ (v : ℕ). indicesFrom keep I₀ a t ++ (v ∷ [])) stands ∙ map-yes (λ t. standsAt keep (num I₀ (a + t))) (λ t. isAmong keep (num I₀ (a + t))) t yes)
                 (appends-more x (omega (arith, r .few)) (r .indices));
           }
 
-  pub sifts-done : {t e : ℕ} {W : List Float} {I : List ℕ} → k ≤ t → Sifts keep W₀ I₀ a k q t e W I
+  pub sifts-done : {t e : ℕ} {W I : List ℕ} → k ≤ t → Sifts keep W₀ I₀ a k q t e W I
       → (e ≡ q + length (keptFrom keep I₀ a k)) × (W ≡ written (weightsFrom keep W₀ I₀ a k) q W₀) × (I ≡ written (indicesFrom keep I₀ a k) q I₀)
   sifts-done {t} {e} {W} {I} h r =
       let s : t ≡ k = le-antisymm (r .within) h in
       let w = appends-as (ap (weightsFrom keep W₀ I₀ a) s) (r .weights) in
-      (appends-upto w ∙ ap (λ (x : ℕ). q + x) (length-map (λ t. at W₀ (a + t)) (keptFrom keep I₀ a k)), appends-done w, appends-done (appends-as (ap (indicesFrom keep I₀ a) s) (r .indices)))
+      (appends-upto w ∙ ap (λ (x : ℕ). q + x) (length-map (λ t. num W₀ (a + t)) (keptFrom keep I₀ a k)), appends-done w, appends-done (appends-as (ap (indicesFrom keep I₀ a) s) (r .indices)))
 
 -- what one list gives depends only on its own links
 module _ (keep I I₀ : List ℕ) (a k : ℕ) (i : (t : ℕ) → t < k → num I (a + t) ≡ num I₀ (a + t)) where
@@ -97,7 +96,7 @@ module _ (keep I I₀ : List ℕ) (a k : ℕ) (i : (t : ℕ) → t < k → num I
       ap (map (λ t. standsAt keep (num I (a + t)))) kept-same
       ∙ map-those (λ t. standsAt keep (num I (a + t))) (λ t. standsAt keep (num I₀ (a + t))) (λ t. isAmong keep (num I₀ (a + t))) k (λ t l. ap (standsAt keep) (i t l))
 
-  pub weights-same : (W W₀ : List Float) → ((t : ℕ) → t < k → at W (a + t) ≡ at W₀ (a + t)) → weightsFrom keep W I a k ≡ weightsFrom keep W₀ I₀ a k
+  pub weights-same : (W W₀ : List ℕ) → ((t : ℕ) → t < k → num W (a + t) ≡ num W₀ (a + t)) → weightsFrom keep W I a k ≡ weightsFrom keep W₀ I₀ a k
   weights-same W W₀ w =
-      ap (map (λ t. at W (a + t))) kept-same
-      ∙ map-those (λ t. at W (a + t)) (λ t. at W₀ (a + t)) (λ t. isAmong keep (num I₀ (a + t))) k w
+      ap (map (λ t. num W (a + t))) kept-same
+      ∙ map-those (λ t. num W (a + t)) (λ t. num W₀ (a + t)) (λ t. isAmong keep (num I₀ (a + t))) k w

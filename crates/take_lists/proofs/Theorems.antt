@@ -7,9 +7,8 @@ use native.Mathlib.Omega.{arith}
 use native.Mathlib.Nat.{le-refl}
 use lib.Dec.{eqb}
 use lib.ListN.{length, drop, replicate, length-append, List·getD-append}
-use lib.Ieee.{Float, nan}
 use borrow.Author.Tests.{ltb-true, eqb-true}
-use Rattle.laws.specs.Area.{at, num}
+use Rattle.laws.specs.Area.{num}
 use Rattle.laws.specs.Joined.{joined}
 use Rattle.laws.proofs.First.{first-holds}
 use Rattle.laws.proofs.Joined.{joined-at, joined-all, those-below, those-holds, those-at, those-rise, getD-map-in, length-map}
@@ -112,44 +111,44 @@ module _ (keep I O : List ℕ) where
       (stands-in keep (frameOf (num keep i) (num (keptLinks keep I O (num keep i)) t)) (kept-link-among (num keep i) t m)))
       p (subst (λ (x : ℕ). p < x) (sym packed-indices-count) l)
 
-module _ (keep : List ℕ) (W : List Float) (I O : List ℕ) where
+module _ (keep W I O : List ℕ) where
   pub packed-weights-count : length (packedWeights keep W I O) ≡ linksLeft keep I O
   packed-weights-count = packed-weights-size keep W I O (length keep)
 
   -- and its weight, as it was
   pub packed-weight-at : (i t : ℕ) → i < length keep → t < length (keptLinks keep I O (num keep i))
-      → at (packedWeights keep W I O) (newPlace keep I O i t) ≡ at W (oldPlace keep I O i t)
+      → num (packedWeights keep W I O) (newPlace keep I O i t) ≡ num W (oldPlace keep I O i t)
   packed-weight-at i t l m =
-      ap (λ (p : ℕ). at (packedWeights keep W I O) (p + t)) (packed-offset-at keep I O i (omega arith) ∙ sym (packed-weights-size keep W I O i))
-      ∙ ap (λ (r : List Float). at r (length (joined (λ h. weightsLeft keep W I O (num keep h)) i) + t)) (sym (append-nil (packedWeights keep W I O)))
-      ∙ joined-at (λ h. weightsLeft keep W I O (num keep h)) (length keep) i t [] nan l
-      (subst (λ (x : ℕ). t < x) (sym (length-map (λ s. at W (num O (num keep i) + s)) (keptLinks keep I O (num keep i)))) m)
-      ∙ getD-map-in (λ s. at W (num O (num keep i) + s)) (keptLinks keep I O (num keep i)) t 0 nan m
+      ap (λ (p : ℕ). num (packedWeights keep W I O) (p + t)) (packed-offset-at keep I O i (omega arith) ∙ sym (packed-weights-size keep W I O i))
+      ∙ ap (λ (r : List ℕ). num r (length (joined (λ h. weightsLeft keep W I O (num keep h)) i) + t)) (sym (append-nil (packedWeights keep W I O)))
+      ∙ joined-at (λ h. weightsLeft keep W I O (num keep h)) (length keep) i t [] 0 l
+      (subst (λ (x : ℕ). t < x) (sym (length-map (λ s. num W (num O (num keep i) + s)) (keptLinks keep I O (num keep i)))) m)
+      ∙ getD-map-in (λ s. num W (num O (num keep i) + s)) (keptLinks keep I O (num keep i)) t 0 0 m
 
 -- ---- the theorems in one
 
 -- link t of packed list i: it is an old link of frame number i of keep, to a frame in keep; the new number stands for that frame, and the weight is the old one
-pub record OldLink (keep : List ℕ) (W : List Float) (I O : List ℕ) (i t : ℕ) : Type 0 where
+pub record OldLink (keep W I O : List ℕ) (i t : ℕ) : Type 0 where
   pub within : num (keptLinks keep I O (num keep i)) t < num O (num keep i + 1) - num O (num keep i)
   pub among : isAmong keep (num I (oldPlace keep I O i t)) ≡ true
   pub index : num (packedIndices keep I O) (newPlace keep I O i t) ≡ standsAt keep (num I (oldPlace keep I O i t))
   pub names : num keep (num (packedIndices keep I O) (newPlace keep I O i t)) ≡ num I (oldPlace keep I O i t)
-  pub weight : at (packedWeights keep W I O) (newPlace keep I O i t) ≡ at W (oldPlace keep I O i t)
+  pub weight : num (packedWeights keep W I O) (newPlace keep I O i t) ≡ num W (oldPlace keep I O i t)
 
 -- old link s of frame number i of keep, to a frame in keep: it stands in packed list i, past those of the links before it that are left
-pub record StayingLink (keep : List ℕ) (W : List Float) (I O : List ℕ) (i s : ℕ) : Type 0 where
+pub record StayingLink (keep W I O : List ℕ) (i s : ℕ) : Type 0 where
   pub inside : newPlace keep I O i (keptBefore keep I O i s) < num (packedOffsets keep I O) (i + 1)
   pub index : num (packedIndices keep I O) (newPlace keep I O i (keptBefore keep I O i s)) ≡ standsAt keep (num I (num O (num keep i) + s))
   pub names : num keep (num (packedIndices keep I O) (newPlace keep I O i (keptBefore keep I O i s))) ≡ num I (num O (num keep i) + s)
-  pub weight : at (packedWeights keep W I O) (newPlace keep I O i (keptBefore keep I O i s)) ≡ at W (num O (num keep i) + s)
+  pub weight : num (packedWeights keep W I O) (newPlace keep I O i (keptBefore keep I O i s)) ≡ num W (num O (num keep i) + s)
 
-pub record BetweenSurvivors (keep : List ℕ) (W : List Float) (I O : List ℕ) : Type 0 where
+pub record BetweenSurvivors (keep W I O : List ℕ) : Type 0 where
   pub below : (p : ℕ) → p < linksLeft keep I O → num (packedIndices keep I O) p < length keep
   pub old : (i t : ℕ) → i < length keep → newPlace keep I O i t < num (packedOffsets keep I O) (i + 1) → OldLink keep W I O i t
   pub stays : (i s : ℕ) → i < length keep → s < num O (num keep i + 1) - num O (num keep i) → isAmong keep (num I (num O (num keep i) + s)) ≡ true → StayingLink keep W I O i s
 
 -- the links of the packed lists are exactly the old ones between frames that are left
-pub links-between-survivors : (keep : List ℕ) (W : List Float) (I O : List ℕ) → BetweenSurvivors keep W I O
+pub links-between-survivors : (keep W I O : List ℕ) → BetweenSurvivors keep W I O
 links-between-survivors keep W I O = record {
   below = packed-index-below keep I O;
   old = λ i t l h. old-link i t l (omega (arith, packed-offsets-step keep I O i l));
@@ -160,7 +159,7 @@ links-between-survivors keep W I O = record {
         inside = omega (arith, packed-offsets-step keep I O i l, k .0);
         index = o .index ∙ ap (λ (x : ℕ). standsAt keep (num I (num O (num keep i) + x))) (k .1);
         names = o .names ∙ ap (λ (x : ℕ). num I (num O (num keep i) + x)) (k .1);
-        weight = o .weight ∙ ap (λ (x : ℕ). at W (num O (num keep i) + x)) (k .1);
+        weight = o .weight ∙ ap (λ (x : ℕ). num W (num O (num keep i) + x)) (k .1);
       };
 }
   where

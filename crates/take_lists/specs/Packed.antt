@@ -4,9 +4,8 @@ use mathlib.Core.Path.{_≡_}
 use mathlib.Core.Bool.{Bool}
 use Prim.Native.Nat.{ℕ, _+_, _-_, _<_, _≤_}
 use lib.ListN.{length}
-use lib.Ieee.{Float}
 use Rattle.laws.specs.Sums.{sum}
-use Rattle.laws.specs.Area.{at, num}
+use Rattle.laws.specs.Area.{num}
 use Rattle.laws.specs.Joined.{those, joined, each}
 use Rattle.take_gone.specs.Gone.{standsAt, isAmong}
 
@@ -18,15 +17,15 @@ keptLinks keep I O j = those (λ t. isAmong keep (num I (num O j + t))) (num O (
 abbrev pub indicesLeft : List ℕ → List ℕ → List ℕ → ℕ → List ℕ
 indicesLeft keep I O j = map (λ t. standsAt keep (num I (num O j + t))) (keptLinks keep I O j)
 
--- and its weights, as they were
-abbrev pub weightsLeft : List ℕ → List Float → List ℕ → List ℕ → ℕ → List Float
-weightsLeft keep W I O j = map (λ t. at W (num O j + t)) (keptLinks keep I O j)
+-- and its weights, which stand as words, by their bits, as they were
+abbrev pub weightsLeft : List ℕ → List ℕ → List ℕ → List ℕ → ℕ → List ℕ
+weightsLeft keep W I O j = map (λ t. num W (num O j + t)) (keptLinks keep I O j)
 
 -- the lists of all that are left, one after the other
 abbrev pub packedIndices : List ℕ → List ℕ → List ℕ → List ℕ
 packedIndices keep I O = joined (λ i. indicesLeft keep I O (num keep i)) (length keep)
 
-abbrev pub packedWeights : List ℕ → List Float → List ℕ → List ℕ → List Float
+abbrev pub packedWeights : List ℕ → List ℕ → List ℕ → List ℕ → List ℕ
 packedWeights keep W I O = joined (λ i. weightsLeft keep W I O (num keep i)) (length keep)
 
 -- how many links the first i of them have

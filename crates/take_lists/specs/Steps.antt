@@ -3,9 +3,8 @@ use mathlib.Core.List.{List, map, _++_}
 use mathlib.Core.Bool.{not}
 use Prim.Native.Nat.{ℕ, _+_}
 use lib.ListN.{length, drop}
-use lib.Ieee.{Float}
 use Rattle.laws.specs.Sums.{sum, bit}
-use Rattle.laws.specs.Area.{at, num}
+use Rattle.laws.specs.Area.{num}
 use Rattle.laws.specs.Joined.{those}
 use Rattle.take_gone.specs.Gone.{standsAt, isAmong}
 use Rattle.take_lists.specs.Packed.{linksLeft, packedIndices, packedWeights, packedOffsets}
@@ -23,12 +22,12 @@ abbrev pub indicesFrom : List ℕ → List ℕ → ℕ → ℕ → List ℕ
 indicesFrom keep I a k = map (λ t. standsAt keep (num I (a + t))) (keptFrom keep I a k)
 
 -- and their weights
-abbrev pub weightsFrom : List ℕ → List Float → List ℕ → ℕ → ℕ → List Float
-weightsFrom keep W I a k = map (λ t. at W (a + t)) (keptFrom keep I a k)
+abbrev pub weightsFrom : List ℕ → List ℕ → List ℕ → ℕ → ℕ → List ℕ
+weightsFrom keep W I a k = map (λ t. num W (a + t)) (keptFrom keep I a k)
 
 -- ---- all lists packed: what is left at the front, then what stood there
 
-abbrev pub closedWeights : List ℕ → List Float → List ℕ → List ℕ → List Float
+abbrev pub closedWeights : List ℕ → List ℕ → List ℕ → List ℕ → List ℕ
 closedWeights keep W I O = packedWeights keep W I O ++ drop (linksLeft keep I O) W
 
 abbrev pub closedIndices : List ℕ → List ℕ → List ℕ → List ℕ

@@ -1,9 +1,9 @@
-// The neighbour lists packed in place: the lists of the frames that are left close ranks, links to the others vanish, and the frames named get their new numbers.
+// The neighbour lists packed in place: the lists of the frames that are left close ranks, links to the others vanish, and the frames named get their new numbers. Weights are only moved and stand as words, by their bits.
 // Writing never passes reading: no list grows, and no frame stands lower than its new place.
 ghost use mathlib.Core.Path.{_≡_};
 ghost use Prim.Native.Nat.{ℕ, _+_, _<_, _≤_};
 ghost use lib.ListN.{length};
-ghost use Rattle.laws.specs.Area.{num, zero64};
+ghost use Rattle.laws.specs.Area.{num};
 ghost use Rattle.laws.specs.Domain.{mostFrames};
 ghost use Rattle.laws.specs.Joined.{written};
 ghost use Rattle.take_gone.specs.Gone.{survivors, Climbs};
@@ -11,8 +11,9 @@ ghost use Rattle.take_rows.specs.Rows.{shrunk, clearedFrom, Staying};
 ghost use Rattle.take_lists.specs.Packed.{linksLeft, packedIndices, packedWeights, packedOffsets, Listed};
 ghost use Rattle.take_lists.specs.Steps.{namedLeft, keptFrom, indicesFrom, weightsFrom, closedWeights, closedIndices, closedOffsets};
 use take_gone::is_among;
+use take_gone::is_next;
 use take_gone::place_of;
-use take_rows::clear_between;
+use take_rows::clear_bits;
 
 fn wide(x: u32) -> usize
     ensures { λ r. ⌜ r ≡ x ⌝ }
@@ -44,9 +45,11 @@ pub fn links_left(gone: &[u32], n: usize, indices: &[u32], offsets: &[u32]) -> u
     ensures { λ r. ⌜ r ≡ linksLeft (survivors (now (gone .entry)) n) (now (indices .entry)) (now (offsets .entry)) ⌝ }
 {
     let mut c = 0;
+    let mut g = 0;
     let mut j = 0;
     while j < n {
-        if is_among(gone, j as u32) {
+        if is_next(gone, g, j as u32) {
+            g += 1;
             j += 1;
             continue;
         }
@@ -59,7 +62,7 @@ pub fn links_left(gone: &[u32], n: usize, indices: &[u32], offsets: &[u32]) -> u
 
 // Writes the links that are left of the k from place a on, from place q on. Answers where they end.
 fn pack_list(
-    weights: &mut [f64],
+    weights: &mut [u64],
     indices: &mut [u32],
     keep: &[u32],
     a: usize,
@@ -101,7 +104,7 @@ fn clear_words(area: &mut [u32], a: usize, b: usize)
 
 // The lists of all frames in `keep`, one after the other, and where each begins and the last one ends. Answers how many links there are.
 fn pack_all(
-    weights: &mut [f64],
+    weights: &mut [u64],
     indices: &mut [u32],
     offsets: &mut [u32],
     n: usize,
@@ -129,7 +132,7 @@ fn pack_all(
 
 // Packs weights, indices and offsets of n lists; zeros follow up to the old number of links and of offsets.
 pub fn pack_lists(
-    weights: &mut [f64],
+    weights: &mut [u64],
     indices: &mut [u32],
     offsets: &mut [u32],
     n: usize,
@@ -137,14 +140,14 @@ pub fn pack_lists(
 )
     requires { ⌜ (n ≤ mostFrames) × Climbs (now keep) × Staying (now keep) n × Listed n (length (now weights)) (length (now indices)) (now offsets) ⌝ }
     ensures { λ _. ⌜
-        (now (weights .exit) ≡ shrunk zero64 (num (now (offsets .entry)) n) (packedWeights (now (keep .entry)) (now (weights .entry)) (now (indices .entry)) (now (offsets .entry))) (now (weights .entry)))
+        (now (weights .exit) ≡ shrunk 0 (num (now (offsets .entry)) n) (packedWeights (now (keep .entry)) (now (weights .entry)) (now (indices .entry)) (now (offsets .entry))) (now (weights .entry)))
         × (now (indices .exit) ≡ shrunk 0 (num (now (offsets .entry)) n) (packedIndices (now (keep .entry)) (now (indices .entry)) (now (offsets .entry))) (now (indices .entry)))
         × (now (offsets .exit) ≡ shrunk 0 (n + 1) (packedOffsets (now (keep .entry)) (now (indices .entry)) (now (offsets .entry))) (now (offsets .entry)))
         ⌝ }
 {
     let links = wide(offsets[n]);
     let q = pack_all(weights, indices, offsets, n, keep);
-    clear_between(weights, q, links);
+    clear_bits(weights, q, links);
     clear_words(indices, q, links);
     clear_words(offsets, keep.len() + 1, n + 1);
 }

@@ -70,11 +70,11 @@ module _ {s : Settings} {g : List ℕ} {h : Holdings} (r : PackRoom s g h) where
 
   -- every area has been packed by the places in keep, and these are the survivors
   pub packed-told : (keep old : List ℕ) → keep ≡ survivors g (s .n) → old ≡ survivors g (s .n) ++ drop (length (survivors g (s .n))) (h .old)
-      → (p i v t f : List Float) (a : List Float) (x o : List ℕ)
+      → (p : List Float) (i v t : List ℕ) (f : List Float) (a x o : List ℕ)
       → (p ≡ shrunk zero64 (s .n * s .c) (centredRows keep (s .c) (h .positions)) (h .positions))
-      × (i ≡ shrunk zero64 (s .n * s .c) (keptRows keep (s .c) (h .increments)) (h .increments))
-      × (v ≡ shrunk zero64 (s .n * s .c) (keptRows keep (s .c) (h .gains)) (h .gains))
-      × (t ≡ shrunk zero64 (s .n * s .f) (keptRows keep (s .f) (h .table)) (h .table))
+      × (i ≡ shrunk 0 (s .n * s .c) (keptRows keep (s .c) (h .increments)) (h .increments))
+      × (v ≡ shrunk 0 (s .n * s .c) (keptRows keep (s .c) (h .gains)) (h .gains))
+      × (t ≡ shrunk 0 (s .n * s .f) (keptRows keep (s .f) (h .table)) (h .table))
       → (a ≡ affinitiesAfter s keep (h .affinities) (h .indices) (h .offsets)) × (x ≡ indicesAfter s keep (h .indices) (h .offsets)) × (o ≡ offsetsAfter s keep (h .indices) (h .offsets))
       → f ≡ filled zero64 (s .n * (2 * s .c + 1)) (h .forces)
       → holdings p i v a x o f t old ≡ packedAreas s (survivors g (s .n)) h

@@ -1,18 +1,19 @@
 -- Frames taken out of a run: the order of the tests, and the record and every area afterwards. Definitions only.
-use mathlib.Core.List.{List, _++_}
+use mathlib.Core.List.{List, _++_, map}
 use mathlib.Core.Path.{_≡_}
 use mathlib.Core.Bool.{Bool, true, false, cond, not, _&&_, _||_}
 use Prim.Native.Nat.{ℕ, _+_, _*_, _≤_}
 use lib.Dec.{eqb, leb}
 use lib.ListN.{length, drop}
 use lib.Ieee.{Float}
-use Rattle.laws.specs.Area.{num, zero64}
+use Rattle.laws.specs.Area.{num, bits, zero64}
 use Rattle.laws.specs.Domain.{mostFrames}
 use Rattle.areas.specs.Filled.{filled}
 use Rattle.run_record.specs.declared.Run.{Run}
 use Rattle.run_record.specs.declared.Settings.{Settings}
 use Rattle.run_record.specs.Record.{isTree, settingsFault, GoodSettings}
-use Rattle.run_entry.specs.State.{Memory, State}
+use Rattle.tree_node.specs.declared.Node.{Node}
+use Rattle.run_entry.specs.State.{State}
 use Rattle.run_entry.specs.declared.Fault.{Fault}
 use Rattle.run_entry.specs.Entry.{isFine, faultAt, faultNumber}
 use Rattle.take_gone.specs.Gone.{survivors, Climbs}
@@ -24,21 +25,37 @@ use Rattle.take_left.specs.Outlook.{thinnedRun, outlookOf, outlookNumber, Outlo
 use Rattle.take_out.specs.declared.Taken.{Taken}
 use Rattle.take_out.specs.declared.Taken.the-variants.{Told, Bad}
 
--- ---- the areas of which something is taken out: those of the run but for the nodes, the table and the old places
+-- ---- the areas of which something is taken out: those of the run but for the nodes, the table and the old places. Values that are only moved are words, by their bits
 
 pub record Holdings : Type 0 where
   pub positions : List Float
-  pub increments : List Float
-  pub gains : List Float
-  pub affinities : List Float
+  pub increments : List ℕ
+  pub gains : List ℕ
+  pub affinities : List ℕ
   pub indices : List ℕ
   pub offsets : List ℕ
   pub forces : List Float
-  pub table : List Float
+  pub table : List ℕ
   pub old : List ℕ
 
-abbrev pub holdings : List Float → List Float → List Float → List Float → List ℕ → List ℕ → List Float → List Float → List ℕ → Holdings
+abbrev pub holdings : List Float → List ℕ → List ℕ → List ℕ → List ℕ → List ℕ → List Float → List ℕ → List ℕ → Holdings
 holdings p i g a x o f t q = record { positions = p; increments = i; gains = g; affinities = a; indices = x; offsets = o; forces = f; table = t; old = q }
+
+-- the state that a record, such areas and nodes are: of each word the value with its bits
+abbrev pub stateHeld : Run → Holdings → List Node → State
+stateHeld r h ns = record {
+  run = r;
+  memory = record {
+    positions = h .positions;
+    increments = map bits (h .increments);
+    gains = map bits (h .gains);
+    affinities = map bits (h .affinities);
+    indices = h .indices;
+    offsets = h .offsets;
+    forces = h .forces;
+    nodes = ns;
+  };
+}
 
 -- ---- the tests
 
@@ -46,9 +63,11 @@ holdings p i g a x o f t q = record { positions = p; increments = i; gains = g; 
 unfoldable pub lentPositions : Settings → ℕ → ℕ → ℕ → ℕ
 lentPositions s p t q = cond (not (eqb (settingsFault s) 0) || (leb (s .n * s .f) t && leb (s .n) q)) p 0
 
--- as in a work call: t and q are how long the table and the old places are
-unfoldable pub takeFault : Run → Memory → ℕ → ℕ → Fault
-takeFault r m t q = faultAt r (lentPositions (r .settings) (length (m .positions)) t q) (length (m .increments)) (length (m .gains)) (length (m .affinities)) (length (m .forces)) (m .indices) (m .offsets) (m .nodes)
+-- as in a work call
+unfoldable pub takeFault : Run → Holdings → List Node → Fault
+takeFault r h ns =
+    faultAt r (lentPositions (r .settings) (length (h .positions)) (length (h .table)) (length (h .old)))
+    (length (h .increments)) (length (h .gains)) (length (h .affinities)) (length (h .forces)) (h .indices) (h .offsets) ns
 
 abbrev pub isAccepted : Outlook → Bool
 isAccepted (Left m) = true
@@ -62,8 +81,8 @@ isAccepted Barred = false
 -- ---- what is left
 
 -- keep: the old places of the survivors; W, I and O: affinities, indices and offsets. An exact run has a matrix and no lists
-unfoldable pub affinitiesAfter : Settings → List ℕ → List Float → List ℕ → List ℕ → List Float
-affinitiesAfter s keep W I O = cond (isTree (s .method)) (shrunk zero64 (num O (s .n)) (packedWeights keep W I O) W) (shrunk zero64 (s .n * s .n) (keptSquare keep (s .n) W) W)
+unfoldable pub affinitiesAfter : Settings → List ℕ → List ℕ → List ℕ → List ℕ → List ℕ
+affinitiesAfter s keep W I O = cond (isTree (s .method)) (shrunk 0 (num O (s .n)) (packedWeights keep W I O) W) (shrunk 0 (s .n * s .n) (keptSquare keep (s .n) W) W)
 
 unfoldable pub indicesAfter : Settings → List ℕ → List ℕ → List ℕ → List ℕ
 indicesAfter s keep I O = cond (isTree (s .method)) (shrunk 0 (num O (s .n)) (packedIndices keep I O) I) I
@@ -71,17 +90,17 @@ indicesAfter s keep I O = cond (isTree (s .method)) (shrunk 0 (num O (s .n)) (pa
 unfoldable pub offsetsAfter : Settings → List ℕ → List ℕ → List ℕ → List ℕ
 offsetsAfter s keep I O = cond (isTree (s .method)) (shrunk 0 (s .n + 1) (packedOffsets keep I O) O) O
 
--- survivors close ranks, zeros follow up to the old sizes; all forces are zero
+-- survivors close ranks, zeros follow up to the old sizes (0 is the word of +0.0); all forces are zero
 unfoldable pub packedAreas : Settings → List ℕ → Holdings → Holdings
 packedAreas s keep h = record {
   positions = shrunk zero64 (s .n * s .c) (centredRows keep (s .c) (h .positions)) (h .positions);
-  increments = shrunk zero64 (s .n * s .c) (keptRows keep (s .c) (h .increments)) (h .increments);
-  gains = shrunk zero64 (s .n * s .c) (keptRows keep (s .c) (h .gains)) (h .gains);
+  increments = shrunk 0 (s .n * s .c) (keptRows keep (s .c) (h .increments)) (h .increments);
+  gains = shrunk 0 (s .n * s .c) (keptRows keep (s .c) (h .gains)) (h .gains);
   affinities = affinitiesAfter s keep (h .affinities) (h .indices) (h .offsets);
   indices = indicesAfter s keep (h .indices) (h .offsets);
   offsets = offsetsAfter s keep (h .indices) (h .offsets);
   forces = filled zero64 (s .n * (2 * s .c + 1)) (h .forces);
-  table = shrunk zero64 (s .n * s .f) (keptRows keep (s .f) (h .table)) (h .table);
+  table = shrunk 0 (s .n * s .f) (keptRows keep (s .f) (h .table)) (h .table);
   old = keep ++ drop (length keep) (h .old);
 }
 
@@ -105,25 +124,13 @@ takeTested f r g h =
 
 -- ---- the whole call
 
-pub record TakeOutcome : Type 0 where
-  pub answer : Taken
-  pub left : State
-  pub table : List Float
-  pub old : List ℕ
+-- the samples in g taken out of a run with the record r, the areas h and the nodes ns, which stay as they are
+unfoldable pub takeOut : List ℕ → Run → Holdings → List Node → TookOut
+takeOut g r h ns = takeTested (takeFault r h ns) r g h
 
-abbrev pub takeOutcome : Taken → State → List Float → List ℕ → TakeOutcome
-takeOutcome a s t q = record { answer = a; left = s; table = t; old = q }
-
--- the nodes stay as they are
-abbrev pub held : Memory → List Float → List ℕ → Holdings
-held m t q = holdings (m .positions) (m .increments) (m .gains) (m .affinities) (m .indices) (m .offsets) (m .forces) t q
-
-abbrev pub afterTaking : Memory → TookOut → TakeOutcome
-afterTaking m k = takeOutcome (k .answer) (record { run = k .run; memory = record { positions = k .areas .positions; increments = k .areas .increments; gains = k .areas .gains; affinities = k .areas .affinities; indices = k .areas .indices; offsets = k .areas .offsets; forces = k .areas .forces; nodes = m .nodes } }) (k .areas .table) (k .areas .old)
-
--- the samples in g taken out of the run s with the table t; q are the old places
-unfoldable pub takeOut : List ℕ → State → List Float → List ℕ → TakeOutcome
-takeOut g s t q = afterTaking (s .memory) (takeTested (takeFault (s .run) (s .memory) (length t) (length q)) (s .run) g (held (s .memory) t q))
+-- the state that is left, with these nodes
+abbrev pub leftBy : TookOut → List Node → State
+leftBy k ns = stateHeld (k .run) (k .areas) ns
 
 -- the number of a refusal; 0 where there is none
 unfoldable pub takeNumber : Taken → ℕ

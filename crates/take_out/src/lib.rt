@@ -4,11 +4,11 @@ ghost use mathlib.Core.Bool.{true};
 ghost use Prim.Native.Nat.{_*_};
 ghost use lib.ListN.{length};
 ghost use Rattle.laws.specs.Area.{zero64};
-ghost use Rattle.run_entry.specs.State.{memory, state};
+ghost use Rattle.tree_node.specs.Arena.{nodesOf};
 ghost use Rattle.run_entry.specs.Entry.{isFine};
 ghost use Rattle.take_gone.specs.Gone.{survivors};
 ghost use Rattle.take_rows.specs.Rows.{shrunk, keptRows, centredRows};
-ghost use Rattle.take_out.specs.TakeOut.{holdings, lentPositions, isAccepted, affinitiesAfter, indicesAfter, offsetsAfter, packedAreas, tookOut, takeTested, takeOutcome, takeOut, takeNumber, TakeRoom, ValuesRoom, LinksRoom, PackRoom};
+ghost use Rattle.take_out.specs.TakeOut.{holdings, lentPositions, isAccepted, affinitiesAfter, indicesAfter, offsetsAfter, packedAreas, tookOut, takeTested, takeOut, takeNumber, TakeRoom, ValuesRoom, LinksRoom, PackRoom};
 use areas::fill;
 use run_entry::Fault;
 use run_entry::fault_at;
@@ -81,16 +81,16 @@ fn pack_values(
     gone: &[u32],
     keep: &[u32],
     positions: &mut [f64],
-    increments: &mut [f64],
-    gains: &mut [f64],
-    table: &mut [f64],
+    increments: &mut [u64],
+    gains: &mut [u64],
+    table: &mut [u64],
 )
     requires { ⌜ ValuesRoom s (now gone) (now keep) (length (now positions)) (length (now increments)) (length (now gains)) (length (now table)) ⌝ }
     ensures { λ _. ⌜
         (now (positions .exit) ≡ shrunk zero64 (s .n * s .c) (centredRows (now (keep .entry)) (s .c) (now (positions .entry))) (now (positions .entry)))
-        × (now (increments .exit) ≡ shrunk zero64 (s .n * s .c) (keptRows (now (keep .entry)) (s .c) (now (increments .entry))) (now (increments .entry)))
-        × (now (gains .exit) ≡ shrunk zero64 (s .n * s .c) (keptRows (now (keep .entry)) (s .c) (now (gains .entry))) (now (gains .entry)))
-        × (now (table .exit) ≡ shrunk zero64 (s .n * s .f) (keptRows (now (keep .entry)) (s .f) (now (table .entry))) (now (table .entry)))
+        × (now (increments .exit) ≡ shrunk 0 (s .n * s .c) (keptRows (now (keep .entry)) (s .c) (now (increments .entry))) (now (increments .entry)))
+        × (now (gains .exit) ≡ shrunk 0 (s .n * s .c) (keptRows (now (keep .entry)) (s .c) (now (gains .entry))) (now (gains .entry)))
+        × (now (table .exit) ≡ shrunk 0 (s .n * s .f) (keptRows (now (keep .entry)) (s .f) (now (table .entry))) (now (table .entry)))
         ⌝ }
 {
     let mut means = [0.0; 8];
@@ -105,7 +105,7 @@ fn pack_values(
 fn pack_affinities(
     s: Settings,
     keep: &[u32],
-    affinities: &mut [f64],
+    affinities: &mut [u64],
     indices: &mut [u32],
     offsets: &mut [u32],
 )
@@ -129,13 +129,13 @@ fn pack_run(
     s: Settings,
     gone: &[u32],
     positions: &mut [f64],
-    increments: &mut [f64],
-    gains: &mut [f64],
-    affinities: &mut [f64],
+    increments: &mut [u64],
+    gains: &mut [u64],
+    affinities: &mut [u64],
     indices: &mut [u32],
     offsets: &mut [u32],
     forces: &mut [f64],
-    table: &mut [f64],
+    table: &mut [u64],
     old: &mut [u32],
 )
     requires { ⌜ PackRoom s (now gone) (holdings (now positions) (now increments) (now gains) (now affinities) (now indices) (now offsets) (now forces) (now table) (now old)) ⌝ }
@@ -156,13 +156,13 @@ fn take_tested(
     r: Run,
     gone: &[u32],
     positions: &mut [f64],
-    increments: &mut [f64],
-    gains: &mut [f64],
-    affinities: &mut [f64],
+    increments: &mut [u64],
+    gains: &mut [u64],
+    affinities: &mut [u64],
     indices: &mut [u32],
     offsets: &mut [u32],
     forces: &mut [f64],
-    table: &mut [f64],
+    table: &mut [u64],
     old: &mut [u32],
 ) -> Took
     requires { ⌜ (isFine f ≡ true → TakeRoom r (holdings (now positions) (now increments) (now gains) (now affinities) (now indices) (now offsets) (now forces) (now table) (now old))) ⌝ }
@@ -206,44 +206,24 @@ fn take_tested(
     }
 }
 
-// The samples in `gone` taken out of a run, with any record, list and areas. The nodes are only looked at.
+// The samples in `gone` taken out of a run, with any record, list and areas. Values that are only moved are lent as words, by their bits. The nodes are only looked at.
 pub fn take_out(
     run: &mut Run,
     positions: &mut [f64],
-    increments: &mut [f64],
-    gains: &mut [f64],
-    affinities: &mut [f64],
+    increments: &mut [u64],
+    gains: &mut [u64],
+    affinities: &mut [u64],
     indices: &mut [u32],
     offsets: &mut [u32],
     forces: &mut [f64],
     cells: &[Cell],
-    table: &mut [f64],
+    table: &mut [u64],
     gone: &[u32],
     old: &mut [u32],
 ) -> Taken
     ensures { λ a. ⌜
-        takeOutcome a (state (now (run .exit)) (memory
-        (now (positions .exit))
-        (now (increments .exit))
-        (now (gains .exit))
-        (now (affinities .exit))
-        (now (indices .exit))
-        (now (offsets .exit))
-        (now (forces .exit))
-        (now (cells .entry))))
-        (now (table .exit))
-        (now (old .exit))
-        ≡ takeOut (now (gone .entry)) (state (now (run .entry)) (memory
-        (now (positions .entry))
-        (now (increments .entry))
-        (now (gains .entry))
-        (now (affinities .entry))
-        (now (indices .entry))
-        (now (offsets .entry))
-        (now (forces .entry))
-        (now (cells .entry))))
-        (now (table .entry))
-        (now (old .entry))
+        tookOut a (now (run .exit)) (holdings (now (positions .exit)) (now (increments .exit)) (now (gains .exit)) (now (affinities .exit)) (now (indices .exit)) (now (offsets .exit)) (now (forces .exit)) (now (table .exit)) (now (old .exit)))
+        ≡ takeOut (now (gone .entry)) (now (run .entry)) (holdings (now (positions .entry)) (now (increments .entry)) (now (gains .entry)) (now (affinities .entry)) (now (indices .entry)) (now (offsets .entry)) (now (forces .entry)) (now (table .entry)) (now (old .entry))) (nodesOf (now (cells .entry)))
         ⌝ }
 {
     let r = *run;

@@ -1,4 +1,4 @@
--- Areas from which frames are taken out: what is left stands at the front, zeros follow up to the old size. Definitions only.
+-- Areas from which frames are taken out: what is left stands at the front, zeros follow up to the old size. Values that are only moved stand as words, by their bits. Definitions only.
 use mathlib.Core.List.{List, _++_}
 use mathlib.Core.Path.{_≡_}
 use Prim.Native.Nat.{ℕ, _+_, _-_, _*_, _<_, _≤_}
@@ -17,13 +17,13 @@ module _ {A : Type 0} where
   abbrev pub clearedFrom : A → ℕ → ℕ → List A → List A
   clearedFrom z a b l = take a l ++ (replicate (b - a) z ++ drop b l)
 
--- of an area with a row of w values for each frame, the rows of the frames in keep
-abbrev pub keptRows : List ℕ → ℕ → List Float → List Float
-keptRows keep w l = joined (λ i. each (λ d. at l (num keep i * w + d)) w) (length keep)
+-- of an area with a row of w words for each frame, the rows of the frames in keep
+abbrev pub keptRows : List ℕ → ℕ → List ℕ → List ℕ
+keptRows keep w l = joined (λ i. each (λ d. num l (num keep i * w + d)) w) (length keep)
 
 -- of a matrix with n rows of n, the rows and the columns of the frames in keep
-abbrev pub keptSquare : List ℕ → ℕ → List Float → List Float
-keptSquare keep n l = joined (λ i. each (λ j. at l (num keep i * n + num keep j)) (length keep)) (length keep)
+abbrev pub keptSquare : List ℕ → ℕ → List ℕ → List ℕ
+keptSquare keep n l = joined (λ i. each (λ j. num l (num keep i * n + num keep j)) (length keep)) (length keep)
 
 -- component d's mean over the frames in keep
 abbrev pub averageLeft : List ℕ → ℕ → List Float → ℕ → Float

@@ -16,7 +16,7 @@ use Rattle.run_record.specs.declared.Run.{Run}
 use Rattle.run_record.specs.declared.Settings.{Settings}
 use Rattle.run_record.specs.Record.{settingsFault, GoodSettings}
 use Rattle.run_record.proofs.Laws.{settings-good}
-use Rattle.run_entry.specs.State.{Memory, State}
+use Rattle.tree_node.specs.declared.Node.{Node}
 use Rattle.run_entry.specs.declared.Fault.{Fault}
 use Rattle.run_entry.specs.declared.Fault.the-variants.{Fine, Settings as BadSettings, Counters, Areas, Offsets, Index, Tree}
 use Rattle.run_entry.specs.Entry.{isFine, recordFault, areasFit, faultAt, faultOf, faultNumber, Good}
@@ -28,7 +28,8 @@ use Rattle.take_left.specs.declared.Outlook.the-variants.{Left, Inside, Unorder
 use Rattle.take_left.specs.Outlook.{thinnedRun, crowded, outlookOf, outlookNumber}
 use Rattle.take_left.proofs.Judged.{judged-left}
 use Rattle.take_out.specs.declared.Taken.the-variants.{Told, Bad}
-use Rattle.take_out.specs.TakeOut.{TookOut, tookOut, TakeOutcome, lentPositions, takeFault, isAccepted, packedAreas, takeTested, held, afterTaking, takeOut, takeNumber}
+use Rattle.take_out.specs.TakeOut.{Holdings, TookOut, tookOut, stateHeld, leftBy, lentPositions, takeFault, isAccepted, packedAreas, takeTested, takeOut, takeNumber}
+use Rattle.take_out.proofs.Calls.{words-told}
 
 -- ---- a refusal
 
@@ -63,50 +64,53 @@ bad-numbered (Index i) e z = let y : _≡_ {A = ℕ} 13 0 = z in omega arith
 bad-numbered (Tree i) e z = let y : _≡_ {A = ℕ} 13 0 = z in omega arith
 
 -- the record and the areas with the samples of g taken out, where v is told
-abbrev tookAs : Outlook → List ℕ → State → List Float → List ℕ → TookOut
-tookAs v g s t q =
-    let keep = survivors g (s .run .settings .n) in
-    tookOut (Told v) (thinnedRun (s .run) (length keep)) (packedAreas (s .run .settings) keep (held (s .memory) t q))
+abbrev tookAs : Outlook → List ℕ → Run → Holdings → TookOut
+tookAs v g r h =
+    let keep = survivors g (r .settings .n) in
+    tookOut (Told v) (thinnedRun r (length keep)) (packedAreas (r .settings) keep h)
 
-module _ (g : List ℕ) (s : State) (t : List Float) (q : List ℕ) where
+module _ (g : List ℕ) (r : Run) (h : Holdings) (ns : List Node) where
   abbrev fault : Fault
-  fault = takeFault (s .run) (s .memory) (length t) (length q)
+  fault = takeFault r h ns
 
   abbrev outlook : Outlook
-  outlook = outlookOf (s .run) g (s .memory .positions) (s .memory .indices) (s .memory .offsets)
+  outlook = outlookOf r g (h .positions) (h .indices) (h .offsets)
 
-  -- record, areas, table and old places as they were
+  -- record and areas as they were, bit for bit where values are only moved
   pub record Unchanged : Type 0 where
-    pub left : takeOut g s t q .left ≡ s
-    pub table : takeOut g s t q .table ≡ t
-    pub old : takeOut g s t q .old ≡ q
+    pub run : takeOut g r h ns .run ≡ r
+    pub areas : takeOut g r h ns .areas ≡ h
 
-  bad-is : isFine fault ≡ false → takeOut g s t q ≡ afterTaking (s .memory) (tookOut (Bad fault) (s .run) (held (s .memory) t q))
+  bad-is : isFine fault ≡ false → takeOut g r h ns ≡ tookOut (Bad fault) r h
   unfolding takeOut takeTested
   bad-is f = rw f
 
-  told-is : isFine fault ≡ true → isAccepted outlook ≡ false → takeOut g s t q ≡ afterTaking (s .memory) (tookOut (Told outlook) (s .run) (held (s .memory) t q))
+  told-is : isFine fault ≡ true → isAccepted outlook ≡ false → takeOut g r h ns ≡ tookOut (Told outlook) r h
   unfolding takeOut takeTested
   told-is f e = rw (f, e)
 
-  left-is : isFine fault ≡ true → isAccepted outlook ≡ true → takeOut g s t q ≡ afterTaking (s .memory) (tookAs outlook g s t q)
+  left-is : isFine fault ≡ true → isAccepted outlook ≡ true → takeOut g r h ns ≡ tookAs outlook g r h
   unfolding takeOut takeTested
   left-is f e = rw (f, e)
 
   -- once the entry tests have passed, the outlook is told
-  pub outlook-told : isFine fault ≡ true → takeOut g s t q .answer ≡ Told outlook
-  outlook-told f = by-bool (takeOut g s t q .answer ≡ Told outlook) (isAccepted outlook)
-      (λ e. ap (λ (o : TakeOutcome). o .answer) (left-is f e))
-      (λ e. ap (λ (o : TakeOutcome). o .answer) (told-is f e))
+  pub outlook-told : isFine fault ≡ true → takeOut g r h ns .answer ≡ Told outlook
+  outlook-told f = by-bool (takeOut g r h ns .answer ≡ Told outlook) (isAccepted outlook)
+      (λ e. ap (λ (o : TookOut). o .answer) (left-is f e))
+      (λ e. ap (λ (o : TookOut). o .answer) (told-is f e))
 
   -- THEOREM: a removal whose answer has a number, and so is refused, changes nothing
-  pub refused-changes-nothing : (takeNumber (takeOut g s t q .answer) ≡ 0 → ⊥) → Unchanged
+  pub refused-changes-nothing : (takeNumber (takeOut g r h ns .answer) ≡ 0 → ⊥) → Unchanged
   unfolding takeNumber
   refused-changes-nothing n = by-bool Unchanged (isFine fault)
       (λ f. by-bool Unchanged (isAccepted outlook)
       (λ e. absurd (n (rw (left-is f e) (no-number outlook e))))
-      (λ e. record { left = rw (told-is f e); table = rw (told-is f e); old = rw (told-is f e) }))
-      (λ f. record { left = rw (bad-is f); table = rw (bad-is f); old = rw (bad-is f) })
+      (λ e. record { run = rw (told-is f e); areas = rw (told-is f e) }))
+      (λ f. record { run = rw (bad-is f); areas = rw (bad-is f) })
+
+  -- so the state is as it was
+  pub refused-state : (takeNumber (takeOut g r h ns .answer) ≡ 0 → ⊥) → leftBy (takeOut g r h ns) ns ≡ stateHeld r h ns
+  refused-state n = let u = refused-changes-nothing n in rw (u .run, u .areas)
 
 -- ---- what the tests of a work call have shown, for any lengths
 
@@ -114,12 +118,12 @@ fine-cond : (b : Bool) (x y : Fault) → isFine y ≡ false → isFine (cond b x
 fine-cond true x y n e = (refl, e)
 fine-cond false x y n e = absurd (true≢false (sym e ∙ n))
 
-module _ (r : Run) (m : Memory) (p : ℕ) where
+module _ (r : Run) (h : Holdings) (ns : List Node) (p : ℕ) where
   abbrev faultBy : Fault
-  faultBy = faultAt r p (length (m .increments)) (length (m .gains)) (length (m .affinities)) (length (m .forces)) (m .indices) (m .offsets) (m .nodes)
+  faultBy = faultAt r p (length (h .increments)) (length (h .gains)) (length (h .affinities)) (length (h .forces)) (h .indices) (h .offsets) ns
 
   abbrev fits : Bool
-  fits = areasFit (r .settings) p (length (m .increments)) (length (m .gains)) (length (m .affinities)) (length (m .indices)) (length (m .offsets)) (length (m .forces)) (length (m .nodes))
+  fits = areasFit (r .settings) p (length (h .increments)) (length (h .gains)) (length (h .affinities)) (length (h .indices)) (length (h .offsets)) (length (h .forces)) (length ns)
 
   record-first : isFine faultBy ≡ true → isFine (recordFault r) ≡ true
   unfolding faultAt
@@ -149,60 +153,58 @@ lent-none : (s : Settings) (p t q : ℕ) → GoodSettings s → (leb (s .n * s .
 unfolding lentPositions
 lent-none s p t q g e = rw (settings-good s g, e)
 
-module _ (s : State) (t : List Float) (q : List ℕ) where
+module _ (r : Run) (h : Holdings) (ns : List Node) where
   abbrev both : Bool
-  both = leb (s .run .settings .n * s .run .settings .f) (length t) && leb (s .run .settings .n) (length q)
+  both = leb (r .settings .n * r .settings .f) (length (h .table)) && leb (r .settings .n) (length (h .old))
 
-  short-areas : isFine (recordFault (s .run)) ≡ true → both ≡ false → takeFault (s .run) (s .memory) (length t) (length q) ≡ Areas
+  short-areas : isFine (recordFault r) ≡ true → both ≡ false → takeFault r h ns ≡ Areas
   unfolding takeFault
   short-areas e b =
-      let r = s .run in
-      let m = s .memory in
       let g = record-fine r e .0 in
-      rw (lent-none (r .settings) (length (m .positions)) (length t) (length q) g b) (areas-short r m 0 e
-      (no-room (r .settings) (length (m .increments)) (length (m .gains)) (length (m .affinities)) (length (m .indices)) (length (m .offsets)) (length (m .forces)) (length (m .nodes)) g))
+      rw (lent-none (r .settings) (length (h .positions)) (length (h .table)) (length (h .old)) g b) (areas-short r h ns 0 e
+      (no-room (r .settings) (length (h .increments)) (length (h .gains)) (length (h .affinities)) (length (h .indices)) (length (h .offsets)) (length (h .forces)) (length ns) g))
 
   -- THEOREM: with a table of n·f values and n old places at least, the entry tests are those of a work call
-  pub long-enough-told : s .run .settings .n * s .run .settings .f ≤ length t → s .run .settings .n ≤ length q → takeFault (s .run) (s .memory) (length t) (length q) ≡ faultOf s
-  unfolding takeFault faultOf
-  long-enough-told h l = rw (lent-all (s .run .settings) (length (s .memory .positions)) (length t) (length q) h l)
+  pub long-enough-told : r .settings .n * r .settings .f ≤ length (h .table) → r .settings .n ≤ length (h .old) → takeFault r h ns ≡ faultOf (stateHeld r h ns)
+  unfolding takeFault
+  long-enough-told k l = rw (lent-all (r .settings) (length (h .positions)) (length (h .table)) (length (h .old)) k l) (words-told r h ns)
 
   -- what they have shown where they pass
   pub record TakeEntered : Type 0 where
-    pub good : Good s
-    pub table-long : s .run .settings .n * s .run .settings .f ≤ length t
-    pub old-long : s .run .settings .n ≤ length q
+    pub good : Good (stateHeld r h ns)
+    pub table-long : r .settings .n * r .settings .f ≤ length (h .table)
+    pub old-long : r .settings .n ≤ length (h .old)
 
-  entered : isFine (takeFault (s .run) (s .memory) (length t) (length q)) ≡ true → TakeEntered
+  entered : isFine (takeFault r h ns) ≡ true → TakeEntered
   unfolding takeFault
   entered e = by-bool TakeEntered both
-      (λ b. let n = s .run .settings .n in
-      let h = leb-true (n * s .run .settings .f) (length t) (and-left (leb (n * s .run .settings .f) (length t)) (leb n (length q)) b) in
-      let l = leb-true n (length q) (and-right (leb (n * s .run .settings .f) (length t)) (leb n (length q)) b) in
-      record { good = fault-fine s (rw (long-enough-told h l) at e); table-long = h; old-long = l })
-      (λ b. absurd (true≢false (sym e ∙ ap isFine (short-areas (record-first (s .run) (s .memory) (lentPositions (s .run .settings) (length (s .memory .positions)) (length t) (length q)) e) b))))
+      (λ b. let n = r .settings .n in
+      let k = leb-true (n * r .settings .f) (length (h .table)) (and-left (leb (n * r .settings .f) (length (h .table))) (leb n (length (h .old))) b) in
+      let l = leb-true n (length (h .old)) (and-right (leb (n * r .settings .f) (length (h .table))) (leb n (length (h .old))) b) in
+      record { good = fault-fine (stateHeld r h ns) (rw (long-enough-told k l) at e); table-long = k; old-long = l })
+      (λ b. absurd (true≢false (sym e ∙ ap isFine (short-areas (record-first r h ns (lentPositions (r .settings) (length (h .positions)) (length (h .table)) (length (h .old))) e) b))))
 
 -- one of the two is too short
-pub record TooShort (s : State) (t : List Float) (q : List ℕ) : Type 0 where
-  pub short : (length t < s .run .settings .n * s .run .settings .f) ⊎ (length q < s .run .settings .n)
+pub record TooShort (r : Run) (h : Holdings) : Type 0 where
+  pub short : (length (h .table) < r .settings .n * r .settings .f) ⊎ (length (h .old) < r .settings .n)
 
 -- THEOREM: where the record passes, a table below n·f or fewer than n old places give 12, whatever else is lent and whatever the areas hold
-pub short-table-told : (g : List ℕ) (s : State) (t : List Float) (q : List ℕ) → isFine (recordFault (s .run)) ≡ true → TooShort s t q
-    → (takeOut g s t q .answer ≡ Bad Areas) × (takeNumber (takeOut g s t q .answer) ≡ 12)
+pub short-table-told : (g : List ℕ) (r : Run) (h : Holdings) (ns : List Node) → isFine (recordFault r) ≡ true → TooShort r h
+    → (takeOut g r h ns .answer ≡ Bad Areas) × (takeNumber (takeOut g r h ns .answer) ≡ 12)
 unfolding takeNumber faultNumber
-short-table-told g s t q e x = (told, rw told)
+short-table-told g r h ns e x = (told, rw told)
   where
     n : ℕ
-    n = s .run .settings .n
+    n = r .settings .n
 
-    is-short : both s t q ≡ false
-    is-short = ⊎-elim (λ h. rw (lt-leb (n * s .run .settings .f) (length t) h)) (λ h. rw (lt-leb n (length q) h) (and-no (leb (n * s .run .settings .f) (length t)))) (x .short)
+    is-short : both r h ns ≡ false
+    is-short = ⊎-elim (λ a. rw (lt-leb (n * r .settings .f) (length (h .table)) a)) (λ a. rw (lt-leb n (length (h .old)) a) (and-no (leb (n * r .settings .f) (length (h .table))))) (x .short)
 
-    areas : takeFault (s .run) (s .memory) (length t) (length q) ≡ Areas
-    areas = short-areas s t q e is-short
+    areas : takeFault r h ns ≡ Areas
+    areas = short-areas r h ns e is-short
 
-    told : takeOut g s t q .answer ≡ Bad Areas
-    told = ap (λ (o : TakeOutcome). o .answer) (bad-is g s t q (ap isFine areas)) ∙ ap Bad areas
+    told : takeOut g r h ns .answer ≡ Bad Areas
+    told = ap (λ (o : TookOut). o .answer) (bad-is g r h ns (ap isFine areas)) ∙ ap Bad areas
 
 -- ---- what the tests of what would be left have shown
 
@@ -252,47 +254,47 @@ passes-told r g y I O p = judged-left r g y I O (p .between) (p .gone-fine) (p .
 -- ---- a removal that is not refused
 
 -- the record and the areas with the samples of g taken out
-abbrev pub tookFrom : List ℕ → State → List Float → List ℕ → TookOut
-tookFrom g s t q = tookAs (Left (length (survivors g (s .run .settings .n)))) g s t q
+abbrev pub tookFrom : List ℕ → Run → Holdings → TookOut
+tookFrom g r h = tookAs (Left (length (survivors g (r .settings .n)))) g r h
 
-module _ (g : List ℕ) (s : State) (t : List Float) (q : List ℕ) where
+module _ (g : List ℕ) (r : Run) (h : Holdings) (ns : List Node) where
   pub record Accepted : Type 0 where
-    pub entered : TakeEntered s t q
-    pub passed : Passes (s .run) g (s .memory .positions) (s .memory .indices) (s .memory .offsets)
-    pub outcome : takeOut g s t q ≡ afterTaking (s .memory) (tookFrom g s t q)
+    pub entered : TakeEntered r h ns
+    pub passed : Passes r g (h .positions) (h .indices) (h .offsets)
+    pub outcome : takeOut g r h ns ≡ tookFrom g r h
 
-  accepts : isFine (fault g s t q) ≡ true → isAccepted (outlook g s t q) ≡ true → Accepted
+  accepts : isFine (fault g r h ns) ≡ true → isAccepted (outlook g r h ns) ≡ true → Accepted
   accepts f e =
-      let p = passes (s .run) g (s .memory .positions) (s .memory .indices) (s .memory .offsets) e in
+      let p = passes r g (h .positions) (h .indices) (h .offsets) e in
       record {
-        entered = entered s t q f;
+        entered = entered r h ns f;
         passed = p;
         outcome =
-            left-is g s t q f e
-            ∙ ap (λ (v : Outlook). afterTaking (s .memory) (tookAs v g s t q)) (sym (passes-told (s .run) g (s .memory .positions) (s .memory .indices) (s .memory .offsets) p));
+            left-is g r h ns f e
+            ∙ ap (λ (v : Outlook). tookAs v g r h) (sym (passes-told r g (h .positions) (h .indices) (h .offsets) p));
       }
 
   -- an answer that tells how many are left is that of a removal that was done
-  pub accepted : (m : ℕ) → takeOut g s t q .answer ≡ Told (Left m) → Accepted
-  accepted m a = by-bool Accepted (isFine (fault g s t q))
-      (λ f. by-bool Accepted (isAccepted (outlook g s t q)) (accepts f)
-      (λ e. absurd (true≢false (sym (ap isAccepted (same (sym (ap (λ (o : TakeOutcome). o .answer) (told-is g s t q f e)) ∙ a))) ∙ e))))
-      (λ f. absurd (let z : Bad (fault g s t q) ≡ Told (Left m) = sym (ap (λ (o : TakeOutcome). o .answer) (bad-is g s t q f)) ∙ a in let y : _≡_ {A = ℕ} 0 1 = cc in omega arith))
+  pub accepted : (m : ℕ) → takeOut g r h ns .answer ≡ Told (Left m) → Accepted
+  accepted m a = by-bool Accepted (isFine (fault g r h ns))
+      (λ f. by-bool Accepted (isAccepted (outlook g r h ns)) (accepts f)
+      (λ e. absurd (true≢false (sym (ap isAccepted (same (sym (ap (λ (o : TookOut). o .answer) (told-is g r h ns f e)) ∙ a))) ∙ e))))
+      (λ f. absurd (let z : Bad (fault g r h ns) ≡ Told (Left m) = sym (ap (λ (o : TookOut). o .answer) (bad-is g r h ns f)) ∙ a in let y : _≡_ {A = ℕ} 0 1 = cc in omega arith))
     where
       same : {v w : Outlook} → Told v ≡ Told w → v ≡ w
       same e = cc
 
   -- and it tells their number
-  pub accepted-count : (m : ℕ) → takeOut g s t q .answer ≡ Told (Left m) → m ≡ length (survivors g (s .run .settings .n))
-  accepted-count m a = let z : Told (Left (length (survivors g (s .run .settings .n)))) ≡ Told (Left m) = sym (ap (λ (o : TakeOutcome). o .answer) (accepted m a .outcome)) ∙ a in cc
+  pub accepted-count : (m : ℕ) → takeOut g r h ns .answer ≡ Told (Left m) → m ≡ length (survivors g (r .settings .n))
+  accepted-count m a = let z : Told (Left (length (survivors g (r .settings .n)))) ≡ Told (Left m) = sym (ap (λ (o : TookOut). o .answer) (accepted m a .outcome)) ∙ a in cc
 
   -- the answers without a number are just those
-  pub no-number-left : takeNumber (takeOut g s t q .answer) ≡ 0 → takeOut g s t q .answer ≡ Told (Left (length (survivors g (s .run .settings .n))))
-  no-number-left z = by-bool Goal (isFine (fault g s t q))
-      (λ f. by-bool Goal (isAccepted (outlook g s t q))
-      (λ e. ap (λ (o : TakeOutcome). o .answer) (accepts f e .outcome))
-      (λ e. absurd (told-numbered (outlook g s t q) e (sym (ap (λ (o : TakeOutcome). takeNumber (o .answer)) (told-is g s t q f e)) ∙ z))))
-      (λ f. absurd (bad-numbered (fault g s t q) f (sym (ap (λ (o : TakeOutcome). takeNumber (o .answer)) (bad-is g s t q f)) ∙ z)))
+  pub no-number-left : takeNumber (takeOut g r h ns .answer) ≡ 0 → takeOut g r h ns .answer ≡ Told (Left (length (survivors g (r .settings .n))))
+  no-number-left z = by-bool Goal (isFine (fault g r h ns))
+      (λ f. by-bool Goal (isAccepted (outlook g r h ns))
+      (λ e. ap (λ (o : TookOut). o .answer) (accepts f e .outcome))
+      (λ e. absurd (told-numbered (outlook g r h ns) e (sym (ap (λ (o : TookOut). takeNumber (o .answer)) (told-is g r h ns f e)) ∙ z))))
+      (λ f. absurd (bad-numbered (fault g r h ns) f (sym (ap (λ (o : TookOut). takeNumber (o .answer)) (bad-is g r h ns f)) ∙ z)))
     where
       Goal : Type 0
-      Goal = takeOut g s t q .answer ≡ Told (Left (length (survivors g (s .run .settings .n))))
+      Goal = takeOut g r h ns .answer ≡ Told (Left (length (survivors g (r .settings .n))))

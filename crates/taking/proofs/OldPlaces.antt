@@ -6,15 +6,15 @@ use Prim.Native.Nat.{ℕ, _+_, _<_}
 use native.Mathlib.Omega.{arith}
 use lib.ListN.{length, take, drop, List·getD-append}
 use lib.Seq.{take-at, drop-at}
-use lib.Ieee.{Float}
 use Rattle.laws.specs.Area.{num}
 use Rattle.laws.proofs.Joined.{those-below, those-holds, those-rise, spot-yes, spot-at}
-use Rattle.run_entry.specs.State.{State}
+use Rattle.run_record.specs.declared.Run.{Run}
+use Rattle.tree_node.specs.declared.Node.{Node}
 use Rattle.take_gone.specs.Gone.{standsAt, isAmong, survivors}
 use Rattle.take_gone.proofs.Left.{survivors-count}
 use Rattle.take_left.specs.declared.Outlook.the-variants.{Left}
 use Rattle.take_out.specs.declared.Taken.the-variants.{Told}
-use Rattle.take_out.specs.TakeOut.{TakeOutcome, packedAreas, takeOut}
+use Rattle.take_out.specs.TakeOut.{Holdings, TookOut, packedAreas, takeOut}
 use Rattle.taking.proofs.Accepted.{accepted, accepted-count}
 
 -- q are the old places before a removal of g from n samples that leaves m, old those after it
@@ -53,11 +53,11 @@ places g n q e = record {
     here i h = List·getD-append (survivors g n) (drop (length (survivors g n)) q) 0 i h
 
 -- THEOREM: a removal that is not refused tells each survivor's old place
-pub old-places-told : (g : List ℕ) (s : State) (t : List Float) (q : List ℕ) (m : ℕ) → takeOut g s t q .answer ≡ Told (Left m) → OldPlaces g (s .run .settings .n) m q (takeOut g s t q .old)
+pub old-places-told : (g : List ℕ) (r : Run) (h : Holdings) (ns : List Node) (m : ℕ) → takeOut g r h ns .answer ≡ Told (Left m) → OldPlaces g (r .settings .n) m (h .old) (takeOut g r h ns .areas .old)
 unfolding packedAreas
-old-places-told g s t q m left =
-    let a = accepted g s t q m left in
-    let n = s .run .settings .n in
-    let c = accepted-count g s t q m left in
-    let o : takeOut g s t q .old ≡ survivors g n ++ drop (length (survivors g n)) q = ap (λ (x : TakeOutcome). x .old) (a .outcome) in
-    rw (o, c) (places g n q (survivors-count g n (a .passed .gone-fine)))
+old-places-told g r h ns m left =
+    let a = accepted g r h ns m left in
+    let n = r .settings .n in
+    let c = accepted-count g r h ns m left in
+    let o : takeOut g r h ns .areas .old ≡ survivors g n ++ drop (length (survivors g n)) (h .old) = ap (λ (x : TookOut). x .areas .old) (a .outcome) in
+    rw (o, c) (places g n (h .old) (survivors-count g n (a .passed .gone-fine)))

@@ -7,7 +7,7 @@ use native.Mathlib.Omega.{arith}
 use native.Mathlib.Nat.{mul-le-mul, mul-le-mul-right}
 use lib.ListN.{length, drop, replicate, length-append, length-drop, length-replicate}
 use lib.Ieee.{Float}
-use Rattle.laws.specs.Area.{at, num, zero64}
+use Rattle.laws.specs.Area.{num, zero64}
 use Rattle.laws.specs.Joined.{each}
 use Rattle.laws.proofs.Bools.{by-bool}
 use Rattle.laws.proofs.Laid.{singles-size, laid-size}
@@ -37,15 +37,15 @@ module _ {A : Type 0} where
 
 -- ---- what is left of rows
 
-pub rows-left-size : (keep : List ℕ) (w : ℕ) (l : List Float) → length (keptRows keep w l) ≡ length keep * w
-rows-left-size keep w l = laid-size w (λ i. each (λ d. at l (num keep i * w + d)) w) (length keep) (λ i h. singles-size (λ d. at l (num keep i * w + d)) w)
+pub rows-left-size : (keep : List ℕ) (w : ℕ) (l : List ℕ) → length (keptRows keep w l) ≡ length keep * w
+rows-left-size keep w l = laid-size w (λ i. each (λ d. num l (num keep i * w + d)) w) (length keep) (λ i h. singles-size (λ d. num l (num keep i * w + d)) w)
 
 pub centred-size : (keep : List ℕ) (c : ℕ) (y : List Float) → length (centredRows keep c y) ≡ length keep * c
 centred-size keep c y = laid-size c (λ i. each (λ d. centredLeft keep c y (num keep i) d) c) (length keep) (λ i h. singles-size (λ d. centredLeft keep c y (num keep i) d) c)
 
-pub square-size : (keep : List ℕ) (n : ℕ) (l : List Float) → length (keptSquare keep n l) ≡ length keep * length keep
+pub square-size : (keep : List ℕ) (n : ℕ) (l : List ℕ) → length (keptSquare keep n l) ≡ length keep * length keep
 square-size keep n l =
-    laid-size (length keep) (λ i. each (λ j. at l (num keep i * n + num keep j)) (length keep)) (length keep) (λ i h. singles-size (λ j. at l (num keep i * n + num keep j)) (length keep))
+    laid-size (length keep) (λ i. each (λ j. num l (num keep i * n + num keep j)) (length keep)) (length keep) (λ i h. singles-size (λ j. num l (num keep i * n + num keep j)) (length keep))
 
 -- ---- every area keeps its length
 
@@ -61,8 +61,8 @@ pub record SameSizes (h k : Holdings) : Type 0 where
   pub old-size : length (k .old) ≡ length (h .old)
 
 module _ (s : Settings) (keep : List ℕ) (h : Holdings) (room : AreasRoom s h) (climbs : Climbs keep) (kept : Staying keep (s .n)) where
-  rows-fit : (w : ℕ) (l : List Float) → s .n * w ≤ length l → length (shrunk zero64 (s .n * w) (keptRows keep w l) l) ≡ length l
-  rows-fit w l k = shrunk-size zero64 (s .n * w) (keptRows keep w l) l (omega (arith, rows-left-size keep w l, kept-all kept w)) k
+  rows-fit : (w : ℕ) (l : List ℕ) → s .n * w ≤ length l → length (shrunk 0 (s .n * w) (keptRows keep w l) l) ≡ length l
+  rows-fit w l k = shrunk-size 0 (s .n * w) (keptRows keep w l) l (omega (arith, rows-left-size keep w l, kept-all kept w)) k
 
   few-left : isTree (s .method) ≡ true → linksLeft keep (h .indices) (h .offsets) ≤ num (h .offsets) (s .n)
   few-left t = links-left-few keep (h .indices) (h .offsets) (room .lists-room t) climbs kept
@@ -70,9 +70,9 @@ module _ (s : Settings) (keep : List ℕ) (h : Holdings) (room : AreasRoom s h) 
   affinities-fit : length (affinitiesAfter s keep (h .affinities) (h .indices) (h .offsets)) ≡ length (h .affinities)
   unfolding affinitiesAfter
   affinities-fit = by-bool (length (affinitiesAfter s keep (h .affinities) (h .indices) (h .offsets)) ≡ length (h .affinities)) (isTree (s .method))
-      (λ t. rw t (shrunk-size zero64 (num (h .offsets) (s .n)) (packedWeights keep (h .affinities) (h .indices) (h .offsets)) (h .affinities)
+      (λ t. rw t (shrunk-size 0 (num (h .offsets) (s .n)) (packedWeights keep (h .affinities) (h .indices) (h .offsets)) (h .affinities)
       (omega (arith, packed-weights-count keep (h .affinities) (h .indices) (h .offsets), few-left t)) (room .lists-room t .weights-long)))
-      (λ t. rw t (shrunk-size zero64 (s .n * s .n) (keptSquare keep (s .n) (h .affinities)) (h .affinities) (omega (arith, square-size keep (s .n) (h .affinities), square-few)) (room .square-room t)))
+      (λ t. rw t (shrunk-size 0 (s .n * s .n) (keptSquare keep (s .n) (h .affinities)) (h .affinities) (omega (arith, square-size keep (s .n) (h .affinities), square-few)) (room .square-room t)))
     where
       square-few : length keep * length keep ≤ s .n * s .n
       square-few = mul-le-mul (kept .few) (kept .few)

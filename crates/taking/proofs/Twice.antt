@@ -57,41 +57,41 @@ pub record TwiceAsOnce (keep1 : List ℕ) (m : ℕ) (twice once : Holdings) : Ty
   pub old : (i : ℕ) → i < m → num keep1 (num (twice .old) i) ≡ num (once .old) i
 
 module _ (s : Settings) (keep1 keep2 : List ℕ) (climbs1 : Climbs keep1) (kept1 : Staying keep1 (s .n)) (climbs2 : Climbs keep2) (kept2 : Staying keep2 (length keep1)) where
-  rows-again : (w : ℕ) (l : List Float)
-      → shrunk zero64 (length keep1 * w) (keptRows keep2 w (shrunk zero64 (s .n * w) (keptRows keep1 w l) l)) (shrunk zero64 (s .n * w) (keptRows keep1 w l) l)
-      ≡ shrunk zero64 (s .n * w) (keptRows (through keep1 keep2) w l) l
+  rows-again : (w : ℕ) (l : List ℕ)
+      → shrunk 0 (length keep1 * w) (keptRows keep2 w (shrunk 0 (s .n * w) (keptRows keep1 w l) l)) (shrunk 0 (s .n * w) (keptRows keep1 w l) l)
+      ≡ shrunk 0 (s .n * w) (keptRows (through keep1 keep2) w l) l
   rows-again w l =
       let X = keptRows keep1 w l in
       let Y = keptRows (through keep1 keep2) w l in
       let few : length keep2 * w ≤ length keep1 * w = kept-all kept2 w in
-      ap (λ (x : List Float). shrunk zero64 (length keep1 * w) x (shrunk zero64 (s .n * w) X l))
-      (rows-twice keep1 keep2 (kept2 .below) w l (replicate (s .n * w - length X) zero64 ++ drop (s .n * w) l))
-      ∙ shrunk-twice zero64 (s .n * w) (length keep1 * w) X Y l (rows-left-size keep1 w l)
+      ap (λ (x : List ℕ). shrunk 0 (length keep1 * w) x (shrunk 0 (s .n * w) X l))
+      (rows-twice keep1 keep2 (kept2 .below) w l (replicate (s .n * w - length X) 0 ++ drop (s .n * w) l))
+      ∙ shrunk-twice 0 (s .n * w) (length keep1 * w) X Y l (rows-left-size keep1 w l)
       (omega (arith, few, rows-left-size (through keep1 keep2) w l, ap (λ (x : ℕ). x * w) (through-size keep1 keep2))) (kept-all kept1 w)
 
-  square-again : (l : List Float)
-      → shrunk zero64 (length keep1 * length keep1) (keptSquare keep2 (length keep1) (shrunk zero64 (s .n * s .n) (keptSquare keep1 (s .n) l) l)) (shrunk zero64 (s .n * s .n) (keptSquare keep1 (s .n) l) l)
-      ≡ shrunk zero64 (s .n * s .n) (keptSquare (through keep1 keep2) (s .n) l) l
+  square-again : (l : List ℕ)
+      → shrunk 0 (length keep1 * length keep1) (keptSquare keep2 (length keep1) (shrunk 0 (s .n * s .n) (keptSquare keep1 (s .n) l) l)) (shrunk 0 (s .n * s .n) (keptSquare keep1 (s .n) l) l)
+      ≡ shrunk 0 (s .n * s .n) (keptSquare (through keep1 keep2) (s .n) l) l
   square-again l =
       let X = keptSquare keep1 (s .n) l in
       let Y = keptSquare (through keep1 keep2) (s .n) l in
       let size = s .n * s .n in
       let few : length keep2 * length keep2 ≤ length keep1 * length keep1 = mul-le-mul (kept2 .few) (kept2 .few) in
-      ap (λ (x : List Float). shrunk zero64 (length keep1 * length keep1) x (shrunk zero64 size X l))
-      (square-twice keep1 keep2 (kept2 .below) (s .n) l (replicate (size - length X) zero64 ++ drop size l))
-      ∙ shrunk-twice zero64 size (length keep1 * length keep1) X Y l (square-size keep1 (s .n) l)
+      ap (λ (x : List ℕ). shrunk 0 (length keep1 * length keep1) x (shrunk 0 size X l))
+      (square-twice keep1 keep2 (kept2 .below) (s .n) l (replicate (size - length X) 0 ++ drop size l))
+      ∙ shrunk-twice 0 size (length keep1 * length keep1) X Y l (square-size keep1 (s .n) l)
       (omega (arith, few, square-size (through keep1 keep2) (s .n) l, ap (λ (x : ℕ). x * x) (through-size keep1 keep2))) (mul-le-mul (kept1 .few) (kept1 .few))
 
   -- the lists: W, I and O are weights, indices and offsets
-  module _ (W : List Float) (I O : List ℕ) {w x : ℕ} (lists : Listed (s .n) w x O) where
+  module _ (W I O : List ℕ) {w x : ℕ} (lists : Listed (s .n) w x O) where
     abbrev n : ℕ
     n = s .n
 
     abbrev links : ℕ
     links = linksLeft keep1 I O
 
-    abbrev W1 : List Float
-    W1 = shrunk zero64 (num O n) (packedWeights keep1 W I O) W
+    abbrev W1 : List ℕ
+    W1 = shrunk 0 (num O n) (packedWeights keep1 W I O) W
 
     abbrev I1 : List ℕ
     I1 = shrunk 0 (num O n) (packedIndices keep1 I O) I
@@ -115,13 +115,13 @@ module _ (s : Settings) (keep1 keep2 : List ℕ) (climbs1 : Climbs keep1) (kept1
     links-fewest : linksLeft (through keep1 keep2) I O ≤ links
     links-fewest = omega (arith, links-end, links-left-few keep2 I1 O1 (packed-listed keep1 I O lists climbs1 kept1) climbs2 kept2, links-left-twice keep1 keep2 climbs1 (kept2 .below) I O P Q)
 
-    weights-again : shrunk zero64 (num O1 (length keep1)) (packedWeights keep2 W1 I1 O1) W1 ≡ shrunk zero64 (num O n) (packedWeights (through keep1 keep2) W I O) W
+    weights-again : shrunk 0 (num O1 (length keep1)) (packedWeights keep2 W1 I1 O1) W1 ≡ shrunk 0 (num O n) (packedWeights (through keep1 keep2) W I O) W
     weights-again =
         let X = packedWeights keep1 W I O in
         let Y = packedWeights (through keep1 keep2) W I O in
-        ap (λ (y : ℕ). shrunk zero64 y (packedWeights keep2 W1 I1 O1) W1) links-end
-        ∙ ap (λ (y : List Float). shrunk zero64 links y W1) (packed-weights-twice keep1 keep2 climbs1 (kept2 .below) I O P Q W (replicate (num O n - length X) zero64 ++ drop (num O n) W))
-        ∙ shrunk-twice zero64 (num O n) links X Y W (packed-weights-count keep1 W I O) (omega (arith, packed-weights-count (through keep1 keep2) W I O, links-fewest)) links-fewer
+        ap (λ (y : ℕ). shrunk 0 y (packedWeights keep2 W1 I1 O1) W1) links-end
+        ∙ ap (λ (y : List ℕ). shrunk 0 links y W1) (packed-weights-twice keep1 keep2 climbs1 (kept2 .below) I O P Q W (replicate (num O n - length X) 0 ++ drop (num O n) W))
+        ∙ shrunk-twice 0 (num O n) links X Y W (packed-weights-count keep1 W I O) (omega (arith, packed-weights-count (through keep1 keep2) W I O, links-fewest)) links-fewer
 
     indices-again : shrunk 0 (num O1 (length keep1)) (packedIndices keep2 I1 O1) I1 ≡ shrunk 0 (num O n) (packedIndices (through keep1 keep2) I O) I
     indices-again =

@@ -7,8 +7,7 @@ use native.Mathlib.Omega.{arith}
 use native.Mathlib.Nat.{le-refl}
 use lib.ListN.{length, getD, drop, replicate, length-replicate, replicate-append-replicate, List·getD-append}
 use lib.Seq.{drop-at}
-use lib.Ieee.{Float, nan}
-use Rattle.laws.specs.Area.{at, num}
+use Rattle.laws.specs.Area.{num}
 use Rattle.laws.specs.Joined.{those, joined, each}
 use Rattle.laws.proofs.Sums.{sum-same}
 use Rattle.laws.proofs.Joined.{joined-mono, length-map, those-same, map-those}
@@ -66,23 +65,23 @@ module _ {A : Type 0} where
 
 module _ (keep1 keep2 : List ℕ) (within : (i : ℕ) → i < length keep2 → num keep2 i < length keep1) where
   -- rows of rows, whatever follows them
-  pub rows-twice : (w : ℕ) (l r : List Float) → keptRows keep2 w (keptRows keep1 w l ++ r) ≡ keptRows (through keep1 keep2) w l
+  pub rows-twice : (w : ℕ) (l r : List ℕ) → keptRows keep2 w (keptRows keep1 w l ++ r) ≡ keptRows (through keep1 keep2) w l
   rows-twice w l r =
-      joined-same (λ i. each (λ d. at (keptRows keep1 w l ++ r) (num keep2 i * w + d)) w) (λ i. each (λ d. at l (num (through keep1 keep2) i * w + d)) w) (length keep2) (λ i h.
-      each-same (λ d. at (keptRows keep1 w l ++ r) (num keep2 i * w + d)) (λ d. at l (num (through keep1 keep2) i * w + d)) w (λ d k.
-      row-at (λ i d. at l (num keep1 i * w + d)) w (length keep1) (num keep2 i) d r nan (within i h) k
-      ∙ ap (λ (x : ℕ). at l (x * w + d)) (sym (through-at keep1 keep2 i h))))
-      ∙ ap (joined (λ i. each (λ d. at l (num (through keep1 keep2) i * w + d)) w)) (sym (through-size keep1 keep2))
+      joined-same (λ i. each (λ d. num (keptRows keep1 w l ++ r) (num keep2 i * w + d)) w) (λ i. each (λ d. num l (num (through keep1 keep2) i * w + d)) w) (length keep2) (λ i h.
+      each-same (λ d. num (keptRows keep1 w l ++ r) (num keep2 i * w + d)) (λ d. num l (num (through keep1 keep2) i * w + d)) w (λ d k.
+      row-at (λ i d. num l (num keep1 i * w + d)) w (length keep1) (num keep2 i) d r 0 (within i h) k
+      ∙ ap (λ (x : ℕ). num l (x * w + d)) (sym (through-at keep1 keep2 i h))))
+      ∙ ap (joined (λ i. each (λ d. num l (num (through keep1 keep2) i * w + d)) w)) (sym (through-size keep1 keep2))
 
-  pub square-twice : (n : ℕ) (l r : List Float) → keptSquare keep2 (length keep1) (keptSquare keep1 n l ++ r) ≡ keptSquare (through keep1 keep2) n l
+  pub square-twice : (n : ℕ) (l r : List ℕ) → keptSquare keep2 (length keep1) (keptSquare keep1 n l ++ r) ≡ keptSquare (through keep1 keep2) n l
   square-twice n l r =
-      joined-same (λ i. each (λ j. at (keptSquare keep1 n l ++ r) (num keep2 i * length keep1 + num keep2 j)) (length keep2))
-      (λ i. each (λ j. at l (num (through keep1 keep2) i * n + num (through keep1 keep2) j)) (length keep2)) (length keep2) (λ i h.
-      each-same (λ j. at (keptSquare keep1 n l ++ r) (num keep2 i * length keep1 + num keep2 j)) (λ j. at l (num (through keep1 keep2) i * n + num (through keep1 keep2) j)) (length keep2) (λ j k.
-      row-at (λ i j. at l (num keep1 i * n + num keep1 j)) (length keep1) (length keep1) (num keep2 i) (num keep2 j) r nan (within i h) (within j k)
-      ∙ ap (λ (x : ℕ). at l (x * n + num keep1 (num keep2 j))) (sym (through-at keep1 keep2 i h))
-      ∙ ap (λ (x : ℕ). at l (num (through keep1 keep2) i * n + x)) (sym (through-at keep1 keep2 j k))))
-      ∙ ap (λ (x : ℕ). joined (λ i. each (λ j. at l (num (through keep1 keep2) i * n + num (through keep1 keep2) j)) x) x) (sym (through-size keep1 keep2))
+      joined-same (λ i. each (λ j. num (keptSquare keep1 n l ++ r) (num keep2 i * length keep1 + num keep2 j)) (length keep2))
+      (λ i. each (λ j. num l (num (through keep1 keep2) i * n + num (through keep1 keep2) j)) (length keep2)) (length keep2) (λ i h.
+      each-same (λ j. num (keptSquare keep1 n l ++ r) (num keep2 i * length keep1 + num keep2 j)) (λ j. num l (num (through keep1 keep2) i * n + num (through keep1 keep2) j)) (length keep2) (λ j k.
+      row-at (λ i j. num l (num keep1 i * n + num keep1 j)) (length keep1) (length keep1) (num keep2 i) (num keep2 j) r 0 (within i h) (within j k)
+      ∙ ap (λ (x : ℕ). num l (x * n + num keep1 (num keep2 j))) (sym (through-at keep1 keep2 i h))
+      ∙ ap (λ (x : ℕ). num l (num (through keep1 keep2) i * n + x)) (sym (through-at keep1 keep2 j k))))
+      ∙ ap (λ (x : ℕ). joined (λ i. each (λ j. num l (num (through keep1 keep2) i * n + num (through keep1 keep2) j)) x) x) (sym (through-size keep1 keep2))
 
 -- ---- neighbour lists
 
@@ -183,15 +182,15 @@ module _ (keep1 keep2 : List ℕ) (climbs : Climbs keep1) (within : (i : ℕ) �
       ∙ ap (λ (x : ℕ). each (linksBefore (through keep1 keep2) I O) (x + 1)) (sym (through-size keep1 keep2))
 
   -- W are the weights, and after the first packing R follows what is left of them
-  module _ (W R : List Float) where
-    weight1 : (i t : ℕ) → i < length keep1 → t < length (first-kept i) → at (packedWeights keep1 W I O ++ R) (num O1 i + t) ≡ at W (num O (num keep1 i) + num (first-kept i) t)
+  module _ (W R : List ℕ) where
+    weight1 : (i t : ℕ) → i < length keep1 → t < length (first-kept i) → num (packedWeights keep1 W I O ++ R) (num O1 i + t) ≡ num W (num O (num keep1 i) + num (first-kept i) t)
     weight1 i t h k =
-        List·getD-append (packedWeights keep1 W I O) R nan (num O1 i + t) (omega (arith, packed-weights-count keep1 W I O, in-list i t h k))
-        ∙ ap (λ (x : ℕ). at (packedWeights keep1 W I O) (x + t)) (offset1 i (omega arith))
+        List·getD-append (packedWeights keep1 W I O) R 0 (num O1 i + t) (omega (arith, packed-weights-count keep1 W I O, in-list i t h k))
+        ∙ ap (λ (x : ℕ). num (packedWeights keep1 W I O) (x + t)) (offset1 i (omega arith))
         ∙ packed-weight-at keep1 W I O i t h k
 
     weights-left-twice : (i : ℕ) → i < length keep1 → weightsLeft keep2 (packedWeights keep1 W I O ++ R) I1 O1 i ≡ weightsLeft (through keep1 keep2) W I O (num keep1 i)
-    weights-left-twice i h = told-twice (λ t. at (packedWeights keep1 W I O ++ R) (num O1 i + t)) (λ t. at W (num O (num keep1 i) + t)) i h (λ t k. weight1 i t h k)
+    weights-left-twice i h = told-twice (λ t. num (packedWeights keep1 W I O ++ R) (num O1 i + t)) (λ t. num W (num O (num keep1 i) + t)) i h (λ t k. weight1 i t h k)
 
     pub packed-weights-twice : packedWeights keep2 (packedWeights keep1 W I O ++ R) I1 O1 ≡ packedWeights (through keep1 keep2) W I O
     packed-weights-twice =

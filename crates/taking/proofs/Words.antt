@@ -6,17 +6,16 @@ use Prim.Native.Nat.{ℕ, zero, suc, _*_, _≤_}
 use native.Mathlib.Omega.{arith}
 use lib.ListN.{length, set, length-set}
 use lib.Seq.{getD-set-same, getD-set-other, set-getD}
-use lib.Ieee.{Float}
 use Rattle.laws.specs.Area.{num}
 use Rattle.run_record.specs.declared.Run.{Run}
 use Rattle.run_record.specs.Record.{perOf}
-use Rattle.run_entry.specs.State.{State, Memory, state}
+use Rattle.tree_node.specs.declared.Node.{Node}
 use Rattle.record_words.specs.RecordWords.{settingsOf, standingOf, runOf}
 use Rattle.fault_words.specs.FaultWords.{unfit}
 use Rattle.fault_words.proofs.Fit.{fit-long}
 use Rattle.take_gone.specs.Gone.{survivors}
 use Rattle.take_left.specs.Outlook.{thinned, thinnedRun}
-use Rattle.take_out.specs.TakeOut.{TakeOutcome, takeOut, takeNumber}
+use Rattle.take_out.specs.TakeOut.{Holdings, TookOut, stateHeld, takeOut, takeNumber}
 use Rattle.desk_take.specs.HostTake.{sizePut, HostTook, takenIn, hostTake}
 use Rattle.descent.specs.Honest.{Honest}
 use Rattle.taking.proofs.Accepted.{refused-changes-nothing, no-number-left, accepted}
@@ -54,11 +53,11 @@ size-thinned w m h p = said w m (num w 10 * perOf (settingsOf w .method) m) h �
 
 -- ---- the whole call
 
-module _ (g w : List ℕ) (y : Memory) (t : List Float) (q a : List ℕ) (fit : unfit w (length a) ≡ false) where
-  abbrev left : State
-  left = takeOut g (state (runOf w) y) t q .left
+module _ (g w : List ℕ) (h : Holdings) (ns : List Node) (a : List ℕ) (fit : unfit w (length a) ≡ false) where
+  abbrev out : TookOut
+  out = takeOut g (runOf w) h ns
 
-  took : hostTake g w y t q a ≡ takenIn (takeOut g (state (runOf w) y) t q) a w
+  took : hostTake g w h ns a ≡ takenIn out a w
   unfolding hostTake
   took = rw fit
 
@@ -66,28 +65,28 @@ module _ (g w : List ℕ) (y : Memory) (t : List Float) (q a : List ℕ) (fit : 
   long = fit-long w (length a) fit
 
   -- the words afterwards say the record that is left
-  pub words-left-told : runOf (hostTake g w y t q a .run) ≡ left .run
-  words-left-told = ap (λ (x : HostTook). runOf (x .run)) took ∙ by-number (takeNumber (takeOut g (state (runOf w) y) t q .answer)) refl
+  pub words-left-told : runOf (hostTake g w h ns a .run) ≡ out .run
+  words-left-told = ap (λ (x : HostTook). runOf (x .run)) took ∙ by-number (takeNumber (out .answer)) refl
     where
-      by-number : (k : ℕ) → takeNumber (takeOut g (state (runOf w) y) t q .answer) ≡ k → runOf (sizePut (left .run) w) ≡ left .run
+      by-number : (k : ℕ) → takeNumber (out .answer) ≡ k → runOf (sizePut (out .run) w) ≡ out .run
       by-number zero e =
-          let s = state (runOf w) y in
-          let c = accepted g s t q (length (survivors g (s .run .settings .n))) (no-number-left g s t q e) in
-          let r : left .run ≡ thinnedRun (runOf w) (length (survivors g (s .run .settings .n))) = ap (λ (o : TakeOutcome). o .left .run) (c .outcome) in
-          rw r (size-thinned w (length (survivors g (s .run .settings .n))) long (c .passed .between))
+          let m = length (survivors g (runOf w .settings .n)) in
+          let c = accepted g (runOf w) h ns m (no-number-left g (runOf w) h ns e) in
+          let r : out .run ≡ thinnedRun (runOf w) m = ap (λ (o : TookOut). o .run) (c .outcome) in
+          rw r (size-thinned w m long (c .passed .between))
       by-number (suc k) e =
-          let r : left .run ≡ runOf w = ap (λ (x : State). x .run) (refused-changes-nothing g (state (runOf w) y) t q (λ z. none k (sym e ∙ z)) .left) in
+          let r : out .run ≡ runOf w = refused-changes-nothing g (runOf w) h ns (λ z. none k (sym e ∙ z)) .run in
           rw r (size-same w long)
         where
           none : (k : ℕ) → suc k ≡ 0 → ⊥
           none k z = omega arith
 
   -- a removal that answers 0 leaves words and areas that are an honest state
-  pub host-left-honest : hostTake g w y t q a .number ≡ 0 → Honest (state (runOf (hostTake g w y t q a .run)) (hostTake g w y t q a .memory))
+  pub host-left-honest : hostTake g w h ns a .number ≡ 0 → Honest (stateHeld (runOf (hostTake g w h ns a .run)) (hostTake g w h ns a .areas) ns)
   host-left-honest e =
-      let z : takeNumber (takeOut g (state (runOf w) y) t q .answer) ≡ 0 = sym (ap (λ (x : HostTook). x .number) took) ∙ e in
-      let h = what-is-left-is-honest g (state (runOf w) y) t q _ (no-number-left g (state (runOf w) y) t q z) in
-      subst Honest (sym (ap (λ (r : Run). state r (hostTake g w y t q a .memory)) words-left-told ∙ ap (λ (m : Memory). state (left .run) m) (ap (λ (x : HostTook). x .memory) took))) h
+      let z : takeNumber (out .answer) ≡ 0 = sym (ap (λ (x : HostTook). x .number) took) ∙ e in
+      let k = what-is-left-is-honest g (runOf w) h ns _ (no-number-left g (runOf w) h ns z) in
+      subst Honest (sym (ap (λ (r : Run). stateHeld r (hostTake g w h ns a .areas) ns) words-left-told ∙ ap (λ (x : HostTook). stateHeld (out .run) (x .areas) ns) took)) k
 
 -- ---- a refusal
 
@@ -95,28 +94,18 @@ size-kept : (w : List ℕ) → sizePut (runOf w) w ≡ w
 unfolding sizePut runOf settingsOf
 size-kept w = ap (λ (x : List ℕ). set x 12 (num w 12)) (set-getD w 0 0) ∙ set-getD w 12 0
 
--- record, areas, table and old places are as they were
-pub record HostUnchanged (w : List ℕ) (y : Memory) (t : List Float) (q : List ℕ) (o : HostTook) : Type 0 where
+-- the record's words and the areas are as they were
+pub record HostUnchanged (w : List ℕ) (h : Holdings) (o : HostTook) : Type 0 where
   pub words : o .run ≡ w
-  pub areas : o .memory ≡ y
-  pub table : o .table ≡ t
-  pub old : o .old ≡ q
+  pub areas : o .areas ≡ h
 
 -- a removal that answers a number changes nothing but the answer's word
-pub host-refused-changes-nothing : (g w : List ℕ) (y : Memory) (t : List Float) (q a : List ℕ) → (hostTake g w y t q a .number ≡ 0 → ⊥) → HostUnchanged w y t q (hostTake g w y t q a)
+pub host-refused-changes-nothing : (g w : List ℕ) (h : Holdings) (ns : List Node) (a : List ℕ) → (hostTake g w h ns a .number ≡ 0 → ⊥) → HostUnchanged w h (hostTake g w h ns a)
 unfolding hostTake
-host-refused-changes-nothing g w y t q a n = by (unfit w (length a)) refl
+host-refused-changes-nothing g w h ns a n = by (unfit w (length a)) refl
   where
-    s : State
-    s = state (runOf w) y
-
-    by : (b : Bool) → unfit w (length a) ≡ b → HostUnchanged w y t q (hostTake g w y t q a)
-    by true e = rw e (record { words = refl; areas = refl; table = refl; old = refl })
+    by : (b : Bool) → unfit w (length a) ≡ b → HostUnchanged w h (hostTake g w h ns a)
+    by true e = rw e (record { words = refl; areas = refl })
     by false e =
-        let u = refused-changes-nothing g s t q (λ z. n (ap (λ (x : HostTook). x .number) (took g w y t q a e) ∙ z)) in
-        rw e (record {
-          words = ap (λ (x : State). sizePut (x .run) w) (u .left) ∙ size-kept w;
-          areas = ap (λ (x : State). x .memory) (u .left);
-          table = u .table;
-          old = u .old;
-        })
+        let u = refused-changes-nothing g (runOf w) h ns (λ z. n (ap (λ (x : HostTook). x .number) (took g w h ns a e) ∙ z)) in
+        rw e (record { words = ap (λ (x : Run). sizePut x w) (u .run) ∙ size-kept w; areas = u .areas })

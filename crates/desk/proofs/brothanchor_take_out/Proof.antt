@@ -36,7 +36,8 @@ use denote.Triple.Walked.{says, Stays, stay-slice, stay-none-slice, walkOf, goes
 use denote.Exit.{yes}
 use Rattle.lent.proofs.Pass.{Seat, ref-at, word, Mut, Shr, Tok}
 use Rattle.desk_take.specs.HostTake.{hostTook, hostTake}
-use Rattle.run_entry.specs.State.{memory}
+use Rattle.take_out.specs.TakeOut.{holdings}
+use Rattle.tree_node.specs.Arena.{nodesOf}
 use mathlib.Core.Path.{_≡_}
 use Rattle.tree_node.specs.declared.Cell.{Cell}
 use Rattle.tree_node.proofs.Cell as Cell′
@@ -50,22 +51,22 @@ use Rattle.desk.proofs.brothanchor_take_out.Statement as stated
 use Rattle.desk.proofs.brothanchor_take_out.Code as code
 
 abbrev Arg : Type 0
-Arg = RefT (List ℕ) × (RefT (List Float) × (RefT (List Float) × (RefT (List Float) × (RefT (List Float) × (RefT (List ℕ) × (RefT (List ℕ) × (RefT (List Float) × (RefT (List Cell) × (RefT (List Float) × (RefT (List ℕ) × (RefT (List ℕ) × (RefT (List ℕ) × (Unit {0})))))))))))))
+Arg = RefT (List ℕ) × (RefT (List Float) × (RefT (List ℕ) × (RefT (List ℕ) × (RefT (List ℕ) × (RefT (List ℕ) × (RefT (List ℕ) × (RefT (List Float) × (RefT (List Cell) × (RefT (List ℕ) × (RefT (List ℕ) × (RefT (List ℕ) × (RefT (List ℕ) × (Unit {0})))))))))))))
 
 abbrev stayed : Stays (f.ended .signature .params) (f.ended .kept)
-stayed = (stay-slice (0 ∷ []) tt (plain (λ _. u64)), (stay-slice (1 ∷ []) tt (plain (λ _. f64)), (stay-slice (2 ∷ []) tt (plain (λ _. f64)), (stay-slice (3 ∷ []) tt (plain (λ _. f64)), (stay-slice (4 ∷ []) tt (plain (λ _. f64)), (stay-slice (5 ∷ []) tt (plain (λ _. u32)), (stay-slice (6 ∷ []) tt (plain (λ _. u32)), (stay-slice (7 ∷ []) tt (plain (λ _. f64)), (stay-none-slice (8 ∷ []) tt (plain (λ _. Cell′.the-row)) yes, (stay-slice (9 ∷ []) tt (plain (λ _. f64)), (stay-none-slice (10 ∷ []) tt (plain (λ _. u32)) yes, (stay-slice (11 ∷ []) tt (plain (λ _. u32)), (stay-slice (12 ∷ []) tt (plain (λ _. u64)), tt)))))))))))))
+stayed = (stay-slice (0 ∷ []) tt (plain (λ _. u64)), (stay-slice (1 ∷ []) tt (plain (λ _. f64)), (stay-slice (2 ∷ []) tt (plain (λ _. u64)), (stay-slice (3 ∷ []) tt (plain (λ _. u64)), (stay-slice (4 ∷ []) tt (plain (λ _. u64)), (stay-slice (5 ∷ []) tt (plain (λ _. u32)), (stay-slice (6 ∷ []) tt (plain (λ _. u32)), (stay-slice (7 ∷ []) tt (plain (λ _. f64)), (stay-none-slice (8 ∷ []) tt (plain (λ _. Cell′.the-row)) yes, (stay-slice (9 ∷ []) tt (plain (λ _. u64)), (stay-none-slice (10 ∷ []) tt (plain (λ _. u32)) yes, (stay-slice (11 ∷ []) tt (plain (λ _. u32)), (stay-slice (12 ∷ []) tt (plain (λ _. u64)), tt)))))))))))))
 
 module _ {M : Type 1} (𝓤 : URA M) (H : Heap 𝓤) (A : Atoms 𝓤) (W : Given 𝓤 H A) (mem : Memory → SProp 𝓤) (run-of : Routine → Fun 𝓤)
     (s-words : Seat) (words : List ℕ) (ln-words : length words ≡ s-words .count) (room-words : Room u64 (s-words .count))
     (s-positions : Seat) (positions : List Float) (ln-positions : length positions ≡ s-positions .count) (room-positions : Room f64 (s-positions .count))
-    (s-increments : Seat) (increments : List Float) (ln-increments : length increments ≡ s-increments .count) (room-increments : Room f64 (s-increments .count))
-    (s-gains : Seat) (gains : List Float) (ln-gains : length gains ≡ s-gains .count) (room-gains : Room f64 (s-gains .count))
-    (s-affinities : Seat) (affinities : List Float) (ln-affinities : length affinities ≡ s-affinities .count) (room-affinities : Room f64 (s-affinities .count))
+    (s-increments : Seat) (increments : List ℕ) (ln-increments : length increments ≡ s-increments .count) (room-increments : Room u64 (s-increments .count))
+    (s-gains : Seat) (gains : List ℕ) (ln-gains : length gains ≡ s-gains .count) (room-gains : Room u64 (s-gains .count))
+    (s-affinities : Seat) (affinities : List ℕ) (ln-affinities : length affinities ≡ s-affinities .count) (room-affinities : Room u64 (s-affinities .count))
     (s-indices : Seat) (indices : List ℕ) (ln-indices : length indices ≡ s-indices .count) (room-indices : Room u32 (s-indices .count))
     (s-offsets : Seat) (offsets : List ℕ) (ln-offsets : length offsets ≡ s-offsets .count) (room-offsets : Room u32 (s-offsets .count))
     (s-forces : Seat) (forces : List Float) (ln-forces : length forces ≡ s-forces .count) (room-forces : Room f64 (s-forces .count))
     (s-cells : Seat) (cells : List Cell) (ln-cells : length cells ≡ s-cells .count) (room-cells : Room Cell′.the-row (s-cells .count))
-    (s-table : Seat) (table : List Float) (ln-table : length table ≡ s-table .count) (room-table : Room f64 (s-table .count))
+    (s-table : Seat) (table : List ℕ) (ln-table : length table ≡ s-table .count) (room-table : Room u64 (s-table .count))
     (s-gone : Seat) (gone : List ℕ) (ln-gone : length gone ≡ s-gone .count) (room-gone : Room u32 (s-gone .count))
     (s-old : Seat) (old : List ℕ) (ln-old : length old ≡ s-old .count) (room-old : Room u32 (s-old .count))
     (s-answer : Seat) (answer : List ℕ) (ln-answer : length answer ≡ s-answer .count) (room-answer : Room u64 (s-answer .count)) where
@@ -78,16 +79,16 @@ module _ {M : Type 1} (𝓤 : URA M) (H : Heap 𝓤) (A : Atoms 𝓤) (W : Given
   abbrev Post : Val → SProp 𝓤
   Post = walkOf 𝓤 H A f.ended stayed (f.clauses 𝓤 H A mem run-of) .post (((s-words .life, (s-positions .life, (s-increments .life, (s-gains .life, (s-affinities .life, (s-indices .life, (s-offsets .life, (s-forces .life, (s-cells .life, (s-table .life, (s-gone .life, (s-old .life, (s-answer .life, tt))))))))))))), (s-words .share, (s-positions .share, (s-increments .share, (s-gains .share, (s-affinities .share, (s-indices .share, (s-offsets .share, (s-forces .share, (s-cells .share, (s-table .share, (s-gone .share, (s-old .share, (s-answer .share, tt))))))))))))), tt, x, at), tt)
 
-  exits : (res : ℕ) (words′ : List ℕ) (positions′ : List Float) (increments′ : List Float) (gains′ : List Float) (affinities′ : List Float) (indices′ : List ℕ) (offsets′ : List ℕ) (forces′ : List Float) (table′ : List Float) (old′ : List ℕ) (answer′ : List ℕ) → res < 2 ^ 32 → length words′ ≡ s-words .count → length positions′ ≡ s-positions .count → length increments′ ≡ s-increments .count → length gains′ ≡ s-gains .count → length affinities′ ≡ s-affinities .count → length indices′ ≡ s-indices .count → length offsets′ ≡ s-offsets .count → length forces′ ≡ s-forces .count → length table′ ≡ s-table .count → length old′ ≡ s-old .count → length answer′ ≡ s-answer .count → hostTook res answer′ words′ (memory positions′ increments′ gains′ affinities′ indices′ offsets′ forces′ cells) table′ old′ ≡ hostTake gone words (memory positions increments gains affinities indices offsets forces cells) table old answer → ent 𝓤 (⋆ 𝓤 H A (‵ (Mut u64 s-words words′) ∷ ‵ (Tok s-words) ∷ ‵ (Mut f64 s-positions positions′) ∷ ‵ (Tok s-positions) ∷ ‵ (Mut f64 s-increments increments′) ∷ ‵ (Tok s-increments) ∷ ‵ (Mut f64 s-gains gains′) ∷ ‵ (Tok s-gains) ∷ ‵ (Mut f64 s-affinities affinities′) ∷ ‵ (Tok s-affinities) ∷ ‵ (Mut u32 s-indices indices′) ∷ ‵ (Tok s-indices) ∷ ‵ (Mut u32 s-offsets offsets′) ∷ ‵ (Tok s-offsets) ∷ ‵ (Mut f64 s-forces forces′) ∷ ‵ (Tok s-forces) ∷ ‵ (Shr Cell′.the-row s-cells cells) ∷ ‵ (Tok s-cells) ∷ ‵ (Mut f64 s-table table′) ∷ ‵ (Tok s-table) ∷ ‵ (Shr u32 s-gone gone) ∷ ‵ (Tok s-gone) ∷ ‵ (Mut u32 s-old old′) ∷ ‵ (Tok s-old) ∷ ‵ (Mut u64 s-answer answer′) ∷ ‵ (Tok s-answer) ∷ [])) (Post (vint w32 res))
+  exits : (res : ℕ) (words′ : List ℕ) (positions′ : List Float) (increments′ : List ℕ) (gains′ : List ℕ) (affinities′ : List ℕ) (indices′ : List ℕ) (offsets′ : List ℕ) (forces′ : List Float) (table′ : List ℕ) (old′ : List ℕ) (answer′ : List ℕ) → res < 2 ^ 32 → length words′ ≡ s-words .count → length positions′ ≡ s-positions .count → length increments′ ≡ s-increments .count → length gains′ ≡ s-gains .count → length affinities′ ≡ s-affinities .count → length indices′ ≡ s-indices .count → length offsets′ ≡ s-offsets .count → length forces′ ≡ s-forces .count → length table′ ≡ s-table .count → length old′ ≡ s-old .count → length answer′ ≡ s-answer .count → hostTook res answer′ words′ (holdings positions′ increments′ gains′ affinities′ indices′ offsets′ forces′ table′ old′) ≡ hostTake gone words (holdings positions increments gains affinities indices offsets forces table old) (nodesOf cells) answer → ent 𝓤 (⋆ 𝓤 H A (‵ (Mut u64 s-words words′) ∷ ‵ (Tok s-words) ∷ ‵ (Mut f64 s-positions positions′) ∷ ‵ (Tok s-positions) ∷ ‵ (Mut u64 s-increments increments′) ∷ ‵ (Tok s-increments) ∷ ‵ (Mut u64 s-gains gains′) ∷ ‵ (Tok s-gains) ∷ ‵ (Mut u64 s-affinities affinities′) ∷ ‵ (Tok s-affinities) ∷ ‵ (Mut u32 s-indices indices′) ∷ ‵ (Tok s-indices) ∷ ‵ (Mut u32 s-offsets offsets′) ∷ ‵ (Tok s-offsets) ∷ ‵ (Mut f64 s-forces forces′) ∷ ‵ (Tok s-forces) ∷ ‵ (Shr Cell′.the-row s-cells cells) ∷ ‵ (Tok s-cells) ∷ ‵ (Mut u64 s-table table′) ∷ ‵ (Tok s-table) ∷ ‵ (Shr u32 s-gone gone) ∷ ‵ (Tok s-gone) ∷ ‵ (Mut u32 s-old old′) ∷ ‵ (Tok s-old) ∷ ‵ (Mut u64 s-answer answer′) ∷ ‵ (Tok s-answer) ∷ [])) (Post (vint w32 res))
   exits res words′ positions′ increments′ gains′ affinities′ indices′ offsets′ forces′ table′ old′ answer′ is le-words le-positions le-increments le-gains le-affinities le-indices le-offsets le-forces le-table le-old le-answer e =
-      qed W (‵ (Mut u64 s-words words′) ∷ ‵ (Tok s-words) ∷ ‵ (Mut f64 s-positions positions′) ∷ ‵ (Tok s-positions) ∷ ‵ (Mut f64 s-increments increments′) ∷ ‵ (Tok s-increments) ∷ ‵ (Mut f64 s-gains gains′) ∷ ‵ (Tok s-gains) ∷ ‵ (Mut f64 s-affinities affinities′) ∷ ‵ (Tok s-affinities) ∷ ‵ (Mut u32 s-indices indices′) ∷ ‵ (Tok s-indices) ∷ ‵ (Mut u32 s-offsets offsets′) ∷ ‵ (Tok s-offsets) ∷ ‵ (Mut f64 s-forces forces′) ∷ ‵ (Tok s-forces) ∷ ‵ (Shr Cell′.the-row s-cells cells) ∷ ‵ (Tok s-cells) ∷ ‵ (Mut f64 s-table table′) ∷ ‵ (Tok s-table) ∷ ‵ (Shr u32 s-gone gone) ∷ ‵ (Tok s-gone) ∷ ‵ (Mut u32 s-old old′) ∷ ‵ (Tok s-old) ∷ ‵ (Mut u64 s-answer answer′) ∷ ‵ (Tok s-answer) ∷ []) ∵
+      qed W (‵ (Mut u64 s-words words′) ∷ ‵ (Tok s-words) ∷ ‵ (Mut f64 s-positions positions′) ∷ ‵ (Tok s-positions) ∷ ‵ (Mut u64 s-increments increments′) ∷ ‵ (Tok s-increments) ∷ ‵ (Mut u64 s-gains gains′) ∷ ‵ (Tok s-gains) ∷ ‵ (Mut u64 s-affinities affinities′) ∷ ‵ (Tok s-affinities) ∷ ‵ (Mut u32 s-indices indices′) ∷ ‵ (Tok s-indices) ∷ ‵ (Mut u32 s-offsets offsets′) ∷ ‵ (Tok s-offsets) ∷ ‵ (Mut f64 s-forces forces′) ∷ ‵ (Tok s-forces) ∷ ‵ (Shr Cell′.the-row s-cells cells) ∷ ‵ (Tok s-cells) ∷ ‵ (Mut u64 s-table table′) ∷ ‵ (Tok s-table) ∷ ‵ (Shr u32 s-gone gone) ∷ ‵ (Tok s-gone) ∷ ‵ (Mut u32 s-old old′) ∷ ‵ (Tok s-old) ∷ ‵ (Mut u64 s-answer answer′) ∷ ‵ (Tok s-answer) ∷ []) ∵
       suffices ! _ (ends-at 𝓤 H A f.ended stayed (f.clauses 𝓤 H A mem run-of) W (((s-words .life, (s-positions .life, (s-increments .life, (s-gains .life, (s-affinities .life, (s-indices .life, (s-offsets .life, (s-forces .life, (s-cells .life, (s-table .life, (s-gone .life, (s-old .life, (s-answer .life, tt))))))))))))), (s-words .share, (s-positions .share, (s-increments .share, (s-gains .share, (s-affinities .share, (s-indices .share, (s-offsets .share, (s-forces .share, (s-cells .share, (s-table .share, (s-gone .share, (s-old .share, (s-answer .share, tt))))))))))))), tt, x, at), tt) (vint w32 res) res (words′, (positions′, (increments′, (gains′, (affinities′, (indices′, (offsets′, (forces′, (tt, (table′, (tt, (old′, (answer′, tt))))))))))))) (le-words ∙ sym ln-words, (le-positions ∙ sym ln-positions, (le-increments ∙ sym ln-increments, (le-gains ∙ sym ln-gains, (le-affinities ∙ sym ln-affinities, (le-indices ∙ sym ln-indices, (le-offsets ∙ sym ln-offsets, (le-forces ∙ sym ln-forces, (tt, (le-table ∙ sym ln-table, (tt, (le-old ∙ sym ln-old, (le-answer ∙ sym ln-answer, tt)))))))))))))) $ says ! e $
       nothing ! $ move ! (26 ∷ 0 ∷ []) $ join ! $ move ! (24 ∷ 0 ∷ []) $ join ! $ move ! (22 ∷ 0 ∷ []) $ join ! $ move ! (20 ∷ 0 ∷ []) $ join ! $ move ! (18 ∷ 0 ∷ []) $ join ! $ move ! (16 ∷ 0 ∷ []) $ join ! $ move ! (14 ∷ 0 ∷ []) $ join ! $ move ! (12 ∷ 0 ∷ []) $ join ! $ move ! (10 ∷ 0 ∷ []) $ join ! $ move ! (8 ∷ 0 ∷ []) $ join ! $ move ! (6 ∷ 0 ∷ []) $ join ! $ move ! (4 ∷ 0 ∷ []) $ join ! $ move ! (2 ∷ 0 ∷ []) $ join ! $ frame ! $ nothing ! $ move ! (13 ∷ 0 ∷ []) $ fjoin ! $ move ! (12 ∷ 0 ∷ []) $ fjoin ! $ move ! (11 ∷ 0 ∷ []) $ fjoin ! $ move ! (10 ∷ 0 ∷ []) $ fjoin ! $ move ! (9 ∷ 0 ∷ []) $ fjoin ! $ move ! (8 ∷ 0 ∷ []) $ fjoin ! $ move ! (7 ∷ 0 ∷ []) $ fjoin ! $ move ! (6 ∷ 0 ∷ []) $ fjoin ! $ move ! (5 ∷ 0 ∷ []) $ fjoin ! $ move ! (4 ∷ 0 ∷ []) $ fjoin ! $ move ! (3 ∷ 0 ∷ []) $ fjoin ! $ move ! (2 ∷ 0 ∷ []) $ fjoin ! $ move ! (1 ∷ 0 ∷ []) $ fjoin ! $ frame ! $ owned ! u32 (Is u32) (uint-makes 𝓤 H A W w32) res _ (refl, is) $ done !
 
   module _ (C : Calls 𝓤 H) (Λ : Loops 𝓤 H) (fm : FmC 𝓤 H (W .laws) C) (known-host-take-out : Triple 𝓤 (C #desk-take·host-take-out) (Contract-host-take-out 𝓤 H A mem run-of)) where
     walk : ent 𝓤 (onEntry 𝓤 H A f.signature (s-words .life, (s-positions .life, (s-increments .life, (s-gains .life, (s-affinities .life, (s-indices .life, (s-offsets .life, (s-forces .life, (s-cells .life, (s-table .life, (s-gone .life, (s-old .life, (s-answer .life, tt))))))))))))) (s-words .share, (s-positions .share, (s-increments .share, (s-gains .share, (s-affinities .share, (s-indices .share, (s-offsets .share, (s-forces .share, (s-cells .share, (s-table .share, (s-gone .share, (s-old .share, (s-answer .share, tt))))))))))))) x at) (WpFn 𝓤 H C Λ code.function (word s-words ∷ word s-positions ∷ word s-increments ∷ word s-gains ∷ word s-affinities ∷ word s-indices ∷ word s-offsets ∷ word s-forces ∷ word s-cells ∷ word s-table ∷ word s-gone ∷ word s-old ∷ word s-answer ∷ []) Post)
     walk =
-        qed W ((‵ (Tok s-words) ⊛ ‵ (Tok s-positions) ⊛ ‵ (Tok s-increments) ⊛ ‵ (Tok s-gains) ⊛ ‵ (Tok s-affinities) ⊛ ‵ (Tok s-indices) ⊛ ‵ (Tok s-offsets) ⊛ ‵ (Tok s-forces) ⊛ ‵ (Tok s-cells) ⊛ ‵ (Tok s-table) ⊛ ‵ (Tok s-gone) ⊛ ‵ (Tok s-old) ⊛ ‵ (Tok s-answer) ⊛ ‵ ftrue) ∷ ‵ (owns (MutSlice (named 0) (s-words .life) u64 ∷ MutSlice (named 1) (s-positions .life) f64 ∷ MutSlice (named 2) (s-increments .life) f64 ∷ MutSlice (named 3) (s-gains .life) f64 ∷ MutSlice (named 4) (s-affinities .life) f64 ∷ MutSlice (named 5) (s-indices .life) u32 ∷ MutSlice (named 6) (s-offsets .life) u32 ∷ MutSlice (named 7) (s-forces .life) f64 ∷ ShrSlice (named 8) (s-cells .life) Cell′.the-row ∷ MutSlice (named 9) (s-table .life) f64 ∷ ShrSlice (named 10) (s-gone .life) u32 ∷ MutSlice (named 11) (s-old .life) u32 ∷ MutSlice (named 12) (s-answer .life) u64 ∷ []) x at) ∷ []) ∵ enter ! C Λ code.function (word s-words ∷ word s-positions ∷ word s-increments ∷ word s-gains ∷ word s-affinities ∷ word s-indices ∷ word s-offsets ∷ word s-forces ∷ word s-cells ∷ word s-table ∷ word s-gone ∷ word s-old ∷ word s-answer ∷ []) _ $
+        qed W ((‵ (Tok s-words) ⊛ ‵ (Tok s-positions) ⊛ ‵ (Tok s-increments) ⊛ ‵ (Tok s-gains) ⊛ ‵ (Tok s-affinities) ⊛ ‵ (Tok s-indices) ⊛ ‵ (Tok s-offsets) ⊛ ‵ (Tok s-forces) ⊛ ‵ (Tok s-cells) ⊛ ‵ (Tok s-table) ⊛ ‵ (Tok s-gone) ⊛ ‵ (Tok s-old) ⊛ ‵ (Tok s-answer) ⊛ ‵ ftrue) ∷ ‵ (owns (MutSlice (named 0) (s-words .life) u64 ∷ MutSlice (named 1) (s-positions .life) f64 ∷ MutSlice (named 2) (s-increments .life) u64 ∷ MutSlice (named 3) (s-gains .life) u64 ∷ MutSlice (named 4) (s-affinities .life) u64 ∷ MutSlice (named 5) (s-indices .life) u32 ∷ MutSlice (named 6) (s-offsets .life) u32 ∷ MutSlice (named 7) (s-forces .life) f64 ∷ ShrSlice (named 8) (s-cells .life) Cell′.the-row ∷ MutSlice (named 9) (s-table .life) u64 ∷ ShrSlice (named 10) (s-gone .life) u32 ∷ MutSlice (named 11) (s-old .life) u32 ∷ MutSlice (named 12) (s-answer .life) u64 ∷ []) x at) ∷ []) ∵ enter ! C Λ code.function (word s-words ∷ word s-positions ∷ word s-increments ∷ word s-gains ∷ word s-affinities ∷ word s-indices ∷ word s-offsets ∷ word s-forces ∷ word s-cells ∷ word s-table ∷ word s-gone ∷ word s-old ∷ word s-answer ∷ []) _ $
         alloc1 ! (λ l0. alloc1 ! (λ l1. alloc1 ! (λ l2. alloc1 ! (λ l3. alloc1 ! (λ l4. alloc1 ! (λ l5. alloc1 ! (λ l6. alloc1 ! (λ l7. alloc1 ! (λ l8. alloc1 ! (λ l9. alloc1 ! (λ l10. alloc1 ! (λ l11. alloc1 ! (λ l12. alloc1 ! (λ l13. alloc1 ! (λ l14. alloc1 ! (λ l15. alloc1 ! (λ l16. alloc1 ! (λ l17. alloc1 ! (λ l18. alloc1 ! (λ l19. alloc1 ! (λ l20. alloc1 ! (λ l21. alloc1 ! (λ l22. alloc1 ! (λ l23. alloc1 ! (λ l24. alloc1 ! (λ l25. alloc1 ! (λ l26. alloc1 ! (λ l27. alloc1 ! (λ l28. alloc1 ! (λ l29. alloc1 ! (λ l30. alloc1 ! (λ l31. alloc1 ! (λ l32. alloc1 ! (λ l33. alloc1 ! (λ l34. alloc1 ! (λ l35. alloc1 ! (λ l36. alloc0 ! $ params1 ! $
         pass1 ! (init ! 70 refl (tt, (tt, (record { fits = room-words .0 }, tt)))) $ pass1 ! (init ! 68 refl (tt, (tt, (record { fits = room-positions .0 }, tt)))) $ pass1 ! (init ! 66 refl (tt, (tt, (record { fits = room-increments .0 }, tt)))) $ pass1 ! (init ! 64 refl (tt, (tt, (record { fits = room-gains .0 }, tt)))) $ pass1 ! (init ! 62 refl (tt, (tt, (record { fits = room-affinities .0 }, tt)))) $ pass1 ! (init ! 60 refl (tt, (tt, (record { fits = room-indices .0 }, tt)))) $ pass1 ! (init ! 58 refl (tt, (tt, (record { fits = room-offsets .0 }, tt)))) $ pass1 ! (init ! 56 refl (tt, (tt, (record { fits = room-forces .0 }, tt)))) $ pass1 ! (init ! 54 refl (tt, (tt, (record { fits = room-cells .0 }, tt)))) $ pass1 ! (init ! 52 refl (tt, (tt, (record { fits = room-table .0 }, tt)))) $ pass1 ! (init ! 50 refl (tt, (tt, (record { fits = room-gone .0 }, tt)))) $ pass1 ! (init ! 48 refl (tt, (tt, (record { fits = room-old .0 }, tt)))) $ pass1 ! (init ! 46 refl (tt, (tt, (record { fits = room-answer .0 }, tt)))) $ pass0 ! $
         move ! (75 ∷ []) $ fsplit ! $ move ! (1 ∷ []) $ fsplit ! $ move ! (1 ∷ []) $ fsplit ! $ move ! (1 ∷ []) $ fsplit ! $ move ! (1 ∷ []) $ fsplit ! $ move ! (1 ∷ []) $ fsplit ! $ move ! (1 ∷ []) $ fsplit ! $ move ! (1 ∷ []) $ fsplit ! $ move ! (1 ∷ []) $ fsplit ! $ move ! (1 ∷ []) $ fsplit ! $ move ! (1 ∷ []) $ fsplit ! $ move ! (1 ∷ []) $ fsplit ! $ move ! (1 ∷ []) $ fsplit ! $ move ! (1 ∷ []) $ drop ! $ move ! (87 ∷ []) $ split ! $ move ! (1 ∷ []) $ split ! $ move ! (1 ∷ []) $ split ! $ move ! (1 ∷ []) $ split ! $ move ! (1 ∷ []) $ split ! $ move ! (1 ∷ []) $ split ! $ move ! (1 ∷ []) $ split ! $ move ! (1 ∷ []) $ split ! $ move ! (1 ∷ []) $ split ! $ move ! (1 ∷ []) $ split ! $ move ! (1 ∷ []) $ split ! $ move ! (1 ∷ []) $ split ! $ move ! (1 ∷ []) $ split ! $ move ! (1 ∷ []) $ drop ! $ move ! (25 ∷ 12 ∷ 24 ∷ 11 ∷ 23 ∷ 10 ∷ 22 ∷ 9 ∷ 21 ∷ 8 ∷ 20 ∷ 7 ∷ 19 ∷ 6 ∷ 18 ∷ 5 ∷ 17 ∷ 4 ∷ 16 ∷ 3 ∷ 15 ∷ 2 ∷ 14 ∷ 1 ∷ 13 ∷ 0 ∷ []) $
@@ -124,7 +125,7 @@ module _ {M : Type 1} (𝓤 : URA M) (H : Heap 𝓤) (A : Atoms 𝓤) (W : Given
   brothanchor-take-out-walks : (C : Calls 𝓤 H) (Λ : Loops 𝓤 H) → FmC 𝓤 H (W .laws) C → Triple 𝓤 (C #desk-take·host-take-out) (Contract-host-take-out 𝓤 H A mem run-of) → Walks 𝓤 H A f.ended stayed (WpFn 𝓤 H C Λ code.function) (f.clauses 𝓤 H A mem run-of)
   brothanchor-take-out-walks C Λ fm known-host-take-out = walked 𝓤 H A f.ended stayed (f.clauses 𝓤 H A mem run-of) (WpFn 𝓤 H C Λ code.function)
       (λ κs. (slice-vals, (slice-vals, (slice-vals, (slice-vals, (slice-vals, (slice-vals, (slice-vals, (slice-vals, (slice-vals, (slice-vals, (slice-vals, (slice-vals, (slice-vals, tt))))))))))))))
-      (λ κs. (mut-slice-tells (named 0) (κs .0) u64, (mut-slice-tells (named 1) (κs .1 .0) f64, (mut-slice-tells (named 2) (κs .1 .1 .0) f64, (mut-slice-tells (named 3) (κs .1 .1 .1 .0) f64, (mut-slice-tells (named 4) (κs .1 .1 .1 .1 .0) f64, (mut-slice-tells (named 5) (κs .1 .1 .1 .1 .1 .0) u32, (mut-slice-tells (named 6) (κs .1 .1 .1 .1 .1 .1 .0) u32, (mut-slice-tells (named 7) (κs .1 .1 .1 .1 .1 .1 .1 .0) f64, (shr-slice-tells (named 8) (κs .1 .1 .1 .1 .1 .1 .1 .1 .0) Cell′.the-row, (mut-slice-tells (named 9) (κs .1 .1 .1 .1 .1 .1 .1 .1 .1 .0) f64, (shr-slice-tells (named 10) (κs .1 .1 .1 .1 .1 .1 .1 .1 .1 .1 .0) u32, (mut-slice-tells (named 11) (κs .1 .1 .1 .1 .1 .1 .1 .1 .1 .1 .1 .0) u32, (mut-slice-tells (named 12) (κs .1 .1 .1 .1 .1 .1 .1 .1 .1 .1 .1 .1 .0) u64, tt))))))))))))))
+      (λ κs. (mut-slice-tells (named 0) (κs .0) u64, (mut-slice-tells (named 1) (κs .1 .0) f64, (mut-slice-tells (named 2) (κs .1 .1 .0) u64, (mut-slice-tells (named 3) (κs .1 .1 .1 .0) u64, (mut-slice-tells (named 4) (κs .1 .1 .1 .1 .0) u64, (mut-slice-tells (named 5) (κs .1 .1 .1 .1 .1 .0) u32, (mut-slice-tells (named 6) (κs .1 .1 .1 .1 .1 .1 .0) u32, (mut-slice-tells (named 7) (κs .1 .1 .1 .1 .1 .1 .1 .0) f64, (shr-slice-tells (named 8) (κs .1 .1 .1 .1 .1 .1 .1 .1 .0) Cell′.the-row, (mut-slice-tells (named 9) (κs .1 .1 .1 .1 .1 .1 .1 .1 .1 .0) u64, (shr-slice-tells (named 10) (κs .1 .1 .1 .1 .1 .1 .1 .1 .1 .1 .0) u32, (mut-slice-tells (named 11) (κs .1 .1 .1 .1 .1 .1 .1 .1 .1 .1 .1 .0) u32, (mut-slice-tells (named 12) (κs .1 .1 .1 .1 .1 .1 .1 .1 .1 .1 .1 .1 .0) u64, tt))))))))))))))
       (λ κs qs bounds a _ are. via 𝓤 _ (fst∗ 𝓤 _ (emp 𝓤))
       (walk 𝓤 H A W mem run-of
       (record { life = κs .0; share = qs .0; block = a .0 .ptr .0; off = a .0 .ptr .1; tag = a .0 .name; count = length (a .0 .now) }) (a .0 .now)
@@ -159,7 +160,7 @@ brothanchor-take-out-meets : {M : Type 1} (𝓤 : URA M) (H : Heap 𝓤) (A : At
     → Triple 𝓤 (𝓣 .C #desk-take·host-take-out) (Contract-host-take-out 𝓤 H A mem run-of)
     → Meets 𝓤 H A f.signature (WpFn 𝓤 H (𝓣 .C) (𝓣 .Λ) code.function) (f.spec 𝓤 H A mem run-of)
 brothanchor-take-out-meets 𝓤 H A W mem run-of 𝓣 known-host-take-out =
-    walk-meets 𝓤 H A f.ended stayed W (goes-slice 𝓤 H A W 13 0 tt (plain (λ _. u64)), (goes-slice 𝓤 H A W 13 1 tt (plain (λ _. f64)), (goes-slice 𝓤 H A W 13 2 tt (plain (λ _. f64)), (goes-slice 𝓤 H A W 13 3 tt (plain (λ _. f64)), (goes-slice 𝓤 H A W 13 4 tt (plain (λ _. f64)), (goes-slice 𝓤 H A W 13 5 tt (plain (λ _. u32)), (goes-slice 𝓤 H A W 13 6 tt (plain (λ _. u32)), (goes-slice 𝓤 H A W 13 7 tt (plain (λ _. f64)), (goes-none-slice 𝓤 H A W 13 (8 ∷ []) tt (plain (λ _. Cell′.the-row)) yes, (goes-slice 𝓤 H A W 13 9 tt (plain (λ _. f64)), (goes-none-slice 𝓤 H A W 13 (10 ∷ []) tt (plain (λ _. u32)) yes, (goes-slice 𝓤 H A W 13 11 tt (plain (λ _. u32)), (goes-slice 𝓤 H A W 13 12 tt (plain (λ _. u64)), tt))))))))))))) (f.clauses 𝓤 H A mem run-of)
+    walk-meets 𝓤 H A f.ended stayed W (goes-slice 𝓤 H A W 13 0 tt (plain (λ _. u64)), (goes-slice 𝓤 H A W 13 1 tt (plain (λ _. f64)), (goes-slice 𝓤 H A W 13 2 tt (plain (λ _. u64)), (goes-slice 𝓤 H A W 13 3 tt (plain (λ _. u64)), (goes-slice 𝓤 H A W 13 4 tt (plain (λ _. u64)), (goes-slice 𝓤 H A W 13 5 tt (plain (λ _. u32)), (goes-slice 𝓤 H A W 13 6 tt (plain (λ _. u32)), (goes-slice 𝓤 H A W 13 7 tt (plain (λ _. f64)), (goes-none-slice 𝓤 H A W 13 (8 ∷ []) tt (plain (λ _. Cell′.the-row)) yes, (goes-slice 𝓤 H A W 13 9 tt (plain (λ _. u64)), (goes-none-slice 𝓤 H A W 13 (10 ∷ []) tt (plain (λ _. u32)) yes, (goes-slice 𝓤 H A W 13 11 tt (plain (λ _. u32)), (goes-slice 𝓤 H A W 13 12 tt (plain (λ _. u64)), tt))))))))))))) (f.clauses 𝓤 H A mem run-of)
     (WpFn 𝓤 H (𝓣 .C) (𝓣 .Λ) code.function) (WpFn-mono 𝓤 H (W .laws) 𝓣 code.function) (brothanchor-take-out-walks 𝓤 H A W mem run-of (𝓣 .C) (𝓣 .Λ) (fmOf 𝓤 H (W .laws) 𝓣) known-host-take-out)
 
 pub brothanchor-take-out-spec : {M : Type 1} → stated.statement M

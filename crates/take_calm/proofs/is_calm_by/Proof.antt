@@ -1,3 +1,5 @@
+use Rattle.take_gone.specs.Gone.{Abreast}
+use Rattle.take_gone.proofs.Next.{abreast-start, abreast-room, abreast-pass, abreast-more}
 use Rattle.take_calm.proofs.Over.{TestsLeft, tests-left-start, tests-left-pass, tests-left-more, tests-left-no, tests-left-done, calm-row-same}
 use Rattle.take_calm.specs.CalmLeft.{calmLeft}
 use Rattle.take_rows.specs.Rows.{centredLeft}
@@ -14,23 +16,26 @@ use Rattle.take_calm.proofs.is_calm_by.Statement.{statement}
 use Rattle.take_calm.proofs.is_calm_by.Tie as tie
 use Rattle.take_calm.proofs.is_calm_by.Reads as reads
 use Rattle.take_calm.proofs.is_calm_by.Lts as lts
-use Rattle.take_gone.proofs.is_among.Reads as is-among-reads
+use Rattle.take_gone.proofs.is_next.Reads as is-next-reads
 use Rattle.take_calm.proofs.is_calm_row.Reads as is-calm-row-reads
 
 abbrev Inv-loop : tie.InvT-loop
-Inv-loop positions gone n c means j₀ j = TestsLeft (λ i. every (λ d. calm (centredLeft (survivors gone n) c positions i d)) c) gone n j
+Inv-loop positions gone n c means g₀ j₀ g j = TestsLeft (λ i. every (λ d. calm (centredLeft (survivors gone n) c positions i d)) c) gone n j × Abreast gone g j
 
 abbrev μ-loop : tie.MeasureT-loop
-μ-loop positions gone n c means j₀ j = n - j
+μ-loop positions gone n c means g₀ j₀ g j = n - j
 
 loop-holds : tie.Need-loop-holds Inv-loop μ-loop
-loop-holds c = tests-left-start
+loop-holds c = (tests-left-start, abreast-start (c .before .before .pre .3))
 
-cast-is-among : tie.Need-cast-is-among Inv-loop μ-loop
-cast-is-among c = omega (arith, c .before .before .before .before .pre .0, c .loop-test .taken)
+cast-is-next : tie.Need-cast-is-next Inv-loop μ-loop
+cast-is-next c = omega (arith, c .before .before .before .before .pre .0, c .loop-test .taken)
 
-is-among-requires : tie.Need-is-among-requires Inv-loop μ-loop
-is-among-requires c κs = c .before .before .before .before .pre .3
+is-next-requires : tie.Need-is-next-requires Inv-loop μ-loop
+is-next-requires c κs = c .before .loop .inv .1
+
+add-g : tie.Need-add-g Inv-loop μ-loop
+add-g c = omega (arith, abreast-room (c .before .before .before .loop .inv .1) (sym (c .before .is-next .ensures) ∙ c .if1 .taken))
 
 add-j : tie.Need-add-j Inv-loop μ-loop
 add-j c = search needs
@@ -39,7 +44,7 @@ loop-less : tie.Need-loop-less Inv-loop μ-loop
 loop-less c = search needs
 
 loop-again : tie.Need-loop-again Inv-loop μ-loop
-loop-again c = tests-left-pass (c .before .before .before .loop .inv) (c .before .before .loop-test .taken) (sym (c .before .is-among .ensures) ∙ c .if1 .taken)
+loop-again c = (tests-left-pass (c .before .before .before .loop .inv .0) (c .before .before .loop-test .taken) (sym (c .before .is-next .ensures) ∙ c .if1 .taken), abreast-pass (c .before .before .before .loop .inv .1) (sym (c .before .is-next .ensures) ∙ c .if1 .taken))
 
 mul-is-calm-row : tie.Need-mul-is-calm-row Inv-loop μ-loop
 mul-is-calm-row c = omega (arith, row-in (c .before .before .before .loop .j) (c .before .before .before .before .before .before .args .n) (c .before .before .before .before .before .before .args .c) _ (c .before .before .loop-test .taken) (c .before .before .before .before .before .before .pre .2))
@@ -49,7 +54,7 @@ is-calm-row-requires c κs = (c .before .before .before .before .before .before 
 
 returns : tie.Need-returns Inv-loop μ-loop
 unfolding calmLeft
-returns c = sym (tests-left-no (c .before .before .before .before .before .loop .inv) (c .before .before .before .before .loop-test .taken) (sym (c .before .before .before .is-among .ensures) ∙ c .before .before .if1 .left) (sym (c .before .is-calm-row .ensures ∙ calm-row-same (survivors (c .before .before .before .before .before .before .before .before .args .gone .now) (c .before .before .before .before .before .before .before .before .args .n)) (c .before .before .before .before .before .before .before .before .args .c) (c .before .before .before .before .before .before .before .before .args .positions .now) (c .before .before .before .before .before .before .before .before .args .means .now) (c .before .before .before .before .before .before .before .before .pre .4) (c .before .before .before .before .before .loop .j)) ∙ not-true _ (c .if2 .taken)))
+returns c = sym (tests-left-no (c .before .before .before .before .before .loop .inv .0) (c .before .before .before .before .loop-test .taken) (sym (c .before .before .before .is-next .ensures) ∙ c .before .before .if1 .left) (sym (c .before .is-calm-row .ensures ∙ calm-row-same (survivors (c .before .before .before .before .before .before .before .before .args .gone .now) (c .before .before .before .before .before .before .before .before .args .n)) (c .before .before .before .before .before .before .before .before .args .c) (c .before .before .before .before .before .before .before .before .args .positions .now) (c .before .before .before .before .before .before .before .before .args .means .now) (c .before .before .before .before .before .before .before .before .pre .4) (c .before .before .before .before .before .loop .j)) ∙ not-true _ (c .if2 .taken)))
 
 add-j-2 : tie.Need-add-j-2 Inv-loop μ-loop
 add-j-2 c = search needs
@@ -58,11 +63,11 @@ loop-less-2 : tie.Need-loop-less-2 Inv-loop μ-loop
 loop-less-2 c = search needs
 
 loop-again-2 : tie.Need-loop-again-2 Inv-loop μ-loop
-loop-again-2 c = tests-left-more (c .before .before .before .before .before .loop .inv) (c .before .before .before .before .loop-test .taken) (sym (c .before .before .before .is-among .ensures) ∙ c .before .before .if1 .left) (sym (c .before .is-calm-row .ensures ∙ calm-row-same (survivors (c .before .before .before .before .before .before .before .before .args .gone .now) (c .before .before .before .before .before .before .before .before .args .n)) (c .before .before .before .before .before .before .before .before .args .c) (c .before .before .before .before .before .before .before .before .args .positions .now) (c .before .before .before .before .before .before .before .before .args .means .now) (c .before .before .before .before .before .before .before .before .pre .4) (c .before .before .before .before .before .loop .j)) ∙ not-false _ (c .if2 .left))
+loop-again-2 c = (tests-left-more (c .before .before .before .before .before .loop .inv .0) (c .before .before .before .before .loop-test .taken) (sym (c .before .before .before .is-next .ensures) ∙ c .before .before .if1 .left) (sym (c .before .is-calm-row .ensures ∙ calm-row-same (survivors (c .before .before .before .before .before .before .before .before .args .gone .now) (c .before .before .before .before .before .before .before .before .args .n)) (c .before .before .before .before .before .before .before .before .args .c) (c .before .before .before .before .before .before .before .before .args .positions .now) (c .before .before .before .before .before .before .before .before .args .means .now) (c .before .before .before .before .before .before .before .before .pre .4) (c .before .before .before .before .before .loop .j)) ∙ not-false _ (c .if2 .left)), abreast-more (c .before .before .before .before .before .loop .inv .1) (sym (c .before .before .before .is-next .ensures) ∙ c .before .before .if1 .left))
 
 returns-2 : tie.Need-returns-2 Inv-loop μ-loop
 unfolding calmLeft
-returns-2 c = sym (tests-left-done (c .before .loop .inv) (c .loop-test .left))
+returns-2 c = sym (tests-left-done (c .before .loop .inv .0) (c .loop-test .left))
 
 pub is-calm-by-spec : {M : Type 1} → statement M
 is-calm-by-spec =
@@ -71,8 +76,9 @@ is-calm-by-spec =
     Inv-loop
     μ-loop
     loop-holds
-    cast-is-among
-    is-among-requires
+    cast-is-next
+    is-next-requires
+    add-g
     add-j
     loop-less
     loop-again

@@ -1,3 +1,5 @@
+use Rattle.take_gone.specs.Gone.{Abreast}
+use Rattle.take_gone.proofs.Next.{abreast-start, abreast-room, abreast-pass, abreast-more}
 use Rattle.take_gone.specs.Gone.{survivors}
 use Rattle.take_calm.proofs.Over.{SumsLeft, sums-left-start, sums-left-pass, sums-left-more, sums-left-done, sumOver}
 use Rattle.take_gone.proofs.Left.{survivors-few}
@@ -14,22 +16,25 @@ use Rattle.take_calm.proofs.mean_left.Statement.{statement}
 use Rattle.take_calm.proofs.mean_left.Tie as tie
 use Rattle.take_calm.proofs.mean_left.Reads as reads
 use Rattle.take_calm.proofs.mean_left.Lts as lts
-use Rattle.take_gone.proofs.is_among.Reads as is-among-reads
+use Rattle.take_gone.proofs.is_next.Reads as is-next-reads
 
 abbrev Inv-loop : tie.InvT-loop
-Inv-loop positions gone n c d m s₀ j₀ s j = SumsLeft (λ i. at positions (i * c + d)) gone n j s
+Inv-loop positions gone n c d m s₀ g₀ j₀ s g j = SumsLeft (λ i. at positions (i * c + d)) gone n j s × Abreast gone g j
 
 abbrev μ-loop : tie.MeasureT-loop
-μ-loop positions gone n c d m s₀ j₀ s j = n - j
+μ-loop positions gone n c d m s₀ g₀ j₀ s g j = n - j
 
 loop-holds : tie.Need-loop-holds Inv-loop μ-loop
-loop-holds c = sums-left-start
+loop-holds c = (sums-left-start, abreast-start (c .before .before .pre .3))
 
-cast-is-among : tie.Need-cast-is-among Inv-loop μ-loop
-cast-is-among c = omega (arith, c .before .before .before .before .pre .0, c .loop-test .taken)
+cast-is-next : tie.Need-cast-is-next Inv-loop μ-loop
+cast-is-next c = omega (arith, c .before .before .before .before .pre .0, c .loop-test .taken)
 
-is-among-requires : tie.Need-is-among-requires Inv-loop μ-loop
-is-among-requires c κs = c .before .before .before .before .pre .3
+is-next-requires : tie.Need-is-next-requires Inv-loop μ-loop
+is-next-requires c κs = c .before .loop .inv .1
+
+add-g : tie.Need-add-g Inv-loop μ-loop
+add-g c = omega (arith, abreast-room (c .before .before .before .loop .inv .1) (sym (c .before .is-next .ensures) ∙ c .if1 .taken))
 
 add-j : tie.Need-add-j Inv-loop μ-loop
 add-j c = search needs
@@ -38,7 +43,7 @@ loop-less : tie.Need-loop-less Inv-loop μ-loop
 loop-less c = search needs
 
 loop-again : tie.Need-loop-again Inv-loop μ-loop
-loop-again c = sums-left-pass (c .before .before .before .loop .inv) (c .before .before .loop-test .taken) (sym (c .before .is-among .ensures) ∙ c .if1 .taken)
+loop-again c = (sums-left-pass (c .before .before .before .loop .inv .0) (c .before .before .loop-test .taken) (sym (c .before .is-next .ensures) ∙ c .if1 .taken), abreast-pass (c .before .before .before .loop .inv .1) (sym (c .before .is-next .ensures) ∙ c .if1 .taken))
 
 mul-s : tie.Need-mul-s Inv-loop μ-loop
 mul-s c = omega (arith, row-in (c .before .before .before .loop .j) (c .before .before .before .before .before .before .args .n) (c .before .before .before .before .before .before .args .c) _ (c .before .before .loop-test .taken) (c .before .before .before .before .before .before .pre .2), c .before .before .before .before .before .before .pre .1)
@@ -59,14 +64,14 @@ loop-less-2 : tie.Need-loop-less-2 Inv-loop μ-loop
 loop-less-2 c = search needs
 
 loop-again-2 : tie.Need-loop-again-2 Inv-loop μ-loop
-loop-again-2 c = sums-left-more (c .before .before .before .before .loop .inv) (c .before .before .before .loop-test .taken) (sym (c .before .before .is-among .ensures) ∙ c .before .if1 .left)
+loop-again-2 c = (sums-left-more (c .before .before .before .before .loop .inv .0) (c .before .before .before .loop-test .taken) (sym (c .before .before .is-next .ensures) ∙ c .before .if1 .left), abreast-more (c .before .before .before .before .loop .inv .1) (sym (c .before .before .is-next .ensures) ∙ c .before .if1 .left))
 
 int-to-float-result : tie.Need-int-to-float-result Inv-loop μ-loop
 unfolding inFloat
 int-to-float-result c = le→leb (c .before .before .before .before .before .args .m) (2 ^ 53) (omega (arith, c .before .before .before .before .before .pre .0, c .before .before .before .before .before .pre .4, survivors-few (c .before .before .before .before .before .args .gone .now) (c .before .before .before .before .before .args .n)))
 
 returns : tie.Need-returns Inv-loop μ-loop
-returns c = ap (λ (x : Float). div binary64 x (ofInt binary64 (pos (c .before .before .before .before .before .args .m)))) (sums-left-done (c .before .before .loop .inv) (c .before .loop-test .left)) ∙ ap (λ (k : ℕ). div binary64 (sumOver (λ i. at (c .before .before .before .before .before .args .positions .now) (i * c .before .before .before .before .before .args .c + c .before .before .before .before .before .args .d)) (survivors (c .before .before .before .before .before .args .gone .now) (c .before .before .before .before .before .args .n))) (ofInt binary64 (pos k))) (c .before .before .before .before .before .pre .4)
+returns c = ap (λ (x : Float). div binary64 x (ofInt binary64 (pos (c .before .before .before .before .before .args .m)))) (sums-left-done (c .before .before .loop .inv .0) (c .before .loop-test .left)) ∙ ap (λ (k : ℕ). div binary64 (sumOver (λ i. at (c .before .before .before .before .before .args .positions .now) (i * c .before .before .before .before .before .args .c + c .before .before .before .before .before .args .d)) (survivors (c .before .before .before .before .before .args .gone .now) (c .before .before .before .before .before .args .n))) (ofInt binary64 (pos k))) (c .before .before .before .before .before .pre .4)
 
 pub mean-left-spec : {M : Type 1} → statement M
 mean-left-spec =
@@ -75,8 +80,9 @@ mean-left-spec =
     Inv-loop
     μ-loop
     loop-holds
-    cast-is-among
-    is-among-requires
+    cast-is-next
+    is-next-requires
+    add-g
     add-j
     loop-less
     loop-again

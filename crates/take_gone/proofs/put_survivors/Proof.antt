@@ -1,3 +1,5 @@
+use Rattle.take_gone.specs.Gone.{Abreast}
+use Rattle.take_gone.proofs.Next.{abreast-start, abreast-room, abreast-pass, abreast-more}
 use Rattle.take_gone.proofs.Left.{Surviving, surviving-start, surviving-room, surviving-pass, surviving-more, surviving-done}
 use lib.ListN.{length-set}
 use borrow.Author.Tests.{not-true, not-false}
@@ -9,22 +11,25 @@ use Rattle.take_gone.proofs.put_survivors.Statement.{statement}
 use Rattle.take_gone.proofs.put_survivors.Tie as tie
 use Rattle.take_gone.proofs.put_survivors.Reads as reads
 use Rattle.take_gone.proofs.put_survivors.Lts as lts
-use Rattle.take_gone.proofs.is_among.Reads as is-among-reads
+use Rattle.take_gone.proofs.is_next.Reads as is-next-reads
 
 abbrev Inv-loop : tie.InvT-loop
-Inv-loop gone n old₀ q₀ j₀ old q j = Surviving gone n old₀ q j old
+Inv-loop gone n old₀ g₀ q₀ j₀ old g q j = Surviving gone n old₀ q j old × Abreast gone g j
 
 abbrev μ-loop : tie.MeasureT-loop
-μ-loop gone n old₀ q₀ j₀ old q j = n - j
+μ-loop gone n old₀ g₀ q₀ j₀ old g q j = n - j
 
 loop-holds : tie.Need-loop-holds Inv-loop μ-loop
-loop-holds c = surviving-start
+loop-holds c = (surviving-start, abreast-start (c .before .before .pre .2))
 
-cast-is-among : tie.Need-cast-is-among Inv-loop μ-loop
-cast-is-among c = omega (arith, c .before .before .before .before .pre .0, c .loop-test .taken)
+cast-is-next : tie.Need-cast-is-next Inv-loop μ-loop
+cast-is-next c = omega (arith, c .before .before .before .before .pre .0, c .loop-test .taken)
 
-is-among-requires : tie.Need-is-among-requires Inv-loop μ-loop
-is-among-requires c κs = c .before .before .before .before .pre .2
+is-next-requires : tie.Need-is-next-requires Inv-loop μ-loop
+is-next-requires c κs = c .before .loop .inv .1
+
+add-g : tie.Need-add-g Inv-loop μ-loop
+add-g c = omega (arith, abreast-room (c .before .before .before .loop .inv .1) (sym (c .before .is-next .ensures) ∙ c .if1 .taken))
 
 add-j : tie.Need-add-j Inv-loop μ-loop
 add-j c = search needs
@@ -33,19 +38,19 @@ loop-less : tie.Need-loop-less Inv-loop μ-loop
 loop-less c = search needs
 
 loop-again : tie.Need-loop-again Inv-loop μ-loop
-loop-again c = surviving-pass (c .before .before .before .loop .inv) (c .before .before .loop-test .taken) (sym (c .before .is-among .ensures) ∙ c .if1 .taken)
+loop-again c = (surviving-pass (c .before .before .before .loop .inv .0) (c .before .before .loop-test .taken) (sym (c .before .is-next .ensures) ∙ c .if1 .taken), abreast-pass (c .before .before .before .loop .inv .1) (sym (c .before .is-next .ensures) ∙ c .if1 .taken))
 
 cast-old : tie.Need-cast-old Inv-loop μ-loop
 cast-old c = omega (arith, c .before .before .before .before .before .before .pre .0, c .before .before .loop-test .taken)
 
 mul-old : tie.Need-mul-old Inv-loop μ-loop
-mul-old c = omega (arith, surviving-room (c .before .before .before .loop .inv) (c .before .before .loop-test .taken) (c .before .before .before .before .before .before .pre .1), c .before .before .before .loop .inv .front .size)
+mul-old c = omega (arith, surviving-room (c .before .before .before .loop .inv .0) (c .before .before .loop-test .taken) (c .before .before .before .before .before .before .pre .1), c .before .before .before .loop .inv .0 .front .size)
 
 slice-write-old : tie.Need-slice-write-old Inv-loop μ-loop
-slice-write-old c = omega (arith, surviving-room (c .before .before .before .loop .inv) (c .before .before .loop-test .taken) (c .before .before .before .before .before .before .pre .1), c .before .before .before .loop .inv .front .size)
+slice-write-old c = omega (arith, surviving-room (c .before .before .before .loop .inv .0) (c .before .before .loop-test .taken) (c .before .before .before .before .before .before .pre .1), c .before .before .before .loop .inv .0 .front .size)
 
 add-q : tie.Need-add-q Inv-loop μ-loop
-add-q c = omega (arith, surviving-room (c .before .before .before .loop .inv) (c .before .before .loop-test .taken) (c .before .before .before .before .before .before .pre .1), c .before .before .before .loop .inv .front .size)
+add-q c = omega (arith, surviving-room (c .before .before .before .loop .inv .0) (c .before .before .loop-test .taken) (c .before .before .before .before .before .before .pre .1), c .before .before .before .loop .inv .0 .front .size)
 
 add-j-2 : tie.Need-add-j-2 Inv-loop μ-loop
 add-j-2 c = search needs
@@ -54,13 +59,13 @@ loop-less-2 : tie.Need-loop-less-2 Inv-loop μ-loop
 loop-less-2 c = search needs
 
 loop-again-2 : tie.Need-loop-again-2 Inv-loop μ-loop
-loop-again-2 c = surviving-more (c .before .before .before .loop .inv) (c .before .before .loop-test .taken) (c .before .before .before .before .before .before .pre .1) (sym (c .before .is-among .ensures) ∙ c .if1 .left)
+loop-again-2 c = (surviving-more (c .before .before .before .loop .inv .0) (c .before .before .loop-test .taken) (c .before .before .before .before .before .before .pre .1) (sym (c .before .is-next .ensures) ∙ c .if1 .left), abreast-more (c .before .before .before .loop .inv .1) (sym (c .before .is-next .ensures) ∙ c .if1 .left))
 
 same-length : tie.Need-same-length Inv-loop μ-loop
-same-length c = c .before .loop .inv .front .size
+same-length c = c .before .loop .inv .0 .front .size
 
 returns : tie.Need-returns Inv-loop μ-loop
-returns c = surviving-done (c .before .loop .inv) (c .loop-test .left)
+returns c = surviving-done (c .before .loop .inv .0) (c .loop-test .left)
 
 pub put-survivors-spec : {M : Type 1} → statement M
 put-survivors-spec =
@@ -69,8 +74,9 @@ put-survivors-spec =
     Inv-loop
     μ-loop
     loop-holds
-    cast-is-among
-    is-among-requires
+    cast-is-next
+    is-next-requires
+    add-g
     add-j
     loop-less
     loop-again

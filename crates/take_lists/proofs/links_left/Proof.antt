@@ -1,4 +1,6 @@
 -- `take_lists::links_left` meets its contract: the lists of j frames are looked at (`Tallies`). Assumes nothing.
+use Rattle.take_gone.specs.Gone.{Abreast}
+use Rattle.take_gone.proofs.Next.{abreast-start, abreast-room, abreast-pass, abreast-more}
 use Rattle.take_lists.proofs.Counting.{Tallies, tallies-start, tallies-pass, tallies-inside, tallies-room, tallies-more, tallies-done}
 use mathlib.Core.Path.{sym, _∙_}
 use Prim.Native.Nat.{_+_, _-_}
@@ -8,19 +10,22 @@ use Rattle.take_lists.proofs.links_left.Statement.{statement}
 use Rattle.take_lists.proofs.links_left.Tie as tie
 
 abbrev Inv-loop : tie.InvT-loop
-Inv-loop gone n indices offsets c₀ j₀ c j = Tallies gone indices offsets n j c
+Inv-loop gone n indices offsets c₀ g₀ j₀ c g j = Tallies gone indices offsets n j c × Abreast gone g j
 
 abbrev μ-loop : tie.MeasureT-loop
-μ-loop gone n indices offsets c₀ j₀ c j = n - j
+μ-loop gone n indices offsets c₀ g₀ j₀ c g j = n - j
 
 loop-holds : tie.Need-loop-holds Inv-loop μ-loop
-loop-holds c = tallies-start (c .before .before .before .pre .2)
+loop-holds c = (tallies-start (c .before .before .before .pre .2), abreast-start (c .before .before .before .pre .1))
 
-cast-is-among : tie.Need-cast-is-among Inv-loop μ-loop
-cast-is-among c = omega (arith, c .before .before .before .before .before .pre .0, c .loop-test .taken)
+cast-is-next : tie.Need-cast-is-next Inv-loop μ-loop
+cast-is-next c = omega (arith, c .before .before .before .before .before .pre .0, c .loop-test .taken)
 
-is-among-requires : tie.Need-is-among-requires Inv-loop μ-loop
-is-among-requires c κs = c .before .before .before .before .before .pre .1
+is-next-requires : tie.Need-is-next-requires Inv-loop μ-loop
+is-next-requires c κs = c .before .loop .inv .1
+
+add-g : tie.Need-add-g Inv-loop μ-loop
+add-g c = omega (arith, abreast-room (c .before .before .before .loop .inv .1) (sym (c .before .is-next .ensures) ∙ c .if1 .taken))
 
 add-j : tie.Need-add-j Inv-loop μ-loop
 add-j c = omega (arith, c .before .before .before .before .before .before .before .pre .0, c .before .before .loop-test .taken)
@@ -33,7 +38,8 @@ loop-again c =
     let r = c .before .before .before .before .before .before .before in
     let turn = c .before .before .before .loop in
     let test = c .before .before .loop-test in
-    tallies-pass (r .pre .2) (test .taken) (turn .inv) (sym (c .if1 .taken) ∙ c .before .is-among .ensures)
+    let found = sym (c .before .is-next .ensures) ∙ c .if1 .taken in
+    (tallies-pass (r .pre .2) (test .taken) (turn .inv .0) (sym found), abreast-pass (turn .inv .1) found)
 
 mul-wide : tie.Need-mul-wide Inv-loop μ-loop
 mul-wide c = omega (arith, c .before .before .before .before .before .before .before .pre .2 .offsets-long, c .before .before .loop-test .taken)
@@ -73,7 +79,7 @@ list-left-requires c κs =
     let turn = c .before .before .before .before .before .before .before .loop in
     let test = c .before .before .before .before .before .before .loop-test in
     let first = c .before .before .wide in
-    (r .pre .1, omega (arith, tallies-inside (r .pre .2) (test .taken) (turn .inv) (first .ensures) (c .wide2 .ensures)))
+    (r .pre .1, omega (arith, tallies-inside (r .pre .2) (test .taken) (turn .inv .0) (first .ensures) (c .wide2 .ensures)))
 
 add-c : tie.Need-add-c Inv-loop μ-loop
 add-c c =
@@ -82,7 +88,7 @@ add-c c =
     let turn = c .before .before .before .before .before .before .before .before .loop in
     let test = c .before .before .before .before .before .before .before .loop-test in
     let first = c .before .before .before .wide in
-    omega (arith, tallies-room (r .pre .2) (test .taken) (turn .inv) (first .ensures) (c .before .wide2 .ensures) (c .list-left .ensures), shared-slice-known3 .given (turn .j + 1))
+    omega (arith, tallies-room (r .pre .2) (test .taken) (turn .inv .0) (first .ensures) (c .before .wide2 .ensures) (c .list-left .ensures), shared-slice-known3 .given (turn .j + 1))
 
 add-j-2 : tie.Need-add-j-2 Inv-loop μ-loop
 add-j-2 c =
@@ -98,13 +104,14 @@ loop-again-2 c =
     let r = c .before .before .before .before .before .before .before .before .before .before .before .before in
     let turn = c .before .before .before .before .before .before .before .before .loop in
     let test = c .before .before .before .before .before .before .before .loop-test in
-    let found = c .before .before .before .before .before .before .is-among in
+    let found = c .before .before .before .before .before .before .is-next in
     let case = c .before .before .before .before .before .if1 in
     let first = c .before .before .before .wide in
-    tallies-more (r .pre .2) (test .taken) (turn .inv) (first .ensures) (c .before .wide2 .ensures) (c .list-left .ensures) (sym (case .left) ∙ found .ensures)
+    let no = sym (found .ensures) ∙ case .left in
+    (tallies-more (r .pre .2) (test .taken) (turn .inv .0) (first .ensures) (c .before .wide2 .ensures) (c .list-left .ensures) (sym no), abreast-more (turn .inv .1) no)
 
 returns : tie.Need-returns Inv-loop μ-loop
-returns c = tallies-done (c .before .before .before .before .before .pre .2) (c .before .before .before .before .before .pre .3) (c .loop-test .left) (c .before .loop .inv)
+returns c = tallies-done (c .before .before .before .before .before .pre .2) (c .before .before .before .before .before .pre .3) (c .loop-test .left) (c .before .loop .inv .0)
 
 pub links-left-spec : {M : Type 1} → statement M
 links-left-spec =
@@ -113,8 +120,9 @@ links-left-spec =
     Inv-loop
     μ-loop
     loop-holds
-    cast-is-among
-    is-among-requires
+    cast-is-next
+    is-next-requires
+    add-g
     add-j
     loop-less
     loop-again

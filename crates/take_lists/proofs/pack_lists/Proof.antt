@@ -20,8 +20,8 @@ pack-all-requires c κs =
     let r = c .before .before .before .before .before .before .before .before .before in
     (r .pre .0, r .pre .1, r .pre .2, r .pre .3)
 
-clear-between-requires : tie.Need-clear-between-requires
-clear-between-requires c κs =
+clear-bits-requires : tie.Need-clear-bits-requires
+clear-bits-requires c κs =
     let r = c .before .before .before .before .before .before .before .before .before .before .before .before .before .before .before .before .before in
     let packed = c .before .before .before .before .before .before .before .pack-all in
     let links = c .before .before .before .before .before .before .before .before .before .before .before .wide .ensures in
@@ -55,8 +55,8 @@ clear-words-requires-2 c κs =
 same-length : tie.Need-same-length
 same-length c =
     let packed = c .before .before .before .before .before .before .before .before .before .before .before .before .before .before .before .before .before .before .pack-all in
-    let clear-between = c .before .before .before .before .before .before .before .before .before .before .clear-between in
-    clear-between .kept .0 ∙ packed .kept .0
+    let clear-bits = c .before .before .before .before .before .before .before .before .before .before .clear-bits in
+    clear-bits .kept .0 ∙ packed .kept .0
 
 same-length-2 : tie.Need-same-length-2
 same-length-2 c =
@@ -76,7 +76,7 @@ returns c =
     let packed = c .before .before .before .before .before .before .before .before .before .before .before .before .before .before .before .before .before .before .pack-all .ensures in
     let links = c .before .before .before .before .before .before .before .before .before .before .before .before .before .before .before .before .before .before .before .before .before .before .wide .ensures in (
       weights-shrunk (r .args .keep .now) (r .args .weights .now) (r .args .indices .now) (r .args .offsets .now) (r .pre .1) (r .pre .2) (r .pre .3)
-          (packed .0) links (packed .1 .0) (c .before .before .before .before .before .before .before .before .before .before .clear-between .ensures),
+          (packed .0) links (packed .1 .0) (c .before .before .before .before .before .before .before .before .before .before .clear-bits .ensures),
       indices-shrunk (r .args .keep .now) (r .args .weights .now) (r .args .indices .now) (r .args .offsets .now) (r .pre .1) (r .pre .2) (r .pre .3)
           (packed .0) links (packed .1 .1 .0) (c .before .before .before .before .before .before .clear-words .ensures),
       offsets-shrunk (r .args .keep .now) (r .args .weights .now) (r .args .indices .now) (r .args .offsets .now) (r .pre .1) (r .pre .2) (r .pre .3)
@@ -91,7 +91,7 @@ pack-lists-spec =
     slice-read-wide
     wide-requires
     pack-all-requires
-    clear-between-requires
+    clear-bits-requires
     clear-words-requires
     add-clear-words
     add-clear-words-2

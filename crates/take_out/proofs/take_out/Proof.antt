@@ -26,7 +26,7 @@ use types.SemTy.{Body}
 use denote.RattleType.{owns}
 use denote.Laws.{Is, shows}
 use denote.Memory.{mem as memory-of}
-use denote.Builtin.{u32, f64}
+use denote.Builtin.{u32, u64, f64}
 use denote.Ref.{RefT, MutRef, ptr-vals, mut-tells}
 use denote.Slice.{MutSlice, ShrSlice, Room, slice-vals, mut-slice-tells, shr-slice-tells}
 use denote.Signature.{plain}
@@ -41,9 +41,9 @@ use denote.Exit.{yes}
 use Rattle.lent.proofs.Pass.{Seat, ref-at, word, Mut, Shr, Tok}
 use denote.Struct.Laws as LL
 use denote.Enum.Laws as EL
-use Rattle.run_entry.specs.State.{memory, state}
 use Rattle.take_out.proofs.Calls.{taking-asks, taking-told}
-use Rattle.take_out.specs.TakeOut.{takeOutcome, takeOut}
+use Rattle.take_out.specs.TakeOut.{holdings, tookOut, takeOut}
+use Rattle.tree_node.specs.Arena.{nodesOf}
 use mathlib.Core.Path.{_≡_}
 use Rattle.tree_node.specs.declared.Cell.{Cell}
 use Rattle.tree_node.proofs.Cell as Cell′
@@ -82,22 +82,22 @@ use Rattle.take_out.proofs.take_out.Statement as stated
 use Rattle.take_out.proofs.take_out.Code as code
 
 abbrev Arg : Type 0
-Arg = RefT Run × (RefT (List Float) × (RefT (List Float) × (RefT (List Float) × (RefT (List Float) × (RefT (List ℕ) × (RefT (List ℕ) × (RefT (List Float) × (RefT (List Cell) × (RefT (List Float) × (RefT (List ℕ) × (RefT (List ℕ) × (Unit {0}))))))))))))
+Arg = RefT Run × (RefT (List Float) × (RefT (List ℕ) × (RefT (List ℕ) × (RefT (List ℕ) × (RefT (List ℕ) × (RefT (List ℕ) × (RefT (List Float) × (RefT (List Cell) × (RefT (List ℕ) × (RefT (List ℕ) × (RefT (List ℕ) × (Unit {0}))))))))))))
 
 abbrev stayed : Stays (f.ended .signature .params) (f.ended .kept)
-stayed = (stay-ref (0 ∷ []) tt (plain (λ _. Run′.the-row)), (stay-slice (1 ∷ []) tt (plain (λ _. f64)), (stay-slice (2 ∷ []) tt (plain (λ _. f64)), (stay-slice (3 ∷ []) tt (plain (λ _. f64)), (stay-slice (4 ∷ []) tt (plain (λ _. f64)), (stay-slice (5 ∷ []) tt (plain (λ _. u32)), (stay-slice (6 ∷ []) tt (plain (λ _. u32)), (stay-slice (7 ∷ []) tt (plain (λ _. f64)), (stay-none-slice (8 ∷ []) tt (plain (λ _. Cell′.the-row)) yes, (stay-slice (9 ∷ []) tt (plain (λ _. f64)), (stay-none-slice (10 ∷ []) tt (plain (λ _. u32)) yes, (stay-slice (11 ∷ []) tt (plain (λ _. u32)), tt))))))))))))
+stayed = (stay-ref (0 ∷ []) tt (plain (λ _. Run′.the-row)), (stay-slice (1 ∷ []) tt (plain (λ _. f64)), (stay-slice (2 ∷ []) tt (plain (λ _. u64)), (stay-slice (3 ∷ []) tt (plain (λ _. u64)), (stay-slice (4 ∷ []) tt (plain (λ _. u64)), (stay-slice (5 ∷ []) tt (plain (λ _. u32)), (stay-slice (6 ∷ []) tt (plain (λ _. u32)), (stay-slice (7 ∷ []) tt (plain (λ _. f64)), (stay-none-slice (8 ∷ []) tt (plain (λ _. Cell′.the-row)) yes, (stay-slice (9 ∷ []) tt (plain (λ _. u64)), (stay-none-slice (10 ∷ []) tt (plain (λ _. u32)) yes, (stay-slice (11 ∷ []) tt (plain (λ _. u32)), tt))))))))))))
 
 module _ {M : Type 1} (𝓤 : URA M) (H : Heap 𝓤) (A : Atoms 𝓤) (W : Given 𝓤 H A) (mem : Memory → SProp 𝓤) (run-of : Routine → Fun 𝓤)
     (s-run₀ : Seat) (run₀ : Run)
     (s-positions : Seat) (positions : List Float) (ln-positions : length positions ≡ s-positions .count) (room-positions : Room f64 (s-positions .count))
-    (s-increments : Seat) (increments : List Float) (ln-increments : length increments ≡ s-increments .count) (room-increments : Room f64 (s-increments .count))
-    (s-gains : Seat) (gains : List Float) (ln-gains : length gains ≡ s-gains .count) (room-gains : Room f64 (s-gains .count))
-    (s-affinities : Seat) (affinities : List Float) (ln-affinities : length affinities ≡ s-affinities .count) (room-affinities : Room f64 (s-affinities .count))
+    (s-increments : Seat) (increments : List ℕ) (ln-increments : length increments ≡ s-increments .count) (room-increments : Room u64 (s-increments .count))
+    (s-gains : Seat) (gains : List ℕ) (ln-gains : length gains ≡ s-gains .count) (room-gains : Room u64 (s-gains .count))
+    (s-affinities : Seat) (affinities : List ℕ) (ln-affinities : length affinities ≡ s-affinities .count) (room-affinities : Room u64 (s-affinities .count))
     (s-indices : Seat) (indices : List ℕ) (ln-indices : length indices ≡ s-indices .count) (room-indices : Room u32 (s-indices .count))
     (s-offsets : Seat) (offsets : List ℕ) (ln-offsets : length offsets ≡ s-offsets .count) (room-offsets : Room u32 (s-offsets .count))
     (s-forces : Seat) (forces : List Float) (ln-forces : length forces ≡ s-forces .count) (room-forces : Room f64 (s-forces .count))
     (s-cells : Seat) (cells : List Cell) (ln-cells : length cells ≡ s-cells .count) (room-cells : Room Cell′.the-row (s-cells .count))
-    (s-table : Seat) (table : List Float) (ln-table : length table ≡ s-table .count) (room-table : Room f64 (s-table .count))
+    (s-table : Seat) (table : List ℕ) (ln-table : length table ≡ s-table .count) (room-table : Room u64 (s-table .count))
     (s-gone : Seat) (gone : List ℕ) (ln-gone : length gone ≡ s-gone .count) (room-gone : Room u32 (s-gone .count))
     (s-old : Seat) (old : List ℕ) (ln-old : length old ≡ s-old .count) (room-old : Room u32 (s-old .count)) where
   abbrev x : Arg
@@ -124,16 +124,16 @@ module _ {M : Type 1} (𝓤 : URA M) (H : Heap 𝓤) (A : Atoms 𝓤) (W : Given
   typed-Took : (v : Took) → IsTook v → T (hasTy Took″.mir (val-Took v)) × WT (val-Took v)
   typed-Took v g = LL.lawful Took′.the-type Took″.the-laws 𝓤 H A W .typed v _ g .0
 
-  exits : (res : Taken) (positions′ : List Float) (increments′ : List Float) (gains′ : List Float) (affinities′ : List Float) (indices′ : List ℕ) (offsets′ : List ℕ) (forces′ : List Float) (table′ : List Float) (old′ : List ℕ) (run₀′ : Run) → IsRun run₀′ → IsTaken res → length positions′ ≡ s-positions .count → length increments′ ≡ s-increments .count → length gains′ ≡ s-gains .count → length affinities′ ≡ s-affinities .count → length indices′ ≡ s-indices .count → length offsets′ ≡ s-offsets .count → length forces′ ≡ s-forces .count → length table′ ≡ s-table .count → length old′ ≡ s-old .count → takeOutcome res (state run₀′ (memory positions′ increments′ gains′ affinities′ indices′ offsets′ forces′ cells)) table′ old′ ≡ takeOut gone (state run₀ (memory positions increments gains affinities indices offsets forces cells)) table old → ent 𝓤 (⋆ 𝓤 H A (‵ (fobs (s-run₀ .tag) (Run′.the-row .coded .code run₀′)) ∷ ‵ (fbor (s-run₀ .life) (Body (memory-of Run′.the-row) (s-run₀ .block) (s-run₀ .off) (s-run₀ .tag))) ∷ ‵ (Tok s-run₀) ∷ ‵ (Mut f64 s-positions positions′) ∷ ‵ (Tok s-positions) ∷ ‵ (Mut f64 s-increments increments′) ∷ ‵ (Tok s-increments) ∷ ‵ (Mut f64 s-gains gains′) ∷ ‵ (Tok s-gains) ∷ ‵ (Mut f64 s-affinities affinities′) ∷ ‵ (Tok s-affinities) ∷ ‵ (Mut u32 s-indices indices′) ∷ ‵ (Tok s-indices) ∷ ‵ (Mut u32 s-offsets offsets′) ∷ ‵ (Tok s-offsets) ∷ ‵ (Mut f64 s-forces forces′) ∷ ‵ (Tok s-forces) ∷ ‵ (Shr Cell′.the-row s-cells cells) ∷ ‵ (Tok s-cells) ∷ ‵ (Mut f64 s-table table′) ∷ ‵ (Tok s-table) ∷ ‵ (Shr u32 s-gone gone) ∷ ‵ (Tok s-gone) ∷ ‵ (Mut u32 s-old old′) ∷ ‵ (Tok s-old) ∷ [])) (Post (val-Taken res))
+  exits : (res : Taken) (positions′ : List Float) (increments′ : List ℕ) (gains′ : List ℕ) (affinities′ : List ℕ) (indices′ : List ℕ) (offsets′ : List ℕ) (forces′ : List Float) (table′ : List ℕ) (old′ : List ℕ) (run₀′ : Run) → IsRun run₀′ → IsTaken res → length positions′ ≡ s-positions .count → length increments′ ≡ s-increments .count → length gains′ ≡ s-gains .count → length affinities′ ≡ s-affinities .count → length indices′ ≡ s-indices .count → length offsets′ ≡ s-offsets .count → length forces′ ≡ s-forces .count → length table′ ≡ s-table .count → length old′ ≡ s-old .count → tookOut res run₀′ (holdings positions′ increments′ gains′ affinities′ indices′ offsets′ forces′ table′ old′) ≡ takeOut gone run₀ (holdings positions increments gains affinities indices offsets forces table old) (nodesOf cells) → ent 𝓤 (⋆ 𝓤 H A (‵ (fobs (s-run₀ .tag) (Run′.the-row .coded .code run₀′)) ∷ ‵ (fbor (s-run₀ .life) (Body (memory-of Run′.the-row) (s-run₀ .block) (s-run₀ .off) (s-run₀ .tag))) ∷ ‵ (Tok s-run₀) ∷ ‵ (Mut f64 s-positions positions′) ∷ ‵ (Tok s-positions) ∷ ‵ (Mut u64 s-increments increments′) ∷ ‵ (Tok s-increments) ∷ ‵ (Mut u64 s-gains gains′) ∷ ‵ (Tok s-gains) ∷ ‵ (Mut u64 s-affinities affinities′) ∷ ‵ (Tok s-affinities) ∷ ‵ (Mut u32 s-indices indices′) ∷ ‵ (Tok s-indices) ∷ ‵ (Mut u32 s-offsets offsets′) ∷ ‵ (Tok s-offsets) ∷ ‵ (Mut f64 s-forces forces′) ∷ ‵ (Tok s-forces) ∷ ‵ (Shr Cell′.the-row s-cells cells) ∷ ‵ (Tok s-cells) ∷ ‵ (Mut u64 s-table table′) ∷ ‵ (Tok s-table) ∷ ‵ (Shr u32 s-gone gone) ∷ ‵ (Tok s-gone) ∷ ‵ (Mut u32 s-old old′) ∷ ‵ (Tok s-old) ∷ [])) (Post (val-Taken res))
   exits res positions′ increments′ gains′ affinities′ indices′ offsets′ forces′ table′ old′ run₀′ is-run₀ is le-positions le-increments le-gains le-affinities le-indices le-offsets le-forces le-table le-old e =
-      qed W (‵ (fobs (s-run₀ .tag) (Run′.the-row .coded .code run₀′)) ∷ ‵ (fbor (s-run₀ .life) (Body (memory-of Run′.the-row) (s-run₀ .block) (s-run₀ .off) (s-run₀ .tag))) ∷ ‵ (Tok s-run₀) ∷ ‵ (Mut f64 s-positions positions′) ∷ ‵ (Tok s-positions) ∷ ‵ (Mut f64 s-increments increments′) ∷ ‵ (Tok s-increments) ∷ ‵ (Mut f64 s-gains gains′) ∷ ‵ (Tok s-gains) ∷ ‵ (Mut f64 s-affinities affinities′) ∷ ‵ (Tok s-affinities) ∷ ‵ (Mut u32 s-indices indices′) ∷ ‵ (Tok s-indices) ∷ ‵ (Mut u32 s-offsets offsets′) ∷ ‵ (Tok s-offsets) ∷ ‵ (Mut f64 s-forces forces′) ∷ ‵ (Tok s-forces) ∷ ‵ (Shr Cell′.the-row s-cells cells) ∷ ‵ (Tok s-cells) ∷ ‵ (Mut f64 s-table table′) ∷ ‵ (Tok s-table) ∷ ‵ (Shr u32 s-gone gone) ∷ ‵ (Tok s-gone) ∷ ‵ (Mut u32 s-old old′) ∷ ‵ (Tok s-old) ∷ []) ∵
+      qed W (‵ (fobs (s-run₀ .tag) (Run′.the-row .coded .code run₀′)) ∷ ‵ (fbor (s-run₀ .life) (Body (memory-of Run′.the-row) (s-run₀ .block) (s-run₀ .off) (s-run₀ .tag))) ∷ ‵ (Tok s-run₀) ∷ ‵ (Mut f64 s-positions positions′) ∷ ‵ (Tok s-positions) ∷ ‵ (Mut u64 s-increments increments′) ∷ ‵ (Tok s-increments) ∷ ‵ (Mut u64 s-gains gains′) ∷ ‵ (Tok s-gains) ∷ ‵ (Mut u64 s-affinities affinities′) ∷ ‵ (Tok s-affinities) ∷ ‵ (Mut u32 s-indices indices′) ∷ ‵ (Tok s-indices) ∷ ‵ (Mut u32 s-offsets offsets′) ∷ ‵ (Tok s-offsets) ∷ ‵ (Mut f64 s-forces forces′) ∷ ‵ (Tok s-forces) ∷ ‵ (Shr Cell′.the-row s-cells cells) ∷ ‵ (Tok s-cells) ∷ ‵ (Mut u64 s-table table′) ∷ ‵ (Tok s-table) ∷ ‵ (Shr u32 s-gone gone) ∷ ‵ (Tok s-gone) ∷ ‵ (Mut u32 s-old old′) ∷ ‵ (Tok s-old) ∷ []) ∵
       suffices ! _ (ends-at 𝓤 H A f.ended stayed (f.clauses 𝓤 H A mem run-of) W (((s-run₀ .life, (s-positions .life, (s-increments .life, (s-gains .life, (s-affinities .life, (s-indices .life, (s-offsets .life, (s-forces .life, (s-cells .life, (s-table .life, (s-gone .life, (s-old .life, tt)))))))))))), (s-run₀ .share, (s-positions .share, (s-increments .share, (s-gains .share, (s-affinities .share, (s-indices .share, (s-offsets .share, (s-forces .share, (s-cells .share, (s-table .share, (s-gone .share, (s-old .share, tt)))))))))))), tt, x, at), tt) (val-Taken res) res (run₀′, (positions′, (increments′, (gains′, (affinities′, (indices′, (offsets′, (forces′, (tt, (table′, (tt, (old′, tt)))))))))))) (tt, (le-positions ∙ sym ln-positions, (le-increments ∙ sym ln-increments, (le-gains ∙ sym ln-gains, (le-affinities ∙ sym ln-affinities, (le-indices ∙ sym ln-indices, (le-offsets ∙ sym ln-offsets, (le-forces ∙ sym ln-forces, (tt, (le-table ∙ sym ln-table, (tt, (le-old ∙ sym ln-old, tt))))))))))))) $ says ! e $
       nothing ! $ move ! (25 ∷ 0 ∷ []) $ join ! $ move ! (23 ∷ 0 ∷ []) $ join ! $ move ! (21 ∷ 0 ∷ []) $ join ! $ move ! (19 ∷ 0 ∷ []) $ join ! $ move ! (17 ∷ 0 ∷ []) $ join ! $ move ! (15 ∷ 0 ∷ []) $ join ! $ move ! (13 ∷ 0 ∷ []) $ join ! $ move ! (11 ∷ 0 ∷ []) $ join ! $ move ! (9 ∷ 0 ∷ []) $ join ! $ move ! (7 ∷ 0 ∷ []) $ join ! $ move ! (5 ∷ 0 ∷ []) $ join ! $ move ! (3 ∷ 0 ∷ []) $ join ! $ frame ! $ nothing ! $ move ! (13 ∷ 0 ∷ []) $ fjoin ! $ move ! (12 ∷ 0 ∷ []) $ fjoin ! $ move ! (11 ∷ 0 ∷ []) $ fjoin ! $ move ! (10 ∷ 0 ∷ []) $ fjoin ! $ move ! (9 ∷ 0 ∷ []) $ fjoin ! $ move ! (8 ∷ 0 ∷ []) $ fjoin ! $ move ! (7 ∷ 0 ∷ []) $ fjoin ! $ move ! (6 ∷ 0 ∷ []) $ fjoin ! $ move ! (5 ∷ 0 ∷ []) $ fjoin ! $ move ! (4 ∷ 0 ∷ []) $ fjoin ! $ move ! (3 ∷ 0 ∷ []) $ fjoin ! $ move ! (1 ∷ 2 ∷ []) $ feqI ! (List Val) (vptr (s-run₀ .block) (s-run₀ .off) ∷ []) (vptr (s-run₀ .block) (s-run₀ .off) ∷ []) refl $ fjoin3 ! $ fjoin ! $ frame ! $ owned ! Taken′.the-row (Is Taken′.the-row) ((EL.makes Taken′.the-type Taken″.the-plain) 𝓤 H A) res _ is $ done !
 
   module _ (C : Calls 𝓤 H) (Λ : Loops 𝓤 H) (fm : FmC 𝓤 H (W .laws) C) (known-lent-positions : Triple 𝓤 (C #take-out·lent-positions) (Contract-lent-positions 𝓤 H A mem run-of)) (known-fault-at : Triple 𝓤 (C #run-entry·fault-at) (Contract-fault-at 𝓤 H A mem run-of)) (known-take-tested : Triple 𝓤 (C #take-out·take-tested) (Contract-take-tested 𝓤 H A mem run-of)) where
     walk : ent 𝓤 (onEntry 𝓤 H A f.signature (s-run₀ .life, (s-positions .life, (s-increments .life, (s-gains .life, (s-affinities .life, (s-indices .life, (s-offsets .life, (s-forces .life, (s-cells .life, (s-table .life, (s-gone .life, (s-old .life, tt)))))))))))) (s-run₀ .share, (s-positions .share, (s-increments .share, (s-gains .share, (s-affinities .share, (s-indices .share, (s-offsets .share, (s-forces .share, (s-cells .share, (s-table .share, (s-gone .share, (s-old .share, tt)))))))))))) x at) (WpFn 𝓤 H C Λ code.function (vptr (s-run₀ .block) (s-run₀ .off) ∷ word s-positions ∷ word s-increments ∷ word s-gains ∷ word s-affinities ∷ word s-indices ∷ word s-offsets ∷ word s-forces ∷ word s-cells ∷ word s-table ∷ word s-gone ∷ word s-old ∷ []) Post)
     walk =
-        qed W ((‵ (Tok s-run₀) ⊛ ‵ (Tok s-positions) ⊛ ‵ (Tok s-increments) ⊛ ‵ (Tok s-gains) ⊛ ‵ (Tok s-affinities) ⊛ ‵ (Tok s-indices) ⊛ ‵ (Tok s-offsets) ⊛ ‵ (Tok s-forces) ⊛ ‵ (Tok s-cells) ⊛ ‵ (Tok s-table) ⊛ ‵ (Tok s-gone) ⊛ ‵ (Tok s-old) ⊛ ‵ ftrue) ∷ ‵ (owns (MutRef (named 0) (s-run₀ .life) Run′.the-row ∷ MutSlice (named 1) (s-positions .life) f64 ∷ MutSlice (named 2) (s-increments .life) f64 ∷ MutSlice (named 3) (s-gains .life) f64 ∷ MutSlice (named 4) (s-affinities .life) f64 ∷ MutSlice (named 5) (s-indices .life) u32 ∷ MutSlice (named 6) (s-offsets .life) u32 ∷ MutSlice (named 7) (s-forces .life) f64 ∷ ShrSlice (named 8) (s-cells .life) Cell′.the-row ∷ MutSlice (named 9) (s-table .life) f64 ∷ ShrSlice (named 10) (s-gone .life) u32 ∷ MutSlice (named 11) (s-old .life) u32 ∷ []) x at) ∷ []) ∵ enter ! C Λ code.function (vptr (s-run₀ .block) (s-run₀ .off) ∷ word s-positions ∷ word s-increments ∷ word s-gains ∷ word s-affinities ∷ word s-indices ∷ word s-offsets ∷ word s-forces ∷ word s-cells ∷ word s-table ∷ word s-gone ∷ word s-old ∷ []) _ $
+        qed W ((‵ (Tok s-run₀) ⊛ ‵ (Tok s-positions) ⊛ ‵ (Tok s-increments) ⊛ ‵ (Tok s-gains) ⊛ ‵ (Tok s-affinities) ⊛ ‵ (Tok s-indices) ⊛ ‵ (Tok s-offsets) ⊛ ‵ (Tok s-forces) ⊛ ‵ (Tok s-cells) ⊛ ‵ (Tok s-table) ⊛ ‵ (Tok s-gone) ⊛ ‵ (Tok s-old) ⊛ ‵ ftrue) ∷ ‵ (owns (MutRef (named 0) (s-run₀ .life) Run′.the-row ∷ MutSlice (named 1) (s-positions .life) f64 ∷ MutSlice (named 2) (s-increments .life) u64 ∷ MutSlice (named 3) (s-gains .life) u64 ∷ MutSlice (named 4) (s-affinities .life) u64 ∷ MutSlice (named 5) (s-indices .life) u32 ∷ MutSlice (named 6) (s-offsets .life) u32 ∷ MutSlice (named 7) (s-forces .life) f64 ∷ ShrSlice (named 8) (s-cells .life) Cell′.the-row ∷ MutSlice (named 9) (s-table .life) u64 ∷ ShrSlice (named 10) (s-gone .life) u32 ∷ MutSlice (named 11) (s-old .life) u32 ∷ []) x at) ∷ []) ∵ enter ! C Λ code.function (vptr (s-run₀ .block) (s-run₀ .off) ∷ word s-positions ∷ word s-increments ∷ word s-gains ∷ word s-affinities ∷ word s-indices ∷ word s-offsets ∷ word s-forces ∷ word s-cells ∷ word s-table ∷ word s-gone ∷ word s-old ∷ []) _ $
         alloc1 ! (λ l0. alloc1 ! (λ l1. alloc1 ! (λ l2. alloc1 ! (λ l3. alloc1 ! (λ l4. alloc1 ! (λ l5. alloc1 ! (λ l6. alloc1 ! (λ l7. alloc1 ! (λ l8. alloc1 ! (λ l9. alloc1 ! (λ l10. alloc1 ! (λ l11. alloc1 ! (λ l12. alloc1 ! (λ l13. alloc1 ! (λ l14. alloc1 ! (λ l15. alloc1 ! (λ l16. alloc1 ! (λ l17. alloc1 ! (λ l18. alloc1 ! (λ l19. alloc1 ! (λ l20. alloc1 ! (λ l21. alloc1 ! (λ l22. alloc1 ! (λ l23. alloc1 ! (λ l24. alloc1 ! (λ l25. alloc1 ! (λ l26. alloc1 ! (λ l27. alloc1 ! (λ l28. alloc1 ! (λ l29. alloc1 ! (λ l30. alloc1 ! (λ l31. alloc1 ! (λ l32. alloc1 ! (λ l33. alloc1 ! (λ l34. alloc1 ! (λ l35. alloc1 ! (λ l36. alloc1 ! (λ l37. alloc1 ! (λ l38. alloc1 ! (λ l39. alloc1 ! (λ l40. alloc1 ! (λ l41. alloc1 ! (λ l42. alloc1 ! (λ l43. alloc1 ! (λ l44. alloc1 ! (λ l45. alloc0 ! $ params1 ! $
         pass1 ! (init ! 88 refl (tt, tt)) $ pass1 ! (init ! 86 refl (tt, (tt, (record { fits = room-positions .0 }, tt)))) $ pass1 ! (init ! 84 refl (tt, (tt, (record { fits = room-increments .0 }, tt)))) $ pass1 ! (init ! 82 refl (tt, (tt, (record { fits = room-gains .0 }, tt)))) $ pass1 ! (init ! 80 refl (tt, (tt, (record { fits = room-affinities .0 }, tt)))) $ pass1 ! (init ! 78 refl (tt, (tt, (record { fits = room-indices .0 }, tt)))) $ pass1 ! (init ! 76 refl (tt, (tt, (record { fits = room-offsets .0 }, tt)))) $ pass1 ! (init ! 74 refl (tt, (tt, (record { fits = room-forces .0 }, tt)))) $ pass1 ! (init ! 72 refl (tt, (tt, (record { fits = room-cells .0 }, tt)))) $ pass1 ! (init ! 70 refl (tt, (tt, (record { fits = room-table .0 }, tt)))) $ pass1 ! (init ! 68 refl (tt, (tt, (record { fits = room-gone .0 }, tt)))) $ pass1 ! (init ! 66 refl (tt, (tt, (record { fits = room-old .0 }, tt)))) $ pass0 ! $
         move ! (93 ∷ []) $ fsplit ! $ fsplit3 ! $ drop ! $ move ! (2 ∷ []) $ fsplit ! $ move ! (1 ∷ []) $ fsplit ! $ move ! (1 ∷ []) $ fsplit ! $ move ! (1 ∷ []) $ fsplit ! $ move ! (1 ∷ []) $ fsplit ! $ move ! (1 ∷ []) $ fsplit ! $ move ! (1 ∷ []) $ fsplit ! $ move ! (1 ∷ []) $ fsplit ! $ move ! (1 ∷ []) $ fsplit ! $ move ! (1 ∷ []) $ fsplit ! $ move ! (1 ∷ []) $ fsplit ! $ move ! (1 ∷ []) $ drop ! $ move ! (105 ∷ []) $ split ! $ move ! (1 ∷ []) $ split ! $ move ! (1 ∷ []) $ split ! $ move ! (1 ∷ []) $ split ! $ move ! (1 ∷ []) $ split ! $ move ! (1 ∷ []) $ split ! $ move ! (1 ∷ []) $ split ! $ move ! (1 ∷ []) $ split ! $ move ! (1 ∷ []) $ split ! $ move ! (1 ∷ []) $ split ! $ move ! (1 ∷ []) $ split ! $ move ! (1 ∷ []) $ split ! $ move ! (1 ∷ []) $ drop ! $ move ! (23 ∷ 24 ∷ 11 ∷ []) $
@@ -191,7 +191,7 @@ module _ {M : Type 1} (𝓤 : URA M) (H : Heap 𝓤) (A : Atoms 𝓤) (W : Given
   take-out-walks : (C : Calls 𝓤 H) (Λ : Loops 𝓤 H) → FmC 𝓤 H (W .laws) C → Triple 𝓤 (C #take-out·lent-positions) (Contract-lent-positions 𝓤 H A mem run-of) → Triple 𝓤 (C #run-entry·fault-at) (Contract-fault-at 𝓤 H A mem run-of) → Triple 𝓤 (C #take-out·take-tested) (Contract-take-tested 𝓤 H A mem run-of) → Walks 𝓤 H A f.ended stayed (WpFn 𝓤 H C Λ code.function) (f.clauses 𝓤 H A mem run-of)
   take-out-walks C Λ fm known-lent-positions known-fault-at known-take-tested = walked 𝓤 H A f.ended stayed (f.clauses 𝓤 H A mem run-of) (WpFn 𝓤 H C Λ code.function)
       (λ κs. (ptr-vals, (slice-vals, (slice-vals, (slice-vals, (slice-vals, (slice-vals, (slice-vals, (slice-vals, (slice-vals, (slice-vals, (slice-vals, (slice-vals, tt)))))))))))))
-      (λ κs. (mut-tells (named 0) (κs .0) Run′.the-row, (mut-slice-tells (named 1) (κs .1 .0) f64, (mut-slice-tells (named 2) (κs .1 .1 .0) f64, (mut-slice-tells (named 3) (κs .1 .1 .1 .0) f64, (mut-slice-tells (named 4) (κs .1 .1 .1 .1 .0) f64, (mut-slice-tells (named 5) (κs .1 .1 .1 .1 .1 .0) u32, (mut-slice-tells (named 6) (κs .1 .1 .1 .1 .1 .1 .0) u32, (mut-slice-tells (named 7) (κs .1 .1 .1 .1 .1 .1 .1 .0) f64, (shr-slice-tells (named 8) (κs .1 .1 .1 .1 .1 .1 .1 .1 .0) Cell′.the-row, (mut-slice-tells (named 9) (κs .1 .1 .1 .1 .1 .1 .1 .1 .1 .0) f64, (shr-slice-tells (named 10) (κs .1 .1 .1 .1 .1 .1 .1 .1 .1 .1 .0) u32, (mut-slice-tells (named 11) (κs .1 .1 .1 .1 .1 .1 .1 .1 .1 .1 .1 .0) u32, tt)))))))))))))
+      (λ κs. (mut-tells (named 0) (κs .0) Run′.the-row, (mut-slice-tells (named 1) (κs .1 .0) f64, (mut-slice-tells (named 2) (κs .1 .1 .0) u64, (mut-slice-tells (named 3) (κs .1 .1 .1 .0) u64, (mut-slice-tells (named 4) (κs .1 .1 .1 .1 .0) u64, (mut-slice-tells (named 5) (κs .1 .1 .1 .1 .1 .0) u32, (mut-slice-tells (named 6) (κs .1 .1 .1 .1 .1 .1 .0) u32, (mut-slice-tells (named 7) (κs .1 .1 .1 .1 .1 .1 .1 .0) f64, (shr-slice-tells (named 8) (κs .1 .1 .1 .1 .1 .1 .1 .1 .0) Cell′.the-row, (mut-slice-tells (named 9) (κs .1 .1 .1 .1 .1 .1 .1 .1 .1 .0) u64, (shr-slice-tells (named 10) (κs .1 .1 .1 .1 .1 .1 .1 .1 .1 .1 .0) u32, (mut-slice-tells (named 11) (κs .1 .1 .1 .1 .1 .1 .1 .1 .1 .1 .1 .0) u32, tt)))))))))))))
       (λ κs qs bounds a _ are. via 𝓤 _ (fst∗ 𝓤 _ (emp 𝓤))
       (walk 𝓤 H A W mem run-of
       (record { life = κs .0; share = qs .0; block = a .0 .ptr .0; off = a .0 .ptr .1; tag = a .0 .name; count = 0 }) (a .0 .now)
@@ -223,7 +223,7 @@ take-out-meets : {M : Type 1} (𝓤 : URA M) (H : Heap 𝓤) (A : Atoms 𝓤) �
     → Triple 𝓤 (𝓣 .C #take-out·lent-positions) (Contract-lent-positions 𝓤 H A mem run-of) → Triple 𝓤 (𝓣 .C #run-entry·fault-at) (Contract-fault-at 𝓤 H A mem run-of) → Triple 𝓤 (𝓣 .C #take-out·take-tested) (Contract-take-tested 𝓤 H A mem run-of)
     → Meets 𝓤 H A f.signature (WpFn 𝓤 H (𝓣 .C) (𝓣 .Λ) code.function) (f.spec 𝓤 H A mem run-of)
 take-out-meets 𝓤 H A W mem run-of 𝓣 known-lent-positions known-fault-at known-take-tested =
-    walk-meets 𝓤 H A f.ended stayed W (goes-ref 𝓤 H A W 12 0 tt (plain (λ _. Run′.the-row)), (goes-slice 𝓤 H A W 12 1 tt (plain (λ _. f64)), (goes-slice 𝓤 H A W 12 2 tt (plain (λ _. f64)), (goes-slice 𝓤 H A W 12 3 tt (plain (λ _. f64)), (goes-slice 𝓤 H A W 12 4 tt (plain (λ _. f64)), (goes-slice 𝓤 H A W 12 5 tt (plain (λ _. u32)), (goes-slice 𝓤 H A W 12 6 tt (plain (λ _. u32)), (goes-slice 𝓤 H A W 12 7 tt (plain (λ _. f64)), (goes-none-slice 𝓤 H A W 12 (8 ∷ []) tt (plain (λ _. Cell′.the-row)) yes, (goes-slice 𝓤 H A W 12 9 tt (plain (λ _. f64)), (goes-none-slice 𝓤 H A W 12 (10 ∷ []) tt (plain (λ _. u32)) yes, (goes-slice 𝓤 H A W 12 11 tt (plain (λ _. u32)), tt)))))))))))) (f.clauses 𝓤 H A mem run-of)
+    walk-meets 𝓤 H A f.ended stayed W (goes-ref 𝓤 H A W 12 0 tt (plain (λ _. Run′.the-row)), (goes-slice 𝓤 H A W 12 1 tt (plain (λ _. f64)), (goes-slice 𝓤 H A W 12 2 tt (plain (λ _. u64)), (goes-slice 𝓤 H A W 12 3 tt (plain (λ _. u64)), (goes-slice 𝓤 H A W 12 4 tt (plain (λ _. u64)), (goes-slice 𝓤 H A W 12 5 tt (plain (λ _. u32)), (goes-slice 𝓤 H A W 12 6 tt (plain (λ _. u32)), (goes-slice 𝓤 H A W 12 7 tt (plain (λ _. f64)), (goes-none-slice 𝓤 H A W 12 (8 ∷ []) tt (plain (λ _. Cell′.the-row)) yes, (goes-slice 𝓤 H A W 12 9 tt (plain (λ _. u64)), (goes-none-slice 𝓤 H A W 12 (10 ∷ []) tt (plain (λ _. u32)) yes, (goes-slice 𝓤 H A W 12 11 tt (plain (λ _. u32)), tt)))))))))))) (f.clauses 𝓤 H A mem run-of)
     (WpFn 𝓤 H (𝓣 .C) (𝓣 .Λ) code.function) (WpFn-mono 𝓤 H (W .laws) 𝓣 code.function) (take-out-walks 𝓤 H A W mem run-of (𝓣 .C) (𝓣 .Λ) (fmOf 𝓤 H (W .laws) 𝓣) known-lent-positions known-fault-at known-take-tested)
 
 pub take-out-spec : {M : Type 1} → stated.statement M

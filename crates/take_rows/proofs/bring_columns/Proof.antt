@@ -1,7 +1,6 @@
 use Prim.Native.Nat.{ℕ}
 use Rattle.take_rows.proofs.Packing.{Brings, brings-start, brings-more, brings-at, brings-done}
-use Rattle.laws.specs.Area.{at, num}
-use lib.Ieee.{nan}
+use Rattle.laws.specs.Area.{num}
 use lib.ListN.{length}
 use mathlib.Core.Path.{refl, sym, ap, _∙_}
 use Prim.Native.Nat.{_+_, _-_}
@@ -14,7 +13,7 @@ use Rattle.take_rows.proofs.bring_columns.Lts as lts
 use Rattle.take_rows.proofs.wide.Reads as wide-reads
 
 abbrev Inv-loop : tie.InvT-loop
-Inv-loop area₀ from to n keep j₀ area j = Brings (λ t. at area₀ (from + num keep t)) to (length keep) area₀ j area
+Inv-loop area₀ from to n keep j₀ area j = Brings (λ t. num area₀ (from + num keep t)) to (length keep) area₀ j area
 
 abbrev μ-loop : tie.MeasureT-loop
 μ-loop area₀ from to n keep j₀ area j = length keep - j
@@ -56,7 +55,7 @@ loop-less : tie.Need-loop-less Inv-loop μ-loop
 loop-less c = search needs
 
 loop-again : tie.Need-loop-again Inv-loop μ-loop
-loop-again c = brings-more (c .before .before .before .before .loop .inv) _ (ap (λ (x : ℕ). at (c .before .before .before .before .loop .area) (c .before .before .before .before .before .before .before .args .from + x)) (c .before .wide .ensures) ∙ brings-at (c .before .before .before .before .loop .inv) nan (c .before .before .before .before .before .before .before .args .from + num (c .before .before .before .before .before .before .before .args .keep .now) (c .before .before .before .before .loop .j)) (omega (arith, c .before .before .before .before .before .before .before .pre, c .before .before .before .before .before .before .before .pre .2 .no-lower (c .before .before .before .before .loop .j) (c .before .before .before .loop-test .taken)))) (omega (arith, c .before .before .before .before .before .before .before .pre, c .before .before .before .before .before .before .before .pre .2 .few)) (c .before .before .before .loop-test .taken)
+loop-again c = brings-more (c .before .before .before .before .loop .inv) _ (ap (λ (x : ℕ). num (c .before .before .before .before .loop .area) (c .before .before .before .before .before .before .before .args .from + x)) (c .before .wide .ensures) ∙ brings-at (c .before .before .before .before .loop .inv) 0 (c .before .before .before .before .before .before .before .args .from + num (c .before .before .before .before .before .before .before .args .keep .now) (c .before .before .before .before .loop .j)) (omega (arith, c .before .before .before .before .before .before .before .pre, c .before .before .before .before .before .before .before .pre .2 .no-lower (c .before .before .before .before .loop .j) (c .before .before .before .loop-test .taken)))) (omega (arith, c .before .before .before .before .before .before .before .pre, c .before .before .before .before .before .before .before .pre .2 .few)) (c .before .before .before .loop-test .taken)
 
 same-length : tie.Need-same-length Inv-loop μ-loop
 same-length c = c .before .loop .inv .front .size

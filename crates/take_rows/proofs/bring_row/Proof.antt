@@ -1,6 +1,5 @@
 use Rattle.take_rows.proofs.Packing.{Brings, brings-start, brings-more, brings-at, brings-done}
-use Rattle.laws.specs.Area.{at}
-use lib.Ieee.{nan}
+use Rattle.laws.specs.Area.{num}
 use mathlib.Core.Path.{refl, sym, ap, _∙_}
 use Prim.Native.Nat.{_+_, _-_}
 use borrow.Author.Needs.{needs}
@@ -11,7 +10,7 @@ use Rattle.take_rows.proofs.bring_row.Reads as reads
 use Rattle.take_rows.proofs.bring_row.Lts as lts
 
 abbrev Inv-loop : tie.InvT-loop
-Inv-loop area₀ from to w d₀ area d = Brings (λ j. at area₀ (from + j)) to w area₀ d area
+Inv-loop area₀ from to w d₀ area d = Brings (λ j. num area₀ (from + j)) to w area₀ d area
 
 abbrev μ-loop : tie.MeasureT-loop
 μ-loop area₀ from to w d₀ area d = w - d
@@ -44,7 +43,7 @@ loop-less : tie.Need-loop-less Inv-loop μ-loop
 loop-less c = search needs
 
 loop-again : tie.Need-loop-again Inv-loop μ-loop
-loop-again c = brings-more (c .before .before .loop .inv) _ (brings-at (c .before .before .loop .inv) nan _ (omega (arith, c .before .before .before .pre))) (omega (arith, c .before .before .before .pre)) (c .before .loop-test .taken)
+loop-again c = brings-more (c .before .before .loop .inv) _ (brings-at (c .before .before .loop .inv) 0 _ (omega (arith, c .before .before .before .pre))) (omega (arith, c .before .before .before .pre)) (c .before .loop-test .taken)
 
 same-length : tie.Need-same-length Inv-loop μ-loop
 same-length c = c .before .loop .inv .front .size

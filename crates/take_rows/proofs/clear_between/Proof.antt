@@ -14,13 +14,13 @@ use Rattle.take_rows.proofs.clear_between.Reads as reads
 use Rattle.take_rows.proofs.clear_between.Lts as lts
 
 abbrev Inv-loop : tie.InvT-loop
-Inv-loop area₀ a b w d₀ area d = Brings (λ j. zero64) a w area₀ d area
+Inv-loop area₀ a b k d₀ area d = Brings (λ j. zero64) a k area₀ d area
 
 abbrev μ-loop : tie.MeasureT-loop
-μ-loop area₀ a b w d₀ area d = w - d
+μ-loop area₀ a b k d₀ area d = k - d
 
-sub-w : tie.Need-sub-w Inv-loop μ-loop
-sub-w c = search needs
+sub-k : tie.Need-sub-k Inv-loop μ-loop
+sub-k c = search needs
 
 loop-holds : tie.Need-loop-holds Inv-loop μ-loop
 loop-holds c = brings-start (omega (arith, c .pre))
@@ -55,7 +55,7 @@ clear-between-spec =
     (tie.spec
     Inv-loop
     μ-loop
-    sub-w
+    sub-k
     loop-holds
     add-area
     mul-area

@@ -7,14 +7,14 @@ use Rattle.replay_take_out.proofs.taking.run_right.Tie as tie
 values-at-requires : tie.Need-values-at-requires
 values-at-requires c κs = c .before .pre .0
 
-values-at-requires-2 : tie.Need-values-at-requires-2
-values-at-requires-2 c κs = c .before .before .pre .1
+bits-at-requires : tie.Need-bits-at-requires
+bits-at-requires c κs = search needs
 
-values-at-requires-3 : tie.Need-values-at-requires-3
-values-at-requires-3 c κs = c .before .before .before .pre .2
+bits-at-requires-2 : tie.Need-bits-at-requires-2
+bits-at-requires-2 c κs = search needs
 
-values-at-requires-4 : tie.Need-values-at-requires-4
-values-at-requires-4 c κs = c .before .before .before .before .pre .3
+bits-at-requires-3 : tie.Need-bits-at-requires-3
+bits-at-requires-3 c κs = search needs
 
 numbers-at-requires : tie.Need-numbers-at-requires
 numbers-at-requires c κs = c .before .before .before .before .before .pre .4
@@ -22,11 +22,11 @@ numbers-at-requires c κs = c .before .before .before .before .before .pre .4
 numbers-at-requires-2 : tie.Need-numbers-at-requires-2
 numbers-at-requires-2 c κs = c .before .before .before .before .before .before .pre .5
 
-values-at-requires-5 : tie.Need-values-at-requires-5
-values-at-requires-5 c κs = search needs
+values-at-requires-2 : tie.Need-values-at-requires-2
+values-at-requires-2 c κs = search needs
 
-values-at-requires-6 : tie.Need-values-at-requires-6
-values-at-requires-6 c κs = c .before .before .before .before .before .before .before .before .pre .8
+bits-at-requires-4 : tie.Need-bits-at-requires-4
+bits-at-requires-4 c κs = search needs
 
 numbers-at-requires-3 : tie.Need-numbers-at-requires-3
 numbers-at-requires-3 c κs = c .before .before .before .before .before .before .before .before .before .pre .9
@@ -41,22 +41,22 @@ slice-aggregate-taken : tie.Need-slice-aggregate-taken
 slice-aggregate-taken c = front-long (c .before .before .before .before .before .before .before .before .before .before .values-at .result) (c .before .before .before .before .before .before .before .before .before .before .before .before .args .l .positions) 96 (c .before .before .before .before .before .before .before .before .before .before .values-at .ok .1 .0 .1) (c .before .before .before .before .before .before .before .before .before .before .before .before .pre .0)
 
 array-borrow-prefix-increments : tie.Need-array-borrow-prefix-increments
-array-borrow-prefix-increments c = front-within (c .before .before .before .before .before .before .before .before .before .values-at2 .result) (c .before .before .before .before .before .before .before .before .before .before .before .before .args .l .increments) 96 (c .before .before .before .before .before .before .before .before .before .values-at2 .ok .1 .0 .1) (c .before .before .before .before .before .before .before .before .before .before .before .before .pre .1)
+array-borrow-prefix-increments c = front-within (c .before .before .before .before .before .before .before .before .before .bits-at .result) (c .before .before .before .before .before .before .before .before .before .before .before .before .args .l .increments) 96 (c .before .before .before .before .before .before .before .before .before .bits-at .ok .1 .0 .1) (c .before .before .before .before .before .before .before .before .before .before .before .before .pre .1)
 
 slice-aggregate-taken-2 : tie.Need-slice-aggregate-taken-2
-slice-aggregate-taken-2 c = front-long (c .before .before .before .before .before .before .before .before .before .before .values-at2 .result) (c .before .before .before .before .before .before .before .before .before .before .before .before .before .args .l .increments) 96 (c .before .before .before .before .before .before .before .before .before .before .values-at2 .ok .1 .0 .1) (c .before .before .before .before .before .before .before .before .before .before .before .before .before .pre .1)
+slice-aggregate-taken-2 c = front-long (c .before .before .before .before .before .before .before .before .before .before .bits-at .result) (c .before .before .before .before .before .before .before .before .before .before .before .before .before .args .l .increments) 96 (c .before .before .before .before .before .before .before .before .before .before .bits-at .ok .1 .0 .1) (c .before .before .before .before .before .before .before .before .before .before .before .before .before .pre .1)
 
 array-borrow-prefix-gains : tie.Need-array-borrow-prefix-gains
-array-borrow-prefix-gains c = front-within (c .before .before .before .before .before .before .before .before .before .values-at3 .result) (c .before .before .before .before .before .before .before .before .before .before .before .before .before .args .l .gains) 96 (c .before .before .before .before .before .before .before .before .before .values-at3 .ok .1 .0 .1) (c .before .before .before .before .before .before .before .before .before .before .before .before .before .pre .2)
+array-borrow-prefix-gains c = front-within (c .before .before .before .before .before .before .before .before .before .bits-at2 .result) (c .before .before .before .before .before .before .before .before .before .before .before .before .before .args .l .gains) 96 (c .before .before .before .before .before .before .before .before .before .bits-at2 .ok .1 .0 .1) (c .before .before .before .before .before .before .before .before .before .before .before .before .before .pre .2)
 
 slice-aggregate-taken-3 : tie.Need-slice-aggregate-taken-3
-slice-aggregate-taken-3 c = front-long (c .before .before .before .before .before .before .before .before .before .before .values-at3 .result) (c .before .before .before .before .before .before .before .before .before .before .before .before .before .before .args .l .gains) 96 (c .before .before .before .before .before .before .before .before .before .before .values-at3 .ok .1 .0 .1) (c .before .before .before .before .before .before .before .before .before .before .before .before .before .before .pre .2)
+slice-aggregate-taken-3 c = front-long (c .before .before .before .before .before .before .before .before .before .before .bits-at2 .result) (c .before .before .before .before .before .before .before .before .before .before .before .before .before .before .args .l .gains) 96 (c .before .before .before .before .before .before .before .before .before .before .bits-at2 .ok .1 .0 .1) (c .before .before .before .before .before .before .before .before .before .before .before .before .before .before .pre .2)
 
 array-borrow-prefix-affinities : tie.Need-array-borrow-prefix-affinities
-array-borrow-prefix-affinities c = front-within (c .before .before .before .before .before .before .before .before .before .values-at4 .result) (c .before .before .before .before .before .before .before .before .before .before .before .before .before .before .args .l .affinities) 96 (c .before .before .before .before .before .before .before .before .before .values-at4 .ok .1 .0 .1) (c .before .before .before .before .before .before .before .before .before .before .before .before .before .before .pre .3)
+array-borrow-prefix-affinities c = front-within (c .before .before .before .before .before .before .before .before .before .bits-at3 .result) (c .before .before .before .before .before .before .before .before .before .before .before .before .before .before .args .l .affinities) 96 (c .before .before .before .before .before .before .before .before .before .bits-at3 .ok .1 .0 .1) (c .before .before .before .before .before .before .before .before .before .before .before .before .before .before .pre .3)
 
 slice-aggregate-taken-4 : tie.Need-slice-aggregate-taken-4
-slice-aggregate-taken-4 c = front-long (c .before .before .before .before .before .before .before .before .before .before .values-at4 .result) (c .before .before .before .before .before .before .before .before .before .before .before .before .before .before .before .args .l .affinities) 96 (c .before .before .before .before .before .before .before .before .before .before .values-at4 .ok .1 .0 .1) (c .before .before .before .before .before .before .before .before .before .before .before .before .before .before .before .pre .3)
+slice-aggregate-taken-4 c = front-long (c .before .before .before .before .before .before .before .before .before .before .bits-at3 .result) (c .before .before .before .before .before .before .before .before .before .before .before .before .before .before .before .args .l .affinities) 96 (c .before .before .before .before .before .before .before .before .before .before .bits-at3 .ok .1 .0 .1) (c .before .before .before .before .before .before .before .before .before .before .before .before .before .before .before .pre .3)
 
 array-borrow-prefix-indices : tie.Need-array-borrow-prefix-indices
 array-borrow-prefix-indices c = front-within (c .before .before .before .before .before .before .before .before .before .numbers-at .result) (c .before .before .before .before .before .before .before .before .before .before .before .before .before .before .before .args .l .indices) 64 (c .before .before .before .before .before .before .before .before .before .numbers-at .ok .1 .0 .1) (c .before .before .before .before .before .before .before .before .before .before .before .before .before .before .before .pre .4)
@@ -71,16 +71,16 @@ slice-aggregate-taken-6 : tie.Need-slice-aggregate-taken-6
 slice-aggregate-taken-6 c = front-long (c .before .before .before .before .before .before .before .before .before .before .numbers-at2 .result) (c .before .before .before .before .before .before .before .before .before .before .before .before .before .before .before .before .before .args .l .offsets) 64 (c .before .before .before .before .before .before .before .before .before .before .numbers-at2 .ok .1 .0 .1) (c .before .before .before .before .before .before .before .before .before .before .before .before .before .before .before .before .before .pre .5)
 
 array-borrow-prefix-forces : tie.Need-array-borrow-prefix-forces
-array-borrow-prefix-forces c = front-within (c .before .before .before .before .before .before .before .before .before .values-at5 .result) (c .before .before .before .before .before .before .before .before .before .before .before .before .before .before .before .before .before .args .l .forces) 96 (c .before .before .before .before .before .before .before .before .before .values-at5 .ok .1 .0 .1) (c .before .before .before .before .before .before .before .before .before .before .before .before .before .before .before .before .before .pre .6)
+array-borrow-prefix-forces c = front-within (c .before .before .before .before .before .before .before .before .before .values-at2 .result) (c .before .before .before .before .before .before .before .before .before .before .before .before .before .before .before .before .before .args .l .forces) 96 (c .before .before .before .before .before .before .before .before .before .values-at2 .ok .1 .0 .1) (c .before .before .before .before .before .before .before .before .before .before .before .before .before .before .before .before .before .pre .6)
 
 slice-aggregate-taken-7 : tie.Need-slice-aggregate-taken-7
-slice-aggregate-taken-7 c = front-long (c .before .before .before .before .before .before .before .before .before .before .values-at5 .result) (c .before .before .before .before .before .before .before .before .before .before .before .before .before .before .before .before .before .before .args .l .forces) 96 (c .before .before .before .before .before .before .before .before .before .before .values-at5 .ok .1 .0 .1) (c .before .before .before .before .before .before .before .before .before .before .before .before .before .before .before .before .before .before .pre .6)
+slice-aggregate-taken-7 c = front-long (c .before .before .before .before .before .before .before .before .before .before .values-at2 .result) (c .before .before .before .before .before .before .before .before .before .before .before .before .before .before .before .before .before .before .args .l .forces) 96 (c .before .before .before .before .before .before .before .before .before .before .values-at2 .ok .1 .0 .1) (c .before .before .before .before .before .before .before .before .before .before .before .before .before .before .before .before .before .before .pre .6)
 
 array-borrow-prefix-table : tie.Need-array-borrow-prefix-table
-array-borrow-prefix-table c = front-within (c .before .before .before .before .before .before .before .before .before .values-at6 .result) (c .before .before .before .before .before .before .before .before .before .before .before .before .before .before .before .before .before .before .args .l .table) 96 (c .before .before .before .before .before .before .before .before .before .values-at6 .ok .1 .0 .1) (c .before .before .before .before .before .before .before .before .before .before .before .before .before .before .before .before .before .before .pre .8)
+array-borrow-prefix-table c = front-within (c .before .before .before .before .before .before .before .before .before .bits-at4 .result) (c .before .before .before .before .before .before .before .before .before .before .before .before .before .before .before .before .before .before .args .l .table) 96 (c .before .before .before .before .before .before .before .before .before .bits-at4 .ok .1 .0 .1) (c .before .before .before .before .before .before .before .before .before .before .before .before .before .before .before .before .before .before .pre .8)
 
 slice-aggregate-taken-8 : tie.Need-slice-aggregate-taken-8
-slice-aggregate-taken-8 c = front-long (c .before .before .before .before .before .before .before .before .before .before .values-at6 .result) (c .before .before .before .before .before .before .before .before .before .before .before .before .before .before .before .before .before .before .before .args .l .table) 96 (c .before .before .before .before .before .before .before .before .before .before .values-at6 .ok .1 .0 .1) (c .before .before .before .before .before .before .before .before .before .before .before .before .before .before .before .before .before .before .before .pre .8)
+slice-aggregate-taken-8 c = front-long (c .before .before .before .before .before .before .before .before .before .before .bits-at4 .result) (c .before .before .before .before .before .before .before .before .before .before .before .before .before .before .before .before .before .before .before .args .l .table) 96 (c .before .before .before .before .before .before .before .before .before .before .bits-at4 .ok .1 .0 .1) (c .before .before .before .before .before .before .before .before .before .before .before .before .before .before .before .before .before .before .before .pre .8)
 
 array-share-prefix-gone : tie.Need-array-share-prefix-gone
 array-share-prefix-gone c = front-within (c .before .before .before .before .before .before .before .before .before .numbers-at3 .result) (c .before .before .before .before .before .before .before .before .before .before .before .before .before .before .before .before .before .before .before .args .l .gone) 64 (c .before .before .before .before .before .before .before .before .before .numbers-at3 .ok .1 .0 .1) (c .before .before .before .before .before .before .before .before .before .before .before .before .before .before .before .before .before .before .before .pre .9)
@@ -129,13 +129,13 @@ run-right-spec =
     tie.close
     (tie.spec
     values-at-requires
-    values-at-requires-2
-    values-at-requires-3
-    values-at-requires-4
+    bits-at-requires
+    bits-at-requires-2
+    bits-at-requires-3
     numbers-at-requires
     numbers-at-requires-2
-    values-at-requires-5
-    values-at-requires-6
+    values-at-requires-2
+    bits-at-requires-4
     numbers-at-requires-3
     numbers-at-requires-4
     array-borrow-prefix-positions
