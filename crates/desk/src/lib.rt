@@ -17,10 +17,13 @@ ghost use Rattle.desk_park.specs.HostPark.{hostParked, hostPark};
 ghost use Rattle.take_out.specs.TakeOut.{holdings};
 ghost use Rattle.desk_take.specs.HostTake.{hostTook, hostTake};
 ghost use Rattle.desk_unpark.specs.HostUnpark.{hostUnparked, hostUnpark};
+ghost use Rattle.desk_import.specs.HostImport.{hostImported, hostImport};
+ghost use Rattle.partner_import.specs.Import.{loading};
 use desk_divergence::host_divergence;
 use desk_files::host_frame;
 use desk_files::host_frames;
 use desk_files::host_scatter;
+use desk_import::host_import;
 use desk_park::host_park;
 use desk_prepare::host_prepare;
 use desk_record::host_iterations;
@@ -360,6 +363,69 @@ pub extern "C" fn brothanchor_unpark(
     host_unpark(
         file,
         words,
+        positions,
+        increments,
+        gains,
+        affinities,
+        indices,
+        offsets,
+        forces,
+        nodes,
+        answer,
+    )
+}
+
+// Begins a run from a partner's list. Answers 0, or the number of the refusal; then none of record and areas is changed.
+#[no_mangle]
+pub extern "C" fn brothanchor_import(
+    settings: &[u64],
+    start: &[u64],
+    file: &[u8],
+    record: &mut [u64],
+    positions: &mut [u64],
+    increments: &mut [u64],
+    gains: &mut [u64],
+    affinities: &mut [u64],
+    indices: &mut [u32],
+    offsets: &mut [u32],
+    forces: &mut [u64],
+    nodes: usize,
+    answer: &mut [u64],
+) -> u32
+    ensures { λ k. ⌜
+        hostImported k
+        (now («record» .exit))
+        (loading
+        (now (positions .exit))
+        (now (increments .exit))
+        (now (gains .exit))
+        (now (affinities .exit))
+        (now (indices .exit))
+        (now (offsets .exit))
+        (now (forces .exit)))
+        (now (answer .exit))
+        ≡ hostImport
+        (now (settings .entry))
+        (now (start .entry))
+        (now (file .entry))
+        (now («record» .entry))
+        (loading
+        (now (positions .entry))
+        (now (increments .entry))
+        (now (gains .entry))
+        (now (affinities .entry))
+        (now (indices .entry))
+        (now (offsets .entry))
+        (now (forces .entry)))
+        nodes
+        (now (answer .entry))
+        ⌝ }
+{
+    host_import(
+        settings,
+        start,
+        file,
+        record,
         positions,
         increments,
         gains,

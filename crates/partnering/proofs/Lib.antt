@@ -4,3 +4,4 @@ pub mod Written
 pub mod Positive
 pub mod Own
 pub mod Prepared
+pub mod Words

@@ -17,7 +17,7 @@ use Rattle.partner.specs.Rules.{PairBefore, Mirrors, PartnerRules}
 use Rattle.partner.proofs.Accepted.{rules-accepted, accepted-frames}
 use Rattle.partner_load.specs.Loaded.{indicesLoaded, weightsLoaded, linksBelow, offsetsLoaded, FramesRise}
 use Rattle.partner_load.proofs.Counted.{ListsBegin, lists-counted}
-use Rattle.partnering.specs.Write.{listsBytes}
+use Rattle.partner_write.specs.Write.{listsBytes}
 use Rattle.partnering.specs.Own.{OwnLists}
 use Rattle.partnering.proofs.Written.{lists-long, lists-whole, from-written, to-written, weight-written, row-of, later-list}
 

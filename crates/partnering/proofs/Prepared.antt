@@ -36,7 +36,7 @@ use Rattle.prepare.specs.Prepare.{Lent, lengthsOf, prepareFault, routedIn, begu
 use Rattle.prepare.proofs.Laws.{Passed, passed, routed-tree}
 use Rattle.partner.specs.Partner.{isPartner}
 use Rattle.partner_load.specs.Loaded.{indicesLoaded, weightsLoaded, offsetsLoaded}
-use Rattle.partnering.specs.Write.{listsBytes, ListsLie}
+use Rattle.partner_write.specs.Write.{listsBytes, ListsLie}
 use Rattle.partnering.specs.Own.{OwnLists}
 use Rattle.partnering.proofs.Positive.{positive-of}
 use Rattle.partnering.proofs.Written.{later-list}

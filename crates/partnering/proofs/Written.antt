@@ -16,7 +16,7 @@ use Rattle.little.proofs.Bytes.{length-bytes}
 use Rattle.little.proofs.Roundtrip.{little-same, little-back}
 use Rattle.affinity_lists.specs.Lists.{InList}
 use Rattle.partner.specs.Partner.{linkBytes, wholeLinks, givenLinks, linkFrom, linkTo, linkWeight}
-use Rattle.partnering.specs.Write.{linkRecord, linkAt, listRecords, listsBytes, ListsLie}
+use Rattle.partner_write.specs.Write.{linkRecord, linkAt, listRecords, listsBytes, ListsLie}
 
 -- ---- one record
 

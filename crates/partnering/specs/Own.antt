@@ -6,7 +6,7 @@ use Prim.Native.Nat.{ℕ, _<_, _≤_}
 use Rattle.laws.specs.Area.{num, bits}
 use Rattle.run_record.specs.Record.{positive}
 use Rattle.affinity_lists.specs.Lists.{InList}
-use Rattle.partnering.specs.Write.{ListsLie}
+use Rattle.partner_write.specs.Write.{ListsLie}
 
 -- the lists of n frames, of at most so many links: W are the weights by their bits, I the frames that links name, O the offsets
 pub record OwnLists (n most : ℕ) (W I O : List ℕ) : Type 0 where
