@@ -13,6 +13,7 @@ ghost use Rattle.desk_divergence.specs.HostDivergence.{hostDivergence};
 ghost use lib.ListN.{length};
 ghost use Rattle.tree_node.specs.Arena.{nodesOf};
 ghost use Rattle.parked.specs.Parked.{storedOf};
+ghost use Rattle.desk_lists.specs.HostLists.{hostListed, hostLists};
 ghost use Rattle.desk_park.specs.HostPark.{hostParked, hostPark};
 ghost use Rattle.take_out.specs.TakeOut.{holdings};
 ghost use Rattle.desk_take.specs.HostTake.{hostTook, hostTake};
@@ -24,6 +25,7 @@ use desk_files::host_frame;
 use desk_files::host_frames;
 use desk_files::host_scatter;
 use desk_import::host_import;
+use desk_lists::host_lists;
 use desk_park::host_park;
 use desk_prepare::host_prepare;
 use desk_record::host_iterations;
@@ -303,6 +305,54 @@ pub extern "C" fn brothanchor_park(
         ⌝ }
 {
     let k = host_park(
+        words,
+        positions,
+        increments,
+        gains,
+        affinities,
+        indices,
+        offsets,
+        forces,
+        cells,
+        target,
+        answer,
+    );
+    k
+}
+
+// Writes the neighbour lists of a Barnes-Hut run into records of 16 bytes, at any moment of it. Answers 0, or the number of the refusal; then the target is not changed. Areas of values are lent by their bits, so that a NaN keeps them.
+#[no_mangle]
+pub extern "C" fn brothanchor_lists(
+    words: &[u64],
+    positions: &[u64],
+    increments: &[u64],
+    gains: &[u64],
+    affinities: &[u64],
+    indices: &[u32],
+    offsets: &[u32],
+    forces: &[f64],
+    cells: &[Cell],
+    target: &mut [u8],
+    answer: &mut [u64],
+) -> u32
+    ensures { λ k. ⌜
+        hostListed k (now (target .exit)) (now (answer .exit))
+        ≡ hostLists
+        (storedOf
+        (now (words .entry))
+        (now (positions .entry))
+        (now (increments .entry))
+        (now (gains .entry))
+        (now (affinities .entry))
+        (now (indices .entry))
+        (now (offsets .entry)))
+        (length (now (forces .entry)))
+        (nodesOf (now (cells .entry)))
+        (now (target .entry))
+        (now (answer .entry))
+        ⌝ }
+{
+    let k = host_lists(
         words,
         positions,
         increments,
