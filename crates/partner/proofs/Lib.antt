@@ -1,5 +1,5 @@
 pub mod Fine
-pub mod Halves
+pub mod Bisects
 pub mod Mirrors
 pub mod Judged
 pub mod Accepted

@@ -12,7 +12,7 @@ use Rattle.laws.specs.Loops.{first}
 use Rattle.laws.proofs.First.{first-some, first-holds, first-none, first-le, first-before, first-all, first-at}
 use Rattle.laws.proofs.Bools.{two, and-left, and-right, and-no, not-true-is}
 use Rattle.partner.specs.Partner.{wholeLinks, linkFrom, linkTo, linkWeight, linkPair, turnedPair, pairOf, linkFine, isMirror, mirroredIn, mirrored, PairsRise}
-use Rattle.partner.proofs.Halves.{Halves, halves-done}
+use Rattle.partner.proofs.Bisects.{Bisects, bisects-done}
 
 module _ (f : List ℕ) (i : ℕ) where
   pub mirror-not-from : (j : ℕ) → (linkFrom f j ≡ linkTo f i → ⊥) → isMirror f i j ≡ false
@@ -65,7 +65,7 @@ module _ (f : List ℕ) (i : ℕ) where
     met-not e t l = not-true-is (λ q. true≢false (sym (met-some t l q) ∙ e))
 
     -- the search by halving ends at the only place that may be
-    pub met-done : {low left : ℕ} → PairsRise f a k → Halves (linkPair f) (turnedPair f i) a k low left → left ≤ 1 → isMirror f i low ≡ mirroredIn f i a k
+    pub met-done : {low left : ℕ} → PairsRise f a k → Bisects (linkPair f) (turnedPair f i) a k low left → left ≤ 1 → isMirror f i low ≡ mirroredIn f i a k
     met-done {low} {left} c h m = ⊎-elim found missed (two (isMirror f i low))
       where
         place : low ≡ a + (low - a)
@@ -75,7 +75,7 @@ module _ (f : List ℕ) (i : ℕ) where
         found e = e ∙ sym (met-some (low - a) (omega (arith, h .inside, h .some)) (subst (λ (x : ℕ). isMirror f i x ≡ true) place e))
 
         missed : isMirror f i low ≡ false → isMirror f i low ≡ mirroredIn f i a k
-        missed e = e ∙ sym (met-none (λ t l. not-true-is (λ q. true≢false (sym (subst (λ (x : ℕ). isMirror f i x ≡ true) (halves-done (c .rises) h m t l (mirror-pair (a + t) q)) q) ∙ e))))
+        missed e = e ∙ sym (met-none (λ t l. not-true-is (λ q. true≢false (sym (subst (λ (x : ℕ). isMirror f i x ≡ true) (bisects-done (c .rises) h m t l (mirror-pair (a + t) q)) q) ∙ e))))
 
   pub met-empty : (a : ℕ) → mirroredIn f i a 0 ≡ false
   met-empty a = met-none a 0 (λ t l. absurd (omega arith))

@@ -23,8 +23,8 @@ count-first p (suc n) r l y z = elim (decLt n r) [
 ]
 
 -- one more link that starts at a frame below j
-pub below-more : (f : List ℕ) {a p j : ℕ} → ((t : ℕ) → a ≤ t → t < p → linkFrom f t < j) → linkFrom f p < j → (t : ℕ) → a ≤ t → t < p + 1 → linkFrom f t < j
-below-more f {a} {p} {j} h e t l m = elim (decLt t p) [ yes q ↦ h t l q | no q ↦ subst (λ (x : ℕ). linkFrom f x < j) (omega arith) e ]
+pub starts-below-more : (f : List ℕ) {a p j : ℕ} → ((t : ℕ) → a ≤ t → t < p → linkFrom f t < j) → linkFrom f p < j → (t : ℕ) → a ≤ t → t < p + 1 → linkFrom f t < j
+starts-below-more f {a} {p} {j} h e t l m = elim (decLt t p) [ yes q ↦ h t l q | no q ↦ subst (λ (x : ℕ). linkFrom f x < j) (omega arith) e ]
 
 -- the loop: r is where the list of frame j begins, so that those before it start at frames below j
 pub record ListsBegin (f : List ℕ) (r j : ℕ) : Type 0 where

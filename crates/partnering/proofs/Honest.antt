@@ -51,10 +51,10 @@ module _ (s : Settings) (start file : List ℕ) (nodes : ℕ) (l : Loading) wher
       let b = firstBadLink (t .n) (sizesOf t .links) file in
       by-bool (Imports r) (eqb k 0)
       (λ e. by-bool (Imports r) P
-        (λ p. let q : Loaded (freshRun t) ≡ Loaded r = rw (e, p) at a in
-          let same : r ≡ freshRun t = cc in
-          record { let-through = let-in t start (lentLengths l nodes) (eqb-true k 0 e); accepted = p; run-is = same; areas-are = rw (e, p) })
-        (λ p. absurd (let q : BadRecord b ≡ Loaded r = rw (e, p) at a in let z : _≡_ {A = ℕ} 0 1 = cc in omega arith)))
+      (λ p. let q : Loaded (freshRun t) ≡ Loaded r = rw (e, p) at a in
+      let same : r ≡ freshRun t = cc in
+      record { let-through = let-in t start (lentLengths l nodes) (eqb-true k 0 e); accepted = p; run-is = same; areas-are = rw (e, p) })
+      (λ p. absurd (let q : BadRecord b ≡ Loaded r = rw (e, p) at a in let z : _≡_ {A = ℕ} 0 1 = cc in omega arith)))
       (λ e. absurd (let q : Refused k ≡ Loaded r = rw e at a in let z : _≡_ {A = ℕ} 0 1 = cc in omega arith))
 
   -- ---- the state

@@ -79,13 +79,15 @@ module _ (n most : ℕ) (W I O : List ℕ) (own : OwnLists n most W I O) (w : n 
     mirror-is =
         let m = own .mirror i p row-in row-holds in
         let r = m .0 in
-        let named = own .named p (in-links p l) in
-        (r, record {
-          there = omega (arith, whole, below-last (num I p) r named (m .1 .0));
-          turned-from = own-from (num I p) r named (m .1 .0) ∙ sym to-is;
-          turned-to = own-to (num I p) r named (m .1 .0) ∙ m .1 .1 ∙ sym from-is;
-          same-weight = own-weight (num I p) r named (m .1 .0) ∙ m .1 .2 ∙ sym weight-is;
-        })
+        let named = own .named p (in-links p l) in (
+          r,
+          record {
+            there = omega (arith, whole, below-last (num I p) r named (m .1 .0));
+            turned-from = own-from (num I p) r named (m .1 .0) ∙ sym to-is;
+            turned-to = own-to (num I p) r named (m .1 .0) ∙ m .1 .1 ∙ sym from-is;
+            same-weight = own-weight (num I p) r named (m .1 .0) ∙ m .1 .2 ∙ sym weight-is;
+          },
+        )
 
   -- a place further on belongs to the same list or to a later one
   no-earlier : (i j p q : ℕ) → i < n → j < n → InList O i p → InList O j q → p < q → i ≤ j

@@ -199,7 +199,8 @@ module _ (s : Settings) (table start : List Float) (cs : List Cell) (l : Lent) (
     pub prepared-lists-again : (v w o : List ℕ) → (indicesLoaded (listsBytes n W (A .indices) (A .offsets)) v ≡ pasted (A .indices) 0 (num (A .offsets) n) v)
         × (weightsLoaded (listsBytes n W (A .indices) (A .offsets)) w ≡ pasted W 0 (num (A .offsets) n) w)
         × (offsetsLoaded (listsBytes n W (A .indices) (A .offsets)) n o ≡ pasted (A .offsets) 0 (n + 1) o)
-    prepared-lists-again v w o =
-        (own-indices-again n (sizesOf s .links) W (A .indices) (A .offsets) own-prepared small v,
-        own-weights-again n (sizesOf s .links) W (A .indices) (A .offsets) own-prepared small w,
-        own-offsets-again n (sizesOf s .links) W (A .indices) (A .offsets) own-prepared small o)
+    prepared-lists-again v w o = (
+      own-indices-again n (sizesOf s .links) W (A .indices) (A .offsets) own-prepared small v,
+      own-weights-again n (sizesOf s .links) W (A .indices) (A .offsets) own-prepared small w,
+      own-offsets-again n (sizesOf s .links) W (A .indices) (A .offsets) own-prepared small o,
+    )

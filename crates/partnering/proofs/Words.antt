@@ -57,8 +57,8 @@ module _ (s start file w : List ℕ) (l : Loading) (nodes : ℕ) (a : List ℕ) 
       (λ o. by-bool (answered .number ≡ 0 → Imports) (eqb fault 0) (λ z. rw (m, n, o, z) (λ q. absurd (let x : _≡_ {A = ℕ} 12 0 = q in omega arith))) (λ z. rw (m, n, o, z) (λ q. absurd (not-twelve fault z q))))
       (λ o. by-bool (answered .number ≡ 0 → Imports) (eqb fault 0)
       (λ z. by-bool (answered .number ≡ 0 → Imports) accepted
-        (λ p q. record { told = m; nine = n; long = o; none = z; good = p })
-        (λ p. rw (m, n, o, z, p) (λ q. absurd (let x : _≡_ {A = ℕ} 19 0 = q in omega arith))))
+      (λ p q. record { told = m; nine = n; long = o; none = z; good = p })
+      (λ p. rw (m, n, o, z, p) (λ q. absurd (let x : _≡_ {A = ℕ} 19 0 = q in omega arith))))
       (λ z. rw (m, n, o, z) (λ q. absurd (not-twelve fault z q))))))
 
   module _ (ready : answered .number ≡ 0) (ns : List Node) (some : 1 ≤ length ns) where

@@ -1,6 +1,6 @@
 use mathlib.Core.Path.{refl, sym, _∙_}
 use Rattle.partner.proofs.Mirrors.{met-empty, met-done}
-use Rattle.partner.proofs.Halves.{Halves, halves-start, halves-within, halves-more}
+use Rattle.partner.proofs.Bisects.{Bisects, bisects-start, bisects-within, bisects-more}
 use Rattle.partner.specs.Partner.{linkPair, turnedPair}
 use borrow.Author.Needs.{needs}
 use native.Mathlib.Omega.{arith}
@@ -13,7 +13,7 @@ use Rattle.partner.proofs.raised_pair.Reads as raised-pair-reads
 use Rattle.partner.proofs.turned_pair.Reads as turned-pair-reads
 
 abbrev Inv-loop : tie.InvT-loop
-Inv-loop file i a k pair low₀ left₀ low left = Halves (linkPair file) (turnedPair file i) a k low left
+Inv-loop file i a k pair low₀ left₀ low left = Bisects (linkPair file) (turnedPair file i) a k low left
 
 abbrev μ-loop : tie.MeasureT-loop
 μ-loop file i a k pair low₀ left₀ low left = left
@@ -25,10 +25,10 @@ turned-pair-requires : tie.Need-turned-pair-requires Inv-loop μ-loop
 turned-pair-requires c κs = search needs
 
 loop-holds : tie.Need-loop-holds Inv-loop μ-loop
-loop-holds c = halves-start (c .before .if1 .left)
+loop-holds c = bisects-start (c .before .if1 .left)
 
 raised-pair-requires : tie.Need-raised-pair-requires Inv-loop μ-loop
-raised-pair-requires c κs = omega (arith, halves-within (c .before .before .before .before .before .pre .2 .rises) (c .before .loop .inv) (c .loop-test .taken), c .before .before .before .before .before .pre .1)
+raised-pair-requires c κs = omega (arith, bisects-within (c .before .before .before .before .before .pre .2 .rises) (c .before .loop .inv) (c .loop-test .taken), c .before .before .before .before .before .pre .1)
 
 sub-left : tie.Need-sub-left Inv-loop μ-loop
 sub-left c = search needs
@@ -37,7 +37,7 @@ loop-less : tie.Need-loop-less Inv-loop μ-loop
 loop-less c = search needs
 
 loop-again : tie.Need-loop-again Inv-loop μ-loop
-loop-again c = halves-more (c .before .before .before .before .before .before .pre .2 .rises) (c .before .before .loop .inv) _ (c .before .loop-test .taken) (rw (c .before .before .before .turned-pair .ensures) at (c .raised-pair .ensures))
+loop-again c = bisects-more (c .before .before .before .before .before .before .pre .2 .rises) (c .before .before .loop .inv) _ (c .before .loop-test .taken) (rw (c .before .before .before .turned-pair .ensures) at (c .raised-pair .ensures))
 
 is-mirror-requires : tie.Need-is-mirror-requires Inv-loop μ-loop
 is-mirror-requires c κs = (c .before .before .before .before .before .pre .0, omega (arith, c .before .loop .inv .inside, c .before .loop .inv .some, c .before .before .before .before .before .pre .1))

@@ -1,4 +1,4 @@
-use Rattle.partner_load.proofs.Counted.{below-more}
+use Rattle.partner_load.proofs.Counted.{starts-below-more}
 use mathlib.Core.Path.{sym, ap}
 use native.Mathlib.Decide.{decLt}
 use Prim.Native.Nat.{ℕ, _-_, _<_, _≤_}
@@ -33,7 +33,7 @@ loop-less : tie.Need-loop-less Inv-loop μ-loop
 loop-less c = search needs
 
 loop-again : tie.Need-loop-again Inv-loop μ-loop
-loop-again c = (omega (arith, c .before .before .before .loop .inv .0), omega (arith, c .before .before .loop-test .taken), below-more _ (c .before .before .before .loop .inv .2) (omega (arith, c .if1 .left, c .before .link-from .ensures .0)))
+loop-again c = (omega (arith, c .before .before .before .loop .inv .0), omega (arith, c .before .before .loop-test .taken), starts-below-more _ (c .before .before .before .loop .inv .2) (omega (arith, c .if1 .left, c .before .link-from .ensures .0)))
 
 returns-2 : tie.Need-returns-2 Inv-loop μ-loop
 returns-2 c = (c .before .loop .inv .0, c .before .loop .inv .1, c .before .loop .inv .2, λ l. absurd (omega (arith, c .loop-test .left)))

@@ -8,22 +8,22 @@ use lib.Dec.{leb}
 use borrow.Author.Tests.{le-leb, lt-leb}
 
 -- only the places from low on, so many as left says, may hold j
-pub record Halves (g : ℕ → ℕ) (j a k low left : ℕ) : Type 0 where
+pub record Bisects (g : ℕ → ℕ) (j a k low left : ℕ) : Type 0 where
   pub some : 1 ≤ left
   pub inside : (a ≤ low) × (low + left ≤ a + k)
   pub only : (t : ℕ) → t < k → g (a + t) ≡ j → (low ≤ a + t) × (a + t < low + left)
 
-pub halves-start : {g : ℕ → ℕ} {j a k : ℕ} → (k ≡ 0 → ⊥) → Halves g j a k a k
-halves-start {g} {j} {a} {k} n = record { some = some k n; inside = (omega arith, omega arith); only = λ t h q. (omega arith, omega arith) }
+pub bisects-start : {g : ℕ → ℕ} {j a k : ℕ} → (k ≡ 0 → ⊥) → Bisects g j a k a k
+bisects-start {g} {j} {a} {k} n = record { some = some k n; inside = (omega arith, omega arith); only = λ t h q. (omega arith, omega arith) }
   where
     some : (k : ℕ) → (k ≡ 0 → ⊥) → 1 ≤ k
     some zero n = absurd (n refl)
     some (suc k) n = omega arith
 
-module _ {g : ℕ → ℕ} {j a k low left : ℕ} (c : (s t : ℕ) → s < t → t < k → g (a + s) < g (a + t)) (h : Halves g j a k low left) where
+module _ {g : ℕ → ℕ} {j a k low left : ℕ} (c : (s t : ℕ) → s < t → t < k → g (a + s) < g (a + t)) (h : Bisects g j a k low left) where
   -- the middle lies within the part
-  pub halves-within : 1 < left → low + left / 2 < a + k
-  halves-within m = omega (arith, h .inside)
+  pub bisects-within : 1 < left → low + left / 2 < a + k
+  bisects-within m = omega (arith, h .inside)
 
   -- the middle, counted from a on
   abbrev middle : ℕ
@@ -50,8 +50,8 @@ module _ {g : ℕ → ℕ} {j a k low left : ℕ} (c : (s t : ℕ) → s < t →
       same : (t : ℕ) → (t < middle → ⊥) → (middle < t → ⊥) → a + t ≡ low + left / 2
       same t b d = omega (arith, h .inside)
 
-  pub halves-more : (r : ℕ) → 1 < left → r ≡ cond (leb (g (low + left / 2)) j) (low + left / 2) low → Halves g j a k r (left - left / 2)
-  halves-more r m e = elim (decLe (g (low + left / 2)) j) [
+  pub bisects-more : (r : ℕ) → 1 < left → r ≡ cond (leb (g (low + left / 2)) j) (low + left / 2) low → Bisects g j a k r (left - left / 2)
+  bisects-more r m e = elim (decLe (g (low + left / 2)) j) [
     | yes b ↦ rw (e, le-leb (g (low + left / 2)) j b) (record {
       some = omega arith;
       inside = (omega (arith, h .inside), omega (arith, h .inside));
@@ -65,5 +65,5 @@ module _ {g : ℕ → ℕ} {j a k low left : ℕ} (c : (s t : ℕ) → s < t →
   ]
 
   -- one place is left: j stands there, or nowhere
-  pub halves-done : left ≤ 1 → (t : ℕ) → t < k → g (a + t) ≡ j → a + t ≡ low
-  halves-done m t i q = omega (arith, h .only t i q)
+  pub bisects-done : left ≤ 1 → (t : ℕ) → t < k → g (a + t) ≡ j → a + t ≡ low
+  bisects-done m t i q = omega (arith, h .only t i q)
