@@ -76,8 +76,8 @@ module _ {t : Settings} {start : List ℕ} {l : LentLengths} (p : LetIn t start 
 -- ---- an accepted list
 
 module _ (s : Settings) (good : GoodSettings s) (file : List ℕ) (ok : isPartner (s .n) (sizesOf s .links) file ≡ true) where
-  pub links-few : wholeLinks file ≤ sizesOf s .links
-  links-few = accepted-few (s .n) (sizesOf s .links) file ok
+  pub links-in-number : wholeLinks file ≤ sizesOf s .links
+  links-in-number = accepted-few (s .n) (sizesOf s .links) file ok
 
   most-links : sizesOf s .links < 4294967296
   unfolding sizesOf
@@ -87,7 +87,7 @@ module _ (s : Settings) (good : GoodSettings s) (file : List ℕ) (ok : isPartne
       omega (arith, mul-assoc 2 (s .n) (kOf s), z)
 
   pub links-in-words : wholeLinks file < 4294967296
-  links-in-words = omega (arith, links-few, most-links)
+  links-in-words = omega (arith, links-in-number, most-links)
 
   pub frames-rise : FramesRise file
   frames-rise = record { no-lower = accepted-frames (s .n) (sizesOf s .links) file ok (omega (arith, good .n-most)) }

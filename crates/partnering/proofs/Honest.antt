@@ -23,7 +23,7 @@ use Rattle.partner.specs.Partner.{wholeLinks, firstBadLink, isPartner}
 use Rattle.partner_import.specs.declared.Imported.{Imported}
 use Rattle.partner_import.specs.declared.Imported.the-variants.{Refused, BadRecord, Loaded}
 use Rattle.partner_import.specs.Import.{Loading, lentLengths, treeSettings, importFault, oneBits, loadedAreas, importOutcome, judgedList, importOf, importNumber}
-use Rattle.partner_import.proofs.Laws.{LetIn, let-in, list-room, links-few}
+use Rattle.partner_import.proofs.Laws.{LetIn, let-in, list-room, links-in-number}
 use Rattle.descent.specs.Descent.{work, workNumber, isLast, wholeUnits, works}
 use Rattle.descent.specs.Honest.{Honest, Roomy}
 use Rattle.descent.proofs.Theorems.{OneCall, demand-three, SoMany, after-each, stays-honest, ends-in-time, never-14, Refused as RefusedCall, refusal}
@@ -71,7 +71,7 @@ module _ (s : Settings) (start file : List ℕ) (nodes : ℕ) (l : Loading) wher
     areas-loaded =
         let P = p .areas in
         let room = list-room p s refl in
-        let few = links-few t (p .good) file ok in
+        let few = links-in-number t (p .good) file ok in
         record {
           positions-long = as-long (A .positions) (l .positions) (t .n * t .c) (length-pasted start (l .positions) 0 (t .n * t .c) (omega (arith, p .start-is)) (P .positions-long)) (P .positions-long);
           increments-long = as-long (A .increments) (l .increments) (t .n * t .c) (filled-size 0 (t .n * t .c) (l .increments) (P .increments-long)) (P .increments-long);

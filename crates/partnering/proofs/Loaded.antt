@@ -62,14 +62,14 @@ module _ (f : List ℕ) where
   sum-zero : (g : ℕ → ℕ) (n : ℕ) → ((i : ℕ) → i < n → g i ≡ 0) → sum g n ≡ 0
   sum-zero g n h = sum-same g (λ i. 0) n h ∙ sum-const 0 n ∙ omega arith
 
-  pub none-below : linksBelow f 0 ≡ 0
+  pub none-starts-below : linksBelow f 0 ≡ 0
   unfolding linksBelow
-  none-below = sum-zero (λ p. bit (ltb (linkFrom f p) 0)) (wholeLinks f) (λ p l. bit-false (ltb (linkFrom f p) 0) (le-ltb (linkFrom f p) 0 (omega arith)))
+  none-starts-below = sum-zero (λ p. bit (ltb (linkFrom f p) 0)) (wholeLinks f) (λ p l. bit-false (ltb (linkFrom f p) 0) (le-ltb (linkFrom f p) 0 (omega arith)))
 
   -- where all start below n, all are counted
-  pub all-below : (n : ℕ) → ((p : ℕ) → p < wholeLinks f → linkFrom f p < n) → linksBelow f n ≡ wholeLinks f
+  pub all-start-below : (n : ℕ) → ((p : ℕ) → p < wholeLinks f → linkFrom f p < n) → linksBelow f n ≡ wholeLinks f
   unfolding linksBelow
-  all-below n h = sum-same (λ p. bit (ltb (linkFrom f p) n)) (λ p. 1) (wholeLinks f) (λ p l. bit-true (ltb (linkFrom f p) n) (lt-ltb (linkFrom f p) n (h p l))) ∙ sum-const 1 (wholeLinks f) ∙ omega arith
+  all-start-below n h = sum-same (λ p. bit (ltb (linkFrom f p) n)) (λ p. 1) (wholeLinks f) (λ p l. bit-true (ltb (linkFrom f p) n) (lt-ltb (linkFrom f p) n (h p l))) ∙ sum-const 1 (wholeLinks f) ∙ omega arith
 
   bit-grows : (p j : ℕ) → bit (ltb (linkFrom f p) j) ≤ bit (ltb (linkFrom f p) (j + 1))
   bit-grows p j = elim (decLt (linkFrom f p) j) [
@@ -77,36 +77,36 @@ module _ (f : List ℕ) where
     | no l ↦ omega (arith, bit-false (ltb (linkFrom f p) j) (le-ltb (linkFrom f p) j (omega arith)))
   ]
 
-  pub below-rises : (j : ℕ) → linksBelow f j ≤ linksBelow f (j + 1)
+  pub starts-rise : (j : ℕ) → linksBelow f j ≤ linksBelow f (j + 1)
   unfolding linksBelow
-  below-rises j = sum-le (λ p. bit (ltb (linkFrom f p) j)) (λ p. bit (ltb (linkFrom f p) (j + 1))) (wholeLinks f) (λ p l. bit-grows p j)
+  starts-rise j = sum-le (λ p. bit (ltb (linkFrom f p) j)) (λ p. bit (ltb (linkFrom f p) (j + 1))) (wholeLinks f) (λ p l. bit-grows p j)
 
   one-at-most : (b : Bool) → bit b ≤ 1
   unfolding bit
   one-at-most true = omega arith
   one-at-most false = omega arith
 
-  pub below-most : (j : ℕ) → linksBelow f j ≤ wholeLinks f
+  pub starts-most : (j : ℕ) → linksBelow f j ≤ wholeLinks f
   unfolding linksBelow
-  below-most j = omega (arith, sum-le (λ p. bit (ltb (linkFrom f p) j)) (λ p. 1) (wholeLinks f) (λ p l. one-at-most (ltb (linkFrom f p) j)), sum-const 1 (wholeLinks f))
+  starts-most j = omega (arith, sum-le (λ p. bit (ltb (linkFrom f p) j)) (λ p. 1) (wholeLinks f) (λ p l. one-at-most (ltb (linkFrom f p) j)), sum-const 1 (wholeLinks f))
 
   -- ---- good order
 
   module _ (n most : ℕ) (ok : isPartner n most f ≡ true) where
     pub last-loaded : (v : List ℕ) → num (offsetsLoaded f n v) n ≡ wholeLinks f
-    last-loaded v = offset-loaded n v n (omega arith) ∙ all-below n (λ p l. accepted-link n most f ok p l .from-in)
+    last-loaded v = offset-loaded n v n (omega arith) ∙ all-start-below n (λ p l. accepted-link n most f ok p l .from-in)
 
     pub offsets-fine : (v : List ℕ) (i : ℕ) → i < n + 1 → offsetFine (offsetsLoaded f n v) most i ≡ true
     unfolding offsetFine
     offsets-fine v i h =
         elim (ℕ-discrete i 0) [
-          | yes e ↦ rw (eq-eqb i 0 e) (eq-eqb (num (offsetsLoaded f n v) i) 0 (offset-loaded n v i (omega arith) ∙ ap (linksBelow f) e ∙ none-below))
+          | yes e ↦ rw (eq-eqb i 0 e) (eq-eqb (num (offsetsLoaded f n v) i) 0 (offset-loaded n v i (omega arith) ∙ ap (linksBelow f) e ∙ none-starts-below))
           | no e ↦ (let O = offsetsLoaded f n v in
               let z : i - 1 + 1 ≡ i = omega (arith, e) in
-              let up : linksBelow f (i - 1) ≤ linksBelow f i = rw z at (below-rises (i - 1)) in
+              let up : linksBelow f (i - 1) ≤ linksBelow f i = rw z at (starts-rise (i - 1)) in
               let a = offset-loaded n v (i - 1) (omega arith) in
               let b = offset-loaded n v i (omega arith) in
-              rw (ne-eqb i 0 e, le-leb (num O (i - 1)) (num O i) (omega (arith, a, b, up)), le-leb (num O i) most (omega (arith, b, below-most i, accepted-few n most f ok))))
+              rw (ne-eqb i 0 e, le-leb (num O (i - 1)) (num O i) (omega (arith, a, b, up)), le-leb (num O i) most (omega (arith, b, starts-most i, accepted-few n most f ok))))
         ]
 
     pub indices-fine : (v w : List ℕ) (i : ℕ) → i < num (offsetsLoaded f n v) n → indexFine (indicesLoaded f w) n i ≡ true
