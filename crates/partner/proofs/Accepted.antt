@@ -1,4 +1,4 @@
--- A list is accepted exactly when the rules hold. The numbers below 2^32 are what four bytes give; nothing else is assumed.
+-- A list is accepted exactly when the rules hold. The premise is that frames are numbered by 32 bits; nothing else is assumed.
 use mathlib.Core.Path.{_≡_, refl, sym, ap, subst, _∙_}
 use mathlib.Core.List.{List}
 use mathlib.Core.Logic.{_⊎_, inl, inr, ⊎-elim}
@@ -8,14 +8,12 @@ use native.Mathlib.Omega.{arith}
 use native.Mathlib.Decide.{decLt}
 use lib.Dec.{eqb, ltb}
 use lib.ListN.{length}
-use borrow.Author.Tests.{eq-eqb, ne-eqb, eqb-true, eqb-false, lt-ltb, le-ltb, ltb-true}
+use borrow.Author.Tests.{eq-eqb, ne-eqb, eqb-true, lt-ltb, ltb-true}
 use Rattle.laws.specs.Area.{bits}
 use Rattle.laws.specs.Loops.{first}
-use Rattle.laws.proofs.First.{first-le, first-none, first-all, first-before}
+use Rattle.laws.proofs.First.{first-none, first-all}
 use Rattle.laws.proofs.Bools.{and-left, and-right}
 use Rattle.run_record.specs.Record.{positive}
-use Rattle.little.specs.Little.{AllBelow}
-use Rattle.little.proofs.Roundtrip.{little-below}
 use Rattle.partner.specs.Partner.{linkBytes, wholeLinks, givenLinks, linkFrom, linkTo, linkWeight, linkPair, linkFine, isMirror, mirrored, partnerFine, firstBadLink, isPartner}
 use Rattle.partner.specs.Rules.{PairBefore, Mirrors, PartnerRules}
 use Rattle.partner.proofs.Fine.{isRaised, fine-rest}
@@ -153,7 +151,7 @@ module _ (n most : ℕ) (f : List ℕ) where
       mirror = accepted-mirror;
     }
 
-  -- ---- LISTS THAT MEET THE RULES ARE ACCEPTED: of a file of bytes
+  -- ---- LISTS THAT MEET THE RULES ARE ACCEPTED
 
   module _ (R : PartnerRules n most f) (w : n ≤ 4294967296) where
     rule-pairs : (i j : ℕ) → i < j → j < wholeLinks f → linkPair f i < linkPair f j

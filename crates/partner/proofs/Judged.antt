@@ -12,9 +12,7 @@ use borrow.Author.Tests.{eqb-true, ne-eqb, lt-ltb, le-ltb, ltb-true}
 use Rattle.laws.specs.Loops.{first}
 use Rattle.laws.proofs.First.{first-some, first-holds, first-none, first-le, first-before, first-all, first-at}
 use Rattle.laws.proofs.Bools.{two, and-left, and-right, not-true-is}
-use Rattle.laws.specs.Area.{bits}
-use Rattle.run_record.specs.Record.{positive}
-use Rattle.partner.specs.Partner.{wholeLinks, givenLinks, linkFrom, linkTo, linkWeight, linkPair, linkFine, mirrored, partnerFine, firstBadLink, PairsRise}
+use Rattle.partner.specs.Partner.{wholeLinks, givenLinks, linkPair, linkFine, mirrored, partnerFine, firstBadLink, PairsRise}
 
 -- ---- pairs that rise one after the other
 
@@ -61,7 +59,7 @@ rise-more {f} {a} {k} n r e = rise-steps f a (k + 1) by
         here : (t : ℕ) → t + 1 < k + 1 → (t + 1 < k → ⊥) → a + (t + 1) ≡ a + k
         here t l q = omega arith
 
--- ---- the records before the first that is unfit
+-- ---- the first that is unfit, and those before it
 
 module _ (n most : ℕ) (f : List ℕ) where
   abbrev unfit : ℕ → Bool
@@ -79,20 +77,6 @@ module _ (n most : ℕ) (f : List ℕ) where
 
   pub fit-before : (i : ℕ) → i < firstUnfit → linkFine n most f i ≡ true
   fit-before i l = not-no (first-before unfit (wholeLinks f) i l)
-
-  fine-raised : (i : ℕ) → linkFine n most f i ≡ true → (eqb i 0 || ltb (linkPair f (i - 1)) (linkPair f i)) ≡ true
-  unfolding linkFine
-  fine-raised i e = and-right (ltb i most && (ltb (linkFrom f i) n && ltb (linkTo f i) n)) (eqb i 0 || ltb (linkPair f (i - 1)) (linkPair f i)) (and-left (ltb i most && (ltb (linkFrom f i) n && ltb (linkTo f i) n) && (eqb i 0 || ltb (linkPair f (i - 1)) (linkPair f i))) (not (eqb (linkFrom f i) (linkTo f i))) (and-left (ltb i most && (ltb (linkFrom f i) n && ltb (linkTo f i) n) && (eqb i 0 || ltb (linkPair f (i - 1)) (linkPair f i)) && not (eqb (linkFrom f i) (linkTo f i))) (positive (bits (linkWeight f i))) e))
-
-  -- their pairs rise
-  pub fit-rise : PairsRise f 0 firstUnfit
-  fit-rise = rise-steps f 0 firstUnfit (λ t l. omega (arith, raised-above f (t + 1) (fine-raised (t + 1) (fit-before (t + 1) l)) (omega arith), ap (linkPair f) (before t), ap (linkPair f) (here t)))
-    where
-      before : (t : ℕ) → t + 1 - 1 ≡ 0 + t
-      before t = omega arith
-
-      here : (t : ℕ) → t + 1 ≡ 0 + (t + 1)
-      here t = omega arith
 
   -- ---- the first bad one
 
@@ -141,11 +125,11 @@ module _ (n most : ℕ) (f : List ℕ) where
       let r = first lonely firstUnfit in
       elim (decLt r (givenLinks f)) [
         | yes g ↦ sym (first-at (λ i. not (partnerFine n most f i)) (givenLinks f) r g (bad-there g) good-before)
-        | no g ↦ ends (omega (arith, first-le lonely firstUnfit, unfit-within, whole-given)) ∙ sym (first-none (λ i. not (partnerFine n most f i)) (givenLinks f) (λ t l. good-before t (omega arith)))
+        | no g ↦ reached (omega arith) ∙ sym (first-none (λ i. not (partnerFine n most f i)) (givenLinks f) (λ t l. good-before t (omega arith)))
       ]
     where
-      ends : first lonely firstUnfit ≡ givenLinks f → first lonely firstUnfit ≡ givenLinks f
-      ends e = e
+      reached : givenLinks f ≤ first lonely firstUnfit → first lonely firstUnfit ≡ givenLinks f
+      reached h = omega (arith, first-le lonely firstUnfit, unfit-within, whole-given)
 
       there : (x : ℕ) → x ≡ first lonely firstUnfit → not (partnerFine n most f x) ≡ true → not (partnerFine n most f (first lonely firstUnfit)) ≡ true
       there x q e = subst (λ (y : ℕ). not (partnerFine n most f y) ≡ true) q e

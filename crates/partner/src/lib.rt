@@ -176,7 +176,7 @@ fn is_met_anywhere(file: &[u8], i: usize, a: usize, k: usize) -> bool
     false
 }
 
-// How many pairs rise from record a on.
+// How many pairs rise from record a on, those of the rising part that begins there.
 fn rising_from(file: &[u8], a: usize) -> usize
     requires { ⌜ a ≤ wholeLinks (now file) ⌝ }
     ensures { λ k. ⌜ (a + k ≤ wholeLinks (now (file .entry))) × PairsRise (now (file .entry)) a k ⌝ }
@@ -195,28 +195,28 @@ fn rising_from(file: &[u8], a: usize) -> usize
     k
 }
 
-// Whether record i has a mirror: the pairs of the first d records rise, and those of the k that follow.
-fn is_mirrored(file: &[u8], i: usize, d: usize, k: usize) -> bool
-    requires { ⌜ (i < wholeLinks (now file)) × (d + k ≤ wholeLinks (now file)) × PairsRise (now file) 0 d × PairsRise (now file) d k ⌝ }
+// Whether record i has a mirror: the pairs of the first e records rise, and those of the k that follow.
+fn is_mirrored(file: &[u8], i: usize, e: usize, k: usize) -> bool
+    requires { ⌜ (i < wholeLinks (now file)) × (e + k ≤ wholeLinks (now file)) × PairsRise (now file) 0 e × PairsRise (now file) e k ⌝ }
     ensures { λ b. ⌜ b ≡ mirrored (now (file .entry)) i ⌝ }
 {
-    if is_met(file, i, 0, d) {
+    if is_met(file, i, 0, e) {
         return true;
     }
-    if is_met(file, i, d, k) {
+    if is_met(file, i, e, k) {
         return true;
     }
-    is_met_anywhere(file, i, d + k, file.len() / LINK_BYTES - (d + k))
+    is_met_anywhere(file, i, e + k, file.len() / LINK_BYTES - (e + k))
 }
 
 // The first of the first d records that has none; d where each has one.
-fn first_lonely(file: &[u8], d: usize, k: usize) -> usize
-    requires { ⌜ (d + k ≤ wholeLinks (now file)) × PairsRise (now file) 0 d × PairsRise (now file) d k ⌝ }
+fn first_lonely(file: &[u8], d: usize, e: usize, k: usize) -> usize
+    requires { ⌜ (d ≤ wholeLinks (now file)) × (e + k ≤ wholeLinks (now file)) × PairsRise (now file) 0 e × PairsRise (now file) e k ⌝ }
     ensures { λ r. ⌜ r ≡ first (λ i. not (mirrored (now (file .entry)) i)) d ⌝ }
 {
     let mut i = 0;
     while i < d {
-        if !is_mirrored(file, i, d, k) {
+        if !is_mirrored(file, i, e, k) {
             return i;
         }
         i += 1;
@@ -229,6 +229,7 @@ pub fn first_bad_link(file: &[u8], n: usize, most: usize) -> usize
     ensures { λ r. ⌜ r ≡ firstBadLink n most (now (file .entry)) ⌝ }
 {
     let d = first_unfit(file, n, most);
-    let k = rising_from(file, d);
-    first_lonely(file, d, k)
+    let e = rising_from(file, 0);
+    let k = rising_from(file, e);
+    first_lonely(file, d, e, k)
 }

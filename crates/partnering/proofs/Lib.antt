@@ -5,3 +5,4 @@ pub mod Positive
 pub mod Own
 pub mod Prepared
 pub mod Words
+pub mod Called

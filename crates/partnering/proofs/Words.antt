@@ -36,10 +36,10 @@ module _ (s start file w : List ℕ) (l : Loading) (nodes : ℕ) (a : List ℕ) 
   abbrev accepted : Bool
   accepted = isPartner (t .n) (sizesOf t .links) file
 
-  not-twelve : (k : ℕ) → eqb k 0 ≡ false → k ≡ 0 → ⊥
-  not-twelve k z q = eqb-false k 0 z q
+  not-none : (k : ℕ) → eqb k 0 ≡ false → k ≡ 0 → ⊥
+  not-none k z q = eqb-false k 0 z q
 
-  record Imports : Type 0 where
+  record AllPassed : Type 0 where
     told : eqb (length a) 0 ≡ false
     nine : ltb (length s) 9 ≡ false
     long : ltb (length w) 14 ≡ false
@@ -47,19 +47,19 @@ module _ (s start file w : List ℕ) (l : Loading) (nodes : ℕ) (a : List ℕ) 
     good : accepted ≡ true
 
   -- where the number is 0, every test has passed
-  all-passed : answered .number ≡ 0 → Imports
+  all-passed : answered .number ≡ 0 → AllPassed
   unfolding hostImport importOf judgedList importNumber
-  all-passed = by-bool (answered .number ≡ 0 → Imports) (eqb (length a) 0)
+  all-passed = by-bool (answered .number ≡ 0 → AllPassed) (eqb (length a) 0)
       (λ m. rw m (λ q. absurd (let x : _≡_ {A = ℕ} 12 0 = q in omega arith)))
-      (λ m. by-bool (answered .number ≡ 0 → Imports) (ltb (length s) 9)
+      (λ m. by-bool (answered .number ≡ 0 → AllPassed) (ltb (length s) 9)
       (λ n. rw (m, n) (λ q. absurd (let x : _≡_ {A = ℕ} 13 0 = q in omega arith)))
-      (λ n. by-bool (answered .number ≡ 0 → Imports) (ltb (length w) 14)
-      (λ o. by-bool (answered .number ≡ 0 → Imports) (eqb fault 0) (λ z. rw (m, n, o, z) (λ q. absurd (let x : _≡_ {A = ℕ} 12 0 = q in omega arith))) (λ z. rw (m, n, o, z) (λ q. absurd (not-twelve fault z q))))
-      (λ o. by-bool (answered .number ≡ 0 → Imports) (eqb fault 0)
-      (λ z. by-bool (answered .number ≡ 0 → Imports) accepted
+      (λ n. by-bool (answered .number ≡ 0 → AllPassed) (ltb (length w) 14)
+      (λ o. by-bool (answered .number ≡ 0 → AllPassed) (eqb fault 0) (λ z. rw (m, n, o, z) (λ q. absurd (let x : _≡_ {A = ℕ} 12 0 = q in omega arith))) (λ z. rw (m, n, o, z) (λ q. absurd (not-none fault z q))))
+      (λ o. by-bool (answered .number ≡ 0 → AllPassed) (eqb fault 0)
+      (λ z. by-bool (answered .number ≡ 0 → AllPassed) accepted
       (λ p q. record { told = m; nine = n; long = o; none = z; good = p })
       (λ p. rw (m, n, o, z, p) (λ q. absurd (let x : _≡_ {A = ℕ} 19 0 = q in omega arith))))
-      (λ z. rw (m, n, o, z) (λ q. absurd (not-twelve fault z q))))))
+      (λ z. rw (m, n, o, z) (λ q. absurd (not-none fault z q))))))
 
   module _ (ready : answered .number ≡ 0) (ns : List Node) (some : 1 ≤ length ns) where
     answer-is : importOf (settingsOf s) start file nodes l .answer ≡ Loaded (freshRun t)
@@ -83,3 +83,19 @@ module _ (s start file w : List ℕ) (l : Loading) (nodes : ℕ) (a : List ℕ) 
 
     pub host-import-honest : Honest (stateLoaded (runOf (answered .run)) (answered .areas) ns)
     host-import-honest = rw (host-import-fresh, imported-is) (what-is-loaded-is-honest (settingsOf s) start file nodes l (freshRun t) answer-is ns some)
+
+  -- ---- A REFUSAL CHANGES NEITHER RECORD NOR AREAS
+  pub host-refused-import-changes-nothing : (answered .number ≡ 0 → ⊥) → (answered .run ≡ w) × (answered .areas ≡ l)
+  unfolding hostImport importOf judgedList importNumber
+  host-refused-import-changes-nothing = by-bool Kept (eqb (length a) 0)
+      (λ m. rw m (λ q. (refl, refl)))
+      (λ m. by-bool Kept (ltb (length s) 9)
+      (λ n. rw (m, n) (λ q. (refl, refl)))
+      (λ n. by-bool Kept (ltb (length w) 14)
+      (λ o. rw (m, n, o) (λ q. (refl, refl)))
+      (λ o. by-bool Kept (eqb fault 0)
+      (λ z. by-bool Kept accepted (λ p. rw (m, n, o, z, p) (λ q. absurd (q refl))) (λ p. rw (m, n, o, z, p) (λ q. (refl, refl))))
+      (λ z. rw (m, n, o, z) (λ q. (refl, refl))))))
+    where
+      Kept : Type 0
+      Kept = (answered .number ≡ 0 → ⊥) → (answered .run ≡ w) × (answered .areas ≡ l)

@@ -13,16 +13,16 @@ use Rattle.partner.proofs.first_lonely.Lts as lts
 use Rattle.partner.proofs.is_mirrored.Reads as is-mirrored-reads
 
 abbrev Inv-loop : tie.InvT-loop
-Inv-loop file d k i₀ i = Seeks (λ i. not (mirrored file i)) d i
+Inv-loop file d e k i₀ i = Seeks (λ i. not (mirrored file i)) d i
 
 abbrev μ-loop : tie.MeasureT-loop
-μ-loop file d k i₀ i = d - i
+μ-loop file d e k i₀ i = d - i
 
 loop-holds : tie.Need-loop-holds Inv-loop μ-loop
 loop-holds c = seek-start _ _
 
 is-mirrored-requires : tie.Need-is-mirrored-requires Inv-loop μ-loop
-is-mirrored-requires c κs = (omega (arith, c .loop-test .taken, c .before .before .before .pre .0), c .before .before .before .pre .0, c .before .before .before .pre .1, c .before .before .before .pre .2)
+is-mirrored-requires c κs = (omega (arith, c .loop-test .taken, c .before .before .before .pre .0), c .before .before .before .pre .1, c .before .before .before .pre .2, c .before .before .before .pre .3)
 
 returns : tie.Need-returns Inv-loop μ-loop
 returns c = seek-stop (c .before .before .before .loop .inv) (c .before .before .loop-test .taken) (ap not (sym (c .before .is-mirrored .ensures) ∙ not-true _ (c .if1 .taken)))
