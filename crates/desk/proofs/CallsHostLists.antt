@@ -48,7 +48,7 @@ module _ {M : Type 1} (𝓤 : URA M) (H : Heap 𝓤) (A : Atoms 𝓤) (mem : Mem
   to s-words words s-positions positions s-increments increments s-gains gains s-affinities affinities s-indices indices s-offsets offsets s-forces forces s-cells cells s-target target s-answer answer = (((s-words .life, (s-positions .life, (s-increments .life, (s-gains .life, (s-affinities .life, (s-indices .life, (s-offsets .life, (s-forces .life, (s-cells .life, (s-target .life, (s-answer .life, tt))))))))))), (s-words .share, (s-positions .share, (s-increments .share, (s-gains .share, (s-affinities .share, (s-indices .share, (s-offsets .share, (s-forces .share, (s-cells .share, (s-target .share, (s-answer .share, tt))))))))))), tt, (ref-at s-words words, (ref-at s-positions positions, (ref-at s-increments increments, (ref-at s-gains gains, (ref-at s-affinities affinities, (ref-at s-indices indices, (ref-at s-offsets offsets, (ref-at s-forces forces, (ref-at s-cells cells, (ref-at s-target target, (ref-at s-answer answer, tt))))))))))), (word s-words ∷ [], (word s-positions ∷ [], (word s-increments ∷ [], (word s-gains ∷ [], (word s-affinities ∷ [], (word s-indices ∷ [], (word s-offsets ∷ [], (word s-forces ∷ [], (word s-cells ∷ [], (word s-target ∷ [], (word s-answer ∷ [], tt)))))))))))), tt)
 
   goes : Given 𝓤 H A → (s-words : Seat) (words : List ℕ) (s-positions : Seat) (positions : List ℕ) (s-increments : Seat) (increments : List ℕ) (s-gains : Seat) (gains : List ℕ) (s-affinities : Seat) (affinities : List ℕ) (s-indices : Seat) (indices : List ℕ) (s-offsets : Seat) (offsets : List ℕ) (s-forces : Seat) (forces : List Float) (s-cells : Seat) (cells : List Cell) (s-target : Seat) (target : List ℕ) (s-answer : Seat) (answer : List ℕ) → ent 𝓤 (⋆ 𝓤 H A (‵ (Tok s-words) ∷ ‵ (Tok s-positions) ∷ ‵ (Tok s-increments) ∷ ‵ (Tok s-gains) ∷ ‵ (Tok s-affinities) ∷ ‵ (Tok s-indices) ∷ ‵ (Tok s-offsets) ∷ ‵ (Tok s-forces) ∷ ‵ (Tok s-cells) ∷ ‵ (Tok s-target) ∷ ‵ (Tok s-answer) ∷ ‵ (Shr u64 s-words words) ∷ ‵ (Shr u64 s-positions positions) ∷ ‵ (Shr u64 s-increments increments) ∷ ‵ (Shr u64 s-gains gains) ∷ ‵ (Shr u64 s-affinities affinities) ∷ ‵ (Shr u32 s-indices indices) ∷ ‵ (Shr u32 s-offsets offsets) ∷ ‵ (Shr f64 s-forces forces) ∷ ‵ (Shr Cell′.the-row s-cells cells) ∷ ‵ (Mut u8 s-target target) ∷ ‵ (Mut u64 s-answer answer) ∷ [])) (Contract-host-lists .pre (to s-words words s-positions positions s-increments increments s-gains gains s-affinities affinities s-indices indices s-offsets offsets s-forces forces s-cells cells s-target target s-answer answer))
-  goes W s-words words s-positions positions s-increments increments s-gains gains s-affinities affinities s-indices indices s-offsets offsets s-forces forces s-cells cells s-target target s-answer answer  = qed W (‵ (Tok s-words) ∷ ‵ (Tok s-positions) ∷ ‵ (Tok s-increments) ∷ ‵ (Tok s-gains) ∷ ‵ (Tok s-affinities) ∷ ‵ (Tok s-indices) ∷ ‵ (Tok s-offsets) ∷ ‵ (Tok s-forces) ∷ ‵ (Tok s-cells) ∷ ‵ (Tok s-target) ∷ ‵ (Tok s-answer) ∷ ‵ (Shr u64 s-words words) ∷ ‵ (Shr u64 s-positions positions) ∷ ‵ (Shr u64 s-increments increments) ∷ ‵ (Shr u64 s-gains gains) ∷ ‵ (Shr u64 s-affinities affinities) ∷ ‵ (Shr u32 s-indices indices) ∷ ‵ (Shr u32 s-offsets offsets) ∷ ‵ (Shr f64 s-forces forces) ∷ ‵ (Shr Cell′.the-row s-cells cells) ∷ ‵ (Mut u8 s-target target) ∷ ‵ (Mut u64 s-answer answer) ∷ []) ∵ nothing ! $ move ! (11 ∷ 0 ∷ []) $ join ! $ move ! (10 ∷ 0 ∷ []) $ join ! $ move ! (9 ∷ 0 ∷ []) $ join ! $ move ! (8 ∷ 0 ∷ []) $ join ! $ move ! (7 ∷ 0 ∷ []) $ join ! $ move ! (6 ∷ 0 ∷ []) $ join ! $ move ! (5 ∷ 0 ∷ []) $ join ! $ move ! (4 ∷ 0 ∷ []) $ join ! $ move ! (3 ∷ 0 ∷ []) $ join ! $ move ! (2 ∷ 0 ∷ []) $ join ! $ move ! (1 ∷ 0 ∷ []) $ join ! $ nothing ! $ move ! (12 ∷ 0 ∷ []) $ fjoin ! $ move ! (11 ∷ 0 ∷ []) $ fjoin ! $ move ! (10 ∷ 0 ∷ []) $ fjoin ! $ move ! (9 ∷ 0 ∷ []) $ fjoin ! $ move ! (8 ∷ 0 ∷ []) $ fjoin ! $ move ! (7 ∷ 0 ∷ []) $ fjoin ! $ move ! (6 ∷ 0 ∷ []) $ fjoin ! $ move ! (5 ∷ 0 ∷ []) $ fjoin ! $ move ! (4 ∷ 0 ∷ []) $ fjoin ! $ move ! (3 ∷ 0 ∷ []) $ fjoin ! $ move ! (2 ∷ 0 ∷ []) $ fjoin ! $ move ! (1 ∷ 0 ∷ []) $ join ! $ frame ! $ nothing ! $ done !
+  goes W s-words words s-positions positions s-increments increments s-gains gains s-affinities affinities s-indices indices s-offsets offsets s-forces forces s-cells cells s-target target s-answer answer = qed W (‵ (Tok s-words) ∷ ‵ (Tok s-positions) ∷ ‵ (Tok s-increments) ∷ ‵ (Tok s-gains) ∷ ‵ (Tok s-affinities) ∷ ‵ (Tok s-indices) ∷ ‵ (Tok s-offsets) ∷ ‵ (Tok s-forces) ∷ ‵ (Tok s-cells) ∷ ‵ (Tok s-target) ∷ ‵ (Tok s-answer) ∷ ‵ (Shr u64 s-words words) ∷ ‵ (Shr u64 s-positions positions) ∷ ‵ (Shr u64 s-increments increments) ∷ ‵ (Shr u64 s-gains gains) ∷ ‵ (Shr u64 s-affinities affinities) ∷ ‵ (Shr u32 s-indices indices) ∷ ‵ (Shr u32 s-offsets offsets) ∷ ‵ (Shr f64 s-forces forces) ∷ ‵ (Shr Cell′.the-row s-cells cells) ∷ ‵ (Mut u8 s-target target) ∷ ‵ (Mut u64 s-answer answer) ∷ []) ∵ nothing ! $ move ! (11 ∷ 0 ∷ []) $ join ! $ move ! (10 ∷ 0 ∷ []) $ join ! $ move ! (9 ∷ 0 ∷ []) $ join ! $ move ! (8 ∷ 0 ∷ []) $ join ! $ move ! (7 ∷ 0 ∷ []) $ join ! $ move ! (6 ∷ 0 ∷ []) $ join ! $ move ! (5 ∷ 0 ∷ []) $ join ! $ move ! (4 ∷ 0 ∷ []) $ join ! $ move ! (3 ∷ 0 ∷ []) $ join ! $ move ! (2 ∷ 0 ∷ []) $ join ! $ move ! (1 ∷ 0 ∷ []) $ join ! $ nothing ! $ move ! (12 ∷ 0 ∷ []) $ fjoin ! $ move ! (11 ∷ 0 ∷ []) $ fjoin ! $ move ! (10 ∷ 0 ∷ []) $ fjoin ! $ move ! (9 ∷ 0 ∷ []) $ fjoin ! $ move ! (8 ∷ 0 ∷ []) $ fjoin ! $ move ! (7 ∷ 0 ∷ []) $ fjoin ! $ move ! (6 ∷ 0 ∷ []) $ fjoin ! $ move ! (5 ∷ 0 ∷ []) $ fjoin ! $ move ! (4 ∷ 0 ∷ []) $ fjoin ! $ move ! (3 ∷ 0 ∷ []) $ fjoin ! $ move ! (2 ∷ 0 ∷ []) $ fjoin ! $ move ! (1 ∷ 0 ∷ []) $ join ! $ frame ! $ nothing ! $ done !
 
 module _ {M : Type 1} {𝓤 : URA M} {H : Heap 𝓤} {A : Atoms 𝓤} {K : Type 0} {W : Given 𝓤 H A} {Γ : List (Item 𝓤)} {E : Env 𝓤 H} {C : Calls 𝓤 H} {Λ : Loops 𝓤 H} {xs : List Operand} {q : After 𝓤 H} {d : Place} {rest : Code} where
   pub calls-host-lists-cccccccccmm : K → FmC 𝓤 H (W .laws) C → (mem : Memory → SProp 𝓤) (run : Routine → Fun 𝓤) → Triple 𝓤 (C #desk-lists·host-lists) (Contract-host-lists 𝓤 H A mem run)
@@ -56,7 +56,7 @@ module _ {M : Type 1} {𝓤 : URA M} {H : Heap 𝓤} {A : Atoms 𝓤} {K : Type 
       → ((P Ω0 Ω1 Ω2 Ω3 Ω4 Ω5 Ω6 Ω7 Ω8 Ω9 Ω10 : Item 𝓤) → Opds K W (P ∷ Ω0 ∷ Ω1 ∷ Ω2 ∷ Ω3 ∷ Ω4 ∷ Ω5 ∷ Ω6 ∷ Ω7 ∷ Ω8 ∷ Ω9 ∷ Ω10 ∷ Γ) E xs (word s-words ∷ word s-positions ∷ word s-increments ∷ word s-gains ∷ word s-affinities ∷ word s-indices ∷ word s-offsets ∷ word s-forces ∷ word s-cells ∷ word s-target ∷ word s-answer ∷ []))
       → ((res : ℕ) (target′ : List ℕ) (answer′ : List ℕ) → Ensured-host-lists words positions increments gains affinities indices offsets forces cells target answer res target′ answer′ → Is u32 res (vint w32 res ∷ []) → length target′ ≡ s-target .count → length answer′ ≡ s-answer .count → Seq K W (‵ (Shr u64 s-words words) ∷ ‵ (Tok s-words) ∷ ‵ (Shr u64 s-positions positions) ∷ ‵ (Tok s-positions) ∷ ‵ (Shr u64 s-increments increments) ∷ ‵ (Tok s-increments) ∷ ‵ (Shr u64 s-gains gains) ∷ ‵ (Tok s-gains) ∷ ‵ (Shr u64 s-affinities affinities) ∷ ‵ (Tok s-affinities) ∷ ‵ (Shr u32 s-indices indices) ∷ ‵ (Tok s-indices) ∷ ‵ (Shr u32 s-offsets offsets) ∷ ‵ (Tok s-offsets) ∷ ‵ (Shr f64 s-forces forces) ∷ ‵ (Tok s-forces) ∷ ‵ (Shr Cell′.the-row s-cells cells) ∷ ‵ (Tok s-cells) ∷ ‵ (Mut u8 s-target target′) ∷ ‵ (Tok s-target) ∷ ‵ (Mut u64 s-answer answer′) ∷ ‵ (Tok s-answer) ∷ Γ) (lands C Λ E d (vint w32 res) rest q))
       → Seq K W (‵ (Shr u64 s-words words) ∷ ‵ (Tok s-words) ∷ ‵ (Shr u64 s-positions positions) ∷ ‵ (Tok s-positions) ∷ ‵ (Shr u64 s-increments increments) ∷ ‵ (Tok s-increments) ∷ ‵ (Shr u64 s-gains gains) ∷ ‵ (Tok s-gains) ∷ ‵ (Shr u64 s-affinities affinities) ∷ ‵ (Tok s-affinities) ∷ ‵ (Shr u32 s-indices indices) ∷ ‵ (Tok s-indices) ∷ ‵ (Shr u32 s-offsets offsets) ∷ ‵ (Tok s-offsets) ∷ ‵ (Shr f64 s-forces forces) ∷ ‵ (Tok s-forces) ∷ ‵ (Shr Cell′.the-row s-cells cells) ∷ ‵ (Tok s-cells) ∷ ‵ (Mut u8 s-target target) ∷ ‵ (Tok s-target) ∷ ‵ (Mut u64 s-answer answer) ∷ ‵ (Tok s-answer) ∷ Γ) (runs C Λ E (seq (call #desk-lists·host-lists xs d) rest) q)
-  calls-host-lists-cccccccccmm t fm mem run met s-words words s-positions positions s-increments increments s-gains gains s-affinities affinities s-indices indices s-offsets offsets s-forces forces s-cells cells s-target target s-answer answer ln-target ln-answer  os k =
+  calls-host-lists-cccccccccmm t fm mem run met s-words words s-positions positions s-increments increments s-gains gains s-affinities affinities s-indices indices s-offsets offsets s-forces forces s-cells cells s-target target s-answer answer ln-target ln-answer os k =
       lend-copy t u64 s-words words $
       move t (3 ∷ 4 ∷ []) $ lend-copy t u64 s-positions positions $
       move t (6 ∷ 7 ∷ []) $ lend-copy t u64 s-increments increments $
@@ -68,7 +68,7 @@ module _ {M : Type 1} {𝓤 : URA M} {H : Heap 𝓤} {A : Atoms 𝓤} {K : Type 
       move t (24 ∷ 25 ∷ []) $ lend-copy t Cell′.the-row s-cells cells $
       move t (27 ∷ 28 ∷ []) $ lend-mut t tt u8 s-target target ln-target (λ ν-target δ-target w-target.
       move t (30 ∷ 31 ∷ []) $ lend-mut t tt u64 s-answer answer ln-answer (λ ν-answer δ-answer w-answer.
-      move t (30 ∷ 27 ∷ 24 ∷ 21 ∷ 18 ∷ 15 ∷ 12 ∷ 9 ∷ 6 ∷ 3 ∷ 0 ∷ 31 ∷ 28 ∷ 25 ∷ 22 ∷ 19 ∷ 16 ∷ 13 ∷ 10 ∷ 7 ∷ 4 ∷ 1 ∷ []) $ group t 22 $ use1 W (raw (Contract-host-lists 𝓤 H A mem run .pre (to 𝓤 H A mem run s-words words s-positions positions s-increments increments s-gains gains s-affinities affinities s-indices indices s-offsets offsets s-forces forces s-cells cells (lent-to s-target ν-target δ-target) target (lent-to s-answer ν-answer δ-answer) answer))) (goes 𝓤 H A mem run W s-words words s-positions positions s-increments increments s-gains gains s-affinities affinities s-indices indices s-offsets offsets s-forces forces s-cells cells (lent-to s-target ν-target δ-target) target (lent-to s-answer ν-answer δ-answer) answer ) $
+      move t (30 ∷ 27 ∷ 24 ∷ 21 ∷ 18 ∷ 15 ∷ 12 ∷ 9 ∷ 6 ∷ 3 ∷ 0 ∷ 31 ∷ 28 ∷ 25 ∷ 22 ∷ 19 ∷ 16 ∷ 13 ∷ 10 ∷ 7 ∷ 4 ∷ 1 ∷ []) $ group t 22 $ use1 W (raw (Contract-host-lists 𝓤 H A mem run .pre (to 𝓤 H A mem run s-words words s-positions positions s-increments increments s-gains gains s-affinities affinities s-indices indices s-offsets offsets s-forces forces s-cells cells (lent-to s-target ν-target δ-target) target (lent-to s-answer ν-answer δ-answer) answer))) (goes 𝓤 H A mem run W s-words words s-positions positions s-increments increments s-gains gains s-affinities affinities s-indices indices s-offsets offsets s-forces forces s-cells cells (lent-to s-target ν-target δ-target) target (lent-to s-answer ν-answer δ-answer) answer) $
       calls-at t fm (Contract-host-lists 𝓤 H A mem run) met (to 𝓤 H A mem run s-words words s-positions positions s-increments increments s-gains gains s-affinities affinities s-indices indices s-offsets offsets s-forces forces s-cells cells (lent-to s-target ν-target δ-target) target (lent-to s-answer ν-answer δ-answer) answer) (os _ _ _ _ _ _ _ _ _ _ _ _) (λ out.
       use1 W (later (some (λ (res : ℕ). ((‵ (Tok s-words) ⊛ ‵ (Tok s-positions) ⊛ ‵ (Tok s-increments) ⊛ ‵ (Tok s-gains) ⊛ ‵ (Tok s-affinities) ⊛ ‵ (Tok s-indices) ⊛ ‵ (Tok s-offsets) ⊛ ‵ (Tok s-forces) ⊛ ‵ (Tok s-cells) ⊛ ‵ (Tok (lent-to s-target ν-target δ-target)) ⊛ ‵ (Tok (lent-to s-answer ν-answer δ-answer)) ⊛ ‵ ftrue) ⊛ ‵ (u32 .own res (out ∷ []))) ⊛ raw (ensured 𝓤 H A callee.ended (callee.clauses 𝓤 H A mem run) (s-words .life, (s-positions .life, (s-increments .life, (s-gains .life, (s-affinities .life, (s-indices .life, (s-offsets .life, (s-forces .life, (s-cells .life, (ν-target ∷ [], (ν-answer ∷ [], tt))))))))))) (ref-at s-words words, (ref-at s-positions positions, (ref-at s-increments increments, (ref-at s-gains gains, (ref-at s-affinities affinities, (ref-at s-indices indices, (ref-at s-offsets offsets, (ref-at s-forces forces, (ref-at s-cells cells, (ref-at (lent-to s-target ν-target δ-target) target, (ref-at (lent-to s-answer ν-answer δ-answer) answer, tt))))))))))) tt res)))) (id⊢ 𝓤 _) $ await t tt $ pick t (λ res.
       split t $ move t (1 ∷ []) $ use1 W (some (λ (ws : Unit {0} × (Unit {0} × (Unit {0} × (Unit {0} × (Unit {0} × (Unit {0} × (Unit {0} × (Unit {0} × (Unit {0} × (List ℕ × (List ℕ × (Unit {0})))))))))))). ‵ (lasts callee.ended (s-words .life, (s-positions .life, (s-increments .life, (s-gains .life, (s-affinities .life, (s-indices .life, (s-offsets .life, (s-forces .life, (s-cells .life, (ν-target ∷ [], (ν-answer ∷ [], tt))))))))))) (ref-at s-words words, (ref-at s-positions positions, (ref-at s-increments increments, (ref-at s-gains gains, (ref-at s-affinities affinities, (ref-at s-indices indices, (ref-at s-offsets offsets, (ref-at s-forces forces, (ref-at s-cells cells, (ref-at (lent-to s-target ν-target δ-target) target, (ref-at (lent-to s-answer ν-answer δ-answer) answer, tt))))))))))) ws) ⊛ raw (fact 𝓤 (Ensured-host-lists words positions increments gains affinities indices offsets forces cells target answer res (ws .1 .1 .1 .1 .1 .1 .1 .1 .1 .0) (ws .1 .1 .1 .1 .1 .1 .1 .1 .1 .1 .0))))) (id⊢ 𝓤 _) $ pick t (λ ws. split t $ move t (1 ∷ []) $ heard t (Ensured-host-lists words positions increments gains affinities indices offsets forces cells target answer res (ws .1 .1 .1 .1 .1 .1 .1 .1 .1 .0) (ws .1 .1 .1 .1 .1 .1 .1 .1 .1 .1 .0)) (λ e. fsplit t $ drop t $ fsplit t $ drop t $ fsplit t $ drop t $ fsplit t $ drop t $ fsplit t $ drop t $ fsplit t $ drop t $ fsplit t $ drop t $ fsplit t $ drop t $ fsplit t $ drop t $ fsplit t $ fsplit t $ move t (1 ∷ []) $ feqL t (λ le-target. move t (1 ∷ []) $ fsplit t $ fsplit t $ move t (1 ∷ []) $ feqL t (λ le-answer. move t (1 ∷ []) $ drop t $ move t (2 ∷ []) $ split t $ move t (1 ∷ []) $ peeks t u32 (Is u32) (shows 𝓤 H A u32) res (out ∷ []) (λ is. drop t $ split t $ move t (1 ∷ []) $ split t $ move t (1 ∷ []) $ split t $ move t (1 ∷ []) $ split t $ move t (1 ∷ []) $ split t $ move t (1 ∷ []) $ split t $ move t (1 ∷ []) $ split t $ move t (1 ∷ []) $ split t $ move t (1 ∷ []) $ split t $ move t (1 ∷ []) $ split t $ move t (1 ∷ []) $ split t $ move t (1 ∷ []) $ drop t $
