@@ -1,7 +1,7 @@
 -- Lists of records written one after the other, what the entry tests on words show of a run whose lists are written, and what the walk of the call cites. Assumes nothing.
 use mathlib.Core.List.{List, [], _++_, append-assoc, append-nil}
 use mathlib.Core.Path.{_≡_, refl, sym, ap, subst, _∙_}
-use mathlib.Core.Bool.{Bool, true, false, _&&_}
+use mathlib.Core.Bool.{true, false, _&&_}
 use Prim.Native.Nat.{ℕ, zero, suc, _+_, _-_, _*_, _<_, _≤_}
 use native.Mathlib.Omega.{arith}
 use native.Mathlib.Numerals.{add-one}
@@ -14,7 +14,7 @@ use borrow.Author.Tests.{leb-true, eqb-true, eq-eqb, ne-eqb, lt-ltb, le-ltb}
 use Rattle.laws.specs.Area.{num}
 use Rattle.laws.specs.Joined.{joined, written}
 use Rattle.laws.proofs.Bools.{and-left, and-right}
-use Rattle.laws.proofs.Joined.{joined-more, joined-grow, joined-none}
+use Rattle.laws.proofs.Joined.{joined-more, joined-none}
 use Rattle.laws.proofs.Laid.{laid-size}
 use Rattle.little.specs.Little.{littleBytes}
 use Rattle.little.proofs.Bytes.{length-bytes}
@@ -25,9 +25,9 @@ use Rattle.run_record.specs.declared.Run.{Run}
 use Rattle.run_record.specs.Record.{isTree, sizesOf, GoodSettings}
 use Rattle.run_entry.specs.declared.Fault.{Fault}
 use Rattle.run_entry.specs.State.{State}
-use Rattle.run_entry.specs.Entry.{isFine, faultAt, faultOf, offsetFine, listed, GoodAreas, GoodContents}
+use Rattle.run_entry.specs.Entry.{isFine, faultAt, faultOf, offsetFine, GoodAreas, GoodContents}
 use Rattle.run_entry.proofs.Laws.{fault-fine, links-is}
-use Rattle.record_words.specs.RecordWords.{methodOf, settingsOf, runFine, runOf}
+use Rattle.record_words.specs.RecordWords.{methodOf, settingsOf, runOf}
 use Rattle.record_words.proofs.Laws.{run-long}
 use Rattle.words_entry.specs.WordsEntry.{wordsFault}
 use Rattle.words_entry.proofs.Laws.{words-fine}

@@ -1,7 +1,7 @@
 -- The neighbour lists of a Barnes-Hut run as records for a partner: the order of the tests, and what is written. Definitions only.
 use mathlib.Core.List.{List, _++_}
 use mathlib.Core.Path.{_≡_}
-use mathlib.Core.Bool.{true, cond, not}
+use mathlib.Core.Bool.{cond, not}
 use Prim.Native.Nat.{ℕ, _+_, _-_, _*_, _<_, _≤_}
 use lib.Dec.{eqb, ltb}
 use lib.ListN.{length, drop}

@@ -1,6 +1,5 @@
 use Rattle.partner_write.specs.Write.{listsNumber}
 use borrow.Author.Needs.{needs}
-use native.Mathlib.Omega.{arith}
 use Rattle.partner_write.proofs.number.Statement.{statement}
 use Rattle.partner_write.proofs.number.Tie as tie
 

@@ -1,6 +1,5 @@
 use Rattle.partner_write.proofs.Laws.{link-written}
 use borrow.Author.Needs.{needs}
-use native.Mathlib.Omega.{arith}
 use Rattle.partner_write.proofs.put_link.Statement.{statement}
 use Rattle.partner_write.proofs.put_link.Tie as tie
 
