@@ -256,10 +256,11 @@ uint32_t brothanchor_unpark(
  * Those that stay close ranks in their order, in the front of each area: the rows of the table (f values each), positions,
  * increments and gains (c values each), the rows and columns of an exact run's affinities, a Barnes-Hut run's lists, in which
  * links to samples that went are left out and the others have their new numbers. The values of table, increments, gains and
- * affinities keep their bits, those of a NaN too. Then the positions are centred: of each component the mean of those that are left is taken off. The first words of old tell where each that is left
- * stood before; as many places as there were samples are asked for, and those past the samples left keep what they held. What
- * becomes free is set to 0 as far as it was in use: the table to n*f values, positions, increments and gains to n*c, the matrix
- * to n*n, offsets to n+1, indices and weights to the links that were listed, with n as it was before; and all n*(2c+1) forces.
+ * affinities keep their bits, those of a NaN too. Then the positions are centred: of each component the mean of those that are
+ * left is taken off. The first words of old tell where each that is left stood before; as many places as there were samples
+ * are asked for, and those past the samples left keep what they held. What becomes free is set to 0 as far as it was in use:
+ * the table to n*f values, positions, increments and gains to n*c, the matrix to n*n, offsets to n+1, indices and weights to
+ * the links that were listed, with n as it was before; and all n*(2c+1) forces.
  * Nodes are only read. An exact run's indices and offsets are left alone.
  *
  * In the record n and the units done are new: iterations done times the units of an iteration of so many samples. A run that has
