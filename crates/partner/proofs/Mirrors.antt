@@ -12,7 +12,7 @@ use Rattle.laws.specs.Loops.{first}
 use Rattle.laws.proofs.First.{first-some, first-holds, first-none, first-le, first-before, first-all, first-at}
 use Rattle.laws.proofs.Bools.{two, and-left, and-right, and-no, not-true-is}
 use Rattle.partner.specs.Partner.{wholeLinks, linkFrom, linkTo, linkWeight, linkPair, turnedPair, pairOf, linkFine, isMirror, mirroredIn, mirrored, PairsRise}
-use Rattle.partner.proofs.Bisects.{Bisects, bisects-done}
+use Rattle.laws.proofs.Bisects.{Bisects, bisects-done}
 
 module _ (f : List ℕ) (i : ℕ) where
   pub mirror-not-from : (j : ℕ) → (linkFrom f j ≡ linkTo f i → ⊥) → isMirror f i j ≡ false

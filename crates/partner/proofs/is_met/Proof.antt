@@ -1,6 +1,6 @@
 use mathlib.Core.Path.{refl, sym, _∙_}
 use Rattle.partner.proofs.Mirrors.{met-empty, met-done}
-use Rattle.partner.proofs.Bisects.{Bisects, bisects-start, bisects-within, bisects-more}
+use Rattle.laws.proofs.Bisects.{Bisects, bisects-start, bisects-within, bisects-more}
 use Rattle.partner.specs.Partner.{linkPair, turnedPair}
 use borrow.Author.Needs.{needs}
 use native.Mathlib.Omega.{arith}
