@@ -96,13 +96,15 @@ module _ (n most : ℕ) (f : List ℕ) where
           let A = eqb (linkFrom f j) (linkTo f i) in
           let B = eqb (linkTo f j) (linkFrom f i) in
           let C = eqb (linkWeight f j) (linkWeight f i) in
-          let b = and-left (A && B) C (m .1 .1) in
-          (j, record {
-            there = omega (arith, m .1 .0);
-            turned-from = eqb-true (linkFrom f j) (linkTo f i) (and-left A B b);
-            turned-to = eqb-true (linkTo f j) (linkFrom f i) (and-right A B b);
-            same-weight = eqb-true (linkWeight f j) (linkWeight f i) (and-right (A && B) C (m .1 .1));
-          })
+          let b = and-left (A && B) C (m .1 .1) in (
+            j,
+            record {
+              there = omega (arith, m .1 .0);
+              turned-from = eqb-true (linkFrom f j) (linkTo f i) (and-left A B b);
+              turned-to = eqb-true (linkTo f j) (linkFrom f i) (and-right A B b);
+              same-weight = eqb-true (linkWeight f j) (linkWeight f i) (and-right (A && B) C (m .1 .1));
+            },
+          )
 
     -- at most so many
     pub accepted-few : wholeLinks f ≤ most
