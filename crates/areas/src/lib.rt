@@ -18,13 +18,13 @@ pub fn fill(area: &mut [f64], n: usize, x: f64)
 }
 
 // The same where values are lent by their bits.
-pub fn fill_words(area: &mut [u64], n: usize, x: u64)
+pub fn fill_words(area: &mut [u64], n: usize, word: u64)
     requires { ⌜ n ≤ length (now area) ⌝ }
-    ensures { λ _. ⌜ now (area .exit) ≡ filled x n (now (area .entry)) ⌝ }
+    ensures { λ _. ⌜ now (area .exit) ≡ filled word n (now (area .entry)) ⌝ }
 {
     let mut t = 0;
     while t < n {
-        area[t] = x;
+        area[t] = word;
         t += 1;
     }
 }

@@ -6,10 +6,10 @@ use Rattle.areas.proofs.fill_words.Statement.{statement}
 use Rattle.areas.proofs.fill_words.Tie as tie
 
 abbrev Inv-loop : tie.InvT-loop
-Inv-loop area₀ n x t₀ area t = Clears x area₀ n t area
+Inv-loop area₀ n word t₀ area t = Clears word area₀ n t area
 
 abbrev μ-loop : tie.MeasureT-loop
-μ-loop area₀ n x t₀ area t = n - t
+μ-loop area₀ n word t₀ area t = n - t
 
 loop-holds : tie.Need-loop-holds Inv-loop μ-loop
 loop-holds c = clears-start
