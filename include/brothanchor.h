@@ -3,7 +3,7 @@
  * Link libdesk.a (rt staticlib desk), for x86-64 Linux. All memory is lent by the caller; nothing is kept between calls.
  * An area is a pointer and its number of elements; an empty area may have any pointer. Areas of one call must not overlap.
  * A call that is refused at its entry changes nothing, but for the answer of a work call, of a divergence, of a parking, of a
- * reading or of a removal. Longer areas keep what lies past what is asked for.
+ * reading, of a removal, of an import or of a writing of lists. Longer areas keep what lies past what is asked for.
  *
  * Refusal numbers (0: none)
  *   1  c is 0 or above 8
@@ -24,9 +24,10 @@
  *      removal: a centred position would be one
  *  16  a record of a frame file or of a parked run is bad
  *  17  no iteration has just ended, or the forces give a total of 0; parking and removal: a unit of an iteration is done, and not
- *      its last
+ *      its last; writing lists: the run is exact and has none
  *  18  removal: the list does not rise strictly or names a sample that there is not, or more links would be left than the lists
  *      of so many frames may have
+ *  19  import: a rule of a partner's list fails at a record
  */
 
 /* What areas may hold: any bits, NaNs of every kind among them. A call tests whatever it goes by, so no contents can lead it
@@ -40,7 +41,7 @@
  *   work, refused by a unit          (14, 15) all that the units before it wrote: record and memory are as after these units,
  *                                    which the answer counts, and the refused unit has changed nothing
  *   divergence, park, unpark,        the first word of the answer; with an answer area that is empty nothing
- *   take_out
+ *   take_out, import, lists
  * After 14 or 15 the run is still running, and the next call begins with the refused unit. After 14 it goes on where the nodes
  * are moved to a longer arena, those in use with their contents.
  *
@@ -255,10 +256,11 @@ uint32_t brothanchor_unpark(
  * Those that stay close ranks in their order, in the front of each area: the rows of the table (f values each), positions,
  * increments and gains (c values each), the rows and columns of an exact run's affinities, a Barnes-Hut run's lists, in which
  * links to samples that went are left out and the others have their new numbers. The values of table, increments, gains and
- * affinities keep their bits, those of a NaN too. Then the positions are centred: of each component the mean of those that are left is taken off. The first words of old tell where each that is left
- * stood before; as many places as there were samples are asked for, and those past the samples left keep what they held. What
- * becomes free is set to 0 as far as it was in use: the table to n*f values, positions, increments and gains to n*c, the matrix
- * to n*n, offsets to n+1, indices and weights to the links that were listed, with n as it was before; and all n*(2c+1) forces.
+ * affinities keep their bits, those of a NaN too. Then the positions are centred: of each component the mean of those that are
+ * left is taken off. The first words of old tell where each that is left stood before; as many places as there were samples
+ * are asked for, and those past the samples left keep what they held. What becomes free is set to 0 as far as it was in use:
+ * the table to n*f values, positions, increments and gains to n*c, the matrix to n*n, offsets to n+1, indices and weights to
+ * the links that were listed, with n as it was before; and all n*(2c+1) forces.
  * Nodes are only read. An exact run's indices and offsets are left alone.
  *
  * In the record n and the units done are new: iterations done times the units of an iteration of so many samples. A run that has
@@ -290,6 +292,76 @@ uint32_t brothanchor_take_out(
     double *table, size_t table_length,
     const uint32_t *gone, size_t gone_length,
     uint32_t *old, size_t old_length,
+    uint64_t *answer, size_t answer_length);
+
+/* A neighbour list that another tool made, checked and loaded: a Barnes-Hut run may start from it. The file has records of 16
+ * bytes, little-endian, and no header: from (4 bytes), to (4 bytes), weight (8 bytes, a double by its bits). It is accepted just
+ * where these rules hold, with k as brothanchor_prepare takes it (2*n*k is the indices' number of brothanchor_sizes):
+ *   there are at most 2*n*k records, and no bytes past the last whole one
+ *   both indices of every record are below n
+ *   the pairs (from, to) rise strictly: from one record to the next from rises, or stays and to rises
+ *   no frame links itself: from is not to
+ *   every weight is finite and above zero
+ *   every link has its mirror: a record with from and to exchanged and the same bits of weight
+ * A file of no bytes is a list of no links.
+ *
+ * The settings are those of a preparation, but the run is Barnes-Hut whatever their word for the method holds; there is no table,
+ * and f is only kept. Loaded: the fourteen words of the record, with nothing done and no node in use; indices and weights in the
+ * file's order, and the n+1 offsets that count them; positions as the start; increments and forces 0, gains 1. Areas may be
+ * longer, and the record's too: what lies past the record, the areas and the links keeps what it held. Of the arena it is told
+ * the number of nodes, no more: it reads and writes none.
+ *
+ * Answers 0, and writes the number of links to the first word of the answer; or the number of the refusal, and writes what comes
+ * with it there: with 19 the place of the record, counted from 0, else 0. Refused, it writes nothing else. In this order:
+ *   12       the answer area is empty: nothing can be told
+ *   13       there are fewer than nine words of settings
+ *   1 to 6   as of a preparation, 5 and 6 always
+ *   7        n is 0 or above 4096, or f is 0 or above 256
+ *   9, 10    as of a preparation
+ *   11       the start's length is not n*c, or a start value is not finite or above 2^20 in magnitude
+ *   12       an area is too short, as in a work call, or the record's is shorter than fourteen words
+ *   19       a rule fails at a record, with the place of the first such. A missing mirror is told at the lonely link; a mirror
+ *            counts wherever it stands. The first record too many is bad, and bytes past the last whole one make one more, which
+ *            is bad */
+uint32_t brothanchor_import(
+    const uint64_t *settings, size_t settings_length,
+    const double *start, size_t start_length,
+    const uint8_t *file, size_t file_length,
+    uint64_t *record, size_t record_length,
+    double *positions, size_t positions_length,
+    double *increments, size_t increments_length,
+    double *gains, size_t gains_length,
+    double *affinities, size_t affinities_length,
+    uint32_t *indices, size_t indices_length,
+    uint32_t *offsets, size_t offsets_length,
+    double *forces, size_t forces_length,
+    size_t nodes_length,
+    uint64_t *answer, size_t answer_length);
+
+/* A Barnes-Hut run's lists written as a partner's list, at any moment of the run, inside an iteration too: a record of 16 bytes
+ * for each link, as brothanchor_import reads them, frame by frame and each frame's links in their order, weights by their bits
+ * whatever they are. It reads the record's words and the areas of a work call and changes none of them. A longer target keeps its
+ * tail. Lists of a preparation are accepted by brothanchor_import with the same settings where no weight is zero.
+ *
+ * Answers 0, and writes the number of records to the first word of the answer; or the number of the refusal, and writes what
+ * comes with it there: with 13 what brothanchor_divergence tells, else 0. Refused, it writes nothing else. In this order:
+ *   12  the answer area is empty: nothing can be told
+ *   13  the words are no record (13 comes with a method that there is not, else 0); settings or counters are not well formed
+ *   12  an area is too short, as in a work call
+ *   13  the contents are not well formed
+ *   17  the run is exact: it has no lists
+ *   12  the target is shorter than 16 bytes a link */
+uint32_t brothanchor_lists(
+    const uint64_t *record, size_t record_length,
+    const double *positions, size_t positions_length,
+    const double *increments, size_t increments_length,
+    const double *gains, size_t gains_length,
+    const double *affinities, size_t affinities_length,
+    const uint32_t *indices, size_t indices_length,
+    const uint32_t *offsets, size_t offsets_length,
+    const double *forces, size_t forces_length,
+    const struct brothanchor_node *nodes, size_t nodes_length,
+    uint8_t *target, size_t target_length,
     uint64_t *answer, size_t answer_length);
 
 /* What a record says. The state is 3, the numbers are 0, where the words are no record. */

@@ -1,6 +1,6 @@
 """What the printed walks of functions that lend locals cite (as tests/walks/cited.py). within: that the count of a part that is lent is at most the array's length."""
 
-HOME = {'record_words::run_of': 'fault_words', 'record_words::run_fine': 'words_entry', 'fault_words::unread_fault': 'words_entry', 'words_entry::words_fault': 'park', 'answer_words::put_after': 'desk_work', 'answer_words::put_answer': 'desk_work', 'desk_work::host_work': 'desk', 'divergence::divergence': 'desk_divergence', 'desk_divergence::host_divergence': 'desk', 'desk_park::host_park': 'desk', 'desk_take::host_take_out': 'desk'}
+HOME = {'record_words::run_of': 'fault_words', 'record_words::run_fine': 'words_entry', 'fault_words::unread_fault': 'words_entry', 'answer_words::put_after': 'desk_work', 'answer_words::put_answer': 'desk_work', 'desk_work::host_work': 'desk', 'divergence::divergence': 'desk_divergence', 'desk_divergence::host_divergence': 'desk', 'desk_park::host_park': 'desk', 'desk_lists::host_lists': 'desk', 'desk_take::host_take_out': 'desk'}
 
 WALKS = {
     'lent_examples::put_in': dict(req={'put_cell': '(subst (λ (m : ℕ). i < m) (sym {len_own4}) ready)'}, returns=['e1']),
@@ -34,6 +34,13 @@ WALKS = {
         req={'put_parked': '(word-room (storedOf words positions increments gains affinities indices offsets) (length forces) (nodesOf cells) target answer _ ln-answer r1 e1 no1)'},
         returns=['(mute-said (storedOf words positions increments gains affinities indices offsets) (length forces) (nodesOf cells) target answer _ ln-answer r1 e1 yes1)', '(parked-said (storedOf words positions increments gains affinities indices offsets) (length forces) (nodesOf cells) target answer _ ln-answer r1 e1 no1 _ ln-forces r2 target2 e2 r3 answer3 e3)']),
     'desk::brothanchor_park': dict(returns=['e1']),
+    'partner_write::write_lists': dict(uses=['Laws.{write-asks, write-said}'],
+        req={'write_tested': '(write-asks words positions increments gains affinities indices offsets forces cells _ _ _ _ ln-positions ln-increments ln-gains ln-affinities r1 e1)'},
+        returns=['(write-said words positions increments gains affinities indices offsets forces cells _ _ _ _ ln-positions ln-increments ln-gains ln-affinities r1 e1 r2 target target2 e2)']),
+    'desk_lists::host_lists': dict(uses=['Laws.{mute-lists-said, lists-word-room, listing-said}'],
+        req={'put_listing': '(lists-word-room (storedOf words positions increments gains affinities indices offsets) (length forces) (nodesOf cells) target answer _ ln-answer r1 e1 no1)'},
+        returns=['(mute-lists-said (storedOf words positions increments gains affinities indices offsets) (length forces) (nodesOf cells) target answer _ ln-answer r1 e1 yes1)', '(listing-said (storedOf words positions increments gains affinities indices offsets) (length forces) (nodesOf cells) target answer _ ln-answer r1 e1 no1 _ ln-forces r2 target2 e2 r3 answer3 e3)']),
+    'desk::brothanchor_lists': dict(returns=['e1']),
     'desk_take::host_take_out': dict(uses=['Laws.{unfit-told, told-room, record-long, taken-said}'],
         req={'run_of': '(record-long gone words (holdings positions increments gains affinities indices offsets forces table old) (nodesOf cells) answer _ ln-answer r1 e1 no1)', 'put_size': '(record-long gone words (holdings positions increments gains affinities indices offsets forces table old) (nodesOf cells) answer _ ln-answer r1 e1 no1)', 'put_taken': '(told-room gone words (holdings positions increments gains affinities indices offsets forces table old) (nodesOf cells) answer _ ln-answer r1 e1 no1)'},
         returns=['(unfit-told gone words (holdings positions increments gains affinities indices offsets forces table old) (nodesOf cells) answer _ ln-answer r1 e1 yes1 r2 answer2 e2)', '(taken-said gone words (holdings positions increments gains affinities indices offsets forces table old) (nodesOf cells) answer _ ln-answer r1 e1 no1 r3 e3 r4 own164 (holdings positions4 increments4 gains4 affinities4 indices4 offsets4 forces4 table4 old4) e4 words5 e5 r6 answer6 e6)']),

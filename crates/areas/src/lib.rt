@@ -17,6 +17,18 @@ pub fn fill(area: &mut [f64], n: usize, x: f64)
     }
 }
 
+// The same where values are lent by their bits.
+pub fn fill_words(area: &mut [u64], n: usize, word: u64)
+    requires { ⌜ n ≤ length (now area) ⌝ }
+    ensures { λ _. ⌜ now (area .exit) ≡ filled word n (now (area .entry)) ⌝ }
+{
+    let mut t = 0;
+    while t < n {
+        area[t] = word;
+        t += 1;
+    }
+}
+
 // The first n places become 0.
 pub fn clear_indices(area: &mut [u32], n: usize)
     requires { ⌜ n ≤ length (now area) ⌝ }
@@ -31,6 +43,18 @@ pub fn clear_indices(area: &mut [u32], n: usize)
 
 // The first k places of `to` become those of `from` from a on.
 pub fn copy_values(to: &mut [f64], from: &[f64], a: usize, k: usize)
+    requires { ⌜ (k ≤ length (now to)) × (a + k ≤ length (now from)) ⌝ }
+    ensures { λ _. ⌜ now (to .exit) ≡ pasted (now (from .entry)) a k (now (to .entry)) ⌝ }
+{
+    let mut t = 0;
+    while t < k {
+        to[t] = from[a + t];
+        t += 1;
+    }
+}
+
+// The same where values are lent by their bits.
+pub fn copy_words(to: &mut [u64], from: &[u64], a: usize, k: usize)
     requires { ⌜ (k ≤ length (now to)) × (a + k ≤ length (now from)) ⌝ }
     ensures { λ _. ⌜ now (to .exit) ≡ pasted (now (from .entry)) a k (now (to .entry)) ⌝ }
 {

@@ -20,14 +20,14 @@ use Rattle.gradient.specs.Forces.{forcesOf}
 use Rattle.step_passes.specs.Passes.{elementAt, centredBy}
 use Rattle.step.specs.Step.{finishOf}
 use Rattle.run_calls.specs.Machine.{stops, unitsDone, kindAt, go, call}
-use Rattle.run_record.specs.Record.{positive, angleFine, angleFault, earlyFault, lateFault, settingsFault, perOf, stateFits, countersOk, advancedOf, stopsNow, closedOf, sizesOf}
+use Rattle.run_record.specs.Record.{positive, angleFine, angleFault, earlyFault, lateFault, settingsFault, perOf, stateFits, countersOk, advancedOf, stopsNow, closedOf, sizesOf, freshRun}
 use Rattle.run_entry.specs.Entry.{recordFault, treeFits, areasFit, offsetFine, indexFine, treeFaultAt, contentsFault, faultAt, faultOf}
 use Rattle.run_plan.specs.Plan.{exaggerationOf, momentumOf, groupOf}
 use Rattle.run_finish.specs.Finish.{paceOf, finishUnit}
 use Rattle.run_units.specs.Units.{insertTurn, treeUnit, forceUnit, unit}
 use Rattle.run_budget.specs.Budget.{answerOf}
 use Rattle.descent.specs.Descent.{work}
-use Rattle.prepare.specs.Prepare.{lengthsFit, prepareFault, freshRun, routed, prepared}
+use Rattle.prepare.specs.Prepare.{lengthsFit, prepareFault, routed, prepared}
 use Rattle.bench_mapping.specs.Mapping.{benchSettings, benchTable, benchStart, descended, mapped, mapOf, mapNumber, zeros, mappedAs}
 
 -- so many bytes of zero

@@ -13,14 +13,19 @@ ghost use Rattle.desk_divergence.specs.HostDivergence.{hostDivergence};
 ghost use lib.ListN.{length};
 ghost use Rattle.tree_node.specs.Arena.{nodesOf};
 ghost use Rattle.parked.specs.Parked.{storedOf};
+ghost use Rattle.desk_lists.specs.HostLists.{hostListed, hostLists};
 ghost use Rattle.desk_park.specs.HostPark.{hostParked, hostPark};
 ghost use Rattle.take_out.specs.TakeOut.{holdings};
 ghost use Rattle.desk_take.specs.HostTake.{hostTook, hostTake};
 ghost use Rattle.desk_unpark.specs.HostUnpark.{hostUnparked, hostUnpark};
+ghost use Rattle.desk_import.specs.HostImport.{hostImported, hostImport};
+ghost use Rattle.partner_import.specs.Import.{loading};
 use desk_divergence::host_divergence;
 use desk_files::host_frame;
 use desk_files::host_frames;
 use desk_files::host_scatter;
+use desk_import::host_import;
+use desk_lists::host_lists;
 use desk_park::host_park;
 use desk_prepare::host_prepare;
 use desk_record::host_iterations;
@@ -315,6 +320,54 @@ pub extern "C" fn brothanchor_park(
     k
 }
 
+// Writes the neighbour lists of a Barnes-Hut run into records of 16 bytes, at any moment of it. Answers 0, or the number of the refusal; then the target is not changed. Areas of values are lent by their bits, so that a NaN keeps them.
+#[no_mangle]
+pub extern "C" fn brothanchor_lists(
+    words: &[u64],
+    positions: &[u64],
+    increments: &[u64],
+    gains: &[u64],
+    affinities: &[u64],
+    indices: &[u32],
+    offsets: &[u32],
+    forces: &[f64],
+    cells: &[Cell],
+    target: &mut [u8],
+    answer: &mut [u64],
+) -> u32
+    ensures { λ k. ⌜
+        hostListed k (now (target .exit)) (now (answer .exit))
+        ≡ hostLists
+        (storedOf
+        (now (words .entry))
+        (now (positions .entry))
+        (now (increments .entry))
+        (now (gains .entry))
+        (now (affinities .entry))
+        (now (indices .entry))
+        (now (offsets .entry)))
+        (length (now (forces .entry)))
+        (nodesOf (now (cells .entry)))
+        (now (target .entry))
+        (now (answer .entry))
+        ⌝ }
+{
+    let k = host_lists(
+        words,
+        positions,
+        increments,
+        gains,
+        affinities,
+        indices,
+        offsets,
+        forces,
+        cells,
+        target,
+        answer,
+    );
+    k
+}
+
 // Reads a parked run into record and areas. Answers 0, or the number of the refusal; then none of them is changed.
 #[no_mangle]
 pub extern "C" fn brothanchor_unpark(
@@ -360,6 +413,69 @@ pub extern "C" fn brothanchor_unpark(
     host_unpark(
         file,
         words,
+        positions,
+        increments,
+        gains,
+        affinities,
+        indices,
+        offsets,
+        forces,
+        nodes,
+        answer,
+    )
+}
+
+// Begins a run from a partner's list. Answers 0, or the number of the refusal; then none of record and areas is changed.
+#[no_mangle]
+pub extern "C" fn brothanchor_import(
+    settings: &[u64],
+    start: &[u64],
+    file: &[u8],
+    record: &mut [u64],
+    positions: &mut [u64],
+    increments: &mut [u64],
+    gains: &mut [u64],
+    affinities: &mut [u64],
+    indices: &mut [u32],
+    offsets: &mut [u32],
+    forces: &mut [u64],
+    nodes: usize,
+    answer: &mut [u64],
+) -> u32
+    ensures { λ k. ⌜
+        hostImported k
+        (now («record» .exit))
+        (loading
+        (now (positions .exit))
+        (now (increments .exit))
+        (now (gains .exit))
+        (now (affinities .exit))
+        (now (indices .exit))
+        (now (offsets .exit))
+        (now (forces .exit)))
+        (now (answer .exit))
+        ≡ hostImport
+        (now (settings .entry))
+        (now (start .entry))
+        (now (file .entry))
+        (now («record» .entry))
+        (loading
+        (now (positions .entry))
+        (now (increments .entry))
+        (now (gains .entry))
+        (now (affinities .entry))
+        (now (indices .entry))
+        (now (offsets .entry))
+        (now (forces .entry)))
+        nodes
+        (now (answer .entry))
+        ⌝ }
+{
+    host_import(
+        settings,
+        start,
+        file,
+        record,
         positions,
         increments,
         gains,

@@ -9,8 +9,8 @@ use borrow.Author.Tests.{lt-ltb, le-ltb}
 use Rattle.run_record.specs.declared.Settings.{Settings}
 use Rattle.prepare.specs.declared.Prepared.{Prepared}
 use Rattle.prepare.specs.Prepare.{Lent, lengthsOf, prepareFault, PrepareOutcome, prepareOutcome, prepared, prepareNumber}
-use Rattle.record_words.specs.RecordWords.{settingsFine, settingsOf}
-use Rattle.desk_prepare.specs.HostPrepare.{hostPrepared, recorded, preparedIn, shortNumber, hostPrepare}
+use Rattle.record_words.specs.RecordWords.{settingsFine, settingsOf, shortNumber}
+use Rattle.desk_prepare.specs.HostPrepare.{hostPrepared, recorded, preparedIn, hostPrepare}
 
 module _ (s : List ℕ) (table start : List Float) (nodes : ℕ) (l : Lent) (w : List ℕ) where
   pub unread-begun : settingsFine s ≡ false → hostPrepared 13 w l ≡ hostPrepare s table start nodes l w

@@ -8,7 +8,7 @@ use lib.Ieee.{Float}
 use Rattle.prepare.specs.declared.Prepared.{Prepared}
 use Rattle.prepare.specs.declared.Prepared.the-variants.{Refused, Ready}
 use Rattle.prepare.specs.Prepare.{Lent, lengthsOf, prepareFault, PrepareOutcome, prepared, prepareNumber}
-use Rattle.record_words.specs.RecordWords.{settingsFine, settingsOf, runPut}
+use Rattle.record_words.specs.RecordWords.{settingsFine, settingsOf, runPut, shortNumber}
 
 -- the answer's number, the record's words, the areas
 pub record HostPrepared : Type 0 where
@@ -26,10 +26,6 @@ recorded (Ready r) w = runPut r w
 
 abbrev pub preparedIn : PrepareOutcome → List ℕ → HostPrepared
 preparedIn o w = hostPrepared (prepareNumber (o .answer)) (recorded (o .answer) w) (o .areas)
-
--- the number where the record's area is too short, by that of preparation's own tests: one of 1 to 11 comes first, else it is 12
-abbrev pub shortNumber : ℕ → ℕ
-shortNumber k = cond (eqb k 0) 12 k
 
 -- words s that are no settings: 13; a record area w of fewer than 14 words: 12, after 1 to 11; then nothing is changed; else as preparation has it
 unfoldable pub hostPrepare : List ℕ → List Float → List Float → ℕ → Lent → List ℕ → HostPrepared

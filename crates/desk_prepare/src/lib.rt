@@ -1,7 +1,8 @@
 // Preparation, with settings and record as plain words.
 ghost use mathlib.Core.Path.{_≡_};
 ghost use Rattle.prepare.specs.Prepare.{lent, prepareFault};
-ghost use Rattle.desk_prepare.specs.HostPrepare.{hostPrepared, shortNumber, hostPrepare};
+ghost use Rattle.record_words.specs.RecordWords.{shortNumber};
+ghost use Rattle.desk_prepare.specs.HostPrepare.{hostPrepared, hostPrepare};
 use prepare::Lengths;
 use prepare::Prepared;
 use prepare::prepare;

@@ -12,3 +12,4 @@ pub mod Joined
 pub mod Parts
 pub mod Laid
 pub mod Changed
+pub mod Bisects

@@ -36,16 +36,32 @@ pub fn value(bytes: &[u8], a: usize) -> f64
     elementary::value_of(word(bytes, a))
 }
 
+// Writes the k low bytes of v from a on.
+fn put_bytes(bytes: &mut [u8], a: usize, k: usize, v: u64)
+    requires { ⌜ a + k ≤ length (now bytes) ⌝ }
+    ensures { λ _. ⌜ now (bytes .exit) ≡ written (littleBytes k v) a (now (bytes .entry)) ⌝ }
+{
+    let mut left = v;
+    let mut i = 0;
+    while i < k {
+        bytes[a + i] = (left % 256) as u8;
+        left = left / 256;
+        i += 1;
+    }
+}
+
 // Writes the eight bytes of v from a on.
 pub fn put_word(bytes: &mut [u8], a: usize, v: u64)
     requires { ⌜ a + 8 ≤ length (now bytes) ⌝ }
     ensures { λ _. ⌜ now (bytes .exit) ≡ written (littleBytes 8 v) a (now (bytes .entry)) ⌝ }
 {
-    let mut left = v;
-    let mut i = 0;
-    while i < 8 {
-        bytes[a + i] = (left % 256) as u8;
-        left = left / 256;
-        i += 1;
-    }
+    put_bytes(bytes, a, 8, v);
+}
+
+// Writes the four low bytes of v from a on.
+pub fn put_half_word(bytes: &mut [u8], a: usize, v: u64)
+    requires { ⌜ a + 4 ≤ length (now bytes) ⌝ }
+    ensures { λ _. ⌜ now (bytes .exit) ≡ written (littleBytes 4 v) a (now (bytes .entry)) ⌝ }
+{
+    put_bytes(bytes, a, 4, v);
 }

@@ -1,5 +1,4 @@
 pub mod Laws
 pub mod Values
-pub mod CallsWordsFault
 pub mod CallsPutTested
 pub mod CallsPark

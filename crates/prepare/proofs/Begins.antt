@@ -31,7 +31,7 @@ use Rattle.tree_node.specs.Arena.{nodesOf}
 use Rattle.tree_node.proofs.Told.{nodes-length}
 use Rattle.run_record.specs.declared.Settings.{Settings}
 use Rattle.run_record.specs.declared.Run.{Run}
-use Rattle.run_record.specs.Record.{isTree, stateFits, kOf, sizesOf}
+use Rattle.run_record.specs.Record.{isTree, stateFits, kOf, sizesOf, freshRun}
 use Rattle.run_record.proofs.Laws.{per-some}
 use Rattle.run_entry.specs.State.{State, state}
 use Rattle.run_entry.specs.Entry.{offsetFine, indexFine, GoodAreas, Good}
@@ -43,7 +43,7 @@ use Rattle.descent.proofs.Theorems.{OneCall, demand-three, SoMany, after-each, 
 use Rattle.descent.proofs.Longer.{GoesOn}
 use Rattle.descent.proofs.Lent.{goes-on-lent}
 use Rattle.prepare.specs.declared.Prepared.the-variants.{Refused, Ready}
-use Rattle.prepare.specs.Prepare.{Lent, lengthsOf, prepareFault, freshRun, routedIn, begunAreas, prepared, memoryOf}
+use Rattle.prepare.specs.Prepare.{Lent, lengthsOf, prepareFault, routedIn, begunAreas, prepared, memoryOf}
 use Rattle.prepare.proofs.Laws.{Passed, passed, twice, routed-tree, routed-exact}
 
 -- ---- areas keep their lengths

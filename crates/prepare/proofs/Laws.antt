@@ -21,14 +21,14 @@ use Rattle.affinity_distances.specs.Distances.{squareOf, squaresOf}
 use Rattle.affinity.specs.Exact.{exactOf}
 use Rattle.affinity.specs.Neighbours.{neighboursListed}
 use Rattle.run_record.specs.declared.Settings.{Settings}
-use Rattle.run_record.specs.Record.{isTree, earlyFault, lateFault, settingsFault, kOf, GoodSettings}
+use Rattle.run_record.specs.Record.{isTree, earlyFault, lateFault, settingsFault, kOf, GoodSettings, freshRun}
 use Rattle.run_record.proofs.Laws.{early-fine, settings-fine}
 use Rattle.run_entry.specs.Entry.{areasFit, GoodAreas}
 use Rattle.run_entry.proofs.Laws.{areas-fine}
 use Rattle.run_rooms.proofs.Places.{cells-forces}
 use Rattle.prepare.specs.declared.Lengths.{Lengths}
 use Rattle.prepare.specs.declared.Prepared.the-variants.{Refused, Ready}
-use Rattle.prepare.specs.Prepare.{Lent, lent, lengthsOf, allIn, lengthsFit, prepareFault, freshRun, routed, routedIn, prepareOutcome, prepared}
+use Rattle.prepare.specs.Prepare.{Lent, lent, lengthsOf, allIn, lengthsFit, prepareFault, routed, routedIn, prepareOutcome, prepared}
 use Rattle.run_record.specs.declared.Run.{Run}
 use Rattle.prepare.specs.Room.{RouteRoom}
 

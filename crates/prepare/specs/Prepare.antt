@@ -15,8 +15,7 @@ use Rattle.affinity.specs.Exact.{exactOf}
 use Rattle.affinity.specs.Neighbours.{neighboursListed}
 use Rattle.run_record.specs.declared.Settings.{Settings}
 use Rattle.run_record.specs.declared.Run.{Run}
-use Rattle.run_record.specs.declared.Standing.the-variants.{Running}
-use Rattle.run_record.specs.Record.{isTree, earlyFault, lateFault}
+use Rattle.run_record.specs.Record.{isTree, earlyFault, lateFault, freshRun}
 use Rattle.tree_node.specs.declared.Cell.{Cell}
 use Rattle.run_entry.specs.State.{Memory, memory}
 use Rattle.run_entry.specs.Entry.{areasFit}
@@ -66,10 +65,6 @@ prepareFault s table start l =
     (cond (lengthsFit s l) 0 12))))))
 
 -- ---- what a run begins with
-
--- no unit is done, no node in use
-unfoldable pub freshRun : Settings → Run
-freshRun s = record { settings = s; standing = Running; done = 0; phase = 0; units = 0; used = 0 }
 
 -- the affinities by method; the preparation rows end as zeros
 unfoldable pub routed : Settings → List Float → Areas → Areas

@@ -10,7 +10,7 @@ ghost use Rattle.affinity_distances.specs.Distances.{squaresOf};
 ghost use Rattle.affinity.specs.Exact.{exactOf};
 ghost use Rattle.run_record.specs.Record.{GoodSettings};
 ghost use Rattle.prepare.specs.Room.{RouteRoom};
-ghost use Rattle.prepare.specs.Prepare.{allIn, lengthsFit, prepareFault, freshRun, routed, lent, prepareOutcome, prepared};
+ghost use Rattle.prepare.specs.Prepare.{allIn, lengthsFit, prepareFault, routed, lent, prepareOutcome, prepared};
 use areas::clear_indices;
 use areas::copy_values;
 use areas::fill;
@@ -19,12 +19,12 @@ use run_entry::areas_fit;
 use run_record::Run;
 use run_record::Settings;
 use run_record::Sizes;
-use run_record::Standing;
 use run_record::faults::early_fault;
 use run_record::faults::is_tree;
 use run_record::faults::late_fault;
 use run_record::faults::sizes_of;
 use run_record::faults::times;
+use run_record::progress::fresh_run;
 
 // What preparation answers.
 pub enum Prepared {
@@ -116,20 +116,6 @@ pub fn prepare_fault(s: Settings, table: &[f64], start: &[f64], l: Lengths) -> u
         return 0;
     }
     12
-}
-
-// The record of a run that begins.
-fn fresh(s: Settings) -> Run
-    ensures { λ r. ⌜ r ≡ freshRun s ⌝ }
-{
-    Run {
-        settings: s,
-        standing: Standing::Running,
-        done: 0,
-        phase: 0,
-        units: 0,
-        used: 0,
-    }
 }
 
 // Positions, increments, gains and forces as a run begins.
@@ -291,6 +277,6 @@ pub fn prepare(
         row_indices,
     );
     set_out(z, start, positions, increments, gains, forces);
-    let r = fresh(s);
+    let r = fresh_run(s);
     Prepared::Ready(r)
 }

@@ -8,20 +8,6 @@ ghost use Rattle.park.specs.Park.{parking, parkOf};
 use park::Parked;
 use tree_node::Cell;
 
-// Nodes of zeros.
-pub(crate) fn empty_cells() -> [Cell; 4] {
-    let zero = [0.0; 3];
-    let v = Cell {
-        centre: zero,
-        half: zero,
-        mass: zero,
-        count: 0,
-        first: 0,
-        leaf: 0,
-    };
-    [v; 4]
-}
-
 // The call that is lent the first k cells.
 pub(crate) fn park_in(
     words: &[u64],

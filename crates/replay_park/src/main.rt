@@ -1,8 +1,6 @@
 // Replays the lists of parked runs: runs that are written into a target or not, and files that are read into areas of marks or not.
-mod areas;
-mod bytes;
+mod forces;
 mod lending;
-mod lengths;
 mod reading;
 mod writing;
 

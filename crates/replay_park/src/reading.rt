@@ -1,26 +1,25 @@
 // A case of reading: the file of a list, read into areas of marks and parked again.
-use crate::areas::both;
-use crate::areas::marked_forces;
-use crate::areas::marked_numbers;
-use crate::areas::marked_record;
-use crate::areas::marked_values;
-use crate::areas::same_forces;
-use crate::areas::same_values;
-use crate::bytes::bytes_at;
-use crate::bytes::marked_target;
-use crate::bytes::same_file;
-use crate::bytes::words_of;
-use crate::lending::empty_cells;
+use crate::forces::marked_forces;
+use crate::forces::same_forces;
 use crate::lending::park_in;
-use crate::lengths::Lengths;
-use crate::lengths::Places;
-use crate::lengths::length_at;
-use crate::lengths::lengths_at;
-use crate::lengths::places_from;
 use park::Parked;
 use replay::areas::plus;
-use replay::areas::same_numbers;
 use replay::word_at;
+use replay_areas::both;
+use replay_areas::bytes::bytes_at;
+use replay_areas::bytes::marked_target;
+use replay_areas::bytes::same_file;
+use replay_areas::bytes::words_of;
+use replay_areas::empty_cells;
+use replay_areas::lengths::length_at;
+use replay_areas::lengths::lengths_at;
+use replay_areas::values::marked_numbers;
+use replay_areas::values::marked_record;
+use replay_areas::values::marked_values;
+use replay_areas::wanted::Wants;
+use replay_areas::wanted::same_lists;
+use replay_areas::wanted::same_state;
+use replay_areas::wanted::wanted;
 use unpark::Unparked;
 ghost use Prim.Native.Nat.{_≤_};
 ghost use lib.ListN.{length};
@@ -143,75 +142,8 @@ fn read_back(
     }
 }
 
-// What a case wants of the areas: so many words of each, and zeros in so many forces.
-struct Wants {
-    record: usize,
-    lengths: Lengths,
-    places: Places,
-    zeros: usize,
-}
-
-// Nothing is read into areas of a file that is refused.
-fn nothing() -> Lengths {
-    Lengths {
-        positions: 0,
-        increments: 0,
-        gains: 0,
-        affinities: 0,
-        indices: 0,
-        offsets: 0,
-        forces: 0,
-        nodes: 0,
-    }
-}
-
-// n · (2c + 1) of the record from word i on.
-fn zeros_at(list: &[u8], i: usize) -> usize {
-    let n = length_at(list, i, 4096);
-    let c = length_at(list, plus(i, 2), 8);
-    n * (2 * c + 1)
-}
-
-// The answer stands at word i: of a file that is read the record follows, and the areas.
-fn wanted(list: &[u8], i: usize, l: Lengths) -> Wants {
-    let r = plus(i, 2);
-    if word_at(list, i) == 0 {
-        return Wants {
-            record: 14,
-            lengths: l,
-            places: places_from(l, plus(r, 14)),
-            zeros: zeros_at(list, r),
-        };
-    }
-    Wants {
-        record: 0,
-        lengths: nothing(),
-        places: places_from(nothing(), r),
-        zeros: 0,
-    }
-}
-
-// The record, positions, increments and gains.
-fn same_state(
-    list: &[u8],
-    w: Wants,
-    r: usize,
-    words: [u64; 14],
-    positions: [u64; 48],
-    increments: [u64; 48],
-    gains: [u64; 48],
-) -> bool {
-    let l = w.lengths;
-    let at = w.places;
-    let record = same_values(&words, w.record, list, r);
-    let p = same_values(&positions, l.positions, list, at.positions);
-    let q = same_values(&increments, l.increments, list, at.increments);
-    let g = same_values(&gains, l.gains, list, at.gains);
-    both(both(record, p), both(q, g))
-}
-
 // Affinities, indices, offsets and forces.
-fn same_lists(
+fn same_rest(
     list: &[u8],
     w: Wants,
     affinities: [u64; 48],
@@ -219,12 +151,10 @@ fn same_lists(
     offsets: [u32; 48],
     forces: [f64; 96],
 ) -> bool {
-    let l = w.lengths;
-    let at = w.places;
-    let v = same_values(&affinities, l.affinities, list, at.affinities);
-    let x = same_numbers(&indices, l.indices, list, at.indices);
-    let o = same_numbers(&offsets, l.offsets, list, at.offsets);
-    both(both(v, x), both(o, same_forces(&forces, w.zeros, list)))
+    both(
+        same_lists(list, w, affinities, indices, offsets),
+        same_forces(&forces, w.zeros, list),
+    )
 }
 
 // Number and value are the words from i on, and what was read was parked as the same bytes.
@@ -263,8 +193,8 @@ pub(crate) fn read_right(list: &[u8], a: usize) -> bool {
     let b = plus(i, 8);
     let w = wanted(list, b, l);
     let state = same_state(list, w, plus(b, 2), words, positions, increments, gains);
-    let lists = same_lists(list, w, affinities, indices, offsets, forces);
+    let rest = same_rest(list, w, affinities, indices, offsets, forces);
     let at = w.places;
     let ends = at.end == plus(a, word_at(list, a) as usize);
-    both(both(same_told(t, list, b), ends), both(state, lists))
+    both(both(same_told(t, list, b), ends), both(state, rest))
 }

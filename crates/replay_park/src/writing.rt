@@ -1,23 +1,23 @@
 // A case of writing: the run of a list, parked into a target of marks.
-use crate::areas::both;
-use crate::areas::numbers_at;
-use crate::areas::record_at;
-use crate::areas::values_at;
-use crate::bytes::marked_target;
-use crate::bytes::same_target;
-use crate::bytes::still_marked;
-use crate::bytes::words_of;
-use crate::lending::empty_cells;
 use crate::lending::park_in;
-use crate::lengths::Lengths;
-use crate::lengths::Places;
-use crate::lengths::length_at;
-use crate::lengths::lengths_at;
-use crate::lengths::places_from;
 use fault_words::fault_value;
 use park::Parked;
 use replay::areas::plus;
 use replay::word_at;
+use replay_areas::both;
+use replay_areas::bytes::marked_target;
+use replay_areas::bytes::same_target;
+use replay_areas::bytes::still_marked;
+use replay_areas::bytes::words_of;
+use replay_areas::empty_cells;
+use replay_areas::lengths::Lengths;
+use replay_areas::lengths::Places;
+use replay_areas::lengths::length_at;
+use replay_areas::lengths::lengths_at;
+use replay_areas::lengths::places_from;
+use replay_areas::values::numbers_at;
+use replay_areas::values::record_at;
+use replay_areas::values::values_at;
 ghost use Prim.Native.Nat.{_≤_};
 
 // What comes with the number: the records, or what is told of a fault.

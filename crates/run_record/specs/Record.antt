@@ -96,6 +96,12 @@ countersOk r =
     && ltb (r .phase) (perOf (r .settings .method) (r .settings .n))
     && eqb (r .units) (r .done * perOf (r .settings .method) (r .settings .n) + r .phase)
 
+-- ---- where a run begins
+
+-- no unit is done, no node in use
+unfoldable pub freshRun : Settings → Run
+freshRun s = record { settings = s; standing = Running; done = 0; phase = 0; units = 0; used = 0 }
+
 -- ---- what a unit does to the record
 
 unfoldable pub advancedOf : Run → ℕ → Run

@@ -1,11 +1,26 @@
-// What a unit does to the record.
+// The record where a run begins, and what a unit does to it.
 ghost use mathlib.Core.Path.{_≡_};
 ghost use Prim.Native.Nat.{_<_};
-ghost use Rattle.run_record.specs.Record.{advancedOf, stopsNow, closedOf};
+ghost use Rattle.run_record.specs.Record.{freshRun, advancedOf, stopsNow, closedOf};
 use crate::Run;
+use crate::Settings;
 use crate::Standing;
 use crate::faults::is_above;
 use laws::EARLY_ITERATIONS;
+
+// The record of a run that begins.
+pub fn fresh_run(s: Settings) -> Run
+    ensures { λ r. ⌜ r ≡ freshRun s ⌝ }
+{
+    Run {
+        settings: s,
+        standing: Standing::Running,
+        done: 0,
+        phase: 0,
+        units: 0,
+        used: 0,
+    }
+}
 
 // one unit more, inside an iteration
 pub fn advanced(r: Run, used: usize) -> Run

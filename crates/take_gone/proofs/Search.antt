@@ -13,6 +13,7 @@ use Rattle.laws.specs.Loops.{first, every}
 use Rattle.laws.specs.Area.{num}
 use Rattle.laws.specs.Sums.{sum, bit}
 use Rattle.laws.specs.Joined.{those}
+use Rattle.laws.proofs.Bisects.{Bisects, bisects-start, bisects-within, bisects-more, bisects-done}
 use Rattle.laws.proofs.First.{first-at, first-none, first-holds, first-le}
 use Rattle.laws.proofs.Every.{every-at}
 use Rattle.laws.proofs.Bools.{two, and-left, and-right, not-true-is}
@@ -20,66 +21,45 @@ use Rattle.laws.proofs.Joined.{length-those, those-below, those-rise, those-hol
 use Rattle.laws.proofs.Sums.{row-sum, sum-same, sum-add, sum-const, bit-and-true}
 use Rattle.take_gone.specs.Gone.{standsAt, isAmong, goneFineAt, goneFine, survivors, Climbs}
 
--- ---- the loop: only the places from low on, so many as left says, may hold j
+-- ---- the loop: a search by halving over the whole list
 
 pub record Halving (l : List ℕ) (j k low left : ℕ) : Type 0 where
   pub whole : k ≡ length l
-  pub some : 1 ≤ left
-  pub inside : low + left ≤ length l
-  pub only : (t : ℕ) → t < length l → num l t ≡ j → (low ≤ t) × (t < low + left)
+  pub search : Bisects (num l) j 0 (length l) low left
 
 pub halving-start : {l : List ℕ} {j k : ℕ} → k ≡ length l → (k ≡ 0 → ⊥) → Halving l j k 0 k
-halving-start {l} {j} {k} e n = record { whole = e; some = some k n; inside = omega (arith, e); only = λ t h q. (omega arith, omega (arith, e)) }
-  where
-    some : (k : ℕ) → (k ≡ 0 → ⊥) → 1 ≤ k
-    some zero n = absurd (n refl)
-    some (suc k) n = omega arith
+halving-start {l} {j} {k} e n = record { whole = e; search = subst (λ (x : ℕ). Bisects (num l) j 0 (length l) 0 x) (sym e) (bisects-start (λ q. n (e ∙ q))) }
 
 module _ {l : List ℕ} {j k low left : ℕ} (c : Climbs l) (h : Halving l j k low left) where
+  -- what is left lies within the list, and is not empty
+  pub halving-inside : (1 ≤ left) × (low + left ≤ length l)
+  halving-inside = (h .search .some, omega (arith, h .search .inside))
+
+  rises : (s t : ℕ) → s < t → t < length l → num l (0 + s) < num l (0 + t)
+  rises s t a b = omega (arith, c .climb s t a b, ap (num l) (zero-plus s), ap (num l) (zero-plus t))
+    where
+      zero-plus : (x : ℕ) → 0 + x ≡ x
+      zero-plus x = omega arith
+
   -- the middle lies within the list
   pub halving-within : 1 < left → low + left / 2 < length l
-  halving-within m = omega (arith, h .inside)
-
-  no-below : (t : ℕ) → low + left / 2 < length l → num l (low + left / 2) ≤ j → num l t ≡ j → (low + left / 2 ≤ t)
-  no-below t i e q = elim (decLt t (low + left / 2)) [ yes a ↦ absurd (omega (arith, c .climb t (low + left / 2) a i)) | no a ↦ omega arith ]
-
-  no-above : (t : ℕ) → t < length l → j < num l (low + left / 2) → num l t ≡ j → t < low + left / 2
-  no-above t i e q = elim (decLt t (low + left / 2)) [
-    | yes a ↦ a
-    | no a ↦ elim (decLt (low + left / 2) t) [
-      | yes b ↦ absurd (omega (arith, c .climb (low + left / 2) t b i))
-      | no b ↦ absurd (omega (arith, ap (num l) (same t (low + left / 2) a b)))
-    ]
-  ]
-    where
-      same : (t s : ℕ) → (t < s → ⊥) → (s < t → ⊥) → t ≡ s
-      same t s a b = omega arith
+  halving-within m = omega (arith, bisects-within rises (h .search) m)
 
   pub halving-more : (r : ℕ) → 1 < left → r ≡ cond (leb (num l (low + left / 2)) j) (low + left / 2) low → Halving l j k r (left - left / 2)
-  halving-more r m e = elim (decLe (num l (low + left / 2)) j) [
-    | yes a ↦ rw (e, le-leb (num l (low + left / 2)) j a) (record {
-      whole = h .whole;
-      some = omega arith;
-      inside = omega (arith, h .inside);
-      only = λ t i q. (no-below t (halving-within m) a q, omega (arith, h .only t i q));
-    })
-    | no a ↦ rw (e, lt-leb (num l (low + left / 2)) j (omega arith)) (record {
-      whole = h .whole;
-      some = omega arith;
-      inside = omega (arith, h .inside);
-      only = λ t i q. (omega (arith, h .only t i q), omega (arith, no-above t i (omega arith) q));
-    })
-  ]
+  halving-more r m e = record { whole = h .whole; search = bisects-more rises (h .search) r m e }
+
+  only-here : left ≤ 1 → (t : ℕ) → t < length l → num l t ≡ j → t ≡ low
+  only-here m t a q = omega (arith, bisects-done rises (h .search) m t a (ap (num l) (zero-plus t) ∙ q))
+    where
+      zero-plus : (x : ℕ) → 0 + x ≡ x
+      zero-plus x = omega arith
 
   -- one place is left: j stands there, or nowhere
   pub halving-found : left ≤ 1 → num l low ≡ j → low ≡ standsAt l j
-  halving-found m e = sym (first-at (λ t. eqb (num l t) j) (length l) low (omega (arith, h .inside, h .some)) (eq-eqb (num l low) j e) (λ s a. ne-eqb (num l s) j (λ q. omega (arith, h .only s (omega (arith, h .inside, h .some)) q))))
+  halving-found m e = sym (first-at (λ t. eqb (num l t) j) (length l) low (omega (arith, halving-inside)) (eq-eqb (num l low) j e) (λ s a. ne-eqb (num l s) j (λ q. omega (arith, a, only-here m s (omega (arith, halving-inside)) q))))
 
   pub halving-none : left ≤ 1 → (num l low ≡ j → ⊥) → k ≡ standsAt l j
-  halving-none m n = h .whole ∙ sym (first-none (λ t. eqb (num l t) j) (length l) (λ t a. ne-eqb (num l t) j (λ q. n (ap (num l) (only-one t a q) ∙ q))))
-    where
-      only-one : (t : ℕ) → t < length l → num l t ≡ j → low ≡ t
-      only-one t a q = omega (arith, h .only t a q)
+  halving-none m n = h .whole ∙ sym (first-none (λ t. eqb (num l t) j) (length l) (λ t a. ne-eqb (num l t) j (λ q. n (ap (num l) (sym (only-here m t a q)) ∙ q))))
 
 -- in a list of nothing
 pub empty-none : (l : List ℕ) (j : ℕ) → length l ≡ 0 → length l ≡ standsAt l j

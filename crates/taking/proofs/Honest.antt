@@ -212,11 +212,7 @@ module _ (g : List ℕ) (r : Run) (h : Holdings) (ns : List Node) (m : ℕ) (lef
   pub refusal-after-taking : (bs : List ℕ) (b : ℕ) → (workNumber (work b (works bs (leftBy (takeOut g r h ns) ns)) .answer) ≡ 0 → ⊥) → Refused b (works bs (leftBy (takeOut g r h ns) ns))
   refusal-after-taking bs b n = refusal b (works bs (leftBy (takeOut g r h ns) ns)) (stays-honest-after-taking bs .good) n
 
--- ---- THEOREM 3: stretches follow one another: from an honest state, after any calls and a removal that is not refused, the state is honest again
-
-module _ (bs : List ℕ) (s : State) (g : List ℕ) (r : Run) (h : Holdings) (ns : List Node) (there : stateHeld r h ns ≡ works bs s) (m : ℕ) (left : takeOut g r h ns .answer ≡ Told (Left m)) where
-  pub taken-again : Honest (leftBy (takeOut g r h ns) ns)
-  taken-again = what-is-left-is-honest g r h ns m left
+-- ---- THEOREM 3: stretches follow one another
 
 -- a removal leaves an honest state honest, refused or not
 pub taking-keeps : (g : List ℕ) (r : Run) (h : Holdings) (ns : List Node) → Honest (stateHeld r h ns) → Honest (leftBy (takeOut g r h ns) ns)

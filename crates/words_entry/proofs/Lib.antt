@@ -1,3 +1,4 @@
 pub mod Laws
 pub mod CallsRunFine
 pub mod CallsUnreadFault
+pub mod CallsWordsFault

@@ -1,3 +1,4 @@
 pub mod Reached
 pub mod Words
 pub mod Thinned
+pub mod Imported

@@ -20,7 +20,7 @@ use Rattle.tree_walk.specs.Repel.{nothing}
 use Rattle.gradient.specs.Forces.{attractionOf, stored, forcesOf}
 use Rattle.run_record.specs.declared.Settings.{Settings}
 use Rattle.run_record.specs.declared.Run.{Run}
-use Rattle.run_record.specs.Record.{isTree, perOf, sizesOf}
+use Rattle.run_record.specs.Record.{isTree, perOf, sizesOf, freshRun}
 use Rattle.run_entry.specs.State.{State, state}
 use Rattle.run_entry.specs.Entry.{Good}
 use Rattle.descent.specs.Descent.{work, works, toldAll}
@@ -28,7 +28,7 @@ use Rattle.descent.specs.Honest.{pointsIn, Built, Honest}
 use Rattle.descent.proofs.Theorems.{call-keeps, stays-honest, after-each}
 use Rattle.descent.proofs.Framed.{work-frames}
 use Rattle.prepare.specs.declared.Prepared.the-variants.{Ready, Refused}
-use Rattle.prepare.specs.Prepare.{Lent, lengthsOf, prepareFault, prepared, freshRun}
+use Rattle.prepare.specs.Prepare.{Lent, lengthsOf, prepareFault, prepared}
 use Rattle.prepare.proofs.Begins.{begunState, preparation-honest}
 use Rattle.tree_worth.specs.Worth.{leavesAdd, leavesIn, NoAngle}
 use Rattle.tree_worth.proofs.Theorems.{tree-worth}

@@ -13,11 +13,11 @@ use Rattle.tree_node.specs.declared.Cell.{Cell}
 use Rattle.tree_node.specs.declared.Node.{Node}
 use Rattle.run_record.specs.declared.Settings.{Settings}
 use Rattle.run_record.specs.declared.Run.{Run}
-use Rattle.run_record.specs.Record.{isTree}
+use Rattle.run_record.specs.Record.{isTree, freshRun}
 use Rattle.run_entry.specs.State.{State}
 use Rattle.descent.specs.Descent.{works, toldAll}
 use Rattle.descent.specs.Honest.{Honest}
-use Rattle.prepare.specs.Prepare.{Lent, freshRun}
+use Rattle.prepare.specs.Prepare.{Lent}
 use Rattle.record_words.specs.RecordWords.{settingsOf}
 use Rattle.parked.specs.Parked.{Stored}
 use Rattle.unpark.specs.declared.Unparked.the-variants.{Read}

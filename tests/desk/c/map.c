@@ -1,7 +1,7 @@
 /* Maps a frame file through include/brothanchor.h, as the wrapper's map program does: map FILE [SEED [FIRST LAST]].
- * Prints a line for each frame: picture, side, field, both coordinates by their bits; then how the run ended, and its divergence. On
- * its way the run is parked, forgotten and read back; then the frames of the pictures from FIRST to LAST are taken out. A seed that
- * is no number, as -, is none. It is compiled as C and as C++, and calls every function of the header. A refusal ends it with its
+ * Prints a line for each frame: picture, side, field, both coordinates by their bits; then how the run ended, and its divergence. Once
+ * it is prepared its lists are written, it is forgotten, and another run is begun from these lists. On its way the run is parked,
+ * forgotten and read back; then the frames of the pictures from FIRST to LAST are taken out. A seed that is no number, as -, is none. It is compiled as C and as C++, and calls every function of the header. A refusal ends it with its
  * number and where it came. */
 #include <inttypes.h>
 #include <stdio.h>
@@ -10,7 +10,7 @@
 
 #include "brothanchor.h"
 
-enum { FRAME_BYTES = 72, FRAME_WORDS = 11, FEATURES = 6, STARTS = 2, MOST_FRAMES = 4096, ITERATIONS = 1000, PARKED_BYTES = 32, NIGHT = 40 };
+enum { FRAME_BYTES = 72, FRAME_WORDS = 11, FEATURES = 6, STARTS = 2, MOST_FRAMES = 4096, ITERATIONS = 1000, PARKED_BYTES = 32, LINK_BYTES = 16, NIGHT = 40 };
 
 /* What a run is lent. */
 struct areas {
@@ -204,6 +204,63 @@ static void overnight(struct areas *a, const uint64_t *sizes) {
     free(again);
 }
 
+/* Lists by the first so many words of the record, to the first so many bytes of a target. */
+static uint32_t lists(const struct areas *a, const uint64_t *sizes, size_t words, uint8_t *target, size_t bytes,
+                      uint64_t *answer, size_t length) {
+    return brothanchor_lists(
+        a->record, words,
+        a->positions, sizes[BROTHANCHOR_CELLS], a->increments, sizes[BROTHANCHOR_CELLS], a->gains, sizes[BROTHANCHOR_CELLS],
+        a->affinities, sizes[BROTHANCHOR_AFFINITIES], a->indices, sizes[BROTHANCHOR_INDICES],
+        a->offsets, sizes[BROTHANCHOR_OFFSETS], a->forces, sizes[BROTHANCHOR_FORCES],
+        a->nodes, sizes[BROTHANCHOR_NODES], target, bytes, answer, length);
+}
+
+/* A list of so many bytes loaded by the first so many words of settings, with so many words for the record. */
+static uint32_t load(struct areas *a, const uint64_t *settings, size_t given, const uint64_t *sizes, const double *start,
+                     const uint8_t *file, size_t bytes, size_t words, uint64_t *answer, size_t length) {
+    return brothanchor_import(
+        settings, given, start, sizes[BROTHANCHOR_CELLS], file, bytes, a->record, words,
+        a->positions, sizes[BROTHANCHOR_CELLS], a->increments, sizes[BROTHANCHOR_CELLS], a->gains, sizes[BROTHANCHOR_CELLS],
+        a->affinities, sizes[BROTHANCHOR_AFFINITIES], a->indices, sizes[BROTHANCHOR_INDICES],
+        a->offsets, sizes[BROTHANCHOR_OFFSETS], a->forces, sizes[BROTHANCHOR_FORCES],
+        sizes[BROTHANCHOR_NODES], answer, length);
+}
+
+/* Writes the lists of a run just prepared, forgets it and begins one from them, each first as only C can ask for it: no word to tell
+ * in, a record or settings that lack a word. What was loaded is written as the same bytes. */
+static void partner(struct areas *a, const uint64_t *settings, const uint64_t *sizes, const double *start) {
+    const size_t most = LINK_BYTES * (size_t)sizes[BROTHANCHOR_INDICES], words = BROTHANCHOR_RECORD_WORDS;
+    const size_t given = BROTHANCHOR_SETTINGS_WORDS;
+    uint8_t *file = (uint8_t *)room(most, 1), *again = (uint8_t *)room(most, 1);
+    uint64_t answer[2] = {5, 7}, count;
+    size_t bytes;
+    told("lists, no answer", lists(a, sizes, words, file, most, answer, 0), 12, answer, 5);
+    told("lists, thirteen words", lists(a, sizes, words - 1, file, most, answer, 2), 13, answer, 0);
+    answer[0] = 5;
+    told("lists, no target", lists(a, sizes, words, file, 0, answer, 1), 12, answer, 0);
+    refused("lists", lists(a, sizes, words, file, most, answer, 2));
+    count = answer[0];
+    bytes = LINK_BYTES * (size_t)count;
+    told("lists, a byte short", lists(a, sizes, words, again, bytes - 1, answer, 2), 12, answer, 0);
+    forget(a, sizes);
+    answer[0] = 5;
+    told("import, no answer", load(a, settings, given, sizes, start, file, bytes, words, answer, 0), 12, answer, 5);
+    told("import, eight words", load(a, settings, given - 1, sizes, start, file, bytes, words, answer, 2), 13, answer, 0);
+    answer[0] = 5;
+    told("import, thirteen words", load(a, settings, given, sizes, start, file, bytes, words - 1, answer, 2), 12, answer, 0);
+    file[8] ^= 1;
+    told("import, a lonely link", load(a, settings, given, sizes, start, file, bytes, words, answer, 1), 19, answer, 0);
+    file[8] ^= 1;
+    told("import", load(a, settings, given, sizes, start, file, bytes, words, answer, 2), 0, answer, count);
+    told("lists again", lists(a, sizes, words, again, bytes, answer, 2), 0, answer, count);
+    if (memcmp(file, again, bytes) != 0) {
+        fprintf(stderr, "what was loaded is written as other bytes\n");
+        exit(1);
+    }
+    free(file);
+    free(again);
+}
+
 /* A removal by the first so many words of the record, of the first so many samples of a list, with so many places to tell in. */
 static uint32_t take_out(struct areas *a, const uint64_t *sizes, size_t words, double *table, const uint32_t *gone, size_t count,
                          uint32_t *old, size_t places, uint64_t *answer, size_t length) {
@@ -299,6 +356,7 @@ int main(int words, char **word) {
     refused("sizes", brothanchor_sizes(settings, BROTHANCHOR_SETTINGS_WORDS, sizes, BROTHANCHOR_SIZES_WORDS));
     lend(&areas, sizes);
     prepare(&areas, settings, sizes, table, start);
+    partner(&areas, settings, sizes, start);
     do {
         if (brothanchor_iterations(areas.record, BROTHANCHOR_RECORD_WORDS) == NIGHT) {
             overnight(&areas, sizes);

@@ -8,6 +8,7 @@ mod labels;
 mod library;
 pub mod map;
 mod parking;
+mod partner;
 mod picture;
 pub mod pictures;
 mod refusal;
@@ -15,6 +16,7 @@ mod run;
 mod thinning;
 
 pub use parking::{park, parked, parked_bytes, unpark, unpark_words, wake, PARKED_RECORD};
+pub use partner::{import, import_words, lists, lists_bytes, pair, write_lists, LINK_RECORD};
 pub use refusal::Refusal;
 pub use run::{
     divergence, prepare, sizes, work, Areas, Fault, Kind, Method, Node, Record, Rows, Settings, Sizes, State, Worked,

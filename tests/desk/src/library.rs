@@ -163,6 +163,59 @@ extern "C" {
         answer_length: usize,
     ) -> u32;
 
+    pub fn brothanchor_import(
+        settings: *const u64,
+        settings_length: usize,
+        start: *const f64,
+        start_length: usize,
+        file: *const u8,
+        file_length: usize,
+        record: *mut u64,
+        record_length: usize,
+        positions: *mut f64,
+        positions_length: usize,
+        increments: *mut f64,
+        increments_length: usize,
+        gains: *mut f64,
+        gains_length: usize,
+        affinities: *mut f64,
+        affinities_length: usize,
+        indices: *mut u32,
+        indices_length: usize,
+        offsets: *mut u32,
+        offsets_length: usize,
+        forces: *mut f64,
+        forces_length: usize,
+        nodes_length: usize,
+        answer: *mut u64,
+        answer_length: usize,
+    ) -> u32;
+
+    pub fn brothanchor_lists(
+        record: *const u64,
+        record_length: usize,
+        positions: *const f64,
+        positions_length: usize,
+        increments: *const f64,
+        increments_length: usize,
+        gains: *const f64,
+        gains_length: usize,
+        affinities: *const f64,
+        affinities_length: usize,
+        indices: *const u32,
+        indices_length: usize,
+        offsets: *const u32,
+        offsets_length: usize,
+        forces: *const f64,
+        forces_length: usize,
+        nodes: *const Node,
+        nodes_length: usize,
+        target: *mut u8,
+        target_length: usize,
+        answer: *mut u64,
+        answer_length: usize,
+    ) -> u32;
+
     pub fn brothanchor_state(record: *const u64, record_length: usize) -> u64;
     pub fn brothanchor_iterations(record: *const u64, record_length: usize) -> u64;
     pub fn brothanchor_units(record: *const u64, record_length: usize) -> u64;

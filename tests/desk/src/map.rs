@@ -1,6 +1,7 @@
 //! The main job: from the bytes of a frame file to a map, its lines and its picture.
 
 use crate::parking::{parked, wake};
+use crate::partner::{import, lists, pair, LINK_RECORD};
 use crate::picture;
 use crate::run::{divergence, prepare, sizes, work, Areas, Kind, Method, Record, Rows, Settings, State};
 use crate::thinning::take_out;
@@ -112,27 +113,41 @@ impl Run {
 
     fn begin_in(file: &[u8], seed: Option<u64>, iterations: usize) -> Result<Run, NoMap> {
         let frames = read(file)?;
-        let n = frames.len();
-        let settings = settings(n, iterations);
+        let settings = settings(frames.len(), iterations);
         let sizes = sizes(&settings)?;
         let table = table(&frames);
-        let mut start: Vec<f64> = frames.iter().flat_map(|frame| frame.starts).collect();
-        if let Some(seed) = seed {
-            scatter(&mut start, n as u32, STARTS as u32, seed)?;
-        }
+        let start = start(&frames, seed)?;
         let mut areas = Areas::new(&sizes, sizes.nodes);
         let record = prepare(&settings.words(), &table, &start, &mut areas, &mut Rows::new(&sizes))?;
+        Ok(Run::standing(frames, record, areas))
+    }
+
+    /// Begun from a partner's list, which names the frames by their places in the file, counted from 0. Of the frames only their
+    /// starting positions are looked at, and these only where there is no seed.
+    pub fn import(file: &[u8], seed: Option<u64>, list: &[u8]) -> Result<Run, NoRun> {
+        Run::import_in(file, seed, list, ITERATIONS)
+    }
+
+    /// The same in so many iterations.
+    pub fn import_in(file: &[u8], seed: Option<u64>, list: &[u8], iterations: usize) -> Result<Run, NoRun> {
+        let frames = read(file).map_err(NoRun::Frames)?;
+        let settings = settings(frames.len(), iterations);
+        let of_frames = |refusal: Refusal| NoRun::Frames(refusal.into());
+        let sizes = sizes(&settings).map_err(of_frames)?;
+        let start = start(&frames, seed).map_err(of_frames)?;
+        let mut areas = Areas::new(&sizes, sizes.nodes);
+        let record = import(&settings.words(), &start, list, &mut areas).map_err(|(refusal, place)| NoRun::List {
+            refusal,
+            record: place,
+            pair: pair(list, place as usize),
+        })?;
         Ok(Run::standing(frames, record, areas))
     }
 
     /// Read back from where it was parked. The frames have to be those that it was begun with; only their number is looked at.
     pub fn resume(file: &[u8], parked: &[u8]) -> Result<Run, NoRun> {
         let frames = read(file).map_err(NoRun::Frames)?;
-        let bad = |(refusal, place): (Refusal, u64)| {
-            let record = (refusal == Refusal(16)).then_some(place as usize);
-            NoRun::Parked(NoMap { refusal, record })
-        };
-        let (record, areas) = wake(parked).map_err(bad)?;
+        let (record, areas) = wake(parked).map_err(|told| NoRun::Parked(bad_parked(told)))?;
         let [n, f, c, ..] = record.words;
         if [n, f, c] != [frames.len() as u64, FEATURES as u64, STARTS as u64] {
             return Err(NoRun::Other {
@@ -196,6 +211,11 @@ impl Run {
         Ok(())
     }
 
+    /// Its lists as another tool reads them.
+    pub fn lists(&self) -> Result<Vec<u8>, Refusal> {
+        lists(&self.record, &self.areas).map_err(|(refusal, _)| refusal)
+    }
+
     /// The run as a file.
     pub fn park(&self) -> Result<Vec<u8>, Refusal> {
         parked(&self.record, &self.areas).map_err(|(refusal, _)| refusal)
@@ -220,12 +240,49 @@ impl Run {
     }
 }
 
+/// A parked run's lists.
+#[derive(Clone, Debug, PartialEq, Eq)]
+pub struct Lists {
+    /// How many frames the run has.
+    pub frames: usize,
+    /// How many links there are.
+    pub links: usize,
+    /// The file for the partner.
+    pub bytes: Vec<u8>,
+}
+
+/// The lists of a parked run; its frames are not needed.
+pub fn lists_of(parked: &[u8]) -> Result<Lists, NoMap> {
+    let (record, areas) = wake(parked).map_err(bad_parked)?;
+    let bytes = lists(&record, &areas).map_err(|(refusal, _)| refusal)?;
+    Ok(Lists {
+        frames: record.words[0] as usize,
+        links: bytes.len() / LINK_RECORD,
+        bytes,
+    })
+}
+
+/// What is told of a parked run that is not read.
+fn bad_parked((refusal, place): (Refusal, u64)) -> NoMap {
+    let record = (refusal == Refusal(16)).then_some(place as usize);
+    NoMap { refusal, record }
+}
+
+/// Where the frames start: as the file says, or by a scatter where there is a seed.
+fn start(frames: &[Frame], seed: Option<u64>) -> Result<Vec<f64>, Refusal> {
+    let mut start: Vec<f64> = frames.iter().flat_map(|frame| frame.starts).collect();
+    if let Some(seed) = seed {
+        scatter(&mut start, frames.len() as u32, STARTS as u32, seed)?;
+    }
+    Ok(start)
+}
+
 /// The frames' rows.
 fn table(frames: &[Frame]) -> Vec<f64> {
     frames.iter().flat_map(|frame| frame.features).collect()
 }
 
-/// Why a run is not resumed.
+/// Why a run is not resumed, or not begun from a partner's list.
 #[derive(Clone, Copy, Debug, PartialEq, Eq)]
 pub enum NoRun {
     /// The frame file is refused.
@@ -234,12 +291,31 @@ pub enum NoRun {
     Parked(NoMap),
     /// It is a run of other frames: their number, their features and the map's components; and how many there are here.
     Other { parked: [u64; 3], frames: usize },
+    /// The partner's list is refused: with 19 the place of its first bad record, counted from 0, and the frames that it names,
+    /// from and to, where it is whole.
+    List {
+        refusal: Refusal,
+        record: u64,
+        pair: Option<[u32; 2]>,
+    },
 }
 
 impl fmt::Display for NoRun {
     fn fmt(&self, f: &mut fmt::Formatter<'_>) -> fmt::Result {
         match self {
             NoRun::Frames(none) | NoRun::Parked(none) => write!(f, "{none}"),
+            NoRun::List {
+                refusal: refusal @ Refusal(19),
+                record,
+                pair,
+            } => {
+                write!(f, "{refusal} (record {record}, counted from 0")?;
+                match pair {
+                    Some([from, to]) => write!(f, ", from {from} to {to})"),
+                    None => write!(f, ", not whole)"),
+                }
+            }
+            NoRun::List { refusal, .. } => write!(f, "{refusal}"),
             NoRun::Other { parked, frames } => {
                 let [n, features, components] = parked;
                 write!(

@@ -1,12 +1,13 @@
 //! The map of a frame file: against the independent implementation of the rules, and what is said and drawn.
 
-use brothanchor::map::{map, map_in, settings, Map, NoMap, NoRun, Run, MOST_FRAMES, RECORD};
+use brothanchor::map::{lists_of, map, map_in, settings, Lists, Map, NoMap, NoRun, Run, MOST_FRAMES, RECORD};
 use brothanchor::pictures::left;
-use brothanchor::{parked, prepare, sizes, work, Refusal, Settings};
+use brothanchor::{parked, prepare, sizes, work, Refusal, Settings, LINK_RECORD};
 use oracle::descent::{self, Areas, Method, Record, Rows, Standing};
 use oracle::divergence::divergence;
 use oracle::frames::fetch;
 use oracle::lists::sample;
+use oracle::partner::{import, Link};
 use oracle::scatter::scatter;
 use oracle::take_out::take_out;
 use oracle::tree::Node;
@@ -38,6 +39,11 @@ fn rules_of(ours: &Settings) -> descent::Settings {
 impl Rules {
     /// Prepared from the file's starts or by a seed.
     fn begin(file: &[u8], seed: Option<u64>, iterations: usize) -> Rules {
+        Rules::begin_from(file, seed, iterations, None)
+    }
+
+    /// The same, or begun from a partner's list.
+    fn begin_from(file: &[u8], seed: Option<u64>, iterations: usize, list: Option<&[u8]>) -> Rules {
         let frames: Vec<_> = (0..file.len() / RECORD).filter_map(|i| fetch(file, i)).collect();
         let (n, ours) = (frames.len(), settings(frames.len(), iterations));
         let sizes = sizes(&ours).expect("good settings");
@@ -60,7 +66,10 @@ impl Rules {
             values: vec![0.0; n],
             indices: vec![0; n],
         };
-        let record = descent::prepare(rules_of(&ours), &table, &start, &mut areas, &mut rows).expect("a good run");
+        let record = match list {
+            None => descent::prepare(rules_of(&ours), &table, &start, &mut areas, &mut rows).expect("a good run"),
+            Some(list) => import(rules_of(&ours), &start, list, &mut areas).expect("a good list"),
+        };
         let copy = areas.positions.clone();
         Rules {
             record,
@@ -224,6 +233,117 @@ fn what_is_not_taken_out() {
     assert_eq!(refused(&(0..17).collect::<Vec<u32>>()), 10);
 }
 
+/// A ring of n frames, each linked with the next.
+fn ring(n: u32) -> Vec<u8> {
+    let mut links: Vec<Link> = Vec::new();
+    for from in 0..n {
+        let to = (from + 1) % n;
+        let weight = (0.5 / f64::from(n) / f64::from(1 + from % 3)).to_bits();
+        let link = Link { from, to, weight };
+        links.extend([link, link.mirror()]);
+    }
+    links.sort_by_key(|link| (link.from, link.to));
+    links.iter().flat_map(|link| link.bytes()).collect()
+}
+
+#[test]
+fn a_partners_list_gives_the_map_of_the_rules() {
+    for (frames, seed, iterations) in [(3, None, 300), (9, Some(4), 260), (24, None, 40)] {
+        let (file, list) = (few(frames), ring(frames as u32));
+        let run = Run::import_in(&file, seed, &list, iterations).expect("a good list");
+        assert_eq!(run.lists().as_ref(), Ok(&list), "what was loaded is written otherwise");
+        let ours = ended(run);
+        let (positions, figure) = Rules::begin_from(&file, seed, iterations, Some(&list)).end();
+        assert_eq!(bits(&ours.positions), bits(&positions), "{frames} frames");
+        assert_eq!(ours.divergence.map(f64::to_bits), Some(figure.to_bits()));
+        let own = map_in(&file, seed, iterations, |_, _| ()).expect("a good file");
+        assert!(own.positions != ours.positions, "the frames' own map is another");
+    }
+}
+
+#[test]
+fn a_runs_own_lists_give_its_map() {
+    for (frames, seed) in [(2, None), (9, None), (24, Some(3))] {
+        let file = few(frames);
+        let whole = map(&file, seed, |_, _| ()).expect("a good file");
+        let mut run = Run::begin(&file, seed).expect("a good file");
+        let list = run.lists().expect("a Barnes-Hut run");
+        for _ in 0..5 {
+            run.iterate().expect("a good run");
+            assert_eq!(run.lists().as_ref(), Ok(&list), "lists do not change");
+        }
+        let parked = run.park().expect("between two iterations");
+        let wanted = Lists {
+            frames,
+            links: list.len() / LINK_RECORD,
+            bytes: list.clone(),
+        };
+        assert_eq!(lists_of(&parked), Ok(wanted));
+        assert_eq!(
+            ended(Run::import(&file, seed, &list).expect("its own lists")),
+            whole,
+            "{frames} frames"
+        );
+    }
+}
+
+#[test]
+fn what_is_not_imported() {
+    let (file, list) = (few(9), ring(9));
+    let refused = |file: &[u8], list: &[u8]| Run::import(file, None, list).expect_err("bad");
+    let bad = |record, pair| NoRun::List {
+        refusal: Refusal(19),
+        record,
+        pair,
+    };
+    let mut lonely = list.clone();
+    lonely[3 * LINK_RECORD + 8] ^= 1;
+    // Record 3 is the link from 1 to 2; its mirror comes after it.
+    assert_eq!(refused(&file, &lonely), bad(3, Some([1, 2])));
+    let mut itself = list.clone();
+    itself[4] = 0;
+    assert_eq!(refused(&file, &itself), bad(0, Some([0, 0])));
+    assert_eq!(
+        refused(&file, &itself).to_string(),
+        "refused 19: a rule of the partner's list fails at a record (record 0, counted from 0, from 0 to 0)"
+    );
+    let tailed = [list.clone(), vec![0]].concat();
+    assert_eq!(refused(&file, &tailed), bad(18, None));
+    assert_eq!(
+        refused(&file, &tailed).to_string(),
+        "refused 19: a rule of the partner's list fails at a record (record 18, counted from 0, not whole)"
+    );
+    assert_eq!(refused(&few(8), &list), bad(1, Some([0, 8])), "a list of more frames");
+    let none = |number| NoRun::Frames(Refusal(number).into());
+    assert_eq!(refused(&[], &list), none(7));
+    assert_eq!(refused(&few(1), &list), none(9));
+    assert!(matches!(refused(&[0; 72], &list), NoRun::Frames(_)));
+    assert!(Run::import(&file, None, &[]).is_ok(), "no links at all");
+}
+
+#[test]
+fn lists_that_are_not_written() {
+    let file = few(9);
+    let parked = begun(&file, 3).park().expect("between two iterations");
+    let refused = |parked: &[u8]| lists_of(parked).expect_err("bad");
+    let at = |record| NoMap {
+        refusal: Refusal(16),
+        record: Some(record),
+    };
+    assert_eq!(refused(&parked[..40]), at(1));
+    assert_eq!(refused(&[]), at(0));
+    // An exact run: two frames, one feature, one component; perplexity and rate 1, 10 iterations.
+    let one = 1_f64.to_bits();
+    let words = [[0, 2, 1, 1], [one, one, 10, 0], [0; 4], [0; 4], [0; 4], [0; 4], [0; 4]];
+    let exact: Vec<u8> = words
+        .concat()
+        .iter()
+        .flat_map(|word: &u64| word.to_le_bytes())
+        .collect();
+    assert_eq!(refused(&exact), Refusal(17).into());
+    assert!(refused(&exact).to_string().ends_with("or an exact run has no lists"));
+}
+
 #[test]
 fn an_exact_run_goes_on_too() {
     let file = few(9);
@@ -330,7 +450,7 @@ fn what_is_refused() {
         none.to_string(),
         "refused 16: a record of the file is bad (record 3, counted from 0)"
     );
-    for number in 1..=18 {
+    for number in 1..=19 {
         assert!(!Refusal(number).meaning().starts_with("no known"));
     }
 }

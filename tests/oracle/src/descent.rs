@@ -65,7 +65,7 @@ fn is_positive(v: f64) -> bool {
 
 impl Settings {
     /// The number of the first of 1 to 6 that applies, or 7 for n or f.
-    fn early_fault(&self) -> Option<u64> {
+    pub(crate) fn early_fault(&self) -> Option<u64> {
         let tree = self.method == Method::BarnesHut;
         let tests = [
             (self.c == 0 || self.c > MOST_COMPONENTS, 1),
@@ -81,7 +81,7 @@ impl Settings {
     }
 
     /// 9 or 10.
-    fn late_fault(&self) -> Option<u64> {
+    pub(crate) fn late_fault(&self) -> Option<u64> {
         if self.n == 1 {
             return Some(9);
         }

@@ -14,6 +14,7 @@ pub mod gradient;
 pub mod lists;
 pub mod moved;
 pub mod park;
+pub mod partner;
 pub mod preparation;
 pub mod scatter;
 pub mod sigma;

@@ -10,6 +10,7 @@ pub mod far;
 pub mod frames;
 pub mod gradient;
 pub mod park;
+pub mod partner;
 pub mod preparation;
 pub mod sample;
 pub mod scatter;
@@ -74,6 +75,8 @@ pub fn all() -> Vec<List> {
         List::new("replay_park", "parks", &park::park_cases()),
         List::new("replay_park", "unparks", &park::unpark_cases()),
         List::new("replay_take_out", "takes", &take_out::cases()),
+        List::new("replay_import", "partner", &partner::import_cases()),
+        List::new("replay_import", "lists", &partner::write_cases()),
         List::new("bench_cases", "files", &bench::cases()),
     ]
 }

@@ -52,7 +52,7 @@ use Rattle.park.proofs.Parked as Parked′
 use Rattle.park.proofs.Parked.Laws as Parked″
 use Rattle.park.proofs.Values.{val-Parked, IsParked}
 use Rattle.run_entry.proofs.Values.{val-Fault, IsFault}
-use Rattle.park.proofs.CallsWordsFault.{Contract-words-fault, calls-words-fault-cccc}
+use Rattle.words_entry.proofs.CallsWordsFault.{Contract-words-fault, calls-words-fault-cccc}
 use Rattle.words_entry.proofs.words_fault.Symbol as words-fault-def
 use Rattle.words_entry.proofs.words_fault.Symbol.{name as #words-entry·words-fault}
 use Rattle.words_entry.proofs.words_fault.Met as words-fault-thm

@@ -1,5 +1,5 @@
 use Rattle.take_gone.proofs.Search.{empty-none}
-use Rattle.take_gone.proofs.Search.{Halving, halving-start, halving-within, halving-more, halving-found, halving-none}
+use Rattle.take_gone.proofs.Search.{Halving, halving-start, halving-inside, halving-within, halving-more, halving-found, halving-none}
 use mathlib.Core.Path.{refl, sym}
 use borrow.Author.Needs.{needs}
 use native.Mathlib.Omega.{arith}
@@ -34,10 +34,10 @@ loop-again : tie.Need-loop-again Inv-loop μ-loop
 loop-again c = halving-more (c .before .before .before .before .before .pre) (c .before .before .loop .inv) _ (c .before .loop-test .taken) (c .raised .ensures)
 
 mul-if2 : tie.Need-mul-if2 Inv-loop μ-loop
-mul-if2 c = omega (arith, c .before .loop .inv .inside, c .before .loop .inv .some)
+mul-if2 c = omega (arith, halving-inside (c .before .before .before .before .pre) (c .before .loop .inv))
 
 shared-slice-read-if2 : tie.Need-shared-slice-read-if2 Inv-loop μ-loop
-shared-slice-read-if2 c = omega (arith, c .before .before .loop .inv .inside, c .before .before .loop .inv .some)
+shared-slice-read-if2 c = omega (arith, halving-inside (c .before .before .before .before .before .pre) (c .before .before .loop .inv))
 
 returns-2 : tie.Need-returns-2 Inv-loop μ-loop
 returns-2 c = halving-found (c .before .before .before .before .before .before .pre) (c .before .before .before .loop .inv) (omega arith) (c .if2 .taken)

@@ -1,8 +1,9 @@
-//! `map FILE [--seed NUMBER] [--out FOLDER] [--until N] [--park RUN] [--every N] [--resume RUN] [--without PICTURES]
-//! [--progress]`: maps a frame file, as `help.txt` tells. What goes wrong gets one line on standard error.
+//! `map FILE [--seed NUMBER] [--out FOLDER] [--lists LIST] [--until N] [--park RUN] [--every N] [--resume RUN]
+//! [--without PICTURES] [--progress]`: maps a frame file; `map lists RUN LIST`: writes a parked run's lists; as `help.txt` tells.
+//! What goes wrong gets one line on standard error.
 
 use brothanchor::beside;
-use brothanchor::map::{self, Map, NoRun, Run, MOST_FRAMES, RECORD};
+use brothanchor::map::{self, Lists, Map, NoRun, Run, MOST_FRAMES, RECORD};
 use brothanchor::pictures::{self, Pictures};
 use std::fs::{self, File};
 use std::io::{ErrorKind, Read};
@@ -19,12 +20,18 @@ const BAD_WORDS: u8 = 2;
 /// What is said of pictures that are not as they have to be.
 const WITHOUT: &str = "--without takes pictures and ranges of them, as in 1281-1320,1377";
 
-/// More bytes than any parked run has.
+/// More bytes than any parked run has, and than any partner's list that is loaded.
 const MOST_PARKED: u64 = 1 << 30;
+const MOST_LISTED: u64 = 1 << 30;
+
+/// The word for writing a parked run's lists, and how it is used.
+const LISTS: &str = "lists";
+const LISTS_TAKES: &str = "lists takes a parked run and a file to write, as in lists RUN.parked OUT.lists";
 
 fn main() -> ExitCode {
     let said = match asked(std::env::args().skip(1)) {
-        Ok(Some(asked)) => run(&asked).map_err(|message| (message, NO_MAP)),
+        Ok(Some(Job::Map(asked))) => run(&asked).map_err(|message| (message, NO_MAP)),
+        Ok(Some(Job::Lists { run, out })) => write_lists(&run, &out).map_err(|message| (message, NO_MAP)),
         Ok(None) => Ok(HELP.to_string()),
         Err(message) => Err((format!("{message} (./map --help explains)"), BAD_WORDS)),
     };
@@ -42,10 +49,21 @@ fn main() -> ExitCode {
 
 /// What the command line asks for.
 #[derive(Debug, PartialEq)]
+enum Job {
+    /// A map, or a part of the way to one.
+    Map(Asked),
+    /// A parked run's lists, for a partner.
+    Lists { run: PathBuf, out: PathBuf },
+}
+
+/// What a map is made of.
+#[derive(Debug, PartialEq)]
 struct Asked {
     file: PathBuf,
     seed: Option<u64>,
     out: PathBuf,
+    /// Begins from this partner's list.
+    lists: Option<PathBuf>,
     /// Stops after so many iterations.
     until: Option<u64>,
     /// Where the run is parked, and after how many iterations each time while it goes.
@@ -59,20 +77,25 @@ struct Asked {
 }
 
 /// The words of the command line; nothing where they ask for help.
-fn asked(words: impl Iterator<Item = String>) -> Result<Option<Asked>, String> {
+fn asked(words: impl Iterator<Item = String>) -> Result<Option<Job>, String> {
+    let mut words = words.peekable();
+    let progress = words.next_if(|word| word == "--progress").is_some();
+    if words.next_if(|word| word == LISTS).is_some() {
+        return lists_asked(words);
+    }
     let mut asked = Asked {
         file: PathBuf::new(),
         seed: None,
         out: PathBuf::from("maps"),
+        lists: None,
         until: None,
         park: None,
         every: None,
         resume: None,
         without: None,
-        progress: false,
+        progress,
     };
     let mut file = None;
-    let mut words = words;
     while let Some(word) = words.next() {
         match word.as_str() {
             "--help" | "-h" => return Ok(None),
@@ -84,6 +107,14 @@ fn asked(words: impl Iterator<Item = String>) -> Result<Option<Asked>, String> {
                 let every = number(words.next()).filter(|&every| every > 0);
                 asked.every = Some(every.ok_or("--every takes a number of iterations from 1 on")?);
             }
+            "--lists" => {
+                asked.lists = Some(
+                    words
+                        .next()
+                        .map(PathBuf::from)
+                        .ok_or("--lists takes a partner's list")?,
+                )
+            }
             "--park" => asked.park = Some(words.next().map(PathBuf::from).ok_or("--park takes a file to write")?),
             "--resume" => asked.resume = Some(words.next().map(PathBuf::from).ok_or("--resume takes a parked run")?),
             "--without" => asked.without = Some(pictures_of(words.next()).ok_or(WITHOUT)?),
@@ -94,7 +125,23 @@ fn asked(words: impl Iterator<Item = String>) -> Result<Option<Asked>, String> {
     }
     asked.file = file.ok_or("no frame file is named")?;
     together(&asked)?;
-    Ok(Some(asked))
+    Ok(Some(Job::Map(asked)))
+}
+
+/// The words after `lists`; nothing where they ask for help.
+fn lists_asked(words: impl Iterator<Item = String>) -> Result<Option<Job>, String> {
+    let words: Vec<String> = words.filter(|word| word != "--progress").collect();
+    if words.iter().any(|word| word == "--help" || word == "-h") {
+        return Ok(None);
+    }
+    match &words[..] {
+        _ if words.iter().any(|word| word.starts_with('-')) => Err(LISTS_TAKES.to_string()),
+        [run, out] => Ok(Some(Job::Lists {
+            run: PathBuf::from(run),
+            out: PathBuf::from(out),
+        })),
+        _ => Err(LISTS_TAKES.to_string()),
+    }
 }
 
 fn number(word: Option<String>) -> Option<u64> {
@@ -123,6 +170,16 @@ fn together(asked: &Asked) -> Result<(), &'static str> {
             resume: Some(_),
             ..
         } => Err("--seed starts a run and --resume goes on with one, so not both"),
+        Asked {
+            lists: Some(_),
+            resume: Some(_),
+            ..
+        } => Err("--lists starts a run and --resume goes on with one, so not both"),
+        Asked {
+            lists: Some(_),
+            without: Some(_),
+            ..
+        } => Err("--lists tells of all frames and --without begins with fewer, so not both: park the run first"),
         _ => Ok(()),
     }
 }
@@ -205,15 +262,52 @@ fn begin(asked: &Asked) -> Result<Begun, String> {
 /// A run of all frames of a file, prepared or read back.
 fn whole(asked: &Asked, bytes: &[u8]) -> Result<Run, String> {
     let name = asked.file.display();
-    let path = match &asked.resume {
-        Some(path) => path,
-        None => return Run::begin(bytes, asked.seed).map_err(|none| format!("{name}: {none}")),
+    let (path, begun) = match (&asked.resume, &asked.lists) {
+        (None, None) => return Run::begin(bytes, asked.seed).map_err(|none| format!("{name}: {none}")),
+        (Some(path), _) => {
+            let parked = read(path, MOST_PARKED).map_err(|error| fault(path, error))?;
+            (path, Run::resume(bytes, &parked))
+        }
+        (None, Some(path)) => {
+            let list = read(path, MOST_LISTED).map_err(|error| fault(path, error))?;
+            if list.len() as u64 > MOST_LISTED {
+                return Err(format!("{}: longer than any list that is loaded", path.display()));
+            }
+            (path, Run::import(bytes, asked.seed, &list))
+        }
     };
-    let parked = read(path, MOST_PARKED).map_err(|error| fault(path, error))?;
-    Run::resume(bytes, &parked).map_err(|none| match none {
+    begun.map_err(|none| match none {
         NoRun::Frames(_) => format!("{name}: {none}"),
         _ => format!("{}: {none}", path.display()),
     })
+}
+
+/// Writes a parked run's lists; what there is to say of them. The file there is the one before or the new one, and never half
+/// of it.
+fn write_lists(run: &Path, out: &Path) -> Result<String, String> {
+    if same_file(run, out) {
+        return Err(format!(
+            "{}: this is the parked run, so write the lists to another file",
+            out.display()
+        ));
+    }
+    let parked = read(run, MOST_PARKED).map_err(|error| fault(run, error))?;
+    let made = map::lists_of(&parked).map_err(|none| format!("{}: {none}", run.display()))?;
+    beside::write(out, &made.bytes).map_err(|error| fault(out, error))?;
+    let Lists { frames, links, .. } = made;
+    Ok(format!(
+        "{}: {frames} frames, {links} links\nthe lists: {}\n",
+        run.display(),
+        out.display()
+    ))
+}
+
+/// Whether both are one file that is there.
+fn same_file(one: &Path, other: &Path) -> bool {
+    match (fs::canonicalize(one), fs::canonicalize(other)) {
+        (Ok(one), Ok(other)) => one == other,
+        _ => false,
+    }
 }
 
 /// What there is to say of the parked run; and of its frame file, which is written first where frames were taken out.
@@ -310,8 +404,18 @@ fn write(made: &Map, asked: &Asked) -> Result<(PathBuf, PathBuf), String> {
 mod tests {
     use super::*;
 
-    fn of(words: &str) -> Result<Option<Asked>, String> {
+    fn job(words: &str) -> Result<Option<Job>, String> {
         asked(words.split_whitespace().map(String::from))
+    }
+
+    /// The words of a map.
+    fn of(words: &str) -> Result<Option<Asked>, String> {
+        job(words).map(|job| {
+            job.map(|job| match job {
+                Job::Map(asked) => asked,
+                Job::Lists { .. } => panic!("no map: {words}"),
+            })
+        })
     }
 
     #[test]
@@ -320,6 +424,7 @@ mod tests {
             file: PathBuf::from("disc.frames"),
             seed: Some(3),
             out: PathBuf::from("there"),
+            lists: None,
             until: Some(40),
             park: Some(PathBuf::from("disc.parked")),
             every: Some(10),
@@ -337,6 +442,33 @@ mod tests {
         let resumed = of("--resume a.parked disc.frames --park a.parked").expect("a file");
         let resumed = resumed.expect("no help");
         assert_eq!(resumed.resume, resumed.park);
+        let from = of("--lists a.lists disc.frames --seed 3 --until 4 --park a.parked").expect("a file");
+        assert_eq!(from.expect("no help").lists, Some(PathBuf::from("a.lists")));
+    }
+
+    #[test]
+    fn the_word_lists() {
+        let wanted = Job::Lists {
+            run: PathBuf::from("a.parked"),
+            out: PathBuf::from("a.lists"),
+        };
+        assert_eq!(job("--progress lists a.parked a.lists"), job("lists a.parked a.lists"));
+        assert_eq!(job("lists a.parked a.lists"), Ok(Some(wanted)));
+        assert_eq!(job("lists a.parked --help"), Ok(None));
+        for words in [
+            "lists",
+            "lists a.parked",
+            "lists a.parked a.lists b.lists",
+            "lists a.parked a.lists --seed 3",
+            "lists --out there a.parked a.lists",
+        ] {
+            assert_eq!(job(words), Err(LISTS_TAKES.to_string()), "{words}");
+        }
+        // Elsewhere it is a name as any other.
+        assert_eq!(
+            job("disc.frames lists"),
+            Err("one frame file at a time, so not lists too".to_string())
+        );
     }
 
     #[test]
@@ -347,6 +479,8 @@ mod tests {
         for option in [
             "--seed NUMBER",
             "--out FOLDER",
+            "--lists PARTNER.lists",
+            "./map lists RUN.parked OUT.lists",
             "--until N",
             "--park RUN.parked",
             "--every N",
@@ -394,6 +528,15 @@ mod tests {
             (
                 "disc.frames --seed 3 --resume a",
                 "--seed starts a run and --resume goes on with one, so not both",
+            ),
+            ("disc.frames --lists", "--lists takes a partner's list"),
+            (
+                "disc.frames --lists a.lists --resume a",
+                "--lists starts a run and --resume goes on with one, so not both",
+            ),
+            (
+                "disc.frames --without 7 --lists a.lists",
+                "--lists tells of all frames and --without begins with fewer, so not both: park the run first",
             ),
             (
                 "disc.frames other.frames",

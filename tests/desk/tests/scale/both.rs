@@ -157,7 +157,7 @@ pub fn fault_words(fault: descent::Fault) -> (u64, u64) {
     }
 }
 
-fn settings_of(words: &[u64]) -> descent::Settings {
+pub fn settings_of(words: &[u64]) -> descent::Settings {
     descent::Settings {
         n: words[0] as usize,
         f: words[1] as usize,

@@ -32,7 +32,7 @@ fn our_side(record: &descent::Record, areas: &descent::Areas) -> Both {
     }
 }
 
-fn our_areas(areas: &descent::Areas) -> Areas {
+pub fn our_areas(areas: &descent::Areas) -> Areas {
     Areas {
         positions: areas.positions.clone(),
         increments: areas.increments.clone(),
@@ -132,7 +132,7 @@ fn small(random: &mut Random, method: descent::Method, c: usize, standing: Stand
 }
 
 /// Other contents in the record and all areas, each so many elements longer.
-fn lent(like: &Areas, more: usize) -> Both {
+pub fn lent(like: &Areas, more: usize) -> Both {
     let values = |area: &[f64]| vec![f64::from_bits(0x7ff0_0000_0000_0abc); area.len() + more];
     let numbers = |area: &[u32]| vec![0x4000_0000; area.len() + more];
     Both {

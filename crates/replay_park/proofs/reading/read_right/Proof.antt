@@ -119,8 +119,8 @@ plus-requires-6 c κs = search needs
 same-state-requires : tie.Need-same-state-requires
 same-state-requires c κs = search needs
 
-same-lists-requires : tie.Need-same-lists-requires
-same-lists-requires c κs = search needs
+same-rest-requires : tie.Need-same-rest-requires
+same-rest-requires c κs = search needs
 
 word-at-requires : tie.Need-word-at-requires
 word-at-requires c κs = search needs
@@ -185,7 +185,7 @@ read-right-spec =
     wanted-requires
     plus-requires-6
     same-state-requires
-    same-lists-requires
+    same-rest-requires
     word-at-requires
     plus-requires-7
     same-told-requires

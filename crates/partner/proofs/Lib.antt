@@ -1,0 +1,4 @@
+pub mod Fine
+pub mod Mirrors
+pub mod Judged
+pub mod Accepted

@@ -1,0 +1,2 @@
+pub mod Partner
+pub mod Rules

@@ -1,0 +1,49 @@
+use Rattle.partner_write.specs.Write.{listsNumber}
+use borrow.Author.Needs.{needs}
+use Rattle.partner_write.proofs.number.Statement.{statement}
+use Rattle.partner_write.proofs.number.Tie as tie
+
+enum-told : tie.Need-enum-told
+enum-told c = search needs
+
+enum-told-2 : tie.Need-enum-told-2
+enum-told-2 c = search needs
+
+enum-told-3 : tie.Need-enum-told-3
+enum-told-3 c = search needs
+
+enum-known-a : tie.Need-enum-known-a
+enum-known-a c = search needs
+
+fault-number-requires : tie.Need-fault-number-requires
+fault-number-requires c κs = search needs
+
+returns : tie.Need-returns
+unfolding listsNumber
+returns c = rw (c .enum-told .given .1)
+
+returns-2 : tie.Need-returns-2
+unfolding listsNumber
+returns-2 c = rw (c .enum-told2 .given .1)
+
+returns-3 : tie.Need-returns-3
+unfolding listsNumber
+returns-3 c = rw (c .enum-told3 .given .1)
+
+returns-4 : tie.Need-returns-4
+unfolding listsNumber
+returns-4 c = rw (c .before .before .a .given .1) (c .fault-number .ensures)
+
+pub number-spec : {M : Type 1} → statement M
+number-spec =
+    tie.close
+    (tie.spec
+    enum-told
+    enum-told-2
+    enum-told-3
+    enum-known-a
+    fault-number-requires
+    returns
+    returns-2
+    returns-3
+    returns-4)

@@ -1,0 +1,76 @@
+use Prim.Native.Nat.{_+_, _-_, _*_}
+use Rattle.partner_write.specs.Write.{linkAt}
+use Rattle.partner_write.proofs.Laws.{RowsPut, rows-put-start, rows-put-done, link-more, link-size}
+use borrow.Author.Needs.{needs}
+use native.Mathlib.Omega.{arith}
+use Rattle.partner_write.proofs.put_list.Statement.{statement}
+use Rattle.partner_write.proofs.put_list.Tie as tie
+
+abbrev Inv-loop : tie.InvT-loop
+Inv-loop target₀ weights indices from a k t₀ target t = RowsPut (linkAt weights indices from a) (16 * a) k target₀ t target
+
+abbrev μ-loop : tie.MeasureT-loop
+μ-loop target₀ weights indices from a k t₀ target t = k - t
+
+loop-holds : tie.Need-loop-holds Inv-loop μ-loop
+loop-holds c = rows-put-start
+
+add-p : tie.Need-add-p Inv-loop μ-loop
+add-p c = omega (arith, c .loop-test .taken, c .before .before .before .before .before .pre, c .before .before .before .before .before .good)
+
+mul-to : tie.Need-mul-to Inv-loop μ-loop
+mul-to c = omega (arith, c .loop-test .taken, c .before .before .before .before .before .pre)
+
+shared-slice-read-to : tie.Need-shared-slice-read-to Inv-loop μ-loop
+shared-slice-read-to c = omega (arith, c .before .loop-test .taken, c .before .before .before .before .before .before .pre)
+
+cast-to : tie.Need-cast-to Inv-loop μ-loop
+cast-to c = omega (arith, c .shared-slice-known3 .given (c .before .before .before .before .before .before .args .a + c .before .before .loop .t))
+
+mul-put-link : tie.Need-mul-put-link Inv-loop μ-loop
+mul-put-link c = omega (arith, c .before .before .loop-test .taken, c .before .before .before .before .before .before .before .pre, c .before .before .before .before .before .before .before .good)
+
+mul-put-link-2 : tie.Need-mul-put-link-2 Inv-loop μ-loop
+mul-put-link-2 c = omega (arith, c .before .before .loop-test .taken, c .before .before .before .before .before .before .before .pre)
+
+shared-slice-read-put-link : tie.Need-shared-slice-read-put-link Inv-loop μ-loop
+shared-slice-read-put-link c = omega (arith, c .before .before .before .loop-test .taken, c .before .before .before .before .before .before .before .before .pre)
+
+put-link-requires : tie.Need-put-link-requires Inv-loop μ-loop
+put-link-requires c κs = omega (arith, c .before .before .before .loop-test .taken, c .before .before .before .before .before .before .before .before .pre, c .before .before .before .before .loop .inv .size)
+
+add-t : tie.Need-add-t Inv-loop μ-loop
+add-t c = search needs
+
+loop-less : tie.Need-loop-less Inv-loop μ-loop
+loop-less c = search needs
+
+loop-again : tie.Need-loop-again Inv-loop μ-loop
+loop-again c = link-more (c .before .before .before .before .before .before .before .before .before .before .before .args .a) (c .before .before .before .before .before .before .before .loop .inv) (c .before .before .before .before .before .before .loop-test .taken) (c .before .before .before .before .before .before .before .before .before .before .before .pre .2) (λ j. link-size _ _ _) (c .before .before .put-link .kept .0) (c .before .before .put-link .ensures)
+
+same-length : tie.Need-same-length Inv-loop μ-loop
+same-length c = c .before .loop .inv .size
+
+returns : tie.Need-returns Inv-loop μ-loop
+returns c = rows-put-done (c .before .loop .inv) (c .loop-test .left)
+
+pub put-list-spec : {M : Type 1} → statement M
+put-list-spec =
+    tie.close
+    (tie.spec
+    Inv-loop
+    μ-loop
+    loop-holds
+    add-p
+    mul-to
+    shared-slice-read-to
+    cast-to
+    mul-put-link
+    mul-put-link-2
+    shared-slice-read-put-link
+    put-link-requires
+    add-t
+    loop-less
+    loop-again
+    same-length
+    returns)

@@ -1,0 +1,28 @@
+// What a case of a run's areas lends and compares, for the replays: areas of values by their bits and of numbers, files and targets, by value.
+pub mod bytes;
+pub mod lengths;
+pub mod values;
+pub mod wanted;
+
+use tree_node::Cell;
+
+pub fn both(a: bool, b: bool) -> bool {
+    if a {
+        return b;
+    }
+    false
+}
+
+// Nodes of zeros.
+pub fn empty_cells() -> [Cell; 4] {
+    let zero = [0.0; 3];
+    let v = Cell {
+        centre: zero,
+        half: zero,
+        mass: zero,
+        count: 0,
+        first: 0,
+        leaf: 0,
+    };
+    [v; 4]
+}
