@@ -1,0 +1,3 @@
+pub mod Signed
+pub mod Before
+pub mod Places
