@@ -1,7 +1,12 @@
 // Files and targets, byte by byte: the words of a list hold them, filled up with zeros to whole words.
 use replay::areas::plus;
 use replay::word_at;
-ghost use Prim.Native.Nat.{_≤_};
+ghost use mathlib.Core.Path.{_≡_};
+ghost use mathlib.Core.Bool.{_||_};
+ghost use Prim.Native.Nat.{_<_, _≤_};
+ghost use lib.Dec.{eqb, ltb};
+ghost use Rattle.laws.specs.Area.{num};
+ghost use Rattle.replay_areas.specs.Said.{byteMark, listedByte, marksStay, fileStands};
 
 // How many words so many bytes take.
 pub fn words_of(bytes: usize) -> usize
@@ -40,7 +45,9 @@ pub fn marked_target() -> [u8; 1408] {
 }
 
 // What byte i of a target of m bytes is listed as: zeros follow the last.
-fn listed(target: [u8; 1408], m: usize, i: usize) -> u8 {
+fn listed(target: [u8; 1408], m: usize, i: usize) -> u8
+    ensures { λ r. ⌜ r ≡ listedByte target m i ⌝ }
+{
     if i < m {
         if i < 1408 {
             return target[i];
@@ -64,14 +71,25 @@ pub fn same_target(target: [u8; 1408], m: usize, list: &[u8], a: usize) -> bool
     true
 }
 
+// Whether byte i is one of the first m, or has its mark.
+fn keeps_mark(target: [u8; 1408], m: usize, i: usize) -> bool
+    requires { ⌜ i < 1408 ⌝ }
+    ensures { λ r. ⌜ r ≡ (ltb i m || eqb (num target i) (byteMark i)) ⌝ }
+{
+    if i < m {
+        return true;
+    }
+    target[i] == (i % 251 + 1) as u8
+}
+
 // Past the first m bytes the target has its marks.
-pub fn still_marked(target: [u8; 1408], m: usize) -> bool {
+pub fn still_marked(target: [u8; 1408], m: usize) -> bool
+    ensures { λ r. ⌜ r ≡ marksStay target m ⌝ }
+{
     let mut i: usize = 0;
     while i < 1408 {
-        if i >= m {
-            if target[i] != (i % 251 + 1) as u8 {
-                return false;
-            }
+        if !keeps_mark(target, m, i) {
+            return false;
         }
         i += 1;
     }
@@ -79,7 +97,9 @@ pub fn still_marked(target: [u8; 1408], m: usize) -> bool {
 }
 
 // Whether the target's first bytes are the file.
-pub fn same_file(file: &[u8], target: [u8; 1408]) -> bool {
+pub fn same_file(file: &[u8], target: [u8; 1408]) -> bool
+    ensures { λ r. ⌜ r ≡ fileStands (now (file .entry)) target ⌝ }
+{
     let m = file.len();
     let mut i: usize = 0;
     while i < m {

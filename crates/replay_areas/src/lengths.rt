@@ -1,7 +1,9 @@
 // How long the areas of a case are.
 use replay::areas::plus;
 use replay::word_at;
+ghost use mathlib.Core.Path.{_≡_};
 ghost use Prim.Native.Nat.{_≤_};
+ghost use Rattle.replay_areas.specs.Said.{placesOf};
 
 // How long each area is, from positions to nodes.
 pub struct Lengths {
@@ -54,7 +56,9 @@ pub struct Places {
 }
 
 // The areas follow each other from word a on.
-pub fn places_from(l: Lengths, a: usize) -> Places {
+pub fn places_from(l: Lengths, a: usize) -> Places
+    ensures { λ r. ⌜ r ≡ placesOf l a ⌝ }
+{
     let increments = plus(a, l.positions);
     let gains = plus(increments, l.increments);
     let affinities = plus(gains, l.gains);

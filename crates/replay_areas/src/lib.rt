@@ -4,9 +4,13 @@ pub mod lengths;
 pub mod values;
 pub mod wanted;
 
+ghost use mathlib.Core.Path.{_≡_};
+ghost use mathlib.Core.Bool.{_&&_};
 use tree_node::Cell;
 
-pub fn both(a: bool, b: bool) -> bool {
+pub fn both(a: bool, b: bool) -> bool
+    ensures { λ r. ⌜ r ≡ (a && b) ⌝ }
+{
     if a {
         return b;
     }

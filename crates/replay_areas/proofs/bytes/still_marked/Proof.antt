@@ -1,28 +1,34 @@
-use Prim.Native.Nat.{_≤_, _-_}
+use Prim.Native.Nat.{_-_, _≤_}
+use mathlib.Core.Path.{_≡_, sym, _∙_}
+use mathlib.Core.Bool.{true, _||_}
+use borrow.Author.Tests.{not-true, not-false}
+use lib.Dec.{eqb, ltb}
+use Rattle.replay_areas.specs.Said.{byteMark}
+use Rattle.laws.proofs.Every.{every-none, every-more, every-no, every-done}
+use Rattle.laws.specs.Area.{num}
+use Rattle.laws.specs.Loops.{every}
 use borrow.Author.Needs.{needs}
+use native.Mathlib.Omega.{arith}
 use Rattle.replay_areas.proofs.bytes.still_marked.Statement.{statement}
 use Rattle.replay_areas.proofs.bytes.still_marked.Tie as tie
+use Rattle.replay_areas.proofs.bytes.still_marked.Reads as reads
+use Rattle.replay_areas.proofs.bytes.still_marked.Lts as lts
+use Rattle.replay_areas.proofs.bytes.keeps_mark.Reads as keeps-mark-reads
 
 abbrev Inv-loop : tie.InvT-loop
-Inv-loop m target i₀ i = i ≤ 1408
+Inv-loop target m i₀ i = (every (λ t. ltb t m || eqb (num target t) (byteMark t)) i ≡ true) × (i ≤ 1408)
 
 abbrev μ-loop : tie.MeasureT-loop
-μ-loop m target i₀ i = 1408 - i
+μ-loop target m i₀ i = 1408 - i
 
 loop-holds : tie.Need-loop-holds Inv-loop μ-loop
-loop-holds c = search needs
+loop-holds c = (every-none _, omega arith)
 
-array-read-if2 : tie.Need-array-read-if2 Inv-loop μ-loop
-array-read-if2 c = search needs
-
-add-if2 : tie.Need-add-if2 Inv-loop μ-loop
-add-if2 c = search needs
-
-cast-if2 : tie.Need-cast-if2 Inv-loop μ-loop
-cast-if2 c = search needs
+keeps-mark-requires : tie.Need-keeps-mark-requires Inv-loop μ-loop
+keeps-mark-requires c κs = c .loop-test .taken
 
 returns : tie.Need-returns Inv-loop μ-loop
-returns c = search needs
+returns c = sym (every-no _ _ (c .before .before .before .loop .i) (c .before .before .loop-test .taken) (sym (c .before .keeps-mark .ensures) ∙ not-true _ (c .if1 .taken)))
 
 add-i : tie.Need-add-i Inv-loop μ-loop
 add-i c = search needs
@@ -31,10 +37,10 @@ loop-less : tie.Need-loop-less Inv-loop μ-loop
 loop-less c = search needs
 
 loop-again : tie.Need-loop-again Inv-loop μ-loop
-loop-again c = search needs
+loop-again c = (every-more _ _ (c .before .before .before .loop .inv .0) (sym (c .before .keeps-mark .ensures) ∙ not-false _ (c .if1 .left)), omega (arith, c .before .before .loop-test .taken))
 
 returns-2 : tie.Need-returns-2 Inv-loop μ-loop
-returns-2 c = search needs
+returns-2 c = every-done _ _ _ (c .before .loop .inv .0) (c .before .loop .inv .1) (c .loop-test .left)
 
 pub still-marked-spec : {M : Type 1} → statement M
 still-marked-spec =
@@ -43,9 +49,7 @@ still-marked-spec =
     Inv-loop
     μ-loop
     loop-holds
-    array-read-if2
-    add-if2
-    cast-if2
+    keeps-mark-requires
     returns
     add-i
     loop-less
