@@ -6,7 +6,8 @@ ghost use mathlib.Core.Bool.{_||_};
 ghost use Prim.Native.Nat.{_<_, _≤_};
 ghost use lib.Dec.{eqb, ltb};
 ghost use Rattle.laws.specs.Area.{num};
-ghost use Rattle.replay_areas.specs.Said.{byteMark, listedByte, marksStay, fileStands};
+ghost use Rattle.laws.specs.Joined.{each};
+ghost use Rattle.replay_areas.specs.Said.{listByte, byteMark, listedByte, targetStands, marksStay, fileStands};
 
 // How many words so many bytes take.
 pub fn words_of(bytes: usize) -> usize
@@ -17,13 +18,17 @@ pub fn words_of(bytes: usize) -> usize
 }
 
 // Byte i from word a on; 0 past the list's end.
-fn byte_at(list: &[u8], a: usize, i: usize) -> u8 {
+fn byte_at(list: &[u8], a: usize, i: usize) -> u8
+    ensures { λ r. ⌜ r ≡ listByte (now (list .entry)) a i ⌝ }
+{
     let w = word_at(list, plus(a, i / 8));
     ((w >> (8 * (i % 8))) % 256) as u8
 }
 
 // The bytes from word a on: as many as there is room for, of which a case lends those that are its own.
-pub fn bytes_at(list: &[u8], a: usize) -> [u8; 1408] {
+pub fn bytes_at(list: &[u8], a: usize) -> [u8; 1408]
+    ensures { λ r. ⌜ r ≡ each (listByte (now (list .entry)) a) 1408 ⌝ }
+{
     let mut bytes = [0u8; 1408];
     let mut i: usize = 0;
     while i < 1408 {
@@ -34,7 +39,9 @@ pub fn bytes_at(list: &[u8], a: usize) -> [u8; 1408] {
 }
 
 // A target before a call: byte i is i mod 251 and one.
-pub fn marked_target() -> [u8; 1408] {
+pub fn marked_target() -> [u8; 1408]
+    ensures { λ r. ⌜ r ≡ each byteMark 1408 ⌝ }
+{
     let mut bytes = [0u8; 1408];
     let mut i: usize = 0;
     while i < 1408 {
@@ -59,8 +66,9 @@ fn listed(target: [u8; 1408], m: usize, i: usize) -> u8
 // The words from a on hold the first m bytes of the target, and nothing else.
 pub fn same_target(target: [u8; 1408], m: usize, list: &[u8], a: usize) -> bool
     requires { ⌜ m ≤ 1408 ⌝ }
+    ensures { λ r. ⌜ r ≡ targetStands target m (now (list .entry)) a ⌝ }
 {
-    let end = 8 * words_of(m);
+    let end = 8 * ((m + 7) / 8);
     let mut i: usize = 0;
     while i < end {
         if listed(target, m, i) != byte_at(list, a, i) {

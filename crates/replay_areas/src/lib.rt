@@ -6,8 +6,11 @@ pub mod wanted;
 
 ghost use mathlib.Core.Path.{_≡_};
 ghost use mathlib.Core.Bool.{_&&_};
+ghost use lib.ListN.{replicate};
+ghost use Rattle.replay_areas.specs.Said.{emptyCell};
 use tree_node::Cell;
 
+// Whether both hold.
 pub fn both(a: bool, b: bool) -> bool
     ensures { λ r. ⌜ r ≡ (a && b) ⌝ }
 {
@@ -18,7 +21,9 @@ pub fn both(a: bool, b: bool) -> bool
 }
 
 // Nodes of zeros.
-pub fn empty_cells() -> [Cell; 4] {
+pub fn empty_cells() -> [Cell; 4]
+    ensures { λ r. ⌜ r ≡ replicate 4 emptyCell ⌝ }
+{
     let zero = [0.0; 3];
     let v = Cell {
         centre: zero,

@@ -1,22 +1,34 @@
-use Prim.Native.Nat.{_≤_, _-_}
+use Prim.Native.Nat.{_-_, _≤_}
+use mathlib.Core.Path.{_≡_, sym, _∙_}
+use mathlib.Core.Bool.{true}
+use borrow.Author.Tests.{eq-eqb, ne-eqb}
+use lib.Dec.{eqb}
+use Rattle.replay_areas.specs.Said.{listByte, listedByte}
+use Rattle.laws.proofs.Every.{every-none, every-more, every-no, every-done}
+use Rattle.laws.specs.Loops.{every}
 use borrow.Author.Needs.{needs}
+use native.Mathlib.Omega.{arith}
 use Rattle.replay_areas.proofs.bytes.same_target.Statement.{statement}
 use Rattle.replay_areas.proofs.bytes.same_target.Tie as tie
+use Rattle.replay_areas.proofs.bytes.same_target.Reads as reads
+use Rattle.replay_areas.proofs.bytes.same_target.Lts as lts
+use Rattle.replay_areas.proofs.bytes.byte_at.Reads as byte-at-reads
+use Rattle.replay_areas.proofs.bytes.listed.Reads as listed-reads
 
 abbrev Inv-loop : tie.InvT-loop
-Inv-loop target m list a end i₀ i = i ≤ end
+Inv-loop target m list a end i₀ i = (every (λ t. eqb (listedByte target m t) (listByte list a t)) i ≡ true) × (i ≤ end)
 
 abbrev μ-loop : tie.MeasureT-loop
 μ-loop target m list a end i₀ i = end - i
 
-words-of-requires : tie.Need-words-of-requires Inv-loop μ-loop
-words-of-requires c κs = search needs
+add-end : tie.Need-add-end Inv-loop μ-loop
+add-end c = search needs
 
 mul-end : tie.Need-mul-end Inv-loop μ-loop
 mul-end c = search needs
 
 loop-holds : tie.Need-loop-holds Inv-loop μ-loop
-loop-holds c = search needs
+loop-holds c = (every-none _, omega arith)
 
 listed-requires : tie.Need-listed-requires Inv-loop μ-loop
 listed-requires c κs = search needs
@@ -25,7 +37,7 @@ byte-at-requires : tie.Need-byte-at-requires Inv-loop μ-loop
 byte-at-requires c κs = search needs
 
 returns : tie.Need-returns Inv-loop μ-loop
-returns c = search needs
+returns c = sym (every-no _ _ (c .before .before .before .before .loop .i) (c .before .before .before .loop-test .taken) (ne-eqb _ _ (λ q. c .if1 .taken (c .before .before .listed .ensures ∙ q ∙ sym (c .before .byte-at .ensures)))))
 
 add-i : tie.Need-add-i Inv-loop μ-loop
 add-i c = search needs
@@ -34,10 +46,10 @@ loop-less : tie.Need-loop-less Inv-loop μ-loop
 loop-less c = search needs
 
 loop-again : tie.Need-loop-again Inv-loop μ-loop
-loop-again c = search needs
+loop-again c = (every-more _ _ (c .before .before .before .before .loop .inv .0) (eq-eqb _ _ (sym (c .before .before .listed .ensures) ∙ c .if1 .left ∙ c .before .byte-at .ensures)), omega (arith, c .before .before .before .loop-test .taken))
 
 returns-2 : tie.Need-returns-2 Inv-loop μ-loop
-returns-2 c = search needs
+returns-2 c = every-done _ _ _ (c .before .loop .inv .0) (c .before .loop .inv .1) (c .loop-test .left)
 
 pub same-target-spec : {M : Type 1} → statement M
 same-target-spec =
@@ -45,7 +57,7 @@ same-target-spec =
     (tie.spec
     Inv-loop
     μ-loop
-    words-of-requires
+    add-end
     mul-end
     loop-holds
     listed-requires
