@@ -3,7 +3,7 @@
  * Link libdesk.a (rt staticlib desk), for x86-64 Linux. All memory is lent by the caller; nothing is kept between calls.
  * An area is a pointer and its number of elements; an empty area may have any pointer. Areas of one call must not overlap.
  * A call that is refused at its entry changes nothing, but for the answer of a work call, of a divergence, of a parking, of a
- * reading, of a removal, of an import or of a writing of lists. Longer areas keep what lies past what is asked for.
+ * reading, of a removal, of an import, of a writing of lists or of a strip. Longer areas keep what lies past what is asked for.
  *
  * Refusal numbers (0: none)
  *   1  c is 0 or above 8
@@ -21,13 +21,15 @@
  *  13  the words are no settings or no record, or record and areas are not well formed
  *  14  the next point needs more nodes than the arena has left; with a longer arena the run goes on
  *  15  the step would give a value that is NaN or above 2^100 in magnitude; parking: a position, increment or gain is one;
- *      removal: a centred position would be one
+ *      removal: a centred position would be one; strip: a position is one
  *  16  a record of a frame file or of a parked run is bad
  *  17  no iteration has just ended, or the forces give a total of 0; parking and removal: a unit of an iteration is done, and not
- *      its last; writing lists: the run is exact and has none
+ *      its last; writing lists: the run is exact and has none; strip: the run has not ended
  *  18  removal: the list does not rise strictly or names a sample that there is not, or more links would be left than the lists
  *      of so many frames may have
  *  19  import: a rule of a partner's list fails at a record
+ *  20  strip, preparing and handing out: the settings are outside the profile, which is c 1, Barnes-Hut, an angle of at most 0.5 and
+ *      n at most 1024
  */
 
 /* What areas may hold: any bits, NaNs of every kind among them. A call tests whatever it goes by, so no contents can lead it
@@ -35,13 +37,14 @@
  * was. Pointers must fit their elements' alignment, and a pointer and its length must belong together.
  *
  * What a refused call writes:
- *   sizes, prepare, scatter, frame   nothing
+ *   sizes, prepare, prepare_strip,   nothing
+ *   scatter, frame
  *   frames                           with 16 the place of the bad record; with 12 nothing
  *   work, refused at its entry       (12, 13) the answer and nothing else; with an answer area that is too short nothing
  *   work, refused by a unit          (14, 15) all that the units before it wrote: record and memory are as after these units,
  *                                    which the answer counts, and the refused unit has changed nothing
  *   divergence, park, unpark,        the first word of the answer; with an answer area that is empty nothing
- *   take_out, import, lists
+ *   take_out, import, lists, strip
  * After 14 or 15 the run is still running, and the next call begins with the refused unit. After 14 it goes on where the nodes
  * are moved to a longer arena, those in use with their contents.
  *
@@ -131,6 +134,29 @@ uint32_t brothanchor_sizes(const uint64_t *settings, size_t settings_length, uin
  * words are no settings, before all else; then 1 to 12 in their order. A record area shorter than fourteen words is 12, as
  * any other area. Of the arena it is told the number of nodes, no more: preparation reads and writes none. */
 uint32_t brothanchor_prepare(
+    const uint64_t *settings, size_t settings_length,
+    const double *table, size_t table_length,
+    const double *start, size_t start_length,
+    double *positions, size_t positions_length,
+    double *increments, size_t increments_length,
+    double *gains, size_t gains_length,
+    double *affinities, size_t affinities_length,
+    uint32_t *indices, size_t indices_length,
+    uint32_t *offsets, size_t offsets_length,
+    double *forces, size_t forces_length,
+    double *row_values, size_t row_values_length,
+    uint32_t *row_indices, size_t row_indices_length,
+    size_t nodes_length,
+    uint64_t *record, size_t record_length);
+
+/* Prepares the run of a strip, of frames along one line: as brothanchor_prepare does, with one more test. Answers 0 or the number of
+ * the refusal; refused, nothing is changed. In this order:
+ *   13       the words are no settings
+ *   1 to 11  as of a preparation
+ *   20       the settings are outside the profile: c is not 1, the run is exact, the angle is above 0.5, or n is above 1024
+ *   12       an area is too short, as of a preparation, or the record's is shorter than fourteen words
+ * The record is that of any run: it is worked, parked, thinned and asked for its divergence as any other. */
+uint32_t brothanchor_prepare_strip(
     const uint64_t *settings, size_t settings_length,
     const double *table, size_t table_length,
     const double *start, size_t start_length,
@@ -362,6 +388,36 @@ uint32_t brothanchor_lists(
     const double *forces, size_t forces_length,
     const struct brothanchor_node *nodes, size_t nodes_length,
     uint8_t *target, size_t target_length,
+    uint64_t *answer, size_t answer_length);
+
+/* The frames of an ended run along one line. The first n words of order name the samples by rising position, equal positions by
+ * rising sample, where zeros of either sign are equal; each sample is named once. The first n values of gaps have for each of them
+ * the distance from the one before it: its position less that one's, as one subtraction, +0.0 for the first. (So the gap from 0.0 to
+ * -0.0 is -0.0.) It reads the record's words and the areas of a work call and changes none of them. Longer areas keep their tails.
+ * Any ended run within the profile is handed out, however it was prepared, and also where it was parked, read back or thinned.
+ *
+ * Answers 0, and writes the number of frames, n, to the first word of the answer; or the number of the refusal, and writes what comes
+ * with it there: with 13 what brothanchor_divergence tells, else 0. Refused, it writes nothing else. In this order:
+ *   12  the answer area is empty: nothing can be told
+ *   13  the words are no record (13 comes with a method that there is not, else 0); settings or counters are not well formed
+ *   12  an area is too short, as in a work call
+ *   13  the contents are not well formed
+ *   20  the settings are outside the profile: c is not 1, the run is exact, the angle is above 0.5, or n is above 1024
+ *   17  the run has not ended
+ *   15  one of the first n positions is NaN or above 2^100 in magnitude
+ *   12  the order or the gaps have fewer than n places */
+uint32_t brothanchor_strip(
+    const uint64_t *record, size_t record_length,
+    const double *positions, size_t positions_length,
+    const double *increments, size_t increments_length,
+    const double *gains, size_t gains_length,
+    const double *affinities, size_t affinities_length,
+    const uint32_t *indices, size_t indices_length,
+    const uint32_t *offsets, size_t offsets_length,
+    const double *forces, size_t forces_length,
+    const struct brothanchor_node *nodes, size_t nodes_length,
+    uint32_t *order, size_t order_length,
+    double *gaps, size_t gaps_length,
     uint64_t *answer, size_t answer_length);
 
 /* What a record says. The state is 3, the numbers are 0, where the words are no record. */

@@ -1,6 +1,6 @@
 """What the printed walks of functions that lend locals cite (as tests/walks/cited.py). within: that the count of a part that is lent is at most the array's length."""
 
-HOME = {'record_words::run_of': 'fault_words', 'record_words::run_fine': 'words_entry', 'fault_words::unread_fault': 'words_entry', 'answer_words::put_after': 'desk_work', 'answer_words::put_answer': 'desk_work', 'desk_work::host_work': 'desk', 'divergence::divergence': 'desk_divergence', 'desk_divergence::host_divergence': 'desk', 'desk_park::host_park': 'desk', 'desk_lists::host_lists': 'desk', 'desk_take::host_take_out': 'desk'}
+HOME = {'record_words::run_of': 'fault_words', 'record_words::run_fine': 'words_entry', 'fault_words::unread_fault': 'words_entry', 'answer_words::put_after': 'desk_work', 'answer_words::put_answer': 'desk_work', 'desk_work::host_work': 'desk', 'divergence::divergence': 'desk_divergence', 'desk_divergence::host_divergence': 'desk', 'desk_park::host_park': 'desk', 'desk_lists::host_lists': 'desk', 'desk_strip::host_strip': 'desk', 'desk_take::host_take_out': 'desk'}
 
 WALKS = {
     'lent_examples::put_in': dict(req={'put_cell': '(subst (λ (m : ℕ). i < m) (sym {len_own4}) ready)'}, returns=['e1']),
@@ -41,6 +41,13 @@ WALKS = {
         req={'put_listing': '(lists-word-room (storedOf words positions increments gains affinities indices offsets) (length forces) (nodesOf cells) target answer _ ln-answer r1 e1 no1)'},
         returns=['(mute-lists-said (storedOf words positions increments gains affinities indices offsets) (length forces) (nodesOf cells) target answer _ ln-answer r1 e1 yes1)', '(listing-said (storedOf words positions increments gains affinities indices offsets) (length forces) (nodesOf cells) target answer _ ln-answer r1 e1 no1 _ ln-forces r2 target2 e2 r3 answer3 e3)']),
     'desk::brothanchor_lists': dict(returns=['e1']),
+    'hand_out::hand_out': dict(uses=['Laws.{hand-asks, hand-said}'],
+        req={'hand_tested': '(hand-asks words positions increments gains affinities indices offsets forces cells _ _ _ _ _ ln-positions ln-increments ln-gains ln-affinities ln-forces r1 e1)'},
+        returns=['(hand-said words positions increments gains affinities indices offsets forces cells _ _ _ _ _ ln-positions ln-increments ln-gains ln-affinities ln-forces r1 e1 r2 order order2 gaps gaps2 e2)']),
+    'desk_strip::host_strip': dict(uses=['Laws.{mute-strip-said, strip-word-room, strip-said}'],
+        req={'put_handed': '(strip-word-room words (memory positions increments gains affinities indices offsets forces cells) order gaps answer _ ln-answer no1)'},
+        returns=['(mute-strip-said words (memory positions increments gains affinities indices offsets forces cells) order gaps answer _ ln-answer yes1)', '(strip-said words (memory positions increments gains affinities indices offsets forces cells) order gaps answer _ ln-answer no1 r1 order1 gaps1 e1 r2 answer2 e2)']),
+    'desk::brothanchor_strip': dict(returns=['e1']),
     'desk_take::host_take_out': dict(uses=['Laws.{unfit-told, told-room, record-long, taken-said}'],
         req={'run_of': '(record-long gone words (holdings positions increments gains affinities indices offsets forces table old) (nodesOf cells) answer _ ln-answer r1 e1 no1)', 'put_size': '(record-long gone words (holdings positions increments gains affinities indices offsets forces table old) (nodesOf cells) answer _ ln-answer r1 e1 no1)', 'put_taken': '(told-room gone words (holdings positions increments gains affinities indices offsets forces table old) (nodesOf cells) answer _ ln-answer r1 e1 no1)'},
         returns=['(unfit-told gone words (holdings positions increments gains affinities indices offsets forces table old) (nodesOf cells) answer _ ln-answer r1 e1 yes1 r2 answer2 e2)', '(taken-said gone words (holdings positions increments gains affinities indices offsets forces table old) (nodesOf cells) answer _ ln-answer r1 e1 no1 r3 e3 r4 own164 (holdings positions4 increments4 gains4 affinities4 indices4 offsets4 forces4 table4 old4) e4 words5 e5 r6 answer6 e6)']),
@@ -54,6 +61,7 @@ WALKS = {
     'replay_forces::lending::forces_in': dict(within='(ready .5)', uses=['Told.{forces-asks}'], req={'point_forces': '(forces-asks cells k₀ used positions weights indices offsets n c i forces ready)'}, returns=['e1']),
     'bench_mapping::work_on': dict(returns=['(ap (λ (w : Worked). w .answer) e1, ap (λ (w : Worked). w .left .memory .positions) e1)'], uses=['Rattle.run_budget.specs.Budget.{Worked}']),
     'replay_park::lending::park_in': dict(within='ready', returns=['e1']),
+    'replay_strip::lending::hand_in': dict(within='ready', returns=['e1']),
     'replay_descent::lending::work_lent': dict(within='ready', uses=['Told.{left-told}'], returns=['(left-told k₀ cells positions1 increments1 gains1 affinities indices offsets forces1 _ {own12} r1 own131 e1 {len_own13} r2 e2)']),
     'replay_take_out::lending::take_lent': dict(within='ready', uses=['Told.{took-told}'], returns=['(took-told (holdings positions1 increments1 gains1 affinities1 indices1 offsets1 forces1 table1 old1) _ {own14} r1 e1 r2 e2)']),
 }

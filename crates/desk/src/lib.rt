@@ -8,6 +8,7 @@ ghost use Rattle.desk_record.specs.Records.{hostSizes, saidOf};
 ghost use Rattle.frames.specs.Frames.{orZero};
 ghost use Rattle.desk_files.specs.Files.{hostFrames, hostFrame};
 ghost use Rattle.desk_prepare.specs.HostPrepare.{hostPrepared, hostPrepare};
+ghost use Rattle.desk_prepare_strip.specs.HostPrepareStrip.{hostPrepareStrip};
 ghost use Rattle.desk_work.specs.HostWork.{hostWorked, hostWork};
 ghost use Rattle.desk_divergence.specs.HostDivergence.{hostDivergence};
 ghost use lib.ListN.{length};
@@ -15,6 +16,7 @@ ghost use Rattle.tree_node.specs.Arena.{nodesOf};
 ghost use Rattle.parked.specs.Parked.{storedOf};
 ghost use Rattle.desk_lists.specs.HostLists.{hostListed, hostLists};
 ghost use Rattle.desk_park.specs.HostPark.{hostParked, hostPark};
+ghost use Rattle.desk_strip.specs.HostStrip.{hostHanded, hostStrip};
 ghost use Rattle.take_out.specs.TakeOut.{holdings};
 ghost use Rattle.desk_take.specs.HostTake.{hostTook, hostTake};
 ghost use Rattle.desk_unpark.specs.HostUnpark.{hostUnparked, hostUnpark};
@@ -28,10 +30,12 @@ use desk_import::host_import;
 use desk_lists::host_lists;
 use desk_park::host_park;
 use desk_prepare::host_prepare;
+use desk_prepare_strip::host_prepare_strip;
 use desk_record::host_iterations;
 use desk_record::host_sizes;
 use desk_record::host_state;
 use desk_record::host_units;
+use desk_strip::host_strip;
 use desk_take::host_take_out;
 use desk_unpark::host_unpark;
 use desk_work::host_work;
@@ -87,6 +91,73 @@ pub extern "C" fn brothanchor_prepare(
         ⌝ }
 {
     host_prepare(
+        settings,
+        table,
+        start,
+        positions,
+        increments,
+        gains,
+        affinities,
+        indices,
+        offsets,
+        forces,
+        row_values,
+        row_indices,
+        nodes,
+        record,
+    )
+}
+
+// Prepares a run along one line. Answers 0, or the number of the refusal; then nothing is changed.
+#[no_mangle]
+pub extern "C" fn brothanchor_prepare_strip(
+    settings: &[u64],
+    table: &[f64],
+    start: &[f64],
+    positions: &mut [f64],
+    increments: &mut [f64],
+    gains: &mut [f64],
+    affinities: &mut [f64],
+    indices: &mut [u32],
+    offsets: &mut [u32],
+    forces: &mut [f64],
+    row_values: &mut [f64],
+    row_indices: &mut [u32],
+    nodes: usize,
+    record: &mut [u64],
+) -> u32
+    ensures { λ k. ⌜
+        hostPrepared k
+        (now («record» .exit))
+        (lent
+        (now (positions .exit))
+        (now (increments .exit))
+        (now (gains .exit))
+        (now (affinities .exit))
+        (now (indices .exit))
+        (now (offsets .exit))
+        (now (forces .exit))
+        (now («row_values» .exit))
+        (now («row_indices» .exit)))
+        ≡ hostPrepareStrip
+        (now (settings .entry))
+        (now (table .entry))
+        (now (start .entry))
+        nodes
+        (lent
+        (now (positions .entry))
+        (now (increments .entry))
+        (now (gains .entry))
+        (now (affinities .entry))
+        (now (indices .entry))
+        (now (offsets .entry))
+        (now (forces .entry))
+        (now («row_values» .entry))
+        (now («row_indices» .entry)))
+        (now («record» .entry))
+        ⌝ }
+{
+    host_prepare_strip(
         settings,
         table,
         start,
@@ -363,6 +434,57 @@ pub extern "C" fn brothanchor_lists(
         forces,
         cells,
         target,
+        answer,
+    );
+    k
+}
+
+// Hands out the frames of an ended strip run along the line, with the gaps between them. Answers 0, or the number of the refusal; then order and gaps are not changed. Gaps are lent by their bits.
+#[no_mangle]
+pub extern "C" fn brothanchor_strip(
+    words: &[u64],
+    positions: &[f64],
+    increments: &[f64],
+    gains: &[f64],
+    affinities: &[f64],
+    indices: &[u32],
+    offsets: &[u32],
+    forces: &[f64],
+    cells: &[Cell],
+    order: &mut [u32],
+    gaps: &mut [u64],
+    answer: &mut [u64],
+) -> u32
+    ensures { λ k. ⌜
+        hostHanded k (now (order .exit)) (now (gaps .exit)) (now (answer .exit))
+        ≡ hostStrip
+        (now (words .entry))
+        (memory
+        (now (positions .entry))
+        (now (increments .entry))
+        (now (gains .entry))
+        (now (affinities .entry))
+        (now (indices .entry))
+        (now (offsets .entry))
+        (now (forces .entry))
+        (now (cells .entry)))
+        (now (order .entry))
+        (now (gaps .entry))
+        (now (answer .entry))
+        ⌝ }
+{
+    let k = host_strip(
+        words,
+        positions,
+        increments,
+        gains,
+        affinities,
+        indices,
+        offsets,
+        forces,
+        cells,
+        order,
+        gaps,
         answer,
     );
     k

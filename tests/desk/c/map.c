@@ -1,8 +1,10 @@
-/* Maps a frame file through include/brothanchor.h, as the wrapper's map program does: map FILE [SEED [FIRST LAST]].
+/* Maps a frame file through include/brothanchor.h, as the wrapper's map program does: map FILE [SEED [FIRST LAST | strip]].
  * Prints a line for each frame: picture, side, field, both coordinates by their bits; then how the run ended, and its divergence. Once
  * it is prepared its lists are written, it is forgotten, and another run is begun from these lists. On its way the run is parked,
- * forgotten and read back; then the frames of the pictures from FIRST to LAST are taken out. A seed that is no number, as -, is none. It is compiled as C and as C++, and calls every function of the header. A refusal ends it with its
- * number and where it came. */
+ * forgotten and read back; then the frames of the pictures from FIRST to LAST are taken out. A seed that is no number, as -, is none.
+ * With strip it puts the frames along one line: a line for each, with its place, picture, side, field, position and gap by their bits,
+ * and how the run ended. It is compiled as C and as C++, and calls every function of the header. A refusal ends it with its number and
+ * where it came. */
 #include <inttypes.h>
 #include <stdio.h>
 #include <stdlib.h>
@@ -297,6 +299,67 @@ static size_t thin(struct areas *a, const uint64_t *sizes, double *table, const 
     return n - count;
 }
 
+/* The run of a strip prepared by the first so many words of settings, with so many words for the record. */
+static uint32_t prepare_strip(struct areas *a, const uint64_t *settings, size_t given, const uint64_t *sizes, const double *table,
+                              const double *start, size_t words) {
+    const size_t n = (size_t)settings[BROTHANCHOR_N];
+    return brothanchor_prepare_strip(
+        settings, given, table, n * FEATURES, start, n * (size_t)settings[BROTHANCHOR_C],
+        a->positions, sizes[BROTHANCHOR_CELLS], a->increments, sizes[BROTHANCHOR_CELLS], a->gains, sizes[BROTHANCHOR_CELLS],
+        a->affinities, sizes[BROTHANCHOR_AFFINITIES], a->indices, sizes[BROTHANCHOR_INDICES],
+        a->offsets, sizes[BROTHANCHOR_OFFSETS], a->forces, sizes[BROTHANCHOR_FORCES],
+        a->row_values, sizes[BROTHANCHOR_ROWS], a->row_indices, sizes[BROTHANCHOR_ROWS],
+        sizes[BROTHANCHOR_NODES], a->record, words);
+}
+
+/* A handing out by the first so many words of the record, to an order and gaps of these lengths. */
+static uint32_t strip(const struct areas *a, const uint64_t *sizes, size_t words, uint32_t *order, size_t places, double *gaps,
+                      size_t values, uint64_t *answer, size_t length) {
+    return brothanchor_strip(
+        a->record, words,
+        a->positions, sizes[BROTHANCHOR_CELLS], a->increments, sizes[BROTHANCHOR_CELLS], a->gains, sizes[BROTHANCHOR_CELLS],
+        a->affinities, sizes[BROTHANCHOR_AFFINITIES], a->indices, sizes[BROTHANCHOR_INDICES],
+        a->offsets, sizes[BROTHANCHOR_OFFSETS], a->forces, sizes[BROTHANCHOR_FORCES],
+        a->nodes, sizes[BROTHANCHOR_NODES], order, places, gaps, values, answer, length);
+}
+
+/* Prepares the run of a strip, first as only C can ask for it and with settings of a map, which have two components. */
+static void begin_strip(struct areas *a, uint64_t *settings, uint64_t *sizes, const double *table, const double *start,
+                        const double *line) {
+    const size_t given = BROTHANCHOR_SETTINGS_WORDS, words = BROTHANCHOR_RECORD_WORDS;
+    uint64_t answer[2] = {5, 7};
+    refused("sizes", brothanchor_sizes(settings, given, sizes, BROTHANCHOR_SIZES_WORDS));
+    lend(a, sizes);
+    told("prepare_strip, eight words", prepare_strip(a, settings, given - 1, sizes, table, start, words), 13, answer, 5);
+    told("prepare_strip, a map", prepare_strip(a, settings, given, sizes, table, start, 0), 20, answer, 5);
+    settings[BROTHANCHOR_C] = 1;
+    refused("sizes", brothanchor_sizes(settings, given, sizes, BROTHANCHOR_SIZES_WORDS));
+    told("prepare_strip, thirteen words", prepare_strip(a, settings, given, sizes, table, line, words - 1), 12, answer, 5);
+    refused("prepare_strip", prepare_strip(a, settings, given, sizes, table, line, words));
+}
+
+/* Hands the frames of a run out once it has ended, before that as only C can ask for it; refused, order and gaps are left alone. */
+static void hand_out(struct areas *a, const uint64_t *sizes, size_t n, uint32_t *order, double *gaps) {
+    const size_t words = BROTHANCHOR_RECORD_WORDS;
+    uint64_t answer[2] = {5, 7};
+    told("strip, not at its end", strip(a, sizes, words, order, n, gaps, n, answer, 1), 17, answer, 0);
+    while (work(a, sizes, (uint32_t)(2 * n + 2)) == 0) continue;
+    answer[0] = 5;
+    told("strip, no answer", strip(a, sizes, words, order, n, gaps, n, answer, 0), 12, answer, 5);
+    told("strip, thirteen words", strip(a, sizes, words - 1, order, n, gaps, n, answer, 2), 13, answer, 0);
+    answer[0] = 5;
+    told("strip, a place short", strip(a, sizes, words, order, n - 1, gaps, n, answer, 2), 12, answer, 0);
+    answer[0] = 5;
+    told("strip, a gap short", strip(a, sizes, words, order, n, gaps, n - 1, answer, 1), 12, answer, 0);
+    for (size_t i = 0; i < n; i++) {
+        if (order[i] != 0 || bits(gaps[i]) != 0) {
+            fprintf(stderr, "a strip that was refused wrote place %zu\n", i);
+            exit(1);
+        }
+    }
+    told("strip", strip(a, sizes, words, order, n, gaps, n, answer, 2), 0, answer, n);
+}
+
 static size_t read_file(const char *name, uint8_t *file, size_t most) {
     FILE *in = fopen(name, "rb");
     size_t length;
@@ -322,19 +385,44 @@ static void rows(const uint8_t *file, size_t length, size_t n, const char *seed,
     }
 }
 
+/* How the run of n frames ended. */
+static void print_end(size_t n, const struct areas *a) {
+    static const char *const states[] = {"running", "stopped", "finished", "no record"};
+    printf("%zu frames, %s after %" PRIu64 " iterations (%" PRIu64 " units)\n", n,
+           states[brothanchor_state(a->record, BROTHANCHOR_RECORD_WORDS)],
+           brothanchor_iterations(a->record, BROTHANCHOR_RECORD_WORDS),
+           brothanchor_units(a->record, BROTHANCHOR_RECORD_WORDS));
+}
+
+/* The strip of a file's n frames, from the first of each frame's starts or by a seed. */
+static void along(const uint8_t *file, size_t length, size_t n, const char *seed, const double *table, const double *start) {
+    static double line[MOST_FRAMES], gaps[MOST_FRAMES];
+    static uint32_t order[MOST_FRAMES];
+    uint64_t settings[BROTHANCHOR_SETTINGS_WORDS], sizes[BROTHANCHOR_SIZES_WORDS];
+    struct areas areas;
+    for (size_t i = 0; i < n; i++) line[i] = start[i * STARTS];
+    if (seed != NULL) refused("scatter", brothanchor_scatter(line, n, (uint32_t)n, 1, strtoull(seed, NULL, 10)));
+    set(settings, n);
+    begin_strip(&areas, settings, sizes, table, start, line);
+    hand_out(&areas, sizes, n, order, gaps);
+    for (size_t place = 0; place < n; place++) {
+        uint64_t frame[FRAME_WORDS];
+        refused("frame", brothanchor_frame(file, length, order[place], frame, FRAME_WORDS));
+        printf("%zu %" PRIu64 " %" PRIu64 " %" PRIu64 " %016" PRIx64 " %016" PRIx64 "\n", place, frame[0], frame[1], frame[2],
+               bits(areas.positions[order[place]]), bits(gaps[place]));
+    }
+    print_end(n, &areas);
+}
+
 /* The frames on the map, by their places in the file. */
 static void print(const uint8_t *file, size_t length, size_t n, const uint32_t *places, const struct areas *a) {
-    static const char *const states[] = {"running", "stopped", "finished", "no record"};
     for (size_t i = 0; i < n; i++) {
         uint64_t frame[FRAME_WORDS];
         refused("frame", brothanchor_frame(file, length, places[i], frame, FRAME_WORDS));
         printf("%" PRIu64 " %" PRIu64 " %" PRIu64 " %016" PRIx64 " %016" PRIx64 "\n", frame[0], frame[1], frame[2],
                bits(a->positions[i * STARTS]), bits(a->positions[i * STARTS + 1]));
     }
-    printf("%zu frames, %s after %" PRIu64 " iterations (%" PRIu64 " units)\n", n,
-           states[brothanchor_state(a->record, BROTHANCHOR_RECORD_WORDS)],
-           brothanchor_iterations(a->record, BROTHANCHOR_RECORD_WORDS),
-           brothanchor_units(a->record, BROTHANCHOR_RECORD_WORDS));
+    print_end(n, a);
 }
 
 int main(int words, char **word) {
@@ -343,14 +431,20 @@ int main(int words, char **word) {
     static uint32_t places[MOST_FRAMES];
     uint64_t settings[BROTHANCHOR_SETTINGS_WORDS], sizes[BROTHANCHOR_SIZES_WORDS], n;
     struct areas areas;
+    const char *seed;
     size_t length;
     if (words < 2) {
-        fprintf(stderr, "map FILE [SEED [FIRST LAST]]\n");
+        fprintf(stderr, "map FILE [SEED [FIRST LAST | strip]]\n");
         return 2;
     }
     length = read_file(word[1], file, sizeof file);
     refused("frames", brothanchor_frames(file, length, &n, 1));
-    rows(file, length, n, words > 2 && strcmp(word[2], "-") != 0 ? word[2] : NULL, table, start);
+    seed = words > 2 && strcmp(word[2], "-") != 0 ? word[2] : NULL;
+    rows(file, length, n, seed, table, start);
+    if (words == 4 && strcmp(word[3], "strip") == 0) {
+        along(file, length, n, seed, table, start);
+        return 0;
+    }
     for (uint32_t i = 0; i < n; i++) places[i] = i;
     set(settings, n);
     refused("sizes", brothanchor_sizes(settings, BROTHANCHOR_SETTINGS_WORDS, sizes, BROTHANCHOR_SIZES_WORDS));

@@ -7,15 +7,29 @@ use std::path::{Path, PathBuf};
 
 /// Writes a file. A power cut leaves what was there before, or all of the new bytes.
 pub fn write(target: &Path, bytes: &[u8]) -> io::Result<()> {
-    let beside = beside(target)?;
-    let written = put(&beside, bytes).and_then(|()| fs::rename(&beside, target));
+    write_all(&[(target, bytes)]).map_err(|(_, error)| error)
+}
+
+/// Writes files that belong together: all are on the disc before the first one takes its name, so that where one cannot be written
+/// none is. With a fault comes the place of its file among them.
+pub fn write_all(files: &[(&Path, &[u8])]) -> Result<(), (usize, io::Error)> {
+    let mut others = Vec::new();
+    for (i, (target, _)) in files.iter().enumerate() {
+        others.push(beside(target).map_err(|error| (i, error))?);
+    }
+    let each = |act: &dyn Fn(&Path, &Path, &[u8]) -> io::Result<()>| {
+        let mut all = files.iter().zip(&others).enumerate();
+        all.try_for_each(|(i, ((target, bytes), other))| act(target, other, bytes).map_err(|error| (i, error)))
+    };
+    let written =
+        each(&|_, other, bytes| put(other, bytes)).and_then(|()| each(&|target, other, _| fs::rename(other, target)));
     if written.is_err() {
-        // What could not take the target's name is of no use.
-        let _ = fs::remove_file(&beside);
+        // What could not take its target's name is of no use.
+        others.iter().for_each(|other| drop(fs::remove_file(other)));
     }
     written?;
-    // The name is kept in the folder, which has to be on the disc too.
-    File::open(folder(target))?.sync_all()
+    // The names are kept in the folders, which have to be on the disc too.
+    each(&|target, _, _| File::open(folder(target))?.sync_all())
 }
 
 /// Whether a file can be written there; nothing is changed.
@@ -46,7 +60,8 @@ fn beside(target: &Path) -> io::Result<PathBuf> {
     Ok(target.with_file_name(other))
 }
 
-fn folder(target: &Path) -> &Path {
+/// The folder that a file is in.
+pub fn folder(target: &Path) -> &Path {
     match target.parent() {
         Some(folder) if folder != Path::new("") => folder,
         _ => Path::new("."),
@@ -91,6 +106,26 @@ mod tests {
             write(&target, bytes).expect("a file");
             assert_eq!(fs::read(&target).expect("the file"), bytes);
             assert_eq!(room.names(), ["run.parked"]);
+        }
+    }
+
+    #[test]
+    fn both_files_or_none() {
+        let room = Room::new("both");
+        let [one, other] = ["loop.strip", "loop.strip.svg"].map(|name| room.0.join(name));
+        let (nowhere, folder) = (room.0.join("no/where"), room.0.join("folder"));
+        fs::create_dir(&folder).expect("a folder");
+        for bytes in [&b"the first"[..], b"another"] {
+            write_all(&[(&one, bytes), (&other, b"a picture")]).expect("two files");
+            for bad in [&nowhere, &folder] {
+                let (place, _) = write_all(&[(&one, b"new"), (bad, b"new")]).expect_err("no file");
+                assert_eq!(place, 1);
+                let (place, _) = write_all(&[(bad, b"new"), (&other, b"new")]).expect_err("no file");
+                assert_eq!(place, 0);
+            }
+            assert_eq!(fs::read(&one).expect("the file"), bytes);
+            assert_eq!(fs::read(&other).expect("the file"), b"a picture");
+            assert_eq!(room.names(), ["folder", "loop.strip", "loop.strip.svg"]);
         }
     }
 

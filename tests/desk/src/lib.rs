@@ -4,6 +4,7 @@
 //! here can be called wrongly; a slice brings its own length, and the borrow checker keeps areas from overlapping.
 
 pub mod beside;
+mod handing;
 mod labels;
 mod library;
 pub mod map;
@@ -13,8 +14,11 @@ mod picture;
 pub mod pictures;
 mod refusal;
 mod run;
+pub mod strip;
+mod strip_picture;
 mod thinning;
 
+pub use handing::{hand_out, prepare_strip, prepare_strip_words};
 pub use parking::{park, parked, parked_bytes, unpark, unpark_words, wake, PARKED_RECORD};
 pub use partner::{import, import_words, lists, lists_bytes, pair, write_lists, LINK_RECORD};
 pub use refusal::Refusal;

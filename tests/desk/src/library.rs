@@ -2,11 +2,72 @@
 
 use crate::run::Node;
 
+/// How a run is prepared: `brothanchor_prepare` and `brothanchor_prepare_strip`.
+pub type Prepares = unsafe extern "C" fn(
+    *const u64,
+    usize,
+    *const f64,
+    usize,
+    *const f64,
+    usize,
+    *mut f64,
+    usize,
+    *mut f64,
+    usize,
+    *mut f64,
+    usize,
+    *mut f64,
+    usize,
+    *mut u32,
+    usize,
+    *mut u32,
+    usize,
+    *mut f64,
+    usize,
+    *mut f64,
+    usize,
+    *mut u32,
+    usize,
+    usize,
+    *mut u64,
+    usize,
+) -> u32;
+
 extern "C" {
     pub fn brothanchor_sizes(settings: *const u64, settings_length: usize, sizes: *mut u64, sizes_length: usize)
         -> u32;
 
     pub fn brothanchor_prepare(
+        settings: *const u64,
+        settings_length: usize,
+        table: *const f64,
+        table_length: usize,
+        start: *const f64,
+        start_length: usize,
+        positions: *mut f64,
+        positions_length: usize,
+        increments: *mut f64,
+        increments_length: usize,
+        gains: *mut f64,
+        gains_length: usize,
+        affinities: *mut f64,
+        affinities_length: usize,
+        indices: *mut u32,
+        indices_length: usize,
+        offsets: *mut u32,
+        offsets_length: usize,
+        forces: *mut f64,
+        forces_length: usize,
+        row_values: *mut f64,
+        row_values_length: usize,
+        row_indices: *mut u32,
+        row_indices_length: usize,
+        nodes_length: usize,
+        record: *mut u64,
+        record_length: usize,
+    ) -> u32;
+
+    pub fn brothanchor_prepare_strip(
         settings: *const u64,
         settings_length: usize,
         table: *const f64,
@@ -212,6 +273,33 @@ extern "C" {
         nodes_length: usize,
         target: *mut u8,
         target_length: usize,
+        answer: *mut u64,
+        answer_length: usize,
+    ) -> u32;
+
+    pub fn brothanchor_strip(
+        record: *const u64,
+        record_length: usize,
+        positions: *const f64,
+        positions_length: usize,
+        increments: *const f64,
+        increments_length: usize,
+        gains: *const f64,
+        gains_length: usize,
+        affinities: *const f64,
+        affinities_length: usize,
+        indices: *const u32,
+        indices_length: usize,
+        offsets: *const u32,
+        offsets_length: usize,
+        forces: *const f64,
+        forces_length: usize,
+        nodes: *const Node,
+        nodes_length: usize,
+        order: *mut u32,
+        order_length: usize,
+        gaps: *mut f64,
+        gaps_length: usize,
         answer: *mut u64,
         answer_length: usize,
     ) -> u32;

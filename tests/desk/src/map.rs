@@ -58,65 +58,71 @@ pub struct Map {
     pub divergence: Option<f64>,
 }
 
-/// What a map of n frames goes by. The perplexity is a third of the other frames where there are few; the rate grows with n.
-pub fn settings(n: usize, iterations: usize) -> Settings {
+/// What a map or a strip goes by where it is not as usual.
+#[derive(Clone, Copy, Debug, Default, PartialEq)]
+pub struct Wishes {
+    /// Starts from a scatter by this seed, and not from the frames' own starts.
+    pub seed: Option<u64>,
+    /// How many iterations, unless the run stops before.
+    pub iterations: Option<usize>,
+    /// The perplexity.
+    pub perplexity: Option<f64>,
+}
+
+/// What a map of n frames goes by. The perplexity, unasked, is a third of the other frames where there are few; the rate grows with n.
+pub fn settings(n: usize, wishes: &Wishes) -> Settings {
     let others = n.saturating_sub(1).max(1) as f64;
     Settings {
         n,
         f: FEATURES,
         c: STARTS,
         method: Method::BarnesHut,
-        perplexity: PERPLEXITY.min(others / 3.0),
+        perplexity: wishes.perplexity.unwrap_or(PERPLEXITY.min(others / 3.0)),
         rate: LEAST_RATE.max(n as f64 / (4.0 * EXAGGERATION)),
-        iterations,
+        iterations: wishes.iterations.unwrap_or(ITERATIONS),
         angle: 0.5,
         minimum: 1e-7,
     }
 }
 
-/// Maps a frame file from its own starting positions, or from a scatter where a seed is given. After each iteration
-/// `progress` is told how many are done of how many.
-pub fn map(file: &[u8], seed: Option<u64>, progress: impl FnMut(u64, u64)) -> Result<Map, NoMap> {
-    map_in(file, seed, ITERATIONS, progress)
-}
-
-/// The same in so many iterations.
-pub fn map_in(
-    file: &[u8],
-    seed: Option<u64>,
-    iterations: usize,
-    mut progress: impl FnMut(u64, u64),
-) -> Result<Map, NoMap> {
-    let mut run = Run::begin_in(file, seed, iterations)?;
-    while !run.has_ended() {
-        run.iterate()?;
-        progress(run.done(), run.of());
-    }
+/// Maps a frame file. After each iteration `progress` is told how many are done of how many.
+pub fn map(file: &[u8], wishes: &Wishes, progress: impl FnMut(u64, u64)) -> Result<Map, NoMap> {
+    let mut run = Run::begin(file, wishes)?;
+    run.work(progress)?;
     run.map()
 }
+
+/// How a run is prepared: by settings as words, a table and a start.
+pub(crate) type Prepares = fn(&[u64], &[f64], &[f64], &mut Areas, &mut Rows) -> Result<Record, Refusal>;
 
 /// A run of a frame file's frames between two of its iterations.
 #[derive(Clone, Debug)]
 pub struct Run {
-    frames: Vec<Frame>,
-    record: Record,
-    areas: Areas,
+    pub(crate) frames: Vec<Frame>,
+    pub(crate) record: Record,
+    pub(crate) areas: Areas,
     /// The positions before the last step.
     copy: Vec<f64>,
 }
 
 impl Run {
-    /// Prepared from the file's starting positions, or from a scatter where a seed is given.
-    pub fn begin(file: &[u8], seed: Option<u64>) -> Result<Run, NoMap> {
-        Run::begin_in(file, seed, ITERATIONS)
+    /// Prepared from a frame file.
+    pub fn begin(file: &[u8], wishes: &Wishes) -> Result<Run, NoMap> {
+        let frames = read(file)?;
+        let settings = settings(frames.len(), wishes);
+        Run::prepared(frames, &settings, wishes.seed, prepare)
     }
 
-    fn begin_in(file: &[u8], seed: Option<u64>, iterations: usize) -> Result<Run, NoMap> {
-        let frames = read(file)?;
-        let settings = settings(frames.len(), iterations);
-        let sizes = sizes(&settings)?;
+    /// Prepared by these settings, from the frames' own starts or from a scatter where there is a seed.
+    pub(crate) fn prepared(
+        frames: Vec<Frame>,
+        settings: &Settings,
+        seed: Option<u64>,
+        prepare: Prepares,
+    ) -> Result<Run, NoMap> {
+        let sizes = sizes(settings)?;
         let table = table(&frames);
-        let start = start(&frames, seed)?;
+        let start = start(&frames, settings.c, seed)?;
         let mut areas = Areas::new(&sizes, sizes.nodes);
         let record = prepare(&settings.words(), &table, &start, &mut areas, &mut Rows::new(&sizes))?;
         Ok(Run::standing(frames, record, areas))
@@ -124,17 +130,12 @@ impl Run {
 
     /// Begun from a partner's list, which names the frames by their places in the file, counted from 0. Of the frames only their
     /// starting positions are looked at, and these only where there is no seed.
-    pub fn import(file: &[u8], seed: Option<u64>, list: &[u8]) -> Result<Run, NoRun> {
-        Run::import_in(file, seed, list, ITERATIONS)
-    }
-
-    /// The same in so many iterations.
-    pub fn import_in(file: &[u8], seed: Option<u64>, list: &[u8], iterations: usize) -> Result<Run, NoRun> {
+    pub fn import(file: &[u8], wishes: &Wishes, list: &[u8]) -> Result<Run, NoRun> {
         let frames = read(file).map_err(NoRun::Frames)?;
-        let settings = settings(frames.len(), iterations);
+        let settings = settings(frames.len(), wishes);
         let of_frames = |refusal: Refusal| NoRun::Frames(refusal.into());
         let sizes = sizes(&settings).map_err(of_frames)?;
-        let start = start(&frames, seed).map_err(of_frames)?;
+        let start = start(&frames, STARTS, wishes.seed).map_err(of_frames)?;
         let mut areas = Areas::new(&sizes, sizes.nodes);
         let record = import(&settings.words(), &start, list, &mut areas).map_err(|(refusal, place)| NoRun::List {
             refusal,
@@ -179,6 +180,15 @@ impl Run {
             Kind::Refused(refusal) => Err(refusal),
             _ => Ok(()),
         }
+    }
+
+    /// Works it to its end. After each iteration `progress` is told how many are done of how many.
+    pub fn work(&mut self, mut progress: impl FnMut(u64, u64)) -> Result<(), Refusal> {
+        while !self.has_ended() {
+            self.iterate()?;
+            progress(self.done(), self.of());
+        }
+        Ok(())
     }
 
     /// Iterations done, and how many it has at most.
@@ -268,11 +278,14 @@ fn bad_parked((refusal, place): (Refusal, u64)) -> NoMap {
     NoMap { refusal, record }
 }
 
-/// Where the frames start: as the file says, or by a scatter where there is a seed.
-fn start(frames: &[Frame], seed: Option<u64>) -> Result<Vec<f64>, Refusal> {
-    let mut start: Vec<f64> = frames.iter().flat_map(|frame| frame.starts).collect();
+/// Where the frames start on c components: by the first of their own starts, or by a scatter where there is a seed.
+fn start(frames: &[Frame], c: usize, seed: Option<u64>) -> Result<Vec<f64>, Refusal> {
+    let mut start: Vec<f64> = frames
+        .iter()
+        .flat_map(|frame| frame.starts.into_iter().take(c))
+        .collect();
     if let Some(seed) = seed {
-        scatter(&mut start, frames.len() as u32, STARTS as u32, seed)?;
+        scatter(&mut start, frames.len() as u32, c as u32, seed)?;
     }
     Ok(start)
 }
@@ -342,15 +355,6 @@ pub fn read(file: &[u8]) -> Result<Vec<Frame>, NoMap> {
 }
 
 impl Map {
-    /// How it ended, in a word.
-    pub fn ending(&self) -> &'static str {
-        match self.record.state() {
-            Some(State::Stopped) => "stopped",
-            Some(State::Finished) => "finished",
-            _ => "not at its end",
-        }
-    }
-
     /// The divergence with six decimals, or that there is none.
     pub fn told_divergence(&self) -> String {
         self.divergence

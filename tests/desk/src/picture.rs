@@ -50,7 +50,7 @@ fn dots(map: &Map) -> Vec<[f64; 2]> {
 }
 
 /// The colour of frame i of n.
-fn colour(i: usize, n: usize) -> String {
+pub(crate) fn colour(i: usize, n: usize) -> String {
     let hue = 240.0 * (1.0 - i as f64 / n.saturating_sub(1).max(1) as f64);
     format!("hsl({hue:.0},80%,45%)")
 }

@@ -2,7 +2,7 @@
 
 use std::fmt;
 
-/// The number of a refusal, from 1 to 19.
+/// The number of a refusal, from 1 to 20.
 #[derive(Clone, Copy, Debug, PartialEq, Eq)]
 pub struct Refusal(pub u32);
 
@@ -41,9 +41,10 @@ impl Refusal {
             14 => "the next point needs more nodes than the arena has left",
             15 => "a value has left, or the step would leave, the range of numbers that a map may have",
             16 => "a record of the file is bad",
-            17 => "the run is inside an iteration, or no iteration has just ended, or the forces give a total of 0, or an exact run has no lists",
+            17 => "the run is inside an iteration, or no iteration has just ended, or the forces give a total of 0, or a strip's run has not ended, or an exact run has no lists",
             18 => "the samples to be taken out do not rise or are not there, or more links would be left than their lists may have",
             19 => "a rule of the partner's list fails at a record",
+            20 => "the settings are outside the strip profile: one component, Barnes-Hut, an angle of at most 0.5, at most 1024 frames",
             _ => "no known number",
         }
     }

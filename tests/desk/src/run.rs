@@ -90,6 +90,15 @@ impl Record {
         }
     }
 
+    /// How it ended, in a word.
+    pub fn ending(&self) -> &'static str {
+        match self.state() {
+            Some(State::Stopped) => "stopped",
+            Some(State::Finished) => "finished",
+            _ => "not at its end",
+        }
+    }
+
     /// Iterations done.
     pub fn iterations(&self) -> u64 {
         unsafe { library::brothanchor_iterations(self.words.as_ptr(), self.words.len()) }
@@ -216,6 +225,16 @@ impl Rows {
     }
 }
 
+/// What a run is prepared from.
+pub(crate) struct Given<'a> {
+    /// The settings, as words.
+    pub settings: &'a [u64],
+    /// The frames' rows.
+    pub table: &'a [f64],
+    /// Where the frames start.
+    pub start: &'a [f64],
+}
+
 /// Prepares a run by settings given as words. Refused, nothing has changed.
 pub fn prepare(
     settings: &[u64],
@@ -225,14 +244,26 @@ pub fn prepare(
     rows: &mut Rows,
 ) -> Result<Record, Refusal> {
     let mut record = Record { words: [0; 14] };
-    let number = unsafe {
-        library::brothanchor_prepare(
-            settings.as_ptr(),
-            settings.len(),
-            table.as_ptr(),
-            table.len(),
-            start.as_ptr(),
-            start.len(),
+    let given = Given { settings, table, start };
+    prepare_by(library::brothanchor_prepare, &given, areas, rows, &mut record.words).map(|()| record)
+}
+
+/// Prepares a run by one of the calls for it, with the record's words in an area of their own.
+pub(crate) fn prepare_by(
+    call: library::Prepares,
+    given: &Given,
+    areas: &mut Areas,
+    rows: &mut Rows,
+    words: &mut [u64],
+) -> Result<(), Refusal> {
+    Refusal::unless_0(unsafe {
+        call(
+            given.settings.as_ptr(),
+            given.settings.len(),
+            given.table.as_ptr(),
+            given.table.len(),
+            given.start.as_ptr(),
+            given.start.len(),
             areas.positions.as_mut_ptr(),
             areas.positions.len(),
             areas.increments.as_mut_ptr(),
@@ -252,11 +283,10 @@ pub fn prepare(
             rows.indices.as_mut_ptr(),
             rows.indices.len(),
             areas.nodes.len(),
-            record.words.as_mut_ptr(),
-            record.words.len(),
+            words.as_mut_ptr(),
+            words.len(),
         )
-    };
-    Refusal::unless_0(number).map(|()| record)
+    })
 }
 
 /// How a work call ended.

@@ -1,6 +1,6 @@
 //! The map of a frame file: against the independent implementation of the rules, and what is said and drawn.
 
-use brothanchor::map::{lists_of, map, map_in, settings, Lists, Map, NoMap, NoRun, Run, MOST_FRAMES, RECORD};
+use brothanchor::map::{lists_of, map, settings, Lists, Map, NoMap, NoRun, Run, Wishes, MOST_FRAMES, RECORD};
 use brothanchor::pictures::left;
 use brothanchor::{parked, prepare, sizes, work, Refusal, Settings, LINK_RECORD};
 use oracle::descent::{self, Areas, Method, Record, Rows, Standing};
@@ -38,18 +38,18 @@ fn rules_of(ours: &Settings) -> descent::Settings {
 
 impl Rules {
     /// Prepared from the file's starts or by a seed.
-    fn begin(file: &[u8], seed: Option<u64>, iterations: usize) -> Rules {
-        Rules::begin_from(file, seed, iterations, None)
+    fn begin(file: &[u8], wishes: &Wishes) -> Rules {
+        Rules::begin_from(file, wishes, None)
     }
 
     /// The same, or begun from a partner's list.
-    fn begin_from(file: &[u8], seed: Option<u64>, iterations: usize, list: Option<&[u8]>) -> Rules {
+    fn begin_from(file: &[u8], wishes: &Wishes, list: Option<&[u8]>) -> Rules {
         let frames: Vec<_> = (0..file.len() / RECORD).filter_map(|i| fetch(file, i)).collect();
-        let (n, ours) = (frames.len(), settings(frames.len(), iterations));
+        let (n, ours) = (frames.len(), settings(frames.len(), wishes));
         let sizes = sizes(&ours).expect("good settings");
         let table: Vec<f64> = frames.iter().flat_map(|frame| frame.features).collect();
         let mut start: Vec<f64> = frames.iter().flat_map(|frame| frame.starts).collect();
-        if let Some(seed) = seed {
+        if let Some(seed) = wishes.seed {
             scatter(seed, n, 2, &mut start).expect("room for all");
         }
         let mut areas = Areas {
@@ -108,22 +108,46 @@ fn few(frames: usize) -> Vec<u8> {
     sample::file()[..frames * RECORD].to_vec()
 }
 
+/// As usual.
+const USUAL: Wishes = Wishes {
+    seed: None,
+    iterations: None,
+    perplexity: None,
+};
+
+/// So many iterations from this start, the rest as usual.
+fn in_so_many(seed: Option<u64>, iterations: usize) -> Wishes {
+    Wishes {
+        seed,
+        iterations: Some(iterations),
+        ..USUAL
+    }
+}
+
 fn made(file: &[u8]) -> Map {
-    map(file, None, |_, _| ()).expect("a good file")
+    map(file, &USUAL, |_, _| ()).expect("a good file")
 }
 
 #[test]
 fn maps_are_those_of_the_rules() {
-    for (frames, seed, iterations) in [
-        (2, None, 300),
-        (3, Some(4), 260),
-        (24, None, 40),
-        (24, Some(9), 40),
-        (120, None, 3),
+    for (frames, seed, iterations, perplexity) in [
+        (2, None, 300, None),
+        (3, Some(4), 260, None),
+        (24, None, 40, None),
+        (24, Some(9), 40, Some(2.5)),
+        (120, None, 3, Some(12.0)),
     ] {
         let file = few(frames);
-        let ours = map_in(&file, seed, iterations, |_, _| ()).expect("a good file");
-        let (positions, figure) = Rules::begin(&file, seed, iterations).end();
+        let wishes = Wishes {
+            perplexity,
+            ..in_so_many(seed, iterations)
+        };
+        let ours = map(&file, &wishes, |_, _| ()).expect("a good file");
+        let given = settings(frames, &wishes);
+        assert_eq!(given.iterations, iterations);
+        assert!(perplexity.map_or(true, |asked| asked == given.perplexity));
+        assert_eq!(ours.record.words[..9], given.words());
+        let (positions, figure) = Rules::begin(&file, &wishes).end();
         assert_eq!(bits(&ours.positions), bits(&positions), "{frames} frames");
         assert_eq!(
             ours.divergence.map(f64::to_bits),
@@ -135,7 +159,7 @@ fn maps_are_those_of_the_rules() {
 
 /// A run that is worked for so many iterations.
 fn begun(file: &[u8], iterations: u64) -> Run {
-    let mut run = Run::begin(file, None).expect("a good file");
+    let mut run = Run::begin(file, &USUAL).expect("a good file");
     while run.done() < iterations {
         run.iterate().expect("a good run");
     }
@@ -165,7 +189,10 @@ fn a_parked_run_gives_the_same_map() {
     let parked = begun(&file, last).park().expect("after its end");
     let resumed = ended(Run::resume(&file, &parked).expect("what was parked"));
     assert_eq!(bits(&resumed.positions), bits(&whole.positions));
-    assert_eq!((resumed.divergence, resumed.ending()), (None, whole.ending()));
+    assert_eq!(
+        (resumed.divergence, resumed.record.ending()),
+        (None, whole.record.ending())
+    );
 }
 
 /// Lists of places, from none to so many that eight of 24 frames are left, the fewest that their perplexity allows.
@@ -182,7 +209,7 @@ const GONE: [&[u32]; 6] = [
 fn a_thinned_run_is_that_of_the_rules() {
     let file = few(24);
     for (gone, night) in GONE.into_iter().zip([3, 0, 40, 1, 251, 7]) {
-        let mut rules = Rules::begin(&file, None, 1000);
+        let mut rules = Rules::begin(&file, &USUAL);
         rules.work(night);
         let mut old = [0; 24];
         let told = take_out(&mut rules.record, &mut rules.areas, &mut rules.table, gone, &mut old);
@@ -214,7 +241,7 @@ fn an_ended_run_may_be_thinned() {
     assert!(run.has_ended());
     let map = ended(run);
     assert_eq!((map.frames.len(), map.positions.len(), map.divergence), (22, 44, None));
-    assert_eq!((map.ending(), map.lines().lines().count()), ("finished", 22));
+    assert_eq!((map.record.ending(), map.lines().lines().count()), ("finished", 22));
 }
 
 #[test]
@@ -250,13 +277,14 @@ fn ring(n: u32) -> Vec<u8> {
 fn a_partners_list_gives_the_map_of_the_rules() {
     for (frames, seed, iterations) in [(3, None, 300), (9, Some(4), 260), (24, None, 40)] {
         let (file, list) = (few(frames), ring(frames as u32));
-        let run = Run::import_in(&file, seed, &list, iterations).expect("a good list");
+        let wishes = in_so_many(seed, iterations);
+        let run = Run::import(&file, &wishes, &list).expect("a good list");
         assert_eq!(run.lists().as_ref(), Ok(&list), "what was loaded is written otherwise");
         let ours = ended(run);
-        let (positions, figure) = Rules::begin_from(&file, seed, iterations, Some(&list)).end();
+        let (positions, figure) = Rules::begin_from(&file, &wishes, Some(&list)).end();
         assert_eq!(bits(&ours.positions), bits(&positions), "{frames} frames");
         assert_eq!(ours.divergence.map(f64::to_bits), Some(figure.to_bits()));
-        let own = map_in(&file, seed, iterations, |_, _| ()).expect("a good file");
+        let own = map(&file, &wishes, |_, _| ()).expect("a good file");
         assert!(own.positions != ours.positions, "the frames' own map is another");
     }
 }
@@ -265,8 +293,9 @@ fn a_partners_list_gives_the_map_of_the_rules() {
 fn a_runs_own_lists_give_its_map() {
     for (frames, seed) in [(2, None), (9, None), (24, Some(3))] {
         let file = few(frames);
-        let whole = map(&file, seed, |_, _| ()).expect("a good file");
-        let mut run = Run::begin(&file, seed).expect("a good file");
+        let wishes = Wishes { seed, ..USUAL };
+        let whole = map(&file, &wishes, |_, _| ()).expect("a good file");
+        let mut run = Run::begin(&file, &wishes).expect("a good file");
         let list = run.lists().expect("a Barnes-Hut run");
         for _ in 0..5 {
             run.iterate().expect("a good run");
@@ -280,7 +309,7 @@ fn a_runs_own_lists_give_its_map() {
         };
         assert_eq!(lists_of(&parked), Ok(wanted));
         assert_eq!(
-            ended(Run::import(&file, seed, &list).expect("its own lists")),
+            ended(Run::import(&file, &wishes, &list).expect("its own lists")),
             whole,
             "{frames} frames"
         );
@@ -290,7 +319,7 @@ fn a_runs_own_lists_give_its_map() {
 #[test]
 fn what_is_not_imported() {
     let (file, list) = (few(9), ring(9));
-    let refused = |file: &[u8], list: &[u8]| Run::import(file, None, list).expect_err("bad");
+    let refused = |file: &[u8], list: &[u8]| Run::import(file, &USUAL, list).expect_err("bad");
     let bad = |record, pair| NoRun::List {
         refusal: Refusal(19),
         record,
@@ -318,7 +347,7 @@ fn what_is_not_imported() {
     assert_eq!(refused(&[], &list), none(7));
     assert_eq!(refused(&few(1), &list), none(9));
     assert!(matches!(refused(&[0; 72], &list), NoRun::Frames(_)));
-    assert!(Run::import(&file, None, &[]).is_ok(), "no links at all");
+    assert!(Run::import(&file, &USUAL, &[]).is_ok(), "no links at all");
 }
 
 #[test]
@@ -352,7 +381,7 @@ fn an_exact_run_goes_on_too() {
     let start: Vec<f64> = frames.iter().flat_map(|frame| frame.starts).collect();
     let settings = Settings {
         method: brothanchor::Method::Exact,
-        ..settings(9, 260)
+        ..settings(9, &in_so_many(None, 260))
     };
     let sizes = sizes(&settings).expect("good settings");
     let mut areas = brothanchor::Areas::new(&sizes, 0);
@@ -416,8 +445,8 @@ fn what_is_not_resumed() {
 fn small_maps_come_to_an_end() {
     for frames in 2..12 {
         let mut last = (0, 0);
-        let made = map(&few(frames), None, |done, of| last = (done, of)).expect("a good file");
-        assert!(matches!(made.ending(), "finished" | "stopped"));
+        let made = map(&few(frames), &USUAL, |done, of| last = (done, of)).expect("a good file");
+        assert!(matches!(made.record.ending(), "finished" | "stopped"));
         assert_eq!(last.0, made.record.iterations());
         assert!(last.1 == 1000 && last.0 > 250);
     }
@@ -425,7 +454,7 @@ fn small_maps_come_to_an_end() {
 
 #[test]
 fn what_is_refused() {
-    let refused = |file: &[u8]| map(file, None, |_, _| ()).expect_err("bad");
+    let refused = |file: &[u8]| map(file, &USUAL, |_, _| ()).expect_err("bad");
     assert_eq!(
         refused(&[]),
         NoMap {
@@ -450,9 +479,23 @@ fn what_is_refused() {
         none.to_string(),
         "refused 16: a record of the file is bad (record 3, counted from 0)"
     );
-    for number in 1..=19 {
+    for number in 1..=20 {
         assert!(!Refusal(number).meaning().starts_with("no known"));
     }
+}
+
+#[test]
+fn settings_that_are_refused() {
+    let with = |perplexity, iterations| {
+        let wishes = Wishes {
+            perplexity,
+            iterations,
+            ..USUAL
+        };
+        map(&few(9), &wishes, |_, _| ()).expect_err("bad").refusal.0
+    };
+    assert_eq!([with(Some(9.0), None), with(Some(f64::NAN), None)], [10, 2]);
+    assert_eq!([with(None, Some(0)), with(None, Some(65_536))], [4, 4]);
 }
 
 /// The sample's picture 1218 is a still: its fields stand in the lines, the titles and the numbers beside the dots.

@@ -308,7 +308,7 @@ pub fn prepare(
 }
 
 /// The first of 1 to 12 that applies.
-fn refusal(settings: &Settings, table: &[f64], start: &[f64], areas: &Areas, rows: &Rows) -> Option<u64> {
+pub(crate) fn refusal(settings: &Settings, table: &[f64], start: &[f64], areas: &Areas, rows: &Rows) -> Option<u64> {
     let outside = |values: &[f64]| values.iter().any(|&v| !in_domain(v));
     if let Some(number) = settings.early_fault() {
         return Some(number);

@@ -19,6 +19,7 @@ pub mod preparation;
 pub mod scatter;
 pub mod sigma;
 pub mod step;
+pub mod strip;
 pub mod take_out;
 pub mod tree;
 pub mod words;

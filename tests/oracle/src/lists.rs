@@ -16,6 +16,7 @@ pub mod sample;
 pub mod scatter;
 pub mod sigma;
 pub mod step;
+pub mod strip;
 pub mod take_out;
 
 use crate::bench::printed;
@@ -77,6 +78,7 @@ pub fn all() -> Vec<List> {
         List::new("replay_take_out", "takes", &take_out::cases()),
         List::new("replay_import", "partner", &partner::import_cases()),
         List::new("replay_import", "lists", &partner::write_cases()),
+        List::new("replay_strip", "strip", &strip::cases()),
         List::new("bench_cases", "files", &bench::cases()),
     ]
 }

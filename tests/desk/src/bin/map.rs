@@ -1,17 +1,24 @@
-//! `map FILE [--seed NUMBER] [--out FOLDER] [--lists LIST] [--until N] [--park RUN] [--every N] [--resume RUN]
-//! [--without PICTURES] [--progress]`: maps a frame file; `map lists RUN LIST`: writes a parked run's lists; as `help.txt` tells.
-//! What goes wrong gets one line on standard error.
+//! `map FILE [--seed NUMBER] [--out FOLDER] [--iterations N] [--perplexity P] [--lists LIST] [--until N] [--park RUN] [--every N]
+//! [--resume RUN] [--without PICTURES] [--progress]`: maps a frame file; `map lists RUN LIST`: writes a parked run's lists; `map strip
+//! FILE [--seed NUMBER] [--out FOLDER] [--iterations N] [--perplexity P] [--progress]`: puts its frames along one line; as `help.txt`
+//! tells. What goes wrong gets one line on standard error.
 
 use brothanchor::beside;
-use brothanchor::map::{self, Lists, Map, NoRun, Run, MOST_FRAMES, RECORD};
+use brothanchor::map::{self, Lists, NoMap, NoRun, Run, Wishes, MOST_FRAMES, RECORD};
 use brothanchor::pictures::{self, Pictures};
+use brothanchor::strip::Strip;
+use brothanchor::Refusal;
 use std::fs::{self, File};
 use std::io::{ErrorKind, Read};
 use std::path::{Path, PathBuf};
 use std::process::ExitCode;
+use std::str::FromStr;
 
 /// What `--help` prints, here and in the script `map`.
 const HELP: &str = include_str!("../../help.txt");
+
+/// Where maps are written.
+const MAPS: &str = "maps";
 
 /// The exit statuses where there is no map: because of the file or the folder, and because of the command line.
 const NO_MAP: u8 = 1;
@@ -28,10 +35,20 @@ const MOST_LISTED: u64 = 1 << 30;
 const LISTS: &str = "lists";
 const LISTS_TAKES: &str = "lists takes a parked run and a file to write, as in lists RUN.parked OUT.lists";
 
+/// The word for frames along one line.
+const STRIP: &str = "strip";
+
+/// What is said of options of maps and strips whose values are none.
+const SEED: &str = "--seed takes a number from 0 to 2^64 - 1";
+const OUT: &str = "--out takes a folder";
+const ITERATIONS: &str = "--iterations takes a number from 1 to 65535";
+const PERPLEXITY: &str = "--perplexity takes a number above 0";
+
 fn main() -> ExitCode {
     let said = match asked(std::env::args().skip(1)) {
         Ok(Some(Job::Map(asked))) => run(&asked).map_err(|message| (message, NO_MAP)),
         Ok(Some(Job::Lists { run, out })) => write_lists(&run, &out).map_err(|message| (message, NO_MAP)),
+        Ok(Some(Job::Strip(asked))) => strip(&asked).map_err(|message| (message, NO_MAP)),
         Ok(None) => Ok(HELP.to_string()),
         Err(message) => Err((format!("{message} (./map --help explains)"), BAD_WORDS)),
     };
@@ -54,14 +71,23 @@ enum Job {
     Map(Asked),
     /// A parked run's lists, for a partner.
     Lists { run: PathBuf, out: PathBuf },
+    /// Frames along one line.
+    Strip(Common),
+}
+
+/// What a strip is made of, and a map too.
+#[derive(Debug, PartialEq)]
+struct Common {
+    file: PathBuf,
+    out: PathBuf,
+    wishes: Wishes,
+    progress: bool,
 }
 
 /// What a map is made of.
 #[derive(Debug, PartialEq)]
 struct Asked {
-    file: PathBuf,
-    seed: Option<u64>,
-    out: PathBuf,
+    common: Common,
     /// Begins from this partner's list.
     lists: Option<PathBuf>,
     /// Stops after so many iterations.
@@ -73,57 +99,92 @@ struct Asked {
     resume: Option<PathBuf>,
     /// Takes the frames of these pictures out.
     without: Option<Pictures>,
-    progress: bool,
 }
 
 /// The words of the command line; nothing where they ask for help.
 fn asked(words: impl Iterator<Item = String>) -> Result<Option<Job>, String> {
     let mut words = words.peekable();
-    let progress = words.next_if(|word| word == "--progress").is_some();
+    let mut progress = false;
+    while words.next_if(|word| word == "--progress").is_some() {
+        progress = true;
+    }
     if words.next_if(|word| word == LISTS).is_some() {
         return lists_asked(words);
     }
+    if words.next_if(|word| word == STRIP).is_some() {
+        return strip_asked(words, progress);
+    }
+    map_asked(words, progress)
+}
+
+impl Common {
+    /// No file, and no options.
+    fn bare(progress: bool) -> Common {
+        Common {
+            file: PathBuf::new(),
+            out: PathBuf::from(MAPS),
+            wishes: Wishes::default(),
+            progress,
+        }
+    }
+
+    /// Takes a word that is no option of the job's own, and its value where it has one. What is said of an option that there is not
+    /// ends with it.
+    fn take(&mut self, word: String, words: &mut impl Iterator<Item = String>, no_option: &str) -> Result<(), String> {
+        match word.as_str() {
+            "--progress" => self.progress = true,
+            "--seed" => self.wishes.seed = Some(number(words.next()).ok_or(SEED)?),
+            "--out" => self.out = path(words.next(), OUT)?,
+            "--iterations" => self.wishes.iterations = Some(number(words.next()).ok_or(ITERATIONS)?),
+            "--perplexity" => self.wishes.perplexity = Some(number(words.next()).ok_or(PERPLEXITY)?),
+            _ if word.starts_with('-') => return Err(format!("{no_option} {word}")),
+            _ if self.is_named() => return Err(format!("one frame file at a time, so not {word} too")),
+            _ => self.file = PathBuf::from(word),
+        }
+        Ok(())
+    }
+
+    /// Whether there is a frame file.
+    fn is_named(&self) -> bool {
+        self.file != Path::new("")
+    }
+
+    /// With a frame file.
+    fn named(self) -> Result<Common, String> {
+        match self.is_named() {
+            true => Ok(self),
+            false => Err("no frame file is named".to_string()),
+        }
+    }
+}
+
+/// The words of a map; nothing where they ask for help.
+fn map_asked(mut words: impl Iterator<Item = String>, progress: bool) -> Result<Option<Job>, String> {
     let mut asked = Asked {
-        file: PathBuf::new(),
-        seed: None,
-        out: PathBuf::from("maps"),
+        common: Common::bare(progress),
         lists: None,
         until: None,
         park: None,
         every: None,
         resume: None,
         without: None,
-        progress,
     };
-    let mut file = None;
     while let Some(word) = words.next() {
         match word.as_str() {
             "--help" | "-h" => return Ok(None),
-            "--progress" => asked.progress = true,
-            "--seed" => asked.seed = Some(number(words.next()).ok_or("--seed takes a number from 0 to 2^64 - 1")?),
-            "--out" => asked.out = words.next().map(PathBuf::from).ok_or("--out takes a folder")?,
             "--until" => asked.until = Some(number(words.next()).ok_or("--until takes a number of iterations")?),
             "--every" => {
                 let every = number(words.next()).filter(|&every| every > 0);
                 asked.every = Some(every.ok_or("--every takes a number of iterations from 1 on")?);
             }
-            "--lists" => {
-                asked.lists = Some(
-                    words
-                        .next()
-                        .map(PathBuf::from)
-                        .ok_or("--lists takes a partner's list")?,
-                )
-            }
-            "--park" => asked.park = Some(words.next().map(PathBuf::from).ok_or("--park takes a file to write")?),
-            "--resume" => asked.resume = Some(words.next().map(PathBuf::from).ok_or("--resume takes a parked run")?),
+            "--lists" => asked.lists = Some(path(words.next(), "--lists takes a partner's list")?),
+            "--park" => asked.park = Some(path(words.next(), "--park takes a file to write")?),
+            "--resume" => asked.resume = Some(path(words.next(), "--resume takes a parked run")?),
             "--without" => asked.without = Some(pictures_of(words.next()).ok_or(WITHOUT)?),
-            _ if word.starts_with('-') => return Err(format!("unknown option {word}")),
-            _ if file.is_some() => return Err(format!("one frame file at a time, so not {word} too")),
-            _ => file = Some(PathBuf::from(word)),
+            _ => asked.common.take(word, &mut words, "unknown option")?,
         }
     }
-    asked.file = file.ok_or("no frame file is named")?;
+    asked.common = asked.common.named()?;
     together(&asked)?;
     Ok(Some(Job::Map(asked)))
 }
@@ -144,7 +205,23 @@ fn lists_asked(words: impl Iterator<Item = String>) -> Result<Option<Job>, Strin
     }
 }
 
-fn number(word: Option<String>) -> Option<u64> {
+/// The words after `strip`; nothing where they ask for help.
+fn strip_asked(mut words: impl Iterator<Item = String>, progress: bool) -> Result<Option<Job>, String> {
+    let mut asked = Common::bare(progress);
+    while let Some(word) = words.next() {
+        match word.as_str() {
+            "--help" | "-h" => return Ok(None),
+            _ => asked.take(word, &mut words, "strip has no option")?,
+        }
+    }
+    asked.named().map(|asked| Some(Job::Strip(asked)))
+}
+
+fn path(word: Option<String>, why: &str) -> Result<PathBuf, String> {
+    word.map(PathBuf::from).ok_or_else(|| why.to_string())
+}
+
+fn number<T: FromStr>(word: Option<String>) -> Option<T> {
     word.and_then(|word| word.parse().ok())
 }
 
@@ -153,47 +230,49 @@ fn pictures_of(word: Option<String>) -> Option<Pictures> {
 }
 
 /// Which words need others, or go without them.
-fn together(asked: &Asked) -> Result<(), &'static str> {
-    match asked {
-        Asked {
-            until: Some(_),
-            park: None,
-            ..
-        } => Err("--until needs --park, which says where the run is kept"),
-        Asked {
-            every: Some(_),
-            park: None,
-            ..
-        } => Err("--every needs --park, which says where the run is kept"),
-        Asked {
-            seed: Some(_),
-            resume: Some(_),
-            ..
-        } => Err("--seed starts a run and --resume goes on with one, so not both"),
-        Asked {
-            lists: Some(_),
-            resume: Some(_),
-            ..
-        } => Err("--lists starts a run and --resume goes on with one, so not both"),
-        Asked {
-            lists: Some(_),
-            without: Some(_),
-            ..
-        } => Err("--lists tells of all frames and --without begins with fewer, so not both: park the run first"),
+fn together(asked: &Asked) -> Result<(), String> {
+    let wishes = &asked.common.wishes;
+    for (is_asked, word) in [(asked.until.is_some(), "--until"), (asked.every.is_some(), "--every")] {
+        if is_asked && asked.park.is_none() {
+            return Err(format!("{word} needs --park, which says where the run is kept"));
+        }
+    }
+    for (is_asked, word) in [
+        (wishes.seed.is_some(), "--seed"),
+        (wishes.iterations.is_some(), "--iterations"),
+        (wishes.perplexity.is_some(), "--perplexity"),
+        (asked.lists.is_some(), "--lists"),
+    ] {
+        if is_asked && asked.resume.is_some() {
+            return Err(format!(
+                "{word} is for a run's start and --resume goes on with one, so not both"
+            ));
+        }
+    }
+    match (&asked.lists, &asked.without) {
+        (Some(_), Some(_)) => Err(
+            "--lists tells of all frames and --without begins with fewer, so not both: park the run first".to_string(),
+        ),
         _ => Ok(()),
     }
 }
 
 /// Maps the file, or parks the run; what there is to say of it.
 fn run(asked: &Asked) -> Result<String, String> {
-    let name = asked.file.display();
+    let name = asked.common.file.display();
     if let Some(path) = &asked.park {
         beside::test(path).map_err(|error| fault(path, error))?;
+    }
+    let others = [&asked.park, &asked.resume, &asked.lists];
+    let others: Vec<&Path> = others.into_iter().flatten().map(PathBuf::as_path).collect();
+    let targets = || targets(&asked.common, ["map", "svg"], &others);
+    if asked.until.is_none() {
+        targets()?;
     }
     let Begun { mut run, gone, rest } = begin(asked)?;
     let kept = kept(asked, rest)?;
     let worked = work(&mut run, asked);
-    if asked.progress {
+    if asked.common.progress {
         eprint!("\r\x1b[K");
     }
     worked?;
@@ -204,14 +283,12 @@ fn run(asked: &Asked) -> Result<String, String> {
         ));
     }
     let made = run.map().map_err(|none| format!("{name}: {none}"))?;
-    let (lines, picture) = write(&made, asked)?;
+    let [lines, picture] = written(&asked.common.out, targets()?, [made.lines(), made.svg()])?;
     Ok(format!(
-        "{gone}{name}: {frames} frames, {} after {done} iterations ({} units)\nits divergence: {}\nthe map: {}\nits picture: {}\n{kept}",
-        made.ending(),
+        "{gone}{name}: {frames} frames, {} after {done} iterations ({} units)\nits divergence: {}\nthe map: {lines}\nits picture: {picture}\n{kept}",
+        made.record.ending(),
         made.record.units(),
-        made.told_divergence(),
-        lines.display(),
-        picture.display()
+        made.told_divergence()
     ))
 }
 
@@ -226,8 +303,9 @@ struct Begun {
 
 /// The run that is asked for, prepared or read back, without the frames that are to go.
 fn begin(asked: &Asked) -> Result<Begun, String> {
-    let name = asked.file.display();
-    let bytes = read(&asked.file, (MOST_FRAMES * RECORD) as u64).map_err(|error| fault(&asked.file, error))?;
+    let name = asked.common.file.display();
+    let bytes =
+        read(&asked.common.file, (MOST_FRAMES * RECORD) as u64).map_err(|error| fault(&asked.common.file, error))?;
     let pictures = match &asked.without {
         Some(pictures) => pictures,
         None => {
@@ -261,9 +339,9 @@ fn begin(asked: &Asked) -> Result<Begun, String> {
 
 /// A run of all frames of a file, prepared or read back.
 fn whole(asked: &Asked, bytes: &[u8]) -> Result<Run, String> {
-    let name = asked.file.display();
+    let name = asked.common.file.display();
     let (path, begun) = match (&asked.resume, &asked.lists) {
-        (None, None) => return Run::begin(bytes, asked.seed).map_err(|none| format!("{name}: {none}")),
+        (None, None) => return Run::begin(bytes, &asked.common.wishes).map_err(|none| format!("{name}: {none}")),
         (Some(path), _) => {
             let parked = read(path, MOST_PARKED).map_err(|error| fault(path, error))?;
             (path, Run::resume(bytes, &parked))
@@ -273,7 +351,7 @@ fn whole(asked: &Asked, bytes: &[u8]) -> Result<Run, String> {
             if list.len() as u64 > MOST_LISTED {
                 return Err(format!("{}: longer than any list that is loaded", path.display()));
             }
-            (path, Run::import(bytes, asked.seed, &list))
+            (path, Run::import(bytes, &asked.common.wishes, &list))
         }
     };
     begun.map_err(|none| match none {
@@ -285,7 +363,7 @@ fn whole(asked: &Asked, bytes: &[u8]) -> Result<Run, String> {
 /// Writes a parked run's lists; what there is to say of them. The file there is the one before or the new one, and never half
 /// of it.
 fn write_lists(run: &Path, out: &Path) -> Result<String, String> {
-    if same_file(run, out) {
+    if one_place(run, out) {
         return Err(format!(
             "{}: this is the parked run, so write the lists to another file",
             out.display()
@@ -302,12 +380,48 @@ fn write_lists(run: &Path, out: &Path) -> Result<String, String> {
     ))
 }
 
-/// Whether both are one file that is there.
-fn same_file(one: &Path, other: &Path) -> bool {
-    match (fs::canonicalize(one), fs::canonicalize(other)) {
-        (Ok(one), Ok(other)) => one == other,
+/// Puts the frames of a file along one line; what there is to say of the strip.
+fn strip(asked: &Common) -> Result<String, String> {
+    let name = asked.file.display();
+    let targets = || targets(asked, ["strip", "strip.svg"], &[]);
+    targets()?;
+    let bytes = read(&asked.file, (MOST_FRAMES * RECORD) as u64).map_err(|error| fault(&asked.file, error))?;
+    let made = Strip::of(&bytes, &asked.wishes, |done, of| tell(asked.progress, done, of));
+    if asked.progress {
+        eprint!("\r\x1b[K");
+    }
+    let made = made.map_err(|none| no_strip(asked, none, bytes.len() / RECORD))?;
+    let [lines, picture] = written(&asked.out, targets()?, [made.lines(), made.svg()])?;
+    Ok(format!(
+        "{name}: {} frames, {} after {} iterations ({} units)\nthe strip: {lines}\nits picture: {picture}\n",
+        made.frames.len(),
+        made.record.ending(),
+        made.record.iterations(),
+        made.record.units()
+    ))
+}
+
+/// Why there is no strip. Outside the profile only the number of frames can be, by this command.
+fn no_strip(asked: &Common, none: NoMap, frames: usize) -> String {
+    let name = asked.file.display();
+    match none.refusal {
+        Refusal(20) => format!("{name}: {none} (here are {frames}), so take fewer"),
+        _ => format!("{name}: {none}"),
+    }
+}
+
+/// Whether both are one file, or would be.
+fn one_place(one: &Path, other: &Path) -> bool {
+    match (place(one), place(other)) {
+        (Some(one), Some(other)) => one == other,
         _ => false,
     }
+}
+
+/// Where a file is, or would be in a folder that is there.
+fn place(path: &Path) -> Option<PathBuf> {
+    let beside = || Some(fs::canonicalize(beside::folder(path)).ok()?.join(path.file_name()?));
+    fs::canonicalize(path).ok().or_else(beside)
 }
 
 /// What there is to say of the parked run; and of its frame file, which is written first where frames were taken out.
@@ -352,8 +466,8 @@ fn work(run: &mut Run, asked: &Asked) -> Result<(), String> {
     let until = asked.until.unwrap_or(u64::MAX);
     while !run.has_ended() && run.done() < until {
         run.iterate()
-            .map_err(|refusal| format!("{}: {refusal}", asked.file.display()))?;
-        tell(asked.progress, run.done(), run.of());
+            .map_err(|refusal| format!("{}: {refusal}", asked.common.file.display()))?;
+        tell(asked.common.progress, run.done(), run.of());
         if asked.every.map_or(false, |every| run.done() % every == 0) {
             park(run, asked)?;
         }
@@ -390,14 +504,38 @@ fn tell(progress: bool, done: u64, of: u64) {
     }
 }
 
-/// Writes both files; where they are.
-fn write(made: &Map, asked: &Asked) -> Result<(PathBuf, PathBuf), String> {
+/// The two files of a frame file, each with its ending in the place of the frame file's. Both can be written, as far as can be told
+/// before, and neither is the frame file or another that is read or written.
+fn targets(asked: &Common, endings: [&str; 2], others: &[&Path]) -> Result<[PathBuf; 2], String> {
     let base = asked.out.join(asked.file.file_name().unwrap_or_default());
-    let (lines, picture) = (base.with_extension("map"), base.with_extension("svg"));
-    fs::create_dir_all(&asked.out).map_err(|error| fault(&asked.out, error))?;
-    beside::write(&lines, made.lines().as_bytes()).map_err(|error| fault(&lines, error))?;
-    beside::write(&picture, made.svg().as_bytes()).map_err(|error| fault(&picture, error))?;
-    Ok((lines, picture))
+    let paths = endings.map(|ending| base.with_extension(ending));
+    for path in &paths {
+        for other in others.iter().chain([&asked.file.as_path()]) {
+            if one_place(path, other) {
+                let (path, other) = (path.display(), other.display());
+                return Err(format!(
+                    "{path}: this would replace {other}, so take another folder with --out"
+                ));
+            }
+        }
+    }
+    let is_missing = |folder: &&Path| *folder != Path::new("") && !folder.exists();
+    match asked.out.ancestors().take_while(is_missing).last() {
+        Some(folder) => beside::test(folder).map_err(|error| fault(&asked.out, error))?,
+        None => paths
+            .iter()
+            .try_for_each(|path| beside::test(path).map_err(|error| fault(path, error)))?,
+    }
+    Ok(paths)
+}
+
+/// Writes both files, or neither; where they are.
+fn written(out: &Path, paths: [PathBuf; 2], texts: [String; 2]) -> Result<[String; 2], String> {
+    fs::create_dir_all(out).map_err(|error| fault(out, error))?;
+    let ([one, other], [text, picture]) = (&paths, &texts);
+    beside::write_all(&[(one, text.as_bytes()), (other, picture.as_bytes())])
+        .map_err(|(place, error)| fault(&paths[place], error))?;
+    Ok(paths.map(|path| path.display().to_string()))
 }
 
 #[cfg(test)]
@@ -413,7 +551,7 @@ mod tests {
         job(words).map(|job| {
             job.map(|job| match job {
                 Job::Map(asked) => asked,
-                Job::Lists { .. } => panic!("no map: {words}"),
+                _ => panic!("no map: {words}"),
             })
         })
     }
@@ -421,24 +559,32 @@ mod tests {
     #[test]
     fn words_in_any_order() {
         let all = Asked {
-            file: PathBuf::from("disc.frames"),
-            seed: Some(3),
-            out: PathBuf::from("there"),
+            common: Common {
+                file: PathBuf::from("disc.frames"),
+                out: PathBuf::from("there"),
+                wishes: Wishes {
+                    seed: Some(3),
+                    iterations: Some(90),
+                    perplexity: Some(7.5),
+                },
+                progress: true,
+            },
             lists: None,
             until: Some(40),
             park: Some(PathBuf::from("disc.parked")),
             every: Some(10),
             resume: None,
             without: Pictures::read("7,1281-1320"),
-            progress: true,
         };
-        let words = "--progress --out there --until 40 disc.frames --every 10 --seed 3 --without 7,1281-1320 --park disc.parked";
+        let words = "--progress --out there --until 40 disc.frames --every 10 --seed 3 --without 7,1281-1320 --perplexity 7.5 --park disc.parked --iterations 90";
         assert_eq!(of(words), Ok(Some(all)));
         let bare = of("disc.frames").expect("a file").expect("no help");
-        assert_eq!(
-            (bare.seed, bare.out, bare.progress),
-            (None, PathBuf::from("maps"), false)
-        );
+        let wanted = Common {
+            file: PathBuf::from("disc.frames"),
+            ..Common::bare(false)
+        };
+        assert_eq!(bare.common, wanted);
+        assert_eq!(wanted.out, Path::new("maps"));
         let resumed = of("--resume a.parked disc.frames --park a.parked").expect("a file");
         let resumed = resumed.expect("no help");
         assert_eq!(resumed.resume, resumed.park);
@@ -472,6 +618,44 @@ mod tests {
     }
 
     #[test]
+    fn the_word_strip() {
+        let wanted = Common {
+            file: PathBuf::from("disc.frames"),
+            out: PathBuf::from("there"),
+            wishes: Wishes {
+                seed: Some(3),
+                iterations: Some(40),
+                perplexity: Some(7.5),
+            },
+            progress: true,
+        };
+        let words = "strip --out there --progress disc.frames --iterations 40 --seed 3 --perplexity 7.5";
+        assert_eq!(job(words), Ok(Some(Job::Strip(wanted))));
+        for words in [
+            "--progress strip disc.frames",
+            "--progress --progress strip disc.frames",
+        ] {
+            let bare = Common {
+                file: PathBuf::from("disc.frames"),
+                ..Common::bare(true)
+            };
+            assert_eq!(job(words), Ok(Some(Job::Strip(bare))), "{words}");
+        }
+        assert_eq!(job("strip disc.frames --help"), Ok(None));
+        for (words, why) in [
+            ("strip", "no frame file is named"),
+            ("strip a b", "one frame file at a time, so not b too"),
+            ("strip a --resume b", "strip has no option --resume"),
+            ("strip a --seed", SEED),
+            ("strip a --out", OUT),
+            ("strip a --iterations few", ITERATIONS),
+            ("strip a --perplexity", PERPLEXITY),
+        ] {
+            assert_eq!(job(words), Err(why.to_string()), "{words}");
+        }
+    }
+
+    #[test]
     fn help_is_asked_for() {
         for words in ["--help", "-h", "disc.frames --seed 3 --help", "--help --none"] {
             assert_eq!(of(words), Ok(None), "{words}");
@@ -481,6 +665,9 @@ mod tests {
             "--out FOLDER",
             "--lists PARTNER.lists",
             "./map lists RUN.parked OUT.lists",
+            "./map strip [FILE.frames]",
+            "--iterations N",
+            "--perplexity P",
             "--until N",
             "--park RUN.parked",
             "--every N",
@@ -494,56 +681,63 @@ mod tests {
         assert!(matches!(of("disc.frames --out --help"), Ok(Some(_))));
     }
 
+    /// Each of these command lines is told to be bad, and why.
+    fn told(bad: &[(&str, &str)]) {
+        for (words, why) in bad {
+            assert_eq!(of(words), Err(why.to_string()), "{words}");
+        }
+    }
+
     #[test]
     fn bad_words() {
-        for (words, why) in [
+        let (until, every) = (
+            "--until takes a number of iterations",
+            "--every takes a number of iterations from 1 on",
+        );
+        told(&[
             ("", "no frame file is named"),
             ("--seed 3", "no frame file is named"),
             ("disc.frames --sead 3", "unknown option --sead"),
             ("-x disc.frames", "unknown option -x"),
             ("disc.frames --seed", "--seed takes a number from 0 to 2^64 - 1"),
-            ("disc.frames --seed -1", "--seed takes a number from 0 to 2^64 - 1"),
+            ("disc.frames --seed -1", SEED),
             ("disc.frames --out", "--out takes a folder"),
-            ("disc.frames --until", "--until takes a number of iterations"),
             (
-                "disc.frames --until few --park a",
-                "--until takes a number of iterations",
+                "disc.frames --iterations few",
+                "--iterations takes a number from 1 to 65535",
             ),
-            (
-                "disc.frames --every 0 --park a",
-                "--every takes a number of iterations from 1 on",
-            ),
+            ("disc.frames --iterations -1", ITERATIONS),
+            ("disc.frames --perplexity", "--perplexity takes a number above 0"),
+            ("disc.frames --perplexity many", PERPLEXITY),
+            ("disc.frames --until", until),
+            ("disc.frames --until few --park a", until),
+            ("disc.frames --every 0 --park a", every),
             ("disc.frames --park", "--park takes a file to write"),
             ("disc.frames --resume", "--resume takes a parked run"),
             ("disc.frames --without", WITHOUT),
             ("disc.frames --without 1320-1281", WITHOUT),
-            (
-                "disc.frames --until 40",
-                "--until needs --park, which says where the run is kept",
-            ),
-            (
-                "disc.frames --every 40 --resume a",
-                "--every needs --park, which says where the run is kept",
-            ),
-            (
-                "disc.frames --seed 3 --resume a",
-                "--seed starts a run and --resume goes on with one, so not both",
-            ),
             ("disc.frames --lists", "--lists takes a partner's list"),
-            (
-                "disc.frames --lists a.lists --resume a",
-                "--lists starts a run and --resume goes on with one, so not both",
-            ),
-            (
-                "disc.frames --without 7 --lists a.lists",
-                "--lists tells of all frames and --without begins with fewer, so not both: park the run first",
-            ),
-            (
-                "disc.frames other.frames",
-                "one frame file at a time, so not other.frames too",
-            ),
-        ] {
-            assert_eq!(of(words), Err(why.to_string()), "{words}");
-        }
+            ("a other.frames", "one frame file at a time, so not other.frames too"),
+        ]);
+    }
+
+    #[test]
+    fn words_that_do_not_go_together() {
+        let needs = |word| format!("{word} needs --park, which says where the run is kept");
+        told(&[
+            ("disc.frames --until 40", &needs("--until")),
+            ("disc.frames --every 40 --resume a", &needs("--every")),
+        ]);
+        let start = |word| format!("{word} is for a run's start and --resume goes on with one, so not both");
+        told(&[
+            ("disc.frames --seed 3 --resume a", &start("--seed")),
+            ("disc.frames --resume a --iterations 40", &start("--iterations")),
+            ("disc.frames --perplexity 7 --resume a", &start("--perplexity")),
+            ("disc.frames --lists a.lists --resume a", &start("--lists")),
+        ]);
+        told(&[(
+            "disc.frames --without 7 --lists a.lists",
+            "--lists tells of all frames and --without begins with fewer, so not both: park the run first",
+        )]);
     }
 }

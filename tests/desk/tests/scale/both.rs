@@ -2,9 +2,9 @@
 //! afterwards has to be the same, bit for bit.
 
 use crate::case::Case;
-use brothanchor::{prepare, work, Areas, Kind, Method, Node, Record, Rows, Worked};
+use brothanchor::{prepare, prepare_strip, work, Areas, Kind, Method, Node, Record, Refusal, Rows, Worked};
 use oracle::descent::{self, Standing};
-use oracle::tree;
+use oracle::{strip, tree};
 
 /// The library's memory, and the record if there is one. The other side's is made of it for each call.
 #[derive(Clone)]
@@ -13,22 +13,36 @@ pub struct Both {
     pub record: Record,
 }
 
+/// How each side prepares a run.
+type Prepares = fn(&[u64], &[f64], &[f64], &mut Areas, &mut Rows) -> Result<Record, Refusal>;
+type TheirPrepares =
+    fn(descent::Settings, &[f64], &[f64], &mut descent::Areas, &mut descent::Rows) -> Result<descent::Record, u64>;
+
 impl Both {
     /// Prepares on both sides: the run, or the number of the refusal.
     pub fn prepare(case: &Case) -> Result<Both, u64> {
+        Both::prepared(case, prepare, descent::prepare)
+    }
+
+    /// The same as the run of a strip.
+    pub fn prepare_strip(case: &Case) -> Result<Both, u64> {
+        Both::prepared(case, prepare_strip, strip::prepare_strip)
+    }
+
+    fn prepared(case: &Case, ours: Prepares, theirs: TheirPrepares) -> Result<Both, u64> {
         let (mut areas, mut rows) = (case.areas.clone(), case.rows.clone());
         let settings = case.settings.words();
-        let ours = prepare(&settings, &case.table, &case.start, &mut areas, &mut rows);
+        let ours = ours(&settings, &case.table, &case.start, &mut areas, &mut rows);
 
-        let mut theirs = other_side(&case.areas);
+        let mut their_areas = other_side(&case.areas);
         let mut their_rows = descent::Rows {
             values: case.rows.values.clone(),
             indices: case.rows.indices.clone(),
         };
         let settings = settings_of(&settings);
-        let record = descent::prepare(settings, &case.table, &case.start, &mut theirs, &mut their_rows);
+        let record = theirs(settings, &case.table, &case.start, &mut their_areas, &mut their_rows);
 
-        same_areas(&areas, &theirs);
+        same_areas(&areas, &their_areas);
         same_rows(&rows, &their_rows);
         let ours = ours.map_err(|refusal| u64::from(refusal.0));
         assert_eq!(

@@ -1,0 +1,4 @@
+pub mod Laws
+pub mod Values
+pub mod CallsHandTested
+pub mod CallsHandOut
