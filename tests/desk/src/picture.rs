@@ -88,11 +88,8 @@ fn numbers(names: &[String], labels: &[Label], cuts: &[usize]) -> String {
     labels.iter().map(number).collect()
 }
 
-/// What the colours say, below the map, and how well it fits.
-fn legend(map: &Map) -> String {
-    let n = map.frames.len();
-    let (first, last) = (map.frames[0].name(), map.frames[n - 1].name());
-    let y = SIDE + 10.0;
+/// The colours from the first frame to the last, in a row.
+pub(crate) fn patches(y: f64) -> String {
     let patch = |i: usize| {
         format!(
             "<rect x=\"{}\" y=\"{y}\" width=\"8\" height=\"8\" fill=\"{}\"/>\n",
@@ -100,10 +97,17 @@ fn legend(map: &Map) -> String {
             colour(i, 25)
         )
     };
-    let patches: String = (0..25).map(patch).collect();
+    (0..25).map(patch).collect()
+}
+
+/// What the colours say, below the map, and how well it fits.
+fn legend(map: &Map) -> String {
+    let n = map.frames.len();
+    let (first, last) = (map.frames[0].name(), map.frames[n - 1].name());
+    let y = SIDE + 10.0;
     let words = y + 8.0;
     let divergence = map.told_divergence();
-    patches
+    patches(y)
         + &format!("<text x=\"260\" y=\"{words}\">picture {first} to {last}, {n} frames in capture order; divergence {divergence}</text>\n")
 }
 

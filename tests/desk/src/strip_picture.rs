@@ -1,6 +1,6 @@
 //! The strip as a picture: a stroke for each frame along one line, and the largest gaps with the pictures on both sides of them.
 
-use crate::picture::colour;
+use crate::picture::{colour, patches};
 use crate::strip::Strip;
 use std::fmt::Write;
 
@@ -115,21 +115,13 @@ fn foot(strip: &Strip, named: usize) -> String {
     let n = strip.frames.len();
     let (first, last) = (strip.frames[0].name(), strip.frames[n - 1].name());
     let y = TOP + STROKE + 24.0;
-    let patch = |i: usize| {
-        format!(
-            "<rect x=\"{}\" y=\"{y}\" width=\"8\" height=\"8\" fill=\"{}\"/>\n",
-            50 + 8 * i,
-            colour(i, 25)
-        )
-    };
-    let patches: String = (0..25).map(patch).collect();
     let words = y + 8.0;
     let gaps = match named {
         0 => "no gap is named".to_string(),
         1 => "the largest gap is named".to_string(),
         _ => format!("the {named} largest gaps are named"),
     };
-    patches
+    patches(y)
         + &format!(
             "<text x=\"260\" y=\"{words}\">picture {first} to {last}, {n} frames in capture order; {gaps}</text>\n"
         )

@@ -1,16 +1,18 @@
 //! The map of a frame file: against the independent implementation of the rules, and what is said and drawn.
 
+mod rules;
+
 use brothanchor::map::{lists_of, map, settings, Lists, Map, NoMap, NoRun, Run, Wishes, MOST_FRAMES, RECORD};
 use brothanchor::pictures::left;
 use brothanchor::{parked, prepare, sizes, work, Refusal, Settings, LINK_RECORD};
-use oracle::descent::{self, Areas, Method, Record, Rows, Standing};
+use oracle::descent::{self, Areas, Record, Standing};
 use oracle::divergence::divergence;
 use oracle::frames::fetch;
 use oracle::lists::sample;
 use oracle::partner::{import, Link};
 use oracle::scatter::scatter;
 use oracle::take_out::take_out;
-use oracle::tree::Node;
+use rules::{areas_of, rows_of, rules_of};
 
 /// A run by the rules alone.
 struct Rules {
@@ -19,21 +21,6 @@ struct Rules {
     table: Vec<f64>,
     /// The positions before the last step.
     copy: Vec<f64>,
-}
-
-/// What the rules go by where the map program goes by these.
-fn rules_of(ours: &Settings) -> descent::Settings {
-    descent::Settings {
-        n: ours.n,
-        f: ours.f,
-        c: ours.c,
-        method: Method::BarnesHut,
-        perplexity: ours.perplexity,
-        rate: ours.rate,
-        iterations: ours.iterations,
-        angle: ours.angle,
-        minimum: ours.minimum,
-    }
 }
 
 impl Rules {
@@ -52,20 +39,7 @@ impl Rules {
         if let Some(seed) = wishes.seed {
             scatter(seed, n, 2, &mut start).expect("room for all");
         }
-        let mut areas = Areas {
-            positions: vec![0.0; sizes.cells],
-            increments: vec![0.0; sizes.cells],
-            gains: vec![0.0; sizes.cells],
-            affinities: vec![0.0; sizes.affinities],
-            indices: vec![0; sizes.indices],
-            offsets: vec![0; sizes.offsets],
-            forces: vec![0.0; sizes.forces],
-            nodes: vec![Node::default(); sizes.nodes],
-        };
-        let mut rows = Rows {
-            values: vec![0.0; n],
-            indices: vec![0; n],
-        };
+        let (mut areas, mut rows) = (areas_of(&sizes), rows_of(&sizes));
         let record = match list {
             None => descent::prepare(rules_of(&ours), &table, &start, &mut areas, &mut rows).expect("a good run"),
             Some(list) => import(rules_of(&ours), &start, list, &mut areas).expect("a good list"),

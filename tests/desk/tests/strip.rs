@@ -1,14 +1,16 @@
 //! Frames along one line: the strip of a frame file against the independent implementation of the rules, and what is said and drawn.
 
+mod rules;
+
 use brothanchor::map::{Wishes, RECORD};
 use brothanchor::strip::{settings, Strip, StripRun};
 use brothanchor::{sizes, Frame, Refusal, State};
-use oracle::descent::{self, Areas, Method, Rows, Standing};
+use oracle::descent::{self, Standing};
 use oracle::frames::{fetch, record};
 use oracle::lists::sample;
 use oracle::scatter::{scatter, SplitMix64};
 use oracle::strip::{hand_out, prepare_strip};
-use oracle::tree::Node;
+use rules::{areas_of, rows_of, rules_of};
 
 /// The sample's first frames.
 fn few(frames: usize) -> Vec<u8> {
@@ -23,47 +25,20 @@ fn bits(values: &[f64]) -> Vec<u64> {
     values.iter().map(|v| v.to_bits()).collect()
 }
 
-/// What the rules go by where a strip goes by these wishes.
-fn rules_of(n: usize, wishes: &Wishes) -> descent::Settings {
-    let ours = settings(n, wishes);
-    descent::Settings {
-        n,
-        f: ours.f,
-        c: 1,
-        method: Method::BarnesHut,
-        perplexity: ours.perplexity,
-        rate: ours.rate,
-        iterations: ours.iterations,
-        angle: 0.5,
-        minimum: ours.minimum,
-    }
-}
-
 /// Positions, order and gaps of a file's strip by the rules alone.
 fn by_the_rules(file: &[u8], wishes: &Wishes) -> (Vec<f64>, Vec<u32>, Vec<f64>) {
     let frames: Vec<_> = (0..file.len() / RECORD).filter_map(|i| fetch(file, i)).collect();
     let n = frames.len();
-    let sizes = sizes(&settings(n, wishes)).expect("good settings");
+    let ours = settings(n, wishes);
+    assert_eq!((ours.c, ours.angle), (1, 0.5));
+    let sizes = sizes(&ours).expect("good settings");
     let table: Vec<f64> = frames.iter().flat_map(|frame| frame.features).collect();
     let mut start: Vec<f64> = frames.iter().map(|frame| frame.starts[0]).collect();
     if let Some(seed) = wishes.seed {
         scatter(seed, n, 1, &mut start).expect("room for all");
     }
-    let mut areas = Areas {
-        positions: vec![0.0; sizes.cells],
-        increments: vec![0.0; sizes.cells],
-        gains: vec![0.0; sizes.cells],
-        affinities: vec![0.0; sizes.affinities],
-        indices: vec![0; sizes.indices],
-        offsets: vec![0; sizes.offsets],
-        forces: vec![0.0; sizes.forces],
-        nodes: vec![Node::default(); sizes.nodes],
-    };
-    let mut rows = Rows {
-        values: vec![0.0; n],
-        indices: vec![0; n],
-    };
-    let mut record = prepare_strip(rules_of(n, wishes), &table, &start, &mut areas, &mut rows).expect("a good run");
+    let (mut areas, mut rows) = (areas_of(&sizes), rows_of(&sizes));
+    let mut record = prepare_strip(rules_of(&ours), &table, &start, &mut areas, &mut rows).expect("a good run");
     while record.standing == Standing::Running {
         descent::work(&mut record, &mut areas, u32::MAX);
     }
