@@ -26,20 +26,27 @@ const EXAGGERATION: f64 = 12.0;
 pub struct NoMap {
     /// The number.
     pub refusal: Refusal,
-    /// With 16: the place of the first bad record, counted from 0.
-    pub record: Option<usize>,
+    /// What comes with it, where something does: with 16 the place of the first bad record, counted from 0.
+    pub with: Option<u64>,
 }
 
 impl From<Refusal> for NoMap {
     fn from(refusal: Refusal) -> NoMap {
-        NoMap { refusal, record: None }
+        NoMap { refusal, with: None }
+    }
+}
+
+impl From<(Refusal, u64)> for NoMap {
+    fn from((refusal, word): (Refusal, u64)) -> NoMap {
+        let with = refusal.brings().then_some(word);
+        NoMap { refusal, with }
     }
 }
 
 impl fmt::Display for NoMap {
     fn fmt(&self, f: &mut fmt::Formatter<'_>) -> fmt::Result {
-        match self.record {
-            Some(place) => write!(f, "{} (record {place}, counted from 0)", self.refusal),
+        match self.with {
+            Some(with) => write!(f, "{}", self.refusal.told(with)),
             None => write!(f, "{}", self.refusal),
         }
     }
@@ -148,7 +155,7 @@ impl Run {
     /// Read back from where it was parked. The frames have to be those that it was begun with; only their number is looked at.
     pub fn resume(file: &[u8], parked: &[u8]) -> Result<Run, NoRun> {
         let frames = read(file).map_err(NoRun::Frames)?;
-        let (record, areas) = wake(parked).map_err(|told| NoRun::Parked(bad_parked(told)))?;
+        let (record, areas) = wake(parked).map_err(|told| NoRun::Parked(told.into()))?;
         let [n, f, c, ..] = record.words;
         if [n, f, c] != [frames.len() as u64, FEATURES as u64, STARTS as u64] {
             return Err(NoRun::Other {
@@ -170,20 +177,21 @@ impl Run {
     }
 
     /// One iteration more, unless the run has ended.
-    pub fn iterate(&mut self) -> Result<(), Refusal> {
+    pub fn iterate(&mut self) -> Result<(), NoMap> {
         let [n, _, _, method, ..] = self.record.words;
         let units = if method == 0 { 2 * n + 1 } else { 2 * n + 2 };
         if !self.has_ended() {
             self.copy.copy_from_slice(&self.areas.positions);
         }
-        match work(&mut self.record, &mut self.areas, units as u32).kind {
-            Kind::Refused(refusal) => Err(refusal),
+        let worked = work(&mut self.record, &mut self.areas, units as u32);
+        match worked.kind {
+            Kind::Refused(refusal) => Err((refusal, worked.value()).into()),
             _ => Ok(()),
         }
     }
 
     /// Works it to its end. After each iteration `progress` is told how many are done of how many.
-    pub fn work(&mut self, mut progress: impl FnMut(u64, u64)) -> Result<(), Refusal> {
+    pub fn work(&mut self, mut progress: impl FnMut(u64, u64)) -> Result<(), NoMap> {
         while !self.has_ended() {
             self.iterate()?;
             progress(self.done(), self.of());
@@ -211,24 +219,23 @@ impl Run {
     }
 
     /// Takes the frames at these places out, which have to rise, and centres what is left.
-    pub fn take_out(&mut self, places: &[u32]) -> Result<(), Refusal> {
+    pub fn take_out(&mut self, places: &[u32]) -> Result<(), NoMap> {
         let mut table = table(&self.frames);
         let mut old = vec![0; self.frames.len()];
-        let left = take_out(&mut self.record, &mut self.areas, &mut table, places, &mut old)
-            .map_err(|(refusal, _)| refusal)?;
+        let left = take_out(&mut self.record, &mut self.areas, &mut table, places, &mut old)?;
         self.frames = old[..left].iter().map(|&place| self.frames[place as usize]).collect();
         self.copy.copy_from_slice(&self.areas.positions);
         Ok(())
     }
 
     /// Its lists as another tool reads them.
-    pub fn lists(&self) -> Result<Vec<u8>, Refusal> {
-        lists(&self.record, &self.areas).map_err(|(refusal, _)| refusal)
+    pub fn lists(&self) -> Result<Vec<u8>, NoMap> {
+        Ok(lists(&self.record, &self.areas)?)
     }
 
     /// The run as a file.
-    pub fn park(&self) -> Result<Vec<u8>, Refusal> {
-        parked(&self.record, &self.areas).map_err(|(refusal, _)| refusal)
+    pub fn park(&self) -> Result<Vec<u8>, NoMap> {
+        Ok(parked(&self.record, &self.areas)?)
     }
 
     /// The map as it stands, with the figure of the iteration just finished. A run just read back has none.
@@ -236,7 +243,7 @@ impl Run {
         let divergence = match divergence(&self.record, &self.areas, &self.copy) {
             Ok(figure) => Some(figure),
             Err((Refusal(17), _)) => None,
-            Err((refusal, _)) => return Err(refusal.into()),
+            Err(told) => return Err(told.into()),
         };
         // After a removal the areas are longer than what is left.
         let mut positions = self.areas.positions;
@@ -263,19 +270,13 @@ pub struct Lists {
 
 /// The lists of a parked run; its frames are not needed.
 pub fn lists_of(parked: &[u8]) -> Result<Lists, NoMap> {
-    let (record, areas) = wake(parked).map_err(bad_parked)?;
-    let bytes = lists(&record, &areas).map_err(|(refusal, _)| refusal)?;
+    let (record, areas) = wake(parked)?;
+    let bytes = lists(&record, &areas)?;
     Ok(Lists {
         frames: record.words[0] as usize,
         links: bytes.len() / LINK_RECORD,
         bytes,
     })
-}
-
-/// What is told of a parked run that is not read.
-fn bad_parked((refusal, place): (Refusal, u64)) -> NoMap {
-    let record = (refusal == Refusal(16)).then_some(place as usize);
-    NoMap { refusal, record }
 }
 
 /// Where the frames start on c components: by the first of their own starts, or by a scatter where there is a seed.
@@ -346,11 +347,7 @@ pub fn read(file: &[u8]) -> Result<Vec<Frame>, NoMap> {
     if file.len() > MOST_FRAMES * RECORD {
         return Err(Refusal(7).into());
     }
-    let bad = |(refusal, place)| NoMap {
-        refusal,
-        record: Some(place),
-    };
-    let count = frames(file).map_err(bad)?;
+    let count = frames(file).map_err(|(refusal, place)| (refusal, place as u64))?;
     Ok((0..count).map(|i| frame(file, i)).collect())
 }
 

@@ -272,7 +272,14 @@ fn found(change: fn(&mut Record, &mut Areas)) -> Option<Fault> {
     assert_eq!(work(&mut record, &mut areas, 4).fault, None);
     change(&mut record, &mut areas);
     let worked = work(&mut record, &mut areas, 9);
-    let number = if worked.fault == Some(Fault::Areas) { 12 } else { 13 };
+    let number = match worked.fault.expect("it is refused at its entry") {
+        Fault::Settings(_) => 21,
+        Fault::Counters => 22,
+        Fault::Areas => 12,
+        Fault::Offsets(_) => 23,
+        Fault::Index(_) => 24,
+        Fault::Tree(_) => 25,
+    };
     assert_eq!((worked.kind, worked.units), (Kind::Refused(Refusal(number)), 0));
     worked.fault
 }
@@ -280,7 +287,10 @@ fn found(change: fn(&mut Record, &mut Areas)) -> Option<Fault> {
 #[test]
 fn what_is_found_bad() {
     assert_eq!(found(|record, _| record.words[2] = 4), Some(Fault::Settings(6)));
-    assert_eq!(found(|record, _| record.words[3] = 2), Some(Fault::Settings(13)));
+    assert_eq!(found(|record, _| record.words[3] = 2), Some(Fault::Settings(21)));
+    let both = found(|record, _| (record.words[9], record.words[4]) = (3, 0));
+    assert_eq!(both, Some(Fault::Settings(2)), "settings come before the state");
+    assert_eq!(found(|record, _| record.words[9] = 3), Some(Fault::Counters));
     assert_eq!(found(|record, _| record.words[12] += 1), Some(Fault::Counters));
     assert_eq!(found(|_, areas| areas.forces.clear()), Some(Fault::Areas));
     assert_eq!(found(|_, areas| areas.nodes.clear()), Some(Fault::Areas));
@@ -304,6 +314,6 @@ fn a_refused_call_keeps_every_bit_of_the_record() {
     record.words[8] = 0x7ff8_0000_0000_1234; // a minimum that is another NaN
     record.words[11] = 99;
     let before = record;
-    assert_eq!(work(&mut record, &mut areas, 1).kind, Kind::Refused(Refusal(13)));
+    assert_eq!(work(&mut record, &mut areas, 1).kind, Kind::Refused(Refusal(22)));
     assert_eq!(record, before);
 }
