@@ -382,3 +382,58 @@ impl Map {
         picture::svg(self)
     }
 }
+
+#[cfg(test)]
+mod tests {
+    use super::*;
+
+    /// A run of the sample's first frames, after an iteration.
+    fn begun() -> Run {
+        let sample = include_bytes!("../../../sample.frames");
+        let mut run = Run::begin(&sample[..24 * RECORD], &Wishes::default()).expect("a good file");
+        run.iterate().expect("a good run");
+        run
+    }
+
+    /// What every call says of a run that was altered.
+    fn said(alter: impl Fn(&mut Run)) -> String {
+        let mut run = begun();
+        alter(&mut run);
+        let said = run.iterate().expect_err("bad").to_string();
+        assert_eq!(run.park().expect_err("bad").to_string(), said);
+        assert_eq!(run.lists().expect_err("bad").to_string(), said);
+        assert_eq!(run.take_out(&[3]).expect_err("bad").to_string(), said);
+        assert_eq!(run.map().expect_err("bad").to_string(), said);
+        said
+    }
+
+    #[test]
+    fn what_to_look_at_in_a_run() {
+        for (said, words) in [
+            (
+                said(|run| run.record.words[5] = 0),
+                "refused 21: the settings are bad: the learning rate is not a positive number (3)",
+            ),
+            (
+                said(|run| run.areas.offsets[18] = 0),
+                "refused 23: the offsets are bad: the list of frame 17 ends before it begins or past 2·n·k (look at offset 18)",
+            ),
+            (
+                said(|run| run.areas.indices[5] = 24),
+                "refused 24: a listed index is bad: the one at place 5 names no frame",
+            ),
+            (
+                said(|run| {
+                    run.record.words[11] = 1;
+                    run.record.words[12] += 1;
+                    run.areas.nodes[2].count = 25;
+                }),
+                "refused 25: the tree is bad: look at node 2, the first that is faulty",
+            ),
+        ] {
+            assert_eq!(said, words);
+        }
+        let counters = said(|run| run.record.words[12] += 1);
+        assert!(counters.starts_with("refused 22: the counters are bad: "), "{counters}");
+    }
+}
