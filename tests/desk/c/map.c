@@ -64,6 +64,24 @@ static void set(uint64_t *settings, size_t n) {
     settings[BROTHANCHOR_MINIMUM] = bits(1e-7);
 }
 
+static void told(const char *what, uint32_t number, uint32_t wanted, const uint64_t *answer, uint64_t first) {
+    if (number != wanted || answer[0] != first || answer[1] != 7) {
+        fprintf(stderr, "%s: %u, %" PRIx64 ", %" PRIx64 "\n", what, (unsigned)number, answer[0], answer[1]);
+        exit(1);
+    }
+}
+
+/* Sizes as only C can ask for them: settings that lack a word, a method that there is not, too few words to tell in. */
+static void no_sizes(uint64_t *settings) {
+    const uint64_t method = settings[BROTHANCHOR_METHOD];
+    uint64_t answer[2] = {5, 7};
+    told("sizes, two words", brothanchor_sizes(settings, BROTHANCHOR_SETTINGS_WORDS, answer, 2), 12, answer, 5);
+    told("sizes, eight words", brothanchor_sizes(settings, BROTHANCHOR_SETTINGS_WORDS - 1, answer, 2), 21, answer, 5);
+    settings[BROTHANCHOR_METHOD] = 2;
+    told("sizes, no method", brothanchor_sizes(settings, BROTHANCHOR_SETTINGS_WORDS, answer, 2), 21, answer, 5);
+    settings[BROTHANCHOR_METHOD] = method;
+}
+
 static void lend(struct areas *a, const uint64_t *sizes) {
     a->positions = (double *)room(sizes[BROTHANCHOR_CELLS], sizeof(double));
     a->increments = (double *)room(sizes[BROTHANCHOR_CELLS], sizeof(double));
@@ -119,13 +137,6 @@ static uint32_t diverge(const struct areas *a, const uint64_t *sizes, size_t wor
         a->affinities, sizes[BROTHANCHOR_AFFINITIES], a->indices, sizes[BROTHANCHOR_INDICES],
         a->offsets, sizes[BROTHANCHOR_OFFSETS], a->forces, sizes[BROTHANCHOR_FORCES],
         a->nodes, sizes[BROTHANCHOR_NODES], a->copy, sizes[BROTHANCHOR_CELLS], answer, length);
-}
-
-static void told(const char *what, uint32_t number, uint32_t wanted, const uint64_t *answer, uint64_t first) {
-    if (number != wanted || answer[0] != first || answer[1] != 7) {
-        fprintf(stderr, "%s: %u, %" PRIx64 ", %" PRIx64 "\n", what, (unsigned)number, answer[0], answer[1]);
-        exit(1);
-    }
 }
 
 /* The divergence of an ended run; first what only C can ask for: no word to tell in, a record that lacks a word. Of the answer
@@ -506,6 +517,7 @@ int main(int words, char **word) {
     }
     for (uint32_t i = 0; i < n; i++) places[i] = i;
     set(settings, n);
+    no_sizes(settings);
     refused("sizes", brothanchor_sizes(settings, BROTHANCHOR_SETTINGS_WORDS, sizes, BROTHANCHOR_SIZES_WORDS));
     lend(&areas, sizes);
     prepare(&areas, settings, sizes, table, start);

@@ -303,6 +303,30 @@ fn what_is_found_bad() {
 }
 
 #[test]
+fn words_that_are_no_settings() {
+    for method in [Method::Exact, Method::BarnesHut] {
+        let words = settings(method, 3).words();
+        let sizes = sizes(&settings(method, 3)).expect("good settings");
+        let (mut areas, mut rows) = (Areas::new(&sizes, sizes.nodes), Rows::new(&sizes));
+        let mut told = |words: &[u64]| prepare(words, &[], &[], &mut areas, &mut rows).err();
+        for fewer in 0..9 {
+            assert_eq!(told(&words[..fewer]), Some(Refusal(21)), "{fewer} words");
+        }
+        let mut other = words;
+        other[3] = 2;
+        other[2] = 0;
+        assert_eq!(
+            told(&other),
+            Some(Refusal(21)),
+            "a method that there is not comes before 1"
+        );
+        other[3] = words[3];
+        assert_eq!(told(&other), Some(Refusal(1)));
+        assert_eq!(told(&words), Some(Refusal(7)), "no table");
+    }
+}
+
+#[test]
 fn words_that_are_no_record() {
     let record = Record { words: [u64::MAX; 14] };
     assert_eq!((record.state(), record.iterations(), record.units()), (None, 0, 0));
