@@ -49,7 +49,7 @@ module _ {s : Shown} {found : Fault} (x : Explained s found) where
   placed n form e ek ev =
       record {
         so-where-told = λ q. subst (Reason s) (numbered-by found q ∙ e (faultValue found)) (x .has-reason);
-        told-where-so = λ p r. (let o = x .no-other (form p) r in (ap faultNumber o ∙ ek p, ap faultValue o ∙ ev p))
+        told-where-so = λ p r. (let o = x .no-other (form p) r in (ap faultNumber o ∙ ek p, ap faultValue o ∙ ev p));
       }
 
   -- a number that comes with none
@@ -57,7 +57,7 @@ module _ {s : Shown} {found : Fault} (x : Explained s found) where
   bare n f e ek ev =
       record {
         so-where-told = λ q. (let o = numbered-by found q ∙ e (faultValue found) in (subst (Reason s) o (x .has-reason), ap faultValue o ∙ ev));
-        told-where-so = λ p r. (let o = x .no-other f (r .0) in (ap faultNumber o ∙ ek, ap faultValue o ∙ ev ∙ sym (r .1)))
+        told-where-so = λ p r. (let o = x .no-other f (r .0) in (ap faultNumber o ∙ ek, ap faultValue o ∙ ev ∙ sym (r .1)));
       }
 
   -- no refusal: all tests pass
@@ -135,15 +135,15 @@ module _ (w : List ℕ) where
 
   unread-settings : (k : ℕ) → UnreadSettings w k → unreadFault w ≡ BadSettings k
   unread-settings k u = elim (u .method-or-number) [
-        | inl m ↦ method-answer (u .words-enough) (m .0) ∙ ap (λ (x : ℕ). BadSettings x) (sym (m .1))
-        | inr n ↦ number-answer (u .words-enough) (n .0) (n .1)
-      ]
+    | inl m ↦ method-answer (u .words-enough) (m .0) ∙ ap (λ (x : ℕ). BadSettings x) (sym (m .1))
+    | inr n ↦ number-answer (u .words-enough) (n .0) (n .1)
+  ]
 
   unread-counters : UnreadCounters w → unreadFault w ≡ Counters
   unread-counters u = elim u [
-        | inl h ↦ few-answer h
-        | inr t ↦ state-answer (t .words-enough) (t .method-there) (t .settings-pass)
-      ]
+    | inl h ↦ few-answer h
+    | inr t ↦ state-answer (t .words-enough) (t .method-there) (t .settings-pass)
+  ]
 
   -- the settings, with 21 for a method that there is not
   pub unread-21 : Tells (unreadFault w) 21 (UnreadSettings w)
@@ -151,7 +151,7 @@ module _ (w : List ℕ) where
   unread-21 =
       record {
         so-where-told = λ q. subst UnreadReason (numbered-by (unreadFault w) q) unread-reason;
-        told-where-so = λ p u. (let o = unread-settings p u in (ap faultNumber o, ap faultValue o))
+        told-where-so = λ p u. (let o = unread-settings p u in (ap faultNumber o, ap faultValue o));
       }
 
   -- counters: too few words, or a state that there is not
@@ -160,7 +160,7 @@ module _ (w : List ℕ) where
   unread-22 =
       record {
         so-where-told = λ q. (let o = numbered-by (unreadFault w) q in (subst UnreadReason o unread-reason, ap faultValue o));
-        told-where-so = λ p u. (let o = unread-counters (u .0) in (ap faultNumber o, ap faultValue o ∙ sym (u .1)))
+        told-where-so = λ p u. (let o = unread-counters (u .0) in (ap faultNumber o, ap faultValue o ∙ sym (u .1)));
       }
 
   -- there is no third
