@@ -1,19 +1,20 @@
--- Each of the numbers 12 and 21 to 25 is told exactly where its condition holds and none before it does, with the lowest place; 13 is told nowhere. Assumes nothing.
+-- Each of the numbers 12 and 21 to 25 is told exactly where its condition holds and none before it does, with the lowest place, of what the entry tests find; no fault has 13. Assumes nothing.
 use mathlib.Core.Path.{_≡_, refl, sym, ap, subst, _∙_}
 use mathlib.Core.List.{List}
-use mathlib.Core.Bool.{true, false, cond}
+use mathlib.Core.Bool.{true, false, cond, true≢false}
 use mathlib.Core.Logic.{_⊎_, inl, inr}
 use Prim.Native.Nat.{ℕ, _<_, _≤_}
 use native.Mathlib.Omega.{arith}
-use lib.Dec.{eqb, ltb}
+use lib.Dec.{eqb, ltb, leb}
 use lib.ListN.{length}
-use borrow.Author.Tests.{eq-eqb, ne-eqb, eqb-true, eqb-false, lt-ltb, le-ltb, ltb-true, ltb-false}
+use Rattle.laws.specs.Area.{num}
+use borrow.Author.Tests.{eq-eqb, ne-eqb, eqb-true, eqb-false, lt-ltb, le-ltb, ltb-true, ltb-false, le-leb, leb-false}
 use Rattle.laws.proofs.Bools.{by-bool}
 use Rattle.run_record.specs.Record.{settingsFault}
 use Rattle.run_entry.specs.declared.Fault.{Fault}
 use Rattle.run_entry.specs.declared.Fault.the-variants.{Fine, Settings as BadSettings, Counters, Areas, Offsets, Index, Tree as BadTree}
 use Rattle.run_entry.specs.Entry.{faultNumber}
-use Rattle.record_words.specs.RecordWords.{settingsFine, settingsOf}
+use Rattle.record_words.specs.RecordWords.{settingsFine, settingsOf, runFine}
 use Rattle.fault_words.specs.FaultWords.{faultValue, unreadFault}
 use Rattle.reasons.specs.Reasons.{Shown, SettingsNumber, SettingsFail, CountersFail, AreasFail, OffsetsFail, IndexFail, TreeFail, AllPass, Reason, UnreadSettings, UnreadCounters, Tells, Placeless}
 use Rattle.reasons.proofs.Calls.{Explained}
@@ -97,7 +98,12 @@ module _ {s : Shown} {found : Fault} (x : Explained s found) where
 
 -- ---- THEOREM: what is told of words that are no record
 
-module _ (w : List ℕ) where
+module _ (w : List ℕ) (none : runFine w ≡ false) where
+  -- what is left to be wrong
+  state-bad : 14 ≤ length w → settingsFine w ≡ true → 2 < num w 9
+  unfolding runFine
+  state-bad h e = by-bool (2 < num w 9) (leb (num w 9) 2) (λ t. (let y : runFine w ≡ true = rw (le-leb 14 (length w) h, e, t) in absurd (true≢false (sym y ∙ none)))) (λ t. leb-false (num w 9) 2 t)
+
   few-answer : length w < 14 → unreadFault w ≡ Counters
   few-answer h = rw (lt-ltb (length w) 14 h)
 
@@ -129,7 +135,7 @@ module _ (w : List ℕ) where
       (λ a. (let h = ltb-false (length w) 14 a in
       by-bool (UnreadReason (unreadFault w)) (settingsFine w)
       (λ b. by-bool (UnreadReason (unreadFault w)) (eqb (settingsFault (settingsOf w)) 0)
-      (λ c. (let z = eqb-true (settingsFault (settingsOf w)) 0 c in so (state-answer h b z) (inr (record { words-enough = h; method-there = b; settings-pass = z }))))
+      (λ c. (let z = eqb-true (settingsFault (settingsOf w)) 0 c in so (state-answer h b z) (inr (record { words-enough = h; method-there = b; settings-pass = z; no-such-state = state-bad h b }))))
       (λ c. (let n : SettingsNumber (settingsOf w) (settingsFault (settingsOf w)) = record { number-is = refl; some-number = eqb-false (settingsFault (settingsOf w)) 0 c } in so (number-answer h b n) (record { words-enough = h; method-or-number = inr (b, n) }))))
       (λ b. so (method-answer h b) (record { words-enough = h; method-or-number = inl (b, refl) }))))
 

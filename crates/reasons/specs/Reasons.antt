@@ -7,6 +7,7 @@ use Prim.Native.Nat.{ℕ, _+_, _<_, _≤_, min}
 use lib.Dec.{eqb, ltb}
 use lib.ListN.{length}
 use lib.Ieee.{Float}
+use Rattle.laws.specs.Area.{num}
 use Rattle.tree_node.specs.declared.Node.{Node}
 use Rattle.tree_node.specs.Arena.{nameable}
 use Rattle.tree.specs.Insert.{tree}
@@ -175,11 +176,12 @@ pub record UnreadSettings (w : List ℕ) (k : ℕ) : Type 0 where
   pub words-enough : 14 ≤ length w
   pub method-or-number : ((settingsFine w ≡ false) × (k ≡ 21)) ⊎ ((settingsFine w ≡ true) × SettingsNumber (settingsOf w) k)
 
--- the state: the settings before it are good
+-- the state is none of the three; the settings before it are good
 pub record UnreadState (w : List ℕ) : Type 0 where
   pub words-enough : 14 ≤ length w
   pub method-there : settingsFine w ≡ true
   pub settings-pass : settingsFault (settingsOf w) ≡ 0
+  pub no-such-state : 2 < num w 9
 
 -- too few words, or the state
 abbrev pub UnreadCounters : List ℕ → Type 0
