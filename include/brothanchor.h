@@ -30,8 +30,8 @@
  *  20  strip, preparing and handing out: the settings are outside the profile, which is c 1, Barnes-Hut, an angle of at most 0.5 and
  *      n at most 1024
  *  21  the words are no settings, or a record's settings are bad: 1 to 10 would be given of them, or there is no such method
- *  22  the words are no record, or its counters or phase are bad: state, iterations done, units done in the iteration and in all do
- *      not fit each other
+ *  22  of a record there are fewer than fourteen words, there is no such state, or counters or phase are bad: state, iterations
+ *      done, units done in the iteration and in all do not fit each other
  *  23  the offsets are bad: the first is not 0, or the end of a frame's list falls below the one before it or passes 2*n*k
  *  24  a listed index names no frame
  *  25  the tree is bad, inside an iteration: the number of nodes in use is, or a node

@@ -377,16 +377,26 @@ static void hand_out(struct areas *a, const uint64_t *sizes, size_t n, uint32_t 
 }
 
 /* Why the run is refused, by all six calls that are lent one: the number, and what comes with it. A work call tells besides what it
- * found bad. */
+ * found bad. Before each call its answer has a mark that no call tells; targets and the list of samples are empty. */
 static void why(const char *what, struct areas *a, const uint64_t *sizes, double *table, uint32_t number, uint64_t fault,
                 uint64_t with) {
     const size_t words = BROTHANCHOR_RECORD_WORDS;
-    uint64_t answer[2] = {5, 7}, worked[BROTHANCHOR_ANSWER_WORDS];
+    const uint64_t mark = 77;
+    uint8_t bytes[1] = {0};
+    uint32_t places[1] = {0};
+    double gaps[1] = {0};
+    uint64_t answer[2] = {0, 7}, worked[BROTHANCHOR_ANSWER_WORDS];
+    answer[0] = mark;
     told(what, diverge(a, sizes, words, answer, 2), number, answer, with);
-    told(what, park(a, sizes, words, NULL, 0, answer, 2), number, answer, with);
-    told(what, lists(a, sizes, words, NULL, 0, answer, 2), number, answer, with);
-    told(what, strip(a, sizes, words, NULL, 0, NULL, 0, answer, 2), number, answer, with);
-    told(what, take_out(a, sizes, words, table, NULL, 0, a->row_indices, sizes[BROTHANCHOR_ROWS], answer, 2), number, answer, with);
+    answer[0] = mark;
+    told(what, park(a, sizes, words, bytes, 0, answer, 2), number, answer, with);
+    answer[0] = mark;
+    told(what, lists(a, sizes, words, bytes, 0, answer, 2), number, answer, with);
+    answer[0] = mark;
+    told(what, strip(a, sizes, words, places, 0, gaps, 0, answer, 2), number, answer, with);
+    answer[0] = mark;
+    told(what, take_out(a, sizes, words, table, places, 0, a->row_indices, sizes[BROTHANCHOR_ROWS], answer, 2), number, answer, with);
+    for (size_t i = 0; i < BROTHANCHOR_ANSWER_WORDS; i++) worked[i] = mark;
     if (try_work(a, sizes, 1, worked) != number || worked[BROTHANCHOR_KIND] != 3 || worked[BROTHANCHOR_NUMBER] != number ||
         worked[BROTHANCHOR_UNITS] != 0 || worked[BROTHANCHOR_FAULT] != fault || worked[BROTHANCHOR_VALUE] != with) {
         fprintf(stderr, "work, %s: %" PRIu64 ", %" PRIu64 ", %" PRIu64 "\n", what, worked[BROTHANCHOR_NUMBER],

@@ -26,7 +26,9 @@ const EXAGGERATION: f64 = 12.0;
 pub struct NoMap {
     /// The number.
     pub refusal: Refusal,
-    /// What comes with it, where something does: with 16 the place of the first bad record, counted from 0.
+    /// What comes with it, where something does: with 16 the place of the first bad record, counted from 0; of 21 to 25, which a
+    /// call tells of a run, with 21 the number of what is bad in the settings, with 22 nothing, with 23 the frame, with 24 the place
+    /// of the index, with 25 the node. A 21 of words that are no settings comes with nothing.
     pub with: Option<u64>,
 }
 
@@ -386,6 +388,7 @@ impl Map {
 #[cfg(test)]
 mod tests {
     use super::*;
+    use crate::handing::hand_out;
 
     /// A run of the sample's first frames, after an iteration.
     fn begun() -> Run {
@@ -395,7 +398,7 @@ mod tests {
         run
     }
 
-    /// What every call says of a run that was altered.
+    /// What every call says of a run that was altered; a strip too, since the run is looked at before its profile.
     fn said(alter: impl Fn(&mut Run)) -> String {
         let mut run = begun();
         alter(&mut run);
@@ -403,6 +406,8 @@ mod tests {
         assert_eq!(run.park().expect_err("bad").to_string(), said);
         assert_eq!(run.lists().expect_err("bad").to_string(), said);
         assert_eq!(run.take_out(&[3]).expect_err("bad").to_string(), said);
+        let handed = hand_out(&run.record, &run.areas, &mut [0; 24], &mut [0.0; 24]);
+        assert_eq!(NoMap::from(handed.expect_err("bad")).to_string(), said);
         assert_eq!(run.map().expect_err("bad").to_string(), said);
         said
     }

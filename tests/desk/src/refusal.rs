@@ -45,7 +45,7 @@ impl Refusal {
             19 => "a rule of the partner's list fails at a record",
             20 => "the settings are outside the strip profile: one component, Barnes-Hut, an angle of at most 0.5, at most 1024 frames",
             21 => "the settings are bad",
-            22 => "the counters are bad: the state, the iterations done, the units done in this one and in all do not fit each other, or the words are no record",
+            22 => "the counters are bad: the state, the iterations done, the units done in this one and in all do not fit each other, there is no such state, or there are fewer than fourteen words",
             23 => "the offsets are bad",
             24 => "a listed index is bad",
             25 => "the tree is bad",
@@ -60,23 +60,29 @@ impl Refusal {
 
     /// Number, meaning and what came with the number, in words: what to look at.
     pub fn told(self, with: u64) -> String {
+        let plain = self.plain();
         match self.0 {
-            16 | 19 => format!("{self} (record {with}, counted from 0)"),
-            21 => format!("{self}: {}", Refusal::of_settings(with)),
+            16 | 19 => format!("{plain} (record {with}, counted from 0)"),
+            21 => format!("{plain}: {}", Refusal::of_settings(with)),
             23 if with == 0 => {
-                format!("{self}: the first is not 0, or the list of frame 0 ends past 2·n·k (look at offsets 0 and 1)")
+                format!("{plain}: the first is not 0, or the list of frame 0 ends past 2·n·k (look at offsets 0 and 1)")
             }
             23 => format!(
-                "{self}: the list of frame {with} ends before it begins or past 2·n·k (look at offset {})",
+                "{plain}: the list of frame {with} ends before it begins or past 2·n·k (look at offset {})",
                 with + 1
             ),
-            24 => format!("{self}: the one at place {with} names no frame"),
+            24 => format!("{plain}: the one at place {with} names no frame"),
             25 if with == 0 => {
-                format!("{self}: the number of nodes in use is 0 or above the arena, or node 0 is faulty")
+                format!("{plain}: the number of nodes in use is 0 or above the arena, or node 0 is faulty")
             }
-            25 => format!("{self}: look at node {with}, the first that is faulty"),
-            _ => self.to_string(),
+            25 => format!("{plain}: look at node {with}, the first that is faulty"),
+            _ => plain,
         }
+    }
+
+    /// Number and meaning.
+    fn plain(self) -> String {
+        format!("refused {}: {}", self.0, self.meaning())
     }
 
     /// What is bad in settings, by what comes with 21: the number that a preparation would give, where one does.
@@ -96,9 +102,13 @@ impl Refusal {
     }
 }
 
+/// Where nothing came with the number. So 21 is of words that are no settings: a preparation has no other reason for it.
 impl fmt::Display for Refusal {
     fn fmt(&self, f: &mut fmt::Formatter<'_>) -> fmt::Result {
-        write!(f, "refused {}: {}", self.0, self.meaning())
+        match self.0 {
+            21 => f.write_str(&self.told(0)),
+            _ => f.write_str(&self.plain()),
+        }
     }
 }
 
@@ -146,6 +156,7 @@ mod tests {
         for with in (1..=7).chain([9, 10]) {
             assert!(told(21, with).ends_with(&format!(" ({with})")), "{with}");
         }
+        assert_eq!(Refusal(21).to_string(), told(21, 0), "nothing came with it");
     }
 
     #[test]

@@ -2,9 +2,9 @@
 //! afterwards has to be the same, bit for bit.
 
 use crate::case::Case;
-use brothanchor::{prepare, prepare_strip, work, Areas, Kind, Method, Node, Record, Refusal, Rows, Worked};
+use brothanchor::{prepare, prepare_strip, work, Areas, Kind, Node, Record, Refusal, Rows, Worked};
 use oracle::descent;
-use oracle::record::{self, record_of};
+use oracle::record::{record_of, settings_of};
 use oracle::{strip, tree};
 
 /// The library's memory, and the record if there is one. The other side's is made of it for each call.
@@ -40,7 +40,7 @@ impl Both {
             values: case.rows.values.clone(),
             indices: case.rows.indices.clone(),
         };
-        let settings = settings_of(&settings);
+        let settings = settings_of(&settings).expect("settings");
         let record = theirs(settings, &case.table, &case.start, &mut their_areas, &mut their_rows);
 
         same_areas(&areas, &their_areas);
@@ -169,13 +169,6 @@ fn fault_word(fault: descent::Fault) -> u64 {
 /// Number and place of what the entry tests found.
 pub fn told_of(fault: descent::Fault) -> (u64, u64) {
     (fault.number(), fault.place())
-}
-
-/// The settings that nine words say; a method that there is not is Barnes-Hut.
-pub fn settings_of(words: &[u64]) -> descent::Settings {
-    let mut words = words.to_vec();
-    words[3] = words[3].min(Method::BarnesHut as u64);
-    record::settings_of(&words).expect("nine words")
 }
 
 fn words_of(record: &descent::Record) -> [u64; 14] {

@@ -2,14 +2,14 @@
 //! exaggeration's end; before, inside and after iterations, and on whatever a caller may have altered. Figure, number and what
 //! comes with the number have to be the same, and nothing may have changed.
 
-use crate::both::{bits, number, other_side, settings_of, told_of, Both};
+use crate::both::{bits, number, other_side, told_of, Both};
 use crate::case::{marked_nodes, Case};
-use crate::met::{all_met, meet, Met};
+use crate::met::{all_met, meet, told_name, Met};
 use crate::random::Random;
 use crate::{damage_node, damage_record, damage_value, each_seed, setting};
 use brothanchor::{divergence, sizes, Kind, Method, Settings, Sizes, State};
 use oracle::divergence::{self as rules, Refusal};
-use oracle::record::record_of;
+use oracle::record::{record_of, settings_of};
 
 /// The most frames of most runs, and of one in twenty.
 const FEW: usize = 60;
@@ -171,14 +171,16 @@ fn work(both: &mut Both, budget: u32) -> Option<bool> {
 
 /// Inside an iteration it is 17; where a node is bad, 25.
 fn inside(random: &mut Random, both: &Both, copy: &[f64], met: &mut Met) {
-    let method = format!("{:?}", settings_of(&both.record.words).method);
+    let method = format!("{:?}", settings_of(&both.record.words).expect("a record").method);
     assert_eq!(told(both, copy), (17, 0));
     meet(met, format!("{method}, inside an iteration"));
     let mut bad = both.clone();
     let used = (both.record.words[13] as usize).min(both.areas.nodes.len());
     damage_node(random, &mut bad.areas.nodes[..used]);
-    if told(&bad, copy).0 == 25 {
+    let told = told(&bad, copy);
+    if told.0 == 25 {
         meet(met, format!("{method}, a bad node inside an iteration"));
+        meet(met, told_name(told));
     }
 }
 
@@ -241,7 +243,7 @@ fn altered(random: &mut Random, stand: &Stand, plain: Told, met: &mut Met) {
     meet(met, format!("{method:?}, {name}"));
     match told {
         (0, figure) => meet(met, format!("{method:?}, a figure that is {}", kind(figure))),
-        (number, _) => meet(met, number.to_string()),
+        _ => meet(met, told_name(told)),
     }
 }
 
@@ -542,8 +544,9 @@ const BY_ONE: &[&str] = &[
     "17",
     "21",
     "22",
-    "23",
-    "24",
+    "23 with a place",
+    "24 with a place",
+    "25 with a place",
 ];
 
 #[test]

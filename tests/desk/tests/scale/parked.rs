@@ -4,7 +4,7 @@
 
 use crate::both::{node_bits, number, other_side, told_of, Both};
 use crate::case::{marked_nodes, shorten, Case};
-use crate::met::{all_met, meet, Met};
+use crate::met::{all_met, meet, told_name, Met};
 use crate::random::Random;
 use crate::{damage, damage_record, each_seed, setting};
 use brothanchor::{
@@ -387,7 +387,7 @@ fn worked(random: &mut Random, met: &mut Met) {
             }
             let bytes = parked_bytes(&both.record, &both.areas) - random.one_of(&[0, 0, 0, 1, 32]);
             let (told, _) = park_both(&other, bytes);
-            meet(met, format!("damaged: {}", told.0));
+            meet(met, format!("damaged: {}", told_name(told)));
         }
         let few = random.within(1, 60);
         let budget = random.one_of(&[1, few, case.settings.iteration(), 1 << 20]);
@@ -412,8 +412,9 @@ fn runs_that_are_parked_as_they_go() {
     let met = each_seed("parked as they go", setting("BROTHANCHOR_RUNS", 300), worked);
     let methods =
         ["0", "17", "Stopped", "Finished"].map(|what| [format!("Exact, {what}"), format!("BarnesHut, {what}")]);
-    let numbers = [0, 12, 15, 17, 21, 22, 23, 24, 25].map(|number| format!("damaged: {number}"));
-    let wanted = methods.into_iter().flatten().chain(numbers);
+    let numbers = ["0", "12", "15", "17", "21", "22"].map(|number| format!("damaged: {number}"));
+    let placed = [23, 24, 25].map(|number| format!("damaged: {number} with a place"));
+    let wanted = methods.into_iter().flatten().chain(numbers).chain(placed);
     all_met(&met, wanted);
 }
 

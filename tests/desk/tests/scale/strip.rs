@@ -4,7 +4,7 @@
 
 use crate::both::{number, other_side, told_of, Both};
 use crate::case::{marked_nodes, numbers, shorten, values, Case};
-use crate::met::{all_met, meet, Met};
+use crate::met::{all_met, meet, told_name, Met};
 use crate::random::Random;
 use crate::{damage, damage_record, each_seed, setting};
 use brothanchor::{
@@ -134,7 +134,7 @@ fn not_handed(random: &mut Random, both: &Both, met: &mut Met) {
             _ => damage(random, &mut other),
         }
         let (told, ..) = hand_both(&other, n - usize::from(random.once_in(6)), n);
-        meet(met, format!("damaged: {}", told.0));
+        meet(met, format!("damaged: {}", told_name(told)));
     }
 }
 
@@ -332,7 +332,8 @@ fn strips_of_runs() {
         "thinned",
         "none taken out",
     ];
-    let damaged = [0, 12, 15, 21, 22, 23, 24].map(|number| format!("damaged: {number}"));
+    let damaged =
+        ["0", "12", "15", "21", "22", "23 with a place", "24 with a place"].map(|number| format!("damaged: {number}"));
     let short = (0..8).map(|which| format!("area {which} short"));
     let wanted = named.iter().chain(&KINDS).map(ToString::to_string);
     all_met(&met, wanted.chain(damaged).chain(short));

@@ -5,7 +5,7 @@
 
 use crate::both::{self, bits, number, other_side, same_areas, Both};
 use crate::case::{marked_nodes, numbers, values, Case};
-use crate::met::{all_met, meet, Met};
+use crate::met::{all_met, meet, told_name, Met};
 use crate::parked::{settings, STATES};
 use crate::random::Random;
 use crate::{damage, damage_record, damage_value, each_seed, setting};
@@ -31,12 +31,13 @@ fn named(told: Result<usize, Refusal>) -> ((u64, u64), Told) {
         Ok(left) => return ((0, left as u64), Ok(left as u64)),
         Err(refusal) => refusal,
     };
+    let told = (refusal.number(), refusal.place());
     let name = match refusal {
         Refusal::List => "18 for the list".to_string(),
         Refusal::Links => "18 for the links".to_string(),
-        _ => refusal.number().to_string(),
+        _ => told_name(told),
     };
-    ((refusal.number(), refusal.place()), Err(name))
+    (told, Err(name))
 }
 
 impl Lent {
@@ -407,8 +408,9 @@ fn wanted() -> Vec<String> {
             add(&format!("damaged: {number}"));
         }
         if tree {
-            for number in ["18 for the links", "23", "24", "25"] {
-                add(&format!("damaged: {number}"));
+            add("damaged: 18 for the links");
+            for number in [23, 24, 25] {
+                add(&format!("damaged: {number} with a place"));
             }
         }
         for part in (0..PARTS).filter(|part| tree || ![4, 5, 7].contains(part)) {
