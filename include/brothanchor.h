@@ -18,7 +18,6 @@
  *  10  the perplexity is not below n; removal: not below the number of frames that would be left
  *  11  the start's length is not n*c, or a start value is not finite or above 2^20 in magnitude
  *  12  a lent area is too short
- *  13  the words are no settings or no record, or record and areas are not well formed
  *  14  the next point needs more nodes than the arena has left; with a longer arena the run goes on
  *  15  the step would give a value that is NaN or above 2^100 in magnitude; parking: a position, increment or gain is one;
  *      removal: a centred position would be one; strip: a position is one
@@ -30,6 +29,24 @@
  *  19  import: a rule of a partner's list fails at a record
  *  20  strip, preparing and handing out: the settings are outside the profile, which is c 1, Barnes-Hut, an angle of at most 0.5 and
  *      n at most 1024
+ *  21  the words are no settings, or a record's settings are bad: 1 to 10 would be given of them, or there is no such method
+ *  22  of a record there are fewer than fourteen words, there is no such state, or counters or phase are bad: state, iterations
+ *      done, units done in the iteration and in all do not fit each other
+ *  23  the offsets are bad: the first is not 0, or the end of a frame's list falls below the one before it or passes 2*n*k
+ *  24  a listed index names no frame
+ *  25  the tree is bad, inside an iteration: the number of nodes in use is, or a node
+ * 13 is not used.
+ *
+ * 21 to 25 are what a call that is lent a run (work, divergence, park, take_out, lists, strip) finds before it does anything. With each
+ * comes what to look at, in word BROTHANCHOR_VALUE of a work call's answer and in word 0 of any other's:
+ *  21  the number from 1 to 10 that preparation would give of the settings alone, the lowest first; 21 for a method that there is not
+ *  22  0
+ *  23  the frame whose list ends at the bad offset, the lowest first, from 0; also 0 where the first offset is not 0, which ends no list
+ *  24  the place of the index in its area, the lowest first, from 0
+ *  25  the node, the lowest first, from 0; also 0 where the number of nodes in use is 0 or above the arena
+ * They are tested in the order 21, 22, 12, 23, 24, 25: the first to fail is told. Words that are no record come first: fewer than
+ * fourteen are 22, whatever they hold; of fourteen or more the settings are looked at before the state, so that a state that there
+ * is not is told only of good settings.
  */
 
 /* What areas may hold: any bits, NaNs of every kind among them. A call tests whatever it goes by, so no contents can lead it
@@ -40,7 +57,7 @@
  *   sizes, prepare, prepare_strip,   nothing
  *   scatter, frame
  *   frames                           with 16 the place of the bad record; with 12 nothing
- *   work, refused at its entry       (12, 13) the answer and nothing else; with an answer area that is too short nothing
+ *   work, refused at its entry       (12, 21 to 25) the answer and nothing else; with an answer area that is too short nothing
  *   work, refused by a unit          (14, 15) all that the units before it wrote: record and memory are as after these units,
  *                                    which the answer counts, and the refused unit has changed nothing
  *   divergence, park, unpark,        the first word of the answer; with an answer area that is empty nothing
@@ -92,8 +109,9 @@ enum {
     BROTHANCHOR_KIND,   /* 0 running, 1 stopped, 2 finished, 3 refused */
     BROTHANCHOR_NUMBER, /* of the refusal, or 0 */
     BROTHANCHOR_UNITS,  /* units done in this call */
-    BROTHANCHOR_FAULT,  /* 0 none, 1 settings, 2 counters, 3 areas, 4 offsets, 5 listed index, 6 tree */
-    BROTHANCHOR_VALUE,  /* with it: the number that the settings would have had (13 for a method that there is not), the frame,
+    BROTHANCHOR_FAULT,  /* 0 none, 1 settings (21), 2 counters or phase (22), 3 areas (12), 4 offsets (23), 5 listed index (24),
+                           6 tree (25) */
+    BROTHANCHOR_VALUE,  /* with it: the number that the settings would have had (21 for a method that there is not), the frame,
                            the place, the node */
     BROTHANCHOR_ANSWER_WORDS
 };
@@ -125,12 +143,12 @@ struct brothanchor_node {
 /* A node has 88 bytes; a compiler that lays it out otherwise stops here. */
 typedef char brothanchor_node_has_88_bytes[sizeof(struct brothanchor_node) == 88 ? 1 : -1];
 
-/* How long the areas must be, in the first seven words of sizes. Answers 0; 13 where the words are no settings, 12 where
+/* How long the areas must be, in the first seven words of sizes. Answers 0; 21 where the words are no settings, 12 where
  * sizes is shorter than seven words, or the number that 1 to 10 would give of the settings alone. Of the arena it tells the
  * number of nodes with which 14 never comes; one node is enough to begin, and more than 2^32 - 1 are never used. */
 uint32_t brothanchor_sizes(const uint64_t *settings, size_t settings_length, uint64_t *sizes, size_t sizes_length);
 
-/* Prepares a run and writes its record. Answers 0 or the number of the refusal; refused, nothing is changed. 13 where the
+/* Prepares a run and writes its record. Answers 0 or the number of the refusal; refused, nothing is changed. 21 where the
  * words are no settings, before all else; then 1 to 12 in their order. A record area shorter than fourteen words is 12, as
  * any other area. Of the arena it is told the number of nodes, no more: preparation reads and writes none. */
 uint32_t brothanchor_prepare(
@@ -151,7 +169,7 @@ uint32_t brothanchor_prepare(
 
 /* Prepares the run of a strip, of frames along one line: as brothanchor_prepare does, with one more test. Answers 0 or the number of
  * the refusal; refused, nothing is changed. In this order:
- *   13       the words are no settings
+ *   21       the words are no settings: fewer than nine, or a method that there is not
  *   1 to 11  as of a preparation
  *   20       the settings are outside the profile: c is not 1, the run is exact, the angle is above 0.5, or n is above 1024
  *   12       an area is too short, as of a preparation, or the record's is shorter than fourteen words
@@ -174,9 +192,17 @@ uint32_t brothanchor_prepare_strip(
 
 /* Does units until the budget is done, one is refused or the run has ended. Answers 0 or the number of the refusal, and
  * writes the answer and, of the record, the five words after the settings: the settings keep their bits. Refused at its
- * entry (12, 13) it writes the answer alone. An answer area shorter than five words is 12 before all else, and nothing is
- * changed: without it nothing can be told. Then words that are no record are 13: too few of them, told as counters; a
- * method that there is not, told as settings with the value 13; a state that there is not, told as counters. */
+ * entry (12, 21 to 25) it writes the answer alone. An answer area shorter than five words is 12 before all else, and nothing
+ * is changed: without it nothing can be told. In this order:
+ *   12  the answer area is too short
+ *   22  there are fewer than fourteen words
+ *   21  a method that there is not (21 comes with it), or settings that are bad (with the number of 1 to 10)
+ *   22  a state that there is not, or counters or phase that are bad
+ *   12  an area is too short
+ *   23  the offsets are bad (with the frame)
+ *   24  a listed index is bad (with its place)
+ *   25  the tree is bad (with the node)
+ *   14, 15  by a unit */
 uint32_t brothanchor_work(
     uint64_t *record, size_t record_length,
     double *positions, size_t positions_length,
@@ -198,9 +224,9 @@ uint32_t brothanchor_work(
  * Answers 0, and writes the figure's bits to the first word of the answer; or the number of the refusal, and writes what comes
  * with it there, as in word BROTHANCHOR_VALUE of a work call, 0 where nothing does. No other word is written. In this order:
  *   12  the answer area is empty: nothing can be told
- *   13  the words are no record (13 comes with a method that there is not, else 0); settings or counters are not well formed
+ *   22  there are fewer than fourteen words; then 21 and 22 as in a work call, with what comes with them there
  *   12  an area is too short, as in a work call, or the copy has fewer than n*c values
- *   13  the contents are not well formed
+ *   23, 24, 25  the offsets, a listed index or the tree is bad, as in a work call, with what comes with them there
  *   17  no iteration is done, a unit of the next one is done, or the forces give a total of 0, as those of a run just prepared
  * Of altered areas the figure may be infinite or NaN, which is told as 7FF8000000000000. */
 uint32_t brothanchor_divergence(
@@ -231,11 +257,11 @@ uint32_t brothanchor_divergence(
  * written. A longer target keeps its tail.
  *
  * Answers 0, and writes the number of records to the first word of the answer; or the number of the refusal, and writes what
- * comes with it there: with 13 what brothanchor_divergence tells, else 0. Refused, it writes nothing else. In this order:
+ * comes with it there: with 21 to 25 what a work call tells, else 0. Refused, it writes nothing else. In this order:
  *   12  the answer area is empty: nothing can be told
- *   13  the words are no record (13 comes with a method that there is not, else 0); settings or counters are not well formed
+ *   22  there are fewer than fourteen words; then 21 and 22 as in a work call, with what comes with them there
  *   12  an area is too short, as in a work call
- *   13  the contents are not well formed
+ *   23, 24, 25  the offsets, a listed index or the tree is bad, as in a work call, with what comes with them there
  *   17  a unit of the next iteration is done: a run is parked between two iterations, or before the first, or at its end
  *   15  a position, increment or gain is NaN or above 2^100 in magnitude
  *   12  the target is shorter than the records need */
@@ -294,11 +320,11 @@ uint32_t brothanchor_unpark(
  * new n. There is no divergence (17) until the next iteration has ended.
  *
  * Answers 0, and writes the number of samples left to the first word of the answer; or the number of the refusal, and writes what
- * comes with it there: with 13 what brothanchor_divergence tells, else 0. Refused, it writes nothing else. In this order:
+ * comes with it there: with 21 to 25 what a work call tells, else 0. Refused, it writes nothing else. In this order:
  *   12  the answer area is empty: nothing can be told
- *   13  the words are no record (13 comes with a method that there is not, else 0); settings or counters are not well formed
+ *   22  there are fewer than fourteen words; then 21 and 22 as in a work call, with what comes with them there
  *   12  an area is too short, as in a work call, or the table has fewer than n*f values, or old fewer than n places
- *   13  the contents are not well formed
+ *   23, 24, 25  the offsets, a listed index or the tree is bad, as in a work call, with what comes with them there
  *   17  a unit of the next iteration is done: frames are taken out between two iterations, before the first, or at the end
  *   18  the list does not rise strictly, or names a sample that is not below n
  *    9  fewer than two samples would be left
@@ -340,7 +366,7 @@ uint32_t brothanchor_take_out(
  * Answers 0, and writes the number of links to the first word of the answer; or the number of the refusal, and writes what comes
  * with it there: with 19 the place of the record, counted from 0, else 0. Refused, it writes nothing else. In this order:
  *   12       the answer area is empty: nothing can be told
- *   13       there are fewer than nine words of settings
+ *   21       there are fewer than nine words of settings (0 comes with it)
  *   1 to 6   as of a preparation, 5 and 6 always
  *   7        n is 0 or above 4096, or f is 0 or above 256
  *   9, 10    as of a preparation
@@ -370,11 +396,11 @@ uint32_t brothanchor_import(
  * tail. Lists of a preparation are accepted by brothanchor_import with the same settings where no weight is zero.
  *
  * Answers 0, and writes the number of records to the first word of the answer; or the number of the refusal, and writes what
- * comes with it there: with 13 what brothanchor_divergence tells, else 0. Refused, it writes nothing else. In this order:
+ * comes with it there: with 21 to 25 what a work call tells, else 0. Refused, it writes nothing else. In this order:
  *   12  the answer area is empty: nothing can be told
- *   13  the words are no record (13 comes with a method that there is not, else 0); settings or counters are not well formed
+ *   22  there are fewer than fourteen words; then 21 and 22 as in a work call, with what comes with them there
  *   12  an area is too short, as in a work call
- *   13  the contents are not well formed
+ *   23, 24, 25  the offsets, a listed index or the tree is bad, as in a work call, with what comes with them there
  *   17  the run is exact: it has no lists
  *   12  the target is shorter than 16 bytes a link */
 uint32_t brothanchor_lists(
@@ -397,11 +423,11 @@ uint32_t brothanchor_lists(
  * Any ended run within the profile is handed out, however it was prepared, and also where it was parked, read back or thinned.
  *
  * Answers 0, and writes the number of frames, n, to the first word of the answer; or the number of the refusal, and writes what comes
- * with it there: with 13 what brothanchor_divergence tells, else 0. Refused, it writes nothing else. In this order:
+ * with it there: with 21 to 25 what a work call tells, else 0. Refused, it writes nothing else. In this order:
  *   12  the answer area is empty: nothing can be told
- *   13  the words are no record (13 comes with a method that there is not, else 0); settings or counters are not well formed
+ *   22  there are fewer than fourteen words; then 21 and 22 as in a work call, with what comes with them there
  *   12  an area is too short, as in a work call
- *   13  the contents are not well formed
+ *   23, 24, 25  the offsets, a listed index or the tree is bad, as in a work call, with what comes with them there
  *   20  the settings are outside the profile: c is not 1, the run is exact, the angle is above 0.5, or n is above 1024
  *   17  the run has not ended
  *   15  one of the first n positions is NaN or above 2^100 in magnitude

@@ -119,7 +119,7 @@ refused-is b d t n = by-bool (kindAt machine b d t ≡ refused) (isEnded (t .run
     (λ e. absurd (n (rw e (number-stands (t .run .standing) d))))
     (λ e. by-bool (kindAt machine b d t ≡ refused) (ltb d b) (λ q. rw (e, q)) (λ q. absurd (n (rw (e, q)))))
 
--- ---- THEOREM 1: the entry tests pass exactly on good states; every unit and every call leaves an honest state honest, and so no later call is refused by 12 or 13
+-- ---- THEOREM 1: the entry tests pass exactly on good states; every unit and every call leaves an honest state honest, and so no later call is refused by 12 or by 21 to 25
 
 pub tests-exactly : (s : State) → (isFine (faultOf s) ≡ true → Good s) × (Good s → isFine (faultOf s) ≡ true)
 tests-exactly s = (fault-fine s, λ g. rw (fault-good s g))

@@ -335,7 +335,7 @@ pub extern "C" fn brothanchor_frame(file: &[u8], i: usize, frame: &mut [u64]) ->
 
 // ---- sizes
 
-// How long the areas must be, in seven words. Answers 0, or 13, 12, or the number that 1 to 10 would give; then nothing is changed.
+// How long the areas must be, in seven words. Answers 0, or 21, 12, or the number that 1 to 10 would give; then nothing is changed.
 #[no_mangle]
 pub extern "C" fn brothanchor_sizes(settings: &[u64], sizes: &mut [u64]) -> u32
     ensures { λ k. ⌜ worded k (now (sizes .exit)) ≡ hostSizes (now (settings .entry)) (now (sizes .entry)) ⌝ }

@@ -276,7 +276,7 @@ module _ (s : List ℕ) (table start : List Float) (cs : List Cell) (l : Lent) (
       (λ f. by-bool (answered .number ≡ 0 → Passed) (ltb (length w) 14)
       (λ t. by-bool (answered .number ≡ 0 → Passed) (eqb fault 0) (λ z. rw (f, t, z) (λ q. absurd (let x : _≡_ {A = ℕ} 12 0 = q in omega arith))) (λ z. rw (f, t, z) (λ q. absurd-of fault z q)))
       (λ t. by-bool (answered .number ≡ 0 → Passed) (eqb fault 0) (λ z q. record { fine = f; long = ltb-false (length w) 14 t; none = eqb-true fault 0 z }) (λ z. rw (f, t, z) (λ q. absurd-of fault z q))))
-      (λ f. rw f (λ q. absurd (let x : _≡_ {A = ℕ} 13 0 = q in omega arith)))
+      (λ f. rw f (λ q. absurd (let x : _≡_ {A = ℕ} 21 0 = q in omega arith)))
 
   module _ (ready : answered .number ≡ 0) (a : List ℕ) (room : 5 ≤ length a) where
     -- what a preparation that is not refused leaves, with an area for answers

@@ -19,7 +19,7 @@ module _ (s start file w : List ℕ) (l : Loading) (nodes : ℕ) (a : List ℕ) 
   import-mute e = rw (eq-eqb (length a) 0 e)
 
   module _ (some : length a ≡ 0 → ⊥) where
-    pub import-unset : length s < 9 → hostImported 13 w l (set a 0 0) ≡ hostImport s start file w l nodes a
+    pub import-unset : length s < 9 → hostImported 21 w l (set a 0 0) ≡ hostImport s start file w l nodes a
     unfolding hostImport
     import-unset h = rw (ne-eqb (length a) 0 some, lt-ltb (length s) 9 h)
 

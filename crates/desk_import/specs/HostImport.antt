@@ -37,10 +37,10 @@ hostImported k w l a = record { number = k; run = w; areas = l; answer = a }
 abbrev pub importedIn : ℕ → ImportOutcome → List ℕ → List ℕ → HostImported
 importedIn links o w a = hostImported (importNumber (o .answer)) (recordImported (o .answer) w) (o .areas) (set a 0 (importTold links (o .answer)))
 
--- an answer without a word: 12, and nothing can be told; fewer than nine words s: no settings, 13; a record area w of fewer than 14 words: 12, after 1 to 11 and before 19
+-- an answer without a word: 12, and nothing can be told; fewer than nine words s: no settings, 21; a record area w of fewer than 14 words: 12, after 1 to 11 and before 19
 unfoldable pub hostImport : List ℕ → List ℕ → List ℕ → List ℕ → Loading → ℕ → List ℕ → HostImported
 hostImport s start file w l nodes a =
     cond (eqb (length a) 0) (hostImported 12 w l a)
-    (cond (ltb (length s) 9) (hostImported 13 w l (set a 0 0))
+    (cond (ltb (length s) 9) (hostImported 21 w l (set a 0 0))
     (cond (ltb (length w) 14) (hostImported (shortNumber (importFault (treeSettings (settingsOf s)) start (lentLengths l nodes))) w l (set a 0 0))
     (importedIn (wholeLinks file) (importOf (settingsOf s) start file nodes l) w a)))

@@ -101,7 +101,7 @@ pub fn host_import(
     }
     if settings.len() < 9 {
         answer[0] = 0;
-        return 13;
+        return 21;
     }
     let s = settings_of(settings);
     if record.len() < 14 {

@@ -13,7 +13,7 @@ use Rattle.record_words.specs.RecordWords.{settingsFine, settingsOf, shortNumbe
 use Rattle.desk_prepare.specs.HostPrepare.{hostPrepared, recorded, preparedIn, hostPrepare}
 
 module _ (s : List ℕ) (table start : List Float) (nodes : ℕ) (l : Lent) (w : List ℕ) where
-  pub unread-begun : settingsFine s ≡ false → hostPrepared 13 w l ≡ hostPrepare s table start nodes l w
+  pub unread-begun : settingsFine s ≡ false → hostPrepared 21 w l ≡ hostPrepare s table start nodes l w
   unfolding hostPrepare
   unread-begun e = rw e
 

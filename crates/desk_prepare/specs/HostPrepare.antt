@@ -27,11 +27,11 @@ recorded (Ready r) w = runPut r w
 abbrev pub preparedIn : PrepareOutcome → List ℕ → HostPrepared
 preparedIn o w = hostPrepared (prepareNumber (o .answer)) (recorded (o .answer) w) (o .areas)
 
--- words s that are no settings: 13; a record area w of fewer than 14 words: 12, after 1 to 11; then nothing is changed; else as preparation has it
+-- words s that are no settings: 21; a record area w of fewer than 14 words: 12, after 1 to 11; then nothing is changed; else as preparation has it
 unfoldable pub hostPrepare : List ℕ → List Float → List Float → ℕ → Lent → List ℕ → HostPrepared
 hostPrepare s table start nodes l w =
     cond (settingsFine s)
     (cond (ltb (length w) 14)
     (hostPrepared (shortNumber (prepareFault (settingsOf s) table start (lengthsOf l nodes))) w l)
     (preparedIn (prepared (settingsOf s) table start nodes l) w))
-    (hostPrepared 13 w l)
+    (hostPrepared 21 w l)

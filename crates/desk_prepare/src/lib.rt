@@ -72,7 +72,7 @@ pub fn host_prepare(
         ⌝ }
 {
     if !settings_fine(settings) {
-        return 13;
+        return 21;
     }
     let s = settings_of(settings);
     if record.len() < 14 {

@@ -19,8 +19,8 @@ module _ (s : List ℕ) (table start : List Float) (nodes : ℕ) (l : Lent) (w :
   abbrev barred : Bool
   barred = stripBars (settingsOf s) (prepareFault (settingsOf s) table start (lengthsOf l nodes))
 
-  -- words that are no settings: 13, and nothing is changed
-  pub strip-unread : settingsFine s ≡ false → hostPrepareStrip s table start nodes l w ≡ hostPrepared 13 w l
+  -- words that are no settings: 21, and nothing is changed
+  pub strip-unread : settingsFine s ≡ false → hostPrepareStrip s table start nodes l w ≡ hostPrepared 21 w l
   unfolding hostPrepareStrip hostPrepare
   strip-unread e = rw e
 

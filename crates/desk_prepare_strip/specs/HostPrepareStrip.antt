@@ -8,7 +8,7 @@ use Rattle.prepare_strip.specs.PrepareStrip.{stripBars}
 use Rattle.record_words.specs.RecordWords.{settingsFine, settingsOf}
 use Rattle.desk_prepare.specs.HostPrepare.{HostPrepared, hostPrepared, hostPrepare}
 
--- words that are no settings: 13; 20 after 1 to 11, and nothing is changed; else as preparation has it
+-- words that are no settings: 21; 20 after 1 to 11, and nothing is changed; else as preparation has it
 unfoldable pub hostPrepareStrip : List ℕ → List Float → List Float → ℕ → Lent → List ℕ → HostPrepared
 hostPrepareStrip s table start nodes l w =
     cond (settingsFine s && stripBars (settingsOf s) (prepareFault (settingsOf s) table start (lengthsOf l nodes)))

@@ -20,13 +20,13 @@ lengthsPut s w =
     (set (set (set (set v 1 (sizesOf s .links)) 2 (sizesOf s .links)) 3 (s .n + 1)) 6 (enoughNodes (s .c) (s .n)))
     (set (set (set (set v 1 (sizesOf s .square)) 2 0) 3 0) 6 0)
 
--- words s that are no settings: 13; an area w of fewer than 7 words: 12; then the number that 1 to 10 would give
+-- words s that are no settings: 21; an area w of fewer than 7 words: 12; then the number that 1 to 10 would give
 unfoldable pub hostSizes : List ℕ → List ℕ → Worded
 hostSizes s w =
     cond (settingsFine s)
     (cond (ltb (length w) 7) (worded 12 w)
     (cond (eqb (settingsFault (settingsOf s)) 0) (worded 0 (lengthsPut (settingsOf s) w)) (worded (settingsFault (settingsOf s)) w)))
-    (worded 13 w)
+    (worded 21 w)
 
 -- ---- what a record says
 

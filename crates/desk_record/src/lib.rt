@@ -54,12 +54,12 @@ fn put_sizes(words: &mut [u64], s: Settings)
     words[6] = 0;
 }
 
-// How long the areas must be, in seven words. Answers 0, or 13, 12, or the number that 1 to 10 would give; then nothing is changed.
+// How long the areas must be, in seven words. Answers 0, or 21, 12, or the number that 1 to 10 would give; then nothing is changed.
 pub fn host_sizes(settings: &[u64], sizes: &mut [u64]) -> u32
     ensures { λ k. ⌜ worded k (now (sizes .exit)) ≡ hostSizes (now (settings .entry)) (now (sizes .entry)) ⌝ }
 {
     if !settings_fine(settings) {
-        return 13;
+        return 21;
     }
     if sizes.len() < 7 {
         return 12;

@@ -47,6 +47,6 @@ takenIn o a w = hostTook (takeNumber (o .answer)) (set a 0 (takenTold (o .answer
 abbrev pub unfitIn : Worded → List ℕ → Holdings → HostTook
 unfitIn k w h = hostTook (k .number) (k .words) w h
 
--- an answer without a word: 12; words that are no record: 13; else as `takeOut` has it, with the list g, the areas h and the nodes ns
+-- an answer without a word: 12; words that are no record: 21 or 22; else as `takeOut` has it, with the list g, the areas h and the nodes ns
 unfoldable pub hostTake : List ℕ → List ℕ → Holdings → List Node → List ℕ → HostTook
 hostTake g w h ns a = cond (unfit w (length a)) (unfitIn (unfitTold w a) w h) (takenIn (takeOut g (runOf w) h ns) a w)

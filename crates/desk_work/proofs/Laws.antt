@@ -21,9 +21,9 @@ module _ (b : ℕ) (w a : List ℕ) (m : Memory) where
   unfolding hostWork
   short-told h = rw (lt-ltb (length a) 5 h)
 
-  pub unread-told : {a' : List ℕ} → 5 ≤ length a → runFine w ≡ false → a' ≡ answerPut (Bad (unreadFault w)) a → hostWorked 13 a' w m ≡ hostWork b w a m
+  pub unread-told : {k : ℕ} {a' : List ℕ} → 5 ≤ length a → runFine w ≡ false → k ≡ workNumber (Bad (unreadFault w)) → a' ≡ answerPut (Bad (unreadFault w)) a → hostWorked k a' w m ≡ hostWork b w a m
   unfolding hostWork
-  unread-told h e q = rw (le-ltb (length a) 5 h, e, q)
+  unread-told h e ek q = rw (le-ltb (length a) 5 h, e, ek, q)
 
   module _ {r q : Run} {t : Answer} {m' : Memory} (h : 5 ≤ length a) (e : runFine w ≡ true) (s : r ≡ runOf w) (o : worked t (state q m') ≡ work b (state r m)) where
     pub work-told : {k : ℕ} {a' w' : List ℕ} → k ≡ workNumber t → a' ≡ answerPut t a → w' ≡ runAfter t q w → hostWorked k a' w' m' ≡ hostWork b w a m

@@ -39,8 +39,8 @@ module _ (b : ℕ) (w a : List ℕ) (m : Memory) (n : ℕ) (ln : length a ≡ n)
 
   module _ (no1 : T (not x1)) (x2 : Bool) (e2 : x2 ≡ not (runFine w)) where
     -- words that are no record
-    pub unread-said : T x2 → (a' : List ℕ) → a' ≡ answerPut (Bad (unreadFault w)) a → hostWorked 13 a' w m ≡ hostWork b w a m
-    unread-said y a' e = unread-told b w a m (room-said no1) (not-true-is (runFine w) (holds-as x2 (not (runFine w)) e2 y)) e
+    pub unread-said : T x2 → (k : ℕ) (a' : List ℕ) → (k ≡ workNumber (Bad (unreadFault w))) × (a' ≡ answerPut (Bad (unreadFault w)) a) → hostWorked k a' w m ≡ hostWork b w a m
+    unread-said y k a' e = unread-told b w a m (room-said no1) (not-true-is (runFine w) (holds-as x2 (not (runFine w)) e2 y)) (e .0) (e .1)
 
     read-said : T (not x2) → runFine w ≡ true
     read-said y = not-false-is (runFine w) (fails-as x2 (not (runFine w)) e2 y)

@@ -25,8 +25,8 @@ hostWorked k a w m = record { number = k; answer = a; run = w; memory = m }
 abbrev pub workedIn : Worked → List ℕ → List ℕ → HostWorked
 workedIn t a w = hostWorked (workNumber (t .answer)) (answerPut (t .answer) a) (runAfter (t .answer) (t .left .run) w) (t .left .memory)
 
--- an answer area a of fewer than 5 words: 12, and nothing can be told; words w that are no record: 13; else as the work call has it
+-- an answer area a of fewer than 5 words: 12, and nothing can be told; words w that are no record: the number of what is wrong with them, 21 or 22; else as the work call has it
 unfoldable pub hostWork : ℕ → List ℕ → List ℕ → Memory → HostWorked
 hostWork b w a m =
     cond (ltb (length a) 5) (hostWorked 12 a w m)
-    (cond (runFine w) (workedIn (work b (state (runOf w) m)) a w) (hostWorked 13 (answerPut (Bad (unreadFault w)) a) w m))
+    (cond (runFine w) (workedIn (work b (state (runOf w) m)) a w) (hostWorked (workNumber (Bad (unreadFault w))) (answerPut (Bad (unreadFault w)) a) w m))

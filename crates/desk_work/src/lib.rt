@@ -34,13 +34,15 @@ fn is_unread(words: &[u64]) -> bool
     !run_fine(words)
 }
 
-// Tells what is wrong with words that are no record.
-fn put_unread(words: &[u64], answer: &mut [u64])
+// Tells what is wrong with words that are no record, and answers its number.
+fn put_unread(words: &[u64], answer: &mut [u64]) -> u32
     requires { ⌜ 5 ≤ length (now answer) ⌝ }
-    ensures { λ _. ⌜ now (answer .exit) ≡ answerPut (Bad (unreadFault (now (words .entry)))) (now (answer .entry)) ⌝ }
+    ensures { λ k. ⌜ (k ≡ workNumber (Bad (unreadFault (now (words .entry))))) × (now (answer .exit) ≡ answerPut (Bad (unreadFault (now (words .entry)))) (now (answer .entry))) ⌝ }
 {
     let f = unread_fault(words);
-    put_answer(answer, Answer::Bad(f));
+    let a = Answer::Bad(f);
+    put_answer(answer, a);
+    number_of(a)
 }
 
 fn number_of(a: Answer) -> u32
@@ -96,8 +98,8 @@ pub fn host_work(
     }
     let unread = is_unread(words);
     if unread {
-        put_unread(words, answer);
-        return 13;
+        let u = put_unread(words, answer);
+        return u;
     }
     let mut own = run_of(words);
     let a = work(

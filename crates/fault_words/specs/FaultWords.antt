@@ -6,7 +6,9 @@ use lib.Dec.{eqb, ltb}
 use lib.ListN.{length, set}
 use Rattle.run_entry.specs.declared.Fault.{Fault}
 use Rattle.run_entry.specs.declared.Fault.the-variants.{Fine, Settings as BadSettings, Counters, Areas, Offsets, Index, Tree}
-use Rattle.record_words.specs.RecordWords.{settingsFine, runFine, Worded, worded}
+use Rattle.run_record.specs.Record.{settingsFault}
+use Rattle.run_entry.specs.Entry.{faultNumber}
+use Rattle.record_words.specs.RecordWords.{settingsFine, settingsOf, runFine, Worded, worded}
 
 -- 0 none, 1 settings, 2 counters, 3 areas, 4 offsets, 5 listed index, 6 tree
 abbrev pub faultWord : Fault → ℕ
@@ -28,9 +30,13 @@ faultValue (Offsets i) = i
 faultValue (Index i) = i
 faultValue (Tree i) = i
 
--- what is told of words that are no record, each of these 13: too few words, as counters; a method that there is not, as settings, with the 13 that preparation would give; a state that there is not, as counters
+-- settings that get the number k are told before counters
+abbrev pub settingsFirst : ℕ → Fault
+settingsFirst k = cond (eqb k 0) Counters (BadSettings k)
+
+-- what is told of words that are no record: too few words, as counters; a method that there is not, as settings, with the 21 that preparation would give; a state that there is not, as counters, where the settings are good
 abbrev pub unreadFault : List ℕ → Fault
-unreadFault w = cond (ltb (length w) 14) Counters (cond (settingsFine w) Counters (BadSettings 13))
+unreadFault w = cond (ltb (length w) 14) Counters (cond (settingsFine w) (settingsFirst (settingsFault (settingsOf w))) (BadSettings 21))
 
 -- ---- a call that is lent a record as words, and words to answer in
 
@@ -38,6 +44,6 @@ unreadFault w = cond (ltb (length w) 14) Counters (cond (settingsFine w) Counter
 unfoldable pub unfit : List ℕ → ℕ → Bool
 unfit w k = eqb k 0 || not (runFine w)
 
--- an answer without a word: 12, and nothing can be told; else 13, and what is wrong with the words
+-- an answer without a word: 12, and nothing can be told; else the number of what is wrong with the words, 21 or 22, and what comes with it
 unfoldable pub unfitTold : List ℕ → List ℕ → Worded
-unfitTold w a = cond (eqb (length a) 0) (worded 12 a) (worded 13 (set a 0 (faultValue (unreadFault w))))
+unfitTold w a = cond (eqb (length a) 0) (worded 12 a) (worded (faultNumber (unreadFault w)) (set a 0 (faultValue (unreadFault w))))

@@ -4,7 +4,10 @@ ghost use Rattle.record_words.specs.RecordWords.{worded};
 ghost use Rattle.fault_words.specs.FaultWords.{faultWord, faultValue, unreadFault, unfit, unfitTold};
 use record_words::run_fine;
 use record_words::settings_fine;
+use record_words::settings_of;
 use run_entry::Fault;
+use run_entry::fault_number;
+use run_record::faults::settings_fault;
 
 pub fn fault_word(f: Fault) -> u64
     ensures { λ w. ⌜ w ≡ faultWord f ⌝ }
@@ -41,10 +44,15 @@ pub fn unread_fault(words: &[u64]) -> Fault
     if words.len() < 14 {
         return Fault::Counters;
     }
-    if settings_fine(words) {
-        return Fault::Counters;
+    if !settings_fine(words) {
+        return Fault::Settings(21);
     }
-    Fault::Settings(13)
+    let s = settings_of(words);
+    let k = settings_fault(s);
+    if k != 0 {
+        return Fault::Settings(k);
+    }
+    Fault::Counters
 }
 
 // Whether an answer of so many words has none, or the words are no record.
@@ -57,7 +65,7 @@ pub fn is_unfit(words: &[u64], told: usize) -> bool
     !run_fine(words)
 }
 
-// Answers 12, or 13 and tells what is wrong with the words.
+// Answers 12, or the number of what is wrong with the words, and tells what comes with it.
 pub fn put_unfit(words: &[u64], answer: &mut [u64]) -> u32
     ensures { λ k. ⌜ worded k (now (answer .exit)) ≡ unfitTold (now (words .entry)) (now (answer .entry)) ⌝ }
 {
@@ -66,5 +74,5 @@ pub fn put_unfit(words: &[u64], answer: &mut [u64]) -> u32
     }
     let f = unread_fault(words);
     answer[0] = fault_value(f);
-    13
+    fault_number(f) as u32
 }

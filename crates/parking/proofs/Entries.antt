@@ -12,11 +12,12 @@ use Rattle.laws.proofs.Bools.{by-bool}
 use Rattle.laws.proofs.Joined.{length-map}
 use Rattle.tree_node.specs.declared.Node.{Node}
 use Rattle.run_entry.specs.declared.Fault.{Fault}
-use Rattle.run_entry.specs.declared.Fault.the-variants.{Fine, Settings as BadSettings, Counters}
+use Rattle.run_entry.specs.declared.Fault.the-variants.{Fine}
 use Rattle.run_entry.specs.Entry.{isFine, faultOf, Good}
 use Rattle.run_entry.proofs.Laws.{fault-fine, fault-good}
-use Rattle.record_words.specs.RecordWords.{runFine, settingsFine}
+use Rattle.record_words.specs.RecordWords.{runFine}
 use Rattle.fault_words.specs.FaultWords.{unreadFault}
+use Rattle.fault_words.proofs.Fit.{unread-bad}
 use Rattle.words_entry.specs.WordsEntry.{wordsFault}
 use Rattle.parked.specs.declared.Layout.{Layout}
 use Rattle.parked.specs.Layout.{recordsIn}
@@ -27,14 +28,6 @@ use Rattle.park.specs.Park.{calmState, Parking, parking, parkedInto, parkTested
 use Rattle.parking.specs.Held.{stateIn}
 
 -- ---- the entry tests
-
-unread-bad : (w : List ℕ) → isFine (unreadFault w) ≡ false
-unread-bad w = by (ltb (length w) 14) (settingsFine w)
-  where
-    by : (a b : Bool) → isFine (cond a Counters (cond b Counters (BadSettings 13))) ≡ false
-    by true b = refl
-    by false true = refl
-    by false false = refl
 
 module _ (d : Stored) (F : List Float) (ns : List Node) where
   abbrev found : Fault

@@ -3,21 +3,24 @@ use mathlib.Core.Path.{_≡_}
 use mathlib.Core.List.{List}
 use mathlib.Core.Bool.{Bool, true, false, _||_}
 use mathlib.Core.Logic.{_⊎_}
-use Prim.Native.Nat.{ℕ, _+_, _<_, min}
+use Prim.Native.Nat.{ℕ, _+_, _<_, _≤_, min}
 use lib.Dec.{eqb, ltb}
 use lib.ListN.{length}
 use lib.Ieee.{Float}
+use Rattle.laws.specs.Area.{num}
 use Rattle.tree_node.specs.declared.Node.{Node}
 use Rattle.tree_node.specs.Arena.{nameable}
 use Rattle.tree.specs.Insert.{tree}
 use Rattle.tree.specs.Contents.{faulty}
+use Rattle.run_record.specs.declared.Settings.{Settings}
 use Rattle.run_record.specs.declared.Run.{Run}
 use Rattle.run_record.specs.Record.{isTree, settingsFault, countersOk, sizesOf}
 use Rattle.run_entry.specs.State.{Memory, State}
 use Rattle.run_entry.specs.declared.Fault.{Fault}
 use Rattle.run_entry.specs.declared.Fault.the-variants.{Fine, Settings as BadSettings, Counters, Areas, Offsets, Index, Tree as BadTree}
-use Rattle.run_entry.specs.Entry.{areasFit, offsetFine, indexFine, listed, faultAt}
-use Rattle.record_words.specs.RecordWords.{runOf}
+use Rattle.run_entry.specs.Entry.{areasFit, offsetFine, indexFine, listed, faultAt, faultNumber}
+use Rattle.record_words.specs.RecordWords.{settingsFine, settingsOf, runOf}
+use Rattle.fault_words.specs.FaultWords.{faultValue}
 use Rattle.take_out.specs.TakeOut.{Holdings, lentPositions}
 
 -- ---- what the tests look at: the record, of the areas of values their lengths alone, the lists, the nodes
@@ -81,10 +84,13 @@ nodeBad s i = faulty (s .run .settings .n) (s .run .settings .c) (tree (s .run .
 
 -- ---- what is bad
 
--- the settings would get the number k
-pub record SettingsFail (s : Shown) (k : ℕ) : Type 0 where
-  pub number-is : settingsFault (s .run .settings) ≡ k
+-- settings get the number k
+pub record SettingsNumber (v : Settings) (k : ℕ) : Type 0 where
+  pub number-is : settingsFault v ≡ k
   pub some-number : k ≡ 0 → ⊥
+
+abbrev pub SettingsFail : Shown → ℕ → Type 0
+SettingsFail s k = SettingsNumber (s .run .settings) k
 
 -- counters or phase
 pub record CountersFail (s : Shown) : Type 0 where
@@ -162,3 +168,32 @@ shownHeld r h ns = record { run = r; positions = lentPositions (r .settings) (le
 -- parking, lists and strip: the run that the words w say, with areas of these lengths
 abbrev pub shownWords : List ℕ → ℕ → ℕ → ℕ → ℕ → ℕ → List ℕ → List ℕ → List Node → Shown
 shownWords w p i g a f xs off ns = record { run = runOf w; positions = p; increments = i; gains = g; affinities = a; forces = f; indices = xs; offsets = off; nodes = ns }
+
+-- ---- words that are no record
+
+-- the settings, told with k: the method is none of the two, or they would get the number k of 1 to 10
+pub record UnreadSettings (w : List ℕ) (k : ℕ) : Type 0 where
+  pub words-enough : 14 ≤ length w
+  pub method-or-number : ((settingsFine w ≡ false) × (k ≡ 21)) ⊎ ((settingsFine w ≡ true) × SettingsNumber (settingsOf w) k)
+
+-- the state is none of the three; the settings before it are good
+pub record UnreadState (w : List ℕ) : Type 0 where
+  pub words-enough : 14 ≤ length w
+  pub method-there : settingsFine w ≡ true
+  pub settings-pass : settingsFault (settingsOf w) ≡ 0
+  pub no-such-state : 2 < num w 9
+
+-- too few words, or the state
+abbrev pub UnreadCounters : List ℕ → Type 0
+UnreadCounters w = (length w < 14) ⊎ UnreadState w
+
+-- ---- the numbers
+
+-- the number is told exactly where a condition on its place holds, and with that place
+pub record Tells (found : Fault) (number : ℕ) (Fails : ℕ → Type 0) : Type 0 where
+  pub so-where-told : faultNumber found ≡ number → Fails (faultValue found)
+  pub told-where-so : (p : ℕ) → Fails p → (faultNumber found ≡ number) × (faultValue found ≡ p)
+
+-- a condition that has no place tells 0
+abbrev pub Placeless : Type 0 → ℕ → Type 0
+Placeless P p = P × (p ≡ 0)

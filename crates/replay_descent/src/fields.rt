@@ -2,7 +2,6 @@
 use descent::Answer;
 use replay::areas::plus;
 use replay::word_at;
-use run_entry::Fault;
 use run_record::Method;
 use run_record::Run;
 use run_record::Settings;
@@ -211,19 +210,6 @@ pub(crate) fn same_run(r: Run, list: &[u8], i: usize) -> bool {
     same_progress(r, list, i)
 }
 
-// The number that an entry fault is refused with; 0: none.
-fn fault_number(f: Fault) -> u64 {
-    match f {
-        Fault::Fine => 0,
-        Fault::Settings(_) => 13,
-        Fault::Counters => 13,
-        Fault::Areas => 12,
-        Fault::Offsets(_) => 13,
-        Fault::Index(_) => 13,
-        Fault::Tree(_) => 13,
-    }
-}
-
 fn kind(a: Answer) -> u64 {
     match a {
         Answer::Running(_) => 0,
@@ -236,14 +222,7 @@ fn kind(a: Answer) -> u64 {
 }
 
 fn refusal(a: Answer) -> u64 {
-    match a {
-        Answer::Running(_) => 0,
-        Answer::Stopped(_) => 0,
-        Answer::Finished(_) => 0,
-        Answer::Full(_) => 14,
-        Answer::Wild(_) => 15,
-        Answer::Bad(f) => fault_number(f),
-    }
+    descent::number(a) as u64
 }
 
 fn units(a: Answer) -> u64 {

@@ -24,7 +24,7 @@ pub enum Answer {
     Full(u32),
     // 15: the step would give a value that is NaN or above 2^100 in magnitude
     Wild(u32),
-    // 12 or 13: what the entry tests found; no unit was tried
+    // 12 or 21 to 25: what the entry tests found; no unit was tried
     Bad(Fault),
 }
 

@@ -117,15 +117,15 @@ faultOf s =
     let m = s .memory in
     faultAt (s .run) (length (m .positions)) (length (m .increments)) (length (m .gains)) (length (m .affinities)) (length (m .forces)) (m .indices) (m .offsets) (m .nodes)
 
--- the scope paper's number of a fault; 0, which is no refusal, where all is fine
+-- the number of a fault, which says what to look at: 12 for an area, and 21 to 25 where the scope paper had 13 (request 2026-10); 0, which is no refusal, where all is fine
 unfoldable pub faultNumber : Fault → ℕ
 faultNumber Fine = 0
-faultNumber (BadSettings k) = 13
-faultNumber Counters = 13
+faultNumber (BadSettings k) = 21
+faultNumber Counters = 22
 faultNumber Areas = 12
-faultNumber (Offsets i) = 13
-faultNumber (Index i) = 13
-faultNumber (Tree i) = 13
+faultNumber (Offsets i) = 23
+faultNumber (Index i) = 24
+faultNumber (Tree i) = 25
 
 -- ---- a state in good order
 

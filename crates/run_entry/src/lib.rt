@@ -48,18 +48,18 @@ pub fn is_fine(f: Fault) -> bool
     }
 }
 
-// The scope paper's number of a fault: 12 for an area, 13 for all else that the entry tests find; 0: there is none.
+// The number of a fault, which says what to look at: 12 for an area, 21 to 25 for all else that the entry tests find; 0: there is none.
 pub fn fault_number(f: Fault) -> u8
     ensures { λ r. ⌜ r ≡ faultNumber f ⌝ }
 {
     match f {
         Fault::Fine => 0,
-        Fault::Settings(_) => 13,
-        Fault::Counters => 13,
+        Fault::Settings(_) => 21,
+        Fault::Counters => 22,
         Fault::Areas => 12,
-        Fault::Offsets(_) => 13,
-        Fault::Index(_) => 13,
-        Fault::Tree(_) => 13,
+        Fault::Offsets(_) => 23,
+        Fault::Index(_) => 24,
+        Fault::Tree(_) => 25,
     }
 }
 

@@ -56,12 +56,12 @@ told-numbered Barred e z = let y : _≡_ {A = ℕ} 15 0 = z in omega arith
 bad-numbered : (f : Fault) → isFine f ≡ false → takeNumber (Bad f) ≡ 0 → ⊥
 unfolding takeNumber faultNumber
 bad-numbered Fine e z = true≢false e
-bad-numbered (BadSettings k) e z = let y : _≡_ {A = ℕ} 13 0 = z in omega arith
-bad-numbered Counters e z = let y : _≡_ {A = ℕ} 13 0 = z in omega arith
+bad-numbered (BadSettings k) e z = let y : _≡_ {A = ℕ} 21 0 = z in omega arith
+bad-numbered Counters e z = let y : _≡_ {A = ℕ} 22 0 = z in omega arith
 bad-numbered Areas e z = let y : _≡_ {A = ℕ} 12 0 = z in omega arith
-bad-numbered (Offsets i) e z = let y : _≡_ {A = ℕ} 13 0 = z in omega arith
-bad-numbered (Index i) e z = let y : _≡_ {A = ℕ} 13 0 = z in omega arith
-bad-numbered (Tree i) e z = let y : _≡_ {A = ℕ} 13 0 = z in omega arith
+bad-numbered (Offsets i) e z = let y : _≡_ {A = ℕ} 23 0 = z in omega arith
+bad-numbered (Index i) e z = let y : _≡_ {A = ℕ} 24 0 = z in omega arith
+bad-numbered (Tree i) e z = let y : _≡_ {A = ℕ} 25 0 = z in omega arith
 
 -- the record and the areas with the samples of g taken out, where v is told
 abbrev tookAs : Outlook → List ℕ → Run → Holdings → TookOut

@@ -1,9 +1,9 @@
 -- What the entry tests on words show where they pass; and what their walk cites: what its test has shown, and what is answered in each case. Assumes nothing.
 use mathlib.Core.List.{List}
-use mathlib.Core.Path.{_≡_, refl, sym, ap, _∙_}
-use mathlib.Core.Bool.{Bool, true, false, cond, not, true≢false}
+use mathlib.Core.Path.{_≡_, sym, ap, _∙_}
+use mathlib.Core.Bool.{Bool, true, false, not, true≢false}
 use Prim.Native.Nat.{ℕ, _≤_}
-use lib.Dec.{T, ltb}
+use lib.Dec.{T}
 use lib.ListN.{length}
 use Rattle.laws.proofs.Bools.{by-bool}
 use Rattle.lent.proofs.Holds.{holds-as, fails-as}
@@ -12,20 +12,12 @@ use Rattle.tree_node.specs.declared.Cell.{Cell}
 use Rattle.tree_node.specs.Arena.{nodesOf}
 use Rattle.run_record.specs.declared.Run.{Run}
 use Rattle.run_entry.specs.declared.Fault.{Fault}
-use Rattle.run_entry.specs.declared.Fault.the-variants.{Settings as BadSettings, Counters}
 use Rattle.run_entry.specs.Entry.{isFine, faultAt}
-use Rattle.record_words.specs.RecordWords.{settingsFine, runFine, runOf}
+use Rattle.record_words.specs.RecordWords.{runFine, runOf}
 use Rattle.record_words.proofs.Laws.{run-long}
 use Rattle.fault_words.specs.FaultWords.{unreadFault}
+use Rattle.fault_words.proofs.Fit.{unread-bad}
 use Rattle.words_entry.specs.WordsEntry.{wordsFault}
-
-unread-bad : (w : List ℕ) → isFine (unreadFault w) ≡ false
-unread-bad w = by (ltb (length w) 14) (settingsFine w)
-  where
-    by : (a b : Bool) → isFine (cond a Counters (cond b Counters (BadSettings 13))) ≡ false
-    by true b = refl
-    by false true = refl
-    by false false = refl
 
 -- words that pass are a record that passes
 pub words-fine : (w : List ℕ) (p i g a f : ℕ) (xs off : List ℕ) (ns : List Node) → isFine (wordsFault w p i g a f xs off ns) ≡ true → (runFine w ≡ true) × (isFine (faultAt (runOf w) p i g a f xs off ns) ≡ true)

@@ -1,10 +1,10 @@
 /* Maps a frame file through include/brothanchor.h, as the wrapper's map program does: map FILE [SEED [FIRST LAST | strip]].
  * Prints a line for each frame: picture, side, field, both coordinates by their bits; then how the run ended, and its divergence. Once
- * it is prepared its lists are written, it is forgotten, and another run is begun from these lists. On its way the run is parked,
- * forgotten and read back; then the frames of the pictures from FIRST to LAST are taken out. A seed that is no number, as -, is none.
- * With strip it puts the frames along one line: a line for each, with its place, picture, side, field, position and gap by their bits,
- * and how the run ended. It is compiled as C and as C++, and calls every function of the header. A refusal ends it with its number and
- * where it came. */
+ * it is prepared its lists are written, it is forgotten, and another run is begun from these lists. On its way the run is made bad in
+ * several ways, which each call has to tell; it is parked, forgotten and read back; then the frames of the pictures from FIRST to LAST
+ * are taken out. A seed that is no number, as -, is none. With strip it puts the frames along one line: a line for each, with its place,
+ * picture, side, field, position and gap by their bits, and how the run ended. It is compiled as C and as C++, and calls every function
+ * of the header. A refusal that is not asked for ends it with its number and where it came. */
 #include <inttypes.h>
 #include <stdio.h>
 #include <stdlib.h>
@@ -64,6 +64,24 @@ static void set(uint64_t *settings, size_t n) {
     settings[BROTHANCHOR_MINIMUM] = bits(1e-7);
 }
 
+static void told(const char *what, uint32_t number, uint32_t wanted, const uint64_t *answer, uint64_t first) {
+    if (number != wanted || answer[0] != first || answer[1] != 7) {
+        fprintf(stderr, "%s: %u, %" PRIx64 ", %" PRIx64 "\n", what, (unsigned)number, answer[0], answer[1]);
+        exit(1);
+    }
+}
+
+/* Sizes as only C can ask for them: settings that lack a word, a method that there is not, too few words to tell in. */
+static void no_sizes(uint64_t *settings) {
+    const uint64_t method = settings[BROTHANCHOR_METHOD];
+    uint64_t answer[2] = {5, 7};
+    told("sizes, two words", brothanchor_sizes(settings, BROTHANCHOR_SETTINGS_WORDS, answer, 2), 12, answer, 5);
+    told("sizes, eight words", brothanchor_sizes(settings, BROTHANCHOR_SETTINGS_WORDS - 1, answer, 2), 21, answer, 5);
+    settings[BROTHANCHOR_METHOD] = 2;
+    told("sizes, no method", brothanchor_sizes(settings, BROTHANCHOR_SETTINGS_WORDS, answer, 2), 21, answer, 5);
+    settings[BROTHANCHOR_METHOD] = method;
+}
+
 static void lend(struct areas *a, const uint64_t *sizes) {
     a->positions = (double *)room(sizes[BROTHANCHOR_CELLS], sizeof(double));
     a->increments = (double *)room(sizes[BROTHANCHOR_CELLS], sizeof(double));
@@ -89,15 +107,20 @@ static void prepare(struct areas *a, const uint64_t *settings, const uint64_t *s
         sizes[BROTHANCHOR_NODES], a->record, BROTHANCHOR_RECORD_WORDS));
 }
 
-/* So many units; the kind of the answer. */
-static uint64_t work(struct areas *a, const uint64_t *sizes, uint32_t budget) {
-    uint64_t answer[BROTHANCHOR_ANSWER_WORDS];
-    uint32_t number = brothanchor_work(
+/* So many units, with the answer's words. */
+static uint32_t try_work(struct areas *a, const uint64_t *sizes, uint32_t budget, uint64_t *answer) {
+    return brothanchor_work(
         a->record, BROTHANCHOR_RECORD_WORDS,
         a->positions, sizes[BROTHANCHOR_CELLS], a->increments, sizes[BROTHANCHOR_CELLS], a->gains, sizes[BROTHANCHOR_CELLS],
         a->affinities, sizes[BROTHANCHOR_AFFINITIES], a->indices, sizes[BROTHANCHOR_INDICES],
         a->offsets, sizes[BROTHANCHOR_OFFSETS], a->forces, sizes[BROTHANCHOR_FORCES],
         a->nodes, sizes[BROTHANCHOR_NODES], budget, answer, BROTHANCHOR_ANSWER_WORDS);
+}
+
+/* So many units of a good run; the kind of the answer. */
+static uint64_t work(struct areas *a, const uint64_t *sizes, uint32_t budget) {
+    uint64_t answer[BROTHANCHOR_ANSWER_WORDS];
+    uint32_t number = try_work(a, sizes, budget, answer);
     if (number != answer[BROTHANCHOR_NUMBER]) {
         fprintf(stderr, "work: answered %u and wrote %" PRIu64 "\n", (unsigned)number, answer[BROTHANCHOR_NUMBER]);
         exit(1);
@@ -116,22 +139,15 @@ static uint32_t diverge(const struct areas *a, const uint64_t *sizes, size_t wor
         a->nodes, sizes[BROTHANCHOR_NODES], a->copy, sizes[BROTHANCHOR_CELLS], answer, length);
 }
 
-static void told(const char *what, uint32_t number, uint32_t wanted, const uint64_t *answer, uint64_t first) {
-    if (number != wanted || answer[0] != first || answer[1] != 7) {
-        fprintf(stderr, "%s: %u, %" PRIx64 ", %" PRIx64 "\n", what, (unsigned)number, answer[0], answer[1]);
-        exit(1);
-    }
-}
-
 /* The divergence of an ended run; first what only C can ask for: no word to tell in, a record that lacks a word. Of the answer
  * one word is written. */
 static double divergence(const struct areas *a, const uint64_t *sizes) {
     uint64_t answer[2] = {5, 7};
     told("divergence, no answer", diverge(a, sizes, BROTHANCHOR_RECORD_WORDS, answer, 0), 12, answer, 5);
     told("divergence, no record and no answer", diverge(a, sizes, 0, answer, 0), 12, answer, 5);
-    told("divergence, thirteen words", diverge(a, sizes, BROTHANCHOR_RECORD_WORDS - 1, answer, 2), 13, answer, 0);
+    told("divergence, thirteen words", diverge(a, sizes, BROTHANCHOR_RECORD_WORDS - 1, answer, 2), 22, answer, 0);
     answer[0] = 5;
-    told("divergence, no words", diverge(a, sizes, 0, answer, 1), 13, answer, 0);
+    told("divergence, no words", diverge(a, sizes, 0, answer, 1), 22, answer, 0);
     refused("divergence", diverge(a, sizes, BROTHANCHOR_RECORD_WORDS, answer, 2));
     told("divergence, a figure", 0, 0, answer, answer[0]);
     return value(answer[0]);
@@ -183,7 +199,7 @@ static void overnight(struct areas *a, const uint64_t *sizes) {
     uint64_t answer[2] = {5, 7}, count;
     size_t bytes;
     told("park, no answer", park(a, sizes, BROTHANCHOR_RECORD_WORDS, file, most, answer, 0), 12, answer, 5);
-    told("park, thirteen words", park(a, sizes, BROTHANCHOR_RECORD_WORDS - 1, file, most, answer, 2), 13, answer, 0);
+    told("park, thirteen words", park(a, sizes, BROTHANCHOR_RECORD_WORDS - 1, file, most, answer, 2), 22, answer, 0);
     answer[0] = 5;
     told("park, no target", park(a, sizes, BROTHANCHOR_RECORD_WORDS, file, 0, answer, 1), 12, answer, 0);
     refused("park", park(a, sizes, BROTHANCHOR_RECORD_WORDS, file, most, answer, 2));
@@ -237,7 +253,7 @@ static void partner(struct areas *a, const uint64_t *settings, const uint64_t *s
     uint64_t answer[2] = {5, 7}, count;
     size_t bytes;
     told("lists, no answer", lists(a, sizes, words, file, most, answer, 0), 12, answer, 5);
-    told("lists, thirteen words", lists(a, sizes, words - 1, file, most, answer, 2), 13, answer, 0);
+    told("lists, thirteen words", lists(a, sizes, words - 1, file, most, answer, 2), 22, answer, 0);
     answer[0] = 5;
     told("lists, no target", lists(a, sizes, words, file, 0, answer, 1), 12, answer, 0);
     refused("lists", lists(a, sizes, words, file, most, answer, 2));
@@ -247,7 +263,7 @@ static void partner(struct areas *a, const uint64_t *settings, const uint64_t *s
     forget(a, sizes);
     answer[0] = 5;
     told("import, no answer", load(a, settings, given, sizes, start, file, bytes, words, answer, 0), 12, answer, 5);
-    told("import, eight words", load(a, settings, given - 1, sizes, start, file, bytes, words, answer, 2), 13, answer, 0);
+    told("import, eight words", load(a, settings, given - 1, sizes, start, file, bytes, words, answer, 2), 21, answer, 0);
     answer[0] = 5;
     told("import, thirteen words", load(a, settings, given, sizes, start, file, bytes, words - 1, answer, 2), 12, answer, 0);
     file[8] ^= 1;
@@ -290,7 +306,7 @@ static size_t thin(struct areas *a, const uint64_t *sizes, double *table, const 
         if (frame[0] >= first && frame[0] <= last) gone[count++] = (uint32_t)i;
     }
     told("take_out, no answer", take_out(a, sizes, words, table, gone, count, old, n, answer, 0), 12, answer, 5);
-    told("take_out, thirteen words", take_out(a, sizes, words - 1, table, gone, count, old, n, answer, 2), 13, answer, 0);
+    told("take_out, thirteen words", take_out(a, sizes, words - 1, table, gone, count, old, n, answer, 2), 22, answer, 0);
     answer[0] = 5;
     told("take_out, a place short", take_out(a, sizes, words, table, gone, count, old, n - 1, answer, 1), 12, answer, 0);
     answer[0] = 5;
@@ -330,7 +346,7 @@ static void begin_strip(struct areas *a, uint64_t *settings, uint64_t *sizes, co
     uint64_t answer[2] = {5, 7};
     refused("sizes", brothanchor_sizes(settings, given, sizes, BROTHANCHOR_SIZES_WORDS));
     lend(a, sizes);
-    told("prepare_strip, eight words", prepare_strip(a, settings, given - 1, sizes, table, start, words), 13, answer, 5);
+    told("prepare_strip, eight words", prepare_strip(a, settings, given - 1, sizes, table, start, words), 21, answer, 5);
     told("prepare_strip, a map", prepare_strip(a, settings, given, sizes, table, start, 0), 20, answer, 5);
     settings[BROTHANCHOR_C] = 1;
     refused("sizes", brothanchor_sizes(settings, given, sizes, BROTHANCHOR_SIZES_WORDS));
@@ -346,7 +362,7 @@ static void hand_out(struct areas *a, const uint64_t *sizes, size_t n, uint32_t 
     while (work(a, sizes, (uint32_t)(2 * n + 2)) == 0) continue;
     answer[0] = 5;
     told("strip, no answer", strip(a, sizes, words, order, n, gaps, n, answer, 0), 12, answer, 5);
-    told("strip, thirteen words", strip(a, sizes, words - 1, order, n, gaps, n, answer, 2), 13, answer, 0);
+    told("strip, thirteen words", strip(a, sizes, words - 1, order, n, gaps, n, answer, 2), 22, answer, 0);
     answer[0] = 5;
     told("strip, a place short", strip(a, sizes, words, order, n - 1, gaps, n, answer, 2), 12, answer, 0);
     answer[0] = 5;
@@ -358,6 +374,70 @@ static void hand_out(struct areas *a, const uint64_t *sizes, size_t n, uint32_t 
         }
     }
     told("strip", strip(a, sizes, words, order, n, gaps, n, answer, 2), 0, answer, n);
+}
+
+/* Why the run is refused, by all six calls that are lent one: the number, and what comes with it. A work call tells besides what it
+ * found bad. Before each call its answer has a mark that no call tells; targets and the list of samples are empty. */
+static void why(const char *what, struct areas *a, const uint64_t *sizes, double *table, uint32_t number, uint64_t fault,
+                uint64_t with) {
+    const size_t words = BROTHANCHOR_RECORD_WORDS;
+    const uint64_t mark = 77;
+    uint8_t bytes[1] = {0};
+    uint32_t places[1] = {0};
+    double gaps[1] = {0};
+    uint64_t answer[2] = {0, 7}, worked[BROTHANCHOR_ANSWER_WORDS];
+    answer[0] = mark;
+    told(what, diverge(a, sizes, words, answer, 2), number, answer, with);
+    answer[0] = mark;
+    told(what, park(a, sizes, words, bytes, 0, answer, 2), number, answer, with);
+    answer[0] = mark;
+    told(what, lists(a, sizes, words, bytes, 0, answer, 2), number, answer, with);
+    answer[0] = mark;
+    told(what, strip(a, sizes, words, places, 0, gaps, 0, answer, 2), number, answer, with);
+    answer[0] = mark;
+    told(what, take_out(a, sizes, words, table, places, 0, a->row_indices, sizes[BROTHANCHOR_ROWS], answer, 2), number, answer, with);
+    for (size_t i = 0; i < BROTHANCHOR_ANSWER_WORDS; i++) worked[i] = mark;
+    if (try_work(a, sizes, 1, worked) != number || worked[BROTHANCHOR_KIND] != 3 || worked[BROTHANCHOR_NUMBER] != number ||
+        worked[BROTHANCHOR_UNITS] != 0 || worked[BROTHANCHOR_FAULT] != fault || worked[BROTHANCHOR_VALUE] != with) {
+        fprintf(stderr, "work, %s: %" PRIu64 ", %" PRIu64 ", %" PRIu64 "\n", what, worked[BROTHANCHOR_NUMBER],
+                worked[BROTHANCHOR_FAULT], worked[BROTHANCHOR_VALUE]);
+        exit(1);
+    }
+}
+
+/* What may be bad in a run between two iterations, from the last test to the first: of several things the one tested first is told.
+ * Afterwards the run is as it was, but for the nodes, which the next iteration begins anew. */
+static void reasons(struct areas *a, const uint64_t *sizes, double *table) {
+    enum { FRAME = 17, PLACE = 5, NODE = 3 };
+    uint64_t *r = a->record, kept[BROTHANCHOR_RECORD_WORDS];
+    const uint32_t n = (uint32_t)r[BROTHANCHOR_N], index = a->indices[PLACE], end = a->offsets[FRAME + 1];
+    memcpy(kept, r, sizeof kept);
+    memset(a->nodes, 0, (NODE + 1) * sizeof(struct brothanchor_node));
+    a->nodes[NODE].count = n + 1;
+    r[BROTHANCHOR_PHASE] = 1;
+    r[BROTHANCHOR_UNITS_DONE] += 1;
+    r[BROTHANCHOR_NODES_USED] = NODE + 1;
+    why("a bad node", a, sizes, table, 25, 6, NODE);
+    r[BROTHANCHOR_NODES_USED] = 0;
+    why("no node in use", a, sizes, table, 25, 6, 0);
+    a->indices[PLACE] = n;
+    why("an index that names no frame", a, sizes, table, 24, 5, PLACE);
+    a->offsets[FRAME + 1] = 0;
+    why("a list that ends before it begins", a, sizes, table, 23, 4, FRAME);
+    a->offsets[0] = 1;
+    why("a bad start", a, sizes, table, 23, 4, 0);
+    r[BROTHANCHOR_UNITS_DONE] += 1;
+    why("bad counters", a, sizes, table, 22, 2, 0);
+    r[BROTHANCHOR_STATE] = 3;
+    why("a state that there is not", a, sizes, table, 22, 2, 0);
+    r[BROTHANCHOR_RATE] = 0;
+    why("bad settings", a, sizes, table, 21, 1, 3);
+    r[BROTHANCHOR_METHOD] = 2;
+    why("a method that there is not", a, sizes, table, 21, 1, 21);
+    memcpy(r, kept, sizeof kept);
+    a->indices[PLACE] = index;
+    a->offsets[FRAME + 1] = end;
+    a->offsets[0] = 0;
 }
 
 static size_t read_file(const char *name, uint8_t *file, size_t most) {
@@ -447,12 +527,14 @@ int main(int words, char **word) {
     }
     for (uint32_t i = 0; i < n; i++) places[i] = i;
     set(settings, n);
+    no_sizes(settings);
     refused("sizes", brothanchor_sizes(settings, BROTHANCHOR_SETTINGS_WORDS, sizes, BROTHANCHOR_SIZES_WORDS));
     lend(&areas, sizes);
     prepare(&areas, settings, sizes, table, start);
     partner(&areas, settings, sizes, start);
     do {
         if (brothanchor_iterations(areas.record, BROTHANCHOR_RECORD_WORDS) == NIGHT) {
+            reasons(&areas, sizes, table);
             overnight(&areas, sizes);
             if (words > 4) n = thin(&areas, sizes, table, file, length, word + 3, places);
         }

@@ -32,7 +32,7 @@ pub fn prepare_strip_words(
 
 /// Hands out the frames of an ended run along its line, and answers how many there are: the front of the order names the samples by
 /// rising position, equal ones by their numbers, and the front of the gaps has for each how far it is from the one before it, +0.0 for
-/// the first. Of the run nothing is changed; refused, nothing is written. Refused: 13 and 12 as in a work call, with what comes with
+/// the first. Of the run nothing is changed; refused, nothing is written. Refused: 21 to 25 and 12 as in a work call, with what comes with
 /// the number there; 20 for settings outside the profile; 17 before the run has ended; 15 where a position is NaN or above 2^100 in
 /// magnitude; then 12 where order or gaps have fewer places than there are frames.
 pub fn hand_out(record: &Record, areas: &Areas, order: &mut [u32], gaps: &mut [f64]) -> Result<usize, (Refusal, u64)> {

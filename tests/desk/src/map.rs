@@ -26,20 +26,29 @@ const EXAGGERATION: f64 = 12.0;
 pub struct NoMap {
     /// The number.
     pub refusal: Refusal,
-    /// With 16: the place of the first bad record, counted from 0.
-    pub record: Option<usize>,
+    /// What comes with it, where something does: with 16 the place of the first bad record, counted from 0; of 21 to 25, which a
+    /// call tells of a run, with 21 the number of what is bad in the settings, with 22 nothing, with 23 the frame, with 24 the place
+    /// of the index, with 25 the node. A 21 of words that are no settings comes with nothing.
+    pub with: Option<u64>,
 }
 
 impl From<Refusal> for NoMap {
     fn from(refusal: Refusal) -> NoMap {
-        NoMap { refusal, record: None }
+        NoMap { refusal, with: None }
+    }
+}
+
+impl From<(Refusal, u64)> for NoMap {
+    fn from((refusal, word): (Refusal, u64)) -> NoMap {
+        let with = refusal.brings().then_some(word);
+        NoMap { refusal, with }
     }
 }
 
 impl fmt::Display for NoMap {
     fn fmt(&self, f: &mut fmt::Formatter<'_>) -> fmt::Result {
-        match self.record {
-            Some(place) => write!(f, "{} (record {place}, counted from 0)", self.refusal),
+        match self.with {
+            Some(with) => write!(f, "{}", self.refusal.told(with)),
             None => write!(f, "{}", self.refusal),
         }
     }
@@ -148,7 +157,7 @@ impl Run {
     /// Read back from where it was parked. The frames have to be those that it was begun with; only their number is looked at.
     pub fn resume(file: &[u8], parked: &[u8]) -> Result<Run, NoRun> {
         let frames = read(file).map_err(NoRun::Frames)?;
-        let (record, areas) = wake(parked).map_err(|told| NoRun::Parked(bad_parked(told)))?;
+        let (record, areas) = wake(parked).map_err(|told| NoRun::Parked(told.into()))?;
         let [n, f, c, ..] = record.words;
         if [n, f, c] != [frames.len() as u64, FEATURES as u64, STARTS as u64] {
             return Err(NoRun::Other {
@@ -170,20 +179,21 @@ impl Run {
     }
 
     /// One iteration more, unless the run has ended.
-    pub fn iterate(&mut self) -> Result<(), Refusal> {
+    pub fn iterate(&mut self) -> Result<(), NoMap> {
         let [n, _, _, method, ..] = self.record.words;
         let units = if method == 0 { 2 * n + 1 } else { 2 * n + 2 };
         if !self.has_ended() {
             self.copy.copy_from_slice(&self.areas.positions);
         }
-        match work(&mut self.record, &mut self.areas, units as u32).kind {
-            Kind::Refused(refusal) => Err(refusal),
+        let worked = work(&mut self.record, &mut self.areas, units as u32);
+        match worked.kind {
+            Kind::Refused(refusal) => Err((refusal, worked.value()).into()),
             _ => Ok(()),
         }
     }
 
     /// Works it to its end. After each iteration `progress` is told how many are done of how many.
-    pub fn work(&mut self, mut progress: impl FnMut(u64, u64)) -> Result<(), Refusal> {
+    pub fn work(&mut self, mut progress: impl FnMut(u64, u64)) -> Result<(), NoMap> {
         while !self.has_ended() {
             self.iterate()?;
             progress(self.done(), self.of());
@@ -211,24 +221,23 @@ impl Run {
     }
 
     /// Takes the frames at these places out, which have to rise, and centres what is left.
-    pub fn take_out(&mut self, places: &[u32]) -> Result<(), Refusal> {
+    pub fn take_out(&mut self, places: &[u32]) -> Result<(), NoMap> {
         let mut table = table(&self.frames);
         let mut old = vec![0; self.frames.len()];
-        let left = take_out(&mut self.record, &mut self.areas, &mut table, places, &mut old)
-            .map_err(|(refusal, _)| refusal)?;
+        let left = take_out(&mut self.record, &mut self.areas, &mut table, places, &mut old)?;
         self.frames = old[..left].iter().map(|&place| self.frames[place as usize]).collect();
         self.copy.copy_from_slice(&self.areas.positions);
         Ok(())
     }
 
     /// Its lists as another tool reads them.
-    pub fn lists(&self) -> Result<Vec<u8>, Refusal> {
-        lists(&self.record, &self.areas).map_err(|(refusal, _)| refusal)
+    pub fn lists(&self) -> Result<Vec<u8>, NoMap> {
+        Ok(lists(&self.record, &self.areas)?)
     }
 
     /// The run as a file.
-    pub fn park(&self) -> Result<Vec<u8>, Refusal> {
-        parked(&self.record, &self.areas).map_err(|(refusal, _)| refusal)
+    pub fn park(&self) -> Result<Vec<u8>, NoMap> {
+        Ok(parked(&self.record, &self.areas)?)
     }
 
     /// The map as it stands, with the figure of the iteration just finished. A run just read back has none.
@@ -236,7 +245,7 @@ impl Run {
         let divergence = match divergence(&self.record, &self.areas, &self.copy) {
             Ok(figure) => Some(figure),
             Err((Refusal(17), _)) => None,
-            Err((refusal, _)) => return Err(refusal.into()),
+            Err(told) => return Err(told.into()),
         };
         // After a removal the areas are longer than what is left.
         let mut positions = self.areas.positions;
@@ -263,19 +272,13 @@ pub struct Lists {
 
 /// The lists of a parked run; its frames are not needed.
 pub fn lists_of(parked: &[u8]) -> Result<Lists, NoMap> {
-    let (record, areas) = wake(parked).map_err(bad_parked)?;
-    let bytes = lists(&record, &areas).map_err(|(refusal, _)| refusal)?;
+    let (record, areas) = wake(parked)?;
+    let bytes = lists(&record, &areas)?;
     Ok(Lists {
         frames: record.words[0] as usize,
         links: bytes.len() / LINK_RECORD,
         bytes,
     })
-}
-
-/// What is told of a parked run that is not read.
-fn bad_parked((refusal, place): (Refusal, u64)) -> NoMap {
-    let record = (refusal == Refusal(16)).then_some(place as usize);
-    NoMap { refusal, record }
 }
 
 /// Where the frames start on c components: by the first of their own starts, or by a scatter where there is a seed.
@@ -346,11 +349,7 @@ pub fn read(file: &[u8]) -> Result<Vec<Frame>, NoMap> {
     if file.len() > MOST_FRAMES * RECORD {
         return Err(Refusal(7).into());
     }
-    let bad = |(refusal, place)| NoMap {
-        refusal,
-        record: Some(place),
-    };
-    let count = frames(file).map_err(bad)?;
+    let count = frames(file).map_err(|(refusal, place)| (refusal, place as u64))?;
     Ok((0..count).map(|i| frame(file, i)).collect())
 }
 
@@ -383,5 +382,63 @@ impl Map {
     /// A still picture of the map.
     pub fn svg(&self) -> String {
         picture::svg(self)
+    }
+}
+
+#[cfg(test)]
+mod tests {
+    use super::*;
+    use crate::handing::hand_out;
+
+    /// A run of the sample's first frames, after an iteration.
+    fn begun() -> Run {
+        let sample = include_bytes!("../../../sample.frames");
+        let mut run = Run::begin(&sample[..24 * RECORD], &Wishes::default()).expect("a good file");
+        run.iterate().expect("a good run");
+        run
+    }
+
+    /// What every call says of a run that was altered; a strip too, since the run is looked at before its profile.
+    fn said(alter: impl Fn(&mut Run)) -> String {
+        let mut run = begun();
+        alter(&mut run);
+        let said = run.iterate().expect_err("bad").to_string();
+        assert_eq!(run.park().expect_err("bad").to_string(), said);
+        assert_eq!(run.lists().expect_err("bad").to_string(), said);
+        assert_eq!(run.take_out(&[3]).expect_err("bad").to_string(), said);
+        let handed = hand_out(&run.record, &run.areas, &mut [0; 24], &mut [0.0; 24]);
+        assert_eq!(NoMap::from(handed.expect_err("bad")).to_string(), said);
+        assert_eq!(run.map().expect_err("bad").to_string(), said);
+        said
+    }
+
+    #[test]
+    fn what_to_look_at_in_a_run() {
+        for (said, words) in [
+            (
+                said(|run| run.record.words[5] = 0),
+                "refused 21: the settings are bad: the learning rate is not a positive number (3)",
+            ),
+            (
+                said(|run| run.areas.offsets[18] = 0),
+                "refused 23: the offsets are bad: the list of frame 17 ends before it begins or past 2·n·k (look at offset 18)",
+            ),
+            (
+                said(|run| run.areas.indices[5] = 24),
+                "refused 24: a listed index is bad: the one at place 5 names no frame",
+            ),
+            (
+                said(|run| {
+                    run.record.words[11] = 1;
+                    run.record.words[12] += 1;
+                    run.areas.nodes[2].count = 25;
+                }),
+                "refused 25: the tree is bad: look at node 2, the first that is faulty",
+            ),
+        ] {
+            assert_eq!(said, words);
+        }
+        let counters = said(|run| run.record.words[12] += 1);
+        assert!(counters.starts_with("refused 22: the counters are bad: "), "{counters}");
     }
 }

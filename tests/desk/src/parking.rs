@@ -11,7 +11,7 @@ const MOST_FRAMES: u64 = 4096;
 const MOST_COMPONENTS: u64 = 8;
 
 /// Writes a run to the front of the target, and answers how many records it has. Of the run nothing is changed; refused, nothing
-/// is written. Refused: 13 and 12 as in a work call, with what comes with the number there; 17 inside an iteration; 15 where a
+/// is written. Refused: 21 to 25 and 12 as in a work call, with what comes with the number there; 17 inside an iteration; 15 where a
 /// position, increment or gain is NaN or above 2^100 in magnitude; then 12 for a short target.
 pub fn park(record: &Record, areas: &Areas, target: &mut [u8]) -> Result<usize, (Refusal, u64)> {
     let mut answer = [0];

@@ -9,7 +9,7 @@ pub const LINK_RECORD: usize = 16;
 
 /// Loads a partner's list into areas that may be longer, by settings given as words and from a start; the record of the
 /// Barnes-Hut run that may start from it, whatever the word of the method is. Of the arena it takes the number of nodes alone.
-/// Refused, nothing has changed: 13 for fewer than nine words, 1 to 7, 9 to 12 as of a preparation, then 19 with the place of the
+/// Refused, nothing has changed: 21 for fewer than nine words, 1 to 7, 9 to 12 as of a preparation, then 19 with the place of the
 /// first record at which a rule of the list fails, counted from 0.
 pub fn import(settings: &[u64], start: &[f64], file: &[u8], areas: &mut Areas) -> Result<Record, (Refusal, u64)> {
     let mut record = Record { words: [0; 14] };
@@ -59,7 +59,7 @@ pub fn import_words(
 }
 
 /// Writes a run's lists to the front of the target, and answers how many records they have. Of the run nothing is changed; refused,
-/// nothing is written. Refused: 13 and 12 as in a work call, with what comes with the number there; 17 for an exact run; then 12
+/// nothing is written. Refused: 21 to 25 and 12 as in a work call, with what comes with the number there; 17 for an exact run; then 12
 /// for a target below 16 bytes a link.
 pub fn write_lists(record: &Record, areas: &Areas, target: &mut [u8]) -> Result<usize, (Refusal, u64)> {
     let mut answer = [0];

@@ -298,7 +298,7 @@ pub enum Kind {
     Stopped,
     /// The run has finished.
     Finished,
-    /// Refused: by 12 or 13 at its entry, by 14 or 15 at a unit.
+    /// Refused: by 12 or 21 to 25 at its entry, by 14 or 15 at a unit.
     Refused(Refusal),
 }
 
@@ -307,7 +307,7 @@ pub enum Kind {
 pub enum Fault {
     /// The settings, by the number that they would have had.
     Settings(u64),
-    /// The counters, or words that are no record.
+    /// The counters or the phase, or words that are no record.
     Counters,
     /// An area is too short.
     Areas,
@@ -333,6 +333,11 @@ pub struct Worked {
 }
 
 impl Worked {
+    /// What comes with what was found bad; else 0.
+    pub fn value(&self) -> u64 {
+        self.words[4]
+    }
+
     /// An answer by its five words.
     fn of(words: [u64; 5]) -> Worked {
         let [kind, number, units, fault, value] = words;
@@ -393,8 +398,8 @@ pub fn work(record: &mut Record, areas: &mut Areas, budget: u32) -> Worked {
 }
 
 /// The Kullback-Leibler figure of the iteration just finished. The copy holds the positions before its step, n·c values or
-/// more; nothing is changed. Refused: 13 and 12 as in a work call, with what comes with the number there (a frame, a place, a
-/// node, a number of the settings; else 0), 12 also for a short copy; then 17 where no iteration has just ended or the forces
+/// more; nothing is changed. Refused: 21, 22, 12 and 23 to 25 as in a work call, with what comes with the number there (a number of
+/// the settings, a frame, a place, a node; else 0), 12 also for a short copy; then 17 where no iteration has just ended or the forces
 /// give a total of 0.
 pub fn divergence(record: &Record, areas: &Areas, copy: &[f64]) -> Result<f64, (Refusal, u64)> {
     let mut answer = [0];

@@ -4,7 +4,7 @@ use crate::handing::{hand_out, prepare_strip};
 use crate::map::{self, NoMap, Run, Wishes};
 use crate::run::{Record, Settings};
 use crate::strip_picture;
-use crate::{Frame, Refusal};
+use crate::Frame;
 
 /// What a strip of n frames goes by: as a map of them, but along one line.
 pub fn settings(n: usize, wishes: &Wishes) -> Settings {
@@ -30,12 +30,12 @@ impl StripRun {
     }
 
     /// Its frames along the strip; 17 where it has not ended.
-    pub fn strip(&self) -> Result<Strip, Refusal> {
+    pub fn strip(&self) -> Result<Strip, NoMap> {
         let Run {
             frames, record, areas, ..
         } = &self.run;
         let (mut order, mut gaps) = (vec![0; frames.len()], vec![0.0; frames.len()]);
-        hand_out(record, areas, &mut order, &mut gaps).map_err(|(refusal, _)| refusal)?;
+        hand_out(record, areas, &mut order, &mut gaps)?;
         Ok(Strip {
             frames: frames.clone(),
             positions: areas.positions.clone(),
@@ -64,7 +64,7 @@ impl Strip {
     pub fn of(file: &[u8], wishes: &Wishes, progress: impl FnMut(u64, u64)) -> Result<Strip, NoMap> {
         let mut begun = StripRun::begin(file, wishes)?;
         begun.run.work(progress)?;
-        Ok(begun.strip()?)
+        begun.strip()
     }
 
     /// A line for each frame along the strip: its place, from 0 on, picture, side, field, position and gap, both again as bits.

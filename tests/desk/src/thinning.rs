@@ -6,7 +6,7 @@ use crate::Refusal;
 
 /// Takes the samples that a rising list names out of a run and of its table, and answers how many are left; the first so many
 /// old places then say which samples they were. What is left closes ranks in the front of table and areas, positions around
-/// their own mean; the room that becomes free, and all forces, are zeros. Refused, nothing has changed: 13 and 12 as in a work
+/// their own mean; the room that becomes free, and all forces, are zeros. Refused, nothing has changed: 21 to 25 and 12 as in a work
 /// call, with what comes with the number there, 12 also for a table below n·f values or fewer than n old places; 17 inside an
 /// iteration; 18 where the list does not rise strictly or names a sample that there is not; then for what would be left 9, 10,
 /// 18 for more links than its lists may have, and 15 for a centred position that is NaN or above 2^100 in magnitude.

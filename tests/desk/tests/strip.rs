@@ -136,7 +136,7 @@ fn what_is_refused() {
         .flat_map(|picture| record(picture, 1, 0, &[0.5; 8]))
         .collect();
     let none = refused(&many, &usual);
-    assert_eq!((none.refusal, none.record), (Refusal(20), None));
+    assert_eq!((none.refusal, none.with), (Refusal(20), None));
     assert_eq!(
         none.to_string(),
         "refused 20: the settings are outside the strip profile: one component, Barnes-Hut, an angle of at most 0.5, at most 1024 frames"
@@ -147,7 +147,7 @@ fn what_is_refused() {
     let mut side = few(9);
     side[3 * RECORD + 4] = 3;
     assert_eq!(
-        (refused(&side, &usual).refusal, refused(&side, &usual).record),
+        (refused(&side, &usual).refusal, refused(&side, &usual).with),
         (Refusal(16), Some(3))
     );
     let with = |perplexity, iterations| Wishes {
@@ -160,7 +160,7 @@ fn what_is_refused() {
     assert_eq!(refused(&few(9), &with(None, Some(0))).refusal, Refusal(4));
     assert_eq!(refused(&few(9), &with(None, Some(65_536))).refusal, Refusal(4));
     let run = StripRun::begin(&few(9), &usual).expect("a good file");
-    assert_eq!(run.strip(), Err(Refusal(17)), "not at its end");
+    assert_eq!(run.strip(), Err(Refusal(17).into()), "not at its end");
 }
 
 /// A strip of frames that stand at these places, pictures from 1201 on, each this field.

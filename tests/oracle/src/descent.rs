@@ -88,6 +88,11 @@ impl Settings {
         (self.perplexity >= self.n as f64).then_some(10)
     }
 
+    /// The number of the first of 1 to 10 that applies to the settings alone.
+    pub(crate) fn fault(&self) -> Option<u64> {
+        self.early_fault().or_else(|| self.late_fault())
+    }
+
     /// The units of an iteration.
     pub fn iteration(&self) -> usize {
         match self.method {
@@ -179,7 +184,7 @@ pub struct Rows {
 pub enum Fault {
     /// The settings, by the number that they would have had.
     Settings(u64),
-    /// The counters.
+    /// The counters or the phase.
     Counters,
     /// An area is too short.
     Areas,
@@ -195,8 +200,12 @@ impl Fault {
     /// The number that a call is refused by.
     pub fn number(self) -> u64 {
         match self {
+            Fault::Settings(_) => 21,
+            Fault::Counters => 22,
             Fault::Areas => 12,
-            _ => 13,
+            Fault::Offsets(_) => 23,
+            Fault::Index(_) => 24,
+            Fault::Tree(_) => 25,
         }
     }
 
@@ -219,7 +228,7 @@ pub enum Answer {
     Stopped(u64),
     /// The run has finished.
     Finished(u64),
-    /// 12 or 13 before any unit; 14 or 15 by a unit.
+    /// 12 or 21 to 25 before any unit; 14 or 15 by a unit.
     Refused(u64, u64),
 }
 
@@ -337,7 +346,7 @@ pub fn fault(record: &Record, areas: &Areas) -> Option<Fault> {
 /// The same of a call that is lent something besides, which has to be long enough by good settings: it is tested with the areas.
 pub fn fault_beside(record: &Record, areas: &Areas, beside: impl Fn(&Settings) -> bool) -> Option<Fault> {
     let settings = &record.settings;
-    if let Some(number) = settings.early_fault().or_else(|| settings.late_fault()) {
+    if let Some(number) = settings.fault() {
         return Some(Fault::Settings(number));
     }
     if !record.counters_fit() {

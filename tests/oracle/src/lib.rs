@@ -16,6 +16,7 @@ pub mod moved;
 pub mod park;
 pub mod partner;
 pub mod preparation;
+pub mod record;
 pub mod scatter;
 pub mod sigma;
 pub mod step;

@@ -125,7 +125,7 @@ impl Refusal {
 pub fn import(settings: Settings, start: &[f64], file: &[u8], areas: &mut Areas) -> Result<Record, Refusal> {
     let method = Method::BarnesHut;
     let settings = Settings { method, ..settings };
-    if let Some(number) = settings.early_fault().or_else(|| settings.late_fault()) {
+    if let Some(number) = settings.fault() {
         return Err(Refusal::Settings(number));
     }
     let Settings { n, c, .. } = settings;

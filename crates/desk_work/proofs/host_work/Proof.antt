@@ -143,23 +143,23 @@ module _ {M : Type 1} (𝓤 : URA M) (H : Heap 𝓤) (A : Atoms 𝓤) (W : Given
         alloc1 ! (λ l0. alloc1 ! (λ l1. alloc1 ! (λ l2. alloc1 ! (λ l3. alloc1 ! (λ l4. alloc1 ! (λ l5. alloc1 ! (λ l6. alloc1 ! (λ l7. alloc1 ! (λ l8. alloc1 ! (λ l9. alloc1 ! (λ l10. alloc1 ! (λ l11. alloc1 ! (λ l12. alloc1 ! (λ l13. alloc1 ! (λ l14. alloc1 ! (λ l15. alloc1 ! (λ l16. alloc1 ! (λ l17. alloc1 ! (λ l18. alloc1 ! (λ l19. alloc1 ! (λ l20. alloc1 ! (λ l21. alloc1 ! (λ l22. alloc1 ! (λ l23. alloc1 ! (λ l24. alloc1 ! (λ l25. alloc1 ! (λ l26. alloc1 ! (λ l27. alloc1 ! (λ l28. alloc1 ! (λ l29. alloc1 ! (λ l30. alloc1 ! (λ l31. alloc1 ! (λ l32. alloc1 ! (λ l33. alloc1 ! (λ l34. alloc1 ! (λ l35. alloc1 ! (λ l36. alloc1 ! (λ l37. alloc1 ! (λ l38. alloc1 ! (λ l39. alloc1 ! (λ l40. alloc1 ! (λ l41. alloc1 ! (λ l42. alloc1 ! (λ l43. alloc1 ! (λ l44. alloc1 ! (λ l45. alloc0 ! $ params1 ! $
         pass1 ! (init ! 88 refl (tt, (tt, (record { fits = room-words .0 }, tt)))) $ pass1 ! (init ! 86 refl (tt, (tt, (record { fits = room-positions .0 }, tt)))) $ pass1 ! (init ! 84 refl (tt, (tt, (record { fits = room-increments .0 }, tt)))) $ pass1 ! (init ! 82 refl (tt, (tt, (record { fits = room-gains .0 }, tt)))) $ pass1 ! (init ! 80 refl (tt, (tt, (record { fits = room-affinities .0 }, tt)))) $ pass1 ! (init ! 78 refl (tt, (tt, (record { fits = room-indices .0 }, tt)))) $ pass1 ! (init ! 76 refl (tt, (tt, (record { fits = room-offsets .0 }, tt)))) $ pass1 ! (init ! 74 refl (tt, (tt, (record { fits = room-forces .0 }, tt)))) $ pass1 ! (init ! 72 refl (tt, (tt, (record { fits = room-cells .0 }, tt)))) $ pass1 ! (init ! 70 refl (tt, record { fits = g-budget })) $ pass1 ! (init ! 68 refl (tt, (tt, (record { fits = room-answer .0 }, tt)))) $ pass0 ! $
         move ! (93 ∷ []) $ fsplit ! $ move ! (1 ∷ []) $ fsplit ! $ move ! (1 ∷ []) $ fsplit ! $ move ! (1 ∷ []) $ fsplit ! $ move ! (1 ∷ []) $ fsplit ! $ move ! (1 ∷ []) $ fsplit ! $ move ! (1 ∷ []) $ fsplit ! $ move ! (1 ∷ []) $ fsplit ! $ move ! (1 ∷ []) $ fsplit ! $ move ! (1 ∷ []) $ fsplit ! $ drop ! $ fsplit ! $ move ! (1 ∷ []) $ drop ! $ move ! (102 ∷ []) $ split ! $ move ! (1 ∷ []) $ split ! $ move ! (1 ∷ []) $ split ! $ move ! (1 ∷ []) $ split ! $ move ! (1 ∷ []) $ split ! $ move ! (1 ∷ []) $ split ! $ move ! (1 ∷ []) $ split ! $ move ! (1 ∷ []) $ split ! $ move ! (1 ∷ []) $ split ! $ move ! (1 ∷ []) $ split ! $ move ! (1 ∷ []) $ drop ! $ move ! (19 ∷ 9 ∷ 18 ∷ 8 ∷ 17 ∷ 7 ∷ 16 ∷ 6 ∷ 15 ∷ 5 ∷ 14 ∷ 4 ∷ 13 ∷ 3 ∷ 12 ∷ 2 ∷ 11 ∷ 1 ∷ 10 ∷ 0 ∷ []) $
-        assigns ! (of-opd ! (load ! (from ! (fld ! refl (stop !))) (look-in ! 88 (sub ! 1 refl (whole !))))) (from ! (stop !)) (init ! 74 refl (tt, record { fits = room-answer .0 })) $
-        calls-is-short ! fm mem run-of known-is-short (s-answer .count) (room-answer .0) (λ _. and-then ! (load ! (from ! (stop !)) (look ! 75 refl)) (no-more !)) (λ r1 e1 is1.
+        assigns ! (of-opd ! (load ! (from ! (fld ! refl (stop !))) (look-in ! 88 (sub ! 1 refl (whole !))))) (from ! (stop !)) (init ! 72 refl (tt, record { fits = room-answer .0 })) $
+        calls-is-short ! fm mem run-of known-is-short (s-answer .count) (room-answer .0) (λ _. and-then ! (load ! (from ! (stop !)) (look ! 73 refl)) (no-more !)) (λ r1 e1 is1.
         land ! (from ! (stop !)) (init ! 86 refl (tt, tt)) $
-        assigns ! (of-opd ! (load ! (from ! (stop !)) (look ! 86 refl))) (from ! (stop !)) (init ! 72 refl (tt, tt)) $
-        first ! $ branches ! (load ! (from ! (stop !)) (look ! 72 refl))
+        assigns ! (of-opd ! (load ! (from ! (stop !)) (look ! 86 refl))) (from ! (stop !)) (init ! 70 refl (tt, tt)) $
+        first ! $ branches ! (load ! (from ! (stop !)) (look ! 70 refl))
         (λ yes1.
         assigns ! (of-opd ! (lit ! tt)) (from ! (stop !)) (init ! 110 refl (tt, record { fits = lit< tt })) $
-        returns-within ! Post refl (look ! 110 refl) $ forget ! 72 refl $ forget ! 74 refl $ forget ! 86 refl $ forget ! 88 refl $ forget ! 90 refl $ forget ! 92 refl $ forget ! 94 refl $ forget ! 96 refl $ forget ! 98 refl $ forget ! 100 refl $ forget ! 102 refl $ forget ! 104 refl $ forget ! 106 refl $ forget ! 108 refl $ forget ! 110 refl $
+        returns-within ! Post refl (look ! 110 refl) $ forget ! 70 refl $ forget ! 72 refl $ forget ! 86 refl $ forget ! 88 refl $ forget ! 90 refl $ forget ! 92 refl $ forget ! 94 refl $ forget ! 96 refl $ forget ! 98 refl $ forget ! 100 refl $ forget ! 102 refl $ forget ! 104 refl $ forget ! 106 refl $ forget ! 108 refl $ forget ! 110 refl $
         move ! (110 ∷ 111 ∷ []) $ free1 ! $ move ! (108 ∷ 109 ∷ []) $ free1 ! $ move ! (106 ∷ 107 ∷ []) $ free1 ! $ move ! (104 ∷ 105 ∷ []) $ free1 ! $ move ! (102 ∷ 103 ∷ []) $ free1 ! $ move ! (100 ∷ 101 ∷ []) $ free1 ! $ move ! (98 ∷ 99 ∷ []) $ free1 ! $ move ! (96 ∷ 97 ∷ []) $ free1 ! $ move ! (94 ∷ 95 ∷ []) $ free1 ! $ move ! (92 ∷ 93 ∷ []) $ free1 ! $ move ! (90 ∷ 91 ∷ []) $ free1 ! $ move ! (88 ∷ 89 ∷ []) $ free1 ! $ move ! (86 ∷ 87 ∷ []) $ free1 ! $ move ! (84 ∷ 85 ∷ []) $ free1 ! $ move ! (82 ∷ 83 ∷ []) $ free1 ! $ move ! (80 ∷ 81 ∷ []) $ free1 ! $ move ! (78 ∷ 79 ∷ []) $ free1 ! $ move ! (76 ∷ 77 ∷ []) $ free1 ! $ move ! (74 ∷ 75 ∷ []) $ free1 ! $ move ! (72 ∷ 73 ∷ []) $ free1 ! $ move ! (70 ∷ 71 ∷ []) $ free1 ! $ move ! (68 ∷ 69 ∷ []) $ free1 ! $ move ! (66 ∷ 67 ∷ []) $ free1 ! $ move ! (64 ∷ 65 ∷ []) $ free1 ! $ move ! (62 ∷ 63 ∷ []) $ free1 ! $ move ! (60 ∷ 61 ∷ []) $ free1 ! $ move ! (58 ∷ 59 ∷ []) $ free1 ! $ move ! (56 ∷ 57 ∷ []) $ free1 ! $ move ! (54 ∷ 55 ∷ []) $ free1 ! $ move ! (52 ∷ 53 ∷ []) $ free1 ! $ move ! (50 ∷ 51 ∷ []) $ free1 ! $ move ! (48 ∷ 49 ∷ []) $ free1 ! $ move ! (46 ∷ 47 ∷ []) $ free1 ! $ move ! (44 ∷ 45 ∷ []) $ free1 ! $ move ! (42 ∷ 43 ∷ []) $ free1 ! $ move ! (40 ∷ 41 ∷ []) $ free1 ! $ move ! (38 ∷ 39 ∷ []) $ free1 ! $ move ! (36 ∷ 37 ∷ []) $ free1 ! $ move ! (34 ∷ 35 ∷ []) $ free1 ! $ move ! (32 ∷ 33 ∷ []) $ free1 ! $ move ! (30 ∷ 31 ∷ []) $ free1 ! $ move ! (28 ∷ 29 ∷ []) $ free1 ! $ move ! (26 ∷ 27 ∷ []) $ free1 ! $ move ! (24 ∷ 25 ∷ []) $ free1 ! $ move ! (22 ∷ 23 ∷ []) $ free1 ! $ move ! (20 ∷ 21 ∷ []) $ free1 ! $ free0 ! $
         keep ! (0 ∷ 1 ∷ 2 ∷ 3 ∷ 4 ∷ 5 ∷ 6 ∷ 7 ∷ 8 ∷ 9 ∷ 10 ∷ 11 ∷ 12 ∷ 13 ∷ 14 ∷ 15 ∷ 16 ∷ 17 ∷ 18 ∷ 19 ∷ []) $ by ! (exits 12 words positions increments gains forces cells answer (lit< tt) ln-words ln-positions ln-increments ln-gains ln-forces ln-cells ln-answer (short-said budget words answer (memory positions increments gains affinities indices offsets forces cells) _ ln-answer r1 e1 yes1)))
         (λ no1. skips ! $ exec ! C Λ (En l0 l1 l2 l3 l4 l5 l6 l7 l8 l9 l10 l11 l12 l13 l14 l15 l16 l17 l18 l19 l20 l21 l22 l23 l24 l25 l26 l27 l28 l29 l30 l31 l32 l33 l34 l35 l36 l37 l38 l39 l40 l41 l42 l43 l44 l45) pieces.t-5 (atRet (En l0 l1 l2 l3 l4 l5 l6 l7 l8 l9 l10 l11 l12 l13 l14 l15 l16 l17 l18 l19 l20 l21 l22 l23 l24 l25 l26 l27 l28 l29 l30 l31 l32 l33 l34 l35 l36 l37 l38 l39 l40 l41 l42 l43 l44 l45) Post) $
-        assigns ! (addr ! (from ! (fld ! refl (hop ! (look-in ! 108 (sub ! 0 refl (whole !))) (stop !))))) (from ! (stop !)) (init ! 70 refl (tt, tt)) $
-        assigns ! (agg ! (and-then ! (load ! (from ! (stop !)) (look ! 70 refl)) (and-then ! (load ! (from ! (fld ! refl (stop !))) (look-in ! 108 (sub ! 1 refl (whole !)))) (no-more !)))) (from ! (stop !)) (init ! 68 refl (tt, (tt, (record { fits = room-words .0 }, tt)))) $
-        calls-is-unread-s ! fm mem run-of known-is-unread s-words words (λ _ _. and-then ! (load ! (from ! (stop !)) (look ! 68 refl)) (no-more !)) (λ r2 e2 is2.
+        assigns ! (addr ! (from ! (fld ! refl (hop ! (look-in ! 108 (sub ! 0 refl (whole !))) (stop !))))) (from ! (stop !)) (init ! 68 refl (tt, tt)) $
+        assigns ! (agg ! (and-then ! (load ! (from ! (stop !)) (look ! 68 refl)) (and-then ! (load ! (from ! (fld ! refl (stop !))) (look-in ! 108 (sub ! 1 refl (whole !)))) (no-more !)))) (from ! (stop !)) (init ! 66 refl (tt, (tt, (record { fits = room-words .0 }, tt)))) $
+        calls-is-unread-s ! fm mem run-of known-is-unread s-words words (λ _ _. and-then ! (load ! (from ! (stop !)) (look ! 66 refl)) (no-more !)) (λ r2 e2 is2.
         land ! (from ! (stop !)) (init ! 84 refl (tt, tt)) $
-        assigns ! (of-opd ! (load ! (from ! (stop !)) (look ! 84 refl))) (from ! (stop !)) (store ! 72 refl (tt, tt)) $
-        first ! $ branches ! (load ! (from ! (stop !)) (look ! 72 refl))
+        assigns ! (of-opd ! (load ! (from ! (stop !)) (look ! 84 refl))) (from ! (stop !)) (store ! 70 refl (tt, tt)) $
+        first ! $ branches ! (load ! (from ! (stop !)) (look ! 70 refl))
         (λ yes2.
         assigns ! (addr ! (from ! (fld ! refl (hop ! (look-in ! 108 (sub ! 0 refl (whole !))) (stop !))))) (from ! (stop !)) (init ! 64 refl (tt, tt)) $
         assigns ! (agg ! (and-then ! (load ! (from ! (stop !)) (look ! 64 refl)) (and-then ! (load ! (from ! (fld ! refl (stop !))) (look-in ! 108 (sub ! 1 refl (whole !)))) (no-more !)))) (from ! (stop !)) (init ! 62 refl (tt, (tt, (record { fits = room-words .0 }, tt)))) $
@@ -167,17 +167,17 @@ module _ {M : Type 1} (𝓤 : URA M) (H : Heap 𝓤) (A : Atoms 𝓤) (W : Given
         assigns ! (agg ! (and-then ! (load ! (from ! (stop !)) (look ! 60 refl)) (and-then ! (load ! (from ! (fld ! refl (stop !))) (look-in ! 88 (sub ! 1 refl (whole !)))) (no-more !)))) (from ! (stop !)) (init ! 58 refl (tt, (tt, (record { fits = room-answer .0 }, tt)))) $
         move ! (0 ∷ 1 ∷ 18 ∷ 19 ∷ []) $
         calls-put-unread-sm ! fm mem run-of known-put-unread s-words words s-answer answer ln-answer (room-said budget words answer (memory positions increments gains affinities indices offsets forces cells) _ ln-answer r1 e1 no1) (λ _ _ _. and-then ! (load ! (from ! (stop !)) (look ! 61 refl)) (and-then ! (load ! (from ! (stop !)) (look ! 57 refl)) (no-more !))) (λ r3 answer3 e3 is3 l-answer3.
-        land ! (from ! (stop !)) (init ! 66 refl (tt, tt)) $
-        assigns ! (of-opd ! (lit ! tt)) (from ! (stop !)) (init ! 110 refl (tt, record { fits = lit< tt })) $
-        returns-within ! Post refl (look ! 110 refl) $ forget ! 58 refl $ forget ! 60 refl $ forget ! 62 refl $ forget ! 64 refl $ forget ! 66 refl $ forget ! 68 refl $ forget ! 70 refl $ forget ! 72 refl $ forget ! 74 refl $ forget ! 84 refl $ forget ! 86 refl $ forget ! 88 refl $ forget ! 90 refl $ forget ! 92 refl $ forget ! 94 refl $ forget ! 96 refl $ forget ! 98 refl $ forget ! 100 refl $ forget ! 102 refl $ forget ! 104 refl $ forget ! 106 refl $ forget ! 108 refl $ forget ! 110 refl $
+        land ! (from ! (stop !)) (init ! 82 refl (tt, record { fits = is3 .1 })) $
+        assigns ! (of-opd ! (load ! (from ! (stop !)) (look ! 82 refl))) (from ! (stop !)) (init ! 110 refl (tt, record { fits = is3 .1 })) $
+        returns-within ! Post refl (look ! 110 refl) $ forget ! 58 refl $ forget ! 60 refl $ forget ! 62 refl $ forget ! 64 refl $ forget ! 66 refl $ forget ! 68 refl $ forget ! 70 refl $ forget ! 72 refl $ forget ! 82 refl $ forget ! 84 refl $ forget ! 86 refl $ forget ! 88 refl $ forget ! 90 refl $ forget ! 92 refl $ forget ! 94 refl $ forget ! 96 refl $ forget ! 98 refl $ forget ! 100 refl $ forget ! 102 refl $ forget ! 104 refl $ forget ! 106 refl $ forget ! 108 refl $ forget ! 110 refl $
         move ! (110 ∷ 111 ∷ []) $ free1 ! $ move ! (108 ∷ 109 ∷ []) $ free1 ! $ move ! (106 ∷ 107 ∷ []) $ free1 ! $ move ! (104 ∷ 105 ∷ []) $ free1 ! $ move ! (102 ∷ 103 ∷ []) $ free1 ! $ move ! (100 ∷ 101 ∷ []) $ free1 ! $ move ! (98 ∷ 99 ∷ []) $ free1 ! $ move ! (96 ∷ 97 ∷ []) $ free1 ! $ move ! (94 ∷ 95 ∷ []) $ free1 ! $ move ! (92 ∷ 93 ∷ []) $ free1 ! $ move ! (90 ∷ 91 ∷ []) $ free1 ! $ move ! (88 ∷ 89 ∷ []) $ free1 ! $ move ! (86 ∷ 87 ∷ []) $ free1 ! $ move ! (84 ∷ 85 ∷ []) $ free1 ! $ move ! (82 ∷ 83 ∷ []) $ free1 ! $ move ! (80 ∷ 81 ∷ []) $ free1 ! $ move ! (78 ∷ 79 ∷ []) $ free1 ! $ move ! (76 ∷ 77 ∷ []) $ free1 ! $ move ! (74 ∷ 75 ∷ []) $ free1 ! $ move ! (72 ∷ 73 ∷ []) $ free1 ! $ move ! (70 ∷ 71 ∷ []) $ free1 ! $ move ! (68 ∷ 69 ∷ []) $ free1 ! $ move ! (66 ∷ 67 ∷ []) $ free1 ! $ move ! (64 ∷ 65 ∷ []) $ free1 ! $ move ! (62 ∷ 63 ∷ []) $ free1 ! $ move ! (60 ∷ 61 ∷ []) $ free1 ! $ move ! (58 ∷ 59 ∷ []) $ free1 ! $ move ! (56 ∷ 57 ∷ []) $ free1 ! $ move ! (54 ∷ 55 ∷ []) $ free1 ! $ move ! (52 ∷ 53 ∷ []) $ free1 ! $ move ! (50 ∷ 51 ∷ []) $ free1 ! $ move ! (48 ∷ 49 ∷ []) $ free1 ! $ move ! (46 ∷ 47 ∷ []) $ free1 ! $ move ! (44 ∷ 45 ∷ []) $ free1 ! $ move ! (42 ∷ 43 ∷ []) $ free1 ! $ move ! (40 ∷ 41 ∷ []) $ free1 ! $ move ! (38 ∷ 39 ∷ []) $ free1 ! $ move ! (36 ∷ 37 ∷ []) $ free1 ! $ move ! (34 ∷ 35 ∷ []) $ free1 ! $ move ! (32 ∷ 33 ∷ []) $ free1 ! $ move ! (30 ∷ 31 ∷ []) $ free1 ! $ move ! (28 ∷ 29 ∷ []) $ free1 ! $ move ! (26 ∷ 27 ∷ []) $ free1 ! $ move ! (24 ∷ 25 ∷ []) $ free1 ! $ move ! (22 ∷ 23 ∷ []) $ free1 ! $ move ! (20 ∷ 21 ∷ []) $ free1 ! $ free0 ! $
-        keep ! (0 ∷ 1 ∷ 4 ∷ 5 ∷ 6 ∷ 7 ∷ 8 ∷ 9 ∷ 10 ∷ 11 ∷ 12 ∷ 13 ∷ 14 ∷ 15 ∷ 16 ∷ 17 ∷ 18 ∷ 19 ∷ 2 ∷ 3 ∷ []) $ by ! (exits 13 words positions increments gains forces cells answer3 (lit< tt) ln-words ln-positions ln-increments ln-gains ln-forces ln-cells l-answer3 (unread-said budget words answer (memory positions increments gains affinities indices offsets forces cells) _ ln-answer r1 e1 no1 r2 e2 yes2 answer3 e3))))
+        keep ! (0 ∷ 1 ∷ 4 ∷ 5 ∷ 6 ∷ 7 ∷ 8 ∷ 9 ∷ 10 ∷ 11 ∷ 12 ∷ 13 ∷ 14 ∷ 15 ∷ 16 ∷ 17 ∷ 18 ∷ 19 ∷ 2 ∷ 3 ∷ []) $ by ! (exits r3 words positions increments gains forces cells answer3 (is3 .1) ln-words ln-positions ln-increments ln-gains ln-forces ln-cells l-answer3 (unread-said budget words answer (memory positions increments gains affinities indices offsets forces cells) _ ln-answer r1 e1 no1 r2 e2 yes2 r3 answer3 e3))))
         (λ no2. skips ! $ exec ! C Λ (En l0 l1 l2 l3 l4 l5 l6 l7 l8 l9 l10 l11 l12 l13 l14 l15 l16 l17 l18 l19 l20 l21 l22 l23 l24 l25 l26 l27 l28 l29 l30 l31 l32 l33 l34 l35 l36 l37 l38 l39 l40 l41 l42 l43 l44 l45) pieces.t-10 (atRet (En l0 l1 l2 l3 l4 l5 l6 l7 l8 l9 l10 l11 l12 l13 l14 l15 l16 l17 l18 l19 l20 l21 l22 l23 l24 l25 l26 l27 l28 l29 l30 l31 l32 l33 l34 l35 l36 l37 l38 l39 l40 l41 l42 l43 l44 l45) Post) $
         assigns ! (addr ! (from ! (fld ! refl (hop ! (look-in ! 108 (sub ! 0 refl (whole !))) (stop !))))) (from ! (stop !)) (init ! 54 refl (tt, tt)) $
         assigns ! (agg ! (and-then ! (load ! (from ! (stop !)) (look ! 54 refl)) (and-then ! (load ! (from ! (fld ! refl (stop !))) (look-in ! 108 (sub ! 1 refl (whole !)))) (no-more !)))) (from ! (stop !)) (init ! 52 refl (tt, (tt, (record { fits = room-words .0 }, tt)))) $
         calls-run-of-s ! fm mem run-of known-run-of s-words words (long-said budget words answer (memory positions increments gains affinities indices offsets forces cells) _ ln-answer r1 e1 no1 r2 e2 no2) (λ _ _. and-then ! (load ! (from ! (stop !)) (look ! 52 refl)) (no-more !)) (λ r4 e4 is4.
         land ! (from ! (stop !)) (init ! 56 refl (typed-Run r4 is4)) $
-        assigns ! (of-opd ! (load ! (from ! (stop !)) (look ! 56 refl))) (from ! (stop !)) (init ! 82 refl (typed-Run r4 is4)) $
+        assigns ! (of-opd ! (load ! (from ! (stop !)) (look ! 56 refl))) (from ! (stop !)) (init ! 80 refl (typed-Run r4 is4)) $
         assigns ! (addr ! (from ! (stop !))) (from ! (stop !)) (init ! 50 refl (tt, tt)) $
         assigns ! (addr ! (from ! (fld ! refl (hop ! (look-in ! 106 (sub ! 0 refl (whole !))) (stop !))))) (from ! (stop !)) (init ! 48 refl (tt, tt)) $
         assigns ! (agg ! (and-then ! (load ! (from ! (stop !)) (look ! 48 refl)) (and-then ! (load ! (from ! (fld ! refl (stop !))) (look-in ! 106 (sub ! 1 refl (whole !)))) (no-more !)))) (from ! (stop !)) (init ! 46 refl (tt, (tt, (record { fits = room-positions .0 }, tt)))) $
@@ -189,29 +189,29 @@ module _ {M : Type 1} (𝓤 : URA M) (H : Heap 𝓤) (A : Atoms 𝓤) (W : Given
         assigns ! (agg ! (and-then ! (load ! (from ! (stop !)) (look ! 36 refl)) (and-then ! (load ! (from ! (fld ! refl (stop !))) (look-in ! 94 (sub ! 1 refl (whole !)))) (no-more !)))) (from ! (stop !)) (init ! 34 refl (tt, (tt, (record { fits = room-forces .0 }, tt)))) $
         assigns ! (addr ! (from ! (fld ! refl (hop ! (look-in ! 92 (sub ! 0 refl (whole !))) (stop !))))) (from ! (stop !)) (init ! 32 refl (tt, tt)) $
         assigns ! (agg ! (and-then ! (load ! (from ! (stop !)) (look ! 32 refl)) (and-then ! (load ! (from ! (fld ! refl (stop !))) (look-in ! 92 (sub ! 1 refl (whole !)))) (no-more !)))) (from ! (stop !)) (init ! 30 refl (tt, (tt, (record { fits = room-cells .0 }, tt)))) $
-        move ! (82 ∷ []) $
-        lend-struct ! tt Run′.the-row tt val-Run ((LL.makes Run′.the-type Run″.the-plain) 𝓤 H A) l14 r4 is4 (λ ν-own14 δ-own14.
+        move ! (80 ∷ []) $
+        lend-struct ! tt Run′.the-row tt val-Run ((LL.makes Run′.the-type Run″.the-plain) 𝓤 H A) l15 r4 is4 (λ ν-own15 δ-own15.
         move ! (0 ∷ 1 ∷ 5 ∷ 6 ∷ 7 ∷ 8 ∷ 9 ∷ 10 ∷ 11 ∷ 12 ∷ 13 ∷ 14 ∷ 15 ∷ 16 ∷ 17 ∷ 18 ∷ 19 ∷ 20 ∷ []) $
-        calls-work-rmmmcccmm ! fm mem run-of known-work (local-at l14 1 ν-own14 δ-own14) r4 s-positions positions s-increments increments s-gains gains s-affinities affinities s-indices indices s-offsets offsets s-forces forces s-cells cells budget ln-positions ln-increments ln-gains ln-forces ln-cells g-budget (λ _ _ _ _ _ _ _ _ _ _. and-then ! (load ! (from ! (stop !)) (look ! 45 refl)) (and-then ! (load ! (from ! (stop !)) (look ! 41 refl)) (and-then ! (load ! (from ! (stop !)) (look ! 37 refl)) (and-then ! (load ! (from ! (stop !)) (look ! 33 refl)) (and-then ! (load ! (from ! (stop !)) (look ! 94 refl)) (and-then ! (load ! (from ! (stop !)) (look ! 92 refl)) (and-then ! (load ! (from ! (stop !)) (look ! 90 refl)) (and-then ! (load ! (from ! (stop !)) (look ! 29 refl)) (and-then ! (load ! (from ! (stop !)) (look ! 25 refl)) (and-then ! (load ! (from ! (stop !)) (look ! 84 refl)) (no-more !))))))))))) (λ r5 own145 positions5 increments5 gains5 forces5 cells5 e5 is5 l-positions5 l-increments5 l-gains5 l-forces5 l-cells5.
-        land ! (from ! (stop !)) (init ! 83 refl (typed-Answer r5 is5)) $
-        move ! (0 ∷ 1 ∷ 18 ∷ []) $ back-struct ! tt Run′.the-row tt val-Run (LL.tells Run′.the-type Run″.the-laws) l14 ν-own14 δ-own14 own145 (λ is-own145.
-        assigns ! (of-opd ! (load ! (from ! (stop !)) (look ! 0 refl))) (from ! (stop !)) (init ! 79 refl (typed-Run own145 is-own145)) $
+        calls-work-rmmmcccmm ! fm mem run-of known-work (local-at l15 1 ν-own15 δ-own15) r4 s-positions positions s-increments increments s-gains gains s-affinities affinities s-indices indices s-offsets offsets s-forces forces s-cells cells budget ln-positions ln-increments ln-gains ln-forces ln-cells g-budget (λ _ _ _ _ _ _ _ _ _ _. and-then ! (load ! (from ! (stop !)) (look ! 45 refl)) (and-then ! (load ! (from ! (stop !)) (look ! 41 refl)) (and-then ! (load ! (from ! (stop !)) (look ! 37 refl)) (and-then ! (load ! (from ! (stop !)) (look ! 33 refl)) (and-then ! (load ! (from ! (stop !)) (look ! 94 refl)) (and-then ! (load ! (from ! (stop !)) (look ! 92 refl)) (and-then ! (load ! (from ! (stop !)) (look ! 90 refl)) (and-then ! (load ! (from ! (stop !)) (look ! 29 refl)) (and-then ! (load ! (from ! (stop !)) (look ! 25 refl)) (and-then ! (load ! (from ! (stop !)) (look ! 84 refl)) (no-more !))))))))))) (λ r5 own155 positions5 increments5 gains5 forces5 cells5 e5 is5 l-positions5 l-increments5 l-gains5 l-forces5 l-cells5.
+        land ! (from ! (stop !)) (init ! 81 refl (typed-Answer r5 is5)) $
+        move ! (0 ∷ 1 ∷ 18 ∷ []) $ back-struct ! tt Run′.the-row tt val-Run (LL.tells Run′.the-type Run″.the-laws) l15 ν-own15 δ-own15 own155 (λ is-own155.
+        assigns ! (of-opd ! (load ! (from ! (stop !)) (look ! 0 refl))) (from ! (stop !)) (init ! 77 refl (typed-Run own155 is-own155)) $
         assigns ! (addr ! (from ! (fld ! refl (hop ! (look-in ! 108 (sub ! 0 refl (whole !))) (stop !))))) (from ! (stop !)) (init ! 27 refl (tt, tt)) $
         assigns ! (agg ! (and-then ! (load ! (from ! (stop !)) (look ! 27 refl)) (and-then ! (load ! (from ! (fld ! refl (stop !))) (look-in ! 108 (sub ! 1 refl (whole !)))) (no-more !)))) (from ! (stop !)) (init ! 25 refl (tt, (tt, (record { fits = room-words .0 }, tt)))) $
         move ! (17 ∷ 18 ∷ []) $
-        calls-put-after-m ! fm mem run-of known-put-after s-words words r5 own145 ln-words is5 is-own145 (long-said budget words answer (memory positions increments gains affinities indices offsets forces cells) _ ln-answer r1 e1 no1 r2 e2 no2) (λ _ _. and-then ! (load ! (from ! (stop !)) (look ! 25 refl)) (and-then ! (load ! (from ! (stop !)) (look ! 81 refl)) (and-then ! (load ! (from ! (stop !)) (look ! 79 refl)) (no-more !)))) (λ r6 words6 e6 is6 l-words6.
+        calls-put-after-m ! fm mem run-of known-put-after s-words words r5 own155 ln-words is5 is-own155 (long-said budget words answer (memory positions increments gains affinities indices offsets forces cells) _ ln-answer r1 e1 no1 r2 e2 no2) (λ _ _. and-then ! (load ! (from ! (stop !)) (look ! 25 refl)) (and-then ! (load ! (from ! (stop !)) (look ! 79 refl)) (and-then ! (load ! (from ! (stop !)) (look ! 77 refl)) (no-more !)))) (λ r6 words6 e6 is6 l-words6.
         land ! (from ! (stop !)) (init ! 29 refl (tt, tt)) $
         assigns ! (addr ! (from ! (fld ! refl (hop ! (look-in ! 88 (sub ! 0 refl (whole !))) (stop !))))) (from ! (stop !)) (init ! 23 refl (tt, tt)) $
         assigns ! (agg ! (and-then ! (load ! (from ! (stop !)) (look ! 23 refl)) (and-then ! (load ! (from ! (fld ! refl (stop !))) (look-in ! 88 (sub ! 1 refl (whole !)))) (no-more !)))) (from ! (stop !)) (init ! 21 refl (tt, (tt, (record { fits = room-answer .0 }, tt)))) $
         move ! (19 ∷ 20 ∷ []) $
-        calls-put-answer-m ! fm mem run-of known-put-answer s-answer answer r5 ln-answer is5 (room-said budget words answer (memory positions increments gains affinities indices offsets forces cells) _ ln-answer r1 e1 no1) (λ _ _. and-then ! (load ! (from ! (stop !)) (look ! 21 refl)) (and-then ! (load ! (from ! (stop !)) (look ! 81 refl)) (no-more !))) (λ r7 answer7 e7 is7 l-answer7.
+        calls-put-answer-m ! fm mem run-of known-put-answer s-answer answer r5 ln-answer is5 (room-said budget words answer (memory positions increments gains affinities indices offsets forces cells) _ ln-answer r1 e1 no1) (λ _ _. and-then ! (load ! (from ! (stop !)) (look ! 21 refl)) (and-then ! (load ! (from ! (stop !)) (look ! 79 refl)) (no-more !))) (λ r7 answer7 e7 is7 l-answer7.
         land ! (from ! (stop !)) (store ! 29 refl (tt, tt)) $
-        calls-number-of ! fm mem run-of known-number-of r5 is5 (λ _. and-then ! (load ! (from ! (stop !)) (look ! 82 refl)) (no-more !)) (λ r8 e8 is8.
-        land ! (from ! (stop !)) (init ! 77 refl (tt, record { fits = is8 .1 })) $
-        assigns ! (of-opd ! (load ! (from ! (stop !)) (look ! 77 refl))) (from ! (stop !)) (init ! 110 refl (tt, record { fits = is8 .1 })) $
-        returns ! (look ! 110 refl) $ forget ! 21 refl $ forget ! 23 refl $ forget ! 25 refl $ forget ! 27 refl $ forget ! 29 refl $ forget ! 31 refl $ forget ! 33 refl $ forget ! 35 refl $ forget ! 37 refl $ forget ! 39 refl $ forget ! 41 refl $ forget ! 43 refl $ forget ! 45 refl $ forget ! 47 refl $ forget ! 49 refl $ forget ! 51 refl $ forget ! 53 refl $ forget ! 55 refl $ forget ! 57 refl $ forget ! 69 refl $ forget ! 71 refl $ forget ! 73 refl $ forget ! 75 refl $ forget ! 77 refl $ forget ! 79 refl $ forget ! 81 refl $ forget ! 4 refl $ forget ! 84 refl $ forget ! 86 refl $ forget ! 88 refl $ forget ! 90 refl $ forget ! 92 refl $ forget ! 94 refl $ forget ! 96 refl $ forget ! 98 refl $ forget ! 100 refl $ forget ! 102 refl $ forget ! 104 refl $ forget ! 106 refl $ forget ! 108 refl $ forget ! 110 refl $
-        move ! (110 ∷ 111 ∷ []) $ free1 ! $ move ! (108 ∷ 109 ∷ []) $ free1 ! $ move ! (106 ∷ 107 ∷ []) $ free1 ! $ move ! (104 ∷ 105 ∷ []) $ free1 ! $ move ! (102 ∷ 103 ∷ []) $ free1 ! $ move ! (100 ∷ 101 ∷ []) $ free1 ! $ move ! (98 ∷ 99 ∷ []) $ free1 ! $ move ! (96 ∷ 97 ∷ []) $ free1 ! $ move ! (94 ∷ 95 ∷ []) $ free1 ! $ move ! (92 ∷ 93 ∷ []) $ free1 ! $ move ! (90 ∷ 91 ∷ []) $ free1 ! $ move ! (88 ∷ 89 ∷ []) $ free1 ! $ move ! (86 ∷ 87 ∷ []) $ free1 ! $ move ! (84 ∷ 85 ∷ []) $ free1 ! $ move ! (4 ∷ 83 ∷ []) $ free1 ! $ move ! (80 ∷ 81 ∷ []) $ free1 ! $ move ! (78 ∷ 79 ∷ []) $ free1 ! $ move ! (76 ∷ 77 ∷ []) $ free1 ! $ move ! (74 ∷ 75 ∷ []) $ free1 ! $ move ! (72 ∷ 73 ∷ []) $ free1 ! $ move ! (70 ∷ 71 ∷ []) $ free1 ! $ move ! (68 ∷ 69 ∷ []) $ free1 ! $ move ! (66 ∷ 67 ∷ []) $ free1 ! $ move ! (64 ∷ 65 ∷ []) $ free1 ! $ move ! (62 ∷ 63 ∷ []) $ free1 ! $ move ! (60 ∷ 61 ∷ []) $ free1 ! $ move ! (58 ∷ 59 ∷ []) $ free1 ! $ move ! (56 ∷ 57 ∷ []) $ free1 ! $ move ! (54 ∷ 55 ∷ []) $ free1 ! $ move ! (52 ∷ 53 ∷ []) $ free1 ! $ move ! (50 ∷ 51 ∷ []) $ free1 ! $ move ! (48 ∷ 49 ∷ []) $ free1 ! $ move ! (46 ∷ 47 ∷ []) $ free1 ! $ move ! (44 ∷ 45 ∷ []) $ free1 ! $ move ! (42 ∷ 43 ∷ []) $ free1 ! $ move ! (40 ∷ 41 ∷ []) $ free1 ! $ move ! (38 ∷ 39 ∷ []) $ free1 ! $ move ! (36 ∷ 37 ∷ []) $ free1 ! $ move ! (34 ∷ 35 ∷ []) $ free1 ! $ move ! (32 ∷ 33 ∷ []) $ free1 ! $ move ! (30 ∷ 31 ∷ []) $ free1 ! $ move ! (28 ∷ 29 ∷ []) $ free1 ! $ move ! (26 ∷ 27 ∷ []) $ free1 ! $ move ! (24 ∷ 25 ∷ []) $ free1 ! $ move ! (22 ∷ 23 ∷ []) $ free1 ! $ move ! (20 ∷ 21 ∷ []) $ free1 ! $ free0 ! $
-        keep ! (2 ∷ 3 ∷ 4 ∷ 5 ∷ 6 ∷ 7 ∷ 8 ∷ 9 ∷ 10 ∷ 11 ∷ 12 ∷ 13 ∷ 14 ∷ 15 ∷ 16 ∷ 17 ∷ 18 ∷ 19 ∷ 0 ∷ 1 ∷ []) $ by ! (exits r8 words6 positions5 increments5 gains5 forces5 cells5 answer7 (is8 .1) l-words6 l-positions5 l-increments5 l-gains5 l-forces5 l-cells5 l-answer7 (work-said budget words answer (memory positions increments gains affinities indices offsets forces cells) _ ln-answer r1 e1 no1 r2 e2 no2 r4 e4 r5 own145 (memory positions5 increments5 gains5 affinities indices offsets forces5 cells5) e5 words6 e6 answer7 e7 r8 e8)))))))))))))))))))))))))))))))))))))))))))))))))))))))))))
+        calls-number-of ! fm mem run-of known-number-of r5 is5 (λ _. and-then ! (load ! (from ! (stop !)) (look ! 80 refl)) (no-more !)) (λ r8 e8 is8.
+        land ! (from ! (stop !)) (init ! 75 refl (tt, record { fits = is8 .1 })) $
+        assigns ! (of-opd ! (load ! (from ! (stop !)) (look ! 75 refl))) (from ! (stop !)) (init ! 110 refl (tt, record { fits = is8 .1 })) $
+        returns ! (look ! 110 refl) $ forget ! 21 refl $ forget ! 23 refl $ forget ! 25 refl $ forget ! 27 refl $ forget ! 29 refl $ forget ! 31 refl $ forget ! 33 refl $ forget ! 35 refl $ forget ! 37 refl $ forget ! 39 refl $ forget ! 41 refl $ forget ! 43 refl $ forget ! 45 refl $ forget ! 47 refl $ forget ! 49 refl $ forget ! 51 refl $ forget ! 53 refl $ forget ! 55 refl $ forget ! 57 refl $ forget ! 67 refl $ forget ! 69 refl $ forget ! 71 refl $ forget ! 73 refl $ forget ! 75 refl $ forget ! 77 refl $ forget ! 79 refl $ forget ! 4 refl $ forget ! 84 refl $ forget ! 86 refl $ forget ! 88 refl $ forget ! 90 refl $ forget ! 92 refl $ forget ! 94 refl $ forget ! 96 refl $ forget ! 98 refl $ forget ! 100 refl $ forget ! 102 refl $ forget ! 104 refl $ forget ! 106 refl $ forget ! 108 refl $ forget ! 110 refl $
+        move ! (110 ∷ 111 ∷ []) $ free1 ! $ move ! (108 ∷ 109 ∷ []) $ free1 ! $ move ! (106 ∷ 107 ∷ []) $ free1 ! $ move ! (104 ∷ 105 ∷ []) $ free1 ! $ move ! (102 ∷ 103 ∷ []) $ free1 ! $ move ! (100 ∷ 101 ∷ []) $ free1 ! $ move ! (98 ∷ 99 ∷ []) $ free1 ! $ move ! (96 ∷ 97 ∷ []) $ free1 ! $ move ! (94 ∷ 95 ∷ []) $ free1 ! $ move ! (92 ∷ 93 ∷ []) $ free1 ! $ move ! (90 ∷ 91 ∷ []) $ free1 ! $ move ! (88 ∷ 89 ∷ []) $ free1 ! $ move ! (86 ∷ 87 ∷ []) $ free1 ! $ move ! (84 ∷ 85 ∷ []) $ free1 ! $ move ! (82 ∷ 83 ∷ []) $ free1 ! $ move ! (4 ∷ 81 ∷ []) $ free1 ! $ move ! (78 ∷ 79 ∷ []) $ free1 ! $ move ! (76 ∷ 77 ∷ []) $ free1 ! $ move ! (74 ∷ 75 ∷ []) $ free1 ! $ move ! (72 ∷ 73 ∷ []) $ free1 ! $ move ! (70 ∷ 71 ∷ []) $ free1 ! $ move ! (68 ∷ 69 ∷ []) $ free1 ! $ move ! (66 ∷ 67 ∷ []) $ free1 ! $ move ! (64 ∷ 65 ∷ []) $ free1 ! $ move ! (62 ∷ 63 ∷ []) $ free1 ! $ move ! (60 ∷ 61 ∷ []) $ free1 ! $ move ! (58 ∷ 59 ∷ []) $ free1 ! $ move ! (56 ∷ 57 ∷ []) $ free1 ! $ move ! (54 ∷ 55 ∷ []) $ free1 ! $ move ! (52 ∷ 53 ∷ []) $ free1 ! $ move ! (50 ∷ 51 ∷ []) $ free1 ! $ move ! (48 ∷ 49 ∷ []) $ free1 ! $ move ! (46 ∷ 47 ∷ []) $ free1 ! $ move ! (44 ∷ 45 ∷ []) $ free1 ! $ move ! (42 ∷ 43 ∷ []) $ free1 ! $ move ! (40 ∷ 41 ∷ []) $ free1 ! $ move ! (38 ∷ 39 ∷ []) $ free1 ! $ move ! (36 ∷ 37 ∷ []) $ free1 ! $ move ! (34 ∷ 35 ∷ []) $ free1 ! $ move ! (32 ∷ 33 ∷ []) $ free1 ! $ move ! (30 ∷ 31 ∷ []) $ free1 ! $ move ! (28 ∷ 29 ∷ []) $ free1 ! $ move ! (26 ∷ 27 ∷ []) $ free1 ! $ move ! (24 ∷ 25 ∷ []) $ free1 ! $ move ! (22 ∷ 23 ∷ []) $ free1 ! $ move ! (20 ∷ 21 ∷ []) $ free1 ! $ free0 ! $
+        keep ! (2 ∷ 3 ∷ 4 ∷ 5 ∷ 6 ∷ 7 ∷ 8 ∷ 9 ∷ 10 ∷ 11 ∷ 12 ∷ 13 ∷ 14 ∷ 15 ∷ 16 ∷ 17 ∷ 18 ∷ 19 ∷ 0 ∷ 1 ∷ []) $ by ! (exits r8 words6 positions5 increments5 gains5 forces5 cells5 answer7 (is8 .1) l-words6 l-positions5 l-increments5 l-gains5 l-forces5 l-cells5 l-answer7 (work-said budget words answer (memory positions increments gains affinities indices offsets forces cells) _ ln-answer r1 e1 no1 r2 e2 no2 r4 e4 r5 own155 (memory positions5 increments5 gains5 affinities indices offsets forces5 cells5) e5 words6 e6 answer7 e7 r8 e8)))))))))))))))))))))))))))))))))))))))))))))))))))))))))))
 
 module _ {M : Type 1} (𝓤 : URA M) (H : Heap 𝓤) (A : Atoms 𝓤) (W : Given 𝓤 H A) (mem : Memory → SProp 𝓤) (run-of : Routine → Fun 𝓤) where
   host-work-walks : (C : Calls 𝓤 H) (Λ : Loops 𝓤 H) → FmC 𝓤 H (W .laws) C → Triple 𝓤 (C #desk-work·is-short) (Contract-is-short 𝓤 H A mem run-of) → Triple 𝓤 (C #desk-work·is-unread) (Contract-is-unread 𝓤 H A mem run-of) → Triple 𝓤 (C #desk-work·put-unread) (Contract-put-unread 𝓤 H A mem run-of) → Triple 𝓤 (C #record-words·run-of) (Contract-run-of 𝓤 H A mem run-of) → Triple 𝓤 (C #descent·work) (Contract-work 𝓤 H A mem run-of) → Triple 𝓤 (C #answer-words·put-after) (Contract-put-after 𝓤 H A mem run-of) → Triple 𝓤 (C #answer-words·put-answer) (Contract-put-answer 𝓤 H A mem run-of) → Triple 𝓤 (C #desk-work·number-of) (Contract-number-of 𝓤 H A mem run-of) → Walks 𝓤 H A f.ended stayed (WpFn 𝓤 H C Λ code.function) (f.clauses 𝓤 H A mem run-of)

@@ -1,3 +1,4 @@
+-- An answer without a word is 12 and keeps what it has; else its first word and the number are those of the fault.
 use borrow.Author.Tests.{eq-eqb, ne-eqb}
 use Rattle.fault_words.specs.FaultWords.{unfitTold}
 use borrow.Author.Needs.{needs}
@@ -17,12 +18,18 @@ fault-value-requires c κs = search needs
 slice-write-answer : tie.Need-slice-write-answer
 slice-write-answer c = search needs
 
+fault-number-requires : tie.Need-fault-number-requires
+fault-number-requires c κs = search needs
+
+cast-result : tie.Need-cast-result
+cast-result c = search needs
+
 same-length : tie.Need-same-length
 same-length c = search needs
 
 returns-2 : tie.Need-returns-2
 unfolding unfitTold
-returns-2 c = rw (ne-eqb _ _ (c .before .before .if1 .left), c .fault-value .ensures, c .before .unread-fault .ensures)
+returns-2 c = rw (ne-eqb _ _ (c .before .before .before .if1 .left), c .fault-number .ensures, c .before .fault-value .ensures, c .before .before .unread-fault .ensures)
 
 pub put-unfit-spec : {M : Type 1} → statement M
 put-unfit-spec =
@@ -32,5 +39,7 @@ put-unfit-spec =
     unread-fault-requires
     fault-value-requires
     slice-write-answer
+    fault-number-requires
+    cast-result
     same-length
     returns-2)

@@ -2,8 +2,9 @@
 //! afterwards has to be the same, bit for bit.
 
 use crate::case::Case;
-use brothanchor::{prepare, prepare_strip, work, Areas, Kind, Method, Node, Record, Refusal, Rows, Worked};
-use oracle::descent::{self, Standing};
+use brothanchor::{prepare, prepare_strip, work, Areas, Kind, Node, Record, Refusal, Rows, Worked};
+use oracle::descent;
+use oracle::record::{record_of, settings_of};
 use oracle::{strip, tree};
 
 /// The library's memory, and the record if there is one. The other side's is made of it for each call.
@@ -39,7 +40,7 @@ impl Both {
             values: case.rows.values.clone(),
             indices: case.rows.indices.clone(),
         };
-        let settings = settings_of(&settings);
+        let settings = settings_of(&settings).expect("settings");
         let record = theirs(settings, &case.table, &case.start, &mut their_areas, &mut their_rows);
 
         same_areas(&areas, &their_areas);
@@ -57,27 +58,21 @@ impl Both {
         let mut theirs = other_side(&self.areas);
         let before = self.record;
         let worked = work(&mut self.record, &mut self.areas, budget);
-        if before.words[3] > 1 || before.words[9] > 2 {
-            // The words are no record: a method that there is not is told as settings, a state as counters.
-            let told = if before.words[3] > 1 {
-                [3, 13, 0, 1, 13]
-            } else {
-                [3, 13, 0, 2, 0]
-            };
-            assert_eq!(worked.words, told);
-            assert_eq!(self.record, before);
-        } else {
-            let mut record = record_of(&before.words);
-            let fault = descent::fault(&record, &theirs);
-            let answer = descent::work(&mut record, &mut theirs, budget);
-            assert_eq!(worked.words, answer_words(answer, fault));
-            // A call that is refused at its entry changes no word, any other the five after the settings.
-            let mut wanted = before.words;
-            if fault.is_none() {
-                wanted[9..].copy_from_slice(&words_of(&record)[9..]);
+        // A call that is refused at its entry changes no word, any other the five after the settings.
+        let mut wanted = before.words;
+        let told = match record_of(&before.words) {
+            Err(fault) => answer_words(descent::Answer::Refused(fault.number(), 0), Some(fault)),
+            Ok(mut record) => {
+                let fault = descent::fault(&record, &theirs);
+                let answer = descent::work(&mut record, &mut theirs, budget);
+                if fault.is_none() {
+                    wanted[9..].copy_from_slice(&words_of(&record)[9..]);
+                }
+                answer_words(answer, fault)
             }
-            assert_eq!(self.record.words, wanted);
-        }
+        };
+        assert_eq!(worked.words, told);
+        assert_eq!(self.record.words, wanted);
         same_areas(&self.areas, &theirs);
         worked
     }
@@ -155,49 +150,25 @@ fn answer_words(answer: descent::Answer, fault: Option<descent::Fault>) -> [u64;
         descent::Answer::Finished(units) => (2, 0, units),
         descent::Answer::Refused(number, units) => (3, number, units),
     };
-    let (fault, value) = fault.map_or((0, 0), fault_words);
-    [kind, number, units, fault, value]
+    let value = fault.map_or(0, descent::Fault::place);
+    [kind, number, units, fault.map_or(0, fault_word), value]
 }
 
-/// What was found bad as two words of the library: fault, value.
-pub fn fault_words(fault: descent::Fault) -> (u64, u64) {
+/// What was found bad as a word of the library.
+fn fault_word(fault: descent::Fault) -> u64 {
     match fault {
-        descent::Fault::Settings(number) => (1, number),
-        descent::Fault::Counters => (2, 0),
-        descent::Fault::Areas => (3, 0),
-        descent::Fault::Offsets(frame) => (4, frame as u64),
-        descent::Fault::Index(place) => (5, place as u64),
-        descent::Fault::Tree(node) => (6, node as u64),
+        descent::Fault::Settings(_) => 1,
+        descent::Fault::Counters => 2,
+        descent::Fault::Areas => 3,
+        descent::Fault::Offsets(_) => 4,
+        descent::Fault::Index(_) => 5,
+        descent::Fault::Tree(_) => 6,
     }
 }
 
-pub fn settings_of(words: &[u64]) -> descent::Settings {
-    descent::Settings {
-        n: words[0] as usize,
-        f: words[1] as usize,
-        c: words[2] as usize,
-        method: if words[3] == Method::Exact as u64 {
-            descent::Method::Exact
-        } else {
-            descent::Method::BarnesHut
-        },
-        perplexity: f64::from_bits(words[4]),
-        rate: f64::from_bits(words[5]),
-        iterations: words[6] as usize,
-        angle: f64::from_bits(words[7]),
-        minimum: f64::from_bits(words[8]),
-    }
-}
-
-pub fn record_of(words: &[u64; 14]) -> descent::Record {
-    descent::Record {
-        settings: settings_of(words),
-        standing: [Standing::Running, Standing::Stopped, Standing::Finished][words[9] as usize],
-        done: words[10] as usize,
-        phase: words[11] as usize,
-        units: words[12] as usize,
-        used: words[13] as usize,
-    }
+/// Number and place of what the entry tests found.
+pub fn told_of(fault: descent::Fault) -> (u64, u64) {
+    (fault.number(), fault.place())
 }
 
 fn words_of(record: &descent::Record) -> [u64; 14] {

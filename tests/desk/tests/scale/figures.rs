@@ -2,13 +2,14 @@
 //! exaggeration's end; before, inside and after iterations, and on whatever a caller may have altered. Figure, number and what
 //! comes with the number have to be the same, and nothing may have changed.
 
-use crate::both::{bits, fault_words, number, other_side, record_of, Both};
+use crate::both::{bits, number, other_side, told_of, Both};
 use crate::case::{marked_nodes, Case};
-use crate::met::{all_met, meet, Met};
+use crate::met::{all_met, meet, told_name, Met};
 use crate::random::Random;
 use crate::{damage_node, damage_record, damage_value, each_seed, setting};
 use brothanchor::{divergence, sizes, Kind, Method, Settings, Sizes, State};
 use oracle::divergence::{self as rules, Refusal};
+use oracle::record::{record_of, settings_of};
 
 /// The most frames of most runs, and of one in twenty.
 const FEW: usize = 60;
@@ -55,15 +56,15 @@ fn told(both: &Both, copy: &[f64]) -> Told {
     told
 }
 
-/// The same by the independent implementation, which knows no words that are no record.
+/// The same by the independent implementation.
 fn by_the_rules(both: &Both, copy: &[f64]) -> Told {
-    let words = &both.record.words;
-    if words[3] > 1 || words[9] > 2 {
-        return (13, if words[3] > 1 { 13 } else { 0 });
-    }
-    match rules::divergence(&record_of(words), &other_side(&both.areas), copy) {
+    let record = match record_of(&both.record.words) {
+        Ok(record) => record,
+        Err(fault) => return told_of(fault),
+    };
+    match rules::divergence(&record, &other_side(&both.areas), copy) {
         Ok(figure) => (0, bits(figure)),
-        Err(Refusal::Entry(fault)) => (fault.number(), fault_words(fault).1),
+        Err(Refusal::Entry(fault)) => told_of(fault),
         Err(Refusal::Early) => (17, 0),
     }
 }
@@ -168,16 +169,18 @@ fn work(both: &mut Both, budget: u32) -> Option<bool> {
     }
 }
 
-/// Inside an iteration it is 17; where a node is bad, 13.
+/// Inside an iteration it is 17; where a node is bad, 25.
 fn inside(random: &mut Random, both: &Both, copy: &[f64], met: &mut Met) {
-    let method = format!("{:?}", record_of(&both.record.words).settings.method);
+    let method = format!("{:?}", settings_of(&both.record.words).expect("a record").method);
     assert_eq!(told(both, copy), (17, 0));
     meet(met, format!("{method}, inside an iteration"));
     let mut bad = both.clone();
     let used = (both.record.words[13] as usize).min(both.areas.nodes.len());
     damage_node(random, &mut bad.areas.nodes[..used]);
-    if told(&bad, copy).0 == 13 {
+    let told = told(&bad, copy);
+    if told.0 == 25 {
         meet(met, format!("{method}, a bad node inside an iteration"));
+        meet(met, told_name(told));
     }
 }
 
@@ -240,7 +243,7 @@ fn altered(random: &mut Random, stand: &Stand, plain: Told, met: &mut Met) {
     meet(met, format!("{method:?}, {name}"));
     match told {
         (0, figure) => meet(met, format!("{method:?}, a figure that is {}", kind(figure))),
-        (number, place) => meet(met, format!("{number}{}", if place > 0 { " with a place" } else { "" })),
+        _ => meet(met, told_name(told)),
     }
 }
 
@@ -379,20 +382,26 @@ fn alter_totals(random: &mut Random, stand: &mut Stand) -> (&'static str, Wanted
 /// Other words of the record.
 fn alter_record(random: &mut Random, stand: &mut Stand) -> (&'static str, Wanted) {
     let words = &mut stand.both.record.words;
-    match random.below(8) {
+    match random.below(9) {
         0 => {
             words[3] = random.one_of(&[2, 3, u64::MAX]);
             words[9] = random.one_of(&[words[9], 7]);
-            ("a method that there is not", Wanted::Refused(13))
+            ("a method that there is not", Wanted::Refused(21))
         }
         1 => {
             words[9] = random.one_of(&[3, 4, u64::MAX]);
-            ("a state that there is not", Wanted::Refused(13))
+            ("a state that there is not", Wanted::Refused(22))
         }
         2 => {
             words[11] += 1;
             stand.copy.clear();
-            ("bad counters and no copy", Wanted::Refused(13))
+            ("bad counters and no copy", Wanted::Refused(22))
+        }
+        8 => {
+            words[9] = random.one_of(&[3, 4, u64::MAX]);
+            let (place, bad) = random.one_of(&[(0, 4097), (1, 0), (2, 9), (4, 0), (5, 0), (6, 65_536)]);
+            words[place] = bad;
+            ("bad settings and a state that there is not", Wanted::Refused(21))
         }
         3 => {
             words[9] = 0;
@@ -427,15 +436,15 @@ fn alter_contents(random: &mut Random, stand: &mut Stand) -> (&'static str, Want
     match random.below(6) {
         0 => {
             areas.offsets[0] = random.within(1, 9) as u32;
-            ("a bad first offset", Wanted::Refused(13))
+            ("a bad first offset", Wanted::Refused(23))
         }
         1 => {
             areas.offsets[frame + 1] = u32::MAX;
-            ("a bad offset", Wanted::Refused(13))
+            ("a bad offset", Wanted::Refused(23))
         }
         2 => {
             areas.indices[place] = n as u32 + random.below(3) as u32;
-            ("a bad index", Wanted::Refused(13))
+            ("a bad index", Wanted::Refused(24))
         }
         3 => {
             areas.indices[place] = n as u32;
@@ -445,7 +454,7 @@ fn alter_contents(random: &mut Random, stand: &mut Stand) -> (&'static str, Want
         4 => {
             areas.indices[place] = n as u32;
             areas.forces.fill(0.0);
-            ("a bad index and forces of 0", Wanted::Refused(13))
+            ("a bad index and forces of 0", Wanted::Refused(24))
         }
         _ => {
             areas.indices[place] = frame as u32;
@@ -499,6 +508,7 @@ const BY_BOTH: &[&str] = &[
     "a total and affinities next to 0",
     "a method that there is not",
     "a state that there is not",
+    "bad settings and a state that there is not",
     "bad counters and no copy",
     "another number of iterations",
     "no iteration done",
@@ -531,8 +541,12 @@ const BY_ONE: &[&str] = &[
     "BarnesHut, a figure that is zero",
     "BarnesHut, a figure that is positive",
     "12",
-    "13 with a place",
     "17",
+    "21",
+    "22",
+    "23 with a place",
+    "24 with a place",
+    "25 with a place",
 ];
 
 #[test]

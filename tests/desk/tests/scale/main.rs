@@ -43,7 +43,7 @@ struct Met {
     units: u64,
     ended: usize,
     /// Refusals by their number.
-    refused: [usize; 17],
+    refused: [usize; 26],
     /// What was found bad at an entry, by its number.
     faults: [usize; 7],
     /// Calls on damage, by the part that had other bits.
@@ -143,8 +143,11 @@ fn damaged_call(random: &mut Random, both: &mut Both, budget: u32, met: &mut Met
     *both = before;
 }
 
-/// Another word in one place of the record.
+/// Another word in one place of the record; now and then a state that there is not with it.
 fn damage_record(random: &mut Random, both: &mut Both) {
+    if random.once_in(5) {
+        both.record.words[9] = random.one_of(&[3, 4, u64::MAX]);
+    }
     let place = random.below(14);
     let word = both.record.words[place];
     both.record.words[place] = match place {
@@ -218,7 +221,7 @@ fn damage_node(random: &mut Random, nodes: &mut [Node]) {
 #[test]
 fn small_runs() {
     let met = runs("small", setting("BROTHANCHOR_RUNS", 300), Scope { exact: 24, tree: 40 });
-    for number in [12, 13, 14, 15] {
+    for number in [12, 14, 15, 21, 22, 23, 24, 25] {
         assert!(met.refused[number] > 0, "no run met {number}");
     }
     for fault in 1..=6 {

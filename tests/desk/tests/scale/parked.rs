@@ -2,9 +2,9 @@
 //! a run that was parked against one that was not. After each call number, word 0, every byte and every place of every area
 //! have to be the same on both sides, NaNs by their bits.
 
-use crate::both::{fault_words, node_bits, number, other_side, record_of, Both};
+use crate::both::{node_bits, number, other_side, told_of, Both};
 use crate::case::{marked_nodes, shorten, Case};
-use crate::met::{all_met, meet, Met};
+use crate::met::{all_met, meet, told_name, Met};
 use crate::random::Random;
 use crate::{damage, damage_record, each_seed, setting};
 use brothanchor::{
@@ -13,6 +13,7 @@ use brothanchor::{
 use oracle::descent::{self, Standing};
 use oracle::lists::park as made;
 use oracle::park::{self as rules, Refusal};
+use oracle::record::record_of;
 use oracle::tree;
 
 /// What is told: 0 and the number of records, or the number of the refusal and what comes with it.
@@ -59,7 +60,7 @@ fn our_node(node: &tree::Node) -> Node {
 /// What the rules tell of a refusal.
 fn refused(refusal: Refusal) -> Told {
     let place = match refusal {
-        Refusal::Entry(fault) => fault_words(fault).1,
+        Refusal::Entry(fault) => fault.place(),
         Refusal::Record(place) => place as u64,
         _ => 0,
     };
@@ -77,12 +78,12 @@ fn park_both(both: &Both, bytes: usize) -> (Told, Vec<u8>) {
     };
     let mut theirs = marks;
     let words = &both.record.words;
-    let wanted = if words[3] > 1 || words[9] > 2 {
-        // The words are no record: only a method that there is not comes with a number.
-        (13, if words[3] > 1 { 13 } else { 0 })
-    } else {
-        let wanted = rules::park(&record_of(words), &other_side(&both.areas), &mut theirs);
-        wanted.map_or_else(refused, |records| (0, records as u64))
+    let wanted = match record_of(words) {
+        Err(fault) => told_of(fault),
+        Ok(record) => {
+            let wanted = rules::park(&record, &other_side(&both.areas), &mut theirs);
+            wanted.map_or_else(refused, |records| (0, records as u64))
+        }
     };
     assert_eq!(told, wanted);
     assert!(ours == theirs, "the targets differ");
@@ -386,12 +387,7 @@ fn worked(random: &mut Random, met: &mut Met) {
             }
             let bytes = parked_bytes(&both.record, &both.areas) - random.one_of(&[0, 0, 0, 1, 32]);
             let (told, _) = park_both(&other, bytes);
-            let place = if told.0 == 13 && told.1 > 0 {
-                " with a place"
-            } else {
-                ""
-            };
-            meet(met, format!("damaged: {}{place}", told.0));
+            meet(met, format!("damaged: {}", told_name(told)));
         }
         let few = random.within(1, 60);
         let budget = random.one_of(&[1, few, case.settings.iteration(), 1 << 20]);
@@ -416,8 +412,9 @@ fn runs_that_are_parked_as_they_go() {
     let met = each_seed("parked as they go", setting("BROTHANCHOR_RUNS", 300), worked);
     let methods =
         ["0", "17", "Stopped", "Finished"].map(|what| [format!("Exact, {what}"), format!("BarnesHut, {what}")]);
-    let numbers = ["0", "12", "13", "13 with a place", "15", "17"].map(|number| format!("damaged: {number}"));
-    let wanted = methods.into_iter().flatten().chain(numbers);
+    let numbers = ["0", "12", "15", "17", "21", "22"].map(|number| format!("damaged: {number}"));
+    let placed = [23, 24, 25].map(|number| format!("damaged: {number} with a place"));
+    let wanted = methods.into_iter().flatten().chain(numbers).chain(placed);
     all_met(&met, wanted);
 }
 

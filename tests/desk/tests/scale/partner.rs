@@ -2,18 +2,20 @@
 //! loaded, what comes of a run that starts from it, and what is written of a run's lists. After each call number, word 0, every
 //! byte and every place of every area have to be the same on both sides, NaNs by their bits.
 
-use crate::both::{fault_words, number, other_side, record_of, settings_of, Both};
+use crate::both::{number, other_side, told_of, Both};
 use crate::case::{marked_nodes, shorten, Case};
-use crate::met::{all_met, meet, Met};
+use crate::met::{all_met, meet, told_name, Met};
 use crate::parked::{lent, our_areas, settings};
 use crate::random::Random;
 use crate::{damage, damage_record, each_seed, setting};
 use brothanchor::{
     import_words, lists, lists_bytes, sizes, write_lists, Areas, Kind, Method, Record, Settings, LINK_RECORD,
 };
+use oracle::descent;
 use oracle::lists::park::words_of;
 use oracle::lists::partner::{self as made, break_at, file_of, WAYS};
 use oracle::partner::{self as rules, first_bad, Link, Refusal, Rule, RULES};
+use oracle::record::{record_of, settings_of};
 use std::time::Instant;
 
 /// What is told: 0 and the number of links or records, or the number of the refusal and what comes with it.
@@ -22,11 +24,18 @@ type Told = (u64, u64);
 /// What the rules tell of a refusal.
 fn refused(refusal: Refusal) -> Told {
     let place = match refusal {
-        Refusal::Entry(fault) => fault_words(fault).1,
+        Refusal::Entry(fault) => fault.place(),
         Refusal::Record(place) => place as u64,
         _ => 0,
     };
     (refusal.number(), place)
+}
+
+/// The settings that nine words say to an import, which does not look at the word of the method.
+fn settings_as_tree(words: &[u64]) -> descent::Settings {
+    let mut words = words.to_vec();
+    words[3] = Method::BarnesHut as u64;
+    settings_of(&words).expect("nine words")
 }
 
 /// Loads on both sides into what is lent; what is told, and what there is then.
@@ -38,9 +47,9 @@ fn import_both(words: &[u64], start: &[f64], file: &[u8], lent: &Both) -> (Told,
     };
     let mut areas = other_side(&lent.areas);
     let (wanted, record) = if words.len() < 9 {
-        ((13, 0), lent.record.words)
+        ((21, 0), lent.record.words)
     } else {
-        match rules::import(settings_of(words), start, file, &mut areas) {
+        match rules::import(settings_as_tree(words), start, file, &mut areas) {
             Ok(record) => ((0, (file.len() / LINK_RECORD) as u64), words_of(&record)),
             Err(refusal) => (refused(refusal), lent.record.words),
         }
@@ -65,12 +74,12 @@ fn write_both(both: &Both, bytes: usize) -> (Told, Vec<u8>) {
     };
     let mut theirs = marks;
     let words = &both.record.words;
-    let wanted = if words[3] > 1 || words[9] > 2 {
-        // The words are no record: only a method that there is not comes with a number.
-        (13, if words[3] > 1 { 13 } else { 0 })
-    } else {
-        let wanted = rules::write_lists(&record_of(words), &other_side(&both.areas), &mut theirs);
-        wanted.map_or_else(refused, |records| (0, records as u64))
+    let wanted = match record_of(words) {
+        Err(fault) => told_of(fault),
+        Ok(record) => {
+            let wanted = rules::write_lists(&record, &other_side(&both.areas), &mut theirs);
+            wanted.map_or_else(refused, |records| (0, records as u64))
+        }
     };
     assert_eq!(told, wanted);
     assert!(ours == theirs, "the targets differ");
@@ -111,7 +120,7 @@ impl Loading {
 
     /// 2·n·k.
     fn most(&self) -> usize {
-        settings_of(&self.settings.words()).links()
+        settings_as_tree(&self.settings.words()).links()
     }
 
     /// A good list of any length.
@@ -363,7 +372,7 @@ fn areas_and_words_short_and_long() {
         }
         for fewer in 0..9 {
             let told = import_both(&words[..fewer], &[], &file[..1], &loading.room).0;
-            assert_eq!(told, (13, 0), "{fewer} words");
+            assert_eq!(told, (21, 0), "{fewer} words");
         }
         let longer = [&words[..], &[u64::MAX; 3]].concat();
         assert_eq!(import_both(&longer, &loading.start, &file, &loading.room).0, (0, links));
@@ -537,12 +546,7 @@ fn written(random: &mut Random, met: &mut Met) {
                 _ => damage(random, &mut other),
             }
             let (told, _) = write_both(&other, bytes.saturating_sub(random.one_of(&[0, 0, 0, 1, 16])));
-            let place = if told.0 == 13 && told.1 > 0 {
-                " with a place"
-            } else {
-                ""
-            };
-            meet(met, format!("damaged: {}{place}", told.0));
+            meet(met, format!("damaged: {}", told_name(told)));
         }
         let few = random.within(1, 60);
         let budget = random.one_of(&[1, few, settings.iteration(), 1 << 20]);
@@ -594,10 +598,11 @@ fn iterations_of(n: usize) -> usize {
 #[test]
 fn lists_of_runs_as_they_go() {
     let met = each_seed("lists as they go", setting("BROTHANCHOR_RUNS", 300), written);
-    let numbers = ["0", "12", "13", "13 with a place", "17"].map(|number| format!("damaged: {number}"));
+    let numbers = ["0", "12", "17", "21", "22"].map(|number| format!("damaged: {number}"));
+    let placed = [23, 24, 25].map(|number| format!("damaged: {number} with a place"));
     let named = ["Exact, 17", "BarnesHut, 0", "no zeros"].map(String::from);
     let odd = ODD.map(|odd| format!("written {odd:x}"));
-    all_met(&met, numbers.into_iter().chain(named).chain(odd));
+    all_met(&met, numbers.into_iter().chain(placed).chain(named).chain(odd));
 }
 
 /// A full side: n 4096, k 91, every list as long as may be, in rings of neighbours.

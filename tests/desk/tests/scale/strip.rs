@@ -2,15 +2,16 @@
 //! which gaps. After each call number, word 0, every place of order and gaps, those behind the frames too, have to be the same on both
 //! sides, gaps by their bits, and no part of the run may have changed.
 
-use crate::both::{fault_words, number, other_side, record_of, Both};
+use crate::both::{number, other_side, told_of, Both};
 use crate::case::{marked_nodes, numbers, shorten, values, Case};
-use crate::met::{all_met, meet, Met};
+use crate::met::{all_met, meet, told_name, Met};
 use crate::random::Random;
 use crate::{damage, damage_record, each_seed, setting};
 use brothanchor::{
     hand_out, parked, prepare_strip_words, sizes, take_out, wake, Areas, Kind, Method, Record, Refusal, Settings,
 };
 use oracle::lists::strip::{barred, LARGEST, WIDER};
+use oracle::record::record_of;
 use oracle::strip as rules;
 use std::time::Instant;
 
@@ -30,15 +31,14 @@ fn hand_both(both: &Both, order: usize, gaps: usize) -> (Told, Vec<u32>, Vec<u64
     };
     let (mut theirs, mut their_gaps) = (numbers(order), values(gaps));
     let words = &both.record.words;
-    let wanted = if words[3] > 1 || words[9] > 2 {
-        // The words are no record: only a method that there is not comes with a number.
-        (13, if words[3] > 1 { 13 } else { 0 })
-    } else {
-        let areas = other_side(&both.areas);
-        match rules::hand_out(&record_of(words), &areas, &mut theirs, &mut their_gaps) {
-            Ok(frames) => (0, frames as u64),
-            Err(rules::Refusal::Entry(fault)) => (rules::Refusal::Entry(fault).number(), fault_words(fault).1),
-            Err(refusal) => (refusal.number(), 0),
+    let wanted = match record_of(words) {
+        Err(fault) => told_of(fault),
+        Ok(record) => {
+            let areas = other_side(&both.areas);
+            rules::hand_out(&record, &areas, &mut theirs, &mut their_gaps).map_or_else(
+                |refusal| (refusal.number(), refusal.place()),
+                |frames| (0, frames as u64),
+            )
         }
     };
     let bits = |gaps: &[f64]| gaps.iter().map(|gap| gap.to_bits()).collect::<Vec<u64>>();
@@ -134,12 +134,7 @@ fn not_handed(random: &mut Random, both: &Both, met: &mut Met) {
             _ => damage(random, &mut other),
         }
         let (told, ..) = hand_both(&other, n - usize::from(random.once_in(6)), n);
-        let with = if told.0 == 13 && told.1 > 0 {
-            " with a place"
-        } else {
-            ""
-        };
-        meet(met, format!("damaged: {}{with}", told.0));
+        meet(met, format!("damaged: {}", told_name(told)));
     }
 }
 
@@ -337,7 +332,8 @@ fn strips_of_runs() {
         "thinned",
         "none taken out",
     ];
-    let damaged = ["0", "12", "13", "13 with a place", "15"].map(|number| format!("damaged: {number}"));
+    let damaged =
+        ["0", "12", "15", "21", "22", "23 with a place", "24 with a place"].map(|number| format!("damaged: {number}"));
     let short = (0..8).map(|which| format!("area {which} short"));
     let wanted = named.iter().chain(&KINDS).map(ToString::to_string);
     all_met(&met, wanted.chain(damaged).chain(short));
@@ -463,7 +459,7 @@ fn prepared(random: &mut Random, met: &mut Met) {
     }
 }
 
-/// Fewer words for the record are 12, after all else; fewer words of settings are 13, before all else.
+/// Fewer words for the record are 12, after all else; fewer words of settings are 21, before all else.
 fn words_short(case: &Case, told: u64) {
     let words = case.settings.words();
     let prepare = |settings: &[u64], record: &mut [u64]| {
@@ -485,7 +481,7 @@ fn words_short(case: &Case, told: u64) {
         assert!(record.iter().all(|&word| word == 77), "a short record is written");
     }
     let mut record = [77; 16];
-    assert_eq!(prepare(&words[..8], &mut record), Err(Refusal(13)));
+    assert_eq!(prepare(&words[..8], &mut record), Err(Refusal(21)));
     assert_eq!(record, [77; 16]);
     let wanted = if told == 0 { Ok(()) } else { Err(Refusal(told as u32)) };
     assert_eq!(prepare(&words, &mut record), wanted);

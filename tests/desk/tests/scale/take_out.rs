@@ -3,13 +3,14 @@
 //! word 0, the record and every place of table, old places and all areas have to be the same on both sides, and after a refusal
 //! as they were. In increments, gains, affinities and table, which are only moved, a NaN is its bits.
 
-use crate::both::{self, bits, number, other_side, record_of, same_areas, Both};
+use crate::both::{self, bits, number, other_side, same_areas, Both};
 use crate::case::{marked_nodes, numbers, values, Case};
-use crate::met::{all_met, meet, Met};
+use crate::met::{all_met, meet, told_name, Met};
 use crate::parked::{settings, STATES};
 use crate::random::Random;
 use crate::{damage, damage_record, damage_value, each_seed, setting};
 use brothanchor::{sizes, take_out, work, Areas, Method, Settings};
+use oracle::record::record_of;
 use oracle::take_out::{self as rules, Refusal};
 use std::time::Instant;
 
@@ -30,13 +31,13 @@ fn named(told: Result<usize, Refusal>) -> ((u64, u64), Told) {
         Ok(left) => return ((0, left as u64), Ok(left as u64)),
         Err(refusal) => refusal,
     };
+    let told = (refusal.number(), refusal.place());
     let name = match refusal {
-        Refusal::Entry(fault) if fault.place() > 0 => "13 with a place".to_string(),
         Refusal::List => "18 for the list".to_string(),
         Refusal::Links => "18 for the links".to_string(),
-        _ => refusal.number().to_string(),
+        _ => told_name(told),
     };
-    ((refusal.number(), refusal.place()), Err(name))
+    (told, Err(name))
 }
 
 impl Lent {
@@ -87,21 +88,21 @@ impl Lent {
         name
     }
 
-    /// The same by the independent implementation, from what was lent; it has to leave what there is now. Words that are no record
-    /// it does not know: only a method that there is not comes with a number.
+    /// The same by the independent implementation, from what was lent; it has to leave what there is now.
     fn by_the_rules(&self, before: &Lent, gone: &[u32]) -> ((u64, u64), Told) {
         let mut words = before.both.record.words;
         let (mut areas, mut table, mut old) =
             (other_side(&before.both.areas), before.table.clone(), before.old.clone());
-        let told = if words[3] > 1 || words[9] > 2 {
-            let place = if words[3] > 1 { 13 } else { 0 };
-            ((13, place), Err("13".to_string()))
-        } else {
-            let mut record = record_of(&words);
-            let told = rules::take_out(&mut record, &mut areas, &mut table, gone, &mut old);
-            [words[0], words[11], words[12]] = [record.settings.n, record.phase, record.units].map(|word| word as u64);
-            named(told)
+        let told = match record_of(&words) {
+            Err(fault) => Err(Refusal::Entry(fault)),
+            Ok(mut record) => {
+                let told = rules::take_out(&mut record, &mut areas, &mut table, gone, &mut old);
+                [words[0], words[11], words[12]] =
+                    [record.settings.n, record.phase, record.units].map(|word| word as u64);
+                told
+            }
         };
+        let told = named(told);
         same_record(&self.both.record.words, &words);
         let ours = &self.both.areas;
         same_areas(ours, &areas);
@@ -284,7 +285,7 @@ fn lengths(random: &mut Random, lent: &Lent, met: &mut Met) {
         let tree = part == 7 && asked[part] > 1;
         assert_eq!(
             told,
-            Err(if tree { "13" } else { "12" }.to_string()),
+            Err(if tree { "25" } else { "12" }.to_string()),
             "{name} one short"
         );
         meet(met, format!("{:?}, short {name}", lent.method()));
@@ -403,11 +404,14 @@ fn wanted() -> Vec<String> {
         for number in ["9", "10", "17"] {
             add(&format!("refused: {number}"));
         }
-        for number in ["9", "10", "12", "13", "13 with a place", "15", "17", "18 for the list"] {
+        for number in ["9", "10", "12", "15", "17", "18 for the list", "21", "22"] {
             add(&format!("damaged: {number}"));
         }
         if tree {
             add("damaged: 18 for the links");
+            for number in [23, 24, 25] {
+                add(&format!("damaged: {number} with a place"));
+            }
         }
         for part in (0..PARTS).filter(|part| tree || ![4, 5, 7].contains(part)) {
             add(&format!("short {}", name(part)));

@@ -288,7 +288,12 @@ fn the_record_is_tested_first() {
         record.units += 1;
         areas.gains.truncate(9);
     });
-    assert_eq!((before_the_areas, Fault::Counters.number()), (Fault::Counters, 13));
+    assert_eq!((before_the_areas, before_the_areas.number()), (Fault::Counters, 22));
+    let settings_first = refused_by(|record, _| {
+        record.units += 1;
+        record.settings.rate = 0.0;
+    });
+    assert_eq!((settings_first, settings_first.number()), (Fault::Settings(3), 21));
 }
 
 #[test]
@@ -316,5 +321,6 @@ fn the_contents_are_tested_last() {
         areas.indices[1] = 9;
         areas.offsets[4] = 0;
     });
-    assert_eq!((all, Fault::Tree(3).number()), (Fault::Offsets(3), 13));
+    assert_eq!((all, all.number()), (Fault::Offsets(3), 23));
+    assert_eq!([Fault::Index(3), Fault::Tree(3)].map(Fault::number), [24, 25]);
 }

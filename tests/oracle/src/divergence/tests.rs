@@ -172,7 +172,7 @@ fn the_order_of_the_tests() {
     areas.offsets[0] = 1;
     let number =
         |record: &Record, areas: &Areas, copy: &[f64]| divergence(record, areas, copy).map_err(Refusal::number);
-    assert_eq!(number(&record, &areas, &copy), Err(13));
+    assert_eq!(number(&record, &areas, &copy), Err(23));
     assert_eq!(
         number(&record, &areas, &copy[..17]),
         Err(12),
@@ -181,11 +181,11 @@ fn the_order_of_the_tests() {
     record.done = 0;
     assert_eq!(
         number(&record, &areas, &copy[..17]),
-        Err(13),
+        Err(22),
         "counters come before the copy"
     );
     record.units = 0;
-    assert_eq!(number(&record, &areas, &copy[..18]), Err(13), "17 comes last");
+    assert_eq!(number(&record, &areas, &copy[..18]), Err(23), "17 comes last");
     areas.offsets[0] = 0;
     assert_eq!(number(&record, &areas, &copy[..18]), Err(17));
     areas.gains.truncate(17);

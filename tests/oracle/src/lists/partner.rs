@@ -562,9 +562,13 @@ mod tests {
         }
         assert!(loaded[&0] > 50 && loaded[&19] > 300, "{loaded:?}");
         let written = told(&writes, |case| 24 + case[15..21].iter().sum::<u64>() as usize);
-        for number in [0, 12, 13, 17] {
+        for number in [0, 12, 17] {
             assert!(written.get(&number) > Some(&4), "{written:?}");
         }
+        for number in 21..=25 {
+            assert!(written.get(&number) > Some(&1), "{written:?}");
+        }
+        assert_eq!(written.get(&13), None);
     }
 
     #[test]

@@ -386,15 +386,15 @@ mod tests {
             );
             *told.entry(case[answer(case)]).or_default() += 1;
         }
-        for number in [0, 12, 13, 15, 17, 20] {
-            assert!(told.get(&number) > Some(&9), "{told:?}");
+        for number in [0, 12, 15, 17, 20, 21, 22, 23, 24, 25] {
+            assert!(told.get(&number) > Some(&6), "{told:?}");
         }
         assert!(told[&0] > 250, "{told:?}");
     }
 
     #[test]
     fn the_earlier_of_two_faults_is_told() {
-        let numbers = [13, 13, 12, 13, 13, 13, 20, 17, 17, 15, 12, 12];
+        let numbers = [21, 22, 12, 23, 24, 25, 20, 17, 17, 15, 12, 12];
         let mut strips = faults(&mut SplitMix64::new(5)).into_iter();
         for (first, &number) in numbers.iter().enumerate() {
             for second in first..FAULTS {

@@ -221,11 +221,18 @@ fn the_order_of_the_tests() {
     record.used = 1;
     assert_eq!(number(&record, &areas, 0), Err(17), "17 comes before 15");
     record.used = 0;
-    assert_eq!(number(&record, &areas, 0), Err(13), "the contents come before 17");
+    assert_eq!(number(&record, &areas, 0), Err(25), "the contents come before 17");
+    areas.offsets[5] = areas.offsets[5].max(1);
+    areas.indices[0] = 5;
+    assert_eq!(number(&record, &areas, 0), Err(24));
+    areas.offsets[0] = 1;
+    assert_eq!(number(&record, &areas, 0), Err(23));
     areas.forces.pop();
     assert_eq!(number(&record, &areas, 0), Err(12));
+    record.units += 1;
+    assert_eq!(number(&record, &areas, 0), Err(22));
     record.settings.f = 0;
-    assert_eq!(number(&record, &areas, 0), Err(13));
+    assert_eq!(number(&record, &areas, 0), Err(21));
 
     let (record, areas) = run(&mut random, Method::BarnesHut, 5, 2, Standing::Finished);
     let mut bytes = file(&record, &areas);

@@ -399,7 +399,7 @@ fn what_is_written_and_what_is_not() {
     );
     areas.offsets[3] = 0;
     let told = write_lists(&record, &areas, &mut []).expect_err("bad");
-    assert_eq!((told.number(), told.place()), (13, 2));
+    assert_eq!((told.number(), told.place()), (23, 2));
     areas.gains.truncate(4);
     assert_eq!(write_lists(&record, &areas, &mut []), Err(Refusal::Entry(Fault::Areas)));
 }

@@ -1,6 +1,7 @@
 //! Lists whose cases begin with their number of words, as they are read.
 
-use oracle::descent::{Areas, Method, Record, Settings, Standing};
+use oracle::descent::{Areas, Record};
+use oracle::record::record_of;
 use oracle::tree::Node;
 use oracle::words::from_bytes;
 use std::fs;
@@ -59,22 +60,5 @@ impl Reader<'_> {
 
 /// The record that fourteen words say.
 pub fn record(words: &[u64]) -> Record {
-    Record {
-        settings: Settings {
-            n: words[0] as usize,
-            f: words[1] as usize,
-            c: words[2] as usize,
-            method: [Method::Exact, Method::BarnesHut][words[3] as usize],
-            perplexity: f64::from_bits(words[4]),
-            rate: f64::from_bits(words[5]),
-            iterations: words[6] as usize,
-            angle: f64::from_bits(words[7]),
-            minimum: f64::from_bits(words[8]),
-        },
-        standing: [Standing::Running, Standing::Stopped, Standing::Finished][words[9] as usize],
-        done: words[10] as usize,
-        phase: words[11] as usize,
-        units: words[12] as usize,
-        used: words[13] as usize,
-    }
+    record_of(words).expect("a record")
 }

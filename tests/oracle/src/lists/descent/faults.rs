@@ -1,4 +1,4 @@
-//! Preparations that are refused by 1 to 12, and work calls that are refused by 13, 12 or 13 at their entry.
+//! Preparations that are refused by 1 to 12, and work calls that are refused by 21, 22, 12, 23, 24 or 25 at their entry.
 
 use super::runs::{small, start};
 use super::*;

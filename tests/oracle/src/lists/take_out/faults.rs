@@ -15,14 +15,14 @@ type Fault = (u64, bool, fn(&mut Taking));
 
 /// The faults in the order in which they are tested.
 const FAULTS: [Fault; 14] = [
-    (13, true, |taking| taking.record.settings.rate = 0.0),
-    (13, true, |taking| taking.record.units += 1),
+    (21, true, |taking| taking.record.settings.rate = 0.0),
+    (22, true, |taking| taking.record.units += 1),
     (12, true, |taking| taking.shorten(6)),
     (12, true, |taking| taking.shorten(8)),
     (12, true, |taking| taking.shorten(9)),
-    (13, false, |taking| taking.areas.offsets[2] = LINKS as u32 + 1),
-    (13, false, |taking| taking.areas.indices[3] = N as u32),
-    (13, false, |taking| inside(taking, 0)),
+    (23, false, |taking| taking.areas.offsets[2] = LINKS as u32 + 1),
+    (24, false, |taking| taking.areas.indices[3] = N as u32),
+    (25, false, |taking| inside(taking, 0)),
     (17, true, |taking| inside(taking, 1)),
     (18, true, |taking| taking.gone.push(N as u32)),
     (9, true, |taking| taking.gone = vec![0, 1]),

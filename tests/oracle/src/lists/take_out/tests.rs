@@ -23,8 +23,9 @@ fn sizes_and_what_is_met() {
     for method in [Method::Exact, Method::BarnesHut] {
         let takings = [thinned(&mut random), kinds(&mut random), singles(&mut random)].concat();
         let met = told(takings.iter().filter(|taking| taking.record.settings.method == method));
-        for number in [0, 9, 10, 12, 13, 15, 18] {
-            assert!(met.get(&number) > Some(&0), "{method:?}: {met:?}");
+        let of_the_lists: &[u64] = if method == Method::BarnesHut { &[23, 24] } else { &[] };
+        for number in [0, 9, 10, 12, 15, 18, 21, 22].iter().chain(of_the_lists) {
+            assert!(met.get(number) > Some(&0), "{method:?}: {met:?}");
         }
         assert!(met.get(&0) > Some(&25), "{met:?}");
     }
@@ -58,7 +59,11 @@ fn every_state_and_every_number_of_components_is_thinned() {
 
 #[test]
 fn of_two_faults_the_earlier_is_told() {
-    for (number, taking) in pairs(&mut SplitMix64::new(2)) {
-        assert_eq!(taking.answer()[0], number, "{taking:?}");
+    let pairs = pairs(&mut SplitMix64::new(2));
+    for (number, taking) in &pairs {
+        assert_eq!(taking.answer()[0], *number, "{taking:?}");
+    }
+    for wanted in 21..=25 {
+        assert!(pairs.iter().any(|(number, _)| *number == wanted), "{wanted}");
     }
 }
