@@ -2,7 +2,7 @@
 
 use std::fmt;
 
-/// The number of a refusal, from 1 to 20.
+/// The number of a refusal, from 1 to 26.
 #[derive(Clone, Copy, Debug, PartialEq, Eq)]
 pub struct Refusal(pub u32);
 
@@ -45,6 +45,7 @@ impl Refusal {
             18 => "the samples to be taken out do not rise or are not there, or more links would be left than their lists may have",
             19 => "a rule of the partner's list fails at a record",
             20 => "the settings are outside the strip profile: one component, Barnes-Hut, an angle of at most 0.5, at most 1024 frames",
+            26 => "a coordinate is not finite, or rounds past the largest single-precision number",
             _ => "no known number",
         }
     }
