@@ -2,7 +2,7 @@
 
 use std::fmt;
 
-/// The number of a refusal, from 1 to 12 and from 14 to 25.
+/// The number of a refusal, from 1 to 12 and from 14 to 26.
 #[derive(Clone, Copy, Debug, PartialEq, Eq)]
 pub struct Refusal(pub u32);
 
@@ -49,6 +49,7 @@ impl Refusal {
             23 => "the offsets are bad",
             24 => "a listed index is bad",
             25 => "the tree is bad",
+            26 => "a coordinate is not finite, or rounds past the largest single-precision number",
             _ => "no known number",
         }
     }
@@ -125,10 +126,10 @@ mod tests {
     #[test]
     fn every_number_but_13_has_its_meaning() {
         let unknown = Refusal(0).meaning();
-        for number in (1..=12).chain(14..=25) {
+        for number in (1..=12).chain(14..=26) {
             assert_ne!(Refusal(number).meaning(), unknown, "{number}");
         }
-        for number in [0, 13, 26] {
+        for number in [0, 13, 27] {
             assert_eq!(Refusal(number).meaning(), unknown, "{number}");
         }
     }
@@ -175,7 +176,7 @@ mod tests {
 
     #[test]
     fn numbers_that_bring_nothing() {
-        for number in (1..=12).chain(14..=25).filter(|&number| !Refusal(number).brings()) {
+        for number in (1..=12).chain(14..=26).filter(|&number| !Refusal(number).brings()) {
             assert_eq!(told(number, 0), Refusal(number).to_string());
             assert_eq!(told(number, 7), Refusal(number).to_string());
         }
