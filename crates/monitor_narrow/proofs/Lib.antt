@@ -1,0 +1,3 @@
+pub mod Patterns
+pub mod Rounds
+pub mod Laws
