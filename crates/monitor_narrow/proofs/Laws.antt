@@ -54,23 +54,23 @@ sign-narrowed b h = elim (decLt b (2 ^ 63)) [
 ]
 
 -- an infinity or a NaN
-not-finite-told : (v : Float) → finite v ≡ false → toldSingle (singleOf v) ≡ Past
+pub not-finite-told : (v : Float) → finite v ≡ false → toldSingle (singleOf v) ≡ Past
 unfolding singleOf toldSingle
 not-finite-told nan h = refl
 not-finite-told (inf s) h = refl
 not-finite-told (fin s m e) h = absurd (true≢false h)
 
 module _ (b : ℕ) where
-  finite-told : field64 b < 2047 → narrowOf b ≡ telling (leb (2 ^ 63) b) (drop 24 (lead64 b * 2 ^ (field64 b - 1) * 2 ^ 149) (2 ^ 1074) * 2 ^ 23 + kept 24 (lead64 b * 2 ^ (field64 b - 1) * 2 ^ 149) (2 ^ 1074))
+  pub narrow-told : field64 b < 2047 → narrowOf b ≡ telling (leb (2 ^ 63) b) (drop 24 (lead64 b * 2 ^ (field64 b - 1) * 2 ^ 149) (2 ^ 1074) * 2 ^ 23 + kept 24 (lead64 b * 2 ^ (field64 b - 1) * 2 ^ 149) (2 ^ 1074))
   unfolding narrowOf
-  finite-told h = told-value (ofBits binary64 b) (leb (2 ^ 63) b) (lead64 b * 2 ^ (field64 b - 1)) (2 ^ 1074) (pow-pos 1074) (double-value b h)
+  narrow-told h = told-value (ofBits binary64 b) (leb (2 ^ 63) b) (lead64 b * 2 ^ (field64 b - 1)) (2 ^ 1074) (pow-pos 1074) (double-value b h)
 
   pub narrow-tiny : b < 2 ^ 64 → field64 b < 873 → Single (b / 2 ^ 63 * 2 ^ 31) ≡ narrowOf b
   narrow-tiny w h =
       let x = field64 b - 1 in
       let n = lead64 b * 2 ^ x * 2 ^ 149 in
       let z : drop 24 n (2 ^ 1074) * 2 ^ 23 + kept 24 n (2 ^ 1074) ≡ 0 = rw (tiny-kept (lead64 b) x (lead-most b) (omega arith), tiny-drop (lead64 b) x (lead-most b) (omega arith)) in
-      ap Single (sign-narrowed b w ∙ sym (add-zero (cond (leb (2 ^ 63) b) (2 ^ 31) 0))) ∙ sym (finite-told (omega arith) ∙ ap (telling (leb (2 ^ 63) b)) z)
+      ap Single (sign-narrowed b w ∙ sym (add-zero (cond (leb (2 ^ 63) b) (2 ^ 31) 0))) ∙ sym (narrow-told (omega arith) ∙ ap (telling (leb (2 ^ 63) b)) z)
 
   magnitude-is : 873 ≤ field64 b → drop 24 (lead64 b * 2 ^ (field64 b - 1) * 2 ^ 149) (2 ^ 1074) * 2 ^ 23 + kept 24 (lead64 b * 2 ^ (field64 b - 1) * 2 ^ 149) (2 ^ 1074) ≡ magnitudeOf (field64 b) (2 ^ 52 + digits64 b)
   unfolding magnitudeOf
@@ -95,7 +95,7 @@ module _ (b : ℕ) where
   pub narrow-is : 873 ≤ field64 b → narrowOf b ≡ telling (leb (2 ^ 63) b) (magnitudeOf (field64 b) (2 ^ 52 + digits64 b))
   unfolding narrowOf
   narrow-is h = elim (decLt (field64 b) 2047) [
-    | yes l ↦ finite-told l ∙ ap (telling (leb (2 ^ 63) b)) (magnitude-is h)
+    | yes l ↦ narrow-told l ∙ ap (telling (leb (2 ^ 63) b)) (magnitude-is h)
     | no n ↦
         let m : 2047 ≤ field64 b = omega arith in
         not-finite-told (ofBits binary64 b) (double-finite b ∙ le-ltb (field64 b) 2047 m) ∙ rw (le-ltb (magnitudeOf (field64 b) (2 ^ 52 + digits64 b)) (255 * 2 ^ 23) (past-magnitude m))

@@ -30,7 +30,7 @@ abbrev pub telling : Bool → ℕ → Narrowed
 telling s w = cond (ltb w (255 * 2 ^ 23)) (Single (cond s (2 ^ 31) 0 + w)) Past
 
 module _ (q k : ℕ) (most : q ≤ 2 ^ 24) (lead : 0 < k → 2 ^ 23 ≤ q) where
-  below-limit : q * 2 ^ k < 2 ^ 277 → k * 2 ^ 23 + q < 255 * 2 ^ 23
+  pub below-limit : q * 2 ^ k < 2 ^ 277 → k * 2 ^ 23 + q < 255 * 2 ^ 23
   below-limit h = elim (decLt k 253) [
     | yes l ↦ omega arith
     | no n ↦ elim (decLt k 254) [
@@ -44,7 +44,7 @@ module _ (q k : ℕ) (most : q ≤ 2 ^ 24) (lead : 0 < k → 2 ^ 23 ≤ q) where
     ]
   ]
 
-  above-limit : 2 ^ 277 ≤ q * 2 ^ k → 255 * 2 ^ 23 ≤ k * 2 ^ 23 + q
+  pub above-limit : 2 ^ 277 ≤ q * 2 ^ k → 255 * 2 ^ 23 ≤ k * 2 ^ 23 + q
   above-limit h = elim (decLt k 253) [
     | yes l ↦
         let m : k ≤ 252 = omega arith in
@@ -101,15 +101,17 @@ whole-least n c h =
 pub kept-least : (n c : ℕ) → 0 < drop 24 n c → 2 ^ 23 ≤ kept 24 n c
 kept-least n c h = let u = c * 2 ^ drop 24 n c in le-trans (whole-least n c h) (nearest-ge (n / u) (compare (n % u * 2) u))
 
--- a value that is a / c in size, narrowed
-pub told-value : (v : Float) (s : Bool) (a c : ℕ) → 0 < c → HasValue v s a c → toldSingle (singleOf v) ≡ telling s (drop 24 (a * 2 ^ 149) c * 2 ^ 23 + kept 24 (a * 2 ^ 149) c)
+-- a value that is a / c in size, rounded and narrowed
+pub single-units : (v : Float) (s : Bool) (a c : ℕ) → 0 < c → HasValue v s a c → singleOf v ≡ units binary32 s (kept 24 (a * 2 ^ 149) c) (drop 24 (a * 2 ^ 149) c)
 unfolding singleOf
-told-value nan s a c p h = absurd h
-told-value (inf t) s a c p h = absurd h
-told-value (fin t m e) s a c p h =
+single-units nan s a c p h = absurd h
+single-units (inf t) s a c p h = absurd h
+single-units (fin t m e) s a c p h = ap (λ (u : Bool). round binary32 u (m * up e) (down e)) (h .0) ∙ round-same binary32 s (m * up e) (down e) a c (down-pos e) p (h .1) ∙ round-is binary32 s a c
+
+pub told-value : (v : Float) (s : Bool) (a c : ℕ) → 0 < c → HasValue v s a c → toldSingle (singleOf v) ≡ telling s (drop 24 (a * 2 ^ 149) c * 2 ^ 23 + kept 24 (a * 2 ^ 149) c)
+told-value v s a c p h =
     let n = a * 2 ^ 149 in
-    ap toldSingle (ap (λ (u : Bool). round binary32 u (m * up e) (down e)) (h .0) ∙ round-same binary32 s (m * up e) (down e) a c (down-pos e) p (h .1) ∙ round-is binary32 s a c)
-    ∙ told-units (kept 24 n c) (drop 24 n c) (kept-most n c) (kept-least n c) s
+    ap toldSingle (single-units v s a c p h) ∙ told-units (kept 24 n c) (drop 24 n c) (kept-most n c) (kept-least n c) s
 
 -- ---- the fields of a double
 

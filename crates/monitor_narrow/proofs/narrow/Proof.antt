@@ -12,7 +12,7 @@ cast-t7 : tie.Need-cast-t7
 cast-t7 c = search needs
 
 returns : tie.Need-returns
-returns c = narrow-tiny (c .before .args .bits) (omega arith) (c .if1 .taken)
+returns c = narrow-tiny (c .before .args .bits) (omega arith) (omega arith)
 
 add-magnitude : tie.Need-add-magnitude
 add-magnitude c = search needs
@@ -27,10 +27,10 @@ cast-t10 : tie.Need-cast-t10
 cast-t10 c = search needs
 
 returns-2 : tie.Need-returns-2
-returns-2 c = narrow-fits (c .before .before .before .args .bits) (c .before .magnitude .result) (omega arith) (c .before .magnitude .ensures) (omega arith) (c .if2 .taken)
+returns-2 c = narrow-fits (c .before .before .before .args .bits) (c .before .magnitude .result) (omega arith) (c .before .magnitude .ensures) (omega arith) (omega arith)
 
 returns-3 : tie.Need-returns-3
-returns-3 c = narrow-past (c .before .before .before .args .bits) (c .before .magnitude .result) (omega arith) (c .before .magnitude .ensures) (c .if2 .left)
+returns-3 c = narrow-past (c .before .before .before .args .bits) (c .before .magnitude .result) (omega arith) (c .before .magnitude .ensures) (omega arith)
 
 pub narrow-spec : {M : Type 1} → statement M
 narrow-spec =
