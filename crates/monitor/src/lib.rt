@@ -4,7 +4,7 @@ ghost use Prim.Native.Nat.{_+_, _≤_};
 ghost use lib.ListN.{length};
 ghost use Rattle.laws.specs.Joined.{written};
 ghost use Rattle.little.specs.Little.{littleBytes};
-ghost use Rattle.monitor.specs.Monitor.{monitorBytes, monitorRecord, frameFine};
+ghost use Rattle.monitor.specs.Monitor.{monitorBytes, monitorRecord, frameFine, framesRoom};
 use frames::field_fine;
 use frames::picture_fine;
 use frames::side_fine;
@@ -23,6 +23,22 @@ pub fn frame_fine(picture: u64, side: u8, field: u8) -> bool
         return false;
     }
     field_fine(field)
+}
+
+// Areas of these lengths hold what n frames need. Nothing is multiplied by n, which may be any number.
+pub fn frames_room(n: usize, p: usize, s: usize, b: usize, x: usize) -> bool
+    ensures { λ r. ⌜ r ≡ framesRoom n p s b x ⌝ }
+{
+    if p < n {
+        return false;
+    }
+    if s < n {
+        return false;
+    }
+    if b < n {
+        return false;
+    }
+    n <= x / 2
 }
 
 // The bytes of v, the lowest first.

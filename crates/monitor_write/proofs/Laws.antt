@@ -14,19 +14,14 @@ use Rattle.laws.specs.Loops.{first}
 use Rattle.laws.specs.Joined.{written, laid}
 use Rattle.laws.proofs.Bools.{and-left, and-right}
 use Rattle.laws.proofs.Laid.{Lays, lays-more}
-use Rattle.monitor.proofs.Laws.{record-size}
+use Rattle.monitor.specs.Monitor.{framesRoom}
+use Rattle.monitor.proofs.Laws.{record-size, frames-lie}
 use Rattle.monitor_narrow.specs.Narrow.{narrowOf}
 use Rattle.monitor_write.specs.declared.Monitored.{Monitored}
 use Rattle.monitor_write.specs.declared.Monitored.the-variants.{Written, Short, Bad, Beyond}
 use Rattle.monitor_write.specs.MonitorWrite.{wrongAt, faultyAt, singleBits, monitorRow, MonitorWriting, monitorWriting, roomToWrite, faultTold, writeMonitor, WriteLies}
 
 -- ---- the areas
-
-pub half-short : (n x : ℕ) → x / 2 < n → leb (2 * n) x ≡ false
-half-short n x h = lt-leb (2 * n) x (omega arith)
-
-pub half-long : (n x : ℕ) → n ≤ x / 2 → leb (2 * n) x ≡ true
-half-long n x h = le-leb (2 * n) x (omega arith)
 
 pub records-fit : (n t : ℕ) → leb n (t / 16) ≡ leb (n * 16) t
 records-fit n t = elim (decLt (t / 16) n) [
@@ -36,22 +31,10 @@ records-fit n t = elim (decLt (t / 16) n) [
 
 pub write-lies : (n p s b x t : ℕ) → roomToWrite n p s b x t ≡ true → WriteLies n p s b x t
 unfolding roomToWrite
-write-lies n p s b x t e =
-    let A = leb n p in
-    let B = leb n s in
-    let C = leb n b in
-    let D = leb (2 * n) x in
-    let E = leb (n * 16) t in
-    let abcd = and-left (A && B && C && D) E e in
-    let abc = and-left (A && B && C) D abcd in
-    let ab = and-left (A && B) C abc in
-    record {
-      pictures-long = leb-true n p (and-left A B ab);
-      sides-long = leb-true n s (and-right A B ab);
-      fields-long = leb-true n b (and-right (A && B) C abc);
-      positions-long = leb-true (2 * n) x (and-right (A && B && C) D abcd);
-      target-long = leb-true (n * 16) t (and-right (A && B && C && D) E e);
-    }
+write-lies n p s b x t e = record {
+  frames = frames-lie n p s b x (and-left (framesRoom n p s b x) (leb (n * 16) t) e);
+  target-long = leb-true (n * 16) t (and-right (framesRoom n p s b x) (leb (n * 16) t) e);
+}
 
 -- ---- the loop: i records are written
 

@@ -11,7 +11,7 @@ use Rattle.laws.specs.Joined.{laid}
 use Rattle.monitor_narrow.specs.declared.Narrowed.{Narrowed}
 use Rattle.monitor_narrow.specs.declared.Narrowed.the-variants.{Single, Past}
 use Rattle.monitor_narrow.specs.Narrow.{narrowOf}
-use Rattle.monitor.specs.Monitor.{monitorBytes, monitorRecord, frameFine, followsAt}
+use Rattle.monitor.specs.Monitor.{monitorBytes, monitorRecord, frameFine, followsAt, framesRoom, FramesLie}
 use Rattle.monitor_write.specs.declared.Monitored.{Monitored}
 use Rattle.monitor_write.specs.declared.Monitored.the-variants.{Written, Short, Bad, Beyond}
 
@@ -53,7 +53,7 @@ monitorWriting a t = record { answer = a; target = t }
 
 -- 12: areas of these lengths hold what n frames need
 unfoldable pub roomToWrite : ℕ → ℕ → ℕ → ℕ → ℕ → ℕ → Bool
-roomToWrite n p s b x t = leb n p && leb n s && leb n b && leb (2 * n) x && leb (n * monitorBytes) t
+roomToWrite n p s b x t = framesRoom n p s b x && leb (n * monitorBytes) t
 
 -- a fault at frame k: 16 where it is one of picture, side, field or order, else 26
 unfoldable pub faultTold : List ℕ → List ℕ → List ℕ → ℕ → Monitored
@@ -77,8 +77,5 @@ monitoredNumber (Beyond k) = 26
 -- ---- what the test of the areas has shown
 
 pub record WriteLies (n p s b x t : ℕ) : Type 0 where
-  pub pictures-long : n ≤ p
-  pub sides-long : n ≤ s
-  pub fields-long : n ≤ b
-  pub positions-long : 2 * n ≤ x
+  pub frames : FramesLie n p s b x
   pub target-long : n * monitorBytes ≤ t

@@ -5,11 +5,12 @@ ghost use lib.ListN.{length};
 ghost use Rattle.laws.specs.Area.{num};
 ghost use Rattle.laws.specs.Loops.{first};
 ghost use Rattle.laws.specs.Joined.{laid};
-ghost use Rattle.monitor.specs.Monitor.{monitorBytes, followsAt};
+ghost use Rattle.monitor.specs.Monitor.{monitorBytes, followsAt, FramesLie};
 ghost use Rattle.monitor_write.specs.MonitorWrite.{wrongAt, isPast, pastAt, faultyAt, singleBits, monitorRow, monitorWriting, roomToWrite, faultTold, writeMonitor, monitoredNumber, WriteLies};
 use frames::may_follow;
 use monitor::MONITOR_BYTES;
 use monitor::frame_fine;
+use monitor::frames_room;
 use monitor::put_record;
 use monitor_narrow::Narrowed;
 use monitor_narrow::narrow;
@@ -56,20 +57,11 @@ fn single_bits(a: Narrowed) -> u32
     }
 }
 
-// Areas of these lengths hold what n frames need. Nothing is multiplied by n, which may be any number.
+// Areas of these lengths hold what n frames need, and a target of this length their records.
 fn room(n: usize, p: usize, s: usize, b: usize, x: usize, t: usize) -> bool
     ensures { λ r. ⌜ r ≡ roomToWrite n p s b x t ⌝ }
 {
-    if p < n {
-        return false;
-    }
-    if s < n {
-        return false;
-    }
-    if b < n {
-        return false;
-    }
-    if x / 2 < n {
+    if !frames_room(n, p, s, b, x) {
         return false;
     }
     n <= t / MONITOR_BYTES
@@ -125,7 +117,7 @@ fn is_faulty(pictures: &[u32], sides: &[u8], fields: &[u8], positions: &[u64], i
 
 // The first faulty frame; n where there is none.
 fn first_faulty(n: usize, pictures: &[u32], sides: &[u8], fields: &[u8], positions: &[u64]) -> usize
-    requires { ⌜ (n ≤ length (now pictures)) × (n ≤ length (now sides)) × (n ≤ length (now fields)) × (2 * n ≤ length (now positions)) ⌝ }
+    requires { ⌜ FramesLie n (length (now pictures)) (length (now sides)) (length (now fields)) (length (now positions)) ⌝ }
     ensures { λ r. ⌜ r ≡ first (faultyAt (now (pictures .entry)) (now (sides .entry)) (now (fields .entry)) (now (positions .entry))) n ⌝ }
 {
     let mut i = 0;

@@ -15,10 +15,10 @@ returns : tie.Need-returns
 returns c = out-short (c .before .before .before .before .before .before .before .args .n) (c .before .before .before .before .before .before .before .args .pictures .now) (c .before .before .before .before .before .before .before .args .sides .now) (c .before .before .before .before .before .before .before .args .fields .now) (c .before .before .before .before .before .before .before .args .positions .now) (c .before .before .before .before .before .before .before .args .target .now) (sym (c .before .room .ensures) ∙ not-true _ (c .if1 .taken))
 
 first-faulty-requires : tie.Need-first-faulty-requires
-first-faulty-requires c κs = ((write-lies _ _ _ _ _ _ (sym (c .before .room .ensures) ∙ not-false _ (c .if1 .left))) .pictures-long, (write-lies _ _ _ _ _ _ (sym (c .before .room .ensures) ∙ not-false _ (c .if1 .left))) .sides-long, (write-lies _ _ _ _ _ _ (sym (c .before .room .ensures) ∙ not-false _ (c .if1 .left))) .fields-long, (write-lies _ _ _ _ _ _ (sym (c .before .room .ensures) ∙ not-false _ (c .if1 .left))) .positions-long)
+first-faulty-requires c κs = (write-lies _ _ _ _ _ _ (sym (c .before .room .ensures) ∙ not-false _ (c .if1 .left))) .frames
 
 fault-told-requires : tie.Need-fault-told-requires
-fault-told-requires c κs = (omega (arith, c .if2 .taken, (write-lies _ _ _ _ _ _ (sym (c .before .before .before .room .ensures) ∙ not-false _ (c .before .before .if1 .left))) .pictures-long), omega (arith, c .if2 .taken, (write-lies _ _ _ _ _ _ (sym (c .before .before .before .room .ensures) ∙ not-false _ (c .before .before .if1 .left))) .sides-long), omega (arith, c .if2 .taken, (write-lies _ _ _ _ _ _ (sym (c .before .before .before .room .ensures) ∙ not-false _ (c .before .before .if1 .left))) .fields-long))
+fault-told-requires c κs = (omega (arith, c .if2 .taken, (write-lies _ _ _ _ _ _ (sym (c .before .before .before .room .ensures) ∙ not-false _ (c .before .before .if1 .left))) .frames .pictures-long), omega (arith, c .if2 .taken, (write-lies _ _ _ _ _ _ (sym (c .before .before .before .room .ensures) ∙ not-false _ (c .before .before .if1 .left))) .frames .sides-long), omega (arith, c .if2 .taken, (write-lies _ _ _ _ _ _ (sym (c .before .before .before .room .ensures) ∙ not-false _ (c .before .before .if1 .left))) .frames .fields-long))
 
 returns-2 : tie.Need-returns-2
 returns-2 c = out-fault (c .before .before .before .before .before .before .before .before .before .before .args .n) (c .before .before .before .before .before .before .before .before .before .before .args .pictures .now) (c .before .before .before .before .before .before .before .before .before .before .args .sides .now) (c .before .before .before .before .before .before .before .before .before .before .args .fields .now) (c .before .before .before .before .before .before .before .before .before .before .args .positions .now) (c .before .before .before .before .before .before .before .before .before .before .args .target .now) (sym (c .before .before .before .before .room .ensures) ∙ not-false _ (c .before .before .before .if1 .left)) _ (c .before .before .first-faulty .ensures) _ (c .before .if2 .taken) (c .fault-told .ensures)
