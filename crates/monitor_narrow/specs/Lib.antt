@@ -1,2 +1,3 @@
 pub mod Narrow
 pub mod Nearness
+pub mod Cases
