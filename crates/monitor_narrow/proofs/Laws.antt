@@ -59,7 +59,9 @@ not-finite-told (inf s) h = refl
 not-finite-told (fin s m e) h = absurd (true≢false h)
 
 module _ (b : ℕ) where
-  pub narrow-told : field64 b < 2047 → narrowOf b ≡ telling (leb (2 ^ 63) b) (drop 24 (lead64 b * 2 ^ (field64 b - 1) * 2 ^ 149) (2 ^ 1074) * 2 ^ 23 + kept 24 (lead64 b * 2 ^ (field64 b - 1) * 2 ^ 149) (2 ^ 1074))
+  pub narrow-told : field64 b < 2047
+      → narrowOf b ≡ telling (leb (2 ^ 63) b)
+      (drop 24 (lead64 b * 2 ^ (field64 b - 1) * 2 ^ 149) (2 ^ 1074) * 2 ^ 23 + kept 24 (lead64 b * 2 ^ (field64 b - 1) * 2 ^ 149) (2 ^ 1074))
   unfolding narrowOf
   narrow-told h = told-value (ofBits binary64 b) (leb (2 ^ 63) b) (lead64 b * 2 ^ (field64 b - 1)) (2 ^ 1074) (pow-pos 1074) (double-value b h)
 
@@ -70,7 +72,9 @@ module _ (b : ℕ) where
       let z : drop 24 n (2 ^ 1074) * 2 ^ 23 + kept 24 n (2 ^ 1074) ≡ 0 = rw (tiny-kept (lead64 b) x (lead-most b) (omega arith), tiny-drop (lead64 b) x (lead-most b) (omega arith)) in
       ap Single (sign-narrowed b w ∙ sym (add-zero (cond (leb (2 ^ 63) b) (2 ^ 31) 0))) ∙ sym (narrow-told (omega arith) ∙ ap (telling (leb (2 ^ 63) b)) z)
 
-  magnitude-is : 873 ≤ field64 b → drop 24 (lead64 b * 2 ^ (field64 b - 1) * 2 ^ 149) (2 ^ 1074) * 2 ^ 23 + kept 24 (lead64 b * 2 ^ (field64 b - 1) * 2 ^ 149) (2 ^ 1074) ≡ magnitudeOf (field64 b) (2 ^ 52 + digits64 b)
+  magnitude-is : 873 ≤ field64 b
+      → drop 24 (lead64 b * 2 ^ (field64 b - 1) * 2 ^ 149) (2 ^ 1074) * 2 ^ 23 + kept 24 (lead64 b * 2 ^ (field64 b - 1) * 2 ^ 149) (2 ^ 1074) ≡ magnitudeOf (field64 b)
+      (2 ^ 52 + digits64 b)
   unfolding magnitudeOf
   magnitude-is h =
       let y = field64 b in
@@ -155,7 +159,8 @@ raise : (m a z k : ℕ) → a + 1074 ≡ z + k + 149 → m * 2 ^ a * 2 ^ 1074 �
 raise m a z k e = scaled m a 1074 ∙ ap (λ (y : ℕ). m * 2 ^ y) e ∙ sym (ap (λ (y : ℕ). y * 2 ^ 149) (scaled m z k) ∙ scaled m (z + k) 149)
 
 -- m of the smallest single-precision values times 2^a, z of whose digits lie below the leading one's place
-raised-pattern : (v : Float) (s : Bool) (m a z k : ℕ) → HasValue v s (m * 2 ^ a) (2 ^ 149) → a + 1074 ≡ z + k + 149 → m * 2 ^ z < 2 ^ 53 → 2 ^ 52 ≤ m * 2 ^ z → toBits binary64 v ≡ cond s (2 ^ 63) 0 + (k * 2 ^ 52 + m * 2 ^ z)
+raised-pattern : (v : Float) (s : Bool) (m a z k : ℕ) → HasValue v s (m * 2 ^ a) (2 ^ 149) → a + 1074 ≡ z + k + 149 → m * 2 ^ z < 2 ^ 53 → 2 ^ 52 ≤ m * 2 ^ z
+    → toBits binary64 v ≡ cond s (2 ^ 63) 0 + (k * 2 ^ 52 + m * 2 ^ z)
 raised-pattern v s m a z k h e l u = pattern binary64 v s (m * 2 ^ z) k (value-as v s (m * 2 ^ a) (2 ^ 149) (m * 2 ^ z * 2 ^ k) (2 ^ 1074) (pow-pos 149) (raise m a z k e) h) l (λ p. u)
 
 lead-single : (x t : ℕ) → 0 < x → leadOf binary32 x t ≡ 2 ^ 23 + t

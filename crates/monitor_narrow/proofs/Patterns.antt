@@ -30,7 +30,8 @@ value-as (fin t m e) s a c b d p q h = (
 
 -- how many digits are dropped: k, where the leading digit is among those kept
 pub cut-is : (f : Format) (q k : ℕ) → q < 2 ^ prec f → (0 < k → 2 ^ (prec f - 1) ≤ q) → size (q * 2 ^ k) - prec f ≡ k
-cut-is f q k a b = go (prec f) k (size (q * 2 ^ k)) (size-le (q * 2 ^ k) (prec f + k) (shl-lt (prec f) k a)) (λ l. under-back (prec f - 1 + k) (size (q * 2 ^ k)) (lt-of-le-of-lt (lead l) (size-lt (q * 2 ^ k)))) (two f)
+cut-is f q k a b = go (prec f) k (size (q * 2 ^ k)) (size-le (q * 2 ^ k) (prec f + k) (shl-lt (prec f) k a))
+    (λ l. under-back (prec f - 1 + k) (size (q * 2 ^ k)) (lt-of-le-of-lt (lead l) (size-lt (q * 2 ^ k)))) (two f)
   where
     lead : 0 < k → 2 ^ (prec f - 1 + k) ≤ q * 2 ^ k
     lead l = le-trans (le-of-eq (pow-add 2 (prec f - 1) k)) (mul-le-mul-right (2 ^ k) (b l))

@@ -228,7 +228,9 @@ module _ (m x : ℕ) (most : m < 2 ^ 53) where
   pub high-magnitude : 2 ^ 52 ≤ m → 896 ≤ x → drop 24 n (2 ^ 1074) * 2 ^ 23 + kept 24 n (2 ^ 1074) ≡ (x - 896) * 2 ^ 23 + closest m (2 ^ 29)
   high-magnitude least h =
       let k = x - 896 in
-      let lo : 2 ^ (23 + k) * 2 ^ 1074 ≤ n = le-trans (le-of-eq (sym (pow-add 2 (23 + k) 1074) ∙ ap (λ (y : ℕ). 2 ^ y) (sum k refl) ∙ pow-add 2 (52 + x) 149 ∙ ap (λ (y : ℕ). y * 2 ^ 149) (pow-add 2 52 x))) (mul-le-mul-right (2 ^ 149) (mul-le-mul-right (2 ^ x) least)) in
+      let lo : 2 ^ (23 + k) * 2 ^ 1074 ≤ n = le-trans
+      (le-of-eq (sym (pow-add 2 (23 + k) 1074) ∙ ap (λ (y : ℕ). 2 ^ y) (sum k refl) ∙ pow-add 2 (52 + x) 149 ∙ ap (λ (y : ℕ). y * 2 ^ 149) (pow-add 2 52 x)))
+      (mul-le-mul-right (2 ^ 149) (mul-le-mul-right (2 ^ x) least)) in
       let hi : n < 2 ^ (24 + k) * 2 ^ 1074 = lt-of-lt-of-le (under (24 + k + 1074) (omega arith)) (le-of-eq (pow-add 2 (24 + k) 1074)) in
       ap (λ (j : ℕ). j * 2 ^ 23 + closest n (2 ^ 1074 * 2 ^ j)) (drop-some n (2 ^ 1074) k (pow-pos 1074) lo hi)
       ∙ ap (λ (y : ℕ). k * 2 ^ 23 + y) (closest-same n (2 ^ 1074 * 2 ^ k) m (2 ^ 29) (mul-pos (pow-pos 1074) (pow-pos k)) (pow-pos 29) (cross m x 149 29 1074 k (omega arith)))
