@@ -1,4 +1,4 @@
--- What the code of narrowing and widening cites: each by the fields of the bits. Assumes nothing.
+-- What the code of narrowing and widening cites: each by the exponent's bits and the digits. Assumes nothing.
 use mathlib.Core.Path.{_≡_, refl, sym, ap, _∙_}
 use Prim.Native.Nat.{ℕ, zero, suc, _+_, _-_, _*_, _/_, _%_, _^_, _≤_, _<_}
 use native.Mathlib.Nat.{lt-of-le-of-lt, lt-of-lt-of-le, zero-add, add-zero, lt-irrefl, div-le-self, mod-lt}
@@ -17,7 +17,8 @@ use lib.Ieee.Order.{drop, kept}
 use borrow.Author.Tests.{eq-eqb, ne-eqb, lt-ltb, le-ltb, le-leb, lt-leb}
 use Rattle.elementary.proofs.Parts.{placed}
 use Rattle.monitor_narrow.specs.declared.Narrowed.the-variants.{Single, Past}
-use Rattle.monitor_narrow.specs.Narrow.{singleOf, toldSingle, narrowOf, widenOf, finiteSingle, magnitudeOf}
+use Rattle.monitor_narrow.specs.Narrow.{singleOf, toldSingle, narrowOf, widenOf, finiteSingle}
+use Rattle.monitor_narrow.specs.Steps.{magnitudeOf}
 use Rattle.monitor_narrow.proofs.Patterns.{value-as, pattern, leadOf, fields-value, fields-finite}
 use Rattle.monitor_narrow.proofs.Rounds.{telling, field64, digits64, lead64, double-value, double-finite, lead-most, lead-is, compare-less, compare-same, compare-more, told-value, tiny-kept, tiny-drop, low-magnitude, high-magnitude, scaled}
 
@@ -110,7 +111,7 @@ module _ (b : ℕ) where
     pub narrow-past : 255 * 2 ^ 23 ≤ w → Past ≡ narrowOf b
     narrow-past m = sym (narrow-is h ∙ rw (← e, le-ltb w (255 * 2 ^ 23) m))
 
--- ---- the fields of a single-precision value
+-- ---- the exponent's bits and the digits of a single-precision value
 
 abbrev pub field32 : ℕ → ℕ
 field32 b = b % 2 ^ 31 / 2 ^ 23
@@ -177,7 +178,7 @@ widen-normal b w n z =
     raised-pattern (ofBits binary32 b) (leb (2 ^ 31) b) (2 ^ 23 + t) (x - 1) 29 (895 + x) (rw e at (single-value b (omega arith))) (omega arith) (omega arith) (omega arith) in
     omega (arith, p, sign-widened b w)
 
--- ---- the exponent's field 0
+-- ---- the exponent's bits 0
 
 signed-bits : (s : Bool) (m : ℕ) (e : ℤ) → toBits binary64 (fin s m e) ≡ cond s (2 ^ 63) 0 + toBits binary64 (fin false m e)
 unfolding toBits

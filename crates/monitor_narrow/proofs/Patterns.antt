@@ -1,4 +1,4 @@
--- The bits of a finite value by its size in units of the format's smallest value, and the size of a value by the fields of its bits. Assumes nothing.
+-- The bits of a finite value by its size in units of the format's smallest value, and the size of a value by its exponent's bits and digits. Assumes nothing.
 use mathlib.Core.Path.{_≡_, refl, sym, ap, _∙_}
 use Prim.Native.Nat.{ℕ, zero, suc, _+_, _-_, _*_, _/_, _^_, _≤_, _<_}
 use native.Mathlib.Nat.{le-trans, le-of-eq, lt-of-le-of-lt, eq-or-lt-of-le, add-assoc, mul-right-comm, mul-le-mul-right, mul-div-cancel, eq-of-mul-eq-mul-right}
@@ -52,7 +52,7 @@ pattern f (fin t m e) s q k h a b =
     ∙ add-assoc (cond t (top f) 0) (k * hid f) q
     ∙ ap (λ (u : Bool). cond u (top f) 0 + (k * hid f + q)) (h .0)
 
--- ---- the size of a value by its fields
+-- ---- the size of a value by its exponent's bits and digits
 
 -- the digits with the leading one
 abbrev pub leadOf : Format → ℕ → ℕ → ℕ

@@ -1,4 +1,4 @@
--- Narrowing by the fields of a double's bits: how many digits go, what is kept of the others, and the pattern that this makes. Assumes nothing.
+-- Narrowing by the exponent's bits and the digits of a double: how many digits go, what is kept of the others, and the pattern that this makes. Assumes nothing.
 use mathlib.Core.Path.{_≡_, refl, sym, ap, _∙_, subst}
 use Prim.Native.Nat.{ℕ, zero, suc, _+_, _-_, _*_, _/_, _%_, _^_, _≤_, _<_, compare, Ordering, Ordering·lt, Ordering·eq, Ordering·gt}
 use native.Mathlib.Nat.{le-refl, le-trans, le-of-eq, lt-of-le-of-lt, lt-of-lt-of-le, eq-or-lt-of-le, mul-assoc, mul-comm, mul-le-mul-right, mul-le-mul, mul-pos, mul-lt-mul-of-pos-right, zero-lt-suc, zero-add, lt-irrefl, not-le-of-lt, lt-of-not-le, le-of-suc-le-suc, le-of-mul-le-mul-right, lt-of-mul-lt-mul-right, div-div-eq-div-mul, le-div-iff-mul-le, div-lt-iff-lt-mul, div-eq-of-lt, mod-eq-of-lt}
@@ -112,7 +112,7 @@ told-value v s a c p h =
     let n = a * 2 ^ 149 in
     ap toldSingle (single-units v s a c p h) ∙ told-units (kept 24 n c) (drop 24 n c) (kept-most n c) (kept-least n c) s
 
--- ---- the fields of a double
+-- ---- the exponent's bits and the digits of a double
 
 abbrev pub field64 : ℕ → ℕ
 field64 b = b % 2 ^ 63 / 2 ^ 52

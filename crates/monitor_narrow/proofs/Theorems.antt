@@ -209,9 +209,14 @@ module _ (b : ℕ) (h : field64 b < 2047) where
           (le-of-lt m, λ t. absurd (lt-irrefl (differ A Z) (subst (λ (y : ℕ). y < differ A Z) t m)))
     ]
 
--- the magnitude of a finite double is a whole number of smallest ones, so that nothing is cut off it; widened, so is a single-precision value's
+-- the magnitude of a finite double is a whole number of smallest ones, so that nothing is cut off it
 pub grains-exact : (b : ℕ) → finite (ofBits binary64 b) ≡ true → HasValue (ofBits binary64 b) (signOf (ofBits binary64 b)) (grainsOf (ofBits binary64 b)) (2 ^ 1074)
 grains-exact b f = let h : field64 b < 2047 = ltb-true (field64 b) 2047 (sym (double-finite b) ∙ f) in rw (own-grains b h .0, own-grains b h .1) (double-value b h)
+
+-- so is that of a finite single-precision value
+pub grains-exact-single : (v : ℕ) → finiteSingle v ≡ true → HasValue (ofBits binary32 v) (signOf (ofBits binary32 v)) (grainsOf (ofBits binary32 v)) (2 ^ 1074)
+unfolding finiteSingle
+grains-exact-single v f = subst (λ (x : Float). HasValue x (signOf x) (grainsOf x) (2 ^ 1074)) (widen-exact v) (grains-exact (widenOf v) (ap finite (widen-exact v) ∙ f))
 
 -- ---- narrowing is to nearest, and at a tie to the even one
 

@@ -194,7 +194,7 @@ unfolding coordinateAt
 coordinate-below f j small = little-below 4 f (j / 2 * 16 + (8 + 4 * (j % 2))) small
 
 module _ (f P S B X : List ℕ) (small : AllBelow 256 f) where
-  module _ (good : AllGood f P S B X) where
+  module _ (good : AllGood f) where
     abbrev m : ℕ
     m = wholeMonitor f
 
