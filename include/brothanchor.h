@@ -3,7 +3,8 @@
  * Link libdesk.a (rt staticlib desk), for x86-64 Linux. All memory is lent by the caller; nothing is kept between calls.
  * An area is a pointer and its number of elements; an empty area may have any pointer. Areas of one call must not overlap.
  * A call that is refused at its entry changes nothing, but for the answer of a work call, of a divergence, of a parking, of a
- * reading, of a removal, of an import, of a writing of lists or of a strip. Longer areas keep what lies past what is asked for.
+ * reading, of a removal, of an import, of a writing of lists, of a strip or of a file for the monitor. Longer areas keep what lies past
+ * what is asked for.
  *
  * Refusal numbers (0: none)
  *   1  c is 0 or above 8
@@ -21,7 +22,8 @@
  *  14  the next point needs more nodes than the arena has left; with a longer arena the run goes on
  *  15  the step would give a value that is NaN or above 2^100 in magnitude; parking: a position, increment or gain is one;
  *      removal: a centred position would be one; strip: a position is one
- *  16  a record of a frame file or of a parked run is bad
+ *  16  a record of a frame file, of a parked run or of a file for the monitor is bad; writing for the monitor: a frame's picture,
+ *      side, field or order is
  *  17  no iteration has just ended, or the forces give a total of 0; parking and removal: a unit of an iteration is done, and not
  *      its last; writing lists: the run is exact and has none; strip: the run has not ended
  *  18  removal: the list does not rise strictly or names a sample that there is not, or more links would be left than the lists
@@ -35,6 +37,7 @@
  *  23  the offsets are bad: the first is not 0, or the end of a frame's list falls below the one before it or passes 2*n*k
  *  24  a listed index names no frame
  *  25  the tree is bad, inside an iteration: the number of nodes in use is, or a node
+ *  26  writing for the monitor: a coordinate is not finite, or rounds past the largest single-precision number
  * 13 is not used.
  *
  * 21 to 25 are what a call that is lent a run (work, divergence, park, take_out, lists, strip) finds before it does anything. With each
@@ -61,7 +64,8 @@
  *   work, refused by a unit          (14, 15) all that the units before it wrote: record and memory are as after these units,
  *                                    which the answer counts, and the refused unit has changed nothing
  *   divergence, park, unpark,        the first word of the answer; with an answer area that is empty nothing
- *   take_out, import, lists, strip
+ *   take_out, import, lists, strip,
+ *   monitor_write, monitor_read
  * After 14 or 15 the run is still running, and the next call begins with the refused unit. After 14 it goes on where the nodes
  * are moved to a longer arena, those in use with their contents.
  *
@@ -444,6 +448,46 @@ uint32_t brothanchor_strip(
     const struct brothanchor_node *nodes, size_t nodes_length,
     uint32_t *order, size_t order_length,
     double *gaps, size_t gaps_length,
+    uint64_t *answer, size_t answer_length);
+
+/* Frames with two positions each, written for the picture monitor: records of 16 bytes, little-endian, and no header: picture (4
+ * bytes), side, field, two zeros, and the two coordinates in single precision (4 bytes each). The first n pictures, sides and fields and
+ * the first 2n positions count, two for each frame. A position is rounded to the nearest single-precision number, of two that are
+ * equally near to the one whose last bit is 0; the sign is kept, that of a zero too, and so are subnormal numbers. What was rounded
+ * once is written unchanged. Longer areas are not looked at past what is asked for, and a longer target keeps its tail.
+ *
+ * Answers 0, and writes the number of records, n, to the first word of the answer; or the number of the refusal, and writes what comes
+ * with it there: with 16 and 26 the frame's place, counted from 0, else 0. Refused, it writes nothing else. In this order:
+ *   12  the answer area is empty: nothing can be told
+ *   12  there are fewer than n pictures, sides or fields, fewer than 2n positions, or the target has fewer than 16n bytes
+ * then at the first faulty frame:
+ *   16  its picture is not from 1 to 79,999, its side not 1 or 2, its field not 0, 1 or 2; or it may not follow the frame before it:
+ *       the pair of picture and field rises strictly, and a whole frame never shares its picture with a field
+ *   26  a coordinate is not finite, or rounds past the largest single-precision number (it is 2^128 - 2^103 or more in magnitude) */
+uint32_t brothanchor_monitor_write(
+    size_t n,
+    const uint32_t *pictures, size_t pictures_length,
+    const uint8_t *sides, size_t sides_length,
+    const uint8_t *fields, size_t fields_length,
+    const double *positions, size_t positions_length,
+    uint8_t *target, size_t target_length,
+    uint64_t *answer, size_t answer_length);
+
+/* A file for the monitor read back: pictures, sides, fields and positions at the fronts of their areas, two positions for each record,
+ * widened without loss. What was read is written as the same bytes. Longer areas keep their tails.
+ *
+ * Answers 0, and writes the number of records to the first word of the answer; or the number of the refusal, and writes what comes with
+ * it there: with 16 the record's place, counted from 0, else 0. Refused, it writes nothing else. In this order:
+ *   12  the answer area is empty: nothing can be told
+ *   16  a record is bad: picture, side, field or order as for writing, bytes 6 and 7 are not zero, or a coordinate is not finite. Bytes
+ *       past the last whole record make one more, which is bad
+ *   12  there are fewer pictures, sides or fields than records, or fewer than two positions for each */
+uint32_t brothanchor_monitor_read(
+    const uint8_t *file, size_t file_length,
+    uint32_t *pictures, size_t pictures_length,
+    uint8_t *sides, size_t sides_length,
+    uint8_t *fields, size_t fields_length,
+    double *positions, size_t positions_length,
     uint64_t *answer, size_t answer_length);
 
 /* What a record says. The state is 3, the numbers are 0, where the words are no record. */

@@ -16,6 +16,8 @@ ghost use Rattle.tree_node.specs.Arena.{nodesOf};
 ghost use Rattle.parked.specs.Parked.{storedOf};
 ghost use Rattle.desk_lists.specs.HostLists.{hostListed, hostLists};
 ghost use Rattle.desk_park.specs.HostPark.{hostParked, hostPark};
+ghost use Rattle.desk_monitor.specs.HostWrite.{hostMonitored, hostMonitorWrite};
+ghost use Rattle.desk_monitor.specs.HostRead.{hostMonitorReading, hostMonitorRead};
 ghost use Rattle.desk_strip.specs.HostStrip.{hostHanded, hostStrip};
 ghost use Rattle.take_out.specs.TakeOut.{holdings};
 ghost use Rattle.desk_take.specs.HostTake.{hostTook, hostTake};
@@ -28,6 +30,8 @@ use desk_files::host_frames;
 use desk_files::host_scatter;
 use desk_import::host_import;
 use desk_lists::host_lists;
+use desk_monitor::host_monitor_read;
+use desk_monitor::host_monitor_write;
 use desk_park::host_park;
 use desk_prepare::host_prepare;
 use desk_prepare_strip::host_prepare_strip;
@@ -651,4 +655,60 @@ pub extern "C" fn brothanchor_take_out(
         answer,
     );
     k
+}
+
+// ---- the picture monitor
+
+// Writes n frames for the picture monitor. Answers 0, or 12, 16 or 26; then the target is not changed.
+#[no_mangle]
+pub extern "C" fn brothanchor_monitor_write(
+    n: usize,
+    pictures: &[u32],
+    sides: &[u8],
+    fields: &[u8],
+    positions: &[u64],
+    target: &mut [u8],
+    answer: &mut [u64],
+) -> u32
+    ensures { λ k. ⌜
+        hostMonitored k (now (target .exit)) (now (answer .exit))
+        ≡ hostMonitorWrite n
+        (now (pictures .entry))
+        (now (sides .entry))
+        (now (fields .entry))
+        (now (positions .entry))
+        (now (target .entry))
+        (now (answer .entry))
+        ⌝ }
+{
+    host_monitor_write(n, pictures, sides, fields, positions, target, answer)
+}
+
+// Reads a file for the picture monitor. Answers 0, or 16 or 12; then no area is changed.
+#[no_mangle]
+pub extern "C" fn brothanchor_monitor_read(
+    file: &[u8],
+    pictures: &mut [u32],
+    sides: &mut [u8],
+    fields: &mut [u8],
+    positions: &mut [u64],
+    answer: &mut [u64],
+) -> u32
+    ensures { λ k. ⌜
+        hostMonitorReading k
+        (now (pictures .exit))
+        (now (sides .exit))
+        (now (fields .exit))
+        (now (positions .exit))
+        (now (answer .exit))
+        ≡ hostMonitorRead
+        (now (file .entry))
+        (now (pictures .entry))
+        (now (sides .entry))
+        (now (fields .entry))
+        (now (positions .entry))
+        (now (answer .entry))
+        ⌝ }
+{
+    host_monitor_read(file, pictures, sides, fields, positions, answer)
 }

@@ -33,7 +33,7 @@ pub struct Frame {
     pub starts: [f64; 2],
 }
 
-fn picture_fine(p: u64) -> bool
+pub fn picture_fine(p: u64) -> bool
     ensures { λ r. ⌜ r ≡ pictureFine p ⌝ }
 {
     if 1 <= p {
@@ -42,7 +42,7 @@ fn picture_fine(p: u64) -> bool
     false
 }
 
-fn side_fine(s: u8) -> bool
+pub fn side_fine(s: u8) -> bool
     ensures { λ r. ⌜ r ≡ sideFine s ⌝ }
 {
     if s == 1 {
@@ -51,14 +51,14 @@ fn side_fine(s: u8) -> bool
     s == 2
 }
 
-fn field_fine(b: u8) -> bool
+pub fn field_fine(b: u8) -> bool
     ensures { λ r. ⌜ r ≡ fieldFine b ⌝ }
 {
     b <= 2
 }
 
 // The two spare bytes of the record at a are zero.
-fn spare_fine(file: &[u8], a: usize) -> bool
+pub fn spare_fine(file: &[u8], a: usize) -> bool
     requires { ⌜ a + 8 ≤ length (now file) ⌝ }
     ensures { λ r. ⌜ r ≡ spareFine (now (file .entry)) a ⌝ }
 {
@@ -105,7 +105,7 @@ fn good_alone(file: &[u8], a: usize) -> bool
 }
 
 // Picture q and field g may follow picture p and field e.
-fn may_follow(p: u64, e: u8, q: u64, g: u8) -> bool
+pub fn may_follow(p: u64, e: u8, q: u64, g: u8) -> bool
     ensures { λ r. ⌜ r ≡ mayFollow p e q g ⌝ }
 {
     if p < q {

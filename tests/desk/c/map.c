@@ -1,10 +1,11 @@
 /* Maps a frame file through include/brothanchor.h, as the wrapper's map program does: map FILE [SEED [FIRST LAST | strip]].
- * Prints a line for each frame: picture, side, field, both coordinates by their bits; then how the run ended, and its divergence. Once
- * it is prepared its lists are written, it is forgotten, and another run is begun from these lists. On its way the run is made bad in
- * several ways, which each call has to tell; it is parked, forgotten and read back; then the frames of the pictures from FIRST to LAST
- * are taken out. A seed that is no number, as -, is none. With strip it puts the frames along one line: a line for each, with its place,
- * picture, side, field, position and gap by their bits, and how the run ended. It is compiled as C and as C++, and calls every function
- * of the header. A refusal that is not asked for ends it with its number and where it came. */
+ * Prints a line for each frame: picture, side, field, both coordinates by their bits; then how the run ended, its divergence, and
+ * the records of the map for the picture monitor, a line of hex digits each. Once it is prepared its lists are written, it is
+ * forgotten, and another run is begun from these lists. On its way the run is made bad in several ways, which each call has to tell;
+ * it is parked, forgotten and read back; then the frames of the pictures from FIRST to LAST are taken out. A seed that is no number,
+ * as -, is none. With strip it puts the frames along one line: a line for each, with its place, picture, side, field, position and
+ * gap by their bits, and how the run ended. It is compiled as C and as C++, and calls every function of the header. A refusal that
+ * is not asked for ends it with its number and where it came. */
 #include <inttypes.h>
 #include <stdio.h>
 #include <stdlib.h>
@@ -12,7 +13,7 @@
 
 #include "brothanchor.h"
 
-enum { FRAME_BYTES = 72, FRAME_WORDS = 11, FEATURES = 6, STARTS = 2, MOST_FRAMES = 4096, ITERATIONS = 1000, PARKED_BYTES = 32, LINK_BYTES = 16, NIGHT = 40 };
+enum { FRAME_BYTES = 72, FRAME_WORDS = 11, FEATURES = 6, STARTS = 2, MOST_FRAMES = 4096, ITERATIONS = 1000, PARKED_BYTES = 32, LINK_BYTES = 16, MONITOR_BYTES = 16, NIGHT = 40 };
 
 /* What a run is lent. */
 struct areas {
@@ -505,6 +506,83 @@ static void print(const uint8_t *file, size_t length, size_t n, const uint32_t *
     print_end(n, a);
 }
 
+/* What the monitor is told of the frames. */
+struct placed {
+    uint32_t pictures[MOST_FRAMES];
+    uint8_t sides[MOST_FRAMES], fields[MOST_FRAMES];
+    double positions[MOST_FRAMES * STARTS];
+};
+
+/* n frames written, with so many bytes for the target. */
+static uint32_t monitor_write(const struct placed *s, size_t n, uint8_t *target, size_t bytes, uint64_t *answer, size_t length) {
+    return brothanchor_monitor_write(n, s->pictures, n, s->sides, n, s->fields, n, s->positions, n * STARTS, target, bytes, answer,
+                                     length);
+}
+
+/* A file for the monitor read into room for n frames. */
+static uint32_t monitor_read(struct placed *s, size_t n, const uint8_t *file, size_t bytes, uint64_t *answer, size_t length) {
+    return brothanchor_monitor_read(file, bytes, s->pictures, n, s->sides, n, s->fields, n, s->positions, n * STARTS, answer, length);
+}
+
+/* What is not written for the monitor: areas that are too short, as only C can lend them; a coordinate of 2^128; no side; and both in
+ * one frame, of which the side is told. The target is left alone, and the frames are then as they were. */
+static void not_written(struct placed *s, size_t n, uint8_t *target) {
+    const size_t bytes = n * MONITOR_BYTES;
+    const double past = value(UINT64_C(0x47f0000000000000)); /* 2^128 */
+    const double y0 = s->positions[1], x1 = s->positions[STARTS], x2 = s->positions[2 * STARTS];
+    const uint8_t side = s->sides[1];
+    uint64_t answer[2] = {5, 7};
+    told("monitor_write, no answer", monitor_write(s, n, target, bytes, answer, 0), 12, answer, 5);
+    told("monitor_write, a byte short", monitor_write(s, n, target, bytes - 1, answer, 2), 12, answer, 0);
+    s->positions[1] = s->positions[STARTS] = s->positions[2 * STARTS] = past;
+    s->sides[1] = 0;
+    answer[0] = 5;
+    told("monitor_write, 2^128", monitor_write(s, n, target, bytes, answer, 1), 26, answer, 0);
+    s->positions[1] = y0;
+    told("monitor_write, no side and 2^128", monitor_write(s, n, target, bytes, answer, 2), 16, answer, 1);
+    s->positions[STARTS] = x1;
+    answer[0] = 5;
+    told("monitor_write, no side", monitor_write(s, n, target, bytes, answer, 2), 16, answer, 1);
+    s->sides[1] = side;
+    told("monitor_write, 2^128 in frame 2", monitor_write(s, n, target, bytes, answer, 2), 26, answer, 2);
+    s->positions[2 * STARTS] = x2;
+    for (size_t i = 0; i < bytes; i++) {
+        if (target[i] != 0) {
+            fprintf(stderr, "a file for the monitor that was refused has byte %zu\n", i);
+            exit(1);
+        }
+    }
+}
+
+/* The map for the monitor: written, read back and written again as the same bytes; before that what is refused. */
+static void monitor(const uint8_t *file, size_t length, size_t n, const uint32_t *places, const struct areas *a) {
+    static struct placed there, back;
+    static uint8_t target[MOST_FRAMES * MONITOR_BYTES], again[MOST_FRAMES * MONITOR_BYTES];
+    const size_t bytes = n * MONITOR_BYTES;
+    uint64_t answer[2] = {5, 7};
+    for (size_t i = 0; i < n; i++) {
+        uint64_t frame[FRAME_WORDS];
+        refused("frame", brothanchor_frame(file, length, places[i], frame, FRAME_WORDS));
+        there.pictures[i] = (uint32_t)frame[0];
+        there.sides[i] = (uint8_t)frame[1];
+        there.fields[i] = (uint8_t)frame[2];
+    }
+    memcpy(there.positions, a->positions, n * STARTS * sizeof(double));
+    not_written(&there, n, target);
+    told("monitor_write", monitor_write(&there, n, target, bytes, answer, 2), 0, answer, n);
+    answer[0] = 5;
+    told("monitor_read, no answer", monitor_read(&back, n, target, bytes, answer, 0), 12, answer, 5);
+    told("monitor_read, a tail", monitor_read(&back, n - 1, target, bytes - 1, answer, 1), 16, answer, n - 1);
+    told("monitor_read, a frame short", monitor_read(&back, n - 1, target, bytes, answer, 1), 12, answer, 0);
+    told("monitor_read", monitor_read(&back, n, target, bytes, answer, 2), 0, answer, n);
+    told("monitor_write again", monitor_write(&back, n, again, bytes, answer, 2), 0, answer, n);
+    if (memcmp(target, again, bytes) != 0) {
+        fprintf(stderr, "what was read for the monitor is written as other bytes\n");
+        exit(1);
+    }
+    for (size_t i = 0; i < bytes; i++) printf("%02x%s", (unsigned)target[i], i % MONITOR_BYTES == MONITOR_BYTES - 1 ? "\n" : "");
+}
+
 int main(int words, char **word) {
     static uint8_t file[MOST_FRAMES * FRAME_BYTES];
     static double table[MOST_FRAMES * FEATURES], start[MOST_FRAMES * STARTS];
@@ -542,5 +620,6 @@ int main(int words, char **word) {
     } while (work(&areas, sizes, (uint32_t)(2 * n + 2)) == 0);
     print(file, length, n, places, &areas);
     printf("its divergence: %.6f\n", divergence(&areas, sizes));
+    monitor(file, length, n, places, &areas);
     return 0;
 }

@@ -8,6 +8,7 @@ mod handing;
 mod labels;
 mod library;
 pub mod map;
+mod monitor;
 mod parking;
 mod partner;
 mod picture;
@@ -19,6 +20,7 @@ mod strip_picture;
 mod thinning;
 
 pub use handing::{hand_out, prepare_strip, prepare_strip_words};
+pub use monitor::{read_monitor, write_monitor, Placed, MONITOR_RECORD};
 pub use parking::{park, parked, parked_bytes, unpark, unpark_words, wake, PARKED_RECORD};
 pub use partner::{import, import_words, lists, lists_bytes, pair, write_lists, LINK_RECORD};
 pub use refusal::Refusal;

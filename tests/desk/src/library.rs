@@ -304,6 +304,37 @@ extern "C" {
         answer_length: usize,
     ) -> u32;
 
+    pub fn brothanchor_monitor_write(
+        n: usize,
+        pictures: *const u32,
+        pictures_length: usize,
+        sides: *const u8,
+        sides_length: usize,
+        fields: *const u8,
+        fields_length: usize,
+        positions: *const f64,
+        positions_length: usize,
+        target: *mut u8,
+        target_length: usize,
+        answer: *mut u64,
+        answer_length: usize,
+    ) -> u32;
+
+    pub fn brothanchor_monitor_read(
+        file: *const u8,
+        file_length: usize,
+        pictures: *mut u32,
+        pictures_length: usize,
+        sides: *mut u8,
+        sides_length: usize,
+        fields: *mut u8,
+        fields_length: usize,
+        positions: *mut f64,
+        positions_length: usize,
+        answer: *mut u64,
+        answer_length: usize,
+    ) -> u32;
+
     pub fn brothanchor_state(record: *const u64, record_length: usize) -> u64;
     pub fn brothanchor_iterations(record: *const u64, record_length: usize) -> u64;
     pub fn brothanchor_units(record: *const u64, record_length: usize) -> u64;

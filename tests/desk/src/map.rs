@@ -353,6 +353,15 @@ pub fn read(file: &[u8]) -> Result<Vec<Frame>, NoMap> {
     Ok((0..count).map(|i| frame(file, i)).collect())
 }
 
+/// The line of a frame on a map: picture, side, field, both coordinates, both again as bits.
+pub(crate) fn line(picture: u32, side: u8, field: u8, [x, y]: [f64; STARTS]) -> String {
+    format!(
+        "{picture:5} {side} {field} {x:14.6} {y:14.6} {:016x} {:016x}\n",
+        x.to_bits(),
+        y.to_bits()
+    )
+}
+
 impl Map {
     /// The divergence with six decimals, or that there is none.
     pub fn told_divergence(&self) -> String {
@@ -367,16 +376,8 @@ impl Map {
 
     /// A line for each frame: picture, side, field, both coordinates, both again as bits.
     pub fn lines(&self) -> String {
-        let line = |(i, frame): (usize, &Frame)| {
-            let [x, y] = self.place(i);
-            let (picture, side, field) = (frame.picture, frame.side, frame.field);
-            format!(
-                "{picture:5} {side} {field} {x:14.6} {y:14.6} {:016x} {:016x}\n",
-                x.to_bits(),
-                y.to_bits()
-            )
-        };
-        self.frames.iter().enumerate().map(line).collect()
+        let line_of = |(i, frame): (usize, &Frame)| line(frame.picture, frame.side, frame.field, self.place(i));
+        self.frames.iter().enumerate().map(line_of).collect()
     }
 
     /// A still picture of the map.

@@ -58,8 +58,8 @@ pub fn check(bytes: &[u8]) -> Checked {
     let mut before = None;
     for (place, record) in bytes.chunks(RECORD).enumerate() {
         match take_apart(record) {
-            Some(frame) if is_good(record, &frame) && before.map_or(true, |last| follows(&last, &frame)) => {
-                before = Some(frame);
+            Some(frame) if is_good(record, &frame) && before.map_or(true, |last| follows(last, frame.pair())) => {
+                before = Some(frame.pair());
             }
             _ => return Checked::Bad(place),
         }
@@ -72,19 +72,29 @@ pub fn fetch(bytes: &[u8], place: usize) -> Option<Frame> {
     take_apart(bytes.chunks(RECORD).nth(place)?)
 }
 
-/// Whether a frame may come after another: the pair of picture and field rises strictly, and a whole frame never shares its
-/// picture with a field.
-fn follows(before: &Frame, frame: &Frame) -> bool {
-    let whole = before.field == 0 || frame.field == 0;
-    (frame.picture, frame.field) > (before.picture, before.field) && !(frame.picture == before.picture && whole)
+impl Frame {
+    /// Picture and field.
+    fn pair(&self) -> (u32, u8) {
+        (self.picture, self.field)
+    }
+}
+
+/// Whether a frame may come after another, each by its picture and field: the pair rises strictly, and a whole frame never shares
+/// its picture with a field.
+pub(crate) fn follows(before: (u32, u8), pair: (u32, u8)) -> bool {
+    let whole = before.1 == 0 || pair.1 == 0;
+    pair > before && !(pair.0 == before.0 && whole)
+}
+
+/// Whether picture, side and field are in their ranges.
+pub(crate) fn is_named(picture: u32, side: u8, field: u8) -> bool {
+    (1..=LAST_PICTURE).contains(&picture) && (side == 1 || side == 2) && [0, 1, 2].contains(&field)
 }
 
 /// Whether a record keeps all rules that ask nothing of other records.
 fn is_good(record: &[u8], frame: &Frame) -> bool {
     let spare = &record[SPARE_AT..VALUES_AT];
-    (1..=LAST_PICTURE).contains(&frame.picture)
-        && (frame.side == 1 || frame.side == 2)
-        && [0, 1, 2].contains(&frame.field)
+    is_named(frame.picture, frame.side, frame.field)
         && spare.iter().all(|&byte| byte == 0)
         && frame.features.iter().all(|&v| in_domain(v))
         && frame.starts.iter().all(|&v| in_domain(v))

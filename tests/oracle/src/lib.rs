@@ -12,6 +12,7 @@ pub mod far;
 pub mod frames;
 pub mod gradient;
 pub mod lists;
+pub mod monitor;
 pub mod moved;
 pub mod park;
 pub mod partner;

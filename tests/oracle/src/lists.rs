@@ -9,6 +9,7 @@ pub mod elementary;
 pub mod far;
 pub mod frames;
 pub mod gradient;
+pub mod monitor;
 pub mod park;
 pub mod partner;
 pub mod preparation;
@@ -79,6 +80,9 @@ pub fn all() -> Vec<List> {
         List::new("replay_import", "partner", &partner::import_cases()),
         List::new("replay_import", "lists", &partner::write_cases()),
         List::new("replay_strip", "strip", &strip::cases()),
+        List::new("replay_monitor", "narrow", &monitor::narrow_cases()),
+        List::new("replay_monitor", "writes", &monitor::write_cases()),
+        List::new("replay_monitor", "reads", &monitor::read_cases()),
         List::new("bench_cases", "files", &bench::cases()),
     ]
 }

@@ -1,7 +1,11 @@
 //! `map FILE [--seed NUMBER] [--out FOLDER] [--iterations N] [--perplexity P] [--lists LIST] [--until N] [--park RUN] [--every N]
 //! [--resume RUN] [--without PICTURES] [--progress]`: maps a frame file; `map lists RUN LIST`: writes a parked run's lists; `map strip
-//! FILE [--seed NUMBER] [--out FOLDER] [--iterations N] [--perplexity P] [--progress]`: puts its frames along one line; as `help.txt`
-//! tells. What goes wrong gets one line on standard error.
+//! FILE [--seed NUMBER] [--out FOLDER] [--iterations N] [--perplexity P] [--progress]`: puts its frames along one line; `map monitor
+//! [--out FOLDER] MAP...`: writes maps for the picture monitor, and `map monitor --text FILE` one of these as text; as `help.txt` tells.
+//! What goes wrong gets one line on standard error.
+
+#[path = "map/monitor.rs"]
+mod monitor;
 
 use brothanchor::beside;
 use brothanchor::map::{self, Lists, NoMap, NoRun, Run, Wishes, MOST_FRAMES, RECORD};
@@ -9,7 +13,7 @@ use brothanchor::pictures::{self, Pictures};
 use brothanchor::strip::Strip;
 use brothanchor::Refusal;
 use std::fs::{self, File};
-use std::io::{ErrorKind, Read};
+use std::io::{self, ErrorKind, Read, Write};
 use std::path::{Path, PathBuf};
 use std::process::ExitCode;
 use std::str::FromStr;
@@ -49,18 +53,25 @@ fn main() -> ExitCode {
         Ok(Some(Job::Map(asked))) => run(&asked).map_err(|message| (message, NO_MAP)),
         Ok(Some(Job::Lists { run, out })) => write_lists(&run, &out).map_err(|message| (message, NO_MAP)),
         Ok(Some(Job::Strip(asked))) => strip(&asked).map_err(|message| (message, NO_MAP)),
+        Ok(Some(Job::Monitor(asked))) => monitor::done(&asked).map_err(|message| (message, NO_MAP)),
         Ok(None) => Ok(HELP.to_string()),
         Err(message) => Err((format!("{message} (./map --help explains)"), BAD_WORDS)),
     };
-    match said {
-        Ok(said) => {
-            print!("{said}");
-            ExitCode::SUCCESS
-        }
+    match said.and_then(|said| print(&said).map_err(|error| (format!("standard output: {error}"), NO_MAP))) {
+        Ok(()) => ExitCode::SUCCESS,
         Err((message, status)) => {
             eprintln!("map: {message}");
             ExitCode::from(status)
         }
+    }
+}
+
+/// Prints what there is to say; a reader that has read enough and gone away is no fault.
+fn print(said: &str) -> io::Result<()> {
+    let mut out = io::stdout();
+    match out.write_all(said.as_bytes()).and_then(|()| out.flush()) {
+        Err(error) if error.kind() == ErrorKind::BrokenPipe => Ok(()),
+        written => written,
     }
 }
 
@@ -73,6 +84,8 @@ enum Job {
     Lists { run: PathBuf, out: PathBuf },
     /// Frames along one line.
     Strip(Common),
+    /// Maps for the picture monitor, or back to text.
+    Monitor(monitor::Asked),
 }
 
 /// What a strip is made of, and a map too.
@@ -113,6 +126,9 @@ fn asked(words: impl Iterator<Item = String>) -> Result<Option<Job>, String> {
     }
     if words.next_if(|word| word == STRIP).is_some() {
         return strip_asked(words, progress);
+    }
+    if words.next_if(|word| word == monitor::WORD).is_some() {
+        return monitor::asked(words).map(|asked| asked.map(Job::Monitor));
     }
     map_asked(words, progress)
 }
@@ -486,12 +502,12 @@ fn park(run: &Run, asked: &Asked) -> Result<(), String> {
     }
 }
 
-fn fault(path: &Path, error: std::io::Error) -> String {
+fn fault(path: &Path, error: io::Error) -> String {
     format!("{}: {error}", path.display())
 }
 
 /// The file's bytes, but no more than tell that there are too many.
-fn read(path: &Path, most: u64) -> std::io::Result<Vec<u8>> {
+fn read(path: &Path, most: u64) -> io::Result<Vec<u8>> {
     let mut bytes = Vec::new();
     File::open(path)?.take(most + 1).read_to_end(&mut bytes)?;
     Ok(bytes)
@@ -666,6 +682,8 @@ mod tests {
             "--lists PARTNER.lists",
             "./map lists RUN.parked OUT.lists",
             "./map strip [FILE.frames]",
+            "./map monitor [--out FOLDER] NAME.map...",
+            "./map monitor --text FILE.monitor",
             "--iterations N",
             "--perplexity P",
             "--until N",

@@ -275,7 +275,7 @@ pub(super) fn counted(words: Vec<u64>) -> Vec<u64> {
 }
 
 /// The mark of a byte in a target.
-fn byte_mark(place: usize) -> u8 {
+pub(super) fn byte_mark(place: usize) -> u8 {
     (place % 251) as u8 + 1
 }
 

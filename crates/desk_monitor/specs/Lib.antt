@@ -1,0 +1,2 @@
+pub mod HostWrite
+pub mod HostRead

@@ -1,0 +1,5 @@
+pub mod Patterns
+pub mod Rounds
+pub mod Laws
+pub mod Near
+pub mod Theorems

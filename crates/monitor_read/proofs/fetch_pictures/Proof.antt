@@ -1,0 +1,65 @@
+-- The pictures, one after the other: the loop of the laws that fills an area's front.
+use Rattle.monitor_read.specs.MonitorRead.{monitorPicture}
+use Prim.Native.Nat.{_-_}
+use Rattle.areas.proofs.Fetched.{Fetches, fetches-start, fetches-more, fetches-done}
+use borrow.Author.Needs.{needs}
+use native.Mathlib.Omega.{arith}
+use Rattle.monitor_read.proofs.fetch_pictures.Statement.{statement}
+use Rattle.monitor_read.proofs.fetch_pictures.Tie as tie
+
+abbrev Inv-loop : tie.InvT-loop
+Inv-loop area₀ file n i₀ area i = Fetches (monitorPicture file) n area₀ i area
+
+abbrev μ-loop : tie.MeasureT-loop
+μ-loop area₀ file n i₀ area i = n - i
+
+loop-holds : tie.Need-loop-holds Inv-loop μ-loop
+loop-holds c = fetches-start
+
+mul-half-word : tie.Need-mul-half-word Inv-loop μ-loop
+mul-half-word c = search needs
+
+half-word-requires : tie.Need-half-word-requires Inv-loop μ-loop
+half-word-requires c κs = search needs
+
+cast-area : tie.Need-cast-area Inv-loop μ-loop
+cast-area c = omega (arith, c .half-word .ensures .1)
+
+mul-area : tie.Need-mul-area Inv-loop μ-loop
+mul-area c = search needs
+
+slice-write-area : tie.Need-slice-write-area Inv-loop μ-loop
+slice-write-area c = search needs
+
+add-i : tie.Need-add-i Inv-loop μ-loop
+add-i c = search needs
+
+loop-less : tie.Need-loop-less Inv-loop μ-loop
+loop-less c = search needs
+
+loop-again : tie.Need-loop-again Inv-loop μ-loop
+loop-again c = rw (c .half-word .ensures .0) (fetches-more (c .before .before .before .before .before .pre .0) (c .before .loop-test .taken) (c .before .before .loop .inv))
+
+same-length : tie.Need-same-length Inv-loop μ-loop
+same-length c = c .before .loop .inv .size
+
+returns : tie.Need-returns Inv-loop μ-loop
+returns c = fetches-done (c .loop-test .left) (c .before .loop .inv)
+
+pub fetch-pictures-spec : {M : Type 1} → statement M
+fetch-pictures-spec =
+    tie.close
+    (tie.spec
+    Inv-loop
+    μ-loop
+    loop-holds
+    mul-half-word
+    half-word-requires
+    cast-area
+    mul-area
+    slice-write-area
+    add-i
+    loop-less
+    loop-again
+    same-length
+    returns)

@@ -1,0 +1,1 @@
+// Theorems on the file for the picture monitor: proofs/. No code.
