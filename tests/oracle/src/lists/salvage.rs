@@ -117,7 +117,8 @@ pub fn order_cases() -> Vec<Vec<u64>> {
     found
 }
 
-/// Ways to break a rule of a record by itself: where, and with which bytes.
+/// Ways to scuff a record: where, and with which bytes. Each breaks a rule of the record by itself, but for the third, which only makes
+/// the picture higher.
 fn breaks() -> Vec<(usize, Vec<u8>)> {
     let number = |picture: u32| (0, picture.to_le_bytes().to_vec());
     let mut found = vec![
