@@ -1,2 +1,2 @@
-pub mod Fronted
+pub mod Foremost
 pub mod Sifted

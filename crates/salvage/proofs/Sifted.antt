@@ -16,9 +16,9 @@ use Rattle.frames.specs.Frames.{recordBytes, wholeRecords}
 use Rattle.salvage.specs.declared.Sift.{Sift}
 use Rattle.salvage.specs.declared.Salvaged.the-variants.{Saved, Short}
 use Rattle.salvage.specs.Salvage.{tailRule, ruleAfter, lastKept, ruleOf, isKept, keptIn, toldIn, rulesTold}
-use Rattle.salvage.specs.Salvage.{recordAt, bytesOf, bytesKept, recordsRead, lacksRoom, fronted, salvageOutcome, salvageOf}
+use Rattle.salvage.specs.Salvage.{recordAt, bytesOf, bytesKept, recordsRead, lacksRoom, foremost, salvageOutcome, salvageOf}
 use Rattle.salvage.specs.Steps.{Sifting, sifting, keepStep, tellStep, siftStep, SiftFits, SiftRoom, siftedBy}
-use Rattle.salvage.proofs.Fronted.{fronted-copy, fronted-put, fronted-size, record-size}
+use Rattle.salvage.proofs.Foremost.{foremost-copy, foremost-put, foremost-size, copied-size}
 
 -- what a test picks and what it leaves come to all
 pub picked-and-left : (p : ℕ → Bool) (n : ℕ) → length (those p n) + length (those (λ i. not (p i)) n) ≡ n
@@ -102,7 +102,7 @@ module _ (f : List ℕ) where
   bytes-size (suc n) h = subst (λ (m : ℕ). length (bytesKept f m) ≡ length (keptIn f m) * recordBytes) (add-one n) (⊎-elim
       (λ e.
       let r = recordAt f (n * recordBytes) in
-      omega (arith, bytes-size n (omega arith), kept-more n e, ap length (bytes-more n e), length-append (bytesKept f n) r, record-size f (n * recordBytes) (whole-record n h)))
+      omega (arith, bytes-size n (omega arith), kept-more n e, ap length (bytes-more n e), length-append (bytesKept f n) r, copied-size f (n * recordBytes) (whole-record n h)))
       (λ e. omega (arith, bytes-size n (omega arith), ap length (bytes-same n e), ap length (none-kept n e)))
       (two (isKept f n)))
 
@@ -112,14 +112,14 @@ module _ (f : List ℕ) where
   -- ---- a record that is dropped is told behind the others
 
   module _ (i : ℕ) (e : isKept f i ≡ false) (l : List ℕ) (h : i < length l) where
-    pub place-told : set (fronted (toldIn f i) l) (length (toldIn f i)) i ≡ fronted (toldIn f (i + 1)) l
-    place-told = fronted-put (toldIn f i) l i (omega (arith, counts i)) ∙ ap (λ (w : List ℕ). fronted w l) (sym (told-more i e))
+    pub place-told : set (foremost (toldIn f i) l) (length (toldIn f i)) i ≡ foremost (toldIn f (i + 1)) l
+    place-told = foremost-put (toldIn f i) l i (omega (arith, counts i)) ∙ ap (λ (w : List ℕ). foremost w l) (sym (told-more i e))
 
-    pub rule-told : set (fronted (rulesTold f i) l) (length (toldIn f i)) (ruleOf f i) ≡ fronted (rulesTold f (i + 1)) l
+    pub rule-told : set (foremost (rulesTold f i) l) (length (toldIn f i)) (ruleOf f i) ≡ foremost (rulesTold f (i + 1)) l
     rule-told =
-        ap (λ (n : ℕ). set (fronted (rulesTold f i) l) n (ruleOf f i)) (sym (length-map (ruleOf f) (toldIn f i)))
-        ∙ fronted-put (rulesTold f i) l (ruleOf f i) (omega (arith, counts i, length-map (ruleOf f) (toldIn f i)))
-        ∙ ap (λ (w : List ℕ). fronted w l) (sym (rules-more i e))
+        ap (λ (n : ℕ). set (foremost (rulesTold f i) l) n (ruleOf f i)) (sym (length-map (ruleOf f) (toldIn f i)))
+        ∙ foremost-put (rulesTold f i) l (ruleOf f i) (omega (arith, counts i, length-map (ruleOf f) (toldIn f i)))
+        ∙ ap (λ (w : List ℕ). foremost w l) (sym (rules-more i e))
 
   -- ---- one record more
 
@@ -139,11 +139,11 @@ module _ (f : List ℕ) where
         (sym (last-yes i e))
         (sym (kept-more i k))
         (ap length (sym (told-same i k)))
-        (ap (λ (n : ℕ). written (recordAt f (i * recordBytes)) n (fronted (bytesKept f i) g)) (sym (bytes-size i (omega arith)))
-        ∙ fronted-copy (bytesKept f i) g (recordAt f (i * recordBytes))
-        ∙ ap (λ (w : List ℕ). fronted w g) (sym (bytes-more i k)))
-        (ap (λ (w : List ℕ). fronted w p) (sym (told-same i k)))
-        (ap (λ (w : List ℕ). fronted (map (ruleOf f) w) r) (sym (told-same i k)))
+        (ap (λ (n : ℕ). written (recordAt f (i * recordBytes)) n (foremost (bytesKept f i) g)) (sym (bytes-size i (omega arith)))
+        ∙ foremost-copy (bytesKept f i) g (recordAt f (i * recordBytes))
+        ∙ ap (λ (w : List ℕ). foremost w g) (sym (bytes-more i k)))
+        (ap (λ (w : List ℕ). foremost w p) (sym (told-same i k)))
+        (ap (λ (w : List ℕ). foremost (map (ruleOf f) w) r) (sym (told-same i k)))
 
     tells : isGood ≡ false → i < length p → i < length r → tellStep i (ruleAfter f (lastKept f i) i) (siftedBy f i g p r) ≡ siftedBy f (i + 1) g p r
     tells e u v =
@@ -152,9 +152,9 @@ module _ (f : List ℕ) where
         (sym (last-no i e))
         (ap length (sym (none-kept i k)))
         (sym (told-count i k))
-        (ap (λ (w : List ℕ). fronted w g) (sym (bytes-same i k)))
+        (ap (λ (w : List ℕ). foremost w g) (sym (bytes-same i k)))
         (place-told i k p u)
-        (ap (λ (x : ℕ). set (fronted (rulesTold f i) r) (length (toldIn f i)) x) (sym (rule-whole i h)) ∙ rule-told i k r v)
+        (ap (λ (x : ℕ). set (foremost (rulesTold f i) r) (length (toldIn f i)) x) (sym (rule-whole i h)) ∙ rule-told i k r v)
 
     pub sift-step : i < length p → i < length r → siftStep f i (siftedBy f i g p r) ≡ siftedBy f (i + 1) g p r
     unfolding siftStep
@@ -201,9 +201,9 @@ module _ {f g p r : List ℕ} (room : SiftRoom f g p r) where
   sifted-is : (i : ℕ) → i ≤ wholeRecords f → (x : Sifting) → x ≡ siftedBy f i g p r → Sifted f g p r i x
   sifted-is i h x e = record {
     within = h;
-    goodSize = ap (λ (y : Sifting). length (y .good)) e ∙ fronted-size (bytesKept f i) g (kept-few i h);
-    placesSize = ap (λ (y : Sifting). length (y .places)) e ∙ fronted-size (toldIn f i) p (told-few i h);
-    rulesSize = ap (λ (y : Sifting). length (y .rules)) e ∙ fronted-size (rulesTold f i) r (rules-few i h);
+    goodSize = ap (λ (y : Sifting). length (y .good)) e ∙ foremost-size (bytesKept f i) g (kept-few i h);
+    placesSize = ap (λ (y : Sifting). length (y .places)) e ∙ foremost-size (toldIn f i) p (told-few i h);
+    rulesSize = ap (λ (y : Sifting). length (y .rules)) e ∙ foremost-size (rulesTold f i) r (rules-few i h);
     same = e;
   }
 
@@ -246,7 +246,7 @@ module _ (f g p r : List ℕ) where
   module _ (e : lacksRoom f (length g) (length p) (length r) ≡ false) {s : Sift} {g' p' r' : List ℕ} (d : sifting s g' p' r' ≡ siftedBy f (wholeRecords f) g p r) where
     saved-as :
         (n : ℕ) → recordsRead f ≡ n → (k t : ℕ) (g″ p″ r″ : List ℕ) → k ≡ length (keptIn f n) → t ≡ length (toldIn f n)
-        → g″ ≡ fronted (bytesKept f n) g → p″ ≡ fronted (toldIn f n) p → r″ ≡ fronted (rulesTold f n) r → salvageOutcome (Saved k t) g″ p″ r″ ≡ salvageOf f g p r
+        → g″ ≡ foremost (bytesKept f n) g → p″ ≡ foremost (toldIn f n) p → r″ ≡ foremost (rulesTold f n) r → salvageOutcome (Saved k t) g″ p″ r″ ≡ salvageOf f g p r
     unfolding salvageOf
     saved-as n q k t g″ p″ r″ a b c u v = rw (e, q, a, b, c, u, v)
 
@@ -270,10 +270,10 @@ module _ (f g p r : List ℕ) where
         saved-as (w + 1) n (s .kept) (s .told + 1) g' (set p' (s .told) w) (set r' (s .told) tailRule)
         (ap (λ (y : Sifting). y .counts .kept) d ∙ ap length (sym (none-kept f w k)))
         (ap (λ (y : Sifting). y .counts .told + 1) d ∙ sym (told-count f w k))
-        (ap (λ (y : Sifting). y .good) d ∙ ap (λ (b : List ℕ). fronted b g) (sym (bytes-same f w k)))
+        (ap (λ (y : Sifting). y .good) d ∙ ap (λ (b : List ℕ). foremost b g) (sym (bytes-same f w k)))
         (ap (λ (y : Sifting). set (y .places) (y .counts .told) w) d ∙ place-told f w k p (omega (arith, n, room .tellers)))
         (ap (λ (y : Sifting). set (y .rules) (y .counts .told) tailRule) d
-        ∙ ap (λ (x : ℕ). set (fronted (rulesTold f w) r) (length (toldIn f w)) x) (sym (rule-tail f w (omega arith)))
+        ∙ ap (λ (x : ℕ). set (foremost (rulesTold f w) r) (length (toldIn f w)) x) (sym (rule-tail f w (omega arith)))
         ∙ rule-told f w k r (omega (arith, n, room .rulers)))
 
     -- there is a place for the tail

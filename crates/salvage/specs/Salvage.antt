@@ -101,8 +101,8 @@ unfoldable pub lacksRoom : List ℕ → ℕ → ℕ → ℕ → Bool
 lacksRoom f g p r = ltb g (wholeRecords f * recordBytes) || (ltb p (recordsRead f) || ltb r (recordsRead f))
 
 -- w at the front of an area, and what stood past it
-abbrev pub fronted : List ℕ → List ℕ → List ℕ
-fronted w l = w ++ drop (length w) l
+abbrev pub foremost : List ℕ → List ℕ → List ℕ
+foremost w l = w ++ drop (length w) l
 
 -- what is answered, and the areas afterwards
 pub record SalvageOutcome : Type 0 where
@@ -119,7 +119,7 @@ unfoldable pub salvageOf : List ℕ → List ℕ → List ℕ → List ℕ → S
 salvageOf f g p r =
     let n = recordsRead f in
     cond (lacksRoom f (length g) (length p) (length r)) (salvageOutcome Short g p r)
-    (salvageOutcome (Saved (length (keptIn f n)) (length (toldIn f n))) (fronted (bytesKept f n) g) (fronted (toldIn f n) p) (fronted (rulesTold f n) r))
+    (salvageOutcome (Saved (length (keptIn f n)) (length (toldIn f n))) (foremost (bytesKept f n) g) (foremost (toldIn f n) p) (foremost (rulesTold f n) r))
 
 -- the number of a refusal; 0 where there is none
 unfoldable pub salvageNumber : Salvaged → ℕ

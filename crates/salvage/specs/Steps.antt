@@ -7,7 +7,7 @@ use lib.ListN.{length, set}
 use Rattle.laws.specs.Joined.{written}
 use Rattle.frames.specs.Frames.{recordBytes, wholeRecords}
 use Rattle.salvage.specs.declared.Sift.{Sift}
-use Rattle.salvage.specs.Salvage.{ruleAfter, lastKept, keptIn, toldIn, rulesTold, recordAt, bytesKept, recordsRead, fronted}
+use Rattle.salvage.specs.Salvage.{ruleAfter, lastKept, keptIn, toldIn, rulesTold, recordAt, bytesKept, recordsRead, foremost}
 
 -- the counts, and the areas so far
 pub record Sifting : Type 0 where
@@ -54,4 +54,4 @@ pub record SiftRoom (f g p r : List ℕ) : Type 0 where
 abbrev pub siftedBy : List ℕ → ℕ → List ℕ → List ℕ → List ℕ → Sifting
 siftedBy f n g p r =
     sifting (record { last = lastKept f n; kept = length (keptIn f n); told = length (toldIn f n) })
-    (fronted (bytesKept f n) g) (fronted (toldIn f n) p) (fronted (rulesTold f n) r)
+    (foremost (bytesKept f n) g) (foremost (toldIn f n) p) (foremost (rulesTold f n) r)

@@ -20,7 +20,7 @@ use Rattle.frames.specs.declared.Frames.the-variants.{Good, Bad}
 use Rattle.frames.specs.Frames.{recordBytes, pictureAt, fieldAt, goodAlone, mayFollow, inOrder, badAt, wholeRecords, framesBy, framesOf}
 use Rattle.frames.proofs.Fields.{taken-so}
 use Rattle.salvage.specs.Salvage.{followsLast, lastKept, isKept, keptIn, toldIn, recordAt, bytesOf, bytesKept, recordsRead}
-use Rattle.salvage.proofs.Fronted.{record-size, record-byte}
+use Rattle.salvage.proofs.Foremost.{copied-size, record-byte}
 use Rattle.salvage.proofs.Sifted.{kept-tail, whole-record, none-kept, bytes-same, bytes-size, counts}
 use Rattle.salvaging.proofs.Picks.{those-count, those-empty}
 use Rattle.salvaging.proofs.Alike.{picture-alike, field-alike, alone-alike}
@@ -78,7 +78,7 @@ module _ (f : List ℕ) where
     out-byte r t h =
         let a = whole-record f from from-below in
         ap (λ (x : ℕ). num (bytesKept f whole ++ r) (x + t)) (sym starts)
-        ∙ joined-at (bytesOf f) whole from t r 0 from-below (omega (arith, ap length its-bytes, record-size f (from * recordBytes) a))
+        ∙ joined-at (bytesOf f) whole from t r 0 from-below (omega (arith, ap length its-bytes, copied-size f (from * recordBytes) a))
         ∙ ap (λ (w : List ℕ). num w t) its-bytes
         ∙ record-byte f (from * recordBytes) a t h
 

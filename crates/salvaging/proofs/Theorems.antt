@@ -21,9 +21,9 @@ use Rattle.frames.proofs.Fields.{Taken, taken-is}
 use Rattle.salvage.specs.declared.Salvaged.{Salvaged}
 use Rattle.salvage.specs.declared.Salvaged.the-variants.{Saved, Short}
 use Rattle.salvage.specs.Salvage.{tailRule, lastKept, ruleOf, isKept, keptIn, toldIn, rulesTold, recordAt, bytesOf, bytesKept}
-use Rattle.salvage.specs.Salvage.{recordsRead, lacksRoom, fronted, SalvageOutcome, salvageOutcome, salvageOf}
+use Rattle.salvage.specs.Salvage.{recordsRead, lacksRoom, foremost, SalvageOutcome, salvageOutcome, salvageOf}
 use Rattle.salvage.specs.Steps.{SiftRoom}
-use Rattle.salvage.proofs.Fronted.{fronted-size, record-size, record-byte}
+use Rattle.salvage.proofs.Foremost.{foremost-size, copied-size, record-byte}
 use Rattle.salvage.proofs.Sifted.{rule-tail, kept-tail, whole-record, bytes-size, counts, short-left, sift-room}
 use Rattle.salvaging.specs.Broken.{testsOf, FirstFails, AreaShort, KeptAs}
 use Rattle.salvaging.proofs.Picks.{joined-front}
@@ -69,7 +69,7 @@ module _ (f g p r : List ℕ) where
 
   -- what the first n records leave, as an outcome
   abbrev savedBy : ℕ → SalvageOutcome
-  savedBy n = salvageOutcome (Saved (length (keptIn f n)) (length (toldIn f n))) (fronted (bytesKept f n) g) (fronted (toldIn f n) p) (fronted (rulesTold f n) r)
+  savedBy n = salvageOutcome (Saved (length (keptIn f n)) (length (toldIn f n))) (foremost (bytesKept f n) g) (foremost (toldIn f n) p) (foremost (rulesTold f n) r)
 
   roomy-saves : isShort ≡ false → salvageOf f g p r ≡ savedBy (recordsRead f)
   unfolding salvageOf
@@ -110,13 +110,13 @@ module _ (f g p r : List ℕ) where
     t-is : t ≡ length (toldIn f read)
     t-is = ap countTold (sym e) ∙ ap (λ (o : SalvageOutcome). countTold (o .answer)) is
 
-    good-is : left .good ≡ fronted (bytesKept f read) g
+    good-is : left .good ≡ foremost (bytesKept f read) g
     good-is = ap (λ (o : SalvageOutcome). o .good) is
 
-    places-is : left .places ≡ fronted (toldIn f read) p
+    places-is : left .places ≡ foremost (toldIn f read) p
     places-is = ap (λ (o : SalvageOutcome). o .places) is
 
-    rules-is : left .rules ≡ fronted (rulesTold f read) r
+    rules-is : left .rules ≡ foremost (rulesTold f read) r
     rules-is = ap (λ (o : SalvageOutcome). o .rules) is
 
     room : SiftRoom f g p r
@@ -156,9 +156,9 @@ module _ (f g p r : List ℕ) where
 
     pub areas-keep-their-sizes : (length (left .good) ≡ length g) × (length (left .places) ≡ length p) × (length (left .rules) ≡ length r)
     areas-keep-their-sizes = (
-      ap length good-is ∙ fronted-size (bytesKept f read) g (omega (arith, size, k-is, ap length (all-kept f), counts f (wholeRecords f), room .records)),
-      ap length places-is ∙ fronted-size (toldIn f read) p (omega (arith, counts f read, room .tellers)),
-      ap length rules-is ∙ fronted-size (rulesTold f read) r (omega (arith, rules-count, t-is, counts f read, room .rulers)),
+      ap length good-is ∙ foremost-size (bytesKept f read) g (omega (arith, size, k-is, ap length (all-kept f), counts f (wholeRecords f), room .records)),
+      ap length places-is ∙ foremost-size (toldIn f read) p (omega (arith, counts f read, room .tellers)),
+      ap length rules-is ∙ foremost-size (rulesTold f read) r (omega (arith, rules-count, t-is, counts f read, room .rulers)),
     )
 
     -- ---- the told records
@@ -220,13 +220,13 @@ module _ (f g p r : List ℕ) where
         let byte : (x : ℕ) → x < recordBytes → num (recordAt (left .good) (j * recordBytes)) x ≡ num (recordAt f (i * recordBytes)) x =
         λ x l.
         record-byte (left .good) (j * recordBytes) long x l
-        ∙ ap (λ (v : List ℕ). num v (j * recordBytes + x)) (good-is ∙ ap (λ (v : List ℕ). fronted v g) (all-bytes f))
+        ∙ ap (λ (v : List ℕ). num v (j * recordBytes + x)) (good-is ∙ ap (λ (v : List ℕ). foremost v g) (all-bytes f))
         ∙ out-byte f j (a .0) (drop (length (bytesKept f w)) g) x l
         ∙ ap (λ (y : ℕ). num f (y * recordBytes + x)) (a .1)
         ∙ sym (record-byte f (i * recordBytes) there x l)
         in
-        let size : length (recordAt (left .good) (j * recordBytes)) ≡ recordBytes = record-size (left .good) (j * recordBytes) long in
-        let same = ext-getD 0 (recordAt (left .good) (j * recordBytes)) (recordAt f (i * recordBytes)) (size ∙ sym (record-size f (i * recordBytes) there)) (λ x m. byte x (omega (arith, size))) in
+        let size : length (recordAt (left .good) (j * recordBytes)) ≡ recordBytes = copied-size (left .good) (j * recordBytes) long in
+        let same = ext-getD 0 (recordAt (left .good) (j * recordBytes)) (recordAt f (i * recordBytes)) (size ∙ sym (copied-size f (i * recordBytes) there)) (λ x m. byte x (omega (arith, size))) in
         (few, record { is-whole = h; same-bytes = same })
 
     -- a dropped one is told, behind the told ones before it
@@ -269,7 +269,7 @@ module _ (f g p r : List ℕ) where
 
   -- ---- a good file comes through unchanged, with nothing told
 
-  pub good-file-unchanged : (n : ℕ) → framesOf f ≡ Good n → isShort ≡ false → salvageOf f g p r ≡ salvageOutcome (Saved n 0) (fronted f g) p r
+  pub good-file-unchanged : (n : ℕ) → framesOf f ≡ Good n → isShort ≡ false → salvageOf f g p r ≡ salvageOutcome (Saved n 0) (foremost f g) p r
   unfolding framesOf
   good-file-unchanged n d e =
       let s : Taken (badAt f) f n = taken-is (badAt f) f n d in
@@ -284,5 +284,5 @@ module _ (f g p r : List ℕ) where
 pub output-unchanged :
     (f g p r : List ℕ) (k t : ℕ) (e : salvageOf f g p r .answer ≡ Saved k t) (g' p' r' : List ℕ)
     → lacksRoom (output f g p r k t e) (length g') (length p') (length r') ≡ false
-    → salvageOf (output f g p r k t e) g' p' r' ≡ salvageOutcome (Saved k 0) (fronted (output f g p r k t e) g') p' r'
+    → salvageOf (output f g p r k t e) g' p' r' ≡ salvageOutcome (Saved k 0) (foremost (output f g p r k t e) g') p' r'
 output-unchanged f g p r k t e g' p' r' h = good-file-unchanged (output f g p r k t e) g' p' r' k (output-taken f g p r k t e) h

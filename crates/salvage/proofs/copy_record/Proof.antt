@@ -1,5 +1,5 @@
 -- `salvage::copy_record` meets its contract: t bytes are copied. Assumes nothing.
-use Rattle.salvage.proofs.Fronted.{record-more, record-done}
+use Rattle.salvage.proofs.Foremost.{record-more, record-done}
 use Prim.Native.Nat.{_-_}
 use Rattle.laws.proofs.Parts.{Spells, spells-start}
 use Rattle.frames.specs.Frames.{recordBytes}

@@ -10,30 +10,30 @@ use Rattle.laws.specs.Joined.{written}
 use Rattle.laws.proofs.Parts.{Spells, spells-more, spells-done}
 use Rattle.areas.proofs.Fetched.{put-next}
 use Rattle.frames.specs.Frames.{recordBytes}
-use Rattle.salvage.specs.Salvage.{recordAt, fronted}
+use Rattle.salvage.specs.Salvage.{recordAt, foremost}
 
 module _ (w l : List ℕ) where
-  pub fronted-copy : (v : List ℕ) → written v (length w) (fronted w l) ≡ fronted (w ++ v) l
-  fronted-copy v = rw (take-append-seam w (drop (length w) l), drop-append-add w (drop (length w) l) (length v), drop-drop (length v) (length w) l, length-append w v)
+  pub foremost-copy : (v : List ℕ) → written v (length w) (foremost w l) ≡ foremost (w ++ v) l
+  foremost-copy v = rw (take-append-seam w (drop (length w) l), drop-append-add w (drop (length w) l) (length v), drop-drop (length v) (length w) l, length-append w v)
 
-  pub fronted-put : (x : ℕ) → length w < length l → set (fronted w l) (length w) x ≡ fronted (w ++ (x ∷ [])) l
-  fronted-put x h = put-next w l (length w) x refl h ∙ ap (λ (n : ℕ). (w ++ (x ∷ [])) ++ drop n l) (sym (length-append w (x ∷ [])))
+  pub foremost-put : (x : ℕ) → length w < length l → set (foremost w l) (length w) x ≡ foremost (w ++ (x ∷ [])) l
+  foremost-put x h = put-next w l (length w) x refl h ∙ ap (λ (n : ℕ). (w ++ (x ∷ [])) ++ drop n l) (sym (length-append w (x ∷ [])))
 
-  pub fronted-size : length w ≤ length l → length (fronted w l) ≡ length l
-  fronted-size h = length-append w (drop (length w) l) ∙ rw (length-drop (length w) l) (omega arith)
+  pub foremost-size : length w ≤ length l → length (foremost w l) ≡ length l
+  foremost-size h = length-append w (drop (length w) l) ∙ rw (length-drop (length w) l) (omega arith)
 
 -- ---- a record
 
 module _ (f : List ℕ) (a : ℕ) (h : a + recordBytes ≤ length f) where
-  pub record-size : length (recordAt f a) ≡ recordBytes
-  record-size = length-take-le recordBytes (drop a f) (rw (length-drop a f) (omega arith))
+  pub copied-size : length (recordAt f a) ≡ recordBytes
+  copied-size = length-take-le recordBytes (drop a f) (rw (length-drop a f) (omega arith))
 
   pub record-byte : (t : ℕ) → t < recordBytes → num (recordAt f a) t ≡ num f (a + t)
   record-byte t l = getD-take recordBytes (drop a f) t 0 l ∙ getD-drop a f t 0
 
   module _ {g₀ g : List ℕ} {to t : ℕ} (r : Spells (recordAt f a) g₀ to t g) where
     pub record-more : to + recordBytes ≤ length g₀ → t < recordBytes → Spells (recordAt f a) g₀ to (t + 1) (set g (to + t) (num f (a + t)))
-    record-more m l = subst (λ (x : ℕ). Spells (recordAt f a) g₀ to (t + 1) (set g (to + t) x)) (record-byte t l) (spells-more 0 (omega (arith, record-size)) (omega (arith, record-size)) r)
+    record-more m l = subst (λ (x : ℕ). Spells (recordAt f a) g₀ to (t + 1) (set g (to + t) x)) (record-byte t l) (spells-more 0 (omega (arith, copied-size)) (omega (arith, copied-size)) r)
 
     pub record-done : recordBytes ≤ t → g ≡ written (recordAt f a) to g₀
-    record-done l = spells-done (omega (arith, record-size)) r
+    record-done l = spells-done (omega (arith, copied-size)) r
