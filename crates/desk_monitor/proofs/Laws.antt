@@ -1,16 +1,15 @@
 -- The answers of both calls in words, case by case. Assumes nothing.
-use mathlib.Core.Path.{_≡_, refl, sym}
+use mathlib.Core.Path.{_≡_, sym}
 use mathlib.Core.List.{List}
 use Prim.Native.Nat.{ℕ}
-use lib.Dec.{eqb}
 use lib.ListN.{length, set}
 use borrow.Author.Tests.{eq-eqb, ne-eqb}
 use Rattle.monitor_write.specs.declared.Monitored.{Monitored}
 use Rattle.monitor_write.specs.MonitorWrite.{monitorWriting, writeMonitor, monitoredNumber}
 use Rattle.monitor_read.specs.declared.MonitorRead.{MonitorRead}
 use Rattle.monitor_read.specs.MonitorRead.{monitorReading, readMonitor, monitorReadNumber}
-use Rattle.desk_monitor.specs.HostWrite.{monitoredTold, hostMonitored, monitoredIn, hostMonitorWrite}
-use Rattle.desk_monitor.specs.HostRead.{monitorReadTold, hostMonitorReading, readingIn, hostMonitorRead}
+use Rattle.desk_monitor.specs.HostWrite.{monitoredTold, hostMonitored, hostMonitorWrite}
+use Rattle.desk_monitor.specs.HostRead.{monitorReadTold, hostMonitorReading, hostMonitorRead}
 
 module _ (n : ℕ) (P S B X t a : List ℕ) where
   pub write-mute : length a ≡ 0 → hostMonitored 12 t a ≡ hostMonitorWrite n P S B X t a

@@ -1,13 +1,13 @@
 -- What the code of narrowing and widening cites: each by the fields of the bits. Assumes nothing.
-use mathlib.Core.Path.{_≡_, refl, sym, ap, _∙_, subst}
-use Prim.Native.Nat.{ℕ, zero, suc, _+_, _-_, _*_, _/_, _%_, _^_, _≤_, _<_, compare}
-use native.Mathlib.Nat.{le-refl, le-trans, le-of-eq, lt-of-le-of-lt, lt-of-lt-of-le, zero-add, add-zero, add-assoc, mul-assoc, mul-comm, mul-right-comm, mul-one, mul-pos, zero-mul, mul-le-mul-right, lt-irrefl, div-le-self, mod-lt, mod-eq-of-lt, div-eq-of-lt}
+use mathlib.Core.Path.{_≡_, refl, sym, ap, _∙_}
+use Prim.Native.Nat.{ℕ, zero, suc, _+_, _-_, _*_, _/_, _%_, _^_, _≤_, _<_}
+use native.Mathlib.Nat.{lt-of-le-of-lt, lt-of-lt-of-le, zero-add, add-zero, lt-irrefl, div-le-self, mod-lt}
 use native.Mathlib.Omega.{arith}
 use native.Mathlib.Decide.{decLt}
 use mathlib.Core.Bool.{Bool, true, false, cond, true≢false}
-use lib.Dec.{leb, ltb, eqb, lit≤, lit<}
+use lib.Dec.{leb, ltb, eqb}
 use lib.Count.{leadingZeros}
-use lib.Pow.{pow-add, pow-pos, pow-mono, pow-lt}
+use lib.Pow.{pow-pos, pow-mono}
 use lib.IntN.{ℤ, pos}
 use lib.Ieee.{Float, nan, inf, fin, binary32, binary64, nearest, odd, ofFields, ofBits, toBits}
 use lib.Ieee.Exact.{HasValue, odd-sign}
@@ -15,9 +15,7 @@ use lib.Ieee.Nearest.{closest}
 use lib.Ieee.Scale.{finite}
 use lib.Ieee.Order.{drop, kept}
 use borrow.Author.Tests.{eq-eqb, ne-eqb, lt-ltb, le-ltb, le-leb, lt-leb}
-use Rattle.laws.proofs.Bools.{not-true-is}
 use Rattle.elementary.proofs.Parts.{placed}
-use Rattle.monitor_narrow.specs.declared.Narrowed.{Narrowed}
 use Rattle.monitor_narrow.specs.declared.Narrowed.the-variants.{Single, Past}
 use Rattle.monitor_narrow.specs.Narrow.{singleOf, toldSingle, narrowOf, widenOf, finiteSingle, magnitudeOf}
 use Rattle.monitor_narrow.proofs.Patterns.{value-as, pattern, leadOf, fields-value, fields-finite}
@@ -42,8 +40,8 @@ module _ (m u : ℕ) where
 pub unit-pos : (d : ℕ) → 0 < 2 ^ d
 unit-pos d = pow-pos d
 
-pub rest-most : (m d : ℕ) → d < 54 → m % 2 ^ d < 2 ^ 53
-rest-most m d h = lt-of-lt-of-le (mod-lt m (pow-pos d)) (pow-mono (let l : d ≤ 53 = omega arith in l))
+pub remainder-most : (m d : ℕ) → d < 54 → m % 2 ^ d < 2 ^ 53
+remainder-most m d h = lt-of-lt-of-le (mod-lt m (pow-pos d)) (pow-mono (let l : d ≤ 53 = omega arith in l))
 
 -- ---- narrowing
 

@@ -1,11 +1,10 @@
 -- The whole number nearest to a fraction lies at least as near as any other, and where another is as near it is even. Nothing here is about floats. Assumes nothing.
-use mathlib.Core.Path.{_≡_, refl, sym, ap, _∙_, subst}
+use mathlib.Core.Path.{_≡_, refl, sym, _∙_, subst}
 use mathlib.Core.Logic.{_⊎_, inl, inr}
-use Prim.Native.Nat.{ℕ, zero, suc, _+_, _-_, _*_, _/_, _%_, _^_, _≤_, _<_, compare, Ordering, Ordering·lt, Ordering·eq, Ordering·gt}
-use native.Mathlib.Nat.{le-trans, le-of-eq, suc-mul, mul-le-mul-right, mod-lt, div-add-mod'}
+use Prim.Native.Nat.{ℕ, suc, _+_, _-_, _*_, _/_, _%_, _≤_, _<_}
+use native.Mathlib.Nat.{suc-mul, mul-le-mul-right, mod-lt, div-add-mod'}
 use native.Mathlib.Omega.{arith}
 use native.Mathlib.Decide.{decLt}
-use lib.Ieee.{nearest}
 use lib.Ieee.Nearest.{closest}
 use Rattle.monitor_narrow.specs.Nearness.{differ}
 use Rattle.monitor_narrow.proofs.Rounds.{compare-less, compare-same, compare-more}
@@ -14,11 +13,11 @@ row : (v w u : ℕ) → v < w → v * u + u ≤ w * u
 row v w u h = subst (λ (x : ℕ). x ≤ w * u) (suc-mul v u) (mul-le-mul-right u h)
 
 -- A is w · u and r more: what each multiple of u is away, by its place beside w
-pub record Beside (A u v w r d : ℕ) : Type 0 where
-  pub under : v < w → u + r ≤ differ A d
-  pub at : v ≡ w → differ A d ≡ r
-  pub next : v ≡ suc w → differ A d ≡ u - r
-  pub over : suc w < v → u + (u - r) ≤ differ A d
+record Beside (A u v w r d : ℕ) : Type 0 where
+  under : v < w → u + r ≤ differ A d
+  at : v ≡ w → differ A d ≡ r
+  next : v ≡ suc w → differ A d ≡ u - r
+  over : suc w < v → u + (u - r) ≤ differ A d
 
 beside : (A u v w r : ℕ) → w * u + r ≡ A → r < u → Beside A u v w r (v * u)
 beside A u v w r e h = record {

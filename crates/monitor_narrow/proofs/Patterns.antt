@@ -1,13 +1,13 @@
 -- The bits of a finite value by its size in units of the format's smallest value, and the size of a value by the fields of its bits. Assumes nothing.
-use mathlib.Core.Path.{_≡_, refl, sym, ap, _∙_, subst}
-use Prim.Native.Nat.{ℕ, zero, suc, _+_, _-_, _*_, _/_, _%_, _^_, _≤_, _<_}
-use native.Mathlib.Nat.{le-trans, le-of-eq, lt-of-le-of-lt, eq-or-lt-of-le, le-of-suc-le-suc, add-assoc, mul-one, mul-assoc, mul-comm, mul-right-comm, mul-left-comm, mul-le-mul-right, mul-div-cancel, eq-of-mul-eq-mul-right, lt-irrefl}
+use mathlib.Core.Path.{_≡_, refl, sym, ap, _∙_}
+use Prim.Native.Nat.{ℕ, zero, suc, _+_, _-_, _*_, _/_, _^_, _≤_, _<_}
+use native.Mathlib.Nat.{le-trans, le-of-eq, lt-of-le-of-lt, eq-or-lt-of-le, add-assoc, mul-right-comm, mul-le-mul-right, mul-div-cancel, eq-of-mul-eq-mul-right}
 use native.Mathlib.Omega.{arith}
 use mathlib.Core.Logic.{inl, inr}
 use mathlib.Core.Bool.{Bool, true, false, cond}
-use lib.Dec.{T, leb, ltb, eqb}
+use lib.Dec.{ltb, eqb}
 use lib.Pow.{pow-add, pow-pos, shl-lt}
-use lib.Ieee.{Float, nan, inf, fin, Format, binary32, binary64, prec, emax, low, up, down, size, odd, hid, ones, top, ofFields, ofBits, toBits}
+use lib.Ieee.{Float, nan, inf, fin, Format, prec, low, up, down, size, odd, hid, ones, top, ofFields, toBits}
 use lib.Ieee.Digits.{size-lt, size-le}
 use lib.Ieee.Fits.{two, down-pos}
 use lib.Ieee.Exact.{HasValue, odd-sign}

@@ -1,27 +1,26 @@
 -- Narrowing by the fields of a double's bits: how many digits go, what is kept of the others, and the pattern that this makes. Assumes nothing.
 use mathlib.Core.Path.{_≡_, refl, sym, ap, _∙_, subst}
 use Prim.Native.Nat.{ℕ, zero, suc, _+_, _-_, _*_, _/_, _%_, _^_, _≤_, _<_, compare, Ordering, Ordering·lt, Ordering·eq, Ordering·gt}
-use native.Mathlib.Nat.{le-refl, le-trans, le-of-eq, lt-of-le-of-lt, lt-of-lt-of-le, eq-or-lt-of-le, mul-one, mul-assoc, mul-comm, mul-right-comm, mul-left-comm, mul-le-mul-right, mul-le-mul, mul-pos, mul-lt-mul-of-pos-right, zero-lt-suc, zero-add, lt-irrefl, not-le-of-lt, lt-of-not-le, le-of-suc-le-suc, le-of-mul-le-mul-right, lt-of-mul-lt-mul-right, div-div-eq-div-mul, le-div-iff-mul-le, div-lt-iff-lt-mul, div-eq-of-lt, mod-eq-of-lt}
+use native.Mathlib.Nat.{le-refl, le-trans, le-of-eq, lt-of-le-of-lt, lt-of-lt-of-le, eq-or-lt-of-le, mul-assoc, mul-comm, mul-le-mul-right, mul-le-mul, mul-pos, mul-lt-mul-of-pos-right, zero-lt-suc, zero-add, lt-irrefl, not-le-of-lt, lt-of-not-le, le-of-suc-le-suc, le-of-mul-le-mul-right, lt-of-mul-lt-mul-right, div-div-eq-div-mul, le-div-iff-mul-le, div-lt-iff-lt-mul, div-eq-of-lt, mod-eq-of-lt}
 use native.Mathlib.Omega.{arith}
 use native.Mathlib.Decide.{decLt}
 use mathlib.Core.Logic.{inl, inr}
 use mathlib.Core.Bool.{Bool, true, false, cond, true≢false}
-use lib.Dec.{T, leb, ltb, eqb, isLe, isEq, lit≤, lit<}
+use lib.Dec.{leb, ltb, isLe, isEq, lit≤, lit<}
 use lib.Pow.{pow-add, pow-pos, pow-mono, shl-lt}
-use lib.Ieee.{Float, nan, inf, fin, Format, binary32, binary64, prec, emax, low, up, down, size, nearest, odd, units, round, hid, ones, top, ofFields, ofBits, toBits}
+use lib.Ieee.{Float, nan, inf, fin, binary32, binary64, up, down, size, nearest, odd, units, round, ofBits, toBits}
 use lib.Ieee.Digits.{size-lt, size-le, size-reaches}
-use lib.Ieee.Fits.{two, down-pos, kept-lt, nearest-le, round-is}
+use lib.Ieee.Fits.{down-pos, kept-lt, nearest-le, round-is}
 use lib.Ieee.Exact.{HasValue, odd-sign}
 use lib.Ieee.Nearest.{closest, closest-same, nearest-ge}
 use lib.Ieee.Order.{drop, kept}
 use lib.Ieee.Scale.{finite, round-same}
 use borrow.Author.Tests.{eq-eqb, ne-eqb, lt-ltb, le-ltb, le-leb, lt-leb}
 use Rattle.elementary.proofs.Digits.{under-back}
-use Rattle.laws.proofs.Numbers.{order}
 use Rattle.monitor_narrow.specs.declared.Narrowed.{Narrowed}
 use Rattle.monitor_narrow.specs.declared.Narrowed.the-variants.{Single, Past}
-use Rattle.monitor_narrow.specs.Narrow.{singleOf, toldSingle, narrowOf, magnitudeOf}
-use Rattle.monitor_narrow.proofs.Patterns.{value-as, pattern, leadOf, fields-value, fields-finite}
+use Rattle.monitor_narrow.specs.Narrow.{singleOf, toldSingle}
+use Rattle.monitor_narrow.proofs.Patterns.{pattern, leadOf, fields-value, fields-finite}
 
 -- ---- q · 2^k smallest single-precision values: the pattern, and where it is past the largest
 
@@ -89,8 +88,8 @@ kept-most n c =
     le-trans (nearest-le (n / u) (compare (n % u * 2) u)) (subst (λ (x : ℕ). x < 2 ^ 24) (div-div-eq-div-mul n c (2 ^ k)) (kept-lt 24 (n / c)))
 
 -- where digits are dropped, the leading one is kept
-pub whole-least : (n c : ℕ) → 0 < drop 24 n c → 2 ^ 23 ≤ n / (c * 2 ^ drop 24 n c)
-whole-least n c h =
+pub whole-lead : (n c : ℕ) → 0 < drop 24 n c → 2 ^ 23 ≤ n / (c * 2 ^ drop 24 n c)
+whole-lead n c h =
     let k = drop 24 n c in
     let a : 2 ^ 23 * 2 ^ k ≤ n / c = le-trans (le-of-eq (sym (pow-add 2 23 k))) (size-reaches (n / c) (23 + k) (in-use (size (n / c)) h)) in
     subst (λ (x : ℕ). 2 ^ 23 ≤ x) (div-div-eq-div-mul n c (2 ^ k)) (le-div-iff-mul-le (pow-pos k) .1 a)
@@ -99,7 +98,7 @@ whole-least n c h =
     in-use z h = omega arith
 
 pub kept-least : (n c : ℕ) → 0 < drop 24 n c → 2 ^ 23 ≤ kept 24 n c
-kept-least n c h = let u = c * 2 ^ drop 24 n c in le-trans (whole-least n c h) (nearest-ge (n / u) (compare (n % u * 2) u))
+kept-least n c h = let u = c * 2 ^ drop 24 n c in le-trans (whole-lead n c h) (nearest-ge (n / u) (compare (n % u * 2) u))
 
 -- a value that is a / c in size, rounded and narrowed
 pub single-units : (v : Float) (s : Bool) (a c : ℕ) → 0 < c → HasValue v s a c → singleOf v ≡ units binary32 s (kept 24 (a * 2 ^ 149) c) (drop 24 (a * 2 ^ 149) c)

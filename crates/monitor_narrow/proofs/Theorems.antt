@@ -1,31 +1,28 @@
 -- Narrowing is to nearest with ties to even, is none exactly for what is not finite or rounds past the largest, and undoes widening, which loses nothing. Assumes nothing.
 use mathlib.Core.Path.{_≡_, refl, sym, ap, _∙_, subst}
 use mathlib.Core.Logic.{_⊎_, inl, inr, ⊎-elim}
-use Prim.Native.Nat.{ℕ, zero, suc, _+_, _-_, _*_, _/_, _%_, _^_, _≤_, _<_, zero-le, compare}
-use native.Mathlib.Nat.{le-refl, le-trans, le-of-eq, le-of-lt, lt-of-le-of-lt, lt-of-lt-of-le, lt-of-not-le, not-le-of-lt, le-of-suc-le-suc, add-sub-of-le, zero-add, add-comm, mul-one, mul-assoc, mul-comm, mul-right-comm, mul-pos, zero-lt-suc, div-one, mod-one, zero-mul, mul-le-mul, mul-le-mul-left, mul-le-mul-right, le-of-mul-le-mul-right, mul-div-cancel, le-div-iff-mul-le, lt-irrefl, eq-of-mul-eq-mul-right, eq-or-lt-of-le}
+use Prim.Native.Nat.{ℕ, zero, suc, _+_, _-_, _*_, _/_, _%_, _^_, _≤_, _<_, zero-le}
+use native.Mathlib.Nat.{le-trans, le-of-eq, le-of-lt, lt-of-le-of-lt, lt-of-lt-of-le, lt-of-not-le, not-le-of-lt, le-of-suc-le-suc, add-comm, mul-one, mul-assoc, mul-comm, mul-pos, zero-lt-suc, div-one, mod-one, mul-le-mul-left, mul-le-mul-right, le-of-mul-le-mul-right, mul-div-cancel, le-div-iff-mul-le, lt-irrefl, eq-or-lt-of-le}
 use native.Mathlib.Omega.{arith}
 use native.Mathlib.Decide.{decLt}
-use mathlib.Core.Bool.{Bool, true, false, cond, Bool·beq, true≢false}
-use lib.IntN.{ℤ, pos, negsuc}
-use lib.Dec.{T, leb, ltb, lit≤, lit<}
+use mathlib.Core.Bool.{Bool, true, false, cond, Bool·beq}
+use lib.Dec.{T, leb, lit≤, lit<}
 use lib.Pow.{pow-add, pow-pos, pow-mono, shl-lt}
-use lib.Ieee.{Float, nan, inf, fin, binary32, binary64, up, down, low, prec, size, odd, units, round, fits, isNan, ofBits, toBits}
+use lib.Ieee.{Float, nan, inf, fin, binary32, binary64, up, down, size, units, fits, ofBits, toBits}
 use lib.Ieee.Digits.{size-lt}
-use lib.Ieee.Bits.{ofBits-toBits, toBits-lt, ofBits-fits, toBits-ofBits}
+use lib.Ieee.Bits.{ofBits-toBits, toBits-lt, ofBits-fits}
 use lib.Ieee.Fits.{down-pos, round-fits, nan-fits, inf-fits, fits-widens}
-use lib.Ieee.Exact.{HasValue, units-val, round-exact}
+use lib.Ieee.Exact.{HasValue, units-val}
 use lib.Ieee.Nearest.{closest, closest-same, closest-mono}
 use lib.Ieee.Order.{drop, kept}
 use lib.Ieee.Scale.{finite}
-use borrow.Author.Tests.{ltb-true, ltb-false, lt-ltb, le-ltb, lt-leb, le-leb}
-use Rattle.laws.proofs.Bools.{by-bool}
+use borrow.Author.Tests.{ltb-true, lt-ltb, le-ltb, lt-leb, le-leb}
 use Rattle.elementary.proofs.Digits.{under-back}
-use Rattle.monitor_narrow.specs.declared.Narrowed.{Narrowed}
 use Rattle.monitor_narrow.specs.declared.Narrowed.the-variants.{Single, Past}
 use Rattle.monitor_narrow.specs.Narrow.{singleOf, toldSingle, narrowOf, widenOf, finiteSingle}
 use Rattle.monitor_narrow.specs.Nearness.{grainsOf, signOf, differ, apartOf, halfwayPast}
 use Rattle.monitor_narrow.proofs.Patterns.{value-as, leadOf, cut-is}
-use Rattle.monitor_narrow.proofs.Rounds.{telling, above-limit, kept-most, kept-least, whole-least, single-units, told-value, field64, lead64, double-value, double-finite, scaled}
+use Rattle.monitor_narrow.proofs.Rounds.{telling, above-limit, kept-most, kept-least, whole-lead, single-units, told-value, field64, lead64, double-value, double-finite, scaled}
 use Rattle.monitor_narrow.proofs.Laws.{narrow-told, not-finite-told, field32, digits32, single-value, finite-is}
 use Rattle.monitor_narrow.proofs.Near.{closest-near}
 
@@ -175,7 +172,7 @@ module _ (b : ℕ) (h : field64 b < 2047) where
   kept-lead : 0 < K → 2 ^ 23 * 2 ^ (925 + K) ≤ A
   kept-lead l =
       le-of-mul-le-mul-right
-      (le-trans (le-of-eq (scaled (2 ^ 23) (925 + K) 149 ∙ ap (λ (y : ℕ). 2 ^ 23 * y) (ap (λ (y : ℕ). 2 ^ y) (sums K) ∙ pow-add 2 1074 K))) (le-div-iff-mul-le (mul-pos (pow-pos 1074) (pow-pos K)) .0 (whole-least (A * 2 ^ 149) (2 ^ 1074) l)))
+      (le-trans (le-of-eq (scaled (2 ^ 23) (925 + K) 149 ∙ ap (λ (y : ℕ). 2 ^ 23 * y) (ap (λ (y : ℕ). 2 ^ y) (sums K) ∙ pow-add 2 1074 K))) (le-div-iff-mul-le (mul-pos (pow-pos 1074) (pow-pos K)) .0 (whole-lead (A * 2 ^ 149) (2 ^ 1074) l)))
       (pow-pos 149)
     where
       sums : (k : ℕ) → 925 + k + 149 ≡ 1074 + k
@@ -238,10 +235,6 @@ told-pattern s W w e = elim (decLt W (255 * 2 ^ 23)) [
 even-pattern : (s : Bool) (k q : ℕ) → q % 2 ≡ 0 → (cond s (2 ^ 31) 0 + (k * 2 ^ 23 + q)) % 2 ≡ 0
 even-pattern true k q h = omega arith
 even-pattern false k q h = omega arith
-
-same-signs : (s : Bool) → Bool·beq s s ≡ true
-same-signs true = refl
-same-signs false = refl
 
 -- by the signs s and t of two magnitudes
 abbrev apartBy : Bool → Bool → ℕ → ℕ → ℕ

@@ -47,9 +47,9 @@ pub narrow-largest : narrowOf 0x47efffffefffffff ≡ Single 0x7f7fffff
 unfolding narrowOf widenOf
 narrow-largest = refl
 
-pub narrow-past : narrowOf 0x47effffff0000000 ≡ Past
+pub narrow-halfway : narrowOf 0x47effffff0000000 ≡ Past
 unfolding narrowOf widenOf
-narrow-past = refl
+narrow-halfway = refl
 
 -- -infinity, and a NaN
 pub narrow-infinite : narrowOf 0xfff0000000000000 ≡ Past

@@ -1,5 +1,5 @@
 -- How far apart two finite values lie, as a whole number of the smallest double, 2^-1074, in which every value of both formats is whole. Definitions only.
-use mathlib.Core.Bool.{Bool, true, false, cond, Bool·beq}
+use mathlib.Core.Bool.{Bool, false, cond, Bool·beq}
 use Prim.Native.Nat.{ℕ, _+_, _-_, _*_, _/_, _^_}
 use lib.Ieee.{Float, nan, inf, fin, up, down}
 

@@ -1,7 +1,7 @@
 -- Reading the file for the picture monitor: which records are bad, the order of the tests, and what is read. Definitions only.
 -- P are the areas for the pictures of the frames, S for their sides, B for their fields, X for the bits of their coordinates, two for each frame.
 use mathlib.Core.List.{List, _++_}
-use mathlib.Core.Bool.{Bool, cond, not, _&&_, _||_}
+use mathlib.Core.Bool.{Bool, cond, not, _&&_}
 use Prim.Native.Nat.{ℕ, _+_, _*_, _/_, _%_}
 use lib.Dec.{eqb, ltb}
 use lib.ListN.{length, drop}

@@ -2,8 +2,8 @@
 ghost use mathlib.Core.Path.{_≡_};
 ghost use Prim.Native.Nat.{_+_, _*_, _/_, _≤_, _<_};
 ghost use lib.ListN.{length};
-ghost use Rattle.monitor.specs.Monitor.{monitorBytes, followsAt, FramesLie};
-ghost use Rattle.monitor_read.specs.MonitorRead.{byteAt, monitorPicture, coordinateAt, coordinatesFine, brokenAt, wholeMonitor, firstBroken, fronted, widenedAt, monitorReading, readMonitor, monitorReadNumber};
+ghost use Rattle.monitor.specs.Monitor.{monitorBytes, followsAt};
+ghost use Rattle.monitor_read.specs.MonitorRead.{byteAt, monitorPicture, coordinateAt, coordinatesFine, brokenAt, firstBroken, fronted, widenedAt, monitorReading, readMonitor, monitorReadNumber};
 use frames::may_follow;
 use frames::spare_fine;
 use little::half_word;

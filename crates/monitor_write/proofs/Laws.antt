@@ -1,7 +1,7 @@
 -- What the tests of the areas and of the frames show, and what the loop that writes the records keeps. Assumes nothing.
 use mathlib.Core.List.{List, _++_, append-assoc}
-use mathlib.Core.Path.{_≡_, refl, sym, ap, _∙_}
-use mathlib.Core.Bool.{Bool, true, false, cond, _&&_}
+use mathlib.Core.Path.{_≡_, sym, ap, _∙_}
+use mathlib.Core.Bool.{true, false}
 use Prim.Native.Nat.{ℕ, _+_, _*_, _/_, _<_, _≤_}
 use native.Mathlib.Omega.{arith}
 use native.Mathlib.Decide.{decLt}
@@ -18,8 +18,8 @@ use Rattle.monitor.specs.Monitor.{framesRoom}
 use Rattle.monitor.proofs.Laws.{record-size, frames-lie}
 use Rattle.monitor_narrow.specs.Narrow.{narrowOf}
 use Rattle.monitor_write.specs.declared.Monitored.{Monitored}
-use Rattle.monitor_write.specs.declared.Monitored.the-variants.{Written, Short, Bad, Beyond}
-use Rattle.monitor_write.specs.MonitorWrite.{wrongAt, faultyAt, singleBits, monitorRow, MonitorWriting, monitorWriting, roomToWrite, faultTold, writeMonitor, WriteLies}
+use Rattle.monitor_write.specs.declared.Monitored.the-variants.{Written, Short}
+use Rattle.monitor_write.specs.MonitorWrite.{faultyAt, singleBits, monitorRow, monitorWriting, roomToWrite, faultTold, writeMonitor, WriteLies}
 
 -- ---- the areas
 
@@ -54,15 +54,15 @@ row-size P S B X i = record-size (num P i) (num S i) (num B i) (singleBits (narr
 -- ---- the outcomes
 
 module _ (n : ℕ) (P S B X t : List ℕ) where
-  pub out-short : roomToWrite n (length P) (length S) (length B) (length X) (length t) ≡ false → monitorWriting Short t ≡ writeMonitor n P S B X t
+  pub writing-short : roomToWrite n (length P) (length S) (length B) (length X) (length t) ≡ false → monitorWriting Short t ≡ writeMonitor n P S B X t
   unfolding writeMonitor
-  out-short e = rw e
+  writing-short e = rw e
 
   module _ (room : roomToWrite n (length P) (length S) (length B) (length X) (length t) ≡ true) (k : ℕ) (found : k ≡ first (faultyAt P S B X) n) where
-    pub out-fault : (a : Monitored) → k < n → a ≡ faultTold P S B k → monitorWriting a t ≡ writeMonitor n P S B X t
+    pub writing-fault : (a : Monitored) → k < n → a ≡ faultTold P S B k → monitorWriting a t ≡ writeMonitor n P S B X t
     unfolding writeMonitor
-    out-fault a l e = rw (room, ← found, lt-ltb k n l, e)
+    writing-fault a l e = rw (room, ← found, lt-ltb k n l, e)
 
-    pub out-written : (t' : List ℕ) → n ≤ k → t' ≡ laid (monitorRow P S B X) 16 n t → monitorWriting (Written n) t' ≡ writeMonitor n P S B X t
+    pub writing-whole : (t' : List ℕ) → n ≤ k → t' ≡ laid (monitorRow P S B X) 16 n t → monitorWriting (Written n) t' ≡ writeMonitor n P S B X t
     unfolding writeMonitor
-    out-written t' l e = rw (room, ← found, le-ltb k n l, e)
+    writing-whole t' l e = rw (room, ← found, le-ltb k n l, e)

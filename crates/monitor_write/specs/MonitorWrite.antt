@@ -1,6 +1,6 @@
 -- Writing the file for the picture monitor: what is faulty, the order of the tests, and what is written. Definitions only.
 -- P are the pictures of the frames, S their sides, B their fields, X the bits of their coordinates, two for each frame.
-use mathlib.Core.List.{List, _++_}
+use mathlib.Core.List.{List}
 use mathlib.Core.Bool.{Bool, true, false, cond, not, _&&_, _||_}
 use Prim.Native.Nat.{ℕ, _+_, _*_, _≤_}
 use lib.Dec.{leb, ltb}

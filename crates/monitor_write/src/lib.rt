@@ -1,6 +1,6 @@
 // Writes frames with two double-precision coordinates each as records for the picture monitor, or tells the first fault.
 ghost use mathlib.Core.Path.{_≡_};
-ghost use Prim.Native.Nat.{_<_, _≤_, _+_, _*_};
+ghost use Prim.Native.Nat.{_<_, _+_, _*_};
 ghost use lib.ListN.{length};
 ghost use Rattle.laws.specs.Area.{num};
 ghost use Rattle.laws.specs.Loops.{first};

@@ -1,15 +1,13 @@
 -- The two calls in words: a refusal changes nothing but the answer's word. Assumes nothing.
-use mathlib.Core.Path.{_≡_, refl, sym, ap, _∙_}
+use mathlib.Core.Path.{_≡_, refl, ap}
 use mathlib.Core.List.{List}
-use mathlib.Core.Bool.{Bool, true, false, cond}
 use Prim.Native.Nat.{ℕ}
 use lib.Dec.{eqb}
 use lib.ListN.{length, set}
 use Rattle.laws.proofs.Bools.{by-bool}
-use Rattle.monitor_write.specs.MonitorWrite.{writeMonitor, monitoredNumber}
-use Rattle.monitor_read.specs.MonitorRead.{MonitorReading, monitorReading, readMonitor, monitorReadNumber}
+use Rattle.monitor_read.specs.MonitorRead.{MonitorReading, readMonitor, monitorReadNumber}
 use Rattle.desk_monitor.specs.HostWrite.{hostMonitorWrite}
-use Rattle.desk_monitor.specs.HostRead.{monitorReadTold, HostMonitorReading, hostMonitorReading, hostMonitorRead}
+use Rattle.desk_monitor.specs.HostRead.{monitorReadTold, hostMonitorReading, hostMonitorRead}
 use Rattle.monitoring.proofs.WriteTold.{write-refused}
 use Rattle.monitoring.proofs.ReadTold.{read-refused}
 

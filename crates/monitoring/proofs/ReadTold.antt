@@ -2,21 +2,20 @@
 use mathlib.Core.Path.{_≡_, refl, sym, ap, _∙_, subst}
 use mathlib.Core.Logic.{_⊎_, inl, inr}
 use mathlib.Core.List.{List}
-use mathlib.Core.Bool.{Bool, true, false}
-use Prim.Native.Nat.{ℕ, _*_, _%_, _<_, _≤_}
+use mathlib.Core.Bool.{true, false}
+use Prim.Native.Nat.{ℕ, _*_, _%_, _<_}
 use native.Mathlib.Omega.{arith}
 use native.Mathlib.Nat.{le-of-eq, le-antisymm}
 use lib.Dec.{ltb, eqb}
 use lib.ListN.{length}
 use borrow.Author.Tests.{ltb-true, ltb-false, eqb-true, eqb-false}
-use Rattle.laws.specs.Loops.{first}
 use Rattle.laws.proofs.Bools.{by-bool}
 use Rattle.laws.proofs.First.{first-le, first-holds, first-before, first-all, first-none, first-at}
 use Rattle.monitor.specs.Monitor.{framesRoom}
 use Rattle.monitor_read.specs.declared.MonitorRead.{MonitorRead}
 use Rattle.monitor_read.specs.declared.MonitorRead.the-variants.{Read, Bad, Short}
 use Rattle.monitor_read.specs.MonitorRead.{byteAt, monitorPicture, brokenAt, wholeMonitor, firstBroken, isMonitor, MonitorReading, monitorReading, fronted, widenedAt, readMonitor, monitorReadNumber}
-use Rattle.monitor_read.proofs.Laws.{bad-record, stray-tail, all-fit, out-bad, out-short, out-read}
+use Rattle.monitor_read.proofs.Laws.{broken-found, stray-tail, all-fit, reading-bad, reading-short, reading-done}
 use Rattle.monitoring.specs.MonitorReasons.{GoodBefore, AllGood, ReadReason}
 
 module _ (f P S B X : List ℕ) where
@@ -31,7 +30,7 @@ module _ (f P S B X : List ℕ) where
   good-file g = all-fit f (wholeMonitor f) (sym (first-none (brokenAt f) (wholeMonitor f) (g .0))) (le-of-eq refl) (g .1)
 
   pub out-filled : AllGood f P S B X → framesRoom (wholeMonitor f) (length P) (length S) (length B) (length X) ≡ true → takenReading ≡ readMonitor f P S B X
-  out-filled g e = out-read f P S B X (good-file g) (fronted (monitorPicture f) (wholeMonitor f) P) (fronted (byteAt f 4) (wholeMonitor f) S) (fronted (byteAt f 5) (wholeMonitor f) B) (fronted (widenedAt f) (2 * wholeMonitor f) X) e refl refl refl refl
+  out-filled g e = reading-done f P S B X (good-file g) (fronted (monitorPicture f) (wholeMonitor f) P) (fronted (byteAt f 4) (wholeMonitor f) S) (fronted (byteAt f 5) (wholeMonitor f) B) (fronted (widenedAt f) (2 * wholeMonitor f) X) e refl refl refl refl
 
   -- what holds of each outcome holds of the call's
   by-outcome : (G : MonitorReading → Type 0)
@@ -47,7 +46,7 @@ module _ (f P S B X : List ℕ) where
       by-bool goal (ltb k n)
       (λ l.
       let m = ltb-true k n l in
-      subst G (out-bad f k refl P S B X (bad-record f k refl m)) (bad k (first-before p n) (inl (m, first-holds p n m))))
+      subst G (reading-bad f k refl P S B X (broken-found f k refl m)) (bad k (first-before p n) (inl (m, first-holds p n m))))
       (λ l.
       let m = ltb-false k n l in
       by-bool goal (eqb (length f % 16) 0)
@@ -55,8 +54,8 @@ module _ (f P S B X : List ℕ) where
       let g : AllGood f P S B X = (first-all p n m, eqb-true (length f % 16) 0 z) in
       by-bool goal (framesRoom n (length P) (length S) (length B) (length X))
       (λ e. subst G (out-filled g e) (taken g e))
-      (λ e. subst G (out-short f P S B X (good-file g) e) (short g e)))
-      (λ z. subst G (out-bad f k refl P S B X (stray-tail f k refl m (eqb-false (length f % 16) 0 z))) (bad k (first-before p n) (inr (le-antisymm (first-le p n) m, eqb-false (length f % 16) 0 z)))))
+      (λ e. subst G (reading-short f P S B X (good-file g) e) (short g e)))
+      (λ z. subst G (reading-bad f k refl P S B X (stray-tail f k refl m (eqb-false (length f % 16) 0 z))) (bad k (first-before p n) (inr (le-antisymm (first-le p n) m, eqb-false (length f % 16) 0 z)))))
 
   -- the condition of what is answered holds
   pub read-reason : ReadReason f P S B X (readMonitor f P S B X .answer)
@@ -67,11 +66,11 @@ module _ (f P S B X : List ℕ) where
   read-reason-only (Read n) r = ap Read (r .0) ∙ ap (λ (o : MonitorReading). o .answer) (out-filled (r .1) (r .2))
   read-reason-only (Bad k) (g, inl w) =
       let found : k ≡ firstBroken f = sym (first-at (brokenAt f) (wholeMonitor f) k (w .0) (w .1) g) in
-      answered (Bad k) P S B X (out-bad f k found P S B X (bad-record f k found (w .0)))
+      answered (Bad k) P S B X (reading-bad f k found P S B X (broken-found f k found (w .0)))
   read-reason-only (Bad k) (g, inr w) =
       let found : k ≡ firstBroken f = w .0 ∙ sym (first-none (brokenAt f) (wholeMonitor f) (subst (GoodBefore f P S B X) (w .0) g)) in
-      answered (Bad k) P S B X (out-bad f k found P S B X (stray-tail f k found (le-of-eq (sym (w .0))) (w .1)))
-  read-reason-only Short r = answered Short P S B X (out-short f P S B X (good-file (r .0)) (r .1))
+      answered (Bad k) P S B X (reading-bad f k found P S B X (stray-tail f k found (le-of-eq (sym (w .0))) (w .1)))
+  read-reason-only Short r = answered Short P S B X (reading-short f P S B X (good-file (r .0)) (r .1))
 
   -- a refusal changes nothing
   pub read-refused : (monitorReadNumber (readMonitor f P S B X .answer) ≡ 0 → ⊥) → readMonitor f P S B X ≡ monitorReading (readMonitor f P S B X .answer) P S B X

@@ -1,35 +1,35 @@
 -- Reading and then writing gives the same bytes, and writing what was written and read changes nothing further. Assumes nothing but that a file's elements are bytes, where it is said.
 use mathlib.Core.Path.{_≡_, refl, sym, ap, ap₂, _∙_, subst}
-use mathlib.Core.List.{List, [], _∷_, _++_}
-use mathlib.Core.Bool.{Bool, true, false, not, _&&_, _||_}
-use Prim.Native.Nat.{ℕ, zero, suc, _+_, _-_, _*_, _/_, _%_, _^_, _<_, _≤_}
+use mathlib.Core.List.{List, _++_}
+use mathlib.Core.Bool.{true, false, _&&_}
+use Prim.Native.Nat.{ℕ, _+_, _-_, _*_, _/_, _%_, _^_, _<_, _≤_}
 use native.Mathlib.Omega.{arith}
 use native.Mathlib.Nat.{le-of-eq, le-refl}
-use lib.Dec.{leb, eqb}
-use lib.ListN.{length, getD, take, drop, length-append, length-drop}
+use lib.Dec.{eqb}
+use lib.ListN.{length, take, drop, length-append, length-drop}
 use lib.Seq.{take-all}
-use borrow.Author.Tests.{leb-true, le-leb, eqb-true, not-false}
+use borrow.Author.Tests.{le-leb, eqb-true, not-false}
 use Rattle.laws.specs.Area.{num}
 use Rattle.laws.specs.Joined.{joined, laid, each}
-use Rattle.laws.proofs.Bools.{and-left, and-right, not-true-is}
+use Rattle.laws.proofs.Bools.{and-left, and-right}
 use Rattle.laws.proofs.First.{first-none}
 use Rattle.laws.proofs.Joined.{length-singles, singles-at}
 use Rattle.laws.proofs.Laid.{laid-front}
 use Rattle.take_rows.proofs.Packing.{joined-same}
-use Rattle.little.specs.Little.{littleOf, AllBelow}
+use Rattle.little.specs.Little.{AllBelow}
 use Rattle.little.proofs.Roundtrip.{little-below}
 use Rattle.frames.specs.Frames.{spareFine}
 use Rattle.monitor_narrow.specs.declared.Narrowed.{Narrowed}
-use Rattle.monitor_narrow.specs.declared.Narrowed.the-variants.{Single, Past}
+use Rattle.monitor_narrow.specs.declared.Narrowed.the-variants.{Single}
 use Rattle.monitor_narrow.specs.Narrow.{narrowOf, widenOf, finiteSingle}
 use Rattle.monitor_narrow.proofs.Theorems.{narrow-widened, narrow-once}
 use Rattle.monitor.specs.Monitor.{monitorRecord, frameFine, followsAt, framesRoom, FramesLie}
 use Rattle.monitor.proofs.Laws.{frames-lie}
 use Rattle.monitor_write.specs.declared.Monitored.the-variants.{Written}
-use Rattle.monitor_write.specs.MonitorWrite.{wrongAt, isPast, pastAt, faultyAt, singleBits, monitorRow, MonitorWriting, monitorWriting, roomToWrite, writeMonitor}
-use Rattle.monitor_write.proofs.Laws.{out-written}
+use Rattle.monitor_write.specs.MonitorWrite.{wrongAt, isPast, pastAt, faultyAt, singleBits, monitorRow, monitorWriting, roomToWrite, writeMonitor}
+use Rattle.monitor_write.proofs.Laws.{writing-whole}
 use Rattle.monitor_read.specs.declared.MonitorRead.the-variants.{Read}
-use Rattle.monitor_read.specs.MonitorRead.{byteAt, monitorPicture, coordinateAt, coordinatesFine, brokenAt, wholeMonitor, MonitorReading, monitorReading, fronted, widenedAt, readMonitor}
+use Rattle.monitor_read.specs.MonitorRead.{byteAt, monitorPicture, coordinateAt, coordinatesFine, brokenAt, wholeMonitor, MonitorReading, fronted, widenedAt, readMonitor}
 use Rattle.monitoring.specs.MonitorReasons.{AllGood}
 use Rattle.monitoring.proofs.Records.{record-back, by-halves, x-stands, y-stands}
 use Rattle.monitoring.proofs.WriteTold.{write-taken}
@@ -59,7 +59,7 @@ not-faulty P S B X i g = rw (g .fine, g .follows, g .x-told, g .y-told)
 
 good-written : (n : ℕ) (P S B X t : List ℕ) → framesRoom n (length P) (length S) (length B) (length X) ≡ true → n * 16 ≤ length t → ((i : ℕ) → i < n → GoodFrame P S B X i) → monitorWriting (Written n) (laid (monitorRow P S B X) 16 n t) ≡ writeMonitor n P S B X t
 good-written n P S B X t e h g =
-    out-written n P S B X t (room-is n (length P) (length S) (length B) (length X) (length t) e h) n (sym (first-none (faultyAt P S B X) n (λ i l. not-faulty P S B X i (g i l)))) (laid (monitorRow P S B X) 16 n t) (le-refl n) refl
+    writing-whole n P S B X t (room-is n (length P) (length S) (length B) (length X) (length t) e h) n (sym (first-none (faultyAt P S B X) n (λ i l. not-faulty P S B X i (g i l)))) (laid (monitorRow P S B X) 16 n t) (le-refl n) refl
 
 -- ---- areas whose fronts hold frames p, s, b and coordinates that are widened from single precision
 

@@ -1,8 +1,8 @@
 -- Each answer of writing is given exactly where its condition holds, and a refusal changes nothing. Assumes nothing.
 use mathlib.Core.Path.{_≡_, refl, sym, ap, _∙_, subst}
 use mathlib.Core.List.{List}
-use mathlib.Core.Bool.{Bool, true, false, cond, _||_}
-use Prim.Native.Nat.{ℕ, _<_, _≤_}
+use mathlib.Core.Bool.{true, false}
+use Prim.Native.Nat.{ℕ, _<_}
 use native.Mathlib.Omega.{arith}
 use native.Mathlib.Nat.{le-of-eq}
 use lib.Dec.{ltb}
@@ -11,11 +11,11 @@ use borrow.Author.Tests.{ltb-true, ltb-false}
 use Rattle.laws.specs.Loops.{first}
 use Rattle.laws.specs.Joined.{laid}
 use Rattle.laws.proofs.Bools.{by-bool, or-yes}
-use Rattle.laws.proofs.First.{first-le, first-holds, first-before, first-all, first-none, first-at}
+use Rattle.laws.proofs.First.{first-holds, first-before, first-all, first-none, first-at}
 use Rattle.monitor_write.specs.declared.Monitored.{Monitored}
 use Rattle.monitor_write.specs.declared.Monitored.the-variants.{Written, Short, Bad, Beyond}
 use Rattle.monitor_write.specs.MonitorWrite.{wrongAt, pastAt, faultyAt, monitorRow, MonitorWriting, monitorWriting, roomToWrite, faultTold, writeMonitor, monitoredNumber}
-use Rattle.monitor_write.proofs.Laws.{out-short, out-fault, out-written}
+use Rattle.monitor_write.proofs.Laws.{writing-short, writing-fault, writing-whole}
 use Rattle.monitoring.specs.MonitorReasons.{HasRoom, FineBefore, WriteReason}
 
 module _ (P S B X : List ℕ) (i : ℕ) where
@@ -58,10 +58,10 @@ module _ (n : ℕ) (P S B X t : List ℕ) where
       (λ l.
       let m = ltb-true k n l in
       by-bool (G (writeMonitor n P S B X t)) (wrongAt P S B k)
-      (λ w. subst G (out-fault n P S B X t e k refl (Bad k) m (told-wrong P S B X k w)) (bad e k m (first-before p n) w))
-      (λ w. subst G (out-fault n P S B X t e k refl (Beyond k) m (told-past P S B X k w)) (beyond e k m (first-before p n) w (faulty-past P S B X k (first-holds p n m) w))))
-      (λ l. subst G (out-written n P S B X t e k refl (laid (monitorRow P S B X) 16 n t) (ltb-false k n l) refl) (written e (first-all p n (ltb-false k n l)))))
-      (λ e. subst G (out-short n P S B X t e) (short e))
+      (λ w. subst G (writing-fault n P S B X t e k refl (Bad k) m (told-wrong P S B X k w)) (bad e k m (first-before p n) w))
+      (λ w. subst G (writing-fault n P S B X t e k refl (Beyond k) m (told-past P S B X k w)) (beyond e k m (first-before p n) w (faulty-past P S B X k (first-holds p n m) w))))
+      (λ l. subst G (writing-whole n P S B X t e k refl (laid (monitorRow P S B X) 16 n t) (ltb-false k n l) refl) (written e (first-all p n (ltb-false k n l)))))
+      (λ e. subst G (writing-short n P S B X t e) (short e))
 
   -- the condition of what is answered holds
   pub write-reason : WriteReason n P S B X t (writeMonitor n P S B X t .answer)
@@ -69,10 +69,10 @@ module _ (n : ℕ) (P S B X t : List ℕ) where
 
   -- where a condition holds, that is what is answered
   pub write-reason-only : (a : Monitored) → WriteReason n P S B X t a → a ≡ writeMonitor n P S B X t .answer
-  write-reason-only (Written m) r = ap Written (r .0) ∙ answered (Written n) (laid (monitorRow P S B X) 16 n t) (out-written n P S B X t (r .1) n (sym (first-none (faultyAt P S B X) n (r .2))) (laid (monitorRow P S B X) 16 n t) (le-of-eq refl) refl)
-  write-reason-only Short r = answered Short t (out-short n P S B X t r)
-  write-reason-only (Bad k) r = answered (Bad k) t (out-fault n P S B X t (r .0) k (sym (first-at (faultyAt P S B X) n k (r .1) (wrong-faulty P S B X k (r .3)) (r .2))) (Bad k) (r .1) (told-wrong P S B X k (r .3)))
-  write-reason-only (Beyond k) r = answered (Beyond k) t (out-fault n P S B X t (r .0) k (sym (first-at (faultyAt P S B X) n k (r .1) (past-faulty P S B X k (r .4)) (r .2))) (Beyond k) (r .1) (told-past P S B X k (r .3)))
+  write-reason-only (Written m) r = ap Written (r .0) ∙ answered (Written n) (laid (monitorRow P S B X) 16 n t) (writing-whole n P S B X t (r .1) n (sym (first-none (faultyAt P S B X) n (r .2))) (laid (monitorRow P S B X) 16 n t) (le-of-eq refl) refl)
+  write-reason-only Short r = answered Short t (writing-short n P S B X t r)
+  write-reason-only (Bad k) r = answered (Bad k) t (writing-fault n P S B X t (r .0) k (sym (first-at (faultyAt P S B X) n k (r .1) (wrong-faulty P S B X k (r .3)) (r .2))) (Bad k) (r .1) (told-wrong P S B X k (r .3)))
+  write-reason-only (Beyond k) r = answered (Beyond k) t (writing-fault n P S B X t (r .0) k (sym (first-at (faultyAt P S B X) n k (r .1) (past-faulty P S B X k (r .4)) (r .2))) (Beyond k) (r .1) (told-past P S B X k (r .3)))
 
   -- a refusal changes nothing
   pub write-refused : (monitoredNumber (writeMonitor n P S B X t .answer) ≡ 0 → ⊥) → writeMonitor n P S B X t .target ≡ t

@@ -1,33 +1,33 @@
 -- Every file that writing makes is one that reading takes, and what is read is pictures, sides, fields and the narrowed coordinates. Assumes nothing.
-use mathlib.Core.Path.{_≡_, refl, sym, ap, ap₂, _∙_, subst}
-use mathlib.Core.List.{List, [], _∷_, _++_, append-nil}
-use mathlib.Core.Bool.{Bool, true, false, not, _&&_, _||_, true≢false}
-use Prim.Native.Nat.{ℕ, zero, suc, _+_, _-_, _*_, _/_, _%_, _^_, _<_, _≤_}
+use mathlib.Core.Path.{_≡_, refl, sym, ap, _∙_}
+use mathlib.Core.List.{List, [], append-nil}
+use mathlib.Core.Bool.{true, false, not, _&&_, _||_, true≢false}
+use Prim.Native.Nat.{ℕ, _+_, _-_, _*_, _^_, _<_, _≤_}
 use native.Mathlib.Omega.{arith}
 use native.Mathlib.Nat.{le-refl}
-use lib.Dec.{leb, eqb}
-use lib.ListN.{length, getD, take, drop}
+use lib.Dec.{leb}
+use lib.ListN.{length, take, drop}
 use lib.Seq.{take-at}
-use borrow.Author.Tests.{leb-true, eqb-true, eq-eqb, not-false}
+use borrow.Author.Tests.{leb-true, eq-eqb, not-false}
 use Rattle.laws.specs.Area.{num}
-use Rattle.laws.specs.Joined.{joined, laid}
+use Rattle.laws.specs.Joined.{joined}
 use Rattle.laws.proofs.Bools.{and-left, and-right, or-left, or-right}
 use Rattle.laws.proofs.Laid.{laid-size, laid-at}
 use Rattle.take_rows.proofs.Packing.{each-same}
 use Rattle.little.specs.Little.{littleOf}
 use Rattle.little.proofs.Roundtrip.{little-same}
-use Rattle.frames.specs.Frames.{mostPicture, pictureFine, sideFine, fieldFine, spareFine, mayFollow}
+use Rattle.frames.specs.Frames.{pictureFine, sideFine, fieldFine, spareFine}
 use Rattle.monitor_narrow.specs.declared.Narrowed.{Narrowed}
 use Rattle.monitor_narrow.specs.declared.Narrowed.the-variants.{Single, Past}
 use Rattle.monitor_narrow.specs.Narrow.{narrowOf, widenOf, finiteSingle}
 use Rattle.monitor_narrow.proofs.Theorems.{narrowed-below, narrowed-finite}
-use Rattle.monitor.specs.Monitor.{monitorRecord, frameFine, followsAt, framesRoom}
+use Rattle.monitor.specs.Monitor.{frameFine, followsAt, framesRoom}
 use Rattle.monitor_write.specs.declared.Monitored.the-variants.{Written}
 use Rattle.monitor_write.specs.MonitorWrite.{wrongAt, isPast, pastAt, faultyAt, singleBits, monitorRow, writeMonitor}
 use Rattle.monitor_write.proofs.Laws.{row-size}
 use Rattle.monitor_read.specs.declared.MonitorRead.the-variants.{Read}
-use Rattle.monitor_read.specs.MonitorRead.{byteAt, monitorPicture, coordinateAt, coordinatesFine, brokenAt, wholeMonitor, isMonitor, MonitorReading, monitorReading, fronted, widenedAt, readMonitor}
-use Rattle.monitoring.specs.MonitorReasons.{FineBefore, AllGood}
+use Rattle.monitor_read.specs.MonitorRead.{byteAt, monitorPicture, coordinateAt, coordinatesFine, brokenAt, wholeMonitor, isMonitor, monitorReading, fronted, widenedAt, readMonitor}
+use Rattle.monitoring.specs.MonitorReasons.{AllGood}
 use Rattle.monitoring.proofs.Records.{side-in, field-in, zeros-in, picture-in, x-in, y-in, by-halves, x-stands, y-stands}
 use Rattle.monitoring.proofs.WriteTold.{write-taken}
 use Rattle.monitoring.proofs.ReadTold.{good-file, out-filled}
@@ -167,10 +167,7 @@ module _ (n : ℕ) (P S B X : List ℕ) (good : (i : ℕ) → i < n → faultyAt
 -- ---- the theorems
 
 module _ (n : ℕ) (P S B X t : List ℕ) (done : writeMonitor n P S B X t .answer ≡ Written n) where
-  -- the bytes at the target's front
-  abbrev pub bytesWritten : List ℕ
-  bytesWritten = take (n * 16) (writeMonitor n P S B X t .target)
-
+  -- the bytes at the target's front are the records
   pub written-file : take (n * 16) (writeMonitor n P S B X t .target) ≡ joined (monitorRow P S B X) n
   written-file =
       let w = write-taken n P S B X t n done in

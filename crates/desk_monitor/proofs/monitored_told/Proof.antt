@@ -1,7 +1,6 @@
 -- What word 0 tells of a writing: each case by the definition.
 use Rattle.desk_monitor.specs.HostWrite.{monitoredTold}
 use borrow.Author.Needs.{needs}
-use native.Mathlib.Omega.{arith}
 use Rattle.desk_monitor.proofs.monitored_told.Statement.{statement}
 use Rattle.desk_monitor.proofs.monitored_told.Tie as tie
 

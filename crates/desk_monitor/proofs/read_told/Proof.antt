@@ -1,7 +1,6 @@
 -- What word 0 tells of a reading: each case by the definition.
 use Rattle.desk_monitor.specs.HostRead.{monitorReadTold}
 use borrow.Author.Needs.{needs}
-use native.Mathlib.Omega.{arith}
 use Rattle.desk_monitor.proofs.read_told.Statement.{statement}
 use Rattle.desk_monitor.proofs.read_told.Tie as tie
 

@@ -2,7 +2,6 @@
 use mathlib.Core.Path.{refl}
 use Rattle.little.specs.Little.{littleBytes}
 use borrow.Author.Needs.{needs}
-use native.Mathlib.Omega.{arith}
 use Rattle.monitor.proofs.four_bytes.Statement.{statement}
 use Rattle.monitor.proofs.four_bytes.Tie as tie
 

@@ -3,7 +3,6 @@ use borrow.Author.Tests.{not-true, not-false}
 use mathlib.Core.Path.{sym, _∙_}
 use Rattle.monitor.specs.Monitor.{frameFine}
 use borrow.Author.Needs.{needs}
-use native.Mathlib.Omega.{arith}
 use Rattle.monitor.proofs.frame_fine.Statement.{statement}
 use Rattle.monitor.proofs.frame_fine.Tie as tie
 

@@ -2,8 +2,6 @@
 use borrow.Author.Tests.{le-leb, lt-leb}
 use Rattle.monitor.proofs.Laws.{halves-fit}
 use Rattle.monitor.specs.Monitor.{framesRoom}
-use borrow.Author.Needs.{needs}
-use native.Mathlib.Omega.{arith}
 use Rattle.monitor.proofs.frames_room.Statement.{statement}
 use Rattle.monitor.proofs.frames_room.Tie as tie
 

@@ -1,6 +1,5 @@
 -- A record written byte by byte: the loop of the laws on areas, of a list of sixteen.
 use Prim.Native.Nat.{_-_}
-use mathlib.Core.Path.{_≡_, sym}
 use Rattle.laws.proofs.Parts.{Spells, spells-start, spells-more, spells-done}
 use Rattle.monitor.proofs.Laws.{record-size}
 use Rattle.monitor.specs.Monitor.{monitorRecord}

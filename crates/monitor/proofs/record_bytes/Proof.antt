@@ -2,7 +2,6 @@
 use Rattle.monitor.specs.Monitor.{monitorRecord}
 use Rattle.little.specs.Little.{littleBytes}
 use borrow.Author.Needs.{needs}
-use native.Mathlib.Omega.{arith}
 use Rattle.monitor.proofs.record_bytes.Statement.{statement}
 use Rattle.monitor.proofs.record_bytes.Tie as tie
 

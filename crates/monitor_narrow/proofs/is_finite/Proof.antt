@@ -1,7 +1,5 @@
 -- Finite, by the comparison with the infinity's pattern: the law `finite-by-limit` at the bits.
 use Rattle.monitor_narrow.proofs.Laws.{finite-by-limit}
-use borrow.Author.Needs.{needs}
-use native.Mathlib.Omega.{arith}
 use Rattle.monitor_narrow.proofs.is_finite.Statement.{statement}
 use Rattle.monitor_narrow.proofs.is_finite.Tie as tie
 

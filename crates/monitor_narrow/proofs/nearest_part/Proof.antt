@@ -1,7 +1,7 @@
 -- The nearest whole number: the remainder, doubled, is below the unit, above it or at it, and 1 << d is 2^d.
 use Prim.Native.Nat.{_^_}
 use Rattle.laws.proofs.Numbers.{shl-one}
-use Rattle.monitor_narrow.proofs.Laws.{nearest-down, nearest-up, nearest-even, part-most, unit-pos, rest-most}
+use Rattle.monitor_narrow.proofs.Laws.{nearest-down, nearest-up, nearest-even, part-most, unit-pos, remainder-most}
 use borrow.Author.Needs.{needs}
 use native.Mathlib.Omega.{arith}
 use Rattle.monitor_narrow.proofs.nearest_part.Statement.{statement}
@@ -17,7 +17,7 @@ rem-twice : tie.Need-rem-twice
 rem-twice c = rw (shl-one (c .args .d) (omega arith)) (unit-pos (c .args .d))
 
 mul-twice : tie.Need-mul-twice
-mul-twice c = rw (shl-one (c .args .d) (omega arith)) (omega (arith, rest-most (c .args .m) (c .args .d) (c .pre .1)))
+mul-twice c = rw (shl-one (c .args .d) (omega arith)) (omega (arith, remainder-most (c .args .m) (c .args .d) (c .pre .1)))
 
 returns : tie.Need-returns
 returns c = rw (shl-one (c .before .args .d) (omega arith)) (nearest-down (c .before .args .m) (2 ^ (c .before .args .d)) (rw (shl-one (c .before .args .d) (omega arith)) at (c .if1 .taken)), omega (arith, part-most (c .before .args .m) (2 ^ (c .before .args .d)) (c .before .pre .0)))

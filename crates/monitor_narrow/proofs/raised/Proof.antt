@@ -2,9 +2,7 @@
 use native.Mathlib.Nat.{mod-eq-of-lt}
 use Prim.Native.Nat.{_*_, _-_, _^_}
 use lib.Count.{leadingZeros}
-use mathlib.Core.Path.{_≡_, ap, _∙_}
 use Rattle.elementary.proofs.Parts.{placed}
-use Rattle.monitor_narrow.specs.Narrow.{widenOf}
 use Rattle.monitor_narrow.proofs.Laws.{raised-none, raised-some}
 use borrow.Author.Needs.{needs}
 use native.Mathlib.Omega.{arith}

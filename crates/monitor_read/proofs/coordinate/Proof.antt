@@ -1,7 +1,6 @@
 -- The four bytes of a coordinate, by the reader of little-endian numbers.
 use Rattle.monitor_read.specs.MonitorRead.{coordinateAt}
 use borrow.Author.Needs.{needs}
-use native.Mathlib.Omega.{arith}
 use Rattle.monitor_read.proofs.coordinate.Statement.{statement}
 use Rattle.monitor_read.proofs.coordinate.Tie as tie
 

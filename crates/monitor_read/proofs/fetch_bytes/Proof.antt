@@ -1,9 +1,8 @@
 -- A byte of each record: the loop of the laws that fills an area's front.
 use Rattle.monitor_read.specs.MonitorRead.{byteAt}
-use Prim.Native.Nat.{_-_, _*_}
+use Prim.Native.Nat.{_-_}
 use Rattle.areas.proofs.Fetched.{Fetches, fetches-start, fetches-more, fetches-done}
 use borrow.Author.Needs.{needs}
-use native.Mathlib.Omega.{arith}
 use Rattle.monitor_read.proofs.fetch_bytes.Statement.{statement}
 use Rattle.monitor_read.proofs.fetch_bytes.Tie as tie
 

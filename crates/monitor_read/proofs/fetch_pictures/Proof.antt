@@ -1,6 +1,6 @@
 -- The pictures, one after the other: the loop of the laws that fills an area's front.
 use Rattle.monitor_read.specs.MonitorRead.{monitorPicture}
-use Prim.Native.Nat.{_-_, _*_}
+use Prim.Native.Nat.{_-_}
 use Rattle.areas.proofs.Fetched.{Fetches, fetches-start, fetches-more, fetches-done}
 use borrow.Author.Needs.{needs}
 use native.Mathlib.Omega.{arith}

@@ -3,7 +3,6 @@ use Rattle.monitor_read.specs.MonitorRead.{widenedAt}
 use Prim.Native.Nat.{_-_, _*_}
 use Rattle.areas.proofs.Fetched.{Fetches, fetches-start, fetches-more, fetches-done}
 use borrow.Author.Needs.{needs}
-use native.Mathlib.Omega.{arith}
 use Rattle.monitor_read.proofs.fetch_positions.Statement.{statement}
 use Rattle.monitor_read.proofs.fetch_positions.Tie as tie
 

@@ -4,7 +4,6 @@ use mathlib.Core.Path.{sym, _∙_}
 use Rattle.laws.proofs.First.{Seeks, seek-start, seek-more, seek-stop, seek-done}
 use Rattle.monitor_read.specs.MonitorRead.{brokenAt, wholeMonitor}
 use borrow.Author.Needs.{needs}
-use native.Mathlib.Omega.{arith}
 use Rattle.monitor_read.proofs.first_broken.Statement.{statement}
 use Rattle.monitor_read.proofs.first_broken.Tie as tie
 

@@ -2,7 +2,6 @@
 use borrow.Author.Tests.{eq-eqb, ne-eqb}
 use Rattle.monitor.specs.Monitor.{followsAt}
 use borrow.Author.Needs.{needs}
-use native.Mathlib.Omega.{arith}
 use Rattle.monitor_read.proofs.follows_in.Statement.{statement}
 use Rattle.monitor_read.proofs.follows_in.Tie as tie
 

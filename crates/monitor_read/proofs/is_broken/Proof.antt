@@ -3,7 +3,6 @@ use borrow.Author.Tests.{not-true, not-false}
 use mathlib.Core.Path.{sym, _∙_}
 use Rattle.monitor_read.specs.MonitorRead.{brokenAt}
 use borrow.Author.Needs.{needs}
-use native.Mathlib.Omega.{arith}
 use Rattle.monitor_read.proofs.is_broken.Statement.{statement}
 use Rattle.monitor_read.proofs.is_broken.Tie as tie
 

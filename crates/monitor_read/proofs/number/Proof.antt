@@ -1,7 +1,6 @@
 -- The number of an answer: each case by the definition.
 use Rattle.monitor_read.specs.MonitorRead.{monitorReadNumber}
 use borrow.Author.Needs.{needs}
-use native.Mathlib.Omega.{arith}
 use Rattle.monitor_read.proofs.number.Statement.{statement}
 use Rattle.monitor_read.proofs.number.Tie as tie
 

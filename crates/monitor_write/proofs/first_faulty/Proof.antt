@@ -4,7 +4,6 @@ use mathlib.Core.Path.{sym, _∙_}
 use Rattle.laws.proofs.First.{Seeks, seek-start, seek-more, seek-stop, seek-done}
 use Rattle.monitor_write.specs.MonitorWrite.{faultyAt}
 use borrow.Author.Needs.{needs}
-use native.Mathlib.Omega.{arith}
 use Rattle.monitor_write.proofs.first_faulty.Statement.{statement}
 use Rattle.monitor_write.proofs.first_faulty.Tie as tie
 

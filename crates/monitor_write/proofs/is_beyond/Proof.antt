@@ -2,7 +2,6 @@
 use mathlib.Core.Path.{sym, _∙_}
 use Rattle.monitor_write.specs.MonitorWrite.{pastAt}
 use borrow.Author.Needs.{needs}
-use native.Mathlib.Omega.{arith}
 use Rattle.monitor_write.proofs.is_beyond.Statement.{statement}
 use Rattle.monitor_write.proofs.is_beyond.Tie as tie
 

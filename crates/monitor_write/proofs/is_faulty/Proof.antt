@@ -2,7 +2,6 @@
 use mathlib.Core.Path.{sym, _∙_}
 use Rattle.monitor_write.specs.MonitorWrite.{faultyAt}
 use borrow.Author.Needs.{needs}
-use native.Mathlib.Omega.{arith}
 use Rattle.monitor_write.proofs.is_faulty.Statement.{statement}
 use Rattle.monitor_write.proofs.is_faulty.Tie as tie
 

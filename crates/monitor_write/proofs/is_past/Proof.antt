@@ -1,7 +1,6 @@
 -- Whether narrowing gave nothing: each case by the definition.
 use Rattle.monitor_write.specs.MonitorWrite.{isPast}
 use borrow.Author.Needs.{needs}
-use native.Mathlib.Omega.{arith}
 use Rattle.monitor_write.proofs.is_past.Statement.{statement}
 use Rattle.monitor_write.proofs.is_past.Tie as tie
 

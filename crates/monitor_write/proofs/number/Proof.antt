@@ -1,7 +1,6 @@
 -- The number of an answer: each case by the definition.
 use Rattle.monitor_write.specs.MonitorWrite.{monitoredNumber}
 use borrow.Author.Needs.{needs}
-use native.Mathlib.Omega.{arith}
 use Rattle.monitor_write.proofs.number.Statement.{statement}
 use Rattle.monitor_write.proofs.number.Tie as tie
 

@@ -4,7 +4,6 @@ use Rattle.laws.proofs.Laid.{Lays, lays-start, lays-done}
 use Rattle.monitor_write.proofs.Laws.{records-more, row-size}
 use Rattle.monitor_write.specs.MonitorWrite.{monitorRow}
 use borrow.Author.Needs.{needs}
-use native.Mathlib.Omega.{arith}
 use Rattle.monitor_write.proofs.put_records.Statement.{statement}
 use Rattle.monitor_write.proofs.put_records.Tie as tie
 

@@ -4,7 +4,6 @@ use mathlib.Core.Path.{sym, _∙_}
 use Rattle.monitor_write.proofs.Laws.{records-fit}
 use Rattle.monitor_write.specs.MonitorWrite.{roomToWrite}
 use borrow.Author.Needs.{needs}
-use native.Mathlib.Omega.{arith}
 use Rattle.monitor_write.proofs.room.Statement.{statement}
 use Rattle.monitor_write.proofs.room.Tie as tie
 

@@ -1,7 +1,6 @@
 -- The bits that narrowing gave: each case by the definition.
 use Rattle.monitor_write.specs.MonitorWrite.{singleBits}
 use borrow.Author.Needs.{needs}
-use native.Mathlib.Omega.{arith}
 use Rattle.monitor_write.proofs.single_bits.Statement.{statement}
 use Rattle.monitor_write.proofs.single_bits.Tie as tie
 
