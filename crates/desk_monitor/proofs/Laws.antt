@@ -16,7 +16,8 @@ module _ (n : ℕ) (P S B X t a : List ℕ) where
   unfolding hostMonitorWrite
   write-mute e = rw (eq-eqb (length a) 0 e)
 
-  pub write-answered : {x : Monitored} {t' : List ℕ} {v k : ℕ} → (length a ≡ 0 → ⊥) → monitorWriting x t' ≡ writeMonitor n P S B X t → v ≡ monitoredTold x → k ≡ monitoredNumber x → hostMonitored k t' (set a 0 v) ≡ hostMonitorWrite n P S B X t a
+  pub write-answered : {x : Monitored} {t' : List ℕ} {v k : ℕ} → (length a ≡ 0 → ⊥) → monitorWriting x t' ≡ writeMonitor n P S B X t → v ≡ monitoredTold x → k ≡ monitoredNumber x
+      → hostMonitored k t' (set a 0 v) ≡ hostMonitorWrite n P S B X t a
   unfolding hostMonitorWrite
   write-answered {x} {t'} {v} {k} some o ev ek = rw (ne-eqb (length a) 0 some, sym o, ev, ek)
 
@@ -25,6 +26,7 @@ module _ (f P S B X a : List ℕ) where
   unfolding hostMonitorRead
   read-mute e = rw (eq-eqb (length a) 0 e)
 
-  pub read-answered : {x : MonitorRead} {P' S' B' X' : List ℕ} {v k : ℕ} → (length a ≡ 0 → ⊥) → monitorReading x P' S' B' X' ≡ readMonitor f P S B X → v ≡ monitorReadTold x → k ≡ monitorReadNumber x → hostMonitorReading k P' S' B' X' (set a 0 v) ≡ hostMonitorRead f P S B X a
+  pub read-answered : {x : MonitorRead} {P' S' B' X' : List ℕ} {v k : ℕ} → (length a ≡ 0 → ⊥) → monitorReading x P' S' B' X' ≡ readMonitor f P S B X → v ≡ monitorReadTold x
+      → k ≡ monitorReadNumber x → hostMonitorReading k P' S' B' X' (set a 0 v) ≡ hostMonitorRead f P S B X a
   unfolding hostMonitorRead
   read-answered {x} {P'} {S'} {B'} {X'} {v} {k} some o ev ek = rw (ne-eqb (length a) 0 some, sym o, ev, ek)

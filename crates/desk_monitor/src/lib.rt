@@ -40,7 +40,10 @@ pub fn host_monitor_write(
     target: &mut [u8],
     answer: &mut [u64],
 ) -> u32
-    ensures { λ k. ⌜ hostMonitored k (now (target .exit)) (now (answer .exit)) ≡ hostMonitorWrite n (now (pictures .entry)) (now (sides .entry)) (now (fields .entry)) (now (positions .entry)) (now (target .entry)) (now (answer .entry)) ⌝ }
+    ensures { λ k. ⌜
+        hostMonitored k (now (target .exit)) (now (answer .exit))
+        ≡ hostMonitorWrite n (now (pictures .entry)) (now (sides .entry)) (now (fields .entry)) (now (positions .entry)) (now (target .entry)) (now (answer .entry))
+        ⌝ }
 {
     if answer.len() == 0 {
         return 12;
@@ -59,7 +62,10 @@ pub fn host_monitor_read(
     positions: &mut [u64],
     answer: &mut [u64],
 ) -> u32
-    ensures { λ k. ⌜ hostMonitorReading k (now (pictures .exit)) (now (sides .exit)) (now (fields .exit)) (now (positions .exit)) (now (answer .exit)) ≡ hostMonitorRead (now (file .entry)) (now (pictures .entry)) (now (sides .entry)) (now (fields .entry)) (now (positions .entry)) (now (answer .entry)) ⌝ }
+    ensures { λ k. ⌜
+        hostMonitorReading k (now (pictures .exit)) (now (sides .exit)) (now (fields .exit)) (now (positions .exit)) (now (answer .exit))
+        ≡ hostMonitorRead (now (file .entry)) (now (pictures .entry)) (now (sides .entry)) (now (fields .entry)) (now (positions .entry)) (now (answer .entry))
+        ⌝ }
 {
     if answer.len() == 0 {
         return 12;

@@ -30,7 +30,7 @@ followsAt P B i = eqb i 0 || mayFollow (P (i - 1)) (B (i - 1)) (P i) (B i)
 unfoldable pub framesRoom : ℕ → ℕ → ℕ → ℕ → ℕ → Bool
 framesRoom n p s b x = leb n p && leb n s && leb n b && leb (2 * n) x
 
--- that is
+-- what framesRoom has shown of them
 pub record FramesLie (n p s b x : ℕ) : Type 0 where
   pub pictures-long : n ≤ p
   pub sides-long : n ≤ s

@@ -1,4 +1,4 @@
--- What the code of narrowing and widening cites: each by the fields of the bits. Assumes nothing.
+-- What the code of narrowing and widening cites: each by the exponent's bits and the digits. Assumes nothing.
 use mathlib.Core.Path.{_≡_, refl, sym, ap, _∙_}
 use Prim.Native.Nat.{ℕ, zero, suc, _+_, _-_, _*_, _/_, _%_, _^_, _≤_, _<_}
 use native.Mathlib.Nat.{lt-of-le-of-lt, lt-of-lt-of-le, zero-add, add-zero, lt-irrefl, div-le-self, mod-lt}
@@ -17,7 +17,8 @@ use lib.Ieee.Order.{drop, kept}
 use borrow.Author.Tests.{eq-eqb, ne-eqb, lt-ltb, le-ltb, le-leb, lt-leb}
 use Rattle.elementary.proofs.Parts.{placed}
 use Rattle.monitor_narrow.specs.declared.Narrowed.the-variants.{Single, Past}
-use Rattle.monitor_narrow.specs.Narrow.{singleOf, toldSingle, narrowOf, widenOf, finiteSingle, magnitudeOf}
+use Rattle.monitor_narrow.specs.Narrow.{singleOf, toldSingle, narrowOf, widenOf, finiteSingle}
+use Rattle.monitor_narrow.specs.Steps.{magnitudeOf}
 use Rattle.monitor_narrow.proofs.Patterns.{value-as, pattern, leadOf, fields-value, fields-finite}
 use Rattle.monitor_narrow.proofs.Rounds.{telling, field64, digits64, lead64, double-value, double-finite, lead-most, lead-is, compare-less, compare-same, compare-more, told-value, tiny-kept, tiny-drop, low-magnitude, high-magnitude, scaled}
 
@@ -59,7 +60,9 @@ not-finite-told (inf s) h = refl
 not-finite-told (fin s m e) h = absurd (true≢false h)
 
 module _ (b : ℕ) where
-  pub narrow-told : field64 b < 2047 → narrowOf b ≡ telling (leb (2 ^ 63) b) (drop 24 (lead64 b * 2 ^ (field64 b - 1) * 2 ^ 149) (2 ^ 1074) * 2 ^ 23 + kept 24 (lead64 b * 2 ^ (field64 b - 1) * 2 ^ 149) (2 ^ 1074))
+  pub narrow-told : field64 b < 2047
+      → narrowOf b ≡ telling (leb (2 ^ 63) b)
+      (drop 24 (lead64 b * 2 ^ (field64 b - 1) * 2 ^ 149) (2 ^ 1074) * 2 ^ 23 + kept 24 (lead64 b * 2 ^ (field64 b - 1) * 2 ^ 149) (2 ^ 1074))
   unfolding narrowOf
   narrow-told h = told-value (ofBits binary64 b) (leb (2 ^ 63) b) (lead64 b * 2 ^ (field64 b - 1)) (2 ^ 1074) (pow-pos 1074) (double-value b h)
 
@@ -70,7 +73,9 @@ module _ (b : ℕ) where
       let z : drop 24 n (2 ^ 1074) * 2 ^ 23 + kept 24 n (2 ^ 1074) ≡ 0 = rw (tiny-kept (lead64 b) x (lead-most b) (omega arith), tiny-drop (lead64 b) x (lead-most b) (omega arith)) in
       ap Single (sign-narrowed b w ∙ sym (add-zero (cond (leb (2 ^ 63) b) (2 ^ 31) 0))) ∙ sym (narrow-told (omega arith) ∙ ap (telling (leb (2 ^ 63) b)) z)
 
-  magnitude-is : 873 ≤ field64 b → drop 24 (lead64 b * 2 ^ (field64 b - 1) * 2 ^ 149) (2 ^ 1074) * 2 ^ 23 + kept 24 (lead64 b * 2 ^ (field64 b - 1) * 2 ^ 149) (2 ^ 1074) ≡ magnitudeOf (field64 b) (2 ^ 52 + digits64 b)
+  magnitude-is : 873 ≤ field64 b
+      → drop 24 (lead64 b * 2 ^ (field64 b - 1) * 2 ^ 149) (2 ^ 1074) * 2 ^ 23 + kept 24 (lead64 b * 2 ^ (field64 b - 1) * 2 ^ 149) (2 ^ 1074) ≡ magnitudeOf (field64 b)
+      (2 ^ 52 + digits64 b)
   unfolding magnitudeOf
   magnitude-is h =
       let y = field64 b in
@@ -106,7 +111,7 @@ module _ (b : ℕ) where
     pub narrow-past : 255 * 2 ^ 23 ≤ w → Past ≡ narrowOf b
     narrow-past m = sym (narrow-is h ∙ rw (← e, le-ltb w (255 * 2 ^ 23) m))
 
--- ---- the fields of a single-precision value
+-- ---- the exponent's bits and the digits of a single-precision value
 
 abbrev pub field32 : ℕ → ℕ
 field32 b = b % 2 ^ 31 / 2 ^ 23
@@ -155,7 +160,8 @@ raise : (m a z k : ℕ) → a + 1074 ≡ z + k + 149 → m * 2 ^ a * 2 ^ 1074 �
 raise m a z k e = scaled m a 1074 ∙ ap (λ (y : ℕ). m * 2 ^ y) e ∙ sym (ap (λ (y : ℕ). y * 2 ^ 149) (scaled m z k) ∙ scaled m (z + k) 149)
 
 -- m of the smallest single-precision values times 2^a, z of whose digits lie below the leading one's place
-raised-pattern : (v : Float) (s : Bool) (m a z k : ℕ) → HasValue v s (m * 2 ^ a) (2 ^ 149) → a + 1074 ≡ z + k + 149 → m * 2 ^ z < 2 ^ 53 → 2 ^ 52 ≤ m * 2 ^ z → toBits binary64 v ≡ cond s (2 ^ 63) 0 + (k * 2 ^ 52 + m * 2 ^ z)
+raised-pattern : (v : Float) (s : Bool) (m a z k : ℕ) → HasValue v s (m * 2 ^ a) (2 ^ 149) → a + 1074 ≡ z + k + 149 → m * 2 ^ z < 2 ^ 53 → 2 ^ 52 ≤ m * 2 ^ z
+    → toBits binary64 v ≡ cond s (2 ^ 63) 0 + (k * 2 ^ 52 + m * 2 ^ z)
 raised-pattern v s m a z k h e l u = pattern binary64 v s (m * 2 ^ z) k (value-as v s (m * 2 ^ a) (2 ^ 149) (m * 2 ^ z * 2 ^ k) (2 ^ 1074) (pow-pos 149) (raise m a z k e) h) l (λ p. u)
 
 lead-single : (x t : ℕ) → 0 < x → leadOf binary32 x t ≡ 2 ^ 23 + t
@@ -172,7 +178,7 @@ widen-normal b w n z =
     raised-pattern (ofBits binary32 b) (leb (2 ^ 31) b) (2 ^ 23 + t) (x - 1) 29 (895 + x) (rw e at (single-value b (omega arith))) (omega arith) (omega arith) (omega arith) in
     omega (arith, p, sign-widened b w)
 
--- ---- the exponent's field 0
+-- ---- the exponent's bits 0
 
 signed-bits : (s : Bool) (m : ℕ) (e : ℤ) → toBits binary64 (fin s m e) ≡ cond s (2 ^ 63) 0 + toBits binary64 (fin false m e)
 unfolding toBits

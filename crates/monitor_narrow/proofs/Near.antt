@@ -48,7 +48,8 @@ module _ (A u v : ℕ) (p : 0 < u) where
   ]
 
 -- how far the nearest is, with what is known of it
-taken : (A u w r q : ℕ) → w * u + r ≡ A → r < u → ((r * 2 < u) × (q ≡ w)) ⊎ (((u < r * 2) × (q ≡ suc w)) ⊎ ((r * 2 ≡ u) × (q ≡ w + w % 2))) → ((r * 2 < u) × (q ≡ w) × (differ A (q * u) ≡ r)) ⊎ (((u < r * 2) × (q ≡ suc w) × (differ A (q * u) ≡ u - r)) ⊎ ((r * 2 ≡ u) × (q % 2 ≡ 0) × (differ A (q * u) ≡ r)))
+taken : (A u w r q : ℕ) → w * u + r ≡ A → r < u → ((r * 2 < u) × (q ≡ w)) ⊎ (((u < r * 2) × (q ≡ suc w)) ⊎ ((r * 2 ≡ u) × (q ≡ w + w % 2)))
+    → ((r * 2 < u) × (q ≡ w) × (differ A (q * u) ≡ r)) ⊎ (((u < r * 2) × (q ≡ suc w) × (differ A (q * u) ≡ u - r)) ⊎ ((r * 2 ≡ u) × (q % 2 ≡ 0) × (differ A (q * u) ≡ r)))
 taken A u w r q e h (inl x) = inl (x .0, x .1, beside A u q w r e h .at (x .1))
 taken A u w r q e h (inr (inl x)) = inr (inl (x .0, x .1, beside A u q w r e h .next (x .1)))
 taken A u w r q e h (inr (inr x)) = inr (inr (
@@ -82,7 +83,8 @@ module _ (A u v : ℕ) (p : 0 < u) where
   abbrev q : ℕ
   q = closest A u
 
-  by-place : ((r * 2 < u) × (q ≡ w) × (differ A (q * u) ≡ r)) ⊎ (((u < r * 2) × (q ≡ suc w) × (differ A (q * u) ≡ u - r)) ⊎ ((r * 2 ≡ u) × (q % 2 ≡ 0) × (differ A (q * u) ≡ r))) → ((v ≡ w) × (differ A (v * u) ≡ r)) ⊎ (((v ≡ suc w) × (differ A (v * u) ≡ u - r)) ⊎ (u ≤ differ A (v * u))) → r < u
+  by-place : ((r * 2 < u) × (q ≡ w) × (differ A (q * u) ≡ r)) ⊎ (((u < r * 2) × (q ≡ suc w) × (differ A (q * u) ≡ u - r)) ⊎ ((r * 2 ≡ u) × (q % 2 ≡ 0) × (differ A (q * u) ≡ r)))
+      → ((v ≡ w) × (differ A (v * u) ≡ r)) ⊎ (((v ≡ suc w) × (differ A (v * u) ≡ u - r)) ⊎ (u ≤ differ A (v * u))) → r < u
       → (differ A (q * u) ≤ differ A (v * u)) × (differ A (q * u) ≡ differ A (v * u) → (v ≡ q) ⊎ (q % 2 ≡ 0))
   by-place (inl x) (inl y) h = (omega arith, λ t. inl (y .0 ∙ sym (x .1)))
   by-place (inl x) (inr (inl y)) h = (omega arith, λ t. absurd (omega arith))

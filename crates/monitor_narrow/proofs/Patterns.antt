@@ -1,4 +1,4 @@
--- The bits of a finite value by its size in units of the format's smallest value, and the size of a value by the fields of its bits. Assumes nothing.
+-- The bits of a finite value by its size in units of the format's smallest value, and the size of a value by its exponent's bits and digits. Assumes nothing.
 use mathlib.Core.Path.{_≡_, refl, sym, ap, _∙_}
 use Prim.Native.Nat.{ℕ, zero, suc, _+_, _-_, _*_, _/_, _^_, _≤_, _<_}
 use native.Mathlib.Nat.{le-trans, le-of-eq, lt-of-le-of-lt, eq-or-lt-of-le, add-assoc, mul-right-comm, mul-le-mul-right, mul-div-cancel, eq-of-mul-eq-mul-right}
@@ -30,7 +30,8 @@ value-as (fin t m e) s a c b d p q h = (
 
 -- how many digits are dropped: k, where the leading digit is among those kept
 pub cut-is : (f : Format) (q k : ℕ) → q < 2 ^ prec f → (0 < k → 2 ^ (prec f - 1) ≤ q) → size (q * 2 ^ k) - prec f ≡ k
-cut-is f q k a b = go (prec f) k (size (q * 2 ^ k)) (size-le (q * 2 ^ k) (prec f + k) (shl-lt (prec f) k a)) (λ l. under-back (prec f - 1 + k) (size (q * 2 ^ k)) (lt-of-le-of-lt (lead l) (size-lt (q * 2 ^ k)))) (two f)
+cut-is f q k a b = go (prec f) k (size (q * 2 ^ k)) (size-le (q * 2 ^ k) (prec f + k) (shl-lt (prec f) k a))
+    (λ l. under-back (prec f - 1 + k) (size (q * 2 ^ k)) (lt-of-le-of-lt (lead l) (size-lt (q * 2 ^ k)))) (two f)
   where
     lead : 0 < k → 2 ^ (prec f - 1 + k) ≤ q * 2 ^ k
     lead l = le-trans (le-of-eq (pow-add 2 (prec f - 1) k)) (mul-le-mul-right (2 ^ k) (b l))
@@ -51,7 +52,7 @@ pattern f (fin t m e) s q k h a b =
     ∙ add-assoc (cond t (top f) 0) (k * hid f) q
     ∙ ap (λ (u : Bool). cond u (top f) 0 + (k * hid f + q)) (h .0)
 
--- ---- the size of a value by its fields
+-- ---- the size of a value by its exponent's bits and digits
 
 -- the digits with the leading one
 abbrev pub leadOf : Format → ℕ → ℕ → ℕ

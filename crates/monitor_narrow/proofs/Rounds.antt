@@ -1,4 +1,4 @@
--- Narrowing by the fields of a double's bits: how many digits go, what is kept of the others, and the pattern that this makes. Assumes nothing.
+-- Narrowing by the exponent's bits and the digits of a double: how many digits go, what is kept of the others, and the pattern that this makes. Assumes nothing.
 use mathlib.Core.Path.{_≡_, refl, sym, ap, _∙_, subst}
 use Prim.Native.Nat.{ℕ, zero, suc, _+_, _-_, _*_, _/_, _%_, _^_, _≤_, _<_, compare, Ordering, Ordering·lt, Ordering·eq, Ordering·gt}
 use native.Mathlib.Nat.{le-refl, le-trans, le-of-eq, lt-of-le-of-lt, lt-of-lt-of-le, eq-or-lt-of-le, mul-assoc, mul-comm, mul-le-mul-right, mul-le-mul, mul-pos, mul-lt-mul-of-pos-right, zero-lt-suc, zero-add, lt-irrefl, not-le-of-lt, lt-of-not-le, le-of-suc-le-suc, le-of-mul-le-mul-right, lt-of-mul-lt-mul-right, div-div-eq-div-mul, le-div-iff-mul-le, div-lt-iff-lt-mul, div-eq-of-lt, mod-eq-of-lt}
@@ -112,7 +112,7 @@ told-value v s a c p h =
     let n = a * 2 ^ 149 in
     ap toldSingle (single-units v s a c p h) ∙ told-units (kept 24 n c) (drop 24 n c) (kept-most n c) (kept-least n c) s
 
--- ---- the fields of a double
+-- ---- the exponent's bits and the digits of a double
 
 abbrev pub field64 : ℕ → ℕ
 field64 b = b % 2 ^ 63 / 2 ^ 52
@@ -228,7 +228,9 @@ module _ (m x : ℕ) (most : m < 2 ^ 53) where
   pub high-magnitude : 2 ^ 52 ≤ m → 896 ≤ x → drop 24 n (2 ^ 1074) * 2 ^ 23 + kept 24 n (2 ^ 1074) ≡ (x - 896) * 2 ^ 23 + closest m (2 ^ 29)
   high-magnitude least h =
       let k = x - 896 in
-      let lo : 2 ^ (23 + k) * 2 ^ 1074 ≤ n = le-trans (le-of-eq (sym (pow-add 2 (23 + k) 1074) ∙ ap (λ (y : ℕ). 2 ^ y) (sum k refl) ∙ pow-add 2 (52 + x) 149 ∙ ap (λ (y : ℕ). y * 2 ^ 149) (pow-add 2 52 x))) (mul-le-mul-right (2 ^ 149) (mul-le-mul-right (2 ^ x) least)) in
+      let lo : 2 ^ (23 + k) * 2 ^ 1074 ≤ n = le-trans
+      (le-of-eq (sym (pow-add 2 (23 + k) 1074) ∙ ap (λ (y : ℕ). 2 ^ y) (sum k refl) ∙ pow-add 2 (52 + x) 149 ∙ ap (λ (y : ℕ). y * 2 ^ 149) (pow-add 2 52 x)))
+      (mul-le-mul-right (2 ^ 149) (mul-le-mul-right (2 ^ x) least)) in
       let hi : n < 2 ^ (24 + k) * 2 ^ 1074 = lt-of-lt-of-le (under (24 + k + 1074) (omega arith)) (le-of-eq (pow-add 2 (24 + k) 1074)) in
       ap (λ (j : ℕ). j * 2 ^ 23 + closest n (2 ^ 1074 * 2 ^ j)) (drop-some n (2 ^ 1074) k (pow-pos 1074) lo hi)
       ∙ ap (λ (y : ℕ). k * 2 ^ 23 + y) (closest-same n (2 ^ 1074 * 2 ^ k) m (2 ^ 29) (mul-pos (pow-pos 1074) (pow-pos k)) (pow-pos 29) (cross m x 149 29 1074 k (omega arith)))

@@ -163,7 +163,8 @@ module _ (b : ℕ) (h : field64 b < 2047) where
 
   -- what is kept is the whole number nearest to A / 2^(925 + K)
   kept-closest : Q ≡ closest A (2 ^ (925 + K))
-  kept-closest = closest-same (A * 2 ^ 149) (2 ^ 1074 * 2 ^ K) A (2 ^ (925 + K)) (mul-pos (pow-pos 1074) (pow-pos K)) (pow-pos (925 + K)) (scaled A 149 (925 + K) ∙ ap (λ (y : ℕ). A * y) (ap (λ (y : ℕ). 2 ^ y) (sums K) ∙ pow-add 2 1074 K))
+  kept-closest = closest-same (A * 2 ^ 149) (2 ^ 1074 * 2 ^ K) A (2 ^ (925 + K)) (mul-pos (pow-pos 1074) (pow-pos K)) (pow-pos (925 + K))
+      (scaled A 149 (925 + K) ∙ ap (λ (y : ℕ). A * y) (ap (λ (y : ℕ). 2 ^ y) (sums K) ∙ pow-add 2 1074 K))
     where
       sums : (k : ℕ) → 149 + (925 + k) ≡ 1074 + k
       sums k = omega arith
@@ -172,7 +173,8 @@ module _ (b : ℕ) (h : field64 b < 2047) where
   kept-lead : 0 < K → 2 ^ 23 * 2 ^ (925 + K) ≤ A
   kept-lead l =
       le-of-mul-le-mul-right
-      (le-trans (le-of-eq (scaled (2 ^ 23) (925 + K) 149 ∙ ap (λ (y : ℕ). 2 ^ 23 * y) (ap (λ (y : ℕ). 2 ^ y) (sums K) ∙ pow-add 2 1074 K))) (le-div-iff-mul-le (mul-pos (pow-pos 1074) (pow-pos K)) .0 (whole-lead (A * 2 ^ 149) (2 ^ 1074) l)))
+      (le-trans (le-of-eq (scaled (2 ^ 23) (925 + K) 149 ∙ ap (λ (y : ℕ). 2 ^ 23 * y) (ap (λ (y : ℕ). 2 ^ y) (sums K) ∙ pow-add 2 1074 K)))
+      (le-div-iff-mul-le (mul-pos (pow-pos 1074) (pow-pos K)) .0 (whole-lead (A * 2 ^ 149) (2 ^ 1074) l)))
       (pow-pos 149)
     where
       sums : (k : ℕ) → 925 + k + 149 ≡ 1074 + k
@@ -207,9 +209,14 @@ module _ (b : ℕ) (h : field64 b < 2047) where
           (le-of-lt m, λ t. absurd (lt-irrefl (differ A Z) (subst (λ (y : ℕ). y < differ A Z) t m)))
     ]
 
--- the magnitude of a finite double is a whole number of smallest ones, so that nothing is cut off it; widened, so is a single-precision value's
+-- the magnitude of a finite double is a whole number of smallest ones, so that nothing is cut off it
 pub grains-exact : (b : ℕ) → finite (ofBits binary64 b) ≡ true → HasValue (ofBits binary64 b) (signOf (ofBits binary64 b)) (grainsOf (ofBits binary64 b)) (2 ^ 1074)
 grains-exact b f = let h : field64 b < 2047 = ltb-true (field64 b) 2047 (sym (double-finite b) ∙ f) in rw (own-grains b h .0, own-grains b h .1) (double-value b h)
+
+-- so is that of a finite single-precision value
+pub grains-exact-single : (v : ℕ) → finiteSingle v ≡ true → HasValue (ofBits binary32 v) (signOf (ofBits binary32 v)) (grainsOf (ofBits binary32 v)) (2 ^ 1074)
+unfolding finiteSingle
+grains-exact-single v f = subst (λ (x : Float). HasValue x (signOf x) (grainsOf x) (2 ^ 1074)) (widen-exact v) (grains-exact (widenOf v) (ap finite (widen-exact v) ∙ f))
 
 -- ---- narrowing is to nearest, and at a tie to the even one
 
@@ -257,7 +264,8 @@ none-apart D Z e = omega arith
 other-side : (A D Z : ℕ) → differ A D ≤ differ A 0 → differ A D ≡ A + Z → differ A D ≡ differ A 0
 other-side A D Z l e = omega arith
 
-tie-by-signs : (s t : Bool) (A D Z q : ℕ) → (differ A D ≡ differ A Z → (Z ≡ D) ⊎ (q % 2 ≡ 0)) → (differ A D ≡ differ A 0 → (0 ≡ D) ⊎ (q % 2 ≡ 0)) → (0 ≡ D → q % 2 ≡ 0) → differ A D ≤ differ A 0 → apartBy s s A D ≡ apartBy s t A Z → (apartBy s t D Z ≡ 0) ⊎ (q % 2 ≡ 0)
+tie-by-signs : (s t : Bool) (A D Z q : ℕ) → (differ A D ≡ differ A Z → (Z ≡ D) ⊎ (q % 2 ≡ 0)) → (differ A D ≡ differ A 0 → (0 ≡ D) ⊎ (q % 2 ≡ 0)) → (0 ≡ D → q % 2 ≡ 0)
+    → differ A D ≤ differ A 0 → apartBy s s A D ≡ apartBy s t A Z → (apartBy s t D Z ≡ 0) ⊎ (q % 2 ≡ 0)
 tie-by-signs true true A D Z q f g z l e = ⊎-elim (λ y. inl (none-apart D Z y)) (λ y. inr y) (f e)
 tie-by-signs false false A D Z q f g z l e = ⊎-elim (λ y. inl (none-apart D Z y)) (λ y. inr y) (f e)
 tie-by-signs true false A D Z q f g z l e = inr (⊎-elim z (λ y. y) (g (other-side A D Z l e)))
@@ -327,8 +335,10 @@ module _ (b w : ℕ) (e : narrowOf b ≡ Single w) where
     -- where another lies as near, it is the same number, or the one told is even
     pub narrow-ties-even : apartOf (ofBits binary64 b) (ofBits binary32 w) ≡ apartOf (ofBits binary64 b) (ofBits binary32 v) → (apartOf (ofBits binary32 w) (ofBits binary32 v) ≡ 0) ⊎ (w % 2 ≡ 0)
     narrow-ties-even t =
-        ⊎-elim (λ y. inl (apart-is (ofBits binary32 w) (ofBits binary32 v) s (leb (2 ^ 31) v) D (p * 2 ^ j * 2 ^ 925) kept-grains other-grains ∙ y)) (λ y. inr (rw (pattern-is .1) (even-pattern s (K b h) (Q b h) y)))
-        (tie-by-signs s (leb (2 ^ 31) v) (A b h) D (p * 2 ^ j * 2 ^ 925) (Q b h) (nearer b h p j p-most .1) (beside-zero .1) (none-kept (Q b h) (925 + K b h)) (beside-zero .0) (sym taken-is ∙ t ∙ other-is))
+        ⊎-elim (λ y. inl (apart-is (ofBits binary32 w) (ofBits binary32 v) s (leb (2 ^ 31) v) D (p * 2 ^ j * 2 ^ 925) kept-grains other-grains ∙ y))
+        (λ y. inr (rw (pattern-is .1) (even-pattern s (K b h) (Q b h) y)))
+        (tie-by-signs s (leb (2 ^ 31) v) (A b h) D (p * 2 ^ j * 2 ^ 925) (Q b h) (nearer b h p j p-most .1) (beside-zero .1) (none-kept (Q b h) (925 + K b h)) (beside-zero .0)
+        (sym taken-is ∙ t ∙ other-is))
 
 -- ---- what is past the largest
 
@@ -407,7 +417,9 @@ module _ (b : ℕ) (h : field64 b < 2047) where
       enough : k < 254 → 253 ≤ k
       enough m =
           let z = a * 2 ^ 149 / 2 ^ 1074 in
-          cut (size z) (under-back 276 (size z) (lt-of-le-of-lt (le-div-iff-mul-le (pow-pos 1074) .1 (le-trans (lit≤ {m = 2 ^ 276 * 2 ^ 1074} {n = halfwayPast * 2 ^ 149} tt) (mul-le-mul-right (2 ^ 149) l))) (size-lt z)))
+          cut (size z) (under-back 276 (size z)
+          (lt-of-le-of-lt (le-div-iff-mul-le (pow-pos 1074) .1 (le-trans (lit≤ {m = 2 ^ 276 * 2 ^ 1074} {n = halfwayPast * 2 ^ 149} tt) (mul-le-mul-right (2 ^ 149) l)))
+          (size-lt z)))
 
       full : k ≡ 253 → 2 ^ 24 ≤ q
       full e =
@@ -434,5 +446,6 @@ past-told b (inr l) = elim (decLt (field64 b) 2047) [
   | no n ↦ not-finite-told (ofBits binary64 b) (double-finite b ∙ le-ltb (field64 b) 2047 (omega arith))
   | yes h ↦
       narrow-told b h
-      ∙ ap (λ (t : Bool). cond t (Single (cond (leb (2 ^ 63) b) (2 ^ 31) 0 + (K b h * 2 ^ 23 + Q b h))) Past) (le-ltb (K b h * 2 ^ 23 + Q b h) (255 * 2 ^ 23) (from-halfway b h (rw (own-grains b h .0) at l)))
+      ∙ ap (λ (t : Bool). cond t (Single (cond (leb (2 ^ 63) b) (2 ^ 31) 0 + (K b h * 2 ^ 23 + Q b h))) Past)
+      (le-ltb (K b h * 2 ^ 23 + Q b h) (255 * 2 ^ 23) (from-halfway b h (rw (own-grains b h .0) at l)))
 ]

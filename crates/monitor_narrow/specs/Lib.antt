@@ -1,3 +1,4 @@
 pub mod Narrow
+pub mod Steps
 pub mod Nearness
 pub mod Cases

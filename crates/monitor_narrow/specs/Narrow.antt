@@ -1,9 +1,7 @@
 -- A double-precision position in single precision and back, by their bits, as request 2026-11 has it. Definitions only.
-use mathlib.Core.Bool.{Bool, cond}
-use Prim.Native.Nat.{ℕ, _+_, _-_, _*_, _^_}
-use lib.Dec.{ltb}
+use mathlib.Core.Bool.{Bool}
+use Prim.Native.Nat.{ℕ, _*_}
 use lib.Ieee.{Float, nan, inf, fin, binary32, binary64, up, down, round, ofBits, toBits}
-use lib.Ieee.Nearest.{closest}
 use lib.Ieee.Scale.{finite}
 use Rattle.monitor_narrow.specs.declared.Narrowed.{Narrowed}
 use Rattle.monitor_narrow.specs.declared.Narrowed.the-variants.{Single, Past}
@@ -36,9 +34,3 @@ widenOf b = toBits binary64 (ofBits binary32 b)
 unfoldable pub finiteSingle : ℕ → Bool
 unfolding ofBits
 finiteSingle b = finite (ofBits binary32 b)
-
--- ---- by the fields of the bits
-
--- the pattern, without its sign, for the digits m under a double's exponent field x, from 873 on: below 897 fewer digits are left
-unfoldable pub magnitudeOf : ℕ → ℕ → ℕ
-magnitudeOf x m = cond (ltb x 897) (closest m (2 ^ (926 - x))) ((x - 897) * 2 ^ 23 + closest m (2 ^ 29))

@@ -2,7 +2,8 @@
 ghost use mathlib.Core.Path.{_≡_};
 ghost use Prim.Native.Nat.{_+_, _*_, _^_, _<_, _≤_};
 ghost use lib.Ieee.Nearest.{closest};
-ghost use Rattle.monitor_narrow.specs.Narrow.{narrowOf, widenOf, finiteSingle, magnitudeOf};
+ghost use Rattle.monitor_narrow.specs.Narrow.{narrowOf, widenOf, finiteSingle};
+ghost use Rattle.monitor_narrow.specs.Steps.{magnitudeOf};
 
 // The weight of a double's sign, and of its leading digit.
 const TOP64: u64 = 0x8000000000000000;
@@ -41,7 +42,7 @@ fn nearest_part(m: u64, d: u64) -> u64
     q + q % 2
 }
 
-// The pattern, without its sign, of m digits under the exponent's field x of a double; from INFINITE32 on it is past the largest.
+// The pattern, without its sign, for the digits m where the exponent's bits of a double are x; from INFINITE32 on it is past the largest.
 fn magnitude(x: u64, m: u64) -> u64
     requires { ⌜ (873 ≤ x) × (x < 2048) × (m < 2 ^ 53) ⌝ }
     ensures { λ r. ⌜ r ≡ magnitudeOf x m ⌝ }
@@ -75,7 +76,7 @@ pub fn is_finite(bits: u32) -> bool
     bits as u64 % TOP32 < INFINITE32
 }
 
-// A value with the exponent's field 0 and the sign +: t times the smallest. Its leading zeros place its leading digit.
+// A value with the exponent's bits 0 and the sign +: t times the smallest. Its leading zeros place its leading digit.
 fn raised(t: u64) -> u64
     requires { ⌜ t < 2 ^ 23 ⌝ }
     ensures { λ r. ⌜ (r ≡ widenOf t) × (r < 2 ^ 63) ⌝ }

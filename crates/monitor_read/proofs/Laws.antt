@@ -31,6 +31,8 @@ module _ (f P S B X : List ℕ) (good : isMonitor f ≡ true) where
   unfolding readMonitor
   reading-short e = rw (good, e)
 
-  pub reading-done : (P' S' B' X' : List ℕ) → framesRoom (wholeMonitor f) (length P) (length S) (length B) (length X) ≡ true → P' ≡ fronted (monitorPicture f) (wholeMonitor f) P → S' ≡ fronted (byteAt f 4) (wholeMonitor f) S → B' ≡ fronted (byteAt f 5) (wholeMonitor f) B → X' ≡ fronted (widenedAt f) (2 * wholeMonitor f) X → monitorReading (Read (wholeMonitor f)) P' S' B' X' ≡ readMonitor f P S B X
+  pub reading-done : (P' S' B' X' : List ℕ) → framesRoom (wholeMonitor f) (length P) (length S) (length B) (length X) ≡ true → P' ≡ fronted (monitorPicture f) (wholeMonitor f) P
+      → S' ≡ fronted (byteAt f 4) (wholeMonitor f) S → B' ≡ fronted (byteAt f 5) (wholeMonitor f) B → X' ≡ fronted (widenedAt f) (2 * wholeMonitor f) X
+      → monitorReading (Read (wholeMonitor f)) P' S' B' X' ≡ readMonitor f P S B X
   unfolding readMonitor
   reading-done P' S' B' X' e p s b x = rw (good, e, p, s, b, x)

@@ -3,7 +3,8 @@ ghost use mathlib.Core.Path.{_≡_};
 ghost use Prim.Native.Nat.{_+_, _*_, _/_, _≤_, _<_};
 ghost use lib.ListN.{length};
 ghost use Rattle.monitor.specs.Monitor.{monitorBytes, followsAt};
-ghost use Rattle.monitor_read.specs.MonitorRead.{byteAt, monitorPicture, coordinateAt, coordinatesFine, brokenAt, firstBroken, fronted, widenedAt, monitorReading, readMonitor, monitorReadNumber};
+ghost use Rattle.monitor_read.specs.MonitorRead.{byteAt, monitorPicture, coordinateAt, coordinatesFine, brokenAt, firstBroken};
+ghost use Rattle.monitor_read.specs.MonitorRead.{fronted, widenedAt, monitorReading, readMonitor, monitorReadNumber};
 use frames::may_follow;
 use frames::spare_fine;
 use little::half_word;
@@ -150,7 +151,10 @@ pub fn read_monitor(
     fields: &mut [u8],
     positions: &mut [u64],
 ) -> MonitorRead
-    ensures { λ a. ⌜ monitorReading a (now (pictures .exit)) (now (sides .exit)) (now (fields .exit)) (now (positions .exit)) ≡ readMonitor (now (file .entry)) (now (pictures .entry)) (now (sides .entry)) (now (fields .entry)) (now (positions .entry)) ⌝ }
+    ensures { λ a. ⌜
+        monitorReading a (now (pictures .exit)) (now (sides .exit)) (now (fields .exit)) (now (positions .exit))
+        ≡ readMonitor (now (file .entry)) (now (pictures .entry)) (now (sides .entry)) (now (fields .entry)) (now (positions .entry))
+        ⌝ }
 {
     let n = file.len() / MONITOR_BYTES;
     let k = first_broken(file);

@@ -38,7 +38,8 @@ write-lies n p s b x t e = record {
 
 -- ---- the loop: i records are written
 
-pub records-more : {row : ℕ → List ℕ} {n i : ℕ} {t₀ t t' : List ℕ} → Lays 16 row n t₀ i t → i < n → n * 16 ≤ length t₀ → length (row i) ≡ 16 → length t' ≡ length t → t' ≡ written (row i) (i * 16) t → Lays 16 row n t₀ (i + 1) t'
+pub records-more : {row : ℕ → List ℕ} {n i : ℕ} {t₀ t t' : List ℕ} → Lays 16 row n t₀ i t → i < n → n * 16 ≤ length t₀ → length (row i) ≡ 16 → length t' ≡ length t
+    → t' ≡ written (row i) (i * 16) t → Lays 16 row n t₀ (i + 1) t'
 records-more {row} {n} {i} {t₀} {t} {t'} r h m k s e = lays-more 16 row r h m s (e ∙ lies)
   where
     lies : written (row i) (i * 16) t ≡ take (i * 16) t ++ (row i ++ drop 16 (drop (i * 16) t))

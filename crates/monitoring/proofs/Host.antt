@@ -19,9 +19,12 @@ host-write-refused n P S B X t a = by-bool ((hostMonitorWrite n P S B X t a .num
     (λ e. rw e (write-refused n P S B X t))
 
 -- reading that answers a number leaves all four areas as they were
-pub host-read-refused : (f P S B X a : List ℕ) → (hostMonitorRead f P S B X a .number ≡ 0 → ⊥) → hostMonitorRead f P S B X a ≡ hostMonitorReading (hostMonitorRead f P S B X a .number) P S B X (hostMonitorRead f P S B X a .answer)
+pub host-read-refused : (f P S B X a : List ℕ) → (hostMonitorRead f P S B X a .number ≡ 0 → ⊥)
+    → hostMonitorRead f P S B X a ≡ hostMonitorReading (hostMonitorRead f P S B X a .number) P S B X (hostMonitorRead f P S B X a .answer)
 unfolding hostMonitorRead
 host-read-refused f P S B X a = by-bool
-    ((hostMonitorRead f P S B X a .number ≡ 0 → ⊥) → hostMonitorRead f P S B X a ≡ hostMonitorReading (hostMonitorRead f P S B X a .number) P S B X (hostMonitorRead f P S B X a .answer)) (eqb (length a) 0)
+    ((hostMonitorRead f P S B X a .number ≡ 0 → ⊥)
+    → hostMonitorRead f P S B X a ≡ hostMonitorReading (hostMonitorRead f P S B X a .number) P S B X (hostMonitorRead f P S B X a .answer)) (eqb (length a) 0)
     (λ e. rw e (λ z. refl))
-    (λ e. rw e (λ z. ap (λ (o : MonitorReading). hostMonitorReading (monitorReadNumber (readMonitor f P S B X .answer)) (o .pictures) (o .sides) (o .fields) (o .positions) (set a 0 (monitorReadTold (readMonitor f P S B X .answer)))) (read-refused f P S B X z)))
+    (λ e. rw e (λ z. ap (λ (o : MonitorReading). hostMonitorReading (monitorReadNumber (readMonitor f P S B X .answer)) (o .pictures) (o .sides) (o .fields) (o .positions)
+    (set a 0 (monitorReadTold (readMonitor f P S B X .answer)))) (read-refused f P S B X z)))

@@ -18,6 +18,10 @@ use Rattle.monitor_read.specs.MonitorRead.{byteAt, monitorPicture, brokenAt, wh
 use Rattle.monitor_read.proofs.Laws.{broken-found, stray-tail, all-fit, reading-bad, reading-short, reading-done}
 use Rattle.monitoring.specs.MonitorReasons.{GoodBefore, AllGood, ReadReason}
 
+-- a file of good records with no tail is one for the monitor
+pub good-file : (f : List ℕ) → AllGood f → isMonitor f ≡ true
+good-file f g = all-fit f (wholeMonitor f) (sym (first-none (brokenAt f) (wholeMonitor f) (g .0))) (le-of-eq refl) (g .1)
+
 module _ (f P S B X : List ℕ) where
   abbrev pub takenReading : MonitorReading
   takenReading = monitorReading (Read (wholeMonitor f)) (fronted (monitorPicture f) (wholeMonitor f) P) (fronted (byteAt f 4) (wholeMonitor f) S) (fronted (byteAt f 5) (wholeMonitor f) B) (fronted (widenedAt f) (2 * wholeMonitor f) X)
@@ -25,18 +29,14 @@ module _ (f P S B X : List ℕ) where
   answered : (a : MonitorRead) (P' S' B' X' : List ℕ) → monitorReading a P' S' B' X' ≡ readMonitor f P S B X → a ≡ readMonitor f P S B X .answer
   answered a P' S' B' X' e = ap (λ (o : MonitorReading). o .answer) e
 
-  -- a file of good records with no tail is one for the monitor
-  pub good-file : AllGood f P S B X → isMonitor f ≡ true
-  good-file g = all-fit f (wholeMonitor f) (sym (first-none (brokenAt f) (wholeMonitor f) (g .0))) (le-of-eq refl) (g .1)
-
-  pub out-filled : AllGood f P S B X → framesRoom (wholeMonitor f) (length P) (length S) (length B) (length X) ≡ true → takenReading ≡ readMonitor f P S B X
-  out-filled g e = reading-done f P S B X (good-file g) (fronted (monitorPicture f) (wholeMonitor f) P) (fronted (byteAt f 4) (wholeMonitor f) S) (fronted (byteAt f 5) (wholeMonitor f) B) (fronted (widenedAt f) (2 * wholeMonitor f) X) e refl refl refl refl
+  pub out-filled : AllGood f → framesRoom (wholeMonitor f) (length P) (length S) (length B) (length X) ≡ true → takenReading ≡ readMonitor f P S B X
+  out-filled g e = reading-done f P S B X (good-file f g) (fronted (monitorPicture f) (wholeMonitor f) P) (fronted (byteAt f 4) (wholeMonitor f) S) (fronted (byteAt f 5) (wholeMonitor f) B) (fronted (widenedAt f) (2 * wholeMonitor f) X) e refl refl refl refl
 
   -- what holds of each outcome holds of the call's
   by-outcome : (G : MonitorReading → Type 0)
-      → ((k : ℕ) → GoodBefore f P S B X k → ((k < wholeMonitor f) × (brokenAt f k ≡ true)) ⊎ ((k ≡ wholeMonitor f) × (length f % 16 ≡ 0 → ⊥)) → G (monitorReading (Bad k) P S B X))
-      → (AllGood f P S B X → framesRoom (wholeMonitor f) (length P) (length S) (length B) (length X) ≡ false → G (monitorReading Short P S B X))
-      → (AllGood f P S B X → framesRoom (wholeMonitor f) (length P) (length S) (length B) (length X) ≡ true → G takenReading)
+      → ((k : ℕ) → GoodBefore f k → ((k < wholeMonitor f) × (brokenAt f k ≡ true)) ⊎ ((k ≡ wholeMonitor f) × (length f % 16 ≡ 0 → ⊥)) → G (monitorReading (Bad k) P S B X))
+      → (AllGood f → framesRoom (wholeMonitor f) (length P) (length S) (length B) (length X) ≡ false → G (monitorReading Short P S B X))
+      → (AllGood f → framesRoom (wholeMonitor f) (length P) (length S) (length B) (length X) ≡ true → G takenReading)
       → G (readMonitor f P S B X)
   by-outcome G bad short taken =
       let p = brokenAt f in
@@ -51,10 +51,10 @@ module _ (f P S B X : List ℕ) where
       let m = ltb-false k n l in
       by-bool goal (eqb (length f % 16) 0)
       (λ z.
-      let g : AllGood f P S B X = (first-all p n m, eqb-true (length f % 16) 0 z) in
+      let g : AllGood f = (first-all p n m, eqb-true (length f % 16) 0 z) in
       by-bool goal (framesRoom n (length P) (length S) (length B) (length X))
       (λ e. subst G (out-filled g e) (taken g e))
-      (λ e. subst G (reading-short f P S B X (good-file g) e) (short g e)))
+      (λ e. subst G (reading-short f P S B X (good-file f g) e) (short g e)))
       (λ z. subst G (reading-bad f k refl P S B X (stray-tail f k refl m (eqb-false (length f % 16) 0 z))) (bad k (first-before p n) (inr (le-antisymm (first-le p n) m, eqb-false (length f % 16) 0 z)))))
 
   -- the condition of what is answered holds
@@ -68,9 +68,9 @@ module _ (f P S B X : List ℕ) where
       let found : k ≡ firstBroken f = sym (first-at (brokenAt f) (wholeMonitor f) k (w .0) (w .1) g) in
       answered (Bad k) P S B X (reading-bad f k found P S B X (broken-found f k found (w .0)))
   read-reason-only (Bad k) (g, inr w) =
-      let found : k ≡ firstBroken f = w .0 ∙ sym (first-none (brokenAt f) (wholeMonitor f) (subst (GoodBefore f P S B X) (w .0) g)) in
+      let found : k ≡ firstBroken f = w .0 ∙ sym (first-none (brokenAt f) (wholeMonitor f) (subst (GoodBefore f) (w .0) g)) in
       answered (Bad k) P S B X (reading-bad f k found P S B X (stray-tail f k found (le-of-eq (sym (w .0))) (w .1)))
-  read-reason-only Short r = answered Short P S B X (reading-short f P S B X (good-file (r .0)) (r .1))
+  read-reason-only Short r = answered Short P S B X (reading-short f P S B X (good-file f (r .0)) (r .1))
 
   -- a refusal changes nothing
   pub read-refused : (monitorReadNumber (readMonitor f P S B X .answer) ≡ 0 → ⊥) → readMonitor f P S B X ≡ monitorReading (readMonitor f P S B X .answer) P S B X
@@ -78,8 +78,8 @@ module _ (f P S B X : List ℕ) where
   read-refused = by-outcome (λ (o : MonitorReading). (monitorReadNumber (o .answer) ≡ 0 → ⊥) → o ≡ monitorReading (o .answer) P S B X) (λ k g w z. refl) (λ g e z. refl) (λ g e z. absurd (z refl))
 
   -- what is read, where it is
-  pub read-taken : (m : ℕ) → readMonitor f P S B X .answer ≡ Read m → (m ≡ wholeMonitor f) × AllGood f P S B X × (framesRoom (wholeMonitor f) (length P) (length S) (length B) (length X) ≡ true) × (readMonitor f P S B X ≡ takenReading)
-  read-taken m e = by-outcome (λ (o : MonitorReading). o .answer ≡ Read m → (m ≡ wholeMonitor f) × AllGood f P S B X × (framesRoom (wholeMonitor f) (length P) (length S) (length B) (length X) ≡ true) × (o ≡ takenReading))
+  pub read-taken : (m : ℕ) → readMonitor f P S B X .answer ≡ Read m → (m ≡ wholeMonitor f) × AllGood f × (framesRoom (wholeMonitor f) (length P) (length S) (length B) (length X) ≡ true) × (readMonitor f P S B X ≡ takenReading)
+  read-taken m e = by-outcome (λ (o : MonitorReading). o .answer ≡ Read m → (m ≡ wholeMonitor f) × AllGood f × (framesRoom (wholeMonitor f) (length P) (length S) (length B) (length X) ≡ true) × (o ≡ takenReading))
       (λ k g w q. absurd (unlike-bad k q)) (λ g r q. absurd (unlike-short q)) (λ g r q. (same q, g, r, refl)) e
     where
       unlike-bad : (k : ℕ) → Bad k ≡ Read m → ⊥

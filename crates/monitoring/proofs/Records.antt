@@ -47,7 +47,8 @@ module _ (p s b x y : ℕ) where
   y-place j = getD-append-add before-y (littleBytes 4 y ++ []) j 0
 
   pub x-in : x < 2 ^ 32 → littleOf (monitorRecord p s b x y) 8 4 ≡ x
-  x-in h = little-same 4 (monitorRecord p s b x y) (littleBytes 4 x ++ littleBytes 4 y) 8 0 (λ j l. x-place j ∙ ap (num (littleBytes 4 x ++ littleBytes 4 y)) (plus j)) ∙ little-back 4 x (littleBytes 4 y) h
+  x-in h = little-same 4 (monitorRecord p s b x y) (littleBytes 4 x ++ littleBytes 4 y) 8 0 (λ j l. x-place j ∙ ap (num (littleBytes 4 x ++ littleBytes 4 y)) (plus j))
+      ∙ little-back 4 x (littleBytes 4 y) h
     where
       plus : (j : ℕ) → j ≡ 0 + j
       plus j = omega arith
@@ -78,7 +79,10 @@ module _ (f : List ℕ) (a : ℕ) (small : AllBelow 256 f) (within : a + 16 ≤ 
       ∙ ap (λ (l : List ℕ). num f (a + 4) ∷ l)
       (next 5 10 (omega arith)
       ∙ ap (λ (l : List ℕ). num f (a + 5) ∷ l)
-      (next 6 9 (omega arith) ∙ ap₂ (λ (z : ℕ) (l : List ℕ). z ∷ l) u (next 7 8 (omega arith) ∙ ap₂ (λ (z : ℕ) (l : List ℕ). z ∷ l) v (halves 8 4 4 ∙ ap₂ (λ (l m : List ℕ). l ++ m) (sym (bytes-back 4 f (a + 8) small (omega arith))) (ap (λ (q : ℕ). take 4 (drop q f)) (twelve a) ∙ sym (bytes-back 4 f (a + 12) small (omega arith)))))))))
+      (next 6 9 (omega arith) ∙ ap₂ (λ (z : ℕ) (l : List ℕ). z ∷ l) u
+      (next 7 8 (omega arith) ∙ ap₂ (λ (z : ℕ) (l : List ℕ). z ∷ l) v
+      (halves 8 4 4 ∙ ap₂ (λ (l m : List ℕ). l ++ m) (sym (bytes-back 4 f (a + 8) small (omega arith)))
+      (ap (λ (q : ℕ). take 4 (drop q f)) (twelve a) ∙ sym (bytes-back 4 f (a + 12) small (omega arith)))))))))
     where
       plain : (q : ℕ) → q ≡ q + 0
       plain q = omega arith

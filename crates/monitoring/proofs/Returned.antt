@@ -57,9 +57,11 @@ not-faulty : (P S B X : List ℕ) (i : ℕ) → GoodFrame P S B X i → faultyAt
 unfolding faultyAt wrongAt pastAt
 not-faulty P S B X i g = rw (g .fine, g .follows, g .x-told, g .y-told)
 
-good-written : (n : ℕ) (P S B X t : List ℕ) → framesRoom n (length P) (length S) (length B) (length X) ≡ true → n * 16 ≤ length t → ((i : ℕ) → i < n → GoodFrame P S B X i) → monitorWriting (Written n) (laid (monitorRow P S B X) 16 n t) ≡ writeMonitor n P S B X t
+good-written : (n : ℕ) (P S B X t : List ℕ) → framesRoom n (length P) (length S) (length B) (length X) ≡ true → n * 16 ≤ length t → ((i : ℕ) → i < n → GoodFrame P S B X i)
+    → monitorWriting (Written n) (laid (monitorRow P S B X) 16 n t) ≡ writeMonitor n P S B X t
 good-written n P S B X t e h g =
-    writing-whole n P S B X t (room-is n (length P) (length S) (length B) (length X) (length t) e h) n (sym (first-none (faultyAt P S B X) n (λ i l. not-faulty P S B X i (g i l)))) (laid (monitorRow P S B X) 16 n t) (le-refl n) refl
+    writing-whole n P S B X t (room-is n (length P) (length S) (length B) (length X) (length t) e h) n
+    (sym (first-none (faultyAt P S B X) n (λ i l. not-faulty P S B X i (g i l)))) (laid (monitorRow P S B X) 16 n t) (le-refl n) refl
 
 -- ---- areas whose fronts hold frames p, s, b and coordinates that are widened from single precision
 
@@ -81,7 +83,13 @@ module _ (n : ℕ) (p s b c : ℕ → ℕ) (P S B X : List ℕ) (room : framesRo
   lies = frames-lie n (length P) (length S) (length B) (length X) room
 
   room-left : framesRoom n (length P') (length S') (length B') (length X') ≡ true
-  room-left = rw (fronted-size p n P (lies .pictures-long), fronted-size s n S (lies .sides-long), fronted-size b n B (lies .fields-long), fronted-size (λ j. widenOf (c j)) (2 * n) X (lies .positions-long)) room
+  room-left = rw (
+    fronted-size p n P (lies .pictures-long),
+    fronted-size s n S (lies .sides-long),
+    fronted-size b n B (lies .fields-long),
+    fronted-size (λ j. widenOf (c j))
+        (2 * n) X (lies .positions-long),
+  ) room
 
   narrow-at : (j : ℕ) → j < 2 * n → narrowOf (num X' j) ≡ Single (c j)
   narrow-at j h = ap narrowOf (fronted-at (λ j. widenOf (c j)) (2 * n) X j h) ∙ back j h
@@ -104,10 +112,21 @@ module _ (n : ℕ) (p s b c : ℕ → ℕ) (P S B X : List ℕ) (room : framesRo
 
   row-left : (i : ℕ) → i < n → monitorRow P' S' B' X' i ≡ monitorRecord (p i) (s i) (b i) (c (2 * i)) (c (2 * i + 1))
   unfolding monitorRow
-  row-left i h = rw (fronted-at p n P i h, fronted-at s n S i h, fronted-at b n B i h, single-bits (c (2 * i)) (narrowOf (num X' (2 * i))) (narrow-at (2 * i) (omega arith)), single-bits (c (2 * i + 1)) (narrowOf (num X' (2 * i + 1))) (narrow-at (2 * i + 1) (omega arith)))
+  row-left i h = rw (
+    fronted-at p n P i h,
+    fronted-at s n S i h,
+    fronted-at b n B i h,
+    single-bits (c (2 * i)) (narrowOf (num X' (2 * i)))
+        (narrow-at (2 * i) (omega arith)),
+    single-bits (c (2 * i + 1)) (narrowOf (num X' (2 * i + 1))) (narrow-at (2 * i + 1) (omega arith)),
+  )
 
-  pub fronts-written : (t : List ℕ) → n * 16 ≤ length t → writeMonitor n (fronted p n P) (fronted s n S) (fronted b n B) (fronted (λ j. widenOf (c j)) (2 * n) X) t ≡ monitorWriting (Written n) (joined (λ i. monitorRecord (p i) (s i) (b i) (c (2 * i)) (c (2 * i + 1))) n ++ drop (n * 16) t)
-  fronts-written t h = sym (good-written n P' S' B' X' t room-left h good-left) ∙ ap (λ (l : List ℕ). monitorWriting (Written n) (l ++ drop (n * 16) t)) (joined-same (monitorRow P' S' B' X') (λ i. monitorRecord (p i) (s i) (b i) (c (2 * i)) (c (2 * i + 1))) n row-left)
+  pub fronts-written : (t : List ℕ) → n * 16 ≤ length t
+      → writeMonitor n (fronted p n P) (fronted s n S) (fronted b n B) (fronted (λ j. widenOf (c j)) (2 * n) X) t ≡ monitorWriting (Written n)
+      (joined (λ i. monitorRecord (p i) (s i) (b i) (c (2 * i)) (c (2 * i + 1))) n ++ drop (n * 16) t)
+  fronts-written t h = sym (good-written n P' S' B' X' t room-left h good-left)
+      ∙ ap (λ (l : List ℕ). monitorWriting (Written n) (l ++ drop (n * 16) t))
+      (joined-same (monitorRow P' S' B' X') (λ i. monitorRecord (p i) (s i) (b i) (c (2 * i)) (c (2 * i + 1))) n row-left)
 
 -- ---- written, read, and written again: the same bytes
 
@@ -120,7 +139,8 @@ module _ (n : ℕ) (P S B X t : List ℕ) (done : writeMonitor n P S B X t .answ
       (λ i h. narrow-once (num X (2 * i)) (singleBits (narrowOf (num X (2 * i)))) (single-is (num X (2 * i)) (frame i h .x-told)))
       (λ i h. narrow-once (num X (2 * i + 1)) (singleBits (narrowOf (num X (2 * i + 1)))) (single-is (num X (2 * i + 1)) (frame i h .y-told)))
 
-  rows-file : take (n * 16) (writeMonitor n P S B X t .target) ≡ joined (λ i. monitorRecord (num P i) (num S i) (num B i) (singleBits (narrowOf (num X (2 * i)))) (singleBits (narrowOf (num X (2 * i + 1))))) n
+  rows-file : take (n * 16) (writeMonitor n P S B X t .target) ≡ joined
+      (λ i. monitorRecord (num P i) (num S i) (num B i) (singleBits (narrowOf (num X (2 * i)))) (singleBits (narrowOf (num X (2 * i + 1))))) n
   unfolding monitorRow
   rows-file = written-file n P S B X t done
 
@@ -174,7 +194,7 @@ unfolding coordinateAt
 coordinate-below f j small = little-below 4 f (j / 2 * 16 + (8 + 4 * (j % 2))) small
 
 module _ (f P S B X : List ℕ) (small : AllBelow 256 f) where
-  module _ (good : AllGood f P S B X) where
+  module _ (good : AllGood f) where
     abbrev m : ℕ
     m = wholeMonitor f
 
@@ -193,16 +213,22 @@ module _ (f P S B X : List ℕ) (small : AllBelow 256 f) where
     row-stands i h = rw (x-stands f i, y-stands f i) (sym (record-back f (i * 16) small (omega (arith, whole-file)) (held i h .spare-one) (held i h .spare-two)))
 
     rows-are : joined (λ i. monitorRecord (monitorPicture f i) (byteAt f 4 i) (byteAt f 5 i) (coordinateAt f (2 * i)) (coordinateAt f (2 * i + 1))) m ≡ f
-    rows-are = sym (laid-front 16 (λ i. monitorRecord (monitorPicture f i) (byteAt f 4 i) (byteAt f 5 i) (coordinateAt f (2 * i)) (coordinateAt f (2 * i + 1))) m f row-stands) ∙ take-all (m * 16) f (le-of-eq (sym whole-file))
+    rows-are = sym (laid-front 16 (λ i. monitorRecord (monitorPicture f i) (byteAt f 4 i) (byteAt f 5 i) (coordinateAt f (2 * i)) (coordinateAt f (2 * i + 1))) m f row-stands)
+        ∙ take-all (m * 16) f (le-of-eq (sym whole-file))
 
-    filled-written : framesRoom m (length P) (length S) (length B) (length X) ≡ true → (t : List ℕ) → length f ≤ length t → writeMonitor m (fronted (monitorPicture f) m P) (fronted (byteAt f 4) m S) (fronted (byteAt f 5) m B) (fronted (widenedAt f) (2 * m) X) t ≡ monitorWriting (Written m) (f ++ drop (length f) t)
+    filled-written : framesRoom m (length P) (length S) (length B) (length X) ≡ true → (t : List ℕ) → length f ≤ length t
+        → writeMonitor m (fronted (monitorPicture f) m P) (fronted (byteAt f 4) m S) (fronted (byteAt f 5) m B) (fronted (widenedAt f) (2 * m) X) t ≡ monitorWriting (Written m)
+        (f ++ drop (length f) t)
     filled-written e t h =
         fronts-written m (monitorPicture f) (byteAt f 4) (byteAt f 5) (coordinateAt f) P S B X e (λ i l. held i l .fine) (λ i l. held i l .order) back t (omega (arith, whole-file))
         ∙ ap₂ (λ (l : List ℕ) (k : ℕ). monitorWriting (Written m) (l ++ drop k t)) rows-are whole-file
 
   -- a file that is read, and what was read written to any target that holds it: the file's bytes at its front, and its tail as it was
-  pub read-then-written : (n : ℕ) → readMonitor f P S B X .answer ≡ Read n → (t : List ℕ) → length f ≤ length t → writeMonitor n (readMonitor f P S B X .pictures) (readMonitor f P S B X .sides) (readMonitor f P S B X .fields) (readMonitor f P S B X .positions) t ≡ monitorWriting (Written n) (f ++ drop (length f) t)
+  pub read-then-written : (n : ℕ) → readMonitor f P S B X .answer ≡ Read n → (t : List ℕ) → length f ≤ length t
+      → writeMonitor n (readMonitor f P S B X .pictures) (readMonitor f P S B X .sides) (readMonitor f P S B X .fields) (readMonitor f P S B X .positions) t ≡ monitorWriting
+      (Written n) (f ++ drop (length f) t)
   read-then-written n e t h =
       let w = read-taken f P S B X n e in
       ap (λ (r : MonitorReading). writeMonitor n (r .pictures) (r .sides) (r .fields) (r .positions) t) (w .3)
-      ∙ subst (λ (k : ℕ). writeMonitor k (fronted (monitorPicture f) (wholeMonitor f) P) (fronted (byteAt f 4) (wholeMonitor f) S) (fronted (byteAt f 5) (wholeMonitor f) B) (fronted (widenedAt f) (2 * wholeMonitor f) X) t ≡ monitorWriting (Written k) (f ++ drop (length f) t)) (sym (w .0)) (filled-written (w .1) (w .2) t h)
+      ∙ subst (λ (k : ℕ). writeMonitor k (fronted (monitorPicture f) (wholeMonitor f) P) (fronted (byteAt f 4) (wholeMonitor f) S) (fronted (byteAt f 5) (wholeMonitor f) B)
+      (fronted (widenedAt f) (2 * wholeMonitor f) X) t ≡ monitorWriting (Written k) (f ++ drop (length f) t)) (sym (w .0)) (filled-written (w .1) (w .2) t h)

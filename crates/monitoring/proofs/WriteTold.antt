@@ -46,9 +46,9 @@ module _ (n : ℕ) (P S B X t : List ℕ) where
   -- what holds of each outcome holds of the call's
   by-outcome : (G : MonitorWriting → Type 0)
       → (roomToWrite n (length P) (length S) (length B) (length X) (length t) ≡ false → G (monitorWriting Short t))
-      → (HasRoom n P S B X t → (k : ℕ) → k < n → FineBefore n P S B X t k → wrongAt P S B k ≡ true → G (monitorWriting (Bad k) t))
-      → (HasRoom n P S B X t → (k : ℕ) → k < n → FineBefore n P S B X t k → wrongAt P S B k ≡ false → pastAt X k ≡ true → G (monitorWriting (Beyond k) t))
-      → (HasRoom n P S B X t → FineBefore n P S B X t n → G (monitorWriting (Written n) (laid (monitorRow P S B X) 16 n t)))
+      → (HasRoom n P S B X t → (k : ℕ) → k < n → FineBefore P S B X k → wrongAt P S B k ≡ true → G (monitorWriting (Bad k) t))
+      → (HasRoom n P S B X t → (k : ℕ) → k < n → FineBefore P S B X k → wrongAt P S B k ≡ false → pastAt X k ≡ true → G (monitorWriting (Beyond k) t))
+      → (HasRoom n P S B X t → FineBefore P S B X n → G (monitorWriting (Written n) (laid (monitorRow P S B X) 16 n t)))
       → G (writeMonitor n P S B X t)
   by-outcome G short bad beyond written =
       let p = faultyAt P S B X in
@@ -80,8 +80,8 @@ module _ (n : ℕ) (P S B X t : List ℕ) where
   write-refused = by-outcome (λ (o : MonitorWriting). (monitoredNumber (o .answer) ≡ 0 → ⊥) → o .target ≡ t) (λ e z. refl) (λ e k l f w z. refl) (λ e k l f w p z. refl) (λ e f z. absurd (z refl))
 
   -- what is written, where it is
-  pub write-taken : (m : ℕ) → writeMonitor n P S B X t .answer ≡ Written m → (m ≡ n) × HasRoom n P S B X t × FineBefore n P S B X t n × (writeMonitor n P S B X t .target ≡ laid (monitorRow P S B X) 16 n t)
-  write-taken m e = by-outcome (λ (o : MonitorWriting). o .answer ≡ Written m → (m ≡ n) × HasRoom n P S B X t × FineBefore n P S B X t n × (o .target ≡ laid (monitorRow P S B X) 16 n t))
+  pub write-taken : (m : ℕ) → writeMonitor n P S B X t .answer ≡ Written m → (m ≡ n) × HasRoom n P S B X t × FineBefore P S B X n × (writeMonitor n P S B X t .target ≡ laid (monitorRow P S B X) 16 n t)
+  write-taken m e = by-outcome (λ (o : MonitorWriting). o .answer ≡ Written m → (m ≡ n) × HasRoom n P S B X t × FineBefore P S B X n × (o .target ≡ laid (monitorRow P S B X) 16 n t))
       (λ r q. absurd (unlike-short q)) (λ r k l f w q. absurd (unlike-bad k q)) (λ r k l f w p q. absurd (unlike-beyond k q)) (λ r f q. (same q, r, f, refl)) e
     where
       unlike-short : Short ≡ Written m → ⊥

@@ -155,13 +155,13 @@ module _ (n : ℕ) (P S B X : List ℕ) (good : (i : ℕ) → i < n → faultyAt
   whole-read : wholeMonitor file ≡ n
   whole-read = let e = file-size in omega arith
 
-  file-good : (P' S' B' X' : List ℕ) → AllGood file P' S' B' X'
-  file-good P' S' B' X' = (λ i l. record-read i (rw whole-read at l), let e = file-size in omega arith)
+  file-good : AllGood file
+  file-good = (λ i l. record-read i (rw whole-read at l), let e = file-size in omega arith)
 
   pub file-taken : (P' S' B' X' : List ℕ) → framesRoom n (length P') (length S') (length B') (length X') ≡ true
       → readMonitor file P' S' B' X' ≡ monitorReading (Read n) (fronted (num P) n P') (fronted (num S) n S') (fronted (num B) n B') (fronted (λ j. widenOf (singleBits (narrowOf (num X j)))) (2 * n) X')
   file-taken P' S' B' X' e =
-      sym (out-filled file P' S' B' X' (file-good P' S' B' X') (rw whole-read e))
+      sym (out-filled file P' S' B' X' file-good (rw whole-read e))
       ∙ rw (whole-read, each-same (monitorPicture file) (num P) n picture-read, each-same (byteAt file 4) (num S) n side-read, each-same (byteAt file 5) (num B) n field-read, each-same (widenedAt file) (λ j. widenOf (singleBits (narrowOf (num X j)))) (2 * n) (λ j l. ap widenOf (coordinate-read j l)))
 
 -- ---- the theorems
@@ -175,7 +175,7 @@ module _ (n : ℕ) (P S B X t : List ℕ) (done : writeMonitor n P S B X t .answ
 
   -- what writing makes, reading takes
   pub written-is-good : isMonitor (take (n * 16) (writeMonitor n P S B X t .target)) ≡ true
-  written-is-good = rw written-file (good-file (joined (monitorRow P S B X) n) [] [] [] [] (file-good n P S B X (write-taken n P S B X t n done .2) [] [] [] []))
+  written-is-good = rw written-file (good-file (joined (monitorRow P S B X) n) (file-good n P S B X (write-taken n P S B X t n done .2)))
 
   -- into any areas that are long enough: pictures, sides, fields, and the coordinates narrowed and widened; the areas' tails are kept
   pub written-then-read : (P' S' B' X' : List ℕ) → framesRoom n (length P') (length S') (length B') (length X') ≡ true

@@ -15,23 +15,24 @@ use Rattle.monitor_read.specs.MonitorRead.{brokenAt, wholeMonitor}
 
 -- ---- writing
 
-module _ (n : ℕ) (P S B X t : List ℕ) where
-  abbrev pub HasRoom : Type 0
-  HasRoom = roomToWrite n (length P) (length S) (length B) (length X) (length t) ≡ true
-
+module _ (P S B X : List ℕ) where
   -- no frame before frame k is faulty
   abbrev pub FineBefore : ℕ → Type 0
   FineBefore k = (i : ℕ) → i < k → faultyAt P S B X i ≡ false
 
+module _ (n : ℕ) (P S B X t : List ℕ) where
+  abbrev pub HasRoom : Type 0
+  HasRoom = roomToWrite n (length P) (length S) (length B) (length X) (length t) ≡ true
+
   abbrev pub WriteReason : Monitored → Type 0
-  WriteReason (Written m) = (m ≡ n) × HasRoom × FineBefore n
+  WriteReason (Written m) = (m ≡ n) × HasRoom × FineBefore P S B X n
   WriteReason Short = roomToWrite n (length P) (length S) (length B) (length X) (length t) ≡ false
-  WriteReason (Bad k) = HasRoom × (k < n) × FineBefore k × (wrongAt P S B k ≡ true)
-  WriteReason (Beyond k) = HasRoom × (k < n) × FineBefore k × (wrongAt P S B k ≡ false) × (pastAt X k ≡ true)
+  WriteReason (Bad k) = HasRoom × (k < n) × FineBefore P S B X k × (wrongAt P S B k ≡ true)
+  WriteReason (Beyond k) = HasRoom × (k < n) × FineBefore P S B X k × (wrongAt P S B k ≡ false) × (pastAt X k ≡ true)
 
 -- ---- reading
 
-module _ (f P S B X : List ℕ) where
+module _ (f : List ℕ) where
   -- no record before record k is bad
   abbrev pub GoodBefore : ℕ → Type 0
   GoodBefore k = (i : ℕ) → i < k → brokenAt f i ≡ false
@@ -40,7 +41,8 @@ module _ (f P S B X : List ℕ) where
   abbrev pub AllGood : Type 0
   AllGood = GoodBefore (wholeMonitor f) × (length f % monitorBytes ≡ 0)
 
+module _ (f P S B X : List ℕ) where
   abbrev pub ReadReason : MonitorRead → Type 0
-  ReadReason (Read n) = (n ≡ wholeMonitor f) × AllGood × (framesRoom (wholeMonitor f) (length P) (length S) (length B) (length X) ≡ true)
-  ReadReason (Broken k) = GoodBefore k × (((k < wholeMonitor f) × (brokenAt f k ≡ true)) ⊎ ((k ≡ wholeMonitor f) × (length f % monitorBytes ≡ 0 → ⊥)))
-  ReadReason Scant = AllGood × (framesRoom (wholeMonitor f) (length P) (length S) (length B) (length X) ≡ false)
+  ReadReason (Read n) = (n ≡ wholeMonitor f) × AllGood f × (framesRoom (wholeMonitor f) (length P) (length S) (length B) (length X) ≡ true)
+  ReadReason (Broken k) = GoodBefore f k × (((k < wholeMonitor f) × (brokenAt f k ≡ true)) ⊎ ((k ≡ wholeMonitor f) × (length f % monitorBytes ≡ 0 → ⊥)))
+  ReadReason Scant = AllGood f × (framesRoom (wholeMonitor f) (length P) (length S) (length B) (length X) ≡ false)

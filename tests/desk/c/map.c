@@ -525,14 +525,42 @@ static uint32_t monitor_read(struct placed *s, size_t n, const uint8_t *file, si
     return brothanchor_monitor_read(file, bytes, s->pictures, n, s->sides, n, s->fields, n, s->positions, n * STARTS, answer, length);
 }
 
-/* The map for the monitor: written, read back and written again as the same bytes; before that as only C can ask for it. Refused, the
- * target is left alone. */
+/* What is not written for the monitor: areas that are too short, as only C can lend them; a coordinate of 2^128; no side; and both in
+ * one frame, of which the side is told. The target is left alone, and the frames are then as they were. */
+static void not_written(struct placed *s, size_t n, uint8_t *target) {
+    const size_t bytes = n * MONITOR_BYTES;
+    const double past = value(UINT64_C(0x47f0000000000000)); /* 2^128 */
+    const double y0 = s->positions[1], x1 = s->positions[STARTS], x2 = s->positions[2 * STARTS];
+    const uint8_t side = s->sides[1];
+    uint64_t answer[2] = {5, 7};
+    told("monitor_write, no answer", monitor_write(s, n, target, bytes, answer, 0), 12, answer, 5);
+    told("monitor_write, a byte short", monitor_write(s, n, target, bytes - 1, answer, 2), 12, answer, 0);
+    s->positions[1] = s->positions[STARTS] = s->positions[2 * STARTS] = past;
+    s->sides[1] = 0;
+    answer[0] = 5;
+    told("monitor_write, 2^128", monitor_write(s, n, target, bytes, answer, 1), 26, answer, 0);
+    s->positions[1] = y0;
+    told("monitor_write, no side and 2^128", monitor_write(s, n, target, bytes, answer, 2), 16, answer, 1);
+    s->positions[STARTS] = x1;
+    answer[0] = 5;
+    told("monitor_write, no side", monitor_write(s, n, target, bytes, answer, 2), 16, answer, 1);
+    s->sides[1] = side;
+    told("monitor_write, 2^128 in frame 2", monitor_write(s, n, target, bytes, answer, 2), 26, answer, 2);
+    s->positions[2 * STARTS] = x2;
+    for (size_t i = 0; i < bytes; i++) {
+        if (target[i] != 0) {
+            fprintf(stderr, "a file for the monitor that was refused has byte %zu\n", i);
+            exit(1);
+        }
+    }
+}
+
+/* The map for the monitor: written, read back and written again as the same bytes; before that what is refused. */
 static void monitor(const uint8_t *file, size_t length, size_t n, const uint32_t *places, const struct areas *a) {
     static struct placed there, back;
     static uint8_t target[MOST_FRAMES * MONITOR_BYTES], again[MOST_FRAMES * MONITOR_BYTES];
     const size_t bytes = n * MONITOR_BYTES;
     uint64_t answer[2] = {5, 7};
-    uint8_t side;
     for (size_t i = 0; i < n; i++) {
         uint64_t frame[FRAME_WORDS];
         refused("frame", brothanchor_frame(file, length, places[i], frame, FRAME_WORDS));
@@ -541,22 +569,7 @@ static void monitor(const uint8_t *file, size_t length, size_t n, const uint32_t
         there.fields[i] = (uint8_t)frame[2];
     }
     memcpy(there.positions, a->positions, n * STARTS * sizeof(double));
-    told("monitor_write, no answer", monitor_write(&there, n, target, bytes, answer, 0), 12, answer, 5);
-    told("monitor_write, a byte short", monitor_write(&there, n, target, bytes - 1, answer, 2), 12, answer, 0);
-    there.positions[1] = value(UINT64_C(0x47f0000000000000)); /* 2^128 */
-    side = there.sides[1];
-    there.sides[1] = 0;
-    answer[0] = 5;
-    told("monitor_write, 2^128", monitor_write(&there, n, target, bytes, answer, 1), 26, answer, 0);
-    there.positions[1] = a->positions[1];
-    told("monitor_write, no side", monitor_write(&there, n, target, bytes, answer, 2), 16, answer, 1);
-    there.sides[1] = side;
-    for (size_t i = 0; i < bytes; i++) {
-        if (target[i] != 0) {
-            fprintf(stderr, "a file for the monitor that was refused has byte %zu\n", i);
-            exit(1);
-        }
-    }
+    not_written(&there, n, target);
     told("monitor_write", monitor_write(&there, n, target, bytes, answer, 2), 0, answer, n);
     answer[0] = 5;
     told("monitor_read, no answer", monitor_read(&back, n, target, bytes, answer, 0), 12, answer, 5);

@@ -56,7 +56,7 @@ impl Refusal {
 
     /// Whether something comes with the number: a place, a frame, a node, a number of the settings.
     pub fn brings(self) -> bool {
-        matches!(self.0, 16 | 19 | 21 | 23 | 24 | 25)
+        matches!(self.0, 16 | 19 | 21 | 23 | 24 | 25 | 26)
     }
 
     /// Number, meaning and what came with the number, in words: what to look at.
@@ -77,6 +77,7 @@ impl Refusal {
                 format!("{plain}: the number of nodes in use is 0 or above the arena, or node 0 is faulty")
             }
             25 => format!("{plain}: look at node {with}, the first that is faulty"),
+            26 => format!("{plain} (frame {with}, counted from 0)"),
             _ => plain,
         }
     }
@@ -180,10 +181,19 @@ mod tests {
             assert_eq!(told(number, 0), Refusal(number).to_string());
             assert_eq!(told(number, 7), Refusal(number).to_string());
         }
-        assert!(!Refusal(22).brings() && Refusal(16).brings());
-        assert_eq!(
-            told(16, 3),
-            "refused 16: a record of the file is bad (record 3, counted from 0)"
-        );
+        let brings: Vec<u32> = (0..=27).filter(|&number| Refusal(number).brings()).collect();
+        assert_eq!(brings, [16, 19, 21, 23, 24, 25, 26]);
+    }
+
+    #[test]
+    fn which_record_or_frame() {
+        for (number, with, words) in [
+            (16, 3, "a record of the file is bad (record 3, counted from 0)"),
+            (19, 0, "a rule of the partner's list fails at a record (record 0, counted from 0)"),
+            (26, 7, "a coordinate is not finite, or rounds past the largest single-precision number (frame 7, counted from 0)"),
+            (26, 0, "a coordinate is not finite, or rounds past the largest single-precision number (frame 0, counted from 0)"),
+        ] {
+            assert_eq!(told(number, with), format!("refused {number}: {words}"));
+        }
     }
 }

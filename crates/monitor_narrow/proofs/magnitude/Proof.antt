@@ -1,6 +1,6 @@
--- The pattern by the exponent's field: at either side of 897 the definition's own case.
+-- The pattern by the exponent's bits: at either side of 897 the definition's own case.
 use borrow.Author.Tests.{lt-ltb, le-ltb}
-use Rattle.monitor_narrow.specs.Narrow.{magnitudeOf}
+use Rattle.monitor_narrow.specs.Steps.{magnitudeOf}
 use borrow.Author.Needs.{needs}
 use native.Mathlib.Omega.{arith}
 use Rattle.monitor_narrow.proofs.magnitude.Statement.{statement}

@@ -1,4 +1,4 @@
--- Narrowing: below the field 873 a zero, else the pattern that `magnitude` gives, or none from the infinity's on; the laws by the fields.
+-- Narrowing: where the exponent's bits are below 873 a zero, else the pattern that `magnitude` gives, or none from the infinity's on; the laws by the exponent's bits.
 use Rattle.monitor_narrow.proofs.Laws.{narrow-tiny, narrow-fits, narrow-past}
 use borrow.Author.Needs.{needs}
 use native.Mathlib.Omega.{arith}

@@ -1,4 +1,4 @@
--- Widening by the exponent's field: infinities and NaN, the field 0, and all others; a law for each.
+-- Widening by the exponent's bits: infinities and NaN, the bits 0, and all others; a law for each.
 use Rattle.monitor_narrow.proofs.Laws.{widen-inf, widen-nan, widen-small, widen-normal}
 use borrow.Author.Needs.{needs}
 use native.Mathlib.Omega.{arith}

@@ -13,8 +13,15 @@ const ONE: &str = "--text takes one file for the monitor and nothing else, as in
 /// The ending of a file for the monitor.
 const ENDING: &str = "monitor";
 
-/// More bytes than any map has, and than any file for the monitor.
-const MOST: u64 = 1 << 24;
+/// What is read, as it is told.
+const MAP: &str = "map";
+const FILE: &str = "file for the monitor";
+
+/// What 16 means where a map is written: it has no records.
+const BAD_FRAME: &str = "picture, side, field or order of a frame is bad";
+
+/// More bytes than any map has, and than any file for the monitor: as text one of 79,999 stills in two fields has some 22 million.
+const MOST: u64 = 1 << 25;
 
 /// What is asked for.
 #[derive(Debug, PartialEq)]
@@ -54,7 +61,7 @@ pub fn done(asked: &Asked) -> Result<String, String> {
     }
 }
 
-/// Writes maps for the monitor: all of them, or none.
+/// Writes maps for the monitor: none where one is refused, and all are on the disc before the first takes its name.
 fn write(maps: &[PathBuf], out: Option<&Path>) -> Result<String, String> {
     let targets: Vec<PathBuf> = maps.iter().map(|map| target(map, out)).collect();
     for (i, target) in targets.iter().enumerate() {
@@ -104,27 +111,44 @@ fn target(map: &Path, out: Option<&Path>) -> PathBuf {
 /// How many frames a map has, and its file for the monitor.
 fn monitored(map: &Path) -> Result<(usize, Vec<u8>), String> {
     let name = map.display();
-    let text = String::from_utf8(all_of(map, "map")?).map_err(|_| format!("{name}: this is no map"))?;
+    let text = String::from_utf8(all_of(map, MAP)?).map_err(|_| format!("{name}: this is no map"))?;
     let placed = Placed::of_lines(&text).map_err(|line| {
         format!(
             "{name}: line {line} is none of a map: picture, side, field, two coordinates and the 16 hex digits of each"
         )
     })?;
     if placed.is_empty() {
-        return Err(format!("{name}: there is no frame in this map"));
+        return Err(no_frame(map, MAP));
     }
-    let told = |(refusal, place): (Refusal, u64)| match placed.pictures.get(place as usize) {
-        Some(picture) => format!("{name}: {refusal} (line {}, picture {picture})", place + 1),
-        None => format!("{name}: {refusal}"),
-    };
+    let told = |(refusal, place)| format!("{name}: {}", told(&placed, refusal, place));
     placed.file().map(|file| (placed.len(), file)).map_err(told)
+}
+
+/// Why frames are refused, with the line and the picture of the one that is.
+fn told(placed: &Placed, refusal: Refusal, place: u64) -> String {
+    let meaning = match refusal.0 {
+        16 => BAD_FRAME,
+        _ => refusal.meaning(),
+    };
+    let at = match placed.pictures.get(place as usize) {
+        Some(picture) if refusal.brings() => format!(" (line {}, picture {picture})", place + 1),
+        _ => String::new(),
+    };
+    format!("refused {}: {meaning}{at}", refusal.0)
 }
 
 /// A file for the monitor as the lines of a map.
 fn text(file: &Path) -> Result<String, String> {
-    let bytes = all_of(file, "file for the monitor")?;
-    let told = |(refusal, place)| format!("{}: {refusal} (record {place}, counted from 0)", file.display());
-    Placed::of_file(&bytes).map(|placed| placed.lines()).map_err(told)
+    match Placed::of_file(&all_of(file, FILE)?) {
+        Ok(placed) if placed.is_empty() => Err(no_frame(file, FILE)),
+        Ok(placed) => Ok(placed.lines()),
+        Err((refusal, place)) => Err(format!("{}: {}", file.display(), refusal.told(place))),
+    }
+}
+
+/// What is said of a file without a frame.
+fn no_frame(path: &Path, what: &str) -> String {
+    format!("{}: there is no frame in this {what}", path.display())
 }
 
 /// All bytes of a file that is not too long.
@@ -171,6 +195,21 @@ mod tests {
             ("a.map --seed 3", "monitor has no option --seed"),
         ] {
             assert_eq!(of(words), Err(why.to_string()), "{words}");
+        }
+    }
+
+    #[test]
+    fn why_frames_are_refused() {
+        let placed = Placed {
+            pictures: vec![1201, 1203],
+            ..Placed::default()
+        };
+        for (number, place, words) in [
+            (16, 1, "refused 16: picture, side, field or order of a frame is bad (line 2, picture 1203)"),
+            (26, 0, "refused 26: a coordinate is not finite, or rounds past the largest single-precision number (line 1, picture 1201)"),
+            (12, 0, "refused 12: a lent area is too short"),
+        ] {
+            assert_eq!(told(&placed, Refusal(number), place), words);
         }
     }
 
