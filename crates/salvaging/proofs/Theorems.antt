@@ -157,8 +157,8 @@ module _ (f g p r : List ℕ) where
     pub areas-keep-their-sizes : (length (left .good) ≡ length g) × (length (left .places) ≡ length p) × (length (left .rules) ≡ length r)
     areas-keep-their-sizes = (
       ap length good-is ∙ foremost-size (bytesKept f read) g (omega (arith, size, k-is, ap length (all-kept f), counts f (wholeRecords f), room .records)),
-      ap length places-is ∙ foremost-size (toldIn f read) p (omega (arith, counts f read, room .tellers)),
-      ap length rules-is ∙ foremost-size (rulesTold f read) r (omega (arith, rules-count, t-is, counts f read, room .rulers)),
+      ap length places-is ∙ foremost-size (toldIn f read) p (omega (arith, counts f read, room .placesRoom)),
+      ap length rules-is ∙ foremost-size (rulesTold f read) r (omega (arith, rules-count, t-is, counts f read, room .rulesRoom)),
     )
 
     -- ---- the told records
