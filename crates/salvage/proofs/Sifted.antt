@@ -129,10 +129,10 @@ module _ (f : List ℕ) where
   together a b c d e h = rw (a, b, c, d, e, h)
 
   module _ (g p r : List ℕ) (i : ℕ) (h : i < wholeRecords f) where
-    abbrev isGood : Bool
-    isGood = eqb (ruleAfter f (lastKept f i) i) 0
+    abbrev keepsIt : Bool
+    keepsIt = eqb (ruleAfter f (lastKept f i) i) 0
 
-    keeps : isGood ≡ true → keepStep f i (siftedBy f i g p r) ≡ siftedBy f (i + 1) g p r
+    keeps : keepsIt ≡ true → keepStep f i (siftedBy f i g p r) ≡ siftedBy f (i + 1) g p r
     keeps e =
         let k : isKept f i ≡ true = kept-by-rule i h ∙ e in
         together
@@ -145,7 +145,7 @@ module _ (f : List ℕ) where
         (ap (λ (w : List ℕ). foremost w p) (sym (told-same i k)))
         (ap (λ (w : List ℕ). foremost (map (ruleOf f) w) r) (sym (told-same i k)))
 
-    tells : isGood ≡ false → i < length p → i < length r → tellStep i (ruleAfter f (lastKept f i) i) (siftedBy f i g p r) ≡ siftedBy f (i + 1) g p r
+    tells : keepsIt ≡ false → i < length p → i < length r → tellStep i (ruleAfter f (lastKept f i) i) (siftedBy f i g p r) ≡ siftedBy f (i + 1) g p r
     tells e u v =
         let k : isKept f i ≡ false = kept-by-rule i h ∙ e in
         together
@@ -158,7 +158,7 @@ module _ (f : List ℕ) where
 
     pub sift-step : i < length p → i < length r → siftStep f i (siftedBy f i g p r) ≡ siftedBy f (i + 1) g p r
     unfolding siftStep
-    sift-step u v = by-bool (siftStep f i (siftedBy f i g p r) ≡ siftedBy f (i + 1) g p r) isGood (λ e. rw e (keeps e)) (λ e. rw e (tells e u v))
+    sift-step u v = by-bool (siftStep f i (siftedBy f i g p r) ≡ siftedBy f (i + 1) g p r) keepsIt (λ e. rw e (keeps e)) (λ e. rw e (tells e u v))
 
 -- ---- the room that the call has found
 
@@ -175,8 +175,8 @@ sift-room f g p r e =
     let late = or-right (ltb (length g) w) short e in
     record {
       records = ltb-false (length g) w (or-left (ltb (length g) w) short e);
-      tellers = ltb-false (length p) n (or-left (ltb (length p) n) (ltb (length r) n) late);
-      rulers = ltb-false (length r) n (or-right (ltb (length p) n) (ltb (length r) n) late);
+      placesRoom = ltb-false (length p) n (or-left (ltb (length p) n) (ltb (length r) n) late);
+      rulesRoom = ltb-false (length r) n (or-right (ltb (length p) n) (ltb (length r) n) late);
     }
 
 -- ---- the loop: i records are sifted
@@ -193,10 +193,10 @@ module _ {f g p r : List ℕ} (room : SiftRoom f g p r) where
   kept-few i h = omega (arith, bytes-size f i h, counts f i, room .records)
 
   told-few : (i : ℕ) → i ≤ wholeRecords f → length (toldIn f i) ≤ length p
-  told-few i h = omega (arith, counts f i, room .tellers, reads-whole f)
+  told-few i h = omega (arith, counts f i, room .placesRoom, reads-whole f)
 
   rules-few : (i : ℕ) → i ≤ wholeRecords f → length (rulesTold f i) ≤ length r
-  rules-few i h = omega (arith, counts f i, room .rulers, reads-whole f, length-map (ruleOf f) (toldIn f i))
+  rules-few i h = omega (arith, counts f i, room .rulesRoom, reads-whole f, length-map (ruleOf f) (toldIn f i))
 
   sifted-is : (i : ℕ) → i ≤ wholeRecords f → (x : Sifting) → x ≡ siftedBy f i g p r → Sifted f g p r i x
   sifted-is i h x e = record {
@@ -221,14 +221,14 @@ module _ {f g p r : List ℕ} (room : SiftRoom f g p r) where
           there = whole-record f i h;
           before = omega (arith, last, last-within f i);
           keptRoom = omega (arith, kept, counts f i, s .goodSize, room .records);
-          placeRoom = omega (arith, told, counts f i, s .placesSize, room .tellers, reads-whole f);
-          ruleRoom = omega (arith, told, counts f i, s .rulesSize, room .rulers, reads-whole f);
+          placeRoom = omega (arith, told, counts f i, s .placesSize, room .placesRoom, reads-whole f);
+          ruleRoom = omega (arith, told, counts f i, s .rulesSize, room .rulesRoom, reads-whole f);
         }
 
     pub sifted-more : (y : Sifting) → y ≡ siftStep f i x → Sifted f g p r (i + 1) y
     sifted-more y e =
         sifted-is (i + 1) (omega arith) y
-        (e ∙ ap (siftStep f i) (s .same) ∙ sift-step f g p r i h (omega (arith, room .tellers, reads-whole f)) (omega (arith, room .rulers, reads-whole f)))
+        (e ∙ ap (siftStep f i) (s .same) ∙ sift-step f g p r i h (omega (arith, room .placesRoom, reads-whole f)) (omega (arith, room .rulesRoom, reads-whole f)))
 
   pub sifted-done : {i : ℕ} {x : Sifting} → Sifted f g p r i x → wholeRecords f ≤ i → x ≡ siftedBy f (wholeRecords f) g p r
   sifted-done {i} {x} s h = s .same ∙ ap (λ (n : ℕ). siftedBy f n g p r) (is (s .within) h)
@@ -271,10 +271,10 @@ module _ (f g p r : List ℕ) where
         (ap (λ (y : Sifting). y .counts .kept) d ∙ ap length (sym (none-kept f w k)))
         (ap (λ (y : Sifting). y .counts .told + 1) d ∙ sym (told-count f w k))
         (ap (λ (y : Sifting). y .good) d ∙ ap (λ (b : List ℕ). foremost b g) (sym (bytes-same f w k)))
-        (ap (λ (y : Sifting). set (y .places) (y .counts .told) w) d ∙ place-told f w k p (omega (arith, n, room .tellers)))
+        (ap (λ (y : Sifting). set (y .places) (y .counts .told) w) d ∙ place-told f w k p (omega (arith, n, room .placesRoom)))
         (ap (λ (y : Sifting). set (y .rules) (y .counts .told) tailRule) d
         ∙ ap (λ (x : ℕ). set (foremost (rulesTold f w) r) (length (toldIn f w)) x) (sym (rule-tail f w (omega arith)))
-        ∙ rule-told f w k r (omega (arith, n, room .rulers)))
+        ∙ rule-told f w k r (omega (arith, n, room .rulesRoom)))
 
     -- there is a place for the tail
     pub tail-room : (length f % recordBytes ≡ 0 → ⊥) → (s .told < length p') × (s .told < length r')
@@ -285,4 +285,4 @@ module _ (f g p r : List ℕ) where
         let room : SiftRoom f g p r = sift-room f g p r e in
         let t : Sifted f g p r w (sifting s g' p' r') = sifted-is room w (omega arith) (sifting s g' p' r') d in
         let told : s .told ≡ length (toldIn f w) = ap (λ (y : Sifting). y .counts .told) d in
-        (omega (arith, n, told, counts f w, room .tellers, t .placesSize), omega (arith, n, told, counts f w, room .rulers, t .rulesSize))
+        (omega (arith, n, told, counts f w, room .placesRoom, t .placesSize), omega (arith, n, told, counts f w, room .rulesRoom, t .rulesSize))

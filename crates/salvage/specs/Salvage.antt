@@ -61,7 +61,7 @@ unfoldable pub lastKept : List ℕ → ℕ → ℕ
 lastKept f zero = 0
 lastKept f (suc n) = cond (eqb (ruleAfter f (lastKept f n) n) 0) (suc n) (lastKept f n)
 
--- the first rule that record i breaks; what lies past the whole records is a stray tail
+-- the first rule that record i breaks; what lies past the whole records, if it is read at all, is a stray tail
 unfoldable pub ruleOf : List ℕ → ℕ → ℕ
 ruleOf f i = cond (ltb i (wholeRecords f)) (ruleAfter f (lastKept f i) i) tailRule
 

@@ -47,8 +47,8 @@ pub record SiftFits (f : List ℕ) (i : ℕ) (x : Sifting) : Type 0 where
 -- there is room for all whole records, and to tell all records
 pub record SiftRoom (f g p r : List ℕ) : Type 0 where
   pub records : wholeRecords f * recordBytes ≤ length g
-  pub tellers : recordsRead f ≤ length p
-  pub rulers : recordsRead f ≤ length r
+  pub placesRoom : recordsRead f ≤ length p
+  pub rulesRoom : recordsRead f ≤ length r
 
 -- what the first n records leave
 abbrev pub siftedBy : List ℕ → ℕ → List ℕ → List ℕ → List ℕ → Sifting

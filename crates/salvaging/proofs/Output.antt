@@ -7,6 +7,7 @@ use native.Mathlib.Omega.{arith}
 use native.Mathlib.Nat.{add-zero, le-refl}
 use lib.Dec.{eqb, ltb}
 use lib.ListN.{length, take}
+use lib.Seq.{ext-getD}
 use borrow.Author.Tests.{eq-eqb, ne-eqb, eqb-true, eqb-false, ltb-true, ltb-false}
 use Rattle.laws.specs.Area.{num}
 use Rattle.laws.specs.Loops.{first}
@@ -24,7 +25,7 @@ use Rattle.salvage.proofs.Foremost.{copied-size, record-byte}
 use Rattle.salvage.proofs.Sifted.{kept-tail, whole-record, none-kept, bytes-same, bytes-size, counts}
 use Rattle.salvaging.proofs.Picks.{those-count, those-empty}
 use Rattle.salvaging.proofs.Alike.{picture-alike, field-alike, alone-alike}
-use Rattle.salvaging.proofs.Rules.{kept-exactly, last-at, next-straight, straight-kept}
+use Rattle.salvaging.proofs.Rules.{kept-by-tests, last-at, next-straight, straight-kept}
 
 module _ (f : List ℕ) where
   abbrev whole : ℕ
@@ -74,7 +75,7 @@ module _ (f : List ℕ) where
     its-bytes : bytesOf f from ≡ recordAt f (from * recordBytes)
     its-bytes = rw from-kept
 
-    pub out-byte : (r : List ℕ) (t : ℕ) → t < recordBytes → num (bytesKept f whole ++ r) (j * recordBytes + t) ≡ num f (from * recordBytes + t)
+    out-byte : (r : List ℕ) (t : ℕ) → t < recordBytes → num (bytesKept f whole ++ r) (j * recordBytes + t) ≡ num f (from * recordBytes + t)
     out-byte r t h =
         let a = whole-record f from from-below in
         ap (λ (x : ℕ). num (bytesKept f whole ++ r) (x + t)) (sym starts)
@@ -85,8 +86,18 @@ module _ (f : List ℕ) where
     byte-of : (t : ℕ) → t < recordBytes → num (bytesKept f whole) (j * recordBytes + t) ≡ num f (from * recordBytes + t)
     byte-of t h = ap (λ (w : List ℕ). num w (j * recordBytes + t)) (sym (append-nil (bytesKept f whole))) ∙ out-byte [] t h
 
+    pub out-record : recordAt (bytesKept f whole) (j * recordBytes) ≡ recordAt f (from * recordBytes)
+    out-record =
+        let a : j * recordBytes + recordBytes ≤ length (bytesKept f whole) = omega (arith, bytes-size f whole (le-refl whole)) in
+        let b = whole-record f from from-below in
+        let size : length (recordAt (bytesKept f whole) (j * recordBytes)) ≡ recordBytes = copied-size (bytesKept f whole) (j * recordBytes) a in
+        let same : (t : ℕ) → t < recordBytes → num (recordAt (bytesKept f whole) (j * recordBytes)) t ≡ num (recordAt f (from * recordBytes)) t =
+        λ t h. record-byte (bytesKept f whole) (j * recordBytes) a t h ∙ byte-of t h ∙ sym (record-byte f (from * recordBytes) b t h)
+        in
+        ext-getD 0 (recordAt (bytesKept f whole) (j * recordBytes)) (recordAt f (from * recordBytes)) (size ∙ sym (copied-size f (from * recordBytes) b)) (λ t m. same t (omega (arith, size)))
+
     good-and-follows : goodAlone f (from * recordBytes) && followsLast f (lastKept f from) from ≡ true
-    good-and-follows = sym (kept-exactly f from from-below) ∙ from-kept
+    good-and-follows = sym (kept-by-tests f from from-below) ∙ from-kept
 
     out-good : goodAlone (bytesKept f whole) (j * recordBytes) ≡ true
     out-good = alone-alike (bytesKept f whole) f (j * recordBytes) (from * recordBytes) byte-of ∙ and-left (goodAlone f (from * recordBytes)) (followsLast f (lastKept f from) from) good-and-follows

@@ -2,7 +2,7 @@
 use mathlib.Core.Path.{_≡_, refl, sym, ap, subst, _∙_}
 use mathlib.Core.Logic.{⊎-elim}
 use mathlib.Core.List.{List, [], _∷_, _++_}
-use mathlib.Core.Bool.{Bool, true, false, cond, not, _&&_}
+use mathlib.Core.Bool.{Bool, true, false, cond, not, _&&_, true≢false}
 use Prim.Native.Nat.{ℕ, zero, suc, _+_, _-_, _*_, _<_, _≤_}
 use native.Mathlib.Omega.{arith}
 use native.Mathlib.Decide.{decLt}
@@ -63,14 +63,12 @@ module _ (f : List ℕ) where
   unfolding ruleAfter
   after-rule l i = no-order (ruleAlone f (i * recordBytes)) (followsLast f l i) ∙ ap (λ (b : Bool). b && followsLast f l i) (alone-rule (i * recordBytes))
 
-  -- a record is kept exactly where it is good by itself and follows the last one kept
-  pub kept-exactly : (i : ℕ) → i < wholeRecords f → isKept f i ≡ goodAlone f (i * recordBytes) && followsLast f (lastKept f i) i
-  kept-exactly i h = kept-by-rule f i h ∙ after-rule (lastKept f i) i
+  pub kept-by-tests : (i : ℕ) → i < wholeRecords f → isKept f i ≡ goodAlone f (i * recordBytes) && followsLast f (lastKept f i) i
+  kept-by-tests i h = kept-by-rule f i h ∙ after-rule (lastKept f i) i
 
-  -- the rule of a record that is not kept is the first that it breaks
-  pub first-broken : (i : ℕ) → i < wholeRecords f → isKept f i ≡ false → FirstFails (testsOf f (lastKept f i) i) (ruleOf f i)
+  first-after : (i : ℕ) → i < wholeRecords f → isKept f i ≡ false → FirstFails (testsOf f (lastKept f i) i) (ruleOf f i)
   unfolding ruleAfter ruleAlone
-  first-broken i h e =
+  first-after i h e =
       let a = i * recordBytes in
       subst (FirstFails (testsOf f (lastKept f i) i)) (sym (rule-whole f i h))
       (first-of-six (pictureFine (pictureAt f a)) (sideFine (sideAt f a)) (fieldFine (fieldAt f a)) (spareFine f a) (valuesFine f a) (followsLast f (lastKept f i) i)
@@ -102,11 +100,32 @@ module _ (f : List ℕ) where
       there : (i j : ℕ) → j < i + 1 → (j < i → ⊥) → i ≡ j
       there i j m n = omega arith
 
-  -- `lastKept` is what its name says
+  -- `lastKept` is one past the last record kept, 0 where none is
   pub last-kept-is : (i : ℕ) → i ≤ wholeRecords f → LastBefore f i (lastKept f i)
   unfolding lastKept
   last-kept-is zero h = record { below = omega arith; kept = λ j q. absurd (omega arith); none-since = λ j l m. absurd (not-suc-le-zero m) }
   last-kept-is (suc i) h = subst (λ (x : ℕ). LastBefore f x (lastKept f x)) (add-one i) (last-keeps i h (last-kept-is i (omega arith)))
+
+  not-past : (i l m : ℕ) → LastBefore f i l → LastBefore f i m → l < m → ⊥
+  not-past i l m a b h = true≢false (sym (b .kept (m - 1) (omega arith)) ∙ a .none-since (m - 1) (omega arith) (omega (arith, b .below)))
+
+  -- and there is no other such number
+  last-only : (i l : ℕ) → i ≤ wholeRecords f → LastBefore f i l → lastKept f i ≡ l
+  last-only i l h b =
+      let a : LastBefore f i (lastKept f i) = last-kept-is i h in
+      elim (decLt (lastKept f i) l) [
+        | yes m ↦ absurd (not-past i (lastKept f i) l a b m)
+        | no n ↦ elim (decLt l (lastKept f i)) [ yes m ↦ absurd (not-past i l (lastKept f i) b a m) | no o ↦ omega arith ]
+      ]
+
+  module _ (i l : ℕ) (h : i < wholeRecords f) (b : LastBefore f i l) where
+    -- a record is kept exactly where it is good by itself and follows the last one kept
+    pub kept-exactly : isKept f i ≡ goodAlone f (i * recordBytes) && followsLast f l i
+    kept-exactly = subst (λ (x : ℕ). isKept f i ≡ goodAlone f (i * recordBytes) && followsLast f x i) (last-only i l (omega arith) b) (kept-by-tests i h)
+
+    -- the rule of a record that is not kept is the first that it breaks
+    pub first-broken : isKept f i ≡ false → FirstFails (testsOf f l i) (ruleOf f i)
+    first-broken e = subst (λ (x : ℕ). FirstFails (testsOf f x i) (ruleOf f i)) (last-only i l (omega arith) b) (first-after i h e)
 
   last-place : (i : ℕ) → i ≤ wholeRecords f → (j : ℕ) → length (keptIn f i) ≡ suc j → lastKept f i ≡ suc (num (keptIn f i) j)
   unfolding those
@@ -159,7 +178,7 @@ module _ (f : List ℕ) where
     -- whether the next is kept is the reader's own test
     pub next-straight : (i : ℕ) → i ≤ q → i < wholeRecords f → isKept f i ≡ not (badAt f i)
     unfolding badAt
-    next-straight i l m = kept-exactly i m ∙ straight-test i (last-straight i l) ∙ twice (goodAlone f (i * recordBytes) && inOrder f i)
+    next-straight i l m = kept-by-tests i m ∙ straight-test i (last-straight i l) ∙ twice (goodAlone f (i * recordBytes) && inOrder f i)
       where
         twice : (b : Bool) → b ≡ not (not b)
         twice true = refl

@@ -1,34 +1,35 @@
 -- What holds of every frame file that is salvaged: of a call that is refused, and of one that is not. Nothing is assumed but what a theorem names.
-use mathlib.Core.Path.{_≡_, sym, ap, subst, _∙_}
+use mathlib.Core.Path.{_≡_, refl, sym, ap, subst, _∙_}
 use mathlib.Core.Logic.{_⊎_, inl, inr, ⊎-elim}
 use mathlib.Core.List.{List, []}
 use mathlib.Core.Bool.{Bool, true, false, not, _||_, true≢false}
 use Prim.Native.Nat.{ℕ, _+_, _*_, _%_, _<_, _≤_}
 use native.Mathlib.Omega.{arith}
-use native.Mathlib.Decide.{decLt}
 use native.Mathlib.Nat.{le-refl}
 use lib.Dec.{eqb, ltb}
 use lib.ListN.{List·getD-append, length, take, drop}
-use lib.Seq.{take-at, drop-at, take-all, take-append-le, ext-getD}
+use lib.Seq.{take-at, drop-at, take-all, take-append-le}
 use borrow.Author.Tests.{lt-ltb, ltb-true, eqb-true, eqb-false, not-true}
 use Rattle.laws.specs.Area.{num}
 use Rattle.laws.specs.Joined.{those}
 use Rattle.laws.proofs.Bools.{two, by-bool, or-yes}
 use Rattle.laws.proofs.Joined.{those-at, those-below, those-holds, those-rise, length-map, getD-map-in, joined-mono}
+use Rattle.frames.specs.declared.Frames.{Frames}
 use Rattle.frames.specs.declared.Frames.the-variants.{Good, Bad}
 use Rattle.frames.specs.Frames.{recordBytes, badAt, wholeRecords, framesOf}
 use Rattle.frames.proofs.Fields.{Taken, taken-is}
 use Rattle.salvage.specs.declared.Salvaged.{Salvaged}
 use Rattle.salvage.specs.declared.Salvaged.the-variants.{Saved, Short}
-use Rattle.salvage.specs.Salvage.{tailRule, lastKept, ruleOf, isKept, keptIn, toldIn, rulesTold, recordAt, bytesOf, bytesKept}
+use Rattle.salvage.specs.Salvage.{tailRule, ruleOf, isKept, keptIn, toldIn, rulesTold, recordAt, bytesOf, bytesKept}
 use Rattle.salvage.specs.Salvage.{recordsRead, lacksRoom, foremost, SalvageOutcome, salvageOutcome, salvageOf}
 use Rattle.salvage.specs.Steps.{SiftRoom}
-use Rattle.salvage.proofs.Foremost.{foremost-size, copied-size, record-byte}
-use Rattle.salvage.proofs.Sifted.{rule-tail, kept-tail, whole-record, bytes-size, counts, short-left, sift-room}
-use Rattle.salvaging.specs.Broken.{testsOf, FirstFails, AreaShort, KeptAs}
+use Rattle.salvage.proofs.Foremost.{foremost-size}
+use Rattle.salvage.proofs.Sifted.{rule-tail, bytes-size, counts, short-left, sift-room}
+use Rattle.salvaging.specs.Broken.{testsOf, FirstFails, LastBefore, AreaShort, KeptAs}
 use Rattle.salvaging.proofs.Picks.{joined-front}
 use Rattle.salvaging.proofs.Rules.{first-broken}
-use Rattle.salvaging.proofs.Output.{reads-even, reads-stray, all-kept, all-bytes, all-size, out-byte, out-taken, straight-told, straight-bytes, straight-count, StopsAt, refused-at}
+use Rattle.salvaging.proofs.Output.{reads-even, reads-stray, all-kept, all-bytes, all-size, from-below, from-kept, out-record, out-taken}
+use Rattle.salvaging.proofs.Output.{straight-told, straight-bytes, straight-count, StopsAt, refused-at}
 
 -- ---- the refusal
 
@@ -157,8 +158,8 @@ module _ (f g p r : List ℕ) where
     pub areas-keep-their-sizes : (length (left .good) ≡ length g) × (length (left .places) ≡ length p) × (length (left .rules) ≡ length r)
     areas-keep-their-sizes = (
       ap length good-is ∙ foremost-size (bytesKept f read) g (omega (arith, size, k-is, ap length (all-kept f), counts f (wholeRecords f), room .records)),
-      ap length places-is ∙ foremost-size (toldIn f read) p (omega (arith, counts f read, room .tellers)),
-      ap length rules-is ∙ foremost-size (rulesTold f read) r (omega (arith, rules-count, t-is, counts f read, room .rulers)),
+      ap length places-is ∙ foremost-size (toldIn f read) p (omega (arith, counts f read, room .placesRoom)),
+      ap length rules-is ∙ foremost-size (rulesTold f read) r (omega (arith, rules-count, t-is, counts f read, room .rulesRoom)),
     )
 
     -- ---- the told records
@@ -184,10 +185,12 @@ module _ (f g p r : List ℕ) where
     )
 
     -- its rule is the first that it breaks: those before pass, and it fails
-    pub told-rule-is-first-broken : (s : ℕ) → s < t → num (left .places) s < wholeRecords f → FirstFails (testsOf f (lastKept f (num (left .places) s)) (num (left .places) s)) (num (left .rules) s)
-    told-rule-is-first-broken s l h =
+    pub told-rule-is-first-broken :
+        (s m : ℕ) → s < t → num (left .places) s < wholeRecords f → LastBefore f (num (left .places) s) m
+        → FirstFails (testsOf f m (num (left .places) s)) (num (left .rules) s)
+    told-rule-is-first-broken s m l h b =
         let i = num (left .places) s in
-        subst (FirstFails (testsOf f (lastKept f i) i)) (sym (rule-at s l)) (first-broken f i h (told-is-dropped s l .1))
+        subst (FirstFails (testsOf f m i)) (sym (rule-at s l)) (first-broken f i m h b (told-is-dropped s l .1))
 
     -- past the whole records there is the stray tail alone, told as such
     pub told-tail : (s : ℕ) → s < t → wholeRecords f ≤ num (left .places) s → (num (left .places) s ≡ wholeRecords f) × (num (left .rules) s ≡ tailRule) × (length f % recordBytes ≡ 0 → ⊥)
@@ -208,26 +211,21 @@ module _ (f g p r : List ℕ) where
 
     -- ---- each record is kept or told
 
+    -- record j of the output is a kept record of the file, the one at place j among those kept, with its bytes
+    pub output-record : (j : ℕ) → j < k → (isKept f (num (keptIn f (recordsRead f)) j) ≡ true) × KeptAs f output (num (keptIn f (recordsRead f)) j) j
+    output-record j l =
+        let w = wholeRecords f in
+        let few : j < length (keptIn f w) = omega (arith, k-is, ap length (all-kept f)) in
+        let same : recordAt output (j * recordBytes) ≡ recordAt f (num (keptIn f w) j * recordBytes) = ap (λ (v : List ℕ). recordAt v (j * recordBytes)) output-is ∙ out-record f j few in
+        subst (λ (v : List ℕ). (isKept f (num v j) ≡ true) × KeptAs f output (num v j) j) (sym (all-kept f)) (from-kept f j few, record { is-whole = from-below f j few; same-bytes = same })
+
     -- a kept one stands in the output, behind the kept ones before it
-    pub kept-stands : (i : ℕ) → i < wholeRecords f → isKept f i ≡ true → (length (keptIn f i) < k) × KeptAs f (left .good) i (length (keptIn f i))
+    pub kept-stands : (i : ℕ) → i < recordsRead f → isKept f i ≡ true → (length (keptIn f i) < k) × KeptAs f output i (length (keptIn f i))
     kept-stands i h b =
         let j = length (keptIn f i) in
-        let w = wholeRecords f in
-        let a = those-at (isKept f) w i h b in
-        let few : j < k = omega (arith, a .0, k-is, ap length (all-kept f)) in
-        let long : j * recordBytes + recordBytes ≤ length (left .good) = omega (arith, areas-keep-their-sizes .0, k-is, ap length (all-kept f), counts f w, room .records) in
-        let there = whole-record f i h in
-        let byte : (x : ℕ) → x < recordBytes → num (recordAt (left .good) (j * recordBytes)) x ≡ num (recordAt f (i * recordBytes)) x =
-        λ x l.
-        record-byte (left .good) (j * recordBytes) long x l
-        ∙ ap (λ (v : List ℕ). num v (j * recordBytes + x)) (good-is ∙ ap (λ (v : List ℕ). foremost v g) (all-bytes f))
-        ∙ out-byte f j (a .0) (drop (length (bytesKept f w)) g) x l
-        ∙ ap (λ (y : ℕ). num f (y * recordBytes + x)) (a .1)
-        ∙ sym (record-byte f (i * recordBytes) there x l)
-        in
-        let size : length (recordAt (left .good) (j * recordBytes)) ≡ recordBytes = copied-size (left .good) (j * recordBytes) long in
-        let same = ext-getD 0 (recordAt (left .good) (j * recordBytes)) (recordAt f (i * recordBytes)) (size ∙ sym (copied-size f (i * recordBytes) there)) (λ x m. byte x (omega (arith, size))) in
-        (few, record { is-whole = h; same-bytes = same })
+        let a = those-at (isKept f) read i h b in
+        let few : j < k = omega (arith, a .0, k-is) in
+        (few, subst (λ (x : ℕ). KeptAs f output x j) (a .1) (output-record j few .1))
 
     -- a dropped one is told, behind the told ones before it
     pub dropped-is-told : (i : ℕ) → i < recordsRead f → isKept f i ≡ false → (length (toldIn f i) < t) × (num (left .places) (length (toldIn f i)) ≡ i)
@@ -235,13 +233,12 @@ module _ (f g p r : List ℕ) where
         let a = those-at (λ j. not (isKept f j)) read i h (rw b) in
         (omega (arith, a .0, t-is), place-at (length (toldIn f i)) (omega (arith, a .0, t-is)) ∙ a .1)
 
+    -- each record read is the one or the other
     pub kept-or-told :
         (i : ℕ) → i < recordsRead f
-        → ((length (keptIn f i) < k) × KeptAs f (left .good) i (length (keptIn f i))) ⊎ ((length (toldIn f i) < t) × (num (left .places) (length (toldIn f i)) ≡ i))
-    kept-or-told i h = ⊎-elim (λ b. inl (kept-stands i (whole b) b)) (λ b. inr (dropped-is-told i h b)) (two (isKept f i))
-      where
-        whole : isKept f i ≡ true → i < wholeRecords f
-        whole b = elim (decLt i (wholeRecords f)) [ yes l ↦ l | no m ↦ absurd (true≢false (sym b ∙ kept-tail f i (omega arith))) ]
+        → ((isKept f i ≡ true) × (length (keptIn f i) < k) × KeptAs f output i (length (keptIn f i)))
+        ⊎ ((isKept f i ≡ false) × (length (toldIn f i) < t) × (num (left .places) (length (toldIn f i)) ≡ i))
+    kept-or-told i h = ⊎-elim (λ b. inl (b, kept-stands i h b .0, kept-stands i h b .1)) (λ b. inr (b, dropped-is-told i h b .0, dropped-is-told i h b .1)) (two (isKept f i))
 
     -- ---- what the reader refuses at q: the q records before it stand first, and q is told first
 
@@ -279,6 +276,14 @@ module _ (f g p r : List ℕ) where
       let bytes : bytesKept f w ≡ f = straight-bytes f w (le-refl w) (s .good) ∙ take-all (w * recordBytes) f (omega (arith, s .noTail)) in
       let count : length (keptIn f w) ≡ n = straight-count f w (le-refl w) (s .good) ∙ sym (s .count) in
       roomy-saves e ∙ rw (whole, none, bytes, count)
+
+  -- and only a good file has nothing told
+  pub nothing-told-is-good : (k : ℕ) → salvageOf f g p r .answer ≡ Saved k 0 → framesOf f ≡ Good k
+  nothing-told-is-good k e = go (framesOf f) refl
+    where
+      go : (x : Frames) → framesOf f ≡ x → framesOf f ≡ Good k
+      go (Good n) d = d ∙ ap (λ (a : Salvaged). Good (countKept a)) (ap (λ (o : SalvageOutcome). o .answer) (sym (good-file-unchanged n d (roomy k 0 e))) ∙ e)
+      go (Bad q) d = absurd (omega (arith, refused-told-first k 0 e q d .2))
 
 -- salvaging the output again changes nothing: the same bytes, and nothing told
 pub output-unchanged :
