@@ -492,9 +492,10 @@ uint32_t brothanchor_monitor_read(
     uint64_t *answer, size_t answer_length);
 
 /* The good records of a scuffed frame file, copied to the front of the target: each that is good by itself, by the rules of
- * brothanchor_frames, and may follow the last one kept, if any. The target is then a frame file that brothanchor_frames takes; a good
- * file comes through unchanged. Of each other record its place, counted from 0, and the first rule that it broke are told, in the order
- * of the file, at the fronts of places and rules. Bytes past the last whole record count as one more record. The rules:
+ * brothanchor_frames, and may follow the last one kept, if any. The first 72 bytes for each record kept are then a frame file that
+ * brothanchor_frames takes; a good file comes through unchanged. Of each other record its place, counted from 0, and the first rule that
+ * it broke are told, in the order of the file, at the fronts of places and rules. Bytes past the last whole record count as one more
+ * record. The rules:
  *   1  picture: it is not from 1 to 79,999
  *   2  side: it is not 1 or 2
  *   3  field: it is not 0, 1 or 2
@@ -502,12 +503,13 @@ uint32_t brothanchor_monitor_read(
  *   5  value: a feature or a start is not finite or above 2^20 in magnitude
  *   6  order: good by itself, but it may not follow the last record kept
  *   7  tail: it is not whole
- * Longer areas keep their tails, and what lies past the records kept, places and rules past those told too.
+ * What lies past the records kept, and past the places and rules told, keeps its value.
  *
  * Answers 0, and writes the number of records kept to the first word of the answer and the number told to the second; together they are
- * all records, the tail counted. Or answers 12, with nothing else written than 0 to the first word:
+ * all records, the tail counted. Or answers 12. In this order:
  *   12  the answer area has fewer than two words: nothing can be told, and nothing is written
- *   12  the target is shorter than the whole records given, or there are fewer places or rules than records, the tail counted */
+ *   12  the target is shorter than the whole records given, or there are fewer places or rules than records, the tail counted: 0 is
+ *       written to the first word of the answer, and nothing else */
 uint32_t brothanchor_salvage(
     const uint8_t *file, size_t file_length,
     uint8_t *target, size_t target_length,

@@ -597,11 +597,17 @@ static uint32_t salvage(const uint8_t *file, size_t length, struct salvaged *s, 
     return brothanchor_salvage(file, length, s->target, bytes, s->places, places, s->rules, rules, s->answer, words);
 }
 
-/* Number and both words; what is left of a refusal is as it was. */
+/* Number and both words; every area is as it was past what is kept and told, and in a refusal all of it. */
 static void sorted_out(const char *what, uint32_t number, uint32_t wanted, const struct salvaged *s, uint64_t first, uint64_t second) {
-    static const uint64_t untouched = UINT64_C(0x5555555555555555);
-    int is_kept = s->places[0] == untouched && s->target[0] == 0x55 && s->rules[0] == 0x55;
-    if (number != wanted || s->answer[0] != first || s->answer[1] != second || s->answer[2] != untouched || (wanted != 0 && !is_kept)) {
+    static struct salvaged before;
+    const size_t kept = wanted == 0 ? FRAME_BYTES * first : 0, said = wanted == 0 ? second : 0;
+    int is_left;
+    memset(&before, 0x55, sizeof before);
+    is_left = s->answer[2] == before.answer[2] &&
+              memcmp(s->target + kept, before.target + kept, sizeof before.target - kept) == 0 &&
+              memcmp(s->places + said, before.places + said, sizeof before.places - said * sizeof before.places[0]) == 0 &&
+              memcmp(s->rules + said, before.rules + said, sizeof before.rules - said) == 0;
+    if (number != wanted || s->answer[0] != first || s->answer[1] != second || !is_left) {
         fprintf(stderr, "%s: %u, %" PRIx64 ", %" PRIx64 "\n", what, (unsigned)number, s->answer[0], s->answer[1]);
         exit(1);
     }
@@ -627,9 +633,9 @@ static void scuffed(const uint8_t *file, size_t n) {
     copy[FRAME_BYTES + 4] = 0;
     memcpy(copy + 3 * FRAME_BYTES, copy + 2 * FRAME_BYTES, FRAME_BYTES);
     sorted_out("salvage, scuffed", salvage(copy, bytes + 1, &s, bytes, n + 1, n + 1, 2), 0, &s, n - 2, 3);
-    if (s.places[0] != 1 || s.places[1] != 3 || s.places[2] != n || s.places[3] != untouched ||
-        s.rules[0] != 2 || s.rules[1] != 6 || s.rules[2] != 7 || s.rules[3] != 0x55 ||
-        memcmp(s.target + FRAME_BYTES, file + 2 * FRAME_BYTES, FRAME_BYTES) != 0) {
+    if (s.places[0] != 1 || s.places[1] != 3 || s.places[2] != n || s.rules[0] != 2 || s.rules[1] != 6 || s.rules[2] != 7 ||
+        memcmp(s.target, file, FRAME_BYTES) != 0 || memcmp(s.target + FRAME_BYTES, file + 2 * FRAME_BYTES, FRAME_BYTES) != 0 ||
+        memcmp(s.target + 2 * FRAME_BYTES, file + 4 * FRAME_BYTES, bytes - 4 * FRAME_BYTES) != 0) {
         fprintf(stderr, "a scuffed file is told otherwise\n");
         exit(1);
     }

@@ -28,7 +28,7 @@ pub use refusal::Refusal;
 pub use run::{
     divergence, prepare, sizes, work, Areas, Fault, Kind, Method, Node, Record, Rows, Settings, Sizes, State, Worked,
 };
-pub use salvage::{salvage, Dropped, Row, Rule, Salvaged};
+pub use salvage::{salvage, Dropped, Rule, Salvaged, Stretch};
 pub use thinning::take_out;
 
 /// Components of a frame file's starts, features of its frames.

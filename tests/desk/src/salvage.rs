@@ -43,16 +43,16 @@ impl fmt::Display for Rule {
             Rule::Field => "its field is not 0, 1 or 2",
             Rule::Spare => "its spare bytes are not zero",
             Rule::Value => "a value of it is not finite or above 2^20 in magnitude",
-            Rule::Order => "it does not follow the last record kept",
+            Rule::Order => "it is out of order after the last record kept",
             Rule::Tail => "it is not whole",
         })
     }
 }
 
-/// Copies every record of a file that is good by itself and follows the last one kept to the front of the target, and tells of each
-/// other its place and the number of the first rule that it broke, at the fronts of places and rules. Bytes after the last whole record
-/// count as one more. Answers how many are kept and how many are told. 12, with nothing written, where the target is shorter than the
-/// whole records or there are fewer places or rules than records.
+/// Copies to the front of the target every record of a file that is good by itself and in order after the last one kept, and tells of
+/// each other its place and the number of the first rule that it broke, at the fronts of places and rules. Bytes after the last whole
+/// record count as one more. Answers how many are kept and how many are told. 12, with nothing written, where the target is shorter than
+/// the whole records or there are fewer places or rules than records.
 pub fn salvage(file: &[u8], target: &mut [u8], places: &mut [u64], rules: &mut [u8]) -> Result<[usize; 2], Refusal> {
     let mut answer = [0; 2];
     let number = unsafe {
@@ -80,6 +80,8 @@ pub struct Dropped {
     pub rule: Rule,
     /// Its picture, where that can be read and is in its range.
     pub picture: Option<u32>,
+    /// The picture of the last record kept before it, if any.
+    pub last_kept: Option<u32>,
 }
 
 /// What is salvaged of a frame file.
@@ -93,7 +95,7 @@ pub struct Salvaged {
 
 /// Records that are dropped for their order alone, with none kept between them.
 #[derive(Clone, Copy, Debug, PartialEq, Eq)]
-pub struct Row {
+pub struct Stretch {
     /// How many they are.
     pub count: usize,
     /// The places of the first and of the last one.
@@ -111,18 +113,17 @@ impl Salvaged {
         let (mut target, mut places, mut rules) = (vec![0; file.len()], vec![0; records], vec![0; records]);
         let [kept, told] = salvage(file, &mut target, &mut places, &mut rules)?;
         target.truncate(RECORD * kept);
-        let dropped = |(&place, &rule): (&u64, &u8)| {
-            let place = place as usize;
-            Some(Dropped {
-                place,
-                rule: Rule::of(rule)?,
-                picture: picture(file, place),
-            })
+        // As many were kept before a record as were not dropped.
+        let dropped = |(i, (&place, &rule)): (usize, (&u64, &u8))| Dropped {
+            place: place as usize,
+            rule: Rule::of(rule).expect("a rule that is told is from 1 to 7"),
+            picture: picture(file, place as usize),
+            last_kept: (place as usize - i)
+                .checked_sub(1)
+                .and_then(|last| picture(&target, last)),
         };
-        Ok(Salvaged {
-            file: target,
-            dropped: places.iter().zip(&rules).take(told).filter_map(dropped).collect(),
-        })
+        let dropped = places.iter().zip(&rules).take(told).enumerate().map(dropped).collect();
+        Ok(Salvaged { file: target, dropped })
     }
 
     /// How many records are kept.
@@ -130,35 +131,37 @@ impl Salvaged {
         self.file.len() / RECORD
     }
 
-    /// The rows of more than so many records that are dropped for their order. Of such a row the record before it may be the bad one:
-    /// a picture that was scuffed upwards leaves no room for what comes after it.
-    pub fn rows(&self, few: usize) -> Vec<Row> {
-        let mut rows: Vec<Row> = Vec::new();
+    /// The stretches of more than so many records that are dropped for their order. Of such a stretch the record before it may be the
+    /// bad one: a picture that was scuffed upwards leaves no room for what comes after it.
+    pub fn stretches(&self, few: usize) -> Vec<Stretch> {
+        let mut stretches: Vec<Stretch> = Vec::new();
         // The place of the last record kept, and the place after the last one dropped.
         let (mut after, mut next) = (0, 0);
-        for (i, &Dropped { place, rule, .. }) in self.dropped.iter().enumerate() {
+        for dropped in &self.dropped {
+            let place = dropped.place;
             if place > next {
                 after = place - 1;
             }
             next = place + 1;
-            match rows.last_mut() {
-                _ if rule != Rule::Order => {}
-                Some(row) if row.after == after => {
-                    row.count += 1;
-                    row.last = place;
+            match stretches.last_mut() {
+                _ if dropped.rule != Rule::Order => {}
+                Some(stretch) if stretch.after == after => {
+                    stretch.count += 1;
+                    stretch.last = place;
                 }
-                // As many were kept before it as were not dropped; there is one, or it would not be out of order.
-                _ => rows.push(Row {
+                _ => stretches.push(Stretch {
                     count: 1,
                     first: place,
                     last: place,
                     after,
-                    picture: picture(&self.file, (place - i).saturating_sub(1)).unwrap_or(0),
+                    picture: dropped
+                        .last_kept
+                        .expect("what is out of order comes after a record kept"),
                 }),
             }
         }
-        rows.retain(|row| row.count > few);
-        rows
+        stretches.retain(|stretch| stretch.count > few);
+        stretches
     }
 }
 
@@ -181,43 +184,44 @@ mod tests {
     }
 
     #[test]
-    fn rows_out_of_order() {
-        let dropped = |place: usize, rule: Rule| Dropped {
+    fn stretches_out_of_order() {
+        let dropped = |place: usize, rule: Rule, last_kept: u32| Dropped {
             place,
             rule,
             picture: None,
+            last_kept: Some(last_kept),
         };
         // Kept are 0, 2, 8 and 10.
         let salvaged = Salvaged {
             file: file(&[5, 900, 1000, 1001]),
             dropped: vec![
-                dropped(1, Rule::Side),
-                dropped(3, Rule::Order),
-                dropped(4, Rule::Order),
-                dropped(5, Rule::Picture),
-                dropped(6, Rule::Order),
-                dropped(7, Rule::Value),
-                dropped(9, Rule::Order),
-                dropped(11, Rule::Tail),
+                dropped(1, Rule::Side, 5),
+                dropped(3, Rule::Order, 900),
+                dropped(4, Rule::Order, 900),
+                dropped(5, Rule::Picture, 900),
+                dropped(6, Rule::Order, 900),
+                dropped(7, Rule::Value, 900),
+                dropped(9, Rule::Order, 1000),
+                dropped(11, Rule::Tail, 1001),
             ],
         };
-        let long = Row {
+        let long = Stretch {
             count: 3,
             first: 3,
             last: 6,
             after: 2,
             picture: 900,
         };
-        let short = Row {
+        let short = Stretch {
             count: 1,
             first: 9,
             last: 9,
             after: 8,
             picture: 1000,
         };
-        assert_eq!(salvaged.rows(0), [long, short]);
-        assert_eq!(salvaged.rows(2), [long]);
-        assert_eq!(salvaged.rows(3), []);
+        assert_eq!(salvaged.stretches(0), [long, short]);
+        assert_eq!(salvaged.stretches(2), [long]);
+        assert_eq!(salvaged.stretches(3), []);
     }
 
     #[test]

@@ -1,14 +1,15 @@
 //! Scuffed frame files against the independent implementation: what is kept of them and what is told of the rest. After each call number,
 //! both words, every byte of the target and every place of places and rules, tails included, have to be the same on both sides. What is
-//! kept the library's own reader takes, a good file comes through unchanged, and kept and told together are all records.
+//! kept the library's own reader takes, a good file comes through unchanged, and so does what was salvaged; kept and told together are all
+//! records, and what the reader refuses is the first that is told.
 
 use crate::met::{all_met, meet, Met};
 use crate::random::Random;
 use crate::{each_seed, setting};
 use brothanchor::map::RECORD;
-use brothanchor::{frames, salvage, Refusal, Rule, Salvaged};
+use brothanchor::{frames, salvage, Refusal, Rule, Salvaged, Stretch};
 use oracle::lists::salvage::{good, records_of};
-use oracle::salvage as rules;
+use oracle::salvage::salvage as salvage_by_the_text;
 use std::time::Instant;
 
 /// How long the areas are: target in bytes, places, rules.
@@ -40,7 +41,7 @@ fn lent([target, places, rules]: Room) -> Lent {
 fn salvage_both(file: &[u8], room: Room) -> (Result<[usize; 2], u32>, Lent) {
     let (mut ours, mut theirs) = (lent(room), lent(room));
     let told = salvage(file, &mut ours.target, &mut ours.places, &mut ours.rules).map_err(|Refusal(number)| number);
-    let wanted = rules::salvage(file, &mut theirs.target, &mut theirs.places, &mut theirs.rules);
+    let wanted = salvage_by_the_text(file, &mut theirs.target, &mut theirs.places, &mut theirs.rules);
     assert_eq!(told, wanted.map(|found| [found.kept, found.told]).map_err(|_| 12));
     assert!(ours.target == theirs.target, "the targets differ");
     assert_eq!((&ours.places, &ours.rules), (&theirs.places, &theirs.rules));
@@ -62,14 +63,35 @@ fn salvaged(file: &[u8], more: usize, met: &mut Met) -> [usize; 2] {
     let before = lent(room);
     assert!(tail == &before.target[RECORD * kept..], "the target's tail is kept");
     assert!(found.places[dropped..] == before.places[dropped..] && found.rules[dropped..] == before.rules[dropped..]);
-    if frames(file).is_ok() {
-        assert!(dropped == 0 && good == file, "a good file comes through unchanged");
-        meet(met, "a good file");
+    match frames(file) {
+        Ok(_) => {
+            assert!(dropped == 0 && good == file, "a good file comes through unchanged");
+            meet(met, "a good file");
+        }
+        Err((_, place)) => {
+            let before = RECORD * place;
+            assert!(
+                place <= kept && good[..before] == file[..before],
+                "what the reader passed stands first"
+            );
+            assert_eq!(found.places[0], place as u64, "what the reader refuses is told first");
+        }
     }
+    unchanged(good, kept);
     for &number in &found.rules[..dropped] {
         meet(met, format!("{:?}", Rule::of(number).expect("a rule")));
     }
     [kept, dropped]
+}
+
+/// What was salvaged comes through once more unchanged, with nothing told.
+fn unchanged(good: &[u8], kept: usize) {
+    let room = room(good);
+    let mut again = lent(room);
+    let told = salvage(good, &mut again.target, &mut again.places, &mut again.rules);
+    assert_eq!(told, Ok([kept, 0]));
+    let before = lent(room);
+    assert!(again.target == good && again.places == before.places && again.rules == before.rules);
 }
 
 /// A file damaged in one of the ways in which a drive does.
@@ -242,24 +264,32 @@ fn rubbish() {
     all_met(&met, ["Picture", "Tail", "Side"].map(String::from));
 }
 
-/// What the wrapper makes of it, with pictures and rows.
+/// What the wrapper makes of it, with pictures and stretches.
 #[test]
-fn rows_that_are_dropped_for_their_order() {
+fn stretches_that_are_dropped_for_their_order() {
     let mut random = Random::new(1);
     let pictures = [10, 11, 66_740, 12, 13, 14, 15, 16, 66_741, 17];
     let pairs: Vec<(u32, u8)> = pictures.iter().map(|&picture| (picture, 0)).collect();
     let found = Salvaged::of(&records_of(random.source(), &pairs)).expect("room enough");
     assert_eq!((found.kept(), found.dropped.len()), (4, 6));
     assert!(found.dropped.iter().all(|dropped| dropped.rule == Rule::Order));
-    assert_eq!(found.dropped[5].picture, Some(17));
-    let rows = found.rows(3);
-    assert_eq!(rows.len(), 1);
-    let row = rows[0];
     assert_eq!(
-        (row.count, row.first, row.last, row.after, row.picture),
-        (5, 3, 7, 2, 66_740)
+        (found.dropped[0].picture, found.dropped[0].last_kept),
+        (Some(12), Some(66_740))
     );
-    assert_eq!(found.rows(0).len(), 2);
+    assert_eq!(
+        (found.dropped[5].picture, found.dropped[5].last_kept),
+        (Some(17), Some(66_741))
+    );
+    let stretch = Stretch {
+        count: 5,
+        first: 3,
+        last: 7,
+        after: 2,
+        picture: 66_740,
+    };
+    assert_eq!(found.stretches(3), [stretch]);
+    assert_eq!(found.stretches(0).len(), 2);
 }
 
 /// As many records as there may be: all of them in their order, and all but one too many.
