@@ -3,8 +3,8 @@
  * Link libdesk.a (rt staticlib desk), for x86-64 Linux. All memory is lent by the caller; nothing is kept between calls.
  * An area is a pointer and its number of elements; an empty area may have any pointer. Areas of one call must not overlap.
  * A call that is refused at its entry changes nothing, but for the answer of a work call, of a divergence, of a parking, of a
- * reading, of a removal, of an import, of a writing of lists, of a strip or of a file for the monitor. Longer areas keep what lies past
- * what is asked for.
+ * reading, of a removal, of an import, of a writing of lists, of a strip, of a file for the monitor or of a salvage. Longer areas keep
+ * what lies past what is asked for.
  *
  * Refusal numbers (0: none)
  *   1  c is 0 or above 8
@@ -66,6 +66,7 @@
  *   divergence, park, unpark,        the first word of the answer; with an answer area that is empty nothing
  *   take_out, import, lists, strip,
  *   monitor_write, monitor_read
+ *   salvage                          the first word of the answer; with an answer area below two words nothing
  * After 14 or 15 the run is still running, and the next call begins with the refused unit. After 14 it goes on where the nodes
  * are moved to a longer arena, those in use with their contents.
  *
@@ -488,6 +489,32 @@ uint32_t brothanchor_monitor_read(
     uint8_t *sides, size_t sides_length,
     uint8_t *fields, size_t fields_length,
     double *positions, size_t positions_length,
+    uint64_t *answer, size_t answer_length);
+
+/* The good records of a scuffed frame file, copied to the front of the target: each that is good by itself, by the rules of
+ * brothanchor_frames, and may follow the last one kept, if any. The first 72 bytes for each record kept are then a frame file that
+ * brothanchor_frames takes; a good file comes through unchanged. Of each other record its place, counted from 0, and the first rule that
+ * it broke are told, in the order of the file, at the fronts of places and rules. Bytes past the last whole record count as one more
+ * record. The rules:
+ *   1  picture: it is not from 1 to 79,999
+ *   2  side: it is not 1 or 2
+ *   3  field: it is not 0, 1 or 2
+ *   4  spare bytes: byte 6 or 7 is not zero
+ *   5  value: a feature or a start is not finite or above 2^20 in magnitude
+ *   6  order: good by itself, but it may not follow the last record kept
+ *   7  tail: it is not whole
+ * What lies past the records kept, and past the places and rules told, keeps its value.
+ *
+ * Answers 0, and writes the number of records kept to the first word of the answer and the number told to the second; together they are
+ * all records, the tail counted. Or answers 12. In this order:
+ *   12  the answer area has fewer than two words: nothing can be told, and nothing is written
+ *   12  the target is shorter than the whole records given, or there are fewer places or rules than records, the tail counted: 0 is
+ *       written to the first word of the answer, and nothing else */
+uint32_t brothanchor_salvage(
+    const uint8_t *file, size_t file_length,
+    uint8_t *target, size_t target_length,
+    uint64_t *places, size_t places_length,
+    uint8_t *rules, size_t rules_length,
     uint64_t *answer, size_t answer_length);
 
 /* What a record says. The state is 3, the numbers are 0, where the words are no record. */

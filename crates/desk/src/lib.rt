@@ -18,6 +18,7 @@ ghost use Rattle.desk_lists.specs.HostLists.{hostListed, hostLists};
 ghost use Rattle.desk_park.specs.HostPark.{hostParked, hostPark};
 ghost use Rattle.desk_monitor.specs.HostWrite.{hostMonitored, hostMonitorWrite};
 ghost use Rattle.desk_monitor.specs.HostRead.{hostMonitorReading, hostMonitorRead};
+ghost use Rattle.desk_salvage.specs.HostSalvage.{hostSalvaged, hostSalvage};
 ghost use Rattle.desk_strip.specs.HostStrip.{hostHanded, hostStrip};
 ghost use Rattle.take_out.specs.TakeOut.{holdings};
 ghost use Rattle.desk_take.specs.HostTake.{hostTook, hostTake};
@@ -39,6 +40,7 @@ use desk_record::host_iterations;
 use desk_record::host_sizes;
 use desk_record::host_state;
 use desk_record::host_units;
+use desk_salvage::host_salvage;
 use desk_strip::host_strip;
 use desk_take::host_take_out;
 use desk_unpark::host_unpark;
@@ -711,4 +713,28 @@ pub extern "C" fn brothanchor_monitor_read(
         ⌝ }
 {
     host_monitor_read(file, pictures, sides, fields, positions, answer)
+}
+
+// ---- a scuffed frame file
+
+// Copies the good records of a scuffed frame file, and tells the others. Answers 0, or 12; then no area is changed.
+#[no_mangle]
+pub extern "C" fn brothanchor_salvage(
+    file: &[u8],
+    target: &mut [u8],
+    places: &mut [u64],
+    rules: &mut [u8],
+    answer: &mut [u64],
+) -> u32
+    ensures { λ k. ⌜
+        hostSalvaged k (now (target .exit)) (now (places .exit)) (now (rules .exit)) (now (answer .exit))
+        ≡ hostSalvage
+        (now (file .entry))
+        (now (target .entry))
+        (now (places .entry))
+        (now (rules .entry))
+        (now (answer .entry))
+        ⌝ }
+{
+    host_salvage(file, target, places, rules, answer)
 }

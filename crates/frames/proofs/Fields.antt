@@ -28,16 +28,16 @@ abbrev countOf : Frames → ℕ
 countOf (Good n) = n
 countOf (Bad p) = p
 
-record Taken (bad : ℕ → Bool) (f : List ℕ) (n : ℕ) : Type 0 where
-  count : n ≡ wholeRecords f
-  noTail : length f % recordBytes ≡ 0
-  good : (i : ℕ) → i < wholeRecords f → bad i ≡ false
+pub record Taken (bad : ℕ → Bool) (f : List ℕ) (n : ℕ) : Type 0 where
+  pub count : n ≡ wholeRecords f
+  pub noTail : length f % recordBytes ≡ 0
+  pub good : (i : ℕ) → i < wholeRecords f → bad i ≡ false
 
 module _ (bad : ℕ → Bool) (f : List ℕ) (n : ℕ) where
   abbrev firstBad : ℕ
   firstBad = first bad (wholeRecords f)
 
-  taken-is : framesBy bad f ≡ Good n → Taken bad f n
+  pub taken-is : framesBy bad f ≡ Good n → Taken bad f n
   taken-is e = go (ltb firstBad (wholeRecords f)) refl (eqb (length f % recordBytes) 0) refl
     where
       never : (p : ℕ) → framesBy bad f ≡ Bad p → ⊥
@@ -55,7 +55,7 @@ module _ (bad : ℕ → Bool) (f : List ℕ) (n : ℕ) where
           framesIs : ltb firstBad (wholeRecords f) ≡ false → eqb (length f % recordBytes) 0 ≡ true → framesBy bad f ≡ Good (wholeRecords f)
           framesIs p q = rw (p, q)
 
-  taken-so : Taken bad f n → framesBy bad f ≡ Good n
+  pub taken-so : Taken bad f n → framesBy bad f ≡ Good n
   taken-so t = rw (first-none bad (wholeRecords f) (t .good), le-ltb (wholeRecords f) (wholeRecords f) (omega arith), eq-eqb (length f % recordBytes) 0 (t .noTail), t .count)
 
 -- ---- the order

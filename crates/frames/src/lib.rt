@@ -69,7 +69,7 @@ pub fn spare_fine(file: &[u8], a: usize) -> bool
 }
 
 // The eight values of the record at a are finite and at most 2^20 in magnitude.
-fn values_fine(file: &[u8], a: usize) -> bool
+pub fn values_fine(file: &[u8], a: usize) -> bool
     requires { ⌜ a + recordBytes ≤ length (now file) ⌝ }
     ensures { λ r. ⌜ r ≡ valuesFine (now (file .entry)) a ⌝ }
 {

@@ -1,11 +1,12 @@
 /* Maps a frame file through include/brothanchor.h, as the wrapper's map program does: map FILE [SEED [FIRST LAST | strip]].
  * Prints a line for each frame: picture, side, field, both coordinates by their bits; then how the run ended, its divergence, and
- * the records of the map for the picture monitor, a line of hex digits each. Once it is prepared its lists are written, it is
- * forgotten, and another run is begun from these lists. On its way the run is made bad in several ways, which each call has to tell;
- * it is parked, forgotten and read back; then the frames of the pictures from FIRST to LAST are taken out. A seed that is no number,
- * as -, is none. With strip it puts the frames along one line: a line for each, with its place, picture, side, field, position and
- * gap by their bits, and how the run ended. It is compiled as C and as C++, and calls every function of the header. A refusal that
- * is not asked for ends it with its number and where it came. */
+ * the records of the map for the picture monitor, a line of hex digits each. Before all that it scuffs a copy of the file, which
+ * salvage has to sort out. Once it is prepared its lists are written, it is forgotten, and another run is begun from these lists. On
+ * its way the run is made bad in several ways, which each call has to tell; it is parked, forgotten and read back; then the frames
+ * of the pictures from FIRST to LAST are taken out. A seed that is no number, as -, is none. With strip it puts the frames along one
+ * line: a line for each, with its place, picture, side, field, position and gap by their bits, and how the run ended. It is compiled
+ * as C and as C++, and calls every function of the header. A refusal that is not asked for ends it with its number and where it
+ * came. */
 #include <inttypes.h>
 #include <stdio.h>
 #include <stdlib.h>
@@ -583,6 +584,64 @@ static void monitor(const uint8_t *file, size_t length, size_t n, const uint32_t
     for (size_t i = 0; i < bytes; i++) printf("%02x%s", (unsigned)target[i], i % MONITOR_BYTES == MONITOR_BYTES - 1 ? "\n" : "");
 }
 
+/* The answer and every area of a salvage. */
+struct salvaged {
+    uint64_t answer[3], places[MOST_FRAMES + 1];
+    uint8_t target[MOST_FRAMES * FRAME_BYTES], rules[MOST_FRAMES + 1];
+};
+
+/* A file of so many bytes salvaged, with room for so many bytes and so many records to tell of. */
+static uint32_t salvage(const uint8_t *file, size_t length, struct salvaged *s, size_t bytes, size_t places, size_t rules,
+                        size_t words) {
+    memset(s, 0x55, sizeof *s);
+    return brothanchor_salvage(file, length, s->target, bytes, s->places, places, s->rules, rules, s->answer, words);
+}
+
+/* Number and both words; every area is as it was past what is kept and told, and in a refusal all of it. */
+static void sorted_out(const char *what, uint32_t number, uint32_t wanted, const struct salvaged *s, uint64_t first, uint64_t second) {
+    static struct salvaged before;
+    const size_t kept = wanted == 0 ? FRAME_BYTES * first : 0, said = wanted == 0 ? second : 0;
+    int is_left;
+    memset(&before, 0x55, sizeof before);
+    is_left = s->answer[2] == before.answer[2] &&
+              memcmp(s->target + kept, before.target + kept, sizeof before.target - kept) == 0 &&
+              memcmp(s->places + said, before.places + said, sizeof before.places - said * sizeof before.places[0]) == 0 &&
+              memcmp(s->rules + said, before.rules + said, sizeof before.rules - said) == 0;
+    if (number != wanted || s->answer[0] != first || s->answer[1] != second || !is_left) {
+        fprintf(stderr, "%s: %u, %" PRIx64 ", %" PRIx64 "\n", what, (unsigned)number, s->answer[0], s->answer[1]);
+        exit(1);
+    }
+}
+
+/* A good file comes through as it is; one whose second record has no side and whose third comes twice, with a byte at its end, loses
+ * these. Before that as only C can ask for it. */
+static void scuffed(const uint8_t *file, size_t n) {
+    static struct salvaged s;
+    static uint8_t copy[MOST_FRAMES * FRAME_BYTES + 1];
+    static const uint64_t untouched = UINT64_C(0x5555555555555555);
+    const size_t bytes = n * FRAME_BYTES;
+    sorted_out("salvage, one word", salvage(file, bytes, &s, bytes, n, n, 1), 12, &s, untouched, untouched);
+    sorted_out("salvage, a byte short", salvage(file, bytes, &s, bytes - 1, n, n, 2), 12, &s, 0, untouched);
+    sorted_out("salvage, a place short", salvage(file, bytes, &s, bytes, n - 1, n, 2), 12, &s, 0, untouched);
+    sorted_out("salvage, a rule short", salvage(file, bytes, &s, bytes, n, n - 1, 3), 12, &s, 0, untouched);
+    sorted_out("salvage", salvage(file, bytes, &s, bytes, n, n, 2), 0, &s, n, 0);
+    if (memcmp(s.target, file, bytes) != 0) {
+        fprintf(stderr, "a good file does not come through as it is\n");
+        exit(1);
+    }
+    memcpy(copy, file, bytes);
+    copy[FRAME_BYTES + 4] = 0;
+    memcpy(copy + 3 * FRAME_BYTES, copy + 2 * FRAME_BYTES, FRAME_BYTES);
+    sorted_out("salvage, scuffed", salvage(copy, bytes + 1, &s, bytes, n + 1, n + 1, 2), 0, &s, n - 2, 3);
+    if (s.places[0] != 1 || s.places[1] != 3 || s.places[2] != n || s.rules[0] != 2 || s.rules[1] != 6 || s.rules[2] != 7 ||
+        memcmp(s.target, file, FRAME_BYTES) != 0 || memcmp(s.target + FRAME_BYTES, file + 2 * FRAME_BYTES, FRAME_BYTES) != 0 ||
+        memcmp(s.target + 2 * FRAME_BYTES, file + 4 * FRAME_BYTES, bytes - 4 * FRAME_BYTES) != 0) {
+        fprintf(stderr, "a scuffed file is told otherwise\n");
+        exit(1);
+    }
+    refused("frames", brothanchor_frames(s.target, bytes - 2 * FRAME_BYTES, s.answer, 1));
+}
+
 int main(int words, char **word) {
     static uint8_t file[MOST_FRAMES * FRAME_BYTES];
     static double table[MOST_FRAMES * FEATURES], start[MOST_FRAMES * STARTS];
@@ -597,6 +656,7 @@ int main(int words, char **word) {
     }
     length = read_file(word[1], file, sizeof file);
     refused("frames", brothanchor_frames(file, length, &n, 1));
+    scuffed(file, n);
     seed = words > 2 && strcmp(word[2], "-") != 0 ? word[2] : NULL;
     rows(file, length, n, seed, table, start);
     if (words == 4 && strcmp(word[3], "strip") == 0) {

@@ -15,6 +15,7 @@ mod picture;
 pub mod pictures;
 mod refusal;
 mod run;
+mod salvage;
 pub mod strip;
 mod strip_picture;
 mod thinning;
@@ -27,6 +28,7 @@ pub use refusal::Refusal;
 pub use run::{
     divergence, prepare, sizes, work, Areas, Fault, Kind, Method, Node, Record, Rows, Settings, Sizes, State, Worked,
 };
+pub use salvage::{salvage, Dropped, Rule, Salvaged, Stretch};
 pub use thinning::take_out;
 
 /// Components of a frame file's starts, features of its frames.

@@ -335,6 +335,19 @@ extern "C" {
         answer_length: usize,
     ) -> u32;
 
+    pub fn brothanchor_salvage(
+        file: *const u8,
+        file_length: usize,
+        target: *mut u8,
+        target_length: usize,
+        places: *mut u64,
+        places_length: usize,
+        rules: *mut u8,
+        rules_length: usize,
+        answer: *mut u64,
+        answer_length: usize,
+    ) -> u32;
+
     pub fn brothanchor_state(record: *const u64, record_length: usize) -> u64;
     pub fn brothanchor_iterations(record: *const u64, record_length: usize) -> u64;
     pub fn brothanchor_units(record: *const u64, record_length: usize) -> u64;

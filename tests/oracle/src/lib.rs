@@ -18,6 +18,7 @@ pub mod park;
 pub mod partner;
 pub mod preparation;
 pub mod record;
+pub mod salvage;
 pub mod scatter;
 pub mod sigma;
 pub mod step;

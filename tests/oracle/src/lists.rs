@@ -13,6 +13,7 @@ pub mod monitor;
 pub mod park;
 pub mod partner;
 pub mod preparation;
+pub mod salvage;
 pub mod sample;
 pub mod scatter;
 pub mod sigma;
@@ -83,6 +84,9 @@ pub fn all() -> Vec<List> {
         List::new("replay_monitor", "narrow", &monitor::narrow_cases()),
         List::new("replay_monitor", "writes", &monitor::write_cases()),
         List::new("replay_monitor", "reads", &monitor::read_cases()),
+        List::new("replay_salvage", "bytes", &salvage::byte_cases()),
+        List::new("replay_salvage", "orders", &salvage::order_cases()),
+        List::new("replay_salvage", "scuffed", &salvage::file_cases()),
         List::new("bench_cases", "files", &bench::cases()),
     ]
 }

@@ -1,11 +1,13 @@
 //! `map FILE [--seed NUMBER] [--out FOLDER] [--iterations N] [--perplexity P] [--lists LIST] [--until N] [--park RUN] [--every N]
 //! [--resume RUN] [--without PICTURES] [--progress]`: maps a frame file; `map lists RUN LIST`: writes a parked run's lists; `map strip
 //! FILE [--seed NUMBER] [--out FOLDER] [--iterations N] [--perplexity P] [--progress]`: puts its frames along one line; `map monitor
-//! [--out FOLDER] MAP...`: writes maps for the picture monitor, and `map monitor --text FILE` one of these as text; as `help.txt` tells.
-//! What goes wrong gets one line on standard error.
+//! [--out FOLDER] MAP...`: writes maps for the picture monitor, and `map monitor --text FILE` one of these as text; `map salvage SCUFFED
+//! GOOD`: copies the good records of a scuffed frame file; as `help.txt` tells. What goes wrong gets one line on standard error.
 
 #[path = "map/monitor.rs"]
 mod monitor;
+#[path = "map/salvage.rs"]
+mod salvage;
 
 use brothanchor::beside;
 use brothanchor::map::{self, Lists, NoMap, NoRun, Run, Wishes, MOST_FRAMES, RECORD};
@@ -54,6 +56,7 @@ fn main() -> ExitCode {
         Ok(Some(Job::Lists { run, out })) => write_lists(&run, &out).map_err(|message| (message, NO_MAP)),
         Ok(Some(Job::Strip(asked))) => strip(&asked).map_err(|message| (message, NO_MAP)),
         Ok(Some(Job::Monitor(asked))) => monitor::done(&asked).map_err(|message| (message, NO_MAP)),
+        Ok(Some(Job::Salvage(asked))) => salvage::done(&asked).map_err(|message| (message, NO_MAP)),
         Ok(None) => Ok(HELP.to_string()),
         Err(message) => Err((format!("{message} (./map --help explains)"), BAD_WORDS)),
     };
@@ -86,6 +89,8 @@ enum Job {
     Strip(Common),
     /// Maps for the picture monitor, or back to text.
     Monitor(monitor::Asked),
+    /// The good records of a scuffed frame file.
+    Salvage(salvage::Asked),
 }
 
 /// What a strip is made of, and a map too.
@@ -129,6 +134,9 @@ fn asked(words: impl Iterator<Item = String>) -> Result<Option<Job>, String> {
     }
     if words.next_if(|word| word == monitor::WORD).is_some() {
         return monitor::asked(words).map(|asked| asked.map(Job::Monitor));
+    }
+    if words.next_if(|word| word == salvage::WORD).is_some() {
+        return salvage::asked(words).map(|asked| asked.map(Job::Salvage));
     }
     map_asked(words, progress)
 }
@@ -684,6 +692,7 @@ mod tests {
             "./map strip [FILE.frames]",
             "./map monitor [--out FOLDER] NAME.map...",
             "./map monitor --text FILE.monitor",
+            "./map salvage SCUFFED.frames GOOD.frames",
             "--iterations N",
             "--perplexity P",
             "--until N",

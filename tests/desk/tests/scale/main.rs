@@ -5,8 +5,8 @@
 //! damaged now and then, an arena that grows when 14 comes. Each failure names its seed; BROTHANCHOR_SEED and
 //! BROTHANCHOR_RUNS choose others than the gate's few. The module `deep` has the force walk over altered arenas, `far` frames
 //! with subnormal weights, `figures` the divergence, `monitor` maps for the picture monitor, `neighbours` preparations of frames that
-//! are equally near, `parked` runs that are written and read back, `partner` lists that another tool made, `strip` frames along one line, `take_out` runs that
-//! frames are taken out of, `worth` what the tree is worth in whole runs.
+//! are equally near, `parked` runs that are written and read back, `partner` lists that another tool made, `salvage` scuffed frame
+//! files, `strip` frames along one line, `take_out` runs that frames are taken out of, `worth` what the tree is worth in whole runs.
 
 mod both;
 mod case;
@@ -19,6 +19,7 @@ mod neighbours;
 mod parked;
 mod partner;
 mod random;
+mod salvage;
 mod strip;
 mod take_out;
 mod worth;

@@ -32,10 +32,13 @@ impl Reader<'_> {
         words.to_vec()
     }
 
+    // Not every list has values and numbers.
+    #[allow(dead_code)]
     pub fn values(&mut self, count: u64) -> Vec<f64> {
         self.many(count).into_iter().map(f64::from_bits).collect()
     }
 
+    #[allow(dead_code)]
     pub fn numbers(&mut self, count: u64) -> Vec<u32> {
         self.many(count).into_iter().map(|word| word as u32).collect()
     }

@@ -1,0 +1,2 @@
+pub mod Foremost
+pub mod Sifted

@@ -1,0 +1,118 @@
+-- `salvage::rule_alone` meets its contract: each return, by the tests that led there. Assumes nothing.
+use mathlib.Core.Path.{sym, _∙_}
+use borrow.Author.Tests.{not-true, not-false}
+use Rattle.salvage.specs.Salvage.{ruleAlone}
+use borrow.Author.Needs.{needs}
+use Rattle.salvage.proofs.rule_alone.Statement.{statement}
+use Rattle.salvage.proofs.rule_alone.Tie as tie
+
+half-word-requires : tie.Need-half-word-requires
+half-word-requires c κs = search needs
+
+picture-fine-requires : tie.Need-picture-fine-requires
+picture-fine-requires c κs = search needs
+
+returns : tie.Need-returns
+unfolding ruleAlone
+returns c = rw (rw (c .before .before .half-word .ensures .0) at (sym (c .before .picture-fine .ensures) ∙ not-true _ (c .if1 .taken)))
+
+add-side-fine : tie.Need-add-side-fine
+add-side-fine c = search needs
+
+shared-slice-read-side-fine : tie.Need-shared-slice-read-side-fine
+shared-slice-read-side-fine c = search needs
+
+side-fine-requires : tie.Need-side-fine-requires
+side-fine-requires c κs = search needs
+
+returns-2 : tie.Need-returns-2
+unfolding ruleAlone
+returns-2 c =
+    rw (
+      (rw (c .before .before .before .before .before .half-word .ensures .0) at (sym (c .before .before .before .before .picture-fine .ensures) ∙ not-false _ (c .before .before .before .if1 .left))),
+      sym (c .before .side-fine .ensures) ∙ not-true _ (c .if2 .taken),
+    )
+
+add-field-fine : tie.Need-add-field-fine
+add-field-fine c = search needs
+
+shared-slice-read-field-fine : tie.Need-shared-slice-read-field-fine
+shared-slice-read-field-fine c = search needs
+
+field-fine-requires : tie.Need-field-fine-requires
+field-fine-requires c κs = search needs
+
+returns-3 : tie.Need-returns-3
+unfolding ruleAlone
+returns-3 c =
+    rw (
+      (rw (c .before .before .before .before .before .before .before .before .half-word .ensures .0)
+          at (sym (c .before .before .before .before .before .before .before .picture-fine .ensures) ∙ not-false _ (c .before .before .before .before .before .before .if1 .left))),
+      (sym (c .before .before .before .before .side-fine .ensures) ∙ not-false _ (c .before .before .before .if2 .left)),
+      sym (c .before .field-fine .ensures) ∙ not-true _ (c .if3 .taken),
+    )
+
+spare-fine-requires : tie.Need-spare-fine-requires
+spare-fine-requires c κs = search needs
+
+returns-4 : tie.Need-returns-4
+unfolding ruleAlone
+returns-4 c =
+    rw (
+      (rw (c .before .before .before .before .before .before .before .before .before .before .half-word .ensures .0)
+          at (sym (c .before .before .before .before .before .before .before .before .before .picture-fine .ensures)
+          ∙ not-false _ (c .before .before .before .before .before .before .before .before .if1 .left))),
+      (sym (c .before .before .before .before .before .before .side-fine .ensures) ∙ not-false _ (c .before .before .before .before .before .if2 .left)),
+      (sym (c .before .before .before .field-fine .ensures) ∙ not-false _ (c .before .before .if3 .left)),
+      sym (c .before .spare-fine .ensures) ∙ not-true _ (c .if4 .taken),
+    )
+
+values-fine-requires : tie.Need-values-fine-requires
+values-fine-requires c κs = search needs
+
+returns-5 : tie.Need-returns-5
+unfolding ruleAlone
+returns-5 c =
+    rw (
+      (rw (c .before .before .before .before .before .before .before .before .before .before .before .before .half-word .ensures .0)
+          at (sym (c .before .before .before .before .before .before .before .before .before .before .before .picture-fine .ensures)
+          ∙ not-false _ (c .before .before .before .before .before .before .before .before .before .before .if1 .left))),
+      (sym (c .before .before .before .before .before .before .before .before .side-fine .ensures) ∙ not-false _ (c .before .before .before .before .before .before .before .if2 .left)),
+      (sym (c .before .before .before .before .before .field-fine .ensures) ∙ not-false _ (c .before .before .before .before .if3 .left)),
+      (sym (c .before .before .before .spare-fine .ensures) ∙ not-false _ (c .before .before .if4 .left)),
+      sym (c .before .values-fine .ensures) ∙ not-true _ (c .if5 .taken),
+    )
+
+returns-6 : tie.Need-returns-6
+unfolding ruleAlone
+returns-6 c =
+    rw (
+      (rw (c .before .before .before .before .before .before .before .before .before .before .before .before .half-word .ensures .0)
+          at (sym (c .before .before .before .before .before .before .before .before .before .before .before .picture-fine .ensures)
+          ∙ not-false _ (c .before .before .before .before .before .before .before .before .before .before .if1 .left))),
+      (sym (c .before .before .before .before .before .before .before .before .side-fine .ensures) ∙ not-false _ (c .before .before .before .before .before .before .before .if2 .left)),
+      (sym (c .before .before .before .before .before .field-fine .ensures) ∙ not-false _ (c .before .before .before .before .if3 .left)),
+      (sym (c .before .before .before .spare-fine .ensures) ∙ not-false _ (c .before .before .if4 .left)),
+      sym (c .before .values-fine .ensures) ∙ not-false _ (c .if5 .left),
+    )
+
+pub rule-alone-spec : {M : Type 1} → statement M
+rule-alone-spec =
+    tie.close
+    (tie.spec
+    half-word-requires
+    picture-fine-requires
+    returns
+    add-side-fine
+    shared-slice-read-side-fine
+    side-fine-requires
+    returns-2
+    add-field-fine
+    shared-slice-read-field-fine
+    field-fine-requires
+    returns-3
+    spare-fine-requires
+    returns-4
+    values-fine-requires
+    returns-5
+    returns-6)

@@ -1,0 +1,5 @@
+pub mod Picks
+pub mod Alike
+pub mod Rules
+pub mod Output
+pub mod Theorems
