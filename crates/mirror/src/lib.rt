@@ -1,1 +1,1 @@
-// No code: two exact runs of which the one shows the other in the mirror, through preparation and any calls; and a Barnes-Hut run that is not shown so (specs/, proofs/).
+// No code: two exact runs, the start of the second with the sign of components turned, show each other in the mirror through preparation and any calls (specs/, proofs/).
