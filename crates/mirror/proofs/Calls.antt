@@ -61,9 +61,9 @@ module _ (turns : ℕ → Bool) where
     kind : x .kind ≡ y .kind
     state : ShowsState turns (x .state) (y .state)
 
-  kind-same : (b d : ℕ) (s t : State) → ShowsState turns s t → kindAt machine b d s ≡ kindAt machine b d t
+  kind-mirrored : (b d : ℕ) (s t : State) → ShowsState turns s t → kindAt machine b d s ≡ kindAt machine b d t
   unfolding kindAt
-  kind-same b d s t w = rw (stands-same s t w)
+  kind-mirrored b d s t w = rw (stands-same s t w)
 
   call-both : (b : ℕ) (s t : State) → ShowsState turns s t → SameCall (call machine b s) (call machine b t)
   unfolding call go
@@ -71,7 +71,7 @@ module _ (turns : ℕ → Bool) where
       let e = fault-mirrored s t w in
       let i = after-both b s t w in
       by-bool (SameCall (call machine b s) (call machine b t)) (isFine (faultOf t))
-      (λ f. rw (e, f) (record { units = i .units; kind = rw (i .units) (kind-same b (unitsDone machine b t) (after machine b s) (after machine b t) (i .left)); state = i .left }))
+      (λ f. rw (e, f) (record { units = i .units; kind = rw (i .units) (kind-mirrored b (unitsDone machine b t) (after machine b s) (after machine b t) (i .left)); state = i .left }))
       (λ f. rw (e, f) (record { units = refl; kind = refl; state = w }))
 
   answer-same : (k : Kind) (d : ℕ) (s t : State) → ShowsState turns s t → answerOf k s d ≡ answerOf k t d

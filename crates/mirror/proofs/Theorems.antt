@@ -36,7 +36,7 @@ use Rattle.mirror_values.specs.Values.{Shows}
 use Rattle.mirror_values.specs.Shown.{justOne, turnedStart, ShowsAll}
 use Rattle.mirror_values.proofs.Shows.{shows-zero, shows-up-to}
 use Rattle.mirror_values.proofs.Starts.{turned-long, turned-shows}
-use Rattle.mirror.specs.Mirror.{ShowsMemory, ShowsState, ShowsCalls, TurnedIn, TurnedState}
+use Rattle.mirror.specs.Mirror.{ShowsMemory, ShowsState, ShowsCalls, TurnedIn, TurnedState, TurnedCalls}
 use Rattle.mirror.proofs.Calls.{works-mirrored}
 
 -- ---- the tests of preparation
@@ -120,6 +120,10 @@ module _ (turns : ℕ → Bool) (s : Settings) (table start : List Float) (cs : 
       (λ e. absurd (let q : Refused k ≡ Ready (freshRun s) = sym told ∙ answer-is s table cs l start ∙ rw e in let z : _≡_ {A = ℕ} 0 1 = cc in omega arith))
       (λ e. (areas-refused s table cs l start e, areas-refused s table cs l facing (rw (← fault-is) e)))
 
+  -- THEOREM: ready, both leave the same preparation rows, of either method
+  pub rows-agree : (run : Run) → prepared s table start (length cs) l .answer ≡ Ready run → (prepared s table start (length cs) l .areas .rowValues ≡ prepared s table facing (length cs) l .areas .rowValues) × (prepared s table start (length cs) l .areas .rowIndices ≡ prepared s table facing (length cs) l .areas .rowIndices)
+  rows-agree run ready = let e = ready-fine s table cs l start run ready .0 in rw (areas-ready s table cs l start e, areas-ready s table cs l facing (rw (← fault-is) e)) (refl, refl)
+
   module _ (exact : isTree (s .method) ≡ false) (run : Run) (ready : prepared s table start (length cs) l .answer ≡ Ready run) where
     -- the run, and the one from the turned start
     abbrev pub runBegun : State
@@ -190,7 +194,12 @@ one-mirrored d s t w =
       affinities = w .areas .affinities;
     }
 
--- THEOREM: one component. With its sign turned in every starting position, every later position, increment and gradient has it turned and all else equal
+-- THEOREM: one component. With its sign turned in every starting position, records, answers and unit counts agree after any calls with the same budgets;
+-- every later position, increment and gradient has it turned, and all else is equal
 module _ (d : ℕ) (s : Settings) (table start : List Float) (cs : List Cell) (l : Lent) (exact : isTree (s .method) ≡ false) (run : Run) (ready : prepared s table start (length cs) l .answer ≡ Ready run) where
-  pub mirrored-in-one : (bs : List ℕ) → TurnedState d (works bs (runBegun (justOne d) s table start cs l exact run ready)) (works bs (mirrorBegun (justOne d) s table start cs l exact run ready))
-  mirrored-in-one bs = one-mirrored d (works bs (runBegun (justOne d) s table start cs l exact run ready)) (works bs (mirrorBegun (justOne d) s table start cs l exact run ready)) (mirrored-runs (justOne d) s table start cs l exact run ready bs .left)
+  pub mirrored-in-one : (bs : List ℕ) → TurnedCalls d bs (runBegun (justOne d) s table start cs l exact run ready) (mirrorBegun (justOne d) s table start cs l exact run ready)
+  mirrored-in-one bs =
+      let x = runBegun (justOne d) s table start cs l exact run ready in
+      let y = mirrorBegun (justOne d) s table start cs l exact run ready in
+      let w = mirrored-runs (justOne d) s table start cs l exact run ready bs in
+      record { left = one-mirrored d (works bs x) (works bs y) (w .left); units = w .units; answer = w .answer }

@@ -1,7 +1,7 @@
 -- A unit of an exact run does to what the mirror shows what it does to the run: the same record and refusal, and areas that show each other again. Assumes nothing.
 use mathlib.Core.Path.{_≡_, refl, sym, ap, subst, _∙_}
 use mathlib.Core.List.{List}
-use mathlib.Core.Bool.{Bool, false, cond}
+use mathlib.Core.Bool.{Bool, false, cond, true≢false}
 use Prim.Native.Nat.{ℕ, _-_, _*_, _%_, _<_, _≤_}
 use native.Mathlib.Omega.{arith}
 use native.Mathlib.Nat.{le-refl}
@@ -23,6 +23,7 @@ use Rattle.tree_node.specs.declared.Node.{Node}
 use Rattle.run_entry.specs.State.{Memory, State, state}
 use Rattle.run_finish.specs.Finish.{isExact, beforeOf, FinishTurn, finishAs, finishUnit}
 use Rattle.run_units.specs.Units.{unit, forceUnit, withForces, withFinish}
+use Rattle.run_units.proofs.Rooms.{group-zero, group-one}
 use Rattle.run_units.proofs.One.{unit-over, unit-force, unit-finish}
 use Rattle.mirror_values.specs.Values.{Shows}
 use Rattle.mirror_values.specs.Shown.{ShowsAll}
@@ -33,19 +34,9 @@ use Rattle.mirror.specs.Mirror.{ShowsMemory, ShowsState, ShowsUnit}
 
 -- ---- which unit is next
 
-group-shape : (r : Run) → isTree (r .settings .method) ≡ false → groupOf r ≡ cond (ltb (r .phase) (2 * r .settings .n)) 1 2
-unfolding groupOf
-group-shape r x = rw x
-
-group-some : (r : Run) → isTree (r .settings .method) ≡ false → groupOf r ≡ 0 → ⊥
-group-some r x e = by-bool ⊥ (ltb (r .phase) (2 * r .settings .n))
-    (λ t. let q : groupOf r ≡ 1 = group-shape r x ∙ rw t in omega arith)
-    (λ t. let q : groupOf r ≡ 2 = group-shape r x ∙ rw t in omega arith)
-
-group-row : (r : Run) → isTree (r .settings .method) ≡ false → groupOf r ≡ 1 → r .phase < 2 * r .settings .n
-group-row r x e = by-bool (r .phase < 2 * r .settings .n) (ltb (r .phase) (2 * r .settings .n))
-    (λ t. ltb-true (r .phase) (2 * r .settings .n) t)
-    (λ t. absurd (let q : groupOf r ≡ 2 = group-shape r x ∙ rw t in omega arith))
+-- none of them is one of the tree
+no-tree : (r : Run) → isTree (r .settings .method) ≡ false → groupOf r ≡ 0 → ⊥
+no-tree r x e = true≢false (sym (group-zero r e .0) ∙ x)
 
 -- ---- a row of the total or of the gradient
 
@@ -64,7 +55,7 @@ module _ (turns : ℕ → Bool) (r : Run) (x : isTree (r .settings .method) ≡ 
   -- areas that show each other, those of the links and the arena being equal
   forces-shown : (y y' P F F' : List Float) (xs off : List ℕ) (ns : List Node) → groupOf r ≡ 1 → ShowsAll turns c (n * c) y y' → ShowsAll turns c (n * c) F F' → ShowsAll turns c (n * c) (forceUnit r y P xs off ns F) (forceUnit r y' P xs off ns F')
   forces-shown y y' P F F' xs off ns g p q =
-      let m = group-row r x g in
+      let m = group-one r g .exact x in
       rw (force-shape r y P xs off ns F x, force-shape r y' P xs off ns F' x) (by-bool
       (ShowsAll turns c (n * c)
       (cond (ltb (r .phase) n) (totalRow y n c (r .phase) F) (gradientRow y P (exaggerationOf r) n c (r .phase - n) F))
@@ -164,7 +155,7 @@ module _ (turns : ℕ → Bool) (r : Run) (x : isTree (r .settings .method) ≡ 
         now = record { same-record = refl; exact = x; areas = forces-put (forced m) (forced m') (forced-shown g) };
       })
       | no g ↦ (let f = finished-shown in
-          rw (unit-finish (state r m) live (group-some r x) g, unit-finish (state r m') live (group-some r x) g) (record {
+          rw (unit-finish (state r m) live (no-tree r x) g, unit-finish (state r m') live (no-tree r x) g) (record {
             why = f .why;
             now = record { same-record = f .run; exact = rw (f .settings) x; areas = rw (f .settings) (finish-put (finished m) (finished m') f) };
           }))

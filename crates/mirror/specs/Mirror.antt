@@ -61,3 +61,9 @@ pub record TurnedState (d : ℕ) (s t : State) : Type 0 where
   pub total : at (s .memory .forces) (s .run .settings .n * s .run .settings .c) ≡ at (t .memory .forces) (s .run .settings .n * s .run .settings .c)
   pub gains : s .memory .gains ≡ t .memory .gains
   pub affinities : s .memory .affinities ≡ t .memory .affinities
+
+-- after calls with the budgets bs: the states, the units told, and the answer of any further call
+pub record TurnedCalls (d : ℕ) (bs : List ℕ) (s t : State) : Type 0 where
+  pub left : TurnedState d (works bs s) (works bs t)
+  pub units : toldAll bs s ≡ toldAll bs t
+  pub answer : (b : ℕ) → work b (works bs s) .answer ≡ work b (works bs t) .answer

@@ -5,6 +5,7 @@ use lib.Dec.{lit<}
 use lib.Ieee.{Float, ofBits, ofInt, isNan, size, add, sub, mul, div, lt, le, eq, neg}
 use Rattle.laws.specs.Loops.{loop, every, until, seek}
 use Rattle.laws.specs.Area.{at, bits}
+use Rattle.tree_node.specs.Arena.{leafOf, nodeOf, nodesOf}
 use Rattle.elementary.specs.Limits.{upTo, neighboursOf, ceilOf, absOf, unlessAbove}
 use Rattle.affinity.specs.Neighbours.{neighboursListed}
 use Rattle.run_record.specs.Record.{freshRun, earlyFault, lateFault, settingsFault, countersOk, stateFits, perOf, advancedOf, closedOf, stopsNow, sizesOf, positive, aboveZero, angleFine, angleFault}
@@ -19,6 +20,7 @@ use Rattle.run_calls.specs.Machine.{call, go, unitsDone, stops, kindAt}
 use Rattle.run_plan.specs.Plan.{groupOf, exaggerationOf, momentumOf}
 use Rattle.run_finish.specs.Finish.{finishUnit}
 use Rattle.run_units.specs.Units.{unit, treeUnit, insertTurn, forceUnit}
+use Rattle.run_budget.specs.Budget.{answerOf}
 use Rattle.descent.specs.Descent.{work}
 use Rattle.prepare.specs.Prepare.{prepared, prepareFault, lengthsFit, routed}
 use Rattle.mirror_values.specs.Values.{Opposite}
@@ -30,12 +32,12 @@ use Rattle.mirror_cases.specs.Cases.{lineTurned, closePair, pairLeft, th
 -- ---- what is computed
 
 pub pair-told : PairTold
-unfolding turnedStart prepared prepareFault earlyFault positive aboveZero angleFault angleFine every upTo lateFault lengthsFit areasFit sizesOf treeFits neighboursOf ceilOf routed neighboursListed freshRun work call go until unitsDone stops kindAt faultOf faultAt recordFault settingsFault countersOk stateFits perOf contentsFault offsetFine indexFine seek treeFaultAt unit treeUnit boxOf insertTurn insertOf forceUnit forcesOf finishUnit finishOf normOf groupOf exaggerationOf momentumOf advancedOf closedOf stopsNow elementAt centredBy gradientOf normaliserOf absOf unlessAbove loop ofBits ofInt isNan size add sub mul div lt le eq neg
-pair-told = record { ready = (refl, refl); line = (refl, refl); nodes = (refl, refl); gradient = (refl, refl); other = (refl, refl); positions = refl; positions-turned = refl }
+unfolding turnedStart prepared prepareFault earlyFault positive aboveZero angleFault angleFine every upTo lateFault lengthsFit areasFit sizesOf treeFits neighboursOf ceilOf routed neighboursListed freshRun nodesOf nodeOf leafOf work answerOf call go until unitsDone stops kindAt faultOf faultAt recordFault settingsFault countersOk stateFits perOf contentsFault offsetFine indexFine seek treeFaultAt unit treeUnit boxOf insertTurn insertOf forceUnit forcesOf finishUnit finishOf normOf groupOf exaggerationOf momentumOf advancedOf closedOf stopsNow elementAt centredBy gradientOf normaliserOf absOf unlessAbove loop ofBits ofInt isNan size add sub mul div lt le eq neg
+pair-told = record { ready = (refl, refl); answer = (refl, refl); line = (refl, refl); nodes = (refl, refl); gradient = (refl, refl); other = (refl, refl); positions = refl; positions-turned = refl }
 
 pub three-told : ThreeTold
 unfolding turnedStart built boxOf forcesOf loop ofBits ofInt size add sub mul div lt eq neg
-three-told = record { straight = refl; turned = refl }
+three-told = record { forward = refl; reversed = refl }
 
 -- ---- so they do not show each other
 
@@ -57,4 +59,4 @@ three-apart o = no-opposite (bits 0xbfd51eb851eb851f) (bits 0x3fd22d719c060f26) 
 
 -- THEOREM: nor are forces turned with three points at -1, 0 and 1
 pub three-not-mirrored : Opposite (at (threeForces three) 1) (at (threeForces (lineTurned three)) 1) → ⊥
-three-not-mirrored o = three-apart (rw (three-told .straight, three-told .turned) at o)
+three-not-mirrored o = three-apart (rw (three-told .forward, three-told .reversed) at o)

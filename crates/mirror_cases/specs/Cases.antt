@@ -7,7 +7,7 @@ use lib.ListN.{replicate}
 use lib.Ieee.{Float, neg}
 use Rattle.laws.specs.Loops.{loop}
 use Rattle.laws.specs.Area.{at, bits, zero64, one64}
-use Rattle.tree_node.specs.Arena.{blank}
+use Rattle.tree_node.specs.Arena.{blank, void}
 use Rattle.tree_bounds.specs.Bounds.{boxOf}
 use Rattle.tree.specs.Insert.{Tree, built}
 use Rattle.tree.specs.Box.{boxed}
@@ -16,9 +16,11 @@ use Rattle.gradient.specs.Element.{gradientsOf}
 use Rattle.run_record.specs.declared.Settings.{Settings}
 use Rattle.run_record.specs.declared.Method.the-variants.{BarnesHut}
 use Rattle.run_record.specs.Record.{freshRun}
-use Rattle.run_entry.specs.State.{State}
+use Rattle.run_entry.specs.State.{State, state}
+use Rattle.run_budget.specs.declared.Answer.the-variants.{Finished}
+use Rattle.run_budget.specs.Budget.{Worked}
 use Rattle.prepare.specs.declared.Prepared.the-variants.{Ready}
-use Rattle.prepare.specs.Prepare.{Lent, lent, PrepareOutcome, prepared}
+use Rattle.prepare.specs.Prepare.{Lent, lent, PrepareOutcome, prepared, memoryOf}
 use Rattle.descent.specs.Descent.{work}
 use Rattle.mirror_values.specs.Shown.{justOne, turnedStart}
 
@@ -47,25 +49,14 @@ pairPrepared start = prepared pairSettings (zero64 ∷ one64 ∷ []) start 101 p
 
 -- record and areas as preparation leaves them
 abbrev pub pairBegun : List Float → State
-pairBegun start =
-    let l = pairPrepared start .areas in
-    record {
-      run = freshRun pairSettings;
-      memory = record {
-        positions = l .positions;
-        increments = l .increments;
-        gains = l .gains;
-        affinities = l .affinities;
-        indices = l .indices;
-        offsets = l .offsets;
-        forces = l .forces;
-        nodes = replicate 101 blank;
-      };
-    }
+pairBegun start = state (freshRun pairSettings) (memoryOf (pairPrepared start .areas) (replicate 101 void))
 
--- after the one iteration, of 6 units
+-- the one iteration, of 6 units, and what it leaves
+abbrev pub pairWorked : List Float → Worked
+pairWorked start = work 6 (pairBegun start)
+
 abbrev pub pairLeft : List Float → State
-pairLeft start = work 6 (pairBegun start) .left
+pairLeft start = pairWorked start .left
 
 abbrev pub pairGradient : List Float → ℕ → Float
 pairGradient start e = gradientsOf false (pairLeft start .memory .forces) 2 1 e
@@ -89,6 +80,8 @@ threeForces y = loop (λ i F. forcesOf one64 (bits 0x3fe8000000000000) 1 y [] []
 pub record PairTold : Type 0 where
   -- both are prepared
   pub ready : (pairPrepared closePair .answer ≡ Ready (freshRun pairSettings)) × (pairPrepared (lineTurned closePair) .answer ≡ Ready (freshRun pairSettings))
+  -- the call answers that the run has finished, with 6 units, in both
+  pub answer : (pairWorked closePair .answer ≡ Finished 6) × (pairWorked (lineTurned closePair) .answer ≡ Finished 6)
   -- the first point lies on the centre line in both
   pub line : (at (boxOf closePair 2 1 .centre) 0 ≡ at closePair 0) × (at (boxOf (lineTurned closePair) 2 1 .centre) 0 ≡ at (lineTurned closePair) 0)
   -- nodes in use
@@ -102,5 +95,5 @@ pub record PairTold : Type 0 where
 
 -- the repulsion on the first of the three: -0.33, and in the mirror 2·1.5 / 3.25², 0.284..
 pub record ThreeTold : Type 0 where
-  pub straight : at (threeForces three) 1 ≡ bits 0xbfd51eb851eb851f
-  pub turned : at (threeForces (lineTurned three)) 1 ≡ bits 0x3fd22d719c060f26
+  pub forward : at (threeForces three) 1 ≡ bits 0xbfd51eb851eb851f
+  pub reversed : at (threeForces (lineTurned three)) 1 ≡ bits 0x3fd22d719c060f26

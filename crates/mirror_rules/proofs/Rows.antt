@@ -47,15 +47,15 @@ zeros-shown turns c = record { long = refl; shown = λ i h. each (turns (i % c))
     ]
 
 -- component d of point i
-spot-part : (i c d : ℕ) → d < c → (i * c + d) % c ≡ d
-spot-part i c d h = mul-add-mod-self-right i c d ∙ mod-eq-of-lt h
+point-part : (i c d : ℕ) → d < c → (i * c + d) % c ≡ d
+point-part i c d h = mul-add-mod-self-right i c d ∙ mod-eq-of-lt h
 
-spot-in : (i n c d : ℕ) → i < n → d < c → i * c + d < n * c
-spot-in i n c d h k = omega (arith, row-in i n c (n * c) h (le-refl (n * c)))
+point-in : (i n c d : ℕ) → i < n → d < c → i * c + d < n * c
+point-in i n c d h k = omega (arith, row-in i n c (n * c) h (le-refl (n * c)))
 
 module _ (turns : ℕ → Bool) (n c : ℕ) (y y' : List Float) (r : ShowsAll turns c (n * c) y y') where
-  spot : (i d : ℕ) → i < n → d < c → Shows (turns d) (at y (i * c + d)) (at y' (i * c + d))
-  spot i d h k = rw (spot-part i c d k) at (r .shown (i * c + d) (spot-in i n c d h k))
+  point-shown : (i d : ℕ) → i < n → d < c → Shows (turns d) (at y (i * c + d)) (at y' (i * c + d))
+  point-shown i d h k = rw (point-part i c d k) at (r .shown (i * c + d) (point-in i n c d h k))
 
   -- ---- numerators and the total are equal to the bit
 
@@ -66,7 +66,7 @@ module _ (turns : ℕ → Bool) (n c : ℕ) (y y' : List Float) (r : ShowsAll tu
   pub num-same : (i j : ℕ) → i < n → j < n → numOf y c i j ≡ numOf y' c i j
   num-same i j h k =
       num-shape y i j
-      ∙ ap (λ (g : Float). cond (eqb i j) zero64 (div binary64 one64 (add binary64 one64 g))) (gap-same turns c (onMap y c i) (onMap y c j) (onMap y' c i) (onMap y' c j) (λ d l. spot i d h l) (λ d l. spot j d k l))
+      ∙ ap (λ (g : Float). cond (eqb i j) zero64 (div binary64 one64 (add binary64 one64 g))) (gap-same turns c (onMap y c i) (onMap y c j) (onMap y' c i) (onMap y' c j) (λ d l. point-shown i d h l) (λ d l. point-shown j d k l))
       ∙ sym (num-shape y' i j)
 
   module _ (F F' : List Float) (q : ShowsAll turns c (n * c) F F') where
@@ -91,7 +91,7 @@ module _ (turns : ℕ → Bool) (n c : ℕ) (y y' : List Float) (r : ShowsAll tu
     along-shown : (w : Float) (j : ℕ) (t t' : List Float) → j < n → ShowsAll turns c c t t' → ShowsAll turns c c (loop (alongStep w y (j * c)) c 0 t) (loop (alongStep w y' (j * c)) c 0 t')
     along-shown w j t t' k p = loop-both (ShowsAll turns c c) (alongStep w y (j * c)) (alongStep w y' (j * c)) c 0 t t'
         (λ d u u' _ l z. let m : d < c = omega arith in put-shown z d (add binary64 (at u d) (mul binary64 w (at y (j * c + d)))) (add binary64 (at u' d) (mul binary64 w (at y' (j * c + d)))) m
-        (shows-add (z .shown d m) (rw (mod-eq-of-lt m) (shows-scaled w (spot j d k m)))))
+        (shows-add (z .shown d m) (rw (mod-eq-of-lt m) (shows-scaled w (point-shown j d k m)))))
         p
 
     pull-shape : (y : List Float) (w : Float) (j : ℕ) (x : Pulls) → pullBy w y c j x ≡ pulls (add binary64 (x .sum) w) (loop (alongStep w y (j * c)) c 0 (x .along))
@@ -129,7 +129,7 @@ module _ (turns : ℕ → Bool) (n c : ℕ) (y y' : List Float) (r : ShowsAll tu
       where
         slope : (x x' : Pulls) → ShowsPulls turns c x x' → (d : ℕ) (u u' : List Float) → d < c → ShowsAll turns c (n * c) u u' → ShowsAll turns c (n * c) (slopeStep x y (i * c) d u) (slopeStep x' y' (i * c) d u')
         slope x x' p d u u' k z =
-            let a : Shows (turns d) (mul binary64 (at y (i * c + d)) (x .sum)) (mul binary64 (at y' (i * c + d)) (x' .sum)) = rw (p .sum) (shows-times (x' .sum) (spot i d h k)) in
+            let a : Shows (turns d) (mul binary64 (at y (i * c + d)) (x .sum)) (mul binary64 (at y' (i * c + d)) (x' .sum)) = rw (p .sum) (shows-times (x' .sum) (point-shown i d h k)) in
             let b : Shows (turns d) (at (x .along) d) (at (x' .along) d) = rw (mod-eq-of-lt k) at (p .along .shown d k) in
-            put-shown z (i * c + d) (mul binary64 (sub binary64 (mul binary64 (at y (i * c + d)) (x .sum)) (at (x .along) d)) four64) (mul binary64 (sub binary64 (mul binary64 (at y' (i * c + d)) (x' .sum)) (at (x' .along) d)) four64) (spot-in i n c d h k)
-            (rw (spot-part i c d k) (shows-times four64 (shows-sub a b)))
+            put-shown z (i * c + d) (mul binary64 (sub binary64 (mul binary64 (at y (i * c + d)) (x .sum)) (at (x .along) d)) four64) (mul binary64 (sub binary64 (mul binary64 (at y' (i * c + d)) (x' .sum)) (at (x' .along) d)) four64) (point-in i n c d h k)
+            (rw (point-part i c d k) (shows-times four64 (shows-sub a b)))

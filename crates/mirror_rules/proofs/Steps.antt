@@ -46,8 +46,8 @@ increment-shown m r g p q = shows-sub (shows-scaled m q) (shows-scaled (mul bina
 abbrev went : ℕ → ℕ → Before → StepOutcome
 went n c b = stepOutcome Moved (loop (positionStep (meansOf b n c) b c) (n * c) 0 (b .positions)) (loop (incrementStep b) (n * c) 0 (b .increments)) (loop (gainStep b) (n * c) 0 (b .gains))
 
-abbrev stays : Before → StepOutcome
-stays b = stepOutcome (Refused 15) (b .positions) (b .increments) (b .gains)
+abbrev unmoved : Before → StepOutcome
+unmoved b = stepOutcome (Refused 15) (b .positions) (b .increments) (b .gains)
 
 module _ (turns : ℕ → Bool) (n c : ℕ) (b b' : Before) (r : ShowsBefore turns n c b b') where
   gain-is : (b : Before) (e : ℕ) → elementAt b e .gain ≡ gainOf (at (b .gains) e) (b .gradients e) (at (b .increments) e)
@@ -118,15 +118,15 @@ module _ (turns : ℕ → Bool) (n c : ℕ) (b b' : Before) (r : ShowsBefore tur
   gains-same : loop (gainStep b) (n * c) 0 (b .gains) ≡ loop (gainStep b') (n * c) 0 (b' .gains)
   gains-same = ap (loop (gainStep b) (n * c) 0) (r .gains) ∙ loop-same (gainStep b) (gainStep b') (n * c) 0 (b' .gains) (λ e l _ h. ap (set l e) (element-shown e (omega arith) .gain))
 
-  finish-shape : (b : Before) → finishOf b n c ≡ cond (calmMoves b (n * c) && calmCentred (meansOf b n c) b c (n * c)) (went n c b) (stays b)
+  finish-shape : (b : Before) → finishOf b n c ≡ cond (calmMoves b (n * c) && calmCentred (meansOf b n c) b c (n * c)) (went n c b) (unmoved b)
   unfolding finishOf
   finish-shape b = refl
 
   pub step-shown : ShowsOutcome turns n c (finishOf b n c) (finishOf b' n c)
   step-shown = rw (finish-shape b, finish-shape b') (by-bool
       (ShowsOutcome turns n c
-      (cond (calmMoves b (n * c) && calmCentred (meansOf b n c) b c (n * c)) (went n c b) (stays b))
-      (cond (calmMoves b' (n * c) && calmCentred (meansOf b' n c) b' c (n * c)) (went n c b') (stays b')))
+      (cond (calmMoves b (n * c) && calmCentred (meansOf b n c) b c (n * c)) (went n c b) (unmoved b))
+      (cond (calmMoves b' (n * c) && calmCentred (meansOf b' n c) b' c (n * c)) (went n c b') (unmoved b')))
       (calmMoves b' (n * c) && calmCentred (meansOf b' n c) b' c (n * c))
       (λ t. rw (calm-same, t) (record {
         answer = refl;
