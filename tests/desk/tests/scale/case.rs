@@ -82,7 +82,7 @@ impl Case {
     }
 
     /// One thing that preparation refuses, or nearly so.
-    fn spoil(&mut self, random: &mut Random) {
+    pub fn spoil(&mut self, random: &mut Random) {
         let settings = &mut self.settings;
         match random.below(12) {
             0 => settings.c = random.one_of(&[0, 4, 9, usize::MAX]),
