@@ -12,7 +12,8 @@ use rustyml::machine_learning::manifold::t_sne::oracle::{
 use rustyml::machine_learning::manifold::t_sne::TSNE;
 
 fn main() {
-    benchmark::all(&Original);
+    let names: Vec<String> = std::env::args().skip(1).collect();
+    benchmark::all(&Original, &names);
 }
 
 struct Original;

@@ -1,0 +1,3 @@
+//! Parts of an iteration of the library.
+
+pub fn all() {}
