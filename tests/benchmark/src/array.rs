@@ -2,6 +2,7 @@
 //! run out of. By the rules of the scope paper, so that the bits are the same.
 
 pub mod apart;
+pub mod blocks;
 pub mod pairs;
 pub mod tree;
 
@@ -27,7 +28,10 @@ fn trees_of<const C: usize>(run: &Run) -> Vec<Box<dyn Contestant>> {
 
 /// The iterations over all pairs, of maps of two components.
 pub fn all_pairs(run: &Run) -> Vec<Box<dyn Contestant>> {
-    vec![Box::new(pairs::Exact::<2>::new(run))]
+    vec![
+        Box::new(pairs::Exact::<2>::new(run)),
+        Box::new(blocks::Exact::<2>::new(run)),
+    ]
 }
 
 /// What moves: positions, increments, gains.

@@ -60,7 +60,7 @@ pub struct Working {
     from: (Record, [Vec<f64>; 3]),
     record: Record,
     areas: Areas,
-    units: u32,
+    iteration: u32,
     cleared: bool,
 }
 
@@ -74,9 +74,15 @@ impl Working {
             ),
             record: run.record,
             areas,
-            units: run.settings.iteration() as u32,
+            iteration: run.settings.iteration() as u32,
             cleared: run.cleared,
         }
+    }
+
+    /// So many units in one call.
+    pub fn units(&mut self, budget: u32) {
+        let worked = work(&mut self.record, &mut self.areas, budget);
+        assert_eq!(worked.units, u64::from(budget));
     }
 }
 
@@ -98,8 +104,7 @@ impl Contestant for Working {
     }
 
     fn work(&mut self) {
-        let worked = work(&mut self.record, &mut self.areas, self.units);
-        assert_eq!(worked.units, u64::from(self.units));
+        self.units(self.iteration);
     }
 
     fn result(&self) -> Option<Vec<f64>> {

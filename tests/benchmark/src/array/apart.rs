@@ -4,6 +4,7 @@
 use super::{apart, bounds, corner, gradient, middle_of, pace, squared_width, Lists, Moving, DEEPEST};
 use crate::contest::Contestant;
 use crate::library::Run;
+use std::ops::Range;
 
 /// What the walk reads of a cell.
 #[derive(Clone, Copy)]
@@ -16,11 +17,28 @@ struct Node<const C: usize> {
     past: u32,
 }
 
+impl<const C: usize> Default for Node<C> {
+    fn default() -> Node<C> {
+        Node {
+            mass: [0.0; C],
+            squared: 0.0,
+            count: 0,
+            past: 0,
+        }
+    }
+}
+
 /// A point and its number.
 #[derive(Clone, Copy)]
 struct Point<const C: usize> {
     p: [f64; C],
     j: u32,
+}
+
+impl<const C: usize> Default for Point<C> {
+    fn default() -> Point<C> {
+        Point { p: [0.0; C], j: 0 }
+    }
 }
 
 /// One iteration by the tree.
@@ -32,75 +50,81 @@ pub struct Tree<const C: usize> {
     points: Vec<Point<C>>,
     /// As many again, to put them in order.
     spare: Vec<Point<C>>,
-    /// The leaf that holds a point alone.
+    /// The leaf that holds a point alone; past all cells where there is none.
     own: Vec<u32>,
-    /// For each count the share that the old mass keeps.
-    kept: Vec<f64>,
+    /// For each count from 1 on the share that the mass keeps when the last of so many points comes.
+    kept: Vec<(f64, f64)>,
     lists: Lists,
     squared_angle: f64,
     pace: (f64, f64),
     rate: f64,
+    cleared: bool,
 }
 
 impl<const C: usize> Tree<C> {
     pub fn new(run: &Run) -> Tree<C> {
         let n = run.settings.n;
-        let point = Point { p: [0.0; C], j: 0 };
         Tree {
             from: Moving::of(run),
             moving: Moving::of(run),
             nodes: Vec::new(),
-            points: vec![point; n],
-            spare: vec![point; n],
+            points: vec![Point::default(); n],
+            spare: vec![Point::default(); n],
             own: vec![0; n],
-            kept: (0..=n).map(|count| (count as f64 - 1.0) / count as f64).collect(),
+            kept: (1..=n)
+                .map(|count| count as f64)
+                .map(|count| (count, (count - 1.0) / count))
+                .collect(),
             lists: Lists::of(run),
             squared_angle: run.settings.angle * run.settings.angle,
             pace: pace(run.record.iterations()),
             rate: run.settings.rate,
+            cleared: run.cleared,
         }
     }
 
     /// The cell of the points in a range, and all cells inside it.
-    fn grow(&mut self, from: usize, to: usize, centre: &[f64; C], half: &[f64; C], depth: usize) {
+    fn grow(&mut self, range: Range<usize>, centre: &[f64; C], half: &[f64; C], depth: usize) {
         let me = self.nodes.len();
-        let count = to - from;
-        let leaf = count == 1 || depth >= DEEPEST;
-        let mut node = Node {
-            mass: [0.0; C],
+        let leaf = range.len() == 1 || depth >= DEEPEST;
+        self.nodes.push(Node {
+            mass: self.mass(range.clone()),
             squared: if leaf { -1.0 } else { squared_width(half) },
-            count: count as u32,
+            count: range.len() as u32,
             past: me as u32 + 1,
-        };
-        for (k, point) in self.points[from..to].iter().enumerate() {
-            let count = (k + 1) as f64;
-            let kept = self.kept[k + 1];
-            for d in 0..C {
-                node.mass[d] = node.mass[d] * kept + point.p[d] / count;
-            }
-        }
-        self.nodes.push(node);
+        });
         if leaf {
-            for point in &self.points[from..to] {
-                self.own[point.j as usize] = if count == 1 { me as u32 } else { u32::MAX };
+            let own = if range.len() == 1 { me as u32 } else { u32::MAX };
+            for point in &self.points[range] {
+                self.own[point.j as usize] = own;
             }
             return;
         }
-        let ends = self.part(from, to, centre);
         let half = half.map(|half| half / 2.0);
-        let mut from = from;
-        for (corner, &to) in ends[..1 << C].iter().enumerate() {
+        let mut from = range.start;
+        for (corner, to) in self.part(range, centre).into_iter().enumerate().take(1 << C) {
             if from < to {
-                self.grow(from, to, &middle_of(corner, centre, &half), &half, depth + 1);
+                self.grow(from..to, &middle_of(corner, centre, &half), &half, depth + 1);
             }
             from = to;
         }
         self.nodes[me].past = self.nodes.len() as u32;
     }
 
+    /// The mass of the points in a range, one point after the other.
+    fn mass(&self, range: Range<usize>) -> [f64; C] {
+        let mut mass = [0.0; C];
+        for (point, (count, kept)) in self.points[range].iter().zip(&self.kept) {
+            for d in 0..C {
+                mass[d] = mass[d] * kept + point.p[d] / count;
+            }
+        }
+        mass
+    }
+
     /// Puts the points of a range in order by their corners, and tells where each corner's end.
-    fn part(&mut self, from: usize, to: usize, centre: &[f64; C]) -> [usize; 8] {
-        let (points, spare) = (&mut self.points[from..to], &mut self.spare[from..to]);
+    fn part(&mut self, range: Range<usize>, centre: &[f64; C]) -> [usize; 8] {
+        let (points, spare) = (&mut self.points[range.clone()], &mut self.spare[range.clone()]);
         let mut ends = [0; 8];
         for point in points.iter() {
             ends[corner(&point.p, centre)] += 1;
@@ -115,19 +139,16 @@ impl<const C: usize> Tree<C> {
             *end += 1;
         }
         points.copy_from_slice(spare);
-        ends.map(|end| from + end)
+        ends.map(|end| range.start + end)
     }
 
-    /// What the tree does to a point, and its share of the normaliser.
+    /// What the tree does to a point, and its share of the normaliser: up to its own leaf, and past it.
     fn repel(&self, point: &Point<C>) -> ([f64; C], f64) {
         let own = self.own[point.j as usize] as usize;
         let mut sums = ([0.0; C], 0.0);
-        let mut at = 0;
-        if own < self.nodes.len() {
-            at = self.walk(&self.nodes[..own], at, &point.p, &mut sums);
-            at += usize::from(at == own);
-        }
-        self.walk(&self.nodes, at, &point.p, &mut sums);
+        let before = &self.nodes[..own.min(self.nodes.len())];
+        let at = self.walk(before, 0, &point.p, &mut sums);
+        self.walk(&self.nodes, at + usize::from(at == own), &point.p, &mut sums);
         sums
     }
 
@@ -162,6 +183,12 @@ impl<const C: usize> Contestant for Tree<C> {
 
     fn reset(&mut self) {
         self.moving.clone_from(&self.from);
+        if self.cleared {
+            self.nodes.fill(Node::default());
+            self.points.fill(Point::default());
+            self.spare.fill(Point::default());
+            self.own.fill(0);
+        }
     }
 
     fn work(&mut self) {
@@ -171,7 +198,7 @@ impl<const C: usize> Contestant for Tree<C> {
         }
         let (centre, half) = bounds(&self.moving.positions);
         self.nodes.clear();
-        self.grow(0, n, &centre, &half, 0);
+        self.grow(0..n, &centre, &half, 0);
         let mut forces = vec![([0.0; C], 0.0); n];
         for point in &self.points {
             forces[point.j as usize] = self.repel(point);

@@ -51,6 +51,7 @@ pub struct Tree<const C: usize> {
     squared_angle: f64,
     pace: (f64, f64),
     rate: f64,
+    cleared: bool,
 }
 
 impl<const C: usize> Tree<C> {
@@ -63,6 +64,7 @@ impl<const C: usize> Tree<C> {
             squared_angle: run.settings.angle * run.settings.angle,
             pace: pace(run.record.iterations()),
             rate: run.settings.rate,
+            cleared: run.cleared,
         }
     }
 
@@ -104,36 +106,40 @@ impl<const C: usize> Tree<C> {
 
     /// What the tree does to point j, and its share of the normaliser. On the stack stand the children still to be looked
     /// at, of one level each: the next one and where they end.
-    fn repel(&self, j: usize, stack: &mut Vec<(u32, u32)>) -> ([f64; C], f64) {
+    fn repel(&self, j: usize, stack: &mut [(u32, u32); DEEPEST]) -> ([f64; C], f64) {
         let (p, query) = (self.moving.positions[j], j as u32 + 1);
         let (mut force, mut share) = ([0.0; C], 0.0);
-        stack.push((0, 1));
-        while let Some((mut at, mut end)) = stack.pop() {
-            while at < end {
-                let node = &self.nodes[at as usize];
-                at += 1;
-                if node.count == 0 || (node.leaf == query && node.count == 1) {
-                    continue;
+        let mut level = 0;
+        let (mut at, mut end) = (0, 1);
+        loop {
+            if at == end {
+                if level == 0 {
+                    return (force, share);
                 }
-                let (away, squared) = apart(&p, &node.mass);
-                if node.first == 0 || node.squared < self.squared_angle * squared {
-                    let inverse = 1.0 / (1.0 + squared);
-                    let part = f64::from(node.count) * inverse;
-                    share += part;
-                    let part = part * inverse;
-                    for d in 0..C {
-                        force[d] += part * away[d];
-                    }
-                } else {
-                    if at < end {
-                        stack.push((at, end));
-                    }
-                    at = node.first;
-                    end = at + (1 << C);
+                level -= 1;
+                (at, end) = stack[level];
+                continue;
+            }
+            let node = &self.nodes[at as usize];
+            at += 1;
+            if node.count == 0 || (node.leaf == query && node.count == 1) {
+                continue;
+            }
+            let (away, squared) = apart(&p, &node.mass);
+            if node.first == 0 || node.squared < self.squared_angle * squared {
+                let inverse = 1.0 / (1.0 + squared);
+                let part = f64::from(node.count) * inverse;
+                share += part;
+                let part = part * inverse;
+                for d in 0..C {
+                    force[d] += part * away[d];
                 }
+            } else {
+                stack[level] = (at, end);
+                level += 1;
+                (at, end) = (node.first, node.first + (1 << C));
             }
         }
-        (force, share)
     }
 }
 
@@ -144,6 +150,9 @@ impl<const C: usize> Contestant for Tree<C> {
 
     fn reset(&mut self) {
         self.moving.clone_from(&self.from);
+        if self.cleared {
+            self.nodes.fill(Node::new([0.0; C], [0.0; C]));
+        }
     }
 
     fn work(&mut self) {
@@ -155,7 +164,7 @@ impl<const C: usize> Contestant for Tree<C> {
             self.insert(j);
         }
         let (exaggeration, momentum) = self.pace;
-        let mut stack = Vec::new();
+        let mut stack = [(0, 0); DEEPEST];
         let forces: Vec<_> = (0..n).map(|j| self.repel(j, &mut stack)).collect();
         let pulls: Vec<_> = (0..n)
             .map(|i| self.lists.pull(i, &self.moving.positions, exaggeration))
