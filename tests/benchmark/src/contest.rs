@@ -80,3 +80,14 @@ pub fn contest(title: &str, all: Vec<Box<dyn Contestant>>, rounds: usize) {
         );
     }
 }
+
+/// Runs a contest and prints it in one line.
+pub fn row(title: &str, all: Vec<Box<dyn Contestant>>, rounds: usize) {
+    let outcomes = outcomes(all, rounds);
+    let cell = |one: &Outcome| {
+        let ratio = outcomes[0].middle / one.middle;
+        format!("{} {:.3} ms, {ratio:.2}, {}", one.name, 1e3 * one.middle, one.bits)
+    };
+    let cells: Vec<String> = outcomes.iter().map(cell).collect();
+    println!("  {title}: {}", cells.join("; "));
+}

@@ -8,7 +8,7 @@ pub mod parts;
 pub mod rules;
 
 use brothanchor::{Method, Settings};
-use contest::{contest, outcomes, Contestant};
+use contest::{contest, row, Contestant};
 use library::{prepared, settings, Copying, Parking, Preparing, Reading, Run, Telling, Thinning, Working};
 use oracle::scatter::SplitMix64;
 
@@ -73,8 +73,8 @@ pub fn all(others: &dyn Others, names: &[String]) {
         let known = CONTESTS.map(|contest| contest.0);
         assert!(known.contains(&name.as_str()), "no contest {name}: there are {known:?}");
     }
-    println!("between two rounds positions, increments, gains and the record are put back; forces and nodes");
-    println!("keep what they held, but for the contest that says so");
+    println!("between two rounds positions, increments, gains and the record are put back; forces and nodes keep what they held,");
+    println!("but for the contest that says that they are cleared");
     for (name, contest) in CONTESTS {
         if names.is_empty() || names.iter().any(|one| one == name) {
             contest(others);
@@ -104,24 +104,19 @@ fn iteration(others: &dyn Others) {
 fn cleared(others: &dyn Others) {
     let mut run = prepared(settings(Method::BarnesHut, 4096), 350);
     run.cleared = true;
-    let title = "Barnes-Hut iteration, n 4096, after 350, forces and nodes zeroed before each round";
+    let title = "Barnes-Hut iteration, n 4096, after 350, forces and nodes cleared before each round";
     contest(title, by_the_tree(&run, others), 31);
 }
 
-/// How an iteration by the tree grows with n.
+/// How an iteration by the tree grows with n, for maps of one to three components.
 fn growth(others: &dyn Others) {
-    println!("Barnes-Hut iteration after 350 (11 rounds): the library's middle time, and as a share of the others'");
+    println!("Barnes-Hut iterations after 350 (11 rounds): middle times, and the library's as a ratio of each");
     for c in 1..=3 {
         for angle in [0.3, 0.8] {
             for n in [256, 1024, 4096] {
                 let usual = settings(Method::BarnesHut, n);
                 let run = prepared(Settings { c, angle, ..usual }, 350);
-                let outcomes = outcomes(by_the_tree(&run, others), 11);
-                print!("  c {c}, angle {angle}, n {n:4}: {:9.3} ms", 1e3 * outcomes[0].middle);
-                for one in &outcomes[1..] {
-                    print!("; {:.2} of {}, {}", outcomes[0].middle / one.middle, one.name, one.bits);
-                }
-                println!();
+                row(&format!("c {c}, angle {angle}, n {n:4}"), by_the_tree(&run, others), 11);
             }
         }
     }
