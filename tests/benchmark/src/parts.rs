@@ -21,35 +21,47 @@ pub fn all() {
     shares(&format!("parts of an exact iteration, n {n}"), &run, &parts);
 }
 
-/// Prints each part's time and share. What a call tests before its first unit is timed by a call with budget 0 just before,
-/// and taken off.
-fn shares(title: &str, run: &Run, parts: &[Part]) {
-    const ROUNDS: usize = 31;
+/// How often each is done.
+const ROUNDS: usize = 31;
+
+/// Times of a part, round by round.
+#[derive(Clone, Default)]
+struct Times {
+    /// What a call tests before its first unit, timed by a call with budget 0 just before the part.
+    tests: Vec<f64>,
+    /// The part less that.
+    rest: Vec<f64>,
+}
+
+/// The times of the parts, and of the whole iteration in one call.
+fn measured(run: &Run, parts: &[Part]) -> (Vec<Times>, Vec<f64>) {
     let mut working = Working::new(run);
     let mut whole = Vec::new();
-    let mut tests = vec![Vec::new(); parts.len()];
-    let mut rest = vec![Vec::new(); parts.len()];
+    let mut all = vec![Times::default(); parts.len()];
     for _ in 0..ROUNDS {
         working.reset();
         whole.push(seconds(|| working.work()));
         working.reset();
-        for (i, &(_, units)) in parts.iter().enumerate() {
+        for (times, part) in all.iter_mut().zip(parts) {
             let test = seconds(|| working.units(0));
-            tests[i].push(test);
-            rest[i].push(seconds(|| working.units(units as u32)) - test);
+            times.tests.push(test);
+            times.rest.push(seconds(|| working.units(part.1 as u32)) - test);
         }
     }
+    (all, whole)
+}
+
+/// Prints each part's time and share.
+fn shares(title: &str, run: &Run, parts: &[Part]) {
+    let (all, whole) = measured(run, parts);
+    let sum: f64 = all.iter().map(|times| middle(&times.rest)).sum();
+    let whole = 1e3 * middle(&whole);
     println!("{title} ({ROUNDS} rounds)");
-    println!(
-        "  {:20} {:9.3} ms, its tests among them",
-        "all in one call",
-        1e3 * middle(&whole)
-    );
-    let sum: f64 = rest.iter().map(|times| middle(times)).sum();
-    for (i, (name, units)) in parts.iter().enumerate() {
-        let (part, test) = (middle(&rest[i]), middle(&tests[i]));
+    println!("  {:20} {whole:9.3} ms, its tests among them", "all in one call");
+    for ((name, units), times) in parts.iter().zip(&all) {
+        let (part, test) = (middle(&times.rest), middle(&times.tests));
         println!(
-            "  {name:20} {:9.3} ms, {:.3} of the parts ({units} units)   a call with budget 0 before it: {:.3} ms",
+            "  {name:20} {:9.3} ms, {:.3} of the parts   budget {units:4}; a call with budget 0 before it: {:.3} ms",
             1e3 * part,
             part / sum,
             1e3 * test

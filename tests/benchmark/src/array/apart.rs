@@ -1,5 +1,7 @@
 //! An iteration by the tree, with what the walk reads apart from all else and laid out in the order of the walk: no empty
 //! cell, no child links, no stack. A cell is followed by its first child, and says where the walk goes on past it.
+//! The tree is made from the root down, the points of a cell put in order by its corners: each cell meets its points by
+//! rising number, as insertion has it. Points that lie together walk one after the other, and all walks come before the pulls.
 
 use super::{apart, bounds, corner, gradient, middle_of, pace, squared_width, Lists, Moving, DEEPEST};
 use crate::contest::Contestant;
@@ -52,7 +54,7 @@ pub struct Tree<const C: usize> {
     spare: Vec<Point<C>>,
     /// The leaf that holds a point alone; past all cells where there is none.
     own: Vec<u32>,
-    /// For each count from 1 on the share that the mass keeps when the last of so many points comes.
+    /// The counts from 1 on, and the share that the mass keeps when the last of so many points comes.
     kept: Vec<(f64, f64)>,
     lists: Lists,
     squared_angle: f64,

@@ -1,4 +1,5 @@
-//! An iteration by the tree, with all nodes in one array of structs and a walk that is a loop with a stack of its own.
+//! An iteration by the tree, with all nodes in one array of structs and a walk that is a loop with a stack of its own. All
+//! walks come before the pulls.
 
 use super::{apart, bounds, corner, gradient, middle_of, pace, squared_width, Lists, Moving, DEEPEST};
 use crate::contest::Contestant;
