@@ -67,7 +67,9 @@ struct Iteration {
 impl Iteration {
     fn new(run: &Run, pairs: Pairs) -> Iteration {
         let areas = &run.areas;
-        let rows = |values: &Vec<f64>| Array2::from_shape_vec((run.settings.n, run.settings.c), values.clone()).expect("rows of c");
+        let rows = |values: &Vec<f64>| {
+            Array2::from_shape_vec((run.settings.n, run.settings.c), values.clone()).expect("rows of c")
+        };
         let from = [&areas.positions, &areas.increments, &areas.gains].map(rows);
         let early = run.record.iterations() < 250;
         Iteration {

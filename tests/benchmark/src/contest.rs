@@ -47,17 +47,18 @@ pub fn outcomes(mut all: Vec<Box<dyn Contestant>>, rounds: usize) -> Vec<Outcome
         }
     }
     let results: Vec<_> = all.iter().map(|one| one.result().map(bits)).collect();
-    let outcome = |(i, one): (usize, &Box<dyn Contestant>)| Outcome {
-        name: one.name(),
+    let compared = |theirs: &Option<Vec<u64>>| match (&results[0], theirs) {
+        (Some(ours), Some(theirs)) if ours == theirs => "the same bits",
+        (Some(_), Some(_)) => "OTHER BITS",
+        _ => "not compared",
+    };
+    let one = |i: usize| Outcome {
+        name: all[i].name(),
         middle: middle(&times[i]),
         least: times[i].iter().copied().fold(f64::INFINITY, f64::min),
-        bits: match (&results[0], &results[i]) {
-            (Some(ours), Some(theirs)) if ours == theirs => "the same bits",
-            (Some(_), Some(_)) => "OTHER BITS",
-            _ => "not compared",
-        },
+        bits: compared(&results[i]),
     };
-    all.iter().enumerate().map(outcome).collect()
+    (0..all.len()).map(one).collect()
 }
 
 fn bits(values: Vec<f64>) -> Vec<u64> {

@@ -54,8 +54,11 @@ pub fn frames(n: usize) -> Vec<f64> {
     table
 }
 
+/// A contest and its name.
+type Named = (&'static str, fn(&dyn Others));
+
 /// The contests by their names.
-const CONTESTS: [(&str, fn(&dyn Others)); 9] = [
+const CONTESTS: [Named; 9] = [
     ("iteration", iteration),
     ("cleared", cleared),
     ("growth", growth),

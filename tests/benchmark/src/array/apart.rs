@@ -117,8 +117,8 @@ impl<const C: usize> Tree<C> {
     fn mass(&self, range: Range<usize>) -> [f64; C] {
         let mut mass = [0.0; C];
         for (point, (count, kept)) in self.points[range].iter().zip(&self.kept) {
-            for d in 0..C {
-                mass[d] = mass[d] * kept + point.p[d] / count;
+            for (mass, v) in mass.iter_mut().zip(&point.p) {
+                *mass = *mass * kept + v / count;
             }
         }
         mass
