@@ -21,7 +21,8 @@ pub fn trees(run: &Run) -> Vec<Box<dyn Contestant>> {
 
 fn trees_of<const C: usize>(run: &Run) -> Vec<Box<dyn Contestant>> {
     vec![
-        Box::new(tree::Tree::<C>::new(run)),
+        Box::new(tree::Tree::<C, false>::new(run)),
+        Box::new(tree::Tree::<C, true>::new(run)),
         Box::new(apart::Tree::<C>::new(run)),
     ]
 }

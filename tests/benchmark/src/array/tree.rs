@@ -1,4 +1,5 @@
-//! An iteration by the tree, with all nodes in one array of structs and a walk that is a loop with a stack of its own. All
+//! An iteration by the tree, with all nodes in one array of structs and a walk that is a loop with a stack of its own: of the
+//! cells still to be looked at, or, where RANGES, of the children left on each level. All
 //! walks come before the pulls.
 
 use super::{apart, bounds, corner, gradient, middle_of, pace, squared_width, Lists, Moving, DEEPEST};
@@ -41,10 +42,24 @@ impl<const C: usize> Node<C> {
             *mass = *mass * share + v / count;
         }
     }
+
+    /// What the node adds as one body.
+    fn push(&self, away: &[f64; C], squared: f64, (force, share): &mut Sums<C>) {
+        let inverse = 1.0 / (1.0 + squared);
+        let part = f64::from(self.count) * inverse;
+        *share += part;
+        let part = part * inverse;
+        for d in 0..C {
+            force[d] += part * away[d];
+        }
+    }
 }
 
+/// The repulsion on a point, and its share of the normaliser.
+type Sums<const C: usize> = ([f64; C], f64);
+
 /// One iteration by the tree.
-pub struct Tree<const C: usize> {
+pub struct Tree<const C: usize, const RANGES: bool> {
     from: Moving<C>,
     moving: Moving<C>,
     nodes: Vec<Node<C>>,
@@ -55,8 +70,8 @@ pub struct Tree<const C: usize> {
     cleared: bool,
 }
 
-impl<const C: usize> Tree<C> {
-    pub fn new(run: &Run) -> Tree<C> {
+impl<const C: usize, const RANGES: bool> Tree<C, RANGES> {
+    pub fn new(run: &Run) -> Tree<C, RANGES> {
         Tree {
             from: Moving::of(run),
             moving: Moving::of(run),
@@ -105,17 +120,41 @@ impl<const C: usize> Tree<C> {
         child.leaf = old;
     }
 
-    /// What the tree does to point j, and its share of the normaliser. On the stack stand the children still to be looked
-    /// at, of one level each: the next one and where they end.
-    fn repel(&self, j: usize, stack: &mut [(u32, u32); DEEPEST]) -> ([f64; C], f64) {
+    /// What the tree does to point j, and its share of the normaliser. On the stack stand the cells still to be looked at.
+    fn by_cells(&self, j: usize, stack: &mut [u32; 8 * DEEPEST]) -> Sums<C> {
         let (p, query) = (self.moving.positions[j], j as u32 + 1);
-        let (mut force, mut share) = ([0.0; C], 0.0);
+        let mut sums = ([0.0; C], 0.0);
+        stack[0] = 0;
+        let mut left = 1;
+        while left > 0 {
+            left -= 1;
+            let node = &self.nodes[stack[left] as usize];
+            if node.count == 0 || (node.leaf == query && node.count == 1) {
+                continue;
+            }
+            let (away, squared) = apart(&p, &node.mass);
+            if node.first == 0 || node.squared < self.squared_angle * squared {
+                node.push(&away, squared, &mut sums);
+            } else {
+                for corner in (0..1 << C).rev() {
+                    stack[left] = node.first + corner;
+                    left += 1;
+                }
+            }
+        }
+        sums
+    }
+
+    /// The same. On the stack stand the children still to be looked at, of one level each: the next one and where they end.
+    fn by_ranges(&self, j: usize, stack: &mut [(u32, u32); DEEPEST]) -> Sums<C> {
+        let (p, query) = (self.moving.positions[j], j as u32 + 1);
+        let mut sums = ([0.0; C], 0.0);
         let mut level = 0;
         let (mut at, mut end) = (0, 1);
         loop {
             if at == end {
                 if level == 0 {
-                    return (force, share);
+                    return sums;
                 }
                 level -= 1;
                 (at, end) = stack[level];
@@ -128,13 +167,7 @@ impl<const C: usize> Tree<C> {
             }
             let (away, squared) = apart(&p, &node.mass);
             if node.first == 0 || node.squared < self.squared_angle * squared {
-                let inverse = 1.0 / (1.0 + squared);
-                let part = f64::from(node.count) * inverse;
-                share += part;
-                let part = part * inverse;
-                for d in 0..C {
-                    force[d] += part * away[d];
-                }
+                node.push(&away, squared, &mut sums);
             } else {
                 stack[level] = (at, end);
                 level += 1;
@@ -144,9 +177,13 @@ impl<const C: usize> Tree<C> {
     }
 }
 
-impl<const C: usize> Contestant for Tree<C> {
+impl<const C: usize, const RANGES: bool> Contestant for Tree<C, RANGES> {
     fn name(&self) -> &'static str {
-        "plain Rust over arrays"
+        if RANGES {
+            "the same, ranges stacked"
+        } else {
+            "plain Rust over arrays"
+        }
     }
 
     fn reset(&mut self) {
@@ -165,8 +202,13 @@ impl<const C: usize> Contestant for Tree<C> {
             self.insert(j);
         }
         let (exaggeration, momentum) = self.pace;
-        let mut stack = [(0, 0); DEEPEST];
-        let forces: Vec<_> = (0..n).map(|j| self.repel(j, &mut stack)).collect();
+        let forces: Vec<_> = if RANGES {
+            let mut stack = [(0, 0); DEEPEST];
+            (0..n).map(|j| self.by_ranges(j, &mut stack)).collect()
+        } else {
+            let mut stack = [0; 8 * DEEPEST];
+            (0..n).map(|j| self.by_cells(j, &mut stack)).collect()
+        };
         let pulls: Vec<_> = (0..n)
             .map(|i| self.lists.pull(i, &self.moving.positions, exaggeration))
             .collect();
