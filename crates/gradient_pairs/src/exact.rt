@@ -63,11 +63,38 @@ fn add_along(along: [f64; 8], positions: &[f64], b: usize, c: usize, w: f64) -> 
     ensures { λ r. ⌜ r ≡ loop (alongStep w (now (positions .entry)) b) c 0 along ⌝ }
 {
     let mut t = along;
-    let mut d = 0;
-    while d < c {
-        t[d] = t[d] + w * positions[b + d];
-        d += 1;
+    if c == 0 {
+        return t;
     }
+    t[0] = t[0] + w * positions[b];
+    if c <= 1 {
+        return t;
+    }
+    t[1] = t[1] + w * positions[b + 1];
+    if c <= 2 {
+        return t;
+    }
+    t[2] = t[2] + w * positions[b + 2];
+    if c <= 3 {
+        return t;
+    }
+    t[3] = t[3] + w * positions[b + 3];
+    if c <= 4 {
+        return t;
+    }
+    t[4] = t[4] + w * positions[b + 4];
+    if c <= 5 {
+        return t;
+    }
+    t[5] = t[5] + w * positions[b + 5];
+    if c <= 6 {
+        return t;
+    }
+    t[6] = t[6] + w * positions[b + 6];
+    if c <= 7 {
+        return t;
+    }
+    t[7] = t[7] + w * positions[b + 7];
     t
 }
 
