@@ -76,7 +76,7 @@ pub fn all(others: &dyn Others, names: &[String]) {
         let known = CONTESTS.map(|contest| contest.0);
         assert!(known.contains(&name.as_str()), "no contest {name}: there are {known:?}");
     }
-    println!("between two rounds positions, increments, gains and the record are put back; forces and nodes keep what they held,");
+    println!("of iterations: between two rounds positions, increments, gains and the record are put back; forces and nodes keep what they held,");
     println!("but for the contest that says that they are cleared");
     for (name, contest) in CONTESTS {
         if names.is_empty() || names.iter().any(|one| one == name) {

@@ -1,7 +1,6 @@
 -- Row by parts: each takes the loop on by as many turns as it has frames.
 use Rattle.gradient_pairs.specs.Exact.{pullStep, pullsOf}
-use Rattle.gradient_pairs.proofs.Parts.{loop-on}
-use Rattle.laws.proofs.Loops.{Loops, loop-start, loop-done}
+use Rattle.laws.proofs.Loops.{Loops, loop-start, loop-on, loop-done}
 use Prim.Native.Nat.{_-_}
 use borrow.Author.Needs.{needs}
 use native.Mathlib.Omega.{arith}
