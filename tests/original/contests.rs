@@ -12,7 +12,8 @@ use rustyml::machine_learning::manifold::t_sne::oracle::{
 use rustyml::machine_learning::manifold::t_sne::TSNE;
 
 fn main() {
-    benchmark::all(&Original);
+    let names: Vec<String> = std::env::args().skip(1).collect();
+    benchmark::all(&Original, &names);
 }
 
 struct Original;
@@ -66,7 +67,9 @@ struct Iteration {
 impl Iteration {
     fn new(run: &Run, pairs: Pairs) -> Iteration {
         let areas = &run.areas;
-        let rows = |values: &Vec<f64>| Array2::from_shape_vec((run.settings.n, run.settings.c), values.clone()).expect("rows of c");
+        let rows = |values: &Vec<f64>| {
+            Array2::from_shape_vec((run.settings.n, run.settings.c), values.clone()).expect("rows of c")
+        };
         let from = [&areas.positions, &areas.increments, &areas.gains].map(rows);
         let early = run.record.iterations() < 250;
         Iteration {

@@ -88,11 +88,15 @@ fn put(forces: &mut [f64], a: usize, x: [f64; 3], c: usize)
     requires { ⌜ (Axes c) × (a + c ≤ length (now forces)) ⌝ }
     ensures { λ _. ⌜ now (forces .exit) ≡ loop (putStep x a) c 0 (now (forces .entry)) ⌝ }
 {
-    let mut d = 0;
-    while d < c {
-        forces[a + d] = x[d];
-        d += 1;
+    forces[a] = x[0];
+    if c == 1 {
+        return;
     }
+    forces[a + 1] = x[1];
+    if c == 2 {
+        return;
+    }
+    forces[a + 2] = x[2];
 }
 
 // Attraction, repulsion and share of point i take their places.

@@ -56,3 +56,21 @@ pushAt y P exaggeration total n c i j = pushOf (at P (i * n + j)) exaggeration (
 unfoldable pub pullsOf : List Float → List Float → Float → Float → ℕ → ℕ → ℕ → Pulls
 unfolding loop pullBy pushOf
 pullsOf y P exaggeration total n c i = loop (λ j x. pullBy (pushAt y P exaggeration total n c i j) y c j x) n 0 (pulls zero64 zeros8)
+
+-- ---- a row in parts, of m frames from j on
+
+-- frame j of row i more, as the whole row has it
+abbrev pub pullStep : List Float → List Float → Float → Float → ℕ → ℕ → ℕ → ℕ → Pulls → Pulls
+pullStep y P exaggeration total n c i j x = pullBy (pushAt y P exaggeration total n c i j) y c j x
+
+-- place k gets the numerator of frames i and j + k
+abbrev pub numLaid : List Float → ℕ → ℕ → ℕ → ℕ → List Float → List Float
+numLaid y c i j k l = set l k (numOf y c i (j + k))
+
+-- .. and another what frame j + k weighs by it
+abbrev pub weightLaid : List Float → List Float → Float → Float → ℕ → ℕ → ℕ → ℕ → List Float → List Float
+weightLaid nums P exaggeration total n i j k l = set l k (pushOf (at P (i * n + (j + k))) exaggeration (at nums k) total)
+
+-- .. with which it is taken
+abbrev pub weighedStep : List Float → List Float → ℕ → ℕ → ℕ → Pulls → Pulls
+weighedStep weights y c j k x = pullBy (at weights k) y c (j + k) x

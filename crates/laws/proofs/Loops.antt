@@ -45,3 +45,25 @@ module _ {A : Type 0} where
   unfolding loop
   loop-same f g zero k x h = refl
   loop-same f g (suc n) k x h = rw (h k x (omega arith) (omega arith)) (loop-same f g n (k + 1) (g k x) (λ j y a b. h j y (omega arith) (omega arith)))
+
+  moved-from : (f g : ℕ → A → A) (j n k : ℕ) (x : A) → ((t : ℕ) (y : A) → t < k + n → g t y ≡ f (j + t) y) → loop g n k x ≡ loop f n (j + k) x
+  unfolding loop
+  moved-from f g j zero k x h = refl
+  moved-from f g j (suc n) k x h =
+      ap (loop g n (k + 1)) (h k x (omega arith))
+      ∙ moved-from f g j n (k + 1) (f (j + k) x) (λ t y l. h t y (omega arith))
+      ∙ ap (λ (i : ℕ). loop f n i (f (j + k) x)) (on j k)
+    where
+      on : (j k : ℕ) → j + (k + 1) ≡ j + k + 1
+      on j k = omega arith
+
+  -- turns from 0 on that are the turns from j on
+  pub loop-moved : (f g : ℕ → A → A) (j n : ℕ) (x : A) → ((t : ℕ) (y : A) → t < n → g t y ≡ f (j + t) y) → loop g n 0 x ≡ loop f n j x
+  loop-moved f g j n x h = moved-from f g j n 0 x (λ t y l. h t y (omega arith)) ∙ ap (λ (i : ℕ). loop f n i x) (add-zero j)
+
+  -- m turns more of n
+  pub loop-on : {f : ℕ → A → A} {n k : ℕ} {x y : A} (m : ℕ) → Loops f n y k x → k + m ≤ n → Loops f n y (k + m) (loop f m k x)
+  loop-on {f} {n} {k} {x} {y} m r h = record { within = h; same = sym (loop-add f m (n - (k + m)) k x) ∙ ap (λ (i : ℕ). loop f i k x) (rest n k m h) ∙ r .same }
+    where
+      rest : (n k m : ℕ) → k + m ≤ n → m + (n - (k + m)) ≡ n - k
+      rest n k m e = omega arith

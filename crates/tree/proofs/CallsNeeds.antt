@@ -29,8 +29,9 @@ use denote.Triple.Walked.{says}
 use Rattle.lent.proofs.Pass.{Seat, ref-at, word, Mut, Shr, Tok, lent-to, lend-shr, back-shr, lend-copy}
 use Prim.Native.Nat.{_*_, _<_, _≤_}
 use Rattle.tree_node.specs.Arena.{nodesOf}
-use Rattle.tree_node.specs.Node.{Axes, pointOf}
-use Rattle.tree.specs.Insert.{tree, needsOf, growable}
+use Rattle.tree_node.specs.Node.{Axes}
+use Rattle.tree.specs.Insert.{tree, growable}
+use Rattle.tree.specs.Ways.{dryNeeds}
 use lib.ListN.{length}
 use mathlib.Core.Bool.{true}
 use mathlib.Core.Path.{_≡_}
@@ -41,7 +42,7 @@ use Rattle.tree.proofs.insertion.needs.Symbol.{name as #tree·insertion
 
 -- what the callee ensures of its result and of the last lists
 abbrev pub Ensured-needs : List Cell → List Float → ℕ → ℕ → ℕ → ℕ → ℕ → Type 0
-Ensured-needs cells positions n used j c res = res ≡ needsOf (length (nodesOf cells)) positions c (pointOf positions c j) 0 0 (nodesOf cells)
+Ensured-needs cells positions n used j c res = res ≡ dryNeeds positions c j (tree used (nodesOf cells))
 
 module _ {M : Type 1} (𝓤 : URA M) (H : Heap 𝓤) (A : Atoms 𝓤) (mem : Memory → SProp 𝓤) (run : Routine → Fun 𝓤) where
   abbrev pub Contract-needs : Contract 𝓤

@@ -7,10 +7,11 @@ use native.Mathlib.Omega.{arith}
 use lib.Dec.{T}
 use lib.ListN.{length, set, length-set}
 use lib.Ieee.{Float}
+use lib.Pow.{pow-mono}
 use borrow.Author.Tests.{eq-eqb, ne-eqb, ltb-true, ltb-false, not-true, not-false}
 use native.Mathlib.Decide.{ℕ-discrete}
 use Rattle.lent.proofs.Holds.{holds-as, fails-as}
-use Rattle.laws.specs.Domain.{mostWord}
+use Rattle.laws.specs.Domain.{deepest, mostWord}
 use Rattle.laws.proofs.Numbers.{row-in}
 use Rattle.laws.proofs.Loops.{Loops, loop-start, loop-more, loop-done}
 use Rattle.tree_node.specs.declared.Node.{Node}
@@ -26,8 +27,8 @@ use Rattle.tree.specs.declared.Probe.{Probe}
 use Rattle.tree.specs.declared.Way.{Way}
 use Rattle.tree.specs.declared.Split.{Split}
 use Rattle.tree.specs.declared.Step.{Step}
-use Rattle.tree.specs.Insert.{tree, childStep, subdivided, levelAt, needsOf, leafNeeds, growable}
-use Rattle.tree.specs.Ways.{probingOf, probesOn, LeafIn, probedOf, wayTurn, metOf, MetAsks, LevelAsks, splitsOn, childOn, childPlace, madeOf, steppedOf}
+use Rattle.tree.specs.Insert.{tree, childStep, subdivided, levelAt, leafNeeds, growable}
+use Rattle.tree.specs.Ways.{ample, dryNeeds, probingOf, probesOn, LeafIn, probedOf, wayTurn, metOf, MetAsks, LevelAsks, splitsOn, childOn, childPlace, madeOf, steppedOf}
 use Rattle.tree.proofs.Inserting.{Dry, dry-start, dry-next, dry-leaf, tree-point, next-in}
 
 -- ---- the root
@@ -142,16 +143,20 @@ module _ (w : Way) (y : List Float) (cs : List Cell) (k : LevelAsks w (length y)
 pub record Probes (y : List Float) (used j c : ℕ) (ns : List Node) (s : Probe) : Type 0 where
   pub p-same : s .p ≡ pointOf y c j
   pub c-same : s .c ≡ c
-  pub on : s .ended ≡ false → (s .node < used) × Dry y c (pointOf y c j) ns (s .depth) (s .node)
-  pub off : s .ended ≡ true → s .more ≡ needsOf (length ns) y c (pointOf y c j) 0 0 ns
+  pub on : s .ended ≡ false → (s .node < used) × Dry y c (pointOf y c j) ns (s .depth) (s .node) × (ample (length ns) used c ≡ false)
+  pub off : s .ended ≡ true → s .more ≡ dryNeeds y c j (tree used ns)
 
 -- nodes that may yet be met
 abbrev pub probesLeft : ℕ → Probe → ℕ
 probesLeft used s = cond (s .ended) 0 (suc (used - s .node))
 
-pub probes-start : (y : List Float) (used j c : ℕ) (ns : List Node) → 0 < used → (s : Probe) → s ≡ probingOf y j c → Probes y used j c ns s
-probes-start y used j c ns h s es =
-    subst (Probes y used j c ns) (sym es) (record { p-same = refl; c-same = refl; on = λ _. (h, dry-start y c (pointOf y c j) ns); off = λ e. absurd (true≢false (sym e)) })
+module _ (y : List Float) (used j c : ℕ) (cs : List Cell) (m : ℕ) (em : length cs ≡ m) where
+  pub probing-asks : Axes c → m * 88 < 2 ^ 63 → used ≤ length cs → used + deepest * 2 ^ c < 2 ^ 64
+  probing-asks a h l = omega (arith, pow-mono {i = c} {j = 3} (a .1), em, h, l)
+
+  pub probes-start : 0 < used → (s : Probe) → s ≡ probingOf y m used j c → Probes y used j c (nodesOf cs) s
+  probes-start h s es = subst (Probes y used j c (nodesOf cs)) (sym (es ∙ ap (λ (x : ℕ). probingOf y x used j c) (sym em ∙ sym (nodes-length cs))))
+      (record { p-same = refl; c-same = refl; on = λ e. (h, dry-start y c (pointOf y c j) (nodesOf cs), e); off = λ e. rw e })
 
 module _ (y : List Float) (n used j c : ℕ) (cs : List Cell) (inside : used ≤ length cs) (rows : n * c ≤ length y) (ok : growable n c (tree used (nodesOf cs)) ≡ true)
     (s : Probe) (k : Probes y used j c (nodesOf cs) s) (b : Bool) (eb : b ≡ probesOn s) where
@@ -194,16 +199,16 @@ module _ (y : List Float) (n used j c : ℕ) (cs : List Cell) (inside : used ≤
       probes-next u eu = subst (λ (x : Probe). Probes y used j c ns x × (probesLeft used x < probesLeft used s)) (sym eu)
           (elim (ℕ-discrete (nodeAt ns (s .node) .first) 0) [
             | yes z ↦ rw (leaf-told z) (
-              record { p-same = k .p-same; c-same = k .c-same; on = λ e. absurd (true≢false e); off = λ _. dry-leaf (k .on going .1) in-list (nodeAt ns (s .node) .leaf) z refl },
+              record { p-same = k .p-same; c-same = k .c-same; on = λ e. absurd (true≢false e); off = λ _. rw (k .on going .2) (dry-leaf (k .on going .1) in-list (nodeAt ns (s .node) .leaf) z refl) },
               rw going (omega arith),
             )
             | no z ↦
                 let h = next-in n c (mostWord - 1) (tree used ns) p ok (s .node) here z in
                 rw (inner-told z) (
-                  record { p-same = k .p-same; c-same = k .c-same; on = λ _. (h .1, dry-next (k .on going .1) in-list z (h .0)); off = λ e. absurd (true≢false (sym e)) },
+                  record { p-same = k .p-same; c-same = k .c-same; on = λ _. (h .1, dry-next (k .on going .1) in-list z (h .0), k .on going .2); off = λ e. absurd (true≢false (sym e)) },
                   rw going (omega (arith, h, here)),
                 )
           ])
 
-  pub probes-end : T (not b) → s .more ≡ needsOf (length ns) y c p 0 0 ns
+  pub probes-end : T (not b) → s .more ≡ dryNeeds y c j (tree used ns)
   probes-end t = k .off (not-false (s .ended) (fails-as b (probesOn s) eb t))

@@ -6,11 +6,10 @@ use Prim.Native.Nat.{ℕ, suc, _+_, _-_, _*_, _<_, _≤_, _^_}
 use native.Mathlib.Omega.{arith}
 use lib.Dec.{T, ltb}
 use lib.ListN.{length}
-use lib.Pow.{pow-mono}
 use lib.Ieee.{Float}
-use borrow.Author.Tests.{ltb-true, ltb-false, not-true, not-false}
+use borrow.Author.Tests.{ltb-true, ltb-false, le-ltb, leb-true, not-true, not-false}
 use Rattle.lent.proofs.Holds.{holds-as, fails-as}
-use Rattle.laws.specs.Domain.{mostWord}
+use Rattle.laws.specs.Domain.{deepest, mostWord}
 use Rattle.laws.proofs.Bools.{by-bool}
 use Rattle.tree_node.specs.declared.Node.{Node}
 use Rattle.tree_node.specs.declared.Cell.{Cell}
@@ -21,10 +20,11 @@ use Rattle.tree_turns.specs.declared.Out.{Out}
 use Rattle.tree.specs.declared.Way.{Way}
 use Rattle.tree.specs.declared.Step.{Step}
 use Rattle.tree.specs.declared.Inserted.{Inserted}
-use Rattle.tree.specs.Insert.{Tree, tree, turnAt, levelAt, needsOf, insertion, insertOf, growable}
-use Rattle.tree.specs.Ways.{wayTurn, LevelAsks, enteringOf, notEnded, sunkOf, answered}
-use Rattle.tree.proofs.Inserting.{needs-few, Sinks, sinks-start, sinks-on, sinks-in, sinks-asks, sinks-few, sinks-up}
-use Rattle.tree.proofs.Whole.{needed, refused, taken}
+use Rattle.tree.specs.Insert.{Tree, tree, turnAt, levelAt, insertion, insertOf, growable}
+use Rattle.tree.specs.Ways.{ample, dryNeeds, wayTurn, LevelAsks, enteringOf, notEnded, sunkOf, answered}
+use Rattle.tree.proofs.Descends.{probing-asks}
+use Rattle.tree.proofs.Inserting.{Sinks, sinks-start, sinks-on, sinks-in, sinks-asks, sinks-few, sinks-up}
+use Rattle.tree.proofs.Whole.{needed, needed-few, refused, taken}
 
 module _ (y : List Float) (n used j c : ℕ) (ns₀ : List Node) where
   abbrev whole : ℕ
@@ -45,29 +45,51 @@ module _ (y : List Float) (n used j c : ℕ) (cs₀ : List Cell) where
   abbrev ns₀ : List Node
   ns₀ = nodesOf cs₀
 
-  pub needs-asks : (more : ℕ) → more ≡ needsOf (length ns₀) y c (pointOf y c j) 0 0 ns₀ → Axes c → (m : ℕ) → length cs₀ ≡ m → m * 88 < 2 ^ 63 → used ≤ length cs₀ → used + more < 2 ^ 64
-  needs-asks more e a m em h l = omega (arith, e, needs-few (length ns₀) y c (pointOf y c j) 0 0 ns₀, pow-mono {i = c} {j = 3} (a .1), em, h, l)
+  abbrev need : ℕ
+  need = needed y c j (tree used ns₀)
 
-  module _ (more : ℕ) (em : more ≡ needsOf (length ns₀) y c (pointOf y c j) 0 0 ns₀) (ok : growable n c (tree used ns₀) ≡ true) (some : 0 < used) (inside : used ≤ length cs₀) where
-    enters-first : Entered y n used j c ns₀ (enteringOf y (length ns₀) used more j c) ns₀
-    enters-first = by-bool (Entered y n used j c ns₀ (enteringOf y (length ns₀) used more j c) ns₀) (ltb (nameable (length ns₀)) (used + more))
+  dry-few : dryNeeds y c j (tree used ns₀) ≤ deepest * 2 ^ c
+  dry-few = by-bool (dryNeeds y c j (tree used ns₀) ≤ deepest * 2 ^ c) (ample (length ns₀) used c) (λ f. rw f (omega arith)) (λ f. rw f (needed-few y c j (tree used ns₀)))
+
+  pub needs-asks : (more : ℕ) → more ≡ dryNeeds y c j (tree used ns₀) → Axes c → (m : ℕ) → length cs₀ ≡ m → m * 88 < 2 ^ 63 → used ≤ length cs₀ → used + more < 2 ^ 64
+  needs-asks more e a m em h l = omega (arith, e, dry-few, probing-asks y used j c cs₀ m em a h l)
+
+  -- in an ample arena the point goes in, counted or not
+  uncounted : enteringOf y (length ns₀) used (dryNeeds y c j (tree used ns₀)) j c ≡ enteringOf y (length ns₀) used need j c
+  uncounted = by-bool (enteringOf y (length ns₀) used (dryNeeds y c j (tree used ns₀)) j c ≡ enteringOf y (length ns₀) used need j c) (ample (length ns₀) used c)
+      (λ f.
+      let room = leb-true (used + deepest * 2 ^ c) (nameable (length ns₀)) f in
+      rw (f, le-ltb (nameable (length ns₀)) (used + 0) (omega (arith, room)), le-ltb (nameable (length ns₀)) (used + need) (omega (arith, room, needed-few y c j (tree used ns₀)))))
+      (λ f. rw f)
+
+  module _ (ok : growable n c (tree used ns₀) ≡ true) (some : 0 < used) (inside : used ≤ length cs₀) where
+    enters-first : Entered y n used j c ns₀ (enteringOf y (length ns₀) used need j c) ns₀
+    enters-first = by-bool (Entered y n used j c ns₀ (enteringOf y (length ns₀) used need j c) ns₀) (ltb (nameable (length ns₀)) (used + need))
         (λ f. record {
           p-same = refl;
           c-same = refl;
           j-same = refl;
           on = λ e. absurd (true≢false (sym f ∙ e));
-          off = λ _. rw f (sym (refused y c j (tree used ns₀) (subst (λ (x : ℕ). nameable (length ns₀) < used + x) em (ltb-true (nameable (length ns₀)) (used + more) f))));
+          off = λ _. rw f (sym (refused y c j (tree used ns₀) (ltb-true (nameable (length ns₀)) (used + need) f)));
         })
         (λ f. record {
           p-same = refl;
           c-same = refl;
           j-same = refl;
-          on = λ _. (f, subst (λ (x : ℕ). used + x ≤ nameable (length ns₀)) em (ltb-false (nameable (length ns₀)) (used + more) f), subst (λ (x : ℕ). Sinks n c (mostWord - 1) (length ns₀) (used + x) y (pointOf y c j) j (tree used ns₀) 0 0 (tree used ns₀)) em (sinks-start n c (mostWord - 1) y (pointOf y c j) j (tree used ns₀) more em ok some (omega (arith, inside, nodes-length cs₀))));
+          on = λ _. (
+            f,
+            ltb-false (nameable (length ns₀)) (used + need) f,
+            sinks-start n c (mostWord - 1) y (pointOf y c j) j (tree used ns₀) need refl ok some (omega (arith, inside, nodes-length cs₀)),
+          );
           off = λ e. absurd (true≢false (sym e ∙ f));
         })
 
-    pub enters-start : (m : ℕ) → length cs₀ ≡ m → (w : Way) → w ≡ enteringOf y m used more j c → Entered y n used j c ns₀ w ns₀
-    enters-start m e w ew = subst (λ (x : Way). Entered y n used j c ns₀ x ns₀) (sym (ew ∙ ap (λ (x : ℕ). enteringOf y x used more j c) (sym e ∙ sym (nodes-length cs₀)))) enters-first
+  pub enters-start : (more : ℕ) → more ≡ dryNeeds y c j (tree used ns₀) → growable n c (tree used ns₀) ≡ true → 0 < used → used ≤ length cs₀
+      → (m : ℕ) → length cs₀ ≡ m → (w : Way) → w ≡ enteringOf y m used more j c → Entered y n used j c ns₀ w ns₀
+  enters-start more em ok some inside m e w ew =
+      subst (λ (x : Way). Entered y n used j c ns₀ x ns₀)
+      (sym (ew ∙ ap (λ (x : ℕ). enteringOf y x used more j c) (sym e ∙ sym (nodes-length cs₀)) ∙ ap (λ (x : ℕ). enteringOf y (length ns₀) used x j c) em ∙ uncounted))
+      (enters-first ok some inside)
 
   module _ (w : Way) (cs : List Cell) (k : Entered y n used j c ns₀ w (nodesOf cs)) (b : Bool) (eb : b ≡ notEnded w) where
     abbrev p : List Float

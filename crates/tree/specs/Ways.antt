@@ -2,11 +2,11 @@
 use mathlib.Core.Path.{_≡_}
 use mathlib.Core.List.{List}
 use mathlib.Core.Bool.{Bool, true, false, cond, not}
-use Prim.Native.Nat.{ℕ, _+_, _*_, _<_, _≤_}
+use Prim.Native.Nat.{ℕ, _+_, _*_, _<_, _≤_, _^_}
 use lib.ListN.{length}
-use lib.Dec.{eqb, ltb}
+use lib.Dec.{eqb, ltb, leb}
 use lib.Ieee.{Float}
-use Rattle.laws.specs.Domain.{mostWord}
+use Rattle.laws.specs.Domain.{deepest, mostWord}
 use Rattle.tree_node.specs.declared.Node.{Node}
 use Rattle.tree_node.specs.declared.Leaf.{Leaf}
 use Rattle.tree_node.specs.declared.Leaf.the-variants.{Occupied}
@@ -20,12 +20,21 @@ use Rattle.tree.specs.declared.Way.{Way}
 use Rattle.tree.specs.declared.Split.{Split}
 use Rattle.tree.specs.declared.Step.{Step}
 use Rattle.tree.specs.declared.Inserted.{Inserted}
-use Rattle.tree.specs.Insert.{leafNeeds}
+use Rattle.tree.specs.Insert.{Tree, leafNeeds, needsOf}
 
 -- ---- the dry descent
 
-abbrev pub probingOf : List Float → ℕ → ℕ → Probe
-probingOf y j c = record { p = pointOf y c j; c = c; depth = 0; node = 0; ended = false; more = 0 }
+-- an arena of so many cells, `used` of them in use, has room for whatever a point may need
+abbrev pub ample : ℕ → ℕ → ℕ → Bool
+ample cells used c = leb (used + deepest * 2 ^ c) (nameable cells)
+
+-- the nodes that point j needs, where they might not be there; else they are not counted
+abbrev pub dryNeeds : List Float → ℕ → ℕ → Tree → ℕ
+dryNeeds y c j t = cond (ample (length (t .nodes)) (t .used) c) 0 (needsOf (length (t .nodes)) y c (pointOf y c j) 0 0 (t .nodes))
+
+-- before the root; in an ample arena it ends there
+abbrev pub probingOf : List Float → ℕ → ℕ → ℕ → ℕ → Probe
+probingOf y cells used j c = record { p = pointOf y c j; c = c; depth = 0; node = 0; ended = ample cells used c; more = 0 }
 
 abbrev pub probesOn : Probe → Bool
 probesOn s = not (s .ended)

@@ -1,13 +1,13 @@
-// Insertion of a point: a dry descent counts the nodes that it needs, then the point goes down level by level.
+// Insertion of a point: where its nodes might not be there a dry descent counts them, then the point goes down level by level.
 ghost use mathlib.Core.Path.{_≡_};
 ghost use mathlib.Core.Bool.{true};
 ghost use Prim.Native.Nat.{_+_, _*_, _<_, _≤_};
 ghost use lib.ListN.{length};
 ghost use Rattle.laws.specs.Domain.{mostWord};
-ghost use Rattle.tree_node.specs.Node.{Axes, pointOf};
+ghost use Rattle.tree_node.specs.Node.{Axes};
 ghost use Rattle.tree_node.specs.Arena.{nodesOf, nodeAt};
-ghost use Rattle.tree.specs.Insert.{tree, subdivided, levelAt, needsOf, insertOf, insertion, growable};
-ghost use Rattle.tree.specs.Ways.{LevelAsks, wayTurn};
+ghost use Rattle.tree.specs.Insert.{tree, subdivided, levelAt, insertOf, insertion, growable};
+ghost use Rattle.tree.specs.Ways.{LevelAsks, wayTurn, dryNeeds};
 use crate::Inserted;
 use crate::Probe;
 use crate::Split;
@@ -72,7 +72,7 @@ pub(crate) fn level(cells: &mut [Cell], positions: &[f64], w: Way) -> Step
     r
 }
 
-// How many nodes point j needs.
+// How many nodes point j needs; in an ample arena they are not counted.
 pub(crate) fn needs(
     cells: &[Cell],
     positions: &[f64],
@@ -82,9 +82,9 @@ pub(crate) fn needs(
     c: usize,
 ) -> usize
     requires { ⌜ (Axes c) × (0 < used) × (used ≤ length (now cells)) × (n * c ≤ length (now positions)) × (j < n) × (growable n c (tree used (nodesOf (now cells))) ≡ true) ⌝ }
-    ensures { λ r. ⌜ r ≡ needsOf (length (nodesOf (now (cells .entry)))) (now (positions .entry)) c (pointOf (now (positions .entry)) c j) 0 0 (nodesOf (now (cells .entry))) ⌝ }
+    ensures { λ r. ⌜ r ≡ dryNeeds (now (positions .entry)) c j (tree used (nodesOf (now (cells .entry)))) ⌝ }
 {
-    let mut p = probing(positions, j, c);
+    let mut p = probing(positions, cells.len(), used, j, c);
     while probes_on(p) {
         let v = load(cells, p.node);
         let x = probed(positions, p, v);

@@ -33,7 +33,7 @@ pub struct Probe {
     // how many levels have led to which node
     pub depth: usize,
     pub node: usize,
-    // whether a leaf has been reached, and how many nodes it needs then
+    // whether it has ended, and how many nodes are needed where it reached a leaf
     pub ended: bool,
     pub more: usize,
 }

@@ -5,7 +5,7 @@ ghost use lib.ListN.{length};
 ghost use Rattle.laws.specs.Domain.{deepest, mostWord};
 ghost use Rattle.tree_node.specs.Node.{Axes};
 ghost use Rattle.tree.specs.Insert.{splitsOf, leafNeeds};
-ghost use Rattle.tree.specs.Ways.{LeafIn, MetAsks, probingOf, probesOn, probedOf, metOf, splitsOn, childOn, childPlace, madeOf, steppedOf, enteringOf, notEnded, sunkOf, answered};
+ghost use Rattle.tree.specs.Ways.{LeafIn, MetAsks, ample, probingOf, probesOn, probedOf, metOf, splitsOn, childOn, childPlace, madeOf, steppedOf, enteringOf, notEnded, sunkOf, answered};
 use crate::Inserted;
 use crate::Probe;
 use crate::Split;
@@ -49,18 +49,27 @@ fn splits(z0: [f64; 3], h0: [f64; 3], q: [f64; 3], p: [f64; 3], c: usize, depth:
 
 // ---- the dry descent
 
-// Before the root.
-pub(crate) fn probing(positions: &[f64], j: u32, c: usize) -> Probe
-    requires { ⌜ (Axes c) × (j * c + c ≤ length (now positions)) ⌝ }
-    ensures { λ r. ⌜ r ≡ probingOf (now (positions .entry)) j c ⌝ }
+// Whether an arena of so many cells has room for whatever a point may need.
+fn is_ample(cells: usize, used: usize, c: usize) -> bool
+    requires { ⌜ (Axes c) × (used + deepest * 2 ^ c < 2 ^ 64) ⌝ }
+    ensures { λ r. ⌜ r ≡ ample cells used c ⌝ }
+{
+    used + DEEPEST * (1 << c) <= nameable_of(cells)
+}
+
+// Before the root. In an ample arena it ends there.
+pub(crate) fn probing(positions: &[f64], cells: usize, used: usize, j: u32, c: usize) -> Probe
+    requires { ⌜ (Axes c) × (j * c + c ≤ length (now positions)) × (used + deepest * 2 ^ c < 2 ^ 64) ⌝ }
+    ensures { λ r. ⌜ r ≡ probingOf (now (positions .entry)) cells used j c ⌝ }
 {
     let p = point(positions, j as usize, c);
+    let ended = is_ample(cells, used, c);
     Probe {
         p,
         c,
         depth: 0,
         node: 0,
-        ended: false,
+        ended,
         more: 0,
     }
 }

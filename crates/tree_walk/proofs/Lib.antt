@@ -1,4 +1,5 @@
 pub mod Shift
+pub mod Turned
 pub mod Fuel
 pub mod Longer
 pub mod Walked

@@ -89,11 +89,33 @@ fn opened(stack: &mut [u32], levels: usize, s: Spot, f: u32, e: u32) -> Spot
     standing(a, f, e, l)
 }
 
-// A turn at the cell v, with 32 levels. The two are apart, so that each has one caller and becomes part of it.
+// A turn at the cell v, with 32 levels, in two components: their number stands in the code, so that nothing asks for it.
+fn flat_turn(stack: &mut [u32; 64], v: Cell, s: Spot, eye: Eye) -> Spot
+    requires { ⌜ (eye .c ≡ 2) × (s .at < s .end) × (s .level ≤ 32) × (v .first + 4 ≤ mostWord) ⌝ }
+    ensures { λ r. ⌜ (r ≡ turnedOf 32 eye v (now (stack .entry)) s) × (now (stack .exit) ≡ stackedOf 32 eye v (now (stack .entry)) s) ⌝ }
+{
+    let n = read_node(v);
+    let p = eye.p;
+    let a = s.acc;
+    let k = kind(n, eye.q, p, eye.theta2, 2);
+    if k == 0 {
+        return onward(stack, 32, s, a);
+    }
+    if k == 1 {
+        let b = body(n, p, 2, a);
+        return onward(stack, 32, s, b);
+    }
+    opened(stack, 32, s, v.first, v.first + 4)
+}
+
+// A turn at the cell v, with 32 levels. The three are apart, so that each has one caller and becomes part of it.
 pub(crate) fn short_turn(stack: &mut [u32; 64], v: Cell, s: Spot, eye: Eye) -> Spot
     requires { ⌜ (Axes (eye .c)) × (s .at < s .end) × (s .level ≤ 32) × (v .first + 2 ^ (eye .c) ≤ mostWord) ⌝ }
     ensures { λ r. ⌜ (r ≡ turnedOf 32 eye v (now (stack .entry)) s) × (now (stack .exit) ≡ stackedOf 32 eye v (now (stack .entry)) s) ⌝ }
 {
+    if eye.c == 2 {
+        return flat_turn(stack, v, s, eye);
+    }
     let n = read_node(v);
     let p = eye.p;
     let a = s.acc;

@@ -1,98 +1,72 @@
 //! The same work in plain Rust over arrays, written for the contests: no tests of what it is given, no budget, no arena to
 //! run out of. By the rules of the scope paper, so that the bits are the same.
 
+pub mod apart;
+pub mod blocks;
+pub mod pairs;
+pub mod tree;
+
 use crate::contest::Contestant;
 use crate::library::Run;
-use oracle::preparation::Table;
+use std::array::from_fn;
 
-/// The components of a map.
-const C: usize = 2;
-/// A leaf this deep, or deeper, keeps its first point.
-const DEEPEST: usize = 50;
-/// The padding of the box, and the least half of its span.
-const PADDING: f64 = 1e-12;
-
-/// A cell of the tree.
-#[derive(Clone, Copy, Default)]
-struct Node {
-    mass: [f64; C],
-    count: u32,
-    /// The first child; 0 where there is none.
-    first: u32,
-    /// The longest side, squared.
-    squared: f64,
-    centre: [f64; C],
-    half: [f64; C],
-    /// The point and one; 0 where there is none.
-    leaf: u32,
+/// The iterations by the tree.
+pub fn trees(run: &Run) -> Vec<Box<dyn Contestant>> {
+    match run.settings.c {
+        1 => trees_of::<1>(run),
+        2 => trees_of::<2>(run),
+        _ => trees_of::<3>(run),
+    }
 }
 
-impl Node {
-    fn new(centre: [f64; C], half: [f64; C]) -> Node {
-        let width = (2.0 * half[0]).max(2.0 * half[1]);
-        Node {
-            centre,
-            half,
-            squared: width * width,
-            ..Node::default()
-        }
-    }
+fn trees_of<const C: usize>(run: &Run) -> Vec<Box<dyn Contestant>> {
+    vec![
+        Box::new(tree::Tree::<C, false>::new(run)),
+        Box::new(tree::Tree::<C, true>::new(run)),
+        Box::new(apart::Tree::<C>::new(run)),
+    ]
+}
 
-    fn absorb(&mut self, p: [f64; C]) {
-        self.count += 1;
-        let count = f64::from(self.count);
-        for (mass, v) in self.mass.iter_mut().zip(p) {
-            *mass = *mass * ((count - 1.0) / count) + v / count;
-        }
-    }
-
-    fn corner(&self, p: [f64; C]) -> usize {
-        usize::from(p[0] > self.centre[0]) + 2 * usize::from(p[1] > self.centre[1])
-    }
-
-    fn child(&self, corner: usize) -> Node {
-        let half = self.half.map(|half| half / 2.0);
-        let centre = [0, 1].map(|d| {
-            if corner >> d & 1 == 1 {
-                self.centre[d] + half[d]
-            } else {
-                self.centre[d] - half[d]
-            }
-        });
-        Node::new(centre, half)
-    }
+/// The iterations over all pairs, of maps of two components.
+pub fn all_pairs(run: &Run) -> Vec<Box<dyn Contestant>> {
+    vec![
+        Box::new(pairs::Exact::<2>::new(run)),
+        Box::new(blocks::Exact::<2>::new(run)),
+    ]
 }
 
 /// What moves: positions, increments, gains.
 #[derive(Clone)]
-struct Moving {
-    positions: Vec<[f64; C]>,
+pub struct Moving<const C: usize> {
+    pub positions: Vec<[f64; C]>,
     increments: Vec<[f64; C]>,
     gains: Vec<[f64; C]>,
 }
 
-impl Moving {
-    fn of(run: &Run) -> Moving {
-        let pairs = |values: &[f64]| values.chunks_exact(C).map(|pair| [pair[0], pair[1]]).collect();
+impl<const C: usize> Moving<C> {
+    fn of(run: &Run) -> Moving<C> {
+        let rows = |values: &[f64]| values.chunks_exact(C).map(|row| from_fn(|d| row[d])).collect();
         Moving {
-            positions: pairs(&run.areas.positions),
-            increments: pairs(&run.areas.increments),
-            gains: pairs(&run.areas.gains),
+            positions: rows(&run.areas.positions),
+            increments: rows(&run.areas.increments),
+            gains: rows(&run.areas.gains),
         }
     }
 
     fn step(&mut self, gradient: &[[f64; C]], momentum: f64, rate: f64) {
         let mut sums = [0.0; C];
-        for (i, g) in gradient.iter().enumerate() {
+        let rows = self.positions.iter_mut().zip(&mut self.increments).zip(&mut self.gains);
+        for (((position, increment), gain), g) in rows.zip(gradient) {
             for d in 0..C {
-                let old = self.increments[i][d];
-                let gain = self.gains[i][d];
-                let gain = if g[d] * old > 0.0 { gain * 0.8 } else { gain + 0.2 };
-                let gain = if gain < 0.01 { 0.01 } else { gain };
-                self.gains[i][d] = gain;
-                self.increments[i][d] = momentum * old - (rate * gain) * g[d];
-                self.positions[i][d] += self.increments[i][d];
-                sums[d] += self.positions[i][d];
+                let grown = if g[d] * increment[d] > 0.0 {
+                    gain[d] * 0.8
+                } else {
+                    gain[d] + 0.2
+                };
+                gain[d] = if grown < 0.01 { 0.01 } else { grown };
+                increment[d] = momentum * increment[d] - (rate * gain[d]) * g[d];
+                position[d] += increment[d];
+                sums[d] += position[d];
             }
         }
         let means = sums.map(|sum| sum / gradient.len() as f64);
@@ -113,275 +87,94 @@ fn pace(iterations: u64) -> (f64, f64) {
     }
 }
 
-/// One iteration by the tree.
-pub struct Tree {
-    from: Moving,
-    moving: Moving,
-    nodes: Vec<Node>,
-    lists: Vec<Vec<(u32, f64)>>,
-    squared_angle: f64,
-    pace: (f64, f64),
-    rate: f64,
+/// How far apart two points are in each component, and the square of the distance.
+#[inline(always)]
+fn apart<const C: usize>(p: &[f64; C], q: &[f64; C]) -> ([f64; C], f64) {
+    let apart: [f64; C] = from_fn(|d| p[d] - q[d]);
+    let squared = (1..C).fold(apart[0] * apart[0], |sum, d| sum + apart[d] * apart[d]);
+    (apart, squared)
 }
 
-impl Tree {
-    pub fn new(run: &Run) -> Tree {
-        let (areas, settings) = (&run.areas, &run.settings);
-        let link = |place: u32| (areas.indices[place as usize], areas.affinities[place as usize]);
-        let list = |i: usize| (areas.offsets[i]..areas.offsets[i + 1]).map(link).collect();
-        Tree {
-            from: Moving::of(run),
-            moving: Moving::of(run),
-            nodes: Vec::new(),
-            lists: (0..settings.n).map(list).collect(),
-            squared_angle: settings.angle * settings.angle,
-            pace: pace(run.record.iterations()),
-            rate: settings.rate,
+/// The weights of the listed pairs.
+pub struct Lists {
+    offsets: Vec<u32>,
+    indices: Vec<u32>,
+    weights: Vec<f64>,
+}
+
+impl Lists {
+    fn of(run: &Run) -> Lists {
+        let areas = &run.areas;
+        let links = areas.offsets[run.settings.n] as usize;
+        Lists {
+            offsets: areas.offsets.clone(),
+            indices: areas.indices[..links].to_vec(),
+            weights: areas.affinities[..links].to_vec(),
         }
     }
 
-    fn plant(&mut self) {
-        let (mut low, mut high) = ([f64::INFINITY; C], [f64::NEG_INFINITY; C]);
-        for p in &self.moving.positions {
-            for d in 0..C {
-                low[d] = if p[d] < low[d] { p[d] } else { low[d] };
-                high[d] = if p[d] > high[d] { p[d] } else { high[d] };
-            }
-        }
-        let half = [0, 1].map(|d| ((high[d] - low[d]) / 2.0).max(PADDING) + PADDING);
-        self.nodes.clear();
-        self.nodes
-            .push(Node::new([0, 1].map(|d| (low[d] + high[d]) / 2.0), half));
-    }
-
-    fn insert(&mut self, j: usize) {
-        let p = self.moving.positions[j];
-        let mut i = 0;
-        for depth in 0.. {
-            self.nodes[i].absorb(p);
-            if self.nodes[i].first == 0 {
-                let old = self.nodes[i].leaf;
-                if old == 0 {
-                    self.nodes[i].leaf = j as u32 + 1;
-                    return;
-                }
-                if depth >= DEEPEST {
-                    return;
-                }
-                self.split(i, old);
-            }
-            i = self.nodes[i].first as usize + self.nodes[i].corner(p);
-        }
-    }
-
-    /// A leaf gets its children, one of which takes its point.
-    fn split(&mut self, i: usize, old: u32) {
-        let node = self.nodes[i];
-        let first = self.nodes.len();
-        self.nodes.extend((0..4).map(|corner| node.child(corner)));
-        let p = self.moving.positions[old as usize - 1];
-        let child = &mut self.nodes[first + node.corner(p)];
-        child.absorb(p);
-        child.leaf = old;
-        self.nodes[i].first = first as u32;
-        self.nodes[i].leaf = 0;
-    }
-
-    fn walk(&self, i: usize, p: [f64; C], j: u32, force: &mut [f64; C], share: &mut f64) {
-        let node = &self.nodes[i];
-        if node.count == 0 || (node.first == 0 && node.leaf == j && node.count == 1) {
-            return;
-        }
-        let away = [p[0] - node.mass[0], p[1] - node.mass[1]];
-        let squared = away[0] * away[0] + away[1] * away[1];
-        if node.first == 0 || node.squared < self.squared_angle * squared {
-            let inverse = 1.0 / (1.0 + squared);
-            let part = f64::from(node.count) * inverse;
-            *share += part;
-            let part = part * inverse;
-            force[0] += part * away[0];
-            force[1] += part * away[1];
-            return;
-        }
-        let first = node.first as usize;
-        for corner in 0..4 {
-            self.walk(first + corner, p, j, force, share);
-        }
-    }
-
-    fn pull(&self, i: usize) -> [f64; C] {
-        let (p, exaggeration) = (self.moving.positions[i], self.pace.0);
+    /// What the listed frames do to frame i.
+    fn pull<const C: usize>(&self, i: usize, positions: &[[f64; C]], exaggeration: f64) -> [f64; C] {
+        let links = self.offsets[i] as usize..self.offsets[i + 1] as usize;
+        let p = positions[i];
         let mut pulled = [0.0; C];
-        for &(j, weight) in &self.lists[i] {
-            let q = self.moving.positions[j as usize];
-            let apart = [p[0] - q[0], p[1] - q[1]];
-            let pull = exaggeration * weight / (1.0 + (apart[0] * apart[0] + apart[1] * apart[1]));
-            pulled[0] += pull * apart[0];
-            pulled[1] += pull * apart[1];
+        for (&j, weight) in self.indices[links.clone()].iter().zip(&self.weights[links]) {
+            let (away, squared) = apart(&p, &positions[j as usize]);
+            let pull = exaggeration * weight / (1.0 + squared);
+            for d in 0..C {
+                pulled[d] += pull * away[d];
+            }
         }
         pulled
     }
-
-    fn gradient(&self) -> Vec<[f64; C]> {
-        let mut z = 0.0;
-        let mut forces = Vec::with_capacity(self.lists.len());
-        for (i, p) in self.moving.positions.iter().enumerate() {
-            let (mut force, mut share) = ([0.0; C], 0.0);
-            self.walk(0, *p, i as u32 + 1, &mut force, &mut share);
-            z += share;
-            forces.push((self.pull(i), force));
-        }
-        let z = z.max(f64::EPSILON);
-        forces
-            .iter()
-            .map(|(pull, force)| [0, 1].map(|d| 4.0 * (pull[d] - force[d] / z)))
-            .collect()
-    }
 }
 
-impl Contestant for Tree {
-    fn name(&self) -> &'static str {
-        "plain Rust over arrays"
-    }
-
-    fn reset(&mut self) {
-        self.moving.clone_from(&self.from);
-    }
-
-    fn work(&mut self) {
-        self.plant();
-        for j in 0..self.lists.len() {
-            self.insert(j);
-        }
-        let gradient = self.gradient();
-        self.moving.step(&gradient, self.pace.1, self.rate);
-    }
-
-    fn result(&self) -> Option<Vec<f64>> {
-        Some(self.moving.positions.concat())
-    }
+/// What comes of the pulls and of what the tree does to each point.
+fn gradient<const C: usize>(pulls: &[[f64; C]], forces: &[([f64; C], f64)]) -> Vec<[f64; C]> {
+    let z = forces.iter().fold(0.0, |sum, force| sum + force.1).max(f64::EPSILON);
+    let row = |(pull, force): (&[f64; C], &([f64; C], f64))| from_fn(|d| 4.0 * (pull[d] - force.0[d] / z));
+    pulls.iter().zip(forces).map(row).collect()
 }
 
-/// One iteration over all pairs.
-pub struct Exact {
-    from: Moving,
-    moving: Moving,
-    affinities: Vec<f64>,
-    pace: (f64, f64),
-    rate: f64,
-}
-
-impl Exact {
-    pub fn new(run: &Run) -> Exact {
-        Exact {
-            from: Moving::of(run),
-            moving: Moving::of(run),
-            affinities: run.areas.affinities.clone(),
-            pace: pace(run.record.iterations()),
-            rate: run.settings.rate,
+/// The middle of the box around all points, and half its width.
+fn bounds<const C: usize>(positions: &[[f64; C]]) -> ([f64; C], [f64; C]) {
+    /// The padding of the box, and the least half of its span.
+    const PADDING: f64 = 1e-12;
+    let (mut low, mut high) = ([f64::INFINITY; C], [f64::NEG_INFINITY; C]);
+    for p in positions {
+        for d in 0..C {
+            low[d] = if p[d] < low[d] { p[d] } else { low[d] };
+            high[d] = if p[d] > high[d] { p[d] } else { high[d] };
         }
     }
-
-    fn numerator(&self, i: usize, j: usize) -> f64 {
-        if i == j {
-            return 0.0;
-        }
-        let (p, q) = (self.moving.positions[i], self.moving.positions[j]);
-        let apart = [p[0] - q[0], p[1] - q[1]];
-        1.0 / (1.0 + (apart[0] * apart[0] + apart[1] * apart[1]))
-    }
-
-    fn row(&self, i: usize, total: f64) -> [f64; C] {
-        let positions = &self.moving.positions;
-        let n = positions.len();
-        let (mut sum, mut along) = (0.0, [0.0; C]);
-        for (j, p) in positions.iter().enumerate() {
-            let numerator = self.numerator(i, j);
-            let q = (numerator / total).max(f64::EPSILON);
-            let weight = (self.affinities[i * n + j] * self.pace.0 - q) * numerator;
-            sum += weight;
-            along[0] += weight * p[0];
-            along[1] += weight * p[1];
-        }
-        [0, 1].map(|d| (positions[i][d] * sum - along[d]) * 4.0)
-    }
+    (
+        from_fn(|d| (low[d] + high[d]) / 2.0),
+        from_fn(|d| ((high[d] - low[d]) / 2.0).max(PADDING) + PADDING),
+    )
 }
 
-impl Contestant for Exact {
-    fn name(&self) -> &'static str {
-        "plain Rust over arrays"
-    }
+/// A leaf this deep, or deeper, keeps its first point.
+const DEEPEST: usize = 50;
 
-    fn reset(&mut self) {
-        self.moving.clone_from(&self.from);
-    }
-
-    fn work(&mut self) {
-        let n = self.moving.positions.len();
-        let mut total = 0.0;
-        for i in 0..n {
-            for j in 0..n {
-                total += self.numerator(i, j);
-            }
-        }
-        let gradient: Vec<[f64; C]> = (0..n).map(|i| self.row(i, total)).collect();
-        self.moving.step(&gradient, self.pace.1, self.rate);
-    }
-
-    fn result(&self) -> Option<Vec<f64>> {
-        Some(self.moving.positions.concat())
-    }
+/// The square of a cell's longest side.
+fn squared_width<const C: usize>(half: &[f64; C]) -> f64 {
+    let width = half.iter().fold(0.0, |widest: f64, half| widest.max(2.0 * half));
+    width * width
 }
 
-/// A preparation by the independent implementation of the rules, which is not written for speed.
-pub struct Preparation {
-    tree: bool,
-    n: usize,
-    perplexity: f64,
-    table: Vec<f64>,
-    affinities: Vec<f64>,
-    places: usize,
+/// Which corner of a cell a point lies in: one bit a component, and a tie goes low.
+#[inline(always)]
+fn corner<const C: usize>(p: &[f64; C], centre: &[f64; C]) -> usize {
+    (0..C).fold(0, |sum, d| sum | usize::from(p[d] > centre[d]) << d)
 }
 
-impl Preparation {
-    pub fn new(run: &Run) -> Preparation {
-        Preparation {
-            tree: run.settings.method == brothanchor::Method::BarnesHut,
-            n: run.settings.n,
-            perplexity: run.settings.perplexity,
-            table: run.table.clone(),
-            affinities: Vec::new(),
-            places: run.areas.affinities.len(),
-        }
-    }
-}
-
-impl Contestant for Preparation {
-    fn name(&self) -> &'static str {
-        "the rules in plain Rust"
-    }
-
-    fn reset(&mut self) {
-        self.affinities.clear();
-    }
-
-    fn work(&mut self) {
-        let table = Table {
-            n: self.n,
-            f: 6,
-            values: &self.table,
-        };
-        self.affinities = if self.tree {
-            let lists = table.lists(self.perplexity);
-            lists.iter().flatten().map(|&(_, weight)| weight).collect()
+/// The middle of a corner's cell, by the middle of the whole and half the cell's width.
+fn middle_of<const C: usize>(corner: usize, centre: &[f64; C], half: &[f64; C]) -> [f64; C] {
+    from_fn(|d| {
+        if corner >> d & 1 == 1 {
+            centre[d] + half[d]
         } else {
-            table.exact(self.perplexity)
-        };
-    }
-
-    fn result(&self) -> Option<Vec<f64>> {
-        let mut affinities = self.affinities.clone();
-        affinities.resize(self.places, 0.0);
-        Some(affinities)
-    }
+            centre[d] - half[d]
+        }
+    })
 }

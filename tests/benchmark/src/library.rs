@@ -3,7 +3,8 @@
 use crate::contest::Contestant;
 use crate::frames;
 use brothanchor::{
-    divergence, park, parked, prepare, scatter, sizes, take_out, unpark, work, Areas, Method, Record, Rows, Settings,
+    divergence, park, parked, prepare, scatter, sizes, take_out, unpark, work, Areas, Method, Node, Record, Rows,
+    Settings,
 };
 
 /// A run at the start of an iteration.
@@ -13,11 +14,13 @@ pub struct Run {
     pub start: Vec<f64>,
     pub record: Record,
     pub areas: Areas,
+    /// Whether what an iteration fills anew is zeroed before each round.
+    pub cleared: bool,
 }
 
-/// A run of n frames after so many iterations.
-pub fn prepared(method: Method, n: usize, iterations: usize) -> Run {
-    let settings = Settings {
+/// Settings of the contests: n frames of six features on a map of two components.
+pub fn settings(method: Method, n: usize) -> Settings {
+    Settings {
         n,
         f: 6,
         c: 2,
@@ -27,22 +30,28 @@ pub fn prepared(method: Method, n: usize, iterations: usize) -> Run {
         iterations: 1000,
         angle: 0.5,
         minimum: 0.0,
-    };
+    }
+}
+
+/// A run after so many iterations.
+pub fn prepared(settings: Settings, iterations: usize) -> Run {
+    let (n, c) = (settings.n, settings.c);
     let sizes = sizes(&settings).expect("good settings");
-    let mut areas = Areas::new(&sizes, 10 * n);
+    let mut areas = Areas::new(&sizes, (5 << c) * n);
     let table = frames(n);
-    let mut start = vec![0.0; 2 * n];
-    scatter(&mut start, n as u32, 2, 1).expect("room for all");
+    let mut start = vec![0.0; c * n];
+    scatter(&mut start, n as u32, c as u32, 1).expect("room for all");
     let mut record =
         prepare(&settings.words(), &table, &start, &mut areas, &mut Rows::new(&sizes)).expect("a good run");
     work(&mut record, &mut areas, (iterations * settings.iteration()) as u32);
-    assert_eq!(record.iterations(), iterations as u64, "ten nodes a frame are enough");
+    assert_eq!(record.iterations(), iterations as u64, "the arena is long enough");
     Run {
         settings,
         table,
         start,
         record,
         areas,
+        cleared: false,
     }
 }
 
@@ -51,7 +60,8 @@ pub struct Working {
     from: (Record, [Vec<f64>; 3]),
     record: Record,
     areas: Areas,
-    units: u32,
+    iteration: u32,
+    cleared: bool,
 }
 
 impl Working {
@@ -64,8 +74,15 @@ impl Working {
             ),
             record: run.record,
             areas,
-            units: run.settings.iteration() as u32,
+            iteration: run.settings.iteration() as u32,
+            cleared: run.cleared,
         }
+    }
+
+    /// So many units in one call.
+    pub fn units(&mut self, budget: u32) {
+        let worked = work(&mut self.record, &mut self.areas, budget);
+        assert_eq!(worked.units, u64::from(budget));
     }
 }
 
@@ -80,11 +97,14 @@ impl Contestant for Working {
         self.areas.positions.copy_from_slice(positions);
         self.areas.increments.copy_from_slice(increments);
         self.areas.gains.copy_from_slice(gains);
+        if self.cleared {
+            self.areas.forces.fill(0.0);
+            self.areas.nodes.fill(Node::default());
+        }
     }
 
     fn work(&mut self) {
-        let worked = work(&mut self.record, &mut self.areas, self.units);
-        assert_eq!(worked.units, u64::from(self.units));
+        self.units(self.iteration);
     }
 
     fn result(&self) -> Option<Vec<f64>> {

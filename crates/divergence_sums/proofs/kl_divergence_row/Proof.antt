@@ -1,6 +1,5 @@
 use Rattle.divergence_sums.specs.Sums.{klStep, klRow}
-use Rattle.divergence_sums.proofs.Parts.{loop-on}
-use Rattle.laws.proofs.Loops.{Loops, loop-start, loop-done}
+use Rattle.laws.proofs.Loops.{Loops, loop-start, loop-on, loop-done}
 use Prim.Native.Nat.{_-_}
 use borrow.Author.Needs.{needs}
 use native.Mathlib.Omega.{arith}

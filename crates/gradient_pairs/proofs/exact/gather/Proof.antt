@@ -1,6 +1,6 @@
-use Rattle.laws.proofs.Numbers.{row-in}
-use Rattle.gradient_pairs.specs.Exact.{pullBy, pushAt, pullsOf}
-use Rattle.laws.proofs.Loops.{Loops, loop-start, loop-more, loop-done}
+-- Row by parts: each takes the loop on by as many turns as it has frames.
+use Rattle.gradient_pairs.specs.Exact.{pullStep, pullsOf}
+use Rattle.laws.proofs.Loops.{Loops, loop-start, loop-on, loop-done}
 use Prim.Native.Nat.{_-_}
 use borrow.Author.Needs.{needs}
 use native.Mathlib.Omega.{arith}
@@ -8,7 +8,7 @@ use Rattle.gradient_pairs.proofs.exact.gather.Statement.{statement}
 use Rattle.gradient_pairs.proofs.exact.gather.Tie as tie
 
 abbrev Inv-loop : tie.InvT-loop
-Inv-loop positions affinities exaggeration total n c i x₀ j₀ x j = Loops (λ j x. pullBy (pushAt positions affinities exaggeration total n c i j) positions c j x) n x₀ j x
+Inv-loop positions affinities exaggeration total n c i x₀ j₀ x j = Loops (pullStep positions affinities exaggeration total n c i) n x₀ j x
 
 abbrev μ-loop : tie.MeasureT-loop
 μ-loop positions affinities exaggeration total n c i x₀ j₀ x j = n - j
@@ -16,11 +16,11 @@ abbrev μ-loop : tie.MeasureT-loop
 loop-holds : tie.Need-loop-holds Inv-loop μ-loop
 loop-holds c = loop-start _ _ _
 
-push-at-requires : tie.Need-push-at-requires Inv-loop μ-loop
-push-at-requires c κs = search needs
+together-requires : tie.Need-together-requires Inv-loop μ-loop
+together-requires c κs = search needs
 
-add-frame-requires : tie.Need-add-frame-requires Inv-loop μ-loop
-add-frame-requires c κs = (c .before .before .before .before .before .pre .0, row-in _ (c .before .before .before .before .before .args .n) (c .before .before .before .before .before .args .c) _ (c .before .loop-test .taken) (c .before .before .before .before .before .pre .2))
+gather-some-requires : tie.Need-gather-some-requires Inv-loop μ-loop
+gather-some-requires c κs = search needs
 
 add-j : tie.Need-add-j Inv-loop μ-loop
 add-j c = search needs
@@ -29,7 +29,7 @@ loop-less : tie.Need-loop-less Inv-loop μ-loop
 loop-less c = search needs
 
 loop-again : tie.Need-loop-again Inv-loop μ-loop
-loop-again c = rw (c .add-frame .ensures, c .before .push-at .ensures) (loop-more (c .before .before .before .loop .inv) (omega arith))
+loop-again c = rw (c .gather-some .ensures) (loop-on _ (c .before .before .before .loop .inv) (c .before .together .ensures .2))
 
 returns : tie.Need-returns Inv-loop μ-loop
 unfolding pullsOf
@@ -42,8 +42,8 @@ gather-spec =
     Inv-loop
     μ-loop
     loop-holds
-    push-at-requires
-    add-frame-requires
+    together-requires
+    gather-some-requires
     add-j
     loop-less
     loop-again

@@ -43,9 +43,10 @@ use denote.Struct.Laws as LL
 use Prim.Native.Nat.{_*_, _<_, _≤_}
 use Rattle.laws.proofs.Numbers.{row-in}
 use Rattle.tree_node.specs.Arena.{nodesOf}
-use Rattle.tree_node.specs.Node.{Axes, pointOf}
-use Rattle.tree.proofs.Descends.{Probes, probesLeft, probes-start, probes-in, probes-asks, probes-next, probes-end}
-use Rattle.tree.specs.Insert.{tree, needsOf, growable}
+use Rattle.tree_node.specs.Node.{Axes}
+use Rattle.tree.proofs.Descends.{Probes, probesLeft, probing-asks, probes-start, probes-in, probes-asks, probes-next, probes-end}
+use Rattle.tree.specs.Insert.{tree, growable}
+use Rattle.tree.specs.Ways.{dryNeeds}
 use lib.ListN.{length}
 use mathlib.Core.Bool.{true}
 use mathlib.Core.Path.{_≡_}
@@ -109,7 +110,7 @@ module _ {M : Type 1} (𝓤 : URA M) (H : Heap 𝓤) (A : Atoms 𝓤) (W : Given
   typed-Probe : (v : Probe) → IsProbe v → T (hasTy Probe″.mir (val-Probe v)) × WT (val-Probe v)
   typed-Probe v g = LL.lawful Probe′.the-type Probe″.the-laws 𝓤 H A W .typed v _ g .0
 
-  exits : (res : ℕ) → res < 2 ^ 64 → res ≡ needsOf (length (nodesOf cells)) positions c (pointOf positions c j) 0 0 (nodesOf cells) → ent 𝓤 (⋆ 𝓤 H A (‵ (Shr Cell′.the-row s-cells cells) ∷ ‵ (Tok s-cells) ∷ ‵ (Shr f64 s-positions positions) ∷ ‵ (Tok s-positions) ∷ [])) (Post (vint w64 res))
+  exits : (res : ℕ) → res < 2 ^ 64 → res ≡ dryNeeds positions c j (tree used (nodesOf cells)) → ent 𝓤 (⋆ 𝓤 H A (‵ (Shr Cell′.the-row s-cells cells) ∷ ‵ (Tok s-cells) ∷ ‵ (Shr f64 s-positions positions) ∷ ‵ (Tok s-positions) ∷ [])) (Post (vint w64 res))
   exits res is e =
       qed W (‵ (Shr Cell′.the-row s-cells cells) ∷ ‵ (Tok s-cells) ∷ ‵ (Shr f64 s-positions positions) ∷ ‵ (Tok s-positions) ∷ []) ∵
       suffices ! _ (ends-at 𝓤 H A f.ended stayed (f.clauses 𝓤 H A mem run-of) W (((s-cells .life, (s-positions .life, tt)), (s-cells .share, (s-positions .share, tt)), tt, x, at), tt) (vint w64 res) res (tt, (tt, (tt, (tt, (tt, (tt, tt)))))) (tt, (tt, (tt, (tt, (tt, (tt, tt))))))) $ says ! e $
@@ -144,54 +145,56 @@ module _ {M : Type 1} (𝓤 : URA M) (H : Heap 𝓤) (A : Atoms 𝓤) (W : Given
     abbrev τ : ℕ → Ty
     τ k = type-of k pieces.locals
 
-    module _ (l0 l1 l2 l3 l4 l5 l6 l7 l8 l9 l10 l11 : ℕ) where
+    module _ (l0 l1 l2 l3 l4 l5 l6 l7 l8 l9 l10 l11 l12 : ℕ) where
       abbrev En : Env 𝓤 H
-      En = (τ 0, l0) ∷ (τ 1, l1) ∷ (τ 2, l2) ∷ (τ 3, l3) ∷ (τ 4, l4) ∷ (τ 5, l5) ∷ (τ 6, l6) ∷ (τ 7, l7) ∷ (τ 8, l8) ∷ (τ 9, l9) ∷ (τ 10, l10) ∷ (τ 11, l11) ∷ []
+      En = (τ 0, l0) ∷ (τ 1, l1) ∷ (τ 2, l2) ∷ (τ 3, l3) ∷ (τ 4, l4) ∷ (τ 5, l5) ∷ (τ 6, l6) ∷ (τ 7, l7) ∷ (τ 8, l8) ∷ (τ 9, l9) ∷ (τ 10, l10) ∷ (τ 11, l11) ∷ (τ 12, l12) ∷ []
 
       abbrev At : State → List (Item 𝓤)
       At s = ‵ (Shr Cell′.the-row s-cells cells) ∷ ‵ (Tok s-cells) ∷ ‵ (Shr f64 s-positions positions) ∷ ‵ (Tok s-positions)
-          ∷ ‵ (froom (τ 11) l11 0) ∷ ‵ (fdies (τ 11) l11) ∷ ‵ (froom (τ 10) l10 0) ∷ ‵ (fdies (τ 10) l10) ∷ ‵ (froom (τ 9) l9 0) ∷ ‵ (fdies (τ 9) l9) ∷ ‵ (froom (τ 8) l8 0) ∷ ‵ (fdies (τ 8) l8) ∷ ‵ (fat fullShare (τ 7) l7 0 (val-Probe (s .g))) ∷ ‵ (fdies (τ 7) l7) ∷ ‵ (fat fullShare (τ 6) l6 0 (vint w64 c)) ∷ ‵ (fdies (τ 6) l6) ∷ ‵ (fat fullShare (τ 5) l5 0 (vint w32 j)) ∷ ‵ (fdies (τ 5) l5) ∷ ‵ (fat fullShare (τ 4) l4 0 (vint w64 used)) ∷ ‵ (fdies (τ 4) l4) ∷ ‵ (fat fullShare (τ 3) l3 0 (vint w64 n)) ∷ ‵ (fdies (τ 3) l3) ∷ ‵ (fat fullShare (τ 2) l2 0 (word s-positions)) ∷ ‵ (fdies (τ 2) l2) ∷ ‵ (fat fullShare (τ 1) l1 0 (word s-cells)) ∷ ‵ (fdies (τ 1) l1) ∷ ‵ (froom (τ 0) l0 0) ∷ ‵ (fdies (τ 0) l0) ∷ []
+          ∷ ‵ (froom (τ 12) l12 0) ∷ ‵ (fdies (τ 12) l12) ∷ ‵ (froom (τ 11) l11 0) ∷ ‵ (fdies (τ 11) l11) ∷ ‵ (froom (τ 10) l10 0) ∷ ‵ (fdies (τ 10) l10) ∷ ‵ (froom (τ 9) l9 0) ∷ ‵ (fdies (τ 9) l9) ∷ ‵ (froom (τ 8) l8 0) ∷ ‵ (fdies (τ 8) l8) ∷ ‵ (fat fullShare (τ 7) l7 0 (val-Probe (s .g))) ∷ ‵ (fdies (τ 7) l7) ∷ ‵ (fat fullShare (τ 6) l6 0 (vint w64 c)) ∷ ‵ (fdies (τ 6) l6) ∷ ‵ (fat fullShare (τ 5) l5 0 (vint w32 j)) ∷ ‵ (fdies (τ 5) l5) ∷ ‵ (fat fullShare (τ 4) l4 0 (vint w64 used)) ∷ ‵ (fdies (τ 4) l4) ∷ ‵ (fat fullShare (τ 3) l3 0 (vint w64 n)) ∷ ‵ (fdies (τ 3) l3) ∷ ‵ (fat fullShare (τ 2) l2 0 (word s-positions)) ∷ ‵ (fdies (τ 2) l2) ∷ ‵ (fat fullShare (τ 1) l1 0 (word s-cells)) ∷ ‵ (fdies (τ 1) l1) ∷ ‵ (froom (τ 0) l0 0) ∷ ‵ (fdies (τ 0) l0) ∷ []
 
       abbrev Turned : State → Out → SProp 𝓤
-      Turned s = afterTurn 𝓤 H (Below 𝓤 H A Nearer At s) (afterBlock 𝓤 H (afterSeq 𝓤 H (Wp 𝓤 H C Λ En pieces.t-3 (atReturn 𝓤 H En Post)) (atReturn 𝓤 H En Post)))
+      Turned s = afterTurn 𝓤 H (Below 𝓤 H A Nearer At s) (afterBlock 𝓤 H (afterSeq 𝓤 H (Wp 𝓤 H C Λ En pieces.t-4 (atReturn 𝓤 H En Post)) (atReturn 𝓤 H En Post)))
 
       turns : (s : State) → Sq W (At s) (runs C Λ En pieces.turn-1 (anyQ (Turned s)))
       unfolding afterTurn
       turns s =
-          calls-probes-on ! fm mem run-of known-probes-on (s .g) (s .is) (λ _. and-then ! (load ! (from ! (stop !)) (look ! 13 refl)) (no-more !)) (λ r1 e1 is1.
+          calls-probes-on ! fm mem run-of known-probes-on (s .g) (s .is) (λ _. and-then ! (load ! (from ! (stop !)) (look ! 15 refl)) (no-more !)) (λ r1 e1 is1.
           land ! (from ! (stop !)) (init ! 4 refl (tt, tt)) $
           first ! $ branches ! (load ! (from ! (stop !)) (look ! 4 refl))
           (λ yes1. skips ! $ exec ! C Λ En (bodyAfter (bodyAfter pieces.turn-1)) (anyQ (Turned s)) $
-          calls-load-c ! fm mem run-of known-load s-cells cells (s .g .node) (LL.owed Probe′.the-type Probe″.the-laws (s .g) _ (s .is) .1 .1 .1 .0 .1) (probes-in positions n used j c cells ((s .ready) .2) ((s .ready) .3) ((s .ready) .5) (s .g) (s .inv) r1 e1 yes1) (λ _ _. and-then ! (load ! (from ! (stop !)) (look ! 24 refl)) (and-then ! (load ! (from ! (fld ! refl (stop !))) (look-in ! 12 (sub ! 3 refl (whole !)))) (no-more !))) (λ r2 e2 is2.
-          land ! (from ! (stop !)) (init ! 10 refl (typed-Node r2 is2)) $
+          calls-load-c ! fm mem run-of known-load s-cells cells (s .g .node) (LL.owed Probe′.the-type Probe″.the-laws (s .g) _ (s .is) .1 .1 .1 .0 .1) (probes-in positions n used j c cells ((s .ready) .2) ((s .ready) .3) ((s .ready) .5) (s .g) (s .inv) r1 e1 yes1) (λ _ _. and-then ! (load ! (from ! (stop !)) (look ! 26 refl)) (and-then ! (load ! (from ! (fld ! refl (stop !))) (look-in ! 14 (sub ! 3 refl (whole !)))) (no-more !))) (λ r2 e2 is2.
+          land ! (from ! (stop !)) (init ! 12 refl (typed-Node r2 is2)) $
           move ! (2 ∷ 3 ∷ []) $
-          calls-probed-c ! fm mem run-of known-probed s-positions positions (s .g) r2 (s .is) is2 (probes-asks positions n used j c cells ((s .ready) .2) ((s .ready) .3) ((s .ready) .5) (s .g) (s .inv) r1 e1 yes1 r2 e2 ((s .ready) .0) _ ln-cells (room-cells .0)) (λ _ _. and-then ! (load ! (from ! (stop !)) (look ! 22 refl)) (and-then ! (load ! (from ! (stop !)) (look ! 12 refl)) (and-then ! (load ! (from ! (stop !)) (look ! 10 refl)) (no-more !)))) (λ r3 e3 is3.
-          land ! (from ! (stop !)) (init ! 8 refl (typed-Probe r3 is3)) $
-          assigns-last ! (of-opd ! (load ! (from ! (stop !)) (look ! 8 refl))) (from ! (stop !)) (store ! 12 refl (typed-Probe r3 is3)) $
-          forget ! 4 refl $ forget ! 8 refl $ forget ! 10 refl $
+          calls-probed-c ! fm mem run-of known-probed s-positions positions (s .g) r2 (s .is) is2 (probes-asks positions n used j c cells ((s .ready) .2) ((s .ready) .3) ((s .ready) .5) (s .g) (s .inv) r1 e1 yes1 r2 e2 ((s .ready) .0) _ ln-cells (room-cells .0)) (λ _ _. and-then ! (load ! (from ! (stop !)) (look ! 24 refl)) (and-then ! (load ! (from ! (stop !)) (look ! 14 refl)) (and-then ! (load ! (from ! (stop !)) (look ! 12 refl)) (no-more !)))) (λ r3 e3 is3.
+          land ! (from ! (stop !)) (init ! 10 refl (typed-Probe r3 is3)) $
+          assigns-last ! (of-opd ! (load ! (from ! (stop !)) (look ! 10 refl))) (from ! (stop !)) (store ! 14 refl (typed-Probe r3 is3)) $
+          forget ! 4 refl $ forget ! 10 refl $ forget ! 12 refl $
           move ! (2 ∷ 3 ∷ 0 ∷ 1 ∷ []) $
           again ! Nearer At s (record { g = r3; is = is3; ready = (s .ready); inv = probes-next positions n used j c cells ((s .ready) .2) ((s .ready) .3) ((s .ready) .5) (s .g) (s .inv) r1 e1 yes1 r2 e2 r3 e3 .0 }) (probes-next positions n used j c cells ((s .ready) .2) ((s .ready) .3) ((s .ready) .5) (s .g) (s .inv) r1 e1 yes1 r2 e2 r3 e3 .1))))
-          (λ no1. jumps ! $ exec ! C Λ En pieces.t-3 (atRet En Post) $
-          assigns ! (of-opd ! (load ! (from ! (fld ! refl (stop !))) (look-in ! 12 (sub ! 5 refl (whole !))))) (from ! (stop !)) (init ! 6 refl (tt, record { fits = LL.owed Probe′.the-type Probe″.the-laws (s .g) _ (s .is) .1 .1 .1 .1 .1 .0 .1 })) $
-          assigns ! (of-opd ! (load ! (from ! (stop !)) (look ! 6 refl))) (from ! (stop !)) (init ! 26 refl (tt, record { fits = LL.owed Probe′.the-type Probe″.the-laws (s .g) _ (s .is) .1 .1 .1 .1 .1 .0 .1 })) $
-          returns ! (look ! 26 refl) $ forget ! 4 refl $ forget ! 6 refl $ forget ! 12 refl $ forget ! 14 refl $ forget ! 16 refl $ forget ! 18 refl $ forget ! 20 refl $ forget ! 22 refl $ forget ! 24 refl $ forget ! 26 refl $
-          move ! (26 ∷ 27 ∷ []) $ free1 ! $ move ! (24 ∷ 25 ∷ []) $ free1 ! $ move ! (22 ∷ 23 ∷ []) $ free1 ! $ move ! (20 ∷ 21 ∷ []) $ free1 ! $ move ! (18 ∷ 19 ∷ []) $ free1 ! $ move ! (16 ∷ 17 ∷ []) $ free1 ! $ move ! (14 ∷ 15 ∷ []) $ free1 ! $ move ! (12 ∷ 13 ∷ []) $ free1 ! $ move ! (10 ∷ 11 ∷ []) $ free1 ! $ move ! (8 ∷ 9 ∷ []) $ free1 ! $ move ! (6 ∷ 7 ∷ []) $ free1 ! $ move ! (4 ∷ 5 ∷ []) $ free1 ! $ free0 ! $
+          (λ no1. jumps ! $ exec ! C Λ En pieces.t-4 (atRet En Post) $
+          assigns ! (of-opd ! (load ! (from ! (fld ! refl (stop !))) (look-in ! 14 (sub ! 5 refl (whole !))))) (from ! (stop !)) (init ! 8 refl (tt, record { fits = LL.owed Probe′.the-type Probe″.the-laws (s .g) _ (s .is) .1 .1 .1 .1 .1 .0 .1 })) $
+          assigns ! (of-opd ! (load ! (from ! (stop !)) (look ! 8 refl))) (from ! (stop !)) (init ! 28 refl (tt, record { fits = LL.owed Probe′.the-type Probe″.the-laws (s .g) _ (s .is) .1 .1 .1 .1 .1 .0 .1 })) $
+          returns ! (look ! 28 refl) $ forget ! 4 refl $ forget ! 8 refl $ forget ! 14 refl $ forget ! 16 refl $ forget ! 18 refl $ forget ! 20 refl $ forget ! 22 refl $ forget ! 24 refl $ forget ! 26 refl $ forget ! 28 refl $
+          move ! (28 ∷ 29 ∷ []) $ free1 ! $ move ! (26 ∷ 27 ∷ []) $ free1 ! $ move ! (24 ∷ 25 ∷ []) $ free1 ! $ move ! (22 ∷ 23 ∷ []) $ free1 ! $ move ! (20 ∷ 21 ∷ []) $ free1 ! $ move ! (18 ∷ 19 ∷ []) $ free1 ! $ move ! (16 ∷ 17 ∷ []) $ free1 ! $ move ! (14 ∷ 15 ∷ []) $ free1 ! $ move ! (12 ∷ 13 ∷ []) $ free1 ! $ move ! (10 ∷ 11 ∷ []) $ free1 ! $ move ! (8 ∷ 9 ∷ []) $ free1 ! $ move ! (6 ∷ 7 ∷ []) $ free1 ! $ move ! (4 ∷ 5 ∷ []) $ free1 ! $ free0 ! $
           keep ! (0 ∷ 1 ∷ 2 ∷ 3 ∷ []) $ by ! (exits (s .g .more) (LL.owed Probe′.the-type Probe″.the-laws (s .g) _ (s .is) .1 .1 .1 .1 .1 .0 .1) (probes-end positions n used j c cells ((s .ready) .2) ((s .ready) .3) ((s .ready) .5) (s .g) (s .inv) r1 e1 no1))))
 
-      loop-from : (s : State) → ent 𝓤 (⋆ 𝓤 H A (At s)) (Wp 𝓤 H C Λ En pieces.t-2 (atReturn 𝓤 H En Post))
-      loop-from s = qed W (At s) ∵ exec ! C Λ En pieces.t-2 (atRet En Post) $ first ! $ blocks ! $ loops ! 𝓣 Nearer Nearer-wf At turns s
+      loop-from : (s : State) → ent 𝓤 (⋆ 𝓤 H A (At s)) (Wp 𝓤 H C Λ En pieces.t-3 (atReturn 𝓤 H En Post))
+      loop-from s = qed W (At s) ∵ exec ! C Λ En pieces.t-3 (atRet En Post) $ first ! $ blocks ! $ loops ! 𝓣 Nearer Nearer-wf At turns s
 
     walk : (Axes c) × (0 < used) × (used ≤ length cells) × (n * c ≤ length positions) × (j < n) × (growable n c (tree used (nodesOf cells)) ≡ true) → ent 𝓤 (onEntry 𝓤 H A f.signature (s-cells .life, (s-positions .life, tt)) (s-cells .share, (s-positions .share, tt)) x at) (WpFn 𝓤 H C Λ code.function (word s-cells ∷ word s-positions ∷ vint w64 n ∷ vint w64 used ∷ vint w32 j ∷ vint w64 c ∷ []) Post)
     walk ready =
         qed W ((‵ (Tok s-cells) ⊛ ‵ (Tok s-positions) ⊛ ‵ ftrue) ∷ ‵ (owns (ShrSlice (named 0) (s-cells .life) Cell′.the-row ∷ ShrSlice (named 1) (s-positions .life) f64 ∷ usize ∷ usize ∷ u32 ∷ usize ∷ []) x at) ∷ []) ∵ enter ! C Λ code.function (word s-cells ∷ word s-positions ∷ vint w64 n ∷ vint w64 used ∷ vint w32 j ∷ vint w64 c ∷ []) _ $
-        alloc1 ! (λ l0. alloc1 ! (λ l1. alloc1 ! (λ l2. alloc1 ! (λ l3. alloc1 ! (λ l4. alloc1 ! (λ l5. alloc1 ! (λ l6. alloc1 ! (λ l7. alloc1 ! (λ l8. alloc1 ! (λ l9. alloc1 ! (λ l10. alloc1 ! (λ l11. alloc0 ! $ params1 ! $
-        pass1 ! (init ! 20 refl (tt, (tt, (record { fits = room-cells .0 }, tt)))) $ pass1 ! (init ! 18 refl (tt, (tt, (record { fits = room-positions .0 }, tt)))) $ pass1 ! (init ! 16 refl (tt, record { fits = g-n })) $ pass1 ! (init ! 14 refl (tt, record { fits = g-used })) $ pass1 ! (init ! 12 refl (tt, record { fits = g-j })) $ pass1 ! (init ! 10 refl (tt, record { fits = g-c })) $ pass0 ! $
-        move ! (25 ∷ []) $ fsplit ! $ move ! (1 ∷ []) $ fsplit ! $ move ! (1 ∷ []) $ fsplit ! $ drop ! $ fsplit ! $ drop ! $ fsplit ! $ drop ! $ fsplit ! $ drop ! $ drop ! $ move ! (26 ∷ []) $ split ! $ move ! (1 ∷ []) $ split ! $ move ! (1 ∷ []) $ drop ! $ move ! (3 ∷ 1 ∷ 2 ∷ 0 ∷ []) $
+        alloc1 ! (λ l0. alloc1 ! (λ l1. alloc1 ! (λ l2. alloc1 ! (λ l3. alloc1 ! (λ l4. alloc1 ! (λ l5. alloc1 ! (λ l6. alloc1 ! (λ l7. alloc1 ! (λ l8. alloc1 ! (λ l9. alloc1 ! (λ l10. alloc1 ! (λ l11. alloc1 ! (λ l12. alloc0 ! $ params1 ! $
+        pass1 ! (init ! 22 refl (tt, (tt, (record { fits = room-cells .0 }, tt)))) $ pass1 ! (init ! 20 refl (tt, (tt, (record { fits = room-positions .0 }, tt)))) $ pass1 ! (init ! 18 refl (tt, record { fits = g-n })) $ pass1 ! (init ! 16 refl (tt, record { fits = g-used })) $ pass1 ! (init ! 14 refl (tt, record { fits = g-j })) $ pass1 ! (init ! 12 refl (tt, record { fits = g-c })) $ pass0 ! $
+        move ! (27 ∷ []) $ fsplit ! $ move ! (1 ∷ []) $ fsplit ! $ move ! (1 ∷ []) $ fsplit ! $ drop ! $ fsplit ! $ drop ! $ fsplit ! $ drop ! $ fsplit ! $ drop ! $ drop ! $ move ! (28 ∷ []) $ split ! $ move ! (1 ∷ []) $ split ! $ move ! (1 ∷ []) $ drop ! $ move ! (3 ∷ 1 ∷ 2 ∷ 0 ∷ []) $
+        assigns ! (of-opd ! (load ! (from ! (fld ! refl (stop !))) (look-in ! 26 (sub ! 1 refl (whole !))))) (from ! (stop !)) (init ! 6 refl (tt, record { fits = room-cells .0 })) $
         move ! (2 ∷ 3 ∷ []) $
-        calls-probing-c ! fm mem run-of known-probing s-positions positions j c g-j g-c (ready .0, row-in j n c (length positions) (ready .4) (ready .3)) (λ _ _. and-then ! (load ! (from ! (stop !)) (look ! 22 refl)) (and-then ! (load ! (from ! (stop !)) (look ! 16 refl)) (and-then ! (load ! (from ! (stop !)) (look ! 14 refl)) (no-more !)))) (λ r1 e1 is1.
-        land ! (from ! (stop !)) (init ! 12 refl (typed-Probe r1 is1)) $
+        calls-probing-c ! fm mem run-of known-probing s-positions positions (s-cells .count) used j c (room-cells .0) g-used g-j g-c (ready .0, row-in j n c (length positions) (ready .4) (ready .3), probing-asks positions used j c cells _ ln-cells (ready .0) (room-cells .1) (ready .2)) (λ _ _. and-then ! (load ! (from ! (stop !)) (look ! 24 refl)) (and-then ! (load ! (from ! (stop !)) (look ! 6 refl)) (and-then ! (load ! (from ! (stop !)) (look ! 20 refl)) (and-then ! (load ! (from ! (stop !)) (look ! 18 refl)) (and-then ! (load ! (from ! (stop !)) (look ! 16 refl)) (no-more !)))))) (λ r1 e1 is1.
+        land ! (from ! (stop !)) (init ! 14 refl (typed-Probe r1 is1)) $
+        forget ! 6 refl $
         move ! (2 ∷ 3 ∷ 0 ∷ 1 ∷ []) $
-        keep ! (0 ∷ 1 ∷ 2 ∷ 3 ∷ 4 ∷ 5 ∷ 6 ∷ 7 ∷ 8 ∷ 9 ∷ 10 ∷ 11 ∷ 12 ∷ 13 ∷ 14 ∷ 15 ∷ 16 ∷ 17 ∷ 18 ∷ 19 ∷ 20 ∷ 21 ∷ 22 ∷ 23 ∷ 24 ∷ 25 ∷ 26 ∷ 27 ∷ []) $ by ! (loop-from l0 l1 l2 l3 l4 l5 l6 l7 l8 l9 l10 l11 (record { g = r1; is = is1; ready = ready; inv = probes-start positions used j c (nodesOf cells) (ready .1) r1 e1 })))))))))))))))
+        keep ! (0 ∷ 1 ∷ 2 ∷ 3 ∷ 4 ∷ 5 ∷ 6 ∷ 7 ∷ 8 ∷ 9 ∷ 10 ∷ 11 ∷ 12 ∷ 13 ∷ 14 ∷ 15 ∷ 16 ∷ 17 ∷ 18 ∷ 19 ∷ 20 ∷ 21 ∷ 22 ∷ 23 ∷ 24 ∷ 25 ∷ 26 ∷ 27 ∷ 28 ∷ 29 ∷ []) $ by ! (loop-from l0 l1 l2 l3 l4 l5 l6 l7 l8 l9 l10 l11 l12 (record { g = r1; is = is1; ready = ready; inv = probes-start positions used j c cells _ ln-cells (ready .1) r1 e1 }))))))))))))))))
 
 module _ {M : Type 1} (𝓤 : URA M) (H : Heap 𝓤) (A : Atoms 𝓤) (W : Given 𝓤 H A) (mem : Memory → SProp 𝓤) (run-of : Routine → Fun 𝓤) where
   needs-walks : (𝓣 : Tables 𝓤 H) → Triple 𝓤 (𝓣 .C #tree·ways·probing) (Contract-probing 𝓤 H A mem run-of) → Triple 𝓤 (𝓣 .C #tree·ways·probes-on) (Contract-probes-on 𝓤 H A mem run-of) → Triple 𝓤 (𝓣 .C #tree-node·arena·load) (Contract-load 𝓤 H A mem run-of) → Triple 𝓤 (𝓣 .C #tree·ways·probed) (Contract-probed 𝓤 H A mem run-of) → Walks 𝓤 H A f.ended stayed (WpFn 𝓤 H (𝓣 .C) (𝓣 .Λ) code.function) (f.clauses 𝓤 H A mem run-of)

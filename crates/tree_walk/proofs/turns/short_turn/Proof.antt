@@ -1,13 +1,18 @@
-use Rattle.tree_walk.specs.Turn.{turnedOf, stackedOf, seenAs}
+-- `short_turn` meets its contract: in two components it is `flat_turn`; else by the kind of the cell (`Turned`).
 use mathlib.Core.Path.{_≡_, sym, _∙_}
-use mathlib.Core.Bool.{false}
-use lib.Dec.{eqb}
-use Rattle.tree_walk.proofs.Shift.{shl-32, few-32}
-use borrow.Author.Tests.{eq-eqb, ne-eqb}
 use borrow.Author.Needs.{needs}
 use native.Mathlib.Omega.{arith}
+use Rattle.tree_walk.specs.Turn.{seenAs}
+use Rattle.tree_walk.proofs.Shift.{shl-32, few-32}
+use Rattle.tree_walk.proofs.Turned.{turned-past, turned-body, turned-open}
 use Rattle.tree_walk.proofs.turns.short_turn.Statement.{statement}
 use Rattle.tree_walk.proofs.turns.short_turn.Tie as tie
+
+flat-turn-requires : tie.Need-flat-turn-requires
+flat-turn-requires c κs = let z = c .before .before .before in (c .before .if1 .taken, z .pre .1, z .pre .2, rw (c .before .if1 .taken) at (z .pre .3))
+
+returns : tie.Need-returns
+returns c = search needs
 
 read-node-requires : tie.Need-read-node-requires
 read-node-requires c κs = search needs
@@ -18,9 +23,11 @@ kind-requires c κs = search needs
 onward-requires : tie.Need-onward-requires
 onward-requires c κs = search needs
 
-returns : tie.Need-returns
-unfolding turnedOf stackedOf
-returns c = let k : seenAs (c .before .before .before .before .before .before .before .before .args .eye) (c .before .before .before .before .before .before .before .before .args .v) ≡ 0 = sym (rw (c .before .before .before .before .before .before .before .read-node .ensures) at (c .before .before .before .before .kind .ensures)) ∙ c .before .before .before .if1 .taken in (rw (eq-eqb _ _ k) (c .onward .ensures), rw (eq-eqb _ _ k))
+returns-2 : tie.Need-returns-2
+returns-2 c =
+    let z = c .before .before .before .before .before .before .before .before .before .before in
+    let k : seenAs (z .args .eye) (z .args .v) ≡ 0 = sym (rw (c .before .before .before .before .before .before .before .read-node .ensures) at (c .before .before .before .before .kind .ensures)) ∙ c .before .before .before .if2 .taken in
+    turned-past 32 _ _ _ _ _ k (c .onward .ensures)
 
 body-requires : tie.Need-body-requires
 body-requires c κs = search needs
@@ -28,9 +35,12 @@ body-requires c κs = search needs
 onward-requires-2 : tie.Need-onward-requires-2
 onward-requires-2 c κs = search needs
 
-returns-2 : tie.Need-returns-2
-unfolding turnedOf stackedOf
-returns-2 c = let k : seenAs (c .before .before .before .before .before .before .before .before .before .before .args .eye) (c .before .before .before .before .before .before .before .before .before .before .args .v) ≡ 1 = sym (rw (c .before .before .before .before .before .before .before .before .before .read-node .ensures) at (c .before .before .before .before .before .before .kind .ensures)) ∙ c .before .before .before .before .if2 .taken in (rw k (c .onward2 .ensures ∙ rw (c .before .before .before .body .ensures, c .before .before .before .before .before .before .before .before .before .read-node .ensures)), rw k)
+returns-3 : tie.Need-returns-3
+returns-3 c =
+    let z = c .before .before .before .before .before .before .before .before .before .before .before .before in
+    let n = c .before .before .before .before .before .before .before .before .before .read-node .ensures in
+    let k : seenAs (z .args .eye) (z .args .v) ≡ 1 = sym (rw n at (c .before .before .before .before .before .before .kind .ensures)) ∙ c .before .before .before .before .if3 .taken in
+    turned-body 32 _ _ _ _ _ k (c .onward2 .ensures ∙ rw (c .before .before .before .body .ensures, n))
 
 cast-e : tie.Need-cast-e
 cast-e c = search needs
@@ -39,28 +49,33 @@ shl-e : tie.Need-shl-e
 shl-e c = search needs
 
 add-opened : tie.Need-add-opened
-add-opened c = rw (shl-32 (c .before .before .before .before .before .before .before .before .args .eye .c) (few-32 (c .before .before .before .before .before .before .before .before .args .eye .c) (c .before .before .before .before .before .before .before .before .pre .0 .1))) (record { fits = omega (arith, c .before .before .before .before .before .before .before .before .pre .3) })
+add-opened c = let z = c .before .before .before .before .before .before .before .before .before .before in rw (shl-32 (z .args .eye .c) (few-32 (z .args .eye .c) (z .pre .0 .1))) (record { fits = omega (arith, z .pre .3) })
 
 opened-requires : tie.Need-opened-requires
 opened-requires c κs = search needs
 
-returns-3 : tie.Need-returns-3
-unfolding turnedOf stackedOf
-returns-3 c = let e : c .before .before .before .before .before .kind .result ≡ seenAs (c .before .before .before .before .before .before .before .before .before .args .eye) (c .before .before .before .before .before .before .before .before .before .args .v) = rw (c .before .before .before .before .before .before .before .before .read-node .ensures) at (c .before .before .before .before .before .kind .ensures) in let n0 : eqb (seenAs (c .before .before .before .before .before .before .before .before .before .args .eye) (c .before .before .before .before .before .before .before .before .before .args .v)) 0 ≡ false = rw e at (ne-eqb (c .before .before .before .before .before .kind .result) 0 (c .before .before .before .before .if1 .left)) in let n1 : eqb (seenAs (c .before .before .before .before .before .before .before .before .before .args .eye) (c .before .before .before .before .before .before .before .before .before .args .v)) 1 ≡ false = rw e at (ne-eqb (c .before .before .before .before .before .kind .result) 1 (c .before .before .before .if2 .left)) in (rw (n0, n1) (rw (shl-32 (c .before .before .before .before .before .before .before .before .before .args .eye .c) (few-32 (c .before .before .before .before .before .before .before .before .before .args .eye .c) (c .before .before .before .before .before .before .before .before .before .pre .0 .1))) at (c .opened .ensures .0)), rw (n0, n1) (c .opened .ensures .1))
+returns-4 : tie.Need-returns-4
+returns-4 c =
+    let z = c .before .before .before .before .before .before .before .before .before .before .before in
+    let k : c .before .before .before .before .before .kind .result ≡ seenAs (z .args .eye) (z .args .v) = rw (c .before .before .before .before .before .before .before .before .read-node .ensures) at (c .before .before .before .before .before .kind .ensures) in
+    let width = shl-32 (z .args .eye .c) (few-32 (z .args .eye .c) (z .pre .0 .1)) in
+    turned-open 32 _ _ _ _ _ _ (λ e. c .before .before .before .before .if2 .left (k ∙ e)) (λ e. c .before .before .before .if3 .left (k ∙ e)) (rw width at (c .opened .ensures .0)) (c .opened .ensures .1)
 
 pub short-turn-spec : {M : Type 1} → statement M
 short-turn-spec =
     tie.close
     (tie.spec
+    flat-turn-requires
+    returns
     read-node-requires
     kind-requires
     onward-requires
-    returns
+    returns-2
     body-requires
     onward-requires-2
-    returns-2
+    returns-3
     cast-e
     shl-e
     add-opened
     opened-requires
-    returns-3)
+    returns-4)

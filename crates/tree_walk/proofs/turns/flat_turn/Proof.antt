@@ -1,0 +1,63 @@
+-- `flat_turn` meets its contract: the cell's kind in two components is its kind for the eye, and then by that kind (`Turned`).
+use mathlib.Core.Path.{_≡_, sym, _∙_}
+use borrow.Author.Needs.{needs}
+use native.Mathlib.Omega.{arith}
+use Rattle.tree_walk.specs.Turn.{seenAs}
+use Rattle.tree_walk.proofs.Turned.{turned-past, turned-body, turned-open}
+use Rattle.tree_walk.proofs.turns.flat_turn.Statement.{statement}
+use Rattle.tree_walk.proofs.turns.flat_turn.Tie as tie
+
+read-node-requires : tie.Need-read-node-requires
+read-node-requires c κs = search needs
+
+kind-requires : tie.Need-kind-requires
+kind-requires c κs = search needs
+
+onward-requires : tie.Need-onward-requires
+onward-requires c κs = search needs
+
+returns : tie.Need-returns
+returns c =
+    let z = c .before .before .before .before .before .before .before .before in
+    let k : seenAs (z .args .eye) (z .args .v) ≡ 0 = rw (z .pre .0) (sym (rw (c .before .before .before .before .before .before .before .read-node .ensures) at (c .before .before .before .before .kind .ensures)) ∙ c .before .before .before .if1 .taken) in
+    turned-past 32 _ _ _ _ _ k (c .onward .ensures)
+
+body-requires : tie.Need-body-requires
+body-requires c κs = search needs
+
+onward-requires-2 : tie.Need-onward-requires-2
+onward-requires-2 c κs = search needs
+
+returns-2 : tie.Need-returns-2
+returns-2 c =
+    let z = c .before .before .before .before .before .before .before .before .before .before in
+    let n = c .before .before .before .before .before .before .before .before .before .read-node .ensures in
+    let k : seenAs (z .args .eye) (z .args .v) ≡ 1 = rw (z .pre .0) (sym (rw n at (c .before .before .before .before .before .before .kind .ensures)) ∙ c .before .before .before .before .if2 .taken) in
+    turned-body 32 _ _ _ _ _ k (rw (z .pre .0) (c .onward2 .ensures ∙ rw (c .before .before .before .body .ensures, n)))
+
+add-opened : tie.Need-add-opened
+add-opened c = search needs
+
+opened-requires : tie.Need-opened-requires
+opened-requires c κs = search needs
+
+returns-3 : tie.Need-returns-3
+returns-3 c =
+    let z = c .before .before .before .before .before .before .before .before .before in
+    let k : c .before .before .before .before .before .kind .result ≡ seenAs (z .args .eye) (z .args .v) = rw (z .pre .0) (rw (c .before .before .before .before .before .before .before .before .read-node .ensures) at (c .before .before .before .before .before .kind .ensures)) in
+    turned-open 32 _ _ _ _ _ _ (λ e. c .before .before .before .before .if1 .left (k ∙ e)) (λ e. c .before .before .before .if2 .left (k ∙ e)) (rw (z .pre .0) (c .opened .ensures .0)) (c .opened .ensures .1)
+
+pub flat-turn-spec : {M : Type 1} → statement M
+flat-turn-spec =
+    tie.close
+    (tie.spec
+    read-node-requires
+    kind-requires
+    onward-requires
+    returns
+    body-requires
+    onward-requires-2
+    returns-2
+    add-opened
+    opened-requires
+    returns-3)
