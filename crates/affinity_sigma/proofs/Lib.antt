@@ -1,3 +1,4 @@
 pub mod Rounds
 pub mod Alone
 pub mod Finite
+pub mod Blocks

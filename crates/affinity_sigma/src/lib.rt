@@ -4,7 +4,9 @@ ghost use Prim.Native.Nat.{_≤_};
 ghost use lib.ListN.{length};
 ghost use Rattle.laws.specs.Domain.{mostFrames};
 ghost use Rattle.laws.specs.Loops.{loop};
-ghost use Rattle.affinity_sigma.specs.Sigma.{weightOf, weighed, weightSum, divideStep, sharedBy, rowOf, termOf, entropyOf, excess, narrowed, sigmaShares};
+ghost use Rattle.affinity_sigma.specs.Sigma.{weightSum, divideStep, sharedBy, rowOf, termOf, entropyOf, excess, narrowed, sigmaShares};
+
+mod weights;
 
 // The most rounds of a search.
 const MOST_ROUNDS: u32 = 50;
@@ -14,28 +16,6 @@ struct Bounds {
     low: f64,
     high: f64,
     sigma: f64,
-}
-
-// The weight of a frame at distance d: nothing at a distance of exactly 0.0.
-fn weight(sigma: f64, d: f64) -> f64
-    ensures { λ r. ⌜ r ≡ weightOf sigma d ⌝ }
-{
-    if d == 0.0 {
-        return 0.0;
-    }
-    elementary::exponential::exp(-d / (2.0 * sigma * sigma))
-}
-
-// The weights of n distances.
-fn weigh(distances: &[f64], n: usize, sigma: f64, shares: &mut [f64])
-    requires { ⌜ (n ≤ length (now distances)) × (n ≤ length (now shares)) ⌝ }
-    ensures { λ _. ⌜ now (shares .exit) ≡ weighed (now (distances .entry)) n sigma (now (shares .entry)) ⌝ }
-{
-    let mut j = 0;
-    while j < n {
-        shares[j] = weight(sigma, distances[j]);
-        j += 1;
-    }
 }
 
 // The sum of the first n, from +0.0 on.
@@ -81,7 +61,7 @@ fn row_for(distances: &[f64], n: usize, sigma: f64, shares: &mut [f64])
     requires { ⌜ (n ≤ length (now distances)) × (n ≤ length (now shares)) × (n ≤ mostFrames) ⌝ }
     ensures { λ _. ⌜ now (shares .exit) ≡ rowOf (now (distances .entry)) n sigma (now (shares .entry)) ⌝ }
 {
-    weigh(distances, n, sigma, shares);
+    weights::weigh(distances, n, sigma, shares);
     let sum = total(shares, n);
     share_out(shares, n, sum);
 }
