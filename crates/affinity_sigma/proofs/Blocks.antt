@@ -6,7 +6,7 @@ use mathlib.Core.Bool.{Bool, true, false, not, cond, _&&_, _||_, true≢false}
 use Prim.Native.Nat.{ℕ, zero, suc, _+_, _-_, _*_, _^_, _<_, _≤_}
 use native.Mathlib.Omega.{arith}
 use native.Mathlib.Nat.{add-zero, le-of-lt, le-of-eq, le-antisymm}
-use lib.IntN.{ℤ, pos, negsuc, negℤ}
+use lib.IntN.{ℤ, pos, negsuc, negℤ, natAbs, pos-ne-negsuc}
 use lib.ListN.{length, getD, set}
 use lib.Dec.{T, ltb, eqb}
 use lib.Ieee.{Float, nan, inf, fin, binary64, up, down, neg, mul, div, lt, le, eq, ne, ofBits}
@@ -27,7 +27,7 @@ use Rattle.elementary.proofs.Range.{quotient, quotient-plus, quotient-minus, bo
 use Rattle.elementary.proofs.Powers.{raised}
 use Rattle.elementary.proofs.Sizes.{signPlus, signed-round, bounded}
 use Rattle.affinity_sigma.specs.Sigma.{weightOf, weighStep}
-use Rattle.affinity_sigma.specs.Blocks.{blockSize, exponentOf, exponentStep, inReach, without, halvingsOf, halvingStep, FewHalvings, seriesAfter, seriesStep, halvedBy, halvedStep}
+use Rattle.affinity_sigma.specs.Blocks.{blockSize, exponentOf, exponentStep, inReach, halvingsOf, halvingStep, FewHalvings, seriesAfter, seriesStep, halvedBy, halvedStep}
 
 -- ---- loops that start at j
 
@@ -84,24 +84,28 @@ at-most-is a b c h = go (two (ltb a b))
     go (inr l) = le-of-eq (eqb-true a b (and-left (eqb a b) c (rw l at h)))
 
 -- a value from 0 up that is not above 0
-nothing : (m : ℕ) (e : ℤ) → le (fin false m e) zero64 ≡ true → m * up e ≤ 0
+pub nothing : (m : ℕ) (e : ℤ) → le (fin false m e) zero64 ≡ true → m * up e ≤ 0
 unfolding le lt eq ofBits
 nothing m e h = omega (arith, at-most-is (m * up e * 1) (0 * 2 ^ 0 * down e) _ h)
 
-nan-above : le nan zero64 ≡ true → ⊥
+above-none : (b : Float) → le nan b ≡ true → ⊥
 unfolding le lt eq
-nan-above h = true≢false (sym h)
+above-none b h = true≢false (sym h)
 
 inf-above : le (inf false) zero64 ≡ true → ⊥
 unfolding le lt eq ofBits
 inf-above h = true≢false (sym h)
 
+-- what a test puts at most somewhere is a number
+pub at-most-number : (v b : Float) → le v b ≡ true → ne v v ≡ false
+at-most-number v b h = not-true-is (λ t. above-none b (subst (λ (y : Float). le y b ≡ true) (differs-from-itself v (passes (ne v v) t)) h))
+
 pub reach-number : (x : Float) → inReach x ≡ true → ne x x ≡ false
-reach-number x h = not-true-is (λ t. nan-above (subst (λ (y : Float). le y zero64 ≡ true) (differs-from-itself x (passes (ne x x) t)) (reach-top x h)))
+reach-number x h = at-most-number x zero64 (reach-top x h)
 
 below-high : (x : Float) → le x zero64 ≡ true → lt high709 x ≡ false
 unfolding lt ofBits
-below-high nan t = absurd (nan-above t)
+below-high nan t = absurd (above-none zero64 t)
 below-high (inf true) t = refl
 below-high (inf false) t = absurd (inf-above t)
 below-high (fin true m e) t = refl
@@ -123,20 +127,20 @@ reach-lowest x h = above-lowest x (reach-low x h)
 
 -- ---- its halvings
 
-pub without-minus : (n : ℕ) → without (negℤ (pos n)) ≡ n
-without-minus zero = refl
-without-minus (suc n) = refl
+pub minus-size : (n : ℕ) → natAbs (negℤ (pos n)) ≡ n
+minus-size zero = refl
+minus-size (suc n) = refl
 
 sign-quotient : (m : ℕ) (e : ℤ) → signPlus (quotient m e)
 sign-quotient m e = signed-round binary64 false _ _
 
 -- of a quotient below 0, and of one that is 0
-minus-of : (z : Float) → signPlus z → wholeNear (neg z) ≡ negℤ (pos (without (wholeNear (neg z))))
+minus-of : (z : Float) → signPlus z → wholeNear (neg z) ≡ negℤ (pos (natAbs (wholeNear (neg z))))
 unfolding wholeNear signed neg
 minus-of nan p = absurd p
 minus-of (inf s) p = refl
 minus-of (fin true m e) p = absurd (true≢false p)
-minus-of (fin false m e) p = ap (λ (n : ℕ). negℤ (pos n)) (sym (without-minus (nearUp (m * up e) (down e))))
+minus-of (fin false m e) p = ap (λ (n : ℕ). negℤ (pos n)) (sym (minus-size (nearUp (m * up e) (down e))))
 
 zero-of : (z : Float) → signPlus z → atMost z 0 → wholeNear z ≡ pos 0
 unfolding wholeNear signed
@@ -151,7 +155,7 @@ zero-quotient m e h = ap wholeNear (quotient-plus m e) ∙ zero-of (quotient m e
 
 whole-below : (x : Float) → le x zero64 ≡ true → lt x low708 ≡ false → expK x ≡ negℤ (pos (halvingsOf x))
 unfolding lt ofBits neg
-whole-below nan t l = absurd (nan-above t)
+whole-below nan t l = absurd (above-none zero64 t)
 whole-below (inf true) t l = absurd (true≢false l)
 whole-below (inf false) t l = absurd (inf-above t)
 whole-below (fin true m e) t l = rw (quotient-minus m e) (minus-of (quotient m e) (sign-quotient m e))
@@ -167,17 +171,13 @@ few (suc n) h = h
 pub reach-few : (x : Float) → inReach x ≡ true → halvingsOf x ≤ 1021
 reach-few x h = few (halvingsOf x) (subst (fromMinus 1021 1023) (reach-whole x h) (exp-range x (reach-number x h) (reach-low x h) (reach-high x h)))
 
-abbrev isPos : ℤ → Bool
-isPos (pos n) = true
-isPos (negsuc n) = false
-
 -- a quotient that is not below 0 has none
 pub reach-none : (x : Float) (k : ℕ) → inReach x ≡ true → expK x ≡ pos k → 0 ≡ halvingsOf x
 reach-none x k h e = alike (halvingsOf x) k (sym (reach-whole x h) ∙ e)
   where
     alike : (n k : ℕ) → negℤ (pos n) ≡ pos k → 0 ≡ n
     alike zero k e = refl
-    alike (suc n) k e = absurd (true≢false (sym (ap isPos e)))
+    alike (suc n) k e = absurd (pos-ne-negsuc k n (sym e))
 
 pub reach-quotient : (x : Float) → inReach x ≡ true → atMost (div binary64 x ln2) 1075
 reach-quotient x h = exp-quotient x (reach-number x h) (reach-lowest x h) (reach-high x h)

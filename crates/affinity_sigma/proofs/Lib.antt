@@ -2,3 +2,4 @@ pub mod Rounds
 pub mod Alone
 pub mod Finite
 pub mod Blocks
+pub mod Shares

@@ -4,8 +4,9 @@ ghost use Prim.Native.Nat.{_≤_};
 ghost use lib.ListN.{length};
 ghost use Rattle.laws.specs.Domain.{mostFrames};
 ghost use Rattle.laws.specs.Loops.{loop};
-ghost use Rattle.affinity_sigma.specs.Sigma.{weightSum, divideStep, sharedBy, rowOf, termOf, entropyOf, excess, narrowed, sigmaShares};
+ghost use Rattle.affinity_sigma.specs.Sigma.{weightSum, divideStep, sharedBy, rowOf, excess, narrowed, sigmaShares};
 
+mod entropies;
 mod weights;
 
 // The most rounds of a search.
@@ -66,36 +67,12 @@ fn row_for(distances: &[f64], n: usize, sigma: f64, shares: &mut [f64])
     share_out(shares, n, sum);
 }
 
-// What a share adds to the entropy.
-fn term(share: f64) -> f64
-    ensures { λ r. ⌜ r ≡ termOf share ⌝ }
-{
-    if share > 1e-10 {
-        return -share * elementary::logarithm::ln(share);
-    }
-    0.0
-}
-
-// The entropy of the first n shares, from +0.0 on.
-fn entropy(shares: &[f64], n: usize) -> f64
-    requires { ⌜ n ≤ length (now shares) ⌝ }
-    ensures { λ r. ⌜ r ≡ entropyOf (now (shares .entry)) n ⌝ }
-{
-    let mut h = 0.0;
-    let mut j = 0;
-    while j < n {
-        h = h + term(shares[j]);
-        j += 1;
-    }
-    h
-}
-
 // How far the perplexity of the shares is above the one asked for.
 fn excess_of(shares: &[f64], n: usize, perplexity: f64) -> f64
     requires { ⌜ n ≤ length (now shares) ⌝ }
     ensures { λ r. ⌜ r ≡ excess (now (shares .entry)) n perplexity ⌝ }
 {
-    elementary::exponential::exp(entropy(shares, n)) - perplexity
+    elementary::exponential::exp(entropies::entropy(shares, n)) - perplexity
 }
 
 // The bounds after a round that was off by diff.

@@ -56,7 +56,7 @@ fn in_reach(x: f64) -> bool
 }
 
 // Both of two tests.
-fn and_also(a: bool, b: bool) -> bool
+pub(crate) fn and_also(a: bool, b: bool) -> bool
     ensures { λ r. ⌜ r ≡ a && b ⌝ }
 {
     if !a {

@@ -4,8 +4,8 @@ use lib.Ieee.{binary64, div}
 use lib.Ieee.Fits.{div-fits}
 use Rattle.elementary.specs.Exp.{ln2}
 use Rattle.elementary.proofs.Near.{near-neg, near-pos}
-use Rattle.affinity_sigma.specs.Blocks.{without}
-use Rattle.affinity_sigma.proofs.Blocks.{reach-quotient, reach-none, without-minus}
+use lib.IntN.{natAbs}
+use Rattle.affinity_sigma.proofs.Blocks.{reach-quotient, reach-none, minus-size}
 use native.Mathlib.Omega.{arith}
 use Rattle.affinity_sigma.proofs.weights.halvings.Statement.{statement}
 use Rattle.affinity_sigma.proofs.weights.halvings.Tie as tie
@@ -20,7 +20,7 @@ cast-result : tie.Need-cast-result
 cast-result c = let r = near-neg (div binary64 (c .before .before .args .x) ln2) (div-fits binary64 (c .before .before .args .x) ln2) (reach-quotient (c .before .before .args .x) (c .before .before .pre)) (c .before .if1 .taken) in rw (c .truncating-f64-to-u64 .ensures) (record { fits = omega (arith, r .2 .small) })
 
 returns : tie.Need-returns
-returns c = let r = near-neg (div binary64 (c .before .before .args .x) ln2) (div-fits binary64 (c .before .before .args .x) ln2) (reach-quotient (c .before .before .args .x) (c .before .before .pre)) (c .before .if1 .taken) in rw (c .truncating-f64-to-u64 .ensures) (r .2 .whole ∙ sym (ap without (r .1) ∙ without-minus (r .0)))
+returns c = let r = near-neg (div binary64 (c .before .before .args .x) ln2) (div-fits binary64 (c .before .before .args .x) ln2) (reach-quotient (c .before .before .args .x) (c .before .before .pre)) (c .before .if1 .taken) in rw (c .truncating-f64-to-u64 .ensures) (r .2 .whole ∙ sym (ap natAbs (r .1) ∙ minus-size (r .0)))
 
 returns-2 : tie.Need-returns-2
 returns-2 c = let r = near-pos (div binary64 (c .before .args .x) ln2) (div-fits binary64 (c .before .args .x) ln2) (reach-quotient (c .before .args .x) (c .before .pre)) (c .if1 .left) in reach-none (c .before .args .x) (r .0) (c .before .pre) (r .1)
