@@ -48,12 +48,12 @@ fn all_shares(shares: &[f64], j: usize, c: usize) -> bool
 }
 
 // A share that enters the entropy, and a half for one that does not.
-fn held(share: f64) -> f64
-    requires { ⌜ le share one64 ≡ true ⌝ }
-    ensures { λ r. ⌜ (r ≡ heldOf share) × (lt tiny r ≡ true) × (le r one64 ≡ true) ⌝ }
+fn held(v: f64) -> f64
+    requires { ⌜ le v one64 ≡ true ⌝ }
+    ensures { λ r. ⌜ (r ≡ heldOf v) × (lt tiny r ≡ true) × (le r one64 ≡ true) ⌝ }
 {
-    if share > 1e-10 {
-        return share;
+    if v > 1e-10 {
+        return v;
     }
     0.5
 }
@@ -147,11 +147,11 @@ fn all_logs(ms: &[f64; 32], ks: &[f64; 32], ls: &mut [f64; 32])
 }
 
 // What a share adds to the entropy, its logarithm given.
-fn term_by(share: f64, l: f64) -> f64
-    ensures { λ r. ⌜ r ≡ termBy share l ⌝ }
+fn term_by(s: f64, l: f64) -> f64
+    ensures { λ r. ⌜ r ≡ termBy s l ⌝ }
 {
-    if share > 1e-10 {
-        return -share * l;
+    if s > 1e-10 {
+        return -s * l;
     }
     0.0
 }

@@ -143,11 +143,11 @@ fn all_series(xs: &[f64; 32], us: &[u32; 32], ts: &mut [f64; 32])
 }
 
 // t halved u times, and nothing at a distance of exactly 0.0.
-fn halved_by(d: f64, t: f64, u: u32) -> f64
+fn halved_by(distance: f64, t: f64, u: u32) -> f64
     requires { ⌜ u ≤ 1021 ⌝ }
-    ensures { λ r. ⌜ r ≡ halvedBy d t u ⌝ }
+    ensures { λ r. ⌜ r ≡ halvedBy distance t u ⌝ }
 {
-    if d == 0.0 {
+    if distance == 0.0 {
         return 0.0;
     }
     t * f64::from_bits((1023 - u as u64) << 52)
