@@ -3,3 +3,4 @@ pub mod Alone
 pub mod Finite
 pub mod Blocks
 pub mod Shares
+pub mod Whole

@@ -1,12 +1,14 @@
 // The weights of a row by blocks of 32. Each pass does one thing to a whole block, in local arrays, so that the divisions of one value do not wait for those of another. A block with an exponent that the passes do not take is weighed singly.
 ghost use mathlib.Core.Path.{_≡_};
 ghost use mathlib.Core.Bool.{true, _&&_};
-ghost use Prim.Native.Nat.{_+_, _<_, _≤_};
+ghost use Prim.Native.Nat.{_+_, _/_, _<_, _≤_};
 ghost use lib.ListN.{length};
+ghost use lib.Ieee.{toUnsigned};
 ghost use lib.IntN.{pos, negℤ};
 ghost use Rattle.laws.specs.Loops.{loop, every};
 ghost use Rattle.laws.specs.Area.{at, one64};
 ghost use Rattle.elementary.specs.Exp.{reduced, series};
+ghost use Rattle.elementary.specs.Limits.{upToWhole};
 ghost use Rattle.affinity_sigma.specs.Sigma.{weightOf, weighStep, weighed};
 ghost use Rattle.affinity_sigma.specs.Blocks.{blockSize, exponentStep, inReach, halvingsOf, halvingStep, FewHalvings, seriesStep, halvedBy, halvedStep};
 
@@ -78,14 +80,27 @@ fn all_in_reach(xs: &[f64; 32]) -> bool
     all
 }
 
-// How many logarithms of 2 an exponent is below 0, to the nearest: half of the next number up from the whole part of twice its magnitude.
+// Half of the next number up from the whole part of w. Beside 2^52 a value has no fraction: a is w rounded, one more than the whole part where it is above w.
+fn half_up(w: f64) -> u32
+    requires { ⌜ upToWhole w 2150 ⌝ }
+    ensures { λ u. ⌜ u ≡ (toUnsigned 64 w + 1) / 2 ⌝ }
+{
+    let a = (w + 4503599627370496.0) - 4503599627370496.0;
+    let n = a as i32 as u32;
+    if a > w {
+        return n / 2;
+    }
+    (n + 1) / 2
+}
+
+// How many logarithms of 2 an exponent is below 0, to the nearest.
 fn halvings(x: f64) -> u32
     requires { ⌜ inReach x ≡ true ⌝ }
     ensures { λ u. ⌜ u ≡ halvingsOf x ⌝ }
 {
     let q = x / 0.6931471805599453;
     if q < 0.0 {
-        return ((std::num::truncating_f64_to_u64(-(q + q)) + 1) / 2) as u32;
+        return half_up(-(q + q));
     }
     0
 }
