@@ -201,7 +201,8 @@ halved-power (suc u) h = ap (λ (n : ℕ). ofBits binary64 (n * 2 ^ 52)) (top u 
 
 -- ---- its weight
 
-pub weight-halved : (sigma d : Float) → inReach (exponentOf sigma d) ≡ true → halvedBy d (seriesAfter (exponentOf sigma d) (halvingsOf (exponentOf sigma d))) (halvingsOf (exponentOf sigma d)) ≡ weightOf sigma d
+pub weight-halved : (sigma d : Float) → inReach (exponentOf sigma d) ≡ true
+    → halvedBy d (seriesAfter (exponentOf sigma d) (halvingsOf (exponentOf sigma d))) (halvingsOf (exponentOf sigma d)) ≡ weightOf sigma d
 unfolding weightOf expIn
 weight-halved sigma d h =
     let x = exponentOf sigma d in

@@ -6,7 +6,8 @@ use mathlib.Core.Bool.{Bool, true, false, cond, true≢false}
 use Prim.Native.Nat.{ℕ, zero, suc, _+_, _-_, _*_, _/_, _%_, _^_, _<_, _≤_}
 use native.Mathlib.Omega.{arith}
 use native.Mathlib.Numerals.{add-one}
-use native.Mathlib.Nat.{mod-eq-of-lt, mul-one, one-mul, mul-assoc, mul-comm, mul-le-mul-right, mul-lt-mul-of-pos-right, lt-of-not-le, lt-of-lt-of-le, lt-irrefl, le-trans, le-of-eq, le-of-lt, le-of-suc-le-suc}
+use native.Mathlib.Nat.{mod-eq-of-lt, mul-one, one-mul, mul-assoc, mul-comm, mul-le-mul-right, mul-lt-mul-of-pos-right}
+use native.Mathlib.Nat.{lt-of-not-le, lt-of-lt-of-le, lt-irrefl, le-trans, le-of-eq, le-of-lt, le-of-suc-le-suc}
 use lib.Pow.{pow-add}
 use lib.IntN.{ℤ, pos, negsuc, sucℤ, _+ℤ_, _-ℤ_, subℕ, +ℤ-one, sucℤ-+ℤ}
 use lib.ListN.{length}
@@ -81,7 +82,10 @@ module _ (v : Float) (f : T (fits binary64 v)) (t : lt tiny v ≡ true) (u : le 
   share-high = positive-bits v f (at-most-number v one64 u) (above-zero v t) (finite-one v u) .1
 
   pub share-low : 2 ^ 52 ≤ toBits binary64 v
-  share-low = le-of-suc-le-suc (lt-of-not-le (λ h. low-tiny v (toBits binary64 v) (omega (arith, h)) (subst (λ (y : Float). HasValue y false (toBits binary64 v) (2 ^ 1074)) (ofBits-toBits binary64 v f) (low-value (toBits binary64 v) (omega (arith, h)))) t))
+  share-low = le-of-suc-le-suc (lt-of-not-le (λ h. none (omega (arith, h))))
+    where
+      none : toBits binary64 v < 2 ^ 52 → ⊥
+      none h = low-tiny v (toBits binary64 v) h (subst (λ (y : Float). HasValue y false (toBits binary64 v) (2 ^ 1074)) (ofBits-toBits binary64 v f) (low-value (toBits binary64 v) h)) t
 
   pub field-some : 0 < fieldOf v
   field-some = omega (arith, share-low)
@@ -144,7 +148,8 @@ term-held v l h = go (two (lt tiny v))
     go (inl t) = rw (h t)
     go (inr t) = rw t
 
-module _ (p : List Float) (j c : ℕ) (ms₀ ks₀ ls₀ ms ks ls : List Float) (small : c ≤ blockSize) (lm : length ms₀ ≡ blockSize) (lk : length ks₀ ≡ blockSize) (ll : length ls₀ ≡ blockSize)
+module _ (p : List Float) (j c : ℕ) (ms₀ ks₀ ls₀ ms ks ls : List Float) (small : c ≤ blockSize)
+    (lm : length ms₀ ≡ blockSize) (lk : length ks₀ ≡ blockSize) (ll : length ls₀ ≡ blockSize)
     (em : ms ≡ loop (digitStep p j) c 0 ms₀) (ek : ks ≡ loop (powerStep p j) c 0 ks₀) (el : ls ≡ loop (logStep ms ks) blockSize 0 ls₀)
     (h : every (λ t. le (at p (j + t)) one64) c ≡ true) (f : (t : ℕ) → T (fits binary64 (at p (j + t)))) where
   ms-at : (t : ℕ) → t < c → at ms t ≡ digitsOf (heldOf (at p (j + t)))

@@ -1,4 +1,5 @@
-// The weights of a row by blocks of 32. Each pass does one thing to a whole block, in local arrays, so that the divisions of one value do not wait for those of another. A block with an exponent that the passes do not take is weighed singly.
+// The weights of a row by blocks of 32. Each pass does one thing to a whole block, in local arrays, so that no value waits for another.
+// A block with an exponent that the passes do not take is weighed singly.
 ghost use mathlib.Core.Path.{_≡_};
 ghost use mathlib.Core.Bool.{true, _&&_};
 ghost use Prim.Native.Nat.{_+_, _/_, _<_, _≤_};
