@@ -19,7 +19,7 @@ use lib.Ieee.Compare.{differs-from-itself}
 use Rattle.laws.specs.Loops.{loop, every}
 use Rattle.laws.specs.Area.{at, num, zero64, one64}
 use Rattle.laws.proofs.Bools.{two, not-true-is, and-left, and-right}
-use Rattle.laws.proofs.Loops.{Loops, loop-add}
+use Rattle.laws.proofs.Loops.{loop-moved}
 use Rattle.laws.proofs.Every.{every-at, every-next}
 use Rattle.laws.proofs.Written.{written-at}
 use Rattle.elementary.specs.Exp.{ln2, low745, low708, high709, wholeNear, signed, nearUp, expK, expT, expIn, expOf, atMost, fromMinus, power}
@@ -28,31 +28,6 @@ use Rattle.elementary.proofs.Powers.{raised}
 use Rattle.elementary.proofs.Sizes.{signPlus, signed-round, bounded}
 use Rattle.affinity_sigma.specs.Sigma.{weightOf, weighStep}
 use Rattle.affinity_sigma.specs.Blocks.{blockSize, exponentOf, exponentStep, inReach, halvingsOf, halvingStep, FewHalvings, seriesAfter, seriesStep, halvedBy, halvedStep}
-
--- ---- loops that start at j
-
-module _ {A : Type 0} where
-  moved-from : (f g : ℕ → A → A) (j n k : ℕ) (x : A) → ((t : ℕ) (y : A) → t < k + n → g t y ≡ f (j + t) y) → loop g n k x ≡ loop f n (j + k) x
-  unfolding loop
-  moved-from f g j zero k x h = refl
-  moved-from f g j (suc n) k x h =
-      ap (loop g n (k + 1)) (h k x (omega arith))
-      ∙ moved-from f g j n (k + 1) (f (j + k) x) (λ t y l. h t y (omega arith))
-      ∙ ap (λ (i : ℕ). loop f n i (f (j + k) x)) (on j k)
-    where
-      on : (j k : ℕ) → j + (k + 1) ≡ j + k + 1
-      on j k = omega arith
-
-  -- turns from 0 on that are the turns from j on
-  pub loop-moved : (f g : ℕ → A → A) (j n : ℕ) (x : A) → ((t : ℕ) (y : A) → t < n → g t y ≡ f (j + t) y) → loop g n 0 x ≡ loop f n j x
-  loop-moved f g j n x h = moved-from f g j n 0 x (λ t y l. h t y (omega arith)) ∙ ap (λ (i : ℕ). loop f n i x) (add-zero j)
-
-  -- m turns at once
-  pub loop-stretch : {f : ℕ → A → A} {n k : ℕ} {x y : A} (m : ℕ) → Loops f n y k x → k + m ≤ n → Loops f n y (k + m) (loop f m k x)
-  loop-stretch {f} {n} {k} {x} {y} m r h = record { within = h; same = sym (loop-add f m (n - (k + m)) k x) ∙ ap (λ (i : ℕ). loop f i k x) (left n k m h) ∙ r .same }
-    where
-      left : (n k m : ℕ) → k + m ≤ n → m + (n - (k + m)) ≡ n - k
-      left n k m h = omega arith
 
 -- ---- tests of all places
 
@@ -84,9 +59,9 @@ at-most-is a b c h = go (two (ltb a b))
     go (inr l) = le-of-eq (eqb-true a b (and-left (eqb a b) c (rw l at h)))
 
 -- a value from 0 up that is not above 0
-pub nothing : (m : ℕ) (e : ℤ) → le (fin false m e) zero64 ≡ true → m * up e ≤ 0
+pub up-to-zero : (m : ℕ) (e : ℤ) → le (fin false m e) zero64 ≡ true → m * up e ≤ 0
 unfolding le lt eq ofBits
-nothing m e h = omega (arith, at-most-is (m * up e * 1) (0 * 2 ^ 0 * down e) _ h)
+up-to-zero m e h = omega (arith, at-most-is (m * up e * 1) (0 * 2 ^ 0 * down e) _ h)
 
 above-none : (b : Float) → le nan b ≡ true → ⊥
 unfolding le lt eq
@@ -109,7 +84,7 @@ below-high nan t = absurd (above-none zero64 t)
 below-high (inf true) t = refl
 below-high (inf false) t = absurd (inf-above t)
 below-high (fin true m e) t = refl
-below-high (fin false m e) t = le-ltb (709 * 2 ^ 0 * down e) (m * up e * 1) (omega (arith, nothing m e t))
+below-high (fin false m e) t = le-ltb (709 * 2 ^ 0 * down e) (m * up e * 1) (omega (arith, up-to-zero m e t))
 
 pub reach-high : (x : Float) → inReach x ≡ true → lt high709 x ≡ false
 reach-high x h = below-high x (reach-top x h)
@@ -159,7 +134,7 @@ whole-below nan t l = absurd (above-none zero64 t)
 whole-below (inf true) t l = absurd (true≢false l)
 whole-below (inf false) t l = absurd (inf-above t)
 whole-below (fin true m e) t l = rw (quotient-minus m e) (minus-of (quotient m e) (sign-quotient m e))
-whole-below (fin false m e) t l = rw (zero-quotient m e (nothing m e t)) refl
+whole-below (fin false m e) t l = rw (zero-quotient m e (up-to-zero m e t)) refl
 
 pub reach-whole : (x : Float) → inReach x ≡ true → expK x ≡ negℤ (pos (halvingsOf x))
 reach-whole x h = whole-below x (reach-top x h) (reach-low x h)
@@ -201,8 +176,7 @@ halved-power (suc u) h = ap (λ (n : ℕ). ofBits binary64 (n * 2 ^ 52)) (top u 
 
 -- ---- its weight
 
-pub weight-halved : (sigma d : Float) → inReach (exponentOf sigma d) ≡ true
-    → halvedBy d (seriesAfter (exponentOf sigma d) (halvingsOf (exponentOf sigma d))) (halvingsOf (exponentOf sigma d)) ≡ weightOf sigma d
+pub weight-halved : (sigma d : Float) → inReach (exponentOf sigma d) ≡ true → halvedBy d (seriesAfter (exponentOf sigma d) (halvingsOf (exponentOf sigma d))) (halvingsOf (exponentOf sigma d)) ≡ weightOf sigma d
 unfolding weightOf expIn
 weight-halved sigma d h =
     let x = exponentOf sigma d in

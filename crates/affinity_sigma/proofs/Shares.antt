@@ -6,8 +6,7 @@ use mathlib.Core.Bool.{Bool, true, false, cond, true≢false}
 use Prim.Native.Nat.{ℕ, zero, suc, _+_, _-_, _*_, _/_, _%_, _^_, _<_, _≤_}
 use native.Mathlib.Omega.{arith}
 use native.Mathlib.Numerals.{add-one}
-use native.Mathlib.Nat.{mod-eq-of-lt, mul-one, one-mul, mul-assoc, mul-comm, mul-le-mul-right, mul-lt-mul-of-pos-right}
-use native.Mathlib.Nat.{lt-of-not-le, lt-of-lt-of-le, lt-irrefl, le-trans, le-of-eq, le-of-lt, le-of-suc-le-suc}
+use native.Mathlib.Nat.{mod-eq-of-lt, mul-one, one-mul, mul-assoc, mul-comm, mul-le-mul-right, mul-lt-mul-of-pos-right, lt-of-not-le, lt-of-lt-of-le, lt-irrefl, le-trans, le-of-eq, le-of-lt, le-of-suc-le-suc}
 use lib.Pow.{pow-add}
 use lib.IntN.{ℤ, pos, negsuc, sucℤ, _+ℤ_, _-ℤ_, subℕ, +ℤ-one, sucℤ-+ℤ}
 use lib.ListN.{length}
@@ -28,8 +27,9 @@ use Rattle.laws.proofs.Written.{written-at}
 use Rattle.elementary.specs.Ln.{root2, lnAt, lnIn, lnOf}
 use Rattle.elementary.proofs.Parts.{k-is, ln-normal, ln-halved, ln-whole, positive-bits}
 use Rattle.affinity_sigma.specs.Sigma.{tiny, termOf, entropyStep}
-use Rattle.affinity_sigma.specs.Blocks.{blockSize, half, heldOf, fieldOf, unitOf, digitsOf, powerOf, digitStep, powerStep, logBy, logStep, termBy, termStep}
-use Rattle.affinity_sigma.proofs.Blocks.{loop-moved, nothing, at-most-number}
+use Rattle.affinity_sigma.specs.Blocks.{blockSize, oneHalf, standInOf, fieldOf, unitOf, digitsOf, powerOf, digitStep, powerStep, logBy, logStep, termBy, termStep}
+use Rattle.laws.proofs.Loops.{loop-moved}
+use Rattle.affinity_sigma.proofs.Blocks.{up-to-zero, at-most-number}
 
 -- ---- a share that enters is a normal number
 
@@ -64,7 +64,7 @@ above-zero nan h = refl
 above-zero (inf true) h = absurd (true≢false (sym h))
 above-zero (inf false) h = refl
 above-zero (fin true m e) h = absurd (true≢false (sym h))
-above-zero (fin false m e) h = not-true-is (λ t. more (m * up e) (down e) (ltb-true (0x1b7cdfd9d7bdbb * 1 * down e) (m * up e * 2 ^ 86) h) (nothing m e t))
+above-zero (fin false m e) h = not-true-is (λ t. more (m * up e) (down e) (ltb-true (0x1b7cdfd9d7bdbb * 1 * down e) (m * up e * 2 ^ 86) h) (up-to-zero m e t))
   where
     more : (a d : ℕ) → 0x1b7cdfd9d7bdbb * 1 * d < a * 2 ^ 86 → a ≤ 0 → ⊥
     more a d l h = omega (arith, l, h)
@@ -82,10 +82,7 @@ module _ (v : Float) (f : T (fits binary64 v)) (t : lt tiny v ≡ true) (u : le 
   share-high = positive-bits v f (at-most-number v one64 u) (above-zero v t) (finite-one v u) .1
 
   pub share-low : 2 ^ 52 ≤ toBits binary64 v
-  share-low = le-of-suc-le-suc (lt-of-not-le (λ h. none (omega (arith, h))))
-    where
-      none : toBits binary64 v < 2 ^ 52 → ⊥
-      none h = low-tiny v (toBits binary64 v) h (subst (λ (y : Float). HasValue y false (toBits binary64 v) (2 ^ 1074)) (ofBits-toBits binary64 v f) (low-value (toBits binary64 v) h)) t
+  share-low = le-of-suc-le-suc (lt-of-not-le (λ h. low-tiny v (toBits binary64 v) (omega (arith, h)) (subst (λ (y : Float). HasValue y false (toBits binary64 v) (2 ^ 1074)) (ofBits-toBits binary64 v f) (low-value (toBits binary64 v) (omega (arith, h)))) t))
 
   pub field-some : 0 < fieldOf v
   field-some = omega (arith, share-low)
@@ -132,11 +129,11 @@ share-ln v f t u =
 
 -- ---- a block
 
-pub half-high : lt tiny half ≡ true
+pub half-high : lt tiny oneHalf ≡ true
 unfolding lt ofBits
 half-high = refl
 
-pub half-low : le half one64 ≡ true
+pub half-low : le oneHalf one64 ≡ true
 unfolding le lt eq ofBits
 half-low = refl
 
@@ -148,15 +145,14 @@ term-held v l h = go (two (lt tiny v))
     go (inl t) = rw (h t)
     go (inr t) = rw t
 
-module _ (p : List Float) (j c : ℕ) (ms₀ ks₀ ls₀ ms ks ls : List Float) (small : c ≤ blockSize)
-    (lm : length ms₀ ≡ blockSize) (lk : length ks₀ ≡ blockSize) (ll : length ls₀ ≡ blockSize)
+module _ (p : List Float) (j c : ℕ) (ms₀ ks₀ ls₀ ms ks ls : List Float) (small : c ≤ blockSize) (lm : length ms₀ ≡ blockSize) (lk : length ks₀ ≡ blockSize) (ll : length ls₀ ≡ blockSize)
     (em : ms ≡ loop (digitStep p j) c 0 ms₀) (ek : ks ≡ loop (powerStep p j) c 0 ks₀) (el : ls ≡ loop (logStep ms ks) blockSize 0 ls₀)
     (h : every (λ t. le (at p (j + t)) one64) c ≡ true) (f : (t : ℕ) → T (fits binary64 (at p (j + t)))) where
-  ms-at : (t : ℕ) → t < c → at ms t ≡ digitsOf (heldOf (at p (j + t)))
-  ms-at t l = ap (λ (q : List Float). at q t) em ∙ written-at (λ t. digitsOf (heldOf (at p (j + t)))) nan c ms₀ (omega (arith, small, lm)) t l
+  ms-at : (t : ℕ) → t < c → at ms t ≡ digitsOf (standInOf (at p (j + t)))
+  ms-at t l = ap (λ (q : List Float). at q t) em ∙ written-at (λ t. digitsOf (standInOf (at p (j + t)))) nan c ms₀ (omega (arith, small, lm)) t l
 
-  ks-at : (t : ℕ) → t < c → at ks t ≡ powerOf (heldOf (at p (j + t)))
-  ks-at t l = ap (λ (q : List Float). at q t) ek ∙ written-at (λ t. powerOf (heldOf (at p (j + t)))) nan c ks₀ (omega (arith, small, lk)) t l
+  ks-at : (t : ℕ) → t < c → at ks t ≡ powerOf (standInOf (at p (j + t)))
+  ks-at t l = ap (λ (q : List Float). at q t) ek ∙ written-at (λ t. powerOf (standInOf (at p (j + t)))) nan c ks₀ (omega (arith, small, lk)) t l
 
   ls-at : (t : ℕ) → t < blockSize → at ls t ≡ logBy (at ms t) (at ks t)
   ls-at t l = ap (λ (q : List Float). at q t) el ∙ written-at (λ t. logBy (at ms t) (at ks t)) nan blockSize ls₀ (omega (arith, ll)) t l
@@ -164,7 +160,7 @@ module _ (p : List Float) (j c : ℕ) (ms₀ ks₀ ls₀ ms ks ls : List Float) 
   one-log : (t : ℕ) → t < c → lt tiny (at p (j + t)) ≡ true → at ls t ≡ lnOf (at p (j + t))
   one-log t l e =
       let v = at p (j + t) in
-      let q : heldOf v ≡ v = rw e in
+      let q : standInOf v ≡ v = rw e in
       ls-at t (omega (arith, l, small))
       ∙ ap (λ (x : Float). logBy x (at ks t)) (ms-at t l ∙ ap digitsOf q)
       ∙ ap (logBy (digitsOf v)) (ks-at t l ∙ ap powerOf q)

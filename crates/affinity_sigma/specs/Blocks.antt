@@ -1,4 +1,4 @@
--- A row by blocks: what each pass over a block of a row leaves in its places. Definitions only.
+-- A row by blocks: what the private functions leave, each pass over a block of a row in its places. Definitions only.
 use mathlib.Core.List.{List}
 use mathlib.Core.Bool.{Bool, not, cond, _&&_}
 use Prim.Native.Nat.{ℕ, _+_, _-_, _*_, _/_, _^_, _<_, _≤_}
@@ -55,12 +55,12 @@ halvedStep ds j us ts t p = set p (j + t) (halvedBy (at ds (j + t)) (at ts t) (n
 
 -- ---- the entropy of a block
 
-abbrev pub half : Float
-half = bits 0x3fe0000000000000
+abbrev pub oneHalf : Float
+oneHalf = bits 0x3fe0000000000000
 
 -- a share that enters the entropy, and a half for one that does not
-abbrev pub heldOf : Float → Float
-heldOf v = cond (lt tiny v) v half
+abbrev pub standInOf : Float → Float
+standInOf v = cond (lt tiny v) v oneHalf
 
 -- the field of v's exponent, and v's digits as a value from 1 to 2
 abbrev pub fieldOf : Float → ℕ
@@ -78,10 +78,10 @@ abbrev pub powerOf : Float → Float
 powerOf v = ofInt binary64 (pos (cond (lt root2 (unitOf v)) (fieldOf v + 1) (fieldOf v)) -ℤ pos 1023)
 
 abbrev pub digitStep : List Float → ℕ → ℕ → List Float → List Float
-digitStep p j t ms = set ms t (digitsOf (heldOf (at p (j + t))))
+digitStep p j t ms = set ms t (digitsOf (standInOf (at p (j + t))))
 
 abbrev pub powerStep : List Float → ℕ → ℕ → List Float → List Float
-powerStep p j t ks = set ks t (powerOf (heldOf (at p (j + t))))
+powerStep p j t ks = set ks t (powerOf (standInOf (at p (j + t))))
 
 -- the logarithm of m·2^k, k a value
 abbrev pub logBy : Float → Float → Float

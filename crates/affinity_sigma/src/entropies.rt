@@ -7,7 +7,7 @@ ghost use lib.Ieee.{lt, le};
 ghost use Rattle.laws.specs.Loops.{loop, every};
 ghost use Rattle.laws.specs.Area.{at, one64};
 ghost use Rattle.affinity_sigma.specs.Sigma.{tiny, termOf, entropyStep, entropyOf};
-ghost use Rattle.affinity_sigma.specs.Blocks.{blockSize, heldOf, fieldOf, unitOf, digitsOf, powerOf, digitStep, powerStep, logBy, logStep, termBy, termStep};
+ghost use Rattle.affinity_sigma.specs.Blocks.{blockSize, standInOf, fieldOf, unitOf, digitsOf, powerOf, digitStep, powerStep, logBy, logStep, termBy, termStep};
 
 // What a share adds to the entropy.
 fn term(share: f64) -> f64
@@ -50,7 +50,7 @@ fn all_shares(shares: &[f64], j: usize, c: usize) -> bool
 // A share that enters the entropy, and a half for one that does not.
 fn held(v: f64) -> f64
     requires { ⌜ le v one64 ≡ true ⌝ }
-    ensures { λ r. ⌜ (r ≡ heldOf v) × (lt tiny r ≡ true) × (le r one64 ≡ true) ⌝ }
+    ensures { λ r. ⌜ (r ≡ standInOf v) × (lt tiny r ≡ true) × (le r one64 ≡ true) ⌝ }
 {
     if v > 1e-10 {
         return v;

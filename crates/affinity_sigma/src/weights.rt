@@ -1,5 +1,4 @@
-// The weights of a row by blocks of 32. Each pass does one thing to a whole block, in local arrays, so that no value waits for another.
-// A block with an exponent that the passes do not take is weighed singly.
+// The weights of a row by blocks of 32. Each pass does one thing to a whole block, in local arrays, so that the divisions of one value do not wait for those of another. A block with an exponent that the passes do not take is weighed singly.
 ghost use mathlib.Core.Path.{_≡_};
 ghost use mathlib.Core.Bool.{true, _&&_};
 ghost use Prim.Native.Nat.{_+_, _/_, _<_, _≤_};
@@ -68,7 +67,7 @@ pub(crate) fn and_also(a: bool, b: bool) -> bool
     b
 }
 
-// Whether they take all of a block.
+// Whether the passes take all of a block.
 fn all_in_reach(xs: &[f64; 32]) -> bool
     ensures { λ r. ⌜ r ≡ every (λ t. inReach (at (now (xs .entry)) t)) blockSize ⌝ }
 {

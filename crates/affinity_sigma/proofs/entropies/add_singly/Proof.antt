@@ -3,7 +3,7 @@ use mathlib.Core.Path.{refl, _∙_}
 use Prim.Native.Nat.{_+_, _-_}
 use Rattle.laws.proofs.Loops.{Loops, loop-start, loop-more, loop-done}
 use Rattle.affinity_sigma.specs.Sigma.{entropyStep}
-use Rattle.affinity_sigma.proofs.Blocks.{loop-moved}
+use Rattle.laws.proofs.Loops.{loop-moved}
 use borrow.Author.Needs.{needs}
 use native.Mathlib.Omega.{arith}
 use Rattle.affinity_sigma.proofs.entropies.add_singly.Statement.{statement}

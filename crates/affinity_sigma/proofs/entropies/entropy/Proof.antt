@@ -1,9 +1,8 @@
 -- `sigma::entropies::entropy` meets its contract: j shares have entered, a block in each turn. Assumes nothing.
 use mathlib.Core.Path.{_∙_}
 use Prim.Native.Nat.{_-_}
-use Rattle.laws.proofs.Loops.{Loops, loop-start}
+use Rattle.laws.proofs.Loops.{Loops, loop-start, loop-on}
 use Rattle.affinity_sigma.specs.Sigma.{entropyStep}
-use Rattle.affinity_sigma.proofs.Blocks.{loop-stretch}
 use borrow.Author.Needs.{needs}
 use native.Mathlib.Omega.{arith}
 use Rattle.affinity_sigma.proofs.entropies.entropy.Statement.{statement}
@@ -31,7 +30,7 @@ loop-less : tie.Need-loop-less Inv-loop μ-loop
 loop-less c = search needs
 
 loop-again : tie.Need-loop-again Inv-loop μ-loop
-loop-again c = rw (c .add-block .ensures) (loop-stretch 32 (c .before .before .loop .inv) (omega arith))
+loop-again c = rw (c .add-block .ensures) (loop-on 32 (c .before .before .loop .inv) (omega arith))
 
 sub-add-block : tie.Need-sub-add-block Inv-loop μ-loop
 sub-add-block c = search needs

@@ -2,9 +2,8 @@
 use mathlib.Core.Path.{_≡_, refl, _∙_}
 use Prim.Native.Nat.{_-_}
 use lib.ListN.{length}
-use Rattle.laws.proofs.Loops.{Loops, loop-start}
+use Rattle.laws.proofs.Loops.{Loops, loop-start, loop-on}
 use Rattle.affinity_sigma.specs.Sigma.{weighStep}
-use Rattle.affinity_sigma.proofs.Blocks.{loop-stretch}
 use borrow.Author.Needs.{needs}
 use native.Mathlib.Omega.{arith}
 use Rattle.affinity_sigma.proofs.weights.weigh.Statement.{statement}
@@ -32,7 +31,7 @@ loop-less : tie.Need-loop-less Inv-loop μ-loop
 loop-less c = search needs
 
 loop-again : tie.Need-loop-again Inv-loop μ-loop
-loop-again c = (c .before .before .weigh-block .kept .1 .1 .1 .1 .0 ∙ c .before .before .before .before .before .loop .inv .0, rw (c .before .before .weigh-block .ensures) (loop-stretch 32 (c .before .before .before .before .before .loop .inv .1) (omega arith)))
+loop-again c = (c .before .before .weigh-block .kept .1 .1 .1 .1 .0 ∙ c .before .before .before .before .before .loop .inv .0, rw (c .before .before .weigh-block .ensures) (loop-on 32 (c .before .before .before .before .before .loop .inv .1) (omega arith)))
 
 sub-weigh-block : tie.Need-sub-weigh-block Inv-loop μ-loop
 sub-weigh-block c = search needs

@@ -4,7 +4,7 @@ use Prim.Native.Nat.{_+_, _-_}
 use lib.ListN.{length, set}
 use Rattle.laws.proofs.Loops.{Loops, loop-start, loop-more, loop-done}
 use Rattle.affinity_sigma.specs.Sigma.{weighStep}
-use Rattle.affinity_sigma.proofs.Blocks.{loop-moved}
+use Rattle.laws.proofs.Loops.{loop-moved}
 use mathlib.Core.Path.{refl}
 use borrow.Author.Needs.{needs}
 use native.Mathlib.Omega.{arith}
