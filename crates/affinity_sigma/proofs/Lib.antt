@@ -1,3 +1,6 @@
 pub mod Rounds
 pub mod Alone
 pub mod Finite
+pub mod Blocks
+pub mod Shares
+pub mod Whole

@@ -4,7 +4,10 @@ ghost use Prim.Native.Nat.{_≤_};
 ghost use lib.ListN.{length};
 ghost use Rattle.laws.specs.Domain.{mostFrames};
 ghost use Rattle.laws.specs.Loops.{loop};
-ghost use Rattle.affinity_sigma.specs.Sigma.{weightOf, weighed, weightSum, divideStep, sharedBy, rowOf, termOf, entropyOf, excess, narrowed, sigmaShares};
+ghost use Rattle.affinity_sigma.specs.Sigma.{weightSum, divideStep, sharedBy, rowOf, excess, narrowed, sigmaShares};
+
+mod entropies;
+mod weights;
 
 // The most rounds of a search.
 const MOST_ROUNDS: u32 = 50;
@@ -14,28 +17,6 @@ struct Bounds {
     low: f64,
     high: f64,
     sigma: f64,
-}
-
-// The weight of a frame at distance d: nothing at a distance of exactly 0.0.
-fn weight(sigma: f64, d: f64) -> f64
-    ensures { λ r. ⌜ r ≡ weightOf sigma d ⌝ }
-{
-    if d == 0.0 {
-        return 0.0;
-    }
-    elementary::exponential::exp(-d / (2.0 * sigma * sigma))
-}
-
-// The weights of n distances.
-fn weigh(distances: &[f64], n: usize, sigma: f64, shares: &mut [f64])
-    requires { ⌜ (n ≤ length (now distances)) × (n ≤ length (now shares)) ⌝ }
-    ensures { λ _. ⌜ now (shares .exit) ≡ weighed (now (distances .entry)) n sigma (now (shares .entry)) ⌝ }
-{
-    let mut j = 0;
-    while j < n {
-        shares[j] = weight(sigma, distances[j]);
-        j += 1;
-    }
 }
 
 // The sum of the first n, from +0.0 on.
@@ -81,33 +62,9 @@ fn row_for(distances: &[f64], n: usize, sigma: f64, shares: &mut [f64])
     requires { ⌜ (n ≤ length (now distances)) × (n ≤ length (now shares)) × (n ≤ mostFrames) ⌝ }
     ensures { λ _. ⌜ now (shares .exit) ≡ rowOf (now (distances .entry)) n sigma (now (shares .entry)) ⌝ }
 {
-    weigh(distances, n, sigma, shares);
+    weights::weigh(distances, n, sigma, shares);
     let sum = total(shares, n);
     share_out(shares, n, sum);
-}
-
-// What a share adds to the entropy.
-fn term(share: f64) -> f64
-    ensures { λ r. ⌜ r ≡ termOf share ⌝ }
-{
-    if share > 1e-10 {
-        return -share * elementary::logarithm::ln(share);
-    }
-    0.0
-}
-
-// The entropy of the first n shares, from +0.0 on.
-fn entropy(shares: &[f64], n: usize) -> f64
-    requires { ⌜ n ≤ length (now shares) ⌝ }
-    ensures { λ r. ⌜ r ≡ entropyOf (now (shares .entry)) n ⌝ }
-{
-    let mut h = 0.0;
-    let mut j = 0;
-    while j < n {
-        h = h + term(shares[j]);
-        j += 1;
-    }
-    h
 }
 
 // How far the perplexity of the shares is above the one asked for.
@@ -115,7 +72,7 @@ fn excess_of(shares: &[f64], n: usize, perplexity: f64) -> f64
     requires { ⌜ n ≤ length (now shares) ⌝ }
     ensures { λ r. ⌜ r ≡ excess (now (shares .entry)) n perplexity ⌝ }
 {
-    elementary::exponential::exp(entropy(shares, n)) - perplexity
+    elementary::exponential::exp(entropies::entropy(shares, n)) - perplexity
 }
 
 // The bounds after a round that was off by diff.

@@ -1,8 +1,8 @@
--- `sigma::term` meets its contract: a share that enters the entropy, and one that does not. Assumes nothing.
+-- `sigma::entropies::term` meets its contract: a share that enters the entropy, and one that does not. Assumes nothing.
 use Rattle.affinity_sigma.specs.Sigma.{termOf}
 use borrow.Author.Needs.{needs}
-use Rattle.affinity_sigma.proofs.term.Statement.{statement}
-use Rattle.affinity_sigma.proofs.term.Tie as tie
+use Rattle.affinity_sigma.proofs.entropies.term.Statement.{statement}
+use Rattle.affinity_sigma.proofs.entropies.term.Tie as tie
 
 ln-requires : tie.Need-ln-requires
 ln-requires c κs = search needs

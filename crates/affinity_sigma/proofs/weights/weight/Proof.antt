@@ -1,8 +1,8 @@
--- `sigma::weight` meets its contract: a weight by the two cases of the distance. Assumes nothing.
+-- `sigma::weights::weight` meets its contract: a weight by the two cases of the distance. Assumes nothing.
 use Rattle.affinity_sigma.specs.Sigma.{weightOf}
 use borrow.Author.Needs.{needs}
-use Rattle.affinity_sigma.proofs.weight.Statement.{statement}
-use Rattle.affinity_sigma.proofs.weight.Tie as tie
+use Rattle.affinity_sigma.proofs.weights.weight.Statement.{statement}
+use Rattle.affinity_sigma.proofs.weights.weight.Tie as tie
 
 returns : tie.Need-returns
 unfolding weightOf
