@@ -73,15 +73,10 @@ _SAYING = ("state", "iterations", "units")
 
 
 def _parameters(signature: str) -> list:
-    """The types of a function's parameters: of an area its pointer, which is tested, and its length."""
+    """The types of a function's parameters: of an area its pointer and its length."""
     types: list = []
     for letter in signature:
-        if letter in _NUMBERS:
-            types.append(_NUMBERS[letter])
-            continue
-        flags = ["C_CONTIGUOUS", "ALIGNED"] + (["WRITEABLE"] if letter.isupper() else [])
-        pointer = np.ctypeslib.ndpointer(_AREAS[letter.lower()], ndim=1, flags=flags)
-        types += [pointer, ctypes.c_size_t]
+        types += [_NUMBERS[letter]] if letter in _NUMBERS else [ctypes.c_void_p, ctypes.c_size_t]
     return types
 
 
@@ -106,13 +101,24 @@ def _load() -> dict:
 _FUNCTIONS = _load()
 
 
+def _lent(letter: str, area: np.ndarray) -> list:
+    """Pointer and length of an area, once it is tested: nothing else may be lent."""
+    fits = isinstance(area, np.ndarray) and area.dtype == _AREAS[letter.lower()] and area.ndim == 1
+    if not (fits and area.flags.c_contiguous and area.flags.aligned and (letter.islower() or area.flags.writeable)):
+        raise TypeError(f"this cannot be lent as {letter!r}: {area!r}"[:120])
+    return [area.ctypes.data, area.size]
+
+
 def call(name: str, *lent: Any) -> int:
-    """Calls a function with its areas and numbers in the header's order, and answers what it answers."""
+    """Calls a function with its areas and numbers in the header's order, and answers what it answers.
+
+    The areas are tested before and not by ctypes, which would turn a Ctrl-C that falls into its tests into an error of its own."""
+    signature = SIGNATURES[name]
+    if len(lent) != len(signature):
+        raise TypeError(f"brothanchor_{name} is lent {len(signature)} parts, not {len(lent)}")
     words: list = []
-    for part in lent:
-        words.append(part)
-        if isinstance(part, np.ndarray):
-            words.append(part.size)
+    for letter, part in zip(signature, lent):
+        words += [part] if letter in _NUMBERS else _lent(letter, part)
     return _FUNCTIONS[name](*words)
 
 

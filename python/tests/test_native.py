@@ -66,7 +66,7 @@ def test_words_are_the_headers(root):
     ],
 )
 def test_no_other_arrays_are_lent(area):
-    with pytest.raises((ctypes.ArgumentError, TypeError)):
+    with pytest.raises(TypeError, match="cannot be lent"):
         native.call("sizes", area, np.zeros(7, np.uint64))
 
 
@@ -74,10 +74,17 @@ def test_what_is_written_to_is_writeable():
     fixed = np.zeros(7, np.uint64)
     fixed.flags.writeable = False
     words = Settings.taken().words(40, 3)
-    with pytest.raises(ctypes.ArgumentError):
+    with pytest.raises(TypeError, match="cannot be lent"):
         native.call("sizes", words, fixed)
     words.flags.writeable = False
     assert native.call("sizes", words, np.zeros(7, np.uint64)) == 0
+
+
+def test_all_parts_are_lent():
+    words = Settings.taken().words(40, 3)
+    for parts in ((), (words,), (words, np.zeros(7, np.uint64), words)):
+        with pytest.raises(TypeError, match="is lent 2 parts"):
+            native.call("sizes", *parts)
 
 
 def lent(run: Run) -> dict:

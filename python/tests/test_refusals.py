@@ -79,7 +79,7 @@ def test_16(sample, tmp_path):
     assert refused(16, read_monitor, bytes(16)).place == 0
     assert refused(16, Run.unpark, b"").place == 0
     parked = bytearray(Run(frames(20), perplexity=3).park())
-    parked[32 * 2 + 8] = 1
+    parked[32 * 2 + 16] = 3
     assert refused(16, Run.unpark, parked).place == 2
     assert "record 2, counted from 0" in str(refused(16, Run.unpark, parked))
 
@@ -112,7 +112,7 @@ def test_19():
     one = bytearray(lists)
     one[16 * 4 + 8] ^= 1
     assert refused(19, Run.from_lists, one, 20, perplexity=3).place is not None
-    assert refused(19, Run.from_lists, lists[:-1], 20, perplexity=3).place == len(lists) // 16 - 1
+    assert refused(19, Run.from_lists, lists + b"x", 20, perplexity=3).place == len(lists) // 16
     for number, settings in [(7, {"n_samples": 4097}), (7, {"n_samples": -1}), (7, {"n_samples": 20, "n_features": 0}), (9, {"n_samples": 1})]:
         refused(number, Run.from_lists, lists, perplexity=0.5, **settings)
     refused(10, Run.from_lists, lists, 20, perplexity=20)

@@ -22,7 +22,7 @@ BOTH = pytest.mark.parametrize("method", ["exact", "barnes_hut"])
 
 
 def begin(method: str, n: int = 24, n_iter: int = 60) -> Run:
-    return Run(frames(n), perplexity=4, n_iter=n_iter, random_state=7, method=method)
+    return Run(frames(n), perplexity=min(4, n / 3), n_iter=n_iter, random_state=7, method=method)
 
 
 @BOTH
@@ -109,14 +109,27 @@ def test_stopped_by_its_callback_and_gone_on(method, error):
     assert run.divergence() == whole.divergence()
 
 
+def figures_of(run: Run) -> dict:
+    """The divergence after each iteration of a run that is left alone, by their number."""
+    figures = {}
+    while not run.ended:
+        run.iterate()
+        figures[run.iterations] = run.divergence()
+    return figures
+
+
+def figure_fits(run: Run, figures: dict) -> bool:
+    """Whether a run that was interrupted stands between two iterations; the figure is then that of the run that was not."""
+    between = run.iterations > 0 and int(run._areas.record[11]) == 0
+    assert not between or run.divergence() == figures[run.iterations]
+    return between
+
+
 @BOTH
 def test_interrupted_at_any_moment_and_gone_on(method):
-    """A signal every few hundred microseconds, wherever it falls; after each the figure is that of the same iteration elsewhere."""
-    whole, figures = begin(method), {}
-    while not whole.ended:
-        whole.iterate()
-        figures[whole.iterations] = whole.divergence()
-    run, draw, stops, asked = begin(method), random.Random(9), 0, 0
+    """A signal every few hundred microseconds, wherever it falls."""
+    whole, run = begin(method, n_iter=2000), begin(method, n_iter=2000)
+    figures, draw, stops, between = figures_of(whole), random.Random(9), 0, 0
 
     def interrupt(*_):
         raise KeyboardInterrupt
@@ -125,20 +138,57 @@ def test_interrupted_at_any_moment_and_gone_on(method):
     try:
         while not run.ended:
             try:
-                signal.setitimer(signal.ITIMER_REAL, draw.uniform(1e-5, 2e-3))
+                signal.setitimer(signal.ITIMER_REAL, draw.uniform(1e-5, 1e-3))
                 run.work()
                 signal.setitimer(signal.ITIMER_REAL, 0)
             except KeyboardInterrupt:
                 stops += 1
-                if run.iterations > 0 and run._areas.record[11] == 0:
-                    asked += 1
-                    assert run.divergence() == figures[run.iterations]
+                between += figure_fits(run, figures)
     finally:
         signal.setitimer(signal.ITIMER_REAL, 0)
         signal.signal(signal.SIGALRM, before)
-    assert stops > 3 and asked > 1
+    assert stops > 20 and between > 10
     same_run(whole, run)
-    assert run.divergence() == figures[60]
+    figure_fits(run, figures)
+
+
+@BOTH
+@pytest.mark.parametrize("units", [None, 5])
+def test_interrupted_at_every_instruction_and_gone_on(method, units):
+    """At one instruction of the module after the other, until a run comes through."""
+    whole, place = begin(method, 4, 3), 0
+    figures, folder = figures_of(whole), str(Path(brothanchor.__file__).parent)
+
+    class Stop(Exception):
+        pass
+
+    def trace(frame, event, _):
+        nonlocal left
+        frame.f_trace_opcodes = frame.f_code.co_filename.startswith(folder)
+        if event == "opcode":
+            left -= 1
+            if left == 0:
+                raise Stop
+        return trace
+
+    while True:
+        place += 7
+        run, left = begin(method, 4, 3), place
+        before = sys.gettrace()
+        sys.settrace(trace)
+        try:
+            while not run.ended:
+                run.work(units)
+            break
+        except Stop:
+            sys.settrace(before)
+            figure_fits(run, figures)
+            run.work()
+            same_run(whole, run)
+            figure_fits(run, figures)
+        finally:
+            sys.settrace(before)
+    assert place > 2000
 
 
 CHILD = """

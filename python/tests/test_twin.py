@@ -94,6 +94,6 @@ def test_one_bit_is_told(twin):
     case["settings"].update(perplexity=1.0, learning_rate=1.0)
     start, answer = told(case)
     turned = start.copy()
-    turned.view(np.uint64)[0] ^= 1
+    turned.view(np.uint64)[0] ^= np.uint64(1)
     seen = subprocess.run([str(twin)], input=asked(case, turned), stdout=subprocess.PIPE, check=True).stdout
     assert seen != answer and bits(start) != bits(turned)
