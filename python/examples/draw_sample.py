@@ -1,4 +1,4 @@
-"""The sample on a map, drawn with matplotlib: draw_sample.py [PICTURE.png] [FILE.frames]. Its parts can be run one by one, as in a notebook."""
+"""The sample on a map, drawn with matplotlib: draw_sample.py [PICTURE.png] [FILE.frames]. Its parts can be run one by one."""
 
 # %% What is needed. The module is installed, or stands beside this folder.
 import sys

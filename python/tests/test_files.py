@@ -66,7 +66,7 @@ def test_maps_for_the_monitor(sample, tmp_path):
         assert file[16 * i : 16 * i + 16] == expected
     placed = read_monitor(path)
     assert placed.dtype == PLACED and bits(placed["position"]) == bits(positions.astype("f4").astype("f8"))
-    assert [placed[name].tolist() for name in ("picture", "side", "field")] == [table[name].tolist() for name in ("picture", "side", "field")]
+    assert all(placed[name].tolist() == table[name].tolist() for name in ("picture", "side", "field"))
     assert write_monitor(placed) == file == write_monitor(placed, placed["position"].tolist())
     assert write_monitor(placed[:0]) == b"" and read_monitor(b"").shape == (0,)
     assert refused(16, read_monitor, file[:-1]).place == 29

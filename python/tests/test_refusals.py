@@ -113,8 +113,8 @@ def test_19():
     one[16 * 4 + 8] ^= 1
     assert refused(19, Run.from_lists, one, 20, perplexity=3).place is not None
     assert refused(19, Run.from_lists, lists + b"x", 20, perplexity=3).place == len(lists) // 16
-    for number, settings in [(7, {"n_samples": 4097}), (7, {"n_samples": -1}), (7, {"n_samples": 20, "n_features": 0}), (9, {"n_samples": 1})]:
-        refused(number, Run.from_lists, lists, perplexity=0.5, **settings)
+    for number, n, f in [(7, 4097, 1), (7, -1, 1), (7, 20, 0), (9, 1, 1)]:
+        refused(number, Run.from_lists, lists, n, n_features=f, perplexity=0.5)
     refused(10, Run.from_lists, lists, 20, perplexity=20)
     refused(11, Run.from_lists, lists, 20, perplexity=3, init=np.full((20, 2), np.inf))
 
