@@ -302,6 +302,27 @@ def test_parked_and_read_back(method, tmp_path):
         Run.unpark(file, frames(23))
 
 
+@BOTH
+def test_damaged_files_are_refused_or_worked(method):
+    """A parked run with bytes altered at random is refused by 16, or is a run that can be worked."""
+    draw, read, told = random.Random(11), 0, 0
+    run = begin(method, 9, 40)
+    run.iterate(3)
+    file = run.park()
+    for _ in range(600):
+        damaged = bytearray(file)
+        for _ in range(draw.randint(1, 3)):
+            damaged[draw.randrange(len(file)) if draw.random() < 0.7 else draw.randrange(96)] = draw.getrandbits(8)
+        try:
+            again = Run.unpark(damaged[: draw.choice([len(file), len(file), draw.randrange(len(file))])])
+            read += 1
+            again.work(200)
+        except brothanchor.Refused as refused:
+            assert refused.number in (15, 16)
+            told += refused.number == 16
+    assert read > 50 and told > 50
+
+
 def test_a_file_that_cannot_be_written_leaves_nothing(tmp_path):
     run = begin("exact")
     with pytest.raises(OSError):
