@@ -25,7 +25,8 @@ NODE = np.dtype(
         ("first", np.uint32),
         ("leaf", np.uint32),
         ("padding", np.uint32),
-    ]
+    ],
+    align=True,
 )
 
 #: Words of the settings, of a record, of a work call's answer, and of the sizes.
@@ -91,7 +92,10 @@ def _load() -> dict:
         raise ImportError(f"brothanchor: no library, `make` in the folder python builds it: {error}") from error
     functions = {}
     for name, signature in SIGNATURES.items():
-        function = library["brothanchor_" + name]
+        try:
+            function = library["brothanchor_" + name]
+        except AttributeError as error:
+            raise ImportError(f"brothanchor: an old library, `make` in the folder python builds it anew: {error}") from error
         function.argtypes = _parameters(signature)
         function.restype = ctypes.c_uint64 if name in _SAYING else ctypes.c_uint32
         functions[name] = function
@@ -101,10 +105,15 @@ def _load() -> dict:
 _FUNCTIONS = _load()
 
 
+def _is_aligned(area: np.ndarray, letter: str) -> bool:
+    """By its address: an array of nodes may have a type of its own that asks for less."""
+    return area.ctypes.data % np.dtype(_AREAS[letter.lower()]).alignment == 0
+
+
 def _lent(letter: str, area: np.ndarray) -> list:
     """Pointer and length of an area, once it is tested: nothing else may be lent."""
     fits = isinstance(area, np.ndarray) and area.dtype == _AREAS[letter.lower()] and area.ndim == 1
-    if not (fits and area.flags.c_contiguous and area.flags.aligned and (letter.islower() or area.flags.writeable)):
+    if not (fits and area.flags.c_contiguous and _is_aligned(area, letter) and (letter.islower() or area.flags.writeable)):
         raise TypeError(f"this cannot be lent as {letter!r}: {area!r}"[:120])
     return [area.ctypes.data, area.size]
 

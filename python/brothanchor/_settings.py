@@ -41,10 +41,10 @@ class Settings:
     ) -> Settings:
         """Of any arguments; a ValueError names the one that cannot be taken. Whether they are good is for the library to say."""
         if not isinstance(method, str) or method not in METHODS:
-            raise arguments.bad("method", f"'barnes_hut' or 'exact' is asked for, not {method!r}")
+            raise arguments.bad("method", f"'barnes_hut' or 'exact' is asked for, not {arguments.shown(method)}")
         if isinstance(learning_rate, str):
             if learning_rate != "auto":
-                raise arguments.bad("learning_rate", f"a number or 'auto' is asked for, not {learning_rate!r}")
+                raise arguments.bad("learning_rate", f"a number or 'auto' is asked for, not {arguments.shown(learning_rate)}")
         else:
             learning_rate = arguments.number(learning_rate, "learning_rate")
         return Settings(
@@ -78,17 +78,19 @@ class Settings:
 
     def detail(self, number: int, n: int, f: int) -> Optional[str]:
         """The arguments that a refusal is about, with their values."""
+        shown = arguments.shown
+        n_components, n_iter, n_samples, n_features = (shown(value) for value in (self.n_components, self.n_iter, n, f))
         told = {
-            1: f"n_components={self.n_components}",
+            1: f"n_components={n_components}",
             2: f"perplexity={self.perplexity}",
             3: f"learning_rate={self.learning_rate}",
-            4: f"n_iter={self.n_iter}",
+            4: f"n_iter={n_iter}",
             5: f"angle={self.angle}",
-            6: f"n_components={self.n_components}",
-            7: f"X has n_samples={n}, n_features={f}",
-            9: f"X has n_samples={n}",
-            10: f"perplexity={self.perplexity}, n_samples={n}",
-            20: f"n_components={self.n_components}, method={self.method!r}, angle={self.angle}, n_samples={n}",
+            6: f"n_components={n_components}",
+            7: f"X has n_samples={n_samples}, n_features={n_features}",
+            9: f"X has n_samples={n_samples}",
+            10: f"perplexity={self.perplexity}, n_samples={n_samples}",
+            20: f"n_components={n_components}, method={self.method!r}, angle={self.angle}, n_samples={n_samples}",
         }
         return told.get(number)
 
@@ -127,7 +129,7 @@ def is_scatter(init: Any) -> bool:
     if not isinstance(init, str):
         return False
     if init != "random":
-        raise arguments.bad("init", f"'random' or an array (n_samples, n_components) is asked for, not {init!r}")
+        raise arguments.bad("init", f"'random' or an array (n_samples, n_components) is asked for, not {arguments.shown(init)}")
     return True
 
 

@@ -2,8 +2,11 @@
 
 from __future__ import annotations
 
+import errno
 import os
-from typing import Any, NamedTuple
+import secrets
+import stat
+from typing import Any, NamedTuple, Optional
 
 import numpy as np
 
@@ -36,6 +39,9 @@ RULES = {
 }
 
 _MONITOR_RECORD = 16
+#: Of more frames than this a fault is among the first so many: there are 79,999 pictures of three fields at most, and they rise.
+_MOST_FRAMES = 3 * 79_999 + 1
+_MOST_LINKS = 40
 
 
 class Salvaged(NamedTuple):
@@ -90,35 +96,44 @@ def write_monitor(frames: Any, positions: Any = None, path: Any = None) -> bytes
     `frames` has picture, side and field, as FRAME and PLACED have them; `positions` has a row of two for each, and may be left out
     where `frames` has them. Refused with the frame's place: 16 for a picture, side, field or order, 26 for a coordinate."""
     pictures, sides, fields = (_column(frames, *column) for column in (("picture", np.uint32), ("side", np.uint8), ("field", np.uint8)))
-    n = pictures.size
     if positions is None and "position" in frames.dtype.names:
         positions = frames["position"]
     places = arguments.table_of(positions, "positions")
-    if places.shape != (n, 2):
-        raise arguments.bad("positions", f"the shape {(n, 2)} is asked for, not {places.shape}")
+    if places.shape != (frames.size, 2):
+        raise arguments.bad("positions", f"the shape {(frames.size, 2)} is asked for, not {places.shape}")
+    n = pictures.size
     target = np.zeros(_MONITOR_RECORD * n, np.uint8)
-    native.counted("monitor_write", n, pictures, sides, fields, arguments.owned(places, "positions"), target)
+    native.counted("monitor_write", n, pictures, sides, fields, arguments.owned(places[:n], "positions"), target)
     return write_file(target.tobytes(), path)
 
 
 def _column(frames: Any, name: str, kind: Any) -> np.ndarray:
-    """The numbers of frames by a field's name, in an array of their own; one that no frame has is refused as it would be."""
+    """The numbers of frames by a field's name, in an array of their own; one that no frame has is refused as it would be.
+
+    Of more frames than can be without a fault only those that have one are taken."""
     if not isinstance(frames, np.ndarray) or frames.ndim != 1 or name not in (frames.dtype.names or ()):
         raise arguments.bad("frames", f"an array of one dimension with the field {name!r} is asked for")
     column = arguments.numbers_of(frames[name], "frames")
     if column.ndim != 1 or column.dtype.kind not in "iu":
         raise arguments.bad("frames", f"whole numbers are asked for in the field {name!r}, not {frames.dtype[name]}")
-    return arguments.clipped(column, kind, "frames")
+    return arguments.clipped(column[:_MOST_FRAMES], kind, "frames")
 
 
 def write_file(data: bytes, path: Any) -> bytes:
-    """Writes a file where there is a path, and answers its bytes. They go to a file beside it, which then takes its name."""
+    """Writes a file where there is a path, and answers its bytes. They go to a file beside it, which then takes its name.
+
+    So a reader, another thread or a power cut meets the old file or the whole new one. Of a link what it leads to is written. What is
+    there and no regular file is left alone: an OSError names it."""
     if path is None:
         return data
-    target = os.fspath(path)
-    beside = f"{os.fsdecode(target)}.{os.getpid()}.new"
+    target = _followed(arguments.path_of(path, "path"))
+    mode = _mode(target)
+    folder = os.path.dirname(target) or "."
+    beside = os.path.join(folder, f".{secrets.token_hex(8)}.new")
     try:
-        with open(beside, "wb") as file:
+        with open(beside, "xb") as file:
+            if mode is not None:
+                os.fchmod(file.fileno(), mode)
             file.write(data)
             file.flush()
             os.fsync(file.fileno())
@@ -127,4 +142,32 @@ def write_file(data: bytes, path: Any) -> bytes:
         if os.path.exists(beside):
             os.remove(beside)
         raise
+    # The name is kept in the folder, which has to be on the disc too.
+    handle = os.open(folder, os.O_RDONLY | os.O_DIRECTORY)
+    try:
+        os.fsync(handle)
+    finally:
+        os.close(handle)
     return data
+
+
+def _followed(target: str) -> str:
+    """What a path leads to, if it is a link; an OSError where it names no file or the links lead nowhere."""
+    for _ in range(_MOST_LINKS):
+        if os.path.basename(target) in ("", ".", ".."):
+            raise OSError(errno.EISDIR, "this names no file", target)
+        if not os.path.islink(target):
+            return target
+        target = os.path.join(os.path.dirname(target), os.readlink(target))
+    raise OSError(errno.ELOOP, os.strerror(errno.ELOOP), target)
+
+
+def _mode(target: str) -> Optional[int]:
+    """The permissions of the file that is there, which the new one takes over; None where there is none. An OSError for what is no file."""
+    try:
+        mode = os.stat(target).st_mode
+    except FileNotFoundError:
+        return None
+    if not stat.S_ISREG(mode):
+        raise OSError(errno.EISDIR if stat.S_ISDIR(mode) else errno.EINVAL, "this is no regular file, and is left alone", target)
+    return stat.S_IMODE(mode) & 0o777

@@ -39,6 +39,27 @@ class Strip(NamedTuple):
     positions: np.ndarray
 
 
+#: What each area of a run holds, in the header's order.
+_KINDS = {
+    "record": np.uint64,
+    "positions": np.float64,
+    "increments": np.float64,
+    "gains": np.float64,
+    "affinities": np.float64,
+    "indices": np.uint32,
+    "offsets": np.uint32,
+    "forces": np.float64,
+    "nodes": native.NODE,
+}
+
+
+def _copied(part: Any, kind: Any, length: int, name: str) -> np.ndarray:
+    """A copy of an array that was kept, if it is one of this kind and length."""
+    if not isinstance(part, np.ndarray) or part.dtype != kind or part.shape != (length,):
+        raise arguments.bad("state", f"{name}: {length} of {np.dtype(kind).name} are asked for")
+    return np.array(part, dtype=kind, order="C", copy=True, subok=False)
+
+
 @dataclass
 class _Areas:
     """What is lent to every call of a run. Nobody else has these arrays, and none is ever resized."""
@@ -54,20 +75,28 @@ class _Areas:
     nodes: np.ndarray
 
     @staticmethod
-    def new(sizes: Sizes) -> _Areas:
-        """As long as the sizes ask for, with an arena in which 14 never comes."""
+    def lengths(sizes: Sizes) -> dict:
+        """How long each is by the sizes, with an arena in which 14 never comes."""
         cells, affinities, indices, offsets, forces, _, nodes = sizes
-        return _Areas(
-            record=np.zeros(native.RECORD_WORDS, np.uint64),
-            positions=np.zeros(cells, np.float64),
-            increments=np.zeros(cells, np.float64),
-            gains=np.zeros(cells, np.float64),
-            affinities=np.zeros(affinities, np.float64),
-            indices=np.zeros(indices, np.uint32),
-            offsets=np.zeros(offsets, np.uint32),
-            forces=np.zeros(forces, np.float64),
-            nodes=np.zeros(nodes, native.NODE),
-        )
+        rows = cells, cells, cells, affinities, indices, offsets, forces, nodes
+        return dict(zip(_KINDS, (native.RECORD_WORDS, *rows)))
+
+    @staticmethod
+    def new(sizes: Sizes) -> _Areas:
+        """As long as the sizes ask for."""
+        return _Areas(**{name: np.zeros(length, _KINDS[name]) for name, length in _Areas.lengths(sizes).items()})
+
+    @staticmethod
+    def kept(parts: dict, used: np.ndarray) -> _Areas:
+        """Copies of parts that were kept, once they are tested: as long as the record's settings ask for, of the nodes those in use."""
+        record = _copied(parts["record"], np.uint64, native.RECORD_WORDS, "record")
+        lengths = _Areas.lengths(_settings.sizes_of(record[: native.SETTINGS_WORDS].copy()))
+        most = lengths.pop("nodes")
+        copies = {name: _copied(parts[name], _KINDS[name], length, name) for name, length in lengths.items()}
+        first = _copied(used, native.NODE, min(np.size(used), most), "used")
+        nodes = np.zeros(most, native.NODE)
+        nodes[: first.size] = first
+        return _Areas(**copies, nodes=nodes)
 
     def filled(self) -> list:
         """Those that a preparation fills, in the header's order; the record and the nodes stand apart."""
@@ -154,7 +183,9 @@ class Run:
         """Begun from a neighbour list that another tool made, its bytes or a path: Barnes-Hut over so many frames, by no table.
 
         Refused is 19 with the record at which a rule of the list fails."""
-        taken = Settings.taken(**{**settings, "method": "barnes_hut"})
+        taken = Settings.taken(**settings)
+        if taken.method != "barnes_hut":
+            raise arguments.bad("method", f"'barnes_hut' is asked for, since only such a run has lists, not {taken.method!r}")
         file = arguments.contents(lists, "lists")
         n, f = arguments.whole(n_samples, "n_samples"), arguments.whole(n_features, "n_features")
         seed = arguments.seed_of(random_state) if _settings.is_scatter(init) else None
@@ -172,7 +203,12 @@ class Run:
     # What the record says.
 
     def _word(self, place: int) -> int:
-        return int(self._areas.record[place])
+        with self._turn:
+            return int(self._areas.record[place])
+
+    def _said(self, name: str) -> int:
+        with self._turn:
+            return native.call(name, self._areas.record)
 
     @property
     def n_samples(self) -> int:
@@ -202,7 +238,8 @@ class Run:
     @property
     def learning_rate(self) -> float:
         """The learning rate that it goes by."""
-        return float(self._areas.record.view(np.float64)[native.RATE])
+        with self._turn:
+            return float(self._areas.record.view(np.float64)[native.RATE])
 
     @property
     def seed(self) -> Optional[int]:
@@ -212,7 +249,7 @@ class Run:
     @property
     def state(self) -> str:
         """'running', 'stopped' (every gradient was below min_grad_norm) or 'finished' (all iterations are done)."""
-        return _STATES[native.call("state", self._areas.record)]
+        return _STATES[self._said("state")]
 
     @property
     def ended(self) -> bool:
@@ -222,18 +259,19 @@ class Run:
     @property
     def iterations(self) -> int:
         """Iterations done."""
-        return native.call("iterations", self._areas.record)
+        return self._said("iterations")
 
     @property
     def units(self) -> int:
         """Units done in all."""
-        return native.call("units", self._areas.record)
+        return self._said("units")
 
     @property
     def units_left(self) -> int:
         """Units to the end of the iteration under way; those of a whole one between two iterations."""
-        whole = 2 * self.n_samples + (2 if self._word(native.METHOD) else 1)
-        return whole - self._word(native.PHASE)
+        with self._turn:
+            whole = 2 * self.n_samples + (2 if self._word(native.METHOD) else 1)
+            return whole - self._word(native.PHASE)
 
     @property
     def positions(self) -> np.ndarray:
@@ -258,7 +296,7 @@ class Run:
         where a value would leave the range of numbers that a map may have: the run stands before that unit."""
         asked = None if units is None else arguments.whole(units, "units")
         if asked is not None and asked < 0:
-            raise arguments.bad("units", f"at least 0 is asked for, not {asked}")
+            raise arguments.bad("units", f"at least 0 is asked for, not {arguments.shown(asked)}")
         done = 0
         while (asked is None or done < asked) and not self.ended:
             done += self._step(None if asked is None else asked - done)
@@ -323,11 +361,14 @@ class Run:
         """Takes samples out, named by a rising list; answers where each that is left stood before. The positions are centred anew.
 
         Refused: 17 inside an iteration, 18 where the list does not rise strictly or names a sample that there is not or where too many
-        links would be left, 9 and 10 where too few frames would be, 15 where a centred position would be out of range."""
-        gone = arguments.samples_of(samples, "samples")
+        links would be left, 9 and 10 where too few frames would be, 15 where a centred position would be out of range.
+
+        It is one call, for which Ctrl-C waits. Where one comes meanwhile, nothing is answered, though the samples may be out:
+        `n_samples` then tells. Whoever needs to know which frame is which keeps their names beside `samples`."""
         with self._turn:
             areas = self._areas
             n, f = self.n_samples, self.n_features
+            gone = arguments.samples_of(samples, n, "samples")
             table = np.zeros(n * f, np.float64) if self._table is None else self._table
             old = np.zeros(n, np.uint32)
             left = native.counted("take_out", *areas.all(), table, gone, old)
@@ -348,23 +389,35 @@ class Run:
             native.counted("strip", *self._areas.all(), order, gaps)
             return Strip(order.astype(np.intp), gaps, self._areas.positions[:n].copy())
 
-    # Kept and copied as its parts; of the arena only the nodes in use.
+    # Kept and copied as its parts, as long as its settings ask for; of the arena only the nodes in use.
 
     def __getstate__(self) -> dict:
         with self._turn:
-            parts = {field.name: getattr(self._areas, field.name).copy() for field in fields(self._areas)[:-1]}
-            used = self._areas.nodes[: self._word(native.NODES_USED)].copy()
-            copies = [copy.copy() for copy in self._copies]
-            table = None if self._table is None else self._table.copy()
-            return {"parts": parts, "used": used, "nodes": self._areas.nodes.size, "copies": copies, "table": table, "seed": self._seed}
+            areas, copies, table = self._areas, self._copies, self._table
+            lengths = _Areas.lengths(_settings.sizes_of(areas.record[: native.SETTINGS_WORDS].copy()))
+            most = lengths.pop("nodes")
+            return {
+                "parts": {name: getattr(areas, name)[:length].copy() for name, length in lengths.items()},
+                "used": areas.nodes[: min(self._word(native.NODES_USED), most)].copy(),
+                "copies": [copy[: lengths["positions"]].copy() for copy in copies],
+                "table": None if table is None else table[: self.n_samples * self.n_features].copy(),
+                "seed": self._seed,
+            }
 
     def __setstate__(self, state: dict) -> None:
-        nodes = np.zeros(state["nodes"], native.NODE)
-        nodes[: state["used"].size] = state["used"]
-        parts = {name: np.array(part) for name, part in state["parts"].items()}
-        table = None if state["table"] is None else np.array(state["table"])
-        self._stand(_Areas(**parts, nodes=nodes), table, state["seed"])
-        self._copies = [np.array(copy) for copy in state["copies"]]
+        """Of a state that was altered: a ValueError, or what the library refuses of such areas, or a run that can be worked."""
+        try:
+            areas = _Areas.kept(state["parts"], state["used"])
+            one, other = (_copied(copy, np.float64, areas.positions.size, "copies") for copy in state["copies"])
+            table, seed = state["table"], state["seed"]
+        except (KeyError, TypeError, IndexError) as error:
+            raise arguments.bad("state", f"this is no run: {error!r}") from error
+        values = int(areas.record[native.N]) * int(areas.record[native.F])
+        table = None if table is None else _copied(table, np.float64, values, "table")
+        answer = np.zeros(native.ANSWER_WORDS, np.uint64)
+        native.unless_0(native.call("work", *areas.all(), 0, answer), answer[4])
+        self._stand(areas, table, None if seed is None else arguments.seed_of(arguments.whole(seed, "state: seed")))
+        self._copies = [one, other]
 
     def __repr__(self) -> str:
         return f"<Run of {self.n_samples} frames, {self.state}: {self.iterations} of {self.n_iter} iterations>"
