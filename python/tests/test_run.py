@@ -159,7 +159,7 @@ def test_interrupted_at_every_instruction_and_gone_on(method, units):
     whole, place = begin(method, 4, 3), 0
     figures, folder = figures_of(whole), str(Path(brothanchor.__file__).parent)
 
-    class Stop(Exception):
+    class Stop(BaseException):
         pass
 
     def trace(frame, event, _):
