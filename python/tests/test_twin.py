@@ -33,7 +33,7 @@ def drawn(draw: random.Random) -> dict:
     init = draw.choice([None, rng.normal(size=(n, c)) * draw.choice([1e-4, 1.0]), np.zeros((n, c))])
     calls = [draw.choice([0, 1, draw.randint(1, 40), draw.randint(1, 2000)]) for _ in range(draw.randint(0, 12))]
     if draw.random() < 0.15:
-        # To its end, by its gradients where they are below: no run stops before its 250th iteration.
+        # To its end, by its gradients where they are below: they are tested from iteration 250 on.
         settings.update(learning_rate=draw.choice(["auto", 1.0]), n_iter=300, min_grad_norm=draw.choice([1e-7, 1e-2, 1e9]))
         calls.append(10**5)
     is_strip = method == "barnes_hut" and draw.random() < 0.3
