@@ -167,6 +167,7 @@ BAD = [
     range(2**40),
     range(10**5000),
     [range(2**60), range(2**60)],
+    (range(2**25), range(2**25)),
     NoArray(),
     [[NoArray()], [1.0]],
     [[Raising()], [1.0]],

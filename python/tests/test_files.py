@@ -124,7 +124,8 @@ def test_what_is_no_file_is_left_alone(tmp_path, monkeypatch):
     os.symlink("/dev/null", "to-null")
     with socket.socket(socket.AF_UNIX) as listening:
         listening.bind("socket")
-    before = {name: os.lstat(name) for name in os.listdir(".")}
+    standing = lambda: {name: (os.lstat(name).st_ino, os.lstat(name).st_mode, os.lstat(name).st_mtime) for name in os.listdir(".")}  # noqa: E731
+    before = standing()
     told = {"pipe": "pipe", "folder": "folder", "to-pipe": "pipe", "to-folder": "folder", "to-null": "/dev/null", "socket": "socket"}
     for path, named in {**told, "/dev/null": "/dev/null", "/": "/", ".": ".", "folder/..": "..", "new/": "new/"}.items():
         with pytest.raises(OSError, match="this is no regular file, and is left alone|this names no file") as error:
@@ -136,8 +137,7 @@ def test_what_is_no_file_is_left_alone(tmp_path, monkeypatch):
     for path in (3, 3.5, [], "a\0b", b"a\0b", Path("a\0b"), object()):
         with pytest.raises(ValueError, match="^path: "):
             write_file(b"what", path)
-    after = {name: os.lstat(name) for name in os.listdir(".")}
-    assert {n: (s.st_ino, s.st_mode, s.st_mtime) for n, s in after.items()} == {n: (s.st_ino, s.st_mode, s.st_mtime) for n, s in before.items()}
+    assert standing() == before
     assert stat.S_ISCHR(os.stat("/dev/null").st_mode)
 
 

@@ -320,7 +320,8 @@ def altered(state: dict) -> list:
         states += [{**state, name: value} for value in (3.5, "x", [], {}, [1, 2], np.zeros((2, 2)))]
     for name, part in parts.items():
         states.append({**state, "parts": {key: value for key, value in parts.items() if key != name}})
-        for other in (None, part.tolist(), np.append(part, part[:1]), part.astype(np.float32), part.reshape(-1, 1), part.byteswap().newbyteorder()):
+        swapped = part.byteswap().view(part.dtype.newbyteorder())
+        for other in (None, part.tolist(), np.append(part, part[:1]), part.astype(np.float32), part.reshape(-1, 1), swapped):
             if not (isinstance(other, np.ndarray) and other.shape == part.shape and other.dtype == part.dtype):
                 states.append({**state, "parts": {**parts, name: other}})
         if part.size:
