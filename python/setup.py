@@ -2,6 +2,7 @@
 
 No network is needed with Debian's python3-setuptools and python3-wheel. The folder has to stand in its repository."""
 
+import shutil
 import subprocess
 from pathlib import Path
 
@@ -12,13 +13,14 @@ HERE = Path(__file__).resolve().parent
 
 
 class Linked(build_py):
-    """The modules, and beside them the shared object, linked anew."""
+    """The modules, and beside them the shared object, linked anew, and the notice of what the library was ported from."""
 
     def run(self) -> None:
         super().run()
         folder = Path(self.build_lib).resolve() / "brothanchor"
         folder.mkdir(parents=True, exist_ok=True)
         subprocess.run([str(HERE / "link"), str(folder / "_brothanchor.so")], check=True)
+        shutil.copy(HERE.parent / "NOTICE", folder / "NOTICE")
 
 
 class Native(Distribution):

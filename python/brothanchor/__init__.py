@@ -6,7 +6,8 @@
 
 TSNE has the names and habits of scikit-learn. Run is a run that is worked in budgets, parked, thinned and asked for its divergence.
 read_frames, salvage, read_monitor and write_monitor are the desk's files as numpy arrays. What the library refuses is a Refused, with
-number, place and meaning; an argument that it cannot be given at all is a ValueError that names it.
+number, place and meaning; an argument that it cannot be given at all is a ValueError that names it, a keyword that there is not a
+TypeError.
 """
 
 from typing import Any

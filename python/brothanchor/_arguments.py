@@ -13,8 +13,8 @@ import numpy as np
 
 #: The largest word.
 _MOST = 2**64 - 1
-#: What has more elements or bytes than this without holding them, as a range or a broadcast array, is not copied.
-_MOST_COPIED = 2**31
+#: A range with more numbers than this, and an array that tells of more bytes than this and does not hold them, is not copied.
+_MOST_NUMBERS, _MOST_BYTES = 2**24, 2**31
 
 
 def bad(name: str, why: str) -> ValueError:
@@ -58,7 +58,8 @@ def word(value: int) -> int:
 
 def numbers_of(given: Any, name: str) -> np.ndarray:
     """An array of real numbers as numpy has it, of any shape and size, not copied yet: a shape may be far larger than what it holds."""
-    if isinstance(given, range) and given[_MOST_COPIED:]:
+    rows = given if isinstance(given, (list, tuple)) else (given,)
+    if any(isinstance(row, range) and row[_MOST_NUMBERS:] for row in rows):
         raise bad(name, f"these are too many numbers: {shown(given)}")
     try:
         sparse = hasattr(given, "toarray")
@@ -170,7 +171,7 @@ def contents(source: Any, name: str) -> np.ndarray:
         raise bad(name, f"bytes or a path are asked for, not {_kind(source)}")
     try:
         view = memoryview(source)
-        if view.nbytes > _MOST_COPIED and not view.contiguous:
+        if view.nbytes > _MOST_BYTES and not view.contiguous:
             raise ValueError("these are too many bytes")
         return np.frombuffer(view.tobytes(), np.uint8)
     except ValueError as error:

@@ -59,7 +59,7 @@ class Settings:
 
     def rate(self, n: int) -> float:
         """The learning rate of a run of n frames. By itself it grows with them, and is at least 50, as scikit-learn has it."""
-        return max(n / 12 / 4, 50.0) if isinstance(self.learning_rate, str) else self.learning_rate
+        return max(arguments.word(n) / 12 / 4, 50.0) if isinstance(self.learning_rate, str) else self.learning_rate
 
     def words(self, n: int, f: int) -> np.ndarray:
         """The nine words, for n frames with f features."""

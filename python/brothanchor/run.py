@@ -114,8 +114,8 @@ class Run:
     sharing out of the units gives the same bits. Between two calls Ctrl-C is heard; the run then stands after the last unit done, and
     goes on with the next `work`. So it does after an error of a progress callback.
 
-    A run may be handed from thread to thread. One call is made at a time: another thread waits until it has ended. A signal's handler
-    must not work the run that it may have interrupted.
+    A run may be handed from thread to thread. One call is made at a time: another thread waits until it has ended, also to read what
+    the run says of itself. A signal's handler must not work the run that it may have interrupted.
     """
 
     _areas: _Areas

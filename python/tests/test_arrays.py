@@ -1,6 +1,7 @@
 """Any array: what can be taken gives the same bits as its doubles, the rest a refusal or a ValueError that names the argument."""
 
 import array
+import decimal
 import fractions
 
 import numpy as np
@@ -34,6 +35,39 @@ class Offered:
 
     def __array__(self, dtype=None, copy=None):
         return np.asarray(self.values, dtype)
+
+
+class NoArray:
+    """What raises an error of its own where it is asked for an array."""
+
+    def __array__(self, *_, **__):
+        raise RuntimeError("not now")
+
+
+class Raising:
+    """What raises an error of its own where it is asked for a number, or for its words."""
+
+    def __float__(self):
+        raise ZeroDivisionError("no number today")
+
+    __index__ = __float__
+
+    def __repr__(self):
+        raise LookupError("no words")
+
+
+class Half:
+    """A number of another kind."""
+
+    def __float__(self):
+        return 0.5
+
+
+class Three:
+    """A whole number of another kind."""
+
+    def __index__(self):
+        return 3
 
 
 WHOLE = np.arange(24).reshape(8, 3) % 7
@@ -83,6 +117,8 @@ def test_other_holders():
     assert mapped(memoryview(values)) == expected
     assert mapped([[fractions.Fraction(int(v)) for v in row] for row in WHOLE]) == expected
     assert mapped(tuple(map(tuple, WHOLE))) == expected
+    assert mapped([[decimal.Decimal(int(v)) for v in row] for row in WHOLE]) == expected
+    assert mapped(np.array([[Half(), Three(), np.float32(2)]] * 8, object)) == mapped([[0.5, 3.0, 2.0]] * 8)
 
 
 BAD = [
@@ -120,6 +156,22 @@ BAD = [
     np.zeros(8, [("a", "f8"), ("b", "f8")]),
     np.ma.array(np.zeros((8, 3)), mask=np.eye(8, 3)),
     np.array([[1, "a"], [2, "b"]], object),
+    np.array([["1", "2"], ["3", "4"]], object),
+    np.array([[1, np.str_("2")], [3, 4]], object),
+    np.array([[1, b"2"], [3, 4]], object),
+    np.array([[1, np.datetime64(1, "s")], [3, 4]], object),
+    np.array([[1, np.timedelta64(1, "s")], [3, 4]], object),
+    np.array([[1, np.complex64(2)], [3, 4]], object),
+    np.array([[1, 2j], [3, 4]], object),
+    [[10**5000], [1]],
+    range(2**40),
+    range(10**5000),
+    [range(2**60), range(2**60)],
+    (range(2**25), range(2**25)),
+    NoArray(),
+    [[NoArray()], [1.0]],
+    [[Raising()], [1.0]],
+    np.array([[Raising()], [1.0]], object),
     np.broadcast_to(np.uint8(1), (2**20, 2**20, 2**20)),
     range(5),
     type,
@@ -171,11 +223,23 @@ def test_whole_numbers_beyond_a_double():
     assert mapped(np.full((8, 3), 2**20)) == mapped(np.full((8, 3), 2.0**20))
 
 
-BAD_NUMBERS = [None, "30", b"1", [1], np.zeros(2), 1j, object(), {}, "nan", np.datetime64(1, "s"), np.array(["a"]), 10**400]
+def str_of(value) -> str:
+    return type(value).__name__
+
+
+class Unreal(float):
+    """A number that will not be one."""
+
+    __float__ = __index__ = Raising.__float__
+    __repr__ = Raising.__repr__
+
+
+BAD_NUMBERS = [None, "30", b"1", [1], np.zeros(2), 1j, object(), {}, "nan", np.datetime64(1, "s"), np.array(["a"]), Raising(), Unreal()]
+TOO_LARGE = [10**400, 10**5000, -(10**5000), fractions.Fraction(10**5000)]
 
 
 @pytest.mark.parametrize("name", ["perplexity", "learning_rate", "angle", "min_grad_norm"])
-@pytest.mark.parametrize("value", BAD_NUMBERS)
+@pytest.mark.parametrize("value", [*BAD_NUMBERS, *TOO_LARGE], ids=str_of)
 def test_what_is_no_number(name, value):
     for make in (lambda: Run(frames(8), **{name: value}), lambda: TSNE(**{name: value}).fit(frames(8))):
         with pytest.raises(ValueError, match=f"^{name}: "):
@@ -183,7 +247,7 @@ def test_what_is_no_number(name, value):
 
 
 @pytest.mark.parametrize("name", ["n_components", "n_iter"])
-@pytest.mark.parametrize("value", [*BAD_NUMBERS[:-1], 2.0, np.float64(2), float("nan")])
+@pytest.mark.parametrize("value", [*BAD_NUMBERS, 2.0, np.float64(2), float("nan")], ids=str_of)
 def test_what_is_no_whole_number(name, value):
     with pytest.raises(ValueError, match=f"^{name}: "):
         Run(frames(8), **{name: value})
@@ -195,10 +259,49 @@ def test_what_is_no_method(value):
         Run(frames(8), method=value)
 
 
-@pytest.mark.parametrize("value", [-1, 2**64, 1.5, "1", [1], np.zeros(2, int)])
+@pytest.mark.parametrize("value", [-1, 2**64, 10**5000, 1.5, "1", [1], np.zeros(2, int), Raising()], ids=str_of)
 def test_what_is_no_seed(value):
     with pytest.raises(ValueError, match="^random_state: "):
         Run(frames(8), perplexity=2, random_state=value)
+
+
+def test_whole_numbers_past_what_python_writes():
+    """Refused by their numbers or told by name, with how long they are."""
+    for number, name in ((1, "n_components"), (4, "n_iter")):
+        for value in (10**5000, -(10**5000)):
+            assert f"{name}=a whole number of 16610 bits" in str(refused(number, Run, frames(8), perplexity=2, **{name: value}))
+    lists = Run(frames(8), perplexity=2).lists()
+    assert "n_samples=a whole number of" in str(refused(7, Run.from_lists, lists, 10**5000, perplexity=2))
+    assert "n_features=a whole number of" in str(refused(7, Run.from_lists, lists, 8, n_features=10**5000, perplexity=2))
+    run = Run(frames(8), perplexity=2)
+    refused(18, run.take_out, [10**5000])
+    for act in (run.work, run.iterate):
+        with pytest.raises(ValueError, match="^(units|count): "):
+            act(Raising())
+    with pytest.raises(ValueError, match="^units: .* a whole number of"):
+        run.work(-(10**5000))
+
+
+def test_an_error_of_an_element_is_kept():
+    for X in (NoArray(), np.array([[Raising()], [1.0]], object)):
+        with pytest.raises(ValueError, match="^X: ") as told:
+            Run(X, perplexity=0.5)
+        assert isinstance(told.value.__cause__, (RuntimeError, ZeroDivisionError))
+    with pytest.raises(ValueError, match="^perplexity: ") as told:
+        Run(frames(8), perplexity=Unreal())
+    assert isinstance(told.value.__cause__, ZeroDivisionError)
+
+
+def test_masks_are_looked_at_once_the_shape_is_judged():
+    shape = (2**28, 2**28)
+    table = np.ma.array(np.broadcast_to(1.0, shape), mask=np.broadcast_to(False, shape), copy=False)
+    refused(7, Run, table, perplexity=2)
+
+
+def test_keywords_that_there_are_not():
+    for make in (lambda: Run(frames(8), verbose=1), lambda: TSNE(verbose=1), lambda: Run.from_lists(b"", 8, verbose=1)):
+        with pytest.raises(TypeError, match="verbose"):
+            make()
 
 
 def test_numbers_of_other_kinds():
@@ -221,9 +324,10 @@ def test_arrays_at_random():
             X = np.asarray(whole).astype(kinds[rng.integers(len(kinds))]) if rng.random() < 0.9 else whole / 0.0
         if X.ndim == 2 and rng.random() < 0.5:
             X = X.T[:: rng.choice([-1, 1, 2])]
+        perplexity = float(rng.choice([0.5, 2.0]))
         try:
-            seen = mapped(X, perplexity=float(rng.choice([0.5, 2.0])))
-            assert seen == seen and X.ndim == 2
+            seen = mapped(X, perplexity=perplexity)
+            assert seen == mapped(np.array(X, np.float64), perplexity=perplexity) and X.ndim == 2
             met.add("mapped")
         except Refused as told:
             met.add(told.number)

@@ -1,13 +1,18 @@
 """The desk's files as arrays, against the library's own words and against the files' layout."""
 
+import os
+import socket
+import stat
 import struct
+from pathlib import Path
 
 import numpy as np
 import pytest
-from conftest import bits, frames, refused
+from conftest import bits, refused
 
 from brothanchor import FRAME, PLACED, RULES, TSNE, read_frames, read_monitor, salvage, write_monitor
 from brothanchor import _native as native
+from brothanchor.files import write_file
 
 
 def test_frames_are_the_librarys(sample):
@@ -55,6 +60,107 @@ def test_every_rule_of_a_scuffed_file(sample):
     assert (empty.file, empty.places.size, empty.rules.size) == (b"", 0, 0)
 
 
+@pytest.mark.parametrize("read", [read_frames, salvage, read_monitor])
+def test_what_is_no_path_and_what_is_too_large(read, tmp_path):
+    many = np.broadcast_to(np.uint8(1), 2**40)
+    gone = memoryview(bytes(72))
+    gone.release()
+    for source in ("a\0b", Path("a\0b"), many, memoryview(many), np.broadcast_to(np.uint8(1), (2**31, 72)), gone):
+        with pytest.raises(ValueError, match="^source: "):
+            read(source)
+    with pytest.raises(IsADirectoryError):
+        read(tmp_path)
+
+
+def names(folder: Path) -> list:
+    return sorted(each.name for each in folder.iterdir())
+
+
+@pytest.mark.parametrize("umask, mode", [(0o022, 0o644), (0o077, 0o600), (0o002, 0o664), (0, 0o666)])
+def test_a_file_has_the_permissions_of_any(umask, mode, tmp_path):
+    before = os.umask(umask)
+    try:
+        write_file(b"new", tmp_path / "new")
+        (tmp_path / "old").write_bytes(b"old")
+        (tmp_path / "old").chmod(0o640)
+        write_file(b"new", tmp_path / "old")
+    finally:
+        os.umask(before)
+    assert stat.S_IMODE((tmp_path / "new").stat().st_mode) == mode
+    assert stat.S_IMODE((tmp_path / "old").stat().st_mode) == 0o640
+    assert names(tmp_path) == ["new", "old"] and (tmp_path / "old").read_bytes() == b"new"
+
+
+def test_any_path_is_written(tmp_path, monkeypatch):
+    monkeypatch.chdir(tmp_path)
+    long = "n" * 255
+    for path in ("here", Path("there"), b"bytes", tmp_path / long, "./here"):
+        assert write_file(b"what", path) == b"what" == Path(os.fsdecode(path)).read_bytes()
+    assert names(tmp_path) == sorted(["bytes", "here", "there", long]) and write_file(b"what", None) == b"what"
+
+
+def test_what_a_link_leads_to_is_written(tmp_path):
+    for folder in ("one", "other"):
+        (tmp_path / folder).mkdir()
+    (tmp_path / "other/file").write_bytes(b"old")
+    (tmp_path / "one/link").symlink_to("../other/file")
+    (tmp_path / "one/second").symlink_to("link")
+    (tmp_path / "one/new").symlink_to(tmp_path / "other/new")
+    for link, file in (("link", "file"), ("second", "file"), ("new", "new")):
+        write_file(link.encode(), tmp_path / "one" / link)
+        assert (tmp_path / "one" / link).is_symlink() and (tmp_path / "other" / file).read_bytes() == link.encode()
+    assert names(tmp_path / "one") == ["link", "new", "second"] and names(tmp_path / "other") == ["file", "new"]
+    (tmp_path / "round").symlink_to("round")
+    with pytest.raises(OSError, match="round"):
+        write_file(b"what", tmp_path / "round")
+
+
+def test_what_is_no_file_is_left_alone(tmp_path, monkeypatch):
+    monkeypatch.chdir(tmp_path)
+    os.mkfifo("pipe")
+    os.mkdir("folder")
+    os.symlink("pipe", "to-pipe")
+    os.symlink("folder", "to-folder")
+    os.symlink("/dev/null", "to-null")
+    with socket.socket(socket.AF_UNIX) as listening:
+        listening.bind("socket")
+    standing = lambda: {name: (os.lstat(name).st_ino, os.lstat(name).st_mode, os.lstat(name).st_mtime) for name in os.listdir(".")}  # noqa: E731
+    before = standing()
+    told = {"pipe": "pipe", "folder": "folder", "to-pipe": "pipe", "to-folder": "folder", "to-null": "/dev/null", "socket": "socket"}
+    for path, named in {**told, "/dev/null": "/dev/null", "/": "/", ".": ".", "folder/..": "..", "new/": "new/"}.items():
+        with pytest.raises(OSError, match="this is no regular file, and is left alone|this names no file") as error:
+            write_file(b"what", path)
+        assert named in str(error.value)
+    for path in ("", "no/where", "no/../where", "pipe/where"):
+        with pytest.raises(OSError):
+            write_file(b"what", path)
+    for path in (3, 3.5, [], "a\0b", b"a\0b", Path("a\0b"), object()):
+        with pytest.raises(ValueError, match="^path: "):
+            write_file(b"what", path)
+    assert standing() == before
+    assert stat.S_ISCHR(os.stat("/dev/null").st_mode)
+
+
+def test_nothing_is_left_where_a_file_cannot_be_finished(tmp_path, monkeypatch):
+    def full(*_):
+        raise OSError(28, "no room")
+
+    (tmp_path / "file").write_bytes(b"old")
+    for name in ("fsync", "replace"):
+        with monkeypatch.context() as patch:
+            patch.setattr(os, name, full)
+            with pytest.raises(OSError, match="no room"):
+                write_file(b"new", tmp_path / "file")
+        assert names(tmp_path) == ["file"] and (tmp_path / "file").read_bytes() == b"old"
+
+
+def test_file_and_folder_are_on_the_disc(tmp_path, monkeypatch):
+    kept, fsync = [], os.fsync
+    monkeypatch.setattr(os, "fsync", lambda handle: kept.append(stat.S_IFMT(os.fstat(handle).st_mode)) or fsync(handle))
+    write_file(b"new", tmp_path / "file")
+    assert kept == [stat.S_IFREG, stat.S_IFDIR]
+
+
 def test_maps_for_the_monitor(sample, tmp_path):
     table = read_frames(sample)[:30]
     positions = TSNE(perplexity=5, n_iter=20, random_state=1).fit_transform(table["features"])
@@ -87,4 +193,4 @@ def test_the_sample_is_mapped_as_the_command_maps_it(sample):
     table = read_frames(sample)
     model = TSNE(init=table["starts"]).fit(table["features"])
     assert f"{model.kl_divergence_:.6f}" == "0.046128"
-    assert model.n_iter_ <= 1000 and frames(1).shape == (1, 3)
+    assert (model.run_.state, model.n_iter_, model.n_features_in_, model.embedding_.shape) == ("finished", 1000, 6, (244, 2))

@@ -48,7 +48,29 @@ def test_words_are_the_headers(root):
         assert getattr(native, name) == at
     for at, name in enumerate(("STATE", "ITERATIONS_DONE", "PHASE", "UNITS_DONE", "NODES_USED")):
         assert getattr(native, name) == 9 + at
-    assert native.NODE.itemsize == 88
+
+
+def test_nodes_are_the_headers(root):
+    """The fields of the struct and the padding that the compiler gives it, aligned as it has them."""
+    text = re.sub(r"/\*.*?\*/", "", (root / "include/brothanchor.h").read_text(), flags=re.S)
+    body = re.search(r"struct brothanchor_node \{(.*?)\}", text, flags=re.S).group(1)
+    fields = [(name, kind, int(many or 1)) for kind, name, many in re.findall(r"(\w+) (\w+)(?:\[(\d+)\])?;", body)]
+    kinds = {"double": np.float64, "uint32_t": np.uint32}
+    held = [(name, each.base, int(np.prod(each.shape))) for name, (each, _) in native.NODE.fields.items()]
+    assert [*((name, kinds[kind], many) for name, kind, many in fields), ("padding", np.uint32, 1)] == held
+    assert (native.NODE.itemsize, native.NODE.alignment, native.NODE.isalignedstruct) == (88, 8, True)
+    assert [offset for _, offset in native.NODE.fields.values()] == [0, 24, 48, 72, 76, 80, 84]
+
+
+def test_nodes_elsewhere_than_aligned_are_not_lent():
+    loose = np.dtype([(name, each) for name, (each, _) in native.NODE.fields.items()])
+    areas = begun()
+    assert loose == native.NODE and worked({**areas, "nodes": areas["nodes"].view(loose)}) == (0, 0)
+    for kind in (native.NODE, loose):
+        room = np.zeros(88 * areas["nodes"].size + 8, np.uint8)
+        areas["nodes"] = room[4 - room.ctypes.data % 8 :][: room.size - 8].view(kind)
+        with pytest.raises(TypeError, match="cannot be lent"):
+            native.call("work", *areas.values(), 1, np.zeros(5, np.uint64))
 
 
 @pytest.mark.parametrize(

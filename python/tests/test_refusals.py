@@ -6,7 +6,7 @@ import numpy as np
 import pytest
 from conftest import frames, refused
 
-from brothanchor import TSNE, Refused, Run, read_frames, read_monitor, write_monitor
+from brothanchor import PLACED, TSNE, Refused, Run, read_frames, read_monitor, write_monitor
 
 
 @pytest.mark.parametrize(
@@ -102,6 +102,11 @@ def test_18_9_10_of_a_removal():
     run = Run(frames(20), perplexity=3, random_state=1)
     for gone in ([1, 1], [2, 1], [20], [-1], [2**32], [2**70], np.array([1, 255], np.uint8), np.array([-1], np.int8)):
         refused(18, run.take_out, gone)
+    for size in (21, 2**40, 2**59):
+        for gone in (np.broadcast_to(np.uint8(1), size), np.broadcast_to(np.array(1, object), size), range(size), range(size)[::-1]):
+            refused(18, run.take_out, gone)
+    refused(18, run.take_out, range(10**30))
+    refused(9, run.take_out, range(20))
     refused(9, run.take_out, range(19))
     refused(10, run.take_out, range(17))
     assert run.n_samples == 20
@@ -117,6 +122,12 @@ def test_19():
         refused(number, Run.from_lists, lists, n, n_features=f, perplexity=0.5)
     refused(10, Run.from_lists, lists, 20, perplexity=20)
     refused(11, Run.from_lists, lists, 20, perplexity=3, init=np.full((20, 2), np.inf))
+
+
+@pytest.mark.parametrize("method", ["exact", "Barnes", None, 1, np.zeros(2)])
+def test_no_other_method_has_lists(method):
+    with pytest.raises(ValueError, match="^method: "):
+        Run.from_lists(Run(frames(20), perplexity=3).lists(), 20, perplexity=3, method=method)
 
 
 def test_20():
@@ -142,6 +153,23 @@ def test_26_and_16_of_the_monitor(sample):
     for picture, side, field in [(2**32 + 1, 1, 0), (-1, 1, 0), (1, 257, 0), (1, 1, 256), (1, 1, -256)]:
         wide["picture"], wide["side"], wide["field"] = picture, side, field
         assert refused(16, write_monitor, wide, np.zeros((1, 2))).place == 0
+
+
+def test_16_and_26_of_more_frames_than_there_are():
+    """The first fault is told, whatever the shape holds; nothing of that shape is copied."""
+    placed = np.zeros(1, PLACED)
+    placed["picture"], placed["side"] = 7, 1
+    many, places = np.broadcast_to(placed, 2**40), np.broadcast_to(0.0, (2**40, 2))
+    assert refused(16, write_monitor, many).place == refused(16, write_monitor, many, places).place == 1
+    assert refused(26, write_monitor, many, np.broadcast_to(np.nan, (2**40, 2))).place == 0
+    with pytest.raises(ValueError, match="^positions: "):
+        write_monitor(many, places[1:])
+    with pytest.raises(ValueError, match="^positions: "):
+        write_monitor(placed, places)
+    rising = np.zeros(3 * 79_999 + 9, PLACED)
+    rising["picture"], rising["side"], rising["field"] = 1 + np.arange(rising.size) // 2, 1, 1 + np.arange(rising.size) % 2
+    assert len(write_monitor(rising[: 2 * 79_999])) == 16 * 2 * 79_999
+    assert refused(16, write_monitor, rising).place == 2 * 79_999
 
 
 def test_a_refusal_is_a_value_error_that_can_be_kept():

@@ -17,6 +17,8 @@ from conftest import bits, frames, refused, same_run
 
 import brothanchor
 from brothanchor import Run
+from brothanchor import _native as native
+from brothanchor._settings import sizes_of
 
 BOTH = pytest.mark.parametrize("method", ["exact", "barnes_hut"])
 
@@ -72,11 +74,20 @@ def test_what_is_handed_out_is_a_copy():
     same_run(third, other)
 
 
-@pytest.mark.parametrize("units", [-1, 1.5, "3", None, 2.0, [1], float("nan")])
+@pytest.mark.parametrize("units", [-1, 1.5, "3", 2.0, [1], float("nan")])
 def test_units_that_are_no_number(units):
-    if units is not None:
-        with pytest.raises(ValueError, match="^units: "):
-            begin("exact").work(units)
+    run = begin("exact")
+    with pytest.raises(ValueError, match="^units: "):
+        run.work(units)
+    assert run.units == 0
+
+
+@BOTH
+def test_without_a_number_all_units_are_done(method):
+    run, other = begin(method), begin(method)
+    units = 60 * (2 * 24 + (2 if method == "barnes_hut" else 1))
+    assert run.work(None) == other.work() == run.units == units and run.state == "finished"
+    same_run(run, other)
 
 
 @BOTH
@@ -159,7 +170,7 @@ def test_interrupted_at_every_instruction_and_gone_on(method, units):
     whole, place = begin(method, 4, 3), 0
     figures, folder = figures_of(whole), str(Path(brothanchor.__file__).parent)
 
-    class Stop(Exception):
+    class Stop(BaseException):
         pass
 
     def trace(frame, event, _):
@@ -254,6 +265,7 @@ def test_handed_from_thread_to_thread():
             while not run.ended:
                 run.work(170)
                 run.positions, run.units
+                assert run.state in ("running", "finished") and 0 <= run.iterations <= 8 and 0 < run.units_left <= 602
         except BaseException as fault:
             faults.append(fault)
 
@@ -279,6 +291,88 @@ def test_copied_and_pickled(method, units):
     for other in others:
         same_run(run, other)
         assert other.divergence() == run.divergence() and bits(other.table) == bits(run.table)
+
+
+@BOTH
+@pytest.mark.parametrize("units", [0, 30])
+def test_a_thinned_run_copied_and_pickled(method, units):
+    """Its areas are longer than what is kept; the copy's are as long as they must be."""
+    run = begin(method)
+    run.iterate(10)
+    run.take_out(range(0, 24, 2))
+    run.work(units)
+    other = pickle.loads(pickle.dumps(run))
+    sizes = sizes_of(other._areas.record[:9].copy())
+    assert [other._areas.positions.size, other._areas.affinities.size, other._areas.nodes.size] == [sizes[0], sizes[1], sizes[6]]
+    assert run._areas.positions.size == 48 and other._areas.positions.size == 24
+    for each in (run, other):
+        each.work()
+    assert bits(run.positions) == bits(other.positions) and run.divergence() == other.divergence()
+    assert bits(run.table) == bits(other.table) and run.park() == other.park()
+    assert run.take_out([0]).tolist() == other.take_out([0]).tolist() and bits(run.table) == bits(other.table)
+
+
+def altered(state: dict) -> list:
+    """States that no run left: parts missing, of other kinds, shapes and lengths."""
+    parts, states = state["parts"], [None, 3, {}, [], "state"]
+    for name in state:
+        states.append({key: value for key, value in state.items() if key != name})
+        states += [{**state, name: value} for value in (3.5, "x", [], {}, [1, 2], np.zeros((2, 2)))]
+    for name, part in parts.items():
+        states.append({**state, "parts": {key: value for key, value in parts.items() if key != name}})
+        swapped = part.byteswap().view(part.dtype.newbyteorder())
+        for other in (None, part.tolist(), np.append(part, part[:1]), part.astype(np.float32), part.reshape(-1, 1), swapped):
+            if not (isinstance(other, np.ndarray) and other.shape == part.shape and other.dtype == part.dtype):
+                states.append({**state, "parts": {**parts, name: other}})
+        if part.size:
+            states.append({**state, "parts": {**parts, name: part[:-1]}})
+    for name, value in [("seed", -1), ("seed", 2**64), ("seed", 1.5), ("copies", state["copies"][:1]), ("copies", [None, None])]:
+        states.append({**state, name: value})
+    states.append({**state, "used": np.zeros(10**6, native.NODE)})
+    states.append({**state, "table": state["table"][:-1]})
+    return states
+
+
+@BOTH
+def test_what_is_no_kept_run(method):
+    run = begin(method)
+    run.work(30)
+    state = run.__getstate__()
+    for each in altered(state):
+        other = Run.__new__(Run)
+        with pytest.raises(ValueError):
+            other.__setstate__(each)
+        assert not vars(other)
+    other = Run.__new__(Run)
+    other.__setstate__(state)
+    same_run(run, other)
+
+
+@BOTH
+def test_a_kept_run_that_was_altered_is_refused_or_worked(method):
+    """Bits of the parts turned at random: a ValueError, or a run with areas as long as they must be."""
+    draw, read, told = random.Random(13), 0, set()
+    run = begin(method, 9, 40)
+    run.work(30)
+    for _ in range(600):
+        state = run.__getstate__()
+        name = draw.choice(["record", "record", "indices", "offsets", "affinities", "positions", "used"])
+        area = (state["used"] if name == "used" else state["parts"][name]).view(np.uint8)
+        if area.size == 0:
+            continue
+        area[draw.randrange(area.size)] ^= 1 << draw.randrange(8)
+        other = Run.__new__(Run)
+        try:
+            other.__setstate__(state)
+            read += 1
+            assert other._areas.nodes.size == sizes_of(other._areas.record[:9].copy())[6]
+            other.work(200)
+        except brothanchor.Refused as refused:
+            told.add(refused.number)
+        except ValueError as error:
+            assert str(error).startswith("state: ")
+            told.add("state")
+    assert read > 50 and {"state", 22} <= told and (method == "exact" or {23, 24, 25} <= told)
 
 
 @BOTH
@@ -323,14 +417,29 @@ def test_damaged_files_are_refused_or_worked(method):
     assert read > 50 and told > 50
 
 
-def test_a_file_that_cannot_be_written_leaves_nothing(tmp_path):
-    run = begin("exact")
-    with pytest.raises(OSError):
-        run.park(tmp_path / "no" / "where")
-    (tmp_path / "folder").mkdir()
-    with pytest.raises(OSError):
-        run.park(tmp_path / "folder")
-    assert [each.name for each in tmp_path.iterdir()] == ["folder"]
+def test_threads_park_to_one_path(tmp_path):
+    """Four threads and a reader: there is never half a file, and nothing is left beside it."""
+    runs, path, faults = [begin("exact", n) for n in (9, 12, 16, 24)], tmp_path / "night.parked", []
+    files = {run.park() for run in runs}
+    runs[0].park(path)
+
+    def park(run):
+        try:
+            for _ in range(60):
+                run.park(path)
+        except BaseException as fault:
+            faults.append(fault)
+
+    threads = [threading.Thread(target=park, args=(run,)) for run in runs]
+    for thread in threads:
+        thread.start()
+    seen = set()
+    while any(thread.is_alive() for thread in threads):
+        seen.add(path.read_bytes())
+    for thread in threads:
+        thread.join()
+    assert not faults and len(files) == 4 and seen <= files and path.read_bytes() in files
+    assert [each.name for each in tmp_path.iterdir()] == ["night.parked"]
 
 
 @BOTH

@@ -1,7 +1,7 @@
 //! Runs by the Rust wrapper. Reads runs from standard input and writes what comes of each, all as little-endian words of 64 bits.
 //!
-//! A run: nine words of settings; the number of table values and their bits; the number of start values and their bits; 1 for a
-//! strip, else 0; the number of calls, and of each call its budget.
+//! A run: nine words of settings; the number of table values and their bits; the number of start values and their bits; 1 where it
+//! starts from a scatter instead, else 0; the scatter's seed; 1 for a strip, else 0; the number of calls, and of each call its budget.
 //!
 //! What comes of it: the number of its refusal; where that is 0, after each call the number of a refusal, the units done and the
 //! fourteen words of the record; then the areas, each by its length and its bits: positions, increments, gains, affinities, indices,
@@ -9,7 +9,7 @@
 //! its length, 0 where it cannot be parked.
 
 use brothanchor::{
-    divergence, parked, prepare, prepare_strip, sizes, work, Areas, Kind, Method, Record, Rows, Settings,
+    divergence, parked, prepare, prepare_strip, scatter, sizes, work, Areas, Kind, Method, Record, Rows, Settings,
 };
 use std::io::{self, Read, Write};
 
@@ -106,7 +106,8 @@ fn put_end(out: &mut Vec<u64>, record: &Record, areas: &Areas, copy: &[f64]) {
 /// One run.
 fn run(input: &mut Words, out: &mut Vec<u64>) {
     let words = input.take(9);
-    let (table, start) = (input.values(), input.values());
+    let (table, mut start) = (input.values(), input.values());
+    let (is_scatter, seed) = (input.next() == 1, input.next());
     let is_strip = input.next() == 1;
     let calls = input.list();
     let settings = settings(&words);
@@ -114,6 +115,10 @@ fn run(input: &mut Words, out: &mut Vec<u64>) {
         Ok(sizes) => sizes,
         Err(refusal) => return out.push(refusal.0.into()),
     };
+    if is_scatter {
+        start = vec![0.0; settings.n * settings.c];
+        scatter(&mut start, settings.n as u32, settings.c as u32, seed).expect("room for the scatter");
+    }
     let mut areas = Areas::new(&sizes, sizes.nodes);
     let prepare = if is_strip { prepare_strip } else { prepare };
     let mut record = match prepare(&words, &table, &start, &mut areas, &mut Rows::new(&sizes)) {
