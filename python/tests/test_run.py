@@ -207,7 +207,7 @@ import sys, time
 sys.path[:0] = sys.argv[1:3]
 from conftest import frames
 from brothanchor import TSNE
-model = TSNE(perplexity=20, n_iter=400, random_state=3)
+model = TSNE(perplexity=20, n_iter=400, method="exact", random_state=3)
 stops = 0
 asked = 0
 def told(run):
@@ -218,7 +218,7 @@ def told(run):
     if run.iterations > 200:
         time.sleep(0.05)
 try:
-    model.fit(frames(300), progress=told)
+    model.fit(frames(800), progress=told)
 except KeyboardInterrupt:
     stops += 1
 while not hasattr(model, "embedding_"):
@@ -243,8 +243,8 @@ def test_ctrl_c_in_a_process_of_its_own():
     finally:
         child.kill()
     stops, embedding, figure = told.split()[-3:]
-    model = brothanchor.TSNE(perplexity=20, n_iter=400, random_state=3)
-    assert (embedding, figure) == (model.fit_transform(frames(300)).tobytes().hex(), model.kl_divergence_.hex())
+    model = brothanchor.TSNE(perplexity=20, n_iter=400, method="exact", random_state=3)
+    assert (embedding, figure) == (model.fit_transform(frames(800)).tobytes().hex(), model.kl_divergence_.hex())
     assert int(stops) == 3
 
 
