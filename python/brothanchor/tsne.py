@@ -1,0 +1,119 @@
+"""t-SNE with the names and habits of scikit-learn."""
+
+from __future__ import annotations
+
+import inspect
+from typing import Any, Optional
+
+import numpy as np
+
+from .errors import Refused
+from .run import Progress, Run
+
+
+class TSNE:
+    """t-SNE, worked by the proved library. scikit-learn is not needed.
+
+    n_components   components of the map, 1 to 8; Barnes-Hut 1 to 3
+    perplexity     above 0 and below the number of frames
+    learning_rate  a number above 0, or 'auto': max(n / 12 / 4, 50), as scikit-learn has it
+    n_iter         iterations at most, 1 to 65,535; the first 250 pull 12 times as hard
+    method         'barnes_hut' or 'exact'
+    angle          of Barnes-Hut, from 0 to below 1
+    min_grad_norm  the run stops where every gradient is below it; NaN, zero or negative never stops one
+    random_state   the seed of the scatter, 0 to 2^64 - 1, or a numpy generator to draw it from; None takes a fresh one
+    init           'random', the library's scatter by that seed, or an array (n_samples, n_components)
+
+    After a fit: embedding_, kl_divergence_ (of the last iteration, None where there is none), n_iter_ (iterations done),
+    learning_rate_, n_features_in_, random_state_ (the seed, with which the same map comes again; None where init was an array) and
+    run_, the run itself, which can be parked or thinned. What is refused is a Refused, a kind of ValueError, with its number.
+
+    There are up to 4,096 frames of up to 256 features, finite and at most 2^20 in magnitude.
+    """
+
+    def __init__(
+        self,
+        n_components: Any = 2,
+        *,
+        perplexity: Any = 30.0,
+        learning_rate: Any = "auto",
+        n_iter: Any = 1000,
+        method: Any = "barnes_hut",
+        angle: Any = 0.5,
+        min_grad_norm: Any = 1e-7,
+        random_state: Any = None,
+        init: Any = "random",
+    ) -> None:
+        self.n_components = n_components
+        self.perplexity = perplexity
+        self.learning_rate = learning_rate
+        self.n_iter = n_iter
+        self.method = method
+        self.angle = angle
+        self.min_grad_norm = min_grad_norm
+        self.random_state = random_state
+        self.init = init
+
+    def fit(self, X: Any, y: Any = None, *, progress: Optional[Progress] = None) -> TSNE:
+        """Maps the rows of X. `y` is not looked at. `progress(run)` is called after each call to the library, at least once an iteration.
+
+        Ctrl-C is heard between two calls, and `resume` then goes on."""
+        self._forget()
+        self.run_ = Run(X, **self.get_params())
+        self.resume(progress=progress)
+        return self
+
+    def fit_transform(self, X: Any, y: Any = None, *, progress: Optional[Progress] = None) -> np.ndarray:
+        """Maps the rows of X, and answers the map: a row for each."""
+        return self.fit(X, y, progress=progress).embedding_
+
+    def resume(self, *, progress: Optional[Progress] = None) -> np.ndarray:
+        """Goes on with a fit that was interrupted, and answers the map: the same as if it had not been, to the last bit."""
+        run = getattr(self, "run_", None)
+        if run is None:
+            raise ValueError("nothing was begun: fit comes first")
+        run.work(progress=progress)
+        self.n_features_in_ = run.n_features
+        self.learning_rate_ = run.learning_rate
+        self.random_state_ = run.seed
+        self.n_iter_ = run.iterations
+        self.kl_divergence_ = _divergence(run)
+        self.embedding_ = run.positions
+        return self.embedding_
+
+    def get_params(self, deep: bool = True) -> dict:
+        """The arguments by their names."""
+        return {name: getattr(self, name) for name in self._names()}
+
+    def set_params(self, **params: Any) -> TSNE:
+        """Sets arguments by their names."""
+        for name in params:
+            if name not in self._names():
+                raise ValueError(f"{name}: there is no such parameter; there are {', '.join(self._names())}")
+        for name, value in params.items():
+            setattr(self, name, value)
+        return self
+
+    @classmethod
+    def _names(cls) -> list:
+        return [name for name in inspect.signature(cls.__init__).parameters if name != "self"]
+
+    def _forget(self) -> None:
+        """What an earlier fit left goes."""
+        for name in [name for name in vars(self) if name.endswith("_") and not name.startswith("_")]:
+            delattr(self, name)
+
+    def __repr__(self) -> str:
+        usual = inspect.signature(type(self).__init__).parameters
+        told = (f"{name}={value!r}" for name, value in self.get_params().items() if value is not usual[name].default)
+        return f"{type(self).__name__}({', '.join(told)})"
+
+
+def _divergence(run: Run) -> Optional[float]:
+    """The figure of the last iteration; None where there is none, as of frames that were thinned."""
+    try:
+        return run.divergence()
+    except Refused as refused:
+        if refused.number != 17:
+            raise
+        return None
