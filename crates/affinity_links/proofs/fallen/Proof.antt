@@ -21,11 +21,15 @@ sub-held : tie.Need-sub-held
 sub-held c = omega (arith, c .before .before .pre .1 .some (omega arith))
 
 held-requires : tie.Need-held-requires
-held-requires c κs = (omega (arith, c .before .before .pre .1 .small), omega (arith, c .before .before .pre .1 .inside), λ l. c .before .before .pre .1 .frames _ (omega arith))
+held-requires c κs =
+    let the-start = c .before .before in
+    (omega (arith, the-start .pre .1 .small), omega (arith, the-start .pre .1 .inside), λ l. the-start .pre .1 .frames _ (omega arith))
 
 returns-2 : tie.Need-returns-2
 unfolding fallenOf
-returns-2 c = rw (eq-eqb (c .before .before .before .args .w % 8192) (c .before .before .before .args .j + 1) (omega (arith, c .before .if1 .left))) (c .held .ensures)
+returns-2 c =
+    let the-start = c .before .before .before in
+    rw (eq-eqb (the-start .args .w % 8192) (the-start .args .j + 1) (omega (arith, c .before .if1 .left))) (c .held .ensures)
 
 pub fallen-spec : {M : Type 1} → statement M
 fallen-spec = tie.close (tie.spec add-if1 returns cast-held sub-held held-requires returns-2)

@@ -31,7 +31,11 @@ shared-slice-read-v : tie.Need-shared-slice-read-v Inv-loop μ-loop
 shared-slice-read-v c = search needs
 
 returns : tie.Need-returns Inv-loop μ-loop
-returns c = found-at (c .before .before .before .before .args .indices .now) (c .before .before .before .before .args .a) (c .before .before .before .before .args .k) (c .before .before .before .before .args .j) (c .before .before .before .before .pre .1) _ (omega (arith, c .before .before .before .loop .inv .high-in)) (c .if1 .taken)
+returns c =
+    let the-loop = c .before .before .before .loop in
+    let the-start = c .before .before .before .before in
+    found-at (the-start .args .indices .now) (the-start .args .a) (the-start .args .k) (the-start .args .j) (the-start .pre .1) _
+    (omega (arith, the-loop .inv .high-in)) (c .if1 .taken)
 
 add-low : tie.Need-add-low Inv-loop μ-loop
 add-low c = search needs
@@ -40,16 +44,24 @@ loop-less : tie.Need-loop-less Inv-loop μ-loop
 loop-less c = search needs
 
 loop-again : tie.Need-loop-again Inv-loop μ-loop
-loop-again c = halves-low (c .before .before .before .before .before .pre .1) (c .before .before .before .before .loop .inv) _ (omega arith) (c .if2 .taken)
+loop-again c =
+    let the-loop = c .before .before .before .before .loop in
+    let the-start = c .before .before .before .before .before in
+    halves-low (the-start .pre .1) (the-loop .inv) _ (omega arith) (c .if2 .taken)
 
 loop-less-2 : tie.Need-loop-less-2 Inv-loop μ-loop
 loop-less-2 c = search needs
 
 loop-again-2 : tie.Need-loop-again-2 Inv-loop μ-loop
-loop-again-2 c = halves-high (c .before .before .before .before .before .pre .1) (c .before .before .before .before .loop .inv) _ (omega arith) (omega (arith, c .if2 .left, c .before .if1 .left))
+loop-again-2 c =
+    let the-loop = c .before .before .before .before .loop in
+    let the-start = c .before .before .before .before .before in
+    halves-high (the-start .pre .1) (the-loop .inv) _ (omega arith) (omega (arith, c .if2 .left, c .before .if1 .left))
 
 returns-2 : tie.Need-returns-2 Inv-loop μ-loop
-returns-2 c = found-none (c .before .before .args .indices .now) (c .before .before .args .a) (c .before .before .args .k) (c .before .before .args .j) (c .before .loop .inv) (omega arith)
+returns-2 c =
+    let the-start = c .before .before in
+    found-none (the-start .args .indices .now) (the-start .args .a) (the-start .args .k) (the-start .args .j) (c .before .loop .inv) (omega arith)
 
 pub find-spec : {M : Type 1} → statement M
 find-spec =

@@ -32,7 +32,9 @@ add-result-2 : tie.Need-add-result-2
 add-result-2 c = omega (arith, c .before .before .pre .2 (omega (arith, c .before .if1 .left)))
 
 add-result-3 : tie.Need-add-result-3
-add-result-3 c = omega (arith, c .before .before .pre .0, c .before .before .pre .2 (omega (arith, c .before .if1 .left)))
+add-result-3 c =
+    let the-start = c .before .before in
+    omega (arith, the-start .pre .0, the-start .pre .2 (omega (arith, c .before .if1 .left)))
 
 returns-2 : tie.Need-returns-2
 unfolding heldOf

@@ -11,7 +11,9 @@ plus-requires-2 : tie.Need-plus-requires-2
 plus-requires-2 c κs = c .before .before .pre .1
 
 returns : tie.Need-returns
-returns c = c .plus2 .ensures ∙ ap (plusFallen (c .before .before .before .args .values .now) (c .before .before .before .args .b) (c .before .before .before .args .c) (c .before .before .before .args .r)) (c .before .plus .ensures)
+returns c =
+    let the-start = c .before .before .before in
+    c .plus2 .ensures ∙ ap (plusFallen (the-start .args .values .now) (the-start .args .b) (the-start .args .c) (the-start .args .r)) (c .before .plus .ensures)
 
 pub joint-spec : {M : Type 1} → statement M
 joint-spec = tie.close (tie.spec plus-requires plus-requires-2 returns)

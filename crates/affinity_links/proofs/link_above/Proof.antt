@@ -26,19 +26,33 @@ cast-t15 : tie.Need-cast-t15
 cast-t15 c = search needs
 
 add-t16 : tie.Need-add-t16
-add-t16 c = omega (arith, c .before .before .before .before .before .before .pre .2 .1, within-low (c .before .before .before .before .before .before .args .i) (c .before .before .before .before .before .before .pre .2 .0) (c .before .fallen .ensures) (c .if1 .taken))
+add-t16 c =
+    let the-start = c .before .before .before .before .before .before in
+    omega (arith, the-start .pre .2 .1, within-low (the-start .args .i) (the-start .pre .2 .0) (c .before .fallen .ensures) (c .if1 .taken))
 
 mul-t17 : tie.Need-mul-t17
-mul-t17 c = omega (arith, c .before .before .before .before .before .before .pre .2 .1, within-low (c .before .before .before .before .before .before .args .i) (c .before .before .before .before .before .before .pre .2 .0) (c .before .fallen .ensures) (c .if1 .taken))
+mul-t17 c =
+    let the-start = c .before .before .before .before .before .before in
+    omega (arith, the-start .pre .2 .1, within-low (the-start .args .i) (the-start .pre .2 .0) (c .before .fallen .ensures) (c .if1 .taken))
 
 shared-slice-read-t19 : tie.Need-shared-slice-read-t19
-shared-slice-read-t19 c = omega (arith, c .before .before .before .before .before .before .before .pre .2 .1, within-low (c .before .before .before .before .before .before .before .args .i) (c .before .before .before .before .before .before .before .pre .2 .0) (c .before .before .fallen .ensures) (c .before .if1 .taken))
+shared-slice-read-t19 c =
+    let the-fallen = c .before .before .fallen in
+    let the-start = c .before .before .before .before .before .before .before in
+    omega (arith, the-start .pre .2 .1, within-low (the-start .args .i) (the-start .pre .2 .0) (the-fallen .ensures) (c .before .if1 .taken))
 
 returns : tie.Need-returns
-returns c = (rw (lt-ltb _ _ (rw (c .before .before .fallen .ensures) at (c .before .if1 .taken))), (rw ((lt-ltb _ _ (rw (c .before .before .fallen .ensures) at (c .before .if1 .taken))), c .before .before .fallen .ensures), (refl, c .before .before .fallen .ensures)))
+returns c =
+    let the-fallen = c .before .before .fallen in (
+      rw (lt-ltb _ _ (rw (the-fallen .ensures) at (c .before .if1 .taken))),
+      (rw ((lt-ltb _ _ (rw (the-fallen .ensures) at (c .before .if1 .taken))), the-fallen .ensures), (refl, the-fallen .ensures)),
+    )
 
 returns-2 : tie.Need-returns-2
-returns-2 c = (rw (le-ltb _ _ (rw (c .before .fallen .ensures) at (c .if1 .left))), (rw (le-ltb _ _ (rw (c .before .fallen .ensures) at (c .if1 .left))), (refl, c .before .fallen .ensures)))
+returns-2 c = (
+  rw (le-ltb _ _ (rw (c .before .fallen .ensures) at (c .if1 .left))),
+  (rw (le-ltb _ _ (rw (c .before .fallen .ensures) at (c .if1 .left))), (refl, c .before .fallen .ensures)),
+)
 
 pub link-above-spec : {M : Type 1} → statement M
 link-above-spec =

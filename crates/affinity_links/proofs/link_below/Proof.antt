@@ -33,13 +33,29 @@ mul-joint-2 : tie.Need-mul-joint-2
 mul-joint-2 c = omega (arith, c .before .before .before .before .pre .2 .0 .inside)
 
 joint-requires : tie.Need-joint-requires
-joint-requires c κs = (λ l. omega (arith, c .before .before .before .before .pre .3 .1, within-low (c .before .before .before .before .args .i) (c .before .before .before .before .pre .3 .0) (c .fallen2 .ensures) l), λ l. omega (arith, c .before .before .before .before .pre .2 .1, within-low (c .before .before .before .before .args .j) (c .before .before .before .before .pre .2 .0) (c .before .fallen .ensures) l))
+joint-requires c κs =
+    let the-start = c .before .before .before .before in (
+      λ l. omega (arith, the-start .pre .3 .1, within-low (the-start .args .i) (the-start .pre .3 .0) (c .fallen2 .ensures) l),
+      λ l. omega
+          (arith, the-start .pre .2 .1, within-low (the-start .args .j) (the-start .pre .2 .0) (c .before .fallen .ensures) l),
+    )
 
 returns : tie.Need-returns
-returns c = (rw (lt-ltb _ _ (rw (c .before .before .before .fallen .ensures) at (c .if1 .taken))), (rw (c .before .joint .ensures, c .before .before .before .fallen .ensures, c .before .before .fallen2 .ensures), (c .before .before .before .fallen .ensures, c .before .before .fallen2 .ensures)))
+returns c =
+    let the-fallen2 = c .before .before .fallen2 in
+    let the-fallen = c .before .before .before .fallen in (
+      rw (lt-ltb _ _ (rw (the-fallen .ensures) at (c .if1 .taken))),
+      (rw (c .before .joint .ensures, the-fallen .ensures, the-fallen2 .ensures), (the-fallen .ensures, the-fallen2 .ensures)),
+    )
 
 returns-2 : tie.Need-returns-2
-returns-2 c = (rw (le-ltb _ _ (rw (c .before .before .before .fallen .ensures) at (c .if1 .left))) (ap (λ (x : ℕ). ltb x (c .before .before .before .before .before .before .args .w)) (c .before .before .fallen2 .ensures)), (rw (c .before .joint .ensures, c .before .before .before .fallen .ensures, c .before .before .fallen2 .ensures), (c .before .before .before .fallen .ensures, c .before .before .fallen2 .ensures)))
+returns-2 c =
+    let the-fallen2 = c .before .before .fallen2 in
+    let the-fallen = c .before .before .before .fallen in
+    let the-start = c .before .before .before .before .before .before in (
+      rw (le-ltb _ _ (rw (the-fallen .ensures) at (c .if1 .left))) (ap (λ (x : ℕ). ltb x (the-start .args .w)) (the-fallen2 .ensures)),
+      (rw (c .before .joint .ensures, the-fallen .ensures, the-fallen2 .ensures), (the-fallen .ensures, the-fallen2 .ensures)),
+    )
 
 pub link-below-spec : {M : Type 1} → statement M
 link-below-spec =

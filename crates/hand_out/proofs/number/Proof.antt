@@ -1,3 +1,4 @@
+-- `hand_out::number` meets its contract: from what its calls promise.
 use Rattle.hand_out.specs.HandOut.{handNumber}
 use borrow.Author.Needs.{needs}
 use Rattle.hand_out.proofs.number.Statement.{statement}

@@ -18,7 +18,9 @@ is-finite-requires c κs = search needs
 
 returns : tie.Need-returns
 unfolding coordinatesFine
-returns c = rw (rw (c .before .before .coordinate .ensures) at (sym (c .before .is-finite .ensures) ∙ not-true _ (c .if1 .taken)))
+returns c =
+    let the-coordinate = c .before .before .coordinate in
+    rw (rw (the-coordinate .ensures) at (sym (c .before .is-finite .ensures) ∙ not-true _ (c .if1 .taken)))
 
 mul-coordinate-2 : tie.Need-mul-coordinate-2
 mul-coordinate-2 c = search needs
@@ -34,7 +36,12 @@ is-finite-requires-2 c κs = search needs
 
 returns-2 : tie.Need-returns-2
 unfolding coordinatesFine
-returns-2 c = rw (rw (c .before .before .before .before .coordinate .ensures) at (sym (c .before .before .before .is-finite .ensures) ∙ not-false _ (c .before .before .if1 .left))) (rw (c .before .coordinate2 .ensures) at (c .is-finite2 .ensures))
+returns-2 c =
+    let the-if1 = c .before .before .if1 in
+    let the-is-finite = c .before .before .before .is-finite in
+    let the-coordinate = c .before .before .before .before .coordinate in
+    rw (rw (the-coordinate .ensures) at (sym (the-is-finite .ensures) ∙ not-false _ (the-if1 .left)))
+    (rw (c .before .coordinate2 .ensures) at (c .is-finite2 .ensures))
 
 pub coordinates-fine-spec : {M : Type 1} → statement M
 coordinates-fine-spec =

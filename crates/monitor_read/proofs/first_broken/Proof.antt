@@ -20,7 +20,10 @@ is-broken-requires : tie.Need-is-broken-requires Inv-loop μ-loop
 is-broken-requires c κs = search needs
 
 returns : tie.Need-returns Inv-loop μ-loop
-returns c = seek-stop (c .before .before .before .loop .inv) (c .before .before .loop-test .taken) (sym (c .before .is-broken .ensures) ∙ c .if1 .taken)
+returns c =
+    let the-loop-test = c .before .before .loop-test in
+    let the-loop = c .before .before .before .loop in
+    seek-stop (the-loop .inv) (the-loop-test .taken) (sym (c .before .is-broken .ensures) ∙ c .if1 .taken)
 
 add-i : tie.Need-add-i Inv-loop μ-loop
 add-i c = search needs
@@ -29,7 +32,10 @@ loop-less : tie.Need-loop-less Inv-loop μ-loop
 loop-less c = search needs
 
 loop-again : tie.Need-loop-again Inv-loop μ-loop
-loop-again c = seek-more (c .before .before .before .loop .inv) (c .before .before .loop-test .taken) (sym (c .before .is-broken .ensures) ∙ c .if1 .left)
+loop-again c =
+    let the-loop-test = c .before .before .loop-test in
+    let the-loop = c .before .before .before .loop in
+    seek-more (the-loop .inv) (the-loop-test .taken) (sym (c .before .is-broken .ensures) ∙ c .if1 .left)
 
 returns-2 : tie.Need-returns-2 Inv-loop μ-loop
 returns-2 c = seek-done (c .before .loop .inv) (c .loop-test .left)

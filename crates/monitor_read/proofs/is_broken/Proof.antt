@@ -29,28 +29,60 @@ frame-fine-requires c κs = search needs
 
 returns : tie.Need-returns
 unfolding brokenAt
-returns c = rw (rw (c .before .before .before .before .half-word .ensures .0) at (sym (c .before .frame-fine .ensures) ∙ not-true _ (c .if1 .taken)))
+returns c =
+    let the-half-word = c .before .before .before .before .half-word in
+    rw (rw (the-half-word .ensures .0) at (sym (c .before .frame-fine .ensures) ∙ not-true _ (c .if1 .taken)))
 
 spare-fine-requires : tie.Need-spare-fine-requires
 spare-fine-requires c κs = search needs
 
 returns-2 : tie.Need-returns-2
 unfolding brokenAt
-returns-2 c = rw ((rw (c .before .before .before .before .before .before .half-word .ensures .0) at (sym (c .before .before .before .frame-fine .ensures) ∙ not-false _ (c .before .before .if1 .left))), sym (c .before .spare-fine .ensures) ∙ not-true _ (c .if2 .taken))
+returns-2 c =
+    let the-if1 = c .before .before .if1 in
+    let the-frame-fine = c .before .before .before .frame-fine in
+    let the-half-word = c .before .before .before .before .before .before .half-word in
+    rw (
+      (rw (the-half-word .ensures .0) at (sym (the-frame-fine .ensures) ∙ not-false _ (the-if1 .left))),
+      sym (c .before .spare-fine .ensures) ∙ not-true _
+          (c .if2 .taken),
+    )
 
 coordinates-fine-requires : tie.Need-coordinates-fine-requires
 coordinates-fine-requires c κs = search needs
 
 returns-3 : tie.Need-returns-3
 unfolding brokenAt
-returns-3 c = rw ((rw (c .before .before .before .before .before .before .before .before .half-word .ensures .0) at (sym (c .before .before .before .before .before .frame-fine .ensures) ∙ not-false _ (c .before .before .before .before .if1 .left))), (sym (c .before .before .before .spare-fine .ensures) ∙ not-false _ (c .before .before .if2 .left)), sym (c .before .coordinates-fine .ensures) ∙ not-true _ (c .if3 .taken))
+returns-3 c =
+    let the-if2 = c .before .before .if2 in
+    let the-spare-fine = c .before .before .before .spare-fine in
+    let the-if1 = c .before .before .before .before .if1 in
+    let the-frame-fine = c .before .before .before .before .before .frame-fine in
+    let the-half-word = c .before .before .before .before .before .before .before .before .half-word in
+    rw (
+      (rw (the-half-word .ensures .0) at (sym (the-frame-fine .ensures) ∙ not-false _ (the-if1 .left))),
+      (sym (the-spare-fine .ensures) ∙ not-false _ (the-if2 .left)),
+      sym (c .before .coordinates-fine .ensures) ∙ not-true _ (c .if3 .taken),
+    )
 
 follows-in-requires : tie.Need-follows-in-requires
 follows-in-requires c κs = search needs
 
 returns-4 : tie.Need-returns-4
 unfolding brokenAt
-returns-4 c = rw ((rw (c .before .before .before .before .before .before .before .before .before .half-word .ensures .0) at (sym (c .before .before .before .before .before .before .frame-fine .ensures) ∙ not-false _ (c .before .before .before .before .before .if1 .left))), (sym (c .before .before .before .before .spare-fine .ensures) ∙ not-false _ (c .before .before .before .if2 .left)), (sym (c .before .before .coordinates-fine .ensures) ∙ not-false _ (c .before .if3 .left)), c .follows-in .ensures)
+returns-4 c =
+    let the-coordinates-fine = c .before .before .coordinates-fine in
+    let the-if2 = c .before .before .before .if2 in
+    let the-spare-fine = c .before .before .before .before .spare-fine in
+    let the-if1 = c .before .before .before .before .before .if1 in
+    let the-frame-fine = c .before .before .before .before .before .before .frame-fine in
+    let the-half-word = c .before .before .before .before .before .before .before .before .before .half-word in
+    rw (
+      (rw (the-half-word .ensures .0) at (sym (the-frame-fine .ensures) ∙ not-false _ (the-if1 .left))),
+      (sym (the-spare-fine .ensures) ∙ not-false _ (the-if2 .left)),
+      (sym (the-coordinates-fine .ensures) ∙ not-false _ (c .before .if3 .left)),
+      c .follows-in .ensures,
+    )
 
 pub is-broken-spec : {M : Type 1} → statement M
 is-broken-spec =

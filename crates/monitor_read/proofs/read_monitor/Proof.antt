@@ -12,28 +12,55 @@ first-broken-requires : tie.Need-first-broken-requires
 first-broken-requires c κs = search needs
 
 returns : tie.Need-returns
-returns c = reading-bad (c .before .before .before .before .before .before .before .args .file .now) _ (c .before .first-broken .ensures) (c .before .before .before .before .before .before .before .args .pictures .now) (c .before .before .before .before .before .before .before .args .sides .now) (c .before .before .before .before .before .before .before .args .fields .now) (c .before .before .before .before .before .before .before .args .positions .now) (broken-found (c .before .before .before .before .before .before .before .args .file .now) _ (c .before .first-broken .ensures) (c .if1 .taken))
+returns c =
+    let the-start = c .before .before .before .before .before .before .before in
+    reading-bad (the-start .args .file .now) _ (c .before .first-broken .ensures) (the-start .args .pictures .now) (the-start .args .sides .now)
+    (the-start .args .fields .now) (the-start .args .positions .now)
+    (broken-found (the-start .args .file .now) _ (c .before .first-broken .ensures) (c .if1 .taken))
 
 returns-2 : tie.Need-returns-2
-returns-2 c = reading-bad (c .before .before .before .before .before .before .before .before .args .file .now) _ (c .before .before .first-broken .ensures) (c .before .before .before .before .before .before .before .before .args .pictures .now) (c .before .before .before .before .before .before .before .before .args .sides .now) (c .before .before .before .before .before .before .before .before .args .fields .now) (c .before .before .before .before .before .before .before .before .args .positions .now) (stray-tail (c .before .before .before .before .before .before .before .before .args .file .now) _ (c .before .before .first-broken .ensures) (c .before .if1 .left) (c .if2 .taken))
+returns-2 c =
+    let the-first-broken = c .before .before .first-broken in
+    let the-start = c .before .before .before .before .before .before .before .before in
+    reading-bad (the-start .args .file .now) _ (the-first-broken .ensures) (the-start .args .pictures .now) (the-start .args .sides .now)
+    (the-start .args .fields .now) (the-start .args .positions .now)
+    (stray-tail (the-start .args .file .now) _ (the-first-broken .ensures) (c .before .if1 .left) (c .if2 .taken))
 
 frames-room-requires : tie.Need-frames-room-requires
 frames-room-requires c κs = search needs
 
 returns-3 : tie.Need-returns-3
-returns-3 c = reading-short (c .before .before .before .before .before .before .before .before .before .before .args .file .now) (c .before .before .before .before .before .before .before .before .before .before .args .pictures .now) (c .before .before .before .before .before .before .before .before .before .before .args .sides .now) (c .before .before .before .before .before .before .before .before .before .before .args .fields .now) (c .before .before .before .before .before .before .before .before .before .before .args .positions .now) (all-fit (c .before .before .before .before .before .before .before .before .before .before .args .file .now) _ (c .before .before .before .before .first-broken .ensures) (c .before .before .before .if1 .left) (c .before .before .if2 .left)) (sym (c .before .frames-room .ensures) ∙ not-true _ (c .if3 .taken))
+returns-3 c =
+    let the-if2 = c .before .before .if2 in
+    let the-if1 = c .before .before .before .if1 in
+    let the-first-broken = c .before .before .before .before .first-broken in
+    let the-start = c .before .before .before .before .before .before .before .before .before .before in
+    reading-short (the-start .args .file .now) (the-start .args .pictures .now) (the-start .args .sides .now) (the-start .args .fields .now)
+    (the-start .args .positions .now) (all-fit (the-start .args .file .now) _ (the-first-broken .ensures) (the-if1 .left) (the-if2 .left))
+    (sym (c .before .frames-room .ensures) ∙ not-true _ (c .if3 .taken))
 
 fetch-pictures-requires : tie.Need-fetch-pictures-requires
-fetch-pictures-requires c κs = ((frames-lie _ _ _ _ _ (sym (c .before .before .frames-room .ensures) ∙ not-false _ (c .before .if3 .left))) .pictures-long, omega arith)
+fetch-pictures-requires c κs =
+    let the-frames-room = c .before .before .frames-room in
+    ((frames-lie _ _ _ _ _ (sym (the-frames-room .ensures) ∙ not-false _ (c .before .if3 .left))) .pictures-long, omega arith)
 
 fetch-bytes-requires : tie.Need-fetch-bytes-requires
-fetch-bytes-requires c κs = ((frames-lie _ _ _ _ _ (sym (c .before .before .before .before .before .before .frames-room .ensures) ∙ not-false _ (c .before .before .before .before .before .if3 .left))) .sides-long, omega arith, omega arith)
+fetch-bytes-requires c κs =
+    let the-if3 = c .before .before .before .before .before .if3 in
+    let the-frames-room = c .before .before .before .before .before .before .frames-room in
+    ((frames-lie _ _ _ _ _ (sym (the-frames-room .ensures) ∙ not-false _ (the-if3 .left))) .sides-long, omega arith, omega arith)
 
 fetch-bytes-requires-2 : tie.Need-fetch-bytes-requires-2
-fetch-bytes-requires-2 c κs = ((frames-lie _ _ _ _ _ (sym (c .before .before .before .before .before .before .before .before .before .before .frames-room .ensures) ∙ not-false _ (c .before .before .before .before .before .before .before .before .before .if3 .left))) .fields-long, omega arith, omega arith)
+fetch-bytes-requires-2 c κs =
+    let the-if3 = c .before .before .before .before .before .before .before .before .before .if3 in
+    let the-frames-room = c .before .before .before .before .before .before .before .before .before .before .frames-room in
+    ((frames-lie _ _ _ _ _ (sym (the-frames-room .ensures) ∙ not-false _ (the-if3 .left))) .fields-long, omega arith, omega arith)
 
 fetch-positions-requires : tie.Need-fetch-positions-requires
-fetch-positions-requires c κs = ((frames-lie _ _ _ _ _ (sym (c .before .before .before .before .before .before .before .before .before .before .before .before .before .before .frames-room .ensures) ∙ not-false _ (c .before .before .before .before .before .before .before .before .before .before .before .before .before .if3 .left))) .positions-long, omega arith)
+fetch-positions-requires c κs =
+    let the-if3 = c .before .before .before .before .before .before .before .before .before .before .before .before .before .if3 in
+    let the-frames-room = c .before .before .before .before .before .before .before .before .before .before .before .before .before .before .frames-room in
+    ((frames-lie _ _ _ _ _ (sym (the-frames-room .ensures) ∙ not-false _ (the-if3 .left))) .positions-long, omega arith)
 
 same-length : tie.Need-same-length
 same-length c = search needs
@@ -48,7 +75,23 @@ same-length-4 : tie.Need-same-length-4
 same-length-4 c = search needs
 
 returns-4 : tie.Need-returns-4
-returns-4 c = reading-done (c .before .before .before .before .before .before .before .before .before .before .before .before .before .before .before .before .before .before .before .before .before .before .before .before .before .before .args .file .now) (c .before .before .before .before .before .before .before .before .before .before .before .before .before .before .before .before .before .before .before .before .before .before .before .before .before .before .args .pictures .now) (c .before .before .before .before .before .before .before .before .before .before .before .before .before .before .before .before .before .before .before .before .before .before .before .before .before .before .args .sides .now) (c .before .before .before .before .before .before .before .before .before .before .before .before .before .before .before .before .before .before .before .before .before .before .before .before .before .before .args .fields .now) (c .before .before .before .before .before .before .before .before .before .before .before .before .before .before .before .before .before .before .before .before .before .before .before .before .before .before .args .positions .now) (all-fit (c .before .before .before .before .before .before .before .before .before .before .before .before .before .before .before .before .before .before .before .before .before .before .before .before .before .before .args .file .now) _ (c .before .before .before .before .before .before .before .before .before .before .before .before .before .before .before .before .before .before .before .before .first-broken .ensures) (c .before .before .before .before .before .before .before .before .before .before .before .before .before .before .before .before .before .before .before .if1 .left) (c .before .before .before .before .before .before .before .before .before .before .before .before .before .before .before .before .before .before .if2 .left)) _ _ _ _ (sym (c .before .before .before .before .before .before .before .before .before .before .before .before .before .before .before .before .before .frames-room .ensures) ∙ not-false _ (c .before .before .before .before .before .before .before .before .before .before .before .before .before .before .before .before .if3 .left)) (c .before .before .before .before .before .before .before .before .before .before .before .before .before .before .fetch-pictures .ensures) (c .before .before .before .before .before .before .before .before .before .before .fetch-bytes .ensures) (c .before .before .before .before .before .before .fetch-bytes2 .ensures) (c .before .before .fetch-positions .ensures)
+returns-4 c =
+    let the-fetch-positions = c .before .before .fetch-positions in
+    let the-fetch-bytes2 = c .before .before .before .before .before .before .fetch-bytes2 in
+    let the-fetch-bytes = c .before .before .before .before .before .before .before .before .before .before .fetch-bytes in
+    let the-fetch-pictures = c .before .before .before .before .before .before .before .before .before .before .before .before .before .before .fetch-pictures in
+    let the-if3 = c .before .before .before .before .before .before .before .before .before .before .before .before .before .before .before .before .if3 in
+    let far-1 = c .before .before .before .before .before .before .before .before .before .before .before .before in
+    let the-frames-room = far-1 .before .before .before .before .before .frames-room in
+    let the-if2 = far-1 .before .before .before .before .before .before .if2 in
+    let the-if1 = far-1 .before .before .before .before .before .before .before .if1 in
+    let the-first-broken = far-1 .before .before .before .before .before .before .before .before .first-broken in
+    let far-2 = far-1 .before .before .before .before .before .before .before .before .before .before .before .before in
+    let the-start = far-2 .before .before in
+    reading-done (the-start .args .file .now) (the-start .args .pictures .now) (the-start .args .sides .now) (the-start .args .fields .now)
+    (the-start .args .positions .now) (all-fit (the-start .args .file .now) _ (the-first-broken .ensures) (the-if1 .left) (the-if2 .left)) _ _ _ _
+    (sym (the-frames-room .ensures) ∙ not-false _ (the-if3 .left)) (the-fetch-pictures .ensures) (the-fetch-bytes .ensures) (the-fetch-bytes2 .ensures)
+    (the-fetch-positions .ensures)
 
 pub read-monitor-spec : {M : Type 1} → statement M
 read-monitor-spec =

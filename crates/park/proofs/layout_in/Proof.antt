@@ -1,3 +1,4 @@
+-- `park::layout_in` meets its contract: from what its calls promise.
 use Rattle.parked.specs.Parked.{layoutIn}
 use borrow.Author.Needs.{needs}
 use Rattle.park.proofs.layout_in.Statement.{statement}
@@ -16,7 +17,9 @@ shared-slice-read-layout-of : tie.Need-shared-slice-read-layout-of
 shared-slice-read-layout-of c = search needs
 
 layout-of-requires : tie.Need-layout-of-requires
-layout-of-requires c κs = (c .before .before .before .before .before .before .pre .frames-most, c .before .before .before .before .before .before .pre .components-most, rw (c .before .links-in .ensures) (c .before .before .before .before .before .before .pre .links-most))
+layout-of-requires c κs =
+    let the-start = c .before .before .before .before .before .before in
+    (the-start .pre .frames-most, the-start .pre .components-most, rw (c .before .links-in .ensures) (the-start .pre .links-most))
 
 returns : tie.Need-returns
 unfolding layoutIn

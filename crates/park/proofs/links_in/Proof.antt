@@ -1,3 +1,4 @@
+-- `park::links_in` meets its contract: each need follows from its own premises.
 use Rattle.parked.specs.Parked.{linksIn}
 use borrow.Author.Needs.{needs}
 use native.Mathlib.Omega.{arith}

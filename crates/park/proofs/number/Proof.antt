@@ -1,3 +1,4 @@
+-- `park::number` meets its contract: from what its calls promise.
 use Rattle.park.specs.Park.{parkNumber}
 use borrow.Author.Needs.{needs}
 use Rattle.park.proofs.number.Statement.{statement}

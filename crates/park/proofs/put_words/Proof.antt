@@ -1,3 +1,4 @@
+-- `park::put_words` meets its contract: the loop keeps `Lays`; by `length-bytes`, `words-more`, `lays-start`, `lays-done`.
 use Rattle.little.proofs.Bytes.{length-bytes}
 use Rattle.park.proofs.Laws.{wordBytes, words-more}
 use Rattle.park.specs.Park.{parkedInto}
@@ -19,13 +20,22 @@ loop-holds : tie.Need-loop-holds Inv-loop μ-loop
 loop-holds c = lays-start 8 _
 
 parked-word-requires : tie.Need-parked-word-requires Inv-loop μ-loop
-parked-word-requires c κs = c .before .before .before .before .before .before .before .before .before .before .before .pre .0
+parked-word-requires c κs =
+    let the-start = c .before .before .before .before .before .before .before .before .before .before .before in
+    the-start .pre .0
 
 mul-put-word : tie.Need-mul-put-word Inv-loop μ-loop
-mul-put-word c = omega (arith, c .before .before .if1 .taken, c .before .before .before .before .before .before .before .before .before .before .before .before .before .pre .1, c .before .before .before .before .before .before .before .before .before .before .before .before .before .good .1 .1 .1 .1 .1 .1 .1 .1 .0)
+mul-put-word c =
+    let the-if1 = c .before .before .if1 in
+    let the-start = c .before .before .before .before .before .before .before .before .before .before .before .before .before in
+    omega (arith, the-if1 .taken, the-start .pre .1, the-start .good .1 .1 .1 .1 .1 .1 .1 .1 .0)
 
 put-word-requires : tie.Need-put-word-requires Inv-loop μ-loop
-put-word-requires c κs = omega (arith, c .before .before .if1 .taken, c .before .before .before .before .before .before .before .before .before .before .before .before .before .pre .1, c .before .before .before .before .loop .inv .size)
+put-word-requires c κs =
+    let the-if1 = c .before .before .if1 in
+    let the-loop = c .before .before .before .before .loop in
+    let the-start = c .before .before .before .before .before .before .before .before .before .before .before .before .before in
+    omega (arith, the-if1 .taken, the-start .pre .1, the-loop .inv .size)
 
 add-w : tie.Need-add-w Inv-loop μ-loop
 add-w c = search needs
@@ -34,7 +44,14 @@ loop-less : tie.Need-loop-less Inv-loop μ-loop
 loop-less c = search needs
 
 loop-again : tie.Need-loop-again Inv-loop μ-loop
-loop-again c = words-more (c .before .before .before .before .before .before .before .loop .inv) (c .before .before .before .before .before .if1 .taken) (c .before .before .before .before .before .before .before .before .before .before .before .before .before .before .before .before .pre .1) (length-bytes 8 _) (c .before .before .put-word .kept .0) (rw (c .before .before .before .before .parked-word .ensures) at (c .before .before .put-word .ensures))
+loop-again c =
+    let the-put-word = c .before .before .put-word in
+    let the-parked-word = c .before .before .before .before .parked-word in
+    let the-if1 = c .before .before .before .before .before .if1 in
+    let the-loop = c .before .before .before .before .before .before .before .loop in
+    let the-start = c .before .before .before .before .before .before .before .before .before .before .before .before .before .before .before .before in
+    words-more (the-loop .inv) (the-if1 .taken) (the-start .pre .1) (length-bytes 8 _) (the-put-word .kept .0)
+    (rw (the-parked-word .ensures) at (the-put-word .ensures))
 
 same-length : tie.Need-same-length Inv-loop μ-loop
 same-length c = c .before .before .loop .inv .size

@@ -1,3 +1,4 @@
+-- `partner_import::import` meets its contract: by `list-room`, `begin-room`, `let-in`, `import-refused`, `import-bad`, `import-loaded`.
 use Rattle.partner_import.proofs.Laws.{list-room, begin-room}
 use mathlib.Core.Path.{refl, sym, ap, _∙_}
 use borrow.Author.Tests.{eq-eqb}
@@ -27,7 +28,13 @@ import-fault-requires : tie.Need-import-fault-requires
 import-fault-requires c κs = search needs
 
 returns : tie.Need-returns
-returns c = import-refused _ _ _ _ (loading (c .before .before .before .before .before .before .before .before .before .before .before .before .args .positions .now) (c .before .before .before .before .before .before .before .before .before .before .before .before .args .increments .now) (c .before .before .before .before .before .before .before .before .before .before .before .before .args .gains .now) (c .before .before .before .before .before .before .before .before .before .before .before .before .args .affinities .now) (c .before .before .before .before .before .before .before .before .before .before .before .before .args .indices .now) (c .before .before .before .before .before .before .before .before .before .before .before .before .args .offsets .now) (c .before .before .before .before .before .before .before .before .before .before .before .before .args .forces .now)) (c .before .before .tree-settings .ensures) (c .before .import-fault .ensures) (c .if1 .taken)
+returns c =
+    let the-tree-settings = c .before .before .tree-settings in
+    let the-start = c .before .before .before .before .before .before .before .before .before .before .before .before in
+    import-refused _ _ _ _
+    (loading (the-start .args .positions .now) (the-start .args .increments .now) (the-start .args .gains .now) (the-start .args .affinities .now)
+    (the-start .args .indices .now) (the-start .args .offsets .now) (the-start .args .forces .now)) (the-tree-settings .ensures)
+    (c .before .import-fault .ensures) (c .if1 .taken)
 
 sizes-of-requires : tie.Need-sizes-of-requires
 sizes-of-requires c κs = (let-in _ _ _ (sym (c .before .import-fault .ensures) ∙ c .if1 .left)) .good
@@ -39,13 +46,45 @@ given-links-requires : tie.Need-given-links-requires
 given-links-requires c κs = search needs
 
 returns-2 : tie.Need-returns-2
-returns-2 c = import-bad _ _ _ _ (loading (c .before .before .before .before .before .before .before .before .before .before .before .before .before .before .before .before .args .positions .now) (c .before .before .before .before .before .before .before .before .before .before .before .before .before .before .before .before .args .increments .now) (c .before .before .before .before .before .before .before .before .before .before .before .before .before .before .before .before .args .gains .now) (c .before .before .before .before .before .before .before .before .before .before .before .before .before .before .before .before .args .affinities .now) (c .before .before .before .before .before .before .before .before .before .before .before .before .before .before .before .before .args .indices .now) (c .before .before .before .before .before .before .before .before .before .before .before .before .before .before .before .before .args .offsets .now) (c .before .before .before .before .before .before .before .before .before .before .before .before .before .before .before .before .args .forces .now)) (c .before .before .before .before .before .before .tree-settings .ensures) (sym (c .before .before .before .before .before .import-fault .ensures) ∙ c .before .before .before .before .if1 .left) (rw (c .before .before .before .sizes-of .ensures) at (c .before .before .first-bad-link .ensures)) (λ q. c .if2 .taken (q ∙ sym (c .before .given-links .ensures)))
+returns-2 c =
+    let the-first-bad-link = c .before .before .first-bad-link in
+    let the-sizes-of = c .before .before .before .sizes-of in
+    let the-if1 = c .before .before .before .before .if1 in
+    let the-import-fault = c .before .before .before .before .before .import-fault in
+    let the-tree-settings = c .before .before .before .before .before .before .tree-settings in
+    let the-start = c .before .before .before .before .before .before .before .before .before .before .before .before .before .before .before .before in
+    import-bad _ _ _ _ (loading (the-start .args .positions .now) (the-start .args .increments .now) (the-start .args .gains .now)
+    (the-start .args .affinities .now) (the-start .args .indices .now) (the-start .args .offsets .now) (the-start .args .forces .now))
+    (the-tree-settings .ensures) (sym (the-import-fault .ensures) ∙ the-if1 .left) (rw (the-sizes-of .ensures) at (the-first-bad-link .ensures))
+    (λ q. c .if2 .taken (q ∙ sym (c .before .given-links .ensures)))
 
 load-lists-requires : tie.Need-load-lists-requires
-load-lists-requires c κs = let z = list-room (let-in _ _ _ (sym (c .before .before .before .before .before .before .before .before .import-fault .ensures) ∙ c .before .before .before .before .before .before .before .if1 .left)) (c .before .before .before .before .before .before .before .before .before .before .before .before .before .before .before .before .before .before .before .args .s) (c .before .before .before .before .before .before .before .before .before .tree-settings .ensures) in ((let-in _ _ _ (sym (c .before .before .before .before .before .before .before .before .import-fault .ensures) ∙ c .before .before .before .before .before .before .before .if1 .left)) .good, eq-eqb _ _ (sym (rw (c .before .before .before .before .before .before .sizes-of .ensures) at (c .before .before .before .before .before .first-bad-link .ensures)) ∙ c .before .before .before .if2 .left ∙ c .before .before .before .before .given-links .ensures), z .0, z .1, z .2)
+load-lists-requires c κs =
+    let the-if2 = c .before .before .before .if2 in
+    let the-given-links = c .before .before .before .before .given-links in
+    let the-first-bad-link = c .before .before .before .before .before .first-bad-link in
+    let the-sizes-of = c .before .before .before .before .before .before .sizes-of in
+    let the-if1 = c .before .before .before .before .before .before .before .if1 in
+    let the-import-fault = c .before .before .before .before .before .before .before .before .import-fault in
+    let the-tree-settings = c .before .before .before .before .before .before .before .before .before .tree-settings in
+    let far-1 = c .before .before .before .before .before .before .before .before .before .before .before .before in
+    let the-start = far-1 .before .before .before .before .before .before .before in
+    let z = list-room (let-in _ _ _ (sym (the-import-fault .ensures) ∙ the-if1 .left)) (the-start .args .s) (the-tree-settings .ensures) in (
+      (let-in _ _ _ (sym (the-import-fault .ensures) ∙ the-if1 .left)) .good,
+      eq-eqb _ _
+          (sym (rw (the-sizes-of .ensures) at (the-first-bad-link .ensures)) ∙ the-if2 .left ∙ the-given-links .ensures),
+      z .0,
+      z .1,
+      z .2,
+    )
 
 set-out-words-requires : tie.Need-set-out-words-requires
-set-out-words-requires c κs = rw (c .before .before .before .before .before .before .before .before .before .before .before .before .before .before .before .before .before .sizes-of .ensures) (begin-room (let-in _ _ _ (sym (c .before .before .before .before .before .before .before .before .before .before .before .before .before .before .before .before .before .before .before .import-fault .ensures) ∙ c .before .before .before .before .before .before .before .before .before .before .before .before .before .before .before .before .before .before .if1 .left)))
+set-out-words-requires c κs =
+    let far-1 = c .before .before .before .before .before .before .before .before .before .before .before .before in
+    let the-sizes-of = far-1 .before .before .before .before .before .sizes-of in
+    let the-if1 = far-1 .before .before .before .before .before .before .if1 in
+    let the-import-fault = far-1 .before .before .before .before .before .before .before .import-fault in
+    rw (the-sizes-of .ensures) (begin-room (let-in _ _ _ (sym (the-import-fault .ensures) ∙ the-if1 .left)))
 
 fresh-run-requires : tie.Need-fresh-run-requires
 fresh-run-requires c κs = search needs
@@ -73,7 +112,28 @@ same-length-7 c = search needs
 
 returns-3 : tie.Need-returns-3
 unfolding sizesOf
-returns-3 c = import-loaded _ _ _ _ (loading (c .before .before .before .before .before .before .before .before .before .before .before .before .before .before .before .before .before .before .before .before .before .before .before .before .before .before .before .before .before .before .before .before .before .before .before .before .before .before .before .before .args .positions .now) (c .before .before .before .before .before .before .before .before .before .before .before .before .before .before .before .before .before .before .before .before .before .before .before .before .before .before .before .before .before .before .before .before .before .before .before .before .before .before .before .before .args .increments .now) (c .before .before .before .before .before .before .before .before .before .before .before .before .before .before .before .before .before .before .before .before .before .before .before .before .before .before .before .before .before .before .before .before .before .before .before .before .before .before .before .before .args .gains .now) (c .before .before .before .before .before .before .before .before .before .before .before .before .before .before .before .before .before .before .before .before .before .before .before .before .before .before .before .before .before .before .before .before .before .before .before .before .before .before .before .before .args .affinities .now) (c .before .before .before .before .before .before .before .before .before .before .before .before .before .before .before .before .before .before .before .before .before .before .before .before .before .before .before .before .before .before .before .before .before .before .before .before .before .before .before .before .args .indices .now) (c .before .before .before .before .before .before .before .before .before .before .before .before .before .before .before .before .before .before .before .before .before .before .before .before .before .before .before .before .before .before .before .before .before .before .before .before .before .before .before .before .args .offsets .now) (c .before .before .before .before .before .before .before .before .before .before .before .before .before .before .before .before .before .before .before .before .before .before .before .before .before .before .before .before .before .before .before .before .before .before .before .before .before .before .before .before .args .forces .now)) (c .before .before .before .before .before .before .before .before .before .before .before .before .before .before .before .before .before .before .before .before .before .before .before .before .before .before .before .before .before .before .tree-settings .ensures) (sym (c .before .before .before .before .before .before .before .before .before .before .before .before .before .before .before .before .before .before .before .before .before .before .before .before .before .before .before .before .before .import-fault .ensures) ∙ c .before .before .before .before .before .before .before .before .before .before .before .before .before .before .before .before .before .before .before .before .before .before .before .before .before .before .before .before .if1 .left) (sym (rw (c .before .before .before .before .before .before .before .before .before .before .before .before .before .before .before .before .before .before .before .before .before .before .before .before .before .before .before .sizes-of .ensures) at (c .before .before .before .before .before .before .before .before .before .before .before .before .before .before .before .before .before .before .before .before .before .before .before .before .before .before .first-bad-link .ensures)) ∙ c .before .before .before .before .before .before .before .before .before .before .before .before .before .before .before .before .before .before .before .before .before .before .before .before .if2 .left ∙ c .before .before .before .before .before .before .before .before .before .before .before .before .before .before .before .before .before .before .before .before .before .before .before .before .before .given-links .ensures) (c .fresh-run .ensures) ((rw (c .before .before .before .before .before .before .before .before .before .before .before .before .before .before .before .before .before .before .before .before .before .before .before .before .before .before .before .sizes-of .ensures) at (c .before .before .before .before .before .before .before .before .before .set-out-words .ensures)) .0) ((rw (c .before .before .before .before .before .before .before .before .before .before .before .before .before .before .before .before .before .before .before .before .before .before .before .before .before .before .before .sizes-of .ensures) at (c .before .before .before .before .before .before .before .before .before .set-out-words .ensures)) .1) ((rw (c .before .before .before .before .before .before .before .before .before .before .before .before .before .before .before .before .before .before .before .before .before .before .before .before .before .before .before .sizes-of .ensures) at (c .before .before .before .before .before .before .before .before .before .set-out-words .ensures)) .2) (c .before .before .before .before .before .before .before .before .before .before .before .before .before .before .before .before .before .before .before .before .load-lists .ensures .0) (c .before .before .before .before .before .before .before .before .before .before .before .before .before .before .before .before .before .before .before .before .load-lists .ensures .1) (c .before .before .before .before .before .before .before .before .before .before .before .before .before .before .before .before .before .before .before .before .load-lists .ensures .2) ((rw (c .before .before .before .before .before .before .before .before .before .before .before .before .before .before .before .before .before .before .before .before .before .before .before .before .before .before .before .sizes-of .ensures) at (c .before .before .before .before .before .before .before .before .before .set-out-words .ensures)) .3)
+returns-3 c =
+    let the-set-out-words = c .before .before .before .before .before .before .before .before .before .set-out-words in
+    let far-1 = c .before .before .before .before .before .before .before .before .before .before .before .before in
+    let the-load-lists = far-1 .before .before .before .before .before .before .before .before .load-lists in
+    let far-2 = far-1 .before .before .before .before .before .before .before .before .before .before .before .before in
+    let the-if2 = far-2 .if2 in
+    let the-given-links = far-2 .before .given-links in
+    let the-first-bad-link = far-2 .before .before .first-bad-link in
+    let the-sizes-of = far-2 .before .before .before .sizes-of in
+    let the-if1 = far-2 .before .before .before .before .if1 in
+    let the-import-fault = far-2 .before .before .before .before .before .import-fault in
+    let the-tree-settings = far-2 .before .before .before .before .before .before .tree-settings in
+    let far-3 = far-2 .before .before .before .before .before .before .before .before .before .before .before .before in
+    let the-start = far-3 .before .before .before .before in
+    import-loaded _ _ _ _
+    (loading (the-start .args .positions .now) (the-start .args .increments .now) (the-start .args .gains .now) (the-start .args .affinities .now)
+    (the-start .args .indices .now) (the-start .args .offsets .now) (the-start .args .forces .now)) (the-tree-settings .ensures)
+    (sym (the-import-fault .ensures) ∙ the-if1 .left)
+    (sym (rw (the-sizes-of .ensures) at (the-first-bad-link .ensures)) ∙ the-if2 .left ∙ the-given-links .ensures) (c .fresh-run .ensures)
+    ((rw (the-sizes-of .ensures) at (the-set-out-words .ensures)) .0) ((rw (the-sizes-of .ensures) at (the-set-out-words .ensures)) .1)
+    ((rw (the-sizes-of .ensures) at (the-set-out-words .ensures)) .2) (the-load-lists .ensures .0) (the-load-lists .ensures .1) (the-load-lists .ensures .2)
+    ((rw (the-sizes-of .ensures) at (the-set-out-words .ensures)) .3)
 
 pub import-spec : {M : Type 1} → statement M
 import-spec =

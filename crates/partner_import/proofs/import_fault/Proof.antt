@@ -1,3 +1,4 @@
+-- `partner_import::import_fault` meets its contract: by `settings-fine`.
 use mathlib.Core.Path.{sym, _∙_}
 use borrow.Author.Tests.{eq-eqb, ne-eqb, not-true, not-false}
 use Rattle.run_record.proofs.Laws.{settings-fine}
@@ -19,32 +20,77 @@ settings-fault-requires c κs = search needs
 
 returns : tie.Need-returns
 unfolding importFault
-returns c = rw (ne-eqb _ _ (rw (c .before .settings-fault .ensures) at (c .if1 .taken))) (c .before .settings-fault .ensures)
+returns c =
+    rw (ne-eqb _ _ (rw (c .before .settings-fault .ensures) at (c .if1 .taken))) (c .before .settings-fault .ensures)
 
 times-requires : tie.Need-times-requires
-times-requires c κs = let z = settings-fine _ (sym (c .before .settings-fault .ensures) ∙ c .if1 .left) in (omega (arith, z .n-most), omega (arith, z .c-most))
+times-requires c κs =
+    let z = settings-fine _ (sym (c .before .settings-fault .ensures) ∙ c .if1 .left) in
+    (omega (arith, z .n-most), omega (arith, z .c-most))
 
 returns-2 : tie.Need-returns-2
 unfolding importFault
-returns-2 c = rw ((sym (c .before .before .before .settings-fault .ensures) ∙ c .before .before .if1 .left), ne-eqb _ _ (rw (c .before .times .ensures) at (c .if2 .taken)))
+returns-2 c =
+    let the-if1 = c .before .before .if1 in
+    let the-settings-fault = c .before .before .before .settings-fault in
+    rw ((sym (the-settings-fault .ensures) ∙ the-if1 .left), ne-eqb _ _ (rw (c .before .times .ensures) at (c .if2 .taken)))
 
 start-fine-requires : tie.Need-start-fine-requires
 start-fine-requires c κs = omega (arith, c .if2 .left)
 
 returns-3 : tie.Need-returns-3
 unfolding importFault
-returns-3 c = rw ((sym (c .before .before .before .before .before .settings-fault .ensures) ∙ c .before .before .before .before .if1 .left), (eq-eqb _ _ (rw (c .before .before .before .times .ensures) at (c .before .before .if2 .left))), sym (rw (c .before .before .before .times .ensures) at (c .before .start-fine .ensures)) ∙ not-true _ (c .if3 .taken))
+returns-3 c =
+    let the-if2 = c .before .before .if2 in
+    let the-times = c .before .before .before .times in
+    let the-if1 = c .before .before .before .before .if1 in
+    let the-settings-fault = c .before .before .before .before .before .settings-fault in
+    rw (
+      (sym (the-settings-fault .ensures) ∙ the-if1 .left),
+      (eq-eqb _ _ (rw (the-times .ensures) at (the-if2 .left))),
+      sym
+          (rw (the-times .ensures) at (c .before .start-fine .ensures)) ∙ not-true _ (c .if3 .taken),
+    )
 
 areas-fit-requires : tie.Need-areas-fit-requires
-areas-fit-requires c κs = settings-fine _ (sym (c .before .before .before .before .before .settings-fault .ensures) ∙ c .before .before .before .before .if1 .left)
+areas-fit-requires c κs =
+    let the-if1 = c .before .before .before .before .if1 in
+    let the-settings-fault = c .before .before .before .before .before .settings-fault in
+    settings-fine _ (sym (the-settings-fault .ensures) ∙ the-if1 .left)
 
 returns-4 : tie.Need-returns-4
 unfolding importFault
-returns-4 c = rw ((sym (c .before .before .before .before .before .before .before .settings-fault .ensures) ∙ c .before .before .before .before .before .before .if1 .left), (eq-eqb _ _ (rw (c .before .before .before .before .before .times .ensures) at (c .before .before .before .before .if2 .left))), sym (rw (c .before .before .before .before .before .times .ensures) at (c .before .before .before .start-fine .ensures)) ∙ not-false _ (c .before .before .if3 .left), sym (c .before .areas-fit .ensures) ∙ c .if4 .taken)
+returns-4 c =
+    let the-if3 = c .before .before .if3 in
+    let the-start-fine = c .before .before .before .start-fine in
+    let the-if2 = c .before .before .before .before .if2 in
+    let the-times = c .before .before .before .before .before .times in
+    let the-if1 = c .before .before .before .before .before .before .if1 in
+    let the-settings-fault = c .before .before .before .before .before .before .before .settings-fault in
+    rw (
+      (sym (the-settings-fault .ensures) ∙ the-if1 .left),
+      (eq-eqb _ _ (rw (the-times .ensures) at (the-if2 .left))),
+      sym
+          (rw (the-times .ensures) at (the-start-fine .ensures)) ∙ not-false _ (the-if3 .left),
+      sym (c .before .areas-fit .ensures) ∙ c .if4 .taken,
+    )
 
 returns-5 : tie.Need-returns-5
 unfolding importFault
-returns-5 c = rw ((sym (c .before .before .before .before .before .before .before .settings-fault .ensures) ∙ c .before .before .before .before .before .before .if1 .left), (eq-eqb _ _ (rw (c .before .before .before .before .before .times .ensures) at (c .before .before .before .before .if2 .left))), sym (rw (c .before .before .before .before .before .times .ensures) at (c .before .before .before .start-fine .ensures)) ∙ not-false _ (c .before .before .if3 .left), sym (c .before .areas-fit .ensures) ∙ c .if4 .left)
+returns-5 c =
+    let the-if3 = c .before .before .if3 in
+    let the-start-fine = c .before .before .before .start-fine in
+    let the-if2 = c .before .before .before .before .if2 in
+    let the-times = c .before .before .before .before .before .times in
+    let the-if1 = c .before .before .before .before .before .before .if1 in
+    let the-settings-fault = c .before .before .before .before .before .before .before .settings-fault in
+    rw (
+      (sym (the-settings-fault .ensures) ∙ the-if1 .left),
+      (eq-eqb _ _ (rw (the-times .ensures) at (the-if2 .left))),
+      sym
+          (rw (the-times .ensures) at (the-start-fine .ensures)) ∙ not-false _ (the-if3 .left),
+      sym (c .before .areas-fit .ensures) ∙ c .if4 .left,
+    )
 
 pub import-fault-spec : {M : Type 1} → statement M
 import-fault-spec =

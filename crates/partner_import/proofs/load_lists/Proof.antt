@@ -1,3 +1,4 @@
+-- `partner_import::load_lists` meets its contract: by `links-in-number`, `links-in-words`, `frames-rise`.
 use Rattle.partner_import.proofs.Laws.{links-in-number, links-in-words, frames-rise}
 use borrow.Author.Needs.{needs}
 use native.Mathlib.Omega.{arith}
@@ -11,13 +12,24 @@ use Rattle.partner_load.proofs.load_offsets.Reads as load-offsets-reads
 use Rattle.partner_load.proofs.load_weights.Reads as load-weights-reads
 
 load-weights-requires : tie.Need-load-weights-requires
-load-weights-requires c κs = omega (arith, links-in-number _ (c .before .before .before .before .before .pre .0) _ (c .before .before .before .before .before .pre .1), c .before .before .before .before .before .pre .2)
+load-weights-requires c κs =
+    let the-start = c .before .before .before .before .before in
+    omega (arith, links-in-number _ (the-start .pre .0) _ (the-start .pre .1), the-start .pre .2)
 
 load-indices-requires : tie.Need-load-indices-requires
-load-indices-requires c κs = omega (arith, links-in-number _ (c .before .before .before .before .before .before .before .before .before .pre .0) _ (c .before .before .before .before .before .before .before .before .before .pre .1), c .before .before .before .before .before .before .before .before .before .pre .3)
+load-indices-requires c κs =
+    let the-start = c .before .before .before .before .before .before .before .before .before in
+    omega (arith, links-in-number _ (the-start .pre .0) _ (the-start .pre .1), the-start .pre .3)
 
 load-offsets-requires : tie.Need-load-offsets-requires
-load-offsets-requires c κs = (c .before .before .before .before .before .before .before .before .before .before .before .before .before .pre .0 .n-most, c .before .before .before .before .before .before .before .before .before .before .before .before .before .pre .4, links-in-words _ (c .before .before .before .before .before .before .before .before .before .before .before .before .before .pre .0) _ (c .before .before .before .before .before .before .before .before .before .before .before .before .before .pre .1), frames-rise _ (c .before .before .before .before .before .before .before .before .before .before .before .before .before .pre .0) _ (c .before .before .before .before .before .before .before .before .before .before .before .before .before .pre .1))
+load-offsets-requires c κs =
+    let the-start = c .before .before .before .before .before .before .before .before .before .before .before .before .before in (
+      the-start .pre .0 .n-most,
+      the-start .pre .4,
+      links-in-words _ (the-start .pre .0) _ (the-start .pre .1),
+      frames-rise _ (the-start .pre .0) _
+          (the-start .pre .1),
+    )
 
 same-length : tie.Need-same-length
 same-length c = search needs

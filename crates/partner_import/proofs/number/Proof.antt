@@ -1,3 +1,4 @@
+-- `partner_import::number` meets its contract: each need follows from its own premises.
 use Rattle.partner_import.specs.Import.{importNumber}
 use borrow.Author.Needs.{needs}
 use native.Mathlib.Omega.{arith}

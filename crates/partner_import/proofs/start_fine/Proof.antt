@@ -1,3 +1,4 @@
+-- `partner_import::start_fine` meets its contract: the loop keeps what has been done equal to its part of the whole; by `every-none`, `every-more`, `every-no`, `every-done`.
 use Prim.Native.Nat.{_-_, _≤_}
 use mathlib.Core.Path.{_≡_, sym, _∙_}
 use mathlib.Core.Bool.{true}
@@ -36,7 +37,11 @@ in-domain-requires : tie.Need-in-domain-requires Inv-loop μ-loop
 in-domain-requires c κs = search needs
 
 returns : tie.Need-returns Inv-loop μ-loop
-returns c = sym (every-no _ _ (c .before .before .before .before .before .loop .i) (c .before .before .before .before .loop-test .taken) (sym (rw (c .before .before .value-of .ensures) at (c .before .in-domain .ensures)) ∙ not-true _ (c .if1 .taken)))
+returns c =
+    let the-value-of = c .before .before .value-of in
+    let the-loop-test = c .before .before .before .before .loop-test in
+    let the-loop = c .before .before .before .before .before .loop in
+    sym (every-no _ _ (the-loop .i) (the-loop-test .taken) (sym (rw (the-value-of .ensures) at (c .before .in-domain .ensures)) ∙ not-true _ (c .if1 .taken)))
 
 add-i : tie.Need-add-i Inv-loop μ-loop
 add-i c = search needs
@@ -45,7 +50,14 @@ loop-less : tie.Need-loop-less Inv-loop μ-loop
 loop-less c = search needs
 
 loop-again : tie.Need-loop-again Inv-loop μ-loop
-loop-again c = (every-more _ _ (c .before .before .before .before .before .loop .inv .0) (sym (rw (c .before .before .value-of .ensures) at (c .before .in-domain .ensures)) ∙ not-false _ (c .if1 .left)), omega (arith, c .before .before .before .before .loop-test .taken))
+loop-again c =
+    let the-value-of = c .before .before .value-of in
+    let the-loop-test = c .before .before .before .before .loop-test in
+    let the-loop = c .before .before .before .before .before .loop in (
+      every-more _ _ (the-loop .inv .0) (sym (rw (the-value-of .ensures) at (c .before .in-domain .ensures)) ∙ not-false _ (c .if1 .left)),
+      omega
+          (arith, the-loop-test .taken),
+    )
 
 returns-2 : tie.Need-returns-2 Inv-loop μ-loop
 returns-2 c = every-done _ _ _ (c .before .loop .inv .0) (c .before .loop .inv .1) (c .loop-test .left)

@@ -1,3 +1,4 @@
+-- `partner_write::number` meets its contract: from what its calls promise.
 use Rattle.partner_write.specs.Write.{listsNumber}
 use borrow.Author.Needs.{needs}
 use Rattle.partner_write.proofs.number.Statement.{statement}

@@ -1,3 +1,4 @@
+-- `partner_write::put_link` meets its contract: by `link-written`.
 use Rattle.partner_write.proofs.Laws.{link-written}
 use borrow.Author.Needs.{needs}
 use Rattle.partner_write.proofs.put_link.Statement.{statement}
@@ -22,7 +23,12 @@ same-length : tie.Need-same-length
 same-length c = search needs
 
 returns : tie.Need-returns
-returns c = link-written _ _ _ _ _ _ _ _ (c .before .before .before .before .before .before .before .before .before .before .before .before .before .pre) (c .before .before .before .before .before .before .before .before .before .before .put-half-word .ensures) (c .before .before .before .before .before .before .put-half-word2 .ensures) (c .before .before .put-word .ensures)
+returns c =
+    let the-put-word = c .before .before .put-word in
+    let the-put-half-word2 = c .before .before .before .before .before .before .put-half-word2 in
+    let the-put-half-word = c .before .before .before .before .before .before .before .before .before .before .put-half-word in
+    let the-start = c .before .before .before .before .before .before .before .before .before .before .before .before .before in
+    link-written _ _ _ _ _ _ _ _ (the-start .pre) (the-put-half-word .ensures) (the-put-half-word2 .ensures) (the-put-word .ensures)
 
 pub put-link-spec : {M : Type 1} → statement M
 put-link-spec =

@@ -1,3 +1,4 @@
+-- `partner_write::put_list` meets its contract: the loop keeps `RowsPut`; by `rows-put-start`, `rows-put-done`, `link-more`, `link-size`.
 use Prim.Native.Nat.{_+_, _-_, _*_}
 use Rattle.partner_write.specs.Write.{linkAt}
 use Rattle.partner_write.proofs.Laws.{RowsPut, rows-put-start, rows-put-done, link-more, link-size}
@@ -16,28 +17,48 @@ loop-holds : tie.Need-loop-holds Inv-loop μ-loop
 loop-holds c = rows-put-start
 
 add-p : tie.Need-add-p Inv-loop μ-loop
-add-p c = omega (arith, c .loop-test .taken, c .before .before .before .before .before .pre, c .before .before .before .before .before .good)
+add-p c =
+    let the-start = c .before .before .before .before .before in
+    omega (arith, c .loop-test .taken, the-start .pre, the-start .good)
 
 mul-to : tie.Need-mul-to Inv-loop μ-loop
 mul-to c = omega (arith, c .loop-test .taken, c .before .before .before .before .before .pre)
 
 shared-slice-read-to : tie.Need-shared-slice-read-to Inv-loop μ-loop
-shared-slice-read-to c = omega (arith, c .before .loop-test .taken, c .before .before .before .before .before .before .pre)
+shared-slice-read-to c =
+    let the-start = c .before .before .before .before .before .before in
+    omega (arith, c .before .loop-test .taken, the-start .pre)
 
 cast-to : tie.Need-cast-to Inv-loop μ-loop
-cast-to c = omega (arith, c .shared-slice-known3 .given (c .before .before .before .before .before .before .args .a + c .before .before .loop .t))
+cast-to c =
+    let the-loop = c .before .before .loop in
+    let the-start = c .before .before .before .before .before .before in
+    omega (arith, c .shared-slice-known3 .given (the-start .args .a + the-loop .t))
 
 mul-put-link : tie.Need-mul-put-link Inv-loop μ-loop
-mul-put-link c = omega (arith, c .before .before .loop-test .taken, c .before .before .before .before .before .before .before .pre, c .before .before .before .before .before .before .before .good)
+mul-put-link c =
+    let the-loop-test = c .before .before .loop-test in
+    let the-start = c .before .before .before .before .before .before .before in
+    omega (arith, the-loop-test .taken, the-start .pre, the-start .good)
 
 mul-put-link-2 : tie.Need-mul-put-link-2 Inv-loop μ-loop
-mul-put-link-2 c = omega (arith, c .before .before .loop-test .taken, c .before .before .before .before .before .before .before .pre)
+mul-put-link-2 c =
+    let the-loop-test = c .before .before .loop-test in
+    let the-start = c .before .before .before .before .before .before .before in
+    omega (arith, the-loop-test .taken, the-start .pre)
 
 shared-slice-read-put-link : tie.Need-shared-slice-read-put-link Inv-loop μ-loop
-shared-slice-read-put-link c = omega (arith, c .before .before .before .loop-test .taken, c .before .before .before .before .before .before .before .before .pre)
+shared-slice-read-put-link c =
+    let the-loop-test = c .before .before .before .loop-test in
+    let the-start = c .before .before .before .before .before .before .before .before in
+    omega (arith, the-loop-test .taken, the-start .pre)
 
 put-link-requires : tie.Need-put-link-requires Inv-loop μ-loop
-put-link-requires c κs = omega (arith, c .before .before .before .loop-test .taken, c .before .before .before .before .before .before .before .before .pre, c .before .before .before .before .loop .inv .size)
+put-link-requires c κs =
+    let the-loop-test = c .before .before .before .loop-test in
+    let the-loop = c .before .before .before .before .loop in
+    let the-start = c .before .before .before .before .before .before .before .before in
+    omega (arith, the-loop-test .taken, the-start .pre, the-loop .inv .size)
 
 add-t : tie.Need-add-t Inv-loop μ-loop
 add-t c = search needs
@@ -46,7 +67,13 @@ loop-less : tie.Need-loop-less Inv-loop μ-loop
 loop-less c = search needs
 
 loop-again : tie.Need-loop-again Inv-loop μ-loop
-loop-again c = link-more (c .before .before .before .before .before .before .before .before .before .before .before .args .a) (c .before .before .before .before .before .before .before .loop .inv) (c .before .before .before .before .before .before .loop-test .taken) (c .before .before .before .before .before .before .before .before .before .before .before .pre .2) (λ j. link-size _ _ _) (c .before .before .put-link .kept .0) (c .before .before .put-link .ensures)
+loop-again c =
+    let the-put-link = c .before .before .put-link in
+    let the-loop-test = c .before .before .before .before .before .before .loop-test in
+    let the-loop = c .before .before .before .before .before .before .before .loop in
+    let the-start = c .before .before .before .before .before .before .before .before .before .before .before in
+    link-more (the-start .args .a) (the-loop .inv) (the-loop-test .taken) (the-start .pre .2) (λ j. link-size _ _ _) (the-put-link .kept .0)
+    (the-put-link .ensures)
 
 same-length : tie.Need-same-length Inv-loop μ-loop
 same-length c = c .before .loop .inv .size

@@ -1,3 +1,4 @@
+-- `prepare::lengths_fit` meets its contract: from what its calls promise.
 use borrow.Author.Tests.{le-leb, lt-leb, not-true, not-false}
 use mathlib.Core.Path.{sym, _∙_}
 use Rattle.prepare.specs.Prepare.{lengthsFit}
@@ -14,11 +15,18 @@ returns c = rw (sym (c .before .areas-fit .ensures) ∙ not-true _ (c .if1 .take
 
 returns-2 : tie.Need-returns-2
 unfolding lengthsFit
-returns-2 c = rw (sym (c .before .before .before .before .areas-fit .ensures) ∙ not-false _ (c .before .before .before .if1 .left), lt-leb _ _ (c .if2 .taken))
+returns-2 c =
+    let the-if1 = c .before .before .before .if1 in
+    let the-areas-fit = c .before .before .before .before .areas-fit in
+    rw (sym (the-areas-fit .ensures) ∙ not-false _ (the-if1 .left), lt-leb _ _ (c .if2 .taken))
 
 returns-3 : tie.Need-returns-3
 unfolding lengthsFit
-returns-3 c = rw (sym (c .before .before .before .before .before .before .areas-fit .ensures) ∙ not-false _ (c .before .before .before .before .before .if1 .left), le-leb _ _ (c .before .before .if2 .left))
+returns-3 c =
+    let the-if2 = c .before .before .if2 in
+    let the-if1 = c .before .before .before .before .before .if1 in
+    let the-areas-fit = c .before .before .before .before .before .before .areas-fit in
+    rw (sym (the-areas-fit .ensures) ∙ not-false _ (the-if1 .left), le-leb _ _ (the-if2 .left))
 
 pub lengths-fit-spec : {M : Type 1} → statement M
 lengths-fit-spec = tie.close (tie.spec areas-fit-requires returns returns-2 returns-3)

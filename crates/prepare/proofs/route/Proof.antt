@@ -1,3 +1,4 @@
+-- `prepare::route` meets its contract: by `routed-tree`, `routed-exact`, `above-zero`.
 use Rattle.prepare.proofs.Laws.{routed-tree, routed-exact}
 use Rattle.run_record.proofs.Laws.{above-zero}
 use mathlib.Core.Path.{sym, _∙_}
@@ -9,7 +10,27 @@ is-tree-requires : tie.Need-is-tree-requires
 is-tree-requires c κs = search needs
 
 neighbor-probabilities-requires : tie.Need-neighbor-probabilities-requires
-neighbor-probabilities-requires c κs = ((c .before .before .before .before .before .before .before .before .before .before .before .before .before .before .before .pre .settings-good .n-some, c .before .before .before .before .before .before .before .before .before .before .before .before .before .before .before .pre .settings-good .n-most, above-zero _ (c .before .before .before .before .before .before .before .before .before .before .before .before .before .before .before .pre .settings-good .perplexity-positive), c .before .before .before .before .before .before .before .before .before .before .before .before .before .before .before .pre .settings-good .perplexity-below), (c .before .before .before .before .before .before .before .before .before .before .before .before .before .before .before .pre .table-in, c .before .before .before .before .before .before .before .before .before .before .before .before .before .before .before .pre .weights-in (sym (c .before .before .before .before .before .before .before .is-tree .ensures) ∙ c .before .before .before .before .before .before .if1 .taken), c .before .before .before .before .before .before .before .before .before .before .before .before .before .before .before .pre .indices-in (sym (c .before .before .before .before .before .before .before .is-tree .ensures) ∙ c .before .before .before .before .before .before .if1 .taken), c .before .before .before .before .before .before .before .before .before .before .before .before .before .before .before .pre .offsets-in (sym (c .before .before .before .before .before .before .before .is-tree .ensures) ∙ c .before .before .before .before .before .before .if1 .taken), c .before .before .before .before .before .before .before .before .before .before .before .before .before .before .before .pre .squares-in, c .before .before .before .before .before .before .before .before .before .before .before .before .before .before .before .pre .values-in, c .before .before .before .before .before .before .before .before .before .before .before .before .before .before .before .pre .places-in))
+neighbor-probabilities-requires c κs =
+    let the-if1 = c .before .before .before .before .before .before .if1 in
+    let the-is-tree = c .before .before .before .before .before .before .before .is-tree in
+    let the-start = c .before .before .before .before .before .before .before .before .before .before .before .before .before .before .before in (
+      (
+        the-start .pre .settings-good .n-some,
+        the-start .pre .settings-good .n-most,
+        above-zero _ (the-start .pre .settings-good .perplexity-positive),
+        the-start .pre .settings-good .perplexity-below,
+      ),
+      (
+        the-start .pre .table-in,
+        the-start .pre .weights-in (sym (the-is-tree .ensures) ∙ the-if1 .taken),
+        the-start .pre .indices-in
+            (sym (the-is-tree .ensures) ∙ the-if1 .taken),
+        the-start .pre .offsets-in (sym (the-is-tree .ensures) ∙ the-if1 .taken),
+        the-start .pre .squares-in,
+        the-start .pre .values-in,
+        the-start .pre .places-in,
+      ),
+    )
 
 same-length : tie.Need-same-length
 same-length c = search needs
@@ -30,13 +51,30 @@ same-length-6 : tie.Need-same-length-6
 same-length-6 c = search needs
 
 returns : tie.Need-returns
-returns c = (c .before .before .before .before .before .before .before .before .before .before .before .before .neighbor-probabilities .ensures .0 ∙ routed-tree _ _ _ (sym (c .before .before .before .before .before .before .before .before .before .before .before .before .before .before .before .before .before .before .before .before .is-tree .ensures) ∙ c .before .before .before .before .before .before .before .before .before .before .before .before .before .before .before .before .before .before .before .if1 .taken), c .before .before .before .before .before .before .before .before .before .before .before .before .neighbor-probabilities .ensures .1)
+returns c =
+    let the-neighbor-probabilities = c .before .before .before .before .before .before .before .before .before .before .before .before .neighbor-probabilities in
+    let far-1 = c .before .before .before .before .before .before .before .before .before .before .before .before in
+    let the-if1 = far-1 .before .before .before .before .before .before .before .if1 in
+    let the-is-tree = far-1 .before .before .before .before .before .before .before .before .is-tree in
+    (the-neighbor-probabilities .ensures .0 ∙ routed-tree _ _ _ (sym (the-is-tree .ensures) ∙ the-if1 .taken), the-neighbor-probabilities .ensures .1)
 
 exact-affinities-requires : tie.Need-exact-affinities-requires
-exact-affinities-requires c κs = (c .before .before .before .before .before .before .before .before .before .before .before .before .pre .settings-good .n-most, c .before .before .before .before .before .before .before .before .before .before .before .before .pre .table-in, c .before .before .before .before .before .before .before .before .before .before .before .before .pre .square-in (sym (c .before .before .before .before .is-tree .ensures) ∙ c .before .before .before .if1 .left), c .before .before .before .before .before .before .before .before .before .before .before .before .pre .squares-in, c .before .before .before .before .before .before .before .before .before .before .before .before .pre .values-in)
+exact-affinities-requires c κs =
+    let the-if1 = c .before .before .before .if1 in
+    let the-is-tree = c .before .before .before .before .is-tree in
+    let the-start = c .before .before .before .before .before .before .before .before .before .before .before .before in (
+      the-start .pre .settings-good .n-most,
+      the-start .pre .table-in,
+      the-start .pre .square-in (sym (the-is-tree .ensures) ∙ the-if1 .left),
+      the-start .pre .squares-in,
+      the-start .pre .values-in,
+    )
 
 clear-indices-requires : tie.Need-clear-indices-requires
-clear-indices-requires c κs = c .before .before .before .before .before .before .before .before .before .before .before .before .before .before .before .before .before .before .before .before .pre .places-in
+clear-indices-requires c κs =
+    let far-1 = c .before .before .before .before .before .before .before .before .before .before .before .before in
+    let the-start = far-1 .before .before .before .before .before .before .before .before in
+    the-start .pre .places-in
 
 same-length-7 : tie.Need-same-length-7
 same-length-7 c = search needs
@@ -51,7 +89,15 @@ same-length-10 : tie.Need-same-length-10
 same-length-10 c = search needs
 
 returns-2 : tie.Need-returns-2
-returns-2 c = (routed-exact _ _ _ (sym (c .before .before .before .before .before .before .before .before .before .before .before .before .before .before .before .is-tree .ensures) ∙ c .before .before .before .before .before .before .before .before .before .before .before .before .before .before .if1 .left) (c .before .before .before .before .before .before .before .before .before .before .exact-affinities .ensures .0) (c .before .before .before .before .before .before .before .before .before .before .exact-affinities .ensures .1 .1) (c .before .before .clear-indices .ensures), c .before .before .before .before .before .before .before .before .before .before .exact-affinities .ensures .1 .0)
+returns-2 c =
+    let the-clear-indices = c .before .before .clear-indices in
+    let the-exact-affinities = c .before .before .before .before .before .before .before .before .before .before .exact-affinities in
+    let the-if1 = c .before .before .before .before .before .before .before .before .before .before .before .before .before .before .if1 in
+    let the-is-tree = c .before .before .before .before .before .before .before .before .before .before .before .before .before .before .before .is-tree in (
+      routed-exact _ _ _ (sym (the-is-tree .ensures) ∙ the-if1 .left) (the-exact-affinities .ensures .0) (the-exact-affinities .ensures .1 .1)
+          (the-clear-indices .ensures),
+      the-exact-affinities .ensures .1 .0,
+    )
 
 pub route-spec : {M : Type 1} → statement M
 route-spec =

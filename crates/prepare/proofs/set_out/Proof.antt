@@ -1,3 +1,4 @@
+-- `prepare::set_out` meets its contract: from what its calls promise.
 use borrow.Author.Needs.{needs}
 use Rattle.prepare.proofs.set_out.Statement.{statement}
 use Rattle.prepare.proofs.set_out.Tie as tie
@@ -27,7 +28,12 @@ same-length-4 : tie.Need-same-length-4
 same-length-4 c = search needs
 
 returns : tie.Need-returns
-returns c = (c .before .before .before .before .before .before .before .before .before .before .before .before .before .before .copy-values .ensures, c .before .before .before .before .before .before .before .before .before .before .fill .ensures, c .before .before .before .before .before .before .fill2 .ensures, c .before .before .fill3 .ensures)
+returns c =
+    let the-fill3 = c .before .before .fill3 in
+    let the-fill2 = c .before .before .before .before .before .before .fill2 in
+    let the-fill = c .before .before .before .before .before .before .before .before .before .before .fill in
+    let the-copy-values = c .before .before .before .before .before .before .before .before .before .before .before .before .before .before .copy-values in
+    (the-copy-values .ensures, the-fill .ensures, the-fill2 .ensures, the-fill3 .ensures)
 
 pub set-out-spec : {M : Type 1} → statement M
 set-out-spec =

@@ -1,3 +1,4 @@
+-- `take_calm::is_calm_by` meets its contract: the loop keeps `TestsLeft` and `Abreast`; by `abreast-start`, `abreast-room`, `abreast-pass`, `abreast-more`, `tests-left-start`, `tests-left-pass` and others.
 use Rattle.take_gone.specs.Gone.{Abreast}
 use Rattle.take_gone.proofs.Next.{abreast-start, abreast-room, abreast-pass, abreast-more}
 use Rattle.take_calm.proofs.Over.{TestsLeft, tests-left-start, tests-left-pass, tests-left-more, tests-left-no, tests-left-done, calm-row-same}
@@ -35,7 +36,9 @@ is-next-requires : tie.Need-is-next-requires Inv-loop μ-loop
 is-next-requires c κs = c .before .loop .inv .1
 
 add-g : tie.Need-add-g Inv-loop μ-loop
-add-g c = omega (arith, abreast-room (c .before .before .before .loop .inv .1) (sym (c .before .is-next .ensures) ∙ c .if1 .taken))
+add-g c =
+    let the-loop = c .before .before .before .loop in
+    omega (arith, abreast-room (the-loop .inv .1) (sym (c .before .is-next .ensures) ∙ c .if1 .taken))
 
 add-j : tie.Need-add-j Inv-loop μ-loop
 add-j c = search needs
@@ -44,17 +47,39 @@ loop-less : tie.Need-loop-less Inv-loop μ-loop
 loop-less c = search needs
 
 loop-again : tie.Need-loop-again Inv-loop μ-loop
-loop-again c = (tests-left-pass (c .before .before .before .loop .inv .0) (c .before .before .loop-test .taken) (sym (c .before .is-next .ensures) ∙ c .if1 .taken), abreast-pass (c .before .before .before .loop .inv .1) (sym (c .before .is-next .ensures) ∙ c .if1 .taken))
+loop-again c =
+    let the-loop-test = c .before .before .loop-test in
+    let the-loop = c .before .before .before .loop in (
+      tests-left-pass (the-loop .inv .0) (the-loop-test .taken) (sym (c .before .is-next .ensures) ∙ c .if1 .taken),
+      abreast-pass (the-loop .inv .1)
+          (sym (c .before .is-next .ensures) ∙ c .if1 .taken),
+    )
 
 mul-is-calm-row : tie.Need-mul-is-calm-row Inv-loop μ-loop
-mul-is-calm-row c = omega (arith, row-in (c .before .before .before .loop .j) (c .before .before .before .before .before .before .args .n) (c .before .before .before .before .before .before .args .c) _ (c .before .before .loop-test .taken) (c .before .before .before .before .before .before .pre .2))
+mul-is-calm-row c =
+    let the-loop-test = c .before .before .loop-test in
+    let the-loop = c .before .before .before .loop in
+    let the-start = c .before .before .before .before .before .before in
+    omega (arith, row-in (the-loop .j) (the-start .args .n) (the-start .args .c) _ (the-loop-test .taken) (the-start .pre .2))
 
 is-calm-row-requires : tie.Need-is-calm-row-requires Inv-loop μ-loop
-is-calm-row-requires c κs = (c .before .before .before .before .before .before .pre .1, row-in (c .before .before .before .loop .j) (c .before .before .before .before .before .before .args .n) (c .before .before .before .before .before .before .args .c) _ (c .before .before .loop-test .taken) (c .before .before .before .before .before .before .pre .2))
+is-calm-row-requires c κs =
+    let the-loop-test = c .before .before .loop-test in
+    let the-loop = c .before .before .before .loop in
+    let the-start = c .before .before .before .before .before .before in
+    (the-start .pre .1, row-in (the-loop .j) (the-start .args .n) (the-start .args .c) _ (the-loop-test .taken) (the-start .pre .2))
 
 returns : tie.Need-returns Inv-loop μ-loop
 unfolding calmLeft
-returns c = sym (tests-left-no (c .before .before .before .before .before .loop .inv .0) (c .before .before .before .before .loop-test .taken) (sym (c .before .before .before .is-next .ensures) ∙ c .before .before .if1 .left) (sym (c .before .is-calm-row .ensures ∙ calm-row-same (survivors (c .before .before .before .before .before .before .before .before .args .gone .now) (c .before .before .before .before .before .before .before .before .args .n)) (c .before .before .before .before .before .before .before .before .args .c) (c .before .before .before .before .before .before .before .before .args .positions .now) (c .before .before .before .before .before .before .before .before .args .means .now) (c .before .before .before .before .before .before .before .before .pre .4) (c .before .before .before .before .before .loop .j)) ∙ not-true _ (c .if2 .taken)))
+returns c =
+    let the-if1 = c .before .before .if1 in
+    let the-is-next = c .before .before .before .is-next in
+    let the-loop-test = c .before .before .before .before .loop-test in
+    let the-loop = c .before .before .before .before .before .loop in
+    let the-start = c .before .before .before .before .before .before .before .before in
+    sym (tests-left-no (the-loop .inv .0) (the-loop-test .taken) (sym (the-is-next .ensures) ∙ the-if1 .left)
+    (sym (c .before .is-calm-row .ensures ∙ calm-row-same (survivors (the-start .args .gone .now) (the-start .args .n)) (the-start .args .c)
+    (the-start .args .positions .now) (the-start .args .means .now) (the-start .pre .4) (the-loop .j)) ∙ not-true _ (c .if2 .taken)))
 
 add-j-2 : tie.Need-add-j-2 Inv-loop μ-loop
 add-j-2 c = search needs
@@ -63,7 +88,18 @@ loop-less-2 : tie.Need-loop-less-2 Inv-loop μ-loop
 loop-less-2 c = search needs
 
 loop-again-2 : tie.Need-loop-again-2 Inv-loop μ-loop
-loop-again-2 c = (tests-left-more (c .before .before .before .before .before .loop .inv .0) (c .before .before .before .before .loop-test .taken) (sym (c .before .before .before .is-next .ensures) ∙ c .before .before .if1 .left) (sym (c .before .is-calm-row .ensures ∙ calm-row-same (survivors (c .before .before .before .before .before .before .before .before .args .gone .now) (c .before .before .before .before .before .before .before .before .args .n)) (c .before .before .before .before .before .before .before .before .args .c) (c .before .before .before .before .before .before .before .before .args .positions .now) (c .before .before .before .before .before .before .before .before .args .means .now) (c .before .before .before .before .before .before .before .before .pre .4) (c .before .before .before .before .before .loop .j)) ∙ not-false _ (c .if2 .left)), abreast-more (c .before .before .before .before .before .loop .inv .1) (sym (c .before .before .before .is-next .ensures) ∙ c .before .before .if1 .left))
+loop-again-2 c =
+    let the-if1 = c .before .before .if1 in
+    let the-is-next = c .before .before .before .is-next in
+    let the-loop-test = c .before .before .before .before .loop-test in
+    let the-loop = c .before .before .before .before .before .loop in
+    let the-start = c .before .before .before .before .before .before .before .before in (
+      tests-left-more (the-loop .inv .0) (the-loop-test .taken) (sym (the-is-next .ensures) ∙ the-if1 .left)
+          (sym (c .before .is-calm-row .ensures ∙ calm-row-same (survivors (the-start .args .gone .now) (the-start .args .n)) (the-start .args .c)
+          (the-start .args .positions .now) (the-start .args .means .now) (the-start .pre .4) (the-loop .j)) ∙ not-false _ (c .if2 .left)),
+      abreast-more
+          (the-loop .inv .1) (sym (the-is-next .ensures) ∙ the-if1 .left),
+    )
 
 returns-2 : tie.Need-returns-2 Inv-loop μ-loop
 unfolding calmLeft

@@ -1,3 +1,4 @@
+-- `take_calm::is_calm_left` meets its contract: by `means-written`.
 use Rattle.take_calm.proofs.Over.{means-written}
 use Rattle.laws.specs.Area.{zeros8}
 use Rattle.take_gone.specs.Gone.{survivors}
@@ -16,7 +17,15 @@ means-left-requires : tie.Need-means-left-requires
 means-left-requires c κs = search needs
 
 is-calm-by-requires : tie.Need-is-calm-by-requires
-is-calm-by-requires c κs = (c .before .before .before .before .before .pre .0, c .before .before .before .before .before .pre .1, c .before .before .before .before .before .pre .2, c .before .before .before .before .before .pre .3, means-written (survivors (c .before .before .before .before .before .args .gone .now) (c .before .before .before .before .before .args .n)) (c .before .before .before .before .before .args .c) (c .before .before .before .before .before .args .positions .now) zeros8 _ refl (c .before .before .before .before .before .pre .1) (c .before .means-left .ensures))
+is-calm-by-requires c κs =
+    let the-start = c .before .before .before .before .before in (
+      the-start .pre .0,
+      the-start .pre .1,
+      the-start .pre .2,
+      the-start .pre .3,
+      means-written (survivors (the-start .args .gone .now) (the-start .args .n))
+          (the-start .args .c) (the-start .args .positions .now) zeros8 _ refl (the-start .pre .1) (c .before .means-left .ensures),
+    )
 
 returns : tie.Need-returns
 returns c = search needs

@@ -1,3 +1,4 @@
+-- `take_calm::is_calm_row` meets its contract: the loop keeps what has been done equal to its part of the whole; by `every-none`, `every-more`, `every-no`, `every-done`.
 use Rattle.elementary.specs.Limits.{calm}
 use Rattle.laws.proofs.Every.{every-none, every-more, every-no, every-done}
 use Rattle.laws.specs.Loops.{every}
@@ -43,7 +44,10 @@ is-calm-requires : tie.Need-is-calm-requires Inv-loop μ-loop
 is-calm-requires c κs = search needs
 
 returns : tie.Need-returns Inv-loop μ-loop
-returns c = sym (every-no _ _ (c .before .before .before .before .before .loop .d) (c .before .before .before .before .loop-test .taken) (sym (c .before .is-calm .ensures) ∙ not-true _ (c .if1 .taken)))
+returns c =
+    let the-loop-test = c .before .before .before .before .loop-test in
+    let the-loop = c .before .before .before .before .before .loop in
+    sym (every-no _ _ (the-loop .d) (the-loop-test .taken) (sym (c .before .is-calm .ensures) ∙ not-true _ (c .if1 .taken)))
 
 add-d : tie.Need-add-d Inv-loop μ-loop
 add-d c = search needs
@@ -52,7 +56,10 @@ loop-less : tie.Need-loop-less Inv-loop μ-loop
 loop-less c = search needs
 
 loop-again : tie.Need-loop-again Inv-loop μ-loop
-loop-again c = (every-more _ _ (c .before .before .before .before .before .loop .inv .0) (sym (c .before .is-calm .ensures) ∙ not-false _ (c .if1 .left)), omega (arith, c .before .before .before .before .loop-test .taken))
+loop-again c =
+    let the-loop-test = c .before .before .before .before .loop-test in
+    let the-loop = c .before .before .before .before .before .loop in
+    (every-more _ _ (the-loop .inv .0) (sym (c .before .is-calm .ensures) ∙ not-false _ (c .if1 .left)), omega (arith, the-loop-test .taken))
 
 returns-2 : tie.Need-returns-2 Inv-loop μ-loop
 returns-2 c = every-done _ _ _ (c .before .loop .inv .0) (c .before .loop .inv .1) (c .loop-test .left)

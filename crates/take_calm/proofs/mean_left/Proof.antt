@@ -1,3 +1,4 @@
+-- `take_calm::mean_left` meets its contract: the loop keeps `SumsLeft` and `Abreast`; by `abreast-start`, `abreast-room`, `abreast-pass`, `abreast-more`, `sums-left-start`, `sums-left-pass` and others.
 use Rattle.take_gone.specs.Gone.{Abreast}
 use Rattle.take_gone.proofs.Next.{abreast-start, abreast-room, abreast-pass, abreast-more}
 use Rattle.take_gone.specs.Gone.{survivors}
@@ -34,7 +35,9 @@ is-next-requires : tie.Need-is-next-requires Inv-loop μ-loop
 is-next-requires c κs = c .before .loop .inv .1
 
 add-g : tie.Need-add-g Inv-loop μ-loop
-add-g c = omega (arith, abreast-room (c .before .before .before .loop .inv .1) (sym (c .before .is-next .ensures) ∙ c .if1 .taken))
+add-g c =
+    let the-loop = c .before .before .before .loop in
+    omega (arith, abreast-room (the-loop .inv .1) (sym (c .before .is-next .ensures) ∙ c .if1 .taken))
 
 add-j : tie.Need-add-j Inv-loop μ-loop
 add-j c = search needs
@@ -43,19 +46,41 @@ loop-less : tie.Need-loop-less Inv-loop μ-loop
 loop-less c = search needs
 
 loop-again : tie.Need-loop-again Inv-loop μ-loop
-loop-again c = (sums-left-pass (c .before .before .before .loop .inv .0) (c .before .before .loop-test .taken) (sym (c .before .is-next .ensures) ∙ c .if1 .taken), abreast-pass (c .before .before .before .loop .inv .1) (sym (c .before .is-next .ensures) ∙ c .if1 .taken))
+loop-again c =
+    let the-loop-test = c .before .before .loop-test in
+    let the-loop = c .before .before .before .loop in (
+      sums-left-pass (the-loop .inv .0) (the-loop-test .taken) (sym (c .before .is-next .ensures) ∙ c .if1 .taken),
+      abreast-pass (the-loop .inv .1)
+          (sym (c .before .is-next .ensures) ∙ c .if1 .taken),
+    )
 
 mul-s : tie.Need-mul-s Inv-loop μ-loop
-mul-s c = omega (arith, row-in (c .before .before .before .loop .j) (c .before .before .before .before .before .before .args .n) (c .before .before .before .before .before .before .args .c) _ (c .before .before .loop-test .taken) (c .before .before .before .before .before .before .pre .2), c .before .before .before .before .before .before .pre .1)
+mul-s c =
+    let the-loop-test = c .before .before .loop-test in
+    let the-loop = c .before .before .before .loop in
+    let the-start = c .before .before .before .before .before .before in
+    omega (arith, row-in (the-loop .j) (the-start .args .n) (the-start .args .c) _ (the-loop-test .taken) (the-start .pre .2), the-start .pre .1)
 
 add-s : tie.Need-add-s Inv-loop μ-loop
-add-s c = omega (arith, row-in (c .before .before .before .loop .j) (c .before .before .before .before .before .before .args .n) (c .before .before .before .before .before .before .args .c) _ (c .before .before .loop-test .taken) (c .before .before .before .before .before .before .pre .2), c .before .before .before .before .before .before .pre .1)
+add-s c =
+    let the-loop-test = c .before .before .loop-test in
+    let the-loop = c .before .before .before .loop in
+    let the-start = c .before .before .before .before .before .before in
+    omega (arith, row-in (the-loop .j) (the-start .args .n) (the-start .args .c) _ (the-loop-test .taken) (the-start .pre .2), the-start .pre .1)
 
 mul-s-2 : tie.Need-mul-s-2 Inv-loop μ-loop
-mul-s-2 c = omega (arith, row-in (c .before .before .before .loop .j) (c .before .before .before .before .before .before .args .n) (c .before .before .before .before .before .before .args .c) _ (c .before .before .loop-test .taken) (c .before .before .before .before .before .before .pre .2), c .before .before .before .before .before .before .pre .1)
+mul-s-2 c =
+    let the-loop-test = c .before .before .loop-test in
+    let the-loop = c .before .before .before .loop in
+    let the-start = c .before .before .before .before .before .before in
+    omega (arith, row-in (the-loop .j) (the-start .args .n) (the-start .args .c) _ (the-loop-test .taken) (the-start .pre .2), the-start .pre .1)
 
 shared-slice-read-s : tie.Need-shared-slice-read-s Inv-loop μ-loop
-shared-slice-read-s c = omega (arith, row-in (c .before .before .before .before .loop .j) (c .before .before .before .before .before .before .before .args .n) (c .before .before .before .before .before .before .before .args .c) _ (c .before .before .before .loop-test .taken) (c .before .before .before .before .before .before .before .pre .2), c .before .before .before .before .before .before .before .pre .1)
+shared-slice-read-s c =
+    let the-loop-test = c .before .before .before .loop-test in
+    let the-loop = c .before .before .before .before .loop in
+    let the-start = c .before .before .before .before .before .before .before in
+    omega (arith, row-in (the-loop .j) (the-start .args .n) (the-start .args .c) _ (the-loop-test .taken) (the-start .pre .2), the-start .pre .1)
 
 add-j-2 : tie.Need-add-j-2 Inv-loop μ-loop
 add-j-2 c = search needs
@@ -64,14 +89,29 @@ loop-less-2 : tie.Need-loop-less-2 Inv-loop μ-loop
 loop-less-2 c = search needs
 
 loop-again-2 : tie.Need-loop-again-2 Inv-loop μ-loop
-loop-again-2 c = (sums-left-more (c .before .before .before .before .loop .inv .0) (c .before .before .before .loop-test .taken) (sym (c .before .before .is-next .ensures) ∙ c .before .if1 .left), abreast-more (c .before .before .before .before .loop .inv .1) (sym (c .before .before .is-next .ensures) ∙ c .before .if1 .left))
+loop-again-2 c =
+    let the-is-next = c .before .before .is-next in
+    let the-loop-test = c .before .before .before .loop-test in
+    let the-loop = c .before .before .before .before .loop in (
+      sums-left-more (the-loop .inv .0) (the-loop-test .taken) (sym (the-is-next .ensures) ∙ c .before .if1 .left),
+      abreast-more (the-loop .inv .1)
+          (sym (the-is-next .ensures) ∙ c .before .if1 .left),
+    )
 
 int-to-float-result : tie.Need-int-to-float-result Inv-loop μ-loop
 unfolding inFloat
-int-to-float-result c = le→leb (c .before .before .before .before .before .args .m) (2 ^ 53) (omega (arith, c .before .before .before .before .before .pre .0, c .before .before .before .before .before .pre .4, survivors-few (c .before .before .before .before .before .args .gone .now) (c .before .before .before .before .before .args .n)))
+int-to-float-result c =
+    let the-start = c .before .before .before .before .before in
+    le→leb (the-start .args .m) (2 ^ 53) (omega (arith, the-start .pre .0, the-start .pre .4, survivors-few (the-start .args .gone .now) (the-start .args .n)))
 
 returns : tie.Need-returns Inv-loop μ-loop
-returns c = ap (λ (x : Float). div binary64 x (ofInt binary64 (pos (c .before .before .before .before .before .args .m)))) (sums-left-done (c .before .before .loop .inv .0) (c .before .loop-test .left)) ∙ ap (λ (k : ℕ). div binary64 (sumOver (λ i. at (c .before .before .before .before .before .args .positions .now) (i * c .before .before .before .before .before .args .c + c .before .before .before .before .before .args .d)) (survivors (c .before .before .before .before .before .args .gone .now) (c .before .before .before .before .before .args .n))) (ofInt binary64 (pos k))) (c .before .before .before .before .before .pre .4)
+returns c =
+    let the-loop = c .before .before .loop in
+    let the-start = c .before .before .before .before .before in
+    ap (λ (x : Float). div binary64 x (ofInt binary64 (pos (the-start .args .m)))) (sums-left-done (the-loop .inv .0) (c .before .loop-test .left)) ∙ ap
+    (λ (k : ℕ). div binary64
+    (sumOver (λ i. at (the-start .args .positions .now) (i * the-start .args .c + the-start .args .d))
+    (survivors (the-start .args .gone .now) (the-start .args .n))) (ofInt binary64 (pos k))) (the-start .pre .4)
 
 pub mean-left-spec : {M : Type 1} → statement M
 mean-left-spec =

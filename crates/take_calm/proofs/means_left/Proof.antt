@@ -1,3 +1,4 @@
+-- `take_calm::means_left` meets its contract: the loop keeps `Loops`; by `loop-start`, `loop-more`, `loop-done`.
 use Rattle.take_calm.specs.CalmLeft.{meanAt}
 use Rattle.take_gone.specs.Gone.{survivors}
 use lib.Ieee.{Float}
@@ -23,7 +24,9 @@ loop-holds : tie.Need-loop-holds Inv-loop μ-loop
 loop-holds c = loop-start _ _ _
 
 mean-left-requires : tie.Need-mean-left-requires Inv-loop μ-loop
-mean-left-requires c κs = (c .before .before .before .before .pre .0, c .loop-test .taken, c .before .before .before .before .pre .2, c .before .before .before .before .pre .3, c .before .before .before .before .pre .4)
+mean-left-requires c κs =
+    let the-start = c .before .before .before .before in
+    (the-start .pre .0, c .loop-test .taken, the-start .pre .2, the-start .pre .3, the-start .pre .4)
 
 mul-means : tie.Need-mul-means Inv-loop μ-loop
 mul-means c = search needs

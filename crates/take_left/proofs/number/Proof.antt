@@ -1,3 +1,4 @@
+-- `take_left::number` meets its contract: each need follows from its own premises.
 use Rattle.take_left.specs.Outlook.{outlookNumber}
 use borrow.Author.Needs.{needs}
 use native.Mathlib.Omega.{arith}

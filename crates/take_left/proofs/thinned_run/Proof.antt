@@ -1,3 +1,4 @@
+-- `take_left::thinned_run` meets its contract: by `product-fits`.
 use Prim.Native.Nat.{ℕ}
 use Rattle.run_record.specs.Record.{perOf}
 use Rattle.run_record.specs.declared.Settings.{Settings}
@@ -23,7 +24,15 @@ per-requires : tie.Need-per-requires
 per-requires c κs = search needs
 
 mul-units : tie.Need-mul-units
-mul-units c = omega (arith, product-fits (c .before .before .before .before .args .r .done) 65535 (c .before .before .thinned-settings .result .method) (c .before .before .before .before .args .m) (c .before .before .before .before .pre .1) (le-refl 65535) (c .before .before .before .before .pre .0), ap (λ (k : ℕ). c .before .before .before .before .args .r .done * k) (c .before .per .ensures))
+mul-units c =
+    let the-thinned-settings = c .before .before .thinned-settings in
+    let the-start = c .before .before .before .before in
+    omega (
+      arith,
+      product-fits (the-start .args .r .done) 65535 (the-thinned-settings .result .method) (the-start .args .m) (the-start .pre .1) (le-refl 65535)
+          (the-start .pre .0),
+      ap (λ (k : ℕ). the-start .args .r .done * k) (c .before .per .ensures),
+    )
 
 returns : tie.Need-returns
 unfolding thinnedRun thinned

@@ -1,3 +1,4 @@
+-- `take_left::thinned_settings` meets its contract: each need follows from its own premises.
 use Rattle.take_left.specs.Outlook.{thinned}
 use mathlib.Core.Path.{refl}
 use borrow.Author.Needs.{needs}

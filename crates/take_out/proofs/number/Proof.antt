@@ -1,3 +1,4 @@
+-- `take_out::number` meets its contract: from what its calls promise.
 use Rattle.take_out.specs.TakeOut.{takeNumber}
 use mathlib.Core.Path.{sym, ap, _∙_}
 use borrow.Author.Needs.{needs}

@@ -1,3 +1,4 @@
+-- `take_out::pack_affinities` meets its contract: from what its calls promise.
 use Rattle.take_out.specs.TakeOut.{affinitiesAfter, indicesAfter, offsetsAfter}
 use borrow.Author.Tests.{not-true, not-false}
 use mathlib.Core.Path.{refl, sym, ap, subst, _∙_}
@@ -16,7 +17,16 @@ is-tree-requires : tie.Need-is-tree-requires
 is-tree-requires c κs = search needs
 
 pack-lists-requires : tie.Need-pack-lists-requires
-pack-lists-requires c κs = (c .before .before .before .before .before .before .before .before .before .pre .links-most-frames, c .before .before .before .before .before .before .before .before .before .pre .links-climb, c .before .before .before .before .before .before .before .before .before .pre .links-kept, c .before .before .before .before .before .before .before .before .before .pre .links-lie (sym (c .before .before .before .before .is-tree .ensures) ∙ c .before .before .before .if1 .taken))
+pack-lists-requires c κs =
+    let the-if1 = c .before .before .before .if1 in
+    let the-is-tree = c .before .before .before .before .is-tree in
+    let the-start = c .before .before .before .before .before .before .before .before .before in (
+      the-start .pre .links-most-frames,
+      the-start .pre .links-climb,
+      the-start .pre .links-kept,
+      the-start .pre .links-lie
+          (sym (the-is-tree .ensures) ∙ the-if1 .taken),
+    )
 
 same-length : tie.Need-same-length
 same-length c = c .before .before .before .before .before .before .pack-lists .kept .0
@@ -29,17 +39,30 @@ same-length-3 c = c .before .before .before .before .before .before .pack-lists 
 
 returns : tie.Need-returns
 unfolding affinitiesAfter indicesAfter offsetsAfter
-returns c = let e = sym (c .before .before .before .before .before .before .before .before .before .before .before .is-tree .ensures) ∙ c .before .before .before .before .before .before .before .before .before .before .if1 .taken in (rw e (c .before .before .before .before .before .before .pack-lists .ensures .0), rw e (c .before .before .before .before .before .before .pack-lists .ensures .1), rw e (c .before .before .before .before .before .before .pack-lists .ensures .2))
+returns c =
+    let the-pack-lists = c .before .before .before .before .before .before .pack-lists in
+    let the-if1 = c .before .before .before .before .before .before .before .before .before .before .if1 in
+    let the-is-tree = c .before .before .before .before .before .before .before .before .before .before .before .is-tree in
+    let e = sym (the-is-tree .ensures) ∙ the-if1 .taken in
+    (rw e (the-pack-lists .ensures .0), rw e (the-pack-lists .ensures .1), rw e (the-pack-lists .ensures .2))
 
 pack-square-requires : tie.Need-pack-square-requires
-pack-square-requires c κs = (c .before .before .before .before .before .before .before .pre .links-most-frames, c .before .before .before .before .before .before .before .pre .links-square (sym (c .before .before .is-tree .ensures) ∙ c .before .if1 .left), c .before .before .before .before .before .before .before .pre .links-kept)
+pack-square-requires c κs =
+    let the-is-tree = c .before .before .is-tree in
+    let the-start = c .before .before .before .before .before .before .before in
+    (the-start .pre .links-most-frames, the-start .pre .links-square (sym (the-is-tree .ensures) ∙ c .before .if1 .left), the-start .pre .links-kept)
 
 same-length-4 : tie.Need-same-length-4
 same-length-4 c = c .before .before .pack-square .kept .0
 
 returns-2 : tie.Need-returns-2
 unfolding affinitiesAfter indicesAfter offsetsAfter
-returns-2 c = let e = sym (c .before .before .before .before .before .is-tree .ensures) ∙ c .before .before .before .before .if1 .left in (rw e (c .before .before .pack-square .ensures), rw e refl, rw e refl)
+returns-2 c =
+    let the-pack-square = c .before .before .pack-square in
+    let the-if1 = c .before .before .before .before .if1 in
+    let the-is-tree = c .before .before .before .before .before .is-tree in
+    let e = sym (the-is-tree .ensures) ∙ the-if1 .left in
+    (rw e (the-pack-square .ensures), rw e refl, rw e refl)
 
 pub pack-affinities-spec : {M : Type 1} → statement M
 pack-affinities-spec =

@@ -1,3 +1,4 @@
+-- `take_rows::bring_centred` meets its contract: the loop keeps `Brings`; by `brings-start`, `brings-more`, `brings-at`, `brings-done`.
 use Rattle.take_rows.proofs.Packing.{Brings, brings-start, brings-more, brings-at, brings-done}
 use Rattle.laws.specs.Area.{at}
 use lib.Ieee.{Float, nan, binary64, sub}
@@ -26,7 +27,10 @@ mul-area : tie.Need-mul-area Inv-loop μ-loop
 mul-area c = omega (arith, c .before .before .pre, c .loop-test .taken, c .before .loop .inv .front .size)
 
 slice-read-area : tie.Need-slice-read-area Inv-loop μ-loop
-slice-read-area c = omega (arith, c .before .before .before .pre, c .before .loop-test .taken, c .before .before .loop .inv .front .size)
+slice-read-area c =
+    let the-loop = c .before .before .loop in
+    let the-start = c .before .before .before in
+    omega (arith, the-start .pre, c .before .loop-test .taken, the-loop .inv .front .size)
 
 mul-area-2 : tie.Need-mul-area-2 Inv-loop μ-loop
 mul-area-2 c = search needs
@@ -35,22 +39,45 @@ element-copy-out-area : tie.Need-element-copy-out-area Inv-loop μ-loop
 element-copy-out-area c = search needs
 
 add-area-2 : tie.Need-add-area-2 Inv-loop μ-loop
-add-area-2 c = omega (arith, c .before .before .before .before .pre, c .before .before .loop-test .taken, c .before .before .before .loop .inv .front .size)
+add-area-2 c =
+    let the-loop-test = c .before .before .loop-test in
+    let the-loop = c .before .before .before .loop in
+    let the-start = c .before .before .before .before in
+    omega (arith, the-start .pre, the-loop-test .taken, the-loop .inv .front .size)
 
 mul-area-3 : tie.Need-mul-area-3 Inv-loop μ-loop
-mul-area-3 c = omega (arith, c .before .before .before .before .pre, c .before .before .loop-test .taken, c .before .before .before .loop .inv .front .size)
+mul-area-3 c =
+    let the-loop-test = c .before .before .loop-test in
+    let the-loop = c .before .before .before .loop in
+    let the-start = c .before .before .before .before in
+    omega (arith, the-start .pre, the-loop-test .taken, the-loop .inv .front .size)
 
 slice-write-area : tie.Need-slice-write-area Inv-loop μ-loop
-slice-write-area c = omega (arith, c .before .before .before .before .pre, c .before .before .loop-test .taken, c .before .before .before .loop .inv .front .size)
+slice-write-area c =
+    let the-loop-test = c .before .before .loop-test in
+    let the-loop = c .before .before .before .loop in
+    let the-start = c .before .before .before .before in
+    omega (arith, the-start .pre, the-loop-test .taken, the-loop .inv .front .size)
 
 add-d : tie.Need-add-d Inv-loop μ-loop
-add-d c = omega (arith, c .before .before .before .before .pre, c .before .before .loop-test .taken, c .before .before .before .loop .inv .front .size)
+add-d c =
+    let the-loop-test = c .before .before .loop-test in
+    let the-loop = c .before .before .before .loop in
+    let the-start = c .before .before .before .before in
+    omega (arith, the-start .pre, the-loop-test .taken, the-loop .inv .front .size)
 
 loop-less : tie.Need-loop-less Inv-loop μ-loop
 loop-less c = search needs
 
 loop-again : tie.Need-loop-again Inv-loop μ-loop
-loop-again c = brings-more (c .before .before .before .loop .inv) _ (ap (λ (x : Float). sub binary64 x (at (c .before .before .before .before .args .means .now) (c .before .before .before .loop .d))) (brings-at (c .before .before .before .loop .inv) nan (c .before .before .before .before .args .from + c .before .before .before .loop .d) (omega (arith, c .before .before .before .before .pre)))) (omega (arith, c .before .before .before .before .pre)) (c .before .before .loop-test .taken)
+loop-again c =
+    let the-loop-test = c .before .before .loop-test in
+    let the-loop = c .before .before .before .loop in
+    let the-start = c .before .before .before .before in
+    brings-more (the-loop .inv) _
+    (ap (λ (x : Float). sub binary64 x (at (the-start .args .means .now) (the-loop .d)))
+    (brings-at (the-loop .inv) nan (the-start .args .from + the-loop .d) (omega (arith, the-start .pre)))) (omega (arith, the-start .pre))
+    (the-loop-test .taken)
 
 same-length : tie.Need-same-length Inv-loop μ-loop
 same-length c = c .before .loop .inv .front .size

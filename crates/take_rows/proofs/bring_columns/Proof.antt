@@ -1,3 +1,4 @@
+-- `take_rows::bring_columns` meets its contract: the loop keeps `Brings`; by `brings-start`, `brings-more`, `brings-at`, `brings-done`.
 use Prim.Native.Nat.{ℕ}
 use Rattle.take_rows.proofs.Packing.{Brings, brings-start, brings-more, brings-at, brings-done}
 use Rattle.laws.specs.Area.{num}
@@ -31,31 +32,91 @@ wide-requires : tie.Need-wide-requires Inv-loop μ-loop
 wide-requires c κs = search needs
 
 add-area : tie.Need-add-area Inv-loop μ-loop
-add-area c = omega (arith, c .before .before .before .before .before .before .pre, c .before .before .before .before .before .before .pre .2 .few, c .before .before .before .before .before .before .pre .2 .below (c .before .before .before .loop .j) (c .before .before .loop-test .taken), c .before .before .loop-test .taken, c .before .before .before .loop .inv .front .size, c .wide .ensures)
+add-area c =
+    let the-loop-test = c .before .before .loop-test in
+    let the-loop = c .before .before .before .loop in
+    let the-start = c .before .before .before .before .before .before in
+    omega (
+      arith,
+      the-start .pre,
+      the-start .pre .2 .few,
+      the-start .pre .2 .below (the-loop .j) (the-loop-test .taken),
+      the-loop-test .taken,
+      the-loop .inv .front .size,
+      c .wide .ensures,
+    )
 
 mul-area : tie.Need-mul-area Inv-loop μ-loop
-mul-area c = omega (arith, c .before .before .before .before .before .before .pre, c .before .before .before .before .before .before .pre .2 .few, c .before .before .before .before .before .before .pre .2 .below (c .before .before .before .loop .j) (c .before .before .loop-test .taken), c .before .before .loop-test .taken, c .before .before .before .loop .inv .front .size, c .wide .ensures)
+mul-area c =
+    let the-loop-test = c .before .before .loop-test in
+    let the-loop = c .before .before .before .loop in
+    let the-start = c .before .before .before .before .before .before in
+    omega (
+      arith,
+      the-start .pre,
+      the-start .pre .2 .few,
+      the-start .pre .2 .below (the-loop .j) (the-loop-test .taken),
+      the-loop-test .taken,
+      the-loop .inv .front .size,
+      c .wide .ensures,
+    )
 
 slice-read-area : tie.Need-slice-read-area Inv-loop μ-loop
-slice-read-area c = omega (arith, c .before .before .before .before .before .before .before .pre, c .before .before .before .before .before .before .before .pre .2 .few, c .before .before .before .before .before .before .before .pre .2 .below (c .before .before .before .before .loop .j) (c .before .before .before .loop-test .taken), c .before .before .before .loop-test .taken, c .before .before .before .before .loop .inv .front .size, c .before .wide .ensures)
+slice-read-area c =
+    let the-loop-test = c .before .before .before .loop-test in
+    let the-loop = c .before .before .before .before .loop in
+    let the-start = c .before .before .before .before .before .before .before in
+    omega (
+      arith,
+      the-start .pre,
+      the-start .pre .2 .few,
+      the-start .pre .2 .below (the-loop .j) (the-loop-test .taken),
+      the-loop-test .taken,
+      the-loop .inv .front .size,
+      c .before .wide .ensures,
+    )
 
 add-area-2 : tie.Need-add-area-2 Inv-loop μ-loop
-add-area-2 c = omega (arith, c .before .before .before .before .before .before .before .pre, c .before .before .before .before .before .before .before .pre .2 .few, c .before .before .before .loop-test .taken, c .before .before .before .before .loop .inv .front .size)
+add-area-2 c =
+    let the-loop-test = c .before .before .before .loop-test in
+    let the-loop = c .before .before .before .before .loop in
+    let the-start = c .before .before .before .before .before .before .before in
+    omega (arith, the-start .pre, the-start .pre .2 .few, the-loop-test .taken, the-loop .inv .front .size)
 
 mul-area-2 : tie.Need-mul-area-2 Inv-loop μ-loop
-mul-area-2 c = omega (arith, c .before .before .before .before .before .before .before .pre, c .before .before .before .before .before .before .before .pre .2 .few, c .before .before .before .loop-test .taken, c .before .before .before .before .loop .inv .front .size)
+mul-area-2 c =
+    let the-loop-test = c .before .before .before .loop-test in
+    let the-loop = c .before .before .before .before .loop in
+    let the-start = c .before .before .before .before .before .before .before in
+    omega (arith, the-start .pre, the-start .pre .2 .few, the-loop-test .taken, the-loop .inv .front .size)
 
 slice-write-area : tie.Need-slice-write-area Inv-loop μ-loop
-slice-write-area c = omega (arith, c .before .before .before .before .before .before .before .pre, c .before .before .before .before .before .before .before .pre .2 .few, c .before .before .before .loop-test .taken, c .before .before .before .before .loop .inv .front .size)
+slice-write-area c =
+    let the-loop-test = c .before .before .before .loop-test in
+    let the-loop = c .before .before .before .before .loop in
+    let the-start = c .before .before .before .before .before .before .before in
+    omega (arith, the-start .pre, the-start .pre .2 .few, the-loop-test .taken, the-loop .inv .front .size)
 
 add-j : tie.Need-add-j Inv-loop μ-loop
-add-j c = omega (arith, c .before .before .before .before .before .before .before .pre, c .before .before .before .before .before .before .before .pre .2 .few, c .before .before .before .loop-test .taken, c .before .before .before .before .loop .inv .front .size)
+add-j c =
+    let the-loop-test = c .before .before .before .loop-test in
+    let the-loop = c .before .before .before .before .loop in
+    let the-start = c .before .before .before .before .before .before .before in
+    omega (arith, the-start .pre, the-start .pre .2 .few, the-loop-test .taken, the-loop .inv .front .size)
 
 loop-less : tie.Need-loop-less Inv-loop μ-loop
 loop-less c = search needs
 
 loop-again : tie.Need-loop-again Inv-loop μ-loop
-loop-again c = brings-more (c .before .before .before .before .loop .inv) _ (ap (λ (x : ℕ). num (c .before .before .before .before .loop .area) (c .before .before .before .before .before .before .before .args .from + x)) (c .before .wide .ensures) ∙ brings-at (c .before .before .before .before .loop .inv) 0 (c .before .before .before .before .before .before .before .args .from + num (c .before .before .before .before .before .before .before .args .keep .now) (c .before .before .before .before .loop .j)) (omega (arith, c .before .before .before .before .before .before .before .pre, c .before .before .before .before .before .before .before .pre .2 .no-lower (c .before .before .before .before .loop .j) (c .before .before .before .loop-test .taken)))) (omega (arith, c .before .before .before .before .before .before .before .pre, c .before .before .before .before .before .before .before .pre .2 .few)) (c .before .before .before .loop-test .taken)
+loop-again c =
+    let the-loop-test = c .before .before .before .loop-test in
+    let the-loop = c .before .before .before .before .loop in
+    let the-start = c .before .before .before .before .before .before .before in
+    brings-more (the-loop .inv) _
+    (ap (λ (x : ℕ). num (the-loop .area) (the-start .args .from + x)) (c .before .wide .ensures) ∙ brings-at (the-loop .inv) 0
+    (the-start .args .from + num (the-start .args .keep .now) (the-loop .j))
+    (omega (arith, the-start .pre, the-start .pre .2 .no-lower (the-loop .j) (the-loop-test .taken)))) (omega (arith, the-start .pre, the-start .pre .2 .few))
+    (the-loop-test .taken)
 
 same-length : tie.Need-same-length Inv-loop μ-loop
 same-length c = c .before .loop .inv .front .size

@@ -1,3 +1,4 @@
+-- `take_rows::clear_between` meets its contract: the loop keeps `Brings`; by `brings-cleared`, `brings-start`, `brings-more`, `brings-done`, `each-one`.
 use Rattle.take_rows.proofs.Packing.{brings-cleared}
 use Rattle.take_rows.proofs.Packing.{Brings, brings-start, brings-more, brings-done, each-one}
 use Rattle.laws.specs.Area.{zero64}
@@ -41,7 +42,9 @@ loop-less : tie.Need-loop-less Inv-loop μ-loop
 loop-less c = search needs
 
 loop-again : tie.Need-loop-again Inv-loop μ-loop
-loop-again c = brings-more (c .before .loop .inv) zero64 refl (omega (arith, c .before .before .pre)) (c .loop-test .taken)
+loop-again c =
+    let the-start = c .before .before in
+    brings-more (c .before .loop .inv) zero64 refl (omega (arith, the-start .pre)) (c .loop-test .taken)
 
 same-length : tie.Need-same-length Inv-loop μ-loop
 same-length c = c .before .loop .inv .front .size

@@ -1,3 +1,4 @@
+-- `take_rows::clear_bits` meets its contract: the loop keeps `Brings`; by `brings-cleared`, `brings-start`, `brings-more`, `brings-done`, `each-one`.
 use Rattle.take_rows.proofs.Packing.{brings-cleared}
 use Rattle.take_rows.proofs.Packing.{Brings, brings-start, brings-more, brings-done, each-one}
 use lib.ListN.{take, drop}

@@ -1,3 +1,4 @@
+-- `take_rows::pack_centred` meets its contract: the loop keeps `Packs`; by `row-room`, `centred-brought`, `row-long`, `packs-start`, `packs-more`, `packs-done` and others.
 use Rattle.take_rows.proofs.Brought.{row-room, centred-brought, row-long}
 use Rattle.take_rows.proofs.Packing.{Packs, packs-start, packs-more, packs-done, kept-all}
 use Rattle.take_rows.specs.Rows.{centredLeft}
@@ -36,13 +37,34 @@ wide-requires : tie.Need-wide-requires Inv-loop μ-loop
 wide-requires c κs = search needs
 
 mul-bring-centred : tie.Need-mul-bring-centred Inv-loop μ-loop
-mul-bring-centred c = omega (arith, row-room (c .before .before .before .before .before .before .before .pre .3) (c .before .before .before .before .before .before .before .args .c) (c .before .before .before .before .loop .inv) (c .before .before .before .loop-test .taken) (c .wide .ensures) (c .before .before .before .before .before .before .before .pre .2), c .before .before .before .before .loop .inv .front .size)
+mul-bring-centred c =
+    let the-loop-test = c .before .before .before .loop-test in
+    let the-loop = c .before .before .before .before .loop in
+    let the-start = c .before .before .before .before .before .before .before in
+    omega (
+      arith,
+      row-room (the-start .pre .3) (the-start .args .c) (the-loop .inv) (the-loop-test .taken) (c .wide .ensures) (the-start .pre .2),
+      the-loop .inv .front .size,
+    )
 
 mul-bring-centred-2 : tie.Need-mul-bring-centred-2 Inv-loop μ-loop
-mul-bring-centred-2 c = omega (arith, row-room (c .before .before .before .before .before .before .before .pre .3) (c .before .before .before .before .before .before .before .args .c) (c .before .before .before .before .loop .inv) (c .before .before .before .loop-test .taken) (c .wide .ensures) (c .before .before .before .before .before .before .before .pre .2), c .before .before .before .before .loop .inv .front .size)
+mul-bring-centred-2 c =
+    let the-loop-test = c .before .before .before .loop-test in
+    let the-loop = c .before .before .before .before .loop in
+    let the-start = c .before .before .before .before .before .before .before in
+    omega (
+      arith,
+      row-room (the-start .pre .3) (the-start .args .c) (the-loop .inv) (the-loop-test .taken) (c .wide .ensures) (the-start .pre .2),
+      the-loop .inv .front .size,
+    )
 
 bring-centred-requires : tie.Need-bring-centred-requires Inv-loop μ-loop
-bring-centred-requires c κs = let r = row-room (c .before .before .before .before .before .before .before .pre .3) (c .before .before .before .before .before .before .before .args .c) (c .before .before .before .before .loop .inv) (c .before .before .before .loop-test .taken) (c .wide .ensures) (c .before .before .before .before .before .before .before .pre .2) in (c .before .before .before .before .before .before .before .pre .1, r .0, r .1)
+bring-centred-requires c κs =
+    let the-loop-test = c .before .before .before .loop-test in
+    let the-loop = c .before .before .before .before .loop in
+    let the-start = c .before .before .before .before .before .before .before in
+    let r = row-room (the-start .pre .3) (the-start .args .c) (the-loop .inv) (the-loop-test .taken) (c .wide .ensures) (the-start .pre .2) in
+    (the-start .pre .1, r .0, r .1)
 
 add-i : tie.Need-add-i Inv-loop μ-loop
 add-i c = search needs
@@ -51,22 +73,43 @@ loop-less : tie.Need-loop-less Inv-loop μ-loop
 loop-less c = search needs
 
 loop-again : tie.Need-loop-again Inv-loop μ-loop
-loop-again c = packs-more (c .before .before .before .before .before .before .before .loop .inv) (c .before .before .before .before .before .before .loop-test .taken) (centred-brought (c .before .before .before .before .before .before .before .before .before .before .pre .3) (c .before .before .before .before .before .before .before .before .before .before .args .c) (c .before .before .before .before .before .before .before .before .before .before .pre .4) (c .before .before .before .before .before .before .before .loop .inv) (c .before .before .before .before .before .before .loop-test .taken) (c .before .before .before .wide .ensures)) (row-long _ (c .before .before .before .before .before .before .before .before .before .before .args .c)) (c .before .before .bring-centred .kept .0) (c .before .before .bring-centred .ensures)
+loop-again c =
+    let the-bring-centred = c .before .before .bring-centred in
+    let the-wide = c .before .before .before .wide in
+    let the-loop-test = c .before .before .before .before .before .before .loop-test in
+    let the-loop = c .before .before .before .before .before .before .before .loop in
+    let the-start = c .before .before .before .before .before .before .before .before .before .before in
+    packs-more (the-loop .inv) (the-loop-test .taken)
+    (centred-brought (the-start .pre .3) (the-start .args .c) (the-start .pre .4) (the-loop .inv) (the-loop-test .taken) (the-wide .ensures))
+    (row-long _ (the-start .args .c)) (the-bring-centred .kept .0) (the-bring-centred .ensures)
 
 mul-clear-between : tie.Need-mul-clear-between Inv-loop μ-loop
-mul-clear-between c = omega (arith, kept-all (c .before .before .before .before .before .pre .3) (c .before .before .before .before .before .args .c), c .before .before .before .before .before .pre .2)
+mul-clear-between c =
+    let the-start = c .before .before .before .before .before in
+    omega (arith, kept-all (the-start .pre .3) (the-start .args .c), the-start .pre .2)
 
 mul-clear-between-2 : tie.Need-mul-clear-between-2 Inv-loop μ-loop
 mul-clear-between-2 c = omega (arith, c .before .before .before .before .before .pre .2)
 
 clear-between-requires : tie.Need-clear-between-requires Inv-loop μ-loop
-clear-between-requires c κs = (kept-all (c .before .before .before .before .before .pre .3) (c .before .before .before .before .before .args .c), omega (arith, c .before .before .before .before .before .pre .2, c .before .before .loop .inv .front .size))
+clear-between-requires c κs =
+    let the-loop = c .before .before .loop in
+    let the-start = c .before .before .before .before .before in
+    (kept-all (the-start .pre .3) (the-start .args .c), omega (arith, the-start .pre .2, the-loop .inv .front .size))
 
 same-length : tie.Need-same-length Inv-loop μ-loop
-same-length c = c .before .before .clear-between .kept .0 ∙ c .before .before .before .before .before .loop .inv .front .size
+same-length c =
+    let the-clear-between = c .before .before .clear-between in
+    let the-loop = c .before .before .before .before .before .loop in
+    the-clear-between .kept .0 ∙ the-loop .inv .front .size
 
 returns : tie.Need-returns Inv-loop μ-loop
-returns c = packs-done (c .before .before .before .before .before .loop .inv) zero64 _ (c .before .before .before .before .loop-test .left) (kept-all (c .before .before .before .before .before .before .before .before .pre .3) (c .before .before .before .before .before .before .before .before .args .c)) (c .before .before .clear-between .ensures)
+returns c =
+    let the-clear-between = c .before .before .clear-between in
+    let the-loop-test = c .before .before .before .before .loop-test in
+    let the-loop = c .before .before .before .before .before .loop in
+    let the-start = c .before .before .before .before .before .before .before .before in
+    packs-done (the-loop .inv) zero64 _ (the-loop-test .left) (kept-all (the-start .pre .3) (the-start .args .c)) (the-clear-between .ensures)
 
 pub pack-centred-spec : {M : Type 1} → statement M
 pack-centred-spec =

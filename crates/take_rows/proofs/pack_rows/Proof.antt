@@ -1,3 +1,4 @@
+-- `take_rows::pack_rows` meets its contract: the loop keeps `Packs`; by `row-room`, `row-brought`, `row-long`, `packs-start`, `packs-more`, `packs-done` and others.
 use Rattle.take_rows.proofs.Brought.{row-room, row-brought, row-long}
 use Rattle.take_rows.proofs.Packing.{Packs, packs-start, packs-more, packs-done, kept-all}
 use Rattle.laws.specs.Joined.{each}
@@ -34,13 +35,33 @@ wide-requires : tie.Need-wide-requires Inv-loop μ-loop
 wide-requires c κs = search needs
 
 mul-bring-row : tie.Need-mul-bring-row Inv-loop μ-loop
-mul-bring-row c = omega (arith, row-room (c .before .before .before .before .before .before .before .pre .3) (c .before .before .before .before .before .before .before .args .w) (c .before .before .before .before .loop .inv) (c .before .before .before .loop-test .taken) (c .wide .ensures) (c .before .before .before .before .before .before .before .pre .2), c .before .before .before .before .loop .inv .front .size)
+mul-bring-row c =
+    let the-loop-test = c .before .before .before .loop-test in
+    let the-loop = c .before .before .before .before .loop in
+    let the-start = c .before .before .before .before .before .before .before in
+    omega (
+      arith,
+      row-room (the-start .pre .3) (the-start .args .w) (the-loop .inv) (the-loop-test .taken) (c .wide .ensures) (the-start .pre .2),
+      the-loop .inv .front .size,
+    )
 
 mul-bring-row-2 : tie.Need-mul-bring-row-2 Inv-loop μ-loop
-mul-bring-row-2 c = omega (arith, row-room (c .before .before .before .before .before .before .before .pre .3) (c .before .before .before .before .before .before .before .args .w) (c .before .before .before .before .loop .inv) (c .before .before .before .loop-test .taken) (c .wide .ensures) (c .before .before .before .before .before .before .before .pre .2), c .before .before .before .before .loop .inv .front .size)
+mul-bring-row-2 c =
+    let the-loop-test = c .before .before .before .loop-test in
+    let the-loop = c .before .before .before .before .loop in
+    let the-start = c .before .before .before .before .before .before .before in
+    omega (
+      arith,
+      row-room (the-start .pre .3) (the-start .args .w) (the-loop .inv) (the-loop-test .taken) (c .wide .ensures) (the-start .pre .2),
+      the-loop .inv .front .size,
+    )
 
 bring-row-requires : tie.Need-bring-row-requires Inv-loop μ-loop
-bring-row-requires c κs = row-room (c .before .before .before .before .before .before .before .pre .3) (c .before .before .before .before .before .before .before .args .w) (c .before .before .before .before .loop .inv) (c .before .before .before .loop-test .taken) (c .wide .ensures) (c .before .before .before .before .before .before .before .pre .2)
+bring-row-requires c κs =
+    let the-loop-test = c .before .before .before .loop-test in
+    let the-loop = c .before .before .before .before .loop in
+    let the-start = c .before .before .before .before .before .before .before in
+    row-room (the-start .pre .3) (the-start .args .w) (the-loop .inv) (the-loop-test .taken) (c .wide .ensures) (the-start .pre .2)
 
 add-i : tie.Need-add-i Inv-loop μ-loop
 add-i c = search needs
@@ -49,22 +70,43 @@ loop-less : tie.Need-loop-less Inv-loop μ-loop
 loop-less c = search needs
 
 loop-again : tie.Need-loop-again Inv-loop μ-loop
-loop-again c = packs-more (c .before .before .before .before .before .before .before .loop .inv) (c .before .before .before .before .before .before .loop-test .taken) (row-brought (c .before .before .before .before .before .before .before .before .before .before .pre .3) (c .before .before .before .before .before .before .before .before .before .before .args .w) (c .before .before .before .before .before .before .before .loop .inv) (c .before .before .before .before .before .before .loop-test .taken) (c .before .before .before .wide .ensures)) (row-long _ (c .before .before .before .before .before .before .before .before .before .before .args .w)) (c .before .before .bring-row .kept .0) (c .before .before .bring-row .ensures)
+loop-again c =
+    let the-bring-row = c .before .before .bring-row in
+    let the-wide = c .before .before .before .wide in
+    let the-loop-test = c .before .before .before .before .before .before .loop-test in
+    let the-loop = c .before .before .before .before .before .before .before .loop in
+    let the-start = c .before .before .before .before .before .before .before .before .before .before in
+    packs-more (the-loop .inv) (the-loop-test .taken)
+    (row-brought (the-start .pre .3) (the-start .args .w) (the-loop .inv) (the-loop-test .taken) (the-wide .ensures)) (row-long _ (the-start .args .w))
+    (the-bring-row .kept .0) (the-bring-row .ensures)
 
 mul-clear-bits : tie.Need-mul-clear-bits Inv-loop μ-loop
-mul-clear-bits c = omega (arith, kept-all (c .before .before .before .before .before .pre .3) (c .before .before .before .before .before .args .w), c .before .before .before .before .before .pre .2)
+mul-clear-bits c =
+    let the-start = c .before .before .before .before .before in
+    omega (arith, kept-all (the-start .pre .3) (the-start .args .w), the-start .pre .2)
 
 mul-clear-bits-2 : tie.Need-mul-clear-bits-2 Inv-loop μ-loop
 mul-clear-bits-2 c = omega (arith, c .before .before .before .before .before .pre .2)
 
 clear-bits-requires : tie.Need-clear-bits-requires Inv-loop μ-loop
-clear-bits-requires c κs = (kept-all (c .before .before .before .before .before .pre .3) (c .before .before .before .before .before .args .w), omega (arith, c .before .before .before .before .before .pre .2, c .before .before .loop .inv .front .size))
+clear-bits-requires c κs =
+    let the-loop = c .before .before .loop in
+    let the-start = c .before .before .before .before .before in
+    (kept-all (the-start .pre .3) (the-start .args .w), omega (arith, the-start .pre .2, the-loop .inv .front .size))
 
 same-length : tie.Need-same-length Inv-loop μ-loop
-same-length c = c .before .before .clear-bits .kept .0 ∙ c .before .before .before .before .before .loop .inv .front .size
+same-length c =
+    let the-clear-bits = c .before .before .clear-bits in
+    let the-loop = c .before .before .before .before .before .loop in
+    the-clear-bits .kept .0 ∙ the-loop .inv .front .size
 
 returns : tie.Need-returns Inv-loop μ-loop
-returns c = packs-done (c .before .before .before .before .before .loop .inv) 0 _ (c .before .before .before .before .loop-test .left) (kept-all (c .before .before .before .before .before .before .before .before .pre .3) (c .before .before .before .before .before .before .before .before .args .w)) (c .before .before .clear-bits .ensures)
+returns c =
+    let the-clear-bits = c .before .before .clear-bits in
+    let the-loop-test = c .before .before .before .before .loop-test in
+    let the-loop = c .before .before .before .before .before .loop in
+    let the-start = c .before .before .before .before .before .before .before .before in
+    packs-done (the-loop .inv) 0 _ (the-loop-test .left) (kept-all (the-start .pre .3) (the-start .args .w)) (the-clear-bits .ensures)
 
 pub pack-rows-spec : {M : Type 1} → statement M
 pack-rows-spec =

@@ -1,3 +1,4 @@
+-- `take_rows::pack_square` meets its contract: the loop keeps `Packs`; by `square-room`, `square-brought`, `square-few`, `row-long`, `packs-start`, `packs-more` and others.
 use Rattle.take_rows.proofs.Brought.{square-room, square-brought, square-few, row-long}
 use Rattle.take_rows.proofs.Packing.{Packs, packs-start, packs-more, packs-done, kept-all}
 use Rattle.laws.specs.Joined.{each}
@@ -34,13 +35,26 @@ wide-requires : tie.Need-wide-requires Inv-loop μ-loop
 wide-requires c κs = search needs
 
 mul-bring-columns : tie.Need-mul-bring-columns Inv-loop μ-loop
-mul-bring-columns c = omega (arith, square-room (c .before .before .before .before .before .before .before .pre .2) (c .before .before .before .before .loop .inv) (c .before .before .before .loop-test .taken) (c .wide .ensures) (c .before .before .before .before .before .before .before .pre .1), c .before .before .before .before .loop .inv .front .size)
+mul-bring-columns c =
+    let the-loop-test = c .before .before .before .loop-test in
+    let the-loop = c .before .before .before .before .loop in
+    let the-start = c .before .before .before .before .before .before .before in
+    omega (arith, square-room (the-start .pre .2) (the-loop .inv) (the-loop-test .taken) (c .wide .ensures) (the-start .pre .1), the-loop .inv .front .size)
 
 mul-bring-columns-2 : tie.Need-mul-bring-columns-2 Inv-loop μ-loop
-mul-bring-columns-2 c = omega (arith, square-room (c .before .before .before .before .before .before .before .pre .2) (c .before .before .before .before .loop .inv) (c .before .before .before .loop-test .taken) (c .wide .ensures) (c .before .before .before .before .before .before .before .pre .1), c .before .before .before .before .loop .inv .front .size)
+mul-bring-columns-2 c =
+    let the-loop-test = c .before .before .before .loop-test in
+    let the-loop = c .before .before .before .before .loop in
+    let the-start = c .before .before .before .before .before .before .before in
+    omega (arith, square-room (the-start .pre .2) (the-loop .inv) (the-loop-test .taken) (c .wide .ensures) (the-start .pre .1), the-loop .inv .front .size)
 
 bring-columns-requires : tie.Need-bring-columns-requires Inv-loop μ-loop
-bring-columns-requires c κs = let r = square-room (c .before .before .before .before .before .before .before .pre .2) (c .before .before .before .before .loop .inv) (c .before .before .before .loop-test .taken) (c .wide .ensures) (c .before .before .before .before .before .before .before .pre .1) in (r .0, r .1, c .before .before .before .before .before .before .before .pre .2)
+bring-columns-requires c κs =
+    let the-loop-test = c .before .before .before .loop-test in
+    let the-loop = c .before .before .before .before .loop in
+    let the-start = c .before .before .before .before .before .before .before in
+    let r = square-room (the-start .pre .2) (the-loop .inv) (the-loop-test .taken) (c .wide .ensures) (the-start .pre .1) in
+    (r .0, r .1, the-start .pre .2)
 
 add-i : tie.Need-add-i Inv-loop μ-loop
 add-i c = search needs
@@ -49,22 +63,42 @@ loop-less : tie.Need-loop-less Inv-loop μ-loop
 loop-less c = search needs
 
 loop-again : tie.Need-loop-again Inv-loop μ-loop
-loop-again c = packs-more (c .before .before .before .before .before .before .before .loop .inv) (c .before .before .before .before .before .before .loop-test .taken) (square-brought (c .before .before .before .before .before .before .before .before .before .before .pre .2) (c .before .before .before .before .before .before .before .loop .inv) (c .before .before .before .before .before .before .loop-test .taken) (c .before .before .before .wide .ensures)) (row-long _ (length (c .before .before .before .before .before .before .before .before .before .before .args .keep .now))) (c .before .before .bring-columns .kept .0) (c .before .before .bring-columns .ensures)
+loop-again c =
+    let the-bring-columns = c .before .before .bring-columns in
+    let the-wide = c .before .before .before .wide in
+    let the-loop-test = c .before .before .before .before .before .before .loop-test in
+    let the-loop = c .before .before .before .before .before .before .before .loop in
+    let the-start = c .before .before .before .before .before .before .before .before .before .before in
+    packs-more (the-loop .inv) (the-loop-test .taken) (square-brought (the-start .pre .2) (the-loop .inv) (the-loop-test .taken) (the-wide .ensures))
+    (row-long _ (length (the-start .args .keep .now))) (the-bring-columns .kept .0) (the-bring-columns .ensures)
 
 mul-clear-bits : tie.Need-mul-clear-bits Inv-loop μ-loop
-mul-clear-bits c = omega (arith, square-few (c .before .before .before .before .before .pre .2), c .before .before .before .before .before .pre .1)
+mul-clear-bits c =
+    let the-start = c .before .before .before .before .before in
+    omega (arith, square-few (the-start .pre .2), the-start .pre .1)
 
 mul-clear-bits-2 : tie.Need-mul-clear-bits-2 Inv-loop μ-loop
 mul-clear-bits-2 c = omega (arith, c .before .before .before .before .before .pre .1)
 
 clear-bits-requires : tie.Need-clear-bits-requires Inv-loop μ-loop
-clear-bits-requires c κs = (square-few (c .before .before .before .before .before .pre .2), omega (arith, c .before .before .before .before .before .pre .1, c .before .before .loop .inv .front .size))
+clear-bits-requires c κs =
+    let the-loop = c .before .before .loop in
+    let the-start = c .before .before .before .before .before in
+    (square-few (the-start .pre .2), omega (arith, the-start .pre .1, the-loop .inv .front .size))
 
 same-length : tie.Need-same-length Inv-loop μ-loop
-same-length c = c .before .before .clear-bits .kept .0 ∙ c .before .before .before .before .before .loop .inv .front .size
+same-length c =
+    let the-clear-bits = c .before .before .clear-bits in
+    let the-loop = c .before .before .before .before .before .loop in
+    the-clear-bits .kept .0 ∙ the-loop .inv .front .size
 
 returns : tie.Need-returns Inv-loop μ-loop
-returns c = packs-done (c .before .before .before .before .before .loop .inv) 0 _ (c .before .before .before .before .loop-test .left) (square-few (c .before .before .before .before .before .before .before .before .pre .2)) (c .before .before .clear-bits .ensures)
+returns c =
+    let the-clear-bits = c .before .before .clear-bits in
+    let the-loop-test = c .before .before .before .before .loop-test in
+    let the-loop = c .before .before .before .before .before .loop in
+    let the-start = c .before .before .before .before .before .before .before .before in
+    packs-done (the-loop .inv) 0 _ (the-loop-test .left) (square-few (the-start .pre .2)) (the-clear-bits .ensures)
 
 pub pack-square-spec : {M : Type 1} → statement M
 pack-square-spec =

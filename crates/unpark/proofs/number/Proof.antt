@@ -1,3 +1,4 @@
+-- `unpark::number` meets its contract: each need follows from its own premises.
 use Rattle.unpark.specs.Unpark.{unparkNumber}
 use borrow.Author.Needs.{needs}
 use Rattle.unpark.proofs.number.Statement.{statement}

@@ -1,3 +1,4 @@
+-- `affinity::exact::conditional_probabilities` meets its contract: the loop keeps `Loops` and `Lays`; by `loop-start`, `loop-more`, `loop-done`, `row-in`, `lays-start`, `lays-more` and others.
 use Rattle.affinity_distances.specs.Distances.{distanceRow}
 use Rattle.laws.proofs.Loops.{Loops, loop-start, loop-more, loop-done}
 use mathlib.Core.Path.{_≡_, refl, _∙_}
@@ -22,7 +23,21 @@ loop-holds : tie.Need-loop-holds Inv-loop μ-loop
 loop-holds c = (refl, loop-start _ _ _, lays-start _ _)
 
 conditional-row-requires : tie.Need-conditional-row-requires Inv-loop μ-loop
-conditional-row-requires c κs = ((c .before .before .loop-test .taken, c .before .before .before .before .before .before .before .before .pre .0 .0, c .before .before .before .before .before .before .before .before .pre .0 .1, c .before .before .before .before .before .before .before .before .pre .0 .2, rw (c .before .before .before .loop .inv .2 .size) (row-in _ _ _ _ (c .before .before .loop-test .taken) (c .before .before .before .before .before .before .before .before .pre .0 .3)), rw (c .before .before .before .loop .inv .0) (c .before .before .before .before .before .before .before .before .pre .0 .4)), c .before .before .before .before .before .before .before .before .pre .1)
+conditional-row-requires c κs =
+    let the-loop-test = c .before .before .loop-test in
+    let the-loop = c .before .before .before .loop in
+    let the-start = c .before .before .before .before .before .before .before .before in (
+      (
+        the-loop-test .taken,
+        the-start .pre .0 .0,
+        the-start .pre .0 .1,
+        the-start .pre .0 .2,
+        rw (the-loop .inv .2 .size)
+            (row-in _ _ _ _ (the-loop-test .taken) (the-start .pre .0 .3)),
+        rw (the-loop .inv .0) (the-start .pre .0 .4),
+      ),
+      the-start .pre .1,
+    )
 
 add-i : tie.Need-add-i Inv-loop μ-loop
 add-i c = search needs
@@ -31,7 +46,17 @@ loop-less : tie.Need-loop-less Inv-loop μ-loop
 loop-less c = search needs
 
 loop-again : tie.Need-loop-again Inv-loop μ-loop
-loop-again c = (c .before .before .before .before .conditional-row .kept .1 .1 .1 .1 .1 .1 .1 .0 ∙ c .before .before .before .before .before .before .before .before .loop .inv .0, rw (c .before .before .before .before .conditional-row .ensures .1) (loop-more (c .before .before .before .before .before .before .before .before .loop .inv .1) (c .before .before .before .before .before .before .before .loop-test .taken)), lays-more _ _ (c .before .before .before .before .before .before .before .before .loop .inv .2) (c .before .before .before .before .before .before .before .loop-test .taken) (c .before .before .before .before .before .before .before .before .before .before .before .before .before .pre .0 .3) (c .before .before .before .before .conditional-row .kept .1 .1 .1 .1 .1 .1 .0) (c .before .before .before .before .conditional-row .ensures .0))
+loop-again c =
+    let the-conditional-row = c .before .before .before .before .conditional-row in
+    let the-loop-test = c .before .before .before .before .before .before .before .loop-test in
+    let the-loop = c .before .before .before .before .before .before .before .before .loop in
+    let the-start = c .before .before .before .before .before .before .before .before .before .before .before .before .before in (
+      the-conditional-row .kept .1 .1 .1 .1 .1 .1 .1 .0 ∙ the-loop .inv .0,
+      rw (the-conditional-row .ensures .1)
+          (loop-more (the-loop .inv .1) (the-loop-test .taken)),
+      lays-more _ _ (the-loop .inv .2) (the-loop-test .taken) (the-start .pre .0 .3)
+          (the-conditional-row .kept .1 .1 .1 .1 .1 .1 .0) (the-conditional-row .ensures .0),
+    )
 
 same-length : tie.Need-same-length Inv-loop μ-loop
 same-length c = c .before .loop .inv .2 .size
@@ -40,7 +65,8 @@ same-length-2 : tie.Need-same-length-2 Inv-loop μ-loop
 same-length-2 c = c .before .loop .inv .0
 
 returns : tie.Need-returns Inv-loop μ-loop
-returns c = (lays-done _ _ (c .before .loop .inv .2) (c .loop-test .left), loop-done (c .before .loop .inv .1) (c .loop-test .left))
+returns c =
+    (lays-done _ _ (c .before .loop .inv .2) (c .loop-test .left), loop-done (c .before .loop .inv .1) (c .loop-test .left))
 
 pub conditional-probabilities-spec : {M : Type 1} → statement M
 conditional-probabilities-spec =

@@ -37,7 +37,15 @@ same-length-2 : tie.Need-same-length-2
 same-length-2 c = search needs
 
 returns : tie.Need-returns
-returns c = (conditionals-put _ _ _ _ (c .before .before .before .before .before .before .before .before .before .before .before .before .before .pre .0 .0) _ _ _ _ _ (c .before .before .before .before .before .before .before .before .before .before .before .before .before .args .i * c .before .before .before .before .before .before .before .before .before .before .before .before .before .args .n + c .before .before .before .before .before .before .before .before .before .before .before .before .before .args .n - c .before .before .before .before .before .before .before .before .before .before .before .before .before .args .i * c .before .before .before .before .before .before .before .before .before .before .before .before .before .args .n) (omega arith) (c .before .before .before .before .before .before .before .before .before .before .before .before .before .pre .0 .5) (c .before .before .before .before .before .before .before .before .before .before .before .before .before .pre .0 .4) (c .before .before .before .before .before .before .before .distance-row .ensures) (c .before .before .binary-search-sigma .kept .1 .1 .1 .0) (c .before .before .binary-search-sigma .ensures), c .before .before .before .before .before .before .before .distance-row .ensures)
+returns c =
+    let the-binary-search-sigma = c .before .before .binary-search-sigma in
+    let the-distance-row = c .before .before .before .before .before .before .before .distance-row in
+    let the-start = c .before .before .before .before .before .before .before .before .before .before .before .before .before in (
+      conditionals-put _ _ _ _ (the-start .pre .0 .0) _ _ _ _ _
+          (the-start .args .i * the-start .args .n + the-start .args .n - the-start .args .i * the-start .args .n) (omega arith) (the-start .pre .0 .5)
+          (the-start .pre .0 .4) (the-distance-row .ensures) (the-binary-search-sigma .kept .1 .1 .1 .0) (the-binary-search-sigma .ensures),
+      the-distance-row .ensures,
+    )
 
 pub conditional-row-spec : {M : Type 1} → statement M
 conditional-row-spec =

@@ -1,3 +1,4 @@
+-- `affinity::neighbours::neighbor_rows` meets its contract: the loop keeps `Lays` and `Loops`; by `loop-start`, `loop-more`, `loop-done`, `lays-row`, `row-in`, `lays-start` and others.
 use Rattle.affinity.specs.Steps.{sharesLeft, framesLeft}
 use Rattle.laws.proofs.Loops.{Loops, loop-start, loop-more, loop-done}
 use mathlib.Core.Path.{_≡_, refl, _∙_}
@@ -25,13 +26,19 @@ loop-holds : tie.Need-loop-holds Inv-loop μ-loop
 loop-holds c = (lays-start _ _, lays-start _ _, refl, loop-start _ _ _, refl, loop-start _ _ _)
 
 mul-a : tie.Need-mul-a Inv-loop μ-loop
-mul-a c = omega (arith, (row-in (c .before .loop .i) (c .before .before .before .before .before .before .before .before .args .n) (c .before .before .before .before .before .before .before .before .args .k) _ (c .loop-test .taken) (c .before .before .before .before .before .before .before .before .pre .1 .0 .0)))
+mul-a c =
+    let the-start = c .before .before .before .before .before .before .before .before in
+    omega (arith, (row-in (c .before .loop .i) (the-start .args .n) (the-start .args .k) _ (c .loop-test .taken) (the-start .pre .1 .0 .0)))
 
 add-e : tie.Need-add-e Inv-loop μ-loop
-add-e c = omega (arith, (row-in (c .before .loop .i) (c .before .before .before .before .before .before .before .before .args .n) (c .before .before .before .before .before .before .before .before .args .k) _ (c .loop-test .taken) (c .before .before .before .before .before .before .before .before .pre .1 .0 .0)))
+add-e c =
+    let the-start = c .before .before .before .before .before .before .before .before in
+    omega (arith, (row-in (c .before .loop .i) (the-start .args .n) (the-start .args .k) _ (c .loop-test .taken) (the-start .pre .1 .0 .0)))
 
 mul-neighbor-row : tie.Need-mul-neighbor-row Inv-loop μ-loop
-mul-neighbor-row c = omega (arith, (row-in (c .before .loop .i) (c .before .before .before .before .before .before .before .before .args .n) (c .before .before .before .before .before .before .before .before .args .k) _ (c .loop-test .taken) (c .before .before .before .before .before .before .before .before .pre .1 .0 .0)))
+mul-neighbor-row c =
+    let the-start = c .before .before .before .before .before .before .before .before in
+    omega (arith, (row-in (c .before .loop .i) (the-start .args .n) (the-start .args .k) _ (c .loop-test .taken) (the-start .pre .1 .0 .0)))
 
 sub-neighbor-row : tie.Need-sub-neighbor-row Inv-loop μ-loop
 sub-neighbor-row c = omega arith
@@ -40,10 +47,15 @@ part-neighbor-row-start : tie.Need-part-neighbor-row-start Inv-loop μ-loop
 part-neighbor-row-start c = omega arith
 
 part-neighbor-row-end : tie.Need-part-neighbor-row-end Inv-loop μ-loop
-part-neighbor-row-end c = rw (c .before .loop .inv .0 .size) (row-in (c .before .loop .i) (c .before .before .before .before .before .before .before .before .args .n) (c .before .before .before .before .before .before .before .before .args .k) _ (c .loop-test .taken) (c .before .before .before .before .before .before .before .before .pre .1 .0 .0))
+part-neighbor-row-end c =
+    let the-start = c .before .before .before .before .before .before .before .before in
+    rw (c .before .loop .inv .0 .size) (row-in (c .before .loop .i) (the-start .args .n) (the-start .args .k) _ (c .loop-test .taken) (the-start .pre .1 .0 .0))
 
 mul-neighbor-row-2 : tie.Need-mul-neighbor-row-2 Inv-loop μ-loop
-mul-neighbor-row-2 c = omega (arith, (row-in (c .before .before .loop .i) (c .before .before .before .before .before .before .before .before .before .args .n) (c .before .before .before .before .before .before .before .before .before .args .k) _ (c .before .loop-test .taken) (c .before .before .before .before .before .before .before .before .before .pre .1 .0 .0)))
+mul-neighbor-row-2 c =
+    let the-loop = c .before .before .loop in
+    let the-start = c .before .before .before .before .before .before .before .before .before in
+    omega (arith, (row-in (the-loop .i) (the-start .args .n) (the-start .args .k) _ (c .before .loop-test .taken) (the-start .pre .1 .0 .0)))
 
 sub-neighbor-row-2 : tie.Need-sub-neighbor-row-2 Inv-loop μ-loop
 sub-neighbor-row-2 c = omega arith
@@ -52,19 +64,64 @@ part-neighbor-row-start-2 : tie.Need-part-neighbor-row-start-2 Inv-loop μ-loop
 part-neighbor-row-start-2 c = omega arith
 
 part-neighbor-row-end-2 : tie.Need-part-neighbor-row-end-2 Inv-loop μ-loop
-part-neighbor-row-end-2 c = rw (c .before .before .loop .inv .1 .size) (row-in (c .before .before .loop .i) (c .before .before .before .before .before .before .before .before .before .args .n) (c .before .before .before .before .before .before .before .before .before .args .k) _ (c .before .loop-test .taken) (c .before .before .before .before .before .before .before .before .before .pre .1 .0 .1))
+part-neighbor-row-end-2 c =
+    let the-loop = c .before .before .loop in
+    let the-start = c .before .before .before .before .before .before .before .before .before in
+    rw (the-loop .inv .1 .size) (row-in (the-loop .i) (the-start .args .n) (the-start .args .k) _ (c .before .loop-test .taken) (the-start .pre .1 .0 .1))
 
 neighbor-row-requires : tie.Need-neighbor-row-requires Inv-loop μ-loop
-neighbor-row-requires c κs = ((c .before .before .before .before .loop-test .taken, c .before .before .before .before .before .before .before .before .before .before .before .before .pre .0 .0, c .before .before .before .before .before .before .before .before .before .before .before .before .pre .0 .1, c .before .before .before .before .before .before .before .before .before .before .before .before .pre .0 .2, c .before .before .before .before .before .before .before .before .before .before .before .before .pre .0 .3, c .before .before .before .before .before .before .before .before .before .before .before .before .pre .0 .4), ((rw (mid-len (c .before .before .before .before .before .loop .i * c .before .before .before .before .before .before .before .before .before .before .before .before .args .k) (c .before .before .before .before .before .loop .i * c .before .before .before .before .before .before .before .before .before .before .before .before .args .k + c .before .before .before .before .before .before .before .before .before .before .before .before .args .k) (c .before .before .before .before .before .loop .weights) (rw (c .before .before .before .before .before .loop .inv .0 .size) (row-in (c .before .before .before .before .before .loop .i) (c .before .before .before .before .before .before .before .before .before .before .before .before .args .n) (c .before .before .before .before .before .before .before .before .before .before .before .before .args .k) _ (c .before .before .before .before .loop-test .taken) (c .before .before .before .before .before .before .before .before .before .before .before .before .pre .1 .0 .0)))) (omega arith), rw (mid-len (c .before .before .before .before .before .loop .i * c .before .before .before .before .before .before .before .before .before .before .before .before .args .k) (c .before .before .before .before .before .loop .i * c .before .before .before .before .before .before .before .before .before .before .before .before .args .k + c .before .before .before .before .before .before .before .before .before .before .before .before .args .k) (c .before .before .before .before .before .loop .indices) (rw (c .before .before .before .before .before .loop .inv .1 .size) (row-in (c .before .before .before .before .before .loop .i) (c .before .before .before .before .before .before .before .before .before .before .before .before .args .n) (c .before .before .before .before .before .before .before .before .before .before .before .before .args .k) _ (c .before .before .before .before .loop-test .taken) (c .before .before .before .before .before .before .before .before .before .before .before .before .pre .1 .0 .1)))) (omega arith), rw (c .before .before .before .before .before .loop .inv .2) (c .before .before .before .before .before .before .before .before .before .before .before .before .pre .1 .0 .2), rw (c .before .before .before .before .before .loop .inv .4) (c .before .before .before .before .before .before .before .before .before .before .before .before .pre .1 .0 .3)), c .before .before .before .before .before .before .before .before .before .before .before .before .pre .1 .1))
+neighbor-row-requires c κs =
+    let the-loop-test = c .before .before .before .before .loop-test in
+    let the-loop = c .before .before .before .before .before .loop in
+    let the-start = c .before .before .before .before .before .before .before .before .before .before .before .before in (
+      (the-loop-test .taken, the-start .pre .0 .0, the-start .pre .0 .1, the-start .pre .0 .2, the-start .pre .0 .3, the-start .pre .0 .4),
+      (
+        (
+          rw (mid-len (the-loop .i * the-start .args .k) (the-loop .i * the-start .args .k + the-start .args .k) (the-loop .weights)
+              (rw (the-loop .inv .0 .size) (row-in (the-loop .i) (the-start .args .n) (the-start .args .k) _ (the-loop-test .taken) (the-start .pre .1 .0 .0))))
+              (omega arith),
+          rw (mid-len (the-loop .i * the-start .args .k) (the-loop .i * the-start .args .k + the-start .args .k) (the-loop .indices)
+              (rw (the-loop .inv .1 .size) (row-in (the-loop .i) (the-start .args .n) (the-start .args .k) _ (the-loop-test .taken) (the-start .pre .1 .0 .1))))
+              (omega arith),
+          rw (the-loop .inv .2) (the-start .pre .1 .0 .2),
+          rw (the-loop .inv .4) (the-start .pre .1 .0 .3),
+        ),
+        the-start .pre .1 .1,
+      ),
+    )
 
 add-i : tie.Need-add-i Inv-loop μ-loop
-add-i c = omega (arith, c .before .before .before .before .before .before .before .before .before .before .before .before .before .loop-test .taken, c .before .before .before .before .before .before .before .before .before .before .before .before .before .before .before .before .before .before .before .before .before .pre .0 .0)
+add-i c =
+    let the-loop-test = c .before .before .before .before .before .before .before .before .before .before .before .before .before .loop-test in
+    let far-1 = c .before .before .before .before .before .before .before .before .before .before .before .before in
+    let the-start = far-1 .before .before .before .before .before .before .before .before .before in
+    omega (arith, the-loop-test .taken, the-start .pre .0 .0)
 
 loop-less : tie.Need-loop-less Inv-loop μ-loop
-loop-less c = omega (arith, c .before .before .before .before .before .before .before .before .before .before .before .before .before .loop-test .taken)
+loop-less c =
+    let the-loop-test = c .before .before .before .before .before .before .before .before .before .before .before .before .before .loop-test in
+    omega (arith, the-loop-test .taken)
 
 loop-again : tie.Need-loop-again Inv-loop μ-loop
-loop-again c = (lays-row (λ (x : Pair). x .value) _ _ _ _ _ (c .before .before .before .before .before .before .before .before .before .before .before .before .before .before .before .before .before .before .before .before .before .pre .0 .2) (c .before .before .before .before .before .before .before .before .before .before .before .before .before .before .loop .i * c .before .before .before .before .before .before .before .before .before .before .before .before .before .before .before .before .before .before .before .before .before .args .k + c .before .before .before .before .before .before .before .before .before .before .before .before .before .before .before .before .before .before .before .before .before .args .k - c .before .before .before .before .before .before .before .before .before .before .before .before .before .before .loop .i * c .before .before .before .before .before .before .before .before .before .before .before .before .before .before .before .before .before .before .before .before .before .args .k) (omega arith) (c .before .before .before .before .before .before .before .before .before .before .before .before .before .loop-test .taken) (c .before .before .before .before .before .before .before .before .before .before .before .before .before .before .before .before .before .before .before .before .before .pre .1 .0 .0) (c .before .before .before .before .before .before .before .before .neighbor-row .kept .1 .1 .1 .1 .1 .1 .1 .0) (c .before .before .before .before .before .before .before .before .neighbor-row .ensures .0) (c .before .before .before .before .before .before .before .before .before .before .before .before .before .before .loop .inv .0), lays-row (λ (x : Pair). x .index) _ _ _ _ _ (c .before .before .before .before .before .before .before .before .before .before .before .before .before .before .before .before .before .before .before .before .before .pre .0 .2) (c .before .before .before .before .before .before .before .before .before .before .before .before .before .before .loop .i * c .before .before .before .before .before .before .before .before .before .before .before .before .before .before .before .before .before .before .before .before .before .args .k + c .before .before .before .before .before .before .before .before .before .before .before .before .before .before .before .before .before .before .before .before .before .args .k - c .before .before .before .before .before .before .before .before .before .before .before .before .before .before .loop .i * c .before .before .before .before .before .before .before .before .before .before .before .before .before .before .before .before .before .before .before .before .before .args .k) (omega arith) (c .before .before .before .before .before .before .before .before .before .before .before .before .before .loop-test .taken) (c .before .before .before .before .before .before .before .before .before .before .before .before .before .before .before .before .before .before .before .before .before .pre .1 .0 .1) (c .before .before .before .before .before .before .before .before .neighbor-row .kept .1 .1 .1 .1 .1 .1 .1 .1 .0) (c .before .before .before .before .before .before .before .before .neighbor-row .ensures .1 .0) (c .before .before .before .before .before .before .before .before .before .before .before .before .before .before .loop .inv .1), c .before .before .before .before .before .before .before .before .neighbor-row .kept .1 .1 .1 .1 .1 .1 .1 .1 .1 .0 ∙ c .before .before .before .before .before .before .before .before .before .before .before .before .before .before .loop .inv .2, rw (c .before .before .before .before .before .before .before .before .neighbor-row .ensures .1 .1 .0) (loop-more (c .before .before .before .before .before .before .before .before .before .before .before .before .before .before .loop .inv .3) (c .before .before .before .before .before .before .before .before .before .before .before .before .before .loop-test .taken)), c .before .before .before .before .before .before .before .before .neighbor-row .kept .1 .1 .1 .1 .1 .1 .1 .1 .1 .1 .0 ∙ c .before .before .before .before .before .before .before .before .before .before .before .before .before .before .loop .inv .4, rw (c .before .before .before .before .before .before .before .before .neighbor-row .ensures .1 .1 .1) (loop-more (c .before .before .before .before .before .before .before .before .before .before .before .before .before .before .loop .inv .5) (c .before .before .before .before .before .before .before .before .before .before .before .before .before .loop-test .taken)))
+loop-again c =
+    let the-neighbor-row = c .before .before .before .before .before .before .before .before .neighbor-row in
+    let the-loop-test = c .before .before .before .before .before .before .before .before .before .before .before .before .before .loop-test in
+    let the-loop = c .before .before .before .before .before .before .before .before .before .before .before .before .before .before .loop in
+    let far-1 = c .before .before .before .before .before .before .before .before .before .before .before .before in
+    let the-start = far-1 .before .before .before .before .before .before .before .before .before in (
+      lays-row (λ (x : Pair). x .value) _ _ _ _ _ (the-start .pre .0 .2)
+          (the-loop .i * the-start .args .k + the-start .args .k - the-loop .i * the-start .args .k) (omega arith) (the-loop-test .taken) (the-start .pre .1 .0 .0)
+          (the-neighbor-row .kept .1 .1 .1 .1 .1 .1 .1 .0) (the-neighbor-row .ensures .0) (the-loop .inv .0),
+      lays-row (λ (x : Pair). x .index) _ _ _ _ _
+          (the-start .pre .0 .2) (the-loop .i * the-start .args .k + the-start .args .k - the-loop .i * the-start .args .k) (omega arith) (the-loop-test .taken)
+          (the-start .pre .1 .0 .1) (the-neighbor-row .kept .1 .1 .1 .1 .1 .1 .1 .1 .0) (the-neighbor-row .ensures .1 .0) (the-loop .inv .1),
+      the-neighbor-row .kept .1 .1 .1 .1 .1 .1 .1 .1 .1 .0 ∙ the-loop .inv .2,
+      rw (the-neighbor-row .ensures .1 .1 .0)
+          (loop-more (the-loop .inv .3) (the-loop-test .taken)),
+      the-neighbor-row .kept .1 .1 .1 .1 .1 .1 .1 .1 .1 .1 .0 ∙ the-loop .inv .4,
+      rw
+          (the-neighbor-row .ensures .1 .1 .1) (loop-more (the-loop .inv .5) (the-loop-test .taken)),
+    )
 
 same-length : tie.Need-same-length Inv-loop μ-loop
 same-length c = c .before .loop .inv .0 .size
@@ -79,7 +136,13 @@ same-length-4 : tie.Need-same-length-4 Inv-loop μ-loop
 same-length-4 c = c .before .loop .inv .4
 
 returns : tie.Need-returns Inv-loop μ-loop
-returns c = (lays-done _ _ (c .before .loop .inv .0) (c .loop-test .left), (lays-done _ _ (c .before .loop .inv .1) (c .loop-test .left), (loop-done (c .before .loop .inv .3) (c .loop-test .left), loop-done (c .before .loop .inv .5) (c .loop-test .left))))
+returns c = (
+  lays-done _ _ (c .before .loop .inv .0) (c .loop-test .left),
+  (
+    lays-done _ _ (c .before .loop .inv .1) (c .loop-test .left),
+    (loop-done (c .before .loop .inv .3) (c .loop-test .left), loop-done (c .before .loop .inv .5) (c .loop-test .left)),
+  ),
+)
 
 pub neighbor-rows-spec : {M : Type 1} → statement M
 neighbor-rows-spec =

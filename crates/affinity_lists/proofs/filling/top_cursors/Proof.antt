@@ -18,16 +18,37 @@ loop-holds : tie.Need-loop-holds Inv-loop μ-loop
 loop-holds c = topping-start
 
 mul-held : tie.Need-mul-held Inv-loop μ-loop
-mul-held c = omega (arith, (row-in (c .before .loop .j) (c .before .before .before .before .args .n) (c .before .before .before .before .args .k) (c .before .before .before .before .args .n * c .before .before .before .before .args .k) (c .loop-test .taken) (le-refl (c .before .before .before .before .args .n * c .before .before .before .before .args .k))), c .before .before .before .before .pre .2)
+mul-held c =
+    let the-start = c .before .before .before .before in
+    omega (
+      arith,
+      (row-in (c .before .loop .j) (the-start .args .n) (the-start .args .k) (the-start .args .n * the-start .args .k) (c .loop-test .taken)
+          (le-refl (the-start .args .n * the-start .args .k))),
+      the-start .pre .2,
+    )
 
 held-requires : tie.Need-held-requires Inv-loop μ-loop
-held-requires c κs = (omega (arith, c .before .before .before .before .pre .0, c .before .before .before .before .pre .1), omega (arith, (row-in (c .before .loop .j) (c .before .before .before .before .args .n) (c .before .before .before .before .args .k) (c .before .before .before .before .args .n * c .before .before .before .before .args .k) (c .loop-test .taken) (le-refl (c .before .before .before .before .args .n * c .before .before .before .before .args .k))), c .before .before .before .before .pre .2), λ l. omega (arith, c .before .before .before .before .pre .0, c .before .before .before .before .pre .4 .inside (c .before .loop .j) (c .before .before .before .before .args .k - 1) (c .loop-test .taken) (omega arith)))
+held-requires c κs =
+    let the-start = c .before .before .before .before in (
+      omega (arith, the-start .pre .0, the-start .pre .1),
+      omega (
+        arith,
+        (row-in (c .before .loop .j) (the-start .args .n) (the-start .args .k) (the-start .args .n * the-start .args .k) (c .loop-test .taken)
+            (le-refl (the-start .args .n * the-start .args .k))),
+        the-start .pre .2,
+      ),
+      λ l. omega
+          (arith, the-start .pre .0, the-start .pre .4 .inside (c .before .loop .j) (the-start .args .k - 1) (c .loop-test .taken) (omega arith)),
+    )
 
 mul-row-indices : tie.Need-mul-row-indices Inv-loop μ-loop
 mul-row-indices c = omega (arith, c .before .before .before .before .before .pre .3, c .before .before .loop .inv .size)
 
 slice-write-row-indices : tie.Need-slice-write-row-indices Inv-loop μ-loop
-slice-write-row-indices c = omega (arith, c .before .before .before .before .before .pre .3, c .before .before .loop .inv .size)
+slice-write-row-indices c =
+    let the-loop = c .before .before .loop in
+    let the-start = c .before .before .before .before .before in
+    omega (arith, the-start .pre .3, the-loop .inv .size)
 
 add-j : tie.Need-add-j Inv-loop μ-loop
 add-j c = omega (arith, c .before .before .before .before .before .pre .0)
@@ -36,7 +57,10 @@ loop-less : tie.Need-loop-less Inv-loop μ-loop
 loop-less c = search needs
 
 loop-again : tie.Need-loop-again Inv-loop μ-loop
-loop-again c = topping-more _ (c .before .before .before .before .before .pre .3) (c .before .loop-test .taken) (c .held .ensures) (c .before .before .loop .inv)
+loop-again c =
+    let the-loop = c .before .before .loop in
+    let the-start = c .before .before .before .before .before in
+    topping-more _ (the-start .pre .3) (c .before .loop-test .taken) (c .held .ensures) (the-loop .inv)
 
 same-length : tie.Need-same-length Inv-loop μ-loop
 same-length c = c .before .loop .inv .size

@@ -8,28 +8,43 @@ use Rattle.affinity_lists.proofs.rows.miss.Statement.{statement}
 use Rattle.affinity_lists.proofs.rows.miss.Tie as tie
 
 mul-i : tie.Need-mul-i
-mul-i c = omega (arith, row-in (c .before .args .j) (c .before .args .n) (c .before .args .k) _ (c .before .pre .0) (c .before .pre .3))
+mul-i c =
+    omega (arith, row-in (c .before .args .j) (c .before .args .n) (c .before .args .k) _ (c .before .pre .0) (c .before .pre .3))
 
 add-i : tie.Need-add-i
-add-i c = omega (arith, row-in (c .before .args .j) (c .before .args .n) (c .before .args .k) _ (c .before .pre .0) (c .before .pre .3))
+add-i c =
+    omega (arith, row-in (c .before .args .j) (c .before .args .n) (c .before .args .k) _ (c .before .pre .0) (c .before .pre .3))
 
 mul-i-2 : tie.Need-mul-i-2
-mul-i-2 c = omega (arith, row-in (c .before .args .j) (c .before .args .n) (c .before .args .k) _ (c .before .pre .0) (c .before .pre .3))
+mul-i-2 c =
+    omega (arith, row-in (c .before .args .j) (c .before .args .n) (c .before .args .k) _ (c .before .pre .0) (c .before .pre .3))
 
 shared-slice-read-i : tie.Need-shared-slice-read-i
-shared-slice-read-i c = omega (arith, row-in (c .before .before .args .j) (c .before .before .args .n) (c .before .before .args .k) _ (c .before .before .pre .0) (c .before .before .pre .3))
+shared-slice-read-i c =
+    let the-start = c .before .before in
+    omega (arith, row-in (the-start .args .j) (the-start .args .n) (the-start .args .k) _ (the-start .pre .0) (the-start .pre .3))
 
 cast-i : tie.Need-cast-i
 cast-i c = omega (arith, c .before .before .pre .4 .inside _ _ (c .before .before .pre .0) (c .before .before .pre .1))
 
 mul-find : tie.Need-mul-find
-mul-find c = omega (arith, row-in _ (c .before .before .args .n) (c .before .before .args .k) _ (c .before .before .pre .4 .inside _ _ (c .before .before .pre .0) (c .before .before .pre .1)) (c .before .before .pre .3))
+mul-find c =
+    let the-start = c .before .before in
+    omega (
+      arith,
+      row-in _ (the-start .args .n) (the-start .args .k) _ (the-start .pre .4 .inside _ _ (the-start .pre .0) (the-start .pre .1))
+          (the-start .pre .3),
+    )
 
 cast-find : tie.Need-cast-find
 cast-find c = search needs
 
 find-requires : tie.Need-find-requires
-find-requires c κs = (row-in _ (c .before .before .args .n) (c .before .before .args .k) _ (c .before .before .pre .4 .inside _ _ (c .before .before .pre .0) (c .before .before .pre .1)) (c .before .before .pre .3), c .before .before .pre .4 .rising _ (c .before .before .pre .4 .inside _ _ (c .before .before .pre .0) (c .before .before .pre .1)))
+find-requires c κs =
+    let the-start = c .before .before in (
+      row-in _ (the-start .args .n) (the-start .args .k) _ (the-start .pre .4 .inside _ _ (the-start .pre .0) (the-start .pre .1)) (the-start .pre .3),
+      the-start .pre .4 .rising _ (the-start .pre .4 .inside _ _ (the-start .pre .0) (the-start .pre .1)),
+    )
 
 returns : tie.Need-returns
 unfolding missOf

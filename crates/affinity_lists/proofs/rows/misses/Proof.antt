@@ -18,10 +18,14 @@ loop-holds : tie.Need-loop-holds Inv-loop μ-loop
 loop-holds c = adds-start
 
 miss-requires : tie.Need-miss-requires Inv-loop μ-loop
-miss-requires c κs = (c .before .before .before .pre .0, c .loop-test .taken, c .before .before .before .pre .1, c .before .before .before .pre .2, c .before .before .before .pre .3)
+miss-requires c κs =
+    let the-start = c .before .before .before in
+    (the-start .pre .0, c .loop-test .taken, the-start .pre .1, the-start .pre .2, the-start .pre .3)
 
 add-c : tie.Need-add-c Inv-loop μ-loop
-add-c c = omega (arith, c .miss .ensures, adds-room (miss-le _ _ _ _) (c .before .loop-test .taken) (c .before .before .loop .inv))
+add-c c =
+    let the-loop = c .before .before .loop in
+    omega (arith, c .miss .ensures, adds-room (miss-le _ _ _ _) (c .before .loop-test .taken) (the-loop .inv))
 
 add-t : tie.Need-add-t Inv-loop μ-loop
 add-t c = search needs
@@ -30,7 +34,9 @@ loop-less : tie.Need-loop-less Inv-loop μ-loop
 loop-less c = search needs
 
 loop-again : tie.Need-loop-again Inv-loop μ-loop
-loop-again c = adds-more (c .miss .ensures) (miss-le _ _ _ _) (c .before .loop-test .taken) (c .before .before .loop .inv)
+loop-again c =
+    let the-loop = c .before .before .loop in
+    adds-more (c .miss .ensures) (miss-le _ _ _ _) (c .before .loop-test .taken) (the-loop .inv)
 
 returns : tie.Need-returns Inv-loop μ-loop
 returns c = adds-done (c .loop-test .left) (c .before .loop .inv) .0

@@ -18,10 +18,15 @@ loop-holds : tie.Need-loop-holds Inv-loop μ-loop
 loop-holds c = adds-start
 
 misses-requires : tie.Need-misses-requires Inv-loop μ-loop
-misses-requires c κs = (c .loop-test .taken, c .before .before .before .pre .0, omega (arith, c .before .before .before .pre .1), c .before .before .before .pre .2)
+misses-requires c κs =
+    let the-start = c .before .before .before in
+    (c .loop-test .taken, the-start .pre .0, omega (arith, the-start .pre .1), the-start .pre .2)
 
 add-c : tie.Need-add-c Inv-loop μ-loop
-add-c c = omega (arith, c .misses .ensures, c .before .before .before .before .pre .1, adds-room (misses-le _ _ _) (c .before .loop-test .taken) (c .before .before .loop .inv))
+add-c c =
+    let the-loop = c .before .before .loop in
+    let the-start = c .before .before .before .before in
+    omega (arith, c .misses .ensures, the-start .pre .1, adds-room (misses-le _ _ _) (c .before .loop-test .taken) (the-loop .inv))
 
 add-j : tie.Need-add-j Inv-loop μ-loop
 add-j c = search needs
@@ -30,16 +35,22 @@ loop-less : tie.Need-loop-less Inv-loop μ-loop
 loop-less c = search needs
 
 loop-again : tie.Need-loop-again Inv-loop μ-loop
-loop-again c = adds-more (c .misses .ensures) (misses-le _ _ _) (c .before .loop-test .taken) (c .before .before .loop .inv)
+loop-again c =
+    let the-loop = c .before .before .loop in
+    adds-more (c .misses .ensures) (misses-le _ _ _) (c .before .loop-test .taken) (the-loop .inv)
 
 mul-result : tie.Need-mul-result Inv-loop μ-loop
 mul-result c = omega (arith, c .before .before .before .pre .1)
 
 add-result : tie.Need-add-result Inv-loop μ-loop
-add-result c = omega (arith, c .before .before .before .pre .1, adds-done (c .loop-test .left) (c .before .loop .inv) .1)
+add-result c =
+    let the-start = c .before .before .before in
+    omega (arith, the-start .pre .1, adds-done (c .loop-test .left) (c .before .loop .inv) .1)
 
 returns : tie.Need-returns Inv-loop μ-loop
-returns c = omega (arith, links-count _ _ _ (c .before .before .before .pre .2), adds-done (c .loop-test .left) (c .before .loop .inv) .0)
+returns c =
+    let the-start = c .before .before .before in
+    omega (arith, links-count _ _ _ (the-start .pre .2), adds-done (c .loop-test .left) (c .before .loop .inv) .0)
 
 pub total-spec : {M : Type 1} → statement M
 total-spec =

@@ -1,3 +1,4 @@
+-- `parked_file::head::first_stands` meets its contract: by `first-is`.
 use Rattle.parked_file.proofs.Stands.{missing, there, first-is}
 use mathlib.Core.Path.{sym, _∙_}
 use borrow.Author.Needs.{needs}
@@ -23,7 +24,13 @@ first-fine-requires : tie.Need-first-fine-requires
 first-fine-requires c κs = search needs
 
 returns-2 : tie.Need-returns-2
-returns-2 c = rw (c .first-fine .ensures, c .before .before .before .before .word .ensures, c .before .before .before .word2 .ensures, c .before .before .word3 .ensures, c .before .word4 .ensures) (sym (there _ 0 (c .before .before .before .before .before .if1 .left) ∙ first-is _))
+returns-2 c =
+    let the-word3 = c .before .before .word3 in
+    let the-word2 = c .before .before .before .word2 in
+    let the-word = c .before .before .before .before .word in
+    let the-if1 = c .before .before .before .before .before .if1 in
+    rw (c .first-fine .ensures, the-word .ensures, the-word2 .ensures, the-word3 .ensures, c .before .word4 .ensures)
+    (sym (there _ 0 (the-if1 .left) ∙ first-is _))
 
 pub first-stands-spec : {M : Type 1} → statement M
 first-stands-spec =

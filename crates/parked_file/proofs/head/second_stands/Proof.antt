@@ -1,3 +1,4 @@
+-- `parked_file::head::second_stands` meets its contract: by `first-told`, `second-is`, `stands-first`.
 use Rattle.parked_file.proofs.Heads.{first-told}
 use Rattle.parked_file.proofs.Stands.{missing, there, second-is, stands-first}
 use mathlib.Core.Path.{sym, _∙_}
@@ -27,10 +28,21 @@ word-requires-6 : tie.Need-word-requires-6
 word-requires-6 c κs = search needs
 
 second-fine-requires : tie.Need-second-fine-requires
-second-fine-requires c κs = rw (c .before .before .before .before .word2 .ensures) (first-told _ _ _ _ (stands-first _ (c .before .before .before .before .before .before .before .before .pre)) .n-most)
+second-fine-requires c κs =
+    let the-word2 = c .before .before .before .before .word2 in
+    let the-start = c .before .before .before .before .before .before .before .before in
+    rw (the-word2 .ensures) (first-told _ _ _ _ (stands-first _ (the-start .pre)) .n-most)
 
 returns-2 : tie.Need-returns-2
-returns-2 c = rw (c .second-fine .ensures, c .before .before .before .before .before .before .word .ensures, c .before .before .before .before .before .word2 .ensures, c .before .before .before .before .word3 .ensures, c .before .before .before .word4 .ensures, c .before .before .word5 .ensures, c .before .word6 .ensures) (sym (there _ 1 (c .before .before .before .before .before .before .before .if1 .left) ∙ second-is _))
+returns-2 c =
+    let the-word5 = c .before .before .word5 in
+    let the-word4 = c .before .before .before .word4 in
+    let the-word3 = c .before .before .before .before .word3 in
+    let the-word2 = c .before .before .before .before .before .word2 in
+    let the-word = c .before .before .before .before .before .before .word in
+    let the-if1 = c .before .before .before .before .before .before .before .if1 in
+    rw (c .second-fine .ensures, the-word .ensures, the-word2 .ensures, the-word3 .ensures, the-word4 .ensures, the-word5 .ensures, c .before .word6 .ensures)
+    (sym (there _ 1 (the-if1 .left) ∙ second-is _))
 
 pub second-stands-spec : {M : Type 1} → statement M
 second-stands-spec =

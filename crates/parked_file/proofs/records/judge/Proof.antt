@@ -1,3 +1,4 @@
+-- `parked_file::records::judge` meets its contract: by `due-is`, `due-long`, `verdict-early`, `verdict-bad`, `verdict-all`.
 use Rattle.parked_file.proofs.Stands.{due-is, due-long, verdict-early, verdict-bad, verdict-all}
 use mathlib.Core.Path.{sym, _∙_}
 use borrow.Author.Needs.{needs}
@@ -18,13 +19,28 @@ first-bad-requires : tie.Need-first-bad-requires
 first-bad-requires c κs = (sym (c .before .before .head-bad .ensures) ∙ c .before .if1 .left, c .layout-read .ensures)
 
 returns-2 : tie.Need-returns-2
-returns-2 c = rw ((c .before .before .first-bad .ensures)) (verdict-bad _ (λ e. c .if2 .taken ((c .before .before .first-bad .ensures) ∙ e ∙ sym ((due-is _ _ (c .before .before .before .layout-read .ensures))))))
+returns-2 c =
+    let the-first-bad = c .before .before .first-bad in
+    let the-layout-read = c .before .before .before .layout-read in
+    rw ((the-first-bad .ensures)) (verdict-bad _ (λ e. c .if2 .taken ((the-first-bad .ensures) ∙ e ∙ sym ((due-is _ _ (the-layout-read .ensures))))))
 
 mul-t8 : tie.Need-mul-t8
-mul-t8 c = omega (arith, (due-is _ _ (c .before .before .before .layout-read .ensures)), due-long _ ((sym ((c .before .before .first-bad .ensures)) ∙ c .if2 .left ∙ (due-is _ _ (c .before .before .before .layout-read .ensures)))))
+mul-t8 c =
+    let the-first-bad = c .before .before .first-bad in
+    let the-layout-read = c .before .before .before .layout-read in
+    omega (
+      arith,
+      (due-is _ _ (the-layout-read .ensures)),
+      due-long _
+          ((sym ((the-first-bad .ensures)) ∙ c .if2 .left ∙ (due-is _ _ (the-layout-read .ensures)))),
+    )
 
 returns-3 : tie.Need-returns-3
-returns-3 c = rw ((due-is _ _ (c .before .before .before .layout-read .ensures)), (c .before .before .first-bad .ensures)) (verdict-all _ ((sym ((c .before .before .first-bad .ensures)) ∙ c .if2 .left ∙ (due-is _ _ (c .before .before .before .layout-read .ensures)))))
+returns-3 c =
+    let the-first-bad = c .before .before .first-bad in
+    let the-layout-read = c .before .before .before .layout-read in
+    rw ((due-is _ _ (the-layout-read .ensures)), (the-first-bad .ensures))
+    (verdict-all _ ((sym ((the-first-bad .ensures)) ∙ c .if2 .left ∙ (due-is _ _ (the-layout-read .ensures)))))
 
 pub judge-spec : {M : Type 1} → statement M
 judge-spec =

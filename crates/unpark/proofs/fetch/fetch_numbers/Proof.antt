@@ -1,3 +1,4 @@
+-- `unpark::fetch::fetch_numbers` meets its contract: the loop keeps `Fetches`; by `fetches-start`, `fetches-more`, `fetches-done`.
 use Rattle.areas.proofs.Fetched.{Fetches, fetches-start, fetches-more, fetches-done}
 use Rattle.unpark.specs.Unpark.{fetched}
 use Rattle.little.specs.Little.{wordIn}
@@ -26,7 +27,9 @@ word-requires : tie.Need-word-requires Inv-loop μ-loop
 word-requires c κs = search needs
 
 cast-area : tie.Need-cast-area Inv-loop μ-loop
-cast-area c = rw (c .word .ensures) (omega (arith, c .before .before .before .before .before .pre .2 _ (c .before .loop-test .taken)))
+cast-area c =
+    let the-start = c .before .before .before .before .before in
+    rw (c .word .ensures) (omega (arith, the-start .pre .2 _ (c .before .loop-test .taken)))
 
 mul-area : tie.Need-mul-area Inv-loop μ-loop
 mul-area c = search needs
@@ -41,7 +44,10 @@ loop-less : tie.Need-loop-less Inv-loop μ-loop
 loop-less c = search needs
 
 loop-again : tie.Need-loop-again Inv-loop μ-loop
-loop-again c = rw (c .word .ensures) (fetches-more (c .before .before .before .before .before .pre .0) (c .before .loop-test .taken) (c .before .before .loop .inv))
+loop-again c =
+    let the-loop = c .before .before .loop in
+    let the-start = c .before .before .before .before .before in
+    rw (c .word .ensures) (fetches-more (the-start .pre .0) (c .before .loop-test .taken) (the-loop .inv))
 
 same-length : tie.Need-same-length Inv-loop μ-loop
 same-length c = search needs

@@ -1,3 +1,4 @@
+-- `unpark::fetch::fetch_words` meets its contract: the loop keeps `Fetches`; by `fetches-start`, `fetches-more`, `fetches-done`.
 use Rattle.areas.proofs.Fetched.{Fetches, fetches-start, fetches-more, fetches-done}
 use Rattle.unpark.specs.Unpark.{fetched}
 use Rattle.little.specs.Little.{wordIn}
@@ -37,7 +38,10 @@ loop-less : tie.Need-loop-less Inv-loop μ-loop
 loop-less c = search needs
 
 loop-again : tie.Need-loop-again Inv-loop μ-loop
-loop-again c = rw (c .word .ensures) (fetches-more (c .before .before .before .before .before .pre .0) (c .before .loop-test .taken) (c .before .before .loop .inv))
+loop-again c =
+    let the-loop = c .before .before .loop in
+    let the-start = c .before .before .before .before .before in
+    rw (c .word .ensures) (fetches-more (the-start .pre .0) (c .before .loop-test .taken) (the-loop .inv))
 
 same-length : tie.Need-same-length Inv-loop μ-loop
 same-length c = search needs

@@ -1,3 +1,4 @@
+-- `unpark::record::put_counters` meets its contract: by `head-long`, `parked-head`.
 use lib.ListN.{length-set}
 use Rattle.parked_file.proofs.Stands.{head-long, parked-head}
 use borrow.Author.Needs.{needs}

@@ -1,3 +1,4 @@
+-- `unpark::record::put_record` meets its contract: by `record-told`, `head-long`, `parked-head`.
 use Rattle.unpark.proofs.Fetched.{record-told}
 use Rattle.parked_file.proofs.Stands.{head-long, parked-head}
 use borrow.Author.Needs.{needs}
@@ -15,7 +16,11 @@ same-length : tie.Need-same-length
 same-length c = search needs
 
 returns : tie.Need-returns
-returns c = rw (c .before .before .put-counters .ensures, c .before .before .before .before .before .before .put-settings .ensures) (record-told (c .before .before .before .before .before .before .before .before .before .before .args .words .now) _ (c .before .before .before .before .before .before .before .before .before .before .pre .0))
+returns c =
+    let the-put-counters = c .before .before .put-counters in
+    let the-put-settings = c .before .before .before .before .before .before .put-settings in
+    let the-start = c .before .before .before .before .before .before .before .before .before .before in
+    rw (the-put-counters .ensures, the-put-settings .ensures) (record-told (the-start .args .words .now) _ (the-start .pre .0))
 
 pub put-record-spec : {M : Type 1} → statement M
 put-record-spec =

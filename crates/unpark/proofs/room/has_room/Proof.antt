@@ -1,3 +1,4 @@
+-- `unpark::room::has_room` meets its contract: by `read-settings-good`, `head-good`, `head-long`, `parked-head`.
 use Rattle.unpark.proofs.Settled.{read-settings-good}
 use Rattle.parked_file.proofs.Stands.{head-good, head-long, parked-head}
 use borrow.Author.Tests.{le-leb, lt-leb}
@@ -11,7 +12,9 @@ settings-read-requires : tie.Need-settings-read-requires
 settings-read-requires c κs = head-long _ (parked-head _ (c .before .before .pre))
 
 areas-fit-requires : tie.Need-areas-fit-requires
-areas-fit-requires c κs = rw (c .settings-read .ensures) (read-settings-good _ (head-good _ (parked-head _ (c .before .before .before .pre))))
+areas-fit-requires c κs =
+    let the-start = c .before .before .before in
+    rw (c .settings-read .ensures) (read-settings-good _ (head-good _ (parked-head _ (the-start .pre))))
 
 returns-2 : tie.Need-returns-2
 returns-2 c = rw (c .areas-fit .ensures, c .before .settings-read .ensures, le-leb 14 _ (c .before .before .if1 .left))

@@ -1,3 +1,4 @@
+-- `unpark::room::settings_read` meets its contract: from what its calls promise.
 use Rattle.unpark.specs.Unpark.{recordRead, settingsRead}
 use Rattle.record_words.specs.RecordWords.{settingsOf}
 use borrow.Author.Needs.{needs}
@@ -48,7 +49,35 @@ word-requires-9 c κs = search needs
 
 returns : tie.Need-returns
 unfolding settingsRead settingsOf recordRead
-returns c = rw (c .before .before .before .before .before .before .before .before .before .before .before .before .value-of .ensures, c .before .before .before .before .before .before .before .before .before .before .value-of2 .ensures, c .before .before .before .before .before .before .before .before .value-of3 .ensures, c .before .before .before .before .before .before .value-of4 .ensures, c .before .before .before .before .method-of .ensures, c .before .before .before .before .before .before .before .before .before .before .before .before .before .word .ensures, c .before .before .before .before .before .before .before .before .before .before .before .word2 .ensures, c .before .before .before .before .before .before .before .before .before .word3 .ensures, c .before .before .before .before .before .before .before .word4 .ensures, c .before .before .before .before .before .word5 .ensures, c .before .before .before .word6 .ensures, c .before .before .word7 .ensures, c .before .word8 .ensures, c .word9 .ensures)
+returns c =
+    let the-word7 = c .before .before .word7 in
+    let the-word6 = c .before .before .before .word6 in
+    let the-method-of = c .before .before .before .before .method-of in
+    let the-word5 = c .before .before .before .before .before .word5 in
+    let the-value-of4 = c .before .before .before .before .before .before .value-of4 in
+    let the-word4 = c .before .before .before .before .before .before .before .word4 in
+    let the-value-of3 = c .before .before .before .before .before .before .before .before .value-of3 in
+    let the-word3 = c .before .before .before .before .before .before .before .before .before .word3 in
+    let the-value-of2 = c .before .before .before .before .before .before .before .before .before .before .value-of2 in
+    let the-word2 = c .before .before .before .before .before .before .before .before .before .before .before .word2 in
+    let the-value-of = c .before .before .before .before .before .before .before .before .before .before .before .before .value-of in
+    let the-word = c .before .before .before .before .before .before .before .before .before .before .before .before .before .word in
+    rw (
+      the-value-of .ensures,
+      the-value-of2 .ensures,
+      the-value-of3 .ensures,
+      the-value-of4 .ensures,
+      the-method-of .ensures,
+      the-word .ensures,
+      the-word2 .ensures,
+      the-word3 .ensures,
+      the-word4 .ensures,
+      the-word5 .ensures,
+      the-word6 .ensures,
+      the-word7 .ensures,
+      c .before .word8 .ensures,
+      c .word9 .ensures,
+    )
 
 pub settings-read-spec : {M : Type 1} → statement M
 settings-read-spec =
