@@ -16,6 +16,7 @@ pub mod pictures;
 mod refusal;
 mod run;
 mod salvage;
+pub mod scaling;
 pub mod strip;
 mod strip_picture;
 mod thinning;

@@ -4,6 +4,7 @@ use crate::parking::{parked, wake};
 use crate::partner::{import, lists, pair, LINK_RECORD};
 use crate::picture;
 use crate::run::{divergence, prepare, sizes, work, Areas, Kind, Method, Record, Rows, Settings, State};
+use crate::scaling::Scaling;
 use crate::thinning::take_out;
 use crate::{frame, frames, scatter, Frame, Refusal, FEATURES, STARTS};
 use std::fmt;
@@ -65,6 +66,8 @@ pub struct Map {
     pub record: Record,
     /// The Kullback-Leibler figure of the last iteration; nothing where there is none (17).
     pub divergence: Option<f64>,
+    /// What the features were multiplied by; 1 too where the run does not know, since it was read back or begun from a list.
+    pub factor: f64,
 }
 
 /// What a map or a strip goes by where it is not as usual.
@@ -76,6 +79,8 @@ pub struct Wishes {
     pub iterations: Option<usize>,
     /// The perplexity.
     pub perplexity: Option<f64>,
+    /// Multiplies every feature first.
+    pub scaling: Option<Scaling>,
 }
 
 /// What a map of n frames goes by. The perplexity, unasked, is a third of the other frames where there are few; the rate grows with n.
@@ -112,6 +117,8 @@ pub struct Run {
     pub(crate) areas: Areas,
     /// The positions before the last step.
     copy: Vec<f64>,
+    /// What the features were multiplied by, as far as it knows.
+    pub(crate) factor: f64,
 }
 
 impl Run {
@@ -119,22 +126,27 @@ impl Run {
     pub fn begin(file: &[u8], wishes: &Wishes) -> Result<Run, NoMap> {
         let frames = read(file)?;
         let settings = settings(frames.len(), wishes);
-        Run::prepared(frames, &settings, wishes.seed, prepare)
+        Run::prepared(frames, &settings, wishes, prepare)
     }
 
-    /// Prepared by these settings, from the frames' own starts or from a scatter where there is a seed.
+    /// Prepared by these settings, from the frames' own starts or from a scatter where there is a seed, and from their features,
+    /// multiplied where that is wished.
     pub(crate) fn prepared(
         frames: Vec<Frame>,
         settings: &Settings,
-        seed: Option<u64>,
+        wishes: &Wishes,
         prepare: Prepares,
     ) -> Result<Run, NoMap> {
         let sizes = sizes(settings)?;
-        let table = table(&frames);
-        let start = start(&frames, settings.c, seed)?;
+        let factor = wishes.scaling.map_or(1.0, |scaling| scaling.factor(&frames));
+        let table: Vec<f64> = table(&frames).iter().map(|feature| feature * factor).collect();
+        let start = start(&frames, settings.c, wishes.seed)?;
         let mut areas = Areas::new(&sizes, sizes.nodes);
         let record = prepare(&settings.words(), &table, &start, &mut areas, &mut Rows::new(&sizes))?;
-        Ok(Run::standing(frames, record, areas))
+        Ok(Run {
+            factor,
+            ..Run::standing(frames, record, areas)
+        })
     }
 
     /// Begun from a partner's list, which names the frames by their places in the file, counted from 0. Of the frames only their
@@ -175,6 +187,7 @@ impl Run {
             record,
             areas,
             copy,
+            factor: 1.0,
         }
     }
 
@@ -220,6 +233,11 @@ impl Run {
         &self.frames
     }
 
+    /// What its features were multiplied by; 1 too where it was read back or begun from a list.
+    pub fn factor(&self) -> f64 {
+        self.factor
+    }
+
     /// Takes the frames at these places out, which have to rise, and centres what is left.
     pub fn take_out(&mut self, places: &[u32]) -> Result<(), NoMap> {
         let mut table = table(&self.frames);
@@ -255,6 +273,7 @@ impl Run {
             positions,
             record: self.record,
             divergence,
+            factor: self.factor,
         })
     }
 }

@@ -2,6 +2,7 @@
 
 use crate::labels::{labels, long_lines, Label, RADIUS};
 use crate::map::Map;
+use crate::scaling::told;
 use crate::Frame;
 use std::fmt::Write;
 
@@ -28,6 +29,7 @@ pub fn svg(map: &Map) -> String {
     text += &numbers(&names, &labels, &cuts);
     text += &legend(map);
     text += &cuts_told(&labels, &cuts);
+    text += &factor_told(map.factor, SIDE + 34.0);
     text + "</svg>\n"
 }
 
@@ -122,4 +124,13 @@ fn cuts_told(labels: &[Label], cuts: &[usize]) -> String {
     };
     let y = SIDE + 34.0;
     format!("<text x=\"260\" y=\"{y}\">long lines, which are cuts: {told}</text>\n")
+}
+
+/// What the features were multiplied by, at the right of the foot; nothing where they are as they were.
+pub(crate) fn factor_told(factor: f64, y: f64) -> String {
+    if factor == 1.0 {
+        return String::new();
+    }
+    let (x, told) = (SIDE - 10.0, told(factor));
+    format!("<text x=\"{x}\" y=\"{y}\" text-anchor=\"end\">features {told}</text>\n")
 }

@@ -25,14 +25,18 @@ impl StripRun {
     pub fn begin(file: &[u8], wishes: &Wishes) -> Result<StripRun, NoMap> {
         let frames = map::read(file)?;
         let settings = settings(frames.len(), wishes);
-        let run = Run::prepared(frames, &settings, wishes.seed, prepare_strip)?;
+        let run = Run::prepared(frames, &settings, wishes, prepare_strip)?;
         Ok(StripRun { run })
     }
 
     /// Its frames along the strip; 17 where it has not ended.
     pub fn strip(&self) -> Result<Strip, NoMap> {
         let Run {
-            frames, record, areas, ..
+            frames,
+            record,
+            areas,
+            factor,
+            ..
         } = &self.run;
         let (mut order, mut gaps) = (vec![0; frames.len()], vec![0.0; frames.len()]);
         hand_out(record, areas, &mut order, &mut gaps)?;
@@ -42,6 +46,7 @@ impl StripRun {
             record: *record,
             order,
             gaps,
+            factor: *factor,
         })
     }
 }
@@ -57,6 +62,8 @@ pub struct Strip {
     /// The frames by their places along the strip, and each one's gap to the one before it.
     pub order: Vec<u32>,
     pub gaps: Vec<f64>,
+    /// What the features were multiplied by.
+    pub factor: f64,
 }
 
 impl Strip {

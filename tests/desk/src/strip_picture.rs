@@ -1,6 +1,6 @@
 //! The strip as a picture: a stroke for each frame along one line, and the largest gaps with the pictures on both sides of them.
 
-use crate::picture::{colour, patches};
+use crate::picture::{colour, factor_told, patches};
 use crate::strip::Strip;
 use std::fmt::Write;
 
@@ -32,6 +32,7 @@ pub fn svg(strip: &Strip) -> String {
     let names = names(strip, &across);
     text += &names.iter().map(Name::drawn).collect::<String>();
     text += &foot(strip, names.len());
+    text += &factor_told(strip.factor, height - 12.0);
     text + "</svg>\n"
 }
 

@@ -87,6 +87,7 @@ const USUAL: Wishes = Wishes {
     seed: None,
     iterations: None,
     perplexity: None,
+    scaling: None,
 };
 
 /// So many iterations from this start, the rest as usual.

@@ -23,6 +23,7 @@ fn map_with(first: u32, field: u8, places: &[[f64; 2]]) -> Map {
         positions: places.concat(),
         record: Record { words: [0; 14] },
         divergence: None,
+        factor: 1.0,
     }
 }
 

@@ -60,6 +60,7 @@ fn strips_are_those_of_the_rules() {
             seed,
             iterations: Some(iterations),
             perplexity,
+            ..Wishes::default()
         };
         let file = few(frames);
         let ours = made(&file, &wishes);
@@ -186,6 +187,7 @@ fn strip_of(positions: &[f64], field: u8) -> Strip {
         record: made(&few(2), &Wishes::default()).record,
         gaps: (0..positions.len()).map(gap).collect(),
         order,
+        factor: 1.0,
     }
 }
 

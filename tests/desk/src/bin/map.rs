@@ -1,8 +1,9 @@
-//! `map FILE [--seed NUMBER] [--out FOLDER] [--iterations N] [--perplexity P] [--lists LIST] [--until N] [--park RUN] [--every N]
-//! [--resume RUN] [--without PICTURES] [--progress]`: maps a frame file; `map lists RUN LIST`: writes a parked run's lists; `map strip
-//! FILE [--seed NUMBER] [--out FOLDER] [--iterations N] [--perplexity P] [--progress]`: puts its frames along one line; `map monitor
-//! [--out FOLDER] MAP...`: writes maps for the picture monitor, and `map monitor --text FILE` one of these as text; `map salvage SCUFFED
-//! GOOD`: copies the good records of a scuffed frame file; as `help.txt` tells. What goes wrong gets one line on standard error.
+//! `map FILE [--seed NUMBER] [--out FOLDER] [--iterations N] [--perplexity P] [--scale FACTOR] [--lists LIST] [--until N] [--park RUN]
+//! [--every N] [--resume RUN] [--without PICTURES] [--progress]`: maps a frame file; `map lists RUN LIST`: writes a parked run's lists;
+//! `map strip FILE [--seed NUMBER] [--out FOLDER] [--iterations N] [--perplexity P] [--scale FACTOR] [--progress]`: puts its frames along
+//! one line; `map monitor [--out FOLDER] MAP...`: writes maps for the picture monitor, and `map monitor --text FILE` one of these as text;
+//! `map salvage SCUFFED GOOD`: copies the good records of a scuffed frame file; as `help.txt` tells. What goes wrong gets one line on
+//! standard error.
 
 #[path = "map/monitor.rs"]
 mod monitor;
@@ -12,6 +13,7 @@ mod salvage;
 use brothanchor::beside;
 use brothanchor::map::{self, Lists, NoMap, NoRun, Run, Wishes, MOST_FRAMES, RECORD};
 use brothanchor::pictures::{self, Pictures};
+use brothanchor::scaling::{self, Scaling};
 use brothanchor::strip::Strip;
 use brothanchor::Refusal;
 use std::fs::{self, File};
@@ -49,6 +51,7 @@ const SEED: &str = "--seed takes a number from 0 to 2^64 - 1";
 const OUT: &str = "--out takes a folder";
 const ITERATIONS: &str = "--iterations takes a number from 1 to 65535";
 const PERPLEXITY: &str = "--perplexity takes a number above 0";
+const SCALE: &str = "--scale takes a finite number above 0, or auto";
 
 fn main() -> ExitCode {
     let said = match asked(std::env::args().skip(1)) {
@@ -161,6 +164,7 @@ impl Common {
             "--out" => self.out = path(words.next(), OUT)?,
             "--iterations" => self.wishes.iterations = Some(number(words.next()).ok_or(ITERATIONS)?),
             "--perplexity" => self.wishes.perplexity = Some(number(words.next()).ok_or(PERPLEXITY)?),
+            "--scale" => self.wishes.scaling = Some(scaling_of(words.next()).ok_or(SCALE)?),
             _ if word.starts_with('-') => return Err(format!("{no_option} {word}")),
             _ if self.is_named() => return Err(format!("one frame file at a time, so not {word} too")),
             _ => self.file = PathBuf::from(word),
@@ -253,6 +257,10 @@ fn pictures_of(word: Option<String>) -> Option<Pictures> {
     word.and_then(|word| Pictures::read(&word))
 }
 
+fn scaling_of(word: Option<String>) -> Option<Scaling> {
+    word.and_then(|word| Scaling::read(&word))
+}
+
 /// Which words need others, or go without them.
 fn together(asked: &Asked) -> Result<(), String> {
     let wishes = &asked.common.wishes;
@@ -265,6 +273,7 @@ fn together(asked: &Asked) -> Result<(), String> {
         (wishes.seed.is_some(), "--seed"),
         (wishes.iterations.is_some(), "--iterations"),
         (wishes.perplexity.is_some(), "--perplexity"),
+        (wishes.scaling.is_some(), "--scale"),
         (asked.lists.is_some(), "--lists"),
     ] {
         if is_asked && asked.resume.is_some() {
@@ -273,10 +282,12 @@ fn together(asked: &Asked) -> Result<(), String> {
             ));
         }
     }
-    match (&asked.lists, &asked.without) {
-        (Some(_), Some(_)) => Err(
-            "--lists tells of all frames and --without begins with fewer, so not both: park the run first".to_string(),
-        ),
+    let bad = |why: &str| Err(why.to_string());
+    match (&asked.lists, &asked.without, &wishes.scaling) {
+        (Some(_), Some(_), _) => {
+            bad("--lists tells of all frames and --without begins with fewer, so not both: park the run first")
+        }
+        (Some(_), _, Some(_)) => bad("--scale multiplies the features and --lists goes without them, so not both"),
         _ => Ok(()),
     }
 }
@@ -301,19 +312,28 @@ fn run(asked: &Asked) -> Result<String, String> {
     }
     worked?;
     let (frames, done, of) = (run.frames().len(), run.done(), run.of());
+    let scaled = scaled(&asked.common, run.factor());
     if !run.has_ended() {
         return Ok(format!(
-            "{gone}{name}: {frames} frames, parked after {done} of {of} iterations\n{kept}"
+            "{gone}{name}: {frames} frames, parked after {done} of {of} iterations\n{scaled}{kept}"
         ));
     }
     let made = run.map().map_err(|none| format!("{name}: {none}"))?;
     let [lines, picture] = written(&asked.common.out, targets()?, [made.lines(), made.svg()])?;
     Ok(format!(
-        "{gone}{name}: {frames} frames, {} after {done} iterations ({} units)\nits divergence: {}\nthe map: {lines}\nits picture: {picture}\n{kept}",
+        "{gone}{name}: {frames} frames, {} after {done} iterations ({} units)\n{scaled}its divergence: {}\nthe map: {lines}\nits picture: {picture}\n{kept}",
         made.record.ending(),
         made.record.units(),
         made.told_divergence()
     ))
+}
+
+/// What the features were multiplied by, where that was asked for.
+fn scaled(asked: &Common, factor: f64) -> String {
+    match asked.wishes.scaling {
+        Some(_) => format!("the features: {}\n", scaling::told(factor)),
+        None => String::new(),
+    }
 }
 
 /// A run that is to be worked.
@@ -417,11 +437,12 @@ fn strip(asked: &Common) -> Result<String, String> {
     let made = made.map_err(|none| no_strip(asked, none, bytes.len() / RECORD))?;
     let [lines, picture] = written(&asked.out, targets()?, [made.lines(), made.svg()])?;
     Ok(format!(
-        "{name}: {} frames, {} after {} iterations ({} units)\nthe strip: {lines}\nits picture: {picture}\n",
+        "{name}: {} frames, {} after {} iterations ({} units)\n{}the strip: {lines}\nits picture: {picture}\n",
         made.frames.len(),
         made.record.ending(),
         made.record.iterations(),
-        made.record.units()
+        made.record.units(),
+        scaled(asked, made.factor)
     ))
 }
 
@@ -590,6 +611,7 @@ mod tests {
                     seed: Some(3),
                     iterations: Some(90),
                     perplexity: Some(7.5),
+                    scaling: Some(Scaling::By(0.25)),
                 },
                 progress: true,
             },
@@ -600,7 +622,7 @@ mod tests {
             resume: None,
             without: Pictures::read("7,1281-1320"),
         };
-        let words = "--progress --out there --until 40 disc.frames --every 10 --seed 3 --without 7,1281-1320 --perplexity 7.5 --park disc.parked --iterations 90";
+        let words = "--progress --out there --until 40 disc.frames --every 10 --seed 3 --without 7,1281-1320 --scale 0.25 --perplexity 7.5 --park disc.parked --iterations 90";
         assert_eq!(of(words), Ok(Some(all)));
         let bare = of("disc.frames").expect("a file").expect("no help");
         let wanted = Common {
@@ -650,10 +672,11 @@ mod tests {
                 seed: Some(3),
                 iterations: Some(40),
                 perplexity: Some(7.5),
+                scaling: Some(Scaling::Auto),
             },
             progress: true,
         };
-        let words = "strip --out there --progress disc.frames --iterations 40 --seed 3 --perplexity 7.5";
+        let words = "strip --out there --progress disc.frames --scale auto --iterations 40 --seed 3 --perplexity 7.5";
         assert_eq!(job(words), Ok(Some(Job::Strip(wanted))));
         for words in [
             "--progress strip disc.frames",
@@ -674,6 +697,7 @@ mod tests {
             ("strip a --out", OUT),
             ("strip a --iterations few", ITERATIONS),
             ("strip a --perplexity", PERPLEXITY),
+            ("strip a --scale none", SCALE),
         ] {
             assert_eq!(job(words), Err(why.to_string()), "{words}");
         }
@@ -695,6 +719,8 @@ mod tests {
             "./map salvage SCUFFED.frames GOOD.frames",
             "--iterations N",
             "--perplexity P",
+            "--scale FACTOR",
+            "--scale auto",
             "--until N",
             "--park RUN.parked",
             "--every N",
@@ -736,6 +762,12 @@ mod tests {
             ("disc.frames --iterations -1", ITERATIONS),
             ("disc.frames --perplexity", "--perplexity takes a number above 0"),
             ("disc.frames --perplexity many", PERPLEXITY),
+            ("disc.frames --scale", "--scale takes a finite number above 0, or auto"),
+            ("disc.frames --scale 0", SCALE),
+            ("disc.frames --scale -1", SCALE),
+            ("disc.frames --scale inf", SCALE),
+            ("disc.frames --scale nan", SCALE),
+            ("disc.frames --scale much", SCALE),
             ("disc.frames --until", until),
             ("disc.frames --until few --park a", until),
             ("disc.frames --every 0 --park a", every),
@@ -760,11 +792,19 @@ mod tests {
             ("disc.frames --seed 3 --resume a", &start("--seed")),
             ("disc.frames --resume a --iterations 40", &start("--iterations")),
             ("disc.frames --perplexity 7 --resume a", &start("--perplexity")),
+            ("disc.frames --scale auto --resume a", &start("--scale")),
+            ("disc.frames --resume a --scale 1", &start("--scale")),
             ("disc.frames --lists a.lists --resume a", &start("--lists")),
         ]);
-        told(&[(
-            "disc.frames --without 7 --lists a.lists",
-            "--lists tells of all frames and --without begins with fewer, so not both: park the run first",
-        )]);
+        told(&[
+            (
+                "disc.frames --without 7 --lists a.lists",
+                "--lists tells of all frames and --without begins with fewer, so not both: park the run first",
+            ),
+            (
+                "disc.frames --scale 0.25 --lists a.lists",
+                "--scale multiplies the features and --lists goes without them, so not both",
+            ),
+        ]);
     }
 }
