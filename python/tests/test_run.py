@@ -8,7 +8,6 @@ import signal
 import subprocess
 import sys
 import threading
-import time
 from pathlib import Path
 
 import numpy as np
@@ -246,14 +245,6 @@ def test_ctrl_c_in_a_process_of_its_own():
     model = brothanchor.TSNE(perplexity=20, n_iter=400, method="exact", random_state=3)
     assert (embedding, figure) == (model.fit_transform(frames(800)).tobytes().hex(), model.kl_divergence_.hex())
     assert int(stops) == 3
-
-
-def test_calls_are_short():
-    """With many frames a call takes about as long as it should, so that Ctrl-C is heard soon."""
-    run = Run(frames(1500, 4), random_state=1, method="exact", n_iter=3)
-    times = [time.perf_counter()]
-    run.work(progress=lambda _: times.append(time.perf_counter()))
-    assert np.median(np.diff(times)) < 0.2
 
 
 def test_handed_from_thread_to_thread():
