@@ -1,0 +1,2 @@
+// How many frames the sigma search leaves blind.
+pub mod faults;
