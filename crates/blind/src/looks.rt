@@ -1,0 +1,198 @@
+// One frame after the other: its search is made, and its last sum looked at. The rows are scratch.
+ghost use mathlib.Core.Path.{_≡_};
+ghost use Prim.Native.Nat.{_*_, _<_, _≤_};
+ghost use lib.ListN.{length, drop};
+ghost use Rattle.laws.specs.Domain.{mostFrames};
+ghost use Rattle.laws.specs.Sums.{bit};
+ghost use Rattle.affinity_distances.specs.Distances.{Squared};
+ghost use Rattle.affinity_sigma.specs.Sigma.{blindSearch};
+ghost use Rattle.affinity.specs.Exact.{distancesOf};
+ghost use Rattle.affinity.specs.Neighbours.{valuesIn, nearestFrames};
+ghost use Rattle.blind.specs.Room.{SightRoom};
+ghost use Rattle.blind.specs.Blind.{allAtZero, blindAt, aloneAt, howMany};
+use run_record::Settings;
+use run_record::faults::is_tree;
+
+// What is seen of a frame.
+struct Look {
+    // its search ends blind
+    blind: bool,
+    // it has no neighbour at another place
+    alone: bool,
+}
+
+// Of how many frames it was seen.
+pub(crate) struct Looks {
+    pub(crate) blind: usize,
+    pub(crate) alone: usize,
+}
+
+// Whether the first m distances are 0.
+fn all_at_zero(distances: &[f64], m: usize) -> bool
+    requires { ⌜ m ≤ length (now distances) ⌝ }
+    ensures { λ r. ⌜ r ≡ allAtZero (now (distances .entry)) m ⌝ }
+{
+    let mut j = 0;
+    while j < m {
+        if distances[j] != 0.0 {
+            return false;
+        }
+        j += 1;
+    }
+    true
+}
+
+// Of frame i by the distances of its k nearest.
+fn look_near(
+    table: &[f64],
+    n: usize,
+    f: usize,
+    k: usize,
+    perplexity: f64,
+    squares: &[f64],
+    i: usize,
+    row_values: &mut [f64],
+    row_shares: &mut [f64],
+    row_indices: &mut [u32],
+) -> Look
+    requires { ⌜ (i < n) × (n ≤ mostFrames) × (0 < k) × (k < n) × (n * f ≤ length (now table)) × (n ≤ length (now squares)) ⌝ }
+    requires { ⌜ (n ≤ length (now «row_values»)) × (n ≤ length (now «row_shares»)) × (n ≤ length (now «row_indices»)) ⌝ }
+    requires { ⌜ Squared (now table) n f (now squares) ⌝ }
+    ensures { λ r. ⌜
+        (r .blind ≡ blindSearch (valuesIn (nearestFrames (now (table .entry)) n f k i)) k perplexity)
+        × (r .alone ≡ allAtZero (valuesIn (nearestFrames (now (table .entry)) n f k i)) k)
+        ⌝ }
+    ensures { λ _. ⌜
+        (drop n (now («row_values» .exit)) ≡ drop n (now («row_values» .entry)))
+        × (drop n (now («row_shares» .exit)) ≡ drop n (now («row_shares» .entry)))
+        × (drop n (now («row_indices» .exit)) ≡ drop n (now («row_indices» .entry)))
+        ⌝ }
+{
+    affinity::neighbours::nearest_row(
+        table,
+        n,
+        f,
+        k,
+        squares,
+        i,
+        row_shares,
+        row_values,
+        row_indices,
+    );
+    let alone = all_at_zero(row_shares, k);
+    let sum = affinity_sigma::search_sigma(row_shares, k, perplexity, row_values);
+    Look {
+        blind: sum < 1e-8,
+        alone,
+    }
+}
+
+// Of frame i by the distances of all n frames.
+fn look_all(
+    table: &[f64],
+    n: usize,
+    f: usize,
+    perplexity: f64,
+    squares: &[f64],
+    i: usize,
+    row_values: &mut [f64],
+    row_shares: &mut [f64],
+) -> Look
+    requires { ⌜ (i < n) × (n ≤ mostFrames) × (n * f ≤ length (now table)) × (n ≤ length (now squares)) ⌝ }
+    requires { ⌜ (n ≤ length (now «row_values»)) × (n ≤ length (now «row_shares»)) ⌝ }
+    requires { ⌜ Squared (now table) n f (now squares) ⌝ }
+    ensures { λ r. ⌜
+        (r .blind ≡ blindSearch (distancesOf (now (table .entry)) n f i) n perplexity)
+        × (r .alone ≡ allAtZero (distancesOf (now (table .entry)) n f i) n)
+        ⌝ }
+    ensures { λ _. ⌜
+        (drop n (now («row_values» .exit)) ≡ drop n (now («row_values» .entry)))
+        × (drop n (now («row_shares» .exit)) ≡ drop n (now («row_shares» .entry)))
+        ⌝ }
+{
+    affinity_distances::distance_row(table, n, f, squares, i, row_values);
+    let alone = all_at_zero(row_values, n);
+    let sum = affinity_sigma::search_sigma(row_values, n, perplexity, row_shares);
+    Look {
+        blind: sum < 1e-8,
+        alone,
+    }
+}
+
+// Of frame i, by method.
+fn look(
+    s: Settings,
+    table: &[f64],
+    squares: &[f64],
+    i: usize,
+    row_values: &mut [f64],
+    row_shares: &mut [f64],
+    row_indices: &mut [u32],
+) -> Look
+    requires { ⌜ (i < s .n) × Squared (now table) (s .n) (s .f) (now squares) ⌝ }
+    requires { ⌜ SightRoom s (length (now table)) (length (now squares)) (length (now «row_values»)) (length (now «row_shares»)) (length (now «row_indices»)) ⌝ }
+    ensures { λ r. ⌜ (r .blind ≡ blindAt s (now (table .entry)) i) × (r .alone ≡ aloneAt s (now (table .entry)) i) ⌝ }
+    ensures { λ _. ⌜
+        (drop (s .n) (now («row_values» .exit)) ≡ drop (s .n) (now («row_values» .entry)))
+        × (drop (s .n) (now («row_shares» .exit)) ≡ drop (s .n) (now («row_shares» .entry)))
+        × (drop (s .n) (now («row_indices» .exit)) ≡ drop (s .n) (now («row_indices» .entry)))
+        ⌝ }
+{
+    let m = s.method;
+    if is_tree(m) {
+        let k = elementary::neighbours(s.perplexity, s.n as u64) as usize;
+        return look_near(
+            table,
+            s.n,
+            s.f,
+            k,
+            s.perplexity,
+            squares,
+            i,
+            row_values,
+            row_shares,
+            row_indices,
+        );
+    }
+    look_all(table, s.n, s.f, s.perplexity, squares, i, row_values, row_shares)
+}
+
+// A test counted.
+fn one_if(b: bool) -> usize
+    ensures { λ r. ⌜ r ≡ bit b ⌝ }
+{
+    if b {
+        return 1;
+    }
+    0
+}
+
+// Of all n frames.
+pub(crate) fn look_at_all(
+    s: Settings,
+    table: &[f64],
+    squares: &[f64],
+    row_values: &mut [f64],
+    row_shares: &mut [f64],
+    row_indices: &mut [u32],
+) -> Looks
+    requires { ⌜ Squared (now table) (s .n) (s .f) (now squares) ⌝ }
+    requires { ⌜ SightRoom s (length (now table)) (length (now squares)) (length (now «row_values»)) (length (now «row_shares»)) (length (now «row_indices»)) ⌝ }
+    ensures { λ r. ⌜ (r .blind ≡ howMany (blindAt s (now (table .entry))) (s .n)) × (r .alone ≡ howMany (aloneAt s (now (table .entry))) (s .n)) ⌝ }
+    ensures { λ _. ⌜
+        (drop (s .n) (now («row_values» .exit)) ≡ drop (s .n) (now («row_values» .entry)))
+        × (drop (s .n) (now («row_shares» .exit)) ≡ drop (s .n) (now («row_shares» .entry)))
+        × (drop (s .n) (now («row_indices» .exit)) ≡ drop (s .n) (now («row_indices» .entry)))
+        ⌝ }
+{
+    let mut blind = 0;
+    let mut alone = 0;
+    let mut i = 0;
+    while i < s.n {
+        let l = look(s, table, squares, i, row_values, row_shares, row_indices);
+        blind += one_if(l.blind);
+        alone += one_if(l.alone);
+        i += 1;
+    }
+    Looks { blind, alone }
+}
