@@ -55,7 +55,8 @@ ended : (ds : List Float) (n : ℕ) (perplexity : Float) (p row : List Float) (b
 ended ds n perplexity p row b m sum e = (ap (λ (w : Watched). w .search .row) e ∙ watched-row ds n perplexity p, ap (λ (w : Watched). w .sum) e)
 
 pub narrows-met : {ds : List Float} {n : ℕ} {perplexity : Float} {p row row′ : List Float} {k : ℕ} {b : Bounds} {sum sum′ diff : Float}
-    → Narrows ds n perplexity p k row b sum → k < mostRounds → Round ds n perplexity row b row′ sum′ diff → close diff ≡ true → (row′ ≡ sigmaShares ds n perplexity p) × (sum′ ≡ lastSum ds n perplexity p)
+    → Narrows ds n perplexity p k row b sum → k < mostRounds
+    → Round ds n perplexity row b row′ sum′ diff → close diff ≡ true → (row′ ≡ sigmaShares ds n perplexity p) × (sum′ ≡ lastSum ds n perplexity p)
 unfolding watchedSearch
 narrows-met {ds} {n} {perplexity} {p} {row} {row′} {k} {b} {sum} {sum′} r l o h =
     let s = until-more (r .so-far) l refl in

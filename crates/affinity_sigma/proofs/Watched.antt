@@ -16,8 +16,8 @@ use Rattle.laws.proofs.Untils.{until-end}
 use Rattle.laws.proofs.Written.{written-at}
 use Rattle.laws.proofs.Places.{changed-past}
 use Rattle.areas.proofs.Front.{filled-loop}
-use Rattle.affinity_sigma.specs.Sigma.{weightOf, weighed, weightSum, smallest, sharedBy, rowOf, excess, close, narrowed, Search, searched, isMet, roundOf, openBounds, mostRounds, sigmaShares, sharesOf}
-use Rattle.affinity_sigma.specs.Sigma.{Watched, watched, watchedMet, watchedRound, watchedSearch, lastSum, blindSearch}
+use Rattle.affinity_sigma.specs.Sigma.{weightOf, weighed, weightSum, smallest, sharedBy, rowOf, excess, close, narrowed, Search, searched, isMet, roundOf, openBounds, mostRounds}
+use Rattle.affinity_sigma.specs.Sigma.{sigmaShares, sharesOf, Watched, watched, watchedMet, watchedRound, watchedSearch, lastSum, blindSearch}
 use Rattle.affinity_sigma.proofs.Alone.{until-on, weighed-size, weighed-alone, total-past, round-size, round-past, round-alone}
 
 module _ (ds : List Float) (n : ℕ) (perplexity : Float) where
