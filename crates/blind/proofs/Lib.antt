@@ -1,3 +1,4 @@
 pub mod Tests
 pub mod Watches
 pub mod Laws
+pub mod Theorems
