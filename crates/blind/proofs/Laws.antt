@@ -1,5 +1,5 @@
 -- What is seen of a frame by a row of distances is what the definition says of it, the rows keep what lies past their first n places, and the answer that becomes of all frames. Assumes nothing.
-use mathlib.Core.Path.{_≡_, sym, ap, _∙_}
+use mathlib.Core.Path.{_≡_, refl, sym, ap, _∙_}
 use mathlib.Core.List.{List, _++_, map}
 use mathlib.Core.Bool.{Bool, true, false}
 use Prim.Native.Nat.{ℕ, _<_, _≤_}
@@ -12,6 +12,7 @@ use borrow.Author.Tests.{eq-eqb, ne-eqb}
 use Rattle.laws.specs.Area.{at, zero64}
 use Rattle.laws.proofs.Every.{every-same}
 use Rattle.laws.proofs.Changed.{drop-later}
+use Rattle.laws.proofs.Parts.{Scratch}
 use Rattle.laws.proofs.Written.{written-tail}
 use Rattle.areas.specs.Filled.{filled}
 use Rattle.affinity_sigma.specs.Sigma.{smallest, sigmaShares, lastSum, blindSearch}
@@ -26,6 +27,7 @@ use Rattle.affinity.proofs.Named.{over-tail, frames-count}
 use Rattle.run_record.specs.declared.Settings.{Settings}
 use Rattle.run_record.specs.Record.{isTree, kOf}
 use Rattle.blind.specs.declared.Sight.the-variants.{Refused, Seen}
+use Rattle.blind.specs.Room.{SightRoom, KeptPast}
 use Rattle.blind.specs.Blind.{searchedDistances, searchedLength, allAtZero, blindAt, aloneAt, howMany, SightRows, sightRows, sightFault, sightOutcome, sighted}
 use Rattle.blind.proofs.Watches.{last-sum-read}
 
@@ -38,15 +40,10 @@ module _ (ds es : List Float) (n : ℕ) (same : (j : ℕ) → j < n → at ds j 
   alone-by : allAtZero ds n ≡ allAtZero es n
   alone-by = every-same (λ j. eq (at ds j) zero64) (λ j. eq (at es j) zero64) n (λ j l. ap (λ (v : Float). eq v zero64) (same j l))
 
--- what is seen of a frame whose search goes by the first m of these distances
-pub record Sees (es : List Float) (m : ℕ) (perplexity : Float) (blind alone : Bool) : Type 0 where
-  pub blind-is : blind ≡ blindSearch es m perplexity
-  pub alone-is : alone ≡ allAtZero es m
-
 module _ (t : List Float) (n f i : ℕ) (hi : i < n) (perplexity : Float) where
   -- ---- of all n frames
 
-  module _ (X₀ H₀ : List Float) (hX : n ≤ length X₀) (hH : n ≤ length H₀) {X₁ H₁ : List Float} (x : X₁ ≡ distanceRow t n f i X₀) where
+  module _ (X₀ H₀ : List Float) (hX : n ≤ length X₀) (hH : n ≤ length H₀) {X₁ : List Float} (x : X₁ ≡ distanceRow t n f i X₀) where
     all-there : (j : ℕ) → j < n → at X₁ j ≡ at (distancesOf t n f i) j
     all-there j l =
         let z : n ≤ length (replicate n zero64) = le-of-eq (sym (length-replicate n zero64)) in
@@ -56,11 +53,11 @@ module _ (t : List Float) (n f i : ℕ) (hi : i < n) (perplexity : Float) where
           | no d ↦ row-other t n f i X₀ hX j l d ∙ sym (row-other t n f i (replicate n zero64) z j l d)
         ]
 
-    pub all-seen : {sum : Float} {alone : Bool} → sum ≡ lastSum X₁ n perplexity H₀ → alone ≡ allAtZero X₁ n → Sees (distancesOf t n f i) n perplexity (lt sum smallest) alone
-    all-seen v a = record { blind-is = blind-by X₁ (distancesOf t n f i) n all-there perplexity H₀ hH v; alone-is = a ∙ alone-by X₁ (distancesOf t n f i) n all-there }
+    pub all-seen : {sum : Float} {alone : Bool} → sum ≡ lastSum X₁ n perplexity H₀ → alone ≡ allAtZero X₁ n → (lt sum smallest ≡ blindSearch (distancesOf t n f i) n perplexity) × (alone ≡ allAtZero (distancesOf t n f i) n)
+    all-seen v a = (blind-by X₁ (distancesOf t n f i) n all-there perplexity H₀ hH v, a ∙ alone-by X₁ (distancesOf t n f i) n all-there)
 
-    pub all-tails : length H₁ ≡ length H₀ → H₁ ≡ sigmaShares X₁ n perplexity H₀ → (drop n X₁ ≡ drop n X₀) × (drop n H₁ ≡ drop n H₀)
-    all-tails s h = (ap (drop n) x ∙ row-tail t n f i X₀ hX hi, shares-tail X₁ (distancesOf t n f i) n perplexity H₀ H₁ all-there hH s h)
+    pub all-tails : {H₁ : List Float} → length H₁ ≡ length H₀ → H₁ ≡ sigmaShares X₁ n perplexity H₀ → (KeptPast n X₀ X₁) × (KeptPast n H₀ H₁)
+    all-tails {H₁} s h = (record { tail = ap (drop n) x ∙ row-tail t n f i X₀ hX hi }, record { tail = shares-tail X₁ (distancesOf t n f i) n perplexity H₀ H₁ all-there hH s h })
 
   -- ---- of the k nearest
 
@@ -71,57 +68,71 @@ module _ (t : List Float) (n f i : ℕ) (hi : i < n) (perplexity : Float) where
     frames-are : length frames ≡ k
     frames-are = frames-count t n f k perplexity i hi hk
 
-    pub near-tail : {B : Type 0} (g : Pair → B) (d : List B) → drop n (map g frames ++ drop (length frames) d) ≡ drop n d
+    near-tail : {B : Type 0} (g : Pair → B) (d : List B) → drop n (map g frames ++ drop (length frames) d) ≡ drop n d
     near-tail {B} g d = drop-later (map g frames ++ drop (length frames) d) d k n (le-of-lt hk) (over-tail g frames d k frames-are)
 
-    module _ (X₀ H₀ : List Float) (hX : n ≤ length X₀) {X₁ X₂ H₁ : List Float} (x : X₁ ≡ distanceRow t n f i X₀) (h : H₁ ≡ valuesOver frames H₀) where
+    module _ (X₀ H₀ : List Float) (hX : n ≤ length X₀) {X₁ H₁ : List Float} (x : X₁ ≡ distanceRow t n f i X₀) (h : H₁ ≡ valuesOver frames H₀) where
       near-there : (j : ℕ) → j < k → at H₁ j ≡ at (valuesIn frames) j
       near-there j l = ap (λ (r : List Float). at r j) h ∙ List·getD-append (valuesIn frames) (drop (length frames) H₀) nan j (omega (arith, length-map frames (λ (p : Pair). p .value), frames-are))
 
       room : k ≤ length X₁
       room = omega (arith, ap length x, row-size t n f i X₀ hX, hk, hX)
 
-      pub near-seen : {sum : Float} {alone : Bool} → sum ≡ lastSum H₁ k perplexity X₁ → alone ≡ allAtZero H₁ k → Sees (valuesIn frames) k perplexity (lt sum smallest) alone
-      near-seen v a = record { blind-is = blind-by H₁ (valuesIn frames) k near-there perplexity X₁ room v; alone-is = a ∙ alone-by H₁ (valuesIn frames) k near-there }
+      pub near-seen : {sum : Float} {alone : Bool} → sum ≡ lastSum H₁ k perplexity X₁ → alone ≡ allAtZero H₁ k → (lt sum smallest ≡ blindSearch (valuesIn frames) k perplexity) × (alone ≡ allAtZero (valuesIn frames) k)
+      near-seen v a = (blind-by H₁ (valuesIn frames) k near-there perplexity X₁ room v, a ∙ alone-by H₁ (valuesIn frames) k near-there)
 
-      pub near-tails : length X₂ ≡ length X₁ → X₂ ≡ sigmaShares H₁ k perplexity X₁ → (drop n X₂ ≡ drop n X₀) × (drop n H₁ ≡ drop n H₀)
-      near-tails s e =
-          (
-            drop-later X₂ X₁ k n (le-of-lt hk) (shares-tail H₁ (valuesIn frames) k perplexity X₁ X₂ near-there room s e) ∙ ap (drop n) x ∙ row-tail t n f i X₀ hX hi,
-            ap (drop n) h ∙ near-tail (λ (p : Pair). p .value) H₀,
-          )
+      pub near-tails : {X₂ : List Float} → length X₂ ≡ length X₁ → X₂ ≡ sigmaShares H₁ k perplexity X₁ → (KeptPast n X₀ X₂) × (KeptPast n H₀ H₁)
+      near-tails {X₂} s e =
+          let shares = drop-later X₂ X₁ k n (le-of-lt hk) (shares-tail H₁ (valuesIn frames) k perplexity X₁ X₂ near-there room s e) in
+          (record { tail = shares ∙ ap (drop n) x ∙ row-tail t n f i X₀ hX hi }, record { tail = ap (drop n) h ∙ near-tail (λ (p : Pair). p .value) H₀ })
+
+    pub near-places : {I₀ I₁ : List ℕ} → I₁ ≡ indicesOver frames I₀ → KeptPast n I₀ I₁
+    near-places {I₀} e = record { tail = ap (drop n) e ∙ near-tail (λ (p : Pair). p .index) I₀ }
 
 -- ---- by method
 
 module _ (s : Settings) (t : List Float) (i : ℕ) {blind alone : Bool} where
-  pub sees-tree : isTree (s .method) ≡ true → Sees (valuesIn (nearestFrames t (s .n) (s .f) (kOf s) i)) (kOf s) (s .perplexity) blind alone → (blind ≡ blindAt s t i) × (alone ≡ aloneAt s t i)
+  pub sees-tree : {k : ℕ} → k ≡ kOf s → isTree (s .method) ≡ true
+      → (blind ≡ blindSearch (valuesIn (nearestFrames t (s .n) (s .f) k i)) k (s .perplexity)) × (alone ≡ allAtZero (valuesIn (nearestFrames t (s .n) (s .f) k i)) k) → (blind ≡ blindAt s t i) × (alone ≡ aloneAt s t i)
   unfolding blindAt aloneAt
-  sees-tree e w = (rw e (w .blind-is), rw e (w .alone-is))
+  sees-tree q e w = rw (e, sym q) w
 
-  pub sees-exact : isTree (s .method) ≡ false → Sees (distancesOf t (s .n) (s .f) i) (s .n) (s .perplexity) blind alone → (blind ≡ blindAt s t i) × (alone ≡ aloneAt s t i)
+  pub sees-exact : isTree (s .method) ≡ false → (blind ≡ blindSearch (distancesOf t (s .n) (s .f) i) (s .n) (s .perplexity)) × (alone ≡ allAtZero (distancesOf t (s .n) (s .f) i) (s .n)) → (blind ≡ blindAt s t i) × (alone ≡ aloneAt s t i)
   unfolding blindAt aloneAt
-  sees-exact e w = (rw e (w .blind-is), rw e (w .alone-is))
+  sees-exact e w = rw e w
+
+-- ---- the loop: rows that one frame after the other has used
+
+-- nothing is asked of a row but its length
+pub scratch-kept : {A : Type 0} {n : ℕ} {l₀ l l' : List A} → length l' ≡ length l → KeptPast n l l' → Scratch n l₀ l → Scratch n l₀ l'
+scratch-kept e k s = record { size = e ∙ s .size; tail = k .tail ∙ s .tail }
+
+pub kept-all : {A : Type 0} {n : ℕ} {l : List A} → KeptPast n l l
+kept-all = record { tail = refl }
+
+pub room-kept : {s : Settings} {t q v₀ h₀ x₀ v h x : ℕ} → SightRoom s t q v₀ h₀ x₀ → v ≡ v₀ → h ≡ h₀ → x ≡ x₀ → SightRoom s t q v h x
+room-kept r a b c = rw (a, b, c) r
+
+pub kept-by : {A : Type 0} {n : ℕ} {l₀ l : List A} → Scratch n l₀ l → KeptPast n l₀ l
+kept-by s = record { tail = s .tail }
 
 -- ---- the answer
 
-cleared : {A : Type 0} (z : A) (n : ℕ) {l₀ l l' : List A} → l' ≡ filled z n l → drop n l ≡ drop n l₀ → l' ≡ filled z n l₀
-cleared z n e d = e ∙ ap (λ r. replicate n z ++ r) d
+cleared : {A : Type 0} (z : A) {n : ℕ} {l₀ l l' : List A} → l' ≡ filled z n l → KeptPast n l₀ l → l' ≡ filled z n l₀
+cleared z {n} e k = e ∙ ap (λ r. replicate n z ++ r) (k .tail)
 
 module _ (s : Settings) (table : List Float) (r : SightRows) {k : ℕ} (q : k ≡ sightFault s table r) where
   pub sight-refused : (k ≡ 0 → ⊥) → sightOutcome (Refused k) r ≡ sighted s table r
   unfolding sighted
   sight-refused n = rw (ne-eqb (sightFault s table r) 0 (λ e. n (q ∙ e)), q)
 
-  module _ {Q₁ X₁ H₁ Q₂ X₂ H₂ : List Float} {I₁ I₂ : List ℕ} (q₁ : Q₁ ≡ squaresOf table (s .n) (s .f) (r .squares))
-      (tails : (drop (s .n) X₁ ≡ drop (s .n) (r .values)) × (drop (s .n) H₁ ≡ drop (s .n) (r .shares)) × (drop (s .n) I₁ ≡ drop (s .n) (r .places)))
-      (zeros : (Q₂ ≡ filled zero64 (s .n) Q₁) × (X₂ ≡ filled zero64 (s .n) X₁) × (H₂ ≡ filled zero64 (s .n) H₁) × (I₂ ≡ filled 0 (s .n) I₁)) where
-    pub sight-seen : {blind alone : ℕ} → k ≡ 0 → (blind ≡ howMany (blindAt s table) (s .n)) × (alone ≡ howMany (aloneAt s table) (s .n)) → sightOutcome (Seen blind alone) (sightRows Q₂ X₂ H₂ I₂) ≡ sighted s table r
-    unfolding sighted
-    sight-seen e c =
-        let n = s .n in
-        let none = eq-eqb (sightFault s table r) 0 (sym q ∙ e) in
-        let squares = cleared zero64 n (zeros .0) (ap (drop n) q₁ ∙ written-tail (λ i. squareOf table (s .f) i) n (r .squares)) in
-        let values = cleared zero64 n (zeros .1) (tails .0) in
-        let shares = cleared zero64 n (zeros .2) (tails .1) in
-        let places = cleared 0 n (zeros .3) (tails .2) in
-        rw (none, c .0, c .1, squares, values, shares, places)
+  pub sight-seen : {Q₁ X₁ H₁ Q₂ X₂ H₂ : List Float} {I₁ I₂ : List ℕ} {blind alone : ℕ} → k ≡ 0 → Q₁ ≡ squaresOf table (s .n) (s .f) (r .squares)
+      → (KeptPast (s .n) (r .values) X₁) × (KeptPast (s .n) (r .shares) H₁) × (KeptPast (s .n) (r .places) I₁)
+      → (Q₂ ≡ filled zero64 (s .n) Q₁) × (X₂ ≡ filled zero64 (s .n) X₁) × (H₂ ≡ filled zero64 (s .n) H₁) × (I₂ ≡ filled 0 (s .n) I₁)
+      → (blind ≡ howMany (blindAt s table) (s .n)) × (alone ≡ howMany (aloneAt s table) (s .n)) → sightOutcome (Seen blind alone) (sightRows Q₂ X₂ H₂ I₂) ≡ sighted s table r
+  unfolding sighted
+  sight-seen {Q₁} e q₁ tails zeros c =
+      let n = s .n in
+      let none = eq-eqb (sightFault s table r) 0 (sym q ∙ e) in
+      let squared : KeptPast n (r .squares) Q₁ = record { tail = ap (drop n) q₁ ∙ written-tail (λ i. squareOf table (s .f) i) n (r .squares) } in
+      rw (none, c .0, c .1, cleared zero64 (zeros .0) squared, cleared zero64 (zeros .1) (tails .0), cleared zero64 (zeros .2) (tails .1), cleared 0 (zeros .3) (tails .2))

@@ -1,8 +1,10 @@
--- What the count of blind frames asks, as the tests have shown it. Definitions only.
+-- What the count of blind frames asks, as the tests have shown it, and what it keeps of a row. Definitions only.
 use mathlib.Core.Path.{_≡_}
+use mathlib.Core.List.{List}
 use mathlib.Core.Bool.{true}
 use Prim.Native.Nat.{ℕ, _*_, _≤_}
 use lib.IntN.{pos}
+use lib.ListN.{drop}
 use lib.Ieee.{binary64, ofInt, lt}
 use Rattle.laws.specs.Domain.{mostFrames}
 use Rattle.laws.specs.Area.{zero64}
@@ -19,3 +21,8 @@ pub record SightRoom (s : Settings) (t q v h x : ℕ) : Type 0 where
   pub values-in : s .n ≤ v
   pub shares-in : s .n ≤ h
   pub places-in : s .n ≤ x
+
+-- from place n on, l is as l₀
+module _ {A : Type 0} where
+  pub record KeptPast (n : ℕ) (l₀ l : List A) : Type 0 where
+    pub tail : drop n l ≡ drop n l₀

@@ -1,20 +1,20 @@
 // One frame after the other: its search is made, and its last sum looked at. The rows are scratch.
 ghost use mathlib.Core.Path.{_≡_};
 ghost use Prim.Native.Nat.{_*_, _<_, _≤_};
-ghost use lib.ListN.{length, drop};
+ghost use lib.ListN.{length};
 ghost use Rattle.laws.specs.Domain.{mostFrames};
 ghost use Rattle.laws.specs.Sums.{bit};
 ghost use Rattle.affinity_distances.specs.Distances.{Squared};
 ghost use Rattle.affinity_sigma.specs.Sigma.{blindSearch};
 ghost use Rattle.affinity.specs.Exact.{distancesOf};
 ghost use Rattle.affinity.specs.Neighbours.{valuesIn, nearestFrames};
-ghost use Rattle.blind.specs.Room.{SightRoom};
+ghost use Rattle.blind.specs.Room.{SightRoom, KeptPast};
 ghost use Rattle.blind.specs.Blind.{allAtZero, blindAt, aloneAt, howMany};
 use run_record::Settings;
 use run_record::faults::is_tree;
 
 // What is seen of a frame.
-struct Look {
+struct Glance {
     // its search ends blind
     blind: bool,
     // it has no neighbour at another place
@@ -22,7 +22,7 @@ struct Look {
 }
 
 // Of how many frames it was seen.
-pub(crate) struct Looks {
+pub(crate) struct Glances {
     pub(crate) blind: usize,
     pub(crate) alone: usize,
 }
@@ -54,7 +54,7 @@ fn look_near(
     row_values: &mut [f64],
     row_shares: &mut [f64],
     row_indices: &mut [u32],
-) -> Look
+) -> Glance
     requires { ⌜ (i < n) × (n ≤ mostFrames) × (0 < k) × (k < n) × (n * f ≤ length (now table)) × (n ≤ length (now squares)) ⌝ }
     requires { ⌜ (n ≤ length (now «row_values»)) × (n ≤ length (now «row_shares»)) × (n ≤ length (now «row_indices»)) ⌝ }
     requires { ⌜ Squared (now table) n f (now squares) ⌝ }
@@ -63,9 +63,9 @@ fn look_near(
         × (r .alone ≡ allAtZero (valuesIn (nearestFrames (now (table .entry)) n f k i)) k)
         ⌝ }
     ensures { λ _. ⌜
-        (drop n (now («row_values» .exit)) ≡ drop n (now («row_values» .entry)))
-        × (drop n (now («row_shares» .exit)) ≡ drop n (now («row_shares» .entry)))
-        × (drop n (now («row_indices» .exit)) ≡ drop n (now («row_indices» .entry)))
+        (KeptPast n (now («row_values» .entry)) (now («row_values» .exit)))
+        × (KeptPast n (now («row_shares» .entry)) (now («row_shares» .exit)))
+        × (KeptPast n (now («row_indices» .entry)) (now («row_indices» .exit)))
         ⌝ }
 {
     affinity::neighbours::nearest_row(
@@ -81,7 +81,7 @@ fn look_near(
     );
     let alone = all_at_zero(row_shares, k);
     let sum = affinity_sigma::search_sigma(row_shares, k, perplexity, row_values);
-    Look {
+    Glance {
         blind: sum < 1e-8,
         alone,
     }
@@ -97,7 +97,7 @@ fn look_all(
     i: usize,
     row_values: &mut [f64],
     row_shares: &mut [f64],
-) -> Look
+) -> Glance
     requires { ⌜ (i < n) × (n ≤ mostFrames) × (n * f ≤ length (now table)) × (n ≤ length (now squares)) ⌝ }
     requires { ⌜ (n ≤ length (now «row_values»)) × (n ≤ length (now «row_shares»)) ⌝ }
     requires { ⌜ Squared (now table) n f (now squares) ⌝ }
@@ -106,14 +106,14 @@ fn look_all(
         × (r .alone ≡ allAtZero (distancesOf (now (table .entry)) n f i) n)
         ⌝ }
     ensures { λ _. ⌜
-        (drop n (now («row_values» .exit)) ≡ drop n (now («row_values» .entry)))
-        × (drop n (now («row_shares» .exit)) ≡ drop n (now («row_shares» .entry)))
+        (KeptPast n (now («row_values» .entry)) (now («row_values» .exit)))
+        × (KeptPast n (now («row_shares» .entry)) (now («row_shares» .exit)))
         ⌝ }
 {
     affinity_distances::distance_row(table, n, f, squares, i, row_values);
     let alone = all_at_zero(row_values, n);
     let sum = affinity_sigma::search_sigma(row_values, n, perplexity, row_shares);
-    Look {
+    Glance {
         blind: sum < 1e-8,
         alone,
     }
@@ -128,14 +128,14 @@ fn look(
     row_values: &mut [f64],
     row_shares: &mut [f64],
     row_indices: &mut [u32],
-) -> Look
+) -> Glance
     requires { ⌜ (i < s .n) × Squared (now table) (s .n) (s .f) (now squares) ⌝ }
     requires { ⌜ SightRoom s (length (now table)) (length (now squares)) (length (now «row_values»)) (length (now «row_shares»)) (length (now «row_indices»)) ⌝ }
     ensures { λ r. ⌜ (r .blind ≡ blindAt s (now (table .entry)) i) × (r .alone ≡ aloneAt s (now (table .entry)) i) ⌝ }
     ensures { λ _. ⌜
-        (drop (s .n) (now («row_values» .exit)) ≡ drop (s .n) (now («row_values» .entry)))
-        × (drop (s .n) (now («row_shares» .exit)) ≡ drop (s .n) (now («row_shares» .entry)))
-        × (drop (s .n) (now («row_indices» .exit)) ≡ drop (s .n) (now («row_indices» .entry)))
+        (KeptPast (s .n) (now («row_values» .entry)) (now («row_values» .exit)))
+        × (KeptPast (s .n) (now («row_shares» .entry)) (now («row_shares» .exit)))
+        × (KeptPast (s .n) (now («row_indices» .entry)) (now («row_indices» .exit)))
         ⌝ }
 {
     let m = s.method;
@@ -175,24 +175,25 @@ pub(crate) fn look_at_all(
     row_values: &mut [f64],
     row_shares: &mut [f64],
     row_indices: &mut [u32],
-) -> Looks
+) -> Glances
     requires { ⌜ Squared (now table) (s .n) (s .f) (now squares) ⌝ }
     requires { ⌜ SightRoom s (length (now table)) (length (now squares)) (length (now «row_values»)) (length (now «row_shares»)) (length (now «row_indices»)) ⌝ }
     ensures { λ r. ⌜ (r .blind ≡ howMany (blindAt s (now (table .entry))) (s .n)) × (r .alone ≡ howMany (aloneAt s (now (table .entry))) (s .n)) ⌝ }
     ensures { λ _. ⌜
-        (drop (s .n) (now («row_values» .exit)) ≡ drop (s .n) (now («row_values» .entry)))
-        × (drop (s .n) (now («row_shares» .exit)) ≡ drop (s .n) (now («row_shares» .entry)))
-        × (drop (s .n) (now («row_indices» .exit)) ≡ drop (s .n) (now («row_indices» .entry)))
+        (KeptPast (s .n) (now («row_values» .entry)) (now («row_values» .exit)))
+        × (KeptPast (s .n) (now («row_shares» .entry)) (now («row_shares» .exit)))
+        × (KeptPast (s .n) (now («row_indices» .entry)) (now («row_indices» .exit)))
         ⌝ }
 {
+    let n = s.n;
     let mut blind = 0;
     let mut alone = 0;
     let mut i = 0;
-    while i < s.n {
+    while i < n {
         let l = look(s, table, squares, i, row_values, row_shares, row_indices);
         blind += one_if(l.blind);
         alone += one_if(l.alone);
         i += 1;
     }
-    Looks { blind, alone }
+    Glances { blind, alone }
 }

@@ -1,0 +1,18 @@
+use Rattle.laws.specs.Sums.{bit}
+use borrow.Author.Needs.{needs}
+use native.Mathlib.Omega.{arith}
+use Rattle.blind.proofs.looks.one_if.Statement.{statement}
+use Rattle.blind.proofs.looks.one_if.Tie as tie
+use Rattle.blind.proofs.looks.one_if.Reads as reads
+use Rattle.blind.proofs.looks.one_if.Lts as lts
+
+returns : tie.Need-returns
+unfolding bit
+returns c = rw (c .if1 .taken)
+
+returns-2 : tie.Need-returns-2
+unfolding bit
+returns-2 c = rw (c .if1 .left)
+
+pub one-if-spec : {M : Type 1} → statement M
+one-if-spec = tie.close (tie.spec returns returns-2)
