@@ -1,8 +1,10 @@
 // One frame after the other: its search is made, and its last sum looked at. The rows are scratch.
 ghost use mathlib.Core.Path.{_≡_};
 ghost use Prim.Native.Nat.{_*_, _<_, _≤_};
+ghost use lib.Ieee.{eq};
 ghost use lib.ListN.{length};
 ghost use Rattle.laws.specs.Domain.{mostFrames};
+ghost use Rattle.laws.specs.Area.{zero64};
 ghost use Rattle.laws.specs.Sums.{bit};
 ghost use Rattle.affinity_distances.specs.Distances.{Squared};
 ghost use Rattle.affinity_sigma.specs.Sigma.{blindSearch};
@@ -27,6 +29,13 @@ pub(crate) struct Glances {
     pub(crate) alone: usize,
 }
 
+// A distance of 0, of either sign.
+fn is_zero(d: f64) -> bool
+    ensures { λ r. ⌜ r ≡ eq d zero64 ⌝ }
+{
+    d == 0.0
+}
+
 // Whether the first m distances are 0.
 fn all_at_zero(distances: &[f64], m: usize) -> bool
     requires { ⌜ m ≤ length (now distances) ⌝ }
@@ -34,7 +43,7 @@ fn all_at_zero(distances: &[f64], m: usize) -> bool
 {
     let mut j = 0;
     while j < m {
-        if distances[j] != 0.0 {
+        if !is_zero(distances[j]) {
             return false;
         }
         j += 1;

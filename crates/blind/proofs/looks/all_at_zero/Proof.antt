@@ -10,8 +10,6 @@ use borrow.Author.Needs.{needs}
 use native.Mathlib.Omega.{arith}
 use Rattle.blind.proofs.looks.all_at_zero.Statement.{statement}
 use Rattle.blind.proofs.looks.all_at_zero.Tie as tie
-use Rattle.blind.proofs.looks.all_at_zero.Reads as reads
-use Rattle.blind.proofs.looks.all_at_zero.Lts as lts
 
 abbrev Inv-loop : tie.InvT-loop
 Inv-loop distances m j₀ j = (j ≤ m) × (every (λ i. eq (at distances i) zero64) j ≡ true)
@@ -22,14 +20,17 @@ abbrev μ-loop : tie.MeasureT-loop
 loop-holds : tie.Need-loop-holds Inv-loop μ-loop
 loop-holds c = (search needs, every-none _)
 
-mul-if1 : tie.Need-mul-if1 Inv-loop μ-loop
-mul-if1 c = search needs
+mul-is-zero : tie.Need-mul-is-zero Inv-loop μ-loop
+mul-is-zero c = search needs
 
-shared-slice-read-if1 : tie.Need-shared-slice-read-if1 Inv-loop μ-loop
-shared-slice-read-if1 c = search needs
+shared-slice-read-is-zero : tie.Need-shared-slice-read-is-zero Inv-loop μ-loop
+shared-slice-read-is-zero c = search needs
+
+is-zero-requires : tie.Need-is-zero-requires Inv-loop μ-loop
+is-zero-requires c κs = search needs
 
 returns : tie.Need-returns Inv-loop μ-loop
-returns c = sym (every-no _ _ _ (c .before .before .loop-test .taken) (not-true _ (c .if1 .taken)))
+returns c = sym (every-no _ _ _ (c .before .before .before .loop-test .taken) (sym (c .before .is-zero .ensures) ∙ not-true _ (c .if1 .taken)))
 
 add-j : tie.Need-add-j Inv-loop μ-loop
 add-j c = search needs
@@ -38,7 +39,7 @@ loop-less : tie.Need-loop-less Inv-loop μ-loop
 loop-less c = search needs
 
 loop-again : tie.Need-loop-again Inv-loop μ-loop
-loop-again c = (search needs, every-more _ _ (c .before .before .before .loop .inv .1) (not-false _ (c .if1 .left)))
+loop-again c = (search needs, every-more _ _ (c .before .before .before .before .loop .inv .1) (sym (c .before .is-zero .ensures) ∙ not-false _ (c .if1 .left)))
 
 returns-2 : tie.Need-returns-2 Inv-loop μ-loop
 returns-2 c = every-done _ _ _ (c .before .loop .inv .1) (c .before .loop .inv .0) (c .loop-test .left)
@@ -50,8 +51,9 @@ all-at-zero-spec =
     Inv-loop
     μ-loop
     loop-holds
-    mul-if1
-    shared-slice-read-if1
+    mul-is-zero
+    shared-slice-read-is-zero
+    is-zero-requires
     returns
     add-j
     loop-less
