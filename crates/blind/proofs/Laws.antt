@@ -28,7 +28,7 @@ use Rattle.run_record.specs.declared.Settings.{Settings}
 use Rattle.run_record.specs.Record.{isTree, kOf}
 use Rattle.blind.specs.declared.Sight.the-variants.{Refused, Seen}
 use Rattle.blind.specs.Room.{SightRoom, KeptPast}
-use Rattle.blind.specs.Blind.{searchedDistances, searchedLength, allAtZero, blindAt, aloneAt, howMany, SightRows, sightRows, sightFault, sightOutcome, sighted}
+use Rattle.blind.specs.Blind.{allAtZero, blindAt, aloneAt, howMany, SightRows, sightRows, sightFault, sightOutcome, sighted}
 use Rattle.blind.proofs.Watches.{last-sum-read}
 
 -- ---- by a row that holds the distances
@@ -53,7 +53,8 @@ module _ (t : List Float) (n f i : ℕ) (hi : i < n) (perplexity : Float) where
           | no d ↦ row-other t n f i X₀ hX j l d ∙ sym (row-other t n f i (replicate n zero64) z j l d)
         ]
 
-    pub all-seen : {sum : Float} {alone : Bool} → sum ≡ lastSum X₁ n perplexity H₀ → alone ≡ allAtZero X₁ n → (lt sum smallest ≡ blindSearch (distancesOf t n f i) n perplexity) × (alone ≡ allAtZero (distancesOf t n f i) n)
+    pub all-seen : {sum : Float} {alone : Bool} → sum ≡ lastSum X₁ n perplexity H₀ → alone ≡ allAtZero X₁ n
+        → (lt sum smallest ≡ blindSearch (distancesOf t n f i) n perplexity) × (alone ≡ allAtZero (distancesOf t n f i) n)
     all-seen v a = (blind-by X₁ (distancesOf t n f i) n all-there perplexity H₀ hH v, a ∙ alone-by X₁ (distancesOf t n f i) n all-there)
 
     pub all-tails : {H₁ : List Float} → length H₁ ≡ length H₀ → H₁ ≡ sigmaShares X₁ n perplexity H₀ → (KeptPast n X₀ X₁) × (KeptPast n H₀ H₁)
@@ -73,12 +74,15 @@ module _ (t : List Float) (n f i : ℕ) (hi : i < n) (perplexity : Float) where
 
     module _ (X₀ H₀ : List Float) (hX : n ≤ length X₀) {X₁ H₁ : List Float} (x : X₁ ≡ distanceRow t n f i X₀) (h : H₁ ≡ valuesOver frames H₀) where
       near-there : (j : ℕ) → j < k → at H₁ j ≡ at (valuesIn frames) j
-      near-there j l = ap (λ (r : List Float). at r j) h ∙ List·getD-append (valuesIn frames) (drop (length frames) H₀) nan j (omega (arith, length-map frames (λ (p : Pair). p .value), frames-are))
+      near-there j l =
+          ap (λ (r : List Float). at r j) h
+          ∙ List·getD-append (valuesIn frames) (drop (length frames) H₀) nan j (omega (arith, length-map frames (λ (p : Pair). p .value), frames-are))
 
       room : k ≤ length X₁
       room = omega (arith, ap length x, row-size t n f i X₀ hX, hk, hX)
 
-      pub near-seen : {sum : Float} {alone : Bool} → sum ≡ lastSum H₁ k perplexity X₁ → alone ≡ allAtZero H₁ k → (lt sum smallest ≡ blindSearch (valuesIn frames) k perplexity) × (alone ≡ allAtZero (valuesIn frames) k)
+      pub near-seen : {sum : Float} {alone : Bool} → sum ≡ lastSum H₁ k perplexity X₁ → alone ≡ allAtZero H₁ k
+          → (lt sum smallest ≡ blindSearch (valuesIn frames) k perplexity) × (alone ≡ allAtZero (valuesIn frames) k)
       near-seen v a = (blind-by H₁ (valuesIn frames) k near-there perplexity X₁ room v, a ∙ alone-by H₁ (valuesIn frames) k near-there)
 
       pub near-tails : {X₂ : List Float} → length X₂ ≡ length X₁ → X₂ ≡ sigmaShares H₁ k perplexity X₁ → (KeptPast n X₀ X₂) × (KeptPast n H₀ H₁)
@@ -93,11 +97,14 @@ module _ (t : List Float) (n f i : ℕ) (hi : i < n) (perplexity : Float) where
 
 module _ (s : Settings) (t : List Float) (i : ℕ) {blind alone : Bool} where
   pub sees-tree : {k : ℕ} → k ≡ kOf s → isTree (s .method) ≡ true
-      → (blind ≡ blindSearch (valuesIn (nearestFrames t (s .n) (s .f) k i)) k (s .perplexity)) × (alone ≡ allAtZero (valuesIn (nearestFrames t (s .n) (s .f) k i)) k) → (blind ≡ blindAt s t i) × (alone ≡ aloneAt s t i)
+      → (blind ≡ blindSearch (valuesIn (nearestFrames t (s .n) (s .f) k i)) k (s .perplexity)) × (alone ≡ allAtZero (valuesIn (nearestFrames t (s .n) (s .f) k i)) k)
+      → (blind ≡ blindAt s t i) × (alone ≡ aloneAt s t i)
   unfolding blindAt aloneAt
   sees-tree q e w = rw (e, sym q) w
 
-  pub sees-exact : isTree (s .method) ≡ false → (blind ≡ blindSearch (distancesOf t (s .n) (s .f) i) (s .n) (s .perplexity)) × (alone ≡ allAtZero (distancesOf t (s .n) (s .f) i) (s .n)) → (blind ≡ blindAt s t i) × (alone ≡ aloneAt s t i)
+  pub sees-exact : isTree (s .method) ≡ false
+      → (blind ≡ blindSearch (distancesOf t (s .n) (s .f) i) (s .n) (s .perplexity)) × (alone ≡ allAtZero (distancesOf t (s .n) (s .f) i) (s .n))
+      → (blind ≡ blindAt s t i) × (alone ≡ aloneAt s t i)
   unfolding blindAt aloneAt
   sees-exact e w = rw e w
 

@@ -6,7 +6,7 @@ use Prim.Native.Nat.{ℕ, _*_, _≤_}
 use native.Mathlib.Omega.{arith}
 use lib.Dec.{eqb, ltb, leb}
 use lib.ListN.{length}
-use lib.Ieee.{Float, lt, ofInt, binary64}
+use lib.Ieee.{Float}
 use borrow.Author.Tests.{eqb-true, eqb-false, ltb-false, leb-true, not-false}
 use Rattle.laws.specs.Domain.{mostFeatures, mostFrames}
 use Rattle.laws.proofs.Bools.{and-left, and-right, or-left, or-right, by-bool}
@@ -86,8 +86,7 @@ module _ (s : Settings) (table : List Float) (q v h x : ℕ) where
       let B = leb (s .n) v in
       let C = leb (s .n) h in
       let D = leb (s .n) x in
-      let l = and-left (A && B && C) D e in
-      (
+      let l = and-left (A && B && C) D e in (
         leb-true (s .n) q (and-left A B (and-left (A && B) C l)),
         (leb-true (s .n) v (and-right A B (and-left (A && B) C l)), (leb-true (s .n) h (and-right (A && B) C l), leb-true (s .n) x (and-right (A && B && C) D e))),
       )

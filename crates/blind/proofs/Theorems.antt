@@ -1,4 +1,4 @@
--- Of the frames that are counted: an alone one is blind, a blind one gives all the same share, no count is above n, and the alone are no more than the blind. Nothing is assumed: so it is of any settings and any table.
+-- Of the frames that are counted: an alone one is blind, a blind one gives all the same share, no count is above n, and the alone are no more than the blind. Of any settings and table; assumes nothing.
 use mathlib.Core.Path.{_≡_, refl, subst, sym}
 use mathlib.Core.List.{List}
 use mathlib.Core.Bool.{Bool, true, false}
@@ -8,7 +8,7 @@ use native.Mathlib.Nat.{le-refl}
 use lib.IntN.{pos}
 use lib.Ieee.{Float, binary64, div, ofInt, eq}
 use Rattle.laws.specs.Area.{at, zero64, one64}
-use Rattle.laws.specs.Sums.{sum, bit}
+use Rattle.laws.specs.Sums.{bit}
 use Rattle.laws.proofs.Every.{every-at}
 use Rattle.laws.proofs.Sums.{sum-le, sum-const, bit-le}
 use Rattle.affinity_sigma.specs.Sigma.{sharesOf}
@@ -26,7 +26,8 @@ module _ (s : Settings) (t : List Float) where
       zeros-blind ds (searchedLength s) (λ j h. every-at (λ j. eq (at ds j) zero64) (searchedLength s) e j h) (s .perplexity)
 
   -- a blind frame gives each frame that its search goes by the same share
-  pub blind-equal : (i : ℕ) → blindAt s t i ≡ true → (j : ℕ) → j < searchedLength s → at (sharesOf (searchedDistances s t i) (searchedLength s) (s .perplexity)) j ≡ div binary64 one64 (ofInt binary64 (pos (searchedLength s)))
+  pub blind-equal : (i : ℕ) → blindAt s t i ≡ true → (j : ℕ) → j < searchedLength s
+      → at (sharesOf (searchedDistances s t i) (searchedLength s) (s .perplexity)) j ≡ div binary64 one64 (ofInt binary64 (pos (searchedLength s)))
   unfolding blindAt
   blind-equal i e j h = blind-filled (searchedDistances s t i) (searchedLength s) (s .perplexity) e j h
 

@@ -14,8 +14,9 @@ use Rattle.laws.proofs.Bools.{two}
 use Rattle.laws.proofs.Loops.{loop-same, loop-keeps}
 use Rattle.laws.proofs.Untils.{until-end}
 use Rattle.laws.proofs.Written.{written-at}
-use Rattle.affinity_sigma.specs.Sigma.{weightOf, weighStep, weighed, weightStep, weightSum, smallest, rowOf, roundOf, searched, openBounds, mostRounds, Watched, watched, watchedMet, watchedRound, watchedSearch, lastSum, blindSearch}
-use Rattle.affinity_sigma.proofs.Alone.{until-on, weighed-size, round-size}
+use Rattle.affinity_sigma.specs.Sigma.{weightOf, weighStep, weighed, weightStep, weightSum, smallest, rowOf, roundOf, searched, openBounds, mostRounds}
+use Rattle.affinity_sigma.specs.Sigma.{Watched, watched, watchedMet, watchedRound, watchedSearch, lastSum, blindSearch}
+use Rattle.affinity_sigma.proofs.Alone.{until-on, round-size}
 
 -- ---- steps that a test ends
 
@@ -49,7 +50,9 @@ module _ (ds es : List Float) (n : ℕ) (same : (j : ℕ) → j < n → at ds j 
 
     pub last-sum-read : (p : List Float) → lastSum ds n perplexity p ≡ lastSum es n perplexity p
     unfolding watchedSearch
-    last-sum-read p = ap (λ (w : Watched). w .sum) (until-same watchedMet (watchedRound ds n perplexity) (watchedRound es n perplexity) watched-read mostRounds (watched (searched p openBounds false) zero64))
+    last-sum-read p =
+        let from = watched (searched p openBounds false) zero64 in
+        ap (λ (w : Watched). w .sum) (until-same watchedMet (watchedRound ds n perplexity) (watchedRound es n perplexity) watched-read mostRounds from)
 
 -- ---- where each distance is 0
 
@@ -87,7 +90,9 @@ module _ (ds : List Float) (n : ℕ) (zeros : (j : ℕ) → j < n → eq (at ds 
 
     weightless-all : Weightless (watchedSearch ds n perplexity (replicate n zero64))
     unfolding watchedSearch
-    weightless-all = until-keeps watchedMet Weightless (watchedRound ds n perplexity) weightless-more mostRounds (watched (searched (replicate n zero64) openBounds false) zero64) (record { size = length-replicate n zero64; none = refl })
+    weightless-all =
+        let from = watched (searched (replicate n zero64) openBounds false) zero64 in
+        until-keeps watchedMet Weightless (watchedRound ds n perplexity) weightless-more mostRounds from (record { size = length-replicate n zero64; none = refl })
 
     pub zeros-blind : blindSearch ds n perplexity ≡ true
     zeros-blind = rw (weightless-all .none) too-small

@@ -163,7 +163,16 @@ fn look(
             row_indices,
         );
     }
-    look_all(table, s.n, s.f, s.perplexity, squares, i, row_values, row_shares)
+    look_all(
+        table,
+        s.n,
+        s.f,
+        s.perplexity,
+        squares,
+        i,
+        row_values,
+        row_shares,
+    )
 }
 
 // A test counted.

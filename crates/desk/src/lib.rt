@@ -70,7 +70,15 @@ pub extern "C" fn brothanchor_blind(
         (now (answer .entry))
         ⌝ }
 {
-    host_blind(settings, table, squares, row_values, row_shares, row_indices, answer)
+    host_blind(
+        settings,
+        table,
+        squares,
+        row_values,
+        row_shares,
+        row_indices,
+        answer,
+    )
 }
 
 // Prepares a run. Answers 0, or the number of the refusal; then nothing is changed.

@@ -17,7 +17,8 @@ module _ (s : List ℕ) (table : List Float) (r : SightRows) (a : List ℕ) wher
   unfolding hostBlind
   unread-seen e = rw e
 
-  pub short-seen : {k : ℕ} {t : Settings} → settingsFine s ≡ true → length a < 2 → t ≡ settingsOf s → k ≡ shortNumber (sightFault t table r) → hostSeen k a r ≡ hostBlind s table r a
+  pub short-seen : {k : ℕ} {t : Settings} → settingsFine s ≡ true → length a < 2 → t ≡ settingsOf s → k ≡ shortNumber (sightFault t table r)
+      → hostSeen k a r ≡ hostBlind s table r a
   unfolding hostBlind
   short-seen e h q ek = rw (e, lt-ltb (length a) 2 h, ek, q)
 

@@ -1,5 +1,5 @@
+-- `blind::clear_rows` meets its contract: from what its calls promise.
 use borrow.Author.Needs.{needs}
-use native.Mathlib.Omega.{arith}
 use Rattle.blind.proofs.clear_rows.Statement.{statement}
 use Rattle.blind.proofs.clear_rows.Tie as tie
 
@@ -28,7 +28,12 @@ same-length-4 : tie.Need-same-length-4
 same-length-4 c = search needs
 
 returns : tie.Need-returns
-returns c = (c .before .before .before .before .before .before .before .before .before .before .before .before .before .before .fill .ensures, c .before .before .before .before .before .before .before .before .before .before .fill2 .ensures, c .before .before .before .before .before .before .fill3 .ensures, c .before .before .clear-indices .ensures)
+returns c =
+    let the-clear-indices = c .before .before .clear-indices in
+    let the-fill3 = c .before .before .before .before .before .before .fill3 in
+    let the-fill2 = c .before .before .before .before .before .before .before .before .before .before .fill2 in
+    let the-fill = c .before .before .before .before .before .before .before .before .before .before .before .before .before .before .fill in
+    (the-fill .ensures, the-fill2 .ensures, the-fill3 .ensures, the-clear-indices .ensures)
 
 pub clear-rows-spec : {M : Type 1} → statement M
 clear-rows-spec =

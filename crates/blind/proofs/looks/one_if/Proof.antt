@@ -1,10 +1,7 @@
+-- `blind::looks::one_if` meets its contract: each need follows from its own premises.
 use Rattle.laws.specs.Sums.{bit}
-use borrow.Author.Needs.{needs}
-use native.Mathlib.Omega.{arith}
 use Rattle.blind.proofs.looks.one_if.Statement.{statement}
 use Rattle.blind.proofs.looks.one_if.Tie as tie
-use Rattle.blind.proofs.looks.one_if.Reads as reads
-use Rattle.blind.proofs.looks.one_if.Lts as lts
 
 returns : tie.Need-returns
 unfolding bit
