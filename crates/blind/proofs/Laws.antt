@@ -34,8 +34,8 @@ use Rattle.blind.proofs.Watches.{last-sum-read}
 -- ---- by a row that holds the distances
 
 module _ (ds es : List Float) (n : ℕ) (same : (j : ℕ) → j < n → at ds j ≡ at es j) where
-  blind-by : (perplexity : Float) (p : List Float) {sum : Float} → n ≤ length p → sum ≡ lastSum ds n perplexity p → lt sum smallest ≡ blindSearch es n perplexity
-  blind-by perplexity p h e = ap (λ (v : Float). lt v smallest) (e ∙ last-sum-read ds es n same perplexity p ∙ last-sum-alone es n perplexity p h)
+  blind-by : (perplexity : Float) (p : List Float) {sum : Float} {blind : Bool} → n ≤ length p → sum ≡ lastSum ds n perplexity p → blind ≡ lt sum smallest → blind ≡ blindSearch es n perplexity
+  blind-by perplexity p h e b = b ∙ ap (λ (v : Float). lt v smallest) (e ∙ last-sum-read ds es n same perplexity p ∙ last-sum-alone es n perplexity p h)
 
   alone-by : allAtZero ds n ≡ allAtZero es n
   alone-by = every-same (λ j. eq (at ds j) zero64) (λ j. eq (at es j) zero64) n (λ j l. ap (λ (v : Float). eq v zero64) (same j l))
@@ -53,9 +53,9 @@ module _ (t : List Float) (n f i : ℕ) (hi : i < n) (perplexity : Float) where
           | no d ↦ row-other t n f i X₀ hX j l d ∙ sym (row-other t n f i (replicate n zero64) z j l d)
         ]
 
-    pub all-seen : {sum : Float} {alone : Bool} → sum ≡ lastSum X₁ n perplexity H₀ → alone ≡ allAtZero X₁ n
-        → (lt sum smallest ≡ blindSearch (distancesOf t n f i) n perplexity) × (alone ≡ allAtZero (distancesOf t n f i) n)
-    all-seen v a = (blind-by X₁ (distancesOf t n f i) n all-there perplexity H₀ hH v, a ∙ alone-by X₁ (distancesOf t n f i) n all-there)
+    pub all-seen : {sum : Float} {blind alone : Bool} → sum ≡ lastSum X₁ n perplexity H₀ → blind ≡ lt sum smallest → alone ≡ allAtZero X₁ n
+        → (blind ≡ blindSearch (distancesOf t n f i) n perplexity) × (alone ≡ allAtZero (distancesOf t n f i) n)
+    all-seen v b a = (blind-by X₁ (distancesOf t n f i) n all-there perplexity H₀ hH v b, a ∙ alone-by X₁ (distancesOf t n f i) n all-there)
 
     pub all-tails : {H₁ : List Float} → length H₁ ≡ length H₀ → H₁ ≡ sigmaShares X₁ n perplexity H₀ → (KeptPast n X₀ X₁) × (KeptPast n H₀ H₁)
     all-tails {H₁} s h = (record { tail = ap (drop n) x ∙ row-tail t n f i X₀ hX hi }, record { tail = shares-tail X₁ (distancesOf t n f i) n perplexity H₀ H₁ all-there hH s h })
@@ -81,9 +81,9 @@ module _ (t : List Float) (n f i : ℕ) (hi : i < n) (perplexity : Float) where
       room : k ≤ length X₁
       room = omega (arith, ap length x, row-size t n f i X₀ hX, hk, hX)
 
-      pub near-seen : {sum : Float} {alone : Bool} → sum ≡ lastSum H₁ k perplexity X₁ → alone ≡ allAtZero H₁ k
-          → (lt sum smallest ≡ blindSearch (valuesIn frames) k perplexity) × (alone ≡ allAtZero (valuesIn frames) k)
-      near-seen v a = (blind-by H₁ (valuesIn frames) k near-there perplexity X₁ room v, a ∙ alone-by H₁ (valuesIn frames) k near-there)
+      pub near-seen : {sum : Float} {blind alone : Bool} → sum ≡ lastSum H₁ k perplexity X₁ → blind ≡ lt sum smallest → alone ≡ allAtZero H₁ k
+          → (blind ≡ blindSearch (valuesIn frames) k perplexity) × (alone ≡ allAtZero (valuesIn frames) k)
+      near-seen v b a = (blind-by H₁ (valuesIn frames) k near-there perplexity X₁ room v b, a ∙ alone-by H₁ (valuesIn frames) k near-there)
 
       pub near-tails : {X₂ : List Float} → length X₂ ≡ length X₁ → X₂ ≡ sigmaShares H₁ k perplexity X₁ → (KeptPast n X₀ X₂) × (KeptPast n H₀ H₁)
       near-tails {X₂} s e =

@@ -1,4 +1,4 @@
--- Of the frames that are counted: an alone one is blind, a blind one gives all the same share, no count is above n, and the alone are no more than the blind. Of any settings and table; assumes nothing.
+-- Of the frames that are counted: an alone one is blind, a blind one gives all the same share, no count is above n, the alone are no more than the blind. Of any settings and table. Assumes nothing.
 use mathlib.Core.Path.{_≡_, refl, subst, sym}
 use mathlib.Core.List.{List}
 use mathlib.Core.Bool.{Bool, true, false}

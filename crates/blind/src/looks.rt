@@ -1,13 +1,13 @@
 // One frame after the other: its search is made, and its last sum looked at. The rows are scratch.
 ghost use mathlib.Core.Path.{_≡_};
 ghost use Prim.Native.Nat.{_*_, _<_, _≤_};
-ghost use lib.Ieee.{eq};
+ghost use lib.Ieee.{lt, eq};
 ghost use lib.ListN.{length};
 ghost use Rattle.laws.specs.Domain.{mostFrames};
 ghost use Rattle.laws.specs.Area.{zero64};
 ghost use Rattle.laws.specs.Sums.{bit};
 ghost use Rattle.affinity_distances.specs.Distances.{Squared};
-ghost use Rattle.affinity_sigma.specs.Sigma.{blindSearch};
+ghost use Rattle.affinity_sigma.specs.Sigma.{smallest, blindSearch};
 ghost use Rattle.affinity.specs.Exact.{distancesOf};
 ghost use Rattle.affinity.specs.Neighbours.{valuesIn, nearestFrames};
 ghost use Rattle.blind.specs.Room.{SightRoom, KeptPast};
@@ -27,6 +27,13 @@ struct Glance {
 pub(crate) struct Glances {
     pub(crate) blind: usize,
     pub(crate) alone: usize,
+}
+
+// Whether the row of a round with this sum was filled.
+fn too_small(sum: f64) -> bool
+    ensures { λ r. ⌜ r ≡ lt sum smallest ⌝ }
+{
+    sum < 1e-8
 }
 
 // A distance of 0, of either sign.
@@ -90,10 +97,8 @@ fn look_near(
     );
     let alone = all_at_zero(row_shares, k);
     let sum = affinity_sigma::search_sigma(row_shares, k, perplexity, row_values);
-    Glance {
-        blind: sum < 1e-8,
-        alone,
-    }
+    let blind = too_small(sum);
+    Glance { blind, alone }
 }
 
 // Of frame i by the distances of all n frames.
@@ -122,10 +127,8 @@ fn look_all(
     affinity_distances::distance_row(table, n, f, squares, i, row_values);
     let alone = all_at_zero(row_values, n);
     let sum = affinity_sigma::search_sigma(row_values, n, perplexity, row_shares);
-    Glance {
-        blind: sum < 1e-8,
-        alone,
-    }
+    let blind = too_small(sum);
+    Glance { blind, alone }
 }
 
 // Of frame i, by method.

@@ -2,6 +2,7 @@
 use mathlib.Core.Path.{_∙_}
 use native.Mathlib.Nat.{le-trans, le-of-lt}
 use Rattle.blind.proofs.Laws.{near-seen, near-tails, near-places}
+use borrow.Author.Needs.{needs}
 use Rattle.blind.proofs.looks.look_near.Statement.{statement}
 use Rattle.blind.proofs.looks.look_near.Tie as tie
 
@@ -38,33 +39,36 @@ search-sigma-requires c κs =
           (le-of-lt (the-start .pre .0 .3)) (the-start .pre .0 .1),
     )
 
+too-small-requires : tie.Need-too-small-requires
+too-small-requires c κs = search needs
+
 same-length : tie.Need-same-length
 same-length c =
-    let the-search-sigma = c .before .before .search-sigma in
-    let the-nearest-row = c .before .before .before .before .before .before .before .before .before .before .before .before .before .nearest-row in
+    let the-search-sigma = c .before .before .before .search-sigma in
+    let the-nearest-row = c .before .before .before .before .before .before .before .before .before .before .before .before .before .before .nearest-row in
     the-search-sigma .kept .1 .1 .1 .0 ∙ the-nearest-row .kept .1 .1 .1 .1 .1 .1 .1 .0
 
 same-length-2 : tie.Need-same-length-2
 same-length-2 c =
-    let the-nearest-row = c .before .before .before .before .before .before .before .before .before .before .before .before .before .nearest-row in
+    let the-nearest-row = c .before .before .before .before .before .before .before .before .before .before .before .before .before .before .nearest-row in
     the-nearest-row .kept .1 .1 .1 .1 .1 .1 .0
 
 same-length-3 : tie.Need-same-length-3
 same-length-3 c =
-    let the-nearest-row = c .before .before .before .before .before .before .before .before .before .before .before .before .before .nearest-row in
+    let the-nearest-row = c .before .before .before .before .before .before .before .before .before .before .before .before .before .before .nearest-row in
     the-nearest-row .kept .1 .1 .1 .1 .1 .1 .1 .1 .0
 
 returns : tie.Need-returns
 returns c =
-    let the-search-sigma = c .before .before .search-sigma in
-    let the-all-at-zero = c .before .before .before .before .before .all-at-zero in
-    let the-nearest-row = c .before .before .before .before .before .before .before .before .before .before .before .before .before .nearest-row in
+    let the-search-sigma = c .before .before .before .search-sigma in
+    let the-all-at-zero = c .before .before .before .before .before .before .all-at-zero in
+    let the-nearest-row = c .before .before .before .before .before .before .before .before .before .before .before .before .before .before .nearest-row in
     let far-1 = c .before .before .before .before .before .before .before .before .before .before .before .before in
-    let the-start = far-1 .before .before .before .before .before .before .before .before .before .before in
+    let the-start = far-1 .before .before .before .before .before .before .before .before .before .before .before in
     let tails = near-tails _ _ _ _ (the-start .pre .0 .0) _ _ (the-start .pre .0 .3) _ _ (the-start .pre .1 .0 .0) (the-nearest-row .ensures .1 .0)
     (the-nearest-row .ensures .0) (the-search-sigma .kept .1 .1 .1 .0) (the-search-sigma .ensures .0) in (
       near-seen _ _ _ _ (the-start .pre .0 .0) _ _ (the-start .pre .0 .3) _ _ (the-start .pre .1 .0 .0) (the-nearest-row .ensures .1 .0)
-          (the-nearest-row .ensures .0) (the-search-sigma .ensures .1) (the-all-at-zero .ensures),
+          (the-nearest-row .ensures .0) (the-search-sigma .ensures .1) (c .too-small .ensures) (the-all-at-zero .ensures),
       (tails .0, tails .1, near-places _ _ _ _ (the-start .pre .0 .0) (the-start .args .perplexity) _ (the-start .pre .0 .3) (the-nearest-row .ensures .1 .1)),
     )
 
@@ -75,6 +79,7 @@ look-near-spec =
     nearest-row-requires
     all-at-zero-requires
     search-sigma-requires
+    too-small-requires
     same-length
     same-length-2
     same-length-3
