@@ -120,21 +120,24 @@ fn sighted(list: &[u8], a: usize, words: usize, values: usize, m: Rooms) -> Left
     }
 }
 
-// All of the rows are the words from i on, up to word `end`; behind them are marks.
-fn same_rows(left: Left, m: Rooms, list: &[u8], i: usize, end: usize) -> bool {
+// All of the three rows of values are the words from i on; behind them are marks.
+fn same_rows(left: Left, m: Rooms, list: &[u8], i: usize) -> bool {
     let squares = left.squares;
     let values = left.values;
     let shares = left.shares;
-    let places = left.places;
     let v = plus(i, m.squares);
     let h = plus(v, m.values);
-    let x = plus(h, m.shares);
     let q = same_area(&squares, 0, m.squares, list, i);
     let d = same_area(&values, 0, m.values, list, v);
     let w = same_area(&shares, 0, m.shares, list, h);
-    let p = same_numbers(&places, m.places, list, x);
-    let ends = plus(x, m.places) == end;
-    both(both(q, d), both(both(w, p), ends))
+    both(q, both(d, w))
+}
+
+// So are all of the indices, up to word `end`.
+fn same_places(left: Left, m: Rooms, list: &[u8], i: usize, end: usize) -> bool {
+    let places = left.places;
+    let p = same_numbers(&places, m.places, list, i);
+    both(p, plus(i, m.places) == end)
 }
 
 // Number and answer are the words from i on, and all of the rows those after them.
@@ -142,8 +145,11 @@ fn same_left(left: Left, m: Rooms, list: &[u8], i: usize, end: usize) -> bool {
     let answer = left.answer;
     let k = left.number as u64 == word_at(list, i);
     let told = same_values(&answer, m.answer, list, plus(i, 1));
-    let rows = same_rows(left, m, list, plus(plus(i, 1), m.answer), end);
-    both(both(k, told), rows)
+    let r = plus(plus(i, 1), m.answer);
+    let x = plus(plus(plus(r, m.squares), m.values), m.shares);
+    let rows = same_rows(left, m, list, r);
+    let places = same_places(left, m, list, x, end);
+    both(both(k, told), both(rows, places))
 }
 
 // The case from word a on: what is told, and every place of the rows. One that asks for more room than there is, is wrong and not run.
