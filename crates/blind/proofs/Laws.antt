@@ -114,8 +114,8 @@ module _ (s : Settings) (t : List Float) (i : ℕ) {blind alone : Bool} where
 pub scratch-kept : {A : Type 0} {n : ℕ} {l₀ l l' : List A} → length l' ≡ length l → KeptPast n l l' → Scratch n l₀ l → Scratch n l₀ l'
 scratch-kept e k s = record { size = e ∙ s .size; tail = k .tail ∙ s .tail }
 
-pub kept-same : {A : Type 0} {n : ℕ} {l : List A} → KeptPast n l l
-kept-same = record { tail = refl }
+pub kept-untouched : {A : Type 0} {n : ℕ} {l : List A} → KeptPast n l l
+kept-untouched = record { tail = refl }
 
 pub room-kept : {s : Settings} {t q v₀ h₀ x₀ v h x : ℕ} → SightRoom s t q v₀ h₀ x₀ → v ≡ v₀ → h ≡ h₀ → x ≡ x₀ → SightRoom s t q v h x
 room-kept r a b c = rw (a, b, c) r

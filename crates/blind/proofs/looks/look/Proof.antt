@@ -1,7 +1,7 @@
--- `blind::looks::look` meets its contract: by `k-some`, `k-below`, `sees-tree`, `sees-exact`, `kept-same`.
+-- `blind::looks::look` meets its contract: by `k-some`, `k-below`, `sees-tree`, `sees-exact`, `kept-untouched`.
 use mathlib.Core.Path.{sym, _∙_}
 use Rattle.affinity.proofs.Listed.{k-some, k-below}
-use Rattle.blind.proofs.Laws.{sees-tree, sees-exact, kept-same}
+use Rattle.blind.proofs.Laws.{sees-tree, sees-exact, kept-untouched}
 use borrow.Author.Needs.{needs}
 use Rattle.blind.proofs.looks.look.Statement.{statement}
 use Rattle.blind.proofs.looks.look.Tie as tie
@@ -66,7 +66,7 @@ returns-2 c =
     let the-if1 = c .before .before .before .before .before .before .before .if1 in
     let the-is-tree = c .before .before .before .before .before .before .before .before .is-tree in (
       sees-exact _ _ _ (sym (the-is-tree .ensures) ∙ the-if1 .left) (the-look-all .ensures .0),
-      (the-look-all .ensures .1 .0, the-look-all .ensures .1 .1, kept-same),
+      (the-look-all .ensures .1 .0, the-look-all .ensures .1 .1, kept-untouched),
     )
 
 pub look-spec : {M : Type 1} → statement M
