@@ -5,6 +5,7 @@
 
 pub mod beside;
 mod blind;
+mod blindness;
 mod handing;
 mod labels;
 mod library;
@@ -23,6 +24,7 @@ mod strip_picture;
 mod thinning;
 
 pub use blind::{blind, blind_words, Sight, SightRows};
+pub use blindness::{Blindness, Remedy};
 pub use handing::{hand_out, prepare_strip, prepare_strip_words};
 pub use monitor::{read_monitor, write_monitor, Placed, MONITOR_RECORD};
 pub use parking::{park, parked, parked_bytes, unpark, unpark_words, wake, PARKED_RECORD};
