@@ -45,17 +45,15 @@ impl Blindness {
             blind(settings, &table, &mut SightRows::new(n)).ok()
         };
         let sight = seen(factor).filter(|sight| n > 2 && are_many(sight, n))?;
-        let remedy = if f64::from_bits(settings[PERPLEXITY]) < 1.0 {
-            Some(Remedy::Perplexity)
-        } else {
-            let better = |factor: f64| {
-                seen(factor)
-                    .filter(|other| other.blind < sight.blind)
-                    .map(|other| (factor, other))
-            };
-            let tried = factors(frames, factor).filter_map(better);
-            best(tried, n).map(|(factor, other)| Remedy::Factor(factor, other.blind))
+        let better = |factor: f64| {
+            let other = seen(factor).filter(|other| other.blind < sight.blind)?;
+            Some((factor, other))
         };
+        let factor = best(factors(frames, factor).filter_map(better), n);
+        let is_below_1 = f64::from_bits(settings[PERPLEXITY]) < 1.0;
+        let remedy = factor
+            .map(|(factor, other)| Remedy::Factor(factor, other.blind))
+            .or_else(|| is_below_1.then_some(Remedy::Perplexity));
         Some(Blindness {
             frames: n,
             sight,
