@@ -25,10 +25,11 @@ HERE = Path(__file__).resolve().parent
 
 
 class Made(NamedTuple):
-    """A map, how long it took, and which version made it."""
+    """A map, how long it took by the clock and of the processor's time, and which version made it."""
 
     places: np.ndarray
     seconds: float
+    worked: float
     version: str
 
 
@@ -44,9 +45,9 @@ class Way(NamedTuple):
 
 def timed(work: Callable[[], np.ndarray], version: str) -> Made:
     """A map by a function of this process."""
-    begun = time.perf_counter()
+    begun, idle = time.perf_counter(), time.process_time()
     places = work()
-    return Made(places, time.perf_counter() - begun, version)
+    return Made(places, time.perf_counter() - begun, time.process_time() - idle, version)
 
 
 def library(tool: str, method: str) -> Way:
@@ -85,7 +86,7 @@ def rtsne(tool: str, method: str, folder: Path) -> Way:
         np.savetxt(given, table, fmt="%.17g")
         words = [str(word) for word in (given, written, PERPLEXITY, ITERATIONS, theta, seed)]
         said = subprocess.run(["Rscript", str(HERE / "rtsne.R"), *words], check=True, stdout=subprocess.PIPE, text=True).stdout.split()
-        return Made(np.loadtxt(written), float(said[0]), f"{said[1]} (R {said[2]})")
+        return Made(np.loadtxt(written), float(said[0]), float(said[1]), f"{said[2]} (R {said[3]})")
 
     return Way(tool, method, make)
 
@@ -128,7 +129,7 @@ def main(folder: Path, frames: int, seed: int, more: bool, tools: List[str]) -> 
     chosen = ways(tools, folder)
     blind = ["blind frames"] if any(way.blind for way in chosen) else []
     print(f"{len(features)} digits of {features.shape[1]} features, perplexity {PERPLEXITY:g}, {ITERATIONS} iterations, seed {seed}\n")
-    head = ["tool", "method", "scale", "trustworthiness", f"same label among {NEAREST}", *blind, "seconds"]
+    head = ["tool", "method", "scale", "trustworthiness", f"same label among {NEAREST}", *blind, "seconds", "processor seconds"]
     row(*head)
     row(*["---"] * len(head))
     versions = {}
@@ -140,10 +141,16 @@ def main(folder: Path, frames: int, seed: int, more: bool, tools: List[str]) -> 
         versions[way.tool] = made.version
         trust = manifold.trustworthiness(features, made.places, n_neighbors=NEAREST)
         seen = [way.blind(table) if way.blind else "" for _ in blind]
-        row(way.tool, way.method, f"{scale:g}", f"{trust:.4f}", f"{100 * same_label(made.places, labels):.1f} %", *seen, f"{made.seconds:.1f}")
+        same = f"{100 * same_label(made.places, labels):.1f} %"
+        row(way.tool, way.method, f"{scale:g}", f"{trust:.4f}", same, *seen, f"{made.seconds:.1f}", f"{made.worked:.1f}")
     print("\n" + ", ".join(f"{tool} {version}" for tool, version in versions.items()))
 
 
 if __name__ == "__main__":
     _, folder, frames, seed, more, tools = sys.argv
-    main(Path(folder), int(frames), int(seed), more == "yes", tools.split(","))
+    try:
+        main(Path(folder), int(frames), int(seed), more == "yes", tools.split(","))
+    except KeyboardInterrupt:
+        sys.exit(130)
+    except (ImportError, subprocess.CalledProcessError) as error:
+        sys.exit(f"tests/quality/run: {error}")
