@@ -18,7 +18,7 @@ use Rattle.blind.specs.Blind.{searchedDistances, searchedLength, blindAt
 use Rattle.blind.proofs.Watches.{zeros-blind}
 
 module _ (s : Settings) (t : List Float) where
-  -- a frame that has no neighbour at another place is blind
+  -- a frame all of whose searched distances come out as 0 is blind
   pub alone-blind : (i : ℕ) → aloneAt s t i ≡ true → blindAt s t i ≡ true
   unfolding aloneAt blindAt
   alone-blind i e =

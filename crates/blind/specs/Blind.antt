@@ -37,7 +37,7 @@ blindAt s t i = blindSearch (searchedDistances s t i) (searchedLength s) (s .per
 abbrev pub allAtZero : List Float → ℕ → Bool
 allAtZero ds m = every (λ j. eq (at ds j) zero64) m
 
--- it has no neighbour at another place
+-- every distance that its search goes by comes out as 0
 unfoldable pub aloneAt : Settings → List Float → ℕ → Bool
 aloneAt s t i = allAtZero (searchedDistances s t i) (searchedLength s)
 

@@ -18,7 +18,7 @@ use run_record::Settings;
 pub enum Sight {
     // with the number of the first test that failed
     Refused(u8),
-    // how many frames are blind, and how many of them have no neighbour at another place
+    // how many frames are blind, and of how many every distance that the search goes by comes out as 0
     Seen { blind: usize, alone: usize },
 }
 

@@ -19,7 +19,7 @@ use run_record::faults::is_tree;
 struct Glance {
     // its search ends blind
     blind: bool,
-    // it has no neighbour at another place
+    // every distance that its search goes by comes out as 0
     alone: bool,
 }
 
