@@ -8,7 +8,7 @@ use crate::Refusal;
 pub struct Sight {
     /// Frames whose search ends with all shares equal, for the weights of its last round add up to less than 1e-8.
     pub blind: usize,
-    /// Those of them that have no neighbour at another place.
+    /// Those of them whose distances all come out as 0.
     pub alone: usize,
 }
 

@@ -242,7 +242,8 @@ impl Run {
     }
 
     /// What there is to tell where many of its frames are blind. Nothing where it was read back or begun from a list: its affinities may
-    /// be others than those of its frames' features.
+    /// be others than those of its frames' features. Where frames were taken out, those that are left are searched anew, which the run
+    /// does not do: it keeps what was found among all.
     pub fn blindness(&self) -> Option<Blindness> {
         Blindness::of(&self.frames, &self.record.words[..SETTINGS_WORDS], self.factor?)
     }

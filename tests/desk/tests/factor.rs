@@ -195,13 +195,13 @@ fn frames_that_are_blind() {
         let chosen = Run::begin(&far, &wishes(1, Some(Scaling::Auto)))
             .expect("a good file")
             .factor();
-        assert_eq!(blindness.remedy, Some(Remedy::Factor(chosen, 0)));
+        assert_eq!(blindness.remedy, Remedy::Factor(chosen, 0));
         assert_eq!(told(&far, Some(Scaling::By(chosen))), None);
         assert_eq!(told(&far, Some(Scaling::Auto)), None);
         // Multiplied by the command it is the same, and the factor is in the place of that one.
         let other = told(&file, Some(Scaling::By(factor))).expect("blind frames");
         assert_eq!(other.sight, blindness.sight);
-        assert_eq!(other.remedy, Some(Remedy::Factor(chosen * factor, 0)));
+        assert_eq!(other.remedy, Remedy::Factor(chosen * factor, 0));
     }
     let most = told(&multiplied(&file, 1024.0), None).expect("blind frames");
     assert_eq!(
