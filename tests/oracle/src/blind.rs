@@ -1,5 +1,5 @@
 //! How many frames of a table have a sigma search that is blind: its last round's weights add up to less than 1e-8, so that all shares
-//! are equal by that rule; and how many of them are alone, with no neighbour at another place. From the scope paper's rule 1, by both
+//! are equal by that rule; and how many of them are alone, all their distances being 0 as computed. From the scope paper's rule 1, by both
 //! routes, and from the order of the tests that the header tells.
 
 use crate::descent::{Method, Settings};
