@@ -352,7 +352,10 @@ class Run:
         return float(answer.view(np.float64)[0])
 
     def blind(self) -> Sight:
-        """How many of its frames are blind, and how many of them are alone, by its table; a ValueError where it was begun without one."""
+        """How many of its frames are blind, and how many of them are alone, by its table; a ValueError where it was begun without one.
+
+        The table is searched anew. After `take_out` that is what is left of it, and after `unpark(file, X)` it is X: the run keeps the
+        affinities that were found when it was begun, so the counts are not about these then."""
         with self._turn:
             if self._table is None:
                 raise ValueError("the run has no table: it was read back, or begun from lists")

@@ -19,7 +19,7 @@ class Sight(NamedTuple):
     #: Frames that are blind: the weights of their neighbours add up to less than 1e-8 in the last round of the search, so that all their
     #: neighbours count alike.
     blind: int
-    #: Those of them that have no neighbour at another place. No factor helps them.
+    #: Those of them whose distances all come out as 0. Where the frames are the same no factor helps them.
     alone: int
 
 
@@ -27,8 +27,9 @@ def blind(X: Any, *, perplexity: Any = 30.0, method: Any = "barnes_hut") -> Sigh
     """How many rows of X a run by these settings leaves blind, and how many of them are alone.
 
     Neighbours that lie more than about 6 apart are too far off: X times a factor below 1, as 0.25, helps, and a power of two rounds no
-    distance. It helps neither frames that are alone nor where many neighbours are equally near or the perplexity is below 1. It is one
-    call, which takes about as long as a preparation. Refused: 2, 7, 8, 9 and 10 as of a run."""
+    distance. A frame whose nearest neighbours are about equally near stays blind by powers of two where sigma is halved too far:
+    a factor that is no power of two may help, as 0.85 or 0.65, or a higher perplexity. One below 0.99999 is never met. It is one call,
+    which takes about as long as a preparation. Refused: 2, 7, 8, 9 and 10 as of a run."""
     taken = Settings.taken(perplexity=perplexity, method=method)
     table = arguments.table_of(X, "X")
     n, f = table.shape

@@ -116,19 +116,20 @@ class TSNE:
 
 
 def _warn(run: Run) -> None:
-    """Warns where more than one frame in a hundred is blind. Those that are alone do not count: their neighbours are all alike. Two frames
-    by Barnes-Hut have one neighbour each, which counts whether they see it or not."""
+    """Warns where more than one frame in a hundred is blind. Those that are alone do not count, as repeats, which no factor parts. Two
+    frames by Barnes-Hut have one neighbour each, which counts whether they see it or not."""
     n, (blind, alone) = run.n_samples, run.blind()
     if 100 * (blind - alone) <= n or (n == 2 and run.method == "barnes_hut"):
         return
     one = f"1 of {n} frames is blind: all its neighbours count alike"
     told = one if blind == 1 else f"{blind} of {n} frames are blind: all their neighbours count alike"
     if alone:
-        told += f" ({alone} of them only have neighbours at the same place, where no factor helps)"
-    if run.perplexity < 1:
-        told += "; no perplexity below 1 is ever met"
+        told += f" ({alone} of them only {'has' if alone == 1 else 'have'} neighbours at distance 0)"
+    if run.perplexity < 0.99999:
+        told += "; no perplexity below 0.99999 is ever met"
     else:
-        told += "; where neighbours lie too far apart X times a factor below 1 helps: brothanchor.blind counts how many it leaves"
+        told += "; where neighbours lie too far apart X times a factor below 1 helps; where they are about equally near a factor that is no"
+        told += " power of two may, or a higher perplexity: brothanchor.blind counts how many are left"
     warnings.warn(told, UserWarning, stacklevel=_outside())
 
 

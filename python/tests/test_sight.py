@@ -175,7 +175,7 @@ def test_frames_that_are_alone_do_not_count():
     assert warned(model().fit, np.zeros((24, 3))) == []
     far = np.concatenate([np.zeros((24, 1)), 1e4 + 100.0 * np.arange(8)[:, None] ** 1.1])
     ((told, _),) = warned(model().fit, far)
-    assert told.startswith("32 of 32 frames are blind: all their neighbours count alike (24 of them only have neighbours at the same place")
+    assert told.startswith("32 of 32 frames are blind: all their neighbours count alike (24 of them only have neighbours at distance 0); ")
 
 
 def test_one_in_a_hundred_is_not_many():
@@ -186,9 +186,20 @@ def test_one_in_a_hundred_is_not_many():
     assert told[0][0].startswith("1 of 99 frames is blind: all its neighbours count alike; ")
 
 
-def test_a_perplexity_below_1_is_never_met():
+def test_a_perplexity_that_is_never_met():
     ((told, _),) = warned(model(perplexity=0.5).fit, frames(24))
-    assert told == "24 of 24 frames are blind: all their neighbours count alike; no perplexity below 1 is ever met"
+    assert told == "24 of 24 frames are blind: all their neighbours count alike; no perplexity below 0.99999 is ever met"
+    assert blind([[0.0], [1.0]], perplexity=0.999995) == (0, 0), "1 is within 1e-5"
+    assert blind([[0.0], [1e-16]], perplexity=0.5) == (0, 0), "50 rounds are too few"
+
+
+def test_sigma_halved_too_far():
+    """Squared distances of 30 and 34: a sigma of 0.95 would do, which halving steps over, by every power of two."""
+    table = np.sqrt([[0.0], [30.0], [34.0]]) * [[1], [1], [-1]]
+    for factor, count in ((1, 1), (0.5, 1), (0.0625, 1), (2.0**-20, 1), (0.53, 0)):
+        assert blind(table * factor, perplexity=1.38).blind == count
+    ((told, _),) = warned(model(perplexity=1.38).fit, table)
+    assert told.startswith("1 of 3 frames is blind: ") and "a factor that is no power of two" in told
 
 
 def test_two_frames_have_one_neighbour_each():
