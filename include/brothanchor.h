@@ -200,9 +200,10 @@ uint32_t brothanchor_prepare_strip(
  * frame is blind where its last round is such a one: its neighbours all count alike, the nearest no more than the farthest. It comes
  * about in three ways:
  *   its neighbours lie too far off, the nearest at another place more than about 6 away; a table multiplied by a factor below 1 helps
- *   no sigma gives the perplexity asked for while the weights add up to enough: so many of its nearest neighbours are about equally near,
- *   or the perplexity is below 1
- *   it is alone: it has no neighbour at another place, so that all distances and all weights are 0
+ *   sigma is halved too far: at one sigma the perplexity is too high, at half of it the weights are too small. So it is where its nearest
+ *   neighbours are about equally near; a factor that is no power of two may help, or a higher perplexity. One below 0.99999 is never met
+ *   it is alone: every distance that is searched comes out as 0, and so do all weights. Where the frames are the same no factor helps;
+ *   distances between others may round away or underflow
  *
  * What a preparation by the same settings would search is searched: the distances to the k nearest frames, or by the exact method to all
  * n. Of the settings n, f, the method and the perplexity are looked at, and nothing else. The table is only read. The four rows, of n
