@@ -58,7 +58,7 @@
  *
  * What a refused call writes:
  *   sizes, prepare, prepare_strip,   nothing
- *   scatter, frame
+ *   blind, scatter, frame
  *   frames                           with 16 the place of the bad record; with 12 nothing
  *   work, refused at its entry       (12, 21 to 25) the answer and nothing else; with an answer area that is too short nothing
  *   work, refused by a unit          (14, 15) all that the units before it wrote: record and memory are as after these units,
@@ -194,6 +194,38 @@ uint32_t brothanchor_prepare_strip(
     uint32_t *row_indices, size_t row_indices_length,
     size_t nodes_length,
     uint64_t *record, size_t record_length);
+
+/* How many frames the sigma search leaves blind, asked of a table before a run is prepared from it. The search weighs a frame's
+ * neighbours by their squared distances. Where the weights of a round add up to less than 1e-8, all shares of that round are made equal. A
+ * frame is blind where its last round is such a one: its neighbours all count alike, the nearest no more than the farthest. It comes
+ * about in three ways:
+ *   its neighbours lie too far off, the nearest at another place more than about 6 away; a table multiplied by a factor below 1 helps
+ *   sigma is halved too far: at one sigma the perplexity is too high, at half of it the weights are too small. So it is where its nearest
+ *   neighbours are about equally near; a factor that is no power of two may help, or a higher perplexity. One below 0.99999 is never met
+ *   it is alone: every distance that is searched comes out as 0, and so do all weights. Where the frames are the same no factor helps;
+ *   distances between others may round away or underflow
+ *
+ * What a preparation by the same settings would search is searched: the distances to the k nearest frames, or by the exact method to all
+ * n. Of the settings n, f, the method and the perplexity are looked at, and nothing else. The table is only read. The four rows, of n
+ * places each, are worked in, and their first n places end as zeros; longer ones keep their tails.
+ *
+ * Answers 0, and writes how many frames are blind to the first word of the answer and how many of these are alone to the second; or the
+ * number of the refusal, and then nothing at all is changed. In this order:
+ *   21  the words are no settings: fewer than nine, or a method that there is not
+ *    2  the perplexity is not finite or not above 0
+ *    7  n is 0 or above 4096, f is 0 or above 256, or the table's length is not n*f
+ *    8  a table value is not finite or above 2^20 in magnitude
+ *    9  n is 1
+ *   10  the perplexity is not below n
+ *   12  a row has fewer than n places, or the answer fewer than two words */
+uint32_t brothanchor_blind(
+    const uint64_t *settings, size_t settings_length,
+    const double *table, size_t table_length,
+    double *squares, size_t squares_length,
+    double *row_values, size_t row_values_length,
+    double *row_shares, size_t row_shares_length,
+    uint32_t *row_indices, size_t row_indices_length,
+    uint64_t *answer, size_t answer_length);
 
 /* Does units until the budget is done, one is refused or the run has ended. Answers 0 or the number of the refusal, and
  * writes the answer and, of the record, the five words after the settings: the settings keep their bits. Refused at its

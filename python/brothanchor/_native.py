@@ -51,6 +51,7 @@ SIGNATURES = {
     "sizes": "wW",
     "prepare": "wvv" + _FILLED + "VI" + "#" + "W",
     "prepare_strip": "wvv" + _FILLED + "VI" + "#" + "W",
+    "blind": "wv" + "VVVI" + "W",
     "work": "W" + "VVV" + "vii" + "VN" + "4" + "W",
     "divergence": "w" + _READ + "v" + "W",
     "park": "w" + _READ + "B" + "W",

@@ -15,6 +15,7 @@ from . import _settings
 from ._settings import Settings, Sizes
 from .errors import Refused
 from .files import write_file
+from .sight import Sight, seen
 
 #: A call to the library takes about so many seconds; between two calls Ctrl-C is heard.
 CALL_SECONDS = 0.05
@@ -236,6 +237,12 @@ class Run:
         return self._word(native.ITERATIONS)
 
     @property
+    def perplexity(self) -> float:
+        """The perplexity that it goes by."""
+        with self._turn:
+            return float(self._areas.record.view(np.float64)[native.PERPLEXITY])
+
+    @property
     def learning_rate(self) -> float:
         """The learning rate that it goes by."""
         with self._turn:
@@ -343,6 +350,17 @@ class Run:
             copy = self._copies[self.iterations % 2]
             native.unless_0(native.call("divergence", *areas.all(), copy, answer), answer[0])
         return float(answer.view(np.float64)[0])
+
+    def blind(self) -> Sight:
+        """How many of its frames are blind, and how many of them are alone, by its table; a ValueError where it was begun without one.
+
+        The table is searched anew. After `take_out` that is what is left of it, and after `unpark(file, X)` it is X: the run keeps the
+        affinities that were found when it was begun, so the counts are not about these then."""
+        with self._turn:
+            if self._table is None:
+                raise ValueError("the run has no table: it was read back, or begun from lists")
+            words = self._areas.record[: native.SETTINGS_WORDS].copy()
+            return seen(words, self._table[: self.n_samples * self.n_features])
 
     def park(self, path: Any = None) -> bytes:
         """The run as the bytes of a file, which is also written where there is a path: the old file stays, or the new one is whole.

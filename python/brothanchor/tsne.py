@@ -3,6 +3,8 @@
 from __future__ import annotations
 
 import inspect
+import sys
+import warnings
 from typing import Any, Optional
 
 import numpy as np
@@ -27,6 +29,9 @@ class TSNE:
     After a fit: embedding_, kl_divergence_ (of the last iteration, None where there is none), n_iter_ (iterations done),
     learning_rate_, n_features_in_, random_state_ (the seed, with which the same map comes again; None where init was an array) and
     run_, the run itself, which can be parked or thinned. What is refused is a Refused, a kind of ValueError, with its number.
+
+    Where more than one frame in a hundred is blind (brothanchor.blind), frames that are alone not counted, a fit warns by a UserWarning
+    before it begins to work: all their neighbours count alike, most often because they lie too far apart.
 
     There are up to 4,096 frames of up to 256 features, finite and at most 2^20 in magnitude.
     """
@@ -60,6 +65,7 @@ class TSNE:
         Ctrl-C is heard between two calls, and `resume` then goes on."""
         self._forget()
         self.run_ = Run(X, **self.get_params())
+        _warn(self.run_)
         self.resume(progress=progress)
         return self
 
@@ -107,6 +113,32 @@ class TSNE:
         usual = inspect.signature(type(self).__init__).parameters
         told = (f"{name}={value!r}" for name, value in self.get_params().items() if value is not usual[name].default)
         return f"{type(self).__name__}({', '.join(told)})"
+
+
+def _warn(run: Run) -> None:
+    """Warns where more than one frame in a hundred is blind. Those that are alone do not count, as repeats, which no factor parts. Two
+    frames by Barnes-Hut have one neighbour each, which counts whether they see it or not."""
+    n, (blind, alone) = run.n_samples, run.blind()
+    if 100 * (blind - alone) <= n or (n == 2 and run.method == "barnes_hut"):
+        return
+    one = f"1 of {n} frames is blind: all its neighbours count alike"
+    told = one if blind == 1 else f"{blind} of {n} frames are blind: all their neighbours count alike"
+    if alone:
+        told += f" ({alone} of them only {'has' if alone == 1 else 'have'} neighbours at distance 0)"
+    if run.perplexity < 0.99999:
+        told += "; no perplexity below 0.99999 is ever met"
+    else:
+        told += "; where neighbours lie too far apart X times a factor below 1 helps; where they are about equally near a factor that is no"
+        told += " power of two may, or a higher perplexity: brothanchor.blind counts how many are left"
+    warnings.warn(told, UserWarning, stacklevel=_outside())
+
+
+def _outside() -> int:
+    """The level of the first caller outside this module, as a warning counts them from where it is given."""
+    frame, level = sys._getframe(1), 1
+    while frame.f_back is not None and frame.f_globals.get("__name__") == __name__:
+        frame, level = frame.f_back, level + 1
+    return level
 
 
 def _divergence(run: Run) -> Optional[float]:

@@ -55,6 +55,17 @@ sorted-alike f g (suc n) h = rw (sorted-alike f g n (λ t l. h t (omega arith)),
 by-index-alike : (X Y : List Float) (R S : List ℕ) (k : ℕ) → ((t : ℕ) → t < k → at X t ≡ at Y t) → ((t : ℕ) → t < k → num R t ≡ num S t) → byIndexOf X R k ≡ byIndexOf Y S k
 by-index-alike X Y R S k h g = ap (take k) (sorted-alike (λ t. pair (at X t) (num R t)) (λ t. pair (at Y t) (num S t)) k (λ t l. rw (h t l, g t l)))
 
+-- ---- the k nearest by a row of distances are those of the frames
+
+module _ (t : List Float) (n f k i : ℕ) (X₀ W₀ : List Float) (R₀ : List ℕ) (hX : n ≤ length X₀)
+    {X₁ W₁ : List Float} {R₁ : List ℕ} (x₁ : X₁ ≡ distanceRow t n f i X₀)
+    (w₁ : W₁ ≡ valuesOver (nearestOf X₁ n k i) W₀) (r₁ : R₁ ≡ indicesOver (nearestOf X₁ n k i) R₀) where
+  named : nearestOf X₁ n k i ≡ nearestFrames t n f k i
+  named = ap (λ (x : List Float). nearestOf x n k i) x₁ ∙ nearest-frames t n f i X₀ hX k
+
+  pub nearest-done : (W₁ ≡ valuesOver (nearestFrames t n f k i) W₀) × ((X₁ ≡ distanceRow t n f i X₀) × (R₁ ≡ indicesOver (nearestFrames t n f k i) R₀))
+  nearest-done = (w₁ ∙ ap (λ (l : List Pair). valuesOver l W₀) named, (x₁, r₁ ∙ ap (λ (l : List Pair). indicesOver l R₀) named))
+
 module _ (t : List Float) (n f k : ℕ) (perplexity : Float) (i : ℕ) (hi : i < n) (hk : k < n) where
   abbrev frames : List Pair
   frames = nearestFrames t n f k i
@@ -113,21 +124,12 @@ module _ (t : List Float) (n f k : ℕ) (perplexity : Float) (i : ℕ) (hi : i <
   module _ (X₀ : List Float) (R₀ : List ℕ) (W₀ : List Float) (I₀ : List ℕ) (hX : n ≤ length X₀)
       {X₁ X₂ X₃ W₁ W₂ : List Float} {R₁ I₁ : List ℕ}
       (x₁ : X₁ ≡ distanceRow t n f i X₀) (s₁ : length X₁ ≡ length X₀)
-      (w₁ : W₁ ≡ valuesOver (nearestOf X₁ n k i) W₀) (r₁ : R₁ ≡ indicesOver (nearestOf X₁ n k i) R₀)
+      (w₁ : W₁ ≡ valuesOver frames W₀) (r₁ : R₁ ≡ indicesOver frames R₀)
       (x₂ : X₂ ≡ sigmaShares W₁ k perplexity X₁) (s₂ : length X₂ ≡ length X₁)
       (x₃ : X₃ ≡ loop (divideStep (norm n)) k 0 X₂) (s₃ : length X₃ ≡ length X₂)
       (w₂ : W₂ ≡ valuesOver (byIndexOf X₃ R₁ k) W₁) (i₁ : I₁ ≡ indicesOver (byIndexOf X₃ R₁ k) I₀) where
-    named : nearestOf X₁ n k i ≡ frames
-    named = ap (λ (x : List Float). nearestOf x n k i) x₁ ∙ near-is X₀ hX
-
-    near-values : W₁ ≡ valuesOver frames W₀
-    near-values = w₁ ∙ ap (λ (l : List Pair). valuesOver l W₀) named
-
-    near-frames : R₁ ≡ indicesOver frames R₀
-    near-frames = r₁ ∙ ap (λ (l : List Pair). indicesOver l R₀) named
-
     distances-there : (s : ℕ) → s < k → at W₁ s ≡ at (valuesIn frames) s
-    distances-there s l = ap (λ (r : List Float). at r s) near-values ∙ over-at (λ (x : Pair). x .value) frames W₀ nan s (omega (arith, frames-count))
+    distances-there s l = ap (λ (r : List Float). at r s) w₁ ∙ over-at (λ (x : Pair). x .value) frames W₀ nan s (omega (arith, frames-count))
 
     share-there : (s : ℕ) → s < k → at X₃ s ≡ share s
     share-there s l =
@@ -150,13 +152,13 @@ module _ (t : List Float) (n f k : ℕ) (perplexity : Float) (i : ℕ) (hi : i <
     shares-divided s l = ap (λ (r : List Float). at r s) shares-left ∙ List·getD-append (nearestShares t n f k perplexity i) (drop k (distanceRow t n f i X₀)) nan s (omega (arith, shares-are))
 
     ordered : byIndexOf X₃ R₁ k ≡ row
-    ordered = ap (λ (r : List ℕ). byIndexOf X₃ r k) near-frames ∙ row-by X₃ R₀ shares-divided
+    ordered = ap (λ (r : List ℕ). byIndexOf X₃ r k) r₁ ∙ row-by X₃ R₀ shares-divided
 
     row-values : W₂ ≡ valuesOver row W₀
     row-values =
         w₂
         ∙ ap (λ (l : List Pair). valuesOver l W₁) ordered
-        ∙ ap (λ (r : List Float). valuesIn row ++ r) (tail (ap (drop k) near-values ∙ over-tail (λ (x : Pair). x .value) frames W₀ k frames-count))
+        ∙ ap (λ (r : List Float). valuesIn row ++ r) (tail (ap (drop k) w₁ ∙ over-tail (λ (x : Pair). x .value) frames W₀ k frames-count))
       where
         tail : drop k W₁ ≡ drop k W₀ → drop (length row) W₁ ≡ drop (length row) W₀
         tail e = rw row-count e
@@ -165,7 +167,7 @@ module _ (t : List Float) (n f k : ℕ) (perplexity : Float) (i : ℕ) (hi : i <
     row-frames = i₁ ∙ ap (λ (l : List Pair). indicesOver l I₀) ordered
 
     pub row-done : (W₂ ≡ valuesOver row W₀) × ((I₁ ≡ indicesOver row I₀) × ((X₃ ≡ sharesLeft t n f k perplexity i X₀) × (R₁ ≡ framesLeft t n f k i R₀)))
-    row-done = (row-values, (row-frames, (shares-left, near-frames)))
+    row-done = (row-values, (row-frames, (shares-left, r₁)))
 
 -- ---- the preparation rows: past the first n places they are kept
 

@@ -9,12 +9,35 @@ ghost use Rattle.laws.specs.Domain.{mostFrames};
 ghost use Rattle.laws.specs.Loops.{loop};
 ghost use Rattle.laws.specs.Area.{zero64};
 ghost use Rattle.elementary.specs.Limits.{neighboursOf};
-ghost use Rattle.affinity_distances.specs.Distances.{squaresOf, Squared};
+ghost use Rattle.affinity_distances.specs.Distances.{squaresOf, distanceRow, Squared};
 ghost use Rattle.affinity_near.specs.Near.{valuesOver, indicesOver};
 ghost use Rattle.affinity_lists.specs.Lists.{areas};
 ghost use Rattle.laws.specs.Joined.{laid};
 ghost use Rattle.affinity.specs.Steps.{sharesLeft, framesLeft};
-ghost use Rattle.affinity.specs.Neighbours.{valuesIn, framesIn, neighbourRow, neighboursListed};
+ghost use Rattle.affinity.specs.Neighbours.{valuesIn, framesIn, nearestFrames, neighbourRow, neighboursListed};
+
+// The distances of frame i to the n frames, into a row; and its k nearest with their distances, nearest first, into the first k places of the other two areas.
+pub fn nearest_row(
+    table: &[f64],
+    n: usize,
+    f: usize,
+    k: usize,
+    squares: &[f64],
+    i: usize,
+    weights: &mut [f64],
+    row_values: &mut [f64],
+    row_indices: &mut [u32],
+)
+    requires { ⌜ (i < n) × (n ≤ mostFrames) × (0 < k) × (n * f ≤ length (now table)) × (n ≤ length (now squares)) ⌝ }
+    requires { ⌜ (k ≤ length (now weights)) × (n ≤ length (now «row_values»)) × (k ≤ length (now «row_indices»)) ⌝ }
+    requires { ⌜ Squared (now table) n f (now squares) ⌝ }
+    ensures { λ _. ⌜ now (weights .exit) ≡ valuesOver (nearestFrames (now (table .entry)) n f k i) (now (weights .entry)) ⌝ }
+    ensures { λ _. ⌜ now («row_values» .exit) ≡ distanceRow (now (table .entry)) n f i (now («row_values» .entry)) ⌝ }
+    ensures { λ _. ⌜ now («row_indices» .exit) ≡ indicesOver (nearestFrames (now (table .entry)) n f k i) (now («row_indices» .entry)) ⌝ }
+{
+    affinity_distances::distance_row(table, n, f, squares, i, row_values);
+    affinity_near::neighbours::nearest(row_values, n, k, i, weights, row_indices);
+}
 
 // The row of frame i, in the first k places of the two areas of a row.
 fn neighbor_row(
@@ -38,8 +61,7 @@ fn neighbor_row(
     ensures { λ _. ⌜ now («row_values» .exit) ≡ sharesLeft (now (table .entry)) n f k perplexity i (now («row_values» .entry)) ⌝ }
     ensures { λ _. ⌜ now («row_indices» .exit) ≡ framesLeft (now (table .entry)) n f k i (now («row_indices» .entry)) ⌝ }
 {
-    affinity_distances::distance_row(table, n, f, squares, i, row_values);
-    affinity_near::neighbours::nearest(row_values, n, k, i, weights, row_indices);
+    nearest_row(table, n, f, k, squares, i, weights, row_values, row_indices);
     affinity_sigma::binary_search_sigma(weights, k, perplexity, row_values);
     affinity_sigma::divide(row_values, k, 2.0 * n as f64);
     affinity_near::neighbours::by_index(row_values, row_indices, k, weights, indices);

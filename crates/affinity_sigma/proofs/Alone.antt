@@ -37,7 +37,7 @@ module _ (ds : List Float) (n : ℕ) where
     weighed-size l = changed-size nan (λ j v. weights j) n l
 
     -- every weight is written, whatever stood there
-    weighed-alone : (l m : List Float) → length l ≡ n → length m ≡ n → weighed ds n sigma l ≡ weighed ds n sigma m
+    pub weighed-alone : (l m : List Float) → length l ≡ n → length m ≡ n → weighed ds n sigma l ≡ weighed ds n sigma m
     weighed-alone l m e f =
         ext-getD nan (weighed ds n sigma l) (weighed ds n sigma m) (weighed-size l ∙ e ∙ sym f ∙ sym (weighed-size m))
         (λ j h. let h′ : j < n = subst (λ (k : ℕ). j < k) (weighed-size l ∙ e) h in
@@ -62,7 +62,7 @@ module _ (ds : List Float) (n : ℕ) where
       go true = filled-loop equal n (l ++ t) (omega (arith, h, length-append l t)) ∙ changed-past nan (λ j v. equal) n l t h ∙ ap (λ (x : List Float). x ++ t) (sym (filled-loop equal n l h))
       go false = changed-past nan (λ j v. div binary64 v s) n l t h
 
-  total-past : (l t : List Float) → n ≤ length l → weightSum (l ++ t) n ≡ weightSum l n
+  pub total-past : (l t : List Float) → n ≤ length l → weightSum (l ++ t) n ≡ weightSum l n
   total-past l t h = summed-past nan (λ s v. add binary64 s v) n l t zero64 h
 
   module _ (sigma : Float) where
@@ -94,7 +94,7 @@ module _ (ds : List Float) (n : ℕ) where
     abbrev past : List Float → Search → Search
     past t s = searched (s .row ++ t) (s .bounds) (s .met)
 
-    round-size : (s : Search) → n ≤ length (s .row) → length (roundOf ds n perplexity s .row) ≡ length (s .row)
+    pub round-size : (s : Search) → n ≤ length (s .row) → length (roundOf ds n perplexity s .row) ≡ length (s .row)
     unfolding roundOf
     round-size s h =
         let r = rowOf ds n (s .bounds .sigma) (s .row) in
@@ -104,7 +104,7 @@ module _ (ds : List Float) (n : ℕ) where
         go d true = refl
         go d false = refl
 
-    round-past : (t : List Float) (s : Search) → length (s .row) ≡ n → roundOf ds n perplexity (past t s) ≡ past t (roundOf ds n perplexity s)
+    pub round-past : (t : List Float) (s : Search) → length (s .row) ≡ n → roundOf ds n perplexity (past t s) ≡ past t (roundOf ds n perplexity s)
     unfolding roundOf
     round-past t s e =
         let r = rowOf ds n (s .bounds .sigma) (s .row) in
@@ -132,7 +132,7 @@ module _ (ds : List Float) (n : ℕ) where
         ∙ ap (past t) (sym (rounds-on k s m)))
         (two (s .met))
 
-    round-alone : (l m : List Float) (b : Bounds) → length l ≡ n → length m ≡ n → roundOf ds n perplexity (searched l b false) ≡ roundOf ds n perplexity (searched m b false)
+    pub round-alone : (l m : List Float) (b : Bounds) → length l ≡ n → length m ≡ n → roundOf ds n perplexity (searched l b false) ≡ roundOf ds n perplexity (searched m b false)
     unfolding roundOf
     round-alone l m b e f = rw (row-alone (b .sigma) l m e f)
 

@@ -126,3 +126,33 @@ sigmaShares ds n perplexity p = until isMet (roundOf ds n perplexity) mostRounds
 -- the shares themselves, from a row of n zeros on
 abbrev pub sharesOf : List Float → ℕ → Float → List Float
 sharesOf ds n perplexity = sigmaShares ds n perplexity (replicate n zero64)
+
+-- ---- the search watched: whether the last round's row was filled
+
+-- a search, and the sum of the weights of its last round
+pub record Watched : Type 0 where
+  pub search : Search
+  pub sum : Float
+
+abbrev pub watched : Search → Float → Watched
+watched s v = record { search = s; sum = v }
+
+abbrev pub watchedMet : Watched → Bool
+watchedMet w = w .search .met
+
+-- one round, and the sum of the weights before they are made shares
+unfoldable pub watchedRound : List Float → ℕ → Float → Watched → Watched
+unfolding roundOf weightOf loop
+watchedRound ds n perplexity w = watched (roundOf ds n perplexity (w .search)) (weightSum (weighed ds n (w .search .bounds .sigma) (w .search .row)) n)
+
+unfoldable pub watchedSearch : List Float → ℕ → Float → List Float → Watched
+unfolding watchedRound until
+watchedSearch ds n perplexity p = until watchedMet (watchedRound ds n perplexity) mostRounds (watched (searched p openBounds false) zero64)
+
+-- the sum of the weights of the last round
+abbrev pub lastSum : List Float → ℕ → Float → List Float → Float
+lastSum ds n perplexity p = watchedSearch ds n perplexity p .sum
+
+-- the search is blind: its last round's row was filled, because the sum of the weights was too small
+abbrev pub blindSearch : List Float → ℕ → Float → Bool
+blindSearch ds n perplexity = lt (lastSum ds n perplexity (replicate n zero64)) smallest

@@ -4,7 +4,7 @@ ghost use Prim.Native.Nat.{_≤_};
 ghost use lib.ListN.{length};
 ghost use Rattle.laws.specs.Domain.{mostFrames};
 ghost use Rattle.laws.specs.Loops.{loop};
-ghost use Rattle.affinity_sigma.specs.Sigma.{weightSum, divideStep, sharedBy, rowOf, excess, narrowed, sigmaShares};
+ghost use Rattle.affinity_sigma.specs.Sigma.{weightSum, divideStep, sharedBy, weighed, rowOf, excess, narrowed, sigmaShares, lastSum};
 
 mod entropies;
 mod weights;
@@ -57,14 +57,16 @@ fn share_out(shares: &mut [f64], n: usize, sum: f64)
     divide(shares, n, sum);
 }
 
-// The row of one round: the shares that a sigma gives.
-fn row_for(distances: &[f64], n: usize, sigma: f64, shares: &mut [f64])
+// The row of one round: the shares that a sigma gives. The answer is the sum of the weights.
+fn row_for(distances: &[f64], n: usize, sigma: f64, shares: &mut [f64]) -> f64
     requires { ⌜ (n ≤ length (now distances)) × (n ≤ length (now shares)) × (n ≤ mostFrames) ⌝ }
     ensures { λ _. ⌜ now (shares .exit) ≡ rowOf (now (distances .entry)) n sigma (now (shares .entry)) ⌝ }
+    ensures { λ r. ⌜ r ≡ weightSum (weighed (now (distances .entry)) n sigma (now (shares .entry))) n ⌝ }
 {
     weights::weigh(distances, n, sigma, shares);
     let sum = total(shares, n);
     share_out(shares, n, sum);
+    sum
 }
 
 // How far the perplexity of the shares is above the one asked for.
@@ -100,19 +102,21 @@ fn next(b: Bounds, diff: f64) -> Bounds
     }
 }
 
-// The shares of n distances, of the last of at most 50 rounds: the search is left once the perplexity is within 1e-5.
-pub fn binary_search_sigma(distances: &[f64], n: usize, perplexity: f64, shares: &mut [f64])
+// The shares as `binary_search_sigma` has them, and the sum of the weights of the last round: below 1e-8 the row was filled.
+pub fn search_sigma(distances: &[f64], n: usize, perplexity: f64, shares: &mut [f64]) -> f64
     requires { ⌜ (n ≤ length (now distances)) × (n ≤ length (now shares)) × (n ≤ mostFrames) ⌝ }
     ensures { λ _. ⌜ now (shares .exit) ≡ sigmaShares (now (distances .entry)) n perplexity (now (shares .entry)) ⌝ }
+    ensures { λ r. ⌜ r ≡ lastSum (now (distances .entry)) n perplexity (now (shares .entry)) ⌝ }
 {
     let mut b = Bounds {
         low: 1e-20,
         high: 1.0 / 0.0,
         sigma: 1.0,
     };
+    let mut sum = 0.0;
     let mut round: u32 = 0;
     while round < MOST_ROUNDS {
-        row_for(distances, n, b.sigma, shares);
+        sum = row_for(distances, n, b.sigma, shares);
         let diff = excess_of(shares, n, perplexity);
         if elementary::limits::absolute(diff) < 1e-5 {
             break;
@@ -120,4 +124,13 @@ pub fn binary_search_sigma(distances: &[f64], n: usize, perplexity: f64, shares:
         b = next(b, diff);
         round += 1;
     }
+    sum
+}
+
+// The shares of n distances, of the last of at most 50 rounds: the search is left once the perplexity is within 1e-5.
+pub fn binary_search_sigma(distances: &[f64], n: usize, perplexity: f64, shares: &mut [f64])
+    requires { ⌜ (n ≤ length (now distances)) × (n ≤ length (now shares)) × (n ≤ mostFrames) ⌝ }
+    ensures { λ _. ⌜ now (shares .exit) ≡ sigmaShares (now (distances .entry)) n perplexity (now (shares .entry)) ⌝ }
+{
+    search_sigma(distances, n, perplexity, shares);
 }

@@ -1,12 +1,14 @@
 // The desk's library: what a C or Rust program calls, on numbers and slices. Each function is that of a crate below it, exported: a static library has the exported functions of its own crate alone.
 ghost use mathlib.Core.Path.{_≡_};
 ghost use Rattle.run_entry.specs.State.{memory};
+ghost use Rattle.blind.specs.Blind.{sightRows};
 ghost use Rattle.prepare.specs.Prepare.{lent};
 ghost use Rattle.scatter.specs.Scatter.{scatterOf};
 ghost use Rattle.record_words.specs.RecordWords.{worded};
 ghost use Rattle.desk_record.specs.Records.{hostSizes, saidOf};
 ghost use Rattle.frames.specs.Frames.{orZero};
 ghost use Rattle.desk_files.specs.Files.{hostFrames, hostFrame};
+ghost use Rattle.desk_blind.specs.HostBlind.{hostSeen, hostBlind};
 ghost use Rattle.desk_prepare.specs.HostPrepare.{hostPrepared, hostPrepare};
 ghost use Rattle.desk_prepare_strip.specs.HostPrepareStrip.{hostPrepareStrip};
 ghost use Rattle.desk_work.specs.HostWork.{hostWorked, hostWork};
@@ -25,6 +27,7 @@ ghost use Rattle.desk_take.specs.HostTake.{hostTook, hostTake};
 ghost use Rattle.desk_unpark.specs.HostUnpark.{hostUnparked, hostUnpark};
 ghost use Rattle.desk_import.specs.HostImport.{hostImported, hostImport};
 ghost use Rattle.partner_import.specs.Import.{loading};
+use desk_blind::host_blind;
 use desk_divergence::host_divergence;
 use desk_files::host_frame;
 use desk_files::host_frames;
@@ -46,6 +49,37 @@ use desk_take::host_take_out;
 use desk_unpark::host_unpark;
 use desk_work::host_work;
 use tree_node::Cell;
+
+// Counts the frames whose sigma search ends blind, and those of them that have no neighbour at another place. Answers 0, or the number of the refusal; then nothing is changed.
+#[no_mangle]
+pub extern "C" fn brothanchor_blind(
+    settings: &[u64],
+    table: &[f64],
+    squares: &mut [f64],
+    row_values: &mut [f64],
+    row_shares: &mut [f64],
+    row_indices: &mut [u32],
+    answer: &mut [u64],
+) -> u32
+    ensures { λ k. ⌜
+        hostSeen k (now (answer .exit)) (sightRows (now (squares .exit)) (now («row_values» .exit)) (now («row_shares» .exit)) (now («row_indices» .exit)))
+        ≡ hostBlind
+        (now (settings .entry))
+        (now (table .entry))
+        (sightRows (now (squares .entry)) (now («row_values» .entry)) (now («row_shares» .entry)) (now («row_indices» .entry)))
+        (now (answer .entry))
+        ⌝ }
+{
+    host_blind(
+        settings,
+        table,
+        squares,
+        row_values,
+        row_shares,
+        row_indices,
+        answer,
+    )
+}
 
 // Prepares a run. Answers 0, or the number of the refusal; then nothing is changed.
 #[no_mangle]

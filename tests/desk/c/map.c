@@ -1,7 +1,7 @@
 /* Maps a frame file through include/brothanchor.h, as the wrapper's map program does: map FILE [SEED [FIRST LAST | strip]].
  * Prints a line for each frame: picture, side, field, both coordinates by their bits; then how the run ended, its divergence, and
  * the records of the map for the picture monitor, a line of hex digits each. Before all that it scuffs a copy of the file, which
- * salvage has to sort out. Once it is prepared its lists are written, it is forgotten, and another run is begun from these lists. On
+ * salvage has to sort out, and counts the blind frames of its table, as it is and multiplied. Once it is prepared its lists are written, it is forgotten, and another run is begun from these lists. On
  * its way the run is made bad in several ways, which each call has to tell; it is parked, forgotten and read back; then the frames
  * of the pictures from FIRST to LAST are taken out. A seed that is no number, as -, is none. With strip it puts the frames along one
  * line: a line for each, with its place, picture, side, field, position and gap by their bits, and how the run ended. It is compiled
@@ -642,6 +642,62 @@ static void scuffed(const uint8_t *file, size_t n) {
     refused("frames", brothanchor_frames(s.target, bytes - 2 * FRAME_BYTES, s.answer, 1));
 }
 
+/* The rows and the answer of a count. */
+struct sight {
+    double squares[MOST_FRAMES + 1], values[MOST_FRAMES + 1], shares[MOST_FRAMES + 1];
+    uint32_t indices[MOST_FRAMES + 1];
+    uint64_t answer[3];
+};
+
+/* A count by the first so many words of the settings, with rows of so many places but for the last, and an answer of so many words. */
+static uint32_t count(const uint64_t *settings, size_t given, const double *table, size_t values, struct sight *s, size_t places,
+                      size_t last, size_t words) {
+    memset(s, 0x55, sizeof *s);
+    return brothanchor_blind(settings, given, table, values, s->squares, places, s->values, places, s->shares, places, s->indices, last,
+                             s->answer, words);
+}
+
+/* Number and both counts; the first n places of each row are zeros, and what lies past them is as it was; in a refusal all of it. */
+static void seen(const char *what, uint32_t number, uint32_t wanted, const struct sight *s, size_t n, uint64_t blind, uint64_t alone) {
+    static struct sight left;
+    memset(&left, 0x55, sizeof left);
+    if (wanted == 0) {
+        memset(left.squares, 0, n * sizeof(double));
+        memset(left.values, 0, n * sizeof(double));
+        memset(left.shares, 0, n * sizeof(double));
+        memset(left.indices, 0, n * sizeof(uint32_t));
+        left.answer[0] = blind;
+        left.answer[1] = alone;
+    }
+    if (number != wanted || memcmp(s, &left, sizeof left) != 0) {
+        fprintf(stderr, "%s: %u, %" PRIx64 ", %" PRIx64 "\n", what, (unsigned)number, s->answer[0], s->answer[1]);
+        exit(1);
+    }
+}
+
+/* The frames see their neighbours, and multiplied by 4096 none does; at one place all are alone. By both methods, before that as only C
+ * can ask for it. */
+static void blind(const double *table, size_t n) {
+    static struct sight s;
+    static double far[MOST_FRAMES * FEATURES], one[MOST_FRAMES * FEATURES];
+    const size_t given = BROTHANCHOR_SETTINGS_WORDS, values = n * FEATURES;
+    uint64_t settings[BROTHANCHOR_SETTINGS_WORDS];
+    set(settings, n);
+    for (size_t i = 0; i < values; i++) far[i] = 4096.0 * table[i];
+    seen("blind, eight words", count(settings, given - 1, table, values, &s, n, n, 2), 21, &s, n, 0, 0);
+    settings[BROTHANCHOR_METHOD] = 2;
+    seen("blind, no method", count(settings, given, table, values, &s, n, n, 2), 21, &s, n, 0, 0);
+    for (uint64_t method = 0; method < 2; method++) {
+        settings[BROTHANCHOR_METHOD] = method;
+        seen("blind, a value short", count(settings, given, table, values - 1, &s, n, n, 2), 7, &s, n, 0, 0);
+        seen("blind, a place short", count(settings, given, table, values, &s, n, n - 1, 2), 12, &s, n, 0, 0);
+        seen("blind, one word", count(settings, given, table, values, &s, n, n, 1), 12, &s, n, 0, 0);
+        seen("blind", count(settings, given, table, values, &s, n, n + 1, 3), 0, &s, n, 0, 0);
+        seen("blind, far apart", count(settings, given, far, values, &s, n, n, 2), 0, &s, n, n, 0);
+        seen("blind, at one place", count(settings, given, one, values, &s, n + 1, n, 2), 0, &s, n, n, n);
+    }
+}
+
 int main(int words, char **word) {
     static uint8_t file[MOST_FRAMES * FRAME_BYTES];
     static double table[MOST_FRAMES * FEATURES], start[MOST_FRAMES * STARTS];
@@ -659,6 +715,7 @@ int main(int words, char **word) {
     scuffed(file, n);
     seed = words > 2 && strcmp(word[2], "-") != 0 ? word[2] : NULL;
     rows(file, length, n, seed, table, start);
+    blind(table, n);
     if (words == 4 && strcmp(word[3], "strip") == 0) {
         along(file, length, n, seed, table, start);
         return 0;

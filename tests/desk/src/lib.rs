@@ -4,6 +4,8 @@
 //! here can be called wrongly; a slice brings its own length, and the borrow checker keeps areas from overlapping.
 
 pub mod beside;
+mod blind;
+mod blindness;
 mod handing;
 mod labels;
 mod library;
@@ -21,6 +23,8 @@ pub mod strip;
 mod strip_picture;
 mod thinning;
 
+pub use blind::{blind, blind_words, Sight, SightRows};
+pub use blindness::{Blindness, Remedy};
 pub use handing::{hand_out, prepare_strip, prepare_strip_words};
 pub use monitor::{read_monitor, write_monitor, Placed, MONITOR_RECORD};
 pub use parking::{park, parked, parked_bytes, unpark, unpark_words, wake, PARKED_RECORD};

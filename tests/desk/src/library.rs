@@ -97,6 +97,23 @@ extern "C" {
         record_length: usize,
     ) -> u32;
 
+    pub fn brothanchor_blind(
+        settings: *const u64,
+        settings_length: usize,
+        table: *const f64,
+        table_length: usize,
+        squares: *mut f64,
+        squares_length: usize,
+        row_values: *mut f64,
+        row_values_length: usize,
+        row_shares: *mut f64,
+        row_shares_length: usize,
+        row_indices: *mut u32,
+        row_indices_length: usize,
+        answer: *mut u64,
+        answer_length: usize,
+    ) -> u32;
+
     pub fn brothanchor_work(
         record: *mut u64,
         record_length: usize,

@@ -1,5 +1,6 @@
 //! The main job: from the bytes of a frame file to a map, its lines and its picture.
 
+use crate::blindness::Blindness;
 use crate::parking::{parked, wake};
 use crate::partner::{import, lists, pair, LINK_RECORD};
 use crate::picture;
@@ -13,6 +14,8 @@ use std::fmt;
 pub const MOST_FRAMES: usize = 4096;
 pub const RECORD: usize = 72;
 
+/// The words of settings, with which a record begins.
+const SETTINGS_WORDS: usize = 9;
 /// A map is worked in so many iterations, unless it stops before.
 const ITERATIONS: usize = 1000;
 /// The perplexity, where there are frames enough.
@@ -117,8 +120,8 @@ pub struct Run {
     pub(crate) areas: Areas,
     /// The positions before the last step.
     copy: Vec<f64>,
-    /// What the features were multiplied by, as far as it knows.
-    pub(crate) factor: f64,
+    /// What the features were multiplied by; nothing where it was read back or begun from a list, and does not know.
+    factor: Option<f64>,
 }
 
 impl Run {
@@ -144,7 +147,7 @@ impl Run {
         let mut areas = Areas::new(&sizes, sizes.nodes);
         let record = prepare(&settings.words(), &table, &start, &mut areas, &mut Rows::new(&sizes))?;
         Ok(Run {
-            factor,
+            factor: Some(factor),
             ..Run::standing(frames, record, areas)
         })
     }
@@ -187,7 +190,7 @@ impl Run {
             record,
             areas,
             copy,
-            factor: 1.0,
+            factor: None,
         }
     }
 
@@ -235,7 +238,14 @@ impl Run {
 
     /// What its features were multiplied by; 1 too where it was read back or begun from a list.
     pub fn factor(&self) -> f64 {
-        self.factor
+        self.factor.unwrap_or(1.0)
+    }
+
+    /// What there is to tell where many of its frames are blind. Nothing where it was read back or begun from a list: its affinities may
+    /// be others than those of its frames' features. Where frames were taken out, those that are left are searched anew, which the run
+    /// does not do: it keeps what was found among all.
+    pub fn blindness(&self) -> Option<Blindness> {
+        Blindness::of(&self.frames, &self.record.words[..SETTINGS_WORDS], self.factor?)
     }
 
     /// Takes the frames at these places out, which have to rise, and centres what is left.
@@ -260,6 +270,7 @@ impl Run {
 
     /// The map as it stands, with the figure of the iteration just finished. A run just read back has none.
     pub fn map(self) -> Result<Map, NoMap> {
+        let factor = self.factor();
         let divergence = match divergence(&self.record, &self.areas, &self.copy) {
             Ok(figure) => Some(figure),
             Err((Refusal(17), _)) => None,
@@ -273,7 +284,7 @@ impl Run {
             positions,
             record: self.record,
             divergence,
-            factor: self.factor,
+            factor,
         })
     }
 }
@@ -313,7 +324,7 @@ fn start(frames: &[Frame], c: usize, seed: Option<u64>) -> Result<Vec<f64>, Refu
 }
 
 /// The frames' rows.
-fn table(frames: &[Frame]) -> Vec<f64> {
+pub(crate) fn table(frames: &[Frame]) -> Vec<f64> {
     frames.iter().flat_map(|frame| frame.features).collect()
 }
 

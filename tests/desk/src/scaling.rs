@@ -36,9 +36,14 @@ fn is_factor(factor: &f64) -> bool {
     factor.is_finite() && *factor > 0.0
 }
 
+/// The factor as it is asked for.
+pub(crate) fn number(factor: f64) -> String {
+    format!("{factor:?}").trim_end_matches(".0").to_string()
+}
+
 /// The factor in words.
 pub fn told(factor: f64) -> String {
-    format!("times {}", format!("{factor:?}").trim_end_matches(".0"))
+    format!("times {}", number(factor))
 }
 
 /// The median of the squared distances from each frame to the nearest one at another place, the lower of the two in the middle.

@@ -1,5 +1,6 @@
 //! Frames along one line: from the bytes of a frame file to a strip, its lines and its picture.
 
+use crate::blindness::Blindness;
 use crate::handing::{hand_out, prepare_strip};
 use crate::map::{self, NoMap, Run, Wishes};
 use crate::run::{Record, Settings};
@@ -29,14 +30,20 @@ impl StripRun {
         Ok(StripRun { run })
     }
 
+    /// What there is to tell where many of its frames are blind.
+    pub fn blindness(&self) -> Option<Blindness> {
+        self.run.blindness()
+    }
+
+    /// Works it to its end. After each iteration `progress` is told how many are done of how many.
+    pub fn work(&mut self, progress: impl FnMut(u64, u64)) -> Result<(), NoMap> {
+        self.run.work(progress)
+    }
+
     /// Its frames along the strip; 17 where it has not ended.
     pub fn strip(&self) -> Result<Strip, NoMap> {
         let Run {
-            frames,
-            record,
-            areas,
-            factor,
-            ..
+            frames, record, areas, ..
         } = &self.run;
         let (mut order, mut gaps) = (vec![0; frames.len()], vec![0.0; frames.len()]);
         hand_out(record, areas, &mut order, &mut gaps)?;
@@ -46,7 +53,7 @@ impl StripRun {
             record: *record,
             order,
             gaps,
-            factor: *factor,
+            factor: self.run.factor(),
         })
     }
 }
@@ -70,7 +77,7 @@ impl Strip {
     /// The strip of a frame file. After each iteration `progress` is told how many are done of how many.
     pub fn of(file: &[u8], wishes: &Wishes, progress: impl FnMut(u64, u64)) -> Result<Strip, NoMap> {
         let mut begun = StripRun::begin(file, wishes)?;
-        begun.run.work(progress)?;
+        begun.work(progress)?;
         begun.strip()
     }
 

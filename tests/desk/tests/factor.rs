@@ -2,8 +2,8 @@
 
 use brothanchor::map::{map, Map, Run, Wishes, RECORD};
 use brothanchor::scaling::Scaling;
-use brothanchor::strip::Strip;
-use brothanchor::{Refusal, FEATURES};
+use brothanchor::strip::{Strip, StripRun};
+use brothanchor::{Refusal, Remedy, Sight, FEATURES};
 use oracle::lists::sample;
 
 /// Where a record's features lie.
@@ -170,4 +170,62 @@ fn a_run_that_is_read_back() {
     woken.work(|_, _| ()).expect("a good run");
     let ours = woken.map().expect("a map");
     assert_eq!(said(&ours), said(&made(&file, 40, Some(Scaling::By(0.25)))));
+}
+
+/// The sample sees its neighbours, unasked and by the factor that is chosen. Multiplied, many of its frames are blind, and the factor that
+/// is told is the one that would be chosen.
+#[test]
+fn frames_that_are_blind() {
+    let file = sample::file();
+    let frames = file.len() / RECORD;
+    let told = |file: &[u8], scaling| {
+        let run = Run::begin(file, &wishes(1, scaling)).expect("a good file");
+        let strip = StripRun::begin(file, &wishes(1, scaling)).expect("a good file");
+        assert_eq!(run.blindness(), strip.blindness());
+        run.blindness()
+    };
+    for scaling in [None, Some(Scaling::Auto), Some(Scaling::By(0.125))] {
+        assert_eq!(told(&file, scaling), None, "{scaling:?}");
+    }
+    for factor in [64.0, 1024.0] {
+        let far = multiplied(&file, factor);
+        let blindness = told(&far, None).expect("blind frames");
+        assert_eq!(blindness.frames, frames);
+        assert!(blindness.sight.blind > frames / 3 && blindness.sight.alone == 0);
+        let chosen = Run::begin(&far, &wishes(1, Some(Scaling::Auto)))
+            .expect("a good file")
+            .factor();
+        assert_eq!(blindness.remedy, Remedy::Factor(chosen, 0));
+        assert_eq!(told(&far, Some(Scaling::By(chosen))), None);
+        assert_eq!(told(&far, Some(Scaling::Auto)), None);
+        // Multiplied by the command it is the same, and the factor is in the place of that one.
+        let other = told(&file, Some(Scaling::By(factor))).expect("blind frames");
+        assert_eq!(other.sight, blindness.sight);
+        assert_eq!(other.remedy, Remedy::Factor(chosen * factor, 0));
+    }
+    let most = told(&multiplied(&file, 1024.0), None).expect("blind frames");
+    assert_eq!(
+        most.sight,
+        Sight {
+            blind: frames,
+            alone: 0
+        }
+    );
+}
+
+/// A run that was read back, or that begins from a list, may have other affinities than its frames' features: nothing is told of it.
+#[test]
+fn runs_without_features_tell_nothing() {
+    let far = multiplied(&few(24), 1024.0);
+    let run = Run::begin(&far, &wishes(1, None)).expect("a good file");
+    assert!(run.blindness().is_some());
+    let parked = run.park().expect("before the first iteration");
+    assert_eq!(Run::resume(&far, &parked).expect("a good run").blindness(), None);
+    let list = run.lists().expect("a tree's lists");
+    assert_eq!(
+        Run::import(&far, &wishes(1, None), &list)
+            .expect("a good list")
+            .blindness(),
+        None
+    );
 }

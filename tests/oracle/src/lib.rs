@@ -4,6 +4,7 @@
 //! between them. Only the standard library is used.
 
 pub mod bench;
+pub mod blind;
 pub mod descent;
 pub mod differences;
 pub mod divergence;

@@ -3,6 +3,7 @@
 //! The lists are made anew from fixed seeds, so every run makes the same bytes.
 
 pub mod bench;
+pub mod blind;
 pub mod descent;
 pub mod divergence;
 pub mod elementary;
@@ -87,6 +88,8 @@ pub fn all() -> Vec<List> {
         List::new("replay_salvage", "bytes", &salvage::byte_cases()),
         List::new("replay_salvage", "orders", &salvage::order_cases()),
         List::new("replay_salvage", "scuffed", &salvage::file_cases()),
+        List::new("replay_blind", "searches", &blind::search_cases()),
+        List::new("replay_blind", "refusals", &blind::refusal_cases()),
         List::new("bench_cases", "files", &bench::cases()),
     ]
 }

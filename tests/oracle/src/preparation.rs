@@ -47,6 +47,22 @@ impl Table<'_> {
         }
     }
 
+    /// The squared distances from frame i to all frames, itself among them.
+    pub(crate) fn row(&self, i: usize) -> Vec<f64> {
+        (0..self.n).map(|j| self.distance(i, j)).collect()
+    }
+
+    /// The k nearest of frame i by distance, then index: how far each is, and which.
+    pub(crate) fn near(&self, i: usize, perplexity: f64) -> Vec<(f64, usize)> {
+        let mut others: Vec<(f64, usize)> = (0..self.n)
+            .filter(|&j| j != i)
+            .map(|j| (self.distance(i, j), j))
+            .collect();
+        others.sort_by(|a, b| a.0.total_cmp(&b.0).then(a.1.cmp(&b.1)));
+        others.truncate(neighbours(perplexity, self.n));
+        others
+    }
+
     /// The exact route: n·n affinities, by rows.
     pub fn exact(&self, perplexity: f64) -> Vec<f64> {
         self.exact_by(exp, perplexity)
@@ -55,10 +71,7 @@ impl Table<'_> {
     /// The exact route with another exp.
     pub fn exact_by(&self, exp: Exp, perplexity: f64) -> Vec<f64> {
         let shares: Vec<Vec<f64>> = (0..self.n)
-            .map(|i| {
-                let row: Vec<f64> = (0..self.n).map(|j| self.distance(i, j)).collect();
-                sigma_search_by(exp, &row, perplexity)
-            })
+            .map(|i| sigma_search_by(exp, &self.row(i), perplexity))
             .collect();
         let norm = 2.0 * self.n as f64;
         let affinity = |i: usize, j: usize| {
@@ -71,14 +84,9 @@ impl Table<'_> {
         (0..self.n * self.n).map(|e| affinity(e / self.n, e % self.n)).collect()
     }
 
-    /// The k nearest of frame i by distance, then index, with the shares of them.
+    /// The k nearest of frame i with their shares.
     fn nearest(&self, exp: Exp, i: usize, perplexity: f64) -> Links {
-        let mut others: Vec<(f64, usize)> = (0..self.n)
-            .filter(|&j| j != i)
-            .map(|j| (self.distance(i, j), j))
-            .collect();
-        others.sort_by(|a, b| a.0.total_cmp(&b.0).then(a.1.cmp(&b.1)));
-        others.truncate(neighbours(perplexity, self.n));
+        let others = self.near(i, perplexity);
         let row: Vec<f64> = others.iter().map(|other| other.0).collect();
         let shares = sigma_search_by(exp, &row, perplexity);
         others.iter().map(|other| other.1).zip(shares).collect()
@@ -110,17 +118,20 @@ impl Table<'_> {
     }
 }
 
-/// A row's shares at one sigma: a distance of 0 weighs 0, and a sum below 1e-8 makes all shares equal.
-fn shares_at(exp: Exp, distances: &[f64], sigma: f64) -> Vec<f64> {
+/// A sum of weights below this makes all shares equal.
+pub(crate) const LEAST_SUM: f64 = 1e-8;
+
+/// A row's shares at one sigma: a distance of 0 weighs 0, and a sum below 1e-8 makes all shares equal. With them comes the sum.
+fn shares_at(exp: Exp, distances: &[f64], sigma: f64) -> (Vec<f64>, f64) {
     let weights: Vec<f64> = distances
         .iter()
         .map(|&d| if d == 0.0 { 0.0 } else { exp(-d / (2.0 * sigma * sigma)) })
         .collect();
     let total = sum(weights.iter().copied());
-    if total < 1e-8 {
-        return vec![1.0 / distances.len() as f64; distances.len()];
+    if total < LEAST_SUM {
+        return (vec![1.0 / distances.len() as f64; distances.len()], total);
     }
-    weights.iter().map(|weight| weight / total).collect()
+    (weights.iter().map(|weight| weight / total).collect(), total)
 }
 
 /// The perplexity of shares; only those above 1e-10 enter.
@@ -135,11 +146,19 @@ pub fn sigma_search(distances: &[f64], target: f64) -> Vec<f64> {
 
 /// The search with another exp.
 pub fn sigma_search_by(exp: Exp, distances: &[f64], target: f64) -> Vec<f64> {
+    rounds_by(exp, distances, target)
+        .pop()
+        .map_or(Vec::new(), |last| last.0)
+}
+
+/// The shares of each round of the search, with the sum of the round's weights.
+pub(crate) fn rounds_by(exp: Exp, distances: &[f64], target: f64) -> Vec<(Vec<f64>, f64)> {
     let (mut low, mut high, mut sigma) = (1e-20, f64::INFINITY, 1.0);
-    let mut shares = Vec::new();
+    let mut rounds = Vec::new();
     for _ in 0..50 {
-        shares = shares_at(exp, distances, sigma);
-        let off = perplexity_of(exp, &shares) - target;
+        let round = shares_at(exp, distances, sigma);
+        let off = perplexity_of(exp, &round.0) - target;
+        rounds.push(round);
         if absolute(off) < 1e-5 {
             break;
         }
@@ -155,7 +174,7 @@ pub fn sigma_search_by(exp: Exp, distances: &[f64], target: f64) -> Vec<f64> {
             };
         }
     }
-    shares
+    rounds
 }
 
 #[cfg(test)]
@@ -175,9 +194,9 @@ mod tests {
 
     #[test]
     fn coincident_frames_weigh_nothing() {
-        assert_eq!(shares_at(exp, &[0.0, 1.0, 1.0], 1.0), [0.0, 0.5, 0.5]);
+        assert_eq!(shares_at(exp, &[0.0, 1.0, 1.0], 1.0).0, [0.0, 0.5, 0.5]);
         let equal = shares_at(exp, &[0.0, 0.0, 0.0, 0.0], 1.0);
-        assert_eq!(equal, [0.25; 4]);
+        assert_eq!(equal, (vec![0.25; 4], 0.0));
     }
 
     #[test]

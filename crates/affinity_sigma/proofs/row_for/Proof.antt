@@ -1,5 +1,4 @@
--- `sigma::row_for` meets its contract: weights, their sum, shares. Assumes nothing.
-use mathlib.Core.Path.{refl}
+-- `sigma::row_for` meets its contract: weights, their sum, shares; the sum is answered. Assumes nothing.
 use Rattle.affinity_sigma.specs.Sigma.{rowOf}
 use borrow.Author.Needs.{needs}
 use Rattle.affinity_sigma.proofs.row_for.Statement.{statement}
@@ -19,7 +18,11 @@ same-length c = search needs
 
 returns : tie.Need-returns
 unfolding rowOf
-returns c = rw (c .before .before .share-out .ensures, c .before .before .before .before .total .ensures, c .before .before .before .before .before .before .before .before .weigh .ensures) refl
+returns c =
+    let the-share-out = c .before .before .share-out in
+    let the-total = c .before .before .before .before .total in
+    let the-weigh = c .before .before .before .before .before .before .before .before .weigh in
+    (rw (the-total .ensures, the-weigh .ensures) at (the-share-out .ensures), rw (the-weigh .ensures) at (the-total .ensures))
 
 pub row-for-spec : {M : Type 1} → statement M
 row-for-spec =

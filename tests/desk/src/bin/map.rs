@@ -14,8 +14,8 @@ use brothanchor::beside;
 use brothanchor::map::{self, Lists, NoMap, NoRun, Run, Wishes, MOST_FRAMES, RECORD};
 use brothanchor::pictures::{self, Pictures};
 use brothanchor::scaling::{self, Scaling};
-use brothanchor::strip::Strip;
-use brothanchor::Refusal;
+use brothanchor::strip::StripRun;
+use brothanchor::{Blindness, Refusal};
 use std::fs::{self, File};
 use std::io::{self, ErrorKind, Read, Write};
 use std::path::{Path, PathBuf};
@@ -306,6 +306,7 @@ fn run(asked: &Asked) -> Result<String, String> {
     }
     let Begun { mut run, gone, rest } = begin(asked)?;
     let kept = kept(asked, rest)?;
+    warn(&asked.common.file, run.blindness());
     let worked = work(&mut run, asked);
     if asked.common.progress {
         eprint!("\r\x1b[K");
@@ -326,6 +327,13 @@ fn run(asked: &Asked) -> Result<String, String> {
         made.record.units(),
         made.told_divergence()
     ))
+}
+
+/// Where many frames are blind, a line tells so before the work begins.
+fn warn(file: &Path, blindness: Option<Blindness>) {
+    if let Some(blindness) = blindness {
+        eprintln!("map: {}: {blindness}", file.display());
+    }
 }
 
 /// What the features were multiplied by, where that was asked for.
@@ -430,11 +438,14 @@ fn strip(asked: &Common) -> Result<String, String> {
     let targets = || targets(asked, ["strip", "strip.svg"], &[]);
     targets()?;
     let bytes = read(&asked.file, (MOST_FRAMES * RECORD) as u64).map_err(|error| fault(&asked.file, error))?;
-    let made = Strip::of(&bytes, &asked.wishes, |done, of| tell(asked.progress, done, of));
+    let refused = |none: NoMap| no_strip(asked, none, bytes.len() / RECORD);
+    let mut run = StripRun::begin(&bytes, &asked.wishes).map_err(refused)?;
+    warn(&asked.file, run.blindness());
+    let worked = run.work(|done, of| tell(asked.progress, done, of));
     if asked.progress {
         eprint!("\r\x1b[K");
     }
-    let made = made.map_err(|none| no_strip(asked, none, bytes.len() / RECORD))?;
+    let made = worked.and_then(|()| run.strip()).map_err(refused)?;
     let [lines, picture] = written(&asked.out, targets()?, [made.lines(), made.svg()])?;
     Ok(format!(
         "{name}: {} frames, {} after {} iterations ({} units)\n{}the strip: {lines}\nits picture: {picture}\n",

@@ -3,12 +3,13 @@
 //!
 //! A run is a preparation and the calls after it: budgets at random with zeros among them, records, areas and lengths
 //! damaged now and then, an arena that grows when 14 comes. Each failure names its seed; BROTHANCHOR_SEED and
-//! BROTHANCHOR_RUNS choose others than the gate's few. The module `deep` has the force walk over altered arenas, `far` frames
-//! with subnormal weights, `figures` the divergence, `mirror` exact runs and their mirror images, `monitor` maps for the picture
-//! monitor, `neighbours` preparations of frames that are equally near, `parked` runs that are written and read back, `partner` lists
-//! that another tool made, `salvage` scuffed frame files, `strip` frames along one line, `take_out` runs that frames are taken out of,
-//! `worth` what the tree is worth in whole runs.
+//! BROTHANCHOR_RUNS choose others than the gate's few. The module `blind` has frames whose search is blind, `deep` the force walk
+//! over altered arenas, `far` frames with subnormal weights, `figures` the divergence, `mirror` exact runs and their mirror images,
+//! `monitor` maps for the picture monitor, `neighbours` preparations of frames that are equally near, `parked` runs that are written
+//! and read back, `partner` lists that another tool made, `salvage` scuffed frame files, `strip` frames along one line, `take_out` runs
+//! that frames are taken out of, `worth` what the tree is worth in whole runs.
 
+mod blind;
 mod both;
 mod case;
 mod deep;

@@ -1,0 +1,4 @@
+pub mod Tests
+pub mod Watches
+pub mod Laws
+pub mod Theorems

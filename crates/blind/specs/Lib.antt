@@ -1,0 +1,3 @@
+pub mod Faults
+pub mod Blind
+pub mod Room
