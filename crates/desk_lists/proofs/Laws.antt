@@ -27,7 +27,8 @@ module _ (d : Stored) (forces : ℕ) (ns : List Node) (t a : List ℕ) (n : ℕ)
       let ne = eqb-false n 0 (fails-as x1 (eqb n 0) e1 y) in
       omega (arith, ln, ne)
 
-  pub listing-said : T (not x1) → (f : ℕ) → forces ≡ f → (p : ListsWritten) (t' : List ℕ) → listing p t' ≡ writtenLists d f ns t → (k : ℕ) (a' : List ℕ) → worded k a' ≡ worded (listsNumber p) (set a 0 (listsTold p)) → hostListed k t' a' ≡ hostLists d forces ns t a
+  pub listing-said : T (not x1) → (f : ℕ) → forces ≡ f → (p : ListsWritten) (t' : List ℕ) → listing p t' ≡ writtenLists d f ns t → (k : ℕ) (a' : List ℕ) →
+      worded k a' ≡ worded (listsNumber p) (set a 0 (listsTold p)) → hostListed k t' a' ≡ hostLists d forces ns t a
   unfolding hostLists
   listing-said y f lf p t' ep k a' e =
       let u : eqb (length a) 0 ≡ false = ap (λ (k : ℕ). eqb k 0) ln ∙ fails-as x1 (eqb n 0) e1 y in

@@ -27,7 +27,8 @@ module _ (d : Stored) (forces : ℕ) (ns : List Node) (t a : List ℕ) (n : ℕ)
       let ne = eqb-false n 0 (fails-as x1 (eqb n 0) e1 y) in
       omega (arith, ln, ne)
 
-  pub parked-said : T (not x1) → (f : ℕ) → forces ≡ f → (p : Parked) (t' : List ℕ) → parking p t' ≡ parkOf d f ns t → (k : ℕ) (a' : List ℕ) → worded k a' ≡ worded (parkNumber p) (set a 0 (parkedTold p)) → hostParked k t' a' ≡ hostPark d forces ns t a
+  pub parked-said : T (not x1) → (f : ℕ) → forces ≡ f → (p : Parked) (t' : List ℕ) → parking p t' ≡ parkOf d f ns t → (k : ℕ) (a' : List ℕ) →
+      worded k a' ≡ worded (parkNumber p) (set a 0 (parkedTold p)) → hostParked k t' a' ≡ hostPark d forces ns t a
   unfolding hostPark
   parked-said y f lf p t' ep k a' e =
       let u : eqb (length a) 0 ≡ false = ap (λ (k : ℕ). eqb k 0) ln ∙ fails-as x1 (eqb n 0) e1 y in

@@ -26,7 +26,8 @@ module _ (w : List ℕ) (m : Memory) (o g a : List ℕ) (n : ℕ) (ln : length a
       let ne = eqb-false n 0 (fails (eqb n 0) y) in
       omega (arith, ln, ne)
 
-  pub strip-said : T (not (eqb n 0)) → (h : Handed) (o' g' : List ℕ) → handing h o' g' ≡ handedOut w m o g → (k : ℕ) (a' : List ℕ) → worded k a' ≡ worded (handNumber h) (set a 0 (handTold h)) → hostHanded k o' g' a' ≡ hostStrip w m o g a
+  pub strip-said : T (not (eqb n 0)) → (h : Handed) (o' g' : List ℕ) → handing h o' g' ≡ handedOut w m o g → (k : ℕ) (a' : List ℕ) →
+      worded k a' ≡ worded (handNumber h) (set a 0 (handTold h)) → hostHanded k o' g' a' ≡ hostStrip w m o g a
   unfolding hostStrip
   strip-said y h o' g' eh k a' e =
       let u : eqb (length a) 0 ≡ false = ap (λ (k : ℕ). eqb k 0) ln ∙ fails (eqb n 0) y in

@@ -15,7 +15,8 @@ use Rattle.laws.proofs.Bools.{by-bool, and-left, and-right}
 use Rattle.laws.proofs.First.{first-all, first-none}
 use Rattle.frames.specs.declared.Frames.{Frames}
 use Rattle.frames.specs.declared.Frames.the-variants.{Good, Bad}
-use Rattle.frames.specs.Frames.{recordBytes, pictureAt, fieldAt, mostPicture, pictureFine, sideFine, sideAt, fieldFine, spareFine, valuesFine, goodAlone, mayFollow, inOrder, badAt, wholeRecords, framesBy, framesOf, frameOf}
+use Rattle.frames.specs.Frames.{recordBytes, pictureAt, fieldAt, mostPicture, pictureFine, sideFine, sideAt, fieldFine, spareFine, valuesFine, goodAlone}
+use Rattle.frames.specs.Frames.{mayFollow, inOrder, badAt, wholeRecords, framesBy, framesOf, frameOf}
 use Rattle.frames.specs.BaseReader.{baseGoodAlone, baseInOrder, baseBadAt, baseFramesOf, baseFrameOf}
 
 -- ---- a file that is taken, by any test of its records
@@ -84,7 +85,8 @@ module _ (p e q g : ℕ) where
 follows-on : (p e q g r h : ℕ) → mayFollow p e q g ≡ true → mayFollow q g r h ≡ true → mayFollow p e r h ≡ true
 follows-on p e q g r h a b = may-follow p e r h (⊎-elim
     (λ (l : p < q). ⊎-elim (λ (m : q < r). inl (omega arith)) (λ (m : (q ≡ r) × (0 < g) × (g < h)). inl (omega (arith, m))) (follows q g r h b))
-    (λ (l : (p ≡ q) × (0 < e) × (e < g)). ⊎-elim (λ (m : q < r). inl (omega (arith, l))) (λ (m : (q ≡ r) × (0 < g) × (g < h)). inr (omega (arith, l, m), l .1, omega (arith, l, m))) (follows q g r h b))
+    (λ (l : (p ≡ q) × (0 < e) × (e < g)). ⊎-elim (λ (m : q < r). inl (omega (arith, l))) (λ (m : (q ≡ r) × (0 < g) × (g < h)). inr
+    (omega (arith, l, m), l .1, omega (arith, l, m))) (follows q g r h b))
     (follows p e q g a))
 
 -- ---- what holds of every file that is taken
@@ -155,8 +157,18 @@ module _ (f : List ℕ) where
       let h3 = and-left (A && S) x h4 in
       let low = and-left (leb 1 p) (leb p 54000) (and-left A S h3) in
       let high = leb-true p 54000 (and-right (leb 1 p) (leb p 54000) (and-left A S h3)) in
-      let whole = eqb-true (fieldAt f a) 0 (and-right (A && S) x h4) in
-      (rw (low, le-leb p mostPicture (omega arith), and-right A S h3, whole, and-right (A && S && x) y h5, and-right (A && S && x && y) z h6, and-right (A && S && x && y && z) (valuesFine f a) h), whole)
+      let whole = eqb-true (fieldAt f a) 0 (and-right (A && S) x h4) in (
+        rw (
+          low,
+          le-leb p mostPicture (omega arith),
+          and-right A S h3,
+          whole,
+          and-right (A && S && x) y h5,
+          and-right (A && S && x && y) z h6,
+          and-right (A && S && x && y && z) (valuesFine f a) h,
+        ),
+        whole,
+      )
 
   base-order : (i : ℕ) → baseInOrder f i ≡ true → inOrder f i ≡ true
   unfolding inOrder mayFollow
@@ -176,4 +188,8 @@ module _ (f : List ℕ) where
       (taken-so (badAt f) f n (record { count = t .count; noTail = t .noTail; good = λ i l. base-good i (t .good i l) }), λ i l. same i (rw (t .count) at l) (t .good i (rw (t .count) at l)))
     where
       same : (i : ℕ) → i < wholeRecords f → baseBadAt f i ≡ false → frameOf f i ≡ baseFrameOf f i
-      same i l h = rw (lt-ltb i (wholeRecords f) l, base-alone (i * recordBytes) (and-left (baseGoodAlone f (i * recordBytes)) (baseInOrder f i) (not-false (baseGoodAlone f (i * recordBytes) && baseInOrder f i) h)) .1)
+      same i l h = rw (
+        lt-ltb i (wholeRecords f) l,
+        base-alone (i * recordBytes)
+            (and-left (baseGoodAlone f (i * recordBytes)) (baseInOrder f i) (not-false (baseGoodAlone f (i * recordBytes) && baseInOrder f i) h)) .1,
+      )

@@ -13,7 +13,7 @@ use borrow.Author.Tests.{leb-true, eq-eqb, ne-eqb, lt-ltb, le-ltb}
 use Rattle.laws.specs.Area.{num}
 use Rattle.laws.specs.Joined.{written}
 use Rattle.laws.proofs.Bools.{and-left, and-right}
-use Rattle.laws.proofs.Laid.{Lays, lays-more}
+use Rattle.laws.proofs.Laid.{Lays, lays-next}
 use Rattle.little.specs.Little.{littleBytes}
 use Rattle.tree_node.specs.declared.Node.{Node}
 use Rattle.tree_node.specs.declared.Cell.{Cell}
@@ -43,8 +43,9 @@ use Rattle.park.specs.Park.{calmState, parking, parkedInto, parkTested, 
 abbrev pub wordBytes : Layout → Stored → ℕ → List ℕ
 wordBytes l d w = littleBytes 8 (parkedWord l d w)
 
-pub words-more : {row : ℕ → List ℕ} {n : ℕ} {t₀ t t' : List ℕ} {w : ℕ} → Lays 8 row n t₀ w t → w < n → 8 * n ≤ length t₀ → length (row w) ≡ 8 → length t' ≡ length t → t' ≡ written (row w) (8 * w) t → Lays 8 row n t₀ (w + 1) t'
-words-more {row} {n} {t₀} {t} {t'} {w} r h m k s e = lays-more 8 row r h (omega arith) s (e ∙ lies)
+pub words-next : {row : ℕ → List ℕ} {n : ℕ} {t₀ t t' : List ℕ} {w : ℕ} → Lays 8 row n t₀ w t → w < n → 8 * n ≤ length t₀ → length (row w) ≡ 8 →
+    length t' ≡ length t → t' ≡ written (row w) (8 * w) t → Lays 8 row n t₀ (w + 1) t'
+words-next {row} {n} {t₀} {t} {t'} {w} r h m k s e = lays-next 8 row r h (omega arith) s (e ∙ lies)
   where
     lies : written (row w) (8 * w) t ≡ take (w * 8) t ++ (row w ++ drop 8 (drop (w * 8) t))
     lies =
@@ -58,7 +59,19 @@ words-more {row} {n} {t₀} {t} {t'} {w} r h m k s e = lays-more 8 row r h (omeg
 module _ (r : Run) (p i g a f : ℕ) (xs off : List ℕ) (ns : List Node) where
   -- areas of these lengths
   abbrev like : State
-  like = record { run = r; memory = record { positions = replicate p nan; increments = replicate i nan; gains = replicate g nan; affinities = replicate a nan; indices = xs; offsets = off; forces = replicate f nan; nodes = ns } }
+  like = record {
+    run = r;
+    memory = record {
+      positions = replicate p nan;
+      increments = replicate i nan;
+      gains = replicate g nan;
+      affinities = replicate a nan;
+      indices = xs;
+      offsets = off;
+      forces = replicate f nan;
+      nodes = ns;
+    };
+  }
 
   record Shown : Type 0 where
     settings : GoodSettings (r .settings)
@@ -181,7 +194,8 @@ module _ (d : Stored) (l : Layout) (el : l ≡ layoutIn (d .run) (d .offsets)) (
   end-small =
       let r = g .layout in
       let tree = eqb (num (d .run) 3) 1 in
-      subst (λ (x : Layout). x .end ≤ 100000000) (sym el) (end-most tree (num (d .run) 0) (num (d .run) 2) (linksIn tree (num (d .run) 0) (d .offsets)) (r .frames-most) (r .components-most) (r .links-most))
+      subst (λ (x : Layout). x .end ≤ 100000000) (sym el)
+      (end-most tree (num (d .run) 0) (num (d .run) 2) (linksIn tree (num (d .run) 0) (d .offsets)) (r .frames-most) (r .components-most) (r .links-most))
 
 module _ (f : Fault) (d : Stored) (t : List ℕ) where
   pub bad-said : isFine f ≡ false → parking (Bad f) t ≡ parkTested f d t

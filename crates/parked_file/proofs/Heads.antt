@@ -87,7 +87,12 @@ third-told m n p i e d s k h =
     let A = leb s 2 in
     let B = stateFits (standingOf s) d i 0 (bits e) in
     let C = cond (eqb m 1) (leb k (2 * n * neighboursOf (bits p) n)) (eqb k 0) in
-    record { state-fits = and-right A B (and-left (A && B) C h); links-in = few (eqb m 1) (and-right (A && B) C h); links-none = λ t. eqb-true k 0 (sym (ap (λ (b : Bool). cond b (leb k (2 * n * neighboursOf (bits p) n)) (eqb k 0)) t) ∙ and-right (A && B) C h) }
+    record {
+      state-fits = and-right A B (and-left (A && B) C h);
+      links-in = few (eqb m 1) (and-right (A && B) C h);
+      links-none = λ t. eqb-true k 0
+          (sym (ap (λ (b : Bool). cond b (leb k (2 * n * neighboursOf (bits p) n)) (eqb k 0)) t) ∙ and-right (A && B) C h);
+    }
   where
     few : (b : Bool) → cond b (leb k (2 * n * neighboursOf (bits p) n)) (eqb k 0) ≡ true → k ≤ 2 * n * neighboursOf (bits p) n
     few true q = leb-true k (2 * n * neighboursOf (bits p) n) q

@@ -39,7 +39,15 @@ module _ (m n f c p r i a g : ℕ) where
 
   pub first-good : m ≤ 1 → GoodSettings settingsWith → firstFine m n f c ≡ true
   unfolding firstFine
-  first-good h s = rw (le-leb m 1 h, le-leb 2 n (s .n-some), le-leb n mostFrames (s .n-most), le-leb 1 f (s .f-some), le-leb f mostFeatures (s .f-most), le-leb 1 c (s .c-some), le-leb c (cond (eqb m 1) mostAxes mostComponents) (axes-most h s))
+  first-good h s = rw (
+    le-leb m 1 h,
+    le-leb 2 n (s .n-some),
+    le-leb n mostFrames (s .n-most),
+    le-leb 1 f (s .f-some),
+    le-leb f mostFeatures (s .f-most),
+    le-leb 1 c (s .c-some),
+    le-leb c (cond (eqb m 1) mostAxes mostComponents) (axes-most h s),
+  )
 
   angle-good : m ≤ 1 → GoodSettings settingsWith → cond (eqb m 1) (angleFine (bits (cond (eqb m 1) a 0))) (eqb (cond (eqb m 1) a 0) 0) ≡ true
   unfolding angleFault

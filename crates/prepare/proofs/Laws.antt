@@ -103,7 +103,8 @@ pub twice : (n k l : ℕ) → 2 * n * k ≤ l → 2 * (n * k) ≤ l
 twice n k l h = rw (mul-assoc 2 n k) at h
 
 -- the routes have what they ask
-pub route-room : (s : Settings) (table start : List Float) (l : Lengths) → Passed s table start l → RouteRoom s (length table) (l .affinities) (l .indices) (l .offsets) (l .forces) (l .values) (l .places)
+pub route-room : (s : Settings) (table start : List Float) (l : Lengths) → Passed s table start l →
+    RouteRoom s (length table) (l .affinities) (l .indices) (l .offsets) (l .forces) (l .values) (l .places)
 route-room s table start l p =
     let cf = cells-forces (s .n) (s .c) in
     let f = p .areas .forces-long in
@@ -126,7 +127,8 @@ module _ (s : Settings) (table : List Float) (a : Areas) where
   unfolding routed
   routed-tree t = rw t
 
-  pub routed-exact : {W X : List Float} {R : List ℕ} → isTree (s .method) ≡ false → W ≡ exactOf table (s .n) (s .f) (s .perplexity) (a .weights) → X ≡ filled zero64 (s .n) (a .rowValues) → R ≡ filled 0 (s .n) (a .rowIndices) → areas W (a .indices) (a .offsets) X R ≡ routed s table a
+  pub routed-exact : {W X : List Float} {R : List ℕ} → isTree (s .method) ≡ false → W ≡ exactOf table (s .n) (s .f) (s .perplexity) (a .weights) →
+      X ≡ filled zero64 (s .n) (a .rowValues) → R ≡ filled 0 (s .n) (a .rowIndices) → areas W (a .indices) (a .offsets) X R ≡ routed s table a
   unfolding routed
   routed-exact t w x r = rw (t, w, x, r)
 
@@ -155,5 +157,6 @@ module _ (s : Settings) (table start : List Float) (nodes : ℕ) (l : Lent) {k :
       let v' : v ≡ R .rowValues = ap (λ (z : Areas). z .rowValues) ea in
       let w' : w ≡ R .rowIndices = ap (λ (z : Areas). z .rowIndices) ea in
       let cf = cells-forces (s .n) (s .c) in
-      let F' : F ≡ filled zero64 (s .n * (2 * s .c + 1)) (l .forces) = eF ∙ ap (λ (z : List Float). filled zero64 (s .n * (2 * s .c + 1)) z) ef ∙ squares-gone table (s .n) (s .f) (s .n * (2 * s .c + 1)) zero64 (l .forces) (omega arith) in
+      let F' : F ≡ filled zero64 (s .n * (2 * s .c + 1)) (l .forces) = eF ∙ ap (λ (z : List Float). filled zero64 (s .n * (2 * s .c + 1)) z) ef ∙
+      squares-gone table (s .n) (s .f) (s .n * (2 * s .c + 1)) zero64 (l .forces) (omega arith) in
       rw (n, er, a', x', o', v', w', F', ep, ei, eg)

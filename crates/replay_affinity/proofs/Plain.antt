@@ -25,8 +25,8 @@ above-plain (fin false m e) = go (lt zero64 (fin false m e))
     go false = refl
 
 -- one place more
-pub plain-more : (l : List Float) (i : ℕ) (v : Float) → i < length l → plain v ≡ true → Plains l i → Plains (set l i v) (i + 1)
-plain-more l i v h e p j lj =
+pub plain-next : (l : List Float) (i : ℕ) (v : Float) → i < length l → plain v ≡ true → Plains l i → Plains (set l i v) (i + 1)
+plain-next l i v h e p j lj =
     elim (ℕ-discrete j i) [
       | yes q ↦ rw q (ap plain (getD-set-same l i v nan h) ∙ e)
       | no q ↦ ap plain (getD-set-other l i j v nan q) ∙ p j (below j i lj q)

@@ -24,7 +24,8 @@ use Rattle.tree.proofs.Tested.{Sound, sound-fine, fine-sound}
 use Rattle.run_entry.specs.State.{State}
 use Rattle.run_entry.specs.declared.Fault.{Fault}
 use Rattle.run_entry.specs.declared.Fault.the-variants.{Fine, Settings as BadSettings, Counters, Areas, Offsets, Index}
-use Rattle.run_entry.specs.Entry.{treeFits, areasFit, offsetFine, indexFine, firstOffset, firstIndex, listed, treeFault, treeFaultAt, contentsFault, isFine, recordFault, faultAt, faultOf, GoodCounters, TreeAreas, GoodAreas, GoodTree, GoodContents, Good}
+use Rattle.run_entry.specs.Entry.{treeFits, areasFit, offsetFine, indexFine, firstOffset, firstIndex, listed, treeFault, treeFaultAt, contentsFault}
+use Rattle.run_entry.specs.Entry.{isFine, recordFault, faultAt, faultOf, GoodCounters, TreeAreas, GoodAreas, GoodTree, GoodContents, Good}
 
 -- a Barnes-Hut run has 1, 2 or 3 components
 pub axes : (s : Settings) → GoodSettings s → isTree (s .method) ≡ true → Axes (s .c)
@@ -136,8 +137,25 @@ module _ (s : Settings) (p i g a x o f nodes : ℕ) where
   pub areas-good : GoodAreas s p i g a x o f nodes → areasFit s p i g a x o f nodes ≡ true
   unfolding areasFit sizesOf treeFits
   areas-good h = by-bool (areasFit s p i g a x o f nodes ≡ true) (isTree (s .method))
-      (λ t. let z = h .tree-long t in simp (le-leb (s .n * s .c) p (h .positions-long), le-leb (s .n * s .c) i (h .increments-long), le-leb (s .n * s .c) g (h .gains-long), le-leb (s .n * (2 * s .c + 1)) f (h .forces-long), t, le-leb (2 * s .n * kOf s) a (z .links-most), le-leb (2 * s .n * kOf s) x (z .indices-most), le-leb (s .n + 1) o (z .offsets-most), le-leb 1 nodes (z .nodes-some)))
-      (λ t. simp (le-leb (s .n * s .c) p (h .positions-long), le-leb (s .n * s .c) i (h .increments-long), le-leb (s .n * s .c) g (h .gains-long), le-leb (s .n * (2 * s .c + 1)) f (h .forces-long), t, le-leb (s .n * s .n) a (h .exact-long t)))
+      (λ t. let z = h .tree-long t in simp (
+        le-leb (s .n * s .c) p (h .positions-long),
+        le-leb (s .n * s .c) i (h .increments-long),
+        le-leb (s .n * s .c) g (h .gains-long),
+        le-leb (s .n * (2 * s .c + 1)) f (h .forces-long),
+        t,
+        le-leb (2 * s .n * kOf s) a (z .links-most),
+        le-leb (2 * s .n * kOf s) x (z .indices-most),
+        le-leb (s .n + 1) o (z .offsets-most),
+        le-leb 1 nodes (z .nodes-some),
+      ))
+      (λ t. simp (
+        le-leb (s .n * s .c) p (h .positions-long),
+        le-leb (s .n * s .c) i (h .increments-long),
+        le-leb (s .n * s .c) g (h .gains-long),
+        le-leb (s .n * (2 * s .c + 1)) f (h .forces-long),
+        t,
+        le-leb (s .n * s .n) a (h .exact-long t),
+      ))
 
 -- ---- the contents
 
@@ -193,7 +211,8 @@ module _ (r : Run) (xs off : List ℕ) (ns : List Node) where
       let s = r .settings in
       let q : firstOffset s off ≡ s .n + 1 = first-none (λ i. not (offsetFine off (sizesOf s .links) i)) (s .n + 1) (λ i h. ap not (g .each-offset i h)) in
       let x : firstIndex s xs off ≡ listed s off = first-none (λ i. not (indexFine xs (s .n) i)) (listed s off) (λ i h. ap not (g .each-index i h)) in
-      let t : treeFaultAt r ns ≡ Fine = by-bool (treeFaultAt r ns ≡ Fine) (eqb (r .phase) 0) (λ z. tree-rests (eqb-true (r .phase) 0 z)) (λ z. tree-good-at (eqb-false (r .phase) 0 z) (g .tree (eqb-false (r .phase) 0 z))) in
+      let t : treeFaultAt r ns ≡ Fine = by-bool (treeFaultAt r ns ≡ Fine) (eqb (r .phase) 0) (λ z. tree-rests (eqb-true (r .phase) 0 z)) (λ z. tree-good-at
+      (eqb-false (r .phase) 0 z) (g .tree (eqb-false (r .phase) 0 z))) in
       rw (le-ltb (firstOffset s off) (s .n + 1) (omega (arith, q)), le-ltb (firstIndex s xs off) (listed s off) (omega (arith, x))) t
 
 -- ---- all of them
@@ -205,7 +224,8 @@ fault-fine s e =
     let r = s .run in
     let ns = m .nodes in
     let nodes = length ns in
-    let F = areasFit (r .settings) (length (m .positions)) (length (m .increments)) (length (m .gains)) (length (m .affinities)) (length (m .indices)) (length (m .offsets)) (length (m .forces)) nodes in
+    let F = areasFit (r .settings) (length (m .positions)) (length (m .increments)) (length (m .gains)) (length (m .affinities)) (length (m .indices))
+    (length (m .offsets)) (length (m .forces)) nodes in
     let C = contentsFault r (m .indices) (m .offsets) ns in
     let T = cond (isTree (r .settings .method)) C Fine in
     let a = by-record s (cond F T Areas) e in
@@ -214,7 +234,8 @@ fault-fine s e =
     record {
       settings = g .0;
       counters = g .1;
-      areas = areas-fine (r .settings) (length (m .positions)) (length (m .increments)) (length (m .gains)) (length (m .affinities)) (length (m .indices)) (length (m .offsets)) (length (m .forces)) nodes (b .0);
+      areas = areas-fine (r .settings) (length (m .positions)) (length (m .increments)) (length (m .gains)) (length (m .affinities)) (length (m .indices))
+          (length (m .offsets)) (length (m .forces)) nodes (b .0);
       contents = λ t. contents-fine r (m .indices) (m .offsets) ns (rw t at (b .1));
     }
   where
@@ -228,5 +249,8 @@ fault-good s g =
     let r = s .run in
     let ns = m .nodes in
     let nodes = length ns in
-    let f = areas-good (r .settings) (length (m .positions)) (length (m .increments)) (length (m .gains)) (length (m .affinities)) (length (m .indices)) (length (m .offsets)) (length (m .forces)) nodes (g .areas) in
-    rw (record-good r (g .settings) (g .counters)) (rw f (by-bool (cond (isTree (r .settings .method)) (contentsFault r (m .indices) (m .offsets) ns) Fine ≡ Fine) (isTree (r .settings .method)) (λ t. rw t (contents-good r (m .indices) (m .offsets) ns (g .contents t))) (λ t. rw t)))
+    let f = areas-good (r .settings) (length (m .positions)) (length (m .increments)) (length (m .gains)) (length (m .affinities)) (length (m .indices))
+    (length (m .offsets)) (length (m .forces)) nodes (g .areas) in
+    rw (record-good r (g .settings) (g .counters))
+    (rw f (by-bool (cond (isTree (r .settings .method)) (contentsFault r (m .indices) (m .offsets) ns) Fine ≡ Fine) (isTree (r .settings .method))
+    (λ t. rw t (contents-good r (m .indices) (m .offsets) ns (g .contents t))) (λ t. rw t)))

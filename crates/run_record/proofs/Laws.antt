@@ -17,7 +17,8 @@ use Rattle.run_record.specs.declared.Method.the-variants.{Exact, BarnesH
 use Rattle.run_record.specs.declared.Standing.{Standing}
 use Rattle.run_record.specs.declared.Standing.the-variants.{Running, Stopped, Finished}
 use Rattle.run_record.specs.declared.Settings.{Settings}
-use Rattle.run_record.specs.Record.{largest, aboveZero, positive, angleFault, from7, from5, from4, from3, from2, earlyFault, lateFault, settingsFault, perOf, stateFits, GoodSettings, kOf, mostPer, mostUnits}
+use Rattle.run_record.specs.Record.{largest, aboveZero, positive, angleFault, from7, from5, from4, from3, from2, earlyFault, lateFault, settingsFault}
+use Rattle.run_record.specs.Record.{perOf, stateFits, GoodSettings, kOf, mostPer, mostUnits}
 
 pub per-most : (m : Method) (n : ℕ) → n ≤ mostFrames → perOf m n ≤ mostPer
 unfolding perOf
@@ -32,7 +33,9 @@ per-some BarnesHut n = omega arith
 pub done-most : (s : Standing) (d i p : ℕ) (l : Float) → stateFits s d i p l ≡ true → d ≤ i
 unfolding stateFits
 done-most Running d i p l e = omega (arith, ltb-true d i e)
-done-most Stopped d i p l e = leb-true d i (and-right (leb (suc earlyIterations) d) (leb d i) (and-left (leb (suc earlyIterations) d && leb d i) (aboveZero l) (and-left (leb (suc earlyIterations) d && leb d i && aboveZero l) (eqb p 0) e)))
+done-most Stopped d i p l e = leb-true d i
+    (and-right (leb (suc earlyIterations) d) (leb d i)
+    (and-left (leb (suc earlyIterations) d && leb d i) (aboveZero l) (and-left (leb (suc earlyIterations) d && leb d i && aboveZero l) (eqb p 0) e)))
 done-most Finished d i p l e = omega (arith, eqb-true d i (and-left (eqb d i) (eqb p 0) e))
 
 pub product-fits : (d i : ℕ) (m : Method) (n : ℕ) → d ≤ i → i ≤ mostIterations → n ≤ mostFrames → d * perOf m n ≤ mostUnits
@@ -125,7 +128,17 @@ range x m a b = rw (ne-eqb x 0 (λ q. omega arith), le-ltb m x b)
 
 pub settings-good : (s : Settings) → GoodSettings s → settingsFault s ≡ 0
 unfolding settingsFault earlyFault lateFault
-settings-good s g = simp (range (s .c) mostComponents (g .c-some) (g .c-most), g .perplexity-positive, g .rate-positive, range (s .iterations) mostIterations (g .iterations-some) (g .iterations-most), g .tree-fine, range (s .n) mostFrames (omega (arith, g .n-some)) (g .n-most), range (s .f) mostFeatures (g .f-some) (g .f-most), ne-eqb (s .n) 1 (λ q. omega (arith, g .n-some)), g .perplexity-below)
+settings-good s g = simp (
+  range (s .c) mostComponents (g .c-some) (g .c-most),
+  g .perplexity-positive,
+  g .rate-positive,
+  range (s .iterations) mostIterations (g .iterations-some) (g .iterations-most),
+  g .tree-fine,
+  range (s .n) mostFrames (omega (arith, g .n-some)) (g .n-most),
+  range (s .f) mostFeatures (g .f-some) (g .f-most),
+  ne-eqb (s .n) 1 (λ q. omega (arith, g .n-some)),
+  g .perplexity-below,
+)
 
 pub k-most : (s : Settings) → GoodSettings s → (1 ≤ kOf s) × (kOf s < s .n)
 unfolding neighboursOf

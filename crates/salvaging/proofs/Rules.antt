@@ -18,7 +18,7 @@ use Rattle.laws.proofs.Bools.{two, by-bool}
 use Rattle.laws.proofs.Joined.{those-yes, those-below}
 use Rattle.frames.specs.Frames.{recordBytes, pictureAt, sideAt, fieldAt, pictureFine, sideFine, fieldFine, spareFine, valuesFine, goodAlone, inOrder, badAt, wholeRecords}
 use Rattle.salvage.specs.Salvage.{ruleAlone, followsLast, ruleAfter, lastKept, ruleOf, isKept, keptIn}
-use Rattle.salvage.proofs.Sifted.{last-yes, last-no, last-within, rule-whole, kept-by-rule, kept-more, none-kept}
+use Rattle.salvage.proofs.Sifted.{last-yes, last-no, last-within, rule-whole, kept-by-rule, kept-next, none-kept}
 use Rattle.salvaging.specs.Broken.{testsOf, FirstFails, LastBefore}
 use Rattle.salvaging.proofs.Picks.{those-count, those-prefix}
 
@@ -134,7 +134,7 @@ module _ (f : List ℕ) where
       (λ k.
       last-yes f i (sym (kept-by-rule f i h) ∙ k) ∙ add-one i
       ∙ ap suc (sym (ap (λ (w : List ℕ). num w j) (those-yes (isKept f) i k)
-      ∙ ap (num (keptIn f i ++ (i ∷ []))) (at (length (keptIn f i)) j (sym (kept-more f i k) ∙ q))
+      ∙ ap (num (keptIn f i ++ (i ∷ []))) (at (length (keptIn f i)) j (sym (kept-next f i k) ∙ q))
       ∙ getD-append-seam (keptIn f i) i [] 0)))
       (λ k.
       last-no f i (sym (kept-by-rule f i h) ∙ k)

@@ -29,7 +29,7 @@ use Rattle.tree.specs.Insert.{Tree, tree, subdivided, turnAt, levelled, levelAt
 use Rattle.tree.specs.Box.{boxed}
 use Rattle.tree.proofs.Grow.{filled-out}
 use Rattle.tree.proofs.Inserting.{turn-cases, inserted-last, inserted-next, level-plain, Ok, ok-next, ok-start}
-use Rattle.tree.proofs.Whole.{needed, taken, taken-fits, taken-ends, built-more, built-full}
+use Rattle.tree.proofs.Whole.{needed, taken, taken-fits, taken-ends, built-next, built-full}
 use Rattle.tree_worth.specs.Worth.{LeafCounts}
 use Rattle.tree_worth.proofs.Tallies.{owed-out, Tallied, inner-tallied, last-tallied, split-tallied}
 
@@ -45,7 +45,8 @@ pub record Settled (c r : ℕ) (t : Tree) : Type 0 where
   pub tallied : Tallied c 0 0 t
   pub root : nodeAt (t .nodes) 0 .count ≡ r
 
-root-on : (i r : ℕ) (w : Node) (ns : List Node) → i < length ns → w .count ≡ nodeAt ns i .count + 1 → (i ≡ 0 → nodeAt ns 0 .count + 1 ≡ r) → ((i ≡ 0 → ⊥) → nodeAt ns 0 .count ≡ r) → nodeAt (set ns i w) 0 .count ≡ r
+root-on : (i r : ℕ) (w : Node) (ns : List Node) → i < length ns → w .count ≡ nodeAt ns i .count + 1 → (i ≡ 0 → nodeAt ns 0 .count + 1 ≡ r) → ((i ≡ 0 → ⊥) →
+    nodeAt ns 0 .count ≡ r) → nodeAt (set ns i w) 0 .count ≡ r
 root-on i r w ns l e a b =
     elim (ℕ-discrete i 0) [
       | yes z ↦
@@ -84,7 +85,8 @@ module _ (n c m cap N r : ℕ) (y p : List Float) (j : ℕ) (hj : j < n) (hm : 1
     says z = subst (λ (x : ℕ). LeafCounts x (v .count) (v .leaf)) (k .tallied .depth) (k .tallied .leaf i (ok .node) z)
 
     abbrev Goal : Out → Type 0
-    Goal x = (x .last ≡ false → Ok n c m cap N y p (d + 1) (x .next) (levelled y c i x t)) → (x .last ≡ false → Comes c (d + 1) (x .next) r (levelled y c i x t)) × (x .last ≡ true → Settled c r (levelled y c i x t))
+    Goal x = (x .last ≡ false → Ok n c m cap N y p (d + 1) (x .next) (levelled y c i x t)) → (x .last ≡ false →
+        Comes c (d + 1) (x .next) r (levelled y c i x t)) × (x .last ≡ true → Settled c r (levelled y c i x t))
 
     inner : (v .first ≡ 0 → ⊥) → Comes c (d + 1) (v .first + childIndex c (v .centre) p) r (tree (t .used) (set (t .nodes) i (absorbed c p v)))
     unfolding absorbed
@@ -149,14 +151,18 @@ module _ (n c m cap N r : ℕ) (y p : List Float) (j : ℕ) (hj : j < n) (hm : 1
       none-left e a b c = omega (arith, e, a, b, c)
   descends (suc g) d i t e ok k = by-bool (Settled c r (inserted (suc g) y c p j d i t)) (turnAt c p j d i t .last)
       (λ x. rw (inserted-last g y c p j d i t (turnAt c p j d i t) refl x) (comes d i t ok k (ok-next n c m cap N y p j hj hm fit d i t ok) .1 x))
-      (λ x. rw (inserted-next g y c p j d i t (turnAt c p j d i t) refl x) (descends g (d + 1) (turnAt c p j d i t .next) (levelAt y c p j d i t) (omega (arith, e)) (ok-next n c m cap N y p j hj hm fit d i t ok x) (comes d i t ok k (ok-next n c m cap N y p j hj hm fit d i t ok) .0 x)))
+      (λ x. rw (inserted-next g y c p j d i t (turnAt c p j d i t) refl x)
+      (descends g (d + 1) (turnAt c p j d i t .next) (levelAt y c p j d i t) (omega (arith, e)) (ok-next n c m cap N y p j hj hm fit d i t ok x)
+      (comes d i t ok k (ok-next n c m cap N y p j hj hm fit d i t ok) .0 x)))
 
 -- ---- one point more
 
-insert-settles : (y : List Float) (n c m j r : ℕ) (t : Tree) → j < n → 1 ≤ m → treeOk n m c t ≡ true → 0 < t .used → t .used ≤ length (t .nodes) → t .used + needed y c j t ≤ nameable (length (t .nodes)) → Settled c r t → Settled c (r + 1) (insertOf y c j t .tree)
+insert-settles : (y : List Float) (n c m j r : ℕ) (t : Tree) → j < n → 1 ≤ m → treeOk n m c t ≡ true → 0 < t .used → t .used ≤ length (t .nodes) →
+    t .used + needed y c j t ≤ nameable (length (t .nodes)) → Settled c r t → Settled c (r + 1) (insertOf y c j t .tree)
 insert-settles y n c m j r t hj hm ok some inside fit k =
     rw (taken y c j t fit)
-    (descends n c m (length (t .nodes)) (t .used + needed y c j t) (r + 1) y (pointOf y c j) j hj hm (omega (arith, fit, nameable-most (length (t .nodes)))) (length (t .nodes)) 0 0 t (less (length (t .nodes))) (ok-start n c m y (pointOf y c j) t ok some inside)
+    (descends n c m (length (t .nodes)) (t .used + needed y c j t) (r + 1) y (pointOf y c j) j hj hm (omega (arith, fit, nameable-most (length (t .nodes))))
+    (length (t .nodes)) 0 0 t (less (length (t .nodes))) (ok-start n c m y (pointOf y c j) t ok some inside)
     (record { tallied = k .tallied; early = λ _. ap (λ (x : ℕ). x + 1) (k .root); late = λ z. absurd (z refl) }))
   where
     less : (g : ℕ) → g ≡ g - 0
@@ -235,10 +241,10 @@ module _ (y : List Float) (n c : ℕ) where
         more : built y c i boxedTree .full ≡ false → Accounted n c i (built y c i boxedTree .tree) → Accounted n c (suc i) (built y c (suc i) boxedTree .tree)
         more f s =
             let t = built y c i boxedTree .tree in
-            let q : insertOf y c i t .full ≡ false = rw (built-more y c boxedTree i f) at e in
+            let q : insertOf y c i t .full ≡ false = rw (built-next y c boxedTree i f) at e in
             let fit = taken-fits y c i t q in
             let g = taken-ends y c i t n (i + 1) l (omega arith) (s .tree) (s .some) (s .within) fit in
-            rw (built-more y c boxedTree i f)
+            rw (built-next y c boxedTree i f)
             (record {
               some = omega (arith, g .used, s .some);
               within = omega (arith, g .used, g .nodes, fit, nameable-most (length (t .nodes)));

@@ -16,7 +16,7 @@ use Rattle.laws.specs.Domain.{deepest}
 use Rattle.laws.specs.Loops.{loop}
 use Rattle.laws.specs.Sums.{sum, bit}
 use Rattle.laws.proofs.Bools.{by-bool}
-use Rattle.laws.proofs.Sums.{sum-same, sum-more, sum-none}
+use Rattle.laws.proofs.Sums.{sum-same, sum-next, sum-none}
 use Rattle.tree_node.specs.declared.Node.{Node}
 use Rattle.tree_node.specs.declared.Leaf.{Leaf}
 use Rattle.tree_node.specs.declared.Leaf.the-variants.{Empty, Occupied}
@@ -31,7 +31,7 @@ use Rattle.tree_turns.specs.Turns.{absorbed, occupied, parent, out, childOf}
 use Rattle.tree.specs.Insert.{Tree, tree, subdivided, turnAt, levelled, levelAt, inserted, insertOf, treeOk, built}
 use Rattle.tree.specs.Box.{boxed}
 use Rattle.tree.proofs.Inserting.{turn-cases, inserted-last, inserted-next, level-plain, Ok, ok-next, ok-start}
-use Rattle.tree.proofs.Whole.{needed, taken, taken-fits, built-more, built-full}
+use Rattle.tree.proofs.Whole.{needed, taken, taken-fits, built-next, built-full}
 use Rattle.tree_worth.specs.Worth.{LeafCounts, leafFor, leafIn, pointsOf}
 use Rattle.tree_worth.proofs.Sums.{sum-at, sum-two}
 use Rattle.tree_worth.proofs.Tallies.{Tallied, split-tallied, new-here, new-old, new-child, child-first, child-count, child-empty, first-i, first-new}
@@ -53,7 +53,8 @@ bit-no x k n = rw (ne-eqb x k n)
 
 -- ---- a level that only stores its node
 
-module _ (y : List Float) (c j i u : ℕ) (ns : List Node) (h : Lodged y c j (tree u ns)) (li : i < u) (room : u ≤ length ns) (w : Node) (ef : w .first ≡ nodeAt ns i .first) (ez : w .centre ≡ nodeAt ns i .centre) where
+module _ (y : List Float) (c j i u : ℕ) (ns : List Node) (h : Lodged y c j (tree u ns)) (li : i < u) (room : u ≤ length ns) (w : Node)
+    (ef : w .first ≡ nodeAt ns i .first) (ez : w .centre ≡ nodeAt ns i .centre) where
   abbrev ms : List Node
   ms = set ns i w
 
@@ -84,10 +85,12 @@ module _ (y : List Float) (c j i u : ℕ) (ns : List Node) (h : Lodged y c j (tr
       not-i : (k : ℕ) → nodeAt ms k .first ≡ 0 → k ≡ i → ⊥
       not-i k e x = z (ap (λ (y : ℕ). nodeAt ns y .first) (sym x) ∙ (sym (first-same k) ∙ e))
 
-  pub last-placed : w .count ≡ nodeAt ns i .count + 1 → nodeAt ns i .first ≡ 0 → leafIn y c (tree u ns) j ≡ i → ((o : ℕ) → w .leaf ≡ Occupied o → (o < j + 1) × (leafIn y c (tree u ns) o ≡ i)) → Lodged y c (j + 1) (tree u ms)
+  pub last-placed : w .count ≡ nodeAt ns i .count + 1 → nodeAt ns i .first ≡ 0 → leafIn y c (tree u ns) j ≡ i → ((o : ℕ) → w .leaf ≡ Occupied o → (o < j + 1) ×
+      (leafIn y c (tree u ns) o ≡ i)) → Lodged y c (j + 1) (tree u ms)
   last-placed ec z at wn = record {
     counts = λ k l e.
-        let s : pointsOf y c (tree u ms) (j + 1) k ≡ pointsOf y c (tree u ns) j k + bit (eqb (leafIn y c (tree u ns) j) k) = points-kept (j + 1) k ∙ sum-more (λ x. bit (eqb (leafIn y c (tree u ns) x) k)) j in
+        let s : pointsOf y c (tree u ms) (j + 1) k ≡ pointsOf y c (tree u ns) j k + bit (eqb (leafIn y c (tree u ns) j) k) = points-kept (j + 1) k ∙
+        sum-next (λ x. bit (eqb (leafIn y c (tree u ns) x) k)) j in
         elim (ℕ-discrete k i) [
           | yes x ↦
               let a : nodeAt ms k .count ≡ nodeAt ns i .count + 1 = ap (λ (y : ℕ). nodeAt ms y .count) x ∙ ap (λ (v : Node). v .count) here ∙ ec in
@@ -260,7 +263,8 @@ module _ (n c m cap N r : ℕ) (y : List Float) (j : ℕ) (hj : j < n) (hm : 1 �
     comes-here z = e .way ∙ route-leaf c p u ns (k .tallied .above) i z
 
     abbrev Step : Out → Type 0
-    Step x = (x .last ≡ false → Ok n c m cap N y p (d + 1) (x .next) (levelled y c i x t)) → (x .last ≡ false → Enters (x .next) (levelled y c i x t)) × (x .last ≡ true → Lodged y c (j + 1) (levelled y c i x t))
+    Step x = (x .last ≡ false → Ok n c m cap N y p (d + 1) (x .next) (levelled y c i x t)) → (x .last ≡ false → Enters (x .next) (levelled y c i x t)) ×
+        (x .last ≡ true → Lodged y c (j + 1) (levelled y c i x t))
 
     inner : (v .first ≡ 0 → ⊥) → Enters (v .first + childIndex c (v .centre) p) (tree u (set ns i (absorbed c p v)))
     unfolding absorbed
@@ -272,10 +276,12 @@ module _ (n c m cap N r : ℕ) (y : List Float) (j : ℕ) (hj : j < n) (hm : 1 �
         kept : (x : ℕ) → leafFor u c p (set ns i (absorbed c p v)) x ≡ leafFor u c p ns x
         kept x = routes-kept y c j i u ns (e .placed) (ok .node) whole (absorbed c p v) refl refl p x
 
-    ends : (w : Node) → w .first ≡ v .first → w .centre ≡ v .centre → w .count ≡ v .count + 1 → v .first ≡ 0 → ((o : ℕ) → w .leaf ≡ Occupied o → (o < j + 1) × (leafIn y c t o ≡ i)) → Lodged y c (j + 1) (tree u (set ns i w))
+    ends : (w : Node) → w .first ≡ v .first → w .centre ≡ v .centre → w .count ≡ v .count + 1 → v .first ≡ 0 → ((o : ℕ) → w .leaf ≡ Occupied o → (o < j + 1) ×
+        (leafIn y c t o ≡ i)) → Lodged y c (j + 1) (tree u (set ns i w))
     ends w ef ez ec z wn = last-placed y c j i u ns (e .placed) (ok .node) whole w ef ez ec z (comes-here z) wn
 
-    splits : (o : ℕ) → v .first ≡ 0 → v .leaf ≡ Occupied o → d < deepest → u + 2 ^ c ≤ length ns → Enters (u + childIndex c (v .centre) p) (levelled y c i (out (parent u (absorbed c p v)) (u + childIndex c (v .centre) p) (2 ^ c) o false) t)
+    splits : (o : ℕ) → v .first ≡ 0 → v .leaf ≡ Occupied o → d < deepest → u + 2 ^ c ≤ length ns →
+        Enters (u + childIndex c (v .centre) p) (levelled y c i (out (parent u (absorbed c p v)) (u + childIndex c (v .centre) p) (2 ^ c) o false) t)
     splits o z q l space =
         let one : v .count ≡ 1 = one-held d (v .count) (v .leaf) o q l (says z) in
         record {
@@ -292,11 +298,14 @@ module _ (n c m cap N r : ℕ) (y : List Float) (j : ℕ) (hj : j < n) (hm : 1 �
         ))
         (λ z q _. (
           (λ x. absurd (true≢false x)),
-          λ _. subst (Lodged y c (j + 1)) (sym (level-plain y c i (occupied j (absorbed c p v)) 0 j true t)) (ends (occupied j (absorbed c p v)) refl refl refl z (λ o w. subst (λ (x : ℕ). (x < j + 1) × (leafIn y c t x ≡ i)) (sym (word-same j o w)) (omega arith, comes-here z))),
+          λ _. subst (Lodged y c (j + 1)) (sym (level-plain y c i (occupied j (absorbed c p v)) 0 j true t))
+              (ends (occupied j (absorbed c p v)) refl refl refl z (λ o w. subst (λ (x : ℕ). (x < j + 1) ×
+              (leafIn y c t x ≡ i)) (sym (word-same j o w)) (omega arith, comes-here z))),
         ))
         (λ o z q l _. (
           (λ x. absurd (true≢false x)),
-          λ _. subst (Lodged y c (j + 1)) (sym (level-plain y c i (absorbed c p v) 0 j true t)) (ends (absorbed c p v) refl refl refl z (λ o' w. let g = e .placed .named i o' (ok .node) z w in (omega (arith, g .0), g .1))),
+          λ _. subst (Lodged y c (j + 1)) (sym (level-plain y c i (absorbed c p v) 0 j true t))
+              (ends (absorbed c p v) refl refl refl z (λ o' w. let g = e .placed .named i o' (ok .node) z w in (omega (arith, g .0), g .1))),
         ))
         (λ o z q l next. (
           (λ x. splits o z q l (omega (arith, next x .room, ok .nodes))),
@@ -312,15 +321,19 @@ module _ (n c m cap N r : ℕ) (y : List Float) (j : ℕ) (hj : j < n) (hm : 1 �
       let next = ok-next n c m cap N y p j hj hm fit d i t ok in
       by-bool (Lodged y c (j + 1) (inserted (suc g) y c p j d i t)) (turnAt c p j d i t .last)
       (λ x. rw (inserted-last g y c p j d i t (turnAt c p j d i t) refl x) (enters d i t ok k e next .1 x))
-      (λ x. rw (inserted-next g y c p j d i t (turnAt c p j d i t) refl x) (places g (d + 1) (turnAt c p j d i t .next) (levelAt y c p j d i t) (omega (arith, z)) (next x) (comes n c m cap N r y p j hj hm fit d i t ok k next .0 x) (enters d i t ok k e next .0 x)))
+      (λ x. rw (inserted-next g y c p j d i t (turnAt c p j d i t) refl x)
+      (places g (d + 1) (turnAt c p j d i t .next) (levelAt y c p j d i t) (omega (arith, z)) (next x)
+      (comes n c m cap N r y p j hj hm fit d i t ok k next .0 x) (enters d i t ok k e next .0 x)))
 
 -- ---- all of them, from the box on
 
 module _ (y : List Float) (n c : ℕ) where
-  one-more : (m j r : ℕ) (t : Tree) → j < n → 1 ≤ m → treeOk n m c t ≡ true → 0 < t .used → t .used ≤ length (t .nodes) → t .used + needed y c j t ≤ nameable (length (t .nodes)) → Settled c r t → Lodged y c j t → Lodged y c (j + 1) (insertOf y c j t .tree)
+  one-more : (m j r : ℕ) (t : Tree) → j < n → 1 ≤ m → treeOk n m c t ≡ true → 0 < t .used → t .used ≤ length (t .nodes) →
+      t .used + needed y c j t ≤ nameable (length (t .nodes)) → Settled c r t → Lodged y c j t → Lodged y c (j + 1) (insertOf y c j t .tree)
   one-more m j r t hj hm ok some inside fit k e =
       rw (taken y c j t fit)
-      (places n c m (length (t .nodes)) (t .used + needed y c j t) (r + 1) y j hj hm (omega (arith, fit, nameable-most (length (t .nodes)))) (length (t .nodes)) 0 0 t (less (length (t .nodes))) (ok-start n c m y (pointOf y c j) t ok some inside)
+      (places n c m (length (t .nodes)) (t .used + needed y c j t) (r + 1) y j hj hm (omega (arith, fit, nameable-most (length (t .nodes))))
+      (length (t .nodes)) 0 0 t (less (length (t .nodes))) (ok-start n c m y (pointOf y c j) t ok some inside)
       (record { tallied = k .tallied; early = λ _. ap (λ (x : ℕ). x + 1) (k .root); late = λ z. absurd (z refl) })
       (record { placed = e; way = refl }))
     where
@@ -361,6 +374,6 @@ module _ (y : List Float) (n c : ℕ) where
         more : built y c i boxedTree .full ≡ false → Lodged y c i (built y c i boxedTree .tree) → Lodged y c (suc i) (built y c (suc i) boxedTree .tree)
         more f s =
             let t = built y c i boxedTree .tree in
-            let q : insertOf y c i t .full ≡ false = rw (built-more y c boxedTree i f) at e in
+            let q : insertOf y c i t .full ≡ false = rw (built-next y c boxedTree i f) at e in
             let a = built-stands y n c before h i (omega (arith, l)) f in
-            rw (built-more y c boxedTree i f) (rw (sym (add-one i)) (one-more (i + 1) i i t l (omega arith) (a .tree) (a .some) (a .within) (taken-fits y c i t q) (a .settled) s))
+            rw (built-next y c boxedTree i f) (rw (sym (add-one i)) (one-more (i + 1) i i t l (omega arith) (a .tree) (a .some) (a .within) (taken-fits y c i t q) (a .settled) s))

@@ -27,7 +27,8 @@ module _ (c : ℕ) (p : List Float) where
   goes-down g ns i z = rw (ne-eqb _ _ z, leafFor)
 
   -- nodes with the same children and centres lead alike
-  pub route-same : (ns ms : List Node) → ((x : ℕ) → nodeAt ms x .first ≡ nodeAt ns x .first) → ((x : ℕ) → nodeAt ms x .centre ≡ nodeAt ns x .centre) → (g i : ℕ) → leafFor g c p ms i ≡ leafFor g c p ns i
+  pub route-same : (ns ms : List Node) → ((x : ℕ) → nodeAt ms x .first ≡ nodeAt ns x .first) → ((x : ℕ) → nodeAt ms x .centre ≡ nodeAt ns x .centre) →
+      (g i : ℕ) → leafFor g c p ms i ≡ leafFor g c p ns i
   unfolding leafFor
   route-same ns ms f h zero i = refl
   route-same ns ms f h (suc g) i = elim (ℕ-discrete (nodeAt ns i .first) 0) [
@@ -86,7 +87,8 @@ module _ (c : ℕ) (p : List Float) where
 
   -- ---- leaf i of u nodes gets its 2^c children from node u on
 
-  module _ (u i : ℕ) (ns ms : List Node) (ok : Blocks u c ns) (ok' : Blocks (u + 2 ^ c) c ms) (li : i < u) (leaf : nodeAt ns i .first ≡ 0) (first-i : nodeAt ms i .first ≡ u) (centre-i : nodeAt ms i .centre ≡ nodeAt ns i .centre)
+  module _ (u i : ℕ) (ns ms : List Node) (ok : Blocks u c ns) (ok' : Blocks (u + 2 ^ c) c ms) (li : i < u) (leaf : nodeAt ns i .first ≡ 0)
+      (first-i : nodeAt ms i .first ≡ u) (centre-i : nodeAt ms i .centre ≡ nodeAt ns i .centre)
       (old : (x : ℕ) → x < u → (x ≡ i → ⊥) → nodeAt ms x ≡ nodeAt ns x) (new : (b : ℕ) → b < 2 ^ c → nodeAt ms (u + b) .first ≡ 0) where
     abbrev before : ℕ → ℕ
     before x = routeOf u ns ok x
@@ -123,6 +125,7 @@ module _ (c : ℕ) (p : List Float) where
           let h = next-used u ns ok x l z in
           let b : before x ≡ before (nextOf ns x) = route-inner u ns ok x l z in
           let f : after x ≡ after (nextOf ns x) = route-inner (u + 2 ^ c) ms ok' x (omega (arith, l)) (λ q. z (sym (ap (λ (v : Node). v .first) (old x l n)) ∙ q)) ∙ ap after e in
-          let r : (before (nextOf ns x) ≡ i → after (nextOf ns x) ≡ child) × ((before (nextOf ns x) ≡ i → ⊥) → after (nextOf ns x) ≡ before (nextOf ns x)) = split-route g (nextOf ns x) (h .1) (omega (arith, h .0, a)) in
+          let r : (before (nextOf ns x) ≡ i → after (nextOf ns x) ≡ child) × ((before (nextOf ns x) ≡ i → ⊥) →
+          after (nextOf ns x) ≡ before (nextOf ns x)) = split-route g (nextOf ns x) (h .1) (omega (arith, h .0, a)) in
           ((λ q. f ∙ r .0 (sym b ∙ q)), λ q. f ∙ r .1 (λ w. q (b ∙ w)) ∙ sym b)
     ]

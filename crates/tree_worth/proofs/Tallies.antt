@@ -58,7 +58,8 @@ pub record Tallied (c d i : ℕ) (t : Tree) : Type 0 where
   pub leaf : (k : ℕ) → k < t .used → nodeAt (t .nodes) k .first ≡ 0 → LeafCounts (deep k) (nodeAt (t .nodes) k .count) (nodeAt (t .nodes) k .leaf)
 
 -- node i has counted one more: so has the block that it is in
-block-owed : (c i f : ℕ) (ns ms : List Node) → nodeAt ms i .count ≡ nodeAt ns i .count + 1 → ((x : ℕ) → f ≤ x → x < f + 2 ^ c → (x ≡ i → ⊥) → nodeAt ms x .count ≡ nodeAt ns x .count) → blockCounts c ms f ≡ blockCounts c ns f + owed c f i
+block-owed : (c i f : ℕ) (ns ms : List Node) → nodeAt ms i .count ≡ nodeAt ns i .count + 1 → ((x : ℕ) → f ≤ x → x < f + 2 ^ c → (x ≡ i → ⊥) →
+    nodeAt ms x .count ≡ nodeAt ns x .count) → blockCounts c ms f ≡ blockCounts c ns f + owed c f i
 block-owed c i f ns ms e s =
     elim (decLt i f) [
       | yes x ↦ out (λ a b. omega (arith, a, x))
@@ -69,7 +70,9 @@ block-owed c i f ns ms e s =
     ]
   where
     out : (f ≤ i → i < f + 2 ^ c → ⊥) → blockCounts c ms f ≡ blockCounts c ns f + owed c f i
-    out n = rw (owed-out c f i n, add-zero) (sum-same (λ b. nodeAt ms (f + b) .count) (λ b. nodeAt ns (f + b) .count) (2 ^ c) (λ b l. s (f + b) (omega arith) (omega arith) (λ z. n (omega (arith, z)) (omega (arith, z, l)))))
+    out n = rw (owed-out c f i n, add-zero)
+        (sum-same (λ b. nodeAt ms (f + b) .count) (λ b. nodeAt ns (f + b) .count) (2 ^ c) (λ b l. s (f + b) (omega arith) (omega arith) (λ z. n
+        (omega (arith, z)) (omega (arith, z, l)))))
 
     inside : f ≤ i → i < f + 2 ^ c → blockCounts c ms f ≡ blockCounts c ns f + owed c f i
     inside a b =
@@ -84,7 +87,8 @@ module _ (c d i u : ℕ) (ns : List Node) (k : Tallied c d i (tree u ns)) (li : 
   v = nodeAt ns i
 
   -- node i is nobody's child but its parent's
-  one-block : (x y : ℕ) → x < u → y < u → (nodeAt ns x .first ≡ 0 → ⊥) → (nodeAt ns y .first ≡ 0 → ⊥) → (b : ℕ) → b < 2 ^ c → nodeAt ns x .first ≤ nodeAt ns y .first + b → nodeAt ns y .first + b < nodeAt ns x .first + 2 ^ c → x ≡ y
+  one-block : (x y : ℕ) → x < u → y < u → (nodeAt ns x .first ≡ 0 → ⊥) → (nodeAt ns y .first ≡ 0 → ⊥) → (b : ℕ) → b < 2 ^ c →
+      nodeAt ns x .first ≤ nodeAt ns y .first + b → nodeAt ns y .first + b < nodeAt ns x .first + 2 ^ c → x ≡ y
   one-block x y lx ly zx zy b lb h l =
       let a = nodeAt ns y .first + b - nodeAt ns x .first in
       let q : nodeAt ns x .first + a ≡ nodeAt ns y .first + b = omega (arith, h) in
@@ -111,7 +115,8 @@ module _ (c d i u : ℕ) (ns : List Node) (k : Tallied c d i (tree u ns)) (li : 
     sums-on : (f : ℕ) → blockCounts c ms f ≡ blockCounts c ns f + owed c f i
     sums-on f = block-owed c i f ns ms count-here (λ x a b n. ap (λ (y : Node). y .count) (other x n))
 
-    module _ (e next : ℕ) (depth-next : k .deep next ≡ e) (here-owed : (v .first ≡ 0 → ⊥) → owed c (v .first) next ≡ 1) (none-owed : (x : ℕ) → x < u → (x ≡ i → ⊥) → (nodeAt ns x .first ≡ 0 → ⊥) → owed c (nodeAt ns x .first) next ≡ 0)
+    module _ (e next : ℕ) (depth-next : k .deep next ≡ e) (here-owed : (v .first ≡ 0 → ⊥) → owed c (v .first) next ≡ 1)
+        (none-owed : (x : ℕ) → x < u → (x ≡ i → ⊥) → (nodeAt ns x .first ≡ 0 → ⊥) → owed c (nodeAt ns x .first) next ≡ 0)
         (says : v .first ≡ 0 → LeafCounts (k .deep i) (w .count) (w .leaf)) where
       tally-on : (x : ℕ) → x < u → (nodeAt ns x .first ≡ 0 → ⊥) → nodeAt ms x .count ≡ blockCounts c ms (nodeAt ns x .first) + owed c (nodeAt ns x .first) next
       tally-on x lx z =
@@ -194,7 +199,11 @@ module _ (c d i u : ℕ) (ns : List Node) (k : Tallied c d i (tree u ns)) (li : 
 
     child-says : (d b : ℕ) → LeafCounts d (childOf c a o q b .count) (childOf c a o q b .leaf)
     unfolding childOf absorbed
-    child-says d b = elim (ℕ-discrete b (childIndex c (a .centre) q)) [ yes e ↦ rw (eq-eqb b (childIndex c (a .centre) q) e) (omega arith, λ _. refl) | no n ↦ rw (ne-eqb b (childIndex c (a .centre) q) n) refl ]
+    child-says d b = elim (ℕ-discrete b (childIndex c (a .centre) q)) [
+      | yes e ↦ rw (eq-eqb b (childIndex c (a .centre) q) e) (omega arith, λ _. refl)
+      | no n ↦
+          rw (ne-eqb b (childIndex c (a .centre) q) n) refl
+    ]
 
     -- the old point is in one of the children
     children-count : blockCounts c new u ≡ 1
@@ -202,7 +211,8 @@ module _ (c d i u : ℕ) (ns : List Node) (k : Tallied c d i (tree u ns)) (li : 
         let s = childIndex c (a .centre) q in
         let l : s < 2 ^ c = child-below c (a .centre) q in
         let r : sum (λ (_ : ℕ). 0) (2 ^ c) ≡ 0 = sum-const 0 (2 ^ c) ∙ mul-zero (2 ^ c) in
-        let t : blockCounts c new u ≡ sum (λ (_ : ℕ). 0) (2 ^ c) + 1 = sum-bumped (λ _. 0) (λ b. nodeAt new (u + b) .count) (2 ^ c) s l (ap (λ (y : Node). y .count) (new-child s l) ∙ child-count) (λ b lb n. ap (λ (y : Node). y .count) (new-child b lb) ∙ child-empty b n) in
+        let t : blockCounts c new u ≡ sum (λ (_ : ℕ). 0) (2 ^ c) + 1 = sum-bumped (λ _. 0) (λ b. nodeAt new (u + b) .count) (2 ^ c) s l
+        (ap (λ (y : Node). y .count) (new-child s l) ∙ child-count) (λ b lb n. ap (λ (y : Node). y .count) (new-child b lb) ∙ child-empty b n) in
         omega (arith, r, t)
 
     count-on : nodeAt new i .count ≡ v .count + 1

@@ -96,12 +96,24 @@ module _ (f : List ℕ) (p : isParked f ≡ true) where
   indices-narrow : Narrow f (L .indices) (L .links)
   indices-narrow i m =
       let h = file-lies f in
-      omega (arith, n-is, ltb-true (wordIn f (L .indices + i)) (L .n) (sym (index-is (wordIn f) L h i m) ∙ parked-word f p (L .indices + i) (omega (arith, h .positions, h .increments, h .gains, h .held)) (omega (arith, h .indices, h .weights))))
+      omega (
+        arith,
+        n-is,
+        ltb-true (wordIn f (L .indices + i)) (L .n)
+            (sym (index-is (wordIn f) L h i m) ∙ parked-word f p (L .indices + i) (omega (arith, h .positions, h .increments, h .gains, h .held))
+            (omega (arith, h .indices, h .weights))),
+      )
 
   offsets-narrow : L .tree ≡ true → Narrow f (L .affinities) (L .held)
   offsets-narrow t i m =
       let h = file-lies f in
-      omega (arith, links-are, offset-few (wordIn f) L h (L .affinities + i - L .affinities) (L .affinities + i) (sym (offset-is (wordIn f) L h i t m) ∙ parked-word f p (L .affinities + i) (omega (arith, h .positions, h .increments, h .gains)) (omega (arith, h .held, h .indices, h .weights))))
+      omega (
+        arith,
+        links-are,
+        offset-few (wordIn f) L h (L .affinities + i - L .affinities) (L .affinities + i)
+            (sym (offset-is (wordIn f) L h i t m) ∙ parked-word f p (L .affinities + i) (omega (arith, h .positions, h .increments, h .gains))
+            (omega (arith, h .held, h .indices, h .weights))),
+      )
 
   -- the same of what is equal to it
   module _ (l : Layout) (e : l ≡ layoutBy (wordIn f)) where
