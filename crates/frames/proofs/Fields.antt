@@ -141,8 +141,12 @@ module _ (f : List ℕ) (n : ℕ) (e : framesOf f ≡ Good n) where
 -- ---- files of before
 
 module _ (f : List ℕ) where
+  record GoodNow (a : ℕ) : Type 0 where
+    alone : goodAlone f a ≡ true
+    whole : fieldAt f a ≡ 0
+
   -- a record that was good alone is, and is a whole frame
-  base-alone : (a : ℕ) → baseGoodAlone f a ≡ true → (goodAlone f a ≡ true) × (fieldAt f a ≡ 0)
+  base-alone : (a : ℕ) → baseGoodAlone f a ≡ true → GoodNow a
   unfolding goodAlone pictureFine fieldFine spareFine
   base-alone a h =
       let p = pictureAt f a in
@@ -157,28 +161,35 @@ module _ (f : List ℕ) where
       let h3 = and-left (A && S) x h4 in
       let low = and-left (leb 1 p) (leb p 54000) (and-left A S h3) in
       let high = leb-true p 54000 (and-right (leb 1 p) (leb p 54000) (and-left A S h3)) in
-      let whole = eqb-true (fieldAt f a) 0 (and-right (A && S) x h4) in (
-        rw (
+      let field-0 = eqb-true (fieldAt f a) 0 (and-right (A && S) x h4) in
+      record {
+        alone = rw (
           low,
           le-leb p mostPicture (omega arith),
           and-right A S h3,
-          whole,
+          field-0,
           and-right (A && S && x) y h5,
           and-right (A && S && x && y) z h6,
           and-right (A && S && x && y && z) (valuesFine f a) h,
-        ),
-        whole,
-      )
+        );
+        whole = field-0;
+      }
 
   base-order : (i : ℕ) → baseInOrder f i ≡ true → inOrder f i ≡ true
   unfolding inOrder mayFollow
   base-order i h = by-bool (inOrder f i ≡ true) (eqb i 0) (λ t. rw t) (λ t. rw (t, rw t at h))
 
+  was-good : (i : ℕ) → baseBadAt f i ≡ false → (baseGoodAlone f (i * recordBytes) ≡ true) × (baseInOrder f i ≡ true)
+  was-good i h =
+      let g = not-false (baseGoodAlone f (i * recordBytes) && baseInOrder f i) h in
+      (and-left (baseGoodAlone f (i * recordBytes)) (baseInOrder f i) g, and-right (baseGoodAlone f (i * recordBytes)) (baseInOrder f i) g)
+
+  good-now : (i : ℕ) → baseBadAt f i ≡ false → GoodNow (i * recordBytes)
+  good-now i h = base-alone (i * recordBytes) (was-good i h .0)
+
   base-good : (i : ℕ) → baseBadAt f i ≡ false → badAt f i ≡ false
   unfolding badAt
-  base-good i h =
-      let g = not-false (baseGoodAlone f (i * recordBytes) && baseInOrder f i) h in
-      rw (base-alone (i * recordBytes) (and-left (baseGoodAlone f (i * recordBytes)) (baseInOrder f i) g) .0, base-order i (and-right (baseGoodAlone f (i * recordBytes)) (baseInOrder f i) g))
+  base-good i h = rw (good-now i h .alone, base-order i (was-good i h .1))
 
   -- a file that the reader of before took is taken, with as many records, and each is the frame that it was
   pub old-files-read-as-before : (n : ℕ) → baseFramesOf f ≡ Good n → (framesOf f ≡ Good n) × ((i : ℕ) → i < n → frameOf f i ≡ baseFrameOf f i)
@@ -188,8 +199,4 @@ module _ (f : List ℕ) where
       (taken-so (badAt f) f n (record { count = t .count; noTail = t .noTail; good = λ i l. base-good i (t .good i l) }), λ i l. same i (rw (t .count) at l) (t .good i (rw (t .count) at l)))
     where
       same : (i : ℕ) → i < wholeRecords f → baseBadAt f i ≡ false → frameOf f i ≡ baseFrameOf f i
-      same i l h = rw (
-        lt-ltb i (wholeRecords f) l,
-        base-alone (i * recordBytes)
-            (and-left (baseGoodAlone f (i * recordBytes)) (baseInOrder f i) (not-false (baseGoodAlone f (i * recordBytes) && baseInOrder f i) h)) .1,
-      )
+      same i l h = rw (lt-ltb i (wholeRecords f) l, good-now i h .whole)

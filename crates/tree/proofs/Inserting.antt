@@ -473,7 +473,7 @@ tree-facts n c m t e i l = node-facts n c m (t .used) i (nodeAt (t .nodes) i) (e
 pub tree-point : (n c m : ℕ) (t : Tree) → treeOk n m c t ≡ true → (i o : ℕ) → i < t .used → nodeAt (t .nodes) i .leaf ≡ Occupied o → o < n
 tree-point n c m t e i o l q = point-below n (nodeAt (t .nodes) i .leaf) o (tree-facts n c m t e i l .point) q
 
--- a point needs at most 50 splits
+-- a point needs at most `deepest` splits
 pub needs-few : (g : ℕ) (y : List Float) (c : ℕ) (p : List Float) (d i : ℕ) (ns : List Node) → needsOf g y c p d i ns ≤ deepest * 2 ^ c
 unfolding needsOf
 needs-few zero y c p d i ns = omega arith

@@ -1,5 +1,5 @@
--- Theorems on the definition of insertion: it keeps the tree well formed, uses the nodes that the dry count says, at most 50 splits a point, and so never lacks
--- nodes in an arena of 1 + 50 · 2^c · (n - 1). Assumes nothing.
+-- Theorems on the definition of insertion: it keeps the tree well formed, uses the nodes that the dry count says, at most `deepest` splits a point, and so never lacks
+-- nodes in an arena of `enoughNodes`. Assumes nothing.
 use mathlib.Core.Path.{_≡_, refl, sym, ap, subst, _∙_}
 use mathlib.Core.List.{List, _∷_}
 use mathlib.Core.Bool.{true, false, true≢false}
@@ -82,7 +82,7 @@ module _ (y : List Float) (c j : ℕ) (t : Tree) where
       insertOf y c j t .tree .used ≡ t .used + needed y c j t
   insert-uses n m hj hm ok h l e = taken-ends n m hj hm ok h l (taken-fits e) .used
 
-  -- 50 splits are enough
+  -- `deepest` splits are enough
   pub needed-few : needed y c j t ≤ deepest * 2 ^ c
   needed-few = needs-few (length (t .nodes)) y c (pointOf y c j) 0 0 (t .nodes)
 
@@ -136,7 +136,7 @@ fit-in y n c cap j r fit lj i =
     one-up : (j : ℕ) → 1 ≤ j → suc (j - 1) ≡ j + 1 - 1
     one-up j h = omega (arith, h)
 
--- there is room for it where there is room for 50 splits of each further point
+-- there is room for it where there is room for `deepest` splits of each further point
 pub room-in : (y : List Float) (n c cap j : ℕ) (r : Insertion) → 1 + (n - 1) * (deepest * 2 ^ c) ≤ nameable cap → j < n → In n c cap j r →
     r .tree .used + needed y c j (r .tree) ≤ nameable (length (r .tree .nodes))
 room-in y n c cap j r room lj i =
@@ -176,7 +176,7 @@ module _ (y : List Float) (n c : ℕ) (z h : List Float) (rest : List Node) wher
       up : (k : ℕ) → suc k + 1 ≡ suc (suc k)
       up k = omega arith
 
-  -- with room for 50 splits of each further point, all of them with numbers that are words, the refusal never comes
+  -- with room for `deepest` splits of each further point, all of them with numbers that are words, the refusal never comes
   pub never-full : (k : ℕ) → k ≤ n → enoughNodes c n ≤ nameable (suc (length rest)) → built y c k (rooted z h rest) .full ≡ false
   unfolding built loop
   never-full zero ln room = refl

@@ -1,7 +1,7 @@
 -- What the tree is worth: of the arena t that i insertions made of a box, none of them refused, whatever the nodes held before. Assumes nothing.
 --     root-counts                 the root counts i
 --     split-counts                a node with children counts what they count together
---     shallow-leaf-holds-one      a leaf above depth 50 is empty and counts 0, or holds a point and counts 1
+--     shallow-leaf-holds-one      a leaf above the depth `deepest` is empty and counts 0, or holds a point and counts 1
 --     leaf-holds-some             any leaf is empty exactly where it counts 0
 --     angle-zero-sums-leaves      with an angle of zero the repulsion on a point is the sum over the leaves that count a point, apart from one that holds it alone
 --     leaves-once, leaves-all, leaves-only, leaves-add-up     that list has each of these leaves once and nothing else, and their counts add up to i
