@@ -22,7 +22,7 @@ use Rattle.affinity_near.proofs.Rows.{is-own}
 
 -- ---- a distance is plain
 
-above-plain : (d : Float) → plain (unlessAbove zero64 d) ≡ true
+pub above-plain : (d : Float) → plain (unlessAbove zero64 d) ≡ true
 unfolding plain unlessAbove lt ofBits
 above-plain nan = refl
 above-plain (inf true) = refl

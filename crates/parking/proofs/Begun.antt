@@ -32,13 +32,14 @@ use Rattle.parked.specs.declared.Layout.{Layout}
 use Rattle.parked.specs.Layout.{recordsIn}
 use Rattle.parked.specs.Fine.{firstFine, secondFine, thirdFine, layoutBy, offsetFits, wordFine, recordFine}
 use Rattle.parked_file.specs.File.{recordStands, recordsDue, firstBad, isParked}
+use Rattle.parked_file.proofs.Heads.{first-told, second-told}
 use Rattle.parking.specs.Held.{bytesMost, wordsMost, firstRecords, Begins}
 use Rattle.parking.proofs.Regions.{filled-most, less-one, Stacked, end-whole, head-before-end, by-region}
 use Rattle.parking.proofs.Words.{word-alone, word-bytes, rows-long, Lows, nil-low, cons-low, either-below}
 use Rattle.parking.proofs.Files.{else-true, when-true, tested, heldTest, indexTest, valueTest, at-positions, at-increments, at-gains, at-affinities}
 use Rattle.parking.proofs.Files.{at-indices, at-weights, by-stacked, at-head, at-words, record-word, head-0, head-1, head-2, records-fine, fine-records}
 use Rattle.parking.proofs.Files.{parked-long, parked-fine, fine-parked}
-use Rattle.parking.proofs.Heads.{first-facts, second-facts, third-good}
+use Rattle.parking.proofs.Heads.{third-good}
 use Rattle.parking.proofs.Taken.{LyingBy, lying-by}
 use Rattle.parking.proofs.Prefix.{layout-same, record-same}
 
@@ -146,7 +147,7 @@ module _ (g h : ℕ → ℕ) (n : ℕ) (C : Completes g n h) (F : (q : ℕ) → 
   fine-1 = elim (decLt 1 n) [
     | yes m ↦ fine-given 1 m
     | no m ↦
-        let x = first-facts (h 0) (h 1) (h 2) (h 3) (h 4) (h 5) (h 6) (h 7) (h 8) first-in in
+        let x = first-told (h 0) (h 1) (h 2) (h 3) first-in in
         at-head h 1 (omega arith) ∙ head-1 h ∙
         rw (
           C .start 4 (omega arith) (omega arith),
@@ -171,14 +172,14 @@ module _ (g h : ℕ → ℕ) (n : ℕ) (C : Completes g n h) (F : (q : ℕ) → 
   fine-2 = elim (decLt 2 n) [
     | yes m ↦ fine-given 2 m
     | no m ↦
-        let x = second-facts (h 0) (h 1) (h 2) (h 3) (h 4) (h 5) (h 6) (h 7) (h 8) second-in in
+        let x = second-told (h 0) (h 1) (h 4) (h 5) (h 6) (h 7) second-in in
         at-head h 2 (omega arith) ∙ head-2 h ∙
         rw (
           C .start 8 (omega arith) (omega arith),
           C .start 9 (omega arith) (omega arith),
           C .start 10 (omega arith) (omega arith),
           C .start 11 (omega arith) (omega arith),
-        ) (third-start (h 0) (h 1) (h 4) (h 6) (x .i-some))
+        ) (third-start (h 0) (h 1) (h 4) (h 6) (x .iterations-some))
   ]
 
   -- ---- the words past them
@@ -231,7 +232,7 @@ module _ (g h : ℕ → ℕ) (n : ℕ) (C : Completes g n h) (F : (q : ℕ) → 
       tested-by (l .cells) i (valueTest h b i) (h (b + i)) (λ x. ap (λ (v : ℕ). calm (bits v)) e ∙ calm-zero) (λ x. e)
 
   n-some : 2 ≤ l .n
-  n-some = omega (arith, y .n-is, first-facts (h 0) (h 1) (h 2) (h 3) (h 4) (h 5) (h 6) (h 7) (h 8) first-in .n-some)
+  n-some = omega (arith, y .n-is, first-told (h 0) (h 1) (h 2) (h 3) first-in .n-some)
 
   after-word : (w : ℕ) → 12 ≤ w → w < l .end → 4 * n ≤ w → wordFine h l w ≡ true
   after-word = by-region l r (λ (w : ℕ). 4 * n ≤ w → wordFine h l w ≡ true)

@@ -18,6 +18,7 @@ use Rattle.tree_node.specs.declared.Node.{Node}
 use Rattle.run_record.specs.Record.{isTree, perOf, kOf, sizesOf}
 use Rattle.run_entry.specs.Entry.{treeFits, areasFit, GoodAreas}
 use Rattle.record_words.specs.RecordWords.{runOf, settingsOf, methodOf}
+use Rattle.record_words.proofs.Laws.{method-tree}
 use Rattle.parked.specs.declared.Layout.{Layout}
 use Rattle.parked.specs.Parked.{Stored, linksIn, layoutIn}
 use Rattle.parked.specs.Fine.{layoutBy}
@@ -28,7 +29,7 @@ use Rattle.unpark.specs.Unpark.{recordRead, settingsRead, fetched, weightsRead,
 use Rattle.parking.specs.Held.{InWords, firstRecords}
 use Rattle.parking.specs.Again.{recordAgain, storedAgain}
 use Rattle.parking.proofs.Entries.{Writes, parks-all}
-use Rattle.parking.proofs.Heads.{settingsWith, method-tree}
+use Rattle.parking.proofs.Heads.{settingsWith}
 use Rattle.parking.proofs.Written.{Lying, lying, HeadIs, WordsAre, head, words-are, method-most, lists-in, fileOf, file-word, file-layout, file-due, file-stands, front-is}
 
 -- what is fetched stands in v from its start on

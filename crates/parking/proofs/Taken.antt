@@ -22,17 +22,19 @@ use Rattle.run_record.proofs.Laws.{per-some}
 use Rattle.run_entry.specs.Entry.{offsetFine, indexFine, areasFit, GoodCounters, GoodAreas, GoodContents, Good}
 use Rattle.run_entry.proofs.Laws.{areas-fine}
 use Rattle.record_words.specs.RecordWords.{runFine, settingsFine, runOf, settingsOf, methodOf}
+use Rattle.record_words.proofs.Laws.{method-tree}
 use Rattle.parked.specs.declared.Layout.{Layout}
 use Rattle.parked.specs.Layout.{filledUp, layoutOf}
 use Rattle.parked.specs.Parked.{Stored, headOf, linksIn, layoutIn, parkedWord}
 use Rattle.parked.specs.Fine.{layoutBy, offsetFits}
+use Rattle.parked_file.proofs.Heads.{FirstIn, first-told, SecondIn, second-told}
 use Rattle.park.specs.Park.{calmAll, calmState}
 use Rattle.unpark.specs.Unpark.{recordRead, settingsRead, fetched, weightsRead, offsetsRead, storedRead, hasRoom}
 use Rattle.parking.specs.Held.{stateIn}
 use Rattle.parking.proofs.Regions.{less-one, by-region}
 use Rattle.parking.proofs.Words.{filling, filling-in, filling-out, word-head, word-positions, word-increments, word-gains, word-affinities, word-indices, word-weights}
 use Rattle.parking.proofs.Files.{when-true, AreaFine, FileFine, by-stacked}
-use Rattle.parking.proofs.Heads.{method-tree, settingsWith, FirstFacts, first-facts, SecondFacts, second-facts, good-settings, ThirdFacts, third-facts}
+use Rattle.parking.proofs.Heads.{settingsWith, good-settings, ThirdFacts, third-facts}
 
 -- fourteen more
 abbrev past : ℕ → ℕ
@@ -71,17 +73,17 @@ module _ (g : ℕ → ℕ) (A : FileFine g) where
   abbrev y : LyingBy l g
   y = lying-by g
 
-  abbrev pub record-one : FirstFacts (g 0) (g 1) (g 2) (g 3) (g 4) (g 5) (g 6) (g 7) (g 8)
-  record-one = first-facts (g 0) (g 1) (g 2) (g 3) (g 4) (g 5) (g 6) (g 7) (g 8) (A .first-fine)
+  abbrev pub record-one : FirstIn (g 0) (g 1) (g 2) (g 3)
+  record-one = first-told (g 0) (g 1) (g 2) (g 3) (A .first-fine)
 
-  abbrev pub record-two : SecondFacts (g 0) (g 1) (g 2) (g 3) (g 4) (g 5) (g 6) (g 7) (g 8)
-  record-two = second-facts (g 0) (g 1) (g 2) (g 3) (g 4) (g 5) (g 6) (g 7) (g 8) (A .second-fine)
+  abbrev pub record-two : SecondIn (g 0) (g 1) (g 4) (g 5) (g 6) (g 7)
+  record-two = second-told (g 0) (g 1) (g 4) (g 5) (g 6) (g 7) (A .second-fine)
 
   abbrev pub record-three : ThirdFacts (g 0) (g 1) (g 4) (g 6) (g 8) (g 9) (g 10) (g 11)
   record-three = third-facts (g 0) (g 1) (g 4) (g 6) (g 8) (g 9) (g 10) (g 11) (A .third-fine)
 
   pub method-is : isTree (methodOf (g 0)) ≡ eqb (g 0) 1
-  method-is = method-tree (g 0) (leb-true (g 0) 1 (record-one .m-most))
+  method-is = method-tree (g 0) (record-one .method)
 
   -- ---- the offsets in the file
 
@@ -229,7 +231,7 @@ module _ (g : ℕ → ℕ) (A : FileFine g) where
 
     pub read-fine : runFine (e .run) ≡ true
     unfolding runFine settingsFine storedRead recordRead
-    read-fine = fine-of (length (drop 14 (d .run))) (record-one .m-most) (record-three .s-most)
+    read-fine = fine-of (length (drop 14 (d .run))) (le-leb (g 0) 1 (record-one .method)) (record-three .s-most)
       where
         fine-of : (k : ℕ) {a b : Bool} → a ≡ true → b ≡ true → leb 14 (past k) && (leb 9 (past k) && a) && b ≡ true
         fine-of k ea eb = rw (le-leb 14 (past k) (omega arith), le-leb 9 (past k) (omega arith), ea, eb)

@@ -18,6 +18,7 @@ use Rattle.little.specs.Little.{littleBytes, wordIn}
 use Rattle.tree_node.specs.declared.Node.{Node}
 use Rattle.run_record.specs.Record.{stateFits, GoodSettings}
 use Rattle.record_words.specs.RecordWords.{runFine, settingsFine, runOf, settingsOf, standingOf}
+use Rattle.record_words.proofs.Laws.{method-tree}
 use Rattle.parked.specs.declared.Layout.{Layout}
 use Rattle.parked.specs.Layout.{filledUp, layoutOf, recordsIn}
 use Rattle.parked.specs.Parked.{Stored, headOf, linksIn, layoutIn, parkedWord}
@@ -31,7 +32,7 @@ use Rattle.parking.proofs.Words.{word-alone, rows-long, word-below, fil
 use Rattle.parking.proofs.Words.{word-gains, word-affinities, word-indices, word-weights}
 use Rattle.parking.proofs.Files.{else-true, AreaFine, heldTest, WordsFine, FileFine, fine-parked}
 use Rattle.parking.proofs.Entries.{Writes, parks-all}
-use Rattle.parking.proofs.Heads.{method-tree, settingsWith, first-good, second-good, third-good}
+use Rattle.parking.proofs.Heads.{settingsWith, first-good, second-good, third-good}
 use Rattle.parking.proofs.Lists.{Lists, lists-of}
 
 -- ---- how the run lies

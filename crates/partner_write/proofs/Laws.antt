@@ -7,8 +7,7 @@ use native.Mathlib.Omega.{arith}
 use native.Mathlib.Numerals.{add-one}
 use native.Mathlib.Nat.{le-trans, le-refl, le-antisymm, zero-add, add-zero}
 use lib.Dec.{leb}
-use lib.Ieee.{nan}
-use lib.ListN.{length, take, drop, replicate, length-replicate, length-append, take-append-drop}
+use lib.ListN.{length, take, drop, length-append, take-append-drop}
 use lib.Seq.{take-at, drop-at, drop-drop, length-take-le}
 use borrow.Author.Tests.{leb-true, eqb-true, eq-eqb, ne-eqb, lt-ltb, le-ltb}
 use Rattle.laws.specs.Area.{num}
@@ -22,11 +21,10 @@ use Rattle.tree_node.specs.declared.Node.{Node}
 use Rattle.tree_node.specs.declared.Cell.{Cell}
 use Rattle.tree_node.specs.Arena.{nodesOf}
 use Rattle.run_record.specs.declared.Run.{Run}
-use Rattle.run_record.specs.Record.{isTree, sizesOf, GoodSettings}
+use Rattle.run_record.specs.Record.{isTree, sizesOf}
 use Rattle.run_entry.specs.declared.Fault.{Fault}
-use Rattle.run_entry.specs.State.{State}
-use Rattle.run_entry.specs.Entry.{isFine, faultAt, faultOf, offsetFine, GoodAreas, GoodContents}
-use Rattle.run_entry.proofs.Laws.{fault-fine, links-is}
+use Rattle.run_entry.specs.Entry.{isFine, offsetFine}
+use Rattle.run_entry.proofs.Laws.{GoodAt, at-fine, links-is}
 use Rattle.record_words.specs.RecordWords.{methodOf, settingsOf, runOf}
 use Rattle.record_words.proofs.Laws.{run-long}
 use Rattle.words_entry.specs.WordsEntry.{wordsFault}
@@ -136,71 +134,39 @@ module _ {n : ℕ} {W I O : List ℕ} (g : ListsLie n W I O) where
 
 -- ---- the tests: what they show, whatever the values are
 
-module _ (r : Run) (p i g a f : ℕ) (xs off : List ℕ) (ns : List Node) where
-  -- areas of these lengths
-  abbrev alike : State
-  alike = record {
-    run = r;
-    memory = record {
-      positions = replicate p nan;
-      increments = replicate i nan;
-      gains = replicate g nan;
-      affinities = replicate a nan;
-      indices = xs;
-      offsets = off;
-      forces = replicate f nan;
-      nodes = ns;
-    };
-  }
+module _ (r : Run) (p i g a f : ℕ) (xs off : List ℕ) (ns : List Node) (s : GoodAt r p i g a f xs off ns) (t : isTree (r .settings .method) ≡ true) where
+  -- an offset past the first is not below the one before it, and passes no slot
+  next-offset : (j : ℕ) → j < r .settings .n → (num off j ≤ num off (j + 1)) × (num off (j + 1) ≤ sizesOf (r .settings) .links)
+  unfolding offsetFine
+  next-offset j h =
+      let l = sizesOf (r .settings) .links in
+      let e = s .contents t .each-offset (j + 1) (omega arith) in
+      let q : leb (num off (j + 1 - 1)) (num off (j + 1)) && leb (num off (j + 1)) l ≡ true = rw (ne-eqb (j + 1) 0 (λ z. omega arith)) at e in
+      let b = leb-true (num off (j + 1 - 1)) (num off (j + 1)) (and-left (leb (num off (j + 1 - 1)) (num off (j + 1))) (leb (num off (j + 1)) l) q) in
+      let z : j + 1 - 1 ≡ j = omega arith in
+      (rw z at b, leb-true (num off (j + 1)) l (and-right (leb (num off (j + 1 - 1)) (num off (j + 1))) (leb (num off (j + 1)) l) q))
 
-  record Seen : Type 0 where
-    settings : GoodSettings (r .settings)
-    areas : GoodAreas (r .settings) p i g a (length xs) (length off) f (length ns)
-    contents : isTree (r .settings .method) ≡ true → GoodContents (r .settings .n) r xs off ns
+  last-offset : num off (r .settings .n) ≤ sizesOf (r .settings) .links
+  last-offset =
+      let n = r .settings .n in
+      let z : n - 1 + 1 ≡ n = omega (arith, s .settings .n-some) in
+      rw z at (next-offset (n - 1) (omega (arith, s .settings .n-some)) .1)
 
-  seen : isFine (faultAt r p i g a f xs off ns) ≡ true → Seen
-  unfolding faultOf
-  seen e =
-      let s = fault-fine alike (rw (length-replicate p nan, length-replicate i nan, length-replicate g nan, length-replicate a nan, length-replicate f nan) e) in
+  first-offset : num off 0 ≡ 0
+  unfolding offsetFine
+  first-offset = eqb-true (num off 0) 0 (s .contents t .each-offset 0 (omega arith))
+
+  lists-lie : (W : List ℕ) → length W ≡ a → ListsLie (r .settings .n) W xs off
+  lists-lie W e =
+      let l = links-is (r .settings) in
+      let x = s .areas .tree-long t in
       record {
-        settings = s .settings;
-        areas = rw (length-replicate p nan, length-replicate i nan, length-replicate g nan, length-replicate a nan, length-replicate f nan) at (s .areas);
-        contents = s .contents;
+        offsets-long = omega (arith, x .offsets-most);
+        offsets-begin = first-offset;
+        offsets-rise = λ j h. next-offset j h .0;
+        weights-long = omega (arith, last-offset, l, x .links-most);
+        indices-long = omega (arith, last-offset, l, x .indices-most);
       }
-
-  module _ (s : Seen) (t : isTree (r .settings .method) ≡ true) where
-    -- an offset past the first is not below the one before it, and passes no slot
-    next-offset : (j : ℕ) → j < r .settings .n → (num off j ≤ num off (j + 1)) × (num off (j + 1) ≤ sizesOf (r .settings) .links)
-    unfolding offsetFine
-    next-offset j h =
-        let l = sizesOf (r .settings) .links in
-        let e = s .contents t .each-offset (j + 1) (omega arith) in
-        let q : leb (num off (j + 1 - 1)) (num off (j + 1)) && leb (num off (j + 1)) l ≡ true = rw (ne-eqb (j + 1) 0 (λ z. omega arith)) at e in
-        let b = leb-true (num off (j + 1 - 1)) (num off (j + 1)) (and-left (leb (num off (j + 1 - 1)) (num off (j + 1))) (leb (num off (j + 1)) l) q) in
-        let z : j + 1 - 1 ≡ j = omega arith in
-        (rw z at b, leb-true (num off (j + 1)) l (and-right (leb (num off (j + 1 - 1)) (num off (j + 1))) (leb (num off (j + 1)) l) q))
-
-    last-offset : num off (r .settings .n) ≤ sizesOf (r .settings) .links
-    last-offset =
-        let n = r .settings .n in
-        let z : n - 1 + 1 ≡ n = omega (arith, s .settings .n-some) in
-        rw z at (next-offset (n - 1) (omega (arith, s .settings .n-some)) .1)
-
-    first-offset : num off 0 ≡ 0
-    unfolding offsetFine
-    first-offset = eqb-true (num off 0) 0 (s .contents t .each-offset 0 (omega arith))
-
-    lists-lie : (W : List ℕ) → length W ≡ a → ListsLie (r .settings .n) W xs off
-    lists-lie W e =
-        let l = links-is (r .settings) in
-        let x = s .areas .tree-long t in
-        record {
-          offsets-long = omega (arith, x .offsets-most);
-          offsets-begin = first-offset;
-          offsets-rise = λ j h. next-offset j h .0;
-          weights-long = omega (arith, last-offset, l, x .links-most);
-          indices-long = omega (arith, last-offset, l, x .indices-most);
-        }
 
 tree-word : (x : ℕ) → x ≡ 1 → isTree (methodOf x) ≡ true
 unfolding methodOf
@@ -215,7 +181,7 @@ module _ (w P I G A : List ℕ) (f : ℕ) (xs off : List ℕ) (ns : List Node) w
   unfolding runOf settingsOf
   write-room e =
       let q = words-fine w (length P) (length I) (length G) (length A) f xs off ns e in
-      let s = seen (runOf w) (length P) (length I) (length G) (length A) f xs off ns (q .1) in
+      let s = at-fine (runOf w) (length P) (length I) (length G) (length A) f xs off ns (q .1) in
       record {
         words-long = run-long w (q .0);
         lists = λ t. lists-lie (runOf w) (length P) (length I) (length G) (length A) f xs off ns s (tree-word (num w 3) t) A refl;

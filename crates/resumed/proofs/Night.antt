@@ -25,6 +25,7 @@ use Rattle.run_entry.specs.State.{State}
 use Rattle.run_entry.specs.Entry.{areasFit, Good}
 use Rattle.run_entry.proofs.Laws.{areas-fine}
 use Rattle.record_words.specs.RecordWords.{runOf, settingsOf, methodOf}
+use Rattle.record_words.proofs.Laws.{method-tree}
 use Rattle.parked.specs.declared.Layout.{Layout}
 use Rattle.parked.specs.Parked.{Stored, linksIn, layoutIn}
 use Rattle.unpark.specs.declared.Unparked.the-variants.{Read}
@@ -32,7 +33,6 @@ use Rattle.unpark.specs.Unpark.{settingsRead, hasRoom, Unparking, unparking, un
 use Rattle.parking.specs.Held.{stateIn}
 use Rattle.parking.specs.Again.{recordAgain, storedAgain}
 use Rattle.parking.proofs.Entries.{Writes, parks-writes}
-use Rattle.parking.proofs.Heads.{method-tree}
 use Rattle.parking.proofs.Written.{Lying, lying, method-most, lists-in}
 use Rattle.parking.proofs.Returned.{reading-what-was-written}
 use Rattle.parking.proofs.Rewritten.{reads}

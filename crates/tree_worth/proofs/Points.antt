@@ -4,16 +4,14 @@ use mathlib.Core.List.{List, [], _∷_}
 use mathlib.Core.Bool.{Bool, true, false, true≢false}
 use Prim.Native.Nat.{ℕ, zero, suc, _+_, _-_, _^_, _<_, _≤_}
 use native.Mathlib.Omega.{arith}
-use native.Mathlib.Numerals.{add-one}
 use native.Mathlib.Decide.{ℕ-discrete, decLt}
 use native.Mathlib.Nat.{not-suc-le-zero}
 use lib.Dec.{eqb}
 use lib.ListN.{length, set}
-use lib.Seq.{getD-set-same, getD-set-other}
+use lib.Seq.{getD-set-same}
 use lib.Ieee.{Float}
 use borrow.Author.Tests.{eq-eqb, ne-eqb}
 use Rattle.laws.specs.Domain.{deepest}
-use Rattle.laws.specs.Loops.{loop}
 use Rattle.laws.specs.Sums.{sum, bit}
 use Rattle.laws.proofs.Bools.{by-bool}
 use Rattle.laws.proofs.Sums.{sum-same, sum-next, sum-none}
@@ -31,11 +29,11 @@ use Rattle.tree_turns.specs.Turns.{absorbed, occupied, parent, out, childOf}
 use Rattle.tree.specs.Insert.{Tree, tree, subdivided, turnAt, levelled, levelAt, inserted, insertOf, treeOk, built}
 use Rattle.tree.specs.Box.{boxed}
 use Rattle.tree.proofs.Inserting.{turn-cases, inserted-last, inserted-next, level-plain, Ok, ok-next, ok-start}
-use Rattle.tree.proofs.Whole.{needed, taken, taken-fits, built-next, built-full}
+use Rattle.tree.proofs.Whole.{needed, taken, taken-fits}
 use Rattle.tree_worth.specs.Worth.{LeafCounts, leafFor, leafIn, pointsOf}
 use Rattle.tree_worth.proofs.Sums.{sum-at, sum-two}
-use Rattle.tree_worth.proofs.Tallies.{Tallied, split-tallied, new-here, new-old, new-child, child-first, child-count, child-empty, first-i, first-new}
-use Rattle.tree_worth.proofs.Counts.{Comes, comes, one-held, Settled, Accounted, built-stands}
+use Rattle.tree_worth.proofs.Tallies.{stored-other, stored-same, Tallied, split-tallied, new-here, new-old, new-child, child-first, child-count, child-empty, first-i, first-new}
+use Rattle.tree_worth.proofs.Counts.{Comes, comes, one-held, Settled, Accounted, built-keeps, built-stands}
 use Rattle.tree_worth.proofs.Routes.{nextOf, routeOf, route-same, route-leaf, route-inner, route-ends, split-route}
 
 -- of the first j points
@@ -61,14 +59,11 @@ module _ (y : List Float) (c j i u : ℕ) (ns : List Node) (h : Lodged y c j (tr
   here : nodeAt ms i ≡ w
   here = getD-set-same ns i w blank (omega (arith, li, room))
 
-  other : (x : ℕ) → (x ≡ i → ⊥) → nodeAt ms x ≡ nodeAt ns x
-  other x n = getD-set-other ns i x w blank n
-
   first-same : (x : ℕ) → nodeAt ms x .first ≡ nodeAt ns x .first
-  first-same x = elim (ℕ-discrete x i) [ yes e ↦ rw e (ap (λ (v : Node). v .first) here ∙ ef) | no n ↦ ap (λ (v : Node). v .first) (other x n) ]
+  first-same = stored-same ns i w (λ v. v .first) (omega (arith, li, room)) ef
 
   centre-same : (x : ℕ) → nodeAt ms x .centre ≡ nodeAt ns x .centre
-  centre-same x = elim (ℕ-discrete x i) [ yes e ↦ rw e (ap (λ (v : Node). v .centre) here ∙ ez) | no n ↦ ap (λ (v : Node). v .centre) (other x n) ]
+  centre-same = stored-same ns i w (λ v. v .centre) (omega (arith, li, room)) ez
 
   pub routes-kept : (p : List Float) (x : ℕ) → leafFor u c p ms x ≡ leafFor u c p ns x
   routes-kept p x = route-same c p ns ms first-same centre-same u x
@@ -78,8 +73,11 @@ module _ (y : List Float) (c j i u : ℕ) (ns : List Node) (h : Lodged y c j (tr
 
   pub inner-placed : (nodeAt ns i .first ≡ 0 → ⊥) → Lodged y c j (tree u ms)
   inner-placed z = record {
-    counts = λ k l e. (let n = not-i k e in ap (λ (v : Node). v .count) (other k n) ∙ h .counts k l (sym (first-same k) ∙ e) ∙ sym (points-kept j k));
-    named = λ k o l e q. (let n = not-i k e in let r = h .named k o l (sym (first-same k) ∙ e) (sym (ap (λ (v : Node). v .leaf) (other k n)) ∙ q) in (r .0, routes-kept (pointOf y c o) 0 ∙ r .1));
+    counts = λ k l e. (let n = not-i k e in ap (λ (v : Node). v .count) (stored-other ns i w k n) ∙ h .counts k l (sym (first-same k) ∙ e) ∙ sym (points-kept j k));
+    named = λ k o l e q.
+        let n = not-i k e in
+        let r = h .named k o l (sym (first-same k) ∙ e) (sym (ap (λ (v : Node). v .leaf) (stored-other ns i w k n)) ∙ q) in
+        (r .0, routes-kept (pointOf y c o) 0 ∙ r .1);
   }
     where
       not-i : (k : ℕ) → nodeAt ms k .first ≡ 0 → k ≡ i → ⊥
@@ -97,12 +95,12 @@ module _ (y : List Float) (c j i u : ℕ) (ns : List Node) (h : Lodged y c j (tr
               let b : nodeAt ns i .count ≡ pointsOf y c (tree u ns) j k = h .counts i li z ∙ ap (pointsOf y c (tree u ns) j) (sym x) in
               omega (arith, s, a, b, bit-yes (leafIn y c (tree u ns) j) k (at ∙ sym x))
           | no x ↦
-              let a : nodeAt ms k .count ≡ nodeAt ns k .count = ap (λ (v : Node). v .count) (other k x) in
+              let a : nodeAt ms k .count ≡ nodeAt ns k .count = ap (λ (v : Node). v .count) (stored-other ns i w k x) in
               omega (arith, s, a, h .counts k l (sym (first-same k) ∙ e), bit-no (leafIn y c (tree u ns) j) k (λ q. x (sym q ∙ at)))
         ];
     named = λ k o l e q. elim (ℕ-discrete k i) [
       | yes x ↦ (let r = wn o (sym (ap (λ (v : Node). v .leaf) here) ∙ (ap (λ (y : ℕ). nodeAt ms y .leaf) (sym x) ∙ q)) in (r .0, routes-kept (pointOf y c o) 0 ∙ r .1 ∙ sym x))
-      | no x ↦ (let r = h .named k o l (sym (first-same k) ∙ e) (sym (ap (λ (v : Node). v .leaf) (other k x)) ∙ q) in (omega (arith, r .0), routes-kept (pointOf y c o) 0 ∙ r .1))
+      | no x ↦ (let r = h .named k o l (sym (first-same k) ∙ e) (sym (ap (λ (v : Node). v .leaf) (stored-other ns i w k x)) ∙ q) in (omega (arith, r .0), routes-kept (pointOf y c o) 0 ∙ r .1))
     ];
   }
 
@@ -365,15 +363,7 @@ module _ (y : List Float) (n c : ℕ) where
     boxedTree = boxed y n c before
 
     pub built-placed : (i : ℕ) → i ≤ n → built y c i boxedTree .full ≡ false → Lodged y c i (built y c i boxedTree .tree)
-    unfolding built loop
-    built-placed zero l e = box-placed before h
-    built-placed (suc i) l e = by-bool (Lodged y c (suc i) (built y c (suc i) boxedTree .tree)) (built y c i boxedTree .full)
-        (λ f. absurd (true≢false (sym (built-full y c boxedTree i f) ∙ e)))
-        (λ f. more f (built-placed i (omega arith) f))
-      where
-        more : built y c i boxedTree .full ≡ false → Lodged y c i (built y c i boxedTree .tree) → Lodged y c (suc i) (built y c (suc i) boxedTree .tree)
-        more f s =
-            let t = built y c i boxedTree .tree in
-            let q : insertOf y c i t .full ≡ false = rw (built-next y c boxedTree i f) at e in
-            let a = built-stands y n c before h i (omega (arith, l)) f in
-            rw (built-next y c boxedTree i f) (rw (sym (add-one i)) (one-more (i + 1) i i t l (omega arith) (a .tree) (a .some) (a .within) (taken-fits y c i t q) (a .settled) s))
+    built-placed = built-keeps y n c boxedTree (Lodged y c) (box-placed before h) (λ i l f q s.
+        let t = built y c i boxedTree .tree in
+        let a = built-stands y n c before h i (omega (arith, l)) f in
+        one-more (i + 1) i i t l (omega arith) (a .tree) (a .some) (a .within) (taken-fits y c i t q) (a .settled) s)

@@ -11,6 +11,7 @@ use Rattle.tree_node.specs.Arena.{nodeAt}
 use Rattle.tree_children.specs.Children.{childIndex}
 use Rattle.tree_children.proofs.Below.{child-below}
 use Rattle.tree_walk.specs.Repel.{Blocks}
+use Rattle.tree_walk.proofs.Fuel.{nowhere}
 use Rattle.tree_worth.specs.Worth.{leafFor}
 
 module _ (c : ℕ) (p : List Float) where
@@ -44,14 +45,8 @@ module _ (c : ℕ) (p : List Float) where
 
     -- any number of levels that reaches the last used node leads alike
     pub route-fuel : (g g' i : ℕ) → i < u → u ≤ i + g → u ≤ i + g' → leafFor g c p ns i ≡ leafFor g' c p ns i
-    route-fuel zero g' i l a b = absurd (nowhere i l a)
-      where
-        nowhere : (i : ℕ) → i < u → u ≤ i + 0 → ⊥
-        nowhere i l a = omega (arith, l, a)
-    route-fuel (suc g) zero i l a b = absurd (nowhere i l b)
-      where
-        nowhere : (i : ℕ) → i < u → u ≤ i + 0 → ⊥
-        nowhere i l a = omega (arith, l, a)
+    route-fuel zero g' i l a b = absurd (nowhere i u l a)
+    route-fuel (suc g) zero i l a b = absurd (nowhere i u l b)
     route-fuel (suc g) (suc g') i l a b = elim (ℕ-discrete (nodeAt ns i .first) 0) [
       | yes z ↦ stops-here (suc g) ns i z ∙ sym (stops-here (suc g') ns i z)
       | no z ↦
@@ -70,10 +65,7 @@ module _ (c : ℕ) (p : List Float) where
 
     -- it leads to a used leaf
     ends-at : (g i : ℕ) → i < u → u ≤ i + g → (leafFor g c p ns i < u) × (nodeAt ns (leafFor g c p ns i) .first ≡ 0)
-    ends-at zero i l a = absurd (nowhere i l a)
-      where
-        nowhere : (i : ℕ) → i < u → u ≤ i + 0 → ⊥
-        nowhere i l a = omega (arith, l, a)
+    ends-at zero i l a = absurd (nowhere i u l a)
     ends-at (suc g) i l a = elim (ℕ-discrete (nodeAt ns i .first) 0) [
       | yes z ↦ rw (stops-here (suc g) ns i z) (l, z)
       | no z ↦
@@ -107,10 +99,7 @@ module _ (c : ℕ) (p : List Float) where
 
     -- what came to leaf i comes to one of its children; what came elsewhere comes there still
     pub split-route : (g x : ℕ) → x < u → u ≤ x + g → (before x ≡ i → after x ≡ child) × ((before x ≡ i → ⊥) → after x ≡ before x)
-    split-route zero x l a = absurd (nowhere x l a)
-      where
-        nowhere : (x : ℕ) → x < u → u ≤ x + 0 → ⊥
-        nowhere x l a = omega (arith, l, a)
+    split-route zero x l a = absurd (nowhere x u l a)
     split-route (suc g) x l a = elim (ℕ-discrete (nodeAt ns x .first) 0) [
       | yes z ↦ elim (ℕ-discrete x i) [
         | yes e ↦ ((λ _. ap after e ∙ from-i), λ n. absurd (n (route-leaf u ns ok x z ∙ e)))

@@ -26,6 +26,18 @@ use Rattle.tree.proofs.Grow.{filled-out, filled-in, length-filled}
 use Rattle.tree_worth.specs.Worth.{blockCounts, childCounts, LeafCounts}
 use Rattle.tree_worth.proofs.Sums.{sum-bumped}
 
+-- ---- w is stored as node i
+
+module _ (ns : List Node) (i : ℕ) (w : Node) where
+  pub stored-other : (x : ℕ) → (x ≡ i → ⊥) → nodeAt (set ns i w) x ≡ nodeAt ns x
+  stored-other x n = getD-set-other ns i x w blank n
+
+  -- what w has as node i had it, every node has as before
+  pub stored-same : {A : Type 0} (f : Node → A) → i < length ns → f w ≡ f (nodeAt ns i) → (x : ℕ) → f (nodeAt (set ns i w) x) ≡ f (nodeAt ns x)
+  stored-same f l e x = elim (ℕ-discrete x i) [ yes q ↦ rw q (ap f (getD-set-same ns i w blank l) ∙ e) | no n ↦ ap f (stored-other x n) ]
+
+-- ---- what is owed
+
 -- what the children from node f on have yet to count: 1 where node i is one of them
 unfoldable pub owed : ℕ → ℕ → ℕ → ℕ
 owed c f i = cond (leb f i) (cond (ltb i (f + 2 ^ c)) 1 0) 0
@@ -103,17 +115,14 @@ module _ (c d i u : ℕ) (ns : List Node) (k : Tallied c d i (tree u ns)) (li : 
     here : nodeAt ms i ≡ w
     here = getD-set-same ns i w blank (omega (arith, li, room))
 
-    other : (x : ℕ) → (x ≡ i → ⊥) → nodeAt ms x ≡ nodeAt ns x
-    other x n = getD-set-other ns i x w blank n
-
     first-same : (x : ℕ) → nodeAt ms x .first ≡ nodeAt ns x .first
-    first-same x = elim (ℕ-discrete x i) [ yes e ↦ rw e (ap (λ (y : Node). y .first) here ∙ ef) | no n ↦ ap (λ (y : Node). y .first) (other x n) ]
+    first-same = stored-same ns i w (λ y. y .first) (omega (arith, li, room)) ef
 
     count-here : nodeAt ms i .count ≡ v .count + 1
     count-here = ap (λ (y : Node). y .count) here ∙ ec
 
     sums-on : (f : ℕ) → blockCounts c ms f ≡ blockCounts c ns f + owed c f i
-    sums-on f = block-owed c i f ns ms count-here (λ x a b n. ap (λ (y : Node). y .count) (other x n))
+    sums-on f = block-owed c i f ns ms count-here (λ x a b n. ap (λ (y : Node). y .count) (stored-other ns i w x n))
 
     module _ (e next : ℕ) (depth-next : k .deep next ≡ e) (here-owed : (v .first ≡ 0 → ⊥) → owed c (v .first) next ≡ 1)
         (none-owed : (x : ℕ) → x < u → (x ≡ i → ⊥) → (nodeAt ns x .first ≡ 0 → ⊥) → owed c (nodeAt ns x .first) next ≡ 0)
@@ -129,7 +138,7 @@ module _ (c d i u : ℕ) (ns : List Node) (k : Tallied c d i (tree u ns)) (li : 
                 let s : blockCounts c ms (nodeAt ns x .first) ≡ blockCounts c ns (v .first) + owed c (v .first) i = ap (λ (y : ℕ). blockCounts c ms (nodeAt ns y .first)) e ∙ sums-on (v .first) in
                 omega (arith, r, o, t, s)
             | no n ↦
-                let r : nodeAt ms x .count ≡ nodeAt ns x .count = ap (λ (y : Node). y .count) (other x n) in
+                let r : nodeAt ms x .count ≡ nodeAt ns x .count = ap (λ (y : Node). y .count) (stored-other ns i w x n) in
                 omega (arith, r, none-owed x lx n z, k .tally x lx z, sums-on (nodeAt ns x .first))
           ]
 
@@ -137,7 +146,7 @@ module _ (c d i u : ℕ) (ns : List Node) (k : Tallied c d i (tree u ns)) (li : 
       leaf-on x lx z =
           elim (ℕ-discrete x i) [
             | yes e ↦ rw (e, here) (says (sym (ap (λ (y : ℕ). nodeAt ns y .first) e) ∙ z))
-            | no n ↦ rw (other x n) (k .leaf x lx z)
+            | no n ↦ rw (stored-other ns i w x n) (k .leaf x lx z)
           ]
 
       pub stored-tallied : Tallied c e next (tree u ms)

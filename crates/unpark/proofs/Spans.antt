@@ -13,6 +13,7 @@ use Rattle.little.specs.Little.{wordIn}
 use Rattle.run_record.specs.Record.{isTree}
 use Rattle.run_entry.specs.Entry.{GoodAreas}
 use Rattle.record_words.specs.RecordWords.{settingsOf}
+use Rattle.record_words.proofs.Laws.{method-tree}
 use Rattle.parked.specs.declared.Layout.{Layout}
 use Rattle.parked.specs.Layout.{layoutOf}
 use Rattle.parked.specs.Fine.{layoutBy, wordFine, affinityFine, heldFits, indexFits, offsetFits}
@@ -20,7 +21,7 @@ use Rattle.parked_file.specs.File.{isParked}
 use Rattle.unpark.specs.Unpark.{recordRead, settingsRead}
 use Rattle.unpark.specs.Steps.{Narrow, ListsRoom}
 use Rattle.parked_file.proofs.Lies.{Lies}
-use Rattle.parked_file.proofs.Heads.{Headed, links-few, tree-method}
+use Rattle.parked_file.proofs.Heads.{Headed, links-few}
 use Rattle.parked_file.proofs.Stands.{file-lies, head-good, parked-head, parked-end, parked-word}
 
 -- ---- the words of the lists
@@ -131,7 +132,7 @@ module _ (f : List ℕ) (p : isParked f ≡ true) where
   module _ {P I G A X O F nodes : ℕ} (r : GoodAreas (settingsRead (wordIn f)) P I G A X O F nodes) where
     tree-is : isTree (settingsRead (wordIn f) .method) ≡ L .tree
     unfolding settingsRead settingsOf recordRead layoutBy layoutOf
-    tree-is = tree-method (wordIn f 0) (in-head .first .method)
+    tree-is = method-tree (wordIn f 0) (in-head .first .method)
 
     pub cells-room : (L .cells ≤ P) × (L .cells ≤ I) × (L .cells ≤ G)
     unfolding settingsRead settingsOf recordRead layoutBy layoutOf

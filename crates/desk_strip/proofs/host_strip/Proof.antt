@@ -42,7 +42,8 @@ use denote.Triple.Walked.{says, Stays, stay-slice, stay-none-slice, walkOf, goes
 use denote.Exit.{yes}
 use Rattle.lent.proofs.After.{type-of}
 use Rattle.lent.proofs.Pass.{Seat, ref-at, word, Mut, Shr, Tok}
-use Rattle.desk_strip.proofs.Laws.{mute-strip-said, strip-word-room, strip-said}
+use Rattle.desk_strip.proofs.Laws.{mute-strip-said, strip-said}
+use Rattle.lent.proofs.Holds.{word-room}
 use Rattle.desk_strip.specs.HostStrip.{hostHanded, hostStrip}
 use Rattle.run_entry.specs.State.{memory}
 use mathlib.Core.Path.{_≡_}
@@ -230,7 +231,7 @@ module _ {M : Type 1} (𝓤 : URA M) (H : Heap 𝓤) (A : Atoms 𝓤) (W : Given
         (init ! 24 refl (tt, (tt, (record { fits = room-answer .0 }, tt)))) $
         move ! (22 ∷ 23 ∷ []) $
         calls-put-handed-m ! fm mem run-of known-put-handed s-answer answer r1 ln-answer is1
-        (strip-word-room words (memory positions increments gains affinities indices offsets forces cells) order gaps answer _ ln-answer no1)
+        (word-room answer _ ln-answer _ refl no1)
         (λ _ _. and-then ! (load ! (from ! (stop !)) (look ! 24 refl)) (and-then ! (load ! (from ! (stop !)) (look ! 42 refl)) (no-more !)))
         (λ r2 answer2 e2 is2 l-answer2.
         land ! (from ! (stop !)) (init ! 40 refl (tt, record { fits = is2 .1 })) $

@@ -1,6 +1,7 @@
 -- `replay_affinity::choices::read_distances` meets its contract: the loop keeps `Plains`; by `above-plain`, `plain-next`.
 use Rattle.affinity_near.specs.Near.{Plains}
-use Rattle.replay_affinity.proofs.Plain.{above-plain, plain-next}
+use Rattle.affinity_near.proofs.Apart.{above-plain}
+use Rattle.replay_affinity.proofs.Plain.{plain-next}
 use native.Mathlib.Nat.{not-suc-le-zero}
 use mathlib.Core.Path.{refl, _≡_}
 use lib.ListN.{length}
