@@ -192,7 +192,7 @@ def parameters(name):
 
 def locals_told(name, text):
     """In a walk: which locals are which, and where they stand on entry."""
-    count = len(re.findall(r"alloc1 ! \(λ\s+l\d+\.", text))
+    count = len(re.findall(r"alloc1 ! \(λ\s+l[\d₀-₉]+\.", text))
     names = parameters(name)
     entered = [int(at) for at in re.findall(r"pass1 ! \(init ! (\d+) ", text)]
     if not text.startswith("--") or not count or "-- Locals: " in text:
@@ -203,8 +203,9 @@ def locals_told(name, text):
     if count > len(told):
         told.append(f"from l{len(told)} on the code's own, as `rt mir` numbers them")
     where = f"On entry local li is thing {2 * (count - 1)} - 2·i of what is held; what is put in front of it moves it up."
-    head, rest = text.split("\n", 1)
-    return "\n".join([head] + filled("-- ", f"Locals: {', '.join(told)}. {where}".split(), " ", "") + [rest])
+    lines = text.split("\n")
+    after = 1 + next(at for at, line in enumerate(lines) if line.endswith("."))
+    return "\n".join(lines[:after] + filled("-- ", f"Locals: {', '.join(told)}. {where}".split(), " ", "") + lines[after:])
 
 
 def main(files):

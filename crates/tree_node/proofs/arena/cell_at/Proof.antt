@@ -1,5 +1,7 @@
 -- `tree_node::arena::cell_at` meets its contract: a walk of its MIR, by hand. The place of `cells[i]` is computed, the slice is looked into, element i is taken
 -- out of the row, read whole, and put back.
+-- Locals: l0 the answer, l1 cells, l2 i, from l3 on the code's own, as `rt mir` numbers them. On entry local li is thing 10 - 2·i of what is held; what is put
+-- in front of it moves it up.
 -- Assumes nothing.
 use mathlib.Core.Path.{_≡_, refl, sym}
 use Prim.Native.Nat.{ℕ, _<_, _^_, _*_}

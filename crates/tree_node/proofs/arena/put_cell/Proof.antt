@@ -1,5 +1,7 @@
 -- `tree_node::arena::put_cell` meets its contract: a walk of its MIR, by hand. The place of `cells[i]` is computed, the borrow is opened, element i is taken
 -- out of the row and stored to whole, v is put in its place, and the borrow is closed at the list with v at i.
+-- Locals: l0 the answer, l1 cells, l2 i, l3 v, from l4 on the code's own, as `rt mir` numbers them. On entry local li is thing 10 - 2·i of what is held; what
+-- is put in front of it moves it up.
 -- Assumes nothing.
 use Rattle.lent.proofs.Beside.{_∥_}
 use mathlib.Core.Path.{_≡_, refl, sym, ap, subst}
