@@ -1,4 +1,5 @@
--- Every weight is finite and not negative: each affinity of the exact route, and each weight of the lists. The premise is a table in the domain, of at most 4096 frames and 256 features; the perplexity may be any value. Nothing else is assumed.
+-- Every weight is finite and not negative: each affinity of the exact route, and each weight of the lists. The premise is a table in the domain, of at most
+-- 4096 frames and 256 features; the perplexity may be any value. Nothing else is assumed.
 use mathlib.Core.Path.{_≡_, refl, sym, ap, subst, _∙_}
 use mathlib.Core.List.{List, [], append-nil}
 use mathlib.Core.Bool.{Bool, true, false, cond, not}
@@ -18,7 +19,8 @@ use Rattle.laws.proofs.Numbers.{row-in}
 use Rattle.laws.proofs.Joined.{joined-all, getD-map-in, length-map, those-below}
 use Rattle.laws.proofs.Laid.{singles-size, singles-get, laid-at, laid-size}
 use Rattle.elementary.specs.Limits.{inDomain, notNegative, neighboursOf}
-use Rattle.elementary.proofs.Sizes.{Least, Sized, held-whole, sized, sized-signed, sized-most, sized-more, sized-add, sized-mul, sized-div, least-mul, whole-sized, sized-whole, whole-not-negative, whole-signed, whole-most, whole-least, two-sized, zero-whole}
+use Rattle.elementary.proofs.Sizes.{Least, Sized, held-whole, sized, sized-signed, sized-most, sized-next, sized-add, sized-mul, sized-div, least-mul}
+use Rattle.elementary.proofs.Sizes.{whole-sized, sized-whole, whole-not-negative, whole-signed, whole-most, whole-least, two-sized, zero-whole}
 use Rattle.affinity_distances.specs.Distances.{distanceOf}
 use Rattle.affinity_near.specs.Near.{Pair, pair, sorted}
 use Rattle.affinity_near.proofs.Apart.{row-own, row-other}
@@ -50,12 +52,14 @@ module _ (n : ℕ) (some : 0 < n) (few : n ≤ mostFrames) where
       (sized false n 1 (ofInt binary64 (pos n)) (whole-signed n) (whole-most n (omega (arith, few))))
 
   norm-least : Least 1 1 (norm n)
-  norm-least = least-mul 1 1 1 1 1 1 (2 * n) 1 two64 (ofInt binary64 (pos n)) (lit< tt) (lit< tt) (lit< tt) (held-whole 1 (lit≤ tt)) (lit≤ tt) (sized-signed false 2 1 two64 two-sized) (whole-signed n) two-least (whole-least n some (omega (arith, few)))
+  norm-least = least-mul 1 1 1 1 1 1 (2 * n) 1 two64 (ofInt binary64 (pos n)) (lit< tt) (lit< tt) (lit< tt) (held-whole 1 (lit≤ tt)) (lit≤ tt)
+      (sized-signed false 2 1 two64 two-sized) (whole-signed n) two-least (whole-least n some (omega (arith, few)))
       (sized-most false (2 * n) 1 (norm n) norm-sized)
 
   -- a value divided by 2n keeps its bound
   by-norm : (b : ℕ) (x : Float) → b ≤ 2 * mostShare → Sized false b 1 x → Sized false b 1 (div binary64 x (norm n))
-  by-norm b x h p = sized-div false false b 1 1 1 b 1 x (norm n) (lit< tt) (lit< tt) (lit< tt) (held-whole b (omega (arith, h))) (omega arith) p (sized-signed false (2 * n) 1 (norm n) norm-sized) norm-least
+  by-norm b x h p = sized-div false false b 1 1 1 b 1 x (norm n) (lit< tt) (lit< tt) (lit< tt) (held-whole b (omega (arith, h))) (omega arith) p
+      (sized-signed false (2 * n) 1 (norm n) norm-sized) norm-least
 
 each-at : (g : ℕ → Float) (n j : ℕ) → j < n → at (each g n) j ≡ g j
 each-at g n j h = ap (λ (r : List Float). at r j) (sym (append-nil (each g n))) ∙ singles-get g n j [] nan h
@@ -68,7 +72,7 @@ module _ (b : ℕ) (small : b + b ≤ 2 ^ 53) (k : ℕ) (J : List ℕ) (S : List
     where
       go : (q : Bool) → ltb p k ≡ q → Sized false (c + b) 1 (cond q (add binary64 w (at S (a + p))) w)
       go true e = sized-add c b 1 w (at S (a + p)) (lit< tt) (held-whole (c + b) (omega (arith, h, small))) v (share (ltb-true p k e))
-      go false e = sized-more false c (c + b) 1 w (omega arith) v
+      go false e = sized-next false c (c + b) 1 w (omega arith) v
 
   weight-sized : (i j : ℕ) → ((s : ℕ) → s < k → Sized false b 1 (at S (i * k + s))) → ((s : ℕ) → s < k → Sized false b 1 (at S (j * k + s))) → Sized false (b + b) 1 (weight k J S i j)
   unfolding weight
@@ -77,7 +81,8 @@ module _ (b : ℕ) (small : b + b ≤ 2 ^ 53) (k : ℕ) (J : List ℕ) (S : List
       both : (x y : ℕ) → ((s : ℕ) → s < k → Sized false b 1 (at S (x * k + s))) → ((s : ℕ) → s < k → Sized false b 1 (at S (y * k + s))) → Sized false (b + b) 1 (joint k J S x y)
       both x y p q =
           plus-sized b (y * k) (place k J y x) (plusShare k J S x y zero64) (le-refl b) (λ h. q (place k J y x) h)
-          (subst (λ (c : ℕ). Sized false c 1 (plusShare k J S x y zero64)) (zero-add b) (plus-sized 0 (x * k) (place k J x y) zero64 (omega arith) (λ h. p (place k J x y) h) (sized-whole 0 zero64 (zero-whole 0))))
+          (subst (λ (c : ℕ). Sized false c 1 (plusShare k J S x y zero64)) (zero-add b)
+          (plus-sized 0 (x * k) (place k J x y) zero64 (omega arith) (λ h. p (place k J x y) h) (sized-whole 0 zero64 (zero-whole 0))))
 
       go : (c : Bool) → Sized false (b + b) 1 (cond c (joint k J S i j) (joint k J S j i))
       go true = both i j mine other
@@ -96,7 +101,8 @@ module _ (t : List Float) (n f : ℕ) (perplexity : Float) (few-features : f ≤
   zero-far = whole-not-negative 0 zero64 (zero-whole 0)
 
   share-sized : (ds : List Float) (k : ℕ) → 0 < k → k ≤ mostFrames → ((j : ℕ) → j < k → notNegative (at ds j)) → (j : ℕ) → j < k → Sized false mostShare 1 (at (sharesOf ds k perplexity) j)
-  share-sized ds k some few far j h = sized-whole mostShare (at (sharesOf ds k perplexity) j) (share-bounded ds k some few far perplexity (replicate k zero64) (le-of-eq (sym (length-replicate k zero64))) j h)
+  share-sized ds k some few far j h = sized-whole mostShare (at (sharesOf ds k perplexity) j)
+      (share-bounded ds k some few far perplexity (replicate k zero64) (le-of-eq (sym (length-replicate k zero64))) j h)
 
   -- ---- the exact route
 
@@ -128,7 +134,8 @@ module _ (t : List Float) (n f : ℕ) (perplexity : Float) (few-features : f ≤
     where
       go : (b : Bool) → notNegative (cond b zero64 (jointly t n f perplexity (min i j) (max i j)))
       go true = zero-far
-      go false = whole-not-negative (2 * mostShare) (jointly t n f perplexity (min i j) (max i j)) (whole-sized (2 * mostShare) (jointly t n f perplexity (min i j) (max i j)) (jointly-sized (min i j) (max i j) (omega arith) (omega arith)))
+      go false = whole-not-negative (2 * mostShare) (jointly t n f perplexity (min i j) (max i j))
+          (whole-sized (2 * mostShare) (jointly t n f perplexity (min i j) (max i j)) (jointly-sized (min i j) (max i j) (omega arith) (omega arith)))
 
   -- so is what stands in each of the n·n places of the area
   exact-laid : (l : List Float) (p : ℕ) → p < n * n → notNegative (at (laid (λ i. each (λ j. affinityOf t n f perplexity i j) n) n n l) p)

@@ -64,6 +64,7 @@ module _ (n : ℕ) (perplexity : Float) (k : ℕ) (e : k ≡ neighboursOf perple
       rows = subst (Rows n k) (sym j) (rows-named t n f k perplexity I (k-below two));
     }
 
-    pub lists-done : 2 ≤ n → n ≤ length X → n ≤ length R → X₁ ≡ loop (sharesLeft t n f k perplexity) n 0 X → R₁ ≡ loop (framesLeft t n f k) n 0 R → listsMade n k (areas W₁ I₁ O X₁ R₁) ≡ neighboursListed t n f perplexity (areas W I O X R)
+    pub lists-done : 2 ≤ n → n ≤ length X → n ≤ length R → X₁ ≡ loop (sharesLeft t n f k perplexity) n 0 X → R₁ ≡ loop (framesLeft t n f k) n 0 R →
+        listsMade n k (areas W₁ I₁ O X₁ R₁) ≡ neighboursListed t n f perplexity (areas W I O X R)
     unfolding neighboursListed
     lists-done two hX hR x r = rw (w, j, ap (drop n) x ∙ shares-scratch t n f k (k-below two) perplexity X hX .tail, ap (drop n) r ∙ frames-scratch t n f k (k-below two) R hR .tail, e)

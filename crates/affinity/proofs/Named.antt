@@ -1,4 +1,5 @@
--- The row of a frame: what the k nearest, the search over their distances and the order by index leave in the areas is the row of the definition, k frames that rise, without the frame itself. Assumes nothing.
+-- The row of a frame: what the k nearest, the search over their distances and the order by index leave in the areas is the row of the definition, k frames that
+-- rise, without the frame itself. Assumes nothing.
 use mathlib.Core.Path.{_≡_, refl, sym, ap, _∙_}
 use mathlib.Core.List.{List, [], _++_, map, append-nil}
 use mathlib.Core.Bool.{true, false}
@@ -13,7 +14,7 @@ use Rattle.laws.specs.Area.{at, num, zero64}
 use Rattle.laws.proofs.Parts.{Scratch, scratch-start}
 use Rattle.laws.proofs.Loops.{loop-keeps}
 use Rattle.laws.proofs.Changed.{changed-at, changed-tail, scratch-front}
-use Rattle.laws.proofs.Laid.{singles-size, singles-taken, laid-at, Lays, lays-more}
+use Rattle.laws.proofs.Laid.{singles-size, singles-taken, laid-at, Lays, lays-next}
 use Rattle.laws.proofs.Numbers.{row-in}
 use borrow.Rule.Slice.PartMut.{midOf, putMid, same-len-mid}
 use Rattle.affinity_distances.specs.Distances.{distanceRow}
@@ -97,14 +98,16 @@ module _ (t : List Float) (n f k : ℕ) (perplexity : Float) (i : ℕ) (hi : i <
   unfolding neighbourRow
   row-by X R h = by-index-alike X (nearestShares t n f k perplexity i) (indicesOver frames R) (framesIn frames) k h (λ s l. over-at (λ (x : Pair). x .index) frames R 0 s (omega (arith, frames-count)))
 
-  row-near : (X : List Float) (R : List ℕ) (p : List Float) → n ≤ length p → ((s : ℕ) → s < k → at X s ≡ at (nearestShares t n f k perplexity i) s) → byIndexOf X (indicesOver (nearestOf (distanceRow t n f i p) n k i) R) k ≡ row
+  row-near : (X : List Float) (R : List ℕ) (p : List Float) → n ≤ length p → ((s : ℕ) → s < k → at X s ≡ at (nearestShares t n f k perplexity i) s) →
+      byIndexOf X (indicesOver (nearestOf (distanceRow t n f i p) n k i) R) k ≡ row
   row-near X R p h m = ap (λ (l : List Pair). byIndexOf X (indicesOver l R) k) (near-is p h) ∙ row-by X R m
 
   mine : byIndexOf (nearestShares t n f k perplexity i) (indicesOver (nearestOf (distancesOf t n f i) n k i) []) k ≡ row
   mine = row-near (nearestShares t n f k perplexity i) [] (replicate n zero64) zeros (λ s l. refl)
 
   pub row-count : length row ≡ k
-  row-count = ap length (sym mine) ∙ by-index-count (nearestShares t n f k perplexity i) (indicesOver (nearestOf (distancesOf t n f i) n k i) []) k (nearest-distinct (distancesOf t n f i) i n k hi hk [])
+  row-count = ap length (sym mine) ∙ by-index-count (nearestShares t n f k perplexity i) (indicesOver (nearestOf (distancesOf t n f i) n k i) []) k
+      (nearest-distinct (distancesOf t n f i) i n k hi hk [])
 
   -- ---- its frames rise, and are others
 
@@ -180,7 +183,8 @@ module _ (t : List Float) (n f k : ℕ) (hk : k < n) where
           let d = distanceRow t n f j m in
           let c = shares-are t n f k perplexity j b hk in
           let z : Scratch n p d = scratch-distances t f j b h refl s in
-          scratch-front k (le-of-lt hk) (length-append (nearestShares t n f k perplexity j) (drop k d) ∙ together c (length-drop k d) (omega (arith, z .size))) (drop-at (nearestShares t n f k perplexity j) (drop k d) k c) z
+          scratch-front k (le-of-lt hk) (length-append (nearestShares t n f k perplexity j) (drop k d) ∙ together c (length-drop k d) (omega (arith, z .size)))
+          (drop-at (nearestShares t n f k perplexity j) (drop k d) k c) z
 
   pub frames-scratch : (r : List ℕ) → n ≤ length r → Scratch n r (loop (framesLeft t n f k) n 0 r)
   frames-scratch r h = loop-keeps (λ j m. Scratch n r m) (framesLeft t n f k) n 0 r (λ j m b s. one j m (omega arith) s) scratch-start
@@ -188,7 +192,8 @@ module _ (t : List Float) (n f k : ℕ) (hk : k < n) where
       one : (j : ℕ) (m : List ℕ) → j < n → Scratch n r m → Scratch n r (framesLeft t n f k j m)
       one j m b s =
           let c = frames-count t n f k zero64 j b hk in
-          scratch-front k (le-of-lt hk) (over-size (λ (x : Pair). x .index) (nearestFrames t n f k j) m (omega (arith, c, s .size))) (over-tail (λ (x : Pair). x .index) (nearestFrames t n f k j) m k c) s
+          scratch-front k (le-of-lt hk) (over-size (λ (x : Pair). x .index) (nearestFrames t n f k j) m (omega (arith, c, s .size)))
+          (over-tail (λ (x : Pair). x .index) (nearestFrames t n f k j) m k c) s
 
 -- ---- the rows of all frames
 
@@ -200,13 +205,15 @@ module _ {B : Type 0} (g : Pair → B) (t : List Float) (n f k : ℕ) (perplexit
   rows-size i h = length-map (neighbourRow t n f k perplexity i) g ∙ row-count t n f k perplexity i h hk
 
   -- one more row is laid: what its frame left in the part of an area that was lent
-  pub lays-row : {i : ℕ} {l₀ l part : List B} (w : ℕ) → w ≡ k → i < n → n * k ≤ length l₀ → length part ≡ length (midOf (i * k) w l) → part ≡ rows i ++ drop (length (neighbourRow t n f k perplexity i)) (midOf (i * k) w l)
+  pub lays-row : {i : ℕ} {l₀ l part : List B} (w : ℕ) → w ≡ k → i < n → n * k ≤ length l₀ → length part ≡ length (midOf (i * k) w l) →
+      part ≡ rows i ++ drop (length (neighbourRow t n f k perplexity i)) (midOf (i * k) w l)
       → Lays k rows n l₀ i l → Lays k rows n l₀ (i + 1) (putMid (i * k) w l part)
   lays-row {i} {l₀} {l} {part} w e hi room s p r =
       let fits : i * k + k ≤ length l = rw (r .size) (row-in i n k (length l₀) hi room) in
       let none : drop (length (neighbourRow t n f k perplexity i)) (midOf (i * k) k l) ≡ [] =
-      drop-of-length-le (midOf (i * k) k l) {i = length (neighbourRow t n f k perplexity i)} (omega (arith, row-count t n f k perplexity i hi hk, length-take-le k (drop (i * k) l) (rw (length-drop (i * k) l) (omega arith)))) in
-      lays-more k rows r hi room (same-len-mid (i * k) w l part s)
+      drop-of-length-le (midOf (i * k) k l) {i = length (neighbourRow t n f k perplexity i)}
+      (omega (arith, row-count t n f k perplexity i hi hk, length-take-le k (drop (i * k) l) (rw (length-drop (i * k) l) (omega arith)))) in
+      lays-next k rows r hi room (same-len-mid (i * k) w l part s)
       (rw e (ap (λ (x : List B). take (i * k) l ++ (x ++ drop k (drop (i * k) l))) ((rw e at p) ∙ ap (λ (x : List B). rows i ++ x) none ∙ append-nil (rows i))))
 
 pub rows-named : (t : List Float) (n f k : ℕ) (perplexity : Float) (I : List ℕ) → k < n → Rows n k (laid (λ i. framesIn (neighbourRow t n f k perplexity i)) k n I)

@@ -20,7 +20,8 @@ use Rattle.affinity_sigma.proofs.Alone.{shares-whole, shares-read}
 use Rattle.affinity.specs.Exact.{distancesOf, conditional}
 use Rattle.affinity.specs.Steps.{conditionals, distancesLeft}
 
-module _ (ds es : List Float) (k : ℕ) (perplexity : Float) (p q : List Float) (same : (t : ℕ) → t < k → at ds t ≡ at es t) (h : k ≤ length p) (s : length q ≡ length p) (e : q ≡ sigmaShares ds k perplexity p) where
+module _ (ds es : List Float) (k : ℕ) (perplexity : Float) (p q : List Float) (same : (t : ℕ) → t < k → at ds t ≡ at es t) (h : k ≤ length p)
+    (s : length q ≡ length p) (e : q ≡ sigmaShares ds k perplexity p) where
   found : q ≡ sharesOf es k perplexity ++ drop k p
   found = e ∙ shares-read ds es k same perplexity p ∙ shares-whole es k perplexity p h
 
@@ -47,15 +48,18 @@ module _ (t : List Float) (n f i : ℕ) (l : i < n) where
   ]
 
   -- frame i's shares, in an area of n places
-  pub conditionals-there : (perplexity : Float) (row p q : List Float) → n ≤ length row → length p ≡ n → length q ≡ length p → q ≡ sigmaShares (distanceRow t n f i row) n perplexity p → q ≡ conditionals t n f perplexity i
+  pub conditionals-there : (perplexity : Float) (row p q : List Float) → n ≤ length row → length p ≡ n → length q ≡ length p →
+      q ≡ sigmaShares (distanceRow t n f i row) n perplexity p → q ≡ conditionals t n f perplexity i
   unfolding conditional
   conditionals-there perplexity row p q h m s e =
       sym (take-all n q (omega arith))
       ∙ singles-taken q nan (conditional t n f perplexity i) 0 n (omega arith)
-      (λ j b. ap (at q) (zero-add j) ∙ shares-there (distanceRow t n f i row) (distancesOf t n f i) n perplexity p q (distances-same row (replicate n zero64) h (le-of-eq (sym (length-replicate n zero64)))) (omega arith) s e j b)
+      (λ j b. ap (at q) (zero-add j) ∙ shares-there (distanceRow t n f i row) (distancesOf t n f i) n perplexity p q
+      (distances-same row (replicate n zero64) h (le-of-eq (sym (length-replicate n zero64)))) (omega arith) s e j b)
 
   -- and put back in its place
-  pub conditionals-put : (perplexity : Float) (row row′ l q : List Float) (k : ℕ) → k ≡ n → n ≤ length row → i * n + n ≤ length l → row′ ≡ distanceRow t n f i row → length q ≡ length (midOf (i * n) k l) → q ≡ sigmaShares row′ n perplexity (midOf (i * n) k l)
+  pub conditionals-put : (perplexity : Float) (row row′ l q : List Float) (k : ℕ) → k ≡ n → n ≤ length row → i * n + n ≤ length l →
+      row′ ≡ distanceRow t n f i row → length q ≡ length (midOf (i * n) k l) → q ≡ sigmaShares row′ n perplexity (midOf (i * n) k l)
       → putMid (i * n) k l q ≡ putMid (i * n) n l (conditionals t n f perplexity i)
   conditionals-put perplexity row row′ l q k e h m r s o =
       let z : length (midOf (i * n) n l) ≡ n = length-take-le n (drop (i * n) l) (rw (length-drop (i * n) l) (omega arith)) in

@@ -22,7 +22,8 @@ module _ (t : List Float) (f : ℕ) (few : f ≤ mostFeatures) where
   module _ (i j : ℕ) (mine : Inside i) (other : Inside j) where
     product : (k : ℕ) → k < f → Most (2 ^ 40) 1 (mul binary64 (at t (i * f + k)) (at t (j * f + k)))
     product k h =
-        most-mul (2 ^ 20) 1 (2 ^ 20) 1 (2 ^ 40) 1 (at t (i * f + k)) (at t (j * f + k)) (lit< tt) (lit< tt) (lit< tt) (held-whole (2 ^ 40) (lit≤ tt)) (lit≤ tt) (domain-most (at t (i * f + k)) (mine k h)) (domain-most (at t (j * f + k)) (other k h))
+        most-mul (2 ^ 20) 1 (2 ^ 20) 1 (2 ^ 40) 1 (at t (i * f + k)) (at t (j * f + k)) (lit< tt) (lit< tt) (lit< tt) (held-whole (2 ^ 40) (lit≤ tt)) (lit≤ tt)
+        (domain-most (at t (i * f + k)) (mine k h)) (domain-most (at t (j * f + k)) (other k h))
 
     -- the sum of k products is at most 2 ^ 40·k
     dot-most : Most (2 ^ 48) 1 (dotOf t f i j)

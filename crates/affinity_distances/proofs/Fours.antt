@@ -37,7 +37,8 @@ module _ {A : Type 0} (f : ℕ → A → A) (x y : A) (j : ℕ) (e : x ≡ loop 
       whole j n h = omega arith
 
 module _ (t : List Float) (f i : ℕ) where
-  pub apart-is : (j : ℕ) (x y z : Float) → x ≡ squareOf t f i → y ≡ squareOf t f j → z ≡ dotOf t f i j → unlessAbove zero64 (sub binary64 (add binary64 x y) (mul binary64 two64 z)) ≡ distanceOf t f i j
+  pub apart-is : (j : ℕ) (x y z : Float) → x ≡ squareOf t f i → y ≡ squareOf t f j → z ≡ dotOf t f i j →
+      unlessAbove zero64 (sub binary64 (add binary64 x y) (mul binary64 two64 z)) ≡ distanceOf t f i j
   unfolding distanceOf
   apart-is j x y z e g h = rw (e, g, h) refl
 

@@ -72,7 +72,8 @@ module _ (n : ℕ) (d : Float) (l₀ : List Float) (room : n * n ≤ length l₀
     other p a b = getD-set-other (set l low v) high p v nan b ∙ getD-set-other l low p v nan a
 
     at-low : at (pairStep n d i j l) low ≡ v
-    at-low = getD-set-other (set l low v) high low v nan (λ e. absurd (omega (arith, place-is n j i i j hi (omega arith) e .0))) ∙ getD-set-same l low v nan (rw (r .size) (place-in n j i (length l₀) (omega arith) hi room))
+    at-low = getD-set-other (set l low v) high low v nan (λ e. absurd (omega (arith, place-is n j i i j hi (omega arith) e .0))) ∙
+        getD-set-same l low v nan (rw (r .size) (place-in n j i (length l₀) (omega arith) hi room))
 
     at-high : at (pairStep n d i j l) high ≡ v
     at-high = getD-set-same (set l low v) high v nan (rw (length-set l low v, r .size) (place-in n i j (length l₀) hi (omega arith) room))
@@ -87,7 +88,8 @@ module _ (n : ℕ) (d : Float) (l₀ : List Float) (room : n * n ≤ length l₀
     joins-pair : Joins i (j + 1) (pairStep n d i j l)
     joins-pair = record {
       size = length-set (set l low v) high v ∙ length-set l low v ∙ r .size;
-      tail = drop-set-lt (n * n) (set l low v) high v (place-in n i j (n * n) hi (omega arith) (le-refl (n * n))) ∙ drop-set-lt (n * n) l low v (place-in n j i (n * n) (omega arith) hi (le-refl (n * n))) ∙ r .tail;
+      tail = drop-set-lt (n * n) (set l low v) high v (place-in n i j (n * n) hi (omega arith) (le-refl (n * n))) ∙
+          drop-set-lt (n * n) l low v (place-in n j i (n * n) (omega arith) hi (le-refl (n * n))) ∙ r .tail;
       own = λ a h m. other (a * n + a) (λ e. let q = place-is n a a j i m hi e in omega (arith, q)) (λ e. let q = place-is n a a i j m (omega arith) e in omega (arith, q)) ∙ r .own a h m;
       joint = λ a b h m o g. elim (ℕ-discrete a j) [
         | yes q ↦ elim (ℕ-discrete b i) [
@@ -102,7 +104,8 @@ module _ (n : ℕ) (d : Float) (l₀ : List Float) (room : n * n ≤ length l₀
           (z .0 ∙ w .0, z .1 ∙ w .1);
     }
       where
-        kept : (a b : ℕ) → a < b → b < n → b ≤ i → (b ≡ i → a < j) → (b ≡ i → a ≡ j → ⊥) → (at (pairStep n d i j l) (a * n + b) ≡ jointAt l₀ n d b a) × (at (pairStep n d i j l) (b * n + a) ≡ jointAt l₀ n d b a)
+        kept : (a b : ℕ) → a < b → b < n → b ≤ i → (b ≡ i → a < j) → (b ≡ i → a ≡ j → ⊥) → (at (pairStep n d i j l) (a * n + b) ≡ jointAt l₀ n d b a) ×
+            (at (pairStep n d i j l) (b * n + a) ≡ jointAt l₀ n d b a)
         kept a b h m o g x =
             let z = others a b h m x in
             let w = r .joint a b h m o g in
@@ -135,7 +138,9 @@ module _ (n : ℕ) (d : Float) (l₀ : List Float) (room : n * n ≤ length l₀
         below b o g = omega arith
 
   joins-frame : (i : ℕ) (l : List Float) → i < n → Joins i 0 l → Joins (i + 1) 0 (frameJoined n d i l)
-  joins-frame i l h r = joins-own h (subst (λ (j : ℕ). Joins i j (loop (pairStep n d i) i 0 l)) (zero-add i) (loop-keeps (λ j m. Joins i j m) (pairStep n d i) i 0 l (λ j m b s. joins-pair h (omega arith) s) r))
+  joins-frame i l h r = joins-own h (subst (λ (j : ℕ). Joins i j (loop (pairStep n d i) i 0 l)) (zero-add i)
+      (loop-keeps (λ j m. Joins i j m) (pairStep n d i) i 0 l (λ j m b s. joins-pair h (omega arith) s) r))
 
   pub joins-all : Joins n 0 (loop (frameJoined n d) n 0 l₀)
-  joins-all = subst (λ (i : ℕ). Joins i 0 (loop (frameJoined n d) n 0 l₀)) (zero-add n) (loop-keeps (λ i m. Joins i 0 m) (frameJoined n d) n 0 l₀ (λ i m b r. joins-frame i m (omega arith) r) joins-start)
+  joins-all = subst (λ (i : ℕ). Joins i 0 (loop (frameJoined n d) n 0 l₀)) (zero-add n)
+      (loop-keeps (λ i m. Joins i 0 m) (frameJoined n d) n 0 l₀ (λ i m b r. joins-frame i m (omega arith) r) joins-start)

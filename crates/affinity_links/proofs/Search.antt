@@ -52,7 +52,8 @@ module _ (l : List ℕ) (a k j : ℕ) where
   found-at r m h e = sym (first-at (λ t. eqb (num l (a + t)) j) k m h (eq-eqb (num l (a + m)) j e) (λ s q. ne-eqb (num l (a + s)) j (λ x. omega (arith, r s m q h, x, e))))
 
   pub found-none : {low high : ℕ} → Halves l a k j low high → high ≤ low → k ≡ found l a k j
-  found-none {low} {high} s h = sym (first-none (λ t. eqb (num l (a + t)) j) k (λ t q. ne-eqb (num l (a + t)) j (λ x. elim (decLt t low) [ yes w ↦ omega (arith, s .under t w, x) | no w ↦ omega (arith, s .over t (omega arith) q, x) ])))
+  found-none {low} {high} s h = sym (first-none (λ t. eqb (num l (a + t)) j) k (λ t q. ne-eqb (num l (a + t)) j (λ x. elim
+      (decLt t low) [ yes w ↦ omega (arith, s .under t w, x) | no w ↦ omega (arith, s .over t (omega arith) q, x) ])))
 
 pub found-same : (I L : List ℕ) (a b k j : ℕ) → ((t : ℕ) → t < k → num I (a + t) ≡ num L (b + t)) → found I a k j ≡ found L b k j
 found-same I L a b k j h = first-same (λ t. eqb (num I (a + t)) j) (λ t. eqb (num L (b + t)) j) k (λ t l. ap (λ (x : ℕ). eqb x j) (h t l))
@@ -175,7 +176,11 @@ module _ {S S₀ : List Float} {I I₀ : List ℕ} {a k j w : ℕ} (turn : Turn 
       | yes e ↦ inl (z, first-fell ∙ fallen-hit f w j (omega (arith, top z, e)), sym (found-at I₀ a k j (turn .rise) (c - 1) (omega (arith, u .within)) e), e)
       | no d ↦
           let last : f (c - 1) < j = omega (arith, d, u .under (c - 1) (omega arith)) in
-          let h : (t : ℕ) → t < c → f t < j = λ t l. elim (decLt t (c - 1)) [ yes m ↦ omega (arith, turn .rise t (c - 1) m (omega (arith, u .within)), last) | no m ↦ subst (λ (x : ℕ). f x < j) (end t l m) last ] in
+          let h : (t : ℕ) → t < c → f t < j = λ t l. elim (decLt t (c - 1)) [
+            | yes m ↦
+                omega (arith, turn .rise t (c - 1) m (omega (arith, u .within)), last)
+            | no m ↦ subst (λ (x : ℕ). f x < j) (end t l m) last
+          ] in
           inr (first-fell ∙ fallen-miss f w j (λ x. omega (arith, top z, x, last)), missed h, h)
     ]
   ]

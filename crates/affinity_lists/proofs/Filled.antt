@@ -19,7 +19,8 @@ use Rattle.laws.specs.Joined.{those, joined, ending}
 use Rattle.laws.proofs.Numbers.{row-in}
 use Rattle.laws.proofs.Bools.{two}
 use Rattle.laws.proofs.First.{first-same}
-use Rattle.laws.proofs.Joined.{those-rise, those-same, map-those, placeIn, spot-yes, spot-no, spot-at, joined-none, joined-more, joined-grow, joined-mono, joined-at, tail-at, length-singles, singles-at, length-map, getD-map-in}
+use Rattle.laws.proofs.Joined.{those-rise, those-same, map-those, placeIn, spot-yes, spot-no, spot-at, joined-none, joined-next, joined-grow, joined-mono}
+use Rattle.laws.proofs.Joined.{joined-at, tail-at, length-singles, singles-at, length-map, getD-map-in}
 use Rattle.laws.proofs.Parts.{drop-put}
 use Rattle.affinity_links.specs.Links.{found, plusOf, span, past, Cursor}
 use Rattle.affinity_links.proofs.Search.{found-same, cursor-same, cursor-at}
@@ -62,7 +63,7 @@ module _ (n k : ℕ) (J : List ℕ) (S : List Float) (Q : List ℕ) (ok : Rows n
     leftO =
         ap (λ (r : List ℕ). joined (singles n k J) n ++ r) (drop-put Q n (linksOf n k J) (omega arith) ∙ ap (λ (x : ℕ). linksOf n k J ∷ drop x Q) (add-one n))
         ∙ sym (append-assoc (joined (singles n k J) n) (linksOf n k J ∷ []) (drop (suc n) Q))
-        ∙ ap (λ (r : List ℕ). r ++ drop (suc n) Q) (sym (joined-more (singles n k J) n) ∙ ap (joined (singles n k J)) (add-one n))
+        ∙ ap (λ (r : List ℕ). r ++ drop (suc n) Q) (sym (joined-next (singles n k J) n) ∙ ap (joined (singles n k J)) (add-one n))
         ∙ sym (offsets-same (linksOf n k J));
     here = refl;
     sizeI = refl;
@@ -253,11 +254,12 @@ module _ {n k : ℕ} {J : List ℕ} {S : List Float} {Q : List ℕ} (big : (2 * 
     }
 
     -- the cursors afterwards
-    pub cursors-more : {R' : List ℕ} → Lowered I O R n k i R' → Cursors n k J i R'
-    cursors-more {R'} d = record {
+    pub cursors-next : {R' : List ℕ} → Lowered I O R n k i R' → Cursors n k J i R'
+    cursors-next {R'} d = record {
       rows = λ j l. cursor-same (λ t m. row-is j t (omega arith) m) (d .rows j l);
       lists = λ j m l. elim (ℕ-discrete i j) [
-        | yes e ↦ subst (λ (x : ℕ). Cursor (num (listOf n k J x)) (length (listOf n k J x)) i (num R' x)) e (rw (d .own, list-is, those-same (linkSought I O k i) (linked k J i) i (λ x h. ready-yes x (omega (arith, frame))))
+        | yes e ↦ subst (λ (x : ℕ). Cursor (num (listOf n k J x)) (length (listOf n k J x)) i (num R' x)) e
+            (rw (d .own, list-is, those-same (linkSought I O k i) (linked k J i) i (λ x h. ready-yes x (omega (arith, frame))))
             (cursor-at (length (those (linked k J i) i)) (those-front (linked k J i) n i (omega (arith, frame))) (omega (arith, frame, many))
             (λ t h. those-under (linked k J i) n i t (omega (arith, those-front (linked k J i) n i (omega (arith, frame)))) h) (λ t a h. those-over (linked k J i) n i t a h)))
         | no e ↦ cursor-same (λ t b. list-is-at j t (omega arith) l b) (rw (span-is j (omega arith) l) at (d .lists j (omega arith) l))
@@ -279,7 +281,7 @@ module _ {n k : ℕ} {J : List ℕ} {S : List Float} {Q : List ℕ} (big : (2 * 
           leftO =
               ap (λ (r : List ℕ). joined (singles n k J) i ++ r) (drop-put O i q' (omega (arith, f .sizeO, f .roomO, frame)) ∙ ap (λ (x : ℕ). x ∷ drop (i + 1) O) e)
               ∙ sym (append-assoc (joined (singles n k J) i) (singles n k J i) (drop (i + 1) O))
-              ∙ ap (λ (r : List ℕ). r ++ drop (i + 1) O) (sym (joined-more (singles n k J) i))
+              ∙ ap (λ (r : List ℕ). r ++ drop (i + 1) O) (sym (joined-next (singles n k J) i))
               ∙ f .leftO;
           here = e;
           sizeI = whole I (take q' I) (listOf n k J i) hI (omega (arith, size-is)) (omega (arith, top)) ∙ f .sizeI;
@@ -292,17 +294,19 @@ module _ {n k : ℕ} {J : List ℕ} {S : List Float} {Q : List ℕ} (big : (2 * 
         left : {A : Type 0} {T : List A} (h : ℕ → List A) (L x : List A) (q' : ℕ) → length x ≡ q' → joined h (i + 1) ++ drop q L ≡ T → joined h i ++ drop q' (x ++ (h i ++ drop q L)) ≡ T
         left {A} h L x q' e t =
             ap (λ (r : List A). joined h i ++ r) (drop-at x (h i ++ drop q L) q' e)
-            ∙ sym (append-assoc (joined h i) (h i) (drop q L)) ∙ ap (λ (r : List A). r ++ drop q L) (sym (joined-more h i)) ∙ t
+            ∙ sym (append-assoc (joined h i) (h i) (drop q L)) ∙ ap (λ (r : List A). r ++ drop q L) (sym (joined-next h i)) ∙ t
 
         whole : {A : Type 0} (L x w : List A) → length x ≡ q' → q' + length w ≡ q → q ≤ length L → length (x ++ (w ++ drop q L)) ≡ length L
         whole L x w e a b = omega (arith, length-append x (w ++ drop q L), length-append w (drop q L), length-drop q L)
 
-    pub filled-more : (q' : ℕ) (W' : List Float) (I' : List ℕ) → q' ≡ q - length (listSought I O n k i)
+    pub filled-next : (q' : ℕ) (W' : List Float) (I' : List ℕ) → q' ≡ q - length (listSought I O n k i)
         → W' ≡ ending (weightsSought W I O n k i) q W → I' ≡ ending (listSought I O n k i) q I → Filled n k J S Q i q' W' I' (set O i q')
-    filled-more q' W' I' e eW eI =
+    filled-next q' W' I' e eW eI =
         let s : q' ≡ listStart n k J i = omega (arith, e, ap length list-is, size-is) in
-        let wI : I' ≡ take q' I ++ (listOf n k J i ++ drop q I) = eI ∙ ap (λ (x : ℕ). take x I ++ (listSought I O n k i ++ drop q I)) (sym e) ∙ ap (λ (r : List ℕ). take q' I ++ (r ++ drop q I)) list-is in
-        let wW : W' ≡ take q' W ++ (weightsOf n k J S i ++ drop q W) = eW ∙ ap (λ (x : ℕ). take x W ++ (weightsSought W I O n k i ++ drop q W)) (shorter e) ∙ ap (λ (r : List Float). take q' W ++ (r ++ drop q W)) weights-are in
+        let wI : I' ≡ take q' I ++ (listOf n k J i ++ drop q I) = eI ∙ ap (λ (x : ℕ). take x I ++ (listSought I O n k i ++ drop q I)) (sym e) ∙
+        ap (λ (r : List ℕ). take q' I ++ (r ++ drop q I)) list-is in
+        let wW : W' ≡ take q' W ++ (weightsOf n k J S i ++ drop q W) = eW ∙ ap (λ (x : ℕ). take x W ++ (weightsSought W I O n k i ++ drop q W)) (shorter e) ∙
+        ap (λ (r : List Float). take q' W ++ (r ++ drop q W)) weights-are in
         rw (wI, wW) (filled-so q' s)
       where
         shorter : q' ≡ q - length (listSought I O n k i) → q - length (weightsSought W I O n k i) ≡ q'

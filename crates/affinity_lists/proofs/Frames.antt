@@ -12,7 +12,7 @@ use Rattle.laws.proofs.Parts.{Scratch, scratch-start, scratch-clear}
 use Rattle.areas.specs.Filled.{filled}
 use Rattle.affinity_lists.specs.Lists.{linksOf, Areas, areas, listsMade, Prepared}
 use Rattle.affinity_lists.specs.Steps.{listSought, weightsSought, Room, Lowered, Topped}
-use Rattle.affinity_lists.proofs.Filled.{Filled, filled-start, filled-small, filled-end, filled-more, offsets-same, Cursors, cursors-start, cursors-more, RowReady, ready-room}
+use Rattle.affinity_lists.proofs.Filled.{Filled, filled-start, filled-small, filled-end, filled-next, offsets-same, Cursors, cursors-start, cursors-next, RowReady, ready-room}
 
 -- b: the areas before the first list is written, a: the areas now; the preparation row of values is not used
 pub record Frames (n k : ℕ) (b : Areas) (i q : ℕ) (a : Areas) : Type 0 where
@@ -45,16 +45,22 @@ module _ {n k : ℕ} {b : Areas} (ok : Prepared n k b) where
       ready : RowReady n k (b .indices) (b .weights) Q (i - 1) q W I O R
       ready =
           let e : i ≡ i - 1 + 1 = omega arith in
-          record { filled = subst (λ (x : ℕ). Filled n k (b .indices) (b .weights) Q x q W I O) e (f .lists); cursors = subst (λ (x : ℕ). Cursors n k (b .indices) x R) e (f .cursors); sizeR = f .room }
+          record {
+            filled = subst (λ (x : ℕ). Filled n k (b .indices) (b .weights) Q x q W I O) e (f .lists);
+            cursors = subst (λ (x : ℕ). Cursors n k
+                (b .indices) x R) e (f .cursors);
+            sizeR = f .room;
+          }
 
       pub frames-room : Room W I O R n k (i - 1) q
       frames-room = ready-room (ok .weights, ok .indices) (ok .rows) (ok .frames) ready
 
-      pub frames-more : {q' : ℕ} {W' : List Float} {I' R' : List ℕ} → q' ≡ q - length (listSought I O n k (i - 1)) → W' ≡ ending (weightsSought W I O n k (i - 1)) q W → I' ≡ ending (listSought I O n k (i - 1)) q I
+      pub frames-next : {q' : ℕ} {W' : List Float} {I' R' : List ℕ} → q' ≡ q - length (listSought I O n k (i - 1)) →
+          W' ≡ ending (weightsSought W I O n k (i - 1)) q W → I' ≡ ending (listSought I O n k (i - 1)) q I
           → length R' ≡ length R → Lowered I O R n k (i - 1) R' → Frames n k (begun Q T) (i - 1) q' (areas W' I' (set O (i - 1) q') X R')
-      frames-more {q'} {W'} {I'} e eW eI m d = record {
-        lists = filled-more (ok .weights, ok .indices) (ok .rows) (ok .frames) ready q' W' I' e eW eI;
-        cursors = cursors-more (ok .weights, ok .indices) (ok .rows) (ok .frames) ready d;
+      frames-next {q'} {W'} {I'} e eW eI m d = record {
+        lists = filled-next (ok .weights, ok .indices) (ok .rows) (ok .frames) ready q' W' I' e eW eI;
+        cursors = cursors-next (ok .weights, ok .indices) (ok .rows) (ok .frames) ready d;
         names = record { size = m ∙ f .names .size; tail = d .tail ∙ f .names .tail };
         room = omega (arith, m, f .room);
       }

@@ -16,7 +16,7 @@ use Rattle.laws.specs.Sums.{sum, bit}
 use Rattle.laws.specs.Joined.{joined}
 use Rattle.laws.proofs.Bools.{or-left, or-right}
 use Rattle.laws.proofs.First.{first-none}
-use Rattle.laws.proofs.Sums.{sum-same, sum-add, sum-const, sum-swap, sum-le, bit-le, bit-more, bit-left, bit-miss, bit-and-true, row-sum}
+use Rattle.laws.proofs.Sums.{sum-same, sum-add, sum-const, sum-swap, sum-le, bit-le, bit-next, bit-left, bit-miss, bit-and-true, row-sum}
 use Rattle.laws.proofs.Joined.{length-those, length-joined, length-map}
 use Rattle.affinity_links.specs.Links.{plusOf}
 use Rattle.affinity_lists.specs.Lists.{Rows, place, names, linked, joint, weight, listOf, weightsOf, listStart, linksOf}
@@ -117,7 +117,7 @@ module _ (n k : ℕ) (J : List ℕ) (R : Rows n k J) where
       length-joined (listOf n k J) n
       ∙ sum-same (λ i. length (listOf n k J i)) (λ i. k + sum (extra i) n) n (λ i l.
       degree i
-      ∙ sum-same (λ j. bit (names k J i j || names k J j i)) (λ j. bit (names k J i j) + extra i j) n (λ j m. bit-more (names k J i j) (names k J j i))
+      ∙ sum-same (λ j. bit (names k J i j || names k J j i)) (λ j. bit (names k J i j) + extra i j) n (λ j m. bit-next (names k J i j) (names k J j i))
       ∙ sum-add (λ j. bit (names k J i j)) (extra i) n
       ∙ ap (λ (x : ℕ). x + sum (extra i) n) (row-count i l))
       ∙ sum-add (λ i. k) (λ i. sum (extra i) n) n

@@ -17,7 +17,7 @@ use Rattle.laws.specs.Joined.{those, ending}
 use Rattle.laws.proofs.Numbers.{row-in}
 use Rattle.laws.proofs.Bools.{or-right}
 use Rattle.laws.proofs.Joined.{those-yes, those-no, those-none, those-below, map-append, length-map}
-use Rattle.laws.proofs.Parts.{Ends, ends-start, ends-more, ends-low, ends-done}
+use Rattle.laws.proofs.Parts.{Ends, ends-start, ends-next, ends-low, ends-done}
 use Rattle.affinity_links.specs.Links.{found, plusOf, plusFallen, span, past, cursorOf, heldOf, fallenOf, Cursor, soughtYes, soughtWeight, soughtRow, soughtCursor, Sought}
 use Rattle.affinity_lists.specs.Steps.{linkSought, weightSought, listSought, weightsSought, Room, Lowered}
 use Rattle.affinity_links.proofs.Search.{found-at, word-same, Turn, turn-next, turn-yes, turn-stays, turn-plus, turn-value, turn-within}
@@ -241,18 +241,31 @@ module _ {W₀ : List Float} {I₀ O R₀ : List ℕ} {n k i e : ℕ} (o : Room 
             longer = those-yes link j (sym writing-yes ∙ sym told ∙ b)
 
             pub writing-room : (0 < q) × (q ≤ length I) × (q ≤ length W) × (j < length R)
-            writing-room = omega (arith, ap length longer, length-append (those link j) (j ∷ []), o .under, o .inside, o .sizes, r .within, r .size, r .count, r .indices .within, r .indices .size, r .weights .size)
+            writing-room = omega (
+              arith,
+              ap length longer,
+              length-append (those link j) (j ∷ []),
+              o .under,
+              o .inside,
+              o .sizes,
+              r .within,
+              r .size,
+              r .count,
+              r .indices .within,
+              r .indices .size,
+              r .weights .size,
+            )
 
-            pub writing-more : (q' : ℕ) (w : Float) (v : ℕ) → q' ≡ q - 1 → w ≡ soughtWeight W I O k i j c (num R j) → v ≡ soughtCursor I O k i j (num R j)
+            pub writing-next : (q' : ℕ) (w : Float) (v : ℕ) → q' ≡ q - 1 → w ≡ soughtWeight W I O k i j c (num R j) → v ≡ soughtCursor I O k i j (num R j)
                 → Writing W₀ I₀ O R₀ n k i e j s q' m (set W q' w) (set I q' j) (set R j v)
-            writing-more q' w v p a z = record {
+            writing-next q' w v p a z = record {
               within = omega (arith, r .within);
               rest = λ h. rw d (next-rest h);
               fall = λ h. rw d (next-fall h);
               mark = λ h. r .mark (omega (arith, other));
               count = omega (arith, ap length longer, length-append (those link j) (j ∷ []), r .count, writing-room);
-              indices = ends-more j longer (omega (arith, writing-room)) (omega (arith, writing-room)) (r .indices);
-              weights = ends-more w
+              indices = ends-next j longer (omega (arith, writing-room)) (omega (arith, writing-room)) (r .indices);
+              weights = ends-next w
                   (ap (map (weightSought W₀ I₀ O k i)) longer ∙ map-append (weightSought W₀ I₀ O k i) (those link j) (j ∷ [])
                   ∙ ap (λ (x : Float). map (weightSought W₀ I₀ O k i) (those link j) ++ (x ∷ [])) (sym (a ∙ writing-weight)))
                   (omega (arith, writing-room)) (omega (arith, writing-room)) (r .weights);
@@ -297,7 +310,8 @@ module _ {W₀ : List Float} {I₀ O R₀ : List ℕ} {n k i e : ℕ} (o : Room 
         λ h. omega (arith, o .frame, reads (m - q - 1) (omega (arith, low-part)), those-below link n (m - q - 1) (omega (arith, low-part))),
       )
 
-      pub writing-done : (v : ℕ) → v ≡ heldOf (past I q) (m - q) → (q ≡ e - length (listSought I₀ O n k i)) × (W ≡ ending (weightsSought W₀ I₀ O n k i) e W₀) × (I ≡ ending (listSought I₀ O n k i) e I₀) × Lowered I₀ O R₀ n k i (set R i v)
+      pub writing-done : (v : ℕ) → v ≡ heldOf (past I q) (m - q) → (q ≡ e - length (listSought I₀ O n k i)) × (W ≡ ending (weightsSought W₀ I₀ O n k i) e W₀) ×
+          (I ≡ ending (listSought I₀ O n k i) e I₀) × Lowered I₀ O R₀ n k i (set R i v)
       writing-done v h =
           let begin' : q ≡ e - length (weightsSought W₀ I₀ O n k i) = omega (arith, begin, length-map (weightSought W₀ I₀ O k i) (listSought I₀ O n k i)) in (
             begin,

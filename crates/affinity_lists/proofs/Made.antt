@@ -25,9 +25,9 @@ pub rows-none : {n k : ℕ} {J : List ℕ} → Rowed 0 n k J
 rows-none = record { rising = λ i l. absurd (not-suc-le-zero l); inside = λ i t l. absurd (not-suc-le-zero l); other = λ i t l. absurd (not-suc-le-zero l) }
 
 -- row i comes to the i rows before it, which are kept
-pub rows-more : {i n k : ℕ} {J : List ℕ} (J' : List ℕ) {row : ℕ → ℕ} → Row n k i row → ((p : ℕ) → p < i * k → num J' p ≡ num J p) → ((t : ℕ) → t < k → num J' (i * k + t) ≡ row t)
+pub rows-next : {i n k : ℕ} {J : List ℕ} (J' : List ℕ) {row : ℕ → ℕ} → Row n k i row → ((p : ℕ) → p < i * k → num J' p ≡ num J p) → ((t : ℕ) → t < k → num J' (i * k + t) ≡ row t)
     → Rowed i n k J → Rowed (i + 1) n k J'
-rows-more {i} {n} {k} {J} J' {row} w same new r = record {
+rows-next {i} {n} {k} {J} J' {row} w same new r = record {
   rising = λ j l s t a b. elim (decLt j i) [
     | yes m ↦ omega (arith, same (j * k + s) (low j s m (omega arith)), same (j * k + t) (low j t m b), r .rising j m s t a b)
     | no m ↦ subst (λ (x : ℕ). num J' (x * k + s) < num J' (x * k + t)) (last j l m) (omega (arith, new s (omega arith), new t b, w .rises s t a b))
@@ -50,7 +50,7 @@ rows-more {i} {n} {k} {J} J' {row} w same new r = record {
 
 -- the same where the row is a list put in the place of the k numbers from i·k on, as lending that part of the area leaves it
 pub rows-written : {i n k : ℕ} {J : List ℕ} (w rest : List ℕ) → length w ≡ k → i * k ≤ length J → Row n k i (num w) → Rowed i n k J → Rowed (i + 1) n k (take (i * k) J ++ (w ++ rest))
-rows-written {i} {n} {k} {J} w rest e h row r = rows-more (take (i * k) J ++ (w ++ rest)) row
+rows-written {i} {n} {k} {J} w rest e h row r = rows-next (take (i * k) J ++ (w ++ rest)) row
     (λ p l. List·getD-append (take (i * k) J) (w ++ rest) 0 p (omega (arith, front)) ∙ getD-take (i * k) J p 0 l)
     (λ t l. ap (λ (x : ℕ). num (take (i * k) J ++ (w ++ rest)) (x + t)) (sym front) ∙ getD-append-add (take (i * k) J) (w ++ rest) t 0 ∙ List·getD-append w rest 0 t (omega arith))
     r

@@ -59,7 +59,8 @@ module _ (n k : ℕ) (b : Areas) (ok : Rows n k (b .indices)) where
     weight-at : at (made .weights) (start i + t) ≡ weight k (b .indices) (b .weights) i (num (list i) t)
     weight-at =
         ap (λ (x : ℕ). at (made .weights) (x + t)) (sym (length-weights n k (b .indices) (b .weights) i))
-        ∙ joined-at (weightsOf n k (b .indices) (b .weights)) n i t (drop (linksOf n k (b .indices)) (b .weights)) nan h (subst (λ (x : ℕ). t < x) (sym (length-map (weight k (b .indices) (b .weights) i) (list i))) l)
+        ∙ joined-at (weightsOf n k (b .indices) (b .weights)) n i t (drop (linksOf n k (b .indices)) (b .weights)) nan h
+        (subst (λ (x : ℕ). t < x) (sym (length-map (weight k (b .indices) (b .weights) i) (list i))) l)
         ∙ getD-map-in (weight k (b .indices) (b .weights) i) (list i) t 0 nan l
 
   -- every frame that is linked with i stands in list i, with the weight of the link
@@ -109,7 +110,12 @@ module _ (n k : ℕ) (b : Areas) (ok : Rows n k (b .indices)) where
 
   -- each list rises strictly
   pub listed-rises : (i p r : ℕ) → i < n → InList (made .offsets) i p → InList (made .offsets) i r → p < r → num (made .indices) p < num (made .indices) r
-  listed-rises i p r h u v l = omega (arith, index-is i p h u, index-is i r h v, those-rise (linked k (b .indices) i) n (p - start i) (r - start i) (omega (arith, u, offset-is i (omega arith))) (place-is i r h v .1))
+  listed-rises i p r h u v l = omega (
+    arith,
+    index-is i p h u,
+    index-is i r h v,
+    those-rise (linked k (b .indices) i) n (p - start i) (r - start i) (omega (arith, u, offset-is i (omega arith))) (place-is i r h v .1),
+  )
 
 -- the contract of `symmetrise` allows one outcome
 pub one-outcome : (a b : Areas) → a ≡ b → (a .weights ≡ b .weights) × (a .indices ≡ b .indices) × (a .offsets ≡ b .offsets) × (a .rowValues ≡ b .rowValues) × (a .rowIndices ≡ b .rowIndices)

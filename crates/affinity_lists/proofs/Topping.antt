@@ -20,8 +20,8 @@ module _ {I R₀ : List ℕ} {n k : ℕ} where
   pub topping-start : Topping I R₀ n k 0 R₀
   topping-start = record { within = omega arith; size = refl; rows = λ x l. absurd (omega arith); tail = refl }
 
-  pub topping-more : {j : ℕ} {R : List ℕ} (v : ℕ) → n ≤ length R₀ → j < n → v ≡ heldOf (past I (j * k)) k → Topping I R₀ n k j R → Topping I R₀ n k (j + 1) (set R j v)
-  topping-more {j} {R} v h l e r = record {
+  pub topping-next : {j : ℕ} {R : List ℕ} (v : ℕ) → n ≤ length R₀ → j < n → v ≡ heldOf (past I (j * k)) k → Topping I R₀ n k j R → Topping I R₀ n k (j + 1) (set R j v)
+  topping-next {j} {R} v h l e r = record {
     within = omega arith;
     size = length-set R j v ∙ r .size;
     rows = λ x m. elim (decLt x j) [

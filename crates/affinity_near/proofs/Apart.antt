@@ -17,12 +17,12 @@ use Rattle.laws.proofs.Written.{written-at, written-size, written-tail}
 use Rattle.elementary.specs.Limits.{unlessAbove}
 use Rattle.affinity_distances.specs.Distances.{squareOf, squaresOf, Squared, distanceOf, distanceStep, distanceRow}
 use Rattle.affinity_near.specs.Near.{Pair, pair, insert, sorted, nearestBy, nearestOf, plain, Plains}
-use Rattle.affinity_near.proofs.Entering.{one-more, none-more}
+use Rattle.affinity_near.proofs.Entering.{one-more, none-next}
 use Rattle.affinity_near.proofs.Rows.{is-own}
 
 -- ---- a distance is plain
 
-above-plain : (d : Float) → plain (unlessAbove zero64 d) ≡ true
+pub above-plain : (d : Float) → plain (unlessAbove zero64 d) ≡ true
 unfolding plain unlessAbove lt ofBits
 above-plain nan = refl
 above-plain (inf true) = refl
@@ -51,7 +51,7 @@ sorted-same b p f g (suc n) h =
     let e = sorted-same b p f g n (λ j l. h j (omega arith)) in
     ⊎-elim
     (λ y. one-more b p f n y ∙ ap (λ (x : Pair). insert b x (sorted b p f n)) (h n (omega arith) y) ∙ ap (insert b (g n)) e ∙ sym (one-more b p g n y))
-    (λ y. none-more b p f n y ∙ e ∙ sym (none-more b p g n y))
+    (λ y. none-next b p f n y ∙ e ∙ sym (none-next b p g n y))
     (two (p n))
 
 -- ---- the areas
@@ -84,4 +84,5 @@ module _ (t : List Float) (n f : ℕ) where
 
     -- frame i's own place is not asked
     pub nearest-frames : (k : ℕ) → nearestOf (distanceRow t n f i p) n k i ≡ nearestBy (distanceOf t f i) n k i
-    nearest-frames k = ap (take k) (sorted-same true (λ j. not (eqb j i)) (λ j. pair (at (distanceRow t n f i p) j) j) (λ j. pair (distanceOf t f i j) j) n (λ j l e. ap (λ (v : Float). pair v j) (row-other j l (λ q. true≢false (sym e ∙ is-own p i j q)))))
+    nearest-frames k = ap (take k) (sorted-same true (λ j. not (eqb j i)) (λ j. pair (at (distanceRow t n f i p) j) j) (λ j. pair (distanceOf t f i j) j) n
+        (λ j l e. ap (λ (v : Float). pair v j) (row-other j l (λ q. true≢false (sym e ∙ is-own p i j q)))))

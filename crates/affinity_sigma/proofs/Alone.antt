@@ -20,7 +20,8 @@ use Rattle.laws.proofs.Places.{changed-size, changed-past, summed-past}
 use Rattle.areas.specs.Filled.{filled}
 use Rattle.areas.proofs.Front.{filled-loop, filled-size}
 use Rattle.affinity_sigma.specs.declared.Bounds.{Bounds}
-use Rattle.affinity_sigma.specs.Sigma.{weightOf, weighStep, weighed, weightSum, smallest, divideStep, sharedBy, rowOf, termOf, excess, close, narrowed, Search, searched, isMet, roundOf, openBounds, sigmaShares, sharesOf, mostRounds}
+use Rattle.affinity_sigma.specs.Sigma.{weightOf, weighStep, weighed, weightSum, smallest, divideStep, sharedBy, rowOf, termOf, excess, close, narrowed}
+use Rattle.affinity_sigma.specs.Sigma.{Search, searched, isMet, roundOf, openBounds, sigmaShares, sharesOf, mostRounds}
 
 pub until-on : {A : Type 0} (p : A → Bool) (f : A → A) (k : ℕ) (x : A) → p x ≡ false → until p f (suc k) x ≡ until p f k (f x)
 unfolding until
@@ -100,7 +101,9 @@ module _ (ds : List Float) (n : ℕ) where
         let r = rowOf ds n (s .bounds .sigma) (s .row) in
         go (excess r n perplexity) (close (excess r n perplexity)) ∙ row-size (s .bounds .sigma) (s .row) h
       where
-        go : (d : Float) (b : Bool) → length (cond b (searched (rowOf ds n (s .bounds .sigma) (s .row)) (s .bounds) true) (searched (rowOf ds n (s .bounds .sigma) (s .row)) (narrowed (s .bounds) d) false) .row) ≡ length (rowOf ds n (s .bounds .sigma) (s .row))
+        go : (d : Float) (b : Bool) → length
+            (cond b (searched (rowOf ds n (s .bounds .sigma) (s .row)) (s .bounds) true)
+            (searched (rowOf ds n (s .bounds .sigma) (s .row)) (narrowed (s .bounds) d) false) .row) ≡ length (rowOf ds n (s .bounds .sigma) (s .row))
         go d true = refl
         go d false = refl
 
@@ -108,9 +111,11 @@ module _ (ds : List Float) (n : ℕ) where
     unfolding roundOf
     round-past t s e =
         let r = rowOf ds n (s .bounds .sigma) (s .row) in
-        rw (row-past (s .bounds .sigma) (s .row) t e, excess-past r t (le-of-eq (sym (row-size (s .bounds .sigma) (s .row) (le-of-eq (sym e)) ∙ e)))) (go r (excess r n perplexity) (close (excess r n perplexity)))
+        rw (row-past (s .bounds .sigma) (s .row) t e, excess-past r t (le-of-eq (sym (row-size (s .bounds .sigma) (s .row) (le-of-eq (sym e)) ∙ e))))
+        (go r (excess r n perplexity) (close (excess r n perplexity)))
       where
-        go : (r : List Float) (d : Float) (b : Bool) → cond b (searched (r ++ t) (s .bounds) true) (searched (r ++ t) (narrowed (s .bounds) d) false) ≡ past t (cond b (searched r (s .bounds) true) (searched r (narrowed (s .bounds) d) false))
+        go : (r : List Float) (d : Float) (b : Bool) → cond b (searched (r ++ t) (s .bounds) true) (searched (r ++ t) (narrowed (s .bounds) d) false) ≡ past t
+            (cond b (searched r (s .bounds) true) (searched r (narrowed (s .bounds) d) false))
         go r d true = refl
         go r d false = refl
 
@@ -137,7 +142,8 @@ module _ (ds : List Float) (n : ℕ) where
     round-alone l m b e f = rw (row-alone (b .sigma) l m e f)
 
     rounds-alone : (l m : List Float) → length l ≡ n → length m ≡ n → rounds mostRounds (searched l openBounds false) ≡ rounds mostRounds (searched m openBounds false)
-    rounds-alone l m e f = rounds-on (mostRounds - 1) (searched l openBounds false) refl ∙ ap (rounds (mostRounds - 1)) (round-alone l m openBounds e f) ∙ sym (rounds-on (mostRounds - 1) (searched m openBounds false) refl)
+    rounds-alone l m e f = rounds-on (mostRounds - 1) (searched l openBounds false) refl ∙ ap (rounds (mostRounds - 1)) (round-alone l m openBounds e f) ∙
+        sym (rounds-on (mostRounds - 1) (searched m openBounds false) refl)
 
     -- ---- the whole area
 

@@ -20,7 +20,7 @@ use Rattle.laws.specs.Loops.{loop, every}
 use Rattle.laws.specs.Area.{at, num, zero64, one64}
 use Rattle.laws.proofs.Bools.{two, not-true-is, and-left, and-right}
 use Rattle.laws.proofs.Loops.{loop-moved}
-use Rattle.laws.proofs.Every.{every-at, every-next}
+use Rattle.laws.proofs.Every.{every-at, every-step}
 use Rattle.laws.proofs.Written.{written-at}
 use Rattle.elementary.specs.Exp.{ln2, low745, low708, high709, wholeNear, signed, nearUp, expK, expT, expIn, expOf, atMost, fromMinus, power}
 use Rattle.elementary.proofs.Range.{quotient, quotient-plus, quotient-minus, bottom, near-le, exp-quotient, exp-range, exp-in}
@@ -32,7 +32,7 @@ use Rattle.affinity_sigma.specs.Blocks.{blockSize, exponentOf, exponentS
 -- ---- tests of all places
 
 pub every-joined : {r a b : Bool} (p : ℕ → Bool) (t : ℕ) → r ≡ a && b → a ≡ every p t → b ≡ p t → r ≡ every p (t + 1)
-every-joined {r} {a} {b} p t e f g = e ∙ ap (λ (x : Bool). x && b) f ∙ ap (λ (x : Bool). every p t && x) g ∙ sym (every-next p t)
+every-joined {r} {a} {b} p t e f g = e ∙ ap (λ (x : Bool). x && b) f ∙ ap (λ (x : Bool). every p t && x) g ∙ sym (every-step p t)
 
 pub every-whole : {r : Bool} (p : ℕ → Bool) (n t : ℕ) → r ≡ every p t → t ≤ n → n ≤ t → r ≡ every p n
 every-whole p n t e h l = e ∙ ap (every p) (le-antisymm h l)
@@ -176,7 +176,8 @@ halved-power (suc u) h = ap (λ (n : ℕ). ofBits binary64 (n * 2 ^ 52)) (top u 
 
 -- ---- its weight
 
-pub weight-halved : (sigma d : Float) → inReach (exponentOf sigma d) ≡ true → halvedBy d (seriesAfter (exponentOf sigma d) (halvingsOf (exponentOf sigma d))) (halvingsOf (exponentOf sigma d)) ≡ weightOf sigma d
+pub weight-halved : (sigma d : Float) → inReach (exponentOf sigma d) ≡ true →
+    halvedBy d (seriesAfter (exponentOf sigma d) (halvingsOf (exponentOf sigma d))) (halvingsOf (exponentOf sigma d)) ≡ weightOf sigma d
 unfolding weightOf expIn
 weight-halved sigma d h =
     let x = exponentOf sigma d in

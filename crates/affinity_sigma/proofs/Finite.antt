@@ -24,10 +24,12 @@ use Rattle.areas.specs.Filled.{filled}
 use Rattle.areas.proofs.Front.{filled-loop}
 use Rattle.elementary.specs.Exp.{expOf}
 use Rattle.elementary.specs.Limits.{upToWhole, notNegative}
-use Rattle.elementary.proofs.Sizes.{signPlus, Signed, Least, Sized, held-whole, signed-round, sized-signed, sized-round, zero-whole, sized-more, sized-add, sized-div, whole-sized, sized-whole, whole-not-negative, whole-signed, whole-least, one-sized, two-is, plain-add}
+use Rattle.elementary.proofs.Sizes.{signPlus, Signed, Least, Sized, held-whole, signed-round, sized-signed, sized-round, zero-whole, sized-next, sized-add}
+use Rattle.elementary.proofs.Sizes.{sized-div, whole-sized, sized-whole, whole-not-negative, whole-signed, whole-least, one-sized, two-is, plain-add}
 use Rattle.elementary.proofs.Falling.{exp-falling}
 use Rattle.affinity_sigma.specs.declared.Bounds.{Bounds}
-use Rattle.affinity_sigma.specs.Sigma.{weightOf, weighed, weightStep, weightSum, smallest, divideStep, sharedBy, rowOf, excess, close, narrowed, Search, searched, isMet, roundOf, openBounds, sigmaShares, mostRounds}
+use Rattle.affinity_sigma.specs.Sigma.{weightOf, weighed, weightStep, weightSum, smallest, divideStep, sharedBy, rowOf, excess, close, narrowed, Search}
+use Rattle.affinity_sigma.specs.Sigma.{searched, isMet, roundOf, openBounds, sigmaShares, mostRounds}
 use Rattle.affinity_sigma.proofs.Alone.{until-on, weighed-size, row-size}
 
 -- ---- one weight
@@ -103,7 +105,13 @@ next-plain b diff p = go (lt zero64 diff)
     higher true = double (b .sigma) (p .sigma)
     higher false = middle (b .sigma) (b .high) (p .sigma) (p .high)
 
-    go : (c : Bool) → PlainBounds (cond c (record { low = b .low; high = b .sigma; sigma = div binary64 (add binary64 (b .sigma) (b .low)) two64 }) (record { low = b .sigma; high = b .high; sigma = cond (eq (b .high) (inf false)) (mul binary64 (b .sigma) two64) (div binary64 (add binary64 (b .sigma) (b .high)) two64) }))
+    go : (c : Bool) → PlainBounds (cond c (record { low = b .low; high = b .sigma; sigma = div binary64 (add binary64 (b .sigma) (b .low)) two64 })
+        (record {
+          low = b .sigma;
+          high = b .high;
+          sigma = cond (eq (b .high) (inf false)) (mul binary64 (b .sigma) two64)
+              (div binary64 (add binary64 (b .sigma) (b .high)) two64);
+        }))
     go true = record { low = p .low; high = p .sigma; sigma = middle (b .sigma) (b .low) (p .sigma) (p .low) }
     go false = record { low = p .sigma; high = p .high; sigma = higher (eq (b .high) (inf false)) }
 
@@ -141,8 +149,9 @@ module _ (ds : List Float) (n : ℕ) (some : 0 < n) (few : n ≤ mostFrames) (fa
   equal-small : upToWhole (div binary64 one64 (ofInt binary64 (pos n))) mostShare
   equal-small =
       let q = div binary64 one64 (ofInt binary64 (pos n)) in
-      whole-sized mostShare q (sized-more false 1 mostShare 1 q (lit≤ tt)
-      (sized-div false false 1 1 1 1 1 1 one64 (ofInt binary64 (pos n)) (lit< tt) (lit< tt) (lit< tt) (held-whole 1 (lit≤ tt)) (lit≤ tt) one-sized (whole-signed n) (whole-least n some (le-trans few (lit≤ tt)))))
+      whole-sized mostShare q (sized-next false 1 mostShare 1 q (lit≤ tt)
+      (sized-div false false 1 1 1 1 1 1 one64 (ofInt binary64 (pos n)) (lit< tt) (lit< tt) (lit< tt) (held-whole 1 (lit≤ tt)) (lit≤ tt) one-sized
+      (whole-signed n) (whole-least n some (le-trans few (lit≤ tt)))))
 
   module _ (sigma : Float) (up-sigma : signPlus sigma) (l : List Float) (room : n ≤ length l) where
     abbrev w : List Float
@@ -170,7 +179,9 @@ module _ (ds : List Float) (n : ℕ) (some : 0 < n) (few : n ≤ mostFrames) (fa
     row-small j h = go (lt (weightSum w n) smallest) refl
       where
         go : (b : Bool) → lt (weightSum w n) smallest ≡ b → upToWhole (at (cond b (filled (div binary64 one64 (ofInt binary64 (pos n))) n w) (loop (divideStep (weightSum w n)) n 0 w)) j) mostShare
-        go true e = subst (λ (v : Float). upToWhole v mostShare) (sym (ap (λ (m : List Float). at m j) (filled-loop (div binary64 one64 (ofInt binary64 (pos n))) n w roomy) ∙ written-at (λ j. div binary64 one64 (ofInt binary64 (pos n))) nan n w roomy j h)) equal-small
+        go true e = subst (λ (v : Float). upToWhole v mostShare)
+            (sym (ap (λ (m : List Float). at m j) (filled-loop (div binary64 one64 (ofInt binary64 (pos n))) n w roomy) ∙
+            written-at (λ j. div binary64 one64 (ofInt binary64 (pos n))) nan n w roomy j h)) equal-small
         go false e = subst (λ (v : Float). upToWhole v mostShare) (sym (changed-at nan (λ j v. div binary64 v (weightSum w n)) n w roomy j h))
             (whole-sized mostShare (div binary64 (at w j) (weightSum w n))
             (sized-div false false 14 1 NS (2 ^ 78) mostShare 1 (at w j) (weightSum w n) (lit< tt) (lit< tt) (lit< tt) (held-whole mostShare (lit≤ tt)) (lit≤ tt)
@@ -221,7 +232,9 @@ module _ (ds : List Float) (n : ℕ) (some : 0 < n) (few : n ≤ mostFrames) (fa
       -- each of the first n shares is finite, not negative, and at most 14 / 1e-8: a coarse bound
       pub share-bounded : (j : ℕ) → j < n → upToWhole (at (sigmaShares ds n perplexity p) j) mostShare
       unfolding sigmaShares
-      share-bounded = subst (λ (s : Search). Bounded (s .row)) (sym (until-on isMet (roundOf ds n perplexity) (mostRounds - 1) (searched p openBounds false) refl)) (rounds-fair (mostRounds - 1) (roundOf ds n perplexity (searched p openBounds false)) (round-fair (searched p openBounds false) start) .shares)
+      share-bounded = subst (λ (s : Search). Bounded (s .row))
+          (sym (until-on isMet (roundOf ds n perplexity) (mostRounds - 1) (searched p openBounds false) refl))
+          (rounds-fair (mostRounds - 1) (roundOf ds n perplexity (searched p openBounds false)) (round-fair (searched p openBounds false) start) .shares)
 
       pub share-not-negative : (j : ℕ) → j < n → notNegative (at (sigmaShares ds n perplexity p) j)
       share-not-negative j h = whole-not-negative mostShare (at (sigmaShares ds n perplexity p) j) (share-bounded j h)

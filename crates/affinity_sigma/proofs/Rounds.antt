@@ -5,7 +5,7 @@ use mathlib.Core.Bool.{Bool, true, false}
 use Prim.Native.Nat.{ℕ, _+_, _-_, _<_, _≤_}
 use lib.Ieee.{Float, inf, binary64, div, ofBits}
 use Rattle.laws.specs.Loops.{until}
-use Rattle.laws.proofs.Untils.{Untils, until-more, until-start, until-done, until-end}
+use Rattle.laws.proofs.Untils.{Untils, until-next, until-start, until-done, until-end}
 use Rattle.laws.specs.Area.{zero64, one64}
 use Rattle.affinity_sigma.specs.declared.Bounds.{Bounds}
 use Rattle.affinity_sigma.specs.Sigma.{weighed, weightSum, rowOf, excess, close, narrowed, searched, roundOf, openBounds, sigmaShares, mostRounds}
@@ -42,11 +42,11 @@ round-end ds n perplexity row b sum r h = rw (sym (r .row-is), sym (r .off-by), 
 pub narrows-start : (ds : List Float) (n : ℕ) (perplexity : Float) (p : List Float) (b : Bounds) → b ≡ openBounds → Narrows ds n perplexity p 0 p b zero64
 narrows-start ds n perplexity p b e = record { so-far = rw e (until-start watchedMet (watchedRound ds n perplexity) mostRounds (watched (searched p openBounds false) zero64)) }
 
-pub narrows-more : {ds : List Float} {n : ℕ} {perplexity : Float} {p row row′ : List Float} {k : ℕ} {b b′ : Bounds} {sum sum′ diff : Float}
+pub narrows-next : {ds : List Float} {n : ℕ} {perplexity : Float} {p row row′ : List Float} {k : ℕ} {b b′ : Bounds} {sum sum′ diff : Float}
     → Narrows ds n perplexity p k row b sum → k < mostRounds → Round ds n perplexity row b row′ sum′ diff → close diff ≡ false → b′ ≡ narrowed b diff → Narrows ds n perplexity p (k + 1) row′ b′ sum′
-narrows-more {ds} {n} {perplexity} {p} {row} {row′} {k} {b} {b′} {sum} {sum′} r l o h eb =
+narrows-next {ds} {n} {perplexity} {p} {row} {row′} {k} {b} {b′} {sum} {sum′} r l o h eb =
     let start = watched (searched p openBounds false) zero64 in
-    record { so-far = subst (λ (w : Watched). Untils watchedMet (watchedRound ds n perplexity) mostRounds start (k + 1) w) (round-on ds n perplexity row b sum o h eb) (until-more (r .so-far) l refl) }
+    record { so-far = subst (λ (w : Watched). Untils watchedMet (watchedRound ds n perplexity) mostRounds start (k + 1) w) (round-on ds n perplexity row b sum o h eb) (until-next (r .so-far) l refl) }
 
 -- the search is over: its row is the shares, and its sum the last
 ended : (ds : List Float) (n : ℕ) (perplexity : Float) (p row : List Float) (b : Bounds) (m : Bool) (sum : Float)
@@ -59,7 +59,7 @@ pub narrows-met : {ds : List Float} {n : ℕ} {perplexity : Float} {p row row′
     → Round ds n perplexity row b row′ sum′ diff → close diff ≡ true → (row′ ≡ sigmaShares ds n perplexity p) × (sum′ ≡ lastSum ds n perplexity p)
 unfolding watchedSearch
 narrows-met {ds} {n} {perplexity} {p} {row} {row′} {k} {b} {sum} {sum′} r l o h =
-    let s = until-more (r .so-far) l refl in
+    let s = until-next (r .so-far) l refl in
     let e = round-end ds n perplexity row b sum o h in
     let left = mostRounds - (k + 1) in
     ended ds n perplexity p row′ b true sum′

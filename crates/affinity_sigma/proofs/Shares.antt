@@ -6,7 +6,8 @@ use mathlib.Core.Bool.{Bool, true, false, cond, true≢false}
 use Prim.Native.Nat.{ℕ, zero, suc, _+_, _-_, _*_, _/_, _%_, _^_, _<_, _≤_}
 use native.Mathlib.Omega.{arith}
 use native.Mathlib.Numerals.{add-one}
-use native.Mathlib.Nat.{mod-eq-of-lt, mul-one, one-mul, mul-assoc, mul-comm, mul-le-mul-right, mul-lt-mul-of-pos-right, lt-of-not-le, lt-of-lt-of-le, lt-irrefl, le-trans, le-of-eq, le-of-lt, le-of-suc-le-suc}
+use native.Mathlib.Nat.{mod-eq-of-lt, mul-one, one-mul, mul-assoc, mul-comm, mul-le-mul-right, mul-lt-mul-of-pos-right, lt-of-not-le, lt-of-lt-of-le, lt-irrefl}
+use native.Mathlib.Nat.{le-trans, le-of-eq, le-of-lt, le-of-suc-le-suc}
 use lib.Pow.{pow-add}
 use lib.IntN.{ℤ, pos, negsuc, sucℤ, _+ℤ_, _-ℤ_, subℕ, +ℤ-one, sucℤ-+ℤ}
 use lib.ListN.{length}
@@ -82,7 +83,9 @@ module _ (v : Float) (f : T (fits binary64 v)) (t : lt tiny v ≡ true) (u : le 
   share-high = positive-bits v f (at-most-number v one64 u) (above-zero v t) (finite-one v u) .1
 
   pub share-low : 2 ^ 52 ≤ toBits binary64 v
-  share-low = le-of-suc-le-suc (lt-of-not-le (λ h. low-tiny v (toBits binary64 v) (omega (arith, h)) (subst (λ (y : Float). HasValue y false (toBits binary64 v) (2 ^ 1074)) (ofBits-toBits binary64 v f) (low-value (toBits binary64 v) (omega (arith, h)))) t))
+  share-low = le-of-suc-le-suc (lt-of-not-le (λ h. low-tiny v (toBits binary64 v) (omega (arith, h))
+      (subst (λ (y : Float). HasValue y false (toBits binary64 v) (2 ^ 1074)) (ofBits-toBits binary64 v f) (low-value (toBits binary64 v) (omega (arith, h))))
+      t))
 
   pub field-some : 0 < fieldOf v
   field-some = omega (arith, share-low)
@@ -100,8 +103,8 @@ power-is x h = go (two (ltb x 1023)) ∙ sym (ap (λ (y : ℤ). y -ℤ pos 1074)
     go (inl l) = rw (l, lt-ltb (x + 51) 1074 (omega (arith, ltb-true x 1023 l))) (ap negsuc (omega (arith, ltb-true x 1023 l)))
     go (inr l) = rw (l, le-ltb (x + 51) 1074 (omega (arith, ltb-false x 1023 l))) (ap pos (omega (arith, ltb-false x 1023 l)))
 
-power-more : (x : ℕ) → x ≤ 2046 → pos (x + 1) -ℤ pos 1023 ≡ minus (x + 51) 1074 +ℤ pos 1
-power-more x h = ap (λ (n : ℕ). pos n -ℤ pos 1023) (add-one x) ∙ sucℤ-+ℤ (pos x) (negsuc 1022) ∙ ap sucℤ (power-is x h) ∙ sym (+ℤ-one (minus (x + 51) 1074))
+power-next : (x : ℕ) → x ≤ 2046 → pos (x + 1) -ℤ pos 1023 ≡ minus (x + 51) 1074 +ℤ pos 1
+power-next x h = ap (λ (n : ℕ). pos n -ℤ pos 1023) (add-one x) ∙ sucℤ-+ℤ (pos x) (negsuc 1022) ∙ ap sucℤ (power-is x h) ∙ sym (+ℤ-one (minus (x + 51) 1074))
 
 pub power-fits : (x : ℕ) → x ≤ 2047 → SFits w32 (pos x -ℤ pos 1023)
 power-fits x h = go (two (ltb x 1023))
@@ -118,7 +121,7 @@ field-signed n h = record { sfits = omega arith }
 split-ln : (m : Float) (x : ℕ) (b : Bool) → x ≤ 2046 → lt root2 m ≡ b
     → logBy (cond b (div binary64 m two64) m) (ofInt binary64 (pos (cond b (x + 1) x) -ℤ pos 1023)) ≡ lnIn m (minus (x + 51) 1074)
 unfolding lnAt
-split-ln m x true h l = ap (λ (k : ℤ). lnAt (div binary64 m two64) k) (power-more x h) ∙ ln-halved m (minus (x + 51) 1074) l
+split-ln m x true h l = ap (λ (k : ℤ). lnAt (div binary64 m two64) k) (power-next x h) ∙ ln-halved m (minus (x + 51) 1074) l
 split-ln m x false h l = ap (lnAt m) (power-is x h) ∙ ln-whole m (minus (x + 51) 1074) l
 
 pub share-ln : (v : Float) → T (fits binary64 v) → lt tiny v ≡ true → le v one64 ≡ true → logBy (digitsOf v) (powerOf v) ≡ lnOf v

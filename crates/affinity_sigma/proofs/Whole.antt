@@ -3,7 +3,10 @@ use mathlib.Core.Path.{_≡_, refl, sym, ap, subst, _∙_}
 use mathlib.Core.Bool.{Bool, true, false, not, true≢false}
 use Prim.Native.Nat.{ℕ, zero, suc, _+_, _-_, _*_, _/_, _^_, _<_, _≤_, min}
 use native.Mathlib.Omega.{arith}
-use native.Mathlib.Nat.{le-trans, le-of-eq, le-of-lt, lt-irrefl, lt-of-lt-of-le, lt-of-not-le, not-le-of-lt, mul-one, one-mul, mul-comm, mul-assoc, mul-right-comm, mul-pos, mul-le-mul-right, mul-le-mul, add-mul, le-div-iff-mul-le, div-lt-iff-lt-mul, lt-of-mul-lt-mul-right, le-of-mul-le-mul-right, pow-succ', div-le-of-le-mul, le-refl, le-antisymm, suc-mul, le-of-suc-le-suc, lt-of-le-of-lt, not-suc-le-zero, zero-mul}
+use native.Mathlib.Nat.{le-trans, le-of-eq, le-of-lt, lt-irrefl, lt-of-lt-of-le, lt-of-not-le, not-le-of-lt, mul-one, one-mul, mul-comm, mul-assoc}
+use native.Mathlib.Nat.{mul-right-comm, mul-pos, mul-le-mul-right, mul-le-mul, add-mul, le-div-iff-mul-le, div-lt-iff-lt-mul, lt-of-mul-lt-mul-right}
+use native.Mathlib.Nat.{le-of-mul-le-mul-right, pow-succ', div-le-of-le-mul, le-refl, le-antisymm, suc-mul, le-of-suc-le-suc, lt-of-le-of-lt, not-suc-le-zero}
+use native.Mathlib.Nat.{zero-mul}
 use lib.Pow.{pow-pos}
 use lib.IntN.{ℤ, pos, negsuc}
 use lib.Dec.{T, ltb, lit<, lit≤, le→leb}
@@ -37,7 +40,8 @@ no-fraction (fin false m (pos e)) n l h f p a b = record {
   whole = m * 2 ^ e;
   least = omega (arith, b);
   most = omega (arith, a);
-  is = whole-unique binary64 (fin false m (pos e)) (round binary64 false (m * 2 ^ e) 1) false (m * 2 ^ e) f (ofInt-fits binary64 (pos (m * 2 ^ e))) (refl, refl) (round-whole binary64 false (m * 2 ^ e) (omega (arith, a, h)));
+  is = whole-unique binary64 (fin false m (pos e)) (round binary64 false (m * 2 ^ e) 1) false (m * 2 ^ e) f (ofInt-fits binary64 (pos (m * 2 ^ e))) (refl, refl)
+      (round-whole binary64 false (m * 2 ^ e) (omega (arith, a, h)));
 }
 no-fraction (fin false m (negsuc e)) n l h f p a b =
     let c : 2 ^ 52 * 2 ≤ n * 2 ^ suc e = mul-le-mul l (le-trans (le-of-eq (sym (mul-one 2))) (le-trans (mul-le-mul (lit≤ {m = 2} {n = 2} tt) (pow-pos e)) (le-of-eq (sym (pow-succ' 2 e))))) in
@@ -78,13 +82,16 @@ more-than : (m : ℕ) (e : ℤ) (z : Float) (n : ℕ) → HasValue z false n 1 �
 unfolding lt
 more-than m e (fin true p g) n v h = absurd (true≢false (v .0))
 more-than m e (fin false p g) n v h =
-    lt-of-mul-lt-mul-right (down g) (lt-of-lt-of-le (ltb-true (m * up e * down g) (p * up g * down e) h) (le-of-eq (ap (λ (z : ℕ). z * down e) (sym (mul-one (p * up g)) ∙ v .1) ∙ mul-right-comm n (down g) (down e))))
+    lt-of-mul-lt-mul-right (down g) (lt-of-lt-of-le (ltb-true (m * up e * down g) (p * up g * down e) h)
+    (le-of-eq (ap (λ (z : ℕ). z * down e) (sym (mul-one (p * up g)) ∙ v .1) ∙ mul-right-comm n (down g) (down e))))
 
 at-most-of : (m : ℕ) (e : ℤ) (z : Float) (n : ℕ) → HasValue z false n 1 → lt (fin false m e) z ≡ false → n * down e ≤ m * up e
 unfolding lt
 at-most-of m e (fin true p g) n v h = absurd (true≢false (v .0))
 at-most-of m e (fin false p g) n v h =
-    le-of-mul-le-mul-right {k = down g} (le-trans (le-of-eq (sym (ap (λ (z : ℕ). z * down e) (sym (mul-one (p * up g)) ∙ v .1) ∙ mul-right-comm n (down g) (down e)))) (ltb-false (m * up e * down g) (p * up g * down e) h)) (down-pos g)
+    le-of-mul-le-mul-right {k = down g}
+    (le-trans (le-of-eq (sym (ap (λ (z : ℕ). z * down e) (sym (mul-one (p * up g)) ∙ v .1) ∙ mul-right-comm n (down g) (down e))))
+    (ltb-false (m * up e * down g) (p * up g * down e) h)) (down-pos g)
 
 -- a / d, whose whole part is w, beside 2^52
 near-at : (a d w : ℕ) → 0 < d → w * d ≤ a → a < w * d + d → w ≤ 2150 → Near (round binary64 false (a * 1 + 1 * 2 ^ 52 * d) (d * 1)) (2 ^ 52 + w)
@@ -114,9 +121,14 @@ rounded (fin false m e) h =
     let is-w : min w (2 ^ 64 - 1) ≡ w = whole-part w few in
     record {
       whole = n;
-      is = ap (λ (z : Float). sub binary64 z shift52) (near .is) ∙ less-shift _ n (subst (λ (i : ℕ). HasValue (round binary64 false (near .whole) 1) false i 1) k (round-whole binary64 false (near .whole) (omega (arith, near .most, few))));
+      is = ap (λ (z : Float). sub binary64 z shift52) (near .is) ∙
+          less-shift _ n (subst (λ (i : ℕ). HasValue (round binary64 false (near .whole) 1) false i 1) k
+          (round-whole binary64 false (near .whole) (omega (arith, near .most, few))));
       small = omega (arith, near .most, few);
-      above = λ l. le-antisymm (omega (arith, near .most, is-w)) (subst (λ (i : ℕ). i + 1 ≤ n) (sym is-w) (le-trans (le-of-eq (add-one w)) (lt-of-not-le (λ (g : n ≤ w). lt-irrefl a (lt-of-lt-of-le (more-than m e _ n value l) (le-trans (mul-le-mul-right d g) lo))))));
+      above = λ l. le-antisymm (omega (arith, near .most, is-w))
+          (subst (λ (i : ℕ). i + 1 ≤ n) (sym is-w)
+          (le-trans (le-of-eq (add-one w))
+          (lt-of-not-le (λ (g : n ≤ w). lt-irrefl a (lt-of-lt-of-le (more-than m e _ n value l) (le-trans (mul-le-mul-right d g) lo))))));
       under = λ l. le-antisymm (subst (λ (i : ℕ). n ≤ i) (sym is-w) (le-of-suc-le-suc (lt-of-mul-lt-mul-right d (lt-of-le-of-lt (at-most-of m e _ n value l) hi)))) (omega (arith, near .least, is-w));
     }
 
@@ -138,11 +150,13 @@ minus-plus (fin s m e) p = ap not p
 
 twice-sign : (q : Float) → lt q (ofBits binary64 0) ≡ true → atMost q 1075 → signPlus (neg (add binary64 q q))
 unfolding add sum lt ofBits
-twice-sign (fin true m e) h w = minus-plus (round binary64 true (m * up e * down e + m * up e * down e) (down e * down e)) (signed-round binary64 true (m * up e * down e + m * up e * down e) (down e * down e))
+twice-sign (fin true m e) h w = minus-plus (round binary64 true (m * up e * down e + m * up e * down e) (down e * down e))
+    (signed-round binary64 true (m * up e * down e + m * up e * down e) (down e * down e))
 twice-sign (fin false m e) h w = absurd (not-suc-le-zero (le-trans (ltb-true (m * up e * 1) (0 * 2 ^ 0 * down e) h) (le-of-eq (zero-mul (down e)))))
 
 sized-up : (z : Float) (n : ℕ) → signPlus z → Most n 1 z → upToWhole z n
 sized-up (fin s m e) n p w = (p, omega (arith, w))
 
 pub twice-whole : (q : Float) → lt q (ofBits binary64 0) ≡ true → atMost q 1075 → upToWhole (neg (add binary64 q q)) 2150
-twice-whole q h w = sized-up (neg (add binary64 q q)) 2150 (twice-sign q h w) (most-neg 2150 1 (add binary64 q q) (most-add 1075 1075 1 q q (lit< tt) (held-whole 2150 (lit≤ tt)) (within-most 1075 q w) (within-most 1075 q w)))
+twice-whole q h w = sized-up (neg (add binary64 q q)) 2150 (twice-sign q h w)
+    (most-neg 2150 1 (add binary64 q q) (most-add 1075 1075 1 q q (lit< tt) (held-whole 2150 (lit≤ tt)) (within-most 1075 q w) (within-most 1075 q w)))

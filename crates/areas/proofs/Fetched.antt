@@ -8,7 +8,7 @@ use native.Mathlib.Nat.{le-antisymm}
 use lib.ListN.{length, getD, set, drop, length-set}
 use lib.Seq.{drop-cons, set-at, append-snoc}
 use Rattle.laws.specs.Joined.{each, joined}
-use Rattle.laws.proofs.Joined.{joined-more, length-singles}
+use Rattle.laws.proofs.Joined.{joined-next, length-singles}
 
 -- one place more: what stands before it is xs
 pub put-next : (xs v : List ℕ) (k x : ℕ) → length xs ≡ k → k < length v → set (xs ++ drop k v) k x ≡ (xs ++ (x ∷ [])) ++ drop (k + 1) v
@@ -30,14 +30,14 @@ module _ {g : ℕ → ℕ} {m : ℕ} {v₀ : List ℕ} where
   unfolding joined
   fetches-start = record { within = omega arith; size = refl; same = refl }
 
-  pub fetches-more : {i : ℕ} {v : List ℕ} → m ≤ length v₀ → i < m → Fetches g m v₀ i v → Fetches g m v₀ (i + 1) (set v i (g i))
-  fetches-more {i} {v} h l r = record {
+  pub fetches-next : {i : ℕ} {v : List ℕ} → m ≤ length v₀ → i < m → Fetches g m v₀ i v → Fetches g m v₀ (i + 1) (set v i (g i))
+  fetches-next {i} {v} h l r = record {
     within = omega arith;
     size = length-set v i (g i) ∙ r .size;
     same =
         ap (λ (x : List ℕ). set x i (g i)) (r .same)
         ∙ put-next (each g i) v₀ i (g i) (length-singles g i) (omega arith)
-        ∙ ap (λ (x : List ℕ). x ++ drop (i + 1) v₀) (sym (joined-more (λ j. g j ∷ []) i));
+        ∙ ap (λ (x : List ℕ). x ++ drop (i + 1) v₀) (sym (joined-next (λ j. g j ∷ []) i));
   }
 
   pub fetches-done : {i : ℕ} {v : List ℕ} → m ≤ i → Fetches g m v₀ i v → v ≡ each g m ++ drop m v₀

@@ -52,7 +52,9 @@ nothing-7 = refl
 
 -- one record
 pub single-9 : mapNumber (mapOf first101 .told) ≡ 9
-unfolding mapOf ofBits add sub mul div lt le eq neg ofInt isNan size mapNumber framesOf seek badAt goodAlone pictureFine littleOf sideFine fieldFine spareFine valuesFine every upTo valueAt inOrder mayFollow mapped descended prepared prepareFault earlyFault benchSettings positive angleFault angleFine benchTable loop frameOf featuresAt lateFault
+unfolding mapOf ofBits add sub mul div lt le eq neg ofInt isNan size mapNumber framesOf seek badAt goodAlone pictureFine littleOf sideFine fieldFine spareFine
+    valuesFine every upTo valueAt inOrder mayFollow mapped descended prepared prepareFault earlyFault benchSettings positive angleFault angleFine benchTable
+    loop frameOf featuresAt lateFault
 single-9 = refl
 
 -- one record and a tail
@@ -62,5 +64,10 @@ tail-16 = refl
 
 -- the whole outcome of the example
 pub example : mapOf (first101 ++ then102) ≡ mappedAs (Answered (Finished 6)) (bits 0x4050600000000000 ∷ zero64 ∷ bits 0xc050600000000000 ∷ zeros 125)
-unfolding mapOf ofBits add sub mul div lt le eq neg ofInt isNan size framesOf seek badAt goodAlone pictureFine littleOf sideFine fieldFine spareFine valuesFine every upTo valueAt inOrder mayFollow mapped descended prepared prepareFault earlyFault benchSettings positive angleFault angleFine benchTable loop frameOf featuresAt lateFault benchStart startsAt lengthsFit areasFit sizesOf treeFits neighboursOf nodesOf work answerOf call faultOf faultAt recordFault settingsFault freshRun countersOk stateFits perOf routed neighboursListed contentsFault offsetFine indexFine treeFaultAt go kindAt stops unit groupOf treeUnit advancedOf insertTurn insertOf boxOf finishUnit finishOf elementAt gradientOf paceOf forceUnit forcesOf exaggerationOf normaliserOf momentumOf centredBy closedOf stopsNow unitsDone
+unfolding mapOf ofBits add sub mul div lt le eq neg ofInt isNan size framesOf seek badAt goodAlone pictureFine littleOf sideFine fieldFine spareFine valuesFine
+    every upTo valueAt inOrder mayFollow mapped descended prepared prepareFault earlyFault benchSettings positive angleFault angleFine benchTable loop frameOf
+    featuresAt lateFault benchStart startsAt lengthsFit areasFit sizesOf treeFits neighboursOf nodesOf work answerOf call faultOf faultAt recordFault
+    settingsFault freshRun countersOk stateFits perOf routed neighboursListed contentsFault offsetFine indexFine treeFaultAt go kindAt stops unit groupOf
+    treeUnit advancedOf insertTurn insertOf boxOf finishUnit finishOf elementAt gradientOf paceOf forceUnit forcesOf exaggerationOf normaliserOf momentumOf
+    centredBy closedOf stopsNow unitsDone
 example = refl

@@ -91,11 +91,14 @@ pub record Table : Type 0 where
   -- h) 0 and 1 in one component, at angle 0: Z is 1
   pub h : normaliserOf (alone couple 3) 2 1 ≡ one64
   -- i) with affinity 0.5 the gradients are 0; exaggerated -11 and 11
-  pub i : (gradientsOf false (linked one64) 2 1 0 ≡ zero64) × (gradientsOf false (linked one64) 2 1 1 ≡ zero64) × (gradientsOf false (linked twelve) 2 1 0 ≡ minus11) × (gradientsOf false (linked twelve) 2 1 1 ≡ plus11)
+  pub i : (gradientsOf false (linked one64) 2 1 0 ≡ zero64) × (gradientsOf false (linked one64) 2 1 1 ≡ zero64) ×
+      (gradientsOf false (linked twelve) 2 1 0 ≡ minus11) × (gradientsOf false (linked twelve) 2 1 1 ≡ plus11)
   -- j) a gain of 0.012 with agreeing signs becomes 0.01
   pub j : gainOf (bits 0x3f889374bc6a7efa) one64 one64 ≡ bits 0x3f847ae147ae147b
   -- k) table 0, 1, perplexity 1: affinity 0.5 both ways, by both routes
-  pub k : (exactOf couple 2 1 one64 (replicate 4 one64) ≡ zero64 ∷ half ∷ half ∷ zero64 ∷ []) × (neighboursListed couple 2 1 one64 (areas (replicate 4 one64) (0 ∷ 0 ∷ 0 ∷ 0 ∷ []) (0 ∷ 0 ∷ 0 ∷ []) (replicate 2 one64) (0 ∷ 0 ∷ [])) .weights ≡ half ∷ half ∷ one64 ∷ one64 ∷ [])
+  pub k : (exactOf couple 2 1 one64 (replicate 4 one64) ≡ zero64 ∷ half ∷ half ∷ zero64 ∷ []) ×
+      (neighboursListed couple 2 1 one64 (areas (replicate 4 one64) (0 ∷ 0 ∷ 0 ∷ 0 ∷ []) (0 ∷ 0 ∷ 0 ∷ []) (replicate 2 one64) (0 ∷ 0 ∷ [])) .weights ≡ half ∷
+      half ∷ one64 ∷ one64 ∷ [])
 
 pub table : Table
 unfolding expOf lnOf childIndex built boxOf forcesOf normaliserOf gradientOf gainOf exactOf neighboursListed loop unlessAbove ofBits ofInt isNan size add sub mul div lt eq neg

@@ -54,15 +54,18 @@ module _ {M : Type 1} (𝓤 : URA M) (H : Heap 𝓤) (A : Atoms 𝓤) (mem : Mem
   said-passes f₀ res = exE 𝓤 _ (λ ws. snd∗ 𝓤 (sem 𝓤 H A (lasts passes′.ended tt (f₀, tt) ws)) (fact 𝓤 (res ≡ isFine f₀)))
 
   goes-passes : Given 𝓤 H A → (f₀ : Fault) → IsFault f₀ → ent 𝓤 (emp 𝓤) (Contract-passes .pre (to-passes f₀))
-  goes-passes W f₀ g-f₀ = qed W [] ∵ nothing ! $ nothing ! $ owned ! Fault′.the-row (Is Fault′.the-row) ((EL.makes Fault′.the-type Fault″.the-plain) 𝓤 H A) f₀ _ g-f₀ $ fjoin ! $ move ! (1 ∷ 0 ∷ []) $ join ! $ frame ! $ nothing ! $ done !
+  goes-passes W f₀ g-f₀ = qed W [] ∵ nothing ! $ nothing ! $ owned ! Fault′.the-row (Is Fault′.the-row)
+      ((EL.makes Fault′.the-type Fault″.the-plain) 𝓤 H A) f₀ _ g-f₀ $ fjoin ! $ move ! (1 ∷ 0 ∷ []) $ join ! $ frame ! $ nothing ! $ done !
 
-module _ {M : Type 1} {𝓤 : URA M} {H : Heap 𝓤} {A : Atoms 𝓤} {K : Type 0} {W : Given 𝓤 H A} {Γ : List (Item 𝓤)} {E : Env 𝓤 H} {C : Calls 𝓤 H} {Λ : Loops 𝓤 H} {xs : List Operand} {q : After 𝓤 H} {d : Place} {rest : Code} where
+module _ {M : Type 1} {𝓤 : URA M} {H : Heap 𝓤} {A : Atoms 𝓤} {K : Type 0} {W : Given 𝓤 H A} {Γ : List (Item 𝓤)} {E : Env 𝓤 H} {C : Calls 𝓤 H} {Λ : Loops 𝓤 H}
+    {xs : List Operand} {q : After 𝓤 H} {d : Place} {rest : Code} where
   pub calls-passes : K → FmC 𝓤 H (W .laws) C → (mem : Memory → SProp 𝓤) (run : Routine → Fun 𝓤) → Triple 𝓤 (C #descent·passes) (Contract-passes 𝓤 H A mem run) → (f₀ : Fault) → IsFault f₀
       → ((P : Item 𝓤) → Opds K W (P ∷ Γ) E xs (val-Fault f₀ ∷ []))
       → ((res : Bool) → res ≡ isFine f₀ → Is bool res (vbool res ∷ []) → Seq K W Γ (lands C Λ E d (vbool res) rest q))
       → Seq K W Γ (runs C Λ E (seq (call #descent·passes xs d) rest) q)
   calls-passes t fm mem run met f₀ g-f₀ os k =
-      calls-plain t fm (Contract-passes 𝓤 H A mem run) met (to-passes 𝓤 H A mem run f₀) bool (vbool) (bool-tells) (Said-passes 𝓤 H A mem run f₀) (λ (res : Bool). res ≡ isFine f₀) (said-passes 𝓤 H A mem run f₀)
+      calls-plain t fm (Contract-passes 𝓤 H A mem run) met (to-passes 𝓤 H A mem run f₀) bool (vbool) (bool-tells) (Said-passes 𝓤 H A mem run f₀)
+      (λ (res : Bool). res ≡ isFine f₀) (said-passes 𝓤 H A mem run f₀)
       (λ _. id⊢ 𝓤 _) (goes-passes 𝓤 H A mem run W f₀ g-f₀) (os _) k
 
 -- ---- `bad`
@@ -80,13 +83,16 @@ module _ {M : Type 1} (𝓤 : URA M) (H : Heap 𝓤) (A : Atoms 𝓤) (mem : Mem
   said-bad f₀ res = exE 𝓤 _ (λ ws. snd∗ 𝓤 (sem 𝓤 H A (lasts bad′.ended tt (f₀, tt) ws)) (fact 𝓤 (res ≡ Bad f₀)))
 
   goes-bad : Given 𝓤 H A → (f₀ : Fault) → IsFault f₀ → ent 𝓤 (emp 𝓤) (Contract-bad .pre (to-bad f₀))
-  goes-bad W f₀ g-f₀ = qed W [] ∵ nothing ! $ nothing ! $ owned ! Fault′.the-row (Is Fault′.the-row) ((EL.makes Fault′.the-type Fault″.the-plain) 𝓤 H A) f₀ _ g-f₀ $ fjoin ! $ move ! (1 ∷ 0 ∷ []) $ join ! $ frame ! $ nothing ! $ done !
+  goes-bad W f₀ g-f₀ = qed W [] ∵ nothing ! $ nothing ! $ owned ! Fault′.the-row (Is Fault′.the-row)
+      ((EL.makes Fault′.the-type Fault″.the-plain) 𝓤 H A) f₀ _ g-f₀ $ fjoin ! $ move ! (1 ∷ 0 ∷ []) $ join ! $ frame ! $ nothing ! $ done !
 
-module _ {M : Type 1} {𝓤 : URA M} {H : Heap 𝓤} {A : Atoms 𝓤} {K : Type 0} {W : Given 𝓤 H A} {Γ : List (Item 𝓤)} {E : Env 𝓤 H} {C : Calls 𝓤 H} {Λ : Loops 𝓤 H} {xs : List Operand} {q : After 𝓤 H} {d : Place} {rest : Code} where
+module _ {M : Type 1} {𝓤 : URA M} {H : Heap 𝓤} {A : Atoms 𝓤} {K : Type 0} {W : Given 𝓤 H A} {Γ : List (Item 𝓤)} {E : Env 𝓤 H} {C : Calls 𝓤 H} {Λ : Loops 𝓤 H}
+    {xs : List Operand} {q : After 𝓤 H} {d : Place} {rest : Code} where
   pub calls-bad : K → FmC 𝓤 H (W .laws) C → (mem : Memory → SProp 𝓤) (run : Routine → Fun 𝓤) → Triple 𝓤 (C #descent·bad) (Contract-bad 𝓤 H A mem run) → (f₀ : Fault) → IsFault f₀
       → ((P : Item 𝓤) → Opds K W (P ∷ Γ) E xs (val-Fault f₀ ∷ []))
       → ((res : Answer) → res ≡ Bad f₀ → Is Answer′.the-row res (val-Answer res ∷ []) → Seq K W Γ (lands C Λ E d (val-Answer res) rest q))
       → Seq K W Γ (runs C Λ E (seq (call #descent·bad xs d) rest) q)
   calls-bad t fm mem run met f₀ g-f₀ os k =
-      calls-plain t fm (Contract-bad 𝓤 H A mem run) met (to-bad 𝓤 H A mem run f₀) Answer′.the-row (val-Answer) (EL.tells Answer′.the-type Answer″.the-laws) (Said-bad 𝓤 H A mem run f₀) (λ (res : Answer). res ≡ Bad f₀) (said-bad 𝓤 H A mem run f₀)
+      calls-plain t fm (Contract-bad 𝓤 H A mem run) met (to-bad 𝓤 H A mem run f₀) Answer′.the-row (val-Answer) (EL.tells Answer′.the-type Answer″.the-laws)
+      (Said-bad 𝓤 H A mem run f₀) (λ (res : Answer). res ≡ Bad f₀) (said-bad 𝓤 H A mem run f₀)
       (λ _. id⊢ 𝓤 _) (goes-bad 𝓤 H A mem run W f₀ g-f₀) (os _) k

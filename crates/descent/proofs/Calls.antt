@@ -31,7 +31,8 @@ work-fine b s e = rw e
 
 -- ---- with the machine's counts of the areas
 
-module _ (r : Run) (y v g P : List Float) (xs off : List ℕ) (F : List Float) (cs : List Cell) (a b c d e : ℕ) (la : length y ≡ a) (lb : length v ≡ b) (lc : length g ≡ c) (ld : length P ≡ d) (le : length F ≡ e)
+module _ (r : Run) (y v g P : List Float) (xs off : List ℕ) (F : List Float) (cs : List Cell) (a b c d e : ℕ) (la : length y ≡ a) (lb : length v ≡ b)
+    (lc : length g ≡ c) (ld : length P ≡ d) (le : length F ≡ e)
     (f : Fault) (ef : f ≡ faultAt r a b c d e xs off (nodesOf cs)) (t : Bool) (et : t ≡ isFine f) where
   fault-is : f ≡ faultOf (state r (memory y v g P xs off F cs))
   unfolding faultOf
@@ -40,10 +41,12 @@ module _ (r : Run) (y v g P : List Float) (xs off : List ℕ) (F : List Float) (
   pub call-asks : T t → Good (state r (memory y v g P xs off F cs))
   call-asks yes-t = fault-fine (state r (memory y v g P xs off F cs)) (subst (λ (x : Fault). isFine x ≡ true) fault-is (holds-as t (isFine f) et yes-t))
 
-  pub call-done : T t → (n : ℕ) (w : Left) (y′ v′ g′ F′ : List Float) (ds : List Cell) → worked (w .answer) (state (w .run) (memory y′ v′ g′ P xs off F′ ds)) ≡ told (go machine n (state r (memory y v g P xs off F cs)))
+  pub call-done : T t → (n : ℕ) (w : Left) (y′ v′ g′ F′ : List Float) (ds : List Cell) →
+      worked (w .answer) (state (w .run) (memory y′ v′ g′ P xs off F′ ds)) ≡ told (go machine n (state r (memory y v g P xs off F cs)))
       → worked (w .answer) (state (w .run) (memory y′ v′ g′ P xs off F′ ds)) ≡ work n (state r (memory y v g P xs off F cs))
   call-done yes-t n w y′ v′ g′ F′ ds ew = ew ∙ work-fine n (state r (memory y v g P xs off F cs)) (subst (λ (x : Fault). isFine x ≡ true) fault-is (holds-as t (isFine f) et yes-t))
 
   pub call-bad : T (not t) → (n : ℕ) (k : Answer) → k ≡ Bad f → worked k (state r (memory y v g P xs off F cs)) ≡ work n (state r (memory y v g P xs off F cs))
   call-bad no-t n k ek =
-      ap (λ (x : Answer). worked x (state r (memory y v g P xs off F cs))) (ek ∙ ap Bad fault-is) ∙ work-bad n (state r (memory y v g P xs off F cs)) (subst (λ (x : Fault). isFine x ≡ false) fault-is (fails-as t (isFine f) et no-t))
+      ap (λ (x : Answer). worked x (state r (memory y v g P xs off F cs))) (ek ∙ ap Bad fault-is) ∙
+      work-bad n (state r (memory y v g P xs off F cs)) (subst (λ (x : Fault). isFine x ≡ false) fault-is (fails-as t (isFine f) et no-t))

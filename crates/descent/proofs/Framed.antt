@@ -38,7 +38,8 @@ module _ (s : State) (g : Honest s) (live : isEnded (s .run .standing) ≡ false
       (λ e f. refl)
       (λ p f.
       let t = g .good .contents (k .0) .tree p in
-      taken-ends y (r .settings .c) (r .phase - 1) (tree (r .used) ns) n n (omega (arith, k .1, p)) (omega (arith, g .good .settings .n-some)) (t .each-node) (t .used-some) (omega (arith, t .used-most, nameable-most (length ns))) (taken-fits y (r .settings .c) (r .phase - 1) (tree (r .used) ns) f) .nodes))
+      taken-ends y (r .settings .c) (r .phase - 1) (tree (r .used) ns) n n (omega (arith, k .1, p)) (omega (arith, g .good .settings .n-some)) (t .each-node)
+      (t .used-some) (omega (arith, t .used-most, nameable-most (length ns))) (taken-fits y (r .settings .c) (r .phase - 1) (tree (r .used) ns) f) .nodes))
       (λ z. refl)
       (λ a b. refl)
 

@@ -17,7 +17,7 @@ use Rattle.tree_node.specs.Arena.{nameable}
 use Rattle.tree.specs.Insert.{Tree, tree, Insertion, insertion, insertOf, treeOk, built, rooted, enoughNodes}
 use Rattle.tree_bounds.specs.Bounds.{boxOf, middleStep, reachStep}
 use Rattle.tree.specs.Box.{boxed}
-use Rattle.tree.proofs.Whole.{looser, In, first-in, in-all, built-more, room-in, taken, enough-named}
+use Rattle.tree.proofs.Whole.{looser, In, first-in, in-all, built-next, room-in, taken, enough-named}
 use Rattle.run_entry.specs.State.{Memory, State}
 use Rattle.run_entry.proofs.Laws.{axes}
 use Rattle.run_finish.specs.declared.Why.the-variants.{Done, Full, Wild}
@@ -52,7 +52,8 @@ module _ (y : List Float) (n c : ℕ) where
       rw (ap (λ (x : Insertion). x .tree) e) (looser n n c (suc k) n (built y c (suc k) (boxed y n c before) .tree) (le-refl n) m (i .tree))
 
   -- with so many nodes the next point finds its own
-  next-in : (k : ℕ) (t : Tree) (before : List Node) → 0 < length before → k < n → insertion false t ≡ built y c k (boxed y n c before) → enoughNodes c n ≤ nameable (length (t .nodes)) → insertOf y c k t .full ≡ false
+  next-in : (k : ℕ) (t : Tree) (before : List Node) → 0 < length before → k < n → insertion false t ≡ built y c k (boxed y n c before) →
+      enoughNodes c n ≤ nameable (length (t .nodes)) → insertOf y c k t .full ≡ false
   unfolding built loop boxOf
   next-in zero t [] h l e room = absurd (not-suc-le-zero h)
   next-in zero t (v ∷ before) h l e room = rw (ap (λ (x : Insertion). x .tree) e, first-in y c (loop (middleStep y n c) c 0 zeros3) (loop (reachStep y n c) c 0 zeros3) before)
@@ -65,7 +66,8 @@ module _ (y : List Float) (n c : ℕ) where
 
 -- so a tree that its insertions built has no count above n
 pub grown-counts : (s : State) → 1 ≤ s .run .settings .n → Built s → treeOk (s .run .settings .n) (s .run .settings .n) (s .run .settings .c) (tree (s .run .used) (s .memory .nodes)) ≡ true
-grown-counts s l b = counts-few (s .memory .positions) (s .run .settings .n) (s .run .settings .c) (pointsIn (s .run)) (tree (s .run .used) (s .memory .nodes)) (b .before) (b .some) l (omega arith) (b .same)
+grown-counts s l b = counts-few (s .memory .positions) (s .run .settings .n) (s .run .settings .c) (pointsIn (s .run)) (tree (s .run .used) (s .memory .nodes))
+    (b .before) (b .some) l (omega arith) (b .same)
 
 -- ---- each unit keeps it
 
@@ -84,7 +86,9 @@ module _ (s : State) (g : Honest s) (live : isEnded (s .run .standing) ≡ false
     same = (let q : pointsIn (advancedOf R 1) ≡ 0 = omega (arith, e) in rw q);
   }
 
-  insert-grown : groupOf R ≡ 0 → (R .phase ≡ 0 → ⊥) → inserting R (M .positions) (M .nodes) .full ≡ false → Built (withTree M (treeTurn (advancedOf R (inserting R (M .positions) (M .nodes) .tree .used)) (inserting R (M .positions) (M .nodes) .tree .nodes) Done) .now)
+  insert-grown : groupOf R ≡ 0 → (R .phase ≡ 0 → ⊥) → inserting R (M .positions) (M .nodes) .full ≡ false →
+      Built (withTree M (treeTurn (advancedOf R (inserting R (M .positions) (M .nodes) .tree .used))
+      (inserting R (M .positions) (M .nodes) .tree .nodes) Done) .now)
   unfolding advancedOf
   insert-grown z p f =
       let k = group-zero R z in
@@ -93,7 +97,7 @@ module _ (s : State) (g : Honest s) (live : isEnded (s .run .standing) ≡ false
       let j : pointsIn R ≡ R .phase - 1 = omega (arith, k .1) in
       let j' : pointsIn (advancedOf R 0) ≡ suc (R .phase - 1) = omega (arith, k .1, p) in
       let e : insertion false (tree (R .used) (M .nodes)) ≡ built (M .positions) (R .settings .c) (R .phase - 1) t = rw j at (b .same) in
-      let more = built-more (M .positions) (R .settings .c) t (R .phase - 1) (ap (λ (x : Insertion). x .full) (sym e)) in
+      let more = built-next (M .positions) (R .settings .c) t (R .phase - 1) (ap (λ (x : Insertion). x .full) (sym e)) in
       record {
         before = b .before;
         some = b .some;
@@ -103,7 +107,8 @@ module _ (s : State) (g : Honest s) (live : isEnded (s .run .standing) ≡ false
       whole-is : (i : Insertion) → i .full ≡ false → insertion false (i .tree) ≡ i
       whole-is i e = rw (sym e)
 
-  force-grown : groupOf R ≡ 1 → isTree (R .settings .method) ≡ true → Built (withForces M (advancedOf R (R .used)) (forceUnit R (M .positions) (M .affinities) (M .indices) (M .offsets) (M .nodes) (M .forces)) .now)
+  force-grown : groupOf R ≡ 1 → isTree (R .settings .method) ≡ true →
+      Built (withForces M (advancedOf R (R .used)) (forceUnit R (M .positions) (M .affinities) (M .indices) (M .offsets) (M .nodes) (M .forces)) .now)
   unfolding advancedOf
   force-grown e t =
       let o = group-one R e .tree t in
@@ -114,9 +119,12 @@ module _ (s : State) (g : Honest s) (live : isEnded (s .run .standing) ≡ false
   unit-grown : isDone (unit s .why) ≡ true → isTree (unit s .now .run .settings .method) ≡ true → (unit s .now .run .phase ≡ 0 → ⊥) → Built (unit s .now)
   unfolding advancedOf closedOf
   unit-grown = by-unit s live (λ (t : Turned). isDone (t .why) ≡ true → isTree (t .now .run .settings .method) ≡ true → (t .now .run .phase ≡ 0 → ⊥) → Built (t .now))
-      (λ z. by-tree R (M .positions) (M .nodes) (λ (t : TreeTurn). isDone (t .why) ≡ true → isTree (t .run .settings .method) ≡ true → (t .run .phase ≡ 0 → ⊥) → Built (withTree M t .now)) (λ e d x q. box-grown z e) (λ e f d. absurd (true≢false (sym d))) (λ e f d x q. insert-grown z e f))
+      (λ z. by-tree R (M .positions) (M .nodes) (λ (t : TreeTurn). isDone (t .why) ≡ true → isTree (t .run .settings .method) ≡ true → (t .run .phase ≡ 0 → ⊥) →
+      Built (withTree M t .now)) (λ e d x q. box-grown z e) (λ e f d. absurd (true≢false (sym d))) (λ e f d x q. insert-grown z e f))
       (λ z d x q. force-grown z x)
-      (λ a b. by-finish R (M .positions) (M .increments) (M .gains) (M .forces) (λ (t : FinishTurn). isDone (t .why) ≡ true → isTree (t .run .settings .method) ≡ true → (t .run .phase ≡ 0 → ⊥) → Built (withFinish M t .now)) (λ d x q. absurd (q refl)) (λ d. absurd (true≢false (sym d))))
+      (λ a b. by-finish R (M .positions) (M .increments) (M .gains) (M .forces) (λ (t : FinishTurn). isDone (t .why) ≡ true →
+      isTree (t .run .settings .method) ≡ true → (t .run .phase ≡ 0 → ⊥) → Built (withFinish M t .now)) (λ d x q. absurd (q refl)) (λ d. absurd
+      (true≢false (sym d))))
 
   -- a unit that is done leaves an honest state
   pub honest-keeps : isDone (unit s .why) ≡ true → Honest (unit s .now)
@@ -127,7 +135,8 @@ module _ (s : State) (g : Honest s) (live : isEnded (s .run .standing) ≡ false
       let w = unit-keeps n s (g .good) live (omega (arith, g .good .settings .n-some)) d in
       let grown = unit-grown d in
       record {
-        good = retreed (n + 1) (u .run .settings .n) u w (λ x q. let t = w .contents x .tree q in record { used-some = t .used-some; used-most = t .used-most; each-node = grown-counts u (omega (arith, w .settings .n-some)) (grown x q) });
+        good = retreed (n + 1) (u .run .settings .n) u w (λ x q. let t = w .contents x .tree q in
+            record { used-some = t .used-some; used-most = t .used-most; each-node = grown-counts u (omega (arith, w .settings .n-some)) (grown x q) });
         grown = grown;
       }
 
@@ -145,7 +154,8 @@ module _ (s : State) (g : Honest s) (live : isEnded (s .run .standing) ≡ false
 
   pub unit-never-full : unit s .why ≡ Full → ⊥
   unit-never-full = by-unit s live (λ (t : Turned). t .why ≡ Full → ⊥)
-      (λ z. by-tree (s .run) (s .memory .positions) (s .memory .nodes) (λ (t : TreeTurn). t .why ≡ Full → ⊥) (λ e q. apart-done q) (λ e f q. true≢false (sym f ∙ insert-room z e)) (λ e f q. apart-done q))
+      (λ z. by-tree (s .run) (s .memory .positions) (s .memory .nodes) (λ (t : TreeTurn). t .why ≡ Full →
+      ⊥) (λ e q. apart-done q) (λ e f q. true≢false (sym f ∙ insert-room z e)) (λ e f q. apart-done q))
       (λ z q. apart-done q)
       (λ a b. by-finish (s .run) (s .memory .positions) (s .memory .increments) (s .memory .gains) (s .memory .forces) (λ (t : FinishTurn). t .why ≡ Full → ⊥) (λ q. apart-done q) (λ q. apart-wild q))
     where

@@ -17,7 +17,8 @@ lent-longer more cs s h = ap (λ (ns : List Node). inArena ns s) (ap (λ (ns : L
 
 -- THEOREM: a call leaves the arena in the cells ds; further cells are put behind them, and the run goes on.
 -- It does what a run does that had them behind its arena from the start
-pub goes-on-lent : (more : List Cell) (b c : ℕ) (s : State) → Honest s → (cs ds : List Cell) → Holds cs s → Holds ds (work b s .left) → GoesOn b c s (lentArena (ds ++ more) (work b s .left)) (lentArena (cs ++ more) s)
+pub goes-on-lent : (more : List Cell) (b c : ℕ) (s : State) → Honest s → (cs ds : List Cell) → Holds cs s → Holds ds (work b s .left) →
+    GoesOn b c s (lentArena (ds ++ more) (work b s .left)) (lentArena (cs ++ more) s)
 goes-on-lent more b c s g cs ds h h' =
     let t = work b s .left in
     subst (λ (x : State). GoesOn b c s x (lentArena (cs ++ more) s)) (lent-longer more ds t h')

@@ -60,7 +60,8 @@ units-done b s g = units-told b s ∙ call-units machine lawful b s g
 module _ (a c : ℕ) (t : State) (h : Honest t) where
   two-left : work c (work a t .left) .left ≡ work (a + c) t .left
   unfolding work lawful
-  two-left = call-state machine lawful c (work a t .left) (call-keeps a t h) ∙ ap (after machine c) (call-state machine lawful a t h) ∙ sym (after-add machine a c t) ∙ sym (call-state machine lawful (a + c) t h)
+  two-left = call-state machine lawful c (work a t .left) (call-keeps a t h) ∙ ap (after machine c) (call-state machine lawful a t h) ∙
+      sym (after-add machine a c t) ∙ sym (call-state machine lawful (a + c) t h)
 
   two-units : unitsOf (work a t .answer) + unitsOf (work c (work a t .left) .answer) ≡ unitsOf (work (a + c) t .answer)
   unfolding work lawful
@@ -91,10 +92,13 @@ module _ (more : List Node) where
     box-same : groupOf R ≡ 0 → R .phase ≡ 0 → unit (longer more s) ≡ turned (longer more (withTree M (boxTurn R (M .positions) (M .nodes)) .now)) Done
     box-same z e =
         unit-tree (longer more s) live z ∙ ap (λ (t : TreeTurn). withTree L t) (tree-box R (M .positions) (L .nodes) e
-        ∙ ap (λ (t : Tree). treeTurn (advancedOf R 1) (t .nodes) Done) (box-longer more (M .positions) (R .settings .n) (R .settings .c) (M .nodes) (g .areas .tree-long (group-zero R z .0) .nodes-some)))
+        ∙ ap (λ (t : Tree). treeTurn (advancedOf R 1) (t .nodes) Done)
+        (box-longer more (M .positions) (R .settings .n) (R .settings .c) (M .nodes) (g .areas .tree-long (group-zero R z .0) .nodes-some)))
 
     insert-same : groupOf R ≡ 0 → (R .phase ≡ 0 → ⊥) → inserting R (M .positions) (M .nodes) .full ≡ false
-        → unit (longer more s) ≡ turned (longer more (withTree M (treeTurn (advancedOf R (inserting R (M .positions) (M .nodes) .tree .used)) (inserting R (M .positions) (M .nodes) .tree .nodes) Done) .now)) Done
+        → unit (longer more s) ≡ turned (longer more
+        (withTree M (treeTurn (advancedOf R (inserting R (M .positions) (M .nodes) .tree .used))
+        (inserting R (M .positions) (M .nodes) .tree .nodes) Done) .now)) Done
     insert-same z p f =
         let k = group-zero R z in
         let t = g .contents (k .0) .tree p in
@@ -102,22 +106,28 @@ module _ (more : List Node) where
         unit-tree (longer more s) live z ∙ ap (λ (t : TreeTurn). withTree L t) (tree-insert R (M .positions) (L .nodes) p (ap (λ (x : Insertion). x .full) e)
         ∙ ap (λ (x : Insertion). treeTurn (advancedOf R (x .tree .used)) (x .tree .nodes) Done) e)
 
-    force-same : groupOf R ≡ 1 → forceUnit R (M .positions) (M .affinities) (M .indices) (M .offsets) (L .nodes) (M .forces) ≡ forceUnit R (M .positions) (M .affinities) (M .indices) (M .offsets) (M .nodes) (M .forces)
+    force-same : groupOf R ≡ 1 → forceUnit R (M .positions) (M .affinities) (M .indices) (M .offsets) (L .nodes) (M .forces) ≡ forceUnit R (M .positions)
+        (M .affinities) (M .indices) (M .offsets) (M .nodes) (M .forces)
     unfolding forceUnit forcesOf
     force-same e =
         let c = R .settings .c in
         let i = R .phase - R .settings .n - 1 in
-        by-bool (forceUnit R (M .positions) (M .affinities) (M .indices) (M .offsets) (L .nodes) (M .forces) ≡ forceUnit R (M .positions) (M .affinities) (M .indices) (M .offsets) (M .nodes) (M .forces)) (isTree (R .settings .method))
+        by-bool (forceUnit R (M .positions) (M .affinities) (M .indices) (M .offsets) (L .nodes) (M .forces) ≡ forceUnit R (M .positions) (M .affinities)
+        (M .indices) (M .offsets) (M .nodes) (M .forces)) (isTree (R .settings .method))
         (λ t.
         let o = group-one R e .tree t in
         let f = tree-fits R (M .nodes) (g .contents t .tree (λ z. omega (arith, z, o .0))) in
-        rw t (ap (λ (a : Acc). stored c i (attractionOf (exaggerationOf R) c (M .positions) (M .affinities) (M .indices) (M .offsets) i) a (M .forces)) (repels-on-longer more (R .settings .n) c m (tree (R .used) (M .nodes)) f i (pointOf (M .positions) c i) (mul binary64 (R .settings .angle) (R .settings .angle)))))
+        rw t (ap (λ (a : Acc). stored c i (attractionOf (exaggerationOf R) c (M .positions) (M .affinities) (M .indices) (M .offsets) i) a (M .forces))
+        (repels-on-longer more (R .settings .n) c m (tree (R .used) (M .nodes)) f i (pointOf (M .positions) c i)
+        (mul binary64 (R .settings .angle) (R .settings .angle)))))
         (λ t. rw t)
 
     -- a unit that is done is done in the longer arena too, and leaves there what it leaves here
     pub unit-longer : isDone (unit s .why) ≡ true → unit (longer more s) ≡ turned (longer more (unit s .now)) (unit s .why)
     unit-longer = by-unit s live (λ (t : Turned). isDone (t .why) ≡ true → unit (longer more s) ≡ turned (longer more (t .now)) (t .why))
-        (λ z. by-tree R (M .positions) (M .nodes) (λ (t : TreeTurn). isDone (t .why) ≡ true → unit (longer more s) ≡ turned (longer more (withTree M t .now)) (t .why)) (λ e d. box-same z e) (λ e f d. absurd (true≢false (sym d))) (λ e f d. insert-same z e f))
+        (λ z. by-tree R (M .positions) (M .nodes) (λ (t : TreeTurn). isDone (t .why) ≡ true →
+        unit (longer more s) ≡ turned (longer more (withTree M t .now)) (t .why)) (λ e d. box-same z e) (λ e f d. absurd (true≢false (sym d)))
+        (λ e f d. insert-same z e f))
         (λ z d. unit-force (longer more s) live z ∙ ap (λ (F : List Float). withForces L (advancedOf R (R .used)) F) (force-same z))
         (λ a b d. unit-finish (longer more s) live a b)
 
@@ -136,13 +146,26 @@ module _ (more : List Node) where
           increments-long = a .increments-long;
           gains-long = a .gains-long;
           forces-long = a .forces-long;
-          tree-long = λ t. (let x = a .tree-long t in record { links-most = x .links-most; indices-most = x .indices-most; offsets-most = x .offsets-most; nodes-some = omega (arith, x .nodes-some, l) });
+          tree-long = λ t. (let x = a .tree-long t in
+              record {
+                links-most = x .links-most;
+                indices-most = x .indices-most;
+                offsets-most = x .offsets-most;
+                nodes-some = omega
+                    (arith, x .nodes-some, l);
+              });
           exact-long = a .exact-long;
         };
         contents = λ t. (let c = g .contents t in record {
           each-offset = c .each-offset;
           each-index = c .each-index;
-          tree = λ q. (let x = c .tree q in record { used-some = x .used-some; used-most = omega (arith, x .used-most, nameable-longer (length ns) (length (ns ++ more)) (omega (arith, l))); each-node = longer-ok more (s .run .settings .n) (s .run .settings .c) m (tree (s .run .used) ns) (omega (arith, x .used-most, nameable-most (length ns))) (x .each-node) });
+          tree = λ q. (let x = c .tree q in record {
+            used-some = x .used-some;
+            used-most = omega
+                (arith, x .used-most, nameable-longer (length ns) (length (ns ++ more)) (omega (arith, l)));
+            each-node = longer-ok more (s .run .settings .n)
+                (s .run .settings .c) m (tree (s .run .used) ns) (omega (arith, x .used-most, nameable-most (length ns))) (x .each-node);
+          });
         });
       }
 

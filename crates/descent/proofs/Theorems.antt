@@ -56,7 +56,8 @@ units-told b s = by-bool (unitsOf (work b s .answer) ≡ call machine b s .units
     live : (t : State) (d : ℕ) → unitsOf (answerOf (cond (isEnded (t .run .standing)) over (cond (ltb d b) refused running)) t d) ≡ d
     live t d = by-bool (unitsOf (answerOf (cond (isEnded (t .run .standing)) over (cond (ltb d b) refused running)) t d) ≡ d) (isEnded (t .run .standing))
         (λ e. rw e (units-stands (t .run .standing) d))
-        (λ e. by-bool (unitsOf (answerOf (cond (isEnded (t .run .standing)) over (cond (ltb d b) refused running)) t d) ≡ d) (ltb d b) (λ q. rw (e, q) (units-refused (unit t .why) d)) (λ q. rw (e, q)))
+        (λ e. by-bool (unitsOf (answerOf (cond (isEnded (t .run .standing)) over (cond (ltb d b) refused running)) t d) ≡ d) (ltb d b) (λ q. rw (e, q)
+        (units-refused (unit t .why) d)) (λ q. rw (e, q)))
 
 works-left : (bs : List ℕ) (s : State) → works bs s ≡ left-by machine bs s
 unfolding works left-by work
@@ -247,7 +248,35 @@ refused-full b s g e =
     let n : workNumber (work b s .answer) ≡ 0 → ⊥ = λ z. let q : _≡_ {A = ℕ} 0 14 = sym z ∙ e in omega arith in
     full-why (unit (work b s .left) .why) (call machine b s .units) (ap workNumber (sym (refused-why b s g n)) ∙ e)
 
--- ---- THEOREM 5: whatever memory was lent, where its entry tests passed: a refusal by 14 or 15 leaves record and memory as after the units that the call tells, fewer than its budget, and there the next unit is refused
+-- ---- THEOREM 4: with room for all splits of each point but the first no call is refused by 14, nor any after it. What a longer arena does is told in Longer and Lent
+
+-- calls one after the other keep the number of nodes and the settings
+works-frames : (bs : List ℕ) (s : State) → Honest s → Framed s (works bs s)
+unfolding works
+works-frames [] s g = (refl, refl)
+works-frames (b ∷ bs) s g =
+    let f = work-frames b s g in
+    let h = works-frames bs (work b s .left) (call-keeps b s g) in
+    (h .0 ∙ f .0, h .1 ∙ f .1)
+
+-- one call
+never-now : (b : ℕ) (s : State) → Honest s → Roomy (s .run .settings) (length (s .memory .nodes)) → workNumber (work b s .answer) ≡ 14 → ⊥
+unfolding work go
+never-now b s g room e =
+    let t = work b s .left in
+    let f = work-frames b s g in
+    let n : workNumber (work b s .answer) ≡ 0 → ⊥ = λ z. let q : _≡_ {A = ℕ} 0 14 = sym z ∙ e in omega arith in
+    let here : Roomy (t .run .settings) (length (t .memory .nodes)) = rw (f .1, f .0) room in
+    unit-never-full t (call-keeps b s g) (refusal-leaves machine b s (refused-kind b s (g .good) n) .not-over) here (refused-full b s (g .good) e)
+
+-- nor any call after others
+pub never-14 : (bs : List ℕ) (b : ℕ) (s : State) → Honest s → Roomy (s .run .settings) (length (s .memory .nodes)) → workNumber (work b (works bs s) .answer) ≡ 14 → ⊥
+never-14 bs b s g room e =
+    let f = works-frames bs s g in
+    never-now b (works bs s) (stays-honest bs s g) (rw (f .1, f .0) room) e
+
+-- ---- THEOREM 5: whatever memory was lent, where its entry tests passed: a refusal by 14 or 15 leaves record and memory as after the units that the call
+-- tells, fewer than its budget, and there the next unit is refused
 
 pub record Refused (b : ℕ) (s : State) : Type 0 where
   pub left : work b s .left ≡ times (λ (x : State). unit x .now) (unitsOf (work b s .answer)) s
@@ -266,29 +295,3 @@ refusal b s g n =
       not-ended = r .not-over;
       not-done = r .not-ok;
     }
-
--- ---- THEOREM 4: with room for all splits of each point but the first no call is refused by 14, nor any after it. What a longer arena does is told in Longer and Lent
-
--- calls one after the other keep the number of nodes and the settings
-works-frames : (bs : List ℕ) (s : State) → Honest s → Framed s (works bs s)
-unfolding works
-works-frames [] s g = (refl, refl)
-works-frames (b ∷ bs) s g =
-    let f = work-frames b s g in
-    let h = works-frames bs (work b s .left) (call-keeps b s g) in
-    (h .0 ∙ f .0, h .1 ∙ f .1)
-
--- one call
-never-now : (b : ℕ) (s : State) → Honest s → Roomy (s .run .settings) (length (s .memory .nodes)) → workNumber (work b s .answer) ≡ 14 → ⊥
-never-now b s g room e =
-    let t = work b s .left in
-    let f = work-frames b s g in
-    let n : workNumber (work b s .answer) ≡ 0 → ⊥ = λ z. let q : _≡_ {A = ℕ} 0 14 = sym z ∙ e in omega arith in
-    let here : Roomy (t .run .settings) (length (t .memory .nodes)) = rw (f .1, f .0) room in
-    unit-never-full t (call-keeps b s g) (refusal b s (g .good) n .not-ended) here (refused-full b s (g .good) e)
-
--- nor any call after others
-pub never-14 : (bs : List ℕ) (b : ℕ) (s : State) → Honest s → Roomy (s .run .settings) (length (s .memory .nodes)) → workNumber (work b (works bs s) .answer) ≡ 14 → ⊥
-never-14 bs b s g room e =
-    let f = works-frames bs s g in
-    never-now b (works bs s) (stays-honest bs s g) (rw (f .1, f .0) room) e

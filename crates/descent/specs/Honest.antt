@@ -21,7 +21,8 @@ pointsIn r = min (r .phase - 1) (r .settings .n)
 pub record Built (s : State) : Type 0 where
   pub before : List Node
   pub some : 0 < length before
-  pub same : insertion false (tree (s .run .used) (s .memory .nodes)) ≡ built (s .memory .positions) (s .run .settings .c) (pointsIn (s .run)) (boxed (s .memory .positions) (s .run .settings .n) (s .run .settings .c) before)
+  pub same : insertion false (tree (s .run .used) (s .memory .nodes)) ≡ built (s .memory .positions) (s .run .settings .c) (pointsIn (s .run))
+      (boxed (s .memory .positions) (s .run .settings .n) (s .run .settings .c) before)
 
 pub record Honest (s : State) : Type 0 where
   pub good : Good s

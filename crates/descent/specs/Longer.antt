@@ -10,7 +10,19 @@ use Rattle.run_entry.specs.State.{State}
 abbrev pub inArena : List Node → State → State
 inArena ns s =
     let m = s .memory in
-    record { run = s .run; memory = record { positions = m .positions; increments = m .increments; gains = m .gains; affinities = m .affinities; indices = m .indices; offsets = m .offsets; forces = m .forces; nodes = ns } }
+    record {
+      run = s .run;
+      memory = record {
+        positions = m .positions;
+        increments = m .increments;
+        gains = m .gains;
+        affinities = m .affinities;
+        indices = m .indices;
+        offsets = m .offsets;
+        forces = m .forces;
+        nodes = ns;
+      };
+    }
 
 -- behind the nodes of the arena there are more, whatever they hold
 abbrev pub longer : List Node → State → State

@@ -124,7 +124,8 @@ module _ (b : ℕ) (h : HostWorked) (g : Readable h) where
   pub next-state : hostState (hostNext b h) ≡ work b (hostState h) .left
   next-state =
       let t = work b (hostState h) in
-      ap hostState next-is ∙ ap (λ (r : Run). state r (t .left .memory)) (after-back (h .run) (g .fine) (t .answer) (t .left .run) (λ e. ap (λ (s : State). s .run) (work-kept b (hostState h) e)) settings-kept)
+      ap hostState next-is ∙ ap (λ (r : Run). state r (t .left .memory))
+      (after-back (h .run) (g .fine) (t .answer) (t .left .run) (λ e. ap (λ (s : State). s .run) (work-kept b (hostState h) e)) settings-kept)
 
   -- the words that it leaves
   pub next-run : hostNext b h .run ≡ progressPut (work b (hostState h) .left .run) (h .run)
@@ -133,7 +134,8 @@ module _ (b : ℕ) (h : HostWorked) (g : Readable h) where
       ap (λ (x : HostWorked). x .run) next-is ∙ after-put (h .run) (g .fine) (t .answer) (t .left .run) (λ e. ap (λ (s : State). s .run) (work-kept b (hostState h) e)) settings-kept
 
   -- the first three words of its answer
-  pub next-answer : (num (hostNext b h .answer) 0 ≡ kindWord (work b (hostState h) .answer)) × (num (hostNext b h .answer) 1 ≡ workNumber (work b (hostState h) .answer)) × (num (hostNext b h .answer) 2 ≡ unitsOf (work b (hostState h) .answer))
+  pub next-answer : (num (hostNext b h .answer) 0 ≡ kindWord (work b (hostState h) .answer)) ×
+      (num (hostNext b h .answer) 1 ≡ workNumber (work b (hostState h) .answer)) × (num (hostNext b h .answer) 2 ≡ unitsOf (work b (hostState h) .answer))
   next-answer = rw next-is (answer-back (work b (hostState h) .answer) (h .answer) (g .room))
 
   pub next-number : hostNext b h .number ≡ workNumber (work b (hostState h) .answer)
@@ -225,7 +227,10 @@ module _ (h : HostWorked) (g : Readable h) (honest : Honest (hostState h)) where
       let long = run-long (h .run) (g .fine) in
       let k : answerKind (work b (hostState z) .answer) ≡ answerKind (work B (hostState h) .answer) = ap (λ (s : State). answerKind (work b s .answer)) at ∙ d .kind in
       record {
-        run = next-run b z gz ∙ ap (λ (w : List ℕ). progressPut (work b (hostState z) .left .run) w) (works-run bs h g) ∙ progress-again (work b (hostState z) .left .run) (works bs (hostState h) .run) (h .run) long ∙ ap (λ (s : State). progressPut (work b s .left .run) (h .run)) at ∙ ap (λ (s : State). progressPut (s .run) (h .run)) (d .left) ∙ sym (next-run B h g);
+        run = next-run b z gz ∙ ap (λ (w : List ℕ). progressPut (work b (hostState z) .left .run) w) (works-run bs h g) ∙
+            progress-again (work b (hostState z) .left .run) (works bs (hostState h) .run) (h .run) long ∙
+            ap (λ (s : State). progressPut (work b s .left .run) (h .run)) at ∙ ap (λ (s : State). progressPut (s .run) (h .run)) (d .left) ∙
+            sym (next-run B h g);
         memory = ap (λ (s : State). s .memory) (next-state b z gz ∙ ap (λ (s : State). work b s .left) at ∙ d .left ∙ sym (next-state B h g));
         units = rw (told-is bs h g, next-answer b z gz .2, next-answer B h g .2, at) (d .units);
         kind = next-answer b z gz .0 ∙ sym (kind-word (work b (hostState z) .answer)) ∙ ap kindWord k ∙ kind-word (work B (hostState h) .answer) ∙ sym (next-answer B h g .0);
@@ -242,7 +247,8 @@ module _ (h : HostWorked) (g : Readable h) (honest : Honest (hostState h)) where
   host-ends-in-time b l = (ap (λ (x : HostWorked). x .answer) (next-is b h g), ends-in-time b (hostState h) honest l)
 
   -- a call leaves the arena in the cells ds; further cells are put behind them, and the run goes on as one does that had them from the start
-  pub host-goes-on-lent : (more : List Cell) (b c : ℕ) (cs ds : List Cell) → Holds cs (hostState h) → Holds ds (hostState (hostNext b h)) → hostState (hostNext c (inCells (ds ++ more) (hostNext b h))) ≡ hostState (hostNext (num (hostNext b h .answer) 2 + c) (inCells (cs ++ more) h))
+  pub host-goes-on-lent : (more : List Cell) (b c : ℕ) (cs ds : List Cell) → Holds cs (hostState h) → Holds ds (hostState (hostNext b h)) →
+      hostState (hostNext c (inCells (ds ++ more) (hostNext b h))) ≡ hostState (hostNext (num (hostNext b h .answer) 2 + c) (inCells (cs ++ more) h))
   host-goes-on-lent more b c cs ds e e' =
       let u = unitsOf (work b (hostState h) .answer) in
       let n = next-state b h g in
@@ -275,7 +281,8 @@ module _ (s : List ℕ) (table start : List Float) (cs : List Cell) (l : Lent) (
   told-passed = by-bool (answered .number ≡ 0 → Passed) (settingsFine s)
       (λ f. by-bool (answered .number ≡ 0 → Passed) (ltb (length w) 14)
       (λ t. by-bool (answered .number ≡ 0 → Passed) (eqb fault 0) (λ z. rw (f, t, z) (λ q. absurd (let x : _≡_ {A = ℕ} 12 0 = q in omega arith))) (λ z. rw (f, t, z) (λ q. absurd-of fault z q)))
-      (λ t. by-bool (answered .number ≡ 0 → Passed) (eqb fault 0) (λ z q. record { fine = f; long = ltb-false (length w) 14 t; none = eqb-true fault 0 z }) (λ z. rw (f, t, z) (λ q. absurd-of fault z q))))
+      (λ t. by-bool (answered .number ≡ 0 → Passed) (eqb fault 0) (λ z q. record { fine = f; long = ltb-false (length w) 14 t; none = eqb-true fault 0 z })
+      (λ z. rw (f, t, z) (λ q. absurd-of fault z q))))
       (λ f. rw f (λ q. absurd (let x : _≡_ {A = ℕ} 21 0 = q in omega arith)))
 
   module _ (ready : answered .number ≡ 0) (a : List ℕ) (room : 5 ≤ length a) where
@@ -318,12 +325,17 @@ module _ (s : List ℕ) (table start : List Float) (cs : List Cell) (l : Lent) (
     pub begun-never-14 : (bs : List ℕ) (b : ℕ) → Roomy (hostState hostBegun .run .settings) (length (hostBegun .memory .nodes)) → hostNext b (hostWorks bs hostBegun) .number ≡ 14 → ⊥
     begun-never-14 = host-never-14 hostBegun begun-readable host-begun-honest
 
-    pub begun-ends-in-time : (b : ℕ) → wholeUnits (hostState hostBegun) ≤ b → (hostNext b hostBegun .answer ≡ answerPut (work b (hostState hostBegun) .answer) a) × (isLast (work b (hostState hostBegun) .answer) ≡ true)
+    pub begun-ends-in-time : (b : ℕ) → wholeUnits (hostState hostBegun) ≤ b →
+        (hostNext b hostBegun .answer ≡ answerPut (work b (hostState hostBegun) .answer) a) × (isLast (work b (hostState hostBegun) .answer) ≡ true)
     begun-ends-in-time = host-ends-in-time hostBegun begun-readable host-begun-honest
 
-    pub begun-goes-on-lent : (more : List Cell) (b c : ℕ) (ds : List Cell) → Holds ds (hostState (hostNext b hostBegun)) → hostState (hostNext c (inCells (ds ++ more) (hostNext b hostBegun))) ≡ hostState (hostNext (num (hostNext b hostBegun .answer) 2 + c) (inCells (cs ++ more) hostBegun))
+    pub begun-goes-on-lent : (more : List Cell) (b c : ℕ) (ds : List Cell) → Holds ds (hostState (hostNext b hostBegun)) →
+        hostState (hostNext c (inCells (ds ++ more) (hostNext b hostBegun))) ≡ hostState
+        (hostNext (num (hostNext b hostBegun .answer) 2 + c) (inCells (cs ++ more) hostBegun))
     begun-goes-on-lent more b c ds = host-goes-on-lent hostBegun begun-readable host-begun-honest more b c cs ds refl
 
     -- after any calls
-    pub begun-refusal : (bs : List ℕ) (b : ℕ) → (hostNext b (hostWorks bs hostBegun) .number ≡ 0 → ⊥) → (hostState (hostNext b (hostWorks bs hostBegun)) ≡ work b (hostState (hostWorks bs hostBegun)) .left) × Refused b (hostState (hostWorks bs hostBegun))
-    begun-refusal bs b = host-refusal (hostWorks bs hostBegun) (works-readable bs hostBegun begun-readable) (subst Honest (sym (works-state bs hostBegun begun-readable)) (stays-honest bs (hostState hostBegun) host-begun-honest) .good) b
+    pub begun-refusal : (bs : List ℕ) (b : ℕ) → (hostNext b (hostWorks bs hostBegun) .number ≡ 0 → ⊥) →
+        (hostState (hostNext b (hostWorks bs hostBegun)) ≡ work b (hostState (hostWorks bs hostBegun)) .left) × Refused b (hostState (hostWorks bs hostBegun))
+    begun-refusal bs b = host-refusal (hostWorks bs hostBegun) (works-readable bs hostBegun begun-readable)
+        (subst Honest (sym (works-state bs hostBegun begun-readable)) (stays-honest bs (hostState hostBegun) host-begun-honest) .good) b

@@ -23,7 +23,8 @@ module _ (s start file w : List ℕ) (l : Loading) (nodes : ℕ) (a : List ℕ) 
     unfolding hostImport
     import-unset h = rw (ne-eqb (length a) 0 some, lt-ltb (length s) 9 h)
 
-    pub import-short : {t : Settings} {k : ℕ} → 9 ≤ length s → length w < 14 → t ≡ settingsOf s → k ≡ shortNumber (importFault (treeSettings t) start (lentLengths l nodes)) → hostImported k w l (set a 0 0) ≡ hostImport s start file w l nodes a
+    pub import-short : {t : Settings} {k : ℕ} → 9 ≤ length s → length w < 14 → t ≡ settingsOf s →
+        k ≡ shortNumber (importFault (treeSettings t) start (lentLengths l nodes)) → hostImported k w l (set a 0 0) ≡ hostImport s start file w l nodes a
     unfolding hostImport
     import-short {t} {k} h r q e = rw (ne-eqb (length a) 0 some, le-ltb (length s) 9 h, lt-ltb (length w) 14 r, sym q, e)
 

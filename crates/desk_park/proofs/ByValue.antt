@@ -44,13 +44,16 @@ module _ {M : Type 1} (𝓤 : URA M) (H : Heap 𝓤) (A : Atoms 𝓤) (mem : Mem
   said-is-mute told res = exE 𝓤 _ (λ ws. snd∗ 𝓤 (sem 𝓤 H A (lasts is-mute′.ended tt (told, tt) ws)) (fact 𝓤 (res ≡ eqb told 0)))
 
   goes-is-mute : Given 𝓤 H A → (told : ℕ) → told < 2 ^ 64 → ent 𝓤 (emp 𝓤) (Contract-is-mute .pre (to-is-mute told))
-  goes-is-mute W told g-told = qed W [] ∵ nothing ! $ nothing ! $ owned ! usize (Is usize) (uint-makes 𝓤 H A W w64) told _ (refl, g-told) $ fjoin ! $ move ! (1 ∷ 0 ∷ []) $ join ! $ frame ! $ nothing ! $ done !
+  goes-is-mute W told g-told = qed W [] ∵ nothing ! $ nothing ! $ owned ! usize (Is usize) (uint-makes 𝓤 H A W w64) told _ (refl, g-told) $ fjoin ! $
+      move ! (1 ∷ 0 ∷ []) $ join ! $ frame ! $ nothing ! $ done !
 
-module _ {M : Type 1} {𝓤 : URA M} {H : Heap 𝓤} {A : Atoms 𝓤} {K : Type 0} {W : Given 𝓤 H A} {Γ : List (Item 𝓤)} {E : Env 𝓤 H} {C : Calls 𝓤 H} {Λ : Loops 𝓤 H} {xs : List Operand} {q : After 𝓤 H} {d : Place} {rest : Code} where
+module _ {M : Type 1} {𝓤 : URA M} {H : Heap 𝓤} {A : Atoms 𝓤} {K : Type 0} {W : Given 𝓤 H A} {Γ : List (Item 𝓤)} {E : Env 𝓤 H} {C : Calls 𝓤 H} {Λ : Loops 𝓤 H}
+    {xs : List Operand} {q : After 𝓤 H} {d : Place} {rest : Code} where
   pub calls-is-mute : K → FmC 𝓤 H (W .laws) C → (mem : Memory → SProp 𝓤) (run : Routine → Fun 𝓤) → Triple 𝓤 (C #desk-park·is-mute) (Contract-is-mute 𝓤 H A mem run) → (told : ℕ) → told < 2 ^ 64
       → ((P : Item 𝓤) → Opds K W (P ∷ Γ) E xs (vint w64 told ∷ []))
       → ((res : Bool) → res ≡ eqb told 0 → Is bool res (vbool res ∷ []) → Seq K W Γ (lands C Λ E d (vbool res) rest q))
       → Seq K W Γ (runs C Λ E (seq (call #desk-park·is-mute xs d) rest) q)
   calls-is-mute t fm mem run met told g-told os k =
-      calls-plain t fm (Contract-is-mute 𝓤 H A mem run) met (to-is-mute 𝓤 H A mem run told) bool (vbool) (bool-tells) (Said-is-mute 𝓤 H A mem run told) (λ (res : Bool). res ≡ eqb told 0) (said-is-mute 𝓤 H A mem run told)
+      calls-plain t fm (Contract-is-mute 𝓤 H A mem run) met (to-is-mute 𝓤 H A mem run told) bool (vbool) (bool-tells) (Said-is-mute 𝓤 H A mem run told)
+      (λ (res : Bool). res ≡ eqb told 0) (said-is-mute 𝓤 H A mem run told)
       (λ _. id⊢ 𝓤 _) (goes-is-mute 𝓤 H A mem run W told g-told) (os _) k

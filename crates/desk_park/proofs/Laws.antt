@@ -1,13 +1,11 @@
 -- What the walk of the parking call cites: what its test has shown, and what it tells in each case. Assumes nothing.
 use mathlib.Core.Path.{_≡_, sym, ap, _∙_}
 use mathlib.Core.List.{List}
-use mathlib.Core.Bool.{Bool, true, false, not}
-use Prim.Native.Nat.{ℕ, _≤_}
-use native.Mathlib.Omega.{arith}
+use mathlib.Core.Bool.{Bool, not}
+use Prim.Native.Nat.{ℕ}
 use lib.Dec.{T, eqb}
 use lib.ListN.{length, set}
-use borrow.Author.Tests.{eqb-false}
-use Rattle.lent.proofs.Holds.{holds-as, fails-as}
+use Rattle.lent.proofs.Holds.{empty-told, filled-told}
 use Rattle.tree_node.specs.declared.Node.{Node}
 use Rattle.record_words.specs.RecordWords.{Worded, worded}
 use Rattle.parked.specs.Parked.{Stored}
@@ -18,17 +16,10 @@ use Rattle.desk_park.specs.HostPark.{parkedTold, HostParked, hostParked,
 module _ (d : Stored) (forces : ℕ) (ns : List Node) (t a : List ℕ) (n : ℕ) (ln : length a ≡ n) (x1 : Bool) (e1 : x1 ≡ eqb n 0) where
   pub mute-said : T x1 → hostParked 12 t a ≡ hostPark d forces ns t a
   unfolding hostPark
-  mute-said y =
-      let u : eqb (length a) 0 ≡ true = ap (λ (k : ℕ). eqb k 0) ln ∙ holds-as x1 (eqb n 0) e1 y in
-      rw u
+  mute-said y = rw (empty-told a n ln x1 e1 y)
 
-  pub word-room : T (not x1) → 1 ≤ length a
-  word-room y =
-      let ne = eqb-false n 0 (fails-as x1 (eqb n 0) e1 y) in
-      omega (arith, ln, ne)
-
-  pub parked-said : T (not x1) → (f : ℕ) → forces ≡ f → (p : Parked) (t' : List ℕ) → parking p t' ≡ parkOf d f ns t → (k : ℕ) (a' : List ℕ) → worded k a' ≡ worded (parkNumber p) (set a 0 (parkedTold p)) → hostParked k t' a' ≡ hostPark d forces ns t a
+  pub parked-said : T (not x1) → (f : ℕ) → forces ≡ f → (p : Parked) (t' : List ℕ) → parking p t' ≡ parkOf d f ns t → (k : ℕ) (a' : List ℕ) →
+      worded k a' ≡ worded (parkNumber p) (set a 0 (parkedTold p)) → hostParked k t' a' ≡ hostPark d forces ns t a
   unfolding hostPark
-  parked-said y f lf p t' ep k a' e =
-      let u : eqb (length a) 0 ≡ false = ap (λ (k : ℕ). eqb k 0) ln ∙ fails-as x1 (eqb n 0) e1 y in
-      rw u (ap (λ (w : Worded). hostParked (w .number) t' (w .words)) e ∙ ap (λ (q : Parking). parkingTold q a) (ep ∙ ap (λ (m : ℕ). parkOf d m ns t) (sym lf)))
+  parked-said y f lf p t' ep k a' e = rw (filled-told a n ln x1 e1 y)
+      (ap (λ (w : Worded). hostParked (w .number) t' (w .words)) e ∙ ap (λ (q : Parking). parkingTold q a) (ep ∙ ap (λ (m : ℕ). parkOf d m ns t) (sym lf)))

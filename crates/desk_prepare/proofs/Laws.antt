@@ -17,7 +17,8 @@ module _ (s : List ℕ) (table start : List Float) (nodes : ℕ) (l : Lent) (w :
   unfolding hostPrepare
   unread-begun e = rw e
 
-  pub short-begun : {k : ℕ} {t : Settings} → settingsFine s ≡ true → length w < 14 → t ≡ settingsOf s → k ≡ shortNumber (prepareFault t table start (lengthsOf l nodes)) → hostPrepared k w l ≡ hostPrepare s table start nodes l w
+  pub short-begun : {k : ℕ} {t : Settings} → settingsFine s ≡ true → length w < 14 → t ≡ settingsOf s →
+      k ≡ shortNumber (prepareFault t table start (lengthsOf l nodes)) → hostPrepared k w l ≡ hostPrepare s table start nodes l w
   unfolding hostPrepare
   short-begun e h q ek = rw (e, lt-ltb (length w) 14 h, ek, q)
 

@@ -30,9 +30,11 @@ module _ (s : List ℕ) (table start : List Float) (nodes : ℕ) (l : Lent) (w :
   host-is-strip e h = by-bool (hostPrepareStrip s table start nodes l w ≡ preparedIn (preparedStrip (settingsOf s) table start nodes l) w) barred (λ b. rw (e, b)) (λ b. rw (e, h, b))
 
   -- fewer than 14 words for the record: the number of the first test that fails, 12 where none does, and nothing is changed
-  pub short-record : settingsFine s ≡ true → ltb (length w) 14 ≡ true → hostPrepareStrip s table start nodes l w ≡ hostPrepared (shortNumber (stripFault (settingsOf s) table start (lengthsOf l nodes))) w l
+  pub short-record : settingsFine s ≡ true → ltb (length w) 14 ≡ true →
+      hostPrepareStrip s table start nodes l w ≡ hostPrepared (shortNumber (stripFault (settingsOf s) table start (lengthsOf l nodes))) w l
   unfolding hostPrepareStrip hostPrepare stripFault
-  short-record e h = by-bool (hostPrepareStrip s table start nodes l w ≡ hostPrepared (shortNumber (stripFault (settingsOf s) table start (lengthsOf l nodes))) w l) barred (λ b. rw (e, b)) (λ b. rw (e, h, b))
+  short-record e h = by-bool (hostPrepareStrip s table start nodes l w ≡ hostPrepared
+      (shortNumber (stripFault (settingsOf s) table start (lengthsOf l nodes))) w l) barred (λ b. rw (e, b)) (λ b. rw (e, h, b))
 
   -- 0: it is the host's preparation, word for word and area for area, so that all that holds of its runs holds of strips
   pub host-strip-begun : hostPrepareStrip s table start nodes l w .number ≡ 0 → hostPrepareStrip s table start nodes l w ≡ hostPrepare s table start nodes l w

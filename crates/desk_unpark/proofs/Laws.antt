@@ -16,6 +16,7 @@ module _ (file : List ℕ) (d : Stored) (F : List Float) (nodes : ℕ) (a : List
   unfolding hostUnpark
   mute-left e = rw (eq-eqb (length a) 0 e)
 
-  pub unparked-left : (length a ≡ 0 → ⊥) → (u : Unparked) (d' : Stored) (F' : List Float) → unparking u d' F' ≡ unparkOf file d F nodes → (k : ℕ) (a' : List ℕ) → worded k a' ≡ worded (unparkNumber u) (set a 0 (unparkedTold u)) → hostUnparked k d' F' a' ≡ hostUnpark file d F nodes a
+  pub unparked-left : (length a ≡ 0 → ⊥) → (u : Unparked) (d' : Stored) (F' : List Float) → unparking u d' F' ≡ unparkOf file d F nodes →
+      (k : ℕ) (a' : List ℕ) → worded k a' ≡ worded (unparkNumber u) (set a 0 (unparkedTold u)) → hostUnparked k d' F' a' ≡ hostUnpark file d F nodes a
   unfolding hostUnpark
   unparked-left h u d' F' eu k a' e = rw (ne-eqb (length a) 0 h) (ap (λ (w : Worded). hostUnparked (w .number) d' F' (w .words)) e ∙ ap (λ (q : Unparking). unparkingTold q a) eu)

@@ -52,15 +52,18 @@ module _ {M : Type 1} (𝓤 : URA M) (H : Heap 𝓤) (A : Atoms 𝓤) (mem : Mem
   said-is-short words res = exE 𝓤 _ (λ ws. snd∗ 𝓤 (sem 𝓤 H A (lasts is-short′.ended tt (words, tt) ws)) (fact 𝓤 (res ≡ ltb words 5)))
 
   goes-is-short : Given 𝓤 H A → (words : ℕ) → words < 2 ^ 64 → ent 𝓤 (emp 𝓤) (Contract-is-short .pre (to-is-short words))
-  goes-is-short W words g-words = qed W [] ∵ nothing ! $ nothing ! $ owned ! usize (Is usize) (uint-makes 𝓤 H A W w64) words _ (refl, g-words) $ fjoin ! $ move ! (1 ∷ 0 ∷ []) $ join ! $ frame ! $ nothing ! $ done !
+  goes-is-short W words g-words = qed W [] ∵ nothing ! $ nothing ! $ owned ! usize (Is usize) (uint-makes 𝓤 H A W w64) words _ (refl, g-words) $ fjoin ! $
+      move ! (1 ∷ 0 ∷ []) $ join ! $ frame ! $ nothing ! $ done !
 
-module _ {M : Type 1} {𝓤 : URA M} {H : Heap 𝓤} {A : Atoms 𝓤} {K : Type 0} {W : Given 𝓤 H A} {Γ : List (Item 𝓤)} {E : Env 𝓤 H} {C : Calls 𝓤 H} {Λ : Loops 𝓤 H} {xs : List Operand} {q : After 𝓤 H} {d : Place} {rest : Code} where
+module _ {M : Type 1} {𝓤 : URA M} {H : Heap 𝓤} {A : Atoms 𝓤} {K : Type 0} {W : Given 𝓤 H A} {Γ : List (Item 𝓤)} {E : Env 𝓤 H} {C : Calls 𝓤 H} {Λ : Loops 𝓤 H}
+    {xs : List Operand} {q : After 𝓤 H} {d : Place} {rest : Code} where
   pub calls-is-short : K → FmC 𝓤 H (W .laws) C → (mem : Memory → SProp 𝓤) (run : Routine → Fun 𝓤) → Triple 𝓤 (C #desk-work·is-short) (Contract-is-short 𝓤 H A mem run) → (words : ℕ) → words < 2 ^ 64
       → ((P : Item 𝓤) → Opds K W (P ∷ Γ) E xs (vint w64 words ∷ []))
       → ((res : Bool) → res ≡ ltb words 5 → Is bool res (vbool res ∷ []) → Seq K W Γ (lands C Λ E d (vbool res) rest q))
       → Seq K W Γ (runs C Λ E (seq (call #desk-work·is-short xs d) rest) q)
   calls-is-short t fm mem run met words g-words os k =
-      calls-plain t fm (Contract-is-short 𝓤 H A mem run) met (to-is-short 𝓤 H A mem run words) bool (vbool) (bool-tells) (Said-is-short 𝓤 H A mem run words) (λ (res : Bool). res ≡ ltb words 5) (said-is-short 𝓤 H A mem run words)
+      calls-plain t fm (Contract-is-short 𝓤 H A mem run) met (to-is-short 𝓤 H A mem run words) bool (vbool) (bool-tells) (Said-is-short 𝓤 H A mem run words)
+      (λ (res : Bool). res ≡ ltb words 5) (said-is-short 𝓤 H A mem run words)
       (λ _. id⊢ 𝓤 _) (goes-is-short 𝓤 H A mem run W words g-words) (os _) k
 
 -- ---- `number_of`
@@ -78,13 +81,16 @@ module _ {M : Type 1} (𝓤 : URA M) (H : Heap 𝓤) (A : Atoms 𝓤) (mem : Mem
   said-number-of a₀ res = exE 𝓤 _ (λ ws. snd∗ 𝓤 (sem 𝓤 H A (lasts number-of′.ended tt (a₀, tt) ws)) (fact 𝓤 (res ≡ workNumber a₀)))
 
   goes-number-of : Given 𝓤 H A → (a₀ : Answer) → IsAnswer a₀ → ent 𝓤 (emp 𝓤) (Contract-number-of .pre (to-number-of a₀))
-  goes-number-of W a₀ g-a₀ = qed W [] ∵ nothing ! $ nothing ! $ owned ! Answer′.the-row (Is Answer′.the-row) ((EL.makes Answer′.the-type Answer″.the-plain) 𝓤 H A) a₀ _ g-a₀ $ fjoin ! $ move ! (1 ∷ 0 ∷ []) $ join ! $ frame ! $ nothing ! $ done !
+  goes-number-of W a₀ g-a₀ = qed W [] ∵ nothing ! $ nothing ! $ owned ! Answer′.the-row (Is Answer′.the-row)
+      ((EL.makes Answer′.the-type Answer″.the-plain) 𝓤 H A) a₀ _ g-a₀ $ fjoin ! $ move ! (1 ∷ 0 ∷ []) $ join ! $ frame ! $ nothing ! $ done !
 
-module _ {M : Type 1} {𝓤 : URA M} {H : Heap 𝓤} {A : Atoms 𝓤} {K : Type 0} {W : Given 𝓤 H A} {Γ : List (Item 𝓤)} {E : Env 𝓤 H} {C : Calls 𝓤 H} {Λ : Loops 𝓤 H} {xs : List Operand} {q : After 𝓤 H} {d : Place} {rest : Code} where
+module _ {M : Type 1} {𝓤 : URA M} {H : Heap 𝓤} {A : Atoms 𝓤} {K : Type 0} {W : Given 𝓤 H A} {Γ : List (Item 𝓤)} {E : Env 𝓤 H} {C : Calls 𝓤 H} {Λ : Loops 𝓤 H}
+    {xs : List Operand} {q : After 𝓤 H} {d : Place} {rest : Code} where
   pub calls-number-of : K → FmC 𝓤 H (W .laws) C → (mem : Memory → SProp 𝓤) (run : Routine → Fun 𝓤) → Triple 𝓤 (C #desk-work·number-of) (Contract-number-of 𝓤 H A mem run) → (a₀ : Answer) → IsAnswer a₀
       → ((P : Item 𝓤) → Opds K W (P ∷ Γ) E xs (val-Answer a₀ ∷ []))
       → ((res : ℕ) → res ≡ workNumber a₀ → Is u32 res (vint w32 res ∷ []) → Seq K W Γ (lands C Λ E d (vint w32 res) rest q))
       → Seq K W Γ (runs C Λ E (seq (call #desk-work·number-of xs d) rest) q)
   calls-number-of t fm mem run met a₀ g-a₀ os k =
-      calls-plain t fm (Contract-number-of 𝓤 H A mem run) met (to-number-of 𝓤 H A mem run a₀) u32 (vint w32) (uint-tells w32) (Said-number-of 𝓤 H A mem run a₀) (λ (res : ℕ). res ≡ workNumber a₀) (said-number-of 𝓤 H A mem run a₀)
+      calls-plain t fm (Contract-number-of 𝓤 H A mem run) met (to-number-of 𝓤 H A mem run a₀) u32 (vint w32) (uint-tells w32) (Said-number-of 𝓤 H A mem run a₀)
+      (λ (res : ℕ). res ≡ workNumber a₀) (said-number-of 𝓤 H A mem run a₀)
       (λ _. id⊢ 𝓤 _) (goes-number-of 𝓤 H A mem run W a₀ g-a₀) (os _) k

@@ -43,13 +43,17 @@ module _ {M : Type 1} (𝓤 : URA M) (H : Heap 𝓤) (A : Atoms 𝓤) (mem : Mem
   said-smaller a₀ b₀ res = exE 𝓤 _ (λ ws. snd∗ 𝓤 (sem 𝓤 H A (lasts smaller′.ended tt (a₀, (b₀, tt)) ws)) (fact 𝓤 (res ≡ min a₀ b₀)))
 
   goes-smaller : Given 𝓤 H A → (a₀ : ℕ) (b₀ : ℕ) → a₀ < 2 ^ 64 → b₀ < 2 ^ 64 → ent 𝓤 (emp 𝓤) (Contract-smaller .pre (to-smaller a₀ b₀))
-  goes-smaller W a₀ b₀ g-a₀ g-b₀ = qed W [] ∵ nothing ! $ nothing ! $ owned ! usize (Is usize) (uint-makes 𝓤 H A W w64) b₀ _ (refl, g-b₀) $ fjoin ! $ owned ! usize (Is usize) (uint-makes 𝓤 H A W w64) a₀ _ (refl, g-a₀) $ fjoin ! $ move ! (1 ∷ 0 ∷ []) $ join ! $ frame ! $ nothing ! $ done !
+  goes-smaller W a₀ b₀ g-a₀ g-b₀ = qed W [] ∵ nothing ! $ nothing ! $ owned ! usize (Is usize) (uint-makes 𝓤 H A W w64) b₀ _ (refl, g-b₀) $ fjoin ! $
+      owned ! usize (Is usize) (uint-makes 𝓤 H A W w64) a₀ _ (refl, g-a₀) $ fjoin ! $ move ! (1 ∷ 0 ∷ []) $ join ! $ frame ! $ nothing ! $ done !
 
-module _ {M : Type 1} {𝓤 : URA M} {H : Heap 𝓤} {A : Atoms 𝓤} {K : Type 0} {W : Given 𝓤 H A} {Γ : List (Item 𝓤)} {E : Env 𝓤 H} {C : Calls 𝓤 H} {Λ : Loops 𝓤 H} {xs : List Operand} {q : After 𝓤 H} {d : Place} {rest : Code} where
-  pub calls-smaller : K → FmC 𝓤 H (W .laws) C → (mem : Memory → SProp 𝓤) (run : Routine → Fun 𝓤) → Triple 𝓤 (C #divergence·smaller) (Contract-smaller 𝓤 H A mem run) → (a₀ : ℕ) (b₀ : ℕ) → a₀ < 2 ^ 64 → b₀ < 2 ^ 64
+module _ {M : Type 1} {𝓤 : URA M} {H : Heap 𝓤} {A : Atoms 𝓤} {K : Type 0} {W : Given 𝓤 H A} {Γ : List (Item 𝓤)} {E : Env 𝓤 H} {C : Calls 𝓤 H} {Λ : Loops 𝓤 H}
+    {xs : List Operand} {q : After 𝓤 H} {d : Place} {rest : Code} where
+  pub calls-smaller : K → FmC 𝓤 H (W .laws) C → (mem : Memory → SProp 𝓤) (run : Routine → Fun 𝓤) →
+      Triple 𝓤 (C #divergence·smaller) (Contract-smaller 𝓤 H A mem run) → (a₀ : ℕ) (b₀ : ℕ) → a₀ < 2 ^ 64 → b₀ < 2 ^ 64
       → ((P : Item 𝓤) → Opds K W (P ∷ Γ) E xs (vint w64 a₀ ∷ vint w64 b₀ ∷ []))
       → ((res : ℕ) → res ≡ min a₀ b₀ → Is usize res (vint w64 res ∷ []) → Seq K W Γ (lands C Λ E d (vint w64 res) rest q))
       → Seq K W Γ (runs C Λ E (seq (call #divergence·smaller xs d) rest) q)
   calls-smaller t fm mem run met a₀ b₀ g-a₀ g-b₀ os k =
-      calls-plain t fm (Contract-smaller 𝓤 H A mem run) met (to-smaller 𝓤 H A mem run a₀ b₀) usize (vint w64) (uint-tells w64) (Said-smaller 𝓤 H A mem run a₀ b₀) (λ (res : ℕ). res ≡ min a₀ b₀) (said-smaller 𝓤 H A mem run a₀ b₀)
+      calls-plain t fm (Contract-smaller 𝓤 H A mem run) met (to-smaller 𝓤 H A mem run a₀ b₀) usize (vint w64) (uint-tells w64)
+      (Said-smaller 𝓤 H A mem run a₀ b₀) (λ (res : ℕ). res ≡ min a₀ b₀) (said-smaller 𝓤 H A mem run a₀ b₀)
       (λ _. id⊢ 𝓤 _) (goes-smaller 𝓤 H A mem run W a₀ b₀ g-a₀ g-b₀) (os _) k

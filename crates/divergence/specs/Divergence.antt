@@ -50,7 +50,8 @@ figureOf r W I O F y =
 
 -- as in a work call, the copy an area like the positions: the shorter of the two is tested
 unfoldable pub divergenceFault : Run → Memory → List Float → Fault
-divergenceFault r m y = faultAt r (min (length (m .positions)) (length y)) (length (m .increments)) (length (m .gains)) (length (m .affinities)) (length (m .forces)) (m .indices) (m .offsets) (m .nodes)
+divergenceFault r m y = faultAt r (min (length (m .positions)) (length y)) (length (m .increments)) (length (m .gains)) (length (m .affinities))
+    (length (m .forces)) (m .indices) (m .offsets) (m .nodes)
 
 -- then 17; else the figure
 unfoldable pub afterTests : Fault → Run → List Float → List ℕ → List ℕ → List Float → List Float → Diverged

@@ -4,7 +4,8 @@ use mathlib.Core.Logic.{⊎-elim}
 use mathlib.Core.Bool.{Bool, true, false, cond, true≢false}
 use Prim.Native.Nat.{ℕ, zero, suc, _+_, _-_, _*_, _/_, _%_, _^_, _<_, _≤_, min, max}
 use native.Mathlib.Omega.{arith}
-use native.Mathlib.Nat.{le-trans, le-of-eq, le-of-lt, lt-irrefl, lt-of-lt-of-le, mul-one, mul-comm, mul-right-comm, mul-le-mul-right, mul-lt-mul-of-pos-right, le-of-mul-le-mul-right, div-le-of-le-mul, div-add-mod'}
+use native.Mathlib.Nat.{le-trans, le-of-eq, le-of-lt, lt-irrefl, lt-of-lt-of-le, mul-one, mul-comm, mul-right-comm, mul-le-mul-right, mul-lt-mul-of-pos-right}
+use native.Mathlib.Nat.{le-of-mul-le-mul-right, div-le-of-le-mul, div-add-mod'}
 use lib.Dec.{T, eqb·suc-zero, ltb, eqb, lt→ltb, lit≤}
 use lib.IntN.{ℤ, pos}
 use lib.Ieee.{Float, nan, inf, fin, binary64, up, down, round, mul, lt, ofInt, ofBits, toUnsigned}
@@ -52,7 +53,8 @@ cut (fin false m e) h =
     let A = m * up e in
     let l : A / D ≤ (3 * mostFrames) = div-le-of-le-mul D (le-trans (h .1) (le-of-eq (mul-comm (3 * mostFrames) D))) in
     let u : min (A / D) (2 ^ 64 - 1) ≡ A / D = min-left (A / D) l in
-    let s : lt (round binary64 false (A / D) 1) (fin false m e) ≡ ltb (A / D * D) A = whole-lt (round binary64 false (A / D) 1) (A / D) m e (round-whole binary64 false (A / D) (le-trans l (lit≤ tt))) in
+    let s : lt (round binary64 false (A / D) 1) (fin false m e) ≡ ltb (A / D * D) A = whole-lt (round binary64 false (A / D) 1) (A / D) m e
+    (round-whole binary64 false (A / D) (le-trans l (lit≤ tt))) in
     record {
       above = lt→ltb 0 (1 * 2 ^ 0 * D + A * 1) (omega (arith, down-pos e));
       below = lt→ltb (A * 1) (1 * 2 ^ 64 * D) (omega (arith, h .1, down-pos e));

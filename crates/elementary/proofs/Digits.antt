@@ -2,7 +2,9 @@
 use mathlib.Core.Path.{_≡_, refl, sym, ap, _∙_}
 use Prim.Native.Nat.{ℕ, zero, suc, _+_, _-_, _*_, _/_, _%_, _^_, _<_, _≤_}
 use native.Mathlib.Omega.{arith}
-use native.Mathlib.Nat.{le-trans, le-of-eq, le-antisymm, lt-of-le-of-lt, lt-of-lt-of-le, lt-of-not-le, not-le-of-lt, le-of-suc-le-suc, lt-irrefl, mul-one, one-mul, mul-left-comm, mul-pos, zero-mul, mul-le-mul-right, lt-of-mul-lt-mul-right, le-of-mul-le-mul-right, pow-succ', div-one, div-div-eq-div-mul}
+use native.Mathlib.Nat.{le-trans, le-of-eq, le-antisymm, lt-of-le-of-lt, lt-of-lt-of-le, lt-of-not-le, not-le-of-lt, le-of-suc-le-suc, lt-irrefl, mul-one}
+use native.Mathlib.Nat.{one-mul, mul-left-comm, mul-pos, zero-mul, mul-le-mul-right, lt-of-mul-lt-mul-right, le-of-mul-le-mul-right, pow-succ', div-one}
+use native.Mathlib.Nat.{div-div-eq-div-mul}
 use lib.Pow.{pow-add, pow-pos, pow-mono}
 use lib.Count.{trailingZeros, under}
 use lib.Ieee.{size}

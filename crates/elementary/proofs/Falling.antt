@@ -1,10 +1,12 @@
--- From -745 to 709 exp is t·2^k, rounded once. And exp of a value with the sign -: finite, with the sign +, and at most 14. The bound is coarse; it is enough for what the weights need. Assumes nothing.
+-- From -745 to 709 exp is t·2^k, rounded once. And exp of a value with the sign -: finite, with the sign +, and at most 14. The bound is coarse; it is enough
+-- for what the weights need. Assumes nothing.
 use mathlib.Core.Path.{_≡_, refl, sym, ap, subst, _∙_}
 use mathlib.Core.Logic.{⊎-elim}
 use mathlib.Core.Bool.{Bool, true, false, cond, true≢false}
 use Prim.Native.Nat.{ℕ, zero, suc, _+_, _-_, _*_, _^_, _<_, _≤_}
 use native.Mathlib.Omega.{arith}
-use native.Mathlib.Nat.{le-trans, le-of-eq, le-of-lt, not-suc-le-zero, zero-mul, mul-one, one-mul, add-comm, suc-mul, add-mul, mul-comm, mul-assoc, mul-left-comm, mul-right-comm, mul-pos, mul-le-mul-right, mul-lt-mul-of-pos-right, lt-of-lt-of-le}
+use native.Mathlib.Nat.{le-trans, le-of-eq, le-of-lt, not-suc-le-zero, zero-mul, mul-one, one-mul, add-comm, suc-mul, add-mul, mul-comm, mul-assoc}
+use native.Mathlib.Nat.{mul-left-comm, mul-right-comm, mul-pos, mul-le-mul-right, mul-lt-mul-of-pos-right, lt-of-lt-of-le}
 use lib.Pow.{pow-pos}
 use lib.IntN.{ℤ, pos, negsuc, negℤ, _+ℤ_}
 use lib.Dec.{T, ltb, lit<, lit≤}
@@ -19,7 +21,9 @@ use Rattle.laws.specs.Area.{zero64, one64}
 use Rattle.laws.proofs.Numbers.{order}
 use Rattle.elementary.specs.Exp.{ln2hi, ln2lo, low745, low708, high709, nearUp, signed, wholeNear, atMost, reduced, series, power, expK, expT, expIn, expUnder, expOf}
 use Rattle.elementary.specs.Limits.{upToWhole}
-use Rattle.elementary.proofs.Sizes.{signPlus, Signed, Most, Least, Held, Sized, sized, sized-more, sized-most, sized-add, held-whole, signed-round, most-round, least-round, most-neg, within-most, bounded, whole-sized, sum-apart, most-add, most-mul, sized-mul, sized-div, whole-signed, whole-least, one-is, one-sized, plain-less}
+use Rattle.elementary.proofs.Sizes.{signPlus, Signed, Most, Least, Held, Sized, sized, sized-next, sized-most, sized-add, held-whole, signed-round}
+use Rattle.elementary.proofs.Sizes.{most-round, least-round, most-neg, within-most, bounded, whole-sized, sum-apart, most-add, most-mul, sized-mul}
+use Rattle.elementary.proofs.Sizes.{sized-div, whole-signed, whole-least, one-is, one-sized, plain-less}
 use Rattle.elementary.proofs.Range.{NL, near-le, near-ge, fraction, bottom, quotient-minus, under-is, exp-range-under, exp-under, exp-in}
 use Rattle.elementary.proofs.Scaled.{Fair, Times, times-exact, times-normal, times-once}
 
@@ -70,7 +74,9 @@ module _ (A B : ℕ) (h : 0 < B) (k : A ≤ 1075 * B) where
   found-passed : A ≤ (found .whole + 1) * B
   found-passed = ⊎-elim
       (λ l. l)
-      (λ l. absurd (no (found .whole) (found .most (found .whole + 1) (least-round A B (found .whole + 1) 1 1075 1 h (lit< tt) (held-whole (found .whole + 1) (more (found .whole) (found .small))) (within-most 1075 rounded in-range) (omega (arith, l))))))
+      (λ l. absurd (no (found .whole) (found .most (found .whole + 1)
+      (least-round A B (found .whole + 1) 1 1075 1 h (lit< tt) (held-whole (found .whole + 1) (more (found .whole) (found .small)))
+      (within-most 1075 rounded in-range) (omega (arith, l))))))
       (order ((found .whole + 1) * B) A)
     where
       more : (n : ℕ) → n ≤ 1075 → n + 1 ≤ 2 ^ 53
@@ -121,14 +127,17 @@ times-hi (fin false m e) k v h = absurd (true≢false (sym (v .0)))
 times-hi (fin true m e) k v h =
     let small : k * NH < 2 ^ 53 = omega (arith, h) in
     subst (λ (z : Float). HasValue z true (k * NH) (2 ^ 32))
-    (sym (round-same binary64 true (m * up e * (NH * 1)) (down e * 2 ^ 32) (k * NH) (2 ^ 32) (mul-pos (down-pos e) (pow-pos 32)) (pow-pos 32) (same (m * up e) (down e) (sym (mul-one (m * up e)) ∙ v .1))))
-    (round-exact binary64 true (k * NH) (2 ^ 32) (k * NH) 1042 (pow-pos 32) small (lt-of-lt-of-le (mul-lt-mul-of-pos-right small (pow-pos 1042)) (lit≤ tt)) (sym (mul-assoc (k * NH) (2 ^ 1042) (2 ^ 32))))
+    (sym (round-same binary64 true (m * up e * (NH * 1)) (down e * 2 ^ 32) (k * NH) (2 ^ 32) (mul-pos (down-pos e) (pow-pos 32)) (pow-pos 32)
+    (same (m * up e) (down e) (sym (mul-one (m * up e)) ∙ v .1))))
+    (round-exact binary64 true (k * NH) (2 ^ 32) (k * NH) 1042 (pow-pos 32) small (lt-of-lt-of-le (mul-lt-mul-of-pos-right small (pow-pos 1042)) (lit≤ tt))
+    (sym (mul-assoc (k * NH) (2 ^ 1042) (2 ^ 32))))
   where
     same : (M D : ℕ) → M ≡ k * D → M * (NH * 1) * 2 ^ 32 ≡ k * NH * (D * 2 ^ 32)
     same M D e = omega (arith, ap (λ (x : ℕ). x * NH) e, mul-right-comm k D NH, mul-assoc (k * NH) D (2 ^ 32))
 
 -- a is the magnitude of x and b that of k·HI, each times c; jc is (|k| - 1)·c. L and HI are between 45426 / 65536 and 45427 / 65536
-gap-coarse : (a b c jc : ℕ) → jc ≤ 1075 * c → a * 65536 ≤ 45427 * (jc + c + c) → 45426 * jc ≤ a * 65536 → b * 65536 ≤ 45427 * (jc + c) → 45426 * (jc + c) ≤ b * 65536 → (a * 8 ≤ b * 8 + 6 * c) × (b * 8 ≤ a * 8 + 6 * c)
+gap-coarse : (a b c jc : ℕ) → jc ≤ 1075 * c → a * 65536 ≤ 45427 * (jc + c + c) → 45426 * jc ≤ a * 65536 → b * 65536 ≤ 45427 * (jc + c) →
+    45426 * (jc + c) ≤ b * 65536 → (a * 8 ≤ b * 8 + 6 * c) × (b * 8 ≤ a * 8 + 6 * c)
 gap-coarse a b c jc h p q u v = (omega arith, omega arith)
 
 gap : (a b c jc : ℕ) → jc ≤ 1075 * c → a * 2 ^ 53 ≤ NL * (jc + c + c) → NL * jc ≤ a * 2 ^ 53 → b * 2 ^ 32 ≡ NH * (jc + c) → (a * 8 ≤ b * 8 + 6 * c) × (b * 8 ≤ a * 8 + 6 * c)
@@ -146,7 +155,8 @@ two-more : (j C : ℕ) → (suc j + 1) * C ≡ j * C + C + C
 two-more j C = add-mul (suc j) 1 C ∙ ap (λ (k : ℕ). k + 1 * C) (suc-mul j C) ∙ ap (λ (k : ℕ). j * C + C + k) (one-mul C)
 
 -- x - k·HI, for k = - (j + 1)
-first-left : (m : ℕ) (e : ℤ) (y : Float) (j : ℕ) → j ≤ 1074 → HasValue y true (suc j * NH) (2 ^ 32) → j * (NL * down e) ≤ m * up e * 2 ^ 53 → m * up e * 2 ^ 53 ≤ (suc j + 1) * (NL * down e) → Most 6 8 (sub binary64 (fin true m e) y)
+first-left : (m : ℕ) (e : ℤ) (y : Float) (j : ℕ) → j ≤ 1074 → HasValue y true (suc j * NH) (2 ^ 32) → j * (NL * down e) ≤ m * up e * 2 ^ 53 →
+    m * up e * 2 ^ 53 ≤ (suc j + 1) * (NL * down e) → Most 6 8 (sub binary64 (fin true m e) y)
 unfolding sub add neg
 first-left m e (fin false n g) j h v l r = absurd (true≢false (sym (v .0)))
 first-left m e (fin true n g) j h v l r =
@@ -171,7 +181,8 @@ first-left m e (fin true n g) j h v l r =
 second-left : (y k : Float) → Most 1075 1 k → Most 6 8 y → Most 7 8 (sub binary64 y (mul binary64 k ln2lo))
 unfolding sub
 second-left y k p q =
-    let lo : Most 1 8 (mul binary64 k ln2lo) = subst (λ (z : Float). Most 1 8 (mul binary64 k z)) (sym lo-is) (most-mul 1075 1 1 (2 ^ 32) 1 8 k (fin false NO (negsuc 83)) (lit< tt) (pow-pos 32) (lit< tt) eighth (lit≤ tt) p (lit≤ tt)) in
+    let lo : Most 1 8 (mul binary64 k ln2lo) = subst (λ (z : Float). Most 1 8 (mul binary64 k z)) (sym lo-is)
+    (most-mul 1075 1 1 (2 ^ 32) 1 8 k (fin false NO (negsuc 83)) (lit< tt) (pow-pos 32) (lit< tt) eighth (lit≤ tt) p (lit≤ tt)) in
     most-add 6 1 8 y (neg (mul binary64 k ln2lo)) (lit< tt) seven-eighths q (most-neg 1 8 (mul binary64 k ln2lo) lo)
 
 -- r is at most 7 / 8 in magnitude, for k = - n where |x| is at most one L away from n·L
@@ -180,8 +191,10 @@ unfolding reduced ofInt sub
 reduced-small m e zero h l r =
     let none : Most 0 1 (round binary64 false 0 1) = most-round false 0 1 0 1 (lit< tt) (lit< tt) (held-whole 0 (lit≤ tt)) (lit≤ tt) in
     let y = mul binary64 (round binary64 false 0 1) ln2hi in
-    let hi : Most 0 8 y = subst (λ (z : Float). Most 0 8 (mul binary64 (round binary64 false 0 1) z)) (sym hi-is) (most-mul 0 1 1 1 0 8 (round binary64 false 0 1) (fin false NH (negsuc 31)) (lit< tt) (lit< tt) (lit< tt) none-held (lit≤ tt) none (lit≤ tt)) in
-    second-left (add binary64 (fin true m e) (neg y)) (round binary64 false 0 1) (wide (round binary64 false 0 1) none) (most-add 6 0 8 (fin true m e) (neg y) (lit< tt) six-eighths own (most-neg 0 8 y hi))
+    let hi : Most 0 8 y = subst (λ (z : Float). Most 0 8 (mul binary64 (round binary64 false 0 1) z)) (sym hi-is)
+    (most-mul 0 1 1 1 0 8 (round binary64 false 0 1) (fin false NH (negsuc 31)) (lit< tt) (lit< tt) (lit< tt) none-held (lit≤ tt) none (lit≤ tt)) in
+    second-left (add binary64 (fin true m e) (neg y)) (round binary64 false 0 1) (wide (round binary64 false 0 1) none)
+    (most-add 6 0 8 (fin true m e) (neg y) (lit< tt) six-eighths own (most-neg 0 8 y hi))
   where
     own : m * up e * 8 ≤ 6 * down e
     own = through (m * up e) NL 6 (down e) (2 ^ 53) 8 (pow-pos 53) (omega (arith, r)) (lit≤ tt)
@@ -191,7 +204,8 @@ reduced-small m e zero h l r =
 reduced-small m e (suc j) h l r =
     let k = round binary64 true (suc j) 1 in
     let y = mul binary64 k ln2hi in
-    let v : HasValue y true (suc j * NH) (2 ^ 32) = subst (λ (z : Float). HasValue (mul binary64 k z) true (suc j * NH) (2 ^ 32)) (sym hi-is) (times-hi k (suc j) (round-whole binary64 true (suc j) (le-trans h (lit≤ tt))) h) in
+    let v : HasValue y true (suc j * NH) (2 ^ 32) = subst (λ (z : Float). HasValue (mul binary64 k z) true (suc j * NH) (2 ^ 32)) (sym hi-is)
+    (times-hi k (suc j) (round-whole binary64 true (suc j) (le-trans h (lit≤ tt))) h) in
     second-left (add binary64 (fin true m e) (neg y)) k
     (most-round true (suc j) 1 1075 1 (lit< tt) (lit< tt) (held-whole 1075 (lit≤ tt)) (omega (arith, h)))
     (first-left m e y j (omega (arith, h)) v (subst (λ (i : ℕ). i * (NL * down e) ≤ m * up e * 2 ^ 53) (less j) l) r)
@@ -202,7 +216,8 @@ reduced-small m e (suc j) h l r =
 -- ---- the series
 
 -- (r / m)·t
-term : (s : Bool) (n p q : ℕ) (r t : Float) (m : ℕ) → suc m ≤ 13 → 0 < q → Held p q → 7 * n * q ≤ p * 8 → Sized s 7 8 r → Sized false n 1 t → Sized s p q (mul binary64 (div binary64 r (ofInt binary64 (pos (suc m)))) t)
+term : (s : Bool) (n p q : ℕ) (r t : Float) (m : ℕ) → suc m ≤ 13 → 0 < q → Held p q → 7 * n * q ≤ p * 8 → Sized s 7 8 r → Sized false n 1 t →
+    Sized s p q (mul binary64 (div binary64 r (ofInt binary64 (pos (suc m)))) t)
 term s n p q r t m h c v l y z =
     let f = ofInt binary64 (pos (suc m)) in
     let w = whole-signed (suc m) in
@@ -252,25 +267,30 @@ one-more n z h p =
 series-falling : (r : Float) (m : ℕ) (t : Float) → m ≤ 13 → Sized true 7 8 r → Fair 1 t → Fair 1 (series r m t)
 unfolding series
 series-falling r zero t h p q = q
-series-falling r (suc m) t h p q = series-falling r m (add binary64 one64 (mul binary64 (div binary64 r (ofInt binary64 (pos (suc m)))) t)) (omega (arith, h)) p (one-less (mul binary64 (div binary64 r (ofInt binary64 (pos (suc m)))) t) (term true 1 7 8 r t m h (lit< tt) seven-eighths (lit≤ tt) p (q .0)))
+series-falling r (suc m) t h p q = series-falling r m (add binary64 one64 (mul binary64 (div binary64 r (ofInt binary64 (pos (suc m)))) t)) (omega (arith, h)) p
+    (one-less (mul binary64 (div binary64 r (ofInt binary64 (pos (suc m)))) t) (term true 1 7 8 r t m h (lit< tt) seven-eighths (lit≤ tt) p (q .0)))
 
 -- r is not below 0: every t is at most 1 more than the one before
 series-rising : (r : Float) (m n : ℕ) (t : Float) → m ≤ 13 → n + m ≤ 14 → Sized false 7 8 r → Fair n t → Fair 14 (series r m t)
 unfolding series
-series-rising r zero n t h k p q = (sized-more false n 14 1 t (omega (arith, k)) (q .0), q .1)
-series-rising r (suc m) n t h k p q = series-rising r m (n + 1) (add binary64 one64 (mul binary64 (div binary64 r (ofInt binary64 (pos (suc m)))) t)) (omega (arith, h)) (omega (arith, k)) p (one-more n (mul binary64 (div binary64 r (ofInt binary64 (pos (suc m)))) t) (omega (arith, k)) (term false n n 1 r t m h (lit< tt) (held-whole n (omega (arith, k))) (omega arith) p (q .0)))
+series-rising r zero n t h k p q = (sized-next false n 14 1 t (omega (arith, k)) (q .0), q .1)
+series-rising r (suc m) n t h k p q = series-rising r m (n + 1) (add binary64 one64 (mul binary64 (div binary64 r (ofInt binary64 (pos (suc m)))) t))
+    (omega (arith, h)) (omega (arith, k)) p
+    (one-more n (mul binary64 (div binary64 r (ofInt binary64 (pos (suc m)))) t) (omega (arith, k))
+    (term false n n 1 r t m h (lit< tt) (held-whole n (omega (arith, k))) (omega arith) p (q .0)))
 
 -- whichever sign r has
 series-fair : (r : Float) → Most 7 8 r → Fair 14 (series r 13 one64)
 series-fair (fin true m e) p =
     let w = series-falling (fin true m e) 13 one64 (lit≤ tt) (refl, p) one-fair in
-    (sized-more false 1 14 1 (series (fin true m e) 13 one64) (lit≤ tt) (w .0), w .1)
+    (sized-next false 1 14 1 (series (fin true m e) 13 one64) (lit≤ tt) (w .0), w .1)
 series-fair (fin false m e) p = series-rising (fin false m e) 13 1 one64 (lit≤ tt) (lit≤ tt) (refl, p) one-fair
 
 series-fits : (r : Float) (m : ℕ) (t : Float) → T (fits binary64 t) → T (fits binary64 (series r m t))
 unfolding series
 series-fits r zero t h = h
-series-fits r (suc m) t h = series-fits r m (add binary64 one64 (mul binary64 (div binary64 r (ofInt binary64 (pos (suc m)))) t)) (add-fits binary64 one64 (mul binary64 (div binary64 r (ofInt binary64 (pos (suc m)))) t))
+series-fits r (suc m) t h = series-fits r m (add binary64 one64 (mul binary64 (div binary64 r (ofInt binary64 (pos (suc m)))) t))
+    (add-fits binary64 one64 (mul binary64 (div binary64 r (ofInt binary64 (pos (suc m)))) t))
 
 t-fits : (x : Float) → T (fits binary64 (expT x))
 unfolding ofBits fits
@@ -295,7 +315,9 @@ split-at m e h =
     record {
       whole = n;
       is = k;
-      fair = subst (λ (k : ℤ). Fair 14 (series (reduced (fin true m e) k) 13 one64)) (sym k) (series-fair (reduced (fin true m e) (negℤ (pos n))) (reduced-small m e n (w .small) (found-reached A B (bottom e) l) (found-passed A B (bottom e) l)));
+      fair = subst (λ (k : ℤ). Fair 14 (series (reduced (fin true m e) k) 13 one64)) (sym k)
+          (series-fair (reduced (fin true m e) (negℤ (pos n)))
+          (reduced-small m e n (w .small) (found-reached A B (bottom e) l) (found-passed A B (bottom e) l)));
     }
 
 -- ---- below -708: what is worked out there is t·2^k, rounded once
@@ -336,7 +358,8 @@ unfolding expIn
 small-in m e h =
     let w = split-at m e (omega (arith, ltb-false (745 * down e) (m * up e * 1) h)) in
     whole-sized 14 (expIn (fin true m e))
-    (sized-mul false false 14 1 1 1 14 1 (expT (fin true m e)) (power (expK (fin true m e))) (lit< tt) (lit< tt) (lit< tt) (held-whole 14 (lit≤ tt)) (lit≤ tt) (w .fair .0) (rw (w .is) (power-small (w .whole))))
+    (sized-mul false false 14 1 1 1 14 1 (expT (fin true m e)) (power (expK (fin true m e))) (lit< tt) (lit< tt) (lit< tt) (held-whole 14 (lit≤ tt)) (lit≤ tt)
+    (w .fair .0) (rw (w .is) (power-small (w .whole))))
 
 -- of every value with the sign -, so also of -0.0 and minus infinity, exp is finite, with the sign +, and at most 14
 pub exp-falling : (x : Float) → Signed true x → upToWhole (expOf x) 14

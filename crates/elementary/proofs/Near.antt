@@ -3,7 +3,9 @@ use mathlib.Core.Path.{_≡_, refl, sym, ap, subst, _∙_}
 use mathlib.Core.Bool.{Bool, true, false, not, _&&_, Bool·beq, true≢false}
 use Prim.Native.Nat.{ℕ, zero, suc, _+_, _-_, _*_, _/_, _%_, _^_, _<_, _≤_, min}
 use native.Mathlib.Omega.{arith}
-use native.Mathlib.Nat.{not-suc-le-zero, le-trans, le-of-eq, lt-of-le-of-lt, lt-of-lt-of-le, lt-of-not-le, le-of-suc-le-suc, lt-irrefl, mul-one, one-mul, zero-mul, mul-comm, mul-assoc, mul-left-comm, mul-right-comm, mul-pos, mul-le-mul-right, mul-lt-mul-of-pos-right, lt-of-mul-lt-mul-right, le-of-mul-le-mul-right, pow-succ', two-mul, add-div-right, div-div-eq-div-mul, div-le-of-le-mul, zero-div}
+use native.Mathlib.Nat.{not-suc-le-zero, le-trans, le-of-eq, lt-of-le-of-lt, lt-of-lt-of-le, lt-of-not-le, le-of-suc-le-suc, lt-irrefl, mul-one, one-mul}
+use native.Mathlib.Nat.{zero-mul, mul-comm, mul-assoc, mul-left-comm, mul-right-comm, mul-pos, mul-le-mul-right, mul-lt-mul-of-pos-right}
+use native.Mathlib.Nat.{lt-of-mul-lt-mul-right, le-of-mul-le-mul-right, pow-succ', two-mul, add-div-right, div-div-eq-div-mul, div-le-of-le-mul, zero-div}
 use lib.Pow.{pow-add, pow-pos, pow-lt}
 use lib.IntN.{ℤ, pos, negsuc, negℤ}
 use lib.Dec.{T, leb, ltb, eqb, lt→ltb, leb→le, ltb→lt, eqb→eq, lit<, lit≤}

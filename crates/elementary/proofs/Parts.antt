@@ -4,7 +4,8 @@ use mathlib.Core.Logic.{_⊎_, inl, inr, ⊎-elim}
 use mathlib.Core.Bool.{Bool, true, false, cond, _&&_, _||_, true≢false}
 use Prim.Native.Nat.{ℕ, zero, suc, _+_, _-_, _*_, _/_, _%_, _^_, _<_, _≤_}
 use native.Mathlib.Omega.{arith}
-use native.Mathlib.Nat.{le-trans, le-of-eq, lt-of-le-of-lt, lt-of-lt-of-le, le-of-suc-le-suc, lt-irrefl, not-suc-le-zero, zero-lt-suc, mul-one, mul-assoc, mul-pos, mul-le-mul-right, mul-div-cancel, mod-eq-of-lt, zero-mul, pow-succ'}
+use native.Mathlib.Nat.{le-trans, le-of-eq, lt-of-le-of-lt, lt-of-lt-of-le, le-of-suc-le-suc, lt-irrefl, not-suc-le-zero, zero-lt-suc, mul-one, mul-assoc}
+use native.Mathlib.Nat.{mul-pos, mul-le-mul-right, mul-div-cancel, mod-eq-of-lt, zero-mul, pow-succ'}
 use lib.Pow.{pow-add, pow-pos, shl-lt}
 use lib.Dec.{T, leb, ltb, eqb, lit<}
 use lib.Ieee.Fits.{up-pos}
@@ -96,7 +97,9 @@ ln-odd q j x lo hi h =
     let top : suc j + z ≡ 53 = omega arith in
     let sh : q * 2 ^ z < 2 ^ 53 = subst (λ (y : ℕ). q * 2 ^ z < 2 ^ y) top (shl-lt (suc j) z hi) in
     let tz : trailingZeros 53 (q * 2 ^ z) ≡ t + z = tz-shift z 53 q qp sh in
-    let dm : q * 2 ^ z / 2 ^ (t + z) ≡ m = ap (λ (y : ℕ). y / 2 ^ (t + z)) (ap (λ (y : ℕ). y * 2 ^ z) (sym (tz-div 53 q)) ∙ mul-assoc m (2 ^ t) (2 ^ z) ∙ ap (λ (y : ℕ). m * y) (sym (pow-add 2 t z))) ∙ mul-div-cancel m (pow-pos (t + z)) in
+    let dm : q * 2 ^ z / 2 ^ (t + z) ≡ m = ap (λ (y : ℕ). y / 2 ^ (t + z))
+    (ap (λ (y : ℕ). y * 2 ^ z) (sym (tz-div 53 q)) ∙ mul-assoc m (2 ^ t) (2 ^ z) ∙ ap (λ (y : ℕ). m * y) (sym (pow-add 2 t z))) ∙
+    mul-div-cancel m (pow-pos (t + z)) in
     let mp : 0 < m = pos-of m (2 ^ t) (lt-of-lt-of-le qp (le-of-eq (sym (tz-div 53 q)))) in
     let back : 1022 + (t + z) + (j - t) ≡ 1074 = omega arith in
     let exps : x + t + (j - t) ≡ x + j = omega arith in
@@ -160,7 +163,8 @@ ln-normal b (suc x) e p h =
     ap (λ (y : ℕ). lnOf (ofBits binary64 y)) (sym bu)
     ∙ ap lnOf (normal-bits x u (omega arith) ul)
     ∙ ln-odd (2 ^ 52 + u) 52 x (omega arith) (omega arith) (omega arith)
-    ∙ ap₂ lnIn (ap (λ (y : ℕ). odd 53 false y 1022 1074) (mul-one (2 ^ 52 + u)) ∙ sym (unit-bits (2 ^ 52 + u) (omega arith) (omega arith)) ∙ ap (λ (y : ℕ). ofBits binary64 (1023 * 2 ^ 52 + y)) q) (ap (λ (y : ℕ). minus y 1074) k)
+    ∙ ap₂ lnIn (ap (λ (y : ℕ). odd 53 false y 1022 1074) (mul-one (2 ^ 52 + u)) ∙ sym (unit-bits (2 ^ 52 + u) (omega arith) (omega arith)) ∙
+    ap (λ (y : ℕ). ofBits binary64 (1023 * 2 ^ 52 + y)) q) (ap (λ (y : ℕ). minus y 1074) k)
 
 -- the place of a subnormal's leading digit, and what its shift gives
 pub record Placed (b z : ℕ) : Type 0 where

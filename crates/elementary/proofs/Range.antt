@@ -3,7 +3,8 @@ use mathlib.Core.Path.{_≡_, refl, sym, ap, _∙_}
 use mathlib.Core.Bool.{true, false, true≢false}
 use Prim.Native.Nat.{ℕ, zero, suc, _+_, _*_, _^_, _<_, _≤_}
 use native.Mathlib.Omega.{arith}
-use native.Mathlib.Nat.{not-suc-le-zero, le-trans, le-of-eq, le-div-iff-mul-le, mul-one, mul-assoc, mul-right-comm, mul-left-comm, suc-mul, mul-pos, mul-le-mul-right, div-lt-iff-lt-mul, le-of-suc-le-suc}
+use native.Mathlib.Nat.{not-suc-le-zero, le-trans, le-of-eq, le-div-iff-mul-le, mul-one, mul-assoc, mul-right-comm, mul-left-comm, suc-mul, mul-pos}
+use native.Mathlib.Nat.{mul-le-mul-right, div-lt-iff-lt-mul, le-of-suc-le-suc}
 use lib.IntN.{ℤ, pos, negsuc, negℤ, _+ℤ_}
 use lib.Dec.{lit<, lit≤}
 use lib.Ieee.{Float, nan, inf, fin, binary64, up, down, round, neg, div, lt, ne, eq, ofBits, isNan}
@@ -58,7 +59,8 @@ whole-minus (fin false m e) p w = minus-whole (nearUp (m * up e) (down e)) (near
 whole-under : (z : Float) → signPlus z → atMost z 1075 → Least 1021 1 z → betweenMinus 1075 1021 (wholeNear (neg z))
 unfolding wholeNear signed neg
 whole-under (fin true m e) p w l = absurd (true≢false p)
-whole-under (fin false m e) p w l = minus-between (nearUp (m * up e) (down e)) (near-ge (m * up e) (down e) 1021 (down-pos e) (le-trans l (le-of-eq (mul-one (m * up e))))) (near-le (m * up e) (down e) 1075 (down-pos e) w)
+whole-under (fin false m e) p w l = minus-between (nearUp (m * up e) (down e))
+    (near-ge (m * up e) (down e) 1021 (down-pos e) (le-trans l (le-of-eq (mul-one (m * up e))))) (near-le (m * up e) (down e) 1075 (down-pos e) w)
 
 -- ---- the quotient
 
@@ -112,7 +114,8 @@ exp-quotient nan a b c = absurd (true≢false a)
 exp-quotient (inf true) a b c = absurd (true≢false b)
 exp-quotient (inf false) a b c = absurd (true≢false c)
 exp-quotient (fin false m e) a b c = rw (quotient-plus m e) (quotient-most m e 709 1075 (omega (arith, ltb-false (709 * 2 ^ 0 * down e) (m * up e * 1) c)) (lit≤ tt) (lit≤ tt))
-exp-quotient (fin true m e) a b c = rw (quotient-minus m e) (within-neg (quotient m e) 1075 (quotient-most m e 745 1075 (omega (arith, ltb-false (745 * 2 ^ 0 * down e) (m * up e * 1) b)) (lit≤ tt) (lit≤ tt)))
+exp-quotient (fin true m e) a b c = rw (quotient-minus m e)
+    (within-neg (quotient m e) 1075 (quotient-most m e 745 1075 (omega (arith, ltb-false (745 * 2 ^ 0 * down e) (m * up e * 1) b)) (lit≤ tt) (lit≤ tt)))
 
 -- from -708 to 709, k is from -1021 to 1023
 pub exp-range : (x : Float) → ne x x ≡ false → lt x low708 ≡ false → lt high709 x ≡ false → fromMinus 1021 1023 (expK x)
@@ -120,7 +123,9 @@ unfolding ne eq lt ofBits neg
 exp-range nan a b c = absurd (true≢false a)
 exp-range (inf true) a b c = absurd (true≢false b)
 exp-range (inf false) a b c = absurd (true≢false c)
-exp-range (fin false m e) a b c = rw (quotient-plus m e) (whole-plus (quotient m e) (sign-quotient m e) (quotient-most m e 709 1023 (omega (arith, ltb-false (709 * 2 ^ 0 * down e) (m * up e * 1) c)) (lit≤ tt) (lit≤ tt)))
+exp-range (fin false m e) a b c = rw (quotient-plus m e)
+    (whole-plus (quotient m e) (sign-quotient m e)
+    (quotient-most m e 709 1023 (omega (arith, ltb-false (709 * 2 ^ 0 * down e) (m * up e * 1) c)) (lit≤ tt) (lit≤ tt)))
 exp-range (fin true m e) a b c =
     rw (quotient-minus m e)
     (whole-minus (quotient m e) (sign-quotient m e)

@@ -3,7 +3,8 @@ use mathlib.Core.Path.{_≡_, sym, ap, _∙_}
 use mathlib.Core.Bool.{true, false, true≢false}
 use Prim.Native.Nat.{ℕ, zero, suc, _+_, _-_, _*_, _^_, _<_, _≤_}
 use native.Mathlib.Omega.{arith}
-use native.Mathlib.Nat.{mul-suc, mul-mul-mul-comm, mul-le-mul, mul-le-mul-left, le-trans, le-of-eq, le-of-suc-le-suc, lt-irrefl, lt-of-le-of-lt, lt-of-not-le, mul-one, one-mul, mul-assoc, mul-right-comm, mul-pos, mul-le-mul-right, mul-lt-mul-of-pos-right, lt-of-mul-lt-mul-right}
+use native.Mathlib.Nat.{mul-suc, mul-mul-mul-comm, mul-le-mul, mul-le-mul-left, le-trans, le-of-eq, le-of-suc-le-suc, lt-irrefl, lt-of-le-of-lt, lt-of-not-le}
+use native.Mathlib.Nat.{mul-one, one-mul, mul-assoc, mul-right-comm, mul-pos, mul-le-mul-right, mul-lt-mul-of-pos-right, lt-of-mul-lt-mul-right}
 use lib.Pow.{pow-add, pow-pos, pow-mono}
 use lib.IntN.{ℤ, pos, negsuc, _+ℤ_}
 use lib.Dec.{T, lit<, lit≤}
@@ -49,7 +50,8 @@ rearrange m U A P D I N h =
     ∙ ap (λ (x : ℕ). x * (D * N)) (mul-assoc m P I)
 
 -- t·2^-n is exact
-scaled : (m : ℕ) (e : ℤ) (n : ℕ) → m < 2 ^ 53 → 1 * down e ≤ m * up e * 8 → m * up e ≤ 14 * down e → n ≤ 1011 → HasValue (round binary64 false (m * up e * 1) (down e * 2 ^ n)) false (m * up e * 1) (down e * 2 ^ n)
+scaled : (m : ℕ) (e : ℤ) (n : ℕ) → m < 2 ^ 53 → 1 * down e ≤ m * up e * 8 → m * up e ≤ 14 * down e → n ≤ 1011 →
+    HasValue (round binary64 false (m * up e * 1) (down e * 2 ^ n)) false (m * up e * 1) (down e * 2 ^ n)
 scaled m e n h l u b =
     let w = last-digit m e h l in
     let j = w .0 in
@@ -60,7 +62,9 @@ scaled m e n h l u b =
     let is : m * up e * 1 * 2 ^ 1074 ≡ m * 2 ^ (j + i) * B =
     ap (λ (x : ℕ). m * up e * 1 * x) units ∙ rearrange m (up e) (2 ^ 55) (2 ^ j) (down e) (2 ^ i) (2 ^ n) (w .1) ∙ ap (λ (x : ℕ). m * x * B) (sym (pow-add 2 j i)) in
     let under : m * 2 ^ (j + i) * B < 2 ^ 2098 * B =
-    lt-of-le-of-lt (le-trans (le-of-eq (sym is)) (le-trans (mul-le-mul-right (2 ^ 1074) (le-trans (le-of-eq (mul-one (m * up e))) (le-trans u (more (down e) (2 ^ n) (pow-pos n))))) (le-of-eq (mul-right-comm 14 B (2 ^ 1074))))) (mul-lt-mul-of-pos-right (lit< {m = 14 * 2 ^ 1074} {n = 2 ^ 2098} tt) bp) in
+    lt-of-le-of-lt (le-trans (le-of-eq (sym is))
+    (le-trans (mul-le-mul-right (2 ^ 1074) (le-trans (le-of-eq (mul-one (m * up e))) (le-trans u (more (down e) (2 ^ n) (pow-pos n)))))
+    (le-of-eq (mul-right-comm 14 B (2 ^ 1074))))) (mul-lt-mul-of-pos-right (lit< {m = 14 * 2 ^ 1074} {n = 2 ^ 2098} tt) bp) in
     round-exact binary64 false (m * up e * 1) B m (j + i) bp h (lt-of-mul-lt-mul-right B under) is
   where
     split : (n : ℕ) → n ≤ 1011 → 1019 ≡ 1019 - n + n
@@ -110,7 +114,8 @@ times-normal (fin false m e) (negsuc p) f w b =
     normal (mul binary64 (fin false m e) (power (negsuc p))) (m * up e) (down e) (suc p) (down-pos e) (times-exact (fin false m e) (negsuc p) f w b) (w .1) (b .1)
 
 -- k is - (n + 1), and k + 64 is - (j + 1)
-once-at : (m : ℕ) (e : ℤ) (n j : ℕ) → T (fits binary64 (fin false m e)) → Fair 14 (fin false m e) → (956 ≤ j) × (j ≤ 1010) → n ≡ j + 64 → mul binary64 (mul binary64 (fin false m e) (power (negsuc j))) (power (negsuc 63)) ≡ mul binary64 (fin false m e) (power (negsuc n))
+once-at : (m : ℕ) (e : ℤ) (n j : ℕ) → T (fits binary64 (fin false m e)) → Fair 14 (fin false m e) → (956 ≤ j) × (j ≤ 1010) → n ≡ j + 64 →
+    mul binary64 (mul binary64 (fin false m e) (power (negsuc j))) (power (negsuc 63)) ≡ mul binary64 (fin false m e) (power (negsuc n))
 unfolding mul power
 once-at m e n j f w b h =
     rounded-once (mul binary64 (fin false m e) (power (negsuc j))) (m * up e) (down e) (suc j) (down-pos e) (times-exact (fin false m e) (negsuc j) f w (omega (arith, b .0), omega (arith, b .1)))

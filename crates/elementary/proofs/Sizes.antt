@@ -4,7 +4,8 @@ use mathlib.Core.Logic.{_⊎_, inl, inr, ⊎-elim}
 use mathlib.Core.Bool.{Bool, true, false, cond, not, _&&_, _||_, Bool·beq, true≢false}
 use Prim.Native.Nat.{ℕ, zero, suc, _+_, _-_, _*_, _^_, _<_, _≤_}
 use native.Mathlib.Omega.{arith}
-use native.Mathlib.Nat.{le-trans, le-of-eq, le-of-lt, lt-irrefl, lt-of-lt-of-le, mul-one, zero-mul, mul-comm, mul-assoc, mul-right-comm, mul-pos, mul-le-mul, mul-le-mul-right, add-mul, mul-sub, mul-mul-mul-comm}
+use native.Mathlib.Nat.{le-trans, le-of-eq, le-of-lt, lt-irrefl, lt-of-lt-of-le, mul-one, zero-mul, mul-comm, mul-assoc, mul-right-comm, mul-pos, mul-le-mul}
+use native.Mathlib.Nat.{mul-le-mul-right, add-mul, mul-sub, mul-mul-mul-comm}
 use lib.IntN.{ℤ, pos}
 use lib.Dec.{T, ltb, eqb, ltb→lt, eqb→eq, lit<, lit≤}
 use lib.Ieee.{Float, nan, inf, fin, Format, binary64, prec, emax, low, up, down, unlike, odd, units, round, sum, neg, add, mul, div, lt, le, eq, ofInt, ofBits}
@@ -171,8 +172,8 @@ sized-signed s n d (fin t m e) p = p .0
 pub most-more : (n k d : ℕ) (x : Float) → n ≤ k → Most n d x → Most k d x
 most-more n k d (fin t m e) h p = le-trans p (mul-le-mul-right (down e) h)
 
-pub sized-more : (s : Bool) (n k d : ℕ) (x : Float) → n ≤ k → Sized s n d x → Sized s k d x
-sized-more s n k d (fin t m e) h p = (p .0, le-trans (p .1) (mul-le-mul-right (down e) h))
+pub sized-next : (s : Bool) (n k d : ℕ) (x : Float) → n ≤ k → Sized s n d x → Sized s k d x
+sized-next s n k d (fin t m e) h p = (p .0, le-trans (p .1) (mul-le-mul-right (down e) h))
 
 pub sized-round : (s : Bool) (a b n d : ℕ) → 0 < b → 0 < d → Held n d → a * d ≤ n * b → Sized s n d (round binary64 s a b)
 sized-round s a b n d h k v l = sized s n d (round binary64 s a b) (signed-round binary64 s a b) (most-round s a b n d h k v l)
@@ -327,7 +328,8 @@ sized-mul s t a c b d p q (fin u m e) (fin w n g) C D Q v l x y =
     subst (λ (z : Bool). Sized z p q (round binary64 (unlike u w) (M * N) (down e * down g))) (λ i. unlike (x .0 i) (y .0 i))
     (sized-round (unlike u w) (M * N) (down e * down g) p q (mul-pos (down-pos e) (down-pos g)) Q v (product M (down e) N (down g) a c b d p q C D (x .1) (y .1) l))
 
-pub least-mul : (a c b d p q n k : ℕ) (x y : Float) → 0 < c → 0 < d → 0 < q → Held p q → p * (c * d) ≤ a * b * q → signPlus x → signPlus y → Least a c x → Least b d y → Most n k (mul binary64 x y) → Least p q (mul binary64 x y)
+pub least-mul : (a c b d p q n k : ℕ) (x y : Float) → 0 < c → 0 < d → 0 < q → Held p q → p * (c * d) ≤ a * b * q → signPlus x → signPlus y → Least a c x →
+    Least b d y → Most n k (mul binary64 x y) → Least p q (mul binary64 x y)
 unfolding mul
 least-mul a c b d p q n k (fin true m e) y C D Q v l s t x z w = absurd (true≢false s)
 least-mul a c b d p q n k (fin false m e) (fin true i g) C D Q v l s t x z w = absurd (true≢false t)
@@ -349,7 +351,8 @@ quotient M E N G a c b d h k =
     le-trans (le-of-eq (mul-mul-mul-comm M G c b ∙ ap (λ (x : ℕ). M * c * x) (mul-comm G b)))
     (le-trans (mul-le-mul h k) (le-of-eq (ap (λ (x : ℕ). a * E * x) (mul-comm N d) ∙ mul-mul-mul-comm a E d N ∙ ap (λ (x : ℕ). a * d * x) (mul-comm E N))))
 
-pub sized-div : (s t : Bool) (a c b d p q : ℕ) (x y : Float) → 0 < c → 0 < b → 0 < q → Held p q → a * d * q ≤ p * (c * b) → Sized s a c x → Signed t y → Least b d y → Sized (unlike s t) p q (div binary64 x y)
+pub sized-div : (s t : Bool) (a c b d p q : ℕ) (x y : Float) → 0 < c → 0 < b → 0 < q → Held p q → a * d * q ≤ p * (c * b) → Sized s a c x → Signed t y →
+    Least b d y → Sized (unlike s t) p q (div binary64 x y)
 unfolding div
 sized-div s t a c b d p q (fin u m e) (fin w n g) C B Q v l x z y =
     let M = m * up e in

@@ -1,4 +1,5 @@
--- How `record_words::run_of` is called, with `&[u64]` lent to it: a rule for each way to lend (m: a `&mut` slice lent again, s: a `&mut` slice lent as `&`, c: a `&` slice passed on, r: a `&mut` of a struct lent again). Printed (tests/walks_local).
+-- How `record_words::run_of` is called, with `&[u64]` lent to it: a rule for each way to lend (m: a `&mut` slice lent again, s: a `&mut` slice lent as `&`, c:
+-- a `&` slice passed on, r: a `&mut` of a struct lent again). Printed (tests/walks_local).
 -- Assumes `Given`, and that the callee meets its contract.
 use mathlib.Core.Path.{sym, ap, subst}
 use Prim.Native.Nat.{ℕ}
@@ -51,7 +52,8 @@ module _ {M : Type 1} (𝓤 : URA M) (H : Heap 𝓤) (A : Atoms 𝓤) (mem : Mem
   goes : Given 𝓤 H A → (s-words : Seat) (words : List ℕ) → 14 ≤ length words → ent 𝓤 (⋆ 𝓤 H A (‵ (Tok s-words) ∷ ‵ (Shr u64 s-words words) ∷ [])) (Contract-run-of .pre (to s-words words))
   goes W s-words words l = qed W (‵ (Tok s-words) ∷ ‵ (Shr u64 s-words words) ∷ []) ∵ says ! l $ nothing ! $ move ! (1 ∷ 0 ∷ []) $ join ! $ frame ! $ nothing ! $ move ! (1 ∷ 0 ∷ []) $ fjoin ! $ done !
 
-module _ {M : Type 1} {𝓤 : URA M} {H : Heap 𝓤} {A : Atoms 𝓤} {K : Type 0} {W : Given 𝓤 H A} {Γ : List (Item 𝓤)} {E : Env 𝓤 H} {C : Calls 𝓤 H} {Λ : Loops 𝓤 H} {xs : List Operand} {q : After 𝓤 H} {d : Place} {rest : Code} where
+module _ {M : Type 1} {𝓤 : URA M} {H : Heap 𝓤} {A : Atoms 𝓤} {K : Type 0} {W : Given 𝓤 H A} {Γ : List (Item 𝓤)} {E : Env 𝓤 H} {C : Calls 𝓤 H} {Λ : Loops 𝓤 H}
+    {xs : List Operand} {q : After 𝓤 H} {d : Place} {rest : Code} where
   pub calls-run-of-c : K → FmC 𝓤 H (W .laws) C → (mem : Memory → SProp 𝓤) (run : Routine → Fun 𝓤) → Triple 𝓤 (C #record-words·run-of) (Contract-run-of 𝓤 H A mem run)
       → (s-words : Seat) (words : List ℕ) → 14 ≤ length words
       → ((P Ω0 : Item 𝓤) → Opds K W (P ∷ Ω0 ∷ Γ) E xs (word s-words ∷ []))
@@ -61,10 +63,17 @@ module _ {M : Type 1} {𝓤 : URA M} {H : Heap 𝓤} {A : Atoms 𝓤} {K : Type 
       lend-copy t u64 s-words words $
       group t 2 $ use1 W (raw (Contract-run-of 𝓤 H A mem run .pre (to 𝓤 H A mem run s-words words))) (goes 𝓤 H A mem run W s-words words l) $
       calls-at t fm (Contract-run-of 𝓤 H A mem run) met (to 𝓤 H A mem run s-words words) (os _ _) (λ out.
-      use1 W (later (some (λ (res : Run). ((‵ (Tok s-words) ⊛ ‵ ftrue) ⊛ ‵ (Run′.the-row .own res (out ∷ []))) ⊛ raw (ensured 𝓤 H A callee.ended (callee.clauses 𝓤 H A mem run) (s-words .life, tt) (ref-at s-words words, tt) tt res)))) (id⊢ 𝓤 _) $ await t tt $ pick t (λ res.
-      split t $ move t (1 ∷ []) $ use1 W (some (λ (ws : Unit {0} × (Unit {0})). ‵ (lasts callee.ended (s-words .life, tt) (ref-at s-words words, tt) ws) ⊛ raw (fact 𝓤 (Ensured-run-of words res)))) (id⊢ 𝓤 _) $ pick t (λ ws. split t $ move t (1 ∷ []) $ heard t (Ensured-run-of words res) (λ e. fsplit t $ drop t $ drop t $ split t $ move t (1 ∷ []) $ peeks t Run′.the-row (Is Run′.the-row) (shows 𝓤 H A Run′.the-row) res (out ∷ []) (λ is. drop t $ split t $ move t (1 ∷ []) $ drop t $
+      use1 W (later (some (λ (res : Run). ((‵ (Tok s-words) ⊛ ‵ ftrue) ⊛ ‵ (Run′.the-row .own res (out ∷ []))) ⊛
+      raw (ensured 𝓤 H A callee.ended (callee.clauses 𝓤 H A mem run) (s-words .life, tt) (ref-at s-words words, tt) tt res)))) (id⊢ 𝓤 _) $ await t tt $
+      pick t (λ res.
+      split t $ move t (1 ∷ []) $ use1 W (some (λ (ws : Unit {0} × (Unit {0})). ‵ (lasts callee.ended (s-words .life, tt) (ref-at s-words words, tt) ws) ⊛
+      raw (fact 𝓤 (Ensured-run-of words res)))) (id⊢ 𝓤 _) $ pick t (λ ws. split t $ move t (1 ∷ []) $ heard t (Ensured-run-of words res) (λ e. fsplit t $
+      drop t $ drop t $ split t $ move t (1 ∷ []) $ peeks t Run′.the-row (Is Run′.the-row) (shows 𝓤 H A Run′.the-row) res (out ∷ []) (λ is. drop t $
+      split t $ move t (1 ∷ []) $ drop t $
       move t (1 ∷ 0 ∷ []) $
-      subst (λ (u : Val). Seq K W (‵ (Shr u64 s-words words) ∷ ‵ (Tok s-words) ∷ Γ) (lands C Λ E d u rest q)) (sym (ap only (LL.tells Run′.the-type Run″.the-laws res (out ∷ []) is))) (k res e (subst (Is Run′.the-row res) (LL.tells Run′.the-type Run″.the-laws res (out ∷ []) is) is)))))))
+      subst (λ (u : Val). Seq K W (‵ (Shr u64 s-words words) ∷ ‵ (Tok s-words) ∷ Γ) (lands C Λ E d u rest q))
+      (sym (ap only (LL.tells Run′.the-type Run″.the-laws res (out ∷ []) is)))
+      (k res e (subst (Is Run′.the-row res) (LL.tells Run′.the-type Run″.the-laws res (out ∷ []) is) is)))))))
 
   pub calls-run-of-s : K → FmC 𝓤 H (W .laws) C → (mem : Memory → SProp 𝓤) (run : Routine → Fun 𝓤) → Triple 𝓤 (C #record-words·run-of) (Contract-run-of 𝓤 H A mem run)
       → (s-words : Seat) (words : List ℕ) → 14 ≤ length words
@@ -75,7 +84,15 @@ module _ {M : Type 1} {𝓤 : URA M} {H : Heap 𝓤} {A : Atoms 𝓤} {K : Type 
       lend-shr t tt u64 s-words words (λ ν-words δ-words w-words.
       group t 2 $ use1 W (raw (Contract-run-of 𝓤 H A mem run .pre (to 𝓤 H A mem run (lent-to s-words ν-words δ-words) words))) (goes 𝓤 H A mem run W (lent-to s-words ν-words δ-words) words l) $
       calls-at t fm (Contract-run-of 𝓤 H A mem run) met (to 𝓤 H A mem run (lent-to s-words ν-words δ-words) words) (os _ _) (λ out.
-      use1 W (later (some (λ (res : Run). ((‵ (Tok (lent-to s-words ν-words δ-words)) ⊛ ‵ ftrue) ⊛ ‵ (Run′.the-row .own res (out ∷ []))) ⊛ raw (ensured 𝓤 H A callee.ended (callee.clauses 𝓤 H A mem run) (ν-words ∷ [], tt) (ref-at (lent-to s-words ν-words δ-words) words, tt) tt res)))) (id⊢ 𝓤 _) $ await t tt $ pick t (λ res.
-      split t $ move t (1 ∷ []) $ use1 W (some (λ (ws : Unit {0} × (Unit {0})). ‵ (lasts callee.ended (ν-words ∷ [], tt) (ref-at (lent-to s-words ν-words δ-words) words, tt) ws) ⊛ raw (fact 𝓤 (Ensured-run-of words res)))) (id⊢ 𝓤 _) $ pick t (λ ws. split t $ move t (1 ∷ []) $ heard t (Ensured-run-of words res) (λ e. fsplit t $ drop t $ drop t $ split t $ move t (1 ∷ []) $ peeks t Run′.the-row (Is Run′.the-row) (shows 𝓤 H A Run′.the-row) res (out ∷ []) (λ is. drop t $ split t $ move t (1 ∷ []) $ drop t $
+      use1 W (later (some (λ (res : Run). ((‵ (Tok (lent-to s-words ν-words δ-words)) ⊛ ‵ ftrue) ⊛ ‵ (Run′.the-row .own res (out ∷ []))) ⊛
+      raw (ensured 𝓤 H A callee.ended (callee.clauses 𝓤 H A mem run) (ν-words ∷ [], tt) (ref-at (lent-to s-words ν-words δ-words) words, tt) tt res))))
+      (id⊢ 𝓤 _) $ await t tt $ pick t (λ res.
+      split t $ move t (1 ∷ []) $ use1 W (some (λ (ws : Unit {0} × (Unit {0})).
+      ‵ (lasts callee.ended (ν-words ∷ [], tt) (ref-at (lent-to s-words ν-words δ-words) words, tt) ws) ⊛ raw (fact 𝓤 (Ensured-run-of words res))))
+      (id⊢ 𝓤 _) $ pick t (λ ws. split t $ move t (1 ∷ []) $ heard t (Ensured-run-of words res) (λ e. fsplit t $ drop t $ drop t $ split t $
+      move t (1 ∷ []) $ peeks t Run′.the-row (Is Run′.the-row) (shows 𝓤 H A Run′.the-row) res (out ∷ []) (λ is. drop t $ split t $ move t (1 ∷ []) $
+      drop t $
       back-shr t tt u64 s-words ν-words δ-words words w-words $
-      subst (λ (u : Val). Seq K W (‵ (Mut u64 s-words words) ∷ ‵ (Tok s-words) ∷ Γ) (lands C Λ E d u rest q)) (sym (ap only (LL.tells Run′.the-type Run″.the-laws res (out ∷ []) is))) (k res e (subst (Is Run′.the-row res) (LL.tells Run′.the-type Run″.the-laws res (out ∷ []) is) is))))))))
+      subst (λ (u : Val). Seq K W (‵ (Mut u64 s-words words) ∷ ‵ (Tok s-words) ∷ Γ) (lands C Λ E d u rest q))
+      (sym (ap only (LL.tells Run′.the-type Run″.the-laws res (out ∷ []) is)))
+      (k res e (subst (Is Run′.the-row res) (LL.tells Run′.the-type Run″.the-laws res (out ∷ []) is) is))))))))

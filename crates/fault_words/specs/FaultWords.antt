@@ -34,7 +34,8 @@ faultValue (Tree i) = i
 abbrev pub settingsFirst : ℕ → Fault
 settingsFirst k = cond (eqb k 0) Counters (BadSettings k)
 
--- what is told of words that are no record: too few words, as counters; a method that there is not, as settings, with the 21 that preparation would give; a state that there is not, as counters, where the settings are good
+-- what is told of words that are no record: too few words, as counters; a method that there is not, as settings, with the 21 that preparation would give; a
+-- state that there is not, as counters, where the settings are good
 abbrev pub unreadFault : List ℕ → Fault
 unreadFault w = cond (ltb (length w) 14) Counters (cond (settingsFine w) (settingsFirst (settingsFault (settingsOf w))) (BadSettings 21))
 

@@ -15,7 +15,8 @@ use Rattle.laws.proofs.Bools.{by-bool, and-left, and-right}
 use Rattle.laws.proofs.First.{first-all, first-none}
 use Rattle.frames.specs.declared.Frames.{Frames}
 use Rattle.frames.specs.declared.Frames.the-variants.{Good, Bad}
-use Rattle.frames.specs.Frames.{recordBytes, pictureAt, fieldAt, mostPicture, pictureFine, sideFine, sideAt, fieldFine, spareFine, valuesFine, goodAlone, mayFollow, inOrder, badAt, wholeRecords, framesBy, framesOf, frameOf}
+use Rattle.frames.specs.Frames.{recordBytes, pictureAt, fieldAt, mostPicture, pictureFine, sideFine, sideAt, fieldFine, spareFine, valuesFine, goodAlone}
+use Rattle.frames.specs.Frames.{mayFollow, inOrder, badAt, wholeRecords, framesBy, framesOf, frameOf}
 use Rattle.frames.specs.BaseReader.{baseGoodAlone, baseInOrder, baseBadAt, baseFramesOf, baseFrameOf}
 
 -- ---- a file that is taken, by any test of its records
@@ -84,7 +85,8 @@ module _ (p e q g : ℕ) where
 follows-on : (p e q g r h : ℕ) → mayFollow p e q g ≡ true → mayFollow q g r h ≡ true → mayFollow p e r h ≡ true
 follows-on p e q g r h a b = may-follow p e r h (⊎-elim
     (λ (l : p < q). ⊎-elim (λ (m : q < r). inl (omega arith)) (λ (m : (q ≡ r) × (0 < g) × (g < h)). inl (omega (arith, m))) (follows q g r h b))
-    (λ (l : (p ≡ q) × (0 < e) × (e < g)). ⊎-elim (λ (m : q < r). inl (omega (arith, l))) (λ (m : (q ≡ r) × (0 < g) × (g < h)). inr (omega (arith, l, m), l .1, omega (arith, l, m))) (follows q g r h b))
+    (λ (l : (p ≡ q) × (0 < e) × (e < g)). ⊎-elim (λ (m : q < r). inl (omega (arith, l))) (λ (m : (q ≡ r) × (0 < g) × (g < h)). inr
+    (omega (arith, l, m), l .1, omega (arith, l, m))) (follows q g r h b))
     (follows p e q g a))
 
 -- ---- what holds of every file that is taken
@@ -139,8 +141,12 @@ module _ (f : List ℕ) (n : ℕ) (e : framesOf f ≡ Good n) where
 -- ---- files of before
 
 module _ (f : List ℕ) where
+  record GoodNow (a : ℕ) : Type 0 where
+    alone : goodAlone f a ≡ true
+    whole : fieldAt f a ≡ 0
+
   -- a record that was good alone is, and is a whole frame
-  base-alone : (a : ℕ) → baseGoodAlone f a ≡ true → (goodAlone f a ≡ true) × (fieldAt f a ≡ 0)
+  base-alone : (a : ℕ) → baseGoodAlone f a ≡ true → GoodNow a
   unfolding goodAlone pictureFine fieldFine spareFine
   base-alone a h =
       let p = pictureAt f a in
@@ -155,18 +161,35 @@ module _ (f : List ℕ) where
       let h3 = and-left (A && S) x h4 in
       let low = and-left (leb 1 p) (leb p 54000) (and-left A S h3) in
       let high = leb-true p 54000 (and-right (leb 1 p) (leb p 54000) (and-left A S h3)) in
-      let whole = eqb-true (fieldAt f a) 0 (and-right (A && S) x h4) in
-      (rw (low, le-leb p mostPicture (omega arith), and-right A S h3, whole, and-right (A && S && x) y h5, and-right (A && S && x && y) z h6, and-right (A && S && x && y && z) (valuesFine f a) h), whole)
+      let field-0 = eqb-true (fieldAt f a) 0 (and-right (A && S) x h4) in
+      record {
+        alone = rw (
+          low,
+          le-leb p mostPicture (omega arith),
+          and-right A S h3,
+          field-0,
+          and-right (A && S && x) y h5,
+          and-right (A && S && x && y) z h6,
+          and-right (A && S && x && y && z) (valuesFine f a) h,
+        );
+        whole = field-0;
+      }
 
   base-order : (i : ℕ) → baseInOrder f i ≡ true → inOrder f i ≡ true
   unfolding inOrder mayFollow
   base-order i h = by-bool (inOrder f i ≡ true) (eqb i 0) (λ t. rw t) (λ t. rw (t, rw t at h))
 
+  was-good : (i : ℕ) → baseBadAt f i ≡ false → (baseGoodAlone f (i * recordBytes) ≡ true) × (baseInOrder f i ≡ true)
+  was-good i h =
+      let g = not-false (baseGoodAlone f (i * recordBytes) && baseInOrder f i) h in
+      (and-left (baseGoodAlone f (i * recordBytes)) (baseInOrder f i) g, and-right (baseGoodAlone f (i * recordBytes)) (baseInOrder f i) g)
+
+  good-now : (i : ℕ) → baseBadAt f i ≡ false → GoodNow (i * recordBytes)
+  good-now i h = base-alone (i * recordBytes) (was-good i h .0)
+
   base-good : (i : ℕ) → baseBadAt f i ≡ false → badAt f i ≡ false
   unfolding badAt
-  base-good i h =
-      let g = not-false (baseGoodAlone f (i * recordBytes) && baseInOrder f i) h in
-      rw (base-alone (i * recordBytes) (and-left (baseGoodAlone f (i * recordBytes)) (baseInOrder f i) g) .0, base-order i (and-right (baseGoodAlone f (i * recordBytes)) (baseInOrder f i) g))
+  base-good i h = rw (good-now i h .alone, base-order i (was-good i h .1))
 
   -- a file that the reader of before took is taken, with as many records, and each is the frame that it was
   pub old-files-read-as-before : (n : ℕ) → baseFramesOf f ≡ Good n → (framesOf f ≡ Good n) × ((i : ℕ) → i < n → frameOf f i ≡ baseFrameOf f i)
@@ -176,4 +199,4 @@ module _ (f : List ℕ) where
       (taken-so (badAt f) f n (record { count = t .count; noTail = t .noTail; good = λ i l. base-good i (t .good i l) }), λ i l. same i (rw (t .count) at l) (t .good i (rw (t .count) at l)))
     where
       same : (i : ℕ) → i < wholeRecords f → baseBadAt f i ≡ false → frameOf f i ≡ baseFrameOf f i
-      same i l h = rw (lt-ltb i (wholeRecords f) l, base-alone (i * recordBytes) (and-left (baseGoodAlone f (i * recordBytes)) (baseInOrder f i) (not-false (baseGoodAlone f (i * recordBytes) && baseInOrder f i) h)) .1)
+      same i l h = rw (lt-ltb i (wholeRecords f) l, good-now i h .whole)

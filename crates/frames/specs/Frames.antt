@@ -112,4 +112,12 @@ noFrame = record { picture = 0; side = 0; field = 0; features = zero64 ∷ zero6
 
 -- what record i holds; past the whole records a frame of zeros
 unfoldable pub frameOf : List ℕ → ℕ → Frame
-frameOf f i = cond (ltb i (wholeRecords f)) (record { picture = pictureAt f (i * recordBytes); side = sideAt f (i * recordBytes); field = fieldAt f (i * recordBytes); features = featuresAt f (i * recordBytes); starts = startsAt f (i * recordBytes) }) noFrame
+frameOf f i = cond (ltb i (wholeRecords f))
+    (record {
+      picture = pictureAt f (i * recordBytes);
+      side = sideAt f (i * recordBytes);
+      field = fieldAt f (i * recordBytes);
+      features = featuresAt f
+          (i * recordBytes);
+      starts = startsAt f (i * recordBytes);
+    }) noFrame

@@ -98,7 +98,8 @@ hand-room w m e =
 
 -- ---- what the walk of the call cites, with the machine's counts of the areas
 
-module _ (w : List ℕ) (P I G A : List Float) (xs off : List ℕ) (F : List Float) (cs : List Cell) (p i g a f : ℕ) (lp : length P ≡ p) (li : length I ≡ i) (lg : length G ≡ g) (la : length A ≡ a) (lf : length F ≡ f)
+module _ (w : List ℕ) (P I G A : List Float) (xs off : List ℕ) (F : List Float) (cs : List Cell) (p i g a f : ℕ) (lp : length P ≡ p) (li : length I ≡ i)
+    (lg : length G ≡ g) (la : length A ≡ a) (lf : length F ≡ f)
     (t : Fault) (et : t ≡ wordsFault w p i g a f xs off (nodesOf cs)) where
   fault-is : t ≡ handFault w (memory P I G A xs off F cs)
   fault-is = et ∙ rw (lp, li, lg, la, lf)

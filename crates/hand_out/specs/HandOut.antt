@@ -37,7 +37,8 @@ handing a o g = record { answer = a; order = o; gaps = g }
 unfoldable pub alongLine : List Float → ℕ → List ℕ → List ℕ → Handing
 alongLine y n o g = handing (Done n) (stripOrder y n o) (stripGaps y (stripOrder y n o) n g)
 
--- once the entry tests have found f: 20 for settings outside the profile, 17 before the run has ended, 15 for a position that it bars, 12 for order or gaps below n. w are the record's words, y the positions
+-- once the entry tests have found f: 20 for settings outside the profile, 17 before the run has ended, 15 for a position that it bars, 12 for order or gaps
+-- below n. w are the record's words, y the positions
 unfoldable pub handTested : Fault → List ℕ → List Float → List ℕ → List ℕ → Handing
 handTested f w y o g =
     let n = num w 0 in

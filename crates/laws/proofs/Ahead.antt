@@ -14,8 +14,8 @@ module _ {A : Type 0} where
   pub ahead-start : (d : A) (l : List A) → Ahead d l l 0
   ahead-start d l = record { size = refl; same = λ j h. refl }
 
-  pub ahead-more : {d : A} {l₀ l : List A} {e : ℕ} (x : A) → Ahead d l₀ l e → Ahead d l₀ (set l e x) (e + 1)
-  ahead-more {d} {l₀} {l} {e} x a = record {
+  pub ahead-next : {d : A} {l₀ l : List A} {e : ℕ} (x : A) → Ahead d l₀ l e → Ahead d l₀ (set l e x) (e + 1)
+  ahead-next {d} {l₀} {l} {e} x a = record {
     size = length-set l e x ∙ a .size;
     same = λ j h. getD-set-other l e j x d (λ q. past j h q) ∙ a .same j (omega arith);
   }

@@ -50,8 +50,8 @@ module _ {g : ℕ → ℕ} {j a k low left : ℕ} (c : (s t : ℕ) → s < t →
       same : (t : ℕ) → (t < middle → ⊥) → (middle < t → ⊥) → a + t ≡ low + left / 2
       same t b d = omega (arith, h .inside)
 
-  pub bisects-more : (r : ℕ) → 1 < left → r ≡ cond (leb (g (low + left / 2)) j) (low + left / 2) low → Bisects g j a k r (left - left / 2)
-  bisects-more r m e = elim (decLe (g (low + left / 2)) j) [
+  pub bisects-next : (r : ℕ) → 1 < left → r ≡ cond (leb (g (low + left / 2)) j) (low + left / 2) low → Bisects g j a k r (left - left / 2)
+  bisects-next r m e = elim (decLe (g (low + left / 2)) j) [
     | yes b ↦ rw (e, le-leb (g (low + left / 2)) j b) (record {
       some = omega arith;
       inside = (omega (arith, h .inside), omega (arith, h .inside));

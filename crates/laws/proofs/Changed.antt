@@ -9,7 +9,7 @@ use lib.ListN.{length, getD, take, drop, take-append-drop}
 use lib.Seq.{drop-at, drop-drop, getD-set-same, getD-set-other, length-take-le}
 use Rattle.laws.specs.Loops.{loop}
 use Rattle.laws.proofs.Loops.{loop-keeps}
-use Rattle.laws.proofs.Ahead.{Ahead, ahead-start, ahead-more}
+use Rattle.laws.proofs.Ahead.{Ahead, ahead-start, ahead-next}
 use Rattle.laws.proofs.Places.{change, changed-size, changed-past}
 use Rattle.laws.proofs.Parts.{Scratch}
 
@@ -20,9 +20,9 @@ module _ {A : Type 0} where
       ahead : Ahead d l m k
       front : (j : ℕ) → j < k → getD m j d ≡ g j (getD l j d)
 
-    changes-more : {l m : List A} {k : ℕ} → k < length l → Changes l k m → Changes l (k + 1) (change d g k m)
-    changes-more {l} {m} {k} h c = record {
-      ahead = ahead-more (g k (getD m k d)) (c .ahead);
+    changes-next : {l m : List A} {k : ℕ} → k < length l → Changes l k m → Changes l (k + 1) (change d g k m)
+    changes-next {l} {m} {k} h c = record {
+      ahead = ahead-next (g k (getD m k d)) (c .ahead);
       front = λ j a. elim (decLt j k) [
         | yes b ↦ getD-set-other m k j (g k (getD m k d)) d (λ q. omega arith) ∙ c .front j b
         | no b ↦ subst (λ (i : ℕ). getD (change d g k m) i d ≡ g i (getD l i d)) (last j k a b)
@@ -34,7 +34,9 @@ module _ {A : Type 0} where
         last j k a b = omega arith
 
     pub changed-at : (n : ℕ) (l : List A) → n ≤ length l → (j : ℕ) → j < n → getD (loop (change d g) n 0 l) j d ≡ g j (getD l j d)
-    changed-at n l h = subst (λ (k : ℕ). Changes l k (loop (change d g) n 0 l)) (zero-add n) (loop-keeps (Changes l) (change d g) n 0 l (λ k m b c. changes-more (omega arith) c) (record { ahead = ahead-start d l; front = λ j a. absurd (not-suc-le-zero a) })) .front
+    changed-at n l h = subst (λ (k : ℕ). Changes l k (loop (change d g) n 0 l)) (zero-add n)
+        (loop-keeps (Changes l) (change d g) n 0 l (λ k m b c. changes-next (omega arith) c)
+        (record { ahead = ahead-start d l; front = λ j a. absurd (not-suc-le-zero a) })) .front
 
     pub changed-tail : (n : ℕ) (l : List A) → n ≤ length l → drop n (loop (change d g) n 0 l) ≡ drop n l
     changed-tail n l h =

@@ -14,13 +14,13 @@ unfolding every
 every-none p = refl
 
 -- one number more
-pub every-next : (p : ℕ → Bool) (n : ℕ) → every p (n + 1) ≡ every p n && p n
+pub every-step : (p : ℕ → Bool) (n : ℕ) → every p (n + 1) ≡ every p n && p n
 unfolding every
-every-next p n = rw (add-one n)
+every-step p n = rw (add-one n)
 
-pub every-more : (p : ℕ → Bool) (n : ℕ) → every p n ≡ true → p n ≡ true → every p (n + 1) ≡ true
+pub every-next : (p : ℕ → Bool) (n : ℕ) → every p n ≡ true → p n ≡ true → every p (n + 1) ≡ true
 unfolding every
-every-more p n e h = rw (add-one n, e, h)
+every-next p n e h = rw (add-one n, e, h)
 
 pub every-done : (p : ℕ → Bool) (n k : ℕ) → every p k ≡ true → k ≤ n → n ≤ k → true ≡ every p n
 every-done p n k e l m = rw (le-antisymm m l) (sym e)

@@ -21,9 +21,9 @@ pub record Seeks (p : ℕ → Bool) (n k : ℕ) : Type 0 where
 pub seek-start : (p : ℕ → Bool) (n : ℕ) → Seeks p n 0
 seek-start p n = record { within = omega arith; same = rw sub-zero }
 
-pub seek-more : {p : ℕ → Bool} {n k : ℕ} → Seeks p n k → k < n → p k ≡ false → Seeks p n (k + 1)
+pub seek-next : {p : ℕ → Bool} {n k : ℕ} → Seeks p n k → k < n → p k ≡ false → Seeks p n (k + 1)
 unfolding seek
-seek-more {p} {n} {k} r h e = record { within = omega arith; same = rw (e, seek) at (rw (left n k h) at (r .same)) }
+seek-next {p} {n} {k} r h e = record { within = omega arith; same = rw (e, seek) at (rw (left n k h) at (r .same)) }
 
 pub seek-stop : {p : ℕ → Bool} {n k : ℕ} → Seeks p n k → k < n → p k ≡ true → k ≡ first p n
 unfolding seek

@@ -23,7 +23,8 @@ use Rattle.laws.proofs.Sums.{sum-const}
 pub length-those : (p : ℕ → Bool) (n : ℕ) → length (those p n) ≡ sum (λ j. bit (p j)) n
 unfolding those sum bit
 length-those p zero = refl
-length-those p (suc n) = length-append (those p n) (cond (p n) (n ∷ []) []) ∙ ap (λ (x : ℕ). x + length (cond (p n) (n ∷ []) [])) (length-those p n) ∙ ap (λ (x : ℕ). sum (λ j. bit (p j)) n + x) (one (p n))
+length-those p (suc n) = length-append (those p n) (cond (p n) (n ∷ []) []) ∙ ap (λ (x : ℕ). x + length (cond (p n) (n ∷ []) [])) (length-those p n) ∙
+    ap (λ (x : ℕ). sum (λ j. bit (p j)) n + x) (one (p n))
   where
     one : (b : Bool) → length (cond b (n ∷ []) []) ≡ bit b
     one true = refl
@@ -131,12 +132,12 @@ module _ {A : Type 0} where
   unfolding joined
   joined-none f = refl
 
-  pub joined-more : (f : ℕ → List A) (n : ℕ) → joined f (n + 1) ≡ joined f n ++ f n
+  pub joined-next : (f : ℕ → List A) (n : ℕ) → joined f (n + 1) ≡ joined f n ++ f n
   unfolding joined
-  joined-more f n = ap (joined f) (add-one n)
+  joined-next f n = ap (joined f) (add-one n)
 
   pub joined-grow : (f : ℕ → List A) (n : ℕ) → length (joined f (n + 1)) ≡ length (joined f n) + length (f n)
-  joined-grow f n = ap length (joined-more f n) ∙ length-append (joined f n) (f n)
+  joined-grow f n = ap length (joined-next f n) ∙ length-append (joined f n) (f n)
 
   pub joined-mono : (f : ℕ → List A) (j n : ℕ) → j ≤ n → length (joined f j) ≤ length (joined f n)
   joined-mono f j zero h = subst (λ (x : ℕ). length (joined f j) ≤ length (joined f x)) (nil j h) (le-refl (length (joined f j)))
@@ -171,7 +172,8 @@ module _ {A : Type 0} where
     | yes m ↦ subst P (sym (List·getD-append (joined f n) (f n) z p m)) (joined-all P f n z (λ i t a b. h i t (omega arith) b) p m)
     | no m ↦
         let e : p ≡ length (joined f n) + (p - length (joined f n)) = omega arith in
-        subst P (sym (ap (λ (x : ℕ). getD (joined f n ++ f n) x z) e ∙ getD-append-add (joined f n) (f n) (p - length (joined f n)) z)) (h n (p - length (joined f n)) (omega arith) (omega (arith, length-append (joined f n) (f n))))
+        subst P (sym (ap (λ (x : ℕ). getD (joined f n ++ f n) x z) e ∙ getD-append-add (joined f n) (f n) (p - length (joined f n)) z))
+        (h n (p - length (joined f n)) (omega arith) (omega (arith, length-append (joined f n) (f n))))
   ]
 
   -- from q on L has what the whole has, if what is before is q long
@@ -193,7 +195,8 @@ pub length-singles : (g : ℕ → ℕ) (n : ℕ) → length (joined (λ i. g i �
 length-singles g n = length-joined (λ i. g i ∷ []) n ∙ sum-const 1 n ∙ mul-one n
 
 pub singles-at : (g : ℕ → ℕ) (n j : ℕ) (r : List ℕ) → j < n → num (joined (λ i. g i ∷ []) n ++ r) j ≡ g j
-singles-at g n j r h = ap (λ (x : ℕ). num (joined (λ i. g i ∷ []) n ++ r) x) (sym (place (length (joined (λ i. g i ∷ []) j)) j (length-singles g j))) ∙ joined-at (λ i. g i ∷ []) n j 0 r 0 h (omega arith)
+singles-at g n j r h = ap (λ (x : ℕ). num (joined (λ i. g i ∷ []) n ++ r) x) (sym (place (length (joined (λ i. g i ∷ []) j)) j (length-singles g j))) ∙
+    joined-at (λ i. g i ∷ []) n j 0 r 0 h (omega arith)
   where
     place : (x j : ℕ) → x ≡ j → x + 0 ≡ j
     place x j e = omega arith

@@ -9,7 +9,7 @@ use lib.ListN.{length, getD, take, drop, length-append, length-drop, take-append
 use lib.Seq.{take-suc, take-add, take-at, drop-at, drop-drop, getD-drop}
 use Rattle.laws.specs.Joined.{joined}
 use Rattle.laws.proofs.Numbers.{row-in}
-use Rattle.laws.proofs.Joined.{joined-at, joined-more}
+use Rattle.laws.proofs.Joined.{joined-at, joined-next}
 
 module _ {A : Type 0} where
   -- ---- a value for each number below n
@@ -80,15 +80,15 @@ module _ {A : Type 0} where
             cut : {x y p s : ℕ} → x + y ≡ s → y ≡ s - p → p + w ≤ s → x ≡ p
             cut e f h = omega arith
 
-        pub lays-more : {l' : List A} → i < n → n * w ≤ length l₀ → length l' ≡ length l → l' ≡ take (i * w) l ++ (row i ++ drop w (drop (i * w) l)) → Lays n l₀ (i + 1) l'
-        lays-more {l'} h m s e = record {
+        pub lays-next : {l' : List A} → i < n → n * w ≤ length l₀ → length l' ≡ length l → l' ≡ take (i * w) l ++ (row i ++ drop w (drop (i * w) l)) → Lays n l₀ (i + 1) l'
+        lays-next {l'} h m s e = record {
           within = omega arith;
           size = s ∙ r .size;
           same =
               e
               ∙ rw (r .same, take-at (joined row i) (drop (i * w) l₀) (i * w) (front h m), drop-at (joined row i) (drop (i * w) l₀) (i * w) (front h m))
               (sym (append-assoc (joined row i) (row i) (drop w (drop (i * w) l₀))))
-              ∙ ap (λ (x : List A). x ++ drop w (drop (i * w) l₀)) (sym (joined-more row i))
+              ∙ ap (λ (x : List A). x ++ drop w (drop (i * w) l₀)) (sym (joined-next row i))
               ∙ ap (λ (x : List A). joined row (i + 1) ++ x) (drop-drop w (i * w) l₀ ∙ ap (λ (p : ℕ). drop p l₀) (next i));
         }
           where

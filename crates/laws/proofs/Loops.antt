@@ -15,9 +15,9 @@ module _ {A : Type 0} where
   pub loop-start : (f : ℕ → A → A) (n : ℕ) (y : A) → Loops f n y 0 y
   loop-start f n y = record { within = omega arith; same = rw sub-zero }
 
-  pub loop-more : {f : ℕ → A → A} {n k : ℕ} {x y : A} → Loops f n y k x → k < n → Loops f n y (k + 1) (f k x)
+  pub loop-next : {f : ℕ → A → A} {n k : ℕ} {x y : A} → Loops f n y k x → k < n → Loops f n y (k + 1) (f k x)
   unfolding loop
-  loop-more {f} {n} {k} r h = record { within = omega arith; same = rw (left n k h) at (r .same) }
+  loop-next {f} {n} {k} r h = record { within = omega arith; same = rw (left n k h) at (r .same) }
 
   pub loop-done : {f : ℕ → A → A} {n k : ℕ} {x y : A} → Loops f n y k x → n ≤ k → x ≡ loop f n 0 y
   unfolding loop
@@ -27,7 +27,8 @@ module _ {A : Type 0} where
   pub loop-keeps : (P : ℕ → A → Type 0) (f : ℕ → A → A) (n k : ℕ) (x : A) → ((j : ℕ) (y : A) → j < k + n → P j y → P (j + 1) (f j y)) → P k x → P (k + n) (loop f n k x)
   unfolding loop
   loop-keeps P f zero k x s h = rw add-zero h
-  loop-keeps P f (suc n) k x s h = subst (λ (m : ℕ). P m (loop f n (k + 1) (f k x))) (shift k n) (loop-keeps P f n (k + 1) (f k x) (λ j y l. s j y (subst (λ (m : ℕ). j < m) (shift k n) l)) (s k x (omega arith) h))
+  loop-keeps P f (suc n) k x s h = subst (λ (m : ℕ). P m (loop f n (k + 1) (f k x))) (shift k n)
+      (loop-keeps P f n (k + 1) (f k x) (λ j y l. s j y (subst (λ (m : ℕ). j < m) (shift k n) l)) (s k x (omega arith) h))
 
   -- two runs one after the other are one
   pub loop-add : (f : ℕ → A → A) (m n k : ℕ) (x : A) → loop f (m + n) k x ≡ loop f n (k + m) (loop f m k x)

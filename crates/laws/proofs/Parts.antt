@@ -6,13 +6,14 @@ use native.Mathlib.Omega.{arith}
 use native.Mathlib.Numerals.{add-one}
 use native.Mathlib.Nat.{le-antisymm}
 use lib.ListN.{List·getD-append, length, getD, set, take, drop, replicate, length-set, length-drop, length-append, length-replicate, replicate-append-replicate, take-append-drop}
-use lib.Seq.{paste, paste-zero, paste-suc, take-length, getD-take, getD-set-same, getD-set-other, drop-cons, set-at, take-suc, take-take, take-set-le, getD-drop, append-snoc, length-take-le, drop-set-lt}
+use lib.Seq.{paste, paste-zero, paste-suc, take-length, getD-take, getD-set-same, getD-set-other, drop-cons, set-at, take-suc, take-take, take-set-le}
+use lib.Seq.{getD-drop, append-snoc, length-take-le, drop-set-lt}
 use Rattle.laws.specs.Joined.{pasted, written}
 
 module _ {A : Type 0} where
   -- one more element is copied
-  paste-more : (l d : List A) (a t : ℕ) (z : A) → a + t < length l → t < length d → set (pasted l a t d) t (getD l (a + t) z) ≡ pasted l a (t + 1) d
-  paste-more l d a t z h m =
+  paste-next : (l d : List A) (a t : ℕ) (z : A) → a + t < length l → t < length d → set (pasted l a t d) t (getD l (a + t) z) ≡ pasted l a (t + 1) d
+  paste-next l d a t z h m =
       let w : t < length (drop a l) = rw (length-drop a l) (omega arith) in
       ap (λ (r : List A). set (take t (drop a l) ++ r) t (getD l (a + t) z)) (drop-cons d t z m)
       ∙ set-at (take t (drop a l)) (getD d t z) (drop (suc t) d) (getD l (a + t) z) t (length-take-le t (drop a l) (omega arith))
@@ -22,8 +23,8 @@ module _ {A : Type 0} where
       ∙ ap (λ (s : ℕ). take s (drop a l) ++ drop s d) (sym (add-one t))
 
   -- one more element is cleared
-  clear-more : (z : A) (d : List A) (t : ℕ) → t < length d → set (replicate t z ++ drop t d) t z ≡ replicate (t + 1) z ++ drop (t + 1) d
-  clear-more z d t m =
+  clear-next : (z : A) (d : List A) (t : ℕ) → t < length d → set (replicate t z ++ drop t d) t z ≡ replicate (t + 1) z ++ drop (t + 1) d
+  clear-next z d t m =
       ap (λ (r : List A). set (replicate t z ++ r) t z) (drop-cons d t z m)
       ∙ set-at (replicate t z) (getD d t z) (drop (suc t) d) z t (length-replicate t z)
       ∙ sym (append-snoc (replicate t z) z (drop (suc t) d))
@@ -41,11 +42,11 @@ module _ {A : Type 0} where
     pub copies-start : Copies from to₀ a k 0 to₀
     copies-start = record { within = omega arith; size = refl; same = refl }
 
-    pub copies-more : {t : ℕ} {to : List A} (z : A) → a + k ≤ length from → k ≤ length to₀ → t < k → Copies from to₀ a k t to → Copies from to₀ a k (t + 1) (set to t (getD from (a + t) z))
-    copies-more {t} {to} z h m l r = record {
+    pub copies-next : {t : ℕ} {to : List A} (z : A) → a + k ≤ length from → k ≤ length to₀ → t < k → Copies from to₀ a k t to → Copies from to₀ a k (t + 1) (set to t (getD from (a + t) z))
+    copies-next {t} {to} z h m l r = record {
       within = omega arith;
       size = length-set to t (getD from (a + t) z) ∙ r .size;
-      same = ap (λ (x : List A). set x t (getD from (a + t) z)) (r .same) ∙ paste-more from to₀ a t z (omega arith) (omega arith);
+      same = ap (λ (x : List A). set x t (getD from (a + t) z)) (r .same) ∙ paste-next from to₀ a t z (omega arith) (omega arith);
     }
 
     pub copies-done : {t : ℕ} {to : List A} → k ≤ t → Copies from to₀ a k t to → to ≡ pasted from a k to₀
@@ -60,11 +61,11 @@ module _ {A : Type 0} where
     pub clears-start : Clears z l₀ n 0 l₀
     clears-start = record { within = omega arith; size = refl; same = refl }
 
-    pub clears-more : {t : ℕ} {l : List A} → n ≤ length l₀ → t < n → Clears z l₀ n t l → Clears z l₀ n (t + 1) (set l t z)
-    clears-more {t} {l} h m r = record {
+    pub clears-next : {t : ℕ} {l : List A} → n ≤ length l₀ → t < n → Clears z l₀ n t l → Clears z l₀ n (t + 1) (set l t z)
+    clears-next {t} {l} h m r = record {
       within = omega arith;
       size = length-set l t z ∙ r .size;
-      same = ap (λ (x : List A). set x t z) (r .same) ∙ clear-more z l₀ t (omega arith);
+      same = ap (λ (x : List A). set x t z) (r .same) ∙ clear-next z l₀ t (omega arith);
     }
 
     pub clears-done : {t : ℕ} {l : List A} → n ≤ t → Clears z l₀ n t l → l ≡ replicate n z ++ drop n l₀
@@ -105,8 +106,8 @@ module _ {A : Type 0} where
     pub ends-start : Ends d w q₀ l₀ w q₀ l₀
     ends-start = record { within = omega arith; size = refl; low = refl; high = λ t h. refl; same = refl }
 
-    pub ends-more : {left left' : List A} {q q' : ℕ} {l : List A} (v : A) → left' ≡ left ++ (v ∷ []) → q ≡ q' + 1 → q' < length l → Ends d w q₀ l₀ left' q l → Ends d w q₀ l₀ left q' (set l q' v)
-    ends-more {left} {left'} {q} {q'} {l} v e u h r = record {
+    pub ends-next : {left left' : List A} {q q' : ℕ} {l : List A} (v : A) → left' ≡ left ++ (v ∷ []) → q ≡ q' + 1 → q' < length l → Ends d w q₀ l₀ left' q l → Ends d w q₀ l₀ left q' (set l q' v)
+    ends-next {left} {left'} {q} {q'} {l} v e u h r = record {
       within = omega (arith, r .within);
       size = length-set l q' v ∙ r .size;
       low = take-set-le q' l q' v (omega arith) ∙ sym (take-take q' q l (omega arith)) ∙ ap (take q') (r .low) ∙ take-take q' q l₀ (omega arith);
@@ -134,8 +135,8 @@ module _ {A : Type 0} where
     pub spells-start : Spells w l₀ a 0 l₀
     spells-start = record { within = omega arith; size = refl; same = paste-zero l₀ a w }
 
-    pub spells-more : {i : ℕ} {l : List A} (z : A) → a + length w ≤ length l₀ → i < length w → Spells w l₀ a i l → Spells w l₀ a (i + 1) (set l (a + i) (getD w i z))
-    spells-more {i} {l} z h m r = record {
+    pub spells-next : {i : ℕ} {l : List A} (z : A) → a + length w ≤ length l₀ → i < length w → Spells w l₀ a i l → Spells w l₀ a (i + 1) (set l (a + i) (getD w i z))
+    spells-next {i} {l} z h m r = record {
       within = omega arith;
       size = length-set l (a + i) (getD w i z) ∙ r .size;
       same =

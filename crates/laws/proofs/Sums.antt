@@ -17,9 +17,9 @@ pub sum-none : (f : ℕ → ℕ) → sum f 0 ≡ 0
 unfolding sum
 sum-none f = refl
 
-pub sum-more : (f : ℕ → ℕ) (n : ℕ) → sum f (n + 1) ≡ sum f n + f n
+pub sum-next : (f : ℕ → ℕ) (n : ℕ) → sum f (n + 1) ≡ sum f n + f n
 unfolding sum
-sum-more f n = rw (add-one n)
+sum-next f n = rw (add-one n)
 
 pub sum-same : (f g : ℕ → ℕ) (n : ℕ) → ((i : ℕ) → i < n → f i ≡ g i) → sum f n ≡ sum g n
 unfolding sum
@@ -57,10 +57,10 @@ module _ {f : ℕ → ℕ} {b n : ℕ} where
   pub adds-start : Adds f b n 0 0
   adds-start = record { within = omega arith; same = sym (sum-none f); most = omega arith }
 
-  pub adds-more : {k c v : ℕ} → v ≡ f k → f k ≤ b → k < n → Adds f b n k c → Adds f b n (k + 1) (c + v)
-  adds-more {k} {c} {v} e h l a = record {
+  pub adds-next : {k c v : ℕ} → v ≡ f k → f k ≤ b → k < n → Adds f b n k c → Adds f b n (k + 1) (c + v)
+  adds-next {k} {c} {v} e h l a = record {
     within = omega arith;
-    same = omega (arith, e, a .same, sum-more f k);
+    same = omega (arith, e, a .same, sum-next f k);
     most = omega (arith, e, h, a .most, ap (λ (m : ℕ). m * b) (add-one k), suc-mul k b);
   }
 
@@ -84,12 +84,12 @@ bit-or true false g h = omega arith
 bit-or false true g h = omega arith
 bit-or false false g h = omega arith
 
-pub bit-more : (a b : Bool) → bit (a || b) ≡ bit a + bit (b && not a)
+pub bit-next : (a b : Bool) → bit (a || b) ≡ bit a + bit (b && not a)
 unfolding bit
-bit-more true true = refl
-bit-more true false = refl
-bit-more false true = refl
-bit-more false false = refl
+bit-next true true = refl
+bit-next true false = refl
+bit-next false true = refl
+bit-next false false = refl
 
 pub bit-left : (a b : Bool) → bit a ≤ bit (a || b)
 unfolding bit

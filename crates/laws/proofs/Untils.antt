@@ -15,9 +15,9 @@ module _ {A : Type 0} where
   pub until-start : (p : A → Bool) (f : A → A) (n : ℕ) (y : A) → Untils p f n y 0 y
   until-start p f n y = record { within = omega arith; same = rw sub-zero }
 
-  pub until-more : {p : A → Bool} {f : A → A} {n k : ℕ} {x y : A} → Untils p f n y k x → k < n → p x ≡ false → Untils p f n y (k + 1) (f x)
+  pub until-next : {p : A → Bool} {f : A → A} {n k : ℕ} {x y : A} → Untils p f n y k x → k < n → p x ≡ false → Untils p f n y (k + 1) (f x)
   unfolding until
-  until-more {p} {f} {n} {k} r h e = record { within = omega arith; same = rw (e, until) at (rw (left n k h) at (r .same)) }
+  until-next {p} {f} {n} {k} r h e = record { within = omega arith; same = rw (e, until) at (rw (left n k h) at (r .same)) }
 
   pub until-stop : {p : A → Bool} {f : A → A} {n k : ℕ} {x y : A} → Untils p f n y k x → k < n → p x ≡ true → x ≡ until p f n y
   unfolding until
@@ -39,6 +39,7 @@ module _ {A : Type 0} where
   until-add p f zero n x = rw (zero-add n)
   until-add p f (suc m) n x = rw (suc-add m n) (go (until-add p f m n (f x)) (p x) refl)
     where
-      go : until p f (m + n) (f x) ≡ until p f n (until p f m (f x)) → (b : Bool) → p x ≡ b → elim (p x) [ true ↦ x | false ↦ until p f (m + n) (f x) ] ≡ until p f n (elim (p x) [ true ↦ x | false ↦ until p f m (f x) ])
+      go : until p f (m + n) (f x) ≡ until p f n (until p f m (f x)) → (b : Bool) → p x ≡ b →
+          elim (p x) [ true ↦ x | false ↦ until p f (m + n) (f x) ] ≡ until p f n (elim (p x) [ true ↦ x | false ↦ until p f m (f x) ])
       go h true e = rw e (sym (until-end p f n x e))
       go h false e = rw e h

@@ -12,8 +12,8 @@ use Rattle.laws.proofs.Loops.{loop-keeps}
 
 module _ {A : Type 0} where
   -- areas that are one from p on are one from p + 1 on
-  pub drop-more : (l m : List A) (p : ℕ) → drop p l ≡ drop p m → drop (p + 1) l ≡ drop (p + 1) m
-  drop-more l m p e = rw (drop-drop 1 p l, drop-drop 1 p m) at (ap (drop 1) e)
+  pub drop-next : (l m : List A) (p : ℕ) → drop p l ≡ drop p m → drop (p + 1) l ≡ drop (p + 1) m
+  drop-next l m p e = rw (drop-drop 1 p l, drop-drop 1 p m) at (ap (drop 1) e)
 
   module _ (g : ℕ → A) where
     -- place k gets g k
@@ -24,15 +24,16 @@ module _ {A : Type 0} where
     written-size n l = loop-keeps (λ k m. length m ≡ length l) write n 0 l (λ k m h e. length-set m k (g k) ∙ e) refl
 
     pub written-tail : (n : ℕ) (l : List A) → drop n (loop write n 0 l) ≡ drop n l
-    written-tail n l = subst (λ (q : ℕ). drop q (loop write n 0 l) ≡ drop q l) (zero-add n) (loop-keeps (λ k m. drop k m ≡ drop k l) write n 0 l (λ k m h e. drop-set-lt (k + 1) m k (g k) (omega arith) ∙ drop-more m l k e) refl)
+    written-tail n l = subst (λ (q : ℕ). drop q (loop write n 0 l) ≡ drop q l) (zero-add n)
+        (loop-keeps (λ k m. drop k m ≡ drop k l) write n 0 l (λ k m h e. drop-set-lt (k + 1) m k (g k) (omega arith) ∙ drop-next m l k e) refl)
 
     -- the first k places are written
     record Front (d : A) (l : List A) (k : ℕ) (m : List A) : Type 0 where
       size : length m ≡ length l
       holds : (j : ℕ) → j < k → getD m j d ≡ g j
 
-    front-more : {d : A} {l m : List A} {k : ℕ} → k < length l → Front d l k m → Front d l (k + 1) (write k m)
-    front-more {d} {l} {m} {k} h f = record {
+    front-next : {d : A} {l m : List A} {k : ℕ} → k < length l → Front d l k m → Front d l (k + 1) (write k m)
+    front-next {d} {l} {m} {k} h f = record {
       size = length-set m k (g k) ∙ f .size;
       holds = λ j a. elim (decLt j k) [
         | yes b ↦ getD-set-other m k j (g k) d (λ q. omega arith) ∙ f .holds j b
@@ -44,4 +45,5 @@ module _ {A : Type 0} where
         last j k a b = omega arith
 
     pub written-at : (d : A) (n : ℕ) (l : List A) → n ≤ length l → (j : ℕ) → j < n → getD (loop write n 0 l) j d ≡ g j
-    written-at d n l h = subst (λ (q : ℕ). Front d l q (loop write n 0 l)) (zero-add n) (loop-keeps (Front d l) write n 0 l (λ k m a f. front-more (omega arith) f) (record { size = refl; holds = λ j a. absurd (not-suc-le-zero a) })) .holds
+    written-at d n l h = subst (λ (q : ℕ). Front d l q (loop write n 0 l)) (zero-add n)
+        (loop-keeps (Front d l) write n 0 l (λ k m a f. front-next (omega arith) f) (record { size = refl; holds = λ j a. absurd (not-suc-le-zero a) })) .holds

@@ -6,3 +6,4 @@ pub mod Lies
 pub mod Holds
 pub mod One
 pub mod Local
+pub mod Beside

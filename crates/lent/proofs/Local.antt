@@ -1,10 +1,15 @@
 -- A local array, lent whole or in its first k elements as a `&mut [T]` or a `&[T]`, and a local struct, lent as a `&mut S`, and back. It says nothing of a crate, and can be copied as it stands.
--- A local's cell is `fat fullShare τ l 0 v`, at its machine value v, which the denotation tells (`vals`). T is plain data: what it owns is had for nothing (`Makes`), and has one MIR type (`Single`, by `tt`).
--- What is lent stands as a parameter of that kind does (`Pass.antt`'s `Mut`, `Shr` and `Tok`, `One.antt`'s `One`), at the seat `local-at l k ν δ`: for a lifetime ν that is made for the loan, under a new name δ, with the count k. So it goes into a callee by that callee's own call rule, which lends it once more.
--- The front end lowers `&mut a` and `&mut a[..k]` to `p = addrOf a;  t = aggregate [copy p, n or copy k]`, which needs only the local's cell: the steps below stand after the two statements, before the call, and after it.
+-- A local's cell is `fat fullShare τ l 0 v`, at its machine value v, which the denotation tells (`vals`). T is plain data: what it owns is had for nothing
+-- (`Makes`), and has one MIR type (`Single`, by `tt`).
+-- What is lent stands as a parameter of that kind does (`Pass.antt`'s `Mut`, `Shr` and `Tok`, `One.antt`'s `One`), at the seat `local-at l k ν δ`: for a
+-- lifetime ν that is made for the loan, under a new name δ, with the count k. So it goes into a callee by that callee's own call rule, which lends it once
+-- more.
+-- The front end lowers `&mut a` and `&mut a[..k]` to `p = addrOf a; t = aggregate [copy p, n or copy k]`, which needs only the local's cell: the steps below
+-- stand after the two statements, before the call, and after it.
 --     lend-whole, back-whole           [the cell at xs; …] → [`&mut [T]` at xs; its token; what is kept; …],  and  [`&mut [T]` at ys; its token; what is kept; …] → [the cell at ys; …]
 --     lend-front, back-front           the same of the first k elements: lent at `take k xs`, and back at `ys ++ drop k xs`. The way back gives that ys are as many as were lent
---     lend-whole-shr, back-whole-shr, lend-front-shr, back-front-shr       as a `&[T]`: the array is back as it was. (A `&mut [T]` that is had can be lent as a `&[T]` too, by a call rule of `Pass.antt`'s `lend-shr`.)
+-- lend-whole-shr, back-whole-shr, lend-front-shr, back-front-shr as a `&[T]`: the array is back as it was. (A `&mut [T]` that is had can be lent as a `&[T]`
+-- too, by a call rule of `Pass.antt`'s `lend-shr`.)
 --     lend-struct, back-struct         a local struct as a `&mut S`
 -- Each way back gives the relation `Is` of what came back, which a read of the local, or the next loan, asks for.
 --     set-front, get-front             laws of lists for what a callee says of the part: a write at i < k in the part, and a read there, are those of the whole
@@ -22,7 +27,8 @@ use base.Logic.{ent, sep}
 use base.Fml.{GName, Fml, fsep, fat, fres, flent}
 use prog.Wp.{Heap}
 use ghost.Atoms.{Atoms, sem}
-use types.Kit.{Given, Item, Goal, Soaks, ‵, _⊛_, some, later, Seq, Step, step, _$_, _∵_, !, qed, by, move, drop, use1, use2, use3, split, rewrite, pick, fsplit, fsplit3, fjoin, fpick, fpack, feqI, feqL, await, done}
+use types.Kit.{Given, Item, Goal, Soaks, ‵, _⊛_, some, later, Seq, Step, step, _$_, _∵_, !, qed, by, move, drop, use1, use2, use3, split, rewrite, pick, fsplit}
+use types.Kit.{fsplit3, fjoin, fpick, fpack, feqI, feqL, await, done}
 use types.SemTy.{cells, Arr, Body}
 use types.Share.{arr-parts}
 use types.Tokens.{lft-new, lft-end, lent-back}
@@ -125,7 +131,8 @@ module _ {M : Type 1} (𝓤 : URA M) (H : Heap 𝓤) (A : Atoms 𝓤) (W : Given
         qed W (‵ (fat fullShare (lone (R .mir)) l 0 (val x)) ∷ []) ∵ use1 W (‵ (cellAt fullShare (R .mir) (val x ∷ []) l 0)) (cell-raw (R .mir) one (val x)) $
         owned ! R (Is R) mk x (val x ∷ []) is $ move ! (1 ∷ 0 ∷ []) $ fjoin ! $ fpack ! (List Val) (λ us. fsep (cellAt fullShare (R .mir) us l 0) (R .own x us)) (val x ∷ []) $ done !
 
-    pub struct-cell : Tells R (Is R) (λ x. val x ∷ []) → (x : R .Denot) → ent 𝓤 (sem 𝓤 H A (partAt R fullShare x l 0)) (sep 𝓤 (H .at fullShare (lone (R .mir)) l 0 (val x)) (sem 𝓤 H A (R .own x (val x ∷ []))))
+    pub struct-cell : Tells R (Is R) (λ x. val x ∷ []) → (x : R .Denot) →
+        ent 𝓤 (sem 𝓤 H A (partAt R fullShare x l 0)) (sep 𝓤 (H .at fullShare (lone (R .mir)) l 0 (val x)) (sem 𝓤 H A (R .own x (val x ∷ []))))
     unfolding partOf
     struct-cell tl x =
         qed W (‵ (partAt R fullShare x l 0) ∷ []) ∵ fpick ! (λ vs. fsplit ! $ move ! (1 ∷ []) $ peeks ! R (Is R) (shows 𝓤 H A R) x vs (λ is.
@@ -145,12 +152,15 @@ module _ {M : Type 1} {𝓤 : URA M} {H : Heap 𝓤} {A : Atoms 𝓤} {K : Type 
       move t (1 ∷ []) $ lft-end t a $ move t (0 ∷ 2 ∷ 1 ∷ []) $ use3 W (later (‵ (Arr (mem R) m .lies ys l 0))) (slice-back 𝓤 H A W R (ν ∷ []) δ ys m l 0) $ await t a $ fsplit t $ feqL t (λ e. f e)
 
 module _ {M : Type 1} {𝓤 : URA M} {H : Heap 𝓤} {A : Atoms 𝓤} {K : Type 0} {W : Given 𝓤 H A} {Γ : List (Item 𝓤)} {G : Goal 𝓤 H} where
-  pub lend-whole : K → Soaks G → (R : RattleType) → Single (R .mir) → (vals : R .Denot → List Val) → Makes 𝓤 H A R (Is R) → (n l : ℕ) (xs : List (R .Denot)) → Is (Array R n) xs (array-vals vals xs) → Room R n
+  pub lend-whole : K → Soaks G → (R : RattleType) → Single (R .mir) → (vals : R .Denot → List Val) → Makes 𝓤 H A R (Is R) → (n l : ℕ) (xs : List (R .Denot)) →
+      Is (Array R n) xs (array-vals vals xs) → Room R n
       → ((ν : ℕ) (δ : GName) → Seq K W (‵ (Mut R (local-at l n ν δ) xs) ∷ ‵ (Tok (local-at l n ν δ)) ∷ ‵ (KeptWhole R l ν δ xs) ∷ Γ) G)
       → Seq K W (‵ (fat fullShare (tyArray (lone (R .mir)) n) l 0 (array-val vals xs)) ∷ Γ) G
   lend-whole t a R one vals mk n l xs is room f =
       use1 W (‵ (cells (mem R) xs l 0)) (array-cells 𝓤 H A W R vals n l one mk xs is) $ lft-new t a (λ ν. move t (1 ∷ []) $
-      use1 W (later (some (λ (δ : GName). ‵ (MutSlice (named 0) (ν ∷ []) R .own (ref-at (local-at l n ν δ) xs) (sliceVal (l, 0) (length xs) ∷ [])) ⊛ ‵ (KeptWhole R l ν δ xs)))) (lends-slice 𝓤 H A W R (named 0) (ν ∷ []) xs l 0 (subst (Room R) (sym (is .1 .0 .1)) room)) $ await t a $ pick t (λ δ. split t $
+      use1 W (later (some (λ (δ : GName). ‵ (MutSlice (named 0) (ν ∷ []) R .own (ref-at (local-at l n ν δ) xs) (sliceVal (l, 0) (length xs) ∷ [])) ⊛
+      ‵ (KeptWhole R l ν δ xs)))) (lends-slice 𝓤 H A W R (named 0) (ν ∷ []) xs l 0 (subst (Room R) (sym (is .1 .0 .1)) room)) $ await t a $
+      pick t (λ δ. split t $
       -- [the `&mut`; the lender's part; the lifetime; …]
       rewrite t 0 (λ (m : ℕ). ‵ (MutSlice (named 0) (ν ∷ []) R .own (ref-at (local-at l n ν δ) xs) (sliceVal (l, 0) m ∷ []))) (is .1 .0 .1) refl $ move t (0 ∷ 2 ∷ []) $ f ν δ))
 
@@ -159,27 +169,35 @@ module _ {M : Type 1} {𝓤 : URA M} {H : Heap 𝓤} {A : Atoms 𝓤} {K : Type 
       → Seq K W (‵ (Mut R (local-at l n ν δ) ys) ∷ ‵ (Tok (local-at l n ν δ)) ∷ ‵ (KeptWhole R l ν δ xs) ∷ Γ) G
   back-whole t a R vals tl n l ν δ xs ys ln f =
       gives-up t a R l n ν δ (length xs) ys (λ le.
-      use1 W (‵ (fat fullShare (tyArray (lone (R .mir)) n) l 0 (array-val vals ys)) ⊛ ‵ (Array R n .own ys (array-vals vals ys))) (cells-array 𝓤 H A W R vals n l tl ys (le ∙ ln)) $ split t $ move t (1 ∷ []) $
+      use1 W (‵ (fat fullShare (tyArray (lone (R .mir)) n) l 0 (array-val vals ys)) ⊛ ‵ (Array R n .own ys (array-vals vals ys)))
+      (cells-array 𝓤 H A W R vals n l tl ys (le ∙ ln)) $ split t $ move t (1 ∷ []) $
       peeks t (Array R n) (Is (Array R n)) (shows 𝓤 H A (Array R n)) ys (array-vals vals ys) (λ is. drop t $ f is))
 
-  pub lend-front : K → Soaks G → (R : RattleType) → Single (R .mir) → (vals : R .Denot → List Val) → Makes 𝓤 H A R (Is R) → (n l k : ℕ) (xs : List (R .Denot)) → Is (Array R n) xs (array-vals vals xs) → Room R n → k ≤ n
+  pub lend-front : K → Soaks G → (R : RattleType) → Single (R .mir) → (vals : R .Denot → List Val) → Makes 𝓤 H A R (Is R) → (n l k : ℕ) (xs : List (R .Denot)) →
+      Is (Array R n) xs (array-vals vals xs) → Room R n → k ≤ n
       → ((ν : ℕ) (δ : GName) → length (take k xs) ≡ k → Seq K W (‵ (Mut R (local-at l k ν δ) (take k xs)) ∷ ‵ (Tok (local-at l k ν δ)) ∷ ‵ (KeptFront R l k ν δ xs) ∷ Γ) G)
       → Seq K W (‵ (fat fullShare (tyArray (lone (R .mir)) n) l 0 (array-val vals xs)) ∷ Γ) G
   lend-front t a R one vals mk n l k xs is room le f =
       use1 W (‵ (cells (mem R) (take k xs) l 0) ⊛ ‵ (cells (mem R) (drop-list k xs) l (rest-at R k xs))) (array-front 𝓤 H A W R vals n l one mk k xs is) $ split t $ lft-new t a (λ ν. move t (1 ∷ []) $
-      use1 W (later (some (λ (δ : GName). ‵ (MutSlice (named 0) (ν ∷ []) R .own (ref-at (local-at l k ν δ) (take k xs)) (sliceVal (l, 0) (length (take k xs)) ∷ [])) ⊛ ‵ (flent (ν ∷ []) (Held R (length (take k xs)) l 0 δ))))) (lends-slice 𝓤 H A W R (named 0) (ν ∷ []) (take k xs) l 0 (room-take R n k xs (is .1 .0 .1) room)) $ await t a $ pick t (λ δ. split t $
+      use1 W (later (some (λ (δ : GName). ‵ (MutSlice (named 0) (ν ∷ []) R .own (ref-at (local-at l k ν δ) (take k xs))
+      (sliceVal (l, 0) (length (take k xs)) ∷ [])) ⊛ ‵ (flent (ν ∷ []) (Held R (length (take k xs)) l 0 δ)))))
+      (lends-slice 𝓤 H A W R (named 0) (ν ∷ []) (take k xs) l 0 (room-take R n k xs (is .1 .0 .1) room)) $ await t a $ pick t (λ δ. split t $
       -- [the `&mut`; the lender's part; the lifetime; the rest; …]
-      rewrite t 0 (λ (m : ℕ). ‵ (MutSlice (named 0) (ν ∷ []) R .own (ref-at (local-at l k ν δ) (take k xs)) (sliceVal (l, 0) m ∷ []))) count refl $ move t (1 ∷ 3 ∷ []) $ fjoin t $ move t (1 ∷ 2 ∷ []) $ f ν δ count))
+      rewrite t 0 (λ (m : ℕ). ‵ (MutSlice (named 0) (ν ∷ []) R .own (ref-at (local-at l k ν δ) (take k xs)) (sliceVal (l, 0) m ∷ []))) count refl $
+      move t (1 ∷ 3 ∷ []) $ fjoin t $ move t (1 ∷ 2 ∷ []) $ f ν δ count))
     where
       count : length (take k xs) ≡ k
       count = length-take-le k xs (subst (λ (m : ℕ). k ≤ m) (sym (is .1 .0 .1)) le)
 
   pub back-front : K → Soaks G → (R : RattleType) (vals : R .Denot → List Val) → Tells R (Is R) vals → (n l k ν : ℕ) (δ : GName) (xs ys : List (R .Denot)) → length xs ≡ n
-      → (length ys ≡ length (take k xs) → Is (Array R n) (ys ++ drop-list k xs) (array-vals vals (ys ++ drop-list k xs)) → Seq K W (‵ (fat fullShare (tyArray (lone (R .mir)) n) l 0 (array-val vals (ys ++ drop-list k xs))) ∷ Γ) G)
+      → (length ys ≡ length (take k xs) → Is (Array R n) (ys ++ drop-list k xs) (array-vals vals (ys ++ drop-list k xs)) →
+      Seq K W (‵ (fat fullShare (tyArray (lone (R .mir)) n) l 0 (array-val vals (ys ++ drop-list k xs))) ∷ Γ) G)
       → Seq K W (‵ (Mut R (local-at l k ν δ) ys) ∷ ‵ (Tok (local-at l k ν δ)) ∷ ‵ (KeptFront R l k ν δ xs) ∷ Γ) G
   back-front t a R vals tl n l k ν δ xs ys ln f =
       move t (2 ∷ []) $ fsplit t $ move t (2 ∷ 3 ∷ 0 ∷ []) $ gives-up t a R l k ν δ (length (take k xs)) ys (λ le.
-      use2 W (‵ (fat fullShare (tyArray (lone (R .mir)) n) l 0 (array-val vals (ys ++ drop-list k xs))) ⊛ ‵ (Array R n .own (ys ++ drop-list k xs) (array-vals vals (ys ++ drop-list k xs)))) (front-array 𝓤 H A W R vals n l tl k xs ys ln le) $ split t $ move t (1 ∷ []) $
+      use2 W (‵ (fat fullShare (tyArray (lone (R .mir)) n) l 0 (array-val vals (ys ++ drop-list k xs))) ⊛
+      ‵ (Array R n .own (ys ++ drop-list k xs) (array-vals vals (ys ++ drop-list k xs)))) (front-array 𝓤 H A W R vals n l tl k xs ys ln le) $ split t $
+      move t (1 ∷ []) $
       peeks t (Array R n) (Is (Array R n)) (shows 𝓤 H A (Array R n)) (ys ++ drop-list k xs) (array-vals vals (ys ++ drop-list k xs)) (λ is. drop t $ f le is))
 
   pub lend-struct : K → Soaks G → (R : RattleType) → Single (R .mir) → (val : R .Denot → Val) → Makes 𝓤 H A R (Is R) → (l : ℕ) (x : R .Denot) → Is R x (val x ∷ [])
@@ -187,7 +205,8 @@ module _ {M : Type 1} {𝓤 : URA M} {H : Heap 𝓤} {A : Atoms 𝓤} {K : Type 
       → Seq K W (‵ (fat fullShare (lone (R .mir)) l 0 (val x)) ∷ Γ) G
   lend-struct t a R one val mk l x is f =
       use1 W (‵ (partAt R fullShare x l 0)) (struct-lies 𝓤 H A W l R one val mk x is) $ lft-new t a (λ ν. move t (1 ∷ []) $
-      use1 W (later (some (λ (δ : GName). ‵ (One R (local-at l 1 ν δ) x) ⊛ ‵ (KeptStruct R l ν δ)))) (lends-ref 𝓤 H A W R (named 0) (ν ∷ []) x l 0) $ await t a $ pick t (λ δ. split t $ move t (0 ∷ 2 ∷ []) $ f ν δ))
+      use1 W (later (some (λ (δ : GName). ‵ (One R (local-at l 1 ν δ) x) ⊛ ‵ (KeptStruct R l ν δ)))) (lends-ref 𝓤 H A W R (named 0) (ν ∷ []) x l 0) $
+      await t a $ pick t (λ δ. split t $ move t (0 ∷ 2 ∷ []) $ f ν δ))
 
   pub back-struct : K → Soaks G → (R : RattleType) → Single (R .mir) → (val : R .Denot → Val) → Tells R (Is R) (λ x. val x ∷ []) → (l ν : ℕ) (δ : GName) (y : R .Denot)
       → (Is R y (val y ∷ []) → Seq K W (‵ (fat fullShare (lone (R .mir)) l 0 (val y)) ∷ Γ) G)
@@ -200,38 +219,50 @@ module _ {M : Type 1} {𝓤 : URA M} {H : Heap 𝓤} {A : Atoms 𝓤} {K : Type 
       peeks t R (Is R) (shows 𝓤 H A R) y (val y ∷ []) (λ is. drop t $ f is)
 
   -- ---- as a `&[T]`
-  pub lend-whole-shr : K → Soaks G → (R : RattleType) → Single (R .mir) → (vals : R .Denot → List Val) → Makes 𝓤 H A R (Is R) → (n l : ℕ) (xs : List (R .Denot)) → Is (Array R n) xs (array-vals vals xs) → Room R n
+  pub lend-whole-shr : K → Soaks G → (R : RattleType) → Single (R .mir) → (vals : R .Denot → List Val) → Makes 𝓤 H A R (Is R) →
+      (n l : ℕ) (xs : List (R .Denot)) → Is (Array R n) xs (array-vals vals xs) → Room R n
       → ((ν : ℕ) (δ : GName) → Seq K W (‵ (Shr R (local-at l n ν δ) xs) ∷ ‵ (Tok (local-at l n ν δ)) ∷ ‵ (KeptWholeShr R l ν xs) ∷ Γ) G)
       → Seq K W (‵ (fat fullShare (tyArray (lone (R .mir)) n) l 0 (array-val vals xs)) ∷ Γ) G
   lend-whole-shr t a R one vals mk n l xs is room f =
-      use1 W (‵ (cells (mem R) xs l 0)) (array-cells 𝓤 H A W R vals n l one mk xs is) $ use1 W (‵ (row R fullShare xs l 0)) (whole-out 𝓤 H A W R xs l 0) $ feqI t ℕ (length xs) (length xs) refl $ fjoin t $ lft-new t a (λ ν. move t (1 ∷ []) $
-      use1 W (later (some (λ (δ : GName). ‵ (ShrSlice (named 0) (ν ∷ []) R .own (ref-at (local-at l n ν δ) xs) (sliceVal (l, 0) (length xs) ∷ [])) ⊛ ‵ (KeptWholeShr R l ν xs)))) (lends-shr-slice 𝓤 H A W R (named 0) (ν ∷ []) fullShare xs l 0 (subst (Room R) (sym (is .1 .0 .1)) room)) $ await t a $ pick t (λ δ. split t $
+      use1 W (‵ (cells (mem R) xs l 0)) (array-cells 𝓤 H A W R vals n l one mk xs is) $ use1 W (‵ (row R fullShare xs l 0)) (whole-out 𝓤 H A W R xs l 0) $
+      feqI t ℕ (length xs) (length xs) refl $ fjoin t $ lft-new t a (λ ν. move t (1 ∷ []) $
+      use1 W (later (some (λ (δ : GName). ‵ (ShrSlice (named 0) (ν ∷ []) R .own (ref-at (local-at l n ν δ) xs) (sliceVal (l, 0) (length xs) ∷ [])) ⊛
+      ‵ (KeptWholeShr R l ν xs)))) (lends-shr-slice 𝓤 H A W R (named 0) (ν ∷ []) fullShare xs l 0 (subst (Room R) (sym (is .1 .0 .1)) room)) $ await t a $
+      pick t (λ δ. split t $
       rewrite t 0 (λ (m : ℕ). ‵ (ShrSlice (named 0) (ν ∷ []) R .own (ref-at (local-at l n ν δ) xs) (sliceVal (l, 0) m ∷ []))) (is .1 .0 .1) refl $ move t (0 ∷ 2 ∷ []) $ f ν δ))
 
   pub back-whole-shr : K → Soaks G → (R : RattleType) (vals : R .Denot → List Val) → Tells R (Is R) vals → (n l ν : ℕ) (δ : GName) (xs : List (R .Denot)) → length xs ≡ n
       → Step K W (‵ (fat fullShare (tyArray (lone (R .mir)) n) l 0 (array-val vals xs)) ∷ Γ) G (‵ (Shr R (local-at l n ν δ) xs) ∷ ‵ (Tok (local-at l n ν δ)) ∷ ‵ (KeptWholeShr R l ν xs) ∷ Γ) G
   back-whole-shr t a R vals tl n l ν δ xs ln = step (λ f.
       drop t $ lft-end t a $ lent-back t a $ fsplit t $ drop t $ use1 W (‵ (cells (mem R) xs l 0)) (whole-in 𝓤 H A W R xs l 0) $
-      use1 W (‵ (fat fullShare (tyArray (lone (R .mir)) n) l 0 (array-val vals xs)) ⊛ ‵ (Array R n .own xs (array-vals vals xs))) (cells-array 𝓤 H A W R vals n l tl xs ln) $ split t $ move t (1 ∷ []) $ drop t $ f)
+      use1 W (‵ (fat fullShare (tyArray (lone (R .mir)) n) l 0 (array-val vals xs)) ⊛ ‵ (Array R n .own xs (array-vals vals xs)))
+      (cells-array 𝓤 H A W R vals n l tl xs ln) $ split t $ move t (1 ∷ []) $ drop t $ f)
 
-  pub lend-front-shr : K → Soaks G → (R : RattleType) → Single (R .mir) → (vals : R .Denot → List Val) → Makes 𝓤 H A R (Is R) → (n l k : ℕ) (xs : List (R .Denot)) → Is (Array R n) xs (array-vals vals xs) → Room R n → k ≤ n
+  pub lend-front-shr : K → Soaks G → (R : RattleType) → Single (R .mir) → (vals : R .Denot → List Val) → Makes 𝓤 H A R (Is R) →
+      (n l k : ℕ) (xs : List (R .Denot)) → Is (Array R n) xs (array-vals vals xs) → Room R n → k ≤ n
       → ((ν : ℕ) (δ : GName) → length (take k xs) ≡ k → Seq K W (‵ (Shr R (local-at l k ν δ) (take k xs)) ∷ ‵ (Tok (local-at l k ν δ)) ∷ ‵ (KeptFrontShr R l k ν xs) ∷ Γ) G)
       → Seq K W (‵ (fat fullShare (tyArray (lone (R .mir)) n) l 0 (array-val vals xs)) ∷ Γ) G
   lend-front-shr t a R one vals mk n l k xs is room le f =
       use1 W (‵ (cells (mem R) (take k xs) l 0) ⊛ ‵ (cells (mem R) (drop-list k xs) l (rest-at R k xs))) (array-front 𝓤 H A W R vals n l one mk k xs is) $ split t $
       use1 W (‵ (row R fullShare (take k xs) l 0)) (whole-out 𝓤 H A W R (take k xs) l 0) $ feqI t ℕ (length (take k xs)) (length (take k xs)) refl $ fjoin t $ lft-new t a (λ ν. move t (1 ∷ []) $
-      use1 W (later (some (λ (δ : GName). ‵ (ShrSlice (named 0) (ν ∷ []) R .own (ref-at (local-at l k ν δ) (take k xs)) (sliceVal (l, 0) (length (take k xs)) ∷ [])) ⊛ ‵ (KeptWholeShr R l ν (take k xs))))) (lends-shr-slice 𝓤 H A W R (named 0) (ν ∷ []) fullShare (take k xs) l 0 (room-take R n k xs (is .1 .0 .1) room)) $ await t a $ pick t (λ δ. split t $
-      rewrite t 0 (λ (m : ℕ). ‵ (ShrSlice (named 0) (ν ∷ []) R .own (ref-at (local-at l k ν δ) (take k xs)) (sliceVal (l, 0) m ∷ []))) count refl $ move t (1 ∷ 3 ∷ []) $ fjoin t $ move t (1 ∷ 2 ∷ []) $ f ν δ count))
+      use1 W (later (some (λ (δ : GName). ‵ (ShrSlice (named 0) (ν ∷ []) R .own (ref-at (local-at l k ν δ) (take k xs))
+      (sliceVal (l, 0) (length (take k xs)) ∷ [])) ⊛ ‵ (KeptWholeShr R l ν (take k xs)))))
+      (lends-shr-slice 𝓤 H A W R (named 0) (ν ∷ []) fullShare (take k xs) l 0 (room-take R n k xs (is .1 .0 .1) room)) $ await t a $ pick t (λ δ. split t $
+      rewrite t 0 (λ (m : ℕ). ‵ (ShrSlice (named 0) (ν ∷ []) R .own (ref-at (local-at l k ν δ) (take k xs)) (sliceVal (l, 0) m ∷ []))) count refl $
+      move t (1 ∷ 3 ∷ []) $ fjoin t $ move t (1 ∷ 2 ∷ []) $ f ν δ count))
     where
       count : length (take k xs) ≡ k
       count = length-take-le k xs (subst (λ (m : ℕ). k ≤ m) (sym (is .1 .0 .1)) le)
 
   pub back-front-shr : K → Soaks G → (R : RattleType) (vals : R .Denot → List Val) → Tells R (Is R) vals → (n l k ν : ℕ) (δ : GName) (xs : List (R .Denot)) → length xs ≡ n
-      → Step K W (‵ (fat fullShare (tyArray (lone (R .mir)) n) l 0 (array-val vals xs)) ∷ Γ) G (‵ (Shr R (local-at l k ν δ) (take k xs)) ∷ ‵ (Tok (local-at l k ν δ)) ∷ ‵ (KeptFrontShr R l k ν xs) ∷ Γ) G
+      → Step K W (‵ (fat fullShare (tyArray (lone (R .mir)) n) l 0 (array-val vals xs)) ∷ Γ) G
+      (‵ (Shr R (local-at l k ν δ) (take k xs)) ∷ ‵ (Tok (local-at l k ν δ)) ∷ ‵ (KeptFrontShr R l k ν xs) ∷ Γ) G
   back-front-shr t a R vals tl n l k ν δ xs ln = step (λ f.
       drop t $ lft-end t a $ move t (1 ∷ []) $ fsplit t $ move t (2 ∷ 0 ∷ []) $ lent-back t a $ fsplit t $ drop t $ use1 W (‵ (cells (mem R) (take k xs) l 0)) (whole-in 𝓤 H A W R (take k xs) l 0) $
-      use2 W (‵ (cells (mem R) (take k xs ++ drop-list k xs) l 0)) (join-app 𝓤 H A (mem R) (take k xs) (drop-list k xs) l 0) $ rewrite t 0 (λ (ys : List (R .Denot)). ‵ (cells (mem R) ys l 0)) (take-append-drop k xs) refl $
-      use1 W (‵ (fat fullShare (tyArray (lone (R .mir)) n) l 0 (array-val vals xs)) ⊛ ‵ (Array R n .own xs (array-vals vals xs))) (cells-array 𝓤 H A W R vals n l tl xs ln) $ split t $ move t (1 ∷ []) $ drop t $ f)
+      use2 W (‵ (cells (mem R) (take k xs ++ drop-list k xs) l 0)) (join-app 𝓤 H A (mem R) (take k xs) (drop-list k xs) l 0) $
+      rewrite t 0 (λ (ys : List (R .Denot)). ‵ (cells (mem R) ys l 0)) (take-append-drop k xs) refl $
+      use1 W (‵ (fat fullShare (tyArray (lone (R .mir)) n) l 0 (array-val vals xs)) ⊛ ‵ (Array R n .own xs (array-vals vals xs)))
+      (cells-array 𝓤 H A W R vals n l tl xs ln) $ split t $ move t (1 ∷ []) $ drop t $ f)
 
 -- ---- laws of lists: what a callee says of the part, said of the whole
 module _ {X : Type 0} where

@@ -1,6 +1,7 @@
 -- How a `&mut T`, a reference to one value such as a struct, is passed on to a callee: what `Pass.antt` is to slices. It says nothing of a crate, and can be copied as it stands.
 --     One              what a `&mut T` owns at a `Seat` (whose count is not looked at), at a value
---     lend-one         [a `&mut T`; its token; …] → [the token of a new ν; the `&mut T` lent for ν; what is kept; …].        back-one     [the token of ν; the last value; what is kept; …] → [the `&mut T` at that value; its token; …]
+-- lend-one [a `&mut T`; its token; …] → [the token of a new ν; the `&mut T` lent for ν; what is kept; …]. back-one [the token of ν; the last value; what is
+-- kept; …] → [the `&mut T` at that value; its token; …]
 -- Assumes `Given`.
 use Prim.Native.Nat.{ℕ}
 use mathlib.Core.List.{List, [], _∷_}
@@ -33,7 +34,8 @@ module _ {M : Type 1} {𝓤 : URA M} {H : Heap 𝓤} {A : Atoms 𝓤} {K : Type 
       → Seq K W (‵ (One R s x) ∷ ‵ (Tok s) ∷ Γ) G
   lend-one t a R s x k =
       lft-new t a (λ ν. move t (1 ∷ 2 ∷ []) $
-      use2 W (later (some (λ (δ : GName). ‵ (One R (lent-to s ν δ) x) ⊛ ‵ (KeptOne R s ν δ x)))) (lends-again 𝓤 H A W R (named 0) (s .life) (ν ∷ []) (s .share) (s .tag) (s .block) (s .off) (named 0) x) $ await t a $ pick t (λ δ. split t $
+      use2 W (later (some (λ (δ : GName). ‵ (One R (lent-to s ν δ) x) ⊛ ‵ (KeptOne R s ν δ x))))
+      (lends-again 𝓤 H A W R (named 0) (s .life) (ν ∷ []) (s .share) (s .tag) (s .block) (s .off) (named 0) x) $ await t a $ pick t (λ δ. split t $
       move t (2 ∷ 0 ∷ []) $ k ν δ))
 
   pub back-one : K → Soaks G → (R : RattleType) (s : Seat) (ν : ℕ) (δ : GName) (x y : R .Denot)

@@ -1,7 +1,8 @@
 -- How a slice is passed on to a callee, one slice at a time: what a call rule of any number of slices is put together from. It says nothing of the crate, and can be copied as it stands.
 --     Seat             where a slice reference is: its lifetime and the share of the token that is held, its pointer, its ghost name, and the machine's count
 --     Mut, Shr, Tok    what a `&mut [T]` and a `&[T]` own there, at a list, and the token.        lent-to      the seat at which it is lent for ν under δ
---     lend-mut         [a `&mut [T]`; its token; …] → [the token of a new ν; the `&mut [T]` lent for ν; what is kept; …].        back-mut     [the token of ν; the last list; what is kept; …] → [the `&mut [T]` at that list; its token; …]
+-- lend-mut [a `&mut [T]`; its token; …] → [the token of a new ν; the `&mut [T]` lent for ν; what is kept; …]. back-mut [the token of ν; the last list; what is
+-- kept; …] → [the `&mut [T]` at that list; its token; …]
 --     lend-shr, back-shr       the same of a `&mut [T]` that is lent as a `&[T]`: it comes back as it was
 --     lend-copy, back-copy     of a `&[T]`, which is copied: the callee has the token, and the copy is kept
 -- Assumes `Given`.
@@ -61,7 +62,9 @@ abbrev pub KeptMut : (R : RattleType) → Seat → ℕ → GName → List (R .De
 KeptMut R s ν δ ys = LentAgain R (s .life) (ν ∷ []) (s .share) (s .tag) (s .block) (s .off) δ ys
 
 abbrev pub KeptShr : (R : RattleType) → Seat → ℕ → List (R .Denot) → Fml
-KeptShr R s ν ys = fsep (flent (ν ∷ []) (arr-parts (shares R) (length ys) .part fullShare ys (s .block) (s .off))) (fsep (fobor (s .life) (s .share) (Held R (length ys) (s .block) (s .off) (s .tag))) (fsep (fobs (s .tag) (codedHoleys R .code (heres R ys))) (fauth (s .tag) (codedHoleys R .code (heres R ys)))))
+KeptShr R s ν ys = fsep (flent (ν ∷ []) (arr-parts (shares R) (length ys) .part fullShare ys (s .block) (s .off)))
+    (fsep (fobor (s .life) (s .share) (Held R (length ys) (s .block) (s .off) (s .tag)))
+    (fsep (fobs (s .tag) (codedHoleys R .code (heres R ys))) (fauth (s .tag) (codedHoleys R .code (heres R ys)))))
 
 abbrev pub Fine : (R : RattleType) → Seat → List (R .Denot) → Fml
 Fine R s ys = at-slice R (ref-at s ys) (word s ∷ [])
@@ -74,14 +77,17 @@ module _ {M : Type 1} {𝓤 : URA M} {H : Heap 𝓤} {A : Atoms 𝓤} {K : Type 
       rewrite t 0 (λ (m : ℕ). ‵ (MutSlice (named 0) (s .life) R .own (ref-at s ys) (sliceVal (s .block, s .off) m ∷ []))) (sym ln) refl $
       peeks t (MutSlice (named 0) (s .life) R) (Is (MutSlice (named 0) (s .life) R)) (shows 𝓤 H A (MutSlice (named 0) (s .life) R)) (ref-at s ys) (sliceVal (s .block, s .off) (length ys) ∷ []) (λ w.
       lft-new t a (λ ν. move t (1 ∷ 2 ∷ []) $
-      use2 W (later (some (λ (δ : GName). ‵ (MutSlice (named 0) (ν ∷ []) R .own (ref-at (lent-to s ν δ) ys) (sliceVal (s .block, s .off) (length ys) ∷ [])) ⊛ ‵ (KeptMut R s ν δ ys)))) (lends-again R (s .life) (ν ∷ []) (s .share) (s .tag) (s .block) (s .off) 𝓤 H A W (named 0) (named 0) ys) $ await t a $ pick t (λ δ. split t $
+      use2 W (later (some (λ (δ : GName). ‵ (MutSlice (named 0) (ν ∷ []) R .own (ref-at (lent-to s ν δ) ys) (sliceVal (s .block, s .off) (length ys) ∷ [])) ⊛
+      ‵ (KeptMut R s ν δ ys)))) (lends-again R (s .life) (ν ∷ []) (s .share) (s .tag) (s .block) (s .off) 𝓤 H A W (named 0) (named 0) ys) $ await t a $
+      pick t (λ δ. split t $
       rewrite t 0 (λ (m : ℕ). ‵ (MutSlice (named 0) (ν ∷ []) R .own (ref-at (lent-to s ν δ) ys) (sliceVal (s .block, s .off) m ∷ []))) ln refl $ move t (2 ∷ 0 ∷ []) $ k ν δ (w .0 .1))))
 
   pub back-mut : K → Soaks G → (R : RattleType) (s : Seat) (ν : ℕ) (δ : GName) (ys zs : List (R .Denot)) → length ys ≡ s .count → Room R (length ys) → length zs ≡ length ys
       → Step K W (‵ (Mut R s zs) ∷ ‵ (Tok s) ∷ Γ) G (‵ (Tok (lent-to s ν δ)) ∷ ‵ (finally R δ zs) ∷ ‵ (KeptMut R s ν δ ys) ∷ Γ) G
   back-mut t a R s ν δ ys zs ln room le = step (λ k.
       lft-end t a $ move t (0 ∷ 2 ∷ 1 ∷ []) $
-      use3 W (later (‵ (MutSlice (named 0) (s .life) R .own (ref-at s zs) (sliceVal (s .block, s .off) (length ys) ∷ [])) ⊛ ‵ (Tok s))) (comes-back R (s .life) (ν ∷ []) (s .share) (s .tag) (s .block) (s .off) 𝓤 H A W (named 0) (named 0) ys δ zs room le) $ await t a $ split t $
+      use3 W (later (‵ (MutSlice (named 0) (s .life) R .own (ref-at s zs) (sliceVal (s .block, s .off) (length ys) ∷ [])) ⊛ ‵ (Tok s)))
+      (comes-back R (s .life) (ν ∷ []) (s .share) (s .tag) (s .block) (s .off) 𝓤 H A W (named 0) (named 0) ys δ zs room le) $ await t a $ split t $
       rewrite t 0 (λ (m : ℕ). ‵ (MutSlice (named 0) (s .life) R .own (ref-at s zs) (sliceVal (s .block, s .off) m ∷ []))) ln refl $ k)
 
   pub lend-shr : K → Soaks G → (R : RattleType) (s : Seat) (ys : List (R .Denot))
@@ -90,7 +96,9 @@ module _ {M : Type 1} {𝓤 : URA M} {H : Heap 𝓤} {A : Atoms 𝓤} {K : Type 
   lend-shr t a R s ys k =
       fsplit t $ pureL t (Fine R s ys) (λ w. fsplit t $ opens-slice t a R ys (s .block) (s .off) $
       feqI t ℕ (length ys) (length ys) refl $ fjoin t $ lft-new t a (λ ν. move t (1 ∷ []) $
-      use1 W (later (some (λ (δ : GName). ‵ (ShrSlice (named 0) (ν ∷ []) R .own (ref-at (lent-to s ν δ) ys) (sliceVal (s .block, s .off) (length ys) ∷ [])) ⊛ ‵ (flent (ν ∷ []) (arr-parts (shares R) (length ys) .part fullShare ys (s .block) (s .off)))))) (lends-shr-slice 𝓤 H A W R (named 0) (ν ∷ []) fullShare ys (s .block) (s .off) (w .1)) $ await t a $ pick t (λ δ. split t $
+      use1 W (later (some (λ (δ : GName). ‵ (ShrSlice (named 0) (ν ∷ []) R .own (ref-at (lent-to s ν δ) ys) (sliceVal (s .block, s .off) (length ys) ∷ [])) ⊛
+      ‵ (flent (ν ∷ []) (arr-parts (shares R) (length ys) .part fullShare ys (s .block) (s .off))))))
+      (lends-shr-slice 𝓤 H A W R (named 0) (ν ∷ []) fullShare ys (s .block) (s .off) (w .1)) $ await t a $ pick t (λ δ. split t $
       -- [the `&`; the lender's part; the lifetime; the open borrow; obs; auth; …]
       rewrite t 0 (λ (vs : List Val). ‵ (ShrSlice (named 0) (ν ∷ []) R .own (ref-at (lent-to s ν δ) ys) vs)) (sym (w .0)) refl $
       move t (4 ∷ 5 ∷ []) $ fjoin t $ move t (4 ∷ 0 ∷ []) $ fjoin t $ move t (2 ∷ 0 ∷ []) $ fjoin t $ move t (2 ∷ 1 ∷ []) $ k ν δ w)))

@@ -47,8 +47,11 @@ pub own-told : (k i m : ℕ) (cs : List Cell) (vs : List Float) (ms : List ℕ) 
     → (r ≡ m) × (ds ≡ set (take k cs) i (valued (cellAt (take k cs) i) (valueOr vs i))) × (ns ≡ set ms i m)
     → (p : Placed) → p ≡ placedOf r (ds ++ drop k cs)
     → (p ≡ placedOf m (set cs i (valued (cellAt cs i) (valueOr vs i)))) × (ns ≡ set ms i m)
-own-told k i m cs vs ms h r ds ns e p ep =
-    (ep ∙ ap (λ (q : ℕ). placedOf q (ds ++ drop k cs)) (e .0) ∙ ap (placedOf m) (put-part k i cs (valued (cellAt (take k cs) i) (valueOr vs i)) ds h (e .1) ∙ ap (λ (w : Cell). set cs i (valued w (valueOr vs i))) (at-part k i cs h)), e .2)
+own-told k i m cs vs ms h r ds ns e p ep = (
+  ep ∙ ap (λ (q : ℕ). placedOf q (ds ++ drop k cs)) (e .0) ∙ ap (placedOf m)
+      (put-part k i cs (valued (cellAt (take k cs) i) (valueOr vs i)) ds h (e .1) ∙ ap (λ (w : Cell). set cs i (valued w (valueOr vs i))) (at-part k i cs h)),
+  e .2,
+)
 
 -- `note_from`, in the order of its calls
 pub note-told : (i more : ℕ) (c : Counter) (cs : List Cell) (vs : List Float) (y : Float) (d : Counter) (x z : Cell) (ds : List Cell)
@@ -61,4 +64,6 @@ pub noted-told : (k i more : ℕ) (c : Counter) (cs : List Cell) (vs : List Floa
     → (n : Noted) → n ≡ notedOf d (ds ++ drop k cs)
     → n ≡ notedOf (bumpedOf c more (valueOr vs i)) (set cs i (valued (cellAt cs i) (valueOr vs i)))
 noted-told k i more c cs vs h d ds e n en =
-    en ∙ ap (λ (w : Counter). notedOf w (ds ++ drop k cs)) (e .0) ∙ ap (notedOf (bumpedOf c more (valueOr vs i))) (put-part k i cs (valued (cellAt (take k cs) i) (valueOr vs i)) ds h (e .1) ∙ ap (λ (w : Cell). set cs i (valued w (valueOr vs i))) (at-part k i cs h))
+    en ∙ ap (λ (w : Counter). notedOf w (ds ++ drop k cs)) (e .0) ∙
+    ap (notedOf (bumpedOf c more (valueOr vs i))) (put-part k i cs (valued (cellAt (take k cs) i) (valueOr vs i)) ds h (e .1) ∙
+    ap (λ (w : Cell). set cs i (valued w (valueOr vs i))) (at-part k i cs h))

@@ -45,6 +45,6 @@ module _ {n v i r : ℕ} (h : i < n) (e : Remains n v i r) where
   unfolding littleBytes
   remains-byte = ap (λ (l : List ℕ). num l 0) next ∙ getD-drop i (littleBytes n v) 0 0 ∙ ap (num (littleBytes n v)) (add-zero i)
 
-  pub remains-more : Remains n v (i + 1) (r / 256)
+  pub remains-next : Remains n v (i + 1) (r / 256)
   unfolding littleBytes
-  remains-more = record { same = ap (drop 1) next ∙ drop-drop 1 i (littleBytes n v) }
+  remains-next = record { same = ap (drop 1) next ∙ drop-drop 1 i (littleBytes n v) }

@@ -52,7 +52,8 @@ module _ (turns : ℕ → Bool) (c : ℕ) (start : List Float) where
   fault-same : (s : Settings) (table : List Float) (l : Lengths) → prepareFault s table start l ≡ prepareFault s table (turnedStart turns c start) l
   unfolding prepareFault
   fault-same s table l =
-      let e : allIn start (s .n * s .c) ≡ allIn (turnedStart turns c start) (s .n * s .c) = every-same (λ i. inDomain (at start i)) (λ i. inDomain (at (turnedStart turns c start) i)) (s .n * s .c) (λ i _. domain-same i) in
+      let e : allIn start (s .n * s .c) ≡ allIn (turnedStart turns c start) (s .n * s .c) = every-same (λ i. inDomain (at start i)) (λ i. inDomain
+      (at (turnedStart turns c start) i)) (s .n * s .c) (λ i _. domain-same i) in
       rw (e, turned-long turns c start)
 
 -- ---- where a run begins
@@ -65,7 +66,8 @@ zeros-front turns c m k l h = record { long = refl; shown = λ i q. rw (front i 
     front i q = List·getD-append (replicate k zero64) (drop k l) nan i (rw (length-replicate k zero64) q) ∙ getD-replicate k i zero64 nan q
 
 -- two starts of m values that show each other, each written over the front of an area
-starts-front : (turns : ℕ → Bool) (c m : ℕ) (x x' l : List Float) → length x ≡ m → length x' ≡ m → m ≤ length l → ((i : ℕ) → i < m → Shows (turns (i % c)) (at x i) (at x' i)) → ShowsAll turns c m (pasted x 0 m l) (pasted x' 0 m l)
+starts-front : (turns : ℕ → Bool) (c m : ℕ) (x x' l : List Float) → length x ≡ m → length x' ≡ m → m ≤ length l → ((i : ℕ) → i < m →
+    Shows (turns (i % c)) (at x i) (at x' i)) → ShowsAll turns c m (pasted x 0 m l) (pasted x' 0 m l)
 starts-front turns c m x x' l e e' h p = record {
   long = length-pasted x l 0 m (omega arith) h ∙ sym (length-pasted x' l 0 m (omega arith) h);
   shown = λ i q. rw (getD-pasted x l 0 m i nan q (omega arith), getD-pasted x' l 0 m i nan q (omega arith), zero-add i) (p i q);
@@ -121,7 +123,9 @@ module _ (turns : ℕ → Bool) (s : Settings) (table start : List Float) (cs : 
       (λ e. (areas-refused s table cs l start e, areas-refused s table cs l facing (rw (← fault-is) e)))
 
   -- THEOREM: ready, both leave the same preparation rows, of either method
-  pub rows-agree : (run : Run) → prepared s table start (length cs) l .answer ≡ Ready run → (prepared s table start (length cs) l .areas .rowValues ≡ prepared s table facing (length cs) l .areas .rowValues) × (prepared s table start (length cs) l .areas .rowIndices ≡ prepared s table facing (length cs) l .areas .rowIndices)
+  pub rows-agree : (run : Run) → prepared s table start (length cs) l .answer ≡ Ready run →
+      (prepared s table start (length cs) l .areas .rowValues ≡ prepared s table facing (length cs) l .areas .rowValues) ×
+      (prepared s table start (length cs) l .areas .rowIndices ≡ prepared s table facing (length cs) l .areas .rowIndices)
   rows-agree run ready = let e = ready-fine s table cs l start run ready .0 in rw (areas-ready s table cs l start e, areas-ready s table cs l facing (rw (← fault-is) e)) (refl, refl)
 
   module _ (exact : isTree (s .method) ≡ false) (run : Run) (ready : prepared s table start (length cs) l .answer ≡ Ready run) where
@@ -136,9 +140,12 @@ module _ (turns : ℕ → Bool) (s : Settings) (table start : List Float) (cs : 
     begun-areas =
         let p : Passed s table start (lengthsOf l (length cs)) = passed s table start (lengthsOf l (length cs)) (eqb-true fault 0 (ready-fine s table cs l start run ready .0)) in
         let m = s .n * s .c in
-        let f : ShowsAll turns (s .c) m (filled zero64 (s .n * (2 * s .c + 1)) (l .forces)) (filled zero64 (s .n * (2 * s .c + 1)) (l .forces)) = zeros-front turns (s .c) m (s .n * (2 * s .c + 1)) (l .forces) (omega (arith, cells-forces (s .n) (s .c))) in
+        let f : ShowsAll turns (s .c) m (filled zero64 (s .n * (2 * s .c + 1)) (l .forces))
+        (filled zero64 (s .n * (2 * s .c + 1)) (l .forces)) = zeros-front turns (s .c) m (s .n * (2 * s .c + 1)) (l .forces)
+        (omega (arith, cells-forces (s .n) (s .c))) in
         record {
-          positions = starts-front turns (s .c) m start facing (l .positions) (p .start-is) (turned-long turns (s .c) start ∙ p .start-is) (p .areas .positions-long) (λ i h. turned-shows turns (s .c) start i (omega (arith, p .start-is)));
+          positions = starts-front turns (s .c) m start facing (l .positions) (p .start-is) (turned-long turns (s .c) start ∙ p .start-is)
+              (p .areas .positions-long) (λ i h. turned-shows turns (s .c) start i (omega (arith, p .start-is)));
           increments = zeros-front turns (s .c) m m (l .increments) (omega arith);
           forces = f;
           total = refl;
@@ -167,7 +174,8 @@ module _ (turns : ℕ → Bool) (s : Settings) (table start : List Float) (cs : 
     mirrored-runs bs = works-mirrored turns bs runBegun mirrorBegun preparation-mirrored
 
     -- THEOREM: so 15 is met by both or by neither, at the same unit
-    pub numbers-agree : (bs : List ℕ) (b : ℕ) → (workNumber (work b (works bs runBegun) .answer) ≡ workNumber (work b (works bs mirrorBegun) .answer)) × (unitsOf (work b (works bs runBegun) .answer) ≡ unitsOf (work b (works bs mirrorBegun) .answer))
+    pub numbers-agree : (bs : List ℕ) (b : ℕ) → (workNumber (work b (works bs runBegun) .answer) ≡ workNumber (work b (works bs mirrorBegun) .answer)) ×
+        (unitsOf (work b (works bs runBegun) .answer) ≡ unitsOf (work b (works bs mirrorBegun) .answer))
     numbers-agree bs b = let e = mirrored-runs bs .answer b in (ap workNumber e, ap unitsOf e)
 
 -- ---- one component
@@ -196,7 +204,8 @@ one-mirrored d s t w =
 
 -- THEOREM: one component. With its sign turned in every starting position, records, answers and unit counts agree after any calls with the same budgets;
 -- every later position, increment and gradient has it turned, and all else is equal
-module _ (d : ℕ) (s : Settings) (table start : List Float) (cs : List Cell) (l : Lent) (exact : isTree (s .method) ≡ false) (run : Run) (ready : prepared s table start (length cs) l .answer ≡ Ready run) where
+module _ (d : ℕ) (s : Settings) (table start : List Float) (cs : List Cell) (l : Lent) (exact : isTree (s .method) ≡ false) (run : Run)
+    (ready : prepared s table start (length cs) l .answer ≡ Ready run) where
   pub mirrored-in-one : (bs : List ℕ) → TurnedCalls d bs (runBegun (justOne d) s table start cs l exact run ready) (mirrorBegun (justOne d) s table start cs l exact run ready)
   mirrored-in-one bs =
       let x = runBegun (justOne d) s table start cs l exact run ready in

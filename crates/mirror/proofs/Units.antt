@@ -41,7 +41,8 @@ no-tree r x e = true≢false (sym (group-zero r e .0) ∙ x)
 -- ---- a row of the total or of the gradient
 
 force-shape : (r : Run) (y P : List Float) (xs off : List ℕ) (ns : List Node) (F : List Float) → isTree (r .settings .method) ≡ false
-    → forceUnit r y P xs off ns F ≡ cond (ltb (r .phase) (r .settings .n)) (totalRow y (r .settings .n) (r .settings .c) (r .phase) F) (gradientRow y P (exaggerationOf r) (r .settings .n) (r .settings .c) (r .phase - r .settings .n) F)
+    → forceUnit r y P xs off ns F ≡ cond (ltb (r .phase) (r .settings .n)) (totalRow y (r .settings .n) (r .settings .c) (r .phase) F)
+    (gradientRow y P (exaggerationOf r) (r .settings .n) (r .settings .c) (r .phase - r .settings .n) F)
 unfolding forceUnit
 force-shape r y P xs off ns F x = rw x
 
@@ -53,7 +54,8 @@ module _ (turns : ℕ → Bool) (r : Run) (x : isTree (r .settings .method) ≡ 
   c = r .settings .c
 
   -- areas that show each other, those of the links and the arena being equal
-  forces-shown : (y y' P F F' : List Float) (xs off : List ℕ) (ns : List Node) → groupOf r ≡ 1 → ShowsAll turns c (n * c) y y' → ShowsAll turns c (n * c) F F' → ShowsAll turns c (n * c) (forceUnit r y P xs off ns F) (forceUnit r y' P xs off ns F')
+  forces-shown : (y y' P F F' : List Float) (xs off : List ℕ) (ns : List Node) → groupOf r ≡ 1 → ShowsAll turns c (n * c) y y' → ShowsAll turns c (n * c) F F' →
+      ShowsAll turns c (n * c) (forceUnit r y P xs off ns F) (forceUnit r y' P xs off ns F')
   forces-shown y y' P F F' xs off ns g p q =
       let m = group-one r g .exact x in
       rw (force-shape r y P xs off ns F x, force-shape r y' P xs off ns F' x) (by-bool
@@ -90,17 +92,21 @@ module _ (turns : ℕ → Bool) (r : Run) (x : isTree (r .settings .method) ≡ 
   finish-told : (m m' : Float) (o o' : StepOutcome) → m ≡ m' → ShowsOutcome turns n c o o' → ShowsTurn (finishAs r m o (o .answer)) (finishAs r m' o' (o' .answer))
   finish-told m m' o o' e q = subst (λ (a : Stepped). ShowsTurn (finishAs r m o (o .answer)) (finishAs r m' o' a)) (q .answer) (finish-as m m' o o' (o .answer) e q)
 
-  finish-shape : (y v g F : List Float) → finishUnit r y v g F ≡ finishAs r (normOf (gradientsOf (isExact r) F n c) (n * c)) (finishOf (beforeOf r y v g F) n c) (finishOf (beforeOf r y v g F) n c .answer)
+  finish-shape : (y v g F : List Float) → finishUnit r y v g F ≡ finishAs r (normOf (gradientsOf (isExact r) F n c) (n * c)) (finishOf (beforeOf r y v g F) n c)
+      (finishOf (beforeOf r y v g F) n c .answer)
   unfolding finishUnit
   finish-shape y v g F = refl
 
-  finish-shown : (y y' v v' g F F' : List Float) → ShowsAll turns c (n * c) y y' → ShowsAll turns c (n * c) v v' → ShowsAll turns c (n * c) F F' → ShowsTurn (finishUnit r y v g F) (finishUnit r y' v' g F')
+  finish-shown : (y y' v v' g F F' : List Float) → ShowsAll turns c (n * c) y y' → ShowsAll turns c (n * c) v v' → ShowsAll turns c (n * c) F F' →
+      ShowsTurn (finishUnit r y v g F) (finishUnit r y' v' g F')
   finish-shown y y' v v' g F F' p q f =
       let d = gradients-shown F F' f in
       let b : ShowsBefore turns n c (beforeOf r y v g F) (beforeOf r y' v' g F') = record { momentum = refl; rate = refl; gradients = d; positions = p; increments = q; gains = refl } in
       let o = step-shown turns n c (beforeOf r y v g F) (beforeOf r y' v' g F') b in
       let m = norm-same turns c (n * c) (gradientsOf (isExact r) F n c) (gradientsOf (isExact r) F' n c) d in
-      rw (finish-shape y v g F, finish-shape y' v' g F') (finish-told (normOf (gradientsOf (isExact r) F n c) (n * c)) (normOf (gradientsOf (isExact r) F' n c) (n * c)) (finishOf (beforeOf r y v g F) n c) (finishOf (beforeOf r y' v' g F') n c) m o)
+      rw (finish-shape y v g F, finish-shape y' v' g F')
+      (finish-told (normOf (gradientsOf (isExact r) F n c) (n * c)) (normOf (gradientsOf (isExact r) F' n c) (n * c)) (finishOf (beforeOf r y v g F) n c)
+      (finishOf (beforeOf r y' v' g F') n c) m o)
 
   -- ---- a unit
 

@@ -32,7 +32,11 @@ use Rattle.mirror_cases.specs.Cases.{lineTurned, closePair, pairLeft, th
 -- ---- what is computed
 
 pub pair-told : PairTold
-unfolding turnedStart prepared prepareFault earlyFault positive aboveZero angleFault angleFine every upTo lateFault lengthsFit areasFit sizesOf treeFits neighboursOf ceilOf routed neighboursListed freshRun nodesOf nodeOf leafOf work answerOf call go until unitsDone stops kindAt faultOf faultAt recordFault settingsFault countersOk stateFits perOf contentsFault offsetFine indexFine seek treeFaultAt unit treeUnit boxOf insertTurn insertOf forceUnit forcesOf finishUnit finishOf normOf groupOf exaggerationOf momentumOf advancedOf closedOf stopsNow elementAt centredBy gradientOf normaliserOf absOf unlessAbove loop ofBits ofInt isNan size add sub mul div lt le eq neg
+unfolding turnedStart prepared prepareFault earlyFault positive aboveZero angleFault angleFine every upTo lateFault lengthsFit areasFit sizesOf treeFits
+    neighboursOf ceilOf routed neighboursListed freshRun nodesOf nodeOf leafOf work answerOf call go until unitsDone stops kindAt faultOf faultAt recordFault
+    settingsFault countersOk stateFits perOf contentsFault offsetFine indexFine seek treeFaultAt unit treeUnit boxOf insertTurn insertOf forceUnit forcesOf
+    finishUnit finishOf normOf groupOf exaggerationOf momentumOf advancedOf closedOf stopsNow elementAt centredBy gradientOf normaliserOf absOf unlessAbove loop
+    ofBits ofInt isNan size add sub mul div lt le eq neg
 pair-told = record { ready = (refl, refl); answer = (refl, refl); line = (refl, refl); nodes = (refl, refl); gradient = (refl, refl); other = (refl, refl); positions = refl; positions-turned = refl }
 
 pub three-told : ThreeTold

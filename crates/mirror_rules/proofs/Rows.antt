@@ -66,7 +66,8 @@ module _ (turns : ℕ → Bool) (n c : ℕ) (y y' : List Float) (r : ShowsAll tu
   pub num-same : (i j : ℕ) → i < n → j < n → numOf y c i j ≡ numOf y' c i j
   num-same i j h k =
       num-shape y i j
-      ∙ ap (λ (g : Float). cond (eqb i j) zero64 (div binary64 one64 (add binary64 one64 g))) (gap-same turns c (onMap y c i) (onMap y c j) (onMap y' c i) (onMap y' c j) (λ d l. point-shown i d h l) (λ d l. point-shown j d k l))
+      ∙ ap (λ (g : Float). cond (eqb i j) zero64 (div binary64 one64 (add binary64 one64 g)))
+      (gap-same turns c (onMap y c i) (onMap y c j) (onMap y' c i) (onMap y' c j) (λ d l. point-shown i d h l) (λ d l. point-shown j d k l))
       ∙ sym (num-shape y' i j)
 
   module _ (F F' : List Float) (q : ShowsAll turns c (n * c) F F') where
@@ -108,7 +109,8 @@ module _ (turns : ℕ → Bool) (n c : ℕ) (y y' : List Float) (r : ShowsAll tu
         (λ j x x' _ l z. step j x x' (omega arith) z)
         (record { sum = refl; along = zeros-shown turns c }))
       where
-        step : (j : ℕ) (x x' : Pulls) → j < n → ShowsPulls turns c x x' → ShowsPulls turns c (pullBy (pushAt y P w (at F (n * c)) n c i j) y c j x) (pullBy (pushAt y' P w (at F' (n * c)) n c i j) y' c j x')
+        step : (j : ℕ) (x x' : Pulls) → j < n → ShowsPulls turns c x x' →
+            ShowsPulls turns c (pullBy (pushAt y P w (at F (n * c)) n c i j) y c j x) (pullBy (pushAt y' P w (at F' (n * c)) n c i j) y' c j x')
         step j x x' k z =
             let u = pushAt y' P w (at F' (n * c)) n c i j in
             rw (push-same P w i j h k, pull-shape y u j x, pull-shape y' u j x')
@@ -127,9 +129,11 @@ module _ (turns : ℕ → Bool) (n c : ℕ) (y y' : List Float) (r : ShowsAll tu
         (λ d u u' _ l z. slope x x' p d u u' (omega arith) z)
         q)
       where
-        slope : (x x' : Pulls) → ShowsPulls turns c x x' → (d : ℕ) (u u' : List Float) → d < c → ShowsAll turns c (n * c) u u' → ShowsAll turns c (n * c) (slopeStep x y (i * c) d u) (slopeStep x' y' (i * c) d u')
+        slope : (x x' : Pulls) → ShowsPulls turns c x x' → (d : ℕ) (u u' : List Float) → d < c → ShowsAll turns c (n * c) u u' →
+            ShowsAll turns c (n * c) (slopeStep x y (i * c) d u) (slopeStep x' y' (i * c) d u')
         slope x x' p d u u' k z =
             let a : Shows (turns d) (mul binary64 (at y (i * c + d)) (x .sum)) (mul binary64 (at y' (i * c + d)) (x' .sum)) = rw (p .sum) (shows-times (x' .sum) (point-shown i d h k)) in
             let b : Shows (turns d) (at (x .along) d) (at (x' .along) d) = rw (mod-eq-of-lt k) at (p .along .shown d k) in
-            put-shown z (i * c + d) (mul binary64 (sub binary64 (mul binary64 (at y (i * c + d)) (x .sum)) (at (x .along) d)) four64) (mul binary64 (sub binary64 (mul binary64 (at y' (i * c + d)) (x' .sum)) (at (x' .along) d)) four64) (point-in i n c d h k)
+            put-shown z (i * c + d) (mul binary64 (sub binary64 (mul binary64 (at y (i * c + d)) (x .sum)) (at (x .along) d)) four64)
+            (mul binary64 (sub binary64 (mul binary64 (at y' (i * c + d)) (x' .sum)) (at (x' .along) d)) four64) (point-in i n c d h k)
             (rw (point-part i c d k) (shows-times four64 (shows-sub a b)))

@@ -66,8 +66,10 @@ module _ (turns : ℕ → Bool) (n c : ℕ) (b b' : Before) (r : ShowsBefore tur
   element-shown e h =
       let d = r .gradients e h in
       let v = r .increments .shown e h in
-      let g : elementAt b e .gain ≡ elementAt b' e .gain = gain-is b e ∙ ap (λ (l : List Float). gainOf (at l e) (b .gradients e) (at (b .increments) e)) (r .gains) ∙ gain-same (at (b' .gains) e) d v ∙ sym (gain-is b' e) in
-      let i : Shows (turns (e % c)) (elementAt b e .increment) (elementAt b' e .increment) = rw (increment-is b e, increment-is b' e, g, r .momentum, r .rate) (increment-shown (b' .momentum) (b' .rate) (elementAt b' e .gain) d v) in
+      let g : elementAt b e .gain ≡ elementAt b' e .gain = gain-is b e ∙
+      ap (λ (l : List Float). gainOf (at l e) (b .gradients e) (at (b .increments) e)) (r .gains) ∙ gain-same (at (b' .gains) e) d v ∙ sym (gain-is b' e) in
+      let i : Shows (turns (e % c)) (elementAt b e .increment) (elementAt b' e .increment) = rw (increment-is b e, increment-is b' e, g, r .momentum, r .rate)
+      (increment-shown (b' .momentum) (b' .rate) (elementAt b' e .gain) d v) in
       record { gain = g; increment = i; moved = rw (moved-is b e, moved-is b' e) (shows-add (r .positions .shown e h) i) }
 
   -- ---- centring
@@ -92,7 +94,8 @@ module _ (turns : ℕ → Bool) (n c : ℕ) (b b' : Before) (r : ShowsBefore tur
 
   pub means-shown : ShowsAll turns c c (meansOf b n c) (meansOf b' n c)
   means-shown = loop-both (ShowsAll turns c c) (meanStep (ofInt binary64 (pos n))) (meanStep (ofInt binary64 (pos n))) c 0 (sumsOf b n c) (sumsOf b' n c)
-      (λ d s s' _ l z. put-shown z d (div binary64 (at s d) (ofInt binary64 (pos n))) (div binary64 (at s' d) (ofInt binary64 (pos n))) (omega arith) (shows-div (ofInt binary64 (pos n)) (z .shown d (omega arith))))
+      (λ d s s' _ l z. put-shown z d (div binary64 (at s d) (ofInt binary64 (pos n))) (div binary64 (at s' d) (ofInt binary64 (pos n))) (omega arith)
+      (shows-div (ofInt binary64 (pos n)) (z .shown d (omega arith))))
       sums-shown
 
   centred-is : (b : Before) (means : List Float) (e : ℕ) → centredBy means b c e ≡ sub binary64 (elementAt b e .moved) (at means (e % c))

@@ -15,7 +15,8 @@ use Rattle.elementary.specs.Limits.{upTo, absOf}
 use Rattle.laws.proofs.Numbers.{order}
 use Rattle.mirror_values.specs.Values.{Zero, Alike, Opposite, negative, equal, zeros}
 use Rattle.mirror_values.proofs.Rounded.{neg-neg, round-not, round-nothing}
-use Rattle.mirror_values.proofs.Alikes.{zero-as, alike-refl, alike-sym, alike-trans, alike-neg, summed, add-shape, sub-shape, mul-shape, div-shape, le-shape, alike-add, alike-mul, alike-div, alike-up-to, alike-abs}
+use Rattle.mirror_values.proofs.Alikes.{zero-as, alike-refl, alike-sym, alike-trans, alike-neg, summed, add-shape, sub-shape, mul-shape, div-shape}
+use Rattle.mirror_values.proofs.Alikes.{le-shape, alike-add, alike-mul, alike-div, alike-up-to, alike-abs}
 
 -- ---- turned is alike to the negative
 

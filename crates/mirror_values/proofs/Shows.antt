@@ -8,7 +8,8 @@ use Rattle.elementary.specs.Limits.{upTo, absOf}
 use Rattle.mirror_values.specs.Values.{Opposite, negative, zeros, Shows}
 use Rattle.mirror_values.specs.Shown.{turnedIf}
 use Rattle.mirror_values.proofs.Alikes.{zero-of, alike-refl, alike-lt}
-use Rattle.mirror_values.proofs.Opposites.{opposite-neg, opposite-add, opposite-sub, opposite-scaled, opposite-times, opposite-div, opposite-product, opposite-square, opposite-up-to, opposite-abs}
+use Rattle.mirror_values.proofs.Opposites.{opposite-neg, opposite-add, opposite-sub, opposite-scaled, opposite-times, opposite-div, opposite-product}
+use Rattle.mirror_values.proofs.Opposites.{opposite-square, opposite-up-to, opposite-abs}
 
 -- ---- +0.0, NaN, and a value turned
 

@@ -45,14 +45,16 @@ module _ (turns : ℕ → Bool) (c : ℕ) (start : List Float) where
   -- turning twice gives the start back, to the bit
   pub turned-twice : turnedStart turns c (turnedStart turns c start) ≡ start
   turned-twice = ext-getD nan (turnedStart turns c (turnedStart turns c start)) start long
-      (λ i h. let l : i < length start = rw long at h in turned-at turns c (turnedStart turns c start) i (rw (turned-long turns c start) l) ∙ rw (turned-at turns c start i l) (turn-twice (turns (i % c)) (at start i)))
+      (λ i h. let l : i < length start = rw long at h in turned-at turns c (turnedStart turns c start) i (rw (turned-long turns c start) l) ∙
+      rw (turned-at turns c start i l) (turn-twice (turns (i % c)) (at start i)))
     where
       long : length (turnedStart turns c (turnedStart turns c start)) ≡ length start
       long = turned-long turns c (turnedStart turns c start) ∙ turned-long turns c start
 
   -- after a turn of other components only those stand turned that are so in one of the two
   pub turned-together : (others : ℕ → Bool) → turnedStart others c (turnedStart turns c start) ≡ turnedStart (eitherNotBoth others turns) c start
-  turned-together others = ext-getD nan (turnedStart others c (turnedStart turns c start)) (turnedStart (eitherNotBoth others turns) c start) (long ∙ sym (turned-long (eitherNotBoth others turns) c start))
+  turned-together others = ext-getD nan (turnedStart others c (turnedStart turns c start)) (turnedStart (eitherNotBoth others turns) c start)
+      (long ∙ sym (turned-long (eitherNotBoth others turns) c start))
       (λ i h. let l : i < length start = rw long at h in
       turned-at others c (turnedStart turns c start) i (rw (turned-long turns c start) l)
       ∙ ap (turnedIf (others (i % c))) (turned-at turns c start i l)

@@ -20,7 +20,8 @@ use Rattle.monitor_narrow.specs.declared.Narrowed.the-variants.{Single, 
 use Rattle.monitor_narrow.specs.Narrow.{singleOf, toldSingle, narrowOf, widenOf, finiteSingle}
 use Rattle.monitor_narrow.specs.Steps.{magnitudeOf}
 use Rattle.monitor_narrow.proofs.Patterns.{value-as, pattern, leadOf, fields-value, fields-finite}
-use Rattle.monitor_narrow.proofs.Rounds.{telling, field64, digits64, lead64, double-value, double-finite, lead-most, lead-is, compare-less, compare-same, compare-more, told-value, tiny-kept, tiny-drop, low-magnitude, high-magnitude, scaled}
+use Rattle.monitor_narrow.proofs.Rounds.{telling, field64, digits64, lead64, double-value, double-finite, lead-most, lead-is, compare-less, compare-same}
+use Rattle.monitor_narrow.proofs.Rounds.{compare-next, told-value, tiny-kept, tiny-drop, low-magnitude, high-magnitude, scaled}
 
 -- ---- the nearest whole number
 
@@ -29,7 +30,7 @@ module _ (m u : ℕ) where
   nearest-down h = sym (ap (nearest (m / u)) (compare-less (m % u * 2) u (omega arith)))
 
   pub nearest-up : u < 2 * (m % u) → m / u + 1 ≡ closest m u
-  nearest-up h = rw (compare-more (m % u * 2) u (omega arith)) (omega arith)
+  nearest-up h = rw (compare-next (m % u * 2) u (omega arith)) (omega arith)
 
   pub nearest-even : u ≤ 2 * (m % u) → 2 * (m % u) ≤ u → m / u + m / u % 2 ≡ closest m u
   nearest-even h l = sym (ap (nearest (m / u)) (compare-same (m % u * 2) u (omega arith)))

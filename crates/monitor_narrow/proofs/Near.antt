@@ -7,7 +7,7 @@ use native.Mathlib.Omega.{arith}
 use native.Mathlib.Decide.{decLt}
 use lib.Ieee.Nearest.{closest}
 use Rattle.monitor_narrow.specs.Nearness.{differ}
-use Rattle.monitor_narrow.proofs.Rounds.{compare-less, compare-same, compare-more}
+use Rattle.monitor_narrow.proofs.Rounds.{compare-less, compare-same, compare-next}
 
 row : (v w u : ℕ) → v < w → v * u + u ≤ w * u
 row v w u h = subst (λ (x : ℕ). x ≤ w * u) (suc-mul v u) (mul-le-mul-right u h)
@@ -33,7 +33,7 @@ module _ (A u v : ℕ) (p : 0 < u) where
   chosen q w r e f g = elim (decLt (r * 2) u) [
     | yes l ↦ inl (l, g ∙ rw (← e, ← f, compare-less (r * 2) u l))
     | no n ↦ elim (decLt u (r * 2)) [
-      | yes l ↦ inr (inl (l, g ∙ rw (← e, ← f, compare-more (r * 2) u l)))
+      | yes l ↦ inr (inl (l, g ∙ rw (← e, ← f, compare-next (r * 2) u l)))
       | no m ↦ let z : r * 2 ≡ u = omega arith in inr (inr (z, g ∙ rw (← e, ← f, compare-same (r * 2) u z)))
     ]
   ]

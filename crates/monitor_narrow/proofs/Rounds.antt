@@ -1,7 +1,9 @@
 -- Narrowing by the exponent's bits and the digits of a double: how many digits go, what is kept of the others, and the pattern that this makes. Assumes nothing.
 use mathlib.Core.Path.{_≡_, refl, sym, ap, _∙_, subst}
 use Prim.Native.Nat.{ℕ, zero, suc, _+_, _-_, _*_, _/_, _%_, _^_, _≤_, _<_, compare, Ordering, Ordering·lt, Ordering·eq, Ordering·gt}
-use native.Mathlib.Nat.{le-refl, le-trans, le-of-eq, lt-of-le-of-lt, lt-of-lt-of-le, eq-or-lt-of-le, mul-assoc, mul-comm, mul-le-mul-right, mul-le-mul, mul-pos, mul-lt-mul-of-pos-right, zero-lt-suc, zero-add, lt-irrefl, not-le-of-lt, lt-of-not-le, le-of-suc-le-suc, le-of-mul-le-mul-right, lt-of-mul-lt-mul-right, div-div-eq-div-mul, le-div-iff-mul-le, div-lt-iff-lt-mul, div-eq-of-lt, mod-eq-of-lt}
+use native.Mathlib.Nat.{le-refl, le-trans, le-of-eq, lt-of-le-of-lt, lt-of-lt-of-le, eq-or-lt-of-le, mul-assoc, mul-comm, mul-le-mul-right, mul-le-mul, mul-pos}
+use native.Mathlib.Nat.{mul-lt-mul-of-pos-right, zero-lt-suc, zero-add, lt-irrefl, not-le-of-lt, lt-of-not-le, le-of-suc-le-suc, le-of-mul-le-mul-right}
+use native.Mathlib.Nat.{lt-of-mul-lt-mul-right, div-div-eq-div-mul, le-div-iff-mul-le, div-lt-iff-lt-mul, div-eq-of-lt, mod-eq-of-lt}
 use native.Mathlib.Omega.{arith}
 use native.Mathlib.Decide.{decLt}
 use mathlib.Core.Logic.{inl, inr}
@@ -163,8 +165,8 @@ compare-same a b h = go (compare a b) (eq-eqb a b h)
     go Ordering·eq e = refl
     go Ordering·gt e = absurd (true≢false (sym e))
 
-pub compare-more : (a b : ℕ) → b < a → compare a b ≡ Ordering·gt
-compare-more a b h = go (compare a b) (lt-leb a b h)
+pub compare-next : (a b : ℕ) → b < a → compare a b ≡ Ordering·gt
+compare-next a b h = go (compare a b) (lt-leb a b h)
   where
     go : (o : Ordering) → isLe o ≡ false → o ≡ Ordering·gt
     go Ordering·lt e = absurd (true≢false e)

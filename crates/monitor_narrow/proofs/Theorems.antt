@@ -2,7 +2,9 @@
 use mathlib.Core.Path.{_≡_, refl, sym, ap, _∙_, subst}
 use mathlib.Core.Logic.{_⊎_, inl, inr, ⊎-elim}
 use Prim.Native.Nat.{ℕ, zero, suc, _+_, _-_, _*_, _/_, _%_, _^_, _≤_, _<_, zero-le}
-use native.Mathlib.Nat.{le-trans, le-of-eq, le-of-lt, lt-of-le-of-lt, lt-of-lt-of-le, lt-of-not-le, not-le-of-lt, le-of-suc-le-suc, add-comm, mul-one, mul-assoc, mul-comm, mul-pos, zero-lt-suc, div-one, mod-one, mul-le-mul-left, mul-le-mul-right, le-of-mul-le-mul-right, mul-div-cancel, le-div-iff-mul-le, lt-irrefl, eq-or-lt-of-le}
+use native.Mathlib.Nat.{le-trans, le-of-eq, le-of-lt, lt-of-le-of-lt, lt-of-lt-of-le, lt-of-not-le, not-le-of-lt, le-of-suc-le-suc, add-comm, mul-one}
+use native.Mathlib.Nat.{mul-assoc, mul-comm, mul-pos, zero-lt-suc, div-one, mod-one, mul-le-mul-left, mul-le-mul-right, le-of-mul-le-mul-right, mul-div-cancel}
+use native.Mathlib.Nat.{le-div-iff-mul-le, lt-irrefl, eq-or-lt-of-le}
 use native.Mathlib.Omega.{arith}
 use native.Mathlib.Decide.{decLt}
 use mathlib.Core.Bool.{Bool, true, false, cond, Bool·beq}

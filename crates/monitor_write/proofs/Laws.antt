@@ -13,7 +13,7 @@ use Rattle.laws.specs.Area.{num}
 use Rattle.laws.specs.Loops.{first}
 use Rattle.laws.specs.Joined.{written, laid}
 use Rattle.laws.proofs.Bools.{and-left, and-right}
-use Rattle.laws.proofs.Laid.{Lays, lays-more}
+use Rattle.laws.proofs.Laid.{Lays, lays-next}
 use Rattle.monitor.specs.Monitor.{framesRoom}
 use Rattle.monitor.proofs.Laws.{record-size, frames-lie}
 use Rattle.monitor_narrow.specs.Narrow.{narrowOf}
@@ -38,9 +38,9 @@ write-lies n p s b x t e = record {
 
 -- ---- the loop: i records are written
 
-pub records-more : {row : ℕ → List ℕ} {n i : ℕ} {t₀ t t' : List ℕ} → Lays 16 row n t₀ i t → i < n → n * 16 ≤ length t₀ → length (row i) ≡ 16 → length t' ≡ length t
+pub records-next : {row : ℕ → List ℕ} {n i : ℕ} {t₀ t t' : List ℕ} → Lays 16 row n t₀ i t → i < n → n * 16 ≤ length t₀ → length (row i) ≡ 16 → length t' ≡ length t
     → t' ≡ written (row i) (i * 16) t → Lays 16 row n t₀ (i + 1) t'
-records-more {row} {n} {i} {t₀} {t} {t'} r h m k s e = lays-more 16 row r h m s (e ∙ lies)
+records-next {row} {n} {i} {t₀} {t} {t'} r h m k s e = lays-next 16 row r h m s (e ∙ lies)
   where
     lies : written (row i) (i * 16) t ≡ take (i * 16) t ++ (row i ++ drop 16 (drop (i * 16) t))
     lies =

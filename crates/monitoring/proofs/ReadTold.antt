@@ -24,13 +24,15 @@ good-file f g = all-fit f (wholeMonitor f) (sym (first-none (brokenAt f) (wholeM
 
 module _ (f P S B X : List ℕ) where
   abbrev pub takenReading : MonitorReading
-  takenReading = monitorReading (Read (wholeMonitor f)) (fronted (monitorPicture f) (wholeMonitor f) P) (fronted (byteAt f 4) (wholeMonitor f) S) (fronted (byteAt f 5) (wholeMonitor f) B) (fronted (widenedAt f) (2 * wholeMonitor f) X)
+  takenReading = monitorReading (Read (wholeMonitor f)) (fronted (monitorPicture f) (wholeMonitor f) P) (fronted (byteAt f 4) (wholeMonitor f) S)
+      (fronted (byteAt f 5) (wholeMonitor f) B) (fronted (widenedAt f) (2 * wholeMonitor f) X)
 
   answered : (a : MonitorRead) (P' S' B' X' : List ℕ) → monitorReading a P' S' B' X' ≡ readMonitor f P S B X → a ≡ readMonitor f P S B X .answer
   answered a P' S' B' X' e = ap (λ (o : MonitorReading). o .answer) e
 
   pub out-filled : AllGood f → framesRoom (wholeMonitor f) (length P) (length S) (length B) (length X) ≡ true → takenReading ≡ readMonitor f P S B X
-  out-filled g e = reading-done f P S B X (good-file f g) (fronted (monitorPicture f) (wholeMonitor f) P) (fronted (byteAt f 4) (wholeMonitor f) S) (fronted (byteAt f 5) (wholeMonitor f) B) (fronted (widenedAt f) (2 * wholeMonitor f) X) e refl refl refl refl
+  out-filled g e = reading-done f P S B X (good-file f g) (fronted (monitorPicture f) (wholeMonitor f) P) (fronted (byteAt f 4) (wholeMonitor f) S)
+      (fronted (byteAt f 5) (wholeMonitor f) B) (fronted (widenedAt f) (2 * wholeMonitor f) X) e refl refl refl refl
 
   -- what holds of each outcome holds of the call's
   by-outcome : (G : MonitorReading → Type 0)
@@ -55,7 +57,8 @@ module _ (f P S B X : List ℕ) where
       by-bool goal (framesRoom n (length P) (length S) (length B) (length X))
       (λ e. subst G (out-filled g e) (taken g e))
       (λ e. subst G (reading-short f P S B X (good-file f g) e) (short g e)))
-      (λ z. subst G (reading-bad f k refl P S B X (stray-tail f k refl m (eqb-false (length f % 16) 0 z))) (bad k (first-before p n) (inr (le-antisymm (first-le p n) m, eqb-false (length f % 16) 0 z)))))
+      (λ z. subst G (reading-bad f k refl P S B X (stray-tail f k refl m (eqb-false (length f % 16) 0 z)))
+      (bad k (first-before p n) (inr (le-antisymm (first-le p n) m, eqb-false (length f % 16) 0 z)))))
 
   -- the condition of what is answered holds
   pub read-reason : ReadReason f P S B X (readMonitor f P S B X .answer)
@@ -78,8 +81,10 @@ module _ (f P S B X : List ℕ) where
   read-refused = by-outcome (λ (o : MonitorReading). (monitorReadNumber (o .answer) ≡ 0 → ⊥) → o ≡ monitorReading (o .answer) P S B X) (λ k g w z. refl) (λ g e z. refl) (λ g e z. absurd (z refl))
 
   -- what is read, where it is
-  pub read-taken : (m : ℕ) → readMonitor f P S B X .answer ≡ Read m → (m ≡ wholeMonitor f) × AllGood f × (framesRoom (wholeMonitor f) (length P) (length S) (length B) (length X) ≡ true) × (readMonitor f P S B X ≡ takenReading)
-  read-taken m e = by-outcome (λ (o : MonitorReading). o .answer ≡ Read m → (m ≡ wholeMonitor f) × AllGood f × (framesRoom (wholeMonitor f) (length P) (length S) (length B) (length X) ≡ true) × (o ≡ takenReading))
+  pub read-taken : (m : ℕ) → readMonitor f P S B X .answer ≡ Read m → (m ≡ wholeMonitor f) × AllGood f ×
+      (framesRoom (wholeMonitor f) (length P) (length S) (length B) (length X) ≡ true) × (readMonitor f P S B X ≡ takenReading)
+  read-taken m e = by-outcome (λ (o : MonitorReading). o .answer ≡ Read m → (m ≡ wholeMonitor f) × AllGood f ×
+      (framesRoom (wholeMonitor f) (length P) (length S) (length B) (length X) ≡ true) × (o ≡ takenReading))
       (λ k g w q. absurd (unlike-bad k q)) (λ g r q. absurd (unlike-short q)) (λ g r q. (same q, g, r, refl)) e
     where
       unlike-bad : (k : ℕ) → Bad k ≡ Read m → ⊥

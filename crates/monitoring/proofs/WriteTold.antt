@@ -69,10 +69,15 @@ module _ (n : ℕ) (P S B X t : List ℕ) where
 
   -- where a condition holds, that is what is answered
   pub write-reason-only : (a : Monitored) → WriteReason n P S B X t a → a ≡ writeMonitor n P S B X t .answer
-  write-reason-only (Written m) r = ap Written (r .0) ∙ answered (Written n) (laid (monitorRow P S B X) 16 n t) (writing-whole n P S B X t (r .1) n (sym (first-none (faultyAt P S B X) n (r .2))) (laid (monitorRow P S B X) 16 n t) (le-of-eq refl) refl)
+  write-reason-only (Written m) r = ap Written (r .0) ∙ answered (Written n) (laid (monitorRow P S B X) 16 n t)
+      (writing-whole n P S B X t (r .1) n (sym (first-none (faultyAt P S B X) n (r .2))) (laid (monitorRow P S B X) 16 n t) (le-of-eq refl) refl)
   write-reason-only Short r = answered Short t (writing-short n P S B X t r)
-  write-reason-only (Bad k) r = answered (Bad k) t (writing-fault n P S B X t (r .0) k (sym (first-at (faultyAt P S B X) n k (r .1) (wrong-faulty P S B X k (r .3)) (r .2))) (Bad k) (r .1) (told-wrong P S B X k (r .3)))
-  write-reason-only (Beyond k) r = answered (Beyond k) t (writing-fault n P S B X t (r .0) k (sym (first-at (faultyAt P S B X) n k (r .1) (past-faulty P S B X k (r .4)) (r .2))) (Beyond k) (r .1) (told-past P S B X k (r .3)))
+  write-reason-only (Bad k) r = answered (Bad k) t
+      (writing-fault n P S B X t (r .0) k (sym (first-at (faultyAt P S B X) n k (r .1) (wrong-faulty P S B X k (r .3)) (r .2))) (Bad k) (r .1)
+      (told-wrong P S B X k (r .3)))
+  write-reason-only (Beyond k) r = answered (Beyond k) t
+      (writing-fault n P S B X t (r .0) k (sym (first-at (faultyAt P S B X) n k (r .1) (past-faulty P S B X k (r .4)) (r .2))) (Beyond k) (r .1)
+      (told-past P S B X k (r .3)))
 
   -- a refusal changes nothing
   pub write-refused : (monitoredNumber (writeMonitor n P S B X t .answer) ≡ 0 → ⊥) → writeMonitor n P S B X t .target ≡ t
@@ -80,7 +85,8 @@ module _ (n : ℕ) (P S B X t : List ℕ) where
   write-refused = by-outcome (λ (o : MonitorWriting). (monitoredNumber (o .answer) ≡ 0 → ⊥) → o .target ≡ t) (λ e z. refl) (λ e k l f w z. refl) (λ e k l f w p z. refl) (λ e f z. absurd (z refl))
 
   -- what is written, where it is
-  pub write-taken : (m : ℕ) → writeMonitor n P S B X t .answer ≡ Written m → (m ≡ n) × HasRoom n P S B X t × FineBefore P S B X n × (writeMonitor n P S B X t .target ≡ laid (monitorRow P S B X) 16 n t)
+  pub write-taken : (m : ℕ) → writeMonitor n P S B X t .answer ≡ Written m → (m ≡ n) × HasRoom n P S B X t × FineBefore P S B X n ×
+      (writeMonitor n P S B X t .target ≡ laid (monitorRow P S B X) 16 n t)
   write-taken m e = by-outcome (λ (o : MonitorWriting). o .answer ≡ Written m → (m ≡ n) × HasRoom n P S B X t × FineBefore P S B X n × (o .target ≡ laid (monitorRow P S B X) 16 n t))
       (λ r q. absurd (unlike-short q)) (λ r k l f w q. absurd (unlike-bad k q)) (λ r k l f w p q. absurd (unlike-beyond k q)) (λ r f q. (same q, r, f, refl)) e
     where

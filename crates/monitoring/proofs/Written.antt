@@ -75,7 +75,11 @@ good-frame P S B X i e =
 
 picture-below : (p s b : ℕ) → frameFine p s b ≡ true → p < 2 ^ 32
 unfolding frameFine pictureFine
-picture-below p s b e = omega (arith, leb-true p 79999 (and-right (leb 1 p) (leb p 79999) (and-left (leb 1 p && leb p 79999) (sideFine s) (and-left (leb 1 p && leb p 79999 && sideFine s) (fieldFine b) e))))
+picture-below p s b e = omega (
+  arith,
+  leb-true p 79999 (and-right (leb 1 p) (leb p 79999)
+      (and-left (leb 1 p && leb p 79999) (sideFine s) (and-left (leb 1 p && leb p 79999 && sideFine s) (fieldFine b) e))),
+)
 
 -- ---- the bytes written
 
@@ -108,7 +112,9 @@ module _ (n : ℕ) (P S B X : List ℕ) (good : (i : ℕ) → i < n → faultyAt
 
     picture-read : monitorPicture file i ≡ num P i
     unfolding monitorRow
-    picture-read = ap (λ (a : ℕ). littleOf file a 4) (plain (i * 16)) ∙ number-in i 0 h (omega arith) ∙ picture-in (num P i) (num S i) (num B i) (singleBits (narrowOf (num X (2 * i)))) (singleBits (narrowOf (num X (2 * i + 1)))) (picture-below (num P i) (num S i) (num B i) (g .fine))
+    picture-read = ap (λ (a : ℕ). littleOf file a 4) (plain (i * 16)) ∙ number-in i 0 h (omega arith) ∙
+        picture-in (num P i) (num S i) (num B i) (singleBits (narrowOf (num X (2 * i)))) (singleBits (narrowOf (num X (2 * i + 1))))
+        (picture-below (num P i) (num S i) (num B i) (g .fine))
       where
         plain : (a : ℕ) → a ≡ a + 0
         plain a = omega arith
@@ -130,12 +136,14 @@ module _ (n : ℕ) (P S B X : List ℕ) (good : (i : ℕ) → i < n → faultyAt
     pub x-read : coordinateAt file (2 * i) ≡ singleBits (narrowOf (num X (2 * i)))
     unfolding monitorRow
     x-read =
-        x-stands file i ∙ number-in i 8 h (omega arith) ∙ x-in (num P i) (num S i) (num B i) (singleBits (narrowOf (num X (2 * i)))) (singleBits (narrowOf (num X (2 * i + 1)))) (single-below (num X (2 * i)) (g .x-told))
+        x-stands file i ∙ number-in i 8 h (omega arith) ∙ x-in (num P i) (num S i) (num B i) (singleBits (narrowOf (num X (2 * i))))
+        (singleBits (narrowOf (num X (2 * i + 1)))) (single-below (num X (2 * i)) (g .x-told))
 
     pub y-read : coordinateAt file (2 * i + 1) ≡ singleBits (narrowOf (num X (2 * i + 1)))
     unfolding monitorRow
     y-read =
-        y-stands file i ∙ number-in i 12 h (omega arith) ∙ y-in (num P i) (num S i) (num B i) (singleBits (narrowOf (num X (2 * i)))) (singleBits (narrowOf (num X (2 * i + 1)))) (single-below (num X (2 * i + 1)) (g .y-told))
+        y-stands file i ∙ number-in i 12 h (omega arith) ∙ y-in (num P i) (num S i) (num B i) (singleBits (narrowOf (num X (2 * i))))
+        (singleBits (narrowOf (num X (2 * i + 1)))) (single-below (num X (2 * i + 1)) (g .y-told))
 
     coordinates-read : coordinatesFine file i ≡ true
     unfolding coordinatesFine
@@ -159,10 +167,18 @@ module _ (n : ℕ) (P S B X : List ℕ) (good : (i : ℕ) → i < n → faultyAt
   file-good = (λ i l. record-read i (rw whole-read at l), let e = file-size in omega arith)
 
   pub file-taken : (P' S' B' X' : List ℕ) → framesRoom n (length P') (length S') (length B') (length X') ≡ true
-      → readMonitor file P' S' B' X' ≡ monitorReading (Read n) (fronted (num P) n P') (fronted (num S) n S') (fronted (num B) n B') (fronted (λ j. widenOf (singleBits (narrowOf (num X j)))) (2 * n) X')
+      → readMonitor file P' S' B' X' ≡ monitorReading (Read n) (fronted (num P) n P') (fronted (num S) n S') (fronted (num B) n B')
+      (fronted (λ j. widenOf (singleBits (narrowOf (num X j)))) (2 * n) X')
   file-taken P' S' B' X' e =
       sym (out-filled file P' S' B' X' file-good (rw whole-read e))
-      ∙ rw (whole-read, each-same (monitorPicture file) (num P) n picture-read, each-same (byteAt file 4) (num S) n side-read, each-same (byteAt file 5) (num B) n field-read, each-same (widenedAt file) (λ j. widenOf (singleBits (narrowOf (num X j)))) (2 * n) (λ j l. ap widenOf (coordinate-read j l)))
+      ∙ rw (
+        whole-read,
+        each-same (monitorPicture file) (num P) n picture-read,
+        each-same (byteAt file 4) (num S) n side-read,
+        each-same (byteAt file 5) (num B) n field-read,
+        each-same (widenedAt file) (λ j. widenOf (singleBits (narrowOf (num X j)))) (2 * n) (λ j l. ap widenOf
+            (coordinate-read j l)),
+      )
 
 -- ---- the theorems
 
@@ -179,5 +195,6 @@ module _ (n : ℕ) (P S B X t : List ℕ) (done : writeMonitor n P S B X t .answ
 
   -- into any areas that are long enough: pictures, sides, fields, and the coordinates narrowed and widened; the areas' tails are kept
   pub written-then-read : (P' S' B' X' : List ℕ) → framesRoom n (length P') (length S') (length B') (length X') ≡ true
-      → readMonitor (take (n * 16) (writeMonitor n P S B X t .target)) P' S' B' X' ≡ monitorReading (Read n) (fronted (num P) n P') (fronted (num S) n S') (fronted (num B) n B') (fronted (λ j. widenOf (singleBits (narrowOf (num X j)))) (2 * n) X')
+      → readMonitor (take (n * 16) (writeMonitor n P S B X t .target)) P' S' B' X' ≡ monitorReading (Read n) (fronted (num P) n P') (fronted (num S) n S')
+      (fronted (num B) n B') (fronted (λ j. widenOf (singleBits (narrowOf (num X j)))) (2 * n) X')
   written-then-read P' S' B' X' e = rw written-file (file-taken n P S B X (write-taken n P S B X t n done .2) P' S' B' X' e)

@@ -45,7 +45,8 @@ pub record Beside (o o' s t : State) : Type 0 where
   pub nodes : isTree (s .run .settings .method) ≡ true → (s .run .phase ≡ 0 → o .run .done < s .run .done) → SameNodes (s .run .used) (t .run .used) (s .memory .nodes) (t .memory .nodes)
   -- the places that this iteration's units have written
   pub points : isTree (s .run .settings .method) ≡ true → SameTo ((s .run .phase - s .run .settings .n - 1) * (2 * s .run .settings .c + 1)) (s .memory .forces) (t .memory .forces)
-  pub total : isTree (s .run .settings .method) ≡ false → 0 < s .run .phase → at (s .memory .forces) (s .run .settings .n * s .run .settings .c) ≡ at (t .memory .forces) (s .run .settings .n * s .run .settings .c)
+  pub total : isTree (s .run .settings .method) ≡ false → 0 < s .run .phase →
+      at (s .memory .forces) (s .run .settings .n * s .run .settings .c) ≡ at (t .memory .forces) (s .run .settings .n * s .run .settings .c)
   pub rows : isTree (s .run .settings .method) ≡ false → SameTo ((s .run .phase - s .run .settings .n) * s .run .settings .c) (s .memory .forces) (t .memory .forces)
   -- those that one has written since
   pub finished : o .run .done < s .run .done → SameTo (forcePlaces (s .run .settings)) (s .memory .forces) (t .memory .forces)
@@ -65,8 +66,8 @@ pub none-yet : (i w k : ℕ) → i ≡ 0 → k < i * w → ⊥
 none-yet i w k e h = not-suc-le-zero (rw (e, zero-mul w) at h)
 
 -- one row more
-row-more : (i j w : ℕ) (F F' : List Float) → j ≡ suc i → SameTo (i * w) F F' → ((e : ℕ) → e < w → at F (i * w + e) ≡ at F' (i * w + e)) → SameTo (j * w) F F'
-row-more i j w F F' e old new k l =
+row-next : (i j w : ℕ) (F F' : List Float) → j ≡ suc i → SameTo (i * w) F F' → ((e : ℕ) → e < w → at F (i * w + e) ≡ at F' (i * w + e)) → SameTo (j * w) F F'
+row-next i j w F F' e old new k l =
     let q : j * w ≡ i * w + w = ap (λ (x : ℕ). x * w) e ∙ suc-mul i w in
     elim (decLt k (i * w)) [
       | yes x ↦ old k x
@@ -79,7 +80,8 @@ group-same : (a : Float) (u : ℕ) (r : Run) → groupOf (reread a u r) ≡ grou
 unfolding groupOf
 group-same a u r = refl
 
-module _ (o o' s : State) (a : Float) (u : ℕ) (m : Memory) (w : Beside o o' s (state (reread a u (s .run)) m)) (g : Good s) (g' : Good (state (reread a u (s .run)) m)) (live : isEnded (s .run .standing) ≡ false) where
+module _ (o o' s : State) (a : Float) (u : ℕ) (m : Memory) (w : Beside o o' s (state (reread a u (s .run)) m)) (g : Good s)
+    (g' : Good (state (reread a u (s .run)) m)) (live : isEnded (s .run .standing) ≡ false) where
   abbrev R : Run
   R = s .run
 
@@ -148,8 +150,11 @@ module _ (o o' s : State) (a : Float) (u : ℕ) (m : Memory) (w : Beside o o' s 
   fits : isTree (R .settings .method) ≡ true → (R .phase ≡ 0 → ⊥) → Fits n c n (tree (R .used) (M .nodes))
   fits x p = let k = g .contents x .tree p in record { some = k .used-some; within = omega (arith, k .used-most, nameable-most (length (M .nodes))); sound = k .each-node }
 
-  inserts : isTree (R .settings .method) ≡ true → R .phase ≤ n → (R .phase ≡ 0 → ⊥) → (inserting R (M .positions) (M .nodes) .full ≡ inserting R' (m .positions) (m .nodes) .full) × Twin (inserting R (M .positions) (M .nodes) .tree) (inserting R' (m .positions) (m .nodes) .tree)
-  inserts x l p = insert-same n c (M .positions) (m .positions) (w .same .positions) n (R .phase - 1) (tree (R .used) (M .nodes)) (tree u (m .nodes)) (omega (arith, l, p)) (omega (arith, g .settings .n-some)) (fits x p) (record { nodes = w .nodes x (λ z. absurd (p z)); long = w .same .arena })
+  inserts : isTree (R .settings .method) ≡ true → R .phase ≤ n → (R .phase ≡ 0 → ⊥) →
+      (inserting R (M .positions) (M .nodes) .full ≡ inserting R' (m .positions) (m .nodes) .full) ×
+      Twin (inserting R (M .positions) (M .nodes) .tree) (inserting R' (m .positions) (m .nodes) .tree)
+  inserts x l p = insert-same n c (M .positions) (m .positions) (w .same .positions) n (R .phase - 1) (tree (R .used) (M .nodes)) (tree u (m .nodes))
+      (omega (arith, l, p)) (omega (arith, g .settings .n-some)) (fits x p) (record { nodes = w .nodes x (λ z. absurd (p z)); long = w .same .arena })
 
   tree-both : groupOf R ≡ 0 → Both o o' (withTree M (treeUnit R (M .positions) (M .nodes))) (withTree m (treeUnit R' (m .positions) (m .nodes)))
   tree-both z =
@@ -164,14 +169,18 @@ module _ (o o' s : State) (a : Float) (u : ℕ) (m : Memory) (w : Beside o o' s 
       (λ e. absurd (p e))
       (λ _ _. (refl, w))
       (λ _ f'. absurd (true≢false (sym f ∙ (inserts (k .0) (k .1) p .0 ∙ f')))))
-      (λ p f. by-tree R' (m .positions) (m .nodes) (λ (x' : TreeTurn). Both o o' (withTree M (treeTurn (advancedOf R (inserting R (M .positions) (M .nodes) .tree .used)) (inserting R (M .positions) (M .nodes) .tree .nodes) Done)) (withTree m x'))
+      (λ p f. by-tree R' (m .positions) (m .nodes) (λ (x' : TreeTurn). Both o o'
+      (withTree M (treeTurn (advancedOf R (inserting R (M .positions) (M .nodes) .tree .used)) (inserting R (M .positions) (M .nodes) .tree .nodes) Done))
+      (withTree m x'))
       (λ e. absurd (p e))
       (λ _ f'. absurd (true≢false (sym f' ∙ (sym (inserts (k .0) (k .1) p .0) ∙ f))))
-      (λ _ _. tree-moves (k .0) (k .1) (inserting R (M .positions) (M .nodes) .tree .used) (inserting R' (m .positions) (m .nodes) .tree .used) (inserting R (M .positions) (M .nodes) .tree .nodes) (inserting R' (m .positions) (m .nodes) .tree .nodes) (inserts (k .0) (k .1) p .1)))
+      (λ _ _. tree-moves (k .0) (k .1) (inserting R (M .positions) (M .nodes) .tree .used) (inserting R' (m .positions) (m .nodes) .tree .used)
+      (inserting R (M .positions) (M .nodes) .tree .nodes) (inserting R' (m .positions) (m .nodes) .tree .nodes) (inserts (k .0) (k .1) p .1)))
 
   -- ---- the forces
 
-  force-moves : groupOf R ≡ 1 → (F F' : List Float) → Forced R (M .forces) (m .forces) F F' → (length (M .forces) ≡ length (m .forces) → length F ≡ length F') → Both o o' (withForces M (advancedOf R (R .used)) F) (withForces m (advancedOf R' u) F')
+  force-moves : groupOf R ≡ 1 → (F F' : List Float) → Forced R (M .forces) (m .forces) F F' → (length (M .forces) ≡ length (m .forces) → length F ≡ length F') →
+      Both o o' (withForces M (advancedOf R (R .used)) F) (withForces m (advancedOf R' u) F')
   unfolding advancedOf
   force-moves z F F' d long =
       let k = group-one R z in (
@@ -189,14 +198,14 @@ module _ (o o' s : State) (a : Float) (u : ℕ) (m : Memory) (w : Beside o o' s 
           };
           from = w .from;
           nodes = λ x _. w .nodes x (λ q. absurd (omega (arith, q, k .tree x)));
-          points = λ x. row-more (R .phase - n - 1) (R .phase + 1 - n - 1) (2 * c + 1) F F' (omega (arith, k .tree x)) (λ p l. d .kept p (w .points x p l)) (d .tree x);
+          points = λ x. row-next (R .phase - n - 1) (R .phase + 1 - n - 1) (2 * c + 1) F F' (omega (arith, k .tree x)) (λ p l. d .kept p (w .points x p l)) (d .tree x);
           total = λ x _. elim (decLt (R .phase) n) [
             | yes l ↦ d .total x l
             | no l ↦ d .kept (n * c) (w .total x (omega (arith, l, g .settings .n-some)))
           ];
           rows = λ x. elim (decLt (R .phase) n) [
             | yes l ↦ λ p h. absurd (none-yet (R .phase + 1 - n) c p (omega (arith, l)) h)
-            | no l ↦ row-more (R .phase - n) (R .phase + 1 - n) c F F' (omega (arith, l)) (λ p h. d .kept p (w .rows x p h)) (d .row x (omega (arith, l)))
+            | no l ↦ row-next (R .phase - n) (R .phase + 1 - n) c F F' (omega (arith, l)) (λ p h. d .kept p (w .rows x p h)) (d .row x (omega (arith, l)))
           ];
           finished = λ q p l. d .kept p (w .finished q p l);
           kept-positions = w .kept-positions;
@@ -207,7 +216,8 @@ module _ (o o' s : State) (a : Float) (u : ℕ) (m : Memory) (w : Beside o o' s 
         },
       )
 
-  forced : groupOf R ≡ 1 → Forced R (M .forces) (m .forces) (forceUnit R (M .positions) (M .affinities) (M .indices) (M .offsets) (M .nodes) (M .forces)) (forceUnit R' (m .positions) (m .affinities) (m .indices) (m .offsets) (m .nodes) (m .forces))
+  forced : groupOf R ≡ 1 → Forced R (M .forces) (m .forces) (forceUnit R (M .positions) (M .affinities) (M .indices) (M .offsets) (M .nodes) (M .forces))
+      (forceUnit R' (m .positions) (m .affinities) (m .indices) (m .offsets) (m .nodes) (m .forces))
   forced z =
       let k = group-one R z in
       let U = forceUnit R (M .positions) (M .affinities) (M .indices) (M .offsets) (M .nodes) (M .forces) in
@@ -218,11 +228,16 @@ module _ (o o' s : State) (a : Float) (u : ℕ) (m : Memory) (w : Beside o o' s 
       let p : R .phase ≡ 0 → ⊥ = λ q. omega (arith, q, b) in
       let i = R .phase - n - 1 in
       let cs = g .contents x in
-      tree-forced R a u (M .positions) (m .positions) (M .affinities) (m .affinities) (M .indices) (m .indices) (M .offsets) (m .offsets) (M .nodes) (m .nodes) (M .forces) (m .forces) (w .same .positions) x (w .same .angle x) (w .same .lists x) (record { nodes = w .nodes x (λ q. absurd (p q)); long = w .same .arena })
-      n (fits x p) (b .0) (b .1) (linked-at R (M .indices) (M .offsets) (M .nodes) cs (M .affinities) (g .areas .tree-long x) i (omega (arith, b))) (offset-listed R (M .indices) (M .offsets) (M .nodes) cs (n - (i + 1)) (i + 1) (omega (arith, b))) (g .areas .forces-long) (g' .areas .forces-long))
+      tree-forced R a u (M .positions) (m .positions) (M .affinities) (m .affinities) (M .indices) (m .indices) (M .offsets) (m .offsets) (M .nodes) (m .nodes)
+      (M .forces) (m .forces) (w .same .positions) x (w .same .angle x) (w .same .lists x)
+      (record { nodes = w .nodes x (λ q. absurd (p q)); long = w .same .arena })
+      n (fits x p) (b .0) (b .1) (linked-at R (M .indices) (M .offsets) (M .nodes) cs (M .affinities) (g .areas .tree-long x) i (omega (arith, b)))
+      (offset-listed R (M .indices) (M .offsets) (M .nodes) cs (n - (i + 1)) (i + 1) (omega (arith, b))) (g .areas .forces-long) (g' .areas .forces-long))
       (λ x.
       let f = cells-forces n c in
-      exact-forced R a u (M .positions) (m .positions) (M .affinities) (m .affinities) (M .indices) (m .indices) (M .offsets) (m .offsets) (M .nodes) (m .nodes) (M .forces) (m .forces) (w .same .positions) x (w .same .matrix x) (k .exact x) (g .settings .n-some) (w .total x) (omega (arith, f, g .areas .forces-long, g .settings .n-some)) (omega (arith, f, g' .areas .forces-long, g .settings .n-some)))
+      exact-forced R a u (M .positions) (m .positions) (M .affinities) (m .affinities) (M .indices) (m .indices) (M .offsets) (m .offsets) (M .nodes) (m .nodes)
+      (M .forces) (m .forces) (w .same .positions) x (w .same .matrix x) (k .exact x) (g .settings .n-some) (w .total x)
+      (omega (arith, f, g .areas .forces-long, g .settings .n-some)) (omega (arith, f, g' .areas .forces-long, g .settings .n-some)))
 
   -- ---- the finish
 
@@ -248,7 +263,8 @@ module _ (o o' s : State) (a : Float) (u : ℕ) (m : Memory) (w : Beside o o' s 
         | no e ↦ all-rows b (l .1 b) k (omega (arith, h, e))
       ]))
 
-  finish-moves : (groupOf R ≡ 0 → ⊥) → (groupOf R ≡ 1 → ⊥) → (norm : Float) (Y Y' I I' G G' : List Float) → Moves (n * c) (M .positions) (m .positions) Y Y' → Moves (n * c) (M .increments) (m .increments) I I' → Moves (n * c) (M .gains) (m .gains) G G'
+  finish-moves : (groupOf R ≡ 0 → ⊥) → (groupOf R ≡ 1 → ⊥) → (norm : Float) (Y Y' I I' G G' : List Float) → Moves (n * c) (M .positions) (m .positions) Y Y' →
+      Moves (n * c) (M .increments) (m .increments) I I' → Moves (n * c) (M .gains) (m .gains) G G'
       → Both o o' (withFinish M (finishTurn (closedOf R norm) Y I G Done)) (withFinish m (finishTurn (closedOf R' norm) Y' I' G' Done))
   unfolding closedOf stopsNow
   finish-moves x y norm Y Y' I I' G G' sy si sg =
@@ -279,10 +295,12 @@ module _ (o o' s : State) (a : Float) (u : ℕ) (m : Memory) (w : Beside o o' s 
         },
       )
 
-  finish-both : (groupOf R ≡ 0 → ⊥) → (groupOf R ≡ 1 → ⊥) → Both o o' (withFinish M (finishUnit R (M .positions) (M .increments) (M .gains) (M .forces))) (withFinish m (finishUnit R' (m .positions) (m .increments) (m .gains) (m .forces)))
+  finish-both : (groupOf R ≡ 0 → ⊥) → (groupOf R ≡ 1 → ⊥) → Both o o' (withFinish M (finishUnit R (M .positions) (M .increments) (M .gains) (M .forces)))
+      (withFinish m (finishUnit R' (m .positions) (m .increments) (m .gains) (m .forces)))
   finish-both x y =
       let l = last-phase x y in
-      by-both R a u (M .positions) (m .positions) (M .increments) (m .increments) (M .gains) (m .gains) (M .forces) (m .forces) (g .settings .c-some) (w .same .positions) (w .same .increments) (w .same .gains) (λ b. all-points b (l .0 b)) (λ b. all-rows b (l .1 b))
+      by-both R a u (M .positions) (m .positions) (M .increments) (m .increments) (M .gains) (m .gains) (M .forces) (m .forces) (g .settings .c-some)
+      (w .same .positions) (w .same .increments) (w .same .gains) (λ b. all-points b (l .0 b)) (λ b. all-rows b (l .1 b))
       (g .areas .positions-long) (g' .areas .positions-long) (g .areas .increments-long) (g' .areas .increments-long) (g .areas .gains-long) (g' .areas .gains-long)
       (λ (f f' : FinishTurn). Both o o' (withFinish M f) (withFinish m f'))
       (finish-moves x y)
@@ -290,16 +308,24 @@ module _ (o o' s : State) (a : Float) (u : ℕ) (m : Memory) (w : Beside o o' s 
 
   -- ---- a unit
 
-  same-length : length (M .forces) ≡ length (m .forces) → length (forceUnit R (M .positions) (M .affinities) (M .indices) (M .offsets) (M .nodes) (M .forces)) ≡ length (forceUnit R' (m .positions) (m .affinities) (m .indices) (m .offsets) (m .nodes) (m .forces))
-  same-length e = length-forces R (M .positions) (M .affinities) (M .indices) (M .offsets) (M .nodes) (M .forces) ∙ (e ∙ sym (length-forces R' (m .positions) (m .affinities) (m .indices) (m .offsets) (m .nodes) (m .forces)))
+  same-length : length (M .forces) ≡ length (m .forces) →
+      length (forceUnit R (M .positions) (M .affinities) (M .indices) (M .offsets) (M .nodes) (M .forces)) ≡ length
+      (forceUnit R' (m .positions) (m .affinities) (m .indices) (m .offsets) (m .nodes) (m .forces))
+  same-length e = length-forces R (M .positions) (M .affinities) (M .indices) (M .offsets) (M .nodes) (M .forces) ∙
+      (e ∙ sym (length-forces R' (m .positions) (m .affinities) (m .indices) (m .offsets) (m .nodes) (m .forces)))
 
   unit-here : Both o o' (unit s) (unit t)
   unit-here =
       let q = group-same a u R in
       by-unit s live (λ (x : Turned). Both o o' x (unit t))
       (λ z. subst (λ (x' : Turned). Both o o' (withTree M (treeUnit R (M .positions) (M .nodes))) x') (sym (unit-tree t live (q ∙ z))) (tree-both z))
-      (λ z. subst (λ (x' : Turned). Both o o' (withForces M (advancedOf R (R .used)) (forceUnit R (M .positions) (M .affinities) (M .indices) (M .offsets) (M .nodes) (M .forces))) x') (sym (unit-force t live (q ∙ z))) (force-moves z (forceUnit R (M .positions) (M .affinities) (M .indices) (M .offsets) (M .nodes) (M .forces)) (forceUnit R' (m .positions) (m .affinities) (m .indices) (m .offsets) (m .nodes) (m .forces)) (forced z) same-length))
-      (λ x y. subst (λ (x' : Turned). Both o o' (withFinish M (finishUnit R (M .positions) (M .increments) (M .gains) (M .forces))) x') (sym (unit-finish t live (λ e. x (sym q ∙ e)) (λ e. y (sym q ∙ e)))) (finish-both x y))
+      (λ z. subst (λ (x' : Turned). Both o o'
+      (withForces M (advancedOf R (R .used)) (forceUnit R (M .positions) (M .affinities) (M .indices) (M .offsets) (M .nodes) (M .forces))) x')
+      (sym (unit-force t live (q ∙ z)))
+      (force-moves z (forceUnit R (M .positions) (M .affinities) (M .indices) (M .offsets) (M .nodes) (M .forces))
+      (forceUnit R' (m .positions) (m .affinities) (m .indices) (m .offsets) (m .nodes) (m .forces)) (forced z) same-length))
+      (λ x y. subst (λ (x' : Turned). Both o o' (withFinish M (finishUnit R (M .positions) (M .increments) (M .gains) (M .forces))) x')
+      (sym (unit-finish t live (λ e. x (sym q ∙ e)) (λ e. y (sym q ∙ e)))) (finish-both x y))
 
 -- of a run that has not ended
 pub unit-both : (o o' s t : State) → Beside o o' s t → Good s → Good t → isEnded (s .run .standing) ≡ false → Both o o' (unit s) (unit t)

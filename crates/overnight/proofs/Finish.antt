@@ -37,14 +37,19 @@ use Rattle.overnight.proofs.Writes.{puts-alike, puts-there}
 module _ (n c : ℕ) (F F' : List Float) (some : 0 < c) (same : SameTo (n * (2 * c + 1)) F F') where
   normaliser-same : normaliserOf F n c ≡ normaliserOf F' n c
   unfolding normaliserOf
-  normaliser-same = ap (unlessAbove shareFloor) (loop-same (shareStep F c) (shareStep F' c) n 0 zero64 (λ i s a b. ap (add binary64 s) (same (placeOf c i + 2 * c) (omega (arith, row-in i n (2 * c + 1) (n * (2 * c + 1)) (omega arith) (le-refl (n * (2 * c + 1))))))))
+  normaliser-same = ap (unlessAbove shareFloor)
+      (loop-same (shareStep F c) (shareStep F' c) n 0 zero64 (λ i s a b. ap (add binary64 s)
+      (same (placeOf c i + 2 * c) (omega (arith, row-in i n (2 * c + 1) (n * (2 * c + 1)) (omega arith) (le-refl (n * (2 * c + 1))))))))
 
-  element-tree : (e : ℕ) → e < n * c → mul binary64 four64 (sub binary64 (at F (spotOf c e)) (div binary64 (at F (spotOf c e + c)) (normaliserOf F n c))) ≡ mul binary64 four64 (sub binary64 (at F' (spotOf c e)) (div binary64 (at F' (spotOf c e + c)) (normaliserOf F' n c)))
+  element-tree : (e : ℕ) → e < n * c →
+      mul binary64 four64 (sub binary64 (at F (spotOf c e)) (div binary64 (at F (spotOf c e + c)) (normaliserOf F n c))) ≡ mul binary64 four64
+      (sub binary64 (at F' (spotOf c e)) (div binary64 (at F' (spotOf c e + c)) (normaliserOf F' n c)))
   element-tree e l =
       let s = spot-of n c e (n * (2 * c + 1)) some l (le-refl (n * (2 * c + 1))) in
       rw (same (spotOf c e) (omega (arith, s .row, s .part)), same (spotOf c e + c) (omega (arith, s .row, s .part)), normaliser-same)
 
-gradients-same : (b : Bool) (n c : ℕ) (F F' : List Float) → 0 < c → (b ≡ false → SameTo (n * (2 * c + 1)) F F') → (b ≡ true → SameTo (n * c) F F') → (e : ℕ) → e < n * c → gradientsOf b F n c e ≡ gradientsOf b F' n c e
+gradients-same : (b : Bool) (n c : ℕ) (F F' : List Float) → 0 < c → (b ≡ false → SameTo (n * (2 * c + 1)) F F') → (b ≡ true → SameTo (n * c) F F') → (e : ℕ) →
+    e < n * c → gradientsOf b F n c e ≡ gradientsOf b F' n c e
 unfolding gradientOf
 gradients-same true n c F F' some t x e l = x refl e l
 gradients-same false n c F F' some t x e l = element-tree n c F F' some (t refl) e l
@@ -57,7 +62,9 @@ norm-same g g' m h = loop-same (normStep g) (normStep g') m 0 zero64 (λ e x a b
 
 module _ (b b' : Before) (n c : ℕ) (same : (e : ℕ) → e < n * c → elementAt b e ≡ elementAt b' e) where
   means-same : meansOf b n c ≡ meansOf b' n c
-  means-same = ap (loop (meanStep (ofInt binary64 (pos n))) c 0) (loop-same (sumStep b c) (sumStep b' c) (n * c) 0 zeros8 (λ e s _ l. ap (λ (x : Element). set s (e % c) (add binary64 (at s (e % c)) (x .moved))) (same e (omega arith))))
+  means-same = ap (loop (meanStep (ofInt binary64 (pos n))) c 0)
+      (loop-same (sumStep b c) (sumStep b' c) (n * c) 0 zeros8 (λ e s _ l. ap (λ (x : Element). set s (e % c) (add binary64 (at s (e % c)) (x .moved)))
+      (same e (omega arith))))
 
   centred-same : (e : ℕ) → e < n * c → centredBy (meansOf b n c) b c e ≡ centredBy (meansOf b' n c) b' c e
   unfolding centredBy
@@ -74,7 +81,8 @@ pub record Moves (m : ℕ) (y y' Y Y' : List Float) : Type 0 where
   pub here : SameTo m Y Y'
   pub kept : Kept y y' Y Y'
 
-moves : (m : ℕ) (v v' : ℕ → Float) → ((e : ℕ) → e < m → v e ≡ v' e) → (y y' : List Float) → m ≤ length y → m ≤ length y' → Moves m y y' (loop (λ e l. set l e (v e)) m 0 y) (loop (λ e l. set l e (v' e)) m 0 y')
+moves : (m : ℕ) (v v' : ℕ → Float) → ((e : ℕ) → e < m → v e ≡ v' e) → (y y' : List Float) → m ≤ length y → m ≤ length y' →
+    Moves m y y' (loop (λ e l. set l e (v e)) m 0 y) (loop (λ e l. set l e (v' e)) m 0 y')
 moves m v v' s y y' h h' =
     let q : loop (λ e l. set l e (v e)) m 0 y' ≡ loop (λ e l. set l e (v' e)) m 0 y' = loop-same (λ e l. set l e (v e)) (λ e l. set l e (v' e)) m 0 y' (λ e l _ x. ap (set l e) (s e (omega arith))) in
     rw (sym q) (record {
@@ -99,7 +107,8 @@ module _ (r : Run) (angle : Float) (used' : ℕ) (y y' v v' g g' F F' : List Flo
   pub by-both : 0 < c → SameTo m y y' → SameTo m v v' → SameTo m g g' → (isTree (r .settings .method) ≡ true → SameTo (n * (2 * c + 1)) F F') → (isTree (r .settings .method) ≡ false → SameTo m F F')
       → m ≤ length y → m ≤ length y' → m ≤ length v → m ≤ length v' → m ≤ length g → m ≤ length g'
       → (P : FinishTurn → FinishTurn → Type 0)
-      → ((norm : Float) (Y Y' I I' G G' : List Float) → Moves m y y' Y Y' → Moves m v v' I I' → Moves m g g' G G' → P (finishTurn (closedOf r norm) Y I G Done) (finishTurn (closedOf (reread angle used' r) norm) Y' I' G' Done))
+      → ((norm : Float) (Y Y' I I' G G' : List Float) → Moves m y y' Y Y' → Moves m v v' I I' → Moves m g g' G G' →
+      P (finishTurn (closedOf r norm) Y I G Done) (finishTurn (closedOf (reread angle used' r) norm) Y' I' G' Done))
       → P (finishTurn r y v g Wild) (finishTurn (reread angle used' r) y' v' g' Wild)
       → P (finishUnit r y v g F) (finishUnit (reread angle used' r) y' v' g' F')
   unfolding finishUnit finishOf elementAt momentumOf
@@ -107,7 +116,8 @@ module _ (r : Run) (angle : Float) (used' : ℕ) (y y' v v' g g' F F' : List Flo
       let r' = reread angle used' r in
       let b = beforeOf r y v g F in
       let b' = beforeOf r' y' v' g' F' in
-      let gr : (e : ℕ) → e < m → b .gradients e ≡ b' .gradients e = gradients-same (isExact r) n c F F' some (λ q. tree (not-no (isTree (r .settings .method)) q)) (λ q. exact (not-yes (isTree (r .settings .method)) q)) in
+      let gr : (e : ℕ) → e < m → b .gradients e ≡ b' .gradients e = gradients-same (isExact r) n c F F' some (λ q. tree
+      (not-no (isTree (r .settings .method)) q)) (λ q. exact (not-yes (isTree (r .settings .method)) q)) in
       let el : (e : ℕ) → e < m → elementAt b e ≡ elementAt b' e = λ e l. rw (gr e l, sy e l, sv e l, sg e l) in
       let calm-is = calm-same b b' n c el in
       by-bool (P (finishUnit r y v g F) (finishUnit r' y' v' g' F')) (calmMoves b m && calmCentred (meansOf b n c) b c m)

@@ -70,11 +70,14 @@ module _ (c i : ℕ) (t : List Float) (acc : Acc) (F F' : List Float) (h : place
   unfolding stored
   stored-row e l =
       elim (decLt e c) [
-        | yes x ↦ last-alike (a + e) (second-alike (a + e) (puts-there (λ d. a + d) (λ d. at t d) c 0 F F' (λ e x l. omega (arith, l, h)) (λ e x l. omega (arith, l, h')) e (omega arith) (omega (arith, x))))
+        | yes x ↦ last-alike (a + e) (second-alike (a + e)
+            (puts-there (λ d. a + d) (λ d. at t d) c 0 F F' (λ e x l. omega (arith, l, h)) (λ e x l. omega (arith, l, h')) e (omega arith) (omega (arith, x))))
         | no x ↦ elim (decLt e (2 * c)) [
           | yes z ↦
               let q : a + c + (e - c) ≡ a + e = omega (arith, x) in
-              last-alike (a + e) (subst (λ (k : ℕ). at (H F) k ≡ at (H F') k) q (puts-there (λ d. a + c + d) (λ d. at (acc .neg) d) c 0 (G F) (G F') (λ e x l. omega (arith, l, h, length-g F)) (λ e x l. omega (arith, l, h', length-g F')) (e - c) (omega arith) (omega (arith, x, z))))
+              last-alike (a + e) (subst (λ (k : ℕ). at (H F) k ≡ at (H F') k) q
+              (puts-there (λ d. a + c + d) (λ d. at (acc .neg) d) c 0 (G F) (G F') (λ e x l. omega (arith, l, h, length-g F)) (λ e x l. omega
+              (arith, l, h', length-g F')) (e - c) (omega arith) (omega (arith, x, z))))
           | no z ↦
               let q : a + 2 * c ≡ a + e = omega (arith, z, l) in
               subst (λ (k : ℕ). at (stored c i t acc F) k ≡ at (stored c i t acc F') k) q (set-here (H F) (H F') (a + 2 * c) (acc .sum) (omega (arith, h, length-h F)) (omega (arith, h', length-h F')))
@@ -84,7 +87,8 @@ module _ (c i : ℕ) (t : List Float) (acc : Acc) (F F' : List Float) (h : place
 -- ---- a gradient row
 
 slope-alike : (x : Pulls) (n c i : ℕ) (y y' : List Float) → SameTo (n * c) y y' → i < n → (F F' : List Float) → n * c ≤ length F → n * c ≤ length F'
-    → SameAs F F' (loop (slopeStep x y (i * c)) c 0 F) (loop (slopeStep x y' (i * c)) c 0 F') × ((d : ℕ) → d < c → at (loop (slopeStep x y (i * c)) c 0 F) (i * c + d) ≡ at (loop (slopeStep x y' (i * c)) c 0 F') (i * c + d))
+    → SameAs F F' (loop (slopeStep x y (i * c)) c 0 F) (loop (slopeStep x y' (i * c)) c 0 F') × ((d : ℕ) → d < c →
+    at (loop (slopeStep x y (i * c)) c 0 F) (i * c + d) ≡ at (loop (slopeStep x y' (i * c)) c 0 F') (i * c + d))
 slope-alike x n c i y y' same hi F F' h h' =
     let a = i * c in
     let r : a + c ≤ n * c = row-in i n c (n * c) hi (le-refl (n * c)) in
@@ -92,7 +96,8 @@ slope-alike x n c i y y' same hi F F' h h' =
     let p : ℕ → ℕ = λ d. a + d in
     let b : (e : ℕ) → 0 ≤ e → e < 0 + c → p e < length F = λ e _ l. omega (arith, l, r, h) in
     let b' : (e : ℕ) → 0 ≤ e → e < 0 + c → p e < length F' = λ e _ l. omega (arith, l, r, h') in
-    let q : loop (slopeStep x y a) c 0 F' ≡ loop (slopeStep x y' a) c 0 F' = loop-same (slopeStep x y a) (slopeStep x y' a) c 0 F' (λ d l _ m. ap (λ (z : Float). set l (a + d) (mul binary64 (sub binary64 (mul binary64 z (x .sum)) (at (x .along) d)) four64)) (same (a + d) (omega (arith, m, r)))) in
+    let q : loop (slopeStep x y a) c 0 F' ≡ loop (slopeStep x y' a) c 0 F' = loop-same (slopeStep x y a) (slopeStep x y' a) c 0 F' (λ d l _ m. ap
+    (λ (z : Float). set l (a + d) (mul binary64 (sub binary64 (mul binary64 z (x .sum)) (at (x .along) d)) four64)) (same (a + d) (omega (arith, m, r)))) in
     rw (sym q) (puts-alike p v c 0 F F' b b', λ d l. puts-there p v c 0 F F' b b' d (omega arith) (omega (arith, l)))
 
 -- ---- the unit
@@ -103,9 +108,11 @@ one-method r a b = true≢false (sym a ∙ b)
 -- G and G' are what it makes of the forces F and F'
 pub record Forced (r : Run) (F F' G G' : List Float) : Type 0 where
   pub kept : SameAs F F' G G'
-  pub tree : isTree (r .settings .method) ≡ true → (e : ℕ) → e < 2 * r .settings .c + 1 → at G ((r .phase - r .settings .n - 1) * (2 * r .settings .c + 1) + e) ≡ at G' ((r .phase - r .settings .n - 1) * (2 * r .settings .c + 1) + e)
+  pub tree : isTree (r .settings .method) ≡ true → (e : ℕ) → e < 2 * r .settings .c + 1 →
+      at G ((r .phase - r .settings .n - 1) * (2 * r .settings .c + 1) + e) ≡ at G' ((r .phase - r .settings .n - 1) * (2 * r .settings .c + 1) + e)
   pub total : isTree (r .settings .method) ≡ false → r .phase < r .settings .n → at G (r .settings .n * r .settings .c) ≡ at G' (r .settings .n * r .settings .c)
-  pub row : isTree (r .settings .method) ≡ false → r .settings .n ≤ r .phase → (d : ℕ) → d < r .settings .c → at G ((r .phase - r .settings .n) * r .settings .c + d) ≡ at G' ((r .phase - r .settings .n) * r .settings .c + d)
+  pub row : isTree (r .settings .method) ≡ false → r .settings .n ≤ r .phase → (d : ℕ) → d < r .settings .c →
+      at G ((r .phase - r .settings .n) * r .settings .c + d) ≡ at G' ((r .phase - r .settings .n) * r .settings .c + d)
 
 module _ (r : Run) (angle : Float) (used' : ℕ) (y y' P P' : List Float) (xs xs' off off' : List ℕ) (ns ns' : List Node) (F F' : List Float) (same : SameTo (r .settings .n * r .settings .c) y y') where
   abbrev n : ℕ
@@ -147,7 +154,8 @@ module _ (r : Run) (angle : Float) (used' : ℕ) (y y' P P' : List Float) (xs xs
         row = λ z. absurd (one-method r t z);
       })
 
-  pub exact-forced : isTree (r .settings .method) ≡ false → SameTo (n * n) P P' → r .phase < 2 * n → 2 ≤ n → (0 < r .phase → at F (n * c) ≡ at F' (n * c)) → n * c < length F → n * c < length F' → Forced r F F' U U'
+  pub exact-forced : isTree (r .settings .method) ≡ false → SameTo (n * n) P P' → r .phase < 2 * n → 2 ≤ n → (0 < r .phase → at F (n * c) ≡ at F' (n * c)) →
+      n * c < length F → n * c < length F' → Forced r F F' U U'
   unfolding forceUnit totalRow gradientRow exaggerationOf
   exact-forced t matrix lo two total h h' =
       by-bool (Forced r F F' U U') (ltb (r .phase) n)

@@ -58,7 +58,9 @@ module _ (n c : ℕ) (y y' : List Float) (same : SameTo (n * c) y y') where
 
   pull-same : (w : Float) (j : ℕ) (x : Pulls) → j < n → pullBy w y c j x ≡ pullBy w y' c j x
   unfolding pullBy
-  pull-same w j x h = ap (pulls (add binary64 (x .sum) w)) (loop-same (alongStep w y (j * c)) (alongStep w y' (j * c)) c 0 (x .along) (λ d t a b. ap (λ (v : Float). set t d (add binary64 (at t d) (mul binary64 w v))) (coordinate j d h (omega arith))))
+  pull-same w j x h = ap (pulls (add binary64 (x .sum) w))
+      (loop-same (alongStep w y (j * c)) (alongStep w y' (j * c)) c 0 (x .along) (λ d t a b. ap (λ (v : Float). set t d
+      (add binary64 (at t d) (mul binary64 w v))) (coordinate j d h (omega arith))))
 
   pub pulls-same : (P P' : List Float) → SameTo (n * n) P P' → (e total : Float) (i : ℕ) → i < n → pullsOf y P e total n c i ≡ pullsOf y' P' e total n c i
   unfolding pullsOf
@@ -72,7 +74,8 @@ module _ (n c : ℕ) (y y' : List Float) (same : SameTo (n * c) y y') where
 
   -- ---- a point's attraction
 
-  pub attraction-same : (W W' : List Float) (I I' O O' : List ℕ) → SameLists n W W' I I' O O' → (e : Float) (i : ℕ) → i < n → Linked n W I O i → num O (i + 1) ≤ num O n → attractionOf e c y W I O i ≡ attractionOf e c y' W' I' O' i
+  pub attraction-same : (W W' : List Float) (I I' O O' : List ℕ) → SameLists n W W' I I' O O' → (e : Float) (i : ℕ) → i < n → Linked n W I O i →
+      num O (i + 1) ≤ num O n → attractionOf e c y W I O i ≡ attractionOf e c y' W' I' O' i
   unfolding attractionOf
   attraction-same W W' I I' O O' f e i h k last =
       let a = num O i in
@@ -81,5 +84,7 @@ module _ (n c : ℕ) (y y' : List Float) (same : SameTo (n * c) y y') where
       (λ j t _ l.
       let q : a + j < num O (i + 1) = omega (arith, l, k .rises) in
       let b : a + j < num O n = omega (arith, q, last) in
-      rw (point-same i h, f .weights (a + j) b, f .indices (a + j) b) (ap (λ (p : List Float). pulled e c (pointOf y' c i) p (at W' (a + j)) t) (rw (f .indices (a + j) b) at (point-same (num I (a + j)) (k .frames (a + j) q))))) in
+      rw (point-same i h, f .weights (a + j) b, f .indices (a + j) b)
+      (ap (λ (p : List Float). pulled e c (pointOf y' c i) p (at W' (a + j)) t)
+      (rw (f .indices (a + j) b) at (point-same (num I (a + j)) (k .frames (a + j) q))))) in
       step ∙ rw (f .offsets i (omega (arith, h)), f .offsets (i + 1) (omega (arith, h)))

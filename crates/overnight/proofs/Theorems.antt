@@ -194,9 +194,11 @@ pub record OneCallAcross (early late : List ℕ) (b : ℕ) (s t : State) : Type 
   -- the last answer is of its kind
   pub kind : answerKind (work b (works late t) .answer) ≡ answerKind (work (capped (together early + together late + b)) s .answer)
 
--- Covered: areas that hold the same where the run's values stand (positions, increments and gains below n·c; offsets to n, and indices and weights below the links listed, or the n·n affinities of an exact run).
+-- Covered: areas that hold the same where the run's values stand (positions, increments and gains below n·c; offsets to n, and indices and weights below the
+-- links listed, or the n·n affinities of an exact run).
 -- Slots past the links, the tails of all areas, forces, the nodes, their number in use and an exact run's angle may be anything in what was read.
--- Left the same: positions, increments and gains at these places, the record but for nodes in use and an exact run's angle, and from the next finish unit on the places of forces that an iteration writes, and the nodes in use of a Barnes-Hut run with their number.
+-- Left the same: positions, increments and gains at these places, the record but for nodes in use and an exact run's angle, and from the next finish unit on
+-- the places of forces that an iteration writes, and the nodes in use of a Barnes-Hut run with their number.
 -- Tails, and an exact run's other forces and nodes in use, are the same where they were at the parking (`kept-whole`, `forces-whole`).
 pub demand-three-across-a-parking : (early late : List ℕ) (b : ℕ) (s t : State) → Honest s → ReadBack (works early s) t → Good t → 1 ≤ b → OneCallAcross early late b s t
 demand-three-across-a-parking early late b s t g p good h =
@@ -250,7 +252,8 @@ parked-again s t u x p =
 -- ---- a prepared run's forces are zero: then all its places of forces are the same from the next finish unit on, those too that an exact run never writes
 
 pub forces-whole : (early late : List ℕ) (b : ℕ) (s t : State) → Honest s → ReadBack (works early s) t → Good t → 1 ≤ b
-    → ((k : ℕ) → k < s .run .settings .n * (2 * s .run .settings .c + 1) → at (s .memory .forces) k ≡ zero64) → ((k : ℕ) → k < s .run .settings .n * (2 * s .run .settings .c + 1) → at (t .memory .forces) k ≡ zero64)
+    → ((k : ℕ) → k < s .run .settings .n * (2 * s .run .settings .c + 1) → at (s .memory .forces) k ≡ zero64) → ((k : ℕ) →
+    k < s .run .settings .n * (2 * s .run .settings .c + 1) → at (t .memory .forces) k ≡ zero64)
     → works early s .run .done < work (capped (together early + together late + b)) s .left .run .done
     → SameTo (s .run .settings .n * (2 * s .run .settings .c + 1)) (work (capped (together early + together late + b)) s .left .memory .forces) (work b (works late t) .left .memory .forces)
 forces-whole early late b s t g p good h z z' q =

@@ -1,4 +1,5 @@
--- Two arenas as long as each other that have the same nodes in use: a point is refused in both or in neither, its insertion leaves the same nodes in use, and the walk over them gives the same. What lies past the nodes in use is written before it is read. Assumes nothing.
+-- Two arenas as long as each other that have the same nodes in use: a point is refused in both or in neither, its insertion leaves the same nodes in use, and
+-- the walk over them gives the same. What lies past the nodes in use is written before it is read. Assumes nothing.
 use mathlib.Core.Path.{_≡_, refl, sym, ap, subst, _∙_}
 use mathlib.Core.List.{List}
 use mathlib.Core.Bool.{true}
@@ -40,7 +41,8 @@ pub record Twin (t t' : Tree) : Type 0 where
 -- ---- the walk
 
 -- it looks at no node past those in use: those alone, without the rest of the arena, give the same
-front-repels : (c : ℕ) (t : Tree) → 0 < t .used → t .used ≤ length (t .nodes) → Blocks (t .used) c (t .nodes) → (q : ℕ) (p : List Float) (theta2 : Float) → repelled (t .used) c q p theta2 (t .nodes) ≡ repelled (t .used) c q p theta2 (take (t .used) (t .nodes))
+front-repels : (c : ℕ) (t : Tree) → 0 < t .used → t .used ≤ length (t .nodes) → Blocks (t .used) c (t .nodes) → (q : ℕ) (p : List Float) (theta2 : Float) →
+    repelled (t .used) c q p theta2 (t .nodes) ≡ repelled (t .used) c q p theta2 (take (t .used) (t .nodes))
 front-repels c t some within ok q p theta2 =
     let u = t .used in
     let ns = t .nodes in
@@ -48,7 +50,8 @@ front-repels c t some within ok q p theta2 =
     ap (repelled u c q p theta2) (sym (take-append-drop u ns))
     ∙ repelled-longer front (drop u ns) u c (omega (arith, length-take-le u ns within)) (λ i l. rw (getD-take u ns i blank l) (ok i l)) q p theta2 some
 
-pub repelled-same : (n c m : ℕ) (t t' : Tree) → Twin t t' → Fits n c m t → (q : ℕ) (p : List Float) (theta2 : Float) → repelled (t .used) c q p theta2 (t .nodes) ≡ repelled (t' .used) c q p theta2 (t' .nodes)
+pub repelled-same : (n c m : ℕ) (t t' : Tree) → Twin t t' → Fits n c m t → (q : ℕ) (p : List Float) (theta2 : Float) →
+    repelled (t .used) c q p theta2 (t .nodes) ≡ repelled (t' .used) c q p theta2 (t' .nodes)
 repelled-same n c m t t' w f q p theta2 =
     let u = t .used in
     let ns = t .nodes in
@@ -93,7 +96,8 @@ module _ (n c : ℕ) (y y' : List Float) (same : SameTo (n * c) y y') where
   -- ---- one level
 
   -- node i stored, and children made behind the nodes in use
-  level-same : (i : ℕ) (r : Out) (t t' : Tree) → Twin t t' → i < t .used → t .used + r .fresh ≤ length (t .nodes) → r .old < n → ((r .fresh ≡ 0 → ⊥) → r .node .first ≡ t .used) → Twin (levelled y c i r t) (levelled y' c i r t')
+  level-same : (i : ℕ) (r : Out) (t t' : Tree) → Twin t t' → i < t .used → t .used + r .fresh ≤ length (t .nodes) → r .old < n → ((r .fresh ≡ 0 → ⊥) →
+      r .node .first ≡ t .used) → Twin (levelled y c i r t) (levelled y' c i r t')
   level-same i r t t' w hi room ho at-end =
       let v = r .node in
       let o = r .old in
@@ -134,7 +138,8 @@ module _ (n c : ℕ) (y y' : List Float) (same : SameTo (n * c) y y') where
 
   module _ (m cap N : ℕ) (p : List Float) (j : ℕ) (hj : j < n) (hm : 1 ≤ m) (fit : N ≤ cap) where
     -- what a turn makes lies behind the nodes in use, and the point that goes down is one of the n
-    turn-fits : (d i : ℕ) (t : Tree) → Ok n c m cap N y p d i t → (turnAt c p j d i t .old < n) × ((turnAt c p j d i t .fresh ≡ 0 → ⊥) → turnAt c p j d i t .node .first ≡ t .used) × (t .used + turnAt c p j d i t .fresh ≤ cap)
+    turn-fits : (d i : ℕ) (t : Tree) → Ok n c m cap N y p d i t → (turnAt c p j d i t .old < n) × ((turnAt c p j d i t .fresh ≡ 0 → ⊥) →
+        turnAt c p j d i t .node .first ≡ t .used) × (t .used + turnAt c p j d i t .fresh ≤ cap)
     unfolding absorbed
     turn-fits d i t k =
         let r = turnAt c p j d i t in
@@ -159,7 +164,8 @@ module _ (n c : ℕ) (y y' : List Float) (same : SameTo (n * c) y y') where
         let level = level-same i r t t' w (k .node) (omega (arith, f, k .nodes)) (f .0) (f .1) in
         by-bool (Twin (inserted (suc g) y c p j d i t) (inserted (suc g) y' c p j d i t')) (r .last)
         (λ x. rw (inserted-last g y c p j d i t r refl x, inserted-last g y' c p j d i t' r e x) level)
-        (λ x. rw (inserted-next g y c p j d i t r refl x, inserted-next g y' c p j d i t' r e x) (inserted-same g (d + 1) (r .next) (levelAt y c p j d i t) (levelled y' c i r t') (ok-next n c m cap N y p j hj hm fit d i t k x) level))
+        (λ x. rw (inserted-next g y c p j d i t r refl x, inserted-next g y' c p j d i t' r e x)
+        (inserted-same g (d + 1) (r .next) (levelAt y c p j d i t) (levelled y' c i r t') (ok-next n c m cap N y p j hj hm fit d i t k x) level))
 
   -- ---- an insertion
 
@@ -178,6 +184,11 @@ module _ (n c : ℕ) (y y' : List Float) (same : SameTo (n * c) y y') where
         | no x ↦
             let h : t .used + needed y c j t ≤ nameable (length (t .nodes)) = omega (arith, x) in
             let h' : t' .used + needed y' c j t' ≤ nameable (length (t' .nodes)) = omega (arith, h, u, q, c') in
-            let i = inserted-same m (length (t .nodes)) (t .used + needed y c j t) p j hj hm (omega (arith, h, nameable-most (length (t .nodes)))) (length (t .nodes)) 0 0 t t' (ok-start n c m y p t (f .sound) (f .some) (f .within)) w in
-            rw (taken y c j t h, taken y' c j t' h') (refl, subst (λ (x : Tree). Twin (inserted (length (t .nodes)) y c p j 0 0 t) x) (ap (λ (g : ℕ). inserted g y' c p j 0 0 t') l ∙ ap (λ (z : List Float). inserted (length (t' .nodes)) y' c z j 0 0 t') ps) i)
+            let i = inserted-same m (length (t .nodes)) (t .used + needed y c j t) p j hj hm (omega (arith, h, nameable-most (length (t .nodes))))
+            (length (t .nodes)) 0 0 t t' (ok-start n c m y p t (f .sound) (f .some) (f .within)) w in
+            rw (taken y c j t h, taken y' c j t' h') (
+              refl,
+              subst (λ (x : Tree). Twin (inserted (length (t .nodes)) y c p j 0 0 t) x)
+                  (ap (λ (g : ℕ). inserted g y' c p j 0 0 t') l ∙ ap (λ (z : List Float). inserted (length (t' .nodes)) y' c z j 0 0 t') ps) i,
+            )
       ]

@@ -38,7 +38,8 @@ pub record Untouched (s s' : State) : Type 0 where
   pub forces : (k : ℕ) → s .run .settings .n * s .run .settings .c < k → at (s' .memory .forces) k ≡ at (s .memory .forces) k
 
 -- a row of the total, or of the gradient
-row-untouched : (r : Run) (y P : List Float) (xs off : List ℕ) (ns : List Node) (F : List Float) → isTree (r .settings .method) ≡ false → r .phase < 2 * r .settings .n → (k : ℕ) → r .settings .n * r .settings .c < k → at (forceUnit r y P xs off ns F) k ≡ at F k
+row-untouched : (r : Run) (y P : List Float) (xs off : List ℕ) (ns : List Node) (F : List Float) → isTree (r .settings .method) ≡ false →
+    r .phase < 2 * r .settings .n → (k : ℕ) → r .settings .n * r .settings .c < k → at (forceUnit r y P xs off ns F) k ≡ at F k
 unfolding forceUnit totalRow gradientRow
 row-untouched r y P xs off ns F x h k l =
     let n = r .settings .n in
@@ -61,7 +62,8 @@ unit-untouched s x =
     (λ live. by-unit s live (λ (t : Turned). Untouched s (t .now))
     (λ z. absurd (one-method R (group-zero R z .0) x))
     (λ z. record { settings = refl; used = refl; forces = row-untouched R (M .positions) (M .affinities) (M .indices) (M .offsets) (M .nodes) (M .forces) x (group-one R z .exact x) })
-    (λ a b. by-finish R (M .positions) (M .increments) (M .gains) (M .forces) (λ (t : FinishTurn). Untouched s (withFinish M t .now)) (record { settings = refl; used = refl; forces = λ _ _. refl }) (record { settings = refl; used = refl; forces = λ _ _. refl })))
+    (λ a b. by-finish R (M .positions) (M .increments) (M .gains) (M .forces) (λ (t : FinishTurn). Untouched s (withFinish M t .now))
+    (record { settings = refl; used = refl; forces = λ _ _. refl }) (record { settings = refl; used = refl; forces = λ _ _. refl })))
 
 units-untouched : (d : ℕ) (s : State) → isTree (s .run .settings .method) ≡ false → Untouched s (times (λ (x : State). unit x .now) d s)
 unfolding times

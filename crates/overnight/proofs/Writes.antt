@@ -42,7 +42,8 @@ module _ (p : ℕ → ℕ) (v : ℕ → Float) where
       (λ e a b. rw (length-set l' (p k) (v k)) (h' e (omega arith) (omega arith)))
       x (set-alike l l' (p k) (v k) (h k (omega arith) (omega arith)) (h' k (omega arith) (omega arith)) x e)
 
-  pub puts-there : (n k : ℕ) (l l' : List Float) → ((e : ℕ) → k ≤ e → e < k + n → p e < length l) → ((e : ℕ) → k ≤ e → e < k + n → p e < length l') → (e : ℕ) → k ≤ e → e < k + n → at (loop putAt n k l) (p e) ≡ at (loop putAt n k l') (p e)
+  pub puts-there : (n k : ℕ) (l l' : List Float) → ((e : ℕ) → k ≤ e → e < k + n → p e < length l) → ((e : ℕ) → k ≤ e → e < k + n → p e < length l') → (e : ℕ) →
+      k ≤ e → e < k + n → at (loop putAt n k l) (p e) ≡ at (loop putAt n k l') (p e)
   unfolding loop
   puts-there zero k l l' h h' e a b = absurd (omega arith)
   puts-there (suc n) k l l' h h' e a b =

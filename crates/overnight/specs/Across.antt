@@ -61,7 +61,8 @@ pub record SameRun (s t : State) : Type 0 where
   pub positions : SameTo (s .run .settings .n * s .run .settings .c) (s .memory .positions) (t .memory .positions)
   pub increments : SameTo (s .run .settings .n * s .run .settings .c) (s .memory .increments) (t .memory .increments)
   pub gains : SameTo (s .run .settings .n * s .run .settings .c) (s .memory .gains) (t .memory .gains)
-  pub lists : isTree (s .run .settings .method) ≡ true → SameLists (s .run .settings .n) (s .memory .affinities) (t .memory .affinities) (s .memory .indices) (t .memory .indices) (s .memory .offsets) (t .memory .offsets)
+  pub lists : isTree (s .run .settings .method) ≡ true → SameLists (s .run .settings .n) (s .memory .affinities) (t .memory .affinities) (s .memory .indices)
+      (t .memory .indices) (s .memory .offsets) (t .memory .offsets)
   pub matrix : isTree (s .run .settings .method) ≡ false → SameTo (s .run .settings .n * s .run .settings .n) (s .memory .affinities) (t .memory .affinities)
   -- an arena as long as before
   pub arena : length (s .memory .nodes) ≡ length (t .memory .nodes)

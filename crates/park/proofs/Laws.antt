@@ -2,31 +2,29 @@
 use mathlib.Core.List.{List, _++_, append-assoc}
 use mathlib.Core.Path.{_≡_, refl, sym, ap, subst, _∙_}
 use mathlib.Core.Bool.{Bool, true, false, _&&_}
-use Prim.Native.Nat.{ℕ, zero, suc, _+_, _-_, _*_, _/_, _<_, _≤_}
+use Prim.Native.Nat.{ℕ, _+_, _-_, _*_, _/_, _<_, _≤_}
 use native.Mathlib.Omega.{arith}
 use native.Mathlib.Nat.{le-trans, mul-comm, mul-le-mul}
 use lib.Dec.{eqb, leb}
-use lib.Ieee.{nan}
-use lib.ListN.{length, take, drop, replicate, length-replicate}
+use lib.ListN.{length, take, drop}
 use lib.Seq.{drop-drop}
 use borrow.Author.Tests.{leb-true, eq-eqb, ne-eqb, lt-ltb, le-ltb}
 use Rattle.laws.specs.Area.{num}
 use Rattle.laws.specs.Joined.{written}
 use Rattle.laws.proofs.Bools.{and-left, and-right}
-use Rattle.laws.proofs.Laid.{Lays, lays-more}
+use Rattle.laws.proofs.Laid.{Lays, lays-next}
 use Rattle.little.specs.Little.{littleBytes}
 use Rattle.tree_node.specs.declared.Node.{Node}
 use Rattle.tree_node.specs.declared.Cell.{Cell}
 use Rattle.tree_node.specs.Arena.{nodesOf}
 use Rattle.run_record.specs.declared.Run.{Run}
-use Rattle.run_record.specs.Record.{isTree, kOf, sizesOf, GoodSettings}
+use Rattle.run_record.specs.Record.{isTree, kOf, sizesOf}
 use Rattle.run_record.proofs.Laws.{k-most}
 use Rattle.run_entry.specs.declared.Fault.{Fault}
-use Rattle.run_entry.specs.State.{State}
-use Rattle.run_entry.specs.Entry.{isFine, faultAt, faultOf, offsetFine, listed, GoodAreas, GoodContents}
-use Rattle.run_entry.proofs.Laws.{fault-fine, links-is}
-use Rattle.record_words.specs.RecordWords.{methodOf, settingsFine, settingsOf, runFine, runOf}
-use Rattle.record_words.proofs.Laws.{run-long}
+use Rattle.run_entry.specs.Entry.{isFine, offsetFine, listed}
+use Rattle.run_entry.proofs.Laws.{GoodAt, at-fine, links-is}
+use Rattle.record_words.specs.RecordWords.{settingsFine, settingsOf, runFine, runOf}
+use Rattle.record_words.proofs.Laws.{method-tree, run-long}
 use Rattle.words_entry.specs.WordsEntry.{wordsFault}
 use Rattle.words_entry.proofs.Laws.{words-fine}
 use Rattle.parked.specs.declared.Layout.{Layout}
@@ -43,8 +41,9 @@ use Rattle.park.specs.Park.{calmState, parking, parkedInto, parkTested, 
 abbrev pub wordBytes : Layout → Stored → ℕ → List ℕ
 wordBytes l d w = littleBytes 8 (parkedWord l d w)
 
-pub words-more : {row : ℕ → List ℕ} {n : ℕ} {t₀ t t' : List ℕ} {w : ℕ} → Lays 8 row n t₀ w t → w < n → 8 * n ≤ length t₀ → length (row w) ≡ 8 → length t' ≡ length t → t' ≡ written (row w) (8 * w) t → Lays 8 row n t₀ (w + 1) t'
-words-more {row} {n} {t₀} {t} {t'} {w} r h m k s e = lays-more 8 row r h (omega arith) s (e ∙ lies)
+pub words-next : {row : ℕ → List ℕ} {n : ℕ} {t₀ t t' : List ℕ} {w : ℕ} → Lays 8 row n t₀ w t → w < n → 8 * n ≤ length t₀ → length (row w) ≡ 8 →
+    length t' ≡ length t → t' ≡ written (row w) (8 * w) t → Lays 8 row n t₀ (w + 1) t'
+words-next {row} {n} {t₀} {t} {t'} {w} r h m k s e = lays-next 8 row r h (omega arith) s (e ∙ lies)
   where
     lies : written (row w) (8 * w) t ≡ take (w * 8) t ++ (row w ++ drop 8 (drop (w * 8) t))
     lies =
@@ -56,24 +55,8 @@ words-more {row} {n} {t₀} {t} {t'} {w} r h m k s e = lays-more 8 row r h (omeg
 -- ---- the tests: what they show, whatever the values are
 
 module _ (r : Run) (p i g a f : ℕ) (xs off : List ℕ) (ns : List Node) where
-  -- areas of these lengths
-  abbrev like : State
-  like = record { run = r; memory = record { positions = replicate p nan; increments = replicate i nan; gains = replicate g nan; affinities = replicate a nan; indices = xs; offsets = off; forces = replicate f nan; nodes = ns } }
-
-  record Shown : Type 0 where
-    settings : GoodSettings (r .settings)
-    areas : GoodAreas (r .settings) p i g a (length xs) (length off) f (length ns)
-    contents : isTree (r .settings .method) ≡ true → GoodContents (r .settings .n) r xs off ns
-
-  shown : isFine (faultAt r p i g a f xs off ns) ≡ true → Shown
-  unfolding faultOf
-  shown e =
-      let s = fault-fine like (rw (length-replicate p nan, length-replicate i nan, length-replicate g nan, length-replicate a nan, length-replicate f nan) e) in
-      record {
-        settings = s .settings;
-        areas = rw (length-replicate p nan, length-replicate i nan, length-replicate g nan, length-replicate a nan, length-replicate f nan) at (s .areas);
-        contents = s .contents;
-      }
+  abbrev Shown : Type 0
+  Shown = GoodAt r p i g a f xs off ns
 
   -- the links that are listed pass no slot
   listed-within : Shown → isTree (r .settings .method) ≡ true → listed (r .settings) off ≤ 2 * r .settings .n * kOf (r .settings)
@@ -91,13 +74,6 @@ module _ (r : Run) (p i g a f : ℕ) (xs off : List ℕ) (ns : List Node) where
       let h : 2 * r .settings .n ≤ 8192 = omega (arith, s .settings .n-most) in
       let j : kOf (r .settings) ≤ 4096 = omega (arith, k, s .settings .n-most) in
       omega (arith, mul-le-mul h j)
-
--- the method's word tells the method
-method-told : (x : ℕ) → x ≤ 1 → isTree (methodOf x) ≡ eqb x 1
-unfolding methodOf
-method-told zero h = refl
-method-told (suc zero) h = refl
-method-told (suc (suc x)) h = absurd (omega arith)
 
 method-word : (w : List ℕ) → runFine w ≡ true → num w 3 ≤ 1
 unfolding runFine settingsFine
@@ -123,16 +99,16 @@ module _ (w P I G A : List ℕ) (f : ℕ) (xs off : List ℕ) (ns : List Node) w
   read : isFine fault ≡ true → (runFine w ≡ true) × Seen
   read e =
       let q = words-fine w (length P) (length I) (length G) (length A) f xs off ns e in
-      (q .0, shown run (length P) (length I) (length G) (length A) f xs off ns (q .1))
+      (q .0, at-fine run (length P) (length I) (length G) (length A) f xs off ns (q .1))
 
   module _ (h : num w 3 ≤ 1) (s : Seen) where
     is-tree : eqb (num w 3) 1 ≡ true → isTree (run .settings .method) ≡ true
     unfolding runOf settingsOf
-    is-tree t = method-told (num w 3) h ∙ t
+    is-tree t = method-tree (num w 3) h ∙ t
 
     is-exact : eqb (num w 3) 1 ≡ false → isTree (run .settings .method) ≡ false
     unfolding runOf settingsOf
-    is-exact t = method-told (num w 3) h ∙ t
+    is-exact t = method-tree (num w 3) h ∙ t
 
     within-slots : eqb (num w 3) 1 ≡ true → num off (num w 0) ≤ 2 * run .settings .n * kOf (run .settings)
     unfolding runOf settingsOf
@@ -181,7 +157,8 @@ module _ (d : Stored) (l : Layout) (el : l ≡ layoutIn (d .run) (d .offsets)) (
   end-small =
       let r = g .layout in
       let tree = eqb (num (d .run) 3) 1 in
-      subst (λ (x : Layout). x .end ≤ 100000000) (sym el) (end-most tree (num (d .run) 0) (num (d .run) 2) (linksIn tree (num (d .run) 0) (d .offsets)) (r .frames-most) (r .components-most) (r .links-most))
+      subst (λ (x : Layout). x .end ≤ 100000000) (sym el)
+      (end-most tree (num (d .run) 0) (num (d .run) 2) (linksIn tree (num (d .run) 0) (d .offsets)) (r .frames-most) (r .components-most) (r .links-most))
 
 module _ (f : Fault) (d : Stored) (t : List ℕ) where
   pub bad-said : isFine f ≡ false → parking (Bad f) t ≡ parkTested f d t

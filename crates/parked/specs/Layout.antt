@@ -18,7 +18,19 @@ layoutOf t n c links =
     let affinities = gains + filledUp cells in
     let indices = affinities + filledUp held in
     let weights = indices + filledUp links in
-    record { tree = t; n = n; cells = cells; held = held; links = links; increments = increments; gains = gains; affinities = affinities; indices = indices; weights = weights; end = weights + filledUp links }
+    record {
+      tree = t;
+      n = n;
+      cells = cells;
+      held = held;
+      links = links;
+      increments = increments;
+      gains = gains;
+      affinities = affinities;
+      indices = indices;
+      weights = weights;
+      end = weights + filledUp links;
+    }
 
 -- the records that it comes to
 abbrev pub recordsIn : Layout → ℕ

@@ -1,6 +1,6 @@
 -- What the first three records say where they stand: settings in good order, and few links. Assumes nothing.
 use mathlib.Core.Path.{_≡_, sym, ap, _∙_}
-use mathlib.Core.Bool.{Bool, true, false, cond, not, _&&_}
+use mathlib.Core.Bool.{Bool, true, false, cond, _&&_}
 use Prim.Native.Nat.{ℕ, _*_, _≤_}
 use native.Mathlib.Omega.{arith}
 use lib.Dec.{eqb, leb}
@@ -11,7 +11,7 @@ use Rattle.laws.specs.Domain.{mostAxes, mostComponents, mostFeatures, mostFrame
 use Rattle.laws.specs.Area.{bits}
 use Rattle.laws.proofs.Bools.{and-left, and-right, by-bool}
 use Rattle.elementary.specs.Limits.{neighboursOf}
-use Rattle.run_record.specs.Record.{positive, angleFine, angleFault, isTree, stateFits}
+use Rattle.run_record.specs.Record.{positive, angleFine, angleFault, stateFits}
 use Rattle.record_words.specs.RecordWords.{methodOf, standingOf}
 use Rattle.parked.specs.Fine.{firstFine, secondFine, thirdFine}
 use Rattle.parked_fine.proofs.Laws.{most-links}
@@ -87,7 +87,12 @@ third-told m n p i e d s k h =
     let A = leb s 2 in
     let B = stateFits (standingOf s) d i 0 (bits e) in
     let C = cond (eqb m 1) (leb k (2 * n * neighboursOf (bits p) n)) (eqb k 0) in
-    record { state-fits = and-right A B (and-left (A && B) C h); links-in = few (eqb m 1) (and-right (A && B) C h); links-none = λ t. eqb-true k 0 (sym (ap (λ (b : Bool). cond b (leb k (2 * n * neighboursOf (bits p) n)) (eqb k 0)) t) ∙ and-right (A && B) C h) }
+    record {
+      state-fits = and-right A B (and-left (A && B) C h);
+      links-in = few (eqb m 1) (and-right (A && B) C h);
+      links-none = λ t. eqb-true k 0
+          (sym (ap (λ (b : Bool). cond b (leb k (2 * n * neighboursOf (bits p) n)) (eqb k 0)) t) ∙ and-right (A && B) C h);
+    }
   where
     few : (b : Bool) → cond b (leb k (2 * n * neighboursOf (bits p) n)) (eqb k 0) ≡ true → k ≤ 2 * n * neighboursOf (bits p) n
     few true q = leb-true k (2 * n * neighboursOf (bits p) n) q
@@ -103,17 +108,8 @@ tree-fine m c a h e l = by-bool (angleFault (methodOf m) (bits a) c ≡ 0) (eqb 
     zero-is : (m : ℕ) → m ≤ 1 → (m ≡ 1 → ⊥) → m ≡ 0
     zero-is m l n = omega (arith, n)
 
-pub tree-method : (m : ℕ) → m ≤ 1 → isTree (methodOf m) ≡ eqb m 1
-unfolding methodOf
-tree-method m l = by-bool (isTree (methodOf m) ≡ eqb m 1) (eqb m 1)
-    (λ t. rw (t, ne-eqb m 0 (λ z. absurd (omega (arith, eqb-true m 1 t)))))
-    (λ t. rw (t, eq-eqb m 0 (zero-is m l (eqb-false m 1 t))))
-  where
-    zero-is : (m : ℕ) → m ≤ 1 → (m ≡ 1 → ⊥) → m ≡ 0
-    zero-is m l n = omega (arith, n)
-
-components : (m c : ℕ) → c ≤ cond (eqb m 1) mostAxes mostComponents → c ≤ mostComponents
-components m c h = by (eqb m 1) h
+pub components-few : (m c : ℕ) → c ≤ cond (eqb m 1) mostAxes mostComponents → c ≤ mostComponents
+components-few m c h = by (eqb m 1) h
   where
     by : (b : Bool) → c ≤ cond b mostAxes mostComponents → c ≤ mostComponents
     by true h = omega arith
@@ -128,7 +124,7 @@ pub record Headed (g : ℕ → ℕ) : Type 0 where
 
 module _ (g : ℕ → ℕ) (h : Headed g) where
   pub components-most : g 3 ≤ mostComponents
-  components-most = components (g 0) (g 3) (h .first .c-most)
+  components-most = components-few (g 0) (g 3) (h .first .c-most)
 
   pub links-few : g 11 ≤ 40000000
   links-few = omega (arith, h .third .links-in, most-links (bits (g 4)) (g 1) (h .first .n-most))

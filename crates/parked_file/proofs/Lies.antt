@@ -20,7 +20,8 @@ unfolding filledUp
 fits m = omega arith
 
 -- records that end in whole ones
-ends : (c h k : ℕ) → 4 * ((12 + (c + 3) / 4 * 4 + (c + 3) / 4 * 4 + (c + 3) / 4 * 4 + (h + 3) / 4 * 4 + (k + 3) / 4 * 4 + (k + 3) / 4 * 4) / 4) ≡ 12 + (c + 3) / 4 * 4 + (c + 3) / 4 * 4 + (c + 3) / 4 * 4 + (h + 3) / 4 * 4 + (k + 3) / 4 * 4 + (k + 3) / 4 * 4
+ends : (c h k : ℕ) → 4 * ((12 + (c + 3) / 4 * 4 + (c + 3) / 4 * 4 + (c + 3) / 4 * 4 + (h + 3) / 4 * 4 + (k + 3) / 4 * 4 + (k + 3) / 4 * 4) / 4) ≡ 12 +
+    (c + 3) / 4 * 4 + (c + 3) / 4 * 4 + (c + 3) / 4 * 4 + (h + 3) / 4 * 4 + (k + 3) / 4 * 4 + (k + 3) / 4 * 4
 ends c h k = omega arith
 
 pub lies : (t : Bool) (n c k : ℕ) → Lies (layoutOf t n c k)

@@ -10,7 +10,7 @@ use borrow.Author.Tests.{leb-true, lt-leb, le-leb, le-ltb, eqb-true, ne-eqb, eq-
 use Rattle.laws.specs.Loops.{every, first}
 use Rattle.laws.proofs.Bools.{and-left, and-right}
 use Rattle.laws.proofs.Every.{every-at}
-use Rattle.laws.proofs.First.{Seeks, seek-start, seek-more, seek-stop, seek-done, first-le, first-holds, first-before, first-all, first-at, first-none}
+use Rattle.laws.proofs.First.{Seeks, seek-start, seek-next, seek-stop, seek-done, first-le, first-holds, first-before, first-all, first-at, first-none}
 use Rattle.little.specs.Little.{wordIn}
 use Rattle.parked.specs.declared.Layout.{Layout}
 use Rattle.parked.specs.Fine.{firstFine, secondFine, thirdFine, headFine, layoutBy, wordFine, recordFine}
@@ -79,15 +79,15 @@ module _ (f : List ℕ) where
 
   pub head-second : recordStands f 0 ≡ true → recordStands f 1 ≡ false → 1 ≡ headBad f
   unfolding headBad
-  head-second a b = seek-stop (seek-more (seek-start bad 3) (omega arith) (ap not a)) (omega arith) (ap not b)
+  head-second a b = seek-stop (seek-next (seek-start bad 3) (omega arith) (ap not a)) (omega arith) (ap not b)
 
   pub head-third : recordStands f 0 ≡ true → recordStands f 1 ≡ true → recordStands f 2 ≡ false → 2 ≡ headBad f
   unfolding headBad
-  head-third a b c = seek-stop (seek-more (seek-more (seek-start bad 3) (omega arith) (ap not a)) (omega arith) (ap not b)) (omega arith) (ap not c)
+  head-third a b c = seek-stop (seek-next (seek-next (seek-start bad 3) (omega arith) (ap not a)) (omega arith) (ap not b)) (omega arith) (ap not c)
 
   pub head-all : recordStands f 0 ≡ true → recordStands f 1 ≡ true → recordStands f 2 ≡ true → 3 ≡ headBad f
   unfolding headBad
-  head-all a b c = seek-done (seek-more (seek-more (seek-more (seek-start bad 3) (omega arith) (ap not a)) (omega arith) (ap not b)) (omega arith) (ap not c)) (omega arith)
+  head-all a b c = seek-done (seek-next (seek-next (seek-next (seek-start bad 3) (omega arith) (ap not a)) (omega arith) (ap not b)) (omega arith) (ap not c)) (omega arith)
 
   module _ (h : headBad f ≡ 3) where
     pub head-stands : (q : ℕ) → q < 3 → recordStands f q ≡ true
@@ -112,9 +112,9 @@ module _ (f : List ℕ) where
 
   pub seeks-three : headBad f ≡ 3 → Seeks bad (recordsDue f) 3
   seeks-three h =
-      seek-more
-      (seek-more
-      (seek-more (seek-start bad (recordsDue f)) (omega (arith, due-some)) (ap not (head-stands h 0 (omega arith))))
+      seek-next
+      (seek-next
+      (seek-next (seek-start bad (recordsDue f)) (omega (arith, due-some)) (ap not (head-stands h 0 (omega arith))))
       (omega (arith, due-some)) (ap not (head-stands h 1 (omega arith))))
       (omega (arith, due-some)) (ap not (head-stands h 2 (omega arith)))
 

@@ -85,7 +85,11 @@ module _ (f : List ℕ) (small : AllBelow bytesMost f) (P : isParked f ≡ true)
   good = good-settings (g 0) (g 1) (g 2) (g 3) (g 4) (g 5) (g 6) (g 7) (g 8) (record-one g A) (record-two g A)
 
   units-small : g 9 * perOf (methodOf (g 0)) (g 1) < wordsMost
-  units-small = omega (arith, product-fits (g 9) (g 6) (methodOf (g 0)) (g 1) (done-most (standingOf (g 10)) (g 9) (g 6) 0 (bits (g 8)) (record-three g A .state-fits)) (good .iterations-most) (good .n-most))
+  units-small = omega (
+    arith,
+    product-fits (g 9) (g 6) (methodOf (g 0)) (g 1)
+        (done-most (standingOf (g 10)) (g 9) (g 6) 0 (bits (g 8)) (record-three g A .state-fits)) (good .iterations-most) (good .n-most),
+  )
 
   links-small : eqb (g 0) 1 ≡ true → g 11 < halvesMost
   links-small e =
@@ -175,7 +179,8 @@ module _ (f : List ℕ) (small : AllBelow bytesMost f) (P : isParked f ≡ true)
       let s = settingsWith (g 0) (g 1) (g 2) (g 3) (g 4) (g 5) (g 6) (g 7) (g 8) in
       let n : (m : ℕ) → length (replicate {A = ℕ} m 0) ≡ m = λ m. length-replicate m 0 in
       let c = n (g 1 * g 3) in
-      areas-good s (length (zeros .positions)) (length (zeros .increments)) (length (zeros .gains)) (length (zeros .affinities)) (length (zeros .indices)) (length (zeros .offsets)) (g 1 * (2 * g 3 + 1)) 1 (record {
+      areas-good s (length (zeros .positions)) (length (zeros .increments)) (length (zeros .gains)) (length (zeros .affinities)) (length (zeros .indices))
+      (length (zeros .offsets)) (g 1 * (2 * g 3 + 1)) 1 (record {
         positions-long = omega (arith, c);
         increments-long = omega (arith, c);
         gains-long = omega (arith, c);

@@ -32,11 +32,14 @@ use Rattle.parked.specs.declared.Layout.{Layout}
 use Rattle.parked.specs.Layout.{recordsIn}
 use Rattle.parked.specs.Fine.{firstFine, secondFine, thirdFine, layoutBy, offsetFits, wordFine, recordFine}
 use Rattle.parked_file.specs.File.{recordStands, recordsDue, firstBad, isParked}
+use Rattle.parked_file.proofs.Heads.{first-told, second-told}
 use Rattle.parking.specs.Held.{bytesMost, wordsMost, firstRecords, Begins}
 use Rattle.parking.proofs.Regions.{filled-most, less-one, Stacked, end-whole, head-before-end, by-region}
 use Rattle.parking.proofs.Words.{word-alone, word-bytes, rows-long, Lows, nil-low, cons-low, either-below}
-use Rattle.parking.proofs.Files.{else-true, when-true, tested, heldTest, indexTest, valueTest, at-positions, at-increments, at-gains, at-affinities, at-indices, at-weights, by-stacked, at-head, at-words, record-word, head-0, head-1, head-2, records-fine, fine-records, parked-long, parked-fine, fine-parked}
-use Rattle.parking.proofs.Heads.{first-facts, second-facts, third-good}
+use Rattle.parking.proofs.Files.{else-true, when-true, tested, heldTest, indexTest, valueTest, at-positions, at-increments, at-gains, at-affinities}
+use Rattle.parking.proofs.Files.{at-indices, at-weights, by-stacked, at-head, at-words, record-word, head-0, head-1, head-2, records-fine, fine-records}
+use Rattle.parking.proofs.Files.{parked-long, parked-fine, fine-parked}
+use Rattle.parking.proofs.Heads.{third-good}
 use Rattle.parking.proofs.Taken.{LyingBy, lying-by}
 use Rattle.parking.proofs.Prefix.{layout-same, record-same}
 
@@ -125,7 +128,8 @@ module _ (g h : ℕ → ℕ) (n : ℕ) (C : Completes g n h) (F : (q : ℕ) → 
   unfolding firstFine
   fine-0 = elim (decLt 0 n) [
     | yes m ↦ fine-given 0 m
-    | no m ↦ at-head h 0 (omega arith) ∙ head-0 h ∙ rw (C .start 0 (omega arith) (omega arith), C .start 1 (omega arith) (omega arith), C .start 2 (omega arith) (omega arith), C .start 3 (omega arith) (omega arith))
+    | no m ↦ at-head h 0 (omega arith) ∙ head-0 h ∙
+        rw (C .start 0 (omega arith) (omega arith), C .start 1 (omega arith) (omega arith), C .start 2 (omega arith) (omega arith), C .start 3 (omega arith) (omega arith))
   ]
 
   first-in : firstFine (h 0) (h 1) (h 2) (h 3) ≡ true
@@ -143,8 +147,14 @@ module _ (g h : ℕ → ℕ) (n : ℕ) (C : Completes g n h) (F : (q : ℕ) → 
   fine-1 = elim (decLt 1 n) [
     | yes m ↦ fine-given 1 m
     | no m ↦
-        let x = first-facts (h 0) (h 1) (h 2) (h 3) (h 4) (h 5) (h 6) (h 7) (h 8) first-in in
-        at-head h 1 (omega arith) ∙ head-1 h ∙ rw (C .start 4 (omega arith) (omega arith), C .start 5 (omega arith) (omega arith), C .start 6 (omega arith) (omega arith), C .start 7 (omega arith) (omega arith)) (second-start (h 0) (h 1) (x .n-some) (x .n-most))
+        let x = first-told (h 0) (h 1) (h 2) (h 3) first-in in
+        at-head h 1 (omega arith) ∙ head-1 h ∙
+        rw (
+          C .start 4 (omega arith) (omega arith),
+          C .start 5 (omega arith) (omega arith),
+          C .start 6 (omega arith) (omega arith),
+          C .start 7 (omega arith) (omega arith),
+        ) (second-start (h 0) (h 1) (x .n-some) (x .n-most))
   ]
 
   second-in : secondFine (h 0) (h 1) (h 4) (h 5) (h 6) (h 7) ≡ true
@@ -162,8 +172,14 @@ module _ (g h : ℕ → ℕ) (n : ℕ) (C : Completes g n h) (F : (q : ℕ) → 
   fine-2 = elim (decLt 2 n) [
     | yes m ↦ fine-given 2 m
     | no m ↦
-        let x = second-facts (h 0) (h 1) (h 2) (h 3) (h 4) (h 5) (h 6) (h 7) (h 8) second-in in
-        at-head h 2 (omega arith) ∙ head-2 h ∙ rw (C .start 8 (omega arith) (omega arith), C .start 9 (omega arith) (omega arith), C .start 10 (omega arith) (omega arith), C .start 11 (omega arith) (omega arith)) (third-start (h 0) (h 1) (h 4) (h 6) (x .i-some))
+        let x = second-told (h 0) (h 1) (h 4) (h 5) (h 6) (h 7) second-in in
+        at-head h 2 (omega arith) ∙ head-2 h ∙
+        rw (
+          C .start 8 (omega arith) (omega arith),
+          C .start 9 (omega arith) (omega arith),
+          C .start 10 (omega arith) (omega arith),
+          C .start 11 (omega arith) (omega arith),
+        ) (third-start (h 0) (h 1) (h 4) (h 6) (x .iterations-some))
   ]
 
   -- ---- the words past them
@@ -216,7 +232,7 @@ module _ (g h : ℕ → ℕ) (n : ℕ) (C : Completes g n h) (F : (q : ℕ) → 
       tested-by (l .cells) i (valueTest h b i) (h (b + i)) (λ x. ap (λ (v : ℕ). calm (bits v)) e ∙ calm-zero) (λ x. e)
 
   n-some : 2 ≤ l .n
-  n-some = omega (arith, y .n-is, first-facts (h 0) (h 1) (h 2) (h 3) (h 4) (h 5) (h 6) (h 7) (h 8) first-in .n-some)
+  n-some = omega (arith, y .n-is, first-told (h 0) (h 1) (h 2) (h 3) first-in .n-some)
 
   after-word : (w : ℕ) → 12 ≤ w → w < l .end → 4 * n ≤ w → wordFine h l w ≡ true
   after-word = by-region l r (λ (w : ℕ). 4 * n ≤ w → wordFine h l w ≡ true)
@@ -228,12 +244,14 @@ module _ (g h : ℕ → ℕ) (n : ℕ) (C : Completes g n h) (F : (q : ℕ) → 
       ∙ tested-by (l .held) i (heldTest h l i) (h (l .affinities + i)) (λ x. else-true (l .tree) (offsetFits h l i (l .affinities + i)) (λ t. offset-after t i x m))
       (λ x. C .after (l .affinities + i) m (omega (arith, r .increments-at, r .gains-at, r .affinities-at)) ∙ rest-high l (l .affinities + i) (omega arith)))
       (λ i a m.
-      let e = C .after (l .indices + i) m (omega (arith, r .increments-at, r .gains-at, r .affinities-at, r .indices-at)) ∙ rest-high l (l .indices + i) (omega (arith, r .indices-at, filled-most (l .held))) in
+      let e = C .after (l .indices + i) m (omega (arith, r .increments-at, r .gains-at, r .affinities-at, r .indices-at)) ∙
+      rest-high l (l .indices + i) (omega (arith, r .indices-at, filled-most (l .held))) in
       at-indices h l r i a ∙ tested-by (l .links) i (indexTest h l i) (h (l .indices + i)) (λ x. lt-ltb (h (l .indices + i)) (l .n) (omega (arith, e, n-some))) (λ x. e))
       (λ i a m.
       at-weights h l r i a
       ∙ tested-by (l .links) i true (h (l .weights + i)) (λ x. refl)
-      (λ x. C .after (l .weights + i) m (omega (arith, r .increments-at, r .gains-at, r .affinities-at, r .indices-at, r .weights-at)) ∙ rest-high l (l .weights + i) (omega (arith, r .indices-at, r .weights-at, filled-most (l .held)))))
+      (λ x. C .after (l .weights + i) m (omega (arith, r .increments-at, r .gains-at, r .affinities-at, r .indices-at, r .weights-at)) ∙
+      rest-high l (l .weights + i) (omega (arith, r .indices-at, r .weights-at, filled-most (l .held)))))
 
   -- every record of it is fine
   all-fine : (q : ℕ) → q < recordsIn l → recordFine h q ≡ true
@@ -274,10 +292,16 @@ module _ (g : ℕ → ℕ) (n : ℕ) where
   completed-small : ((w : ℕ) → g w < wordsMost) → (w : ℕ) → completed w < wordsMost
   completed-small s w =
       either-below (ltb w 12) _ _ (head w)
-      (either-below (ltb w (4 * n)) _ _ (s w) (either-below (layoutBy headed .tree && ltb (layoutBy headed .affinities) w && ltb w (layoutBy headed .affinities + layoutBy headed .held)) _ _ (subst (λ (x : ℕ). x < wordsMost) (sym (lying-by headed .links-are)) (head 11)) (omega arith)))
+      (either-below (ltb w (4 * n)) _ _ (s w)
+      (either-below (layoutBy headed .tree && ltb (layoutBy headed .affinities) w && ltb w (layoutBy headed .affinities + layoutBy headed .held)) _ _
+      (subst (λ (x : ℕ). x < wordsMost) (sym (lying-by headed .links-are)) (head 11)) (omega arith)))
     where
       starts : Lows headStart
-      starts = cons-low (omega arith) (cons-low (omega arith) (cons-low (omega arith) (cons-low (omega arith) (cons-low (omega arith) (cons-low (omega arith) (cons-low (omega arith) (cons-low (omega arith) (cons-low (omega arith) (cons-low (omega arith) (cons-low (omega arith) (cons-low (omega arith) nil-low)))))))))))
+      starts = cons-low (omega arith) (cons-low (omega arith)
+          (cons-low (omega arith) (cons-low (omega arith)
+          (cons-low (omega arith) (cons-low (omega arith)
+          (cons-low (omega arith) (cons-low (omega arith)
+          (cons-low (omega arith) (cons-low (omega arith) (cons-low (omega arith) (cons-low (omega arith) nil-low)))))))))))
 
       head : (w : ℕ) → headed w < wordsMost
       head w = either-below (ltb w (4 * n)) (g w) (num headStart w) (s w) (starts .each w)
@@ -317,7 +341,8 @@ module _ (h : ℕ → ℕ) (small : (w : ℕ) → h w < wordsMost) (fine : (q : 
   ]
 
 -- files with the same words start with the same records, and the other way round
-fronts : (f f' : List ℕ) (n : ℕ) → AllBelow bytesMost f → AllBelow bytesMost f' → 32 * n ≤ length f → 32 * n ≤ length f' → ((w : ℕ) → w < 4 * n → wordIn f' w ≡ wordIn f w) → firstRecords n f' ≡ firstRecords n f
+fronts : (f f' : List ℕ) (n : ℕ) → AllBelow bytesMost f → AllBelow bytesMost f' → 32 * n ≤ length f → 32 * n ≤ length f' → ((w : ℕ) → w < 4 * n →
+    wordIn f' w ≡ wordIn f w) → firstRecords n f' ≡ firstRecords n f
 fronts f f' n b b' m m' e =
     let row : ℕ → List ℕ = λ w. littleBytes 8 (wordIn f w) in
     ap (λ (x : ℕ). take x f') (times n)
@@ -341,7 +366,8 @@ module _ (f : List ℕ) (n : ℕ) (m : 32 * n ≤ length f) where
   pub fine-begins : AllBelow bytesMost f → n ≤ firstBad f → Begins f n
   unfolding firstBad recordStands recordsDue
   fine-begins small b =
-      let F : (q : ℕ) → q < n → recordFine g q ≡ true = λ q a. and-right (leb (32 * q + 32) (length f)) (recordFine g q) (not-false (recordStands f q) (first-before (λ q. not (recordStands f q)) (recordsDue f) q (omega (arith, b)))) in
+      let F : (q : ℕ) → q < n → recordFine g q ≡ true = λ q a. and-right (leb (32 * q + 32) (length f)) (recordFine g q)
+      (not-false (recordStands f q) (first-before (λ q. not (recordStands f q)) (recordsDue f) q (omega (arith, b)))) in
       let h : ℕ → ℕ = completed g n in
       let C = completes g n in
       let s = completed-small g n (λ w. little-below 8 f (8 * w) small) in
@@ -367,7 +393,8 @@ module _ (f : List ℕ) (n : ℕ) (m : 32 * n ≤ length f) where
       | yes c ↦
           let q = firstBad f in
           let bad : recordStands f q ≡ false = not-true (recordStands f q) (first-holds (λ q. not (recordStands f q)) (recordsDue f) c) in
-          let good : recordFine g q ≡ true = record-same g (wordIn (e .file)) q (λ w d. sym (words w (omega (arith, d, a)))) ∙ fine-records (wordIn (e .file)) (parked-fine (e .file) (e .stands)) q (omega (arith, a, due)) in
+          let good : recordFine g q ≡ true = record-same g (wordIn (e .file)) q (λ w d. sym (words w (omega (arith, d, a)))) ∙
+          fine-records (wordIn (e .file)) (parked-fine (e .file) (e .stands)) q (omega (arith, a, due)) in
           let stands : recordStands f q ≡ true = rw (le-leb (32 * q + 32) (length f) (omega (arith, a, m)), good) in
           true≢false (sym stands ∙ bad)
       | no c ↦

@@ -19,7 +19,8 @@ use Rattle.parked.specs.declared.Layout.{Layout}
 use Rattle.parked.specs.Layout.{filledUp, recordsIn}
 use Rattle.parked.specs.Fine.{firstFine, secondFine, thirdFine, headFine, layoutBy, valueFits, offsetFits, heldFits, indexFits, weightFits, stateFine, affinityFine, wordFine, recordFine}
 use Rattle.parked_file.specs.File.{recordStands, recordsDue, firstBad, isParked}
-use Rattle.parking.proofs.Regions.{filled-most, Stacked, layout-stacked, end-whole, head-before-end, by-region, chosen, in-positions, in-increments, in-gains, in-affinities, in-indices, in-weights}
+use Rattle.parking.proofs.Regions.{filled-most, Stacked, layout-stacked, end-whole, head-before-end, by-region, chosen, in-positions, in-increments}
+use Rattle.parking.proofs.Regions.{in-gains, in-affinities, in-indices, in-weights}
 
 -- ---- an area
 
@@ -117,12 +118,18 @@ module _ (g : ℕ → ℕ) where
 
     words-fine : ((w : ℕ) → 12 ≤ w → w < l .end → wordFine g l w ≡ true) → WordsFine l
     words-fine f = record {
-      positions = area-fine g 12 (l .cells) (valueTest 12) (filled-most (l .cells)) (λ i h. sym (at-positions i h) ∙ f (12 + i) (omega arith) (omega (arith, r .increments-at, r .gains-at, r .affinities-at, r .indices-at, r .weights-at, r .end-at)));
-      increments = area-fine g (l .increments) (l .cells) (valueTest (l .increments)) (filled-most (l .cells)) (λ i h. sym (at-increments i h) ∙ f (l .increments + i) (omega (arith, r .increments-at)) (omega (arith, r .gains-at, r .affinities-at, r .indices-at, r .weights-at, r .end-at)));
-      gains = area-fine g (l .gains) (l .cells) (valueTest (l .gains)) (filled-most (l .cells)) (λ i h. sym (at-gains i h) ∙ f (l .gains + i) (omega (arith, r .increments-at, r .gains-at)) (omega (arith, r .affinities-at, r .indices-at, r .weights-at, r .end-at)));
-      affinities = area-fine g (l .affinities) (l .held) (heldTest l) (filled-most (l .held)) (λ i h. sym (at-affinities i h) ∙ f (l .affinities + i) (omega (arith, r .increments-at, r .gains-at, r .affinities-at)) (omega (arith, r .indices-at, r .weights-at, r .end-at)));
-      indices = area-fine g (l .indices) (l .links) (indexTest l) (filled-most (l .links)) (λ i h. sym (at-indices i h) ∙ f (l .indices + i) (omega (arith, r .increments-at, r .gains-at, r .affinities-at, r .indices-at)) (omega (arith, r .weights-at, r .end-at)));
-      weights = area-fine g (l .weights) (l .links) (λ i. true) (filled-most (l .links)) (λ i h. sym (at-weights i h) ∙ f (l .weights + i) (omega (arith, r .increments-at, r .gains-at, r .affinities-at, r .indices-at, r .weights-at)) (omega (arith, r .end-at)));
+      positions = area-fine g 12 (l .cells) (valueTest 12) (filled-most (l .cells)) (λ i h. sym (at-positions i h) ∙
+          f (12 + i) (omega arith) (omega (arith, r .increments-at, r .gains-at, r .affinities-at, r .indices-at, r .weights-at, r .end-at)));
+      increments = area-fine g (l .increments) (l .cells) (valueTest (l .increments)) (filled-most (l .cells)) (λ i h. sym (at-increments i h) ∙
+          f (l .increments + i) (omega (arith, r .increments-at)) (omega (arith, r .gains-at, r .affinities-at, r .indices-at, r .weights-at, r .end-at)));
+      gains = area-fine g (l .gains) (l .cells) (valueTest (l .gains)) (filled-most (l .cells)) (λ i h. sym (at-gains i h) ∙
+          f (l .gains + i) (omega (arith, r .increments-at, r .gains-at)) (omega (arith, r .affinities-at, r .indices-at, r .weights-at, r .end-at)));
+      affinities = area-fine g (l .affinities) (l .held) (heldTest l) (filled-most (l .held)) (λ i h. sym (at-affinities i h) ∙
+          f (l .affinities + i) (omega (arith, r .increments-at, r .gains-at, r .affinities-at)) (omega (arith, r .indices-at, r .weights-at, r .end-at)));
+      indices = area-fine g (l .indices) (l .links) (indexTest l) (filled-most (l .links)) (λ i h. sym (at-indices i h) ∙
+          f (l .indices + i) (omega (arith, r .increments-at, r .gains-at, r .affinities-at, r .indices-at)) (omega (arith, r .weights-at, r .end-at)));
+      weights = area-fine g (l .weights) (l .links) (λ i. true) (filled-most (l .links)) (λ i h. sym (at-weights i h) ∙
+          f (l .weights + i) (omega (arith, r .increments-at, r .gains-at, r .affinities-at, r .indices-at, r .weights-at)) (omega (arith, r .end-at)));
     }
 
     fine-words : WordsFine l → (w : ℕ) → 12 ≤ w → w < l .end → wordFine g l w ≡ true
@@ -168,7 +175,8 @@ module _ (g : ℕ → ℕ) where
 
   -- a word of a record that is fine
   pub record-word : (w : ℕ) → 12 ≤ w → recordFine g (w / 4) ≡ true → wordFine g (layoutBy g) w ≡ true
-  record-word w a e = subst (λ (x : ℕ). wordFine g (layoutBy g) x ≡ true) (whole w) (every-at (λ k. wordFine g (layoutBy g) (4 * (w / 4) + k)) 4 (sym (at-words (w / 4) (omega arith)) ∙ e) (w % 4) (omega arith))
+  record-word w a e = subst (λ (x : ℕ). wordFine g (layoutBy g) x ≡ true) (whole w)
+      (every-at (λ k. wordFine g (layoutBy g) (4 * (w / 4) + k)) 4 (sym (at-words (w / 4) (omega arith)) ∙ e) (w % 4) (omega arith))
     where
       whole : (w : ℕ) → 4 * (w / 4) + w % 4 ≡ w
       whole w = omega arith
@@ -187,7 +195,8 @@ module _ (g : ℕ → ℕ) where
   pub fine-records : FileFine → (q : ℕ) → q < recordsIn (layoutBy g) → recordFine g q ≡ true
   fine-records a q h = elim (decLt q 3) [
     | yes m ↦ at-head q m ∙ three q m
-    | no n ↦ at-words q (omega arith) ∙ every-all (λ k. wordFine g (layoutBy g) (4 * q + k)) 4 (λ k m. fine-words (layoutBy g) by-stacked (a .words) (4 * q + k) (omega arith) (omega (arith, end-whole (layoutBy g) by-stacked)))
+    | no n ↦ at-words q (omega arith) ∙ every-all (λ k. wordFine g (layoutBy g) (4 * q + k)) 4 (λ k m. fine-words (layoutBy g) by-stacked (a .words) (4 * q + k)
+        (omega arith) (omega (arith, end-whole (layoutBy g) by-stacked)))
   ]
     where
       three : (q : ℕ) → q < 3 → headFine g q ≡ true
@@ -207,7 +216,8 @@ module _ (f : List ℕ) where
   unfolding isParked firstBad recordsDue recordStands
   parked-fine e = records-fine (wordIn f) (λ q h.
       and-right (leb (32 * q + 32) (length f)) (recordFine (wordIn f) q)
-      (not-false (recordStands f q) (first-all (λ q. not (recordStands f q)) (recordsDue f) (omega (arith, eqb-true (firstBad f) (recordsDue f) (and-left (eqb (firstBad f) (recordsDue f)) (eqb (length f) (32 * recordsDue f)) e))) q h)))
+      (not-false (recordStands f q) (first-all (λ q. not (recordStands f q)) (recordsDue f)
+      (omega (arith, eqb-true (firstBad f) (recordsDue f) (and-left (eqb (firstBad f) (recordsDue f)) (eqb (length f) (32 * recordsDue f)) e))) q h)))
 
   pub fine-parked : length f ≡ 32 * recordsDue f → FileFine (wordIn f) → isParked f ≡ true
   unfolding isParked firstBad recordsDue recordStands

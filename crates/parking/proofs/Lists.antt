@@ -27,7 +27,8 @@ module _ {m : ℕ} (r : Run) (xs off : List ℕ) (ns : List Node) (g : GoodConte
     starts = eqb-true (num off 0) 0 (g .each-offset 0 (omega arith));
     rises = λ i a b. subst (λ (x : ℕ). num off (i - 1) ≤ num off x) (up i a) (offset-rises r xs off ns g (i - 1) (omega arith) .0);
     below = λ i b. offset-listed r xs off ns g (r .settings .n - i) i (omega arith);
-    most-links = subst (λ (x : ℕ). num off x ≤ 2 * r .settings .n * kOf (r .settings)) (up (r .settings .n) h) (subst (λ (x : ℕ). num off (r .settings .n - 1 + 1) ≤ x) (links-is (r .settings)) (offset-rises r xs off ns g (r .settings .n - 1) (omega arith) .1));
+    most-links = subst (λ (x : ℕ). num off x ≤ 2 * r .settings .n * kOf (r .settings)) (up (r .settings .n) h)
+        (subst (λ (x : ℕ). num off (r .settings .n - 1 + 1) ≤ x) (links-is (r .settings)) (offset-rises r xs off ns g (r .settings .n - 1) (omega arith) .1));
     frames = λ i a. index-below r xs off ns g i a;
   }
     where

@@ -36,7 +36,9 @@ layout-stacked t n c links = record { increments-at = refl; gains-at = refl; aff
 module _ (l : Layout) (r : Stacked l) where
   -- the words come to whole records, of which the first three are there
   pub end-whole : l .end ≡ 4 * (l .end / 4)
-  end-whole = whole (l .end) (3 + 3 * ((l .cells + 3) / 4) + (l .held + 3) / 4 + 2 * ((l .links + 3) / 4)) (sum ((l .cells + 3) / 4) ((l .held + 3) / 4) ((l .links + 3) / 4) (r .increments-at) (r .gains-at) (r .affinities-at) (r .indices-at) (r .weights-at) (r .end-at) (filled-whole (l .cells)) (filled-whole (l .held)) (filled-whole (l .links)))
+  end-whole = whole (l .end) (3 + 3 * ((l .cells + 3) / 4) + (l .held + 3) / 4 + 2 * ((l .links + 3) / 4))
+      (sum ((l .cells + 3) / 4) ((l .held + 3) / 4) ((l .links + 3) / 4) (r .increments-at) (r .gains-at) (r .affinities-at) (r .indices-at) (r .weights-at)
+      (r .end-at) (filled-whole (l .cells)) (filled-whole (l .held)) (filled-whole (l .links)))
     where
       whole : (x k : ℕ) → x ≡ 4 * k → x ≡ 4 * (x / 4)
       whole x k e = omega arith
@@ -92,16 +94,32 @@ module _ {A : Type 0} (l : Layout) (r : Stacked l) (p i g h x a : A) where
   in-positions k m = rw (lt-ltb (12 + k) (l .affinities) (omega (arith, r .increments-at, r .gains-at, r .affinities-at)), lt-ltb (12 + k) (l .increments) (omega (arith, r .increments-at)))
 
   pub in-increments : (k : ℕ) → k < filledUp (l .cells) → chosen (l .increments + k) ≡ i
-  in-increments k m = rw (lt-ltb (l .increments + k) (l .affinities) (omega (arith, r .gains-at, r .affinities-at)), le-ltb (l .increments + k) (l .increments) (omega arith), lt-ltb (l .increments + k) (l .gains) (omega (arith, r .gains-at)))
+  in-increments k m = rw (
+    lt-ltb (l .increments + k) (l .affinities) (omega (arith, r .gains-at, r .affinities-at)),
+    le-ltb (l .increments + k) (l .increments) (omega arith),
+    lt-ltb (l .increments + k) (l .gains) (omega (arith, r .gains-at)),
+  )
 
   pub in-gains : (k : ℕ) → k < filledUp (l .cells) → chosen (l .gains + k) ≡ g
-  in-gains k m = rw (lt-ltb (l .gains + k) (l .affinities) (omega (arith, r .affinities-at)), le-ltb (l .gains + k) (l .increments) (omega (arith, r .gains-at)), le-ltb (l .gains + k) (l .gains) (omega arith))
+  in-gains k m = rw (
+    lt-ltb (l .gains + k) (l .affinities) (omega (arith, r .affinities-at)),
+    le-ltb (l .gains + k) (l .increments) (omega (arith, r .gains-at)),
+    le-ltb (l .gains + k) (l .gains) (omega arith),
+  )
 
   pub in-affinities : (k : ℕ) → k < filledUp (l .held) → chosen (l .affinities + k) ≡ h
   in-affinities k m = rw (le-ltb (l .affinities + k) (l .affinities) (omega arith), lt-ltb (l .affinities + k) (l .indices) (omega (arith, r .indices-at)))
 
   pub in-indices : (k : ℕ) → k < filledUp (l .links) → chosen (l .indices + k) ≡ x
-  in-indices k m = rw (le-ltb (l .indices + k) (l .affinities) (omega (arith, r .indices-at)), le-ltb (l .indices + k) (l .indices) (omega arith), lt-ltb (l .indices + k) (l .weights) (omega (arith, r .weights-at)))
+  in-indices k m = rw (
+    le-ltb (l .indices + k) (l .affinities) (omega (arith, r .indices-at)),
+    le-ltb (l .indices + k) (l .indices) (omega arith),
+    lt-ltb (l .indices + k) (l .weights) (omega (arith, r .weights-at)),
+  )
 
   pub in-weights : (k : ℕ) → k < filledUp (l .links) → chosen (l .weights + k) ≡ a
-  in-weights k m = rw (le-ltb (l .weights + k) (l .affinities) (omega (arith, r .indices-at, r .weights-at)), le-ltb (l .weights + k) (l .indices) (omega (arith, r .weights-at)), le-ltb (l .weights + k) (l .weights) (omega arith))
+  in-weights k m = rw (
+    le-ltb (l .weights + k) (l .affinities) (omega (arith, r .indices-at, r .weights-at)),
+    le-ltb (l .weights + k) (l .indices) (omega (arith, r .weights-at)),
+    le-ltb (l .weights + k) (l .weights) (omega arith),
+  )

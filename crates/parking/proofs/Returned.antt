@@ -18,6 +18,7 @@ use Rattle.tree_node.specs.declared.Node.{Node}
 use Rattle.run_record.specs.Record.{isTree, perOf, kOf, sizesOf}
 use Rattle.run_entry.specs.Entry.{treeFits, areasFit, GoodAreas}
 use Rattle.record_words.specs.RecordWords.{runOf, settingsOf, methodOf}
+use Rattle.record_words.proofs.Laws.{method-tree}
 use Rattle.parked.specs.declared.Layout.{Layout}
 use Rattle.parked.specs.Parked.{Stored, linksIn, layoutIn}
 use Rattle.parked.specs.Fine.{layoutBy}
@@ -28,7 +29,7 @@ use Rattle.unpark.specs.Unpark.{recordRead, settingsRead, fetched, weightsRead,
 use Rattle.parking.specs.Held.{InWords, firstRecords}
 use Rattle.parking.specs.Again.{recordAgain, storedAgain}
 use Rattle.parking.proofs.Entries.{Writes, parks-all}
-use Rattle.parking.proofs.Heads.{settingsWith, method-tree}
+use Rattle.parking.proofs.Heads.{settingsWith}
 use Rattle.parking.proofs.Written.{Lying, lying, HeadIs, WordsAre, head, words-are, method-most, lists-in, fileOf, file-word, file-layout, file-due, file-stands, front-is}
 
 -- what is fetched stands in v from its start on
@@ -51,7 +52,8 @@ module _ (d : Stored) (F : List Float) (ns : List Node) (t : List ℕ) (W : Writ
 
   -- ---- the areas have what is written
 
-  areas-in : GoodAreas (settingsWith (num w 3) (num w 0) (num w 1) (num w 2) (num w 4) (num w 5) (num w 6) (num w 7) (num w 8)) (length (d .positions)) (length (d .increments)) (length (d .gains)) (length (d .affinities)) (length (d .indices)) (length (d .offsets)) (length F) (length ns)
+  areas-in : GoodAreas (settingsWith (num w 3) (num w 0) (num w 1) (num w 2) (num w 4) (num w 5) (num w 6) (num w 7) (num w 8)) (length (d .positions))
+      (length (d .increments)) (length (d .gains)) (length (d .affinities)) (length (d .indices)) (length (d .offsets)) (length F) (length ns)
   unfolding runOf settingsOf
   areas-in = rw (length-map bits (d .positions), length-map bits (d .increments), length-map bits (d .gains), length-map bits (d .affinities)) at (W .good .areas)
 
@@ -91,7 +93,8 @@ module _ (d : Stored) (F : List Float) (ns : List Node) (t : List ℕ) (W : Writ
       by false e =
           let q : eqb (num w 3) 1 ≡ false = sym (y .tree-is) ∙ e in
           let s : l .held ≡ num w 0 * num w 0 = rw q at (y .held-is) in
-          fetched-is g (l .affinities) (l .held) (d .affinities) v (omega (arith, s, areas-in .exact-long (method-tree (num w 3) (method-most d F ns t W) ∙ q))) (λ i h. a .affinities i h ∙ ap (λ (b : Bool). num (cond b (d .offsets) (d .affinities)) i) e)
+          fetched-is g (l .affinities) (l .held) (d .affinities) v (omega (arith, s, areas-in .exact-long (method-tree (num w 3) (method-most d F ns t W) ∙ q)))
+          (λ i h. a .affinities i h ∙ ap (λ (b : Bool). num (cond b (d .offsets) (d .affinities)) i) e)
 
   offsets-again : WordsAre g l d → (v : List ℕ) → offsetsRead g l v ≡ pasted (d .offsets) 0 (cond (l .tree) (l .held) 0) v
   unfolding offsetsRead
@@ -101,7 +104,9 @@ module _ (d : Stored) (F : List Float) (ns : List Node) (t : List ℕ) (W : Writ
       by true e =
           let q : eqb (num w 3) 1 ≡ true = sym (y .tree-is) ∙ e in
           let s : l .held ≡ num w 0 + 1 = rw q at (y .held-is) in
-          fetched-is g (l .affinities) (l .held) (d .offsets) v (omega (arith, s, areas-in .tree-long (method-tree (num w 3) (method-most d F ns t W) ∙ q) .offsets-most)) (λ i h. a .affinities i h ∙ ap (λ (b : Bool). num (cond b (d .offsets) (d .affinities)) i) e)
+          fetched-is g (l .affinities) (l .held) (d .offsets) v
+          (omega (arith, s, areas-in .tree-long (method-tree (num w 3) (method-most d F ns t W) ∙ q) .offsets-most)) (λ i h. a .affinities i h ∙
+          ap (λ (b : Bool). num (cond b (d .offsets) (d .affinities)) i) e)
       by false e = refl
 
   stored-again : HeadIs g l w → WordsAre g l d → layoutBy g ≡ l → (e : Stored) → storedRead g e ≡ storedAgain d e
@@ -118,7 +123,9 @@ module _ (d : Stored) (F : List Float) (ns : List Node) (t : List ℕ) (W : Writ
   )
 
   -- the areas that have room for the run have room for what is read
-  room-again : HeadIs g l w → (e : Stored) (forces nodes : ℕ) → 14 ≤ length (e .run) → areasFit (settingsOf w) (length (e .positions)) (length (e .increments)) (length (e .gains)) (length (e .affinities)) (length (e .indices)) (length (e .offsets)) forces nodes ≡ true → hasRoom g e forces nodes ≡ true
+  room-again : HeadIs g l w → (e : Stored) (forces nodes : ℕ) → 14 ≤ length (e .run) →
+      areasFit (settingsOf w) (length (e .positions)) (length (e .increments)) (length (e .gains)) (length (e .affinities)) (length (e .indices))
+      (length (e .offsets)) forces nodes ≡ true → hasRoom g e forces nodes ≡ true
   unfolding hasRoom settingsOf areasFit treeFits sizesOf
   room-again h e forces nodes n f = rw (le-leb 14 (length (e .run)) n, settings-again h) f
 
@@ -126,9 +133,13 @@ module _ (d : Stored) (F : List Float) (ns : List Node) (t : List ℕ) (W : Writ
   unfolding settingsOf sizesOf
   forces-again h = rw (settings-again h)
 
--- Reading what was written: where k records of d are written, the first k records of the target are read into any record of fourteen words and areas that a work call on d would take, and leave there what d again is; the forces are zero.
+-- Reading what was written: where k records of d are written, the first k records of the target are read into any record of fourteen words and areas that a
+-- work call on d would take, and leave there what d again is; the forces are zero.
 module _ (d : Stored) (forces : ℕ) (ns : List Node) (t : List ℕ) (k : ℕ) where
-  pub reading-what-was-written : InWords d → parkOf d forces ns t .answer ≡ Written k → (e : Stored) (F : List Float) (nodes : ℕ) → 14 ≤ length (e .run) → areasFit (settingsOf (d .run)) (length (e .positions)) (length (e .increments)) (length (e .gains)) (length (e .affinities)) (length (e .indices)) (length (e .offsets)) (length F) nodes ≡ true → unparkOf (firstRecords k (parkOf d forces ns t .target)) e F nodes ≡ unparking (Read k) (storedAgain d e) (filled zero64 (sizesOf (settingsOf (d .run)) .forces) F)
+  pub reading-what-was-written : InWords d → parkOf d forces ns t .answer ≡ Written k → (e : Stored) (F : List Float) (nodes : ℕ) → 14 ≤ length (e .run) →
+      areasFit (settingsOf (d .run)) (length (e .positions)) (length (e .increments)) (length (e .gains)) (length (e .affinities)) (length (e .indices))
+      (length (e .offsets)) (length F) nodes ≡ true → unparkOf (firstRecords k (parkOf d forces ns t .target)) e F nodes ≡ unparking (Read k) (storedAgain d e)
+      (filled zero64 (sizesOf (settingsOf (d .run)) .forces) F)
   unfolding unparkOf
   reading-what-was-written i a e F nodes n r =
       let p = parks-all d forces ns t k a in
@@ -138,4 +149,11 @@ module _ (d : Stored) (forces : ℕ) (ns : List Node) (t : List ℕ) (k : ℕ) w
       let g : ℕ → ℕ = wordIn f in
       let h = head d Z ns t W g (file-word d i) in
       ap (λ (f : List ℕ). unparkOf f e F nodes) (front-is d forces ns t k a)
-      ∙ rw (file-stands d Z ns t W i, room-again d Z ns t W g h e (length F) nodes n r, file-due d Z ns t W i, p .count, stored-again d Z ns t W g h (words-are d Z ns t W g (file-word d i)) (file-layout d Z ns t W i) e, forces-again d Z ns t W g h)
+      ∙ rw (
+        file-stands d Z ns t W i,
+        room-again d Z ns t W g h e (length F) nodes n r,
+        file-due d Z ns t W i,
+        p .count,
+        stored-again d Z ns t W g h (words-are d Z ns t W g (file-word d i)) (file-layout d Z ns t W i) e,
+        forces-again d Z ns t W g h,
+      )

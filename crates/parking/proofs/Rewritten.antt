@@ -99,7 +99,8 @@ module _ (f : List ℕ) (small : AllBelow bytesMost f) (P : isParked f ≡ true)
       let front : joined row (l .end) ≡ f = sym (laid-front 8 row (l .end) f bytes-read) ∙ take-all (l .end * 8) f (omega (arith, words-long)) in
       rw (front, words-long)
 
-  pub writes-read : (forces nodes : ℕ) → hasRoom g d forces nodes ≡ true → (F : List Float) (ns : List Node) (t : List ℕ) → g 1 * (2 * g 3 + 1) ≤ length F → (isTree (methodOf (g 0)) ≡ true → 1 ≤ length ns) → length f ≤ length t → Writes e F ns t
+  pub writes-read : (forces nodes : ℕ) → hasRoom g d forces nodes ≡ true → (F : List Float) (ns : List Node) (t : List ℕ) → g 1 * (2 * g 3 + 1) ≤ length F →
+      (isTree (methodOf (g 0)) ≡ true → 1 ≤ length ns) → length f ≤ length t → Writes e F ns t
   writes-read forces nodes R F ns t m n h =
       let A = parked-fine f P in
       record {
@@ -110,9 +111,12 @@ module _ (f : List ℕ) (small : AllBelow bytesMost f) (P : isParked f ≡ true)
         room = subst (λ (x : Layout). 8 * x .end ≤ length t) (sym (layout-read g A d)) (omega (arith, words-long));
       }
 
--- Writing what was read: where k records of f are read, what they left, with any forces and nodes that a work call on it would take, is written as k records into any target that has room, and the target from its start on is f.
+-- Writing what was read: where k records of f are read, what they left, with any forces and nodes that a work call on it would take, is written as k records
+-- into any target that has room, and the target from its start on is f.
 module _ (f : List ℕ) (d : Stored) (F : List Float) (nodes k : ℕ) where
-  pub writing-what-was-read : AllBelow bytesMost f → unparkOf f d F nodes .answer ≡ Read k → (forces : ℕ) (ns : List Node) (t : List ℕ) → sizesOf (settingsRead (wordIn f)) .forces ≤ forces → (isTree (settingsRead (wordIn f) .method) ≡ true → 1 ≤ length ns) → length f ≤ length t → parkOf (unparkOf f d F nodes .left) forces ns t ≡ parking (Written k) (f ++ drop (length f) t)
+  pub writing-what-was-read : AllBelow bytesMost f → unparkOf f d F nodes .answer ≡ Read k → (forces : ℕ) (ns : List Node) (t : List ℕ) →
+      sizesOf (settingsRead (wordIn f)) .forces ≤ forces → (isTree (settingsRead (wordIn f) .method) ≡ true → 1 ≤ length ns) → length f ≤ length t →
+      parkOf (unparkOf f d F nodes .left) forces ns t ≡ parking (Written k) (f ++ drop (length f) t)
   unfolding sizesOf settingsRead settingsOf recordRead recordsDue
   writing-what-was-read b a forces ns t m n h =
       let r = reads f d F nodes k a in

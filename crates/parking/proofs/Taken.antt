@@ -22,17 +22,19 @@ use Rattle.run_record.proofs.Laws.{per-some}
 use Rattle.run_entry.specs.Entry.{offsetFine, indexFine, areasFit, GoodCounters, GoodAreas, GoodContents, Good}
 use Rattle.run_entry.proofs.Laws.{areas-fine}
 use Rattle.record_words.specs.RecordWords.{runFine, settingsFine, runOf, settingsOf, methodOf}
+use Rattle.record_words.proofs.Laws.{method-tree}
 use Rattle.parked.specs.declared.Layout.{Layout}
 use Rattle.parked.specs.Layout.{filledUp, layoutOf}
 use Rattle.parked.specs.Parked.{Stored, headOf, linksIn, layoutIn, parkedWord}
 use Rattle.parked.specs.Fine.{layoutBy, offsetFits}
+use Rattle.parked_file.proofs.Heads.{FirstIn, first-told, SecondIn, second-told}
 use Rattle.park.specs.Park.{calmAll, calmState}
 use Rattle.unpark.specs.Unpark.{recordRead, settingsRead, fetched, weightsRead, offsetsRead, storedRead, hasRoom}
 use Rattle.parking.specs.Held.{stateIn}
 use Rattle.parking.proofs.Regions.{less-one, by-region}
 use Rattle.parking.proofs.Words.{filling, filling-in, filling-out, word-head, word-positions, word-increments, word-gains, word-affinities, word-indices, word-weights}
 use Rattle.parking.proofs.Files.{when-true, AreaFine, FileFine, by-stacked}
-use Rattle.parking.proofs.Heads.{method-tree, settingsWith, FirstFacts, first-facts, SecondFacts, second-facts, good-settings, ThirdFacts, third-facts}
+use Rattle.parking.proofs.Heads.{settingsWith, good-settings, ThirdFacts, third-facts}
 
 -- fourteen more
 abbrev past : ℕ → ℕ
@@ -71,17 +73,17 @@ module _ (g : ℕ → ℕ) (A : FileFine g) where
   abbrev y : LyingBy l g
   y = lying-by g
 
-  abbrev pub record-one : FirstFacts (g 0) (g 1) (g 2) (g 3) (g 4) (g 5) (g 6) (g 7) (g 8)
-  record-one = first-facts (g 0) (g 1) (g 2) (g 3) (g 4) (g 5) (g 6) (g 7) (g 8) (A .first-fine)
+  abbrev pub record-one : FirstIn (g 0) (g 1) (g 2) (g 3)
+  record-one = first-told (g 0) (g 1) (g 2) (g 3) (A .first-fine)
 
-  abbrev pub record-two : SecondFacts (g 0) (g 1) (g 2) (g 3) (g 4) (g 5) (g 6) (g 7) (g 8)
-  record-two = second-facts (g 0) (g 1) (g 2) (g 3) (g 4) (g 5) (g 6) (g 7) (g 8) (A .second-fine)
+  abbrev pub record-two : SecondIn (g 0) (g 1) (g 4) (g 5) (g 6) (g 7)
+  record-two = second-told (g 0) (g 1) (g 4) (g 5) (g 6) (g 7) (A .second-fine)
 
   abbrev pub record-three : ThirdFacts (g 0) (g 1) (g 4) (g 6) (g 8) (g 9) (g 10) (g 11)
   record-three = third-facts (g 0) (g 1) (g 4) (g 6) (g 8) (g 9) (g 10) (g 11) (A .third-fine)
 
   pub method-is : isTree (methodOf (g 0)) ≡ eqb (g 0) 1
-  method-is = method-tree (g 0) (leb-true (g 0) 1 (record-one .m-most))
+  method-is = method-tree (g 0) (record-one .method)
 
   -- ---- the offsets in the file
 
@@ -189,7 +191,8 @@ module _ (g : ℕ → ℕ) (A : FileFine g) where
     unfolding storedRead weightsRead offsetsRead
     held-read i h = by (l .tree)
       where
-        by : (b : Bool) → num (cond b (cond b (fetched g (l .affinities) (l .held) (d .offsets)) (d .offsets)) (cond b (fetched g (l .weights) (l .links) (d .affinities)) (fetched g (l .affinities) (l .held) (d .affinities)))) i ≡ g (l .affinities + i)
+        by : (b : Bool) → num (cond b (cond b (fetched g (l .affinities) (l .held) (d .offsets)) (d .offsets))
+            (cond b (fetched g (l .weights) (l .links) (d .affinities)) (fetched g (l .affinities) (l .held) (d .affinities)))) i ≡ g (l .affinities + i)
         by true = fetched-at g (l .affinities) (l .held) (d .offsets) i h
         by false = fetched-at g (l .affinities) (l .held) (d .affinities) i h
 
@@ -228,7 +231,7 @@ module _ (g : ℕ → ℕ) (A : FileFine g) where
 
     pub read-fine : runFine (e .run) ≡ true
     unfolding runFine settingsFine storedRead recordRead
-    read-fine = fine-of (length (drop 14 (d .run))) (record-one .m-most) (record-three .s-most)
+    read-fine = fine-of (length (drop 14 (d .run))) (le-leb (g 0) 1 (record-one .method)) (record-three .s-most)
       where
         fine-of : (k : ℕ) {a b : Bool} → a ≡ true → b ≡ true → leb 14 (past k) && (leb 9 (past k) && a) && b ≡ true
         fine-of k ea eb = rw (le-leb 14 (past k) (omega arith), le-leb 9 (past k) (omega arith), ea, eb)
@@ -243,7 +246,11 @@ module _ (g : ℕ → ℕ) (A : FileFine g) where
 
     pub read-calm : calmState (l .cells) (e .positions) (e .increments) (e .gains) ≡ true
     unfolding calmState
-    read-calm = rw (calm-of 12 (e .positions) (A .words .positions) positions-read, calm-of (l .increments) (e .increments) (A .words .increments) increments-read, calm-of (l .gains) (e .gains) (A .words .gains) gains-read)
+    read-calm = rw (
+      calm-of 12 (e .positions) (A .words .positions) positions-read,
+      calm-of (l .increments) (e .increments) (A .words .increments) increments-read,
+      calm-of (l .gains) (e .gains) (A .words .gains) gains-read,
+    )
 
     settings-good : GoodSettings (runOf (e .run) .settings)
     unfolding runOf settingsOf storedRead recordRead
@@ -264,20 +271,30 @@ module _ (g : ℕ → ℕ) (A : FileFine g) where
               let s : 1 ≤ i = omega (arith, eqb-false i 0 z) in
               let o = offset-in q i s (omega arith) in
               let m : g 11 ≤ 2 * g 1 * neighboursOf (bits (g 4)) (g 1) = leb-true (g 11) (2 * g 1 * neighboursOf (bits (g 4)) (g 1)) (rw q at (record-three .links-most)) in
-              rw (z, offset-read q i (omega arith), offset-read q (i - 1) (omega arith), le-leb (g (l .affinities + (i - 1))) (g (l .affinities + i)) (o .rises)) (le-leb (g (l .affinities + i)) (2 * g 1 * neighboursOf (bits (g 4)) (g 1)) (omega (arith, o .below, y .links-are, m))));
-          each-index = λ i h. let k : i < l .links = omega (arith, h, last-read q, y .links-are) in ap (λ (x : ℕ). ltb x (g 1)) (indices-read i k) ∙ ap (ltb (g (l .indices + i))) (sym (y .n-is)) ∙ A .words .indices .holds i k;
+              rw (
+                z,
+                offset-read q i (omega arith),
+                offset-read q (i - 1) (omega arith),
+                le-leb (g (l .affinities + (i - 1))) (g (l .affinities + i)) (o .rises),
+              )
+              (le-leb (g (l .affinities + i)) (2 * g 1 * neighboursOf (bits (g 4)) (g 1)) (omega (arith, o .below, y .links-are, m))));
+          each-index = λ i h. let k : i < l .links = omega (arith, h, last-read q, y .links-are) in ap (λ (x : ℕ). ltb x (g 1)) (indices-read i k) ∙
+              ap (ltb (g (l .indices + i))) (sym (y .n-is)) ∙ A .words .indices .holds i k;
           tree = λ n. absurd (n refl);
         }
 
     -- ---- areas that have room keep their lengths
 
     module _ (forces nodes : ℕ) (R : hasRoom g d forces nodes ≡ true) where
-      room : GoodAreas (settingsWith (g 0) (g 1) (g 2) (g 3) (g 4) (g 5) (g 6) (g 7) (g 8)) (length (d .positions)) (length (d .increments)) (length (d .gains)) (length (d .affinities)) (length (d .indices)) (length (d .offsets)) forces nodes
+      room : GoodAreas (settingsWith (g 0) (g 1) (g 2) (g 3) (g 4) (g 5) (g 6) (g 7) (g 8)) (length (d .positions)) (length (d .increments)) (length (d .gains))
+          (length (d .affinities)) (length (d .indices)) (length (d .offsets)) forces nodes
       unfolding hasRoom settingsRead settingsOf recordRead
       room =
           let s = settingsWith (g 0) (g 1) (g 2) (g 3) (g 4) (g 5) (g 6) (g 7) (g 8) in
           areas-fine s (length (d .positions)) (length (d .increments)) (length (d .gains)) (length (d .affinities)) (length (d .indices)) (length (d .offsets)) forces nodes
-          (and-right (leb 14 (length (d .run))) (areasFit s (length (d .positions)) (length (d .increments)) (length (d .gains)) (length (d .affinities)) (length (d .indices)) (length (d .offsets)) forces nodes) R)
+          (and-right (leb 14 (length (d .run)))
+          (areasFit s (length (d .positions)) (length (d .increments)) (length (d .gains)) (length (d .affinities)) (length (d .indices))
+          (length (d .offsets)) forces nodes) R)
 
       links-long : (a : ℕ) → (isTree (methodOf (g 0)) ≡ true → 2 * g 1 * neighboursOf (bits (g 4)) (g 1) ≤ a) → l .links ≤ a
       links-long a f = rw (y .links-are) (by (eqb (g 0) 1) refl (record-three .links-most))
@@ -335,7 +352,14 @@ module _ (g : ℕ → ℕ) (A : FileFine g) where
           increments-long = omega (arith, increments-long, room .increments-long);
           gains-long = omega (arith, gains-long, room .gains-long);
           forces-long = f;
-          tree-long = λ t. record { links-most = omega (arith, affinities-long, room .tree-long t .links-most); indices-most = omega (arith, indices-long, room .tree-long t .indices-most); offsets-most = omega (arith, offsets-long, room .tree-long t .offsets-most); nodes-some = n t };
+          tree-long = λ t. record {
+            links-most = omega (arith, affinities-long, room .tree-long t .links-most);
+            indices-most = omega
+                (arith, indices-long, room .tree-long t .indices-most);
+            offsets-most = omega
+                (arith, offsets-long, room .tree-long t .offsets-most);
+            nodes-some = n t;
+          };
           exact-long = λ t. omega (arith, affinities-long, room .exact-long t);
         };
         contents = λ t. contents-good ns t;

@@ -27,7 +27,8 @@ pub row-word : (v : ℕ → ℕ) (n w : ℕ) (r : List ℕ) → w < n → v w < 
 row-word v n w r h b =
     let row : ℕ → List ℕ = λ w. littleBytes 8 (v w) in
     little-same 8 (joined row n ++ r) (row w ++ []) (8 * w) 0
-    (λ j m. ap (num (joined row n ++ r)) (place j) ∙ laid-at 8 row n w j r 0 (λ i l. length-bytes 8 (v i)) h m ∙ sym (List·getD-append (row w) [] 0 j (subst (λ (x : ℕ). j < x) (sym (length-bytes 8 (v w))) m)) ∙ ap (num (row w ++ [])) (plus j))
+    (λ j m. ap (num (joined row n ++ r)) (place j) ∙ laid-at 8 row n w j r 0 (λ i l. length-bytes 8 (v i)) h m ∙
+    sym (List·getD-append (row w) [] 0 j (subst (λ (x : ℕ). j < x) (sym (length-bytes 8 (v w))) m)) ∙ ap (num (row w ++ [])) (plus j))
     ∙ little-back 8 (v w) [] b
   where
     place : (j : ℕ) → 8 * w + j ≡ w * 8 + j
@@ -98,7 +99,8 @@ module _ (l : Layout) (d : Stored) (e : InWords d) (k : l .links < wordsMost) wh
       (either-below (ltb w (l .increments)) _ _ (area-below (d .positions) 12 (l .cells) w (e .positions))
       (either-below (ltb w (l .gains)) _ _ (area-below (d .increments) (l .increments) (l .cells) w (e .increments)) (area-below (d .gains) (l .gains) (l .cells) w (e .gains))))
       (either-below (ltb w (l .indices)) _ _ (area-below (cond (l .tree) (d .offsets) (d .affinities)) (l .affinities) (l .held) w (which (l .tree)))
-      (either-below (ltb w (l .weights)) _ _ (area-below (d .indices) (l .indices) (l .links) w (wide (d .indices) (e .indices))) (area-below (d .affinities) (l .weights) (l .links) w (e .affinities)))))
+      (either-below (ltb w (l .weights)) _ _ (area-below (d .indices) (l .indices) (l .links) w (wide (d .indices) (e .indices)))
+      (area-below (d .affinities) (l .weights) (l .links) w (e .affinities)))))
     where
       which : (t : Bool) → AllBelow wordsMost (cond t (d .offsets) (d .affinities))
       which true = wide (d .offsets) (e .offsets)
@@ -129,7 +131,9 @@ pub filling-out : (v : List ℕ) (m i : ℕ) → m ≤ i → filling v m i ≡ 0
 filling-out v m i h = rw (le-ltb i m h)
 
 module _ (l : Layout) (r : Stacked l) (d : Stored) where
-  past : (w : ℕ) → 12 ≤ w → parkedWord l d w ≡ chosen l r (areaWord (d .positions) 12 (l .cells) w) (areaWord (d .increments) (l .increments) (l .cells) w) (areaWord (d .gains) (l .gains) (l .cells) w) (areaWord (cond (l .tree) (d .offsets) (d .affinities)) (l .affinities) (l .held) w) (areaWord (d .indices) (l .indices) (l .links) w) (areaWord (d .affinities) (l .weights) (l .links) w) w
+  past : (w : ℕ) → 12 ≤ w → parkedWord l d w ≡ chosen l r (areaWord (d .positions) 12 (l .cells) w) (areaWord (d .increments) (l .increments) (l .cells) w)
+      (areaWord (d .gains) (l .gains) (l .cells) w) (areaWord (cond (l .tree) (d .offsets) (d .affinities)) (l .affinities) (l .held) w)
+      (areaWord (d .indices) (l .indices) (l .links) w) (areaWord (d .affinities) (l .weights) (l .links) w) w
   unfolding parkedWord stateWord affinityWord
   past w h = rw (le-ltb w 12 h)
 
@@ -147,10 +151,13 @@ module _ (l : Layout) (r : Stacked l) (d : Stored) where
   word-gains i h = past (l .gains + i) (omega (arith, r .increments-at, r .gains-at)) ∙ in-gains l r _ _ _ _ _ _ i h ∙ area-at (d .gains) (l .gains) (l .cells) i
 
   pub word-affinities : (i : ℕ) → i < filledUp (l .held) → parkedWord l d (l .affinities + i) ≡ filling (cond (l .tree) (d .offsets) (d .affinities)) (l .held) i
-  word-affinities i h = past (l .affinities + i) (omega (arith, r .increments-at, r .gains-at, r .affinities-at)) ∙ in-affinities l r _ _ _ _ _ _ i h ∙ area-at (cond (l .tree) (d .offsets) (d .affinities)) (l .affinities) (l .held) i
+  word-affinities i h = past (l .affinities + i) (omega (arith, r .increments-at, r .gains-at, r .affinities-at)) ∙ in-affinities l r _ _ _ _ _ _ i h ∙
+      area-at (cond (l .tree) (d .offsets) (d .affinities)) (l .affinities) (l .held) i
 
   pub word-indices : (i : ℕ) → i < filledUp (l .links) → parkedWord l d (l .indices + i) ≡ filling (d .indices) (l .links) i
-  word-indices i h = past (l .indices + i) (omega (arith, r .increments-at, r .gains-at, r .affinities-at, r .indices-at)) ∙ in-indices l r _ _ _ _ _ _ i h ∙ area-at (d .indices) (l .indices) (l .links) i
+  word-indices i h = past (l .indices + i) (omega (arith, r .increments-at, r .gains-at, r .affinities-at, r .indices-at)) ∙ in-indices l r _ _ _ _ _ _ i h ∙
+      area-at (d .indices) (l .indices) (l .links) i
 
   pub word-weights : (i : ℕ) → i < filledUp (l .links) → parkedWord l d (l .weights + i) ≡ filling (d .affinities) (l .links) i
-  word-weights i h = past (l .weights + i) (omega (arith, r .increments-at, r .gains-at, r .affinities-at, r .indices-at, r .weights-at)) ∙ in-weights l r _ _ _ _ _ _ i h ∙ area-at (d .affinities) (l .weights) (l .links) i
+  word-weights i h = past (l .weights + i) (omega (arith, r .increments-at, r .gains-at, r .affinities-at, r .indices-at, r .weights-at)) ∙
+      in-weights l r _ _ _ _ _ _ i h ∙ area-at (d .affinities) (l .weights) (l .links) i

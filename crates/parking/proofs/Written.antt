@@ -18,6 +18,7 @@ use Rattle.little.specs.Little.{littleBytes, wordIn}
 use Rattle.tree_node.specs.declared.Node.{Node}
 use Rattle.run_record.specs.Record.{stateFits, GoodSettings}
 use Rattle.record_words.specs.RecordWords.{runFine, settingsFine, runOf, settingsOf, standingOf}
+use Rattle.record_words.proofs.Laws.{method-tree}
 use Rattle.parked.specs.declared.Layout.{Layout}
 use Rattle.parked.specs.Layout.{filledUp, layoutOf, recordsIn}
 use Rattle.parked.specs.Parked.{Stored, headOf, linksIn, layoutIn, parkedWord}
@@ -27,10 +28,11 @@ use Rattle.park.specs.Park.{calmAll, calmState, Parking, parkedInto, parkOf}
 use Rattle.parked_file.specs.File.{recordsDue, isParked}
 use Rattle.parking.specs.Held.{wordsMost, InWords, firstRecords}
 use Rattle.parking.proofs.Regions.{filled-most, less-one, Stacked, layout-stacked, head-before-end}
-use Rattle.parking.proofs.Words.{word-alone, rows-long, word-below, filling, filling-in, filling-out, word-head, word-positions, word-increments, word-gains, word-affinities, word-indices, word-weights}
+use Rattle.parking.proofs.Words.{word-alone, rows-long, word-below, filling, filling-in, filling-out, word-head, word-positions, word-increments}
+use Rattle.parking.proofs.Words.{word-gains, word-affinities, word-indices, word-weights}
 use Rattle.parking.proofs.Files.{else-true, AreaFine, heldTest, WordsFine, FileFine, fine-parked}
 use Rattle.parking.proofs.Entries.{Writes, parks-all}
-use Rattle.parking.proofs.Heads.{method-tree, settingsWith, first-good, second-good, third-good}
+use Rattle.parking.proofs.Heads.{settingsWith, first-good, second-good, third-good}
 use Rattle.parking.proofs.Lists.{Lists, lists-of}
 
 -- ---- how the run lies
@@ -45,7 +47,15 @@ pub record Lying (l : Layout) (w off : List ℕ) : Type 0 where
 
 pub lying : (w off : List ℕ) → Lying (layoutIn w off) w off
 unfolding layoutIn layoutOf
-lying w off = record { tree-is = refl; n-is = refl; cells-is = refl; held-is = refl; links-are = refl; rises = layout-stacked (eqb (num w 3) 1) (num w 0) (num w 2) (linksIn (eqb (num w 3) 1) (num w 0) off) }
+lying w off = record {
+  tree-is = refl;
+  n-is = refl;
+  cells-is = refl;
+  held-is = refl;
+  links-are = refl;
+  rises = layout-stacked (eqb (num w 3) 1) (num w 0)
+      (num w 2) (linksIn (eqb (num w 3) 1) (num w 0) off);
+}
 
 -- ---- the first three records
 
@@ -102,7 +112,8 @@ module _ (d : Stored) (F : List Float) (ns : List Node) (t : List ℕ) (W : Writ
 
   pub method-most : num w 3 ≤ 1
   unfolding runFine settingsFine
-  method-most = leb-true (num w 3) 1 (and-right (leb 9 (length w)) (leb (num w 3) 1) (and-right (leb 14 (length w)) (settingsFine w) (and-left (leb 14 (length w) && settingsFine w) (leb (num w 9) 2) (W .read))))
+  method-most = leb-true (num w 3) 1 (and-right (leb 9 (length w)) (leb (num w 3) 1)
+      (and-right (leb 14 (length w)) (settingsFine w) (and-left (leb 14 (length w) && settingsFine w) (leb (num w 9) 2) (W .read))))
 
   state-most : leb (num w 9) 2 ≡ true
   unfolding runFine
@@ -124,7 +135,8 @@ module _ (d : Stored) (F : List Float) (ns : List Node) (t : List ℕ) (W : Writ
   unfolding linksIn
   links-in = rw (lying w (d .offsets) .links-are) (by (eqb (num w 3) 1) refl)
     where
-      by : (b : Bool) → eqb (num w 3) 1 ≡ b → cond b (leb (cond b (num (d .offsets) (num w 0)) 0) (2 * num w 0 * neighboursOf (bits (num w 4)) (num w 0))) (eqb (cond b (num (d .offsets) (num w 0)) 0) 0) ≡ true
+      by : (b : Bool) → eqb (num w 3) 1 ≡ b → cond b (leb (cond b (num (d .offsets) (num w 0)) 0) (2 * num w 0 * neighboursOf (bits (num w 4)) (num w 0)))
+          (eqb (cond b (num (d .offsets) (num w 0)) 0) 0) ≡ true
       by true e = le-leb (num (d .offsets) (num w 0)) (2 * num w 0 * neighboursOf (bits (num w 4)) (num w 0)) (lists-in e .most-links)
       by false e = refl
 
@@ -184,18 +196,29 @@ module _ (d : Stored) (F : List Float) (ns : List Node) (t : List ℕ) (W : Writ
         let some : 1 ≤ i = omega (arith, eqb-false i 0 z) in
         let before : g (l .affinities + i - 1) ≡ num (d .offsets) (i - 1) = ap g (less-one (l .affinities) i some) ∙ q (i - 1) (omega arith) in
         let links : l .links ≡ num (d .offsets) (num w 0) = rw e at (y .links-are) in
-        rw (z, before, q i h, links, y .n-is, le-leb (num (d .offsets) (i - 1)) (num (d .offsets) i) (lists-in e .rises i some (omega arith)), le-leb (num (d .offsets) i) (num (d .offsets) (num w 0)) (lists-in e .below i (omega arith))) (last i))
+        rw (
+          z,
+          before,
+          q i h,
+          links,
+          y .n-is,
+          le-leb (num (d .offsets) (i - 1)) (num (d .offsets) i) (lists-in e .rises i some (omega arith)),
+          le-leb (num (d .offsets) i) (num (d .offsets) (num w 0)) (lists-in e .below i (omega arith)),
+        ) (last i))
       where
         last : (i : ℕ) → (not (eqb i (num w 0)) || eqb (num (d .offsets) i) (num (d .offsets) (num w 0))) ≡ true
         last i = by-bool _ (eqb i (num w 0))
-            (λ z. or-yes (not (eqb i (num w 0))) (eqb (num (d .offsets) i) (num (d .offsets) (num w 0))) (eq-eqb (num (d .offsets) i) (num (d .offsets) (num w 0)) (ap (num (d .offsets)) (eqb-true i (num w 0) z))))
+            (λ z. or-yes (not (eqb i (num w 0))) (eqb (num (d .offsets) i) (num (d .offsets) (num w 0)))
+            (eq-eqb (num (d .offsets) i) (num (d .offsets) (num w 0)) (ap (num (d .offsets)) (eqb-true i (num w 0) z))))
             (λ z. rw z)
 
     held-fits : (i : ℕ) → i < l .held → heldTest g l i ≡ true
     held-fits i h = else-true (l .tree) (offsetFits g l i (l .affinities + i)) (λ t.
         let e : eqb (num w 3) 1 ≡ true = sym (y .tree-is) ∙ t in
         let s : l .held ≡ num w 0 + 1 = rw e at (y .held-is) in
-        offset-fits e (λ i a. at-affinities i (omega (arith, s, filled-most (l .held))) ∙ ap (λ (b : Bool). filling (cond b (d .offsets) (d .affinities)) (l .held) i) t ∙ filling-in (d .offsets) (l .held) i (omega (arith, s))) i (omega (arith, s)))
+        offset-fits e (λ i a. at-affinities i (omega (arith, s, filled-most (l .held))) ∙
+        ap (λ (b : Bool). filling (cond b (d .offsets) (d .affinities)) (l .held) i) t ∙ filling-in (d .offsets) (l .held) i (omega (arith, s))) i
+        (omega (arith, s)))
 
     index-fits : (i : ℕ) → i < l .links → num (d .indices) i < l .n
     unfolding linksIn
@@ -215,7 +238,8 @@ module _ (d : Stored) (F : List Float) (ns : List Node) (t : List ℕ) (W : Writ
           increments = values (l .increments) (d .increments) at-increments (and-right P I e);
           gains = values (l .gains) (d .gains) at-gains (and-right (P && I) A (W .calm-all));
           affinities = area (l .affinities) (l .held) (cond (l .tree) (d .offsets) (d .affinities)) (heldTest g l) at-affinities (λ q. held-fits);
-          indices = area (l .indices) (l .links) (d .indices) (λ i. ltb (g (l .indices + i)) (l .n)) at-indices (λ q i h. ap (λ (x : ℕ). ltb x (l .n)) (q i h) ∙ lt-ltb (num (d .indices) i) (l .n) (index-fits i h));
+          indices = area (l .indices) (l .links) (d .indices) (λ i. ltb (g (l .indices + i)) (l .n)) at-indices (λ q i h. ap (λ (x : ℕ). ltb x (l .n)) (q i h) ∙
+              lt-ltb (num (d .indices) i) (l .n) (index-fits i h));
           weights = area (l .weights) (l .links) (d .affinities) (λ i. true) at-weights (λ q i h. refl);
         }
 
@@ -225,8 +249,11 @@ module _ (d : Stored) (F : List Float) (ns : List Node) (t : List ℕ) (W : Writ
         let s = settings-in in
         record {
           first-fine = rw (h .method, h .n, h .f, h .c) (first-good (num w 3) (num w 0) (num w 1) (num w 2) (num w 4) (num w 5) (num w 6) (num w 7) (num w 8) method-most s);
-          second-fine = rw (h .method, h .n, h .perplexity, h .rate, h .iterations, h .angle, y .tree-is) (second-good (num w 3) (num w 0) (num w 1) (num w 2) (num w 4) (num w 5) (num w 6) (num w 7) (num w 8) method-most s);
-          third-fine = rw (h .method, h .n, h .perplexity, h .iterations, h .minimum, h .done, h .state, h .links) (third-good (num w 3) (num w 0) (num w 4) (num w 6) (num w 8) (num w 10) (num w 9) (l .links) (record { s-most = state-most; state-fits = state-in; links-most = links-in }));
+          second-fine = rw (h .method, h .n, h .perplexity, h .rate, h .iterations, h .angle, y .tree-is)
+              (second-good (num w 3) (num w 0) (num w 1) (num w 2) (num w 4) (num w 5) (num w 6) (num w 7) (num w 8) method-most s);
+          third-fine = rw (h .method, h .n, h .perplexity, h .iterations, h .minimum, h .done, h .state, h .links)
+              (third-good (num w 3) (num w 0) (num w 4) (num w 6) (num w 8) (num w 10) (num w 9) (l .links)
+              (record { s-most = state-most; state-fits = state-in; links-most = links-in }));
           words = subst (λ (x : Layout). WordsFine g x) (sym (by-head g w (d .offsets) head)) words-in;
         }
 
@@ -279,7 +306,8 @@ module _ (d : Stored) (forces : ℕ) (ns : List Node) (t : List ℕ) (k : ℕ) w
       ∙ ap (λ (x : ℕ). take (32 * x) (parkedInto (layoutIn (d .run) (d .offsets)) d t)) (sym (p .count))
       ∙ file-front d t
 
-  pub what-is-written-stands : InWords d → parkOf d forces ns t .answer ≡ Written k → (isParked (firstRecords k (parkOf d forces ns t .target)) ≡ true) × (recordsDue (firstRecords k (parkOf d forces ns t .target)) ≡ k)
+  pub what-is-written-stands : InWords d → parkOf d forces ns t .answer ≡ Written k → (isParked (firstRecords k (parkOf d forces ns t .target)) ≡ true) ×
+      (recordsDue (firstRecords k (parkOf d forces ns t .target)) ≡ k)
   what-is-written-stands e a =
       let p = parks-all d forces ns t k a in
       let F : List Float = replicate forces zero64 in

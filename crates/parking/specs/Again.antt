@@ -14,7 +14,8 @@ recordAgain w =
     num w 0 ∷ num w 1 ∷ num w 2 ∷ num w 3 ∷ num w 4 ∷ num w 5 ∷ num w 6 ∷ cond (eqb (num w 3) 1) (num w 7) 0 ∷ num w 8 ∷
     num w 9 ∷ num w 10 ∷ num w 11 ∷ num w 12 ∷ 0 ∷ []
 
--- d written and read again into e: n·c positions, increments and gains; of an exact run n·n affinities; of a Barnes-Hut run n + 1 offsets, and as many indices and weights as there are links; all else as it stood in e
+-- d written and read again into e: n·c positions, increments and gains; of an exact run n·n affinities; of a Barnes-Hut run n + 1 offsets, and as many indices
+-- and weights as there are links; all else as it stood in e
 unfoldable pub storedAgain : Stored → Stored → Stored
 storedAgain d e =
     let l = layoutIn (d .run) (d .offsets) in

@@ -70,7 +70,12 @@ module _ (n most : ℕ) (f : List ℕ) where
     pub accepted-whole : givenLinks f ≡ wholeLinks f
     unfolding partnerFine
     accepted-whole = elim (decLt (wholeLinks f) (givenLinks f)) [
-      | yes l ↦ absurd (omega (arith, ltb-true (wholeLinks f) (wholeLinks f) (and-left (ltb (wholeLinks f) (wholeLinks f)) (linkFine n most f (wholeLinks f)) (and-left (ltb (wholeLinks f) (wholeLinks f) && linkFine n most f (wholeLinks f)) (mirrored f (wholeLinks f)) (none-bad (wholeLinks f) l)))))
+      | yes l ↦ absurd (omega (
+        arith,
+        ltb-true (wholeLinks f) (wholeLinks f)
+            (and-left (ltb (wholeLinks f) (wholeLinks f)) (linkFine n most f (wholeLinks f))
+            (and-left (ltb (wholeLinks f) (wholeLinks f) && linkFine n most f (wholeLinks f)) (mirrored f (wholeLinks f)) (none-bad (wholeLinks f) l))),
+      ))
       | no l ↦ omega arith
     ]
 

@@ -44,8 +44,8 @@ pub raised-above : (f : List ℕ) (i : ℕ) → (eqb i 0 || ltb (linkPair f (i -
 raised-above f i e l = ltb-true _ _ (rw (ne-eqb i 0 (λ q. omega (arith, q))) at e)
 
 -- one more
-pub rise-more : {f : List ℕ} {a k : ℕ} → 1 ≤ k → PairsRise f a k → (eqb (a + k) 0 || ltb (linkPair f (a + k - 1)) (linkPair f (a + k))) ≡ true → PairsRise f a (k + 1)
-rise-more {f} {a} {k} n r e = rise-steps f a (k + 1) by
+pub rise-next : {f : List ℕ} {a k : ℕ} → 1 ≤ k → PairsRise f a k → (eqb (a + k) 0 || ltb (linkPair f (a + k - 1)) (linkPair f (a + k))) ≡ true → PairsRise f a (k + 1)
+rise-next {f} {a} {k} n r e = rise-steps f a (k + 1) by
   where
     by : (t : ℕ) → t + 1 < k + 1 → linkPair f (a + t) < linkPair f (a + (t + 1))
     by t l = elim (decLt (t + 1) k) [

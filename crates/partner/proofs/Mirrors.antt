@@ -53,8 +53,8 @@ module _ (f : List ℕ) (i : ℕ) where
     met-none h = le-ltb (first here k) k (omega (arith, first-none here k h))
 
     -- one by one
-    pub met-more : (t : ℕ) → ((s : ℕ) → s < t → isMirror f i (a + s) ≡ false) → isMirror f i (a + t) ≡ false → (s : ℕ) → s < t + 1 → isMirror f i (a + s) ≡ false
-    met-more t h e s l = elim (decLt s t) [ yes q ↦ h s q | no q ↦ moved (a + t) (a + s) (omega arith) e ]
+    pub met-next : (t : ℕ) → ((s : ℕ) → s < t → isMirror f i (a + s) ≡ false) → isMirror f i (a + t) ≡ false → (s : ℕ) → s < t + 1 → isMirror f i (a + s) ≡ false
+    met-next t h e s l = elim (decLt s t) [ yes q ↦ h s q | no q ↦ moved (a + t) (a + s) (omega arith) e ]
 
     -- where there is one
     pub met-at : mirroredIn f i a k ≡ true → (t : ℕ) × ((t < k) × (isMirror f i (a + t) ≡ true))

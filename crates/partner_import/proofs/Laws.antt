@@ -1,43 +1,30 @@
 -- What the tests of an import have shown, and what an accepted list asks of its areas. Assumes nothing.
-use mathlib.Core.Path.{_≡_, refl, sym, ap, _∙_}
+use mathlib.Core.Path.{_≡_, ap, _∙_}
 use mathlib.Core.List.{List}
-use mathlib.Core.Bool.{Bool, true, false, cond, not}
+use mathlib.Core.Bool.{true, cond, not}
 use Prim.Native.Nat.{ℕ, _+_, _*_, _<_, _≤_}
 use native.Mathlib.Omega.{arith}
 use native.Mathlib.Nat.{mul-le-mul, mul-assoc}
 use lib.Dec.{eqb}
 use lib.ListN.{length}
-use borrow.Author.Tests.{eq-eqb, ne-eqb, eqb-true, eqb-false, not-false}
+use borrow.Author.Tests.{eq-eqb, ne-eqb, eqb-true, not-false}
 use Rattle.laws.specs.Domain.{mostFrames}
 use Rattle.laws.specs.Joined.{pasted}
-use Rattle.laws.proofs.Bools.{by-bool, not-true-is}
 use Rattle.areas.specs.Filled.{filled}
 use Rattle.run_record.specs.declared.Settings.{Settings}
 use Rattle.run_record.specs.declared.Run.{Run}
 use Rattle.run_record.specs.Record.{isTree, settingsFault, sizesOf, kOf, freshRun, GoodSettings}
-use Rattle.run_record.proofs.Laws.{settings-fine, k-most}
+use Rattle.run_record.proofs.Laws.{test-told, number-told, last-told, settings-fine, k-most}
 use Rattle.run_entry.specs.Entry.{areasFit, GoodAreas}
 use Rattle.run_entry.proofs.Laws.{areas-fine}
 use Rattle.partner.specs.Partner.{wholeLinks, givenLinks, firstBadLink, isPartner}
 use Rattle.partner.proofs.Accepted.{accepted-few, accepted-frames}
 use Rattle.partner_load.specs.Loaded.{indicesLoaded, weightsLoaded, offsetsLoaded, FramesRise}
 use Rattle.partner_import.specs.declared.LentLengths.{LentLengths}
-use Rattle.partner_import.specs.declared.Imported.{Imported}
 use Rattle.partner_import.specs.declared.Imported.the-variants.{Refused, BadRecord, Loaded}
 use Rattle.partner_import.specs.Import.{Loading, loading, lentLengths, treeSettings, startFine, importFault, oneBits, loadedAreas, importOutcome, judgedList, importOf}
 
 -- ---- the tests
-
-pass : (t : Bool) (k r : ℕ) → (k ≡ 0 → ⊥) → cond t k r ≡ 0 → (t ≡ false) × (r ≡ 0)
-pass true k r n e = absurd (n e)
-pass false k r n e = (refl, e)
-
-given : (k r : ℕ) → cond (not (eqb k 0)) k r ≡ 0 → (k ≡ 0) × (r ≡ 0)
-given k r e = by-bool ((k ≡ 0) × (r ≡ 0)) (eqb k 0) (λ q. (eqb-true k 0 q, rw q at e)) (λ q. absurd (eqb-false k 0 q (rw q at e)))
-
-last : (t : Bool) → _≡_ {A = ℕ} (cond t 0 12) 0 → t ≡ true
-last true e = refl
-last false e = absurd (let z : _≡_ {A = ℕ} 12 0 = e in omega arith)
 
 pub record LetIn (s : Settings) (start : List ℕ) (l : LentLengths) : Type 0 where
   pub good : GoodSettings s
@@ -53,14 +40,14 @@ let-in s start l e =
     let r3 : ℕ = cond A 0 12 in
     let r2 : ℕ = cond (not S) 11 r3 in
     let r1 : ℕ = cond (not (eqb (length start) (s .n * s .c))) 11 r2 in
-    let a = given (settingsFault s) r1 e in
-    let b = pass (not (eqb (length start) (s .n * s .c))) 11 r2 (λ q. omega arith) (a .1) in
-    let c = pass (not S) 11 r3 (λ q. omega arith) (b .1) in
+    let a = number-told (settingsFault s) r1 e in
+    let b = test-told (not (eqb (length start) (s .n * s .c))) 11 r2 (λ q. omega arith) (a .1) in
+    let c = test-told (not S) 11 r3 (λ q. omega arith) (b .1) in
     record {
       good = settings-fine s (a .0);
       start-is = eqb-true (length start) (s .n * s .c) (not-false (eqb (length start) (s .n * s .c)) (b .0));
       start-in = not-false S (c .0);
-      areas = areas-fine s (l .positions) (l .increments) (l .gains) (l .affinities) (l .indices) (l .offsets) (l .forces) (l .nodes) (last A (c .1));
+      areas = areas-fine s (l .positions) (l .increments) (l .gains) (l .affinities) (l .indices) (l .offsets) (l .forces) (l .nodes) (last-told A 12 (λ q. omega arith) (c .1));
     }
 
 -- the lists have room, and so has what a run begins with

@@ -36,7 +36,17 @@ loading p i g a x o f = record { positions = p; increments = i; gains = g; affin
 
 -- their lengths; of the arena the number of its nodes
 abbrev pub lentLengths : Loading → ℕ → LentLengths
-lentLengths l nodes = record { positions = length (l .positions); increments = length (l .increments); gains = length (l .gains); affinities = length (l .affinities); indices = length (l .indices); offsets = length (l .offsets); forces = length (l .forces); nodes = nodes }
+lentLengths l nodes = record {
+  positions = length (l .positions);
+  increments = length (l .increments);
+  gains = length (l .gains);
+  affinities = length
+      (l .affinities);
+  indices = length (l .indices);
+  offsets = length (l .offsets);
+  forces = length (l .forces);
+  nodes = nodes;
+}
 
 -- ---- the tests
 

@@ -9,7 +9,7 @@ use native.Mathlib.Numerals.{add-one}
 use lib.Dec.{ltb}
 use borrow.Author.Tests.{lt-ltb, le-ltb}
 use Rattle.laws.specs.Sums.{sum, bit}
-use Rattle.laws.proofs.Sums.{sum-none, sum-more}
+use Rattle.laws.proofs.Sums.{sum-none, sum-next}
 use Rattle.partner.specs.Partner.{wholeLinks, linkFrom}
 use Rattle.partner_load.specs.Loaded.{linksBelow, FramesRise}
 
@@ -23,8 +23,8 @@ count-first p (suc n) r l y z = elim (decLt n r) [
 ]
 
 -- one more link that starts at a frame below j
-pub starts-below-more : (f : List ℕ) {a p j : ℕ} → ((t : ℕ) → a ≤ t → t < p → linkFrom f t < j) → linkFrom f p < j → (t : ℕ) → a ≤ t → t < p + 1 → linkFrom f t < j
-starts-below-more f {a} {p} {j} h e t l m = elim (decLt t p) [ yes q ↦ h t l q | no q ↦ subst (λ (x : ℕ). linkFrom f x < j) (omega arith) e ]
+pub starts-below-next : (f : List ℕ) {a p j : ℕ} → ((t : ℕ) → a ≤ t → t < p → linkFrom f t < j) → linkFrom f p < j → (t : ℕ) → a ≤ t → t < p + 1 → linkFrom f t < j
+starts-below-next f {a} {p} {j} h e t l m = elim (decLt t p) [ yes q ↦ h t l q | no q ↦ subst (λ (x : ℕ). linkFrom f x < j) (omega arith) e ]
 
 -- the loop: r is where the list of frame j begins, so that those before it start at frames below j
 pub record ListsBegin (f : List ℕ) (r j : ℕ) : Type 0 where
@@ -36,11 +36,11 @@ lists-start f = record { within = omega arith; below = λ t l. absurd (omega ari
 
 module _ {f : List ℕ} {a r j : ℕ} (h : ListsBegin f a j) where
   -- from a on, those up to r start below j, and the one at r does not
-  pub lists-next : (a ≤ r) → r ≤ wholeLinks f → ((t : ℕ) → a ≤ t → t < r → linkFrom f t < j) → ListsBegin f r j
-  lists-next l w b = record { within = w; below = λ t m. elim (decLt t a) [ yes q ↦ h .below t q | no q ↦ b t (omega arith) m ] }
+  pub lists-over : (a ≤ r) → r ≤ wholeLinks f → ((t : ℕ) → a ≤ t → t < r → linkFrom f t < j) → ListsBegin f r j
+  lists-over l w b = record { within = w; below = λ t m. elim (decLt t a) [ yes q ↦ h .below t q | no q ↦ b t (omega arith) m ] }
 
-pub lists-more : {f : List ℕ} {r j : ℕ} → ListsBegin f r j → ListsBegin f r (j + 1)
-lists-more h = record { within = h .within; below = λ t l. omega (arith, h .below t l) }
+pub lists-next : {f : List ℕ} {r j : ℕ} → ListsBegin f r j → ListsBegin f r (j + 1)
+lists-next h = record { within = h .within; below = λ t l. omega (arith, h .below t l) }
 
 -- r links start at frames below j
 pub lists-counted : {f : List ℕ} {r j : ℕ} → FramesRise f → ListsBegin f r j → (r < wholeLinks f → j ≤ linkFrom f r) → linksBelow f j ≡ r

@@ -59,7 +59,9 @@ listsTested f w W I O t =
 
 -- the lists of the run in d with so many forces and these nodes, written to t
 unfoldable pub writtenLists : Stored → ℕ → List Node → List ℕ → Listing
-writtenLists d forces ns t = listsTested (wordsFault (d .run) (length (d .positions)) (length (d .increments)) (length (d .gains)) (length (d .affinities)) forces (d .indices) (d .offsets) ns) (d .run) (d .affinities) (d .indices) (d .offsets) t
+writtenLists d forces ns t = listsTested
+    (wordsFault (d .run) (length (d .positions)) (length (d .increments)) (length (d .gains)) (length (d .affinities)) forces (d .indices) (d .offsets) ns)
+    (d .run) (d .affinities) (d .indices) (d .offsets) t
 
 -- the number of a refusal; 0 where there is none
 unfoldable pub listsNumber : ListsWritten → ℕ

@@ -54,7 +54,9 @@ module _ (w : List ℕ) (l : Loading) (ns : List Node) where
   abbrev stored : Stored
   stored = storedOf w (l .positions) (l .increments) (l .gains) (l .affinities) (l .indices) (l .offsets)
 
-  entry-passes : runFine w ≡ true → Good (stateLoaded (runOf w) l ns) → wordsFault w (length (l .positions)) (length (l .increments)) (length (l .gains)) (length (l .affinities)) (length (l .forces)) (l .indices) (l .offsets) ns ≡ Fine
+  entry-passes : runFine w ≡ true → Good (stateLoaded (runOf w) l ns) →
+      wordsFault w (length (l .positions)) (length (l .increments)) (length (l .gains)) (length (l .affinities)) (length (l .forces)) (l .indices)
+      (l .offsets) ns ≡ Fine
   unfolding wordsFault faultOf
   entry-passes f g =
       let h = fault-good (stateLoaded (runOf w) l ns) g in
@@ -85,4 +87,5 @@ module _ (d : Stored) (forces : ℕ) (ns : List Node) (t : List ℕ) where
 
   pub host-refused-writing-changes-nothing : (a : List ℕ) → (hostLists d forces ns t a .number ≡ 0 → ⊥) → hostLists d forces ns t a .target ≡ t
   unfolding hostLists
-  host-refused-writing-changes-nothing a = by-bool ((hostLists d forces ns t a .number ≡ 0 → ⊥) → hostLists d forces ns t a .target ≡ t) (eqb (length a) 0) (λ m. rw m (λ z. refl)) (λ m. rw m (λ z. refused-writing-changes-nothing z))
+  host-refused-writing-changes-nothing a = by-bool ((hostLists d forces ns t a .number ≡ 0 → ⊥) → hostLists d forces ns t a .target ≡ t) (eqb (length a) 0)
+      (λ m. rw m (λ z. refl)) (λ m. rw m (λ z. refused-writing-changes-nothing z))

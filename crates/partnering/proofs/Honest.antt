@@ -66,14 +66,16 @@ module _ (s : Settings) (start file : List ℕ) (nodes : ℕ) (l : Loading) wher
     as-long : (x y : List ℕ) (m : ℕ) → length x ≡ length y → m ≤ length y → m ≤ length (map bits x)
     as-long x y m e h = omega (arith, length-map bits x, e)
 
-    areas-loaded : GoodAreas t (length (map bits (A .positions))) (length (map bits (A .increments))) (length (map bits (A .gains))) (length (map bits (A .affinities))) (length (A .indices)) (length (A .offsets)) (length (map bits (A .forces))) (length ns)
+    areas-loaded : GoodAreas t (length (map bits (A .positions))) (length (map bits (A .increments))) (length (map bits (A .gains)))
+        (length (map bits (A .affinities))) (length (A .indices)) (length (A .offsets)) (length (map bits (A .forces))) (length ns)
     unfolding loadedAreas sizesOf
     areas-loaded =
         let P = p .areas in
         let room = list-room p s refl in
         let few = links-in-number t (p .good) file ok in
         record {
-          positions-long = as-long (A .positions) (l .positions) (t .n * t .c) (length-pasted start (l .positions) 0 (t .n * t .c) (omega (arith, p .start-is)) (P .positions-long)) (P .positions-long);
+          positions-long = as-long (A .positions) (l .positions) (t .n * t .c)
+              (length-pasted start (l .positions) 0 (t .n * t .c) (omega (arith, p .start-is)) (P .positions-long)) (P .positions-long);
           increments-long = as-long (A .increments) (l .increments) (t .n * t .c) (filled-size 0 (t .n * t .c) (l .increments) (P .increments-long)) (P .increments-long);
           gains-long = as-long (A .gains) (l .gains) (t .n * t .c) (filled-size oneBits (t .n * t .c) (l .gains) (P .gains-long)) (P .gains-long);
           forces-long = as-long (A .forces) (l .forces) (t .n * (2 * t .c + 1)) (filled-size 0 (t .n * (2 * t .c + 1)) (l .forces) (P .forces-long)) (P .forces-long);

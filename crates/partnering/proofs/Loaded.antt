@@ -69,7 +69,8 @@ module _ (f : List ℕ) where
   -- where all start below n, all are counted
   pub all-start-below : (n : ℕ) → ((p : ℕ) → p < wholeLinks f → linkFrom f p < n) → linksBelow f n ≡ wholeLinks f
   unfolding linksBelow
-  all-start-below n h = sum-same (λ p. bit (ltb (linkFrom f p) n)) (λ p. 1) (wholeLinks f) (λ p l. bit-true (ltb (linkFrom f p) n) (lt-ltb (linkFrom f p) n (h p l))) ∙ sum-const 1 (wholeLinks f) ∙ omega arith
+  all-start-below n h = sum-same (λ p. bit (ltb (linkFrom f p) n)) (λ p. 1) (wholeLinks f) (λ p l. bit-true (ltb (linkFrom f p) n)
+      (lt-ltb (linkFrom f p) n (h p l))) ∙ sum-const 1 (wholeLinks f) ∙ omega arith
 
   bit-grows : (p j : ℕ) → bit (ltb (linkFrom f p) j) ≤ bit (ltb (linkFrom f p) (j + 1))
   bit-grows p j = elim (decLt (linkFrom f p) j) [

@@ -169,7 +169,13 @@ module _ (n most : ℕ) (W I O : List ℕ) (own : OwnLists n most W I O) (w : n 
 
       ends : num O j < wholeLinks B → j ≤ linkFrom B (num O j)
       ends l = elim (decLt (rowAt (num O j) l) j) [
-        | yes e ↦ absurd (omega (arith, row-holds (num O j) l, later-list n W I O (own .lie) (j - (rowAt (num O j) l + 1)) (rowAt (num O j) l + 1) (omega (arith, h)), ap (num O) (reached j (rowAt (num O j) l + 1) (omega arith))))
+        | yes e ↦ absurd (omega (
+          arith,
+          row-holds (num O j) l,
+          later-list n W I O (own .lie) (j - (rowAt (num O j) l + 1)) (rowAt (num O j) l + 1)
+              (omega (arith, h)),
+          ap (num O) (reached j (rowAt (num O j) l + 1) (omega arith)),
+        ))
         | no e ↦ omega (arith, from-is (num O j) l)
       ]
 

@@ -84,7 +84,9 @@ unfolding lt
 above-zero m e l = rw zero-is (lt-ltb _ _ (subst (λ (x : ℕ). x < m * up e * 1) (sym (zero-mul (down e))) (subst (λ (x : ℕ). 0 < x) (sym (mul-one (m * up e))) (mul-pos l (up-some e)))))
 
 below-most : (m : ℕ) (e : ℤ) → T (fits binary64 (fin false m e)) → 0 < m → le (fin false m e) largest ≡ true
-below-most m e h l = rw largest-is (is-true _ (le-of-values (fin false m e) (fin false 9007199254740991 (pos 971)) (m * up e) (down e) most 1 (down-some e) (omega arith) (refl, refl) (refl, refl) (subst (λ (x : ℕ). x ≤ most * down e) (sym (mul-one (m * up e))) (within m e h l))))
+below-most m e h l = rw largest-is (is-true _
+    (le-of-values (fin false m e) (fin false 9007199254740991 (pos 971)) (m * up e) (down e) most 1 (down-some e) (omega arith) (refl, refl) (refl, refl)
+    (subst (λ (x : ℕ). x ≤ most * down e) (sym (mul-one (m * up e))) (within m e h l))))
 
 pub positive-of : (x : Float) → T (fits binary64 x) → notNegative x → eq x zero64 ≡ false → positive x ≡ true
 unfolding positive

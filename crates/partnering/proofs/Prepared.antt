@@ -182,7 +182,9 @@ module _ (s : Settings) (table start : List Float) (cs : List Cell) (l : Lent) (
       rises = λ i p r h u v m. listed-rises n k rows rows-ok i p r h u v m;
       mirror = mirror-word;
       in-words = λ p h. words p;
-      weighty = λ p h. positive-of (bits (num W p)) (ofBits-fits binary64 (num W p)) (fair p h) (ap (λ (x : Float). eq x zero64) (sym (value p h) ∙ ap (λ (y : List Float). at y p) (sym weights-are)) ∙ no-zero p (omega (arith, h, ap (λ (y : List ℕ). num y n) offsets-are)));
+      weighty = λ p h. positive-of (bits (num W p)) (ofBits-fits binary64 (num W p)) (fair p h)
+          (ap (λ (x : Float). eq x zero64) (sym (value p h) ∙ ap (λ (y : List Float). at y p) (sym weights-are)) ∙
+          no-zero p (omega (arith, h, ap (λ (y : List ℕ). num y n) offsets-are)));
     }
 
     own-prepared : OwnLists n (sizesOf s .links) W (A .indices) (A .offsets)

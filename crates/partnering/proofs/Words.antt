@@ -54,7 +54,8 @@ module _ (s start file w : List ℕ) (l : Loading) (nodes : ℕ) (a : List ℕ) 
       (λ m. by-bool (answered .number ≡ 0 → AllPassed) (ltb (length s) 9)
       (λ n. rw (m, n) (λ q. absurd (let x : _≡_ {A = ℕ} 21 0 = q in omega arith)))
       (λ n. by-bool (answered .number ≡ 0 → AllPassed) (ltb (length w) 14)
-      (λ o. by-bool (answered .number ≡ 0 → AllPassed) (eqb fault 0) (λ z. rw (m, n, o, z) (λ q. absurd (let x : _≡_ {A = ℕ} 12 0 = q in omega arith))) (λ z. rw (m, n, o, z) (λ q. absurd (not-none fault z q))))
+      (λ o. by-bool (answered .number ≡ 0 → AllPassed) (eqb fault 0) (λ z. rw (m, n, o, z) (λ q. absurd (let x : _≡_ {A = ℕ} 12 0 = q in omega arith))) (λ z. rw
+      (m, n, o, z) (λ q. absurd (not-none fault z q))))
       (λ o. by-bool (answered .number ≡ 0 → AllPassed) (eqb fault 0)
       (λ z. by-bool (answered .number ≡ 0 → AllPassed) accepted
       (λ p q. record { told = m; nine = n; long = o; none = z; good = p })

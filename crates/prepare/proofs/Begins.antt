@@ -55,7 +55,8 @@ module _ {A : Type 0} where
 
 exact-size : (t : List Float) (n f : ℕ) (p : Float) (l : List Float) → n * n ≤ length l → length (exactOf t n f p l) ≡ length l
 unfolding exactOf
-exact-size t n f p l h = front-size (joined (λ i. each (λ j. affinityOf t n f p i j) n) n) l (n * n) (laid-size n (λ i. each (λ j. affinityOf t n f p i j) n) n (λ i q. singles-size (λ j. affinityOf t n f p i j) n)) h
+exact-size t n f p l h = front-size (joined (λ i. each (λ j. affinityOf t n f p i j) n) n) l (n * n)
+    (laid-size n (λ i. each (λ j. affinityOf t n f p i j) n) n (λ i q. singles-size (λ j. affinityOf t n f p i j) n)) h
 
 -- ---- the lists as preparation leaves them
 
@@ -80,10 +81,13 @@ module _ (s : Settings) (t : List Float) (two : 2 ≤ s .n) (a : Areas) where
   links-in l h = le-trans (links-most (s .n) k (b .indices) rows-ok) h
 
   weights-size : 2 * (s .n * k) ≤ length (a .weights) → length (made .weights) ≡ length (a .weights)
-  weights-size h = rw (weights-kept t (s .n) (s .f) (s .perplexity) two a) (front-size (joined (weightsOf (s .n) k (b .indices) (b .weights)) (s .n)) (a .weights) (linksOf (s .n) k (b .indices)) (length-weights (s .n) k (b .indices) (b .weights) (s .n)) (links-in (length (a .weights)) h))
+  weights-size h = rw (weights-kept t (s .n) (s .f) (s .perplexity) two a)
+      (front-size (joined (weightsOf (s .n) k (b .indices) (b .weights)) (s .n)) (a .weights) (linksOf (s .n) k (b .indices))
+      (length-weights (s .n) k (b .indices) (b .weights) (s .n)) (links-in (length (a .weights)) h))
 
   indices-size : 2 * (s .n * k) ≤ length (a .indices) → length (made .indices) ≡ length (a .indices)
-  indices-size h = rw (indices-kept t (s .n) (s .f) (s .perplexity) two a) (front-size (joined (listOf (s .n) k (b .indices)) (s .n)) (a .indices) (linksOf (s .n) k (b .indices)) refl (links-in (length (a .indices)) h))
+  indices-size h = rw (indices-kept t (s .n) (s .f) (s .perplexity) two a)
+      (front-size (joined (listOf (s .n) k (b .indices)) (s .n)) (a .indices) (linksOf (s .n) k (b .indices)) refl (links-in (length (a .indices)) h))
 
   offsets-size : s .n + 1 ≤ length (a .offsets) → length (made .offsets) ≡ length (a .offsets)
   unfolding neighboursListed
@@ -114,7 +118,11 @@ module _ (s : Settings) (t : List Float) (two : 2 ≤ s .n) (a : Areas) where
             let z : i - 1 + 1 ≡ i = omega (arith, e) in
             let last = to-last (s .n - i) i (omega arith) in
             let m : 2 * s .n * k ≡ 2 * (s .n * k) = mul-assoc 2 (s .n) k in
-            rw (ne-eqb i 0 e, le-leb (num (made .offsets) (i - 1)) (num (made .offsets) i) (rw z at up), le-leb (num (made .offsets) i) (sizesOf s .links) (omega (arith, last, last-most, links-is s, m))))
+            rw (
+              ne-eqb i 0 e,
+              le-leb (num (made .offsets) (i - 1)) (num (made .offsets) i) (rw z at up),
+              le-leb (num (made .offsets) i) (sizesOf s .links) (omega (arith, last, last-most, links-is s, m)),
+            ))
       ]
 
   index-fine : (i : ℕ) → i < num (made .offsets) (s .n) → indexFine (made .indices) (s .n) i ≡ true
@@ -139,7 +147,8 @@ module _ (s : Settings) (table start : List Float) (cs : List Cell) (l : Lent) w
   tree-is : isTree (s .method) ≡ true → routedIn s table l ≡ neighboursListed table (s .n) (s .f) (s .perplexity) before
   tree-is t = sym (routed-tree s table before t)
 
-  exact-is : isTree (s .method) ≡ false → routedIn s table l ≡ areas (exactOf table (s .n) (s .f) (s .perplexity) (l .affinities)) (l .indices) (l .offsets) (filled zero64 (s .n) (l .rowValues)) (filled 0 (s .n) (l .rowIndices))
+  exact-is : isTree (s .method) ≡ false → routedIn s table l ≡ areas (exactOf table (s .n) (s .f) (s .perplexity) (l .affinities)) (l .indices) (l .offsets)
+      (filled zero64 (s .n) (l .rowValues)) (filled 0 (s .n) (l .rowIndices))
   exact-is t = sym (routed-exact s table before t refl refl refl)
 
   module _ (p : Passed s table start (lengthsOf l nodes)) where
@@ -194,7 +203,9 @@ module _ (s : Settings) (table start : List Float) (cs : List Cell) (l : Lent) (
       by-bool (Honest begunState) (eqb fault 0)
       (λ e. let q : Ready (freshRun s) ≡ Ready run = rw e at ready in
       let same : run ≡ freshRun s = cc in
-      rw (e, same) (honest-begin s table start cs l (subst (λ (x : ℕ). Passed s table start (lengthsOf l x)) (sym (nodes-length cs)) (passed s table start (lengthsOf l (length cs)) (eqb-true fault 0 e)))))
+      rw (e, same) (honest-begin s table start cs l
+      (subst (λ (x : ℕ). Passed s table start (lengthsOf l x)) (sym (nodes-length cs))
+      (passed s table start (lengthsOf l (length cs)) (eqb-true fault 0 e)))))
       (λ e. absurd (let q : Refused fault ≡ Ready run = rw e at ready in let z : _≡_ {A = ℕ} 0 1 = cc in omega arith))
 
   -- THEOREM 2 from there on: calls one after the other, the last of at least 1, leave everything where one call with the sum leaves it
@@ -214,7 +225,8 @@ module _ (s : Settings) (table start : List Float) (cs : List Cell) (l : Lent) (
   never-14-begun room bs b e = never-14 bs b begunState preparation-honest (rw (nodes-length cs) room) e
 
   -- a call leaves the arena in the cells ds; with further cells behind them the run goes on as one does that had them from the start
-  pub goes-on-lent-begun : (more : List Cell) (b c : ℕ) (ds : List Cell) → Holds ds (work b begunState .left) → GoesOn b c begunState (lentArena (ds ++ more) (work b begunState .left)) (lentArena (cs ++ more) begunState)
+  pub goes-on-lent-begun : (more : List Cell) (b c : ℕ) (ds : List Cell) → Holds ds (work b begunState .left) →
+      GoesOn b c begunState (lentArena (ds ++ more) (work b begunState .left)) (lentArena (cs ++ more) begunState)
   goes-on-lent-begun more b c ds h = goes-on-lent more b c begunState preparation-honest cs ds refl h
 
   -- THEOREM 5 from there on: a call that is refused leaves the state of the units that it tells

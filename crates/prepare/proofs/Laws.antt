@@ -1,18 +1,18 @@
 -- What the tests of preparation have shown, and what the routes leave. Assumes nothing.
-use mathlib.Core.Path.{_≡_, refl, sym, ap, _∙_}
+use mathlib.Core.Path.{_≡_, sym, ap, _∙_}
 use mathlib.Core.List.{List, _++_}
-use mathlib.Core.Bool.{Bool, true, false, cond, not, _&&_, _||_}
+use mathlib.Core.Bool.{true, false, cond, not, _&&_, _||_}
 use Prim.Native.Nat.{ℕ, _+_, _*_, _≤_}
 use native.Mathlib.Omega.{arith}
 use native.Mathlib.Nat.{mul-assoc}
 use lib.Dec.{eqb, ltb, leb}
 use lib.ListN.{length, replicate}
 use lib.Ieee.{Float}
-use borrow.Author.Tests.{eq-eqb, ne-eqb, eqb-true, eqb-false, ltb-false, leb-true, not-false}
+use borrow.Author.Tests.{eq-eqb, ne-eqb, eqb-true, ltb-false, leb-true, not-false}
 use Rattle.laws.specs.Domain.{mostFeatures, mostFrames, mostComponents}
 use Rattle.laws.specs.Area.{zero64, one64}
 use Rattle.laws.specs.Joined.{pasted}
-use Rattle.laws.proofs.Bools.{and-left, and-right, or-right, by-bool}
+use Rattle.laws.proofs.Bools.{and-left, and-right, or-right}
 use Rattle.laws.proofs.Changed.{drop-later}
 use Rattle.laws.proofs.Written.{written-tail}
 use Rattle.areas.specs.Filled.{filled}
@@ -22,7 +22,7 @@ use Rattle.affinity.specs.Exact.{exactOf}
 use Rattle.affinity.specs.Neighbours.{neighboursListed}
 use Rattle.run_record.specs.declared.Settings.{Settings}
 use Rattle.run_record.specs.Record.{isTree, earlyFault, lateFault, settingsFault, kOf, GoodSettings, freshRun}
-use Rattle.run_record.proofs.Laws.{early-fine, settings-fine}
+use Rattle.run_record.proofs.Laws.{test-told, number-told, last-told, early-fine, settings-fine}
 use Rattle.run_entry.specs.Entry.{areasFit, GoodAreas}
 use Rattle.run_entry.proofs.Laws.{areas-fine}
 use Rattle.run_rooms.proofs.Places.{cells-forces}
@@ -33,17 +33,6 @@ use Rattle.run_record.specs.declared.Run.{Run}
 use Rattle.prepare.specs.Room.{RouteRoom}
 
 -- ---- the tests
-
-pass : (t : Bool) (k r : ℕ) → (k ≡ 0 → ⊥) → cond t k r ≡ 0 → (t ≡ false) × (r ≡ 0)
-pass true k r n e = absurd (n e)
-pass false k r n e = (refl, e)
-
-given : (k r : ℕ) → cond (not (eqb k 0)) k r ≡ 0 → (k ≡ 0) × (r ≡ 0)
-given k r e = by-bool ((k ≡ 0) × (r ≡ 0)) (eqb k 0) (λ q. (eqb-true k 0 q, rw q at e)) (λ q. absurd (eqb-false k 0 q (rw q at e)))
-
-last : (t : Bool) → _≡_ {A = ℕ} (cond t 0 12) 0 → t ≡ true
-last true e = refl
-last false e = absurd (let z : _≡_ {A = ℕ} 12 0 = e in omega arith)
 
 -- a number that a test "0, or above m" has let pass
 most : (x m : ℕ) → (eqb x 0 || ltb m x) ≡ false → x ≤ m
@@ -78,13 +67,13 @@ passed s table start l e =
     let r3 : ℕ = cond (not (eqb (lateFault s) 0)) (lateFault s) r4 in
     let r2 : ℕ = cond (not T) 8 r3 in
     let r1 : ℕ = cond (not (eqb (length table) (s .n * s .f))) 7 r2 in
-    let a = given (earlyFault s) r1 e in
-    let b = pass (not (eqb (length table) (s .n * s .f))) 7 r2 (λ q. omega arith) (a .1) in
-    let c = pass (not T) 8 r3 (λ q. omega arith) (b .1) in
-    let d = given (lateFault s) r4 (c .1) in
-    let f = pass (not (eqb (length start) (s .n * s .c))) 11 r5 (λ q. omega arith) (d .1) in
-    let g = pass (not S) 11 r6 (λ q. omega arith) (f .1) in
-    let h = last F (g .1) in
+    let a = number-told (earlyFault s) r1 e in
+    let b = test-told (not (eqb (length table) (s .n * s .f))) 7 r2 (λ q. omega arith) (a .1) in
+    let c = test-told (not T) 8 r3 (λ q. omega arith) (b .1) in
+    let d = number-told (lateFault s) r4 (c .1) in
+    let f = test-told (not (eqb (length start) (s .n * s .c))) 11 r5 (λ q. omega arith) (d .1) in
+    let g = test-told (not S) 11 r6 (λ q. omega arith) (f .1) in
+    let h = last-told F 12 (λ q. omega arith) (g .1) in
     let A = areasFit s (l .positions) (l .increments) (l .gains) (l .affinities) (l .indices) (l .offsets) (l .forces) (l .nodes) in
     let X = leb (s .n) (l .values) in
     let Y = leb (s .n) (l .places) in
@@ -103,7 +92,8 @@ pub twice : (n k l : ℕ) → 2 * n * k ≤ l → 2 * (n * k) ≤ l
 twice n k l h = rw (mul-assoc 2 n k) at h
 
 -- the routes have what they ask
-pub route-room : (s : Settings) (table start : List Float) (l : Lengths) → Passed s table start l → RouteRoom s (length table) (l .affinities) (l .indices) (l .offsets) (l .forces) (l .values) (l .places)
+pub route-room : (s : Settings) (table start : List Float) (l : Lengths) → Passed s table start l →
+    RouteRoom s (length table) (l .affinities) (l .indices) (l .offsets) (l .forces) (l .values) (l .places)
 route-room s table start l p =
     let cf = cells-forces (s .n) (s .c) in
     let f = p .areas .forces-long in
@@ -126,7 +116,8 @@ module _ (s : Settings) (table : List Float) (a : Areas) where
   unfolding routed
   routed-tree t = rw t
 
-  pub routed-exact : {W X : List Float} {R : List ℕ} → isTree (s .method) ≡ false → W ≡ exactOf table (s .n) (s .f) (s .perplexity) (a .weights) → X ≡ filled zero64 (s .n) (a .rowValues) → R ≡ filled 0 (s .n) (a .rowIndices) → areas W (a .indices) (a .offsets) X R ≡ routed s table a
+  pub routed-exact : {W X : List Float} {R : List ℕ} → isTree (s .method) ≡ false → W ≡ exactOf table (s .n) (s .f) (s .perplexity) (a .weights) →
+      X ≡ filled zero64 (s .n) (a .rowValues) → R ≡ filled 0 (s .n) (a .rowIndices) → areas W (a .indices) (a .offsets) X R ≡ routed s table a
   unfolding routed
   routed-exact t w x r = rw (t, w, x, r)
 
@@ -155,5 +146,6 @@ module _ (s : Settings) (table start : List Float) (nodes : ℕ) (l : Lent) {k :
       let v' : v ≡ R .rowValues = ap (λ (z : Areas). z .rowValues) ea in
       let w' : w ≡ R .rowIndices = ap (λ (z : Areas). z .rowIndices) ea in
       let cf = cells-forces (s .n) (s .c) in
-      let F' : F ≡ filled zero64 (s .n * (2 * s .c + 1)) (l .forces) = eF ∙ ap (λ (z : List Float). filled zero64 (s .n * (2 * s .c + 1)) z) ef ∙ squares-gone table (s .n) (s .f) (s .n * (2 * s .c + 1)) zero64 (l .forces) (omega arith) in
+      let F' : F ≡ filled zero64 (s .n * (2 * s .c + 1)) (l .forces) = eF ∙ ap (λ (z : List Float). filled zero64 (s .n * (2 * s .c + 1)) z) ef ∙
+      squares-gone table (s .n) (s .f) (s .n * (2 * s .c + 1)) zero64 (l .forces) (omega arith) in
       rw (n, er, a', x', o', v', w', F', ep, ei, eg)

@@ -41,7 +41,20 @@ lent p i g a x o f v w = record { positions = p; increments = i; gains = g; affi
 
 -- their lengths; of the arena the number of its nodes
 abbrev pub lengthsOf : Lent → ℕ → Lengths
-lengthsOf l nodes = record { positions = length (l .positions); increments = length (l .increments); gains = length (l .gains); affinities = length (l .affinities); indices = length (l .indices); offsets = length (l .offsets); forces = length (l .forces); nodes = nodes; values = length (l .rowValues); places = length (l .rowIndices) }
+lengthsOf l nodes = record {
+  positions = length (l .positions);
+  increments = length (l .increments);
+  gains = length (l .gains);
+  affinities = length
+      (l .affinities);
+  indices = length (l .indices);
+  offsets = length (l .offsets);
+  forces = length (l .forces);
+  nodes = nodes;
+  values = length
+      (l .rowValues);
+  places = length (l .rowIndices);
+}
 
 -- ---- the tests
 

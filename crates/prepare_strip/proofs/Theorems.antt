@@ -74,7 +74,11 @@ module _ (s : Settings) (table start : List Float) (l : Lengths) where
 
   -- the number is 20 exactly when the tests 1 to 11 let the settings pass and they are outside the profile
   pub twenty-exactly : (stripFault s table start l ≡ 20 → stripBars s firstFault ≡ true) × (stripBars s firstFault ≡ true → stripFault s table start l ≡ 20)
-  twenty-exactly = (λ e. by-bool (stripBars s firstFault ≡ true) (stripBars s firstFault) (λ b. b) (λ b. absurd (let q : firstFault ≡ 20 = sym (passed-number b) ∙ e in omega (arith, prepare-number))), barred-number)
+  twenty-exactly = (
+    λ e. by-bool (stripBars s firstFault ≡ true) (stripBars s firstFault) (λ b. b) (λ b. absurd
+        (let q : firstFault ≡ 20 = sym (passed-number b) ∙ e in omega (arith, prepare-number))),
+    barred-number,
+  )
 
   -- where one of the tests 1 to 11 fails, the number is that test's
   pub strip-order-of-tests : (firstFault ≡ 0 → ⊥) → (firstFault ≡ 12 → ⊥) → stripFault s table start l ≡ firstFault
@@ -128,7 +132,8 @@ module _ (s : Settings) (table start : List Float) (nodes : ℕ) (l : Lent) wher
   fresh-profile r e p = rw e p
 
   -- a strip that is prepared is in the profile, its record is a fresh one, and everything is left as preparation leaves it: so all that is proved of a prepared run (prepare, Begins) is so of it
-  pub a-prepared-strip : (r : Run) → preparedStrip s table start nodes l .answer ≡ Ready r → (inProfile (r .settings) ≡ true) × (r ≡ freshRun s) × (preparedStrip s table start nodes l ≡ prepared s table start nodes l)
+  pub a-prepared-strip : (r : Run) → preparedStrip s table start nodes l .answer ≡ Ready r → (inProfile (r .settings) ≡ true) × (r ≡ freshRun s) ×
+      (preparedStrip s table start nodes l ≡ prepared s table start nodes l)
   a-prepared-strip r ready =
       by-bool ((inProfile (r .settings) ≡ true) × (r ≡ freshRun s) × (preparedStrip s table start nodes l ≡ prepared s table start nodes l)) (stripBars s toldFault)
       (λ b. absurd (let q : Refused 20 ≡ Ready r = ap (λ (o : PrepareOutcome). o .answer) (barred-outcome s table start nodes l b) ∙ ready in let z : _≡_ {A = ℕ} 0 1 = cc in omega arith))

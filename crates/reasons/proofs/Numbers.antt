@@ -16,7 +16,8 @@ use Rattle.run_entry.specs.declared.Fault.the-variants.{Fine, Settings as BadSe
 use Rattle.run_entry.specs.Entry.{faultNumber}
 use Rattle.record_words.specs.RecordWords.{settingsFine, settingsOf, runFine}
 use Rattle.fault_words.specs.FaultWords.{faultValue, unreadFault}
-use Rattle.reasons.specs.Reasons.{Shown, SettingsNumber, SettingsFail, CountersFail, AreasFail, OffsetsFail, IndexFail, TreeFail, AllPass, Reason, UnreadSettings, UnreadCounters, Tells, Placeless}
+use Rattle.reasons.specs.Reasons.{Shown, SettingsNumber, SettingsFail, CountersFail, AreasFail, OffsetsFail, IndexFail, TreeFail, AllPass, Reason}
+use Rattle.reasons.specs.Reasons.{UnreadSettings, UnreadCounters, Tells, Placeless}
 use Rattle.reasons.proofs.Calls.{Explained}
 
 -- ---- number and place tell the fault
@@ -136,7 +137,9 @@ module _ (w : List ℕ) (none : runFine w ≡ false) where
       by-bool (UnreadReason (unreadFault w)) (settingsFine w)
       (λ b. by-bool (UnreadReason (unreadFault w)) (eqb (settingsFault (settingsOf w)) 0)
       (λ c. (let z = eqb-true (settingsFault (settingsOf w)) 0 c in so (state-answer h b z) (inr (record { words-enough = h; method-there = b; settings-pass = z; no-such-state = state-bad h b }))))
-      (λ c. (let n : SettingsNumber (settingsOf w) (settingsFault (settingsOf w)) = record { number-is = refl; some-number = eqb-false (settingsFault (settingsOf w)) 0 c } in so (number-answer h b n) (record { words-enough = h; method-or-number = inr (b, n) }))))
+      (λ c. (let n : SettingsNumber (settingsOf w)
+      (settingsFault (settingsOf w)) = record { number-is = refl; some-number = eqb-false (settingsFault (settingsOf w)) 0 c } in
+      so (number-answer h b n) (record { words-enough = h; method-or-number = inr (b, n) }))))
       (λ b. so (method-answer h b) (record { words-enough = h; method-or-number = inl (b, refl) }))))
 
   unread-settings : (k : ℕ) → UnreadSettings w k → unreadFault w ≡ BadSettings k

@@ -18,7 +18,8 @@ use Rattle.run_record.specs.Record.{isTree, settingsFault, countersOk, sizesOf}
 use Rattle.run_entry.specs.declared.Fault.{Fault}
 use Rattle.run_entry.specs.declared.Fault.the-variants.{Fine, Settings as BadSettings, Counters, Areas, Offsets, Index, Tree as BadTree}
 use Rattle.run_entry.specs.Entry.{offsetFine, indexFine, firstOffset, firstIndex, treeFault, treeFaultAt, contentsFault, isFine, recordFault, faultAt}
-use Rattle.reasons.specs.Reasons.{Shown, foundIn, RecordPasses, areasLong, AreasPass, offsetAt, OffsetsPass, linksListed, indexAt, IndicesPass, usedBad, nodeBad, SettingsFail, CountersFail, AreasFail, EndFails, OffsetsFail, IndexFail, NodeFails, TreeFail, AllPass, Reason}
+use Rattle.reasons.specs.Reasons.{Shown, foundIn, RecordPasses, areasLong, AreasPass, offsetAt, OffsetsPass, linksListed, indexAt, IndicesPass, usedBad}
+use Rattle.reasons.specs.Reasons.{nodeBad, SettingsFail, CountersFail, AreasFail, EndFails, OffsetsFail, IndexFail, NodeFails, TreeFail, AllPass, Reason}
 
 -- ---- what the tests answer, step by step
 
@@ -90,7 +91,8 @@ module _ (s : Shown) where
 
                 node-kind : (n j : ℕ) (v : Node) → treeFault (nodeFault n j v) ≡ BadTree j
                 unfolding nodeFault
-                node-kind n j v = by-bool (treeFault (nodeFault n j v) ≡ BadTree j) (ltb n (v .count)) (λ x. rw x) (λ x. by-bool (treeFault (nodeFault n j v) ≡ BadTree j) (pointOk n (v .leaf)) (λ y. rw (x, y)) (λ y. rw (x, y)))
+                node-kind n j v = by-bool (treeFault (nodeFault n j v) ≡ BadTree j) (ltb n (v .count)) (λ x. rw x) (λ x. by-bool
+                    (treeFault (nodeFault n j v) ≡ BadTree j) (pointOk n (v .leaf)) (λ y. rw (x, y)) (λ y. rw (x, y)))
 
                 node-answer : usedBad s ≡ false → u < s .run .used → foundIn s ≡ BadTree u
                 unfolding treeFaultAt contentsOf
@@ -128,20 +130,51 @@ module _ (s : Shown) where
       let bad : offsetAt s e ≡ false = yes-of (offsetAt s e) (first-holds (λ i. not (offsetAt s i)) (s .run .settings .n + 1) l) in
       elim (ℕ-discrete e 0) [
         | yes z ↦ record { areas-before = a; start-or-end = inl (subst (λ (x : ℕ). offsetAt s x ≡ false) z bad, ap (λ (x : ℕ). x - 1) z) }
-        | no z ↦ (let q : e ≡ e - 1 + 1 = omega arith in record { areas-before = a; start-or-end = inr (record { frame-within = omega arith; end-fails = subst (λ (x : ℕ). offsetAt s x ≡ false) q bad; ends-before = offsets-up-to (e - 1 + 1) (omega arith) }) })
+        | no z ↦ (let q : e ≡ e - 1 + 1 = omega arith in
+            record {
+              areas-before = a;
+              start-or-end = inr
+                  (record {
+                    frame-within = omega arith;
+                    end-fails = subst (λ (x : ℕ). offsetAt s x ≡ false) q bad;
+                    ends-before = offsets-up-to (e - 1 + 1)
+                        (omega arith);
+                  });
+            })
       ]
 
-  tree-reason : (a : k ≡ 0) (b : countersOk (s .run) ≡ true) (c : areasLong s ≡ true) (d : isTree (s .run .settings .method) ≡ true) (f : s .run .settings .n + 1 ≤ e) (g : linksListed s ≤ p) → Reason s (foundIn s)
+  tree-reason : (a : k ≡ 0) (b : countersOk (s .run) ≡ true) (c : areasLong s ≡ true) (d : isTree (s .run .settings .method) ≡ true)
+      (f : s .run .settings .n + 1 ≤ e) (g : linksListed s ≤ p) → Reason s (foundIn s)
   tree-reason a b c d f g =
       let ip : IndicesPass s = record { offsets-before = record { areas-before = areas-of (record-of a b) c d; offsets-pass = offsets-all f }; indices-pass = indices-all g } in
       by-bool (Reason s (foundIn s)) (eqb (s .run .phase) 0)
-      (λ h. (let z = eqb-true (s .run .phase) 0 h in told (between-answer a b c d f g z) (record { record-passes = record-of a b; areas-pass = c; lists-pass = λ t. ip; tree-passes = λ t i. absurd (i z) })))
+      (λ h. (let z = eqb-true (s .run .phase) 0 h in told (between-answer a b c d f g z)
+      (record { record-passes = record-of a b; areas-pass = c; lists-pass = λ t. ip; tree-passes = λ t i. absurd (i z) })))
       (λ h. (let i = eqb-false (s .run .phase) 0 h in
       by-bool (Reason s (foundIn s)) (usedBad s)
       (λ x. told (used-answer a b c d f g i x) (record { indices-before = ip; inside = i; used-or-node = inl (x, refl) }))
       (λ x. by-bool (Reason s (foundIn s)) (ltb u (s .run .used))
-      (λ y. (let l = ltb-true u (s .run .used) y in told (node-answer a b c d f g i x l) (record { indices-before = ip; inside = i; used-or-node = inr (record { used-good = x; node-within = l; node-fails = first-holds (nodeBad s) (s .run .used) l; nodes-before = first-before (nodeBad s) (s .run .used) }) })))
-      (λ y. (let l = ltb-false u (s .run .used) y in told (fine-answer a b c d f g i x l) (record { record-passes = record-of a b; areas-pass = c; lists-pass = λ t. ip; tree-passes = λ t j. (x, first-all (nodeBad s) (s .run .used) l) }))))))
+      (λ y. (let l = ltb-true u (s .run .used) y in told (node-answer a b c d f g i x l)
+      (record {
+        indices-before = ip;
+        inside = i;
+        used-or-node = inr
+            (record {
+              used-good = x;
+              node-within = l;
+              node-fails = first-holds (nodeBad s) (s .run .used) l;
+              nodes-before = first-before (nodeBad s)
+                  (s .run .used);
+            });
+      })))
+      (λ y. (let l = ltb-false u (s .run .used) y in told (fine-answer a b c d f g i x l)
+      (record {
+        record-passes = record-of a b;
+        areas-pass = c;
+        lists-pass = λ t. ip;
+        tree-passes = λ t j.
+            (x, first-all (nodeBad s) (s .run .used) l);
+      }))))))
 
   lists-reason : (a : k ≡ 0) (b : countersOk (s .run) ≡ true) (c : areasLong s ≡ true) (d : isTree (s .run .settings .method) ≡ true) → Reason s (foundIn s)
   lists-reason a b c d =
@@ -151,7 +184,15 @@ module _ (s : Shown) where
       (λ x. (let l = ltb-true e m x in told (offsets-answer a b c d l) (offset-reason ap' l)))
       (λ x. (let f = ltb-false e m x in
       by-bool (Reason s (foundIn s)) (ltb p (linksListed s))
-      (λ y. (let l = ltb-true p (linksListed s) y in told (index-answer a b c d f l) (record { offsets-before = record { areas-before = ap'; offsets-pass = offsets-all f }; place-within = l; place-fails = yes-of (indexAt s p) (first-holds (λ i. not (indexAt s i)) (linksListed s) l); lowest-place = λ q h. no-of (indexAt s q) (first-before (λ i. not (indexAt s i)) (linksListed s) q h) })))
+      (λ y. (let l = ltb-true p (linksListed s) y in told (index-answer a b c d f l)
+      (record {
+        offsets-before = record { areas-before = ap'; offsets-pass = offsets-all f };
+        place-within = l;
+        place-fails = yes-of (indexAt s p)
+            (first-holds (λ i. not (indexAt s i)) (linksListed s) l);
+        lowest-place = λ q h. no-of (indexAt s q)
+            (first-before (λ i. not (indexAt s i)) (linksListed s) q h);
+      })))
       (λ y. tree-reason a b c d f (ltb-false p (linksListed s) y))))
 
   -- THEOREM: what is told is so, with nothing bad before it, and the place is the lowest
@@ -161,7 +202,14 @@ module _ (s : Shown) where
       (λ x. (let a = eqb-true k 0 x in
       by-bool (Reason s (foundIn s)) (countersOk (s .run))
       (λ b. by-bool (Reason s (foundIn s)) (areasLong s)
-      (λ c. by-bool (Reason s (foundIn s)) (isTree (s .run .settings .method)) (lists-reason a b c) (λ d. told (exact-answer a b c d) (record { record-passes = record-of a b; areas-pass = c; lists-pass = λ t. absurd (true≢false (sym t ∙ d)); tree-passes = λ t. absurd (true≢false (sym t ∙ d)) })))
+      (λ c. by-bool (Reason s (foundIn s)) (isTree (s .run .settings .method)) (lists-reason a b c) (λ d. told (exact-answer a b c d)
+      (record {
+        record-passes = record-of a b;
+        areas-pass = c;
+        lists-pass = λ t. absurd (true≢false (sym t ∙ d));
+        tree-passes = λ t. absurd
+            (true≢false (sym t ∙ d));
+      })))
       (λ c. told (areas-answer a b c) (record { record-passes = record-of a b; areas-fail = c })))
       (λ b. told (counters-answer a b) (record { settings-pass = a; counters-fail = b }))))
       (λ x. (let n = eqb-false k 0 x in told (settings-answer n) (record { number-is = refl; some-number = n })))
@@ -182,7 +230,8 @@ module _ (s : Shown) where
   places-past o = omega (arith, first-none (λ j. not (indexAt s j)) (linksListed s) (λ j h. rw (o .indices-pass j h)))
 
   offset-only : AreasPass s → (x i : ℕ) → x < s .run .settings .n + 1 → e ≡ x → x - 1 ≡ i → foundIn s ≡ Offsets i
-  offset-only a x i h q z = offsets-answer (a .record-passes .settings-pass) (a .record-passes .counters-pass) (a .areas-pass) (a .lists-there) (omega (arith, q)) ∙ ap Offsets (ap (λ (y : ℕ). y - 1) q ∙ z)
+  offset-only a x i h q z = offsets-answer (a .record-passes .settings-pass) (a .record-passes .counters-pass) (a .areas-pass) (a .lists-there)
+      (omega (arith, q)) ∙ ap Offsets (ap (λ (y : ℕ). y - 1) q ∙ z)
 
   offsets-only : (i : ℕ) (r : OffsetsFail s i) → foundIn s ≡ Offsets i
   offsets-only i r = by (r .start-or-end)
@@ -198,12 +247,14 @@ module _ (s : Shown) where
       by (inl x) =
           let o = r .indices-before .offsets-before in
           let a = o .areas-before in
-          used-answer (a .record-passes .settings-pass) (a .record-passes .counters-pass) (a .areas-pass) (a .lists-there) (ends-past o) (places-past (r .indices-before)) (r .inside) (x .0) ∙ ap BadTree (sym (x .1))
+          used-answer (a .record-passes .settings-pass) (a .record-passes .counters-pass) (a .areas-pass) (a .lists-there) (ends-past o)
+          (places-past (r .indices-before)) (r .inside) (x .0) ∙ ap BadTree (sym (x .1))
       by (inr x) =
           let o = r .indices-before .offsets-before in
           let a = o .areas-before in
           let q : u ≡ i = first-at (nodeBad s) (s .run .used) i (x .node-within) (x .node-fails) (x .nodes-before) in
-          node-answer (a .record-passes .settings-pass) (a .record-passes .counters-pass) (a .areas-pass) (a .lists-there) (ends-past o) (places-past (r .indices-before)) (r .inside) (x .used-good) (omega (arith, q, x .node-within)) ∙ ap BadTree q
+          node-answer (a .record-passes .settings-pass) (a .record-passes .counters-pass) (a .areas-pass) (a .lists-there) (ends-past o)
+          (places-past (r .indices-before)) (r .inside) (x .used-good) (omega (arith, q, x .node-within)) ∙ ap BadTree q
 
   fine-only : AllPass s → foundIn s ≡ Fine
   fine-only r =

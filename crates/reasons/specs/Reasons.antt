@@ -155,15 +155,50 @@ Reason s (BadTree i) = TreeFail s i
 
 -- the work call, with the run and the areas of s
 abbrev pub shownBy : State → Shown
-shownBy s = record { run = s .run; positions = length (s .memory .positions); increments = length (s .memory .increments); gains = length (s .memory .gains); affinities = length (s .memory .affinities); forces = length (s .memory .forces); indices = s .memory .indices; offsets = s .memory .offsets; nodes = s .memory .nodes }
+shownBy s = record {
+  run = s .run;
+  positions = length (s .memory .positions);
+  increments = length (s .memory .increments);
+  gains = length
+      (s .memory .gains);
+  affinities = length (s .memory .affinities);
+  forces = length
+      (s .memory .forces);
+  indices = s .memory .indices;
+  offsets = s .memory .offsets;
+  nodes = s .memory .nodes;
+}
 
 -- the divergence: the copy is an area like the positions, the shorter of the two counts
 abbrev pub shownCopy : Run → Memory → List Float → Shown
-shownCopy r m y = record { run = r; positions = min (length (m .positions)) (length y); increments = length (m .increments); gains = length (m .gains); affinities = length (m .affinities); forces = length (m .forces); indices = m .indices; offsets = m .offsets; nodes = m .nodes }
+shownCopy r m y = record {
+  run = r;
+  positions = min (length (m .positions)) (length y);
+  increments = length (m .increments);
+  gains = length
+      (m .gains);
+  affinities = length (m .affinities);
+  forces = length (m .forces);
+  indices = m .indices;
+  offsets = m .offsets;
+  nodes = m .nodes;
+}
 
 -- a removal: where table or old places are too short, so are the positions
 abbrev pub shownHeld : Run → Holdings → List Node → Shown
-shownHeld r h ns = record { run = r; positions = lentPositions (r .settings) (length (h .positions)) (length (h .table)) (length (h .old)); increments = length (h .increments); gains = length (h .gains); affinities = length (h .affinities); forces = length (h .forces); indices = h .indices; offsets = h .offsets; nodes = ns }
+shownHeld r h ns = record {
+  run = r;
+  positions = lentPositions (r .settings) (length (h .positions)) (length (h .table)) (length (h .old));
+  increments = length
+      (h .increments);
+  gains = length (h .gains);
+  affinities = length (h .affinities);
+  forces = length
+      (h .forces);
+  indices = h .indices;
+  offsets = h .offsets;
+  nodes = ns;
+}
 
 -- parking, lists and strip: the run that the words w say, with areas of these lengths
 abbrev pub shownWords : List ℕ → ℕ → ℕ → ℕ → ℕ → ℕ → List ℕ → List ℕ → List Node → Shown

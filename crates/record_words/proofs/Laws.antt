@@ -1,14 +1,22 @@
--- Words that can be read are there. Assumes nothing.
-use mathlib.Core.Path.{_≡_}
+-- Words that can be read are there, and the method's word tells the method. Assumes nothing.
+use mathlib.Core.Path.{_≡_, refl}
 use mathlib.Core.List.{List}
 use mathlib.Core.Bool.{true, _&&_}
-use Prim.Native.Nat.{ℕ, _≤_}
-use lib.Dec.{leb}
+use Prim.Native.Nat.{ℕ, zero, suc, _≤_}
+use native.Mathlib.Omega.{arith}
+use lib.Dec.{eqb, leb}
 use lib.ListN.{length}
 use borrow.Author.Tests.{leb-true}
 use Rattle.laws.specs.Area.{num}
 use Rattle.laws.proofs.Bools.{and-left}
-use Rattle.record_words.specs.RecordWords.{settingsFine, runFine}
+use Rattle.run_record.specs.Record.{isTree}
+use Rattle.record_words.specs.RecordWords.{methodOf, settingsFine, runFine}
+
+pub method-tree : (m : ℕ) → m ≤ 1 → isTree (methodOf m) ≡ eqb m 1
+unfolding methodOf
+method-tree zero h = refl
+method-tree (suc zero) h = refl
+method-tree (suc (suc m)) h = absurd (omega (arith, h))
 
 pub settings-long : (w : List ℕ) → settingsFine w ≡ true → 9 ≤ length w
 unfolding settingsFine

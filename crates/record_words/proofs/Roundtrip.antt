@@ -29,7 +29,8 @@ peel P n f (x ∷ xs) h = f x xs (le-of-suc-le-suc h)
 
 fourteen : (P : List ℕ → Type 0) → ((n f c m p r i a g s d h u o : ℕ) (rest : List ℕ) → P (n ∷ f ∷ c ∷ m ∷ p ∷ r ∷ i ∷ a ∷ g ∷ s ∷ d ∷ h ∷ u ∷ o ∷ rest)) → (w : List ℕ) → 14 ≤ length w → P w
 fourteen P k =
-    peel _ 13 (λ n. peel _ 12 (λ f. peel _ 11 (λ c. peel _ 10 (λ m. peel _ 9 (λ p. peel _ 8 (λ r. peel _ 7 (λ i. peel _ 6 (λ a. peel _ 5 (λ g. peel _ 4 (λ s. peel _ 3 (λ d. peel _ 2 (λ h. peel _ 1 (λ u. peel _ 0 (λ o rest l. k n f c m p r i a g s d h u o rest))))))))))))))
+    peel _ 13 (λ n. peel _ 12 (λ f. peel _ 11 (λ c. peel _ 10 (λ m. peel _ 9 (λ p. peel _ 8 (λ r. peel _ 7 (λ i. peel _ 6 (λ a. peel _ 5 (λ g. peel _ 4
+    (λ s. peel _ 3 (λ d. peel _ 2 (λ h. peel _ 1 (λ u. peel _ 0 (λ o rest l. k n f c m p r i a g s d h u o rest))))))))))))))
 
 -- ---- method, state, values
 
@@ -92,11 +93,19 @@ module _ (r : Run) where
   -- a record that was written is read again
   pub run-back : Sayable (r .settings) → (w : List ℕ) → 14 ≤ length w → runOf (runPut r w) ≡ r
   unfolding runOf runPut progressPut settingsOf settingsPut
-  run-back v = fourteen (λ (w : List ℕ). runOf (runPut r w) ≡ r) (λ n f c m p e i a g s d h u o rest. rw (ofBits-toBits binary64 (r .settings .perplexity) (v .perplexity), ofBits-toBits binary64 (r .settings .rate) (v .rate), ofBits-toBits binary64 (r .settings .angle) (v .angle), ofBits-toBits binary64 (r .settings .minimum) (v .minimum), method-back (r .settings .method), standing-back (r .standing)))
+  run-back v = fourteen (λ (w : List ℕ). runOf (runPut r w) ≡ r) (λ n f c m p e i a g s d h u o rest. rw (
+    ofBits-toBits binary64 (r .settings .perplexity) (v .perplexity),
+    ofBits-toBits binary64 (r .settings .rate) (v .rate),
+    ofBits-toBits binary64 (r .settings .angle) (v .angle),
+    ofBits-toBits binary64 (r .settings .minimum) (v .minimum),
+    method-back (r .settings .method),
+    standing-back (r .standing),
+  ))
 
   pub run-back-fine : (w : List ℕ) → 14 ≤ length w → runFine (runPut r w) ≡ true
   unfolding runFine settingsFine runPut progressPut settingsPut
-  run-back-fine = fourteen (λ (w : List ℕ). runFine (runPut r w) ≡ true) (λ n f c m p e i a g s d h u o rest. fine-of (past (length rest)) _ _ (past-long (length rest)) (method-fine (r .settings .method)) (standing-fine (r .standing)))
+  run-back-fine = fourteen (λ (w : List ℕ). runFine (runPut r w) ≡ true) (λ n f c m p e i a g s d h u o rest. fine-of (past (length rest)) _ _
+      (past-long (length rest)) (method-fine (r .settings .method)) (standing-fine (r .standing)))
 
   -- so is one of which only the five words were written that a unit can change, where the settings are those of the other words
   pub progress-back : (w : List ℕ) → 14 ≤ length w → r .settings ≡ settingsOf w → runOf (progressPut r w) ≡ r
@@ -107,7 +116,10 @@ module _ (r : Run) where
   unfolding runFine settingsFine progressPut
   progress-fine w e =
       fourteen (λ (w : List ℕ). runFine w ≡ true → runFine (progressPut r w) ≡ true)
-      (λ n f c m p e i a g s d h u o rest q. fine-of (past (length rest)) _ _ (past-long (length rest)) (and-right (leb 9 (past (length rest))) (leb m 1) (and-right (leb 14 (past (length rest))) (leb 9 (past (length rest)) && leb m 1) (and-left (leb 14 (past (length rest)) && (leb 9 (past (length rest)) && leb m 1)) (leb s 2) q))) (standing-fine (r .standing)))
+      (λ n f c m p e i a g s d h u o rest q. fine-of (past (length rest)) _ _ (past-long (length rest))
+      (and-right (leb 9 (past (length rest))) (leb m 1)
+      (and-right (leb 14 (past (length rest))) (leb 9 (past (length rest)) && leb m 1)
+      (and-left (leb 14 (past (length rest)) && (leb 9 (past (length rest)) && leb m 1)) (leb s 2) q))) (standing-fine (r .standing)))
       w
       (run-long w e)
       e

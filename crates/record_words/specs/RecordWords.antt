@@ -27,10 +27,22 @@ unfoldable pub settingsFine : List ℕ → Bool
 settingsFine w = leb 9 (length w) && leb (num w 3) 1
 
 unfoldable pub settingsOf : List ℕ → Settings
-settingsOf w = record { n = num w 0; f = num w 1; c = num w 2; perplexity = bits (num w 4); rate = bits (num w 5); iterations = num w 6; minimum = bits (num w 8); angle = bits (num w 7); method = methodOf (num w 3) }
+settingsOf w = record {
+  n = num w 0;
+  f = num w 1;
+  c = num w 2;
+  perplexity = bits (num w 4);
+  rate = bits (num w 5);
+  iterations = num w 6;
+  minimum = bits
+      (num w 8);
+  angle = bits (num w 7);
+  method = methodOf (num w 3);
+}
 
 unfoldable pub settingsPut : Settings → List ℕ → List ℕ
-settingsPut s w = set (set (set (set (set (set (set (set (set w 0 (s .n)) 1 (s .f)) 2 (s .c)) 3 (methodWord (s .method))) 4 (toBits binary64 (s .perplexity))) 5 (toBits binary64 (s .rate))) 6 (s .iterations)) 7 (toBits binary64 (s .angle))) 8 (toBits binary64 (s .minimum))
+settingsPut s w = set (set (set (set (set (set (set (set (set w 0 (s .n)) 1 (s .f)) 2 (s .c)) 3 (methodWord (s .method))) 4 (toBits binary64 (s .perplexity))) 5
+    (toBits binary64 (s .rate))) 6 (s .iterations)) 7 (toBits binary64 (s .angle))) 8 (toBits binary64 (s .minimum))
 
 -- ---- the record: its settings, then the state (0 running, 1 stopped, 2 finished), iterations done, units done in this iteration, units done in all, nodes in use
 

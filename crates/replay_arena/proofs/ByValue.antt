@@ -62,16 +62,25 @@ module _ {M : Type 1} (𝓤 : URA M) (H : Heap 𝓤) (A : Atoms 𝓤) (mem : Mem
   said-put-of : (a₀ : Inserted) (cells : List Cell) (res : Put) → ent 𝓤 (Said-put-of a₀ cells res) (fact 𝓤 (res ≡ putOf a₀ cells))
   said-put-of a₀ cells res = exE 𝓤 _ (λ ws. snd∗ 𝓤 (sem 𝓤 H A (lasts put-of′.ended tt (a₀, (cells, tt)) ws)) (fact 𝓤 (res ≡ putOf a₀ cells)))
 
-  goes-put-of : Given 𝓤 H A → (a₀ : Inserted) (cells : List Cell) → IsInserted a₀ → Is (Array Cell′.the-row 512) cells (array-vals (LL.vals Cell′.the-type Cell″.the-laws) cells) → ent 𝓤 (emp 𝓤) (Contract-put-of .pre (to-put-of a₀ cells))
-  goes-put-of W a₀ cells g-a₀ g-cells = qed W [] ∵ nothing ! $ nothing ! $ owned ! (Array Cell′.the-row 512) (Is (Array Cell′.the-row 512)) (array-makes 𝓤 H A W Cell′.the-row ((LL.makes Cell′.the-type Cell″.the-plain) 𝓤 H A) 512) cells _ g-cells $ fjoin ! $ owned ! Inserted′.the-row (Is Inserted′.the-row) ((LL.makes Inserted′.the-type Inserted″.the-plain) 𝓤 H A) a₀ _ g-a₀ $ fjoin ! $ move ! (1 ∷ 0 ∷ []) $ join ! $ frame ! $ nothing ! $ done !
+  goes-put-of : Given 𝓤 H A → (a₀ : Inserted) (cells : List Cell) → IsInserted a₀ →
+      Is (Array Cell′.the-row 512) cells (array-vals (LL.vals Cell′.the-type Cell″.the-laws) cells) → ent 𝓤 (emp 𝓤) (Contract-put-of .pre (to-put-of a₀ cells))
+  goes-put-of W a₀ cells g-a₀ g-cells = qed W [] ∵ nothing ! $ nothing ! $
+      owned ! (Array Cell′.the-row 512) (Is (Array Cell′.the-row 512))
+      (array-makes 𝓤 H A W Cell′.the-row ((LL.makes Cell′.the-type Cell″.the-plain) 𝓤 H A) 512) cells _ g-cells $ fjoin ! $
+      owned ! Inserted′.the-row (Is Inserted′.the-row) ((LL.makes Inserted′.the-type Inserted″.the-plain) 𝓤 H A) a₀ _ g-a₀ $ fjoin ! $ move ! (1 ∷ 0 ∷ []) $
+      join ! $ frame ! $ nothing ! $ done !
 
-module _ {M : Type 1} {𝓤 : URA M} {H : Heap 𝓤} {A : Atoms 𝓤} {K : Type 0} {W : Given 𝓤 H A} {Γ : List (Item 𝓤)} {E : Env 𝓤 H} {C : Calls 𝓤 H} {Λ : Loops 𝓤 H} {xs : List Operand} {q : After 𝓤 H} {d : Place} {rest : Code} where
-  pub calls-put-of : K → FmC 𝓤 H (W .laws) C → (mem : Memory → SProp 𝓤) (run : Routine → Fun 𝓤) → Triple 𝓤 (C #replay-arena·put-of) (Contract-put-of 𝓤 H A mem run) → (a₀ : Inserted) (cells : List Cell) → IsInserted a₀ → Is (Array Cell′.the-row 512) cells (array-vals (LL.vals Cell′.the-type Cell″.the-laws) cells)
+module _ {M : Type 1} {𝓤 : URA M} {H : Heap 𝓤} {A : Atoms 𝓤} {K : Type 0} {W : Given 𝓤 H A} {Γ : List (Item 𝓤)} {E : Env 𝓤 H} {C : Calls 𝓤 H} {Λ : Loops 𝓤 H}
+    {xs : List Operand} {q : After 𝓤 H} {d : Place} {rest : Code} where
+  pub calls-put-of : K → FmC 𝓤 H (W .laws) C → (mem : Memory → SProp 𝓤) (run : Routine → Fun 𝓤) →
+      Triple 𝓤 (C #replay-arena·put-of) (Contract-put-of 𝓤 H A mem run) → (a₀ : Inserted) (cells : List Cell) → IsInserted a₀ →
+      Is (Array Cell′.the-row 512) cells (array-vals (LL.vals Cell′.the-type Cell″.the-laws) cells)
       → ((P : Item 𝓤) → Opds K W (P ∷ Γ) E xs (val-Inserted a₀ ∷ array-val (LL.vals Cell′.the-type Cell″.the-laws) cells ∷ []))
       → ((res : Put) → res ≡ putOf a₀ cells → Is Put′.the-row res (val-Put res ∷ []) → Seq K W Γ (lands C Λ E d (val-Put res) rest q))
       → Seq K W Γ (runs C Λ E (seq (call #replay-arena·put-of xs d) rest) q)
   calls-put-of t fm mem run met a₀ cells g-a₀ g-cells os k =
-      calls-plain t fm (Contract-put-of 𝓤 H A mem run) met (to-put-of 𝓤 H A mem run a₀ cells) Put′.the-row (val-Put) (LL.tells Put′.the-type Put″.the-laws) (Said-put-of 𝓤 H A mem run a₀ cells) (λ (res : Put). res ≡ putOf a₀ cells) (said-put-of 𝓤 H A mem run a₀ cells)
+      calls-plain t fm (Contract-put-of 𝓤 H A mem run) met (to-put-of 𝓤 H A mem run a₀ cells) Put′.the-row (val-Put) (LL.tells Put′.the-type Put″.the-laws)
+      (Said-put-of 𝓤 H A mem run a₀ cells) (λ (res : Put). res ≡ putOf a₀ cells) (said-put-of 𝓤 H A mem run a₀ cells)
       (λ _. id⊢ 𝓤 _) (goes-put-of 𝓤 H A mem run W a₀ cells g-a₀ g-cells) (os _) k
 
 -- ---- `is_fine`
@@ -89,13 +98,16 @@ module _ {M : Type 1} (𝓤 : URA M) (H : Heap 𝓤) (A : Atoms 𝓤) (mem : Mem
   said-is-fine t₀ res = exE 𝓤 _ (λ ws. snd∗ 𝓤 (sem 𝓤 H A (lasts is-fine′.ended tt (t₀, tt) ws)) (fact 𝓤 (res ≡ contentsFine t₀)))
 
   goes-is-fine : Given 𝓤 H A → (t₀ : Contents) → IsContents t₀ → ent 𝓤 (emp 𝓤) (Contract-is-fine .pre (to-is-fine t₀))
-  goes-is-fine W t₀ g-t₀ = qed W [] ∵ nothing ! $ nothing ! $ owned ! Contents′.the-row (Is Contents′.the-row) ((EL.makes Contents′.the-type Contents″.the-plain) 𝓤 H A) t₀ _ g-t₀ $ fjoin ! $ move ! (1 ∷ 0 ∷ []) $ join ! $ frame ! $ nothing ! $ done !
+  goes-is-fine W t₀ g-t₀ = qed W [] ∵ nothing ! $ nothing ! $ owned ! Contents′.the-row (Is Contents′.the-row)
+      ((EL.makes Contents′.the-type Contents″.the-plain) 𝓤 H A) t₀ _ g-t₀ $ fjoin ! $ move ! (1 ∷ 0 ∷ []) $ join ! $ frame ! $ nothing ! $ done !
 
-module _ {M : Type 1} {𝓤 : URA M} {H : Heap 𝓤} {A : Atoms 𝓤} {K : Type 0} {W : Given 𝓤 H A} {Γ : List (Item 𝓤)} {E : Env 𝓤 H} {C : Calls 𝓤 H} {Λ : Loops 𝓤 H} {xs : List Operand} {q : After 𝓤 H} {d : Place} {rest : Code} where
+module _ {M : Type 1} {𝓤 : URA M} {H : Heap 𝓤} {A : Atoms 𝓤} {K : Type 0} {W : Given 𝓤 H A} {Γ : List (Item 𝓤)} {E : Env 𝓤 H} {C : Calls 𝓤 H} {Λ : Loops 𝓤 H}
+    {xs : List Operand} {q : After 𝓤 H} {d : Place} {rest : Code} where
   pub calls-is-fine : K → FmC 𝓤 H (W .laws) C → (mem : Memory → SProp 𝓤) (run : Routine → Fun 𝓤) → Triple 𝓤 (C #replay-arena·is-fine) (Contract-is-fine 𝓤 H A mem run) → (t₀ : Contents) → IsContents t₀
       → ((P : Item 𝓤) → Opds K W (P ∷ Γ) E xs (val-Contents t₀ ∷ []))
       → ((res : Bool) → res ≡ contentsFine t₀ → Is bool res (vbool res ∷ []) → Seq K W Γ (lands C Λ E d (vbool res) rest q))
       → Seq K W Γ (runs C Λ E (seq (call #replay-arena·is-fine xs d) rest) q)
   calls-is-fine t fm mem run met t₀ g-t₀ os k =
-      calls-plain t fm (Contract-is-fine 𝓤 H A mem run) met (to-is-fine 𝓤 H A mem run t₀) bool (vbool) (bool-tells) (Said-is-fine 𝓤 H A mem run t₀) (λ (res : Bool). res ≡ contentsFine t₀) (said-is-fine 𝓤 H A mem run t₀)
+      calls-plain t fm (Contract-is-fine 𝓤 H A mem run) met (to-is-fine 𝓤 H A mem run t₀) bool (vbool) (bool-tells) (Said-is-fine 𝓤 H A mem run t₀)
+      (λ (res : Bool). res ≡ contentsFine t₀) (said-is-fine 𝓤 H A mem run t₀)
       (λ _. id⊢ 𝓤 _) (goes-is-fine 𝓤 H A mem run W t₀ g-t₀) (os _) k

@@ -56,13 +56,23 @@ module _ (n c k : ℕ) (cs : List Cell) (y : List Float) (ready : (Axes c) × (n
 module _ (n used j c k : ℕ) (cs : List Cell) (y : List Float) (ready : (Axes c) × (k ≤ 512) × (n * c ≤ length y) × (j < n) × (n < mostWord) × (fineOf k used n c cs ≡ true)) where
   pub put-asks : (Axes c) × (0 < used) × (used ≤ length (take k cs)) × (n * c ≤ length y) × (j < n) × (n ≤ mostWord) × (growable n c (tree used (nodesOf (take k cs))) ≡ true)
   put-asks =
-      let u = fine-used k used n c cs (ready .5) in
-      (ready .0, u .0, u .1, ready .2, ready .3, omega (arith, ready .4), looser n n c n (mostWord - 1) (tree used (front k cs)) (omega arith) (omega (arith, ready .4)) (fine-sound n c (tree used (front k cs)) (ready .5) .nodes))
+      let u = fine-used k used n c cs (ready .5) in (
+        ready .0,
+        u .0,
+        u .1,
+        ready .2,
+        ready .3,
+        omega (arith, ready .4),
+        looser n n c n (mostWord - 1) (tree used (front k cs)) (omega arith) (omega (arith, ready .4))
+            (fine-sound n c (tree used (front k cs)) (ready .5) .nodes),
+      )
 
   pub put-told : (a : Inserted) (ds : List Cell) → insertion (a .full) (tree (a .used) (nodesOf ds)) ≡ insertOf y c j (tree used (nodesOf (take k cs))) → length ds ≡ k
       → (p : Put) → p ≡ putOf a (ds ++ drop k cs) → (toldBy k p ≡ insertOf y c j (tree used (front k cs))) × (behind k (p .cells) ≡ behind k cs)
-  put-told a ds e l p ep =
-      (ap (toldBy k) ep ∙ ap (λ (es : List Cell). insertion (a .full) (tree (a .used) (nodesOf es))) (take-at ds (drop k cs) k l) ∙ e, ap (λ (q : Put). behind k (q .cells)) ep ∙ drop-at ds (drop k cs) k l)
+  put-told a ds e l p ep = (
+    ap (toldBy k) ep ∙ ap (λ (es : List Cell). insertion (a .full) (tree (a .used) (nodesOf es))) (take-at ds (drop k cs) k l) ∙ e,
+    ap (λ (q : Put). behind k (q .cells)) ep ∙ drop-at ds (drop k cs) k l,
+  )
 
 -- ---- `force_in`
 pub force-asks : (k used : ℕ) (eye : Eye) (cs : List Cell) → (Axes (eye .c)) × (k ≤ 512) × Walkable k used (eye .c) cs

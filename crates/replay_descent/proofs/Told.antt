@@ -14,7 +14,8 @@ use Rattle.replay_arena.specs.Fronts.{behind}
 use Rattle.replay_descent.specs.declared.Left.{Left}
 use Rattle.replay_descent.specs.Lending.{leftOf}
 
-pub left-told : (k : ℕ) (cs : List Cell) (p i g a : List Float) (x o : List ℕ) (f : List Float) (w : Worked) (r : Run) (b : Answer) (ds : List Cell) → worked b (state r (memory p i g a x o f ds)) ≡ w → length ds ≡ k
+pub left-told : (k : ℕ) (cs : List Cell) (p i g a : List Float) (x o : List ℕ) (f : List Float) (w : Worked) (r : Run) (b : Answer) (ds : List Cell) →
+    worked b (state r (memory p i g a x o f ds)) ≡ w → length ds ≡ k
     → (l : Left) → l ≡ leftOf r b (ds ++ drop k cs) → (worked (l .answer) (state (l .run) (memory p i g a x o f (take k (l .cells)))) ≡ w) × (behind k (l .cells) ≡ behind k cs)
 left-told k cs p i g a x o f w r b ds e n l el =
     subst (λ (m : Left). (worked (m .answer) (state (m .run) (memory p i g a x o f (take k (m .cells)))) ≡ w) × (behind k (m .cells) ≡ behind k cs)) (sym el)

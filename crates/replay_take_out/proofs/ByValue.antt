@@ -51,13 +51,20 @@ module _ {M : Type 1} (𝓤 : URA M) (H : Heap 𝓤) (A : Atoms 𝓤) (mem : Mem
   said-took-of answer run₀ res = exE 𝓤 _ (λ ws. snd∗ 𝓤 (sem 𝓤 H A (lasts took-of′.ended tt (answer, (run₀, tt)) ws)) (fact 𝓤 (res ≡ tookOf answer run₀)))
 
   goes-took-of : Given 𝓤 H A → (answer : Taken) (run₀ : Run) → IsTaken answer → IsRun run₀ → ent 𝓤 (emp 𝓤) (Contract-took-of .pre (to-took-of answer run₀))
-  goes-took-of W answer run₀ g-answer g-run₀ = qed W [] ∵ nothing ! $ nothing ! $ owned ! Run′.the-row (Is Run′.the-row) ((LL.makes Run′.the-type Run″.the-plain) 𝓤 H A) run₀ _ g-run₀ $ fjoin ! $ owned ! Taken′.the-row (Is Taken′.the-row) ((EL.makes Taken′.the-type Taken″.the-plain) 𝓤 H A) answer _ g-answer $ fjoin ! $ move ! (1 ∷ 0 ∷ []) $ join ! $ frame ! $ nothing ! $ done !
+  goes-took-of W answer run₀ g-answer g-run₀ = qed W [] ∵ nothing ! $ nothing ! $
+      owned ! Run′.the-row (Is Run′.the-row) ((LL.makes Run′.the-type Run″.the-plain) 𝓤 H A) run₀ _ g-run₀ $ fjoin ! $
+      owned ! Taken′.the-row (Is Taken′.the-row) ((EL.makes Taken′.the-type Taken″.the-plain) 𝓤 H A) answer _ g-answer $ fjoin ! $ move ! (1 ∷ 0 ∷ []) $
+      join ! $ frame ! $ nothing ! $ done !
 
-module _ {M : Type 1} {𝓤 : URA M} {H : Heap 𝓤} {A : Atoms 𝓤} {K : Type 0} {W : Given 𝓤 H A} {Γ : List (Item 𝓤)} {E : Env 𝓤 H} {C : Calls 𝓤 H} {Λ : Loops 𝓤 H} {xs : List Operand} {q : After 𝓤 H} {d : Place} {rest : Code} where
-  pub calls-took-of : K → FmC 𝓤 H (W .laws) C → (mem : Memory → SProp 𝓤) (run : Routine → Fun 𝓤) → Triple 𝓤 (C #replay-take-out·lending·took-of) (Contract-took-of 𝓤 H A mem run) → (answer : Taken) (run₀ : Run) → IsTaken answer → IsRun run₀
+module _ {M : Type 1} {𝓤 : URA M} {H : Heap 𝓤} {A : Atoms 𝓤} {K : Type 0} {W : Given 𝓤 H A} {Γ : List (Item 𝓤)} {E : Env 𝓤 H} {C : Calls 𝓤 H} {Λ : Loops 𝓤 H}
+    {xs : List Operand} {q : After 𝓤 H} {d : Place} {rest : Code} where
+  pub calls-took-of : K → FmC 𝓤 H (W .laws) C → (mem : Memory → SProp 𝓤) (run : Routine → Fun 𝓤) →
+      Triple 𝓤 (C #replay-take-out·lending·took-of) (Contract-took-of 𝓤 H A mem run) → (answer : Taken) (run₀ : Run) → IsTaken answer → IsRun run₀
       → ((P : Item 𝓤) → Opds K W (P ∷ Γ) E xs (val-Taken answer ∷ val-Run run₀ ∷ []))
       → ((res : Took) → res ≡ tookOf answer run₀ → Is Took′.the-row res (val-Took res ∷ []) → Seq K W Γ (lands C Λ E d (val-Took res) rest q))
       → Seq K W Γ (runs C Λ E (seq (call #replay-take-out·lending·took-of xs d) rest) q)
   calls-took-of t fm mem run met answer run₀ g-answer g-run₀ os k =
-      calls-plain t fm (Contract-took-of 𝓤 H A mem run) met (to-took-of 𝓤 H A mem run answer run₀) Took′.the-row (val-Took) (LL.tells Took′.the-type Took″.the-laws) (Said-took-of 𝓤 H A mem run answer run₀) (λ (res : Took). res ≡ tookOf answer run₀) (said-took-of 𝓤 H A mem run answer run₀)
+      calls-plain t fm (Contract-took-of 𝓤 H A mem run) met (to-took-of 𝓤 H A mem run answer run₀) Took′.the-row (val-Took)
+      (LL.tells Took′.the-type Took″.the-laws) (Said-took-of 𝓤 H A mem run answer run₀) (λ (res : Took). res ≡ tookOf answer run₀)
+      (said-took-of 𝓤 H A mem run answer run₀)
       (λ _. id⊢ 𝓤 _) (goes-took-of 𝓤 H A mem run W answer run₀ g-answer g-run₀) (os _) k

@@ -25,6 +25,7 @@ use Rattle.run_entry.specs.State.{State}
 use Rattle.run_entry.specs.Entry.{areasFit, Good}
 use Rattle.run_entry.proofs.Laws.{areas-fine}
 use Rattle.record_words.specs.RecordWords.{runOf, settingsOf, methodOf}
+use Rattle.record_words.proofs.Laws.{method-tree}
 use Rattle.parked.specs.declared.Layout.{Layout}
 use Rattle.parked.specs.Parked.{Stored, linksIn, layoutIn}
 use Rattle.unpark.specs.declared.Unparked.the-variants.{Read}
@@ -32,7 +33,6 @@ use Rattle.unpark.specs.Unpark.{settingsRead, hasRoom, Unparking, unparking, un
 use Rattle.parking.specs.Held.{stateIn}
 use Rattle.parking.specs.Again.{recordAgain, storedAgain}
 use Rattle.parking.proofs.Entries.{Writes, parks-writes}
-use Rattle.parking.proofs.Heads.{method-tree}
 use Rattle.parking.proofs.Written.{Lying, lying, method-most, lists-in}
 use Rattle.parking.proofs.Returned.{reading-what-was-written}
 use Rattle.parking.proofs.Rewritten.{reads}
@@ -97,7 +97,8 @@ module _ (d : Stored) (F : List Float) (ns : List Node) (t : List ℕ) (W : Writ
   tree-is : (b : Bool) → isTree (methodOf (num w 3)) ≡ b → l .tree ≡ b
   tree-is b x = y .tree-is ∙ by-word b x
 
-  lists-same : isTree (methodOf (num w 3)) ≡ true → SameLists (num w 0) (map bits (d .affinities)) (again .memory .affinities) (d .indices) (again .memory .indices) (d .offsets) (again .memory .offsets)
+  lists-same : isTree (methodOf (num w 3)) ≡ true → SameLists (num w 0) (map bits (d .affinities)) (again .memory .affinities) (d .indices)
+      (again .memory .indices) (d .offsets) (again .memory .offsets)
   unfolding storedAgain runOf settingsOf
   lists-same x =
       let a = W .good .areas .tree-long x in
@@ -150,7 +151,8 @@ module _ (d : Stored) (F : List Float) (ns : List Node) (t : List ℕ) (k : ℕ)
 
   -- What is read is the run that was parked, as `ReadBack` says it.
   pub read-back : ReadBack (stateIn d F ns) (morningState d F ns t k e F' ns')
-  read-back = subst (λ (u : Unparking). ReadBack (stateIn d F ns) (stateIn (u .left) (u .forces) ns')) (sym all-read) (again-back d F ns t W e (filled zero64 (sizesOf (settingsOf (d .run)) .forces) F') ns' (N .same-arena))
+  read-back = subst (λ (u : Unparking). ReadBack (stateIn d F ns) (stateIn (u .left) (u .forces) ns')) (sym all-read)
+      (again-back d F ns t W e (filled zero64 (sizesOf (settingsOf (d .run)) .forces) F') ns' (N .same-arena))
 
   -- .. and is honest
   pub read-back-honest : Honest (morningState d F ns t k e F' ns')
@@ -161,7 +163,8 @@ module _ (d : Stored) (F : List Float) (ns : List Node) (t : List ℕ) (k : ℕ)
       let s = settingsRead (wordIn f) in
       let fits = areasFit s (length (e .positions)) (length (e .increments)) (length (e .gains)) (length (e .affinities)) (length (e .indices)) (length (e .offsets)) (length F') (length ns') in
       let room = and-right (leb 14 (length (e .run))) fits (reads f e F' (length ns') k a .room) in
-      what-is-read-is-honest f e F' (length ns') k a ns' (λ x. areas-fine s (length (e .positions)) (length (e .increments)) (length (e .gains)) (length (e .affinities)) (length (e .indices)) (length (e .offsets)) (length F') (length ns') room .tree-long x .nodes-some)
+      what-is-read-is-honest f e F' (length ns') k a ns' (λ x. areas-fine s (length (e .positions)) (length (e .increments)) (length (e .gains))
+      (length (e .affinities)) (length (e .indices)) (length (e .offsets)) (length F') (length ns') room .tree-long x .nodes-some)
 
   -- Calls with bs, then one with b, on what was read, and on the run had it not been parked: each answers the same.
   -- After them positions, increments and gains hold the same values at their n·c places, and the record is the same but for nodes in use and an exact run's angle.
@@ -170,7 +173,9 @@ module _ (d : Stored) (F : List Float) (ns : List Node) (t : List ℕ) (k : ℕ)
   pub overnight-goes-on : (bs : List ℕ) (b : ℕ) → Overnight bs b (stateIn d F ns) (morningState d F ns t k e F' ns')
   overnight-goes-on bs b = goes-on-overnight bs b (stateIn d F ns) (morningState d F ns t k e F' ns') (written-honest d F ns t W e F' ns') (read-back-honest .good) read-back
 
-  -- Demand 3: calls with early on the honest run s, which then lies in memory as d; the night; calls with late and one with b on what was read. One call on s with the sum of all budgets, or 2^32 − 1, leaves the same, as above, answers the same kind and tells as many units as they do together.
+  -- Demand 3: calls with early on the honest run s, which then lies in memory as d; the night; calls with late and one with b on what was read. One call on s
+  -- with the sum of all budgets, or 2^32 − 1, leaves the same, as above, answers the same kind and tells as many units as they do together.
   pub demand-three-overnight : (early late : List ℕ) (b : ℕ) (s : State) → Honest s → works early s ≡ stateIn d F ns → 1 ≤ b → OneCallAcross early late b s (morningState d F ns t k e F' ns')
   demand-three-overnight early late b s g p h =
-      demand-three-across-a-parking early late b s (morningState d F ns t k e F' ns') g (subst (λ (x : State). ReadBack x (morningState d F ns t k e F' ns')) (sym p) read-back) (read-back-honest .good) h
+      demand-three-across-a-parking early late b s (morningState d F ns t k e F' ns') g
+      (subst (λ (x : State). ReadBack x (morningState d F ns t k e F' ns')) (sym p) read-back) (read-back-honest .good) h

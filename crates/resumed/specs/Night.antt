@@ -33,5 +33,6 @@ module _ (d : Stored) (forces : List Float) (nodes : List Node) (target : List �
     pub in-words : InWords d
     pub written : parkOf d (length forces) nodes target .answer ≡ Written k
     pub words-long : 14 ≤ length (e .run)
-    pub areas-long : areasFit (settingsOf (d .run)) (length (e .positions)) (length (e .increments)) (length (e .gains)) (length (e .affinities)) (length (e .indices)) (length (e .offsets)) (length into) (length arena) ≡ true
+    pub areas-long : areasFit (settingsOf (d .run)) (length (e .positions)) (length (e .increments)) (length (e .gains)) (length (e .affinities))
+        (length (e .indices)) (length (e .offsets)) (length into) (length arena) ≡ true
     pub same-arena : length arena ≡ length nodes

@@ -60,7 +60,8 @@ module _ (r : Run) (live : isEnded (r .standing) ≡ false) (g : GoodCounters r)
       let A = leb earlyIterations (r .done) in
       let B = aboveZero (r .settings .minimum) in
       by-bool P (stopsNow r norm)
-      (λ e. let ab = and-left (A && B) _ e in rw e (rw (le-leb (suc earlyIterations) (r .done + 1) (omega (arith, leb-true earlyIterations (r .done) (and-left A B ab))), le-leb (r .done + 1) i (omega arith), and-right A B ab)))
+      (λ e. let ab = and-left (A && B) _ e in
+      rw e (rw (le-leb (suc earlyIterations) (r .done + 1) (omega (arith, leb-true earlyIterations (r .done) (and-left A B ab))), le-leb (r .done + 1) i (omega arith), and-right A B ab)))
       (λ e. by-bool P (eqb (r .done + 1) i) (λ q. rw (e, q) (rw (eqb-true (r .done + 1) i q, eq-eqb i i refl))) (λ q. rw (e, q) (lt-ltb (r .done + 1) i (omega (arith, eqb-false (r .done + 1) i q)))))
 
   pub closed-good : (norm : Float) → r .phase + 1 ≡ perAt r → GoodCounters (closedOf r norm)

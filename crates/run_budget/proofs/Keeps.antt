@@ -90,7 +90,12 @@ module _ (m : ℕ) (s : State) (g : Ordered m s) (live : isEnded (s .run .standi
         contents = λ t. record {
           each-offset = c .each-offset;
           each-index = c .each-index;
-          tree = λ n. record { used-some = omega arith; used-most = nameable-both 1 (length (set (M .nodes) 0 (boxOf (M .positions) N C))) (rw l (a .nodes-some)) (omega arith); each-node = box-ok N (m + 1) C N (M .positions) (M .nodes) (a .nodes-some) };
+          tree = λ n. record {
+            used-some = omega arith;
+            used-most = nameable-both 1 (length (set (M .nodes) 0 (boxOf (M .positions) N C)))
+                (rw l (a .nodes-some)) (omega arith);
+            each-node = box-ok N (m + 1) C N (M .positions) (M .nodes) (a .nodes-some);
+          };
         };
       }
 
@@ -105,7 +110,8 @@ module _ (m : ℕ) (s : State) (g : Ordered m s) (live : isEnded (s .run .standi
       let q = per-some (R .settings .method) N in
       let n2 = g .settings .n-some in
       let fit = taken-fits (M .positions) C (R .phase - 1) (tree (R .used) (M .nodes)) f in
-      let e = taken-ends (M .positions) C (R .phase - 1) (tree (R .used) (M .nodes)) N m (omega (arith, k .1, p)) some (t .each-node) (t .used-some) (omega (arith, t .used-most, nameable-most (length (M .nodes)))) fit in
+      let e = taken-ends (M .positions) C (R .phase - 1) (tree (R .used) (M .nodes)) N m (omega (arith, k .1, p)) some (t .each-node) (t .used-some)
+      (omega (arith, t .used-most, nameable-most (length (M .nodes)))) fit in
       record {
         settings = g .settings;
         counters = advanced-good R live (g .counters) (i .tree .used) (omega (arith, k .1));
@@ -139,7 +145,8 @@ module _ (m : ℕ) (s : State) (g : Ordered m s) (live : isEnded (s .run .standi
         });
       }
 
-  finish-keeps : (groupOf R ≡ 0 → ⊥) → (groupOf R ≡ 1 → ⊥) → (norm : Float) (y v x : List Float) → length y ≡ length (M .positions) → length v ≡ length (M .increments) → length x ≡ length (M .gains) → Ordered (m + 1) (withFinish M (finishTurn (closedOf R norm) y v x Done) .now)
+  finish-keeps : (groupOf R ≡ 0 → ⊥) → (groupOf R ≡ 1 → ⊥) → (norm : Float) (y v x : List Float) → length y ≡ length (M .positions) →
+      length v ≡ length (M .increments) → length x ≡ length (M .gains) → Ordered (m + 1) (withFinish M (finishTurn (closedOf R norm) y v x Done) .now)
   unfolding closedOf
   finish-keeps a b norm y v x ly lv lx = record {
     settings = g .settings;
@@ -151,26 +158,32 @@ module _ (m : ℕ) (s : State) (g : Ordered m s) (live : isEnded (s .run .standi
   -- a unit that is done keeps the state in order, with counts of at most one more
   pub unit-keeps : isDone (unit s .why) ≡ true → Ordered (m + 1) (unit s .now)
   unit-keeps = by-unit s live (λ (t : Turned). isDone (t .why) ≡ true → Ordered (m + 1) (t .now))
-      (λ z. by-tree R (M .positions) (M .nodes) (λ (t : TreeTurn). isDone (withTree M t .why) ≡ true → Ordered (m + 1) (withTree M t .now)) (λ e d. box-keeps z e) (λ e f d. absurd (true≢false (sym d))) (λ e f d. insert-keeps z e f))
+      (λ z. by-tree R (M .positions) (M .nodes) (λ (t : TreeTurn). isDone (withTree M t .why) ≡ true →
+      Ordered (m + 1) (withTree M t .now)) (λ e d. box-keeps z e) (λ e f d. absurd (true≢false (sym d))) (λ e f d. insert-keeps z e f))
       (λ z d. force-keeps z)
       (λ a b. by-finish R (M .positions) (M .increments) (M .gains) (M .forces) (λ (t : FinishTurn). isDone (withFinish M t .why) ≡ true → Ordered (m + 1) (withFinish M t .now))
-      (λ d. finish-keeps a b _ _ _ _ (length-run _ _ _ _ (λ j l. length-set l j _)) (length-run _ _ _ _ (λ j l. length-set l j _)) (length-run _ _ _ _ (λ j l. length-set l j _))) (λ d. absurd (true≢false (sym d))))
+      (λ d. finish-keeps a b _ _ _ _ (length-run _ _ _ _ (λ j l. length-set l j _)) (length-run _ _ _ _ (λ j l. length-set l j _))
+      (length-run _ _ _ _ (λ j l. length-set l j _))) (λ d. absurd (true≢false (sym d))))
 
 module _ (s : State) (live : isEnded (s .run .standing) ≡ false) where
   -- the record counts it
   pub unit-counts : isDone (unit s .why) ≡ true → unit s .now .run .units ≡ s .run .units + 1
   unfolding advancedOf closedOf
   unit-counts = by-unit s live (λ (t : Turned). isDone (t .why) ≡ true → t .now .run .units ≡ s .run .units + 1)
-      (λ z. by-tree (s .run) (s .memory .positions) (s .memory .nodes) (λ (t : TreeTurn). isDone (t .why) ≡ true → t .run .units ≡ s .run .units + 1) (λ e d. refl) (λ e f d. absurd (true≢false (sym d))) (λ e f d. refl))
+      (λ z. by-tree (s .run) (s .memory .positions) (s .memory .nodes) (λ (t : TreeTurn). isDone (t .why) ≡ true →
+      t .run .units ≡ s .run .units + 1) (λ e d. refl) (λ e f d. absurd (true≢false (sym d))) (λ e f d. refl))
       (λ z d. refl)
-      (λ a b. by-finish (s .run) (s .memory .positions) (s .memory .increments) (s .memory .gains) (s .memory .forces) (λ (t : FinishTurn). isDone (t .why) ≡ true → t .run .units ≡ s .run .units + 1) (λ d. refl) (λ d. absurd (true≢false (sym d))))
+      (λ a b. by-finish (s .run) (s .memory .positions) (s .memory .increments) (s .memory .gains) (s .memory .forces) (λ (t : FinishTurn). isDone
+      (t .why) ≡ true → t .run .units ≡ s .run .units + 1) (λ d. refl) (λ d. absurd (true≢false (sym d))))
 
   -- it is done, or lacks nodes, or finds a value too large
   pub unit-not-over : unit s .why ≡ Over → ⊥
   unit-not-over = by-unit s live (λ (t : Turned). t .why ≡ Over → ⊥)
-      (λ z. by-tree (s .run) (s .memory .positions) (s .memory .nodes) (λ (t : TreeTurn). t .why ≡ Over → ⊥) (λ e. done) (λ e f d. absurd (let q : NoNodes ≡ Over = d in let u : _≡_ {A = ℕ} 0 1 = cc in omega arith)) (λ e f. done))
+      (λ z. by-tree (s .run) (s .memory .positions) (s .memory .nodes) (λ (t : TreeTurn). t .why ≡ Over →
+      ⊥) (λ e. done) (λ e f d. absurd (let q : NoNodes ≡ Over = d in let u : _≡_ {A = ℕ} 0 1 = cc in omega arith)) (λ e f. done))
       (λ z. done)
-      (λ a b. by-finish (s .run) (s .memory .positions) (s .memory .increments) (s .memory .gains) (s .memory .forces) (λ (t : FinishTurn). t .why ≡ Over → ⊥) done (λ d. absurd (let q : TooLarge ≡ Over = d in let u : _≡_ {A = ℕ} 0 1 = cc in omega arith)))
+      (λ a b. by-finish (s .run) (s .memory .positions) (s .memory .increments) (s .memory .gains) (s .memory .forces) (λ (t : FinishTurn). t .why ≡ Over →
+      ⊥) done (λ d. absurd (let q : TooLarge ≡ Over = d in let u : _≡_ {A = ℕ} 0 1 = cc in omega arith)))
     where
       done : Done ≡ Over → ⊥
       done d = let u : _≡_ {A = ℕ} 0 1 = cc in omega arith
@@ -187,18 +200,22 @@ module _ (s : State) (live : isEnded (s .run .standing) ≡ false) where
   pub unit-phase : isDone (unit s .why) ≡ true → (unit s .now .run .phase ≡ 0 → ⊥) → unit s .now .run .phase ≡ s .run .phase + 1
   unfolding advancedOf closedOf
   unit-phase = by-unit s live (λ (t : Turned). isDone (t .why) ≡ true → (t .now .run .phase ≡ 0 → ⊥) → t .now .run .phase ≡ s .run .phase + 1)
-      (λ z. by-tree (s .run) (s .memory .positions) (s .memory .nodes) (λ (t : TreeTurn). isDone (t .why) ≡ true → (t .run .phase ≡ 0 → ⊥) → t .run .phase ≡ s .run .phase + 1) (λ e d q. refl) (λ e f d. absurd (true≢false (sym d))) (λ e f d q. refl))
+      (λ z. by-tree (s .run) (s .memory .positions) (s .memory .nodes) (λ (t : TreeTurn). isDone (t .why) ≡ true → (t .run .phase ≡ 0 → ⊥) →
+      t .run .phase ≡ s .run .phase + 1) (λ e d q. refl) (λ e f d. absurd (true≢false (sym d))) (λ e f d q. refl))
       (λ z d q. refl)
-      (λ a b. by-finish (s .run) (s .memory .positions) (s .memory .increments) (s .memory .gains) (s .memory .forces) (λ (t : FinishTurn). isDone (t .why) ≡ true → (t .run .phase ≡ 0 → ⊥) → t .run .phase ≡ s .run .phase + 1) (λ d q. absurd (q refl)) (λ d. absurd (true≢false (sym d))))
+      (λ a b. by-finish (s .run) (s .memory .positions) (s .memory .increments) (s .memory .gains) (s .memory .forces) (λ (t : FinishTurn). isDone
+      (t .why) ≡ true → (t .run .phase ≡ 0 → ⊥) → t .run .phase ≡ s .run .phase + 1) (λ d q. absurd (q refl)) (λ d. absurd (true≢false (sym d))))
 
 -- a unit that is not done changes nothing
 pub unit-refused : (s : State) → isDone (unit s .why) ≡ false → unit s .now ≡ s
 unit-refused s = by-bool (isDone (unit s .why) ≡ false → unit s .now ≡ s) (isEnded (s .run .standing))
     (λ e d. rw (sym (unit-over s e)))
     (λ live. by-unit s live (λ (t : Turned). isDone (t .why) ≡ false → t .now ≡ s)
-    (λ z. by-tree (s .run) (s .memory .positions) (s .memory .nodes) (λ (t : TreeTurn). isDone (t .why) ≡ false → withTree (s .memory) t .now ≡ s) (λ e d. absurd (true≢false d)) (λ e f d. refl) (λ e f d. absurd (true≢false d)))
+    (λ z. by-tree (s .run) (s .memory .positions) (s .memory .nodes) (λ (t : TreeTurn). isDone (t .why) ≡ false →
+    withTree (s .memory) t .now ≡ s) (λ e d. absurd (true≢false d)) (λ e f d. refl) (λ e f d. absurd (true≢false d)))
     (λ z d. absurd (true≢false d))
-    (λ a b. by-finish (s .run) (s .memory .positions) (s .memory .increments) (s .memory .gains) (s .memory .forces) (λ (t : FinishTurn). isDone (t .why) ≡ false → withFinish (s .memory) t .now ≡ s) (λ d. absurd (true≢false d)) (λ d. refl)))
+    (λ a b. by-finish (s .run) (s .memory .positions) (s .memory .increments) (s .memory .gains) (s .memory .forces) (λ (t : FinishTurn). isDone
+    (t .why) ≡ false → withFinish (s .memory) t .now ≡ s) (λ d. absurd (true≢false d)) (λ d. refl)))
 
 -- so what a call works on stays workable
 pub workable-keeps : (s : State) → Workable s → isEnded (s .run .standing) ≡ false → isDone (unit s .why) ≡ true → Workable (unit s .now)
@@ -208,7 +225,8 @@ workable-keeps s g live d =
     let n2 = g .settings .n-some in
     let w = unit-keeps m s g live (omega arith) d in
     retreed (m + 1) (unit s .now .run .settings .n + unit s .now .run .phase) (unit s .now) w
-    (λ x q. let e = unit-phase s live d q in let t = ordered-looser (m + 1) (unit s .now .run .settings .n + unit s .now .run .phase) (unit s .now) (same (unit s .now) (unit-settings s live) e) w in t .contents x .tree q)
+    (λ x q. let e = unit-phase s live d q in let t = ordered-looser (m + 1) (unit s .now .run .settings .n + unit s .now .run .phase) (unit s .now)
+    (same (unit s .now) (unit-settings s live) e) w in t .contents x .tree q)
   where
     same : (u : State) → u .run .settings ≡ s .run .settings → u .run .phase ≡ s .run .phase + 1 → s .run .settings .n + s .run .phase + 1 ≤ u .run .settings .n + u .run .phase
     same u e f = rw e (omega (arith, f))

@@ -16,7 +16,7 @@ use Rattle.run_units.specs.Units.{isDone, turned, Turned, unit}
 use Rattle.run_budget.specs.declared.Going.{Going}
 use Rattle.run_budget.specs.declared.Worked.{Worked as Left}
 use Rattle.run_budget.specs.Budget.{machine, standsOf, haltedOf, worked, told, startedOf, spendsOn, countedOn, endedOf}
-use Rattle.run_budget.proofs.Spends.{Spends, spends-start, spends-good, spends-more, spends-halt, spends-done}
+use Rattle.run_budget.proofs.Spends.{Spends, spends-start, spends-good, spends-next, spends-halt, spends-done}
 
 -- the units so far have led from y to the present state; or one was not done, and what the call leaves is known
 pub record Leads (b : ℕ) (y : State) (g : Going) (m : Memory) : Type 0 where
@@ -54,13 +54,14 @@ module _ (b : ℕ) (y : State) (g : Going) (m : Memory) (k : Leads b y g m) (t :
       unfolding countedOn
       calls-next = subst (λ (x : Going). Leads b y x m′) (sym eh)
           (record {
-            on = λ e. rw e (spends-more here (k .on done) less eu e);
+            on = λ e. rw e (spends-next here (k .on done) less eu e);
             off = λ e. rw e (spends-halt here (k .on done) less eu e);
           })
 
       pub calls-nearer : callsLeft b h < callsLeft b g
       unfolding countedOn
-      calls-nearer = rw (eh, done) (by-bool (cond (isDone (u .why)) (suc (b - cond (isDone (u .why)) (g .k + 1) (g .k))) 0 < suc (b - g .k)) (isDone (u .why)) (λ e. rw e (omega (arith, less))) (λ e. rw e (omega arith)))
+      calls-nearer = rw (eh, done) (by-bool (cond (isDone (u .why)) (suc (b - cond (isDone (u .why)) (g .k + 1) (g .k))) 0 < suc (b - g .k)) (isDone (u .why))
+          (λ e. rw e (omega (arith, less))) (λ e. rw e (omega arith)))
 
   pub calls-end : T (not t) → (w : Left) → w ≡ endedOf g → worked (w .answer) (state (w .run) m) ≡ told (go machine b y)
   unfolding spendsOn endedOf

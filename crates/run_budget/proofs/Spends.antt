@@ -7,7 +7,7 @@ use lib.Dec.{ltb}
 use borrow.Author.Tests.{lt-ltb, le-ltb}
 use Rattle.laws.proofs.Bools.{by-bool, or-yes, or-left, or-right}
 use Rattle.run_calls.specs.Machine.{over, refused, running, called, stops, kindAt, go}
-use Rattle.run_calls.proofs.Demand.{Goes, goes-start, goes-more, goes-halt, goes-done}
+use Rattle.run_calls.proofs.Demand.{Goes, goes-start, goes-next, goes-halt, goes-done}
 use Rattle.run_record.specs.declared.Standing.{Standing}
 use Rattle.run_record.specs.declared.Standing.the-variants.{Running, Stopped, Finished}
 use Rattle.run_record.specs.Record.{isEnded}
@@ -68,8 +68,8 @@ told-done b k x h = by-standing (x .run .standing) refl
     by-standing Finished e = rw e
 
 module _ {b k : ℕ} {y x : State} where
-  pub spends-more : (t : Turned) → Spends b y k x → k < b → t ≡ unit x → isDone (t .why) ≡ true → Spends b y (k + 1) (t .now)
-  spends-more t r h e d = rw e (goes-more machine Workable keeping r h (goes-done-unit x (rw e at d)))
+  pub spends-next : (t : Turned) → Spends b y k x → k < b → t ≡ unit x → isDone (t .why) ≡ true → Spends b y (k + 1) (t .now)
+  spends-next t r h e d = rw e (goes-next machine Workable keeping r h (goes-done-unit x (rw e at d)))
 
   pub spends-halt : (t : Turned) → Spends b y k x → k < b → t ≡ unit x → isDone (t .why) ≡ false → worked (haltedOf (t .now .run .standing) (t .why) k) (t .now) ≡ told (go machine b y)
   spends-halt t r h e d =

@@ -48,7 +48,8 @@ module _ (r : Run) (y : List Float) (ns : List Node) where
 
   full-same : inserting .full ≡ true → inserting ≡ insertion true (tree (r .used) ns)
   unfolding insertOf
-  full-same e = full-is (ltb (nameable (length ns)) (r .used + needsOf (length ns) y (r .settings .c) (pointOf y (r .settings .c) (r .phase - 1)) 0 0 ns)) (tree (r .used) ns) (inserted (length ns) y (r .settings .c) (pointOf y (r .settings .c) (r .phase - 1)) (r .phase - 1) 0 0 (tree (r .used) ns)) e
+  full-same e = full-is (ltb (nameable (length ns)) (r .used + needsOf (length ns) y (r .settings .c) (pointOf y (r .settings .c) (r .phase - 1)) 0 0 ns))
+      (tree (r .used) ns) (inserted (length ns) y (r .settings .c) (pointOf y (r .settings .c) (r .phase - 1)) (r .phase - 1) 0 0 (tree (r .used) ns)) e
 
   tree-full : (r .phase ≡ 0 → ⊥) → inserting .full ≡ true → treeUnit r y ns ≡ treeTurn r ns Full
   unfolding treeUnit insertTurn
@@ -79,7 +80,8 @@ module _ (r : Run) (y v g F : List Float) where
   m = r .settings .n * r .settings .c
 
   pub by-finish : (P : FinishTurn → Type 0)
-      → P (finishTurn (closedOf r (normOf (b .gradients) m)) (loop (positionStep (meansOf b (r .settings .n) (r .settings .c)) b (r .settings .c)) m 0 y) (loop (incrementStep b) m 0 v) (loop (gainStep b) m 0 g) Done)
+      → P (finishTurn (closedOf r (normOf (b .gradients) m)) (loop (positionStep (meansOf b (r .settings .n) (r .settings .c)) b (r .settings .c)) m 0 y)
+      (loop (incrementStep b) m 0 v) (loop (gainStep b) m 0 g) Done)
       → P (finishTurn r y v g Wild)
       → P (finishUnit r y v g F)
   unfolding finishUnit finishOf
@@ -118,4 +120,6 @@ unfolding forceUnit
 length-forces r y P xs off ns F =
     by-bool (length (forceUnit r y P xs off ns F) ≡ length F) (isTree (r .settings .method))
     (λ t. rw t (length-point (exaggerationOf r) (r .settings .angle) (r .settings .c) y P xs off (r .used) ns (r .phase - r .settings .n - 1) F))
-    (λ t. by-bool (length (forceUnit r y P xs off ns F) ≡ length F) (ltb (r .phase) (r .settings .n)) (λ q. rw (t, q) (length-total y (r .settings .n) (r .settings .c) (r .phase) F)) (λ q. rw (t, q) (length-gradient y P (exaggerationOf r) (r .settings .n) (r .settings .c) (r .phase - r .settings .n) F)))
+    (λ t. by-bool (length (forceUnit r y P xs off ns F) ≡ length F) (ltb (r .phase) (r .settings .n)) (λ q. rw (t, q)
+    (length-total y (r .settings .n) (r .settings .c) (r .phase) F)) (λ q. rw (t, q)
+    (length-gradient y P (exaggerationOf r) (r .settings .n) (r .settings .c) (r .phase - r .settings .n) F)))

@@ -51,20 +51,23 @@ module _ {S : Type 0} (m : Machine S) where
   pub after-times : (b : ℕ) (s : S) → after m b s ≡ times (m .next) (unitsDone m b s) s
   unfolding unitsDone until times
   after-times zero s = refl
-  after-times (suc b) s = by-stop (after m (suc b) s ≡ times (m .next) (unitsDone m (suc b) s) s) s (λ e. rw (done-stop (suc b) s e) (after-stop (suc b) s e)) (λ e. rw (done-go b s e) (after-go b s e ∙ after-times b (m .next s)))
+  after-times (suc b) s = by-stop (after m (suc b) s ≡ times (m .next) (unitsDone m (suc b) s) s) s (λ e. rw (done-stop (suc b) s e) (after-stop (suc b) s e))
+      (λ e. rw (done-go b s e) (after-go b s e ∙ after-times b (m .next s)))
 
   -- none of them was attempted where no unit is done
   pub each-was-due : (b : ℕ) (s : S) (j : ℕ) → j < unitsDone m b s → stops m (times (m .next) j s) ≡ false
   unfolding unitsDone times
   each-was-due zero s j h = absurd (omega arith)
   each-was-due (suc b) s zero h = by-stop (stops m s ≡ false) s (λ e. absurd (let z = done-stop (suc b) s e in omega arith)) (λ e. e)
-  each-was-due (suc b) s (suc j) h = by-stop (stops m (times (m .next) j (m .next s)) ≡ false) s (λ e. absurd (let z = done-stop (suc b) s e in omega arith)) (λ e. each-was-due b (m .next s) j (let z = done-go b s e in omega arith))
+  each-was-due (suc b) s (suc j) h = by-stop (stops m (times (m .next) j (m .next s)) ≡ false) s (λ e. absurd (let z = done-stop (suc b) s e in omega arith))
+      (λ e. each-was-due b (m .next s) j (let z = done-go b s e in omega arith))
 
   -- fewer units than the budget: none further is done there
   pub short-stops : (b : ℕ) (s : S) → unitsDone m b s < b → stops m (after m b s) ≡ true
   unfolding unitsDone until
   short-stops zero s h = absurd (omega arith)
-  short-stops (suc b) s h = by-stop (stops m (after m (suc b) s) ≡ true) s (λ e. rw (after-stop (suc b) s e) e) (λ e. rw (after-go b s e) (short-stops b (m .next s) (let z = done-go b s e in omega arith)))
+  short-stops (suc b) s h = by-stop (stops m (after m (suc b) s) ≡ true) s (λ e. rw (after-stop (suc b) s e) e) (λ e. rw (after-go b s e)
+      (short-stops b (m .next s) (let z = done-go b s e in omega arith)))
 
   -- m units and then n
   pub done-add : (a b : ℕ) (s : S) → unitsDone m (a + b) s ≡ unitsDone m a s + unitsDone m b (after m a s)
@@ -160,8 +163,8 @@ module _ {S : Type 0} (m : Machine S) where
     pub goes-start : (b : ℕ) (y : S) → Inv y → Goes b y 0 y
     goes-start b y g = record { within = omega arith; good = g; state = rw sub-zero; units = rw (sub-zero b) (zero-add (unitsDone m b y)) }
 
-    pub goes-more : {b k : ℕ} {y x : S} → Goes b y k x → k < b → stops m x ≡ false → Goes b y (k + 1) (m .next x)
-    goes-more {b} {k} {y} {x} r h e =
+    pub goes-next : {b k : ℕ} {y x : S} → Goes b y k x → k < b → stops m x ≡ false → Goes b y (k + 1) (m .next x)
+    goes-next {b} {k} {y} {x} r h e =
         let a = after-go (b - (k + 1)) x e in
         let d = done-go (b - (k + 1)) x e in
         let l = left b k h in
@@ -180,7 +183,8 @@ module _ {S : Type 0} (m : Machine S) where
         let d : k ≡ unitsDone m b y = (let z = done-stop (b - k) x e in let u = r .units in omega arith) in
         ends r a d
       where
-        ends : {b k : ℕ} {y x : S} → Goes b y k x → x ≡ after m b y → k ≡ unitsDone m b y → called x k (kindAt m b k x) ≡ called (after m b y) (unitsDone m b y) (kindAt m b (unitsDone m b y) (after m b y))
+        ends : {b k : ℕ} {y x : S} → Goes b y k x → x ≡ after m b y → k ≡ unitsDone m b y →
+            called x k (kindAt m b k x) ≡ called (after m b y) (unitsDone m b y) (kindAt m b (unitsDone m b y) (after m b y))
         ends r a d = rw (a, d)
 
     pub goes-done : {b k : ℕ} {y x : S} → Goes b y k x → b ≤ k → called x k (kindAt m b k x) ≡ go m b y

@@ -57,15 +57,21 @@ module _ {M : Type 1} (𝓤 : URA M) (H : Heap 𝓤) (A : Atoms 𝓤) (mem : Mem
   said-asks-tree r t₀ res = exE 𝓤 _ (λ ws. snd∗ 𝓤 (sem 𝓤 H A (lasts asks-tree′.ended tt (r, (t₀, tt)) ws)) (fact 𝓤 (res ≡ asksTree r t₀)))
 
   goes-asks-tree : Given 𝓤 H A → (r : Run) (t₀ : Fault) → IsRun r → IsFault t₀ → ent 𝓤 (emp 𝓤) (Contract-asks-tree .pre (to-asks-tree r t₀))
-  goes-asks-tree W r t₀ g-r g-t₀ = qed W [] ∵ nothing ! $ nothing ! $ owned ! Fault′.the-row (Is Fault′.the-row) ((EL.makes Fault′.the-type Fault″.the-plain) 𝓤 H A) t₀ _ g-t₀ $ fjoin ! $ owned ! Run′.the-row (Is Run′.the-row) ((LL.makes Run′.the-type Run″.the-plain) 𝓤 H A) r _ g-r $ fjoin ! $ move ! (1 ∷ 0 ∷ []) $ join ! $ frame ! $ nothing ! $ done !
+  goes-asks-tree W r t₀ g-r g-t₀ = qed W [] ∵ nothing ! $ nothing ! $
+      owned ! Fault′.the-row (Is Fault′.the-row) ((EL.makes Fault′.the-type Fault″.the-plain) 𝓤 H A) t₀ _ g-t₀ $ fjoin ! $
+      owned ! Run′.the-row (Is Run′.the-row) ((LL.makes Run′.the-type Run″.the-plain) 𝓤 H A) r _ g-r $ fjoin ! $ move ! (1 ∷ 0 ∷ []) $ join ! $ frame ! $
+      nothing ! $ done !
 
-module _ {M : Type 1} {𝓤 : URA M} {H : Heap 𝓤} {A : Atoms 𝓤} {K : Type 0} {W : Given 𝓤 H A} {Γ : List (Item 𝓤)} {E : Env 𝓤 H} {C : Calls 𝓤 H} {Λ : Loops 𝓤 H} {xs : List Operand} {q : After 𝓤 H} {d : Place} {rest : Code} where
-  pub calls-asks-tree : K → FmC 𝓤 H (W .laws) C → (mem : Memory → SProp 𝓤) (run : Routine → Fun 𝓤) → Triple 𝓤 (C #run-entry·asks-tree) (Contract-asks-tree 𝓤 H A mem run) → (r : Run) (t₀ : Fault) → IsRun r → IsFault t₀
+module _ {M : Type 1} {𝓤 : URA M} {H : Heap 𝓤} {A : Atoms 𝓤} {K : Type 0} {W : Given 𝓤 H A} {Γ : List (Item 𝓤)} {E : Env 𝓤 H} {C : Calls 𝓤 H} {Λ : Loops 𝓤 H}
+    {xs : List Operand} {q : After 𝓤 H} {d : Place} {rest : Code} where
+  pub calls-asks-tree : K → FmC 𝓤 H (W .laws) C → (mem : Memory → SProp 𝓤) (run : Routine → Fun 𝓤) →
+      Triple 𝓤 (C #run-entry·asks-tree) (Contract-asks-tree 𝓤 H A mem run) → (r : Run) (t₀ : Fault) → IsRun r → IsFault t₀
       → ((P : Item 𝓤) → Opds K W (P ∷ Γ) E xs (val-Run r ∷ val-Fault t₀ ∷ []))
       → ((res : Bool) → res ≡ asksTree r t₀ → Is bool res (vbool res ∷ []) → Seq K W Γ (lands C Λ E d (vbool res) rest q))
       → Seq K W Γ (runs C Λ E (seq (call #run-entry·asks-tree xs d) rest) q)
   calls-asks-tree t fm mem run met r t₀ g-r g-t₀ os k =
-      calls-plain t fm (Contract-asks-tree 𝓤 H A mem run) met (to-asks-tree 𝓤 H A mem run r t₀) bool (vbool) (bool-tells) (Said-asks-tree 𝓤 H A mem run r t₀) (λ (res : Bool). res ≡ asksTree r t₀) (said-asks-tree 𝓤 H A mem run r t₀)
+      calls-plain t fm (Contract-asks-tree 𝓤 H A mem run) met (to-asks-tree 𝓤 H A mem run r t₀) bool (vbool) (bool-tells) (Said-asks-tree 𝓤 H A mem run r t₀)
+      (λ (res : Bool). res ≡ asksTree r t₀) (said-asks-tree 𝓤 H A mem run r t₀)
       (λ _. id⊢ 𝓤 _) (goes-asks-tree 𝓤 H A mem run W r t₀ g-r g-t₀) (os _) k
 
 -- ---- `tree_fault`
@@ -83,13 +89,17 @@ module _ {M : Type 1} (𝓤 : URA M) (H : Heap 𝓤) (A : Atoms 𝓤) (mem : Mem
   said-tree-fault t₀ res = exE 𝓤 _ (λ ws. snd∗ 𝓤 (sem 𝓤 H A (lasts tree-fault′.ended tt (t₀, tt) ws)) (fact 𝓤 (res ≡ treeFault t₀)))
 
   goes-tree-fault : Given 𝓤 H A → (t₀ : Contents) → IsContents t₀ → ent 𝓤 (emp 𝓤) (Contract-tree-fault .pre (to-tree-fault t₀))
-  goes-tree-fault W t₀ g-t₀ = qed W [] ∵ nothing ! $ nothing ! $ owned ! Contents′.the-row (Is Contents′.the-row) ((EL.makes Contents′.the-type Contents″.the-plain) 𝓤 H A) t₀ _ g-t₀ $ fjoin ! $ move ! (1 ∷ 0 ∷ []) $ join ! $ frame ! $ nothing ! $ done !
+  goes-tree-fault W t₀ g-t₀ = qed W [] ∵ nothing ! $ nothing ! $ owned ! Contents′.the-row (Is Contents′.the-row)
+      ((EL.makes Contents′.the-type Contents″.the-plain) 𝓤 H A) t₀ _ g-t₀ $ fjoin ! $ move ! (1 ∷ 0 ∷ []) $ join ! $ frame ! $ nothing ! $ done !
 
-module _ {M : Type 1} {𝓤 : URA M} {H : Heap 𝓤} {A : Atoms 𝓤} {K : Type 0} {W : Given 𝓤 H A} {Γ : List (Item 𝓤)} {E : Env 𝓤 H} {C : Calls 𝓤 H} {Λ : Loops 𝓤 H} {xs : List Operand} {q : After 𝓤 H} {d : Place} {rest : Code} where
-  pub calls-tree-fault : K → FmC 𝓤 H (W .laws) C → (mem : Memory → SProp 𝓤) (run : Routine → Fun 𝓤) → Triple 𝓤 (C #run-entry·tree-fault) (Contract-tree-fault 𝓤 H A mem run) → (t₀ : Contents) → IsContents t₀
+module _ {M : Type 1} {𝓤 : URA M} {H : Heap 𝓤} {A : Atoms 𝓤} {K : Type 0} {W : Given 𝓤 H A} {Γ : List (Item 𝓤)} {E : Env 𝓤 H} {C : Calls 𝓤 H} {Λ : Loops 𝓤 H}
+    {xs : List Operand} {q : After 𝓤 H} {d : Place} {rest : Code} where
+  pub calls-tree-fault : K → FmC 𝓤 H (W .laws) C → (mem : Memory → SProp 𝓤) (run : Routine → Fun 𝓤) →
+      Triple 𝓤 (C #run-entry·tree-fault) (Contract-tree-fault 𝓤 H A mem run) → (t₀ : Contents) → IsContents t₀
       → ((P : Item 𝓤) → Opds K W (P ∷ Γ) E xs (val-Contents t₀ ∷ []))
       → ((res : Fault) → res ≡ treeFault t₀ → Is Fault′.the-row res (val-Fault res ∷ []) → Seq K W Γ (lands C Λ E d (val-Fault res) rest q))
       → Seq K W Γ (runs C Λ E (seq (call #run-entry·tree-fault xs d) rest) q)
   calls-tree-fault t fm mem run met t₀ g-t₀ os k =
-      calls-plain t fm (Contract-tree-fault 𝓤 H A mem run) met (to-tree-fault 𝓤 H A mem run t₀) Fault′.the-row (val-Fault) (EL.tells Fault′.the-type Fault″.the-laws) (Said-tree-fault 𝓤 H A mem run t₀) (λ (res : Fault). res ≡ treeFault t₀) (said-tree-fault 𝓤 H A mem run t₀)
+      calls-plain t fm (Contract-tree-fault 𝓤 H A mem run) met (to-tree-fault 𝓤 H A mem run t₀) Fault′.the-row (val-Fault)
+      (EL.tells Fault′.the-type Fault″.the-laws) (Said-tree-fault 𝓤 H A mem run t₀) (λ (res : Fault). res ≡ treeFault t₀) (said-tree-fault 𝓤 H A mem run t₀)
       (λ _. id⊢ 𝓤 _) (goes-tree-fault 𝓤 H A mem run W t₀ g-t₀) (os _) k

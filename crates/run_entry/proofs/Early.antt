@@ -30,7 +30,8 @@ contents-split r xs off ns = by (ltb (firstOffset (r .settings) off) (r .setting
   where
     by : (a b : Bool)
         → cond a (Offsets (firstOffset (r .settings) off - 1)) (cond b (Index (firstIndex (r .settings) xs off)) (treeFaultAt r ns))
-        ≡ cond (isFine (cond a (Offsets (firstOffset (r .settings) off - 1)) (cond b (Index (firstIndex (r .settings) xs off)) Fine))) (treeFaultAt r ns) (cond a (Offsets (firstOffset (r .settings) off - 1)) (cond b (Index (firstIndex (r .settings) xs off)) Fine))
+        ≡ cond (isFine (cond a (Offsets (firstOffset (r .settings) off - 1)) (cond b (Index (firstIndex (r .settings) xs off)) Fine))) (treeFaultAt r ns)
+        (cond a (Offsets (firstOffset (r .settings) off - 1)) (cond b (Index (firstIndex (r .settings) xs off)) Fine))
     by true b = refl
     by false true = refl
     by false false = refl
@@ -54,7 +55,8 @@ module _ (r : Run) (p i g a f : ℕ) (xs off : List ℕ) (ns : List Node) where
   asked : asksTree r early ≡ true → treeFault (contentsOf (r .settings .n) (r .settings .c) (tree (r .used) ns)) ≡ faultAt r p i g a f xs off ns
   unfolding asksTree faultBeforeTree faultAt treeFaultAt
   asked e = by-bool (treeFault (contentsOf (r .settings .n) (r .settings .c) (tree (r .used) ns)) ≡ faultAt r p i g a f xs off ns) (isFine (recordFault r))
-      (λ u. by-bool (treeFault (contentsOf (r .settings .n) (r .settings .c) (tree (r .used) ns)) ≡ faultAt r p i g a f xs off ns) (areasFit (r .settings) p i g a (length xs) (length off) f (length ns))
+      (λ u. by-bool (treeFault (contentsOf (r .settings .n) (r .settings .c) (tree (r .used) ns)) ≡ faultAt r p i g a f xs off ns)
+      (areasFit (r .settings) p i g a (length xs) (length off) f (length ns))
       (λ v. by-bool (treeFault (contentsOf (r .settings .n) (r .settings .c) (tree (r .used) ns)) ≡ faultAt r p i g a f xs off ns) (isTree (r .settings .method))
       (λ w.
       let q : isFine (listsFault r xs off) && true && not (eqb (r .phase) 0) ≡ true = rw (u, v, w) at e in

@@ -24,7 +24,8 @@ use Rattle.tree.proofs.Tested.{Sound, sound-fine, fine-sound}
 use Rattle.run_entry.specs.State.{State}
 use Rattle.run_entry.specs.declared.Fault.{Fault}
 use Rattle.run_entry.specs.declared.Fault.the-variants.{Fine, Settings as BadSettings, Counters, Areas, Offsets, Index}
-use Rattle.run_entry.specs.Entry.{treeFits, areasFit, offsetFine, indexFine, firstOffset, firstIndex, listed, treeFault, treeFaultAt, contentsFault, isFine, recordFault, faultAt, faultOf, GoodCounters, TreeAreas, GoodAreas, GoodTree, GoodContents, Good}
+use Rattle.run_entry.specs.Entry.{treeFits, areasFit, offsetFine, indexFine, firstOffset, firstIndex, listed, treeFault, treeFaultAt, contentsFault}
+use Rattle.run_entry.specs.Entry.{isFine, recordFault, faultAt, faultOf, GoodCounters, TreeAreas, GoodAreas, GoodTree, GoodContents, Good}
 
 -- a Barnes-Hut run has 1, 2 or 3 components
 pub axes : (s : Settings) → GoodSettings s → isTree (s .method) ≡ true → Axes (s .c)
@@ -136,8 +137,25 @@ module _ (s : Settings) (p i g a x o f nodes : ℕ) where
   pub areas-good : GoodAreas s p i g a x o f nodes → areasFit s p i g a x o f nodes ≡ true
   unfolding areasFit sizesOf treeFits
   areas-good h = by-bool (areasFit s p i g a x o f nodes ≡ true) (isTree (s .method))
-      (λ t. let z = h .tree-long t in simp (le-leb (s .n * s .c) p (h .positions-long), le-leb (s .n * s .c) i (h .increments-long), le-leb (s .n * s .c) g (h .gains-long), le-leb (s .n * (2 * s .c + 1)) f (h .forces-long), t, le-leb (2 * s .n * kOf s) a (z .links-most), le-leb (2 * s .n * kOf s) x (z .indices-most), le-leb (s .n + 1) o (z .offsets-most), le-leb 1 nodes (z .nodes-some)))
-      (λ t. simp (le-leb (s .n * s .c) p (h .positions-long), le-leb (s .n * s .c) i (h .increments-long), le-leb (s .n * s .c) g (h .gains-long), le-leb (s .n * (2 * s .c + 1)) f (h .forces-long), t, le-leb (s .n * s .n) a (h .exact-long t)))
+      (λ t. let z = h .tree-long t in simp (
+        le-leb (s .n * s .c) p (h .positions-long),
+        le-leb (s .n * s .c) i (h .increments-long),
+        le-leb (s .n * s .c) g (h .gains-long),
+        le-leb (s .n * (2 * s .c + 1)) f (h .forces-long),
+        t,
+        le-leb (2 * s .n * kOf s) a (z .links-most),
+        le-leb (2 * s .n * kOf s) x (z .indices-most),
+        le-leb (s .n + 1) o (z .offsets-most),
+        le-leb 1 nodes (z .nodes-some),
+      ))
+      (λ t. simp (
+        le-leb (s .n * s .c) p (h .positions-long),
+        le-leb (s .n * s .c) i (h .increments-long),
+        le-leb (s .n * s .c) g (h .gains-long),
+        le-leb (s .n * (2 * s .c + 1)) f (h .forces-long),
+        t,
+        le-leb (s .n * s .n) a (h .exact-long t),
+      ))
 
 -- ---- the contents
 
@@ -193,40 +211,47 @@ module _ (r : Run) (xs off : List ℕ) (ns : List Node) where
       let s = r .settings in
       let q : firstOffset s off ≡ s .n + 1 = first-none (λ i. not (offsetFine off (sizesOf s .links) i)) (s .n + 1) (λ i h. ap not (g .each-offset i h)) in
       let x : firstIndex s xs off ≡ listed s off = first-none (λ i. not (indexFine xs (s .n) i)) (listed s off) (λ i h. ap not (g .each-index i h)) in
-      let t : treeFaultAt r ns ≡ Fine = by-bool (treeFaultAt r ns ≡ Fine) (eqb (r .phase) 0) (λ z. tree-rests (eqb-true (r .phase) 0 z)) (λ z. tree-good-at (eqb-false (r .phase) 0 z) (g .tree (eqb-false (r .phase) 0 z))) in
+      let t : treeFaultAt r ns ≡ Fine = by-bool (treeFaultAt r ns ≡ Fine) (eqb (r .phase) 0) (λ z. tree-rests (eqb-true (r .phase) 0 z)) (λ z. tree-good-at
+      (eqb-false (r .phase) 0 z) (g .tree (eqb-false (r .phase) 0 z))) in
       rw (le-ltb (firstOffset s off) (s .n + 1) (omega (arith, q)), le-ltb (firstIndex s xs off) (listed s off) (omega (arith, x))) t
 
--- ---- all of them
+-- ---- all of them, whatever the values are: p, i, g, a, f are the lengths of positions, increments, gains, affinities and forces
 
+module _ (r : Run) (p i g a f : ℕ) (xs off : List ℕ) (ns : List Node) where
+  pub record GoodAt : Type 0 where
+    pub settings : GoodSettings (r .settings)
+    pub counters : GoodCounters r
+    pub areas : GoodAreas (r .settings) p i g a (length xs) (length off) f (length ns)
+    pub contents : isTree (r .settings .method) ≡ true → GoodContents (r .settings .n) r xs off ns
+
+  by-record : (x : Fault) → isFine (cond (isFine (recordFault r)) x (recordFault r)) ≡ true → (isFine (recordFault r) ≡ true) × (isFine x ≡ true)
+  by-record x e = by-bool ((isFine (recordFault r) ≡ true) × (isFine x ≡ true)) (isFine (recordFault r)) (λ t. (t, rw t at e)) (λ f. absurd (true≢false (sym (rw f at e) ∙ f)))
+
+  pub at-fine : isFine (faultAt r p i g a f xs off ns) ≡ true → GoodAt
+  unfolding faultAt
+  at-fine e =
+      let F = areasFit (r .settings) p i g a (length xs) (length off) f (length ns) in
+      let T = cond (isTree (r .settings .method)) (contentsFault r xs off ns) Fine in
+      let y = by-record (cond F T Areas) e in
+      let z = fine-else F T Areas refl (y .1) in
+      let h = record-fine r (y .0) in
+      record {
+        settings = h .0;
+        counters = h .1;
+        areas = areas-fine (r .settings) p i g a (length xs) (length off) f (length ns) (z .0);
+        contents = λ t. contents-fine r xs off ns (rw t at (z .1));
+      }
+
+  pub at-good : GoodAt → faultAt r p i g a f xs off ns ≡ Fine
+  unfolding faultAt
+  at-good h = rw (record-good r (h .settings) (h .counters), areas-good (r .settings) p i g a (length xs) (length off) f (length ns) (h .areas))
+      (by-bool (cond (isTree (r .settings .method)) (contentsFault r xs off ns) Fine ≡ Fine) (isTree (r .settings .method)) (λ t. rw t (contents-good r xs off ns (h .contents t))) (λ t. rw t))
+
+-- .. of a state
 pub fault-fine : (s : State) → isFine (faultOf s) ≡ true → Good s
-unfolding faultOf faultAt
-fault-fine s e =
-    let m = s .memory in
-    let r = s .run in
-    let ns = m .nodes in
-    let nodes = length ns in
-    let F = areasFit (r .settings) (length (m .positions)) (length (m .increments)) (length (m .gains)) (length (m .affinities)) (length (m .indices)) (length (m .offsets)) (length (m .forces)) nodes in
-    let C = contentsFault r (m .indices) (m .offsets) ns in
-    let T = cond (isTree (r .settings .method)) C Fine in
-    let a = by-record s (cond F T Areas) e in
-    let b = fine-else F T Areas refl (a .1) in
-    let g = record-fine r (a .0) in
-    record {
-      settings = g .0;
-      counters = g .1;
-      areas = areas-fine (r .settings) (length (m .positions)) (length (m .increments)) (length (m .gains)) (length (m .affinities)) (length (m .indices)) (length (m .offsets)) (length (m .forces)) nodes (b .0);
-      contents = λ t. contents-fine r (m .indices) (m .offsets) ns (rw t at (b .1));
-    }
-  where
-    by-record : (s : State) (x : Fault) → isFine (cond (isFine (recordFault (s .run))) x (recordFault (s .run))) ≡ true → (isFine (recordFault (s .run)) ≡ true) × (isFine x ≡ true)
-    by-record s x e = by-bool ((isFine (recordFault (s .run)) ≡ true) × (isFine x ≡ true)) (isFine (recordFault (s .run))) (λ t. (t, rw t at e)) (λ f. absurd (true≢false (sym (rw f at e) ∙ f)))
+unfolding faultOf
+fault-fine s e = let h = at-fine _ _ _ _ _ _ _ _ _ e in record { settings = h .settings; counters = h .counters; areas = h .areas; contents = h .contents }
 
 pub fault-good : (s : State) → Good s → faultOf s ≡ Fine
-unfolding faultOf faultAt
-fault-good s g =
-    let m = s .memory in
-    let r = s .run in
-    let ns = m .nodes in
-    let nodes = length ns in
-    let f = areas-good (r .settings) (length (m .positions)) (length (m .increments)) (length (m .gains)) (length (m .affinities)) (length (m .indices)) (length (m .offsets)) (length (m .forces)) nodes (g .areas) in
-    rw (record-good r (g .settings) (g .counters)) (rw f (by-bool (cond (isTree (r .settings .method)) (contentsFault r (m .indices) (m .offsets) ns) Fine ≡ Fine) (isTree (r .settings .method)) (λ t. rw t (contents-good r (m .indices) (m .offsets) ns (g .contents t))) (λ t. rw t)))
+unfolding faultOf
+fault-good s g = at-good _ _ _ _ _ _ _ _ _ (record { settings = g .settings; counters = g .counters; areas = g .areas; contents = g .contents })

@@ -170,7 +170,8 @@ pub record GoodContents (m : ℕ) (r : Run) (xs off : List ℕ) (ns : List Node)
 pub record Ordered (m : ℕ) (s : State) : Type 0 where
   pub settings : GoodSettings (s .run .settings)
   pub counters : GoodCounters (s .run)
-  pub areas : GoodAreas (s .run .settings) (length (s .memory .positions)) (length (s .memory .increments)) (length (s .memory .gains)) (length (s .memory .affinities)) (length (s .memory .indices)) (length (s .memory .offsets)) (length (s .memory .forces)) (length (s .memory .nodes))
+  pub areas : GoodAreas (s .run .settings) (length (s .memory .positions)) (length (s .memory .increments)) (length (s .memory .gains))
+      (length (s .memory .affinities)) (length (s .memory .indices)) (length (s .memory .offsets)) (length (s .memory .forces)) (length (s .memory .nodes))
   pub contents : isTree (s .run .settings .method) ≡ true → GoodContents m (s .run) (s .memory .indices) (s .memory .offsets) (s .memory .nodes)
 
 -- what the entry tests pass: no count is above n

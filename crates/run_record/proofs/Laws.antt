@@ -9,7 +9,7 @@ use lib.IntN.{pos}
 use lib.Ieee.{Float, binary64, ofInt, lt, le}
 use borrow.Author.Tests.{ltb-true, leb-true, ltb-false, ne-eqb, le-ltb, eqb-true, eqb-false, not-false}
 use Rattle.laws.specs.Domain.{earlyIterations, mostFeatures, mostFrames, mostIterations, mostComponents}
-use Rattle.laws.proofs.Bools.{and-left, and-right, or-left, or-right}
+use Rattle.laws.proofs.Bools.{by-bool, and-left, and-right, or-left, or-right}
 use Rattle.laws.specs.Area.{zero64}
 use Rattle.elementary.specs.Limits.{neighboursOf}
 use Rattle.run_record.specs.declared.Method.{Method}
@@ -17,7 +17,8 @@ use Rattle.run_record.specs.declared.Method.the-variants.{Exact, BarnesH
 use Rattle.run_record.specs.declared.Standing.{Standing}
 use Rattle.run_record.specs.declared.Standing.the-variants.{Running, Stopped, Finished}
 use Rattle.run_record.specs.declared.Settings.{Settings}
-use Rattle.run_record.specs.Record.{largest, aboveZero, positive, angleFault, from7, from5, from4, from3, from2, earlyFault, lateFault, settingsFault, perOf, stateFits, GoodSettings, kOf, mostPer, mostUnits}
+use Rattle.run_record.specs.Record.{largest, aboveZero, positive, angleFault, from7, from5, from4, from3, from2, earlyFault, lateFault, settingsFault}
+use Rattle.run_record.specs.Record.{perOf, stateFits, GoodSettings, kOf, mostPer, mostUnits}
 
 pub per-most : (m : Method) (n : ℕ) → n ≤ mostFrames → perOf m n ≤ mostPer
 unfolding perOf
@@ -32,7 +33,9 @@ per-some BarnesHut n = omega arith
 pub done-most : (s : Standing) (d i p : ℕ) (l : Float) → stateFits s d i p l ≡ true → d ≤ i
 unfolding stateFits
 done-most Running d i p l e = omega (arith, ltb-true d i e)
-done-most Stopped d i p l e = leb-true d i (and-right (leb (suc earlyIterations) d) (leb d i) (and-left (leb (suc earlyIterations) d && leb d i) (aboveZero l) (and-left (leb (suc earlyIterations) d && leb d i && aboveZero l) (eqb p 0) e)))
+done-most Stopped d i p l e = leb-true d i
+    (and-right (leb (suc earlyIterations) d) (leb d i)
+    (and-left (leb (suc earlyIterations) d && leb d i) (aboveZero l) (and-left (leb (suc earlyIterations) d && leb d i && aboveZero l) (eqb p 0) e)))
 done-most Finished d i p l e = omega (arith, eqb-true d i (and-left (eqb d i) (eqb p 0) e))
 
 pub product-fits : (d i : ℕ) (m : Method) (n : ℕ) → d ≤ i → i ≤ mostIterations → n ≤ mostFrames → d * perOf m n ≤ mostUnits
@@ -40,16 +43,17 @@ product-fits d i m n a b c = mul-le-mul (le-trans a b) (per-most m n c)
 
 -- ---- settings: no fault is good order, and good order is no fault
 
-pass : (t : Bool) (k r : ℕ) → (k ≡ 0 → ⊥) → cond t k r ≡ 0 → (t ≡ false) × (r ≡ 0)
-pass true k r n e = absurd (n e)
-pass false k r n e = (refl, e)
+-- where no number is told, each test has let pass: one that tells k, one that tells another's number, and the last
+pub test-told : (t : Bool) (k r : ℕ) → (k ≡ 0 → ⊥) → cond t k r ≡ 0 → (t ≡ false) × (r ≡ 0)
+test-told true k r n e = absurd (n e)
+test-told false k r n e = (refl, e)
 
-given-tree : (k r : ℕ) → cond (not (eqb k 0)) k r ≡ 0 → (k ≡ 0) × (r ≡ 0)
-given-tree k r e = by (eqb k 0) refl
-  where
-    by : (b : Bool) → eqb k 0 ≡ b → (k ≡ 0) × (r ≡ 0)
-    by true q = (eqb-true k 0 q, rw q at e)
-    by false q = absurd (eqb-false k 0 q (rw q at e))
+pub number-told : (k r : ℕ) → cond (not (eqb k 0)) k r ≡ 0 → (k ≡ 0) × (r ≡ 0)
+number-told k r e = by-bool ((k ≡ 0) × (r ≡ 0)) (eqb k 0) (λ q. (eqb-true k 0 q, rw q at e)) (λ q. absurd (eqb-false k 0 q (rw q at e)))
+
+pub last-told : (t : Bool) (k : ℕ) → (k ≡ 0 → ⊥) → cond t 0 k ≡ 0 → t ≡ true
+last-told true k n e = refl
+last-told false k n e = absurd (n e)
 
 pub record Early (s : Settings) : Type 0 where
   pub c-fine : (eqb (s .c) 0 || ltb mostComponents (s .c)) ≡ false
@@ -63,12 +67,12 @@ pub record Early (s : Settings) : Type 0 where
 pub early-fine : (s : Settings) → earlyFault s ≡ 0 → Early s
 unfolding earlyFault
 early-fine s e =
-    let a = pass (eqb (s .c) 0 || ltb mostComponents (s .c)) 1 (from2 s) (λ q. omega arith) e in
-    let b = pass (not (positive (s .perplexity))) 2 (from3 s) (λ q. omega arith) (a .1) in
-    let d = pass (not (positive (s .rate))) 3 (from4 s) (λ q. omega arith) (b .1) in
-    let f = pass (eqb (s .iterations) 0 || ltb mostIterations (s .iterations)) 4 (from5 s) (λ q. omega arith) (d .1) in
-    let g = given-tree (angleFault (s .method) (s .angle) (s .c)) (from7 s) (f .1) in
-    let h = pass (eqb (s .n) 0 || ltb mostFrames (s .n) || (eqb (s .f) 0 || ltb mostFeatures (s .f))) 7 0 (λ q. omega arith) (g .1) in
+    let a = test-told (eqb (s .c) 0 || ltb mostComponents (s .c)) 1 (from2 s) (λ q. omega arith) e in
+    let b = test-told (not (positive (s .perplexity))) 2 (from3 s) (λ q. omega arith) (a .1) in
+    let d = test-told (not (positive (s .rate))) 3 (from4 s) (λ q. omega arith) (b .1) in
+    let f = test-told (eqb (s .iterations) 0 || ltb mostIterations (s .iterations)) 4 (from5 s) (λ q. omega arith) (d .1) in
+    let g = number-told (angleFault (s .method) (s .angle) (s .c)) (from7 s) (f .1) in
+    let h = test-told (eqb (s .n) 0 || ltb mostFrames (s .n) || (eqb (s .f) 0 || ltb mostFeatures (s .f))) 7 0 (λ q. omega arith) (g .1) in
     record {
       c-fine = a .0;
       p-fine = not-false (positive (s .perplexity)) (b .0);
@@ -88,17 +92,13 @@ early-n s e = ranged (s .n) mostFrames (early-fine s e .n-fine)
 pub late-fine : (s : Settings) → lateFault s ≡ 0 → (s .n ≡ 1 → ⊥) × (lt (s .perplexity) (ofInt binary64 (pos (s .n))) ≡ true)
 unfolding lateFault
 late-fine s e =
-    let a = pass (eqb (s .n) 1) 9 (cond (lt (s .perplexity) (ofInt binary64 (pos (s .n)))) 0 10) (λ q. omega arith) e in
-    (eqb-false (s .n) 1 (a .0), by (lt (s .perplexity) (ofInt binary64 (pos (s .n)))) (a .1))
-  where
-    by : (b : Bool) → _≡_ {A = ℕ} (cond b 0 10) 0 → b ≡ true
-    by true q = refl
-    by false q = absurd (omega arith)
+    let a = test-told (eqb (s .n) 1) 9 (cond (lt (s .perplexity) (ofInt binary64 (pos (s .n)))) 0 10) (λ q. omega arith) e in
+    (eqb-false (s .n) 1 (a .0), last-told (lt (s .perplexity) (ofInt binary64 (pos (s .n)))) 10 (λ q. omega arith) (a .1))
 
 pub settings-fine : (s : Settings) → settingsFault s ≡ 0 → GoodSettings s
 unfolding settingsFault
 settings-fine s e =
-    let g = given-tree (earlyFault s) (lateFault s) e in
+    let g = number-told (earlyFault s) (lateFault s) e in
     let y = early-fine s (g .0) in
     let l = late-fine s (g .1) in
     let c = ranged (s .c) mostComponents (y .c-fine) in
@@ -125,7 +125,17 @@ range x m a b = rw (ne-eqb x 0 (λ q. omega arith), le-ltb m x b)
 
 pub settings-good : (s : Settings) → GoodSettings s → settingsFault s ≡ 0
 unfolding settingsFault earlyFault lateFault
-settings-good s g = simp (range (s .c) mostComponents (g .c-some) (g .c-most), g .perplexity-positive, g .rate-positive, range (s .iterations) mostIterations (g .iterations-some) (g .iterations-most), g .tree-fine, range (s .n) mostFrames (omega (arith, g .n-some)) (g .n-most), range (s .f) mostFeatures (g .f-some) (g .f-most), ne-eqb (s .n) 1 (λ q. omega (arith, g .n-some)), g .perplexity-below)
+settings-good s g = simp (
+  range (s .c) mostComponents (g .c-some) (g .c-most),
+  g .perplexity-positive,
+  g .rate-positive,
+  range (s .iterations) mostIterations (g .iterations-some) (g .iterations-most),
+  g .tree-fine,
+  range (s .n) mostFrames (omega (arith, g .n-some)) (g .n-most),
+  range (s .f) mostFeatures (g .f-some) (g .f-most),
+  ne-eqb (s .n) 1 (λ q. omega (arith, g .n-some)),
+  g .perplexity-below,
+)
 
 pub k-most : (s : Settings) → GoodSettings s → (1 ≤ kOf s) × (kOf s < s .n)
 unfolding neighboursOf

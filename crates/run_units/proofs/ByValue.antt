@@ -87,15 +87,18 @@ module _ {M : Type 1} (𝓤 : URA M) (H : Heap 𝓤) (A : Atoms 𝓤) (mem : Mem
   said-is-box r res = exE 𝓤 _ (λ ws. snd∗ 𝓤 (sem 𝓤 H A (lasts is-box′.ended tt (r, tt) ws)) (fact 𝓤 (res ≡ eqb (r .phase) 0)))
 
   goes-is-box : Given 𝓤 H A → (r : Run) → IsRun r → ent 𝓤 (emp 𝓤) (Contract-is-box .pre (to-is-box r))
-  goes-is-box W r g-r = qed W [] ∵ nothing ! $ nothing ! $ owned ! Run′.the-row (Is Run′.the-row) ((LL.makes Run′.the-type Run″.the-plain) 𝓤 H A) r _ g-r $ fjoin ! $ move ! (1 ∷ 0 ∷ []) $ join ! $ frame ! $ nothing ! $ done !
+  goes-is-box W r g-r = qed W [] ∵ nothing ! $ nothing ! $ owned ! Run′.the-row (Is Run′.the-row) ((LL.makes Run′.the-type Run″.the-plain) 𝓤 H A) r _ g-r $
+      fjoin ! $ move ! (1 ∷ 0 ∷ []) $ join ! $ frame ! $ nothing ! $ done !
 
-module _ {M : Type 1} {𝓤 : URA M} {H : Heap 𝓤} {A : Atoms 𝓤} {K : Type 0} {W : Given 𝓤 H A} {Γ : List (Item 𝓤)} {E : Env 𝓤 H} {C : Calls 𝓤 H} {Λ : Loops 𝓤 H} {xs : List Operand} {q : After 𝓤 H} {d : Place} {rest : Code} where
+module _ {M : Type 1} {𝓤 : URA M} {H : Heap 𝓤} {A : Atoms 𝓤} {K : Type 0} {W : Given 𝓤 H A} {Γ : List (Item 𝓤)} {E : Env 𝓤 H} {C : Calls 𝓤 H} {Λ : Loops 𝓤 H}
+    {xs : List Operand} {q : After 𝓤 H} {d : Place} {rest : Code} where
   pub calls-is-box : K → FmC 𝓤 H (W .laws) C → (mem : Memory → SProp 𝓤) (run : Routine → Fun 𝓤) → Triple 𝓤 (C #run-units·is-box) (Contract-is-box 𝓤 H A mem run) → (r : Run) → IsRun r
       → ((P : Item 𝓤) → Opds K W (P ∷ Γ) E xs (val-Run r ∷ []))
       → ((res : Bool) → res ≡ eqb (r .phase) 0 → Is bool res (vbool res ∷ []) → Seq K W Γ (lands C Λ E d (vbool res) rest q))
       → Seq K W Γ (runs C Λ E (seq (call #run-units·is-box xs d) rest) q)
   calls-is-box t fm mem run met r g-r os k =
-      calls-plain t fm (Contract-is-box 𝓤 H A mem run) met (to-is-box 𝓤 H A mem run r) bool (vbool) (bool-tells) (Said-is-box 𝓤 H A mem run r) (λ (res : Bool). res ≡ eqb (r .phase) 0) (said-is-box 𝓤 H A mem run r)
+      calls-plain t fm (Contract-is-box 𝓤 H A mem run) met (to-is-box 𝓤 H A mem run r) bool (vbool) (bool-tells) (Said-is-box 𝓤 H A mem run r)
+      (λ (res : Bool). res ≡ eqb (r .phase) 0) (said-is-box 𝓤 H A mem run r)
       (λ _. id⊢ 𝓤 _) (goes-is-box 𝓤 H A mem run W r g-r) (os _) k
 
 -- ---- `planted`
@@ -115,13 +118,15 @@ module _ {M : Type 1} (𝓤 : URA M) (H : Heap 𝓤) (A : Atoms 𝓤) (mem : Mem
   goes-planted : Given 𝓤 H A → (r : Run) → IsRun r → Small r → ent 𝓤 (emp 𝓤) (Contract-planted .pre (to-planted r))
   goes-planted W r g-r l = qed W [] ∵ says ! l $ nothing ! $ owned ! Run′.the-row (Is Run′.the-row) ((LL.makes Run′.the-type Run″.the-plain) 𝓤 H A) r _ g-r $ fjoin ! $ nothing ! $ frame ! $ done !
 
-module _ {M : Type 1} {𝓤 : URA M} {H : Heap 𝓤} {A : Atoms 𝓤} {K : Type 0} {W : Given 𝓤 H A} {Γ : List (Item 𝓤)} {E : Env 𝓤 H} {C : Calls 𝓤 H} {Λ : Loops 𝓤 H} {xs : List Operand} {q : After 𝓤 H} {d : Place} {rest : Code} where
+module _ {M : Type 1} {𝓤 : URA M} {H : Heap 𝓤} {A : Atoms 𝓤} {K : Type 0} {W : Given 𝓤 H A} {Γ : List (Item 𝓤)} {E : Env 𝓤 H} {C : Calls 𝓤 H} {Λ : Loops 𝓤 H}
+    {xs : List Operand} {q : After 𝓤 H} {d : Place} {rest : Code} where
   pub calls-planted : K → FmC 𝓤 H (W .laws) C → (mem : Memory → SProp 𝓤) (run : Routine → Fun 𝓤) → Triple 𝓤 (C #run-units·planted) (Contract-planted 𝓤 H A mem run) → (r : Run) → IsRun r → Small r
       → ((P : Item 𝓤) → Opds K W (P ∷ Γ) E xs (val-Run r ∷ []))
       → ((res : Turn) → res ≡ turnAs (advancedOf r 1) Done → Is Turn′.the-row res (val-Turn res ∷ []) → Seq K W Γ (lands C Λ E d (val-Turn res) rest q))
       → Seq K W Γ (runs C Λ E (seq (call #run-units·planted xs d) rest) q)
   calls-planted t fm mem run met r g-r l os k =
-      calls-plain t fm (Contract-planted 𝓤 H A mem run) met (to-planted 𝓤 H A mem run r) Turn′.the-row (val-Turn) (LL.tells Turn′.the-type Turn″.the-laws) (Said-planted 𝓤 H A mem run r) (λ (res : Turn). res ≡ turnAs (advancedOf r 1) Done) (said-planted 𝓤 H A mem run r)
+      calls-plain t fm (Contract-planted 𝓤 H A mem run) met (to-planted 𝓤 H A mem run r) Turn′.the-row (val-Turn) (LL.tells Turn′.the-type Turn″.the-laws)
+      (Said-planted 𝓤 H A mem run r) (λ (res : Turn). res ≡ turnAs (advancedOf r 1) Done) (said-planted 𝓤 H A mem run r)
       (λ _. id⊢ 𝓤 _) (goes-planted 𝓤 H A mem run W r g-r l) (os _) k
 
 -- ---- `point_next`
@@ -141,13 +146,16 @@ module _ {M : Type 1} (𝓤 : URA M) (H : Heap 𝓤) (A : Atoms 𝓤) (mem : Mem
   goes-point-next : Given 𝓤 H A → (r : Run) → IsRun r → (Small r) × (0 < r .phase) → ent 𝓤 (emp 𝓤) (Contract-point-next .pre (to-point-next r))
   goes-point-next W r g-r l = qed W [] ∵ says ! l $ nothing ! $ owned ! Run′.the-row (Is Run′.the-row) ((LL.makes Run′.the-type Run″.the-plain) 𝓤 H A) r _ g-r $ fjoin ! $ nothing ! $ frame ! $ done !
 
-module _ {M : Type 1} {𝓤 : URA M} {H : Heap 𝓤} {A : Atoms 𝓤} {K : Type 0} {W : Given 𝓤 H A} {Γ : List (Item 𝓤)} {E : Env 𝓤 H} {C : Calls 𝓤 H} {Λ : Loops 𝓤 H} {xs : List Operand} {q : After 𝓤 H} {d : Place} {rest : Code} where
-  pub calls-point-next : K → FmC 𝓤 H (W .laws) C → (mem : Memory → SProp 𝓤) (run : Routine → Fun 𝓤) → Triple 𝓤 (C #run-units·point-next) (Contract-point-next 𝓤 H A mem run) → (r : Run) → IsRun r → (Small r) × (0 < r .phase)
+module _ {M : Type 1} {𝓤 : URA M} {H : Heap 𝓤} {A : Atoms 𝓤} {K : Type 0} {W : Given 𝓤 H A} {Γ : List (Item 𝓤)} {E : Env 𝓤 H} {C : Calls 𝓤 H} {Λ : Loops 𝓤 H}
+    {xs : List Operand} {q : After 𝓤 H} {d : Place} {rest : Code} where
+  pub calls-point-next : K → FmC 𝓤 H (W .laws) C → (mem : Memory → SProp 𝓤) (run : Routine → Fun 𝓤) →
+      Triple 𝓤 (C #run-units·point-next) (Contract-point-next 𝓤 H A mem run) → (r : Run) → IsRun r → (Small r) × (0 < r .phase)
       → ((P : Item 𝓤) → Opds K W (P ∷ Γ) E xs (val-Run r ∷ []))
       → ((res : ℕ) → res ≡ r .phase - 1 → Is u32 res (vint w32 res ∷ []) → Seq K W Γ (lands C Λ E d (vint w32 res) rest q))
       → Seq K W Γ (runs C Λ E (seq (call #run-units·point-next xs d) rest) q)
   calls-point-next t fm mem run met r g-r l os k =
-      calls-plain t fm (Contract-point-next 𝓤 H A mem run) met (to-point-next 𝓤 H A mem run r) u32 (vint w32) (uint-tells w32) (Said-point-next 𝓤 H A mem run r) (λ (res : ℕ). res ≡ r .phase - 1) (said-point-next 𝓤 H A mem run r)
+      calls-plain t fm (Contract-point-next 𝓤 H A mem run) met (to-point-next 𝓤 H A mem run r) u32 (vint w32) (uint-tells w32) (Said-point-next 𝓤 H A mem run r)
+      (λ (res : ℕ). res ≡ r .phase - 1) (said-point-next 𝓤 H A mem run r)
       (λ _. id⊢ 𝓤 _) (goes-point-next 𝓤 H A mem run W r g-r l) (os _) k
 
 -- ---- `inserted`
@@ -165,15 +173,21 @@ module _ {M : Type 1} (𝓤 : URA M) (H : Heap 𝓤) (A : Atoms 𝓤) (mem : Mem
   said-inserted r full used res = exE 𝓤 _ (λ ws. snd∗ 𝓤 (sem 𝓤 H A (lasts inserted′.ended tt (r, (full, (used, tt))) ws)) (fact 𝓤 (res ≡ insertedOf r full used)))
 
   goes-inserted : Given 𝓤 H A → (r : Run) (full : Bool) (used : ℕ) → IsRun r → Unit {0} → used < 2 ^ 64 → Small r → ent 𝓤 (emp 𝓤) (Contract-inserted .pre (to-inserted r full used))
-  goes-inserted W r full used g-r g-full g-used l = qed W [] ∵ says ! l $ nothing ! $ owned ! usize (Is usize) (uint-makes 𝓤 H A W w64) used _ (refl, g-used) $ fjoin ! $ owned ! bool (Is bool) (bool-makes 𝓤 H A W) full _ refl $ fjoin ! $ owned ! Run′.the-row (Is Run′.the-row) ((LL.makes Run′.the-type Run″.the-plain) 𝓤 H A) r _ g-r $ fjoin ! $ nothing ! $ frame ! $ done !
+  goes-inserted W r full used g-r g-full g-used l = qed W [] ∵ says ! l $ nothing ! $ owned ! usize (Is usize) (uint-makes 𝓤 H A W w64) used _ (refl, g-used) $
+      fjoin ! $ owned ! bool (Is bool) (bool-makes 𝓤 H A W) full _ refl $ fjoin ! $
+      owned ! Run′.the-row (Is Run′.the-row) ((LL.makes Run′.the-type Run″.the-plain) 𝓤 H A) r _ g-r $ fjoin ! $ nothing ! $ frame ! $ done !
 
-module _ {M : Type 1} {𝓤 : URA M} {H : Heap 𝓤} {A : Atoms 𝓤} {K : Type 0} {W : Given 𝓤 H A} {Γ : List (Item 𝓤)} {E : Env 𝓤 H} {C : Calls 𝓤 H} {Λ : Loops 𝓤 H} {xs : List Operand} {q : After 𝓤 H} {d : Place} {rest : Code} where
-  pub calls-inserted : K → FmC 𝓤 H (W .laws) C → (mem : Memory → SProp 𝓤) (run : Routine → Fun 𝓤) → Triple 𝓤 (C #run-units·inserted) (Contract-inserted 𝓤 H A mem run) → (r : Run) (full : Bool) (used : ℕ) → IsRun r → Unit {0} → used < 2 ^ 64 → Small r
+module _ {M : Type 1} {𝓤 : URA M} {H : Heap 𝓤} {A : Atoms 𝓤} {K : Type 0} {W : Given 𝓤 H A} {Γ : List (Item 𝓤)} {E : Env 𝓤 H} {C : Calls 𝓤 H} {Λ : Loops 𝓤 H}
+    {xs : List Operand} {q : After 𝓤 H} {d : Place} {rest : Code} where
+  pub calls-inserted : K → FmC 𝓤 H (W .laws) C → (mem : Memory → SProp 𝓤) (run : Routine → Fun 𝓤) →
+      Triple 𝓤 (C #run-units·inserted) (Contract-inserted 𝓤 H A mem run) → (r : Run) (full : Bool) (used : ℕ) → IsRun r → Unit {0} → used < 2 ^ 64 → Small r
       → ((P : Item 𝓤) → Opds K W (P ∷ Γ) E xs (val-Run r ∷ vbool full ∷ vint w64 used ∷ []))
       → ((res : Turn) → res ≡ insertedOf r full used → Is Turn′.the-row res (val-Turn res ∷ []) → Seq K W Γ (lands C Λ E d (val-Turn res) rest q))
       → Seq K W Γ (runs C Λ E (seq (call #run-units·inserted xs d) rest) q)
   calls-inserted t fm mem run met r full used g-r g-full g-used l os k =
-      calls-plain t fm (Contract-inserted 𝓤 H A mem run) met (to-inserted 𝓤 H A mem run r full used) Turn′.the-row (val-Turn) (LL.tells Turn′.the-type Turn″.the-laws) (Said-inserted 𝓤 H A mem run r full used) (λ (res : Turn). res ≡ insertedOf r full used) (said-inserted 𝓤 H A mem run r full used)
+      calls-plain t fm (Contract-inserted 𝓤 H A mem run) met (to-inserted 𝓤 H A mem run r full used) Turn′.the-row (val-Turn)
+      (LL.tells Turn′.the-type Turn″.the-laws) (Said-inserted 𝓤 H A mem run r full used) (λ (res : Turn). res ≡ insertedOf r full used)
+      (said-inserted 𝓤 H A mem run r full used)
       (λ _. id⊢ 𝓤 _) (goes-inserted 𝓤 H A mem run W r full used g-r g-full g-used l) (os _) k
 
 -- ---- `by_tree`
@@ -191,15 +205,18 @@ module _ {M : Type 1} (𝓤 : URA M) (H : Heap 𝓤) (A : Atoms 𝓤) (mem : Mem
   said-by-tree r res = exE 𝓤 _ (λ ws. snd∗ 𝓤 (sem 𝓤 H A (lasts by-tree′.ended tt (r, tt) ws)) (fact 𝓤 (res ≡ isTree (r .settings .method))))
 
   goes-by-tree : Given 𝓤 H A → (r : Run) → IsRun r → ent 𝓤 (emp 𝓤) (Contract-by-tree .pre (to-by-tree r))
-  goes-by-tree W r g-r = qed W [] ∵ nothing ! $ nothing ! $ owned ! Run′.the-row (Is Run′.the-row) ((LL.makes Run′.the-type Run″.the-plain) 𝓤 H A) r _ g-r $ fjoin ! $ move ! (1 ∷ 0 ∷ []) $ join ! $ frame ! $ nothing ! $ done !
+  goes-by-tree W r g-r = qed W [] ∵ nothing ! $ nothing ! $ owned ! Run′.the-row (Is Run′.the-row) ((LL.makes Run′.the-type Run″.the-plain) 𝓤 H A) r _ g-r $
+      fjoin ! $ move ! (1 ∷ 0 ∷ []) $ join ! $ frame ! $ nothing ! $ done !
 
-module _ {M : Type 1} {𝓤 : URA M} {H : Heap 𝓤} {A : Atoms 𝓤} {K : Type 0} {W : Given 𝓤 H A} {Γ : List (Item 𝓤)} {E : Env 𝓤 H} {C : Calls 𝓤 H} {Λ : Loops 𝓤 H} {xs : List Operand} {q : After 𝓤 H} {d : Place} {rest : Code} where
+module _ {M : Type 1} {𝓤 : URA M} {H : Heap 𝓤} {A : Atoms 𝓤} {K : Type 0} {W : Given 𝓤 H A} {Γ : List (Item 𝓤)} {E : Env 𝓤 H} {C : Calls 𝓤 H} {Λ : Loops 𝓤 H}
+    {xs : List Operand} {q : After 𝓤 H} {d : Place} {rest : Code} where
   pub calls-by-tree : K → FmC 𝓤 H (W .laws) C → (mem : Memory → SProp 𝓤) (run : Routine → Fun 𝓤) → Triple 𝓤 (C #run-units·by-tree) (Contract-by-tree 𝓤 H A mem run) → (r : Run) → IsRun r
       → ((P : Item 𝓤) → Opds K W (P ∷ Γ) E xs (val-Run r ∷ []))
       → ((res : Bool) → res ≡ isTree (r .settings .method) → Is bool res (vbool res ∷ []) → Seq K W Γ (lands C Λ E d (vbool res) rest q))
       → Seq K W Γ (runs C Λ E (seq (call #run-units·by-tree xs d) rest) q)
   calls-by-tree t fm mem run met r g-r os k =
-      calls-plain t fm (Contract-by-tree 𝓤 H A mem run) met (to-by-tree 𝓤 H A mem run r) bool (vbool) (bool-tells) (Said-by-tree 𝓤 H A mem run r) (λ (res : Bool). res ≡ isTree (r .settings .method)) (said-by-tree 𝓤 H A mem run r)
+      calls-plain t fm (Contract-by-tree 𝓤 H A mem run) met (to-by-tree 𝓤 H A mem run r) bool (vbool) (bool-tells) (Said-by-tree 𝓤 H A mem run r)
+      (λ (res : Bool). res ≡ isTree (r .settings .method)) (said-by-tree 𝓤 H A mem run r)
       (λ _. id⊢ 𝓤 _) (goes-by-tree 𝓤 H A mem run W r g-r) (os _) k
 
 -- ---- `point_seen`
@@ -219,13 +236,16 @@ module _ {M : Type 1} (𝓤 : URA M) (H : Heap 𝓤) (A : Atoms 𝓤) (mem : Mem
   goes-point-seen : Given 𝓤 H A → (r : Run) → IsRun r → r .settings .n < r .phase → ent 𝓤 (emp 𝓤) (Contract-point-seen .pre (to-point-seen r))
   goes-point-seen W r g-r l = qed W [] ∵ says ! l $ nothing ! $ owned ! Run′.the-row (Is Run′.the-row) ((LL.makes Run′.the-type Run″.the-plain) 𝓤 H A) r _ g-r $ fjoin ! $ nothing ! $ frame ! $ done !
 
-module _ {M : Type 1} {𝓤 : URA M} {H : Heap 𝓤} {A : Atoms 𝓤} {K : Type 0} {W : Given 𝓤 H A} {Γ : List (Item 𝓤)} {E : Env 𝓤 H} {C : Calls 𝓤 H} {Λ : Loops 𝓤 H} {xs : List Operand} {q : After 𝓤 H} {d : Place} {rest : Code} where
-  pub calls-point-seen : K → FmC 𝓤 H (W .laws) C → (mem : Memory → SProp 𝓤) (run : Routine → Fun 𝓤) → Triple 𝓤 (C #run-units·point-seen) (Contract-point-seen 𝓤 H A mem run) → (r : Run) → IsRun r → r .settings .n < r .phase
+module _ {M : Type 1} {𝓤 : URA M} {H : Heap 𝓤} {A : Atoms 𝓤} {K : Type 0} {W : Given 𝓤 H A} {Γ : List (Item 𝓤)} {E : Env 𝓤 H} {C : Calls 𝓤 H} {Λ : Loops 𝓤 H}
+    {xs : List Operand} {q : After 𝓤 H} {d : Place} {rest : Code} where
+  pub calls-point-seen : K → FmC 𝓤 H (W .laws) C → (mem : Memory → SProp 𝓤) (run : Routine → Fun 𝓤) →
+      Triple 𝓤 (C #run-units·point-seen) (Contract-point-seen 𝓤 H A mem run) → (r : Run) → IsRun r → r .settings .n < r .phase
       → ((P : Item 𝓤) → Opds K W (P ∷ Γ) E xs (val-Run r ∷ []))
       → ((res : ℕ) → res ≡ r .phase - r .settings .n - 1 → Is usize res (vint w64 res ∷ []) → Seq K W Γ (lands C Λ E d (vint w64 res) rest q))
       → Seq K W Γ (runs C Λ E (seq (call #run-units·point-seen xs d) rest) q)
   calls-point-seen t fm mem run met r g-r l os k =
-      calls-plain t fm (Contract-point-seen 𝓤 H A mem run) met (to-point-seen 𝓤 H A mem run r) usize (vint w64) (uint-tells w64) (Said-point-seen 𝓤 H A mem run r) (λ (res : ℕ). res ≡ r .phase - r .settings .n - 1) (said-point-seen 𝓤 H A mem run r)
+      calls-plain t fm (Contract-point-seen 𝓤 H A mem run) met (to-point-seen 𝓤 H A mem run r) usize (vint w64) (uint-tells w64)
+      (Said-point-seen 𝓤 H A mem run r) (λ (res : ℕ). res ≡ r .phase - r .settings .n - 1) (said-point-seen 𝓤 H A mem run r)
       (λ _. id⊢ 𝓤 _) (goes-point-seen 𝓤 H A mem run W r g-r l) (os _) k
 
 -- ---- `exaggeration`
@@ -243,15 +263,18 @@ module _ {M : Type 1} (𝓤 : URA M) (H : Heap 𝓤) (A : Atoms 𝓤) (mem : Mem
   said-exaggeration r res = exE 𝓤 _ (λ ws. snd∗ 𝓤 (sem 𝓤 H A (lasts exaggeration′.ended tt (r, tt) ws)) (fact 𝓤 (res ≡ exaggerationOf r)))
 
   goes-exaggeration : Given 𝓤 H A → (r : Run) → IsRun r → ent 𝓤 (emp 𝓤) (Contract-exaggeration .pre (to-exaggeration r))
-  goes-exaggeration W r g-r = qed W [] ∵ nothing ! $ nothing ! $ owned ! Run′.the-row (Is Run′.the-row) ((LL.makes Run′.the-type Run″.the-plain) 𝓤 H A) r _ g-r $ fjoin ! $ move ! (1 ∷ 0 ∷ []) $ join ! $ frame ! $ nothing ! $ done !
+  goes-exaggeration W r g-r = qed W [] ∵ nothing ! $ nothing ! $ owned ! Run′.the-row (Is Run′.the-row)
+      ((LL.makes Run′.the-type Run″.the-plain) 𝓤 H A) r _ g-r $ fjoin ! $ move ! (1 ∷ 0 ∷ []) $ join ! $ frame ! $ nothing ! $ done !
 
-module _ {M : Type 1} {𝓤 : URA M} {H : Heap 𝓤} {A : Atoms 𝓤} {K : Type 0} {W : Given 𝓤 H A} {Γ : List (Item 𝓤)} {E : Env 𝓤 H} {C : Calls 𝓤 H} {Λ : Loops 𝓤 H} {xs : List Operand} {q : After 𝓤 H} {d : Place} {rest : Code} where
+module _ {M : Type 1} {𝓤 : URA M} {H : Heap 𝓤} {A : Atoms 𝓤} {K : Type 0} {W : Given 𝓤 H A} {Γ : List (Item 𝓤)} {E : Env 𝓤 H} {C : Calls 𝓤 H} {Λ : Loops 𝓤 H}
+    {xs : List Operand} {q : After 𝓤 H} {d : Place} {rest : Code} where
   pub calls-exaggeration : K → FmC 𝓤 H (W .laws) C → (mem : Memory → SProp 𝓤) (run : Routine → Fun 𝓤) → Triple 𝓤 (C #run-plan·exaggeration) (Contract-exaggeration 𝓤 H A mem run) → (r : Run) → IsRun r
       → ((P : Item 𝓤) → Opds K W (P ∷ Γ) E xs (val-Run r ∷ []))
       → ((res : Float) → res ≡ exaggerationOf r → Is f64 res (vfloat binary64 res ∷ []) → Seq K W Γ (lands C Λ E d (vfloat binary64 res) rest q))
       → Seq K W Γ (runs C Λ E (seq (call #run-plan·exaggeration xs d) rest) q)
   calls-exaggeration t fm mem run met r g-r os k =
-      calls-plain t fm (Contract-exaggeration 𝓤 H A mem run) met (to-exaggeration 𝓤 H A mem run r) f64 (vfloat binary64) (float-tells binary64) (Said-exaggeration 𝓤 H A mem run r) (λ (res : Float). res ≡ exaggerationOf r) (said-exaggeration 𝓤 H A mem run r)
+      calls-plain t fm (Contract-exaggeration 𝓤 H A mem run) met (to-exaggeration 𝓤 H A mem run r) f64 (vfloat binary64) (float-tells binary64)
+      (Said-exaggeration 𝓤 H A mem run r) (λ (res : Float). res ≡ exaggerationOf r) (said-exaggeration 𝓤 H A mem run r)
       (λ _. id⊢ 𝓤 _) (goes-exaggeration 𝓤 H A mem run W r g-r) (os _) k
 
 -- ---- `advanced`
@@ -269,15 +292,20 @@ module _ {M : Type 1} (𝓤 : URA M) (H : Heap 𝓤) (A : Atoms 𝓤) (mem : Mem
   said-advanced r used res = exE 𝓤 _ (λ ws. snd∗ 𝓤 (sem 𝓤 H A (lasts advanced′.ended tt (r, (used, tt)) ws)) (fact 𝓤 (res ≡ advancedOf r used)))
 
   goes-advanced : Given 𝓤 H A → (r : Run) (used : ℕ) → IsRun r → used < 2 ^ 64 → (r .phase < 10000) × (r .units < 1000000000) → ent 𝓤 (emp 𝓤) (Contract-advanced .pre (to-advanced r used))
-  goes-advanced W r used g-r g-used l = qed W [] ∵ says ! l $ nothing ! $ owned ! usize (Is usize) (uint-makes 𝓤 H A W w64) used _ (refl, g-used) $ fjoin ! $ owned ! Run′.the-row (Is Run′.the-row) ((LL.makes Run′.the-type Run″.the-plain) 𝓤 H A) r _ g-r $ fjoin ! $ nothing ! $ frame ! $ done !
+  goes-advanced W r used g-r g-used l = qed W [] ∵ says ! l $ nothing ! $ owned ! usize (Is usize) (uint-makes 𝓤 H A W w64) used _ (refl, g-used) $ fjoin ! $
+      owned ! Run′.the-row (Is Run′.the-row) ((LL.makes Run′.the-type Run″.the-plain) 𝓤 H A) r _ g-r $ fjoin ! $ nothing ! $ frame ! $ done !
 
-module _ {M : Type 1} {𝓤 : URA M} {H : Heap 𝓤} {A : Atoms 𝓤} {K : Type 0} {W : Given 𝓤 H A} {Γ : List (Item 𝓤)} {E : Env 𝓤 H} {C : Calls 𝓤 H} {Λ : Loops 𝓤 H} {xs : List Operand} {q : After 𝓤 H} {d : Place} {rest : Code} where
-  pub calls-advanced : K → FmC 𝓤 H (W .laws) C → (mem : Memory → SProp 𝓤) (run : Routine → Fun 𝓤) → Triple 𝓤 (C #run-record·progress·advanced) (Contract-advanced 𝓤 H A mem run) → (r : Run) (used : ℕ) → IsRun r → used < 2 ^ 64 → (r .phase < 10000) × (r .units < 1000000000)
+module _ {M : Type 1} {𝓤 : URA M} {H : Heap 𝓤} {A : Atoms 𝓤} {K : Type 0} {W : Given 𝓤 H A} {Γ : List (Item 𝓤)} {E : Env 𝓤 H} {C : Calls 𝓤 H} {Λ : Loops 𝓤 H}
+    {xs : List Operand} {q : After 𝓤 H} {d : Place} {rest : Code} where
+  pub calls-advanced : K → FmC 𝓤 H (W .laws) C → (mem : Memory → SProp 𝓤) (run : Routine → Fun 𝓤) →
+      Triple 𝓤 (C #run-record·progress·advanced) (Contract-advanced 𝓤 H A mem run) → (r : Run) (used : ℕ) → IsRun r → used < 2 ^ 64 → (r .phase < 10000) ×
+      (r .units < 1000000000)
       → ((P : Item 𝓤) → Opds K W (P ∷ Γ) E xs (val-Run r ∷ vint w64 used ∷ []))
       → ((res : Run) → res ≡ advancedOf r used → Is Run′.the-row res (val-Run res ∷ []) → Seq K W Γ (lands C Λ E d (val-Run res) rest q))
       → Seq K W Γ (runs C Λ E (seq (call #run-record·progress·advanced xs d) rest) q)
   calls-advanced t fm mem run met r used g-r g-used l os k =
-      calls-plain t fm (Contract-advanced 𝓤 H A mem run) met (to-advanced 𝓤 H A mem run r used) Run′.the-row (val-Run) (LL.tells Run′.the-type Run″.the-laws) (Said-advanced 𝓤 H A mem run r used) (λ (res : Run). res ≡ advancedOf r used) (said-advanced 𝓤 H A mem run r used)
+      calls-plain t fm (Contract-advanced 𝓤 H A mem run) met (to-advanced 𝓤 H A mem run r used) Run′.the-row (val-Run) (LL.tells Run′.the-type Run″.the-laws)
+      (Said-advanced 𝓤 H A mem run r used) (λ (res : Run). res ≡ advancedOf r used) (said-advanced 𝓤 H A mem run r used)
       (λ _. id⊢ 𝓤 _) (goes-advanced 𝓤 H A mem run W r used g-r g-used l) (os _) k
 
 -- ---- `is_over`
@@ -295,15 +323,18 @@ module _ {M : Type 1} (𝓤 : URA M) (H : Heap 𝓤) (A : Atoms 𝓤) (mem : Mem
   said-is-over r res = exE 𝓤 _ (λ ws. snd∗ 𝓤 (sem 𝓤 H A (lasts is-over′.ended tt (r, tt) ws)) (fact 𝓤 (res ≡ isEnded (r .standing))))
 
   goes-is-over : Given 𝓤 H A → (r : Run) → IsRun r → ent 𝓤 (emp 𝓤) (Contract-is-over .pre (to-is-over r))
-  goes-is-over W r g-r = qed W [] ∵ nothing ! $ nothing ! $ owned ! Run′.the-row (Is Run′.the-row) ((LL.makes Run′.the-type Run″.the-plain) 𝓤 H A) r _ g-r $ fjoin ! $ move ! (1 ∷ 0 ∷ []) $ join ! $ frame ! $ nothing ! $ done !
+  goes-is-over W r g-r = qed W [] ∵ nothing ! $ nothing ! $ owned ! Run′.the-row (Is Run′.the-row) ((LL.makes Run′.the-type Run″.the-plain) 𝓤 H A) r _ g-r $
+      fjoin ! $ move ! (1 ∷ 0 ∷ []) $ join ! $ frame ! $ nothing ! $ done !
 
-module _ {M : Type 1} {𝓤 : URA M} {H : Heap 𝓤} {A : Atoms 𝓤} {K : Type 0} {W : Given 𝓤 H A} {Γ : List (Item 𝓤)} {E : Env 𝓤 H} {C : Calls 𝓤 H} {Λ : Loops 𝓤 H} {xs : List Operand} {q : After 𝓤 H} {d : Place} {rest : Code} where
+module _ {M : Type 1} {𝓤 : URA M} {H : Heap 𝓤} {A : Atoms 𝓤} {K : Type 0} {W : Given 𝓤 H A} {Γ : List (Item 𝓤)} {E : Env 𝓤 H} {C : Calls 𝓤 H} {Λ : Loops 𝓤 H}
+    {xs : List Operand} {q : After 𝓤 H} {d : Place} {rest : Code} where
   pub calls-is-over : K → FmC 𝓤 H (W .laws) C → (mem : Memory → SProp 𝓤) (run : Routine → Fun 𝓤) → Triple 𝓤 (C #run-units·is-over) (Contract-is-over 𝓤 H A mem run) → (r : Run) → IsRun r
       → ((P : Item 𝓤) → Opds K W (P ∷ Γ) E xs (val-Run r ∷ []))
       → ((res : Bool) → res ≡ isEnded (r .standing) → Is bool res (vbool res ∷ []) → Seq K W Γ (lands C Λ E d (vbool res) rest q))
       → Seq K W Γ (runs C Λ E (seq (call #run-units·is-over xs d) rest) q)
   calls-is-over t fm mem run met r g-r os k =
-      calls-plain t fm (Contract-is-over 𝓤 H A mem run) met (to-is-over 𝓤 H A mem run r) bool (vbool) (bool-tells) (Said-is-over 𝓤 H A mem run r) (λ (res : Bool). res ≡ isEnded (r .standing)) (said-is-over 𝓤 H A mem run r)
+      calls-plain t fm (Contract-is-over 𝓤 H A mem run) met (to-is-over 𝓤 H A mem run r) bool (vbool) (bool-tells) (Said-is-over 𝓤 H A mem run r)
+      (λ (res : Bool). res ≡ isEnded (r .standing)) (said-is-over 𝓤 H A mem run r)
       (λ _. id⊢ 𝓤 _) (goes-is-over 𝓤 H A mem run W r g-r) (os _) k
 
 -- ---- `over`
@@ -321,15 +352,18 @@ module _ {M : Type 1} (𝓤 : URA M) (H : Heap 𝓤) (A : Atoms 𝓤) (mem : Mem
   said-over r res = exE 𝓤 _ (λ ws. snd∗ 𝓤 (sem 𝓤 H A (lasts over′.ended tt (r, tt) ws)) (fact 𝓤 (res ≡ turnAs r Over)))
 
   goes-over : Given 𝓤 H A → (r : Run) → IsRun r → ent 𝓤 (emp 𝓤) (Contract-over .pre (to-over r))
-  goes-over W r g-r = qed W [] ∵ nothing ! $ nothing ! $ owned ! Run′.the-row (Is Run′.the-row) ((LL.makes Run′.the-type Run″.the-plain) 𝓤 H A) r _ g-r $ fjoin ! $ move ! (1 ∷ 0 ∷ []) $ join ! $ frame ! $ nothing ! $ done !
+  goes-over W r g-r = qed W [] ∵ nothing ! $ nothing ! $ owned ! Run′.the-row (Is Run′.the-row) ((LL.makes Run′.the-type Run″.the-plain) 𝓤 H A) r _ g-r $
+      fjoin ! $ move ! (1 ∷ 0 ∷ []) $ join ! $ frame ! $ nothing ! $ done !
 
-module _ {M : Type 1} {𝓤 : URA M} {H : Heap 𝓤} {A : Atoms 𝓤} {K : Type 0} {W : Given 𝓤 H A} {Γ : List (Item 𝓤)} {E : Env 𝓤 H} {C : Calls 𝓤 H} {Λ : Loops 𝓤 H} {xs : List Operand} {q : After 𝓤 H} {d : Place} {rest : Code} where
+module _ {M : Type 1} {𝓤 : URA M} {H : Heap 𝓤} {A : Atoms 𝓤} {K : Type 0} {W : Given 𝓤 H A} {Γ : List (Item 𝓤)} {E : Env 𝓤 H} {C : Calls 𝓤 H} {Λ : Loops 𝓤 H}
+    {xs : List Operand} {q : After 𝓤 H} {d : Place} {rest : Code} where
   pub calls-over : K → FmC 𝓤 H (W .laws) C → (mem : Memory → SProp 𝓤) (run : Routine → Fun 𝓤) → Triple 𝓤 (C #run-units·over) (Contract-over 𝓤 H A mem run) → (r : Run) → IsRun r
       → ((P : Item 𝓤) → Opds K W (P ∷ Γ) E xs (val-Run r ∷ []))
       → ((res : Turn) → res ≡ turnAs r Over → Is Turn′.the-row res (val-Turn res ∷ []) → Seq K W Γ (lands C Λ E d (val-Turn res) rest q))
       → Seq K W Γ (runs C Λ E (seq (call #run-units·over xs d) rest) q)
   calls-over t fm mem run met r g-r os k =
-      calls-plain t fm (Contract-over 𝓤 H A mem run) met (to-over 𝓤 H A mem run r) Turn′.the-row (val-Turn) (LL.tells Turn′.the-type Turn″.the-laws) (Said-over 𝓤 H A mem run r) (λ (res : Turn). res ≡ turnAs r Over) (said-over 𝓤 H A mem run r)
+      calls-plain t fm (Contract-over 𝓤 H A mem run) met (to-over 𝓤 H A mem run r) Turn′.the-row (val-Turn) (LL.tells Turn′.the-type Turn″.the-laws)
+      (Said-over 𝓤 H A mem run r) (λ (res : Turn). res ≡ turnAs r Over) (said-over 𝓤 H A mem run r)
       (λ _. id⊢ 𝓤 _) (goes-over 𝓤 H A mem run W r g-r) (os _) k
 
 -- ---- `on_tree`
@@ -349,13 +383,16 @@ module _ {M : Type 1} (𝓤 : URA M) (H : Heap 𝓤) (A : Atoms 𝓤) (mem : Mem
   goes-on-tree : Given 𝓤 H A → (r : Run) → IsRun r → r .settings .n ≤ mostFrames → ent 𝓤 (emp 𝓤) (Contract-on-tree .pre (to-on-tree r))
   goes-on-tree W r g-r l = qed W [] ∵ says ! l $ nothing ! $ owned ! Run′.the-row (Is Run′.the-row) ((LL.makes Run′.the-type Run″.the-plain) 𝓤 H A) r _ g-r $ fjoin ! $ nothing ! $ frame ! $ done !
 
-module _ {M : Type 1} {𝓤 : URA M} {H : Heap 𝓤} {A : Atoms 𝓤} {K : Type 0} {W : Given 𝓤 H A} {Γ : List (Item 𝓤)} {E : Env 𝓤 H} {C : Calls 𝓤 H} {Λ : Loops 𝓤 H} {xs : List Operand} {q : After 𝓤 H} {d : Place} {rest : Code} where
-  pub calls-on-tree : K → FmC 𝓤 H (W .laws) C → (mem : Memory → SProp 𝓤) (run : Routine → Fun 𝓤) → Triple 𝓤 (C #run-units·on-tree) (Contract-on-tree 𝓤 H A mem run) → (r : Run) → IsRun r → r .settings .n ≤ mostFrames
+module _ {M : Type 1} {𝓤 : URA M} {H : Heap 𝓤} {A : Atoms 𝓤} {K : Type 0} {W : Given 𝓤 H A} {Γ : List (Item 𝓤)} {E : Env 𝓤 H} {C : Calls 𝓤 H} {Λ : Loops 𝓤 H}
+    {xs : List Operand} {q : After 𝓤 H} {d : Place} {rest : Code} where
+  pub calls-on-tree : K → FmC 𝓤 H (W .laws) C → (mem : Memory → SProp 𝓤) (run : Routine → Fun 𝓤) →
+      Triple 𝓤 (C #run-units·on-tree) (Contract-on-tree 𝓤 H A mem run) → (r : Run) → IsRun r → r .settings .n ≤ mostFrames
       → ((P : Item 𝓤) → Opds K W (P ∷ Γ) E xs (val-Run r ∷ []))
       → ((res : Bool) → res ≡ eqb (groupOf r) 0 → Is bool res (vbool res ∷ []) → Seq K W Γ (lands C Λ E d (vbool res) rest q))
       → Seq K W Γ (runs C Λ E (seq (call #run-units·on-tree xs d) rest) q)
   calls-on-tree t fm mem run met r g-r l os k =
-      calls-plain t fm (Contract-on-tree 𝓤 H A mem run) met (to-on-tree 𝓤 H A mem run r) bool (vbool) (bool-tells) (Said-on-tree 𝓤 H A mem run r) (λ (res : Bool). res ≡ eqb (groupOf r) 0) (said-on-tree 𝓤 H A mem run r)
+      calls-plain t fm (Contract-on-tree 𝓤 H A mem run) met (to-on-tree 𝓤 H A mem run r) bool (vbool) (bool-tells) (Said-on-tree 𝓤 H A mem run r)
+      (λ (res : Bool). res ≡ eqb (groupOf r) 0) (said-on-tree 𝓤 H A mem run r)
       (λ _. id⊢ 𝓤 _) (goes-on-tree 𝓤 H A mem run W r g-r l) (os _) k
 
 -- ---- `on_forces`
@@ -375,13 +412,16 @@ module _ {M : Type 1} (𝓤 : URA M) (H : Heap 𝓤) (A : Atoms 𝓤) (mem : Mem
   goes-on-forces : Given 𝓤 H A → (r : Run) → IsRun r → r .settings .n ≤ mostFrames → ent 𝓤 (emp 𝓤) (Contract-on-forces .pre (to-on-forces r))
   goes-on-forces W r g-r l = qed W [] ∵ says ! l $ nothing ! $ owned ! Run′.the-row (Is Run′.the-row) ((LL.makes Run′.the-type Run″.the-plain) 𝓤 H A) r _ g-r $ fjoin ! $ nothing ! $ frame ! $ done !
 
-module _ {M : Type 1} {𝓤 : URA M} {H : Heap 𝓤} {A : Atoms 𝓤} {K : Type 0} {W : Given 𝓤 H A} {Γ : List (Item 𝓤)} {E : Env 𝓤 H} {C : Calls 𝓤 H} {Λ : Loops 𝓤 H} {xs : List Operand} {q : After 𝓤 H} {d : Place} {rest : Code} where
-  pub calls-on-forces : K → FmC 𝓤 H (W .laws) C → (mem : Memory → SProp 𝓤) (run : Routine → Fun 𝓤) → Triple 𝓤 (C #run-units·on-forces) (Contract-on-forces 𝓤 H A mem run) → (r : Run) → IsRun r → r .settings .n ≤ mostFrames
+module _ {M : Type 1} {𝓤 : URA M} {H : Heap 𝓤} {A : Atoms 𝓤} {K : Type 0} {W : Given 𝓤 H A} {Γ : List (Item 𝓤)} {E : Env 𝓤 H} {C : Calls 𝓤 H} {Λ : Loops 𝓤 H}
+    {xs : List Operand} {q : After 𝓤 H} {d : Place} {rest : Code} where
+  pub calls-on-forces : K → FmC 𝓤 H (W .laws) C → (mem : Memory → SProp 𝓤) (run : Routine → Fun 𝓤) →
+      Triple 𝓤 (C #run-units·on-forces) (Contract-on-forces 𝓤 H A mem run) → (r : Run) → IsRun r → r .settings .n ≤ mostFrames
       → ((P : Item 𝓤) → Opds K W (P ∷ Γ) E xs (val-Run r ∷ []))
       → ((res : Bool) → res ≡ eqb (groupOf r) 1 → Is bool res (vbool res ∷ []) → Seq K W Γ (lands C Λ E d (vbool res) rest q))
       → Seq K W Γ (runs C Λ E (seq (call #run-units·on-forces xs d) rest) q)
   calls-on-forces t fm mem run met r g-r l os k =
-      calls-plain t fm (Contract-on-forces 𝓤 H A mem run) met (to-on-forces 𝓤 H A mem run r) bool (vbool) (bool-tells) (Said-on-forces 𝓤 H A mem run r) (λ (res : Bool). res ≡ eqb (groupOf r) 1) (said-on-forces 𝓤 H A mem run r)
+      calls-plain t fm (Contract-on-forces 𝓤 H A mem run) met (to-on-forces 𝓤 H A mem run r) bool (vbool) (bool-tells) (Said-on-forces 𝓤 H A mem run r)
+      (λ (res : Bool). res ≡ eqb (groupOf r) 1) (said-on-forces 𝓤 H A mem run r)
       (λ _. id⊢ 𝓤 _) (goes-on-forces 𝓤 H A mem run W r g-r l) (os _) k
 
 -- ---- `done`
@@ -399,13 +439,16 @@ module _ {M : Type 1} (𝓤 : URA M) (H : Heap 𝓤) (A : Atoms 𝓤) (mem : Mem
   said-done r res = exE 𝓤 _ (λ ws. snd∗ 𝓤 (sem 𝓤 H A (lasts done′.ended tt (r, tt) ws)) (fact 𝓤 (res ≡ turnAs r Done)))
 
   goes-done : Given 𝓤 H A → (r : Run) → IsRun r → ent 𝓤 (emp 𝓤) (Contract-done .pre (to-done r))
-  goes-done W r g-r = qed W [] ∵ nothing ! $ nothing ! $ owned ! Run′.the-row (Is Run′.the-row) ((LL.makes Run′.the-type Run″.the-plain) 𝓤 H A) r _ g-r $ fjoin ! $ move ! (1 ∷ 0 ∷ []) $ join ! $ frame ! $ nothing ! $ done !
+  goes-done W r g-r = qed W [] ∵ nothing ! $ nothing ! $ owned ! Run′.the-row (Is Run′.the-row) ((LL.makes Run′.the-type Run″.the-plain) 𝓤 H A) r _ g-r $
+      fjoin ! $ move ! (1 ∷ 0 ∷ []) $ join ! $ frame ! $ nothing ! $ done !
 
-module _ {M : Type 1} {𝓤 : URA M} {H : Heap 𝓤} {A : Atoms 𝓤} {K : Type 0} {W : Given 𝓤 H A} {Γ : List (Item 𝓤)} {E : Env 𝓤 H} {C : Calls 𝓤 H} {Λ : Loops 𝓤 H} {xs : List Operand} {q : After 𝓤 H} {d : Place} {rest : Code} where
+module _ {M : Type 1} {𝓤 : URA M} {H : Heap 𝓤} {A : Atoms 𝓤} {K : Type 0} {W : Given 𝓤 H A} {Γ : List (Item 𝓤)} {E : Env 𝓤 H} {C : Calls 𝓤 H} {Λ : Loops 𝓤 H}
+    {xs : List Operand} {q : After 𝓤 H} {d : Place} {rest : Code} where
   pub calls-done : K → FmC 𝓤 H (W .laws) C → (mem : Memory → SProp 𝓤) (run : Routine → Fun 𝓤) → Triple 𝓤 (C #run-units·done) (Contract-done 𝓤 H A mem run) → (r : Run) → IsRun r
       → ((P : Item 𝓤) → Opds K W (P ∷ Γ) E xs (val-Run r ∷ []))
       → ((res : Turn) → res ≡ turnAs r Done → Is Turn′.the-row res (val-Turn res ∷ []) → Seq K W Γ (lands C Λ E d (val-Turn res) rest q))
       → Seq K W Γ (runs C Λ E (seq (call #run-units·done xs d) rest) q)
   calls-done t fm mem run met r g-r os k =
-      calls-plain t fm (Contract-done 𝓤 H A mem run) met (to-done 𝓤 H A mem run r) Turn′.the-row (val-Turn) (LL.tells Turn′.the-type Turn″.the-laws) (Said-done 𝓤 H A mem run r) (λ (res : Turn). res ≡ turnAs r Done) (said-done 𝓤 H A mem run r)
+      calls-plain t fm (Contract-done 𝓤 H A mem run) met (to-done 𝓤 H A mem run r) Turn′.the-row (val-Turn) (LL.tells Turn′.the-type Turn″.the-laws)
+      (Said-done 𝓤 H A mem run r) (λ (res : Turn). res ≡ turnAs r Done) (said-done 𝓤 H A mem run r)
       (λ _. id⊢ 𝓤 _) (goes-done 𝓤 H A mem run W r g-r) (os _) k

@@ -40,7 +40,8 @@ module _ (r : Run) (y : List Float) (cs : List Cell) (k : TreeRoom r (length y) 
   pub box-asks : (Axes (r .settings .c)) × (r .settings .n * r .settings .c ≤ length y) × (0 < length cs)
   box-asks = (k .axes, k .positions-in, omega (arith, k .nodes-some, nodes-length cs))
 
-  pub box-told : T b → (ds : List Cell) → nodesOf ds ≡ set (nodesOf cs) 0 (boxOf y (r .settings .n) (r .settings .c)) → (t : Turn) → t ≡ turnAs (advancedOf r 1) Done → treeTurn (t .run) (nodesOf ds) (t .why) ≡ treeUnit r y (nodesOf cs)
+  pub box-told : T b → (ds : List Cell) → nodesOf ds ≡ set (nodesOf cs) 0 (boxOf y (r .settings .n) (r .settings .c)) → (t : Turn) →
+      t ≡ turnAs (advancedOf r 1) Done → treeTurn (t .run) (nodesOf ds) (t .why) ≡ treeUnit r y (nodesOf cs)
   box-told yes-b ds ed t et =
       ap (λ (x : Turn). treeTurn (x .run) (nodesOf ds) (x .why)) et ∙ box-is r y (nodesOf cs) (nodesOf ds) (eqb-true (r .phase) 0 (holds-as b (eqb (r .phase) 0) eb yes-b)) refl ed
 
@@ -52,7 +53,8 @@ module _ (r : Run) (y : List Float) (cs : List Cell) (k : TreeRoom r (length y) 
     next-asks = (k .numbers, omega (arith, later))
 
     module _ (j : ℕ) (ej : j ≡ r .phase - 1) where
-      pub insert-asks : (Axes (r .settings .c)) × (0 < r .used) × (r .used ≤ length cs) × (r .settings .n * r .settings .c ≤ length y) × (j < r .settings .n) × (r .settings .n ≤ mostWord) × (growable (r .settings .n) (r .settings .c) (tree (r .used) (nodesOf cs)) ≡ true)
+      pub insert-asks : (Axes (r .settings .c)) × (0 < r .used) × (r .used ≤ length cs) × (r .settings .n * r .settings .c ≤ length y) × (j < r .settings .n) ×
+          (r .settings .n ≤ mostWord) × (growable (r .settings .n) (r .settings .c) (tree (r .used) (nodesOf cs)) ≡ true)
       insert-asks = (
         k .axes,
         k .used-some later,
@@ -67,7 +69,8 @@ module _ (r : Run) (y : List Float) (cs : List Cell) (k : TreeRoom r (length y) 
           → (t : Turn) → t ≡ insertedOf r (a .full) (a .used) → treeTurn (t .run) (nodesOf ds) (t .why) ≡ treeUnit r y (nodesOf cs)
       unfolding insertedOf
       insert-told a ds ed t et =
-          let q : insertion (a .full) (tree (a .used) (nodesOf ds)) ≡ insertOf y (r .settings .c) (r .phase - 1) (tree (r .used) (nodesOf cs)) = subst (λ (x : ℕ). insertion (a .full) (tree (a .used) (nodesOf ds)) ≡ insertOf y (r .settings .c) x (tree (r .used) (nodesOf cs))) ej ed in
+          let q : insertion (a .full) (tree (a .used) (nodesOf ds)) ≡ insertOf y (r .settings .c) (r .phase - 1) (tree (r .used) (nodesOf cs)) = subst
+          (λ (x : ℕ). insertion (a .full) (tree (a .used) (nodesOf ds)) ≡ insertOf y (r .settings .c) x (tree (r .used) (nodesOf cs))) ej ed in
           ap (λ (x : Turn). treeTurn (x .run) (nodesOf ds) (x .why)) et
           ∙ by-bool (treeTurn (insertedOf r (a .full) (a .used) .run) (nodesOf ds) (insertedOf r (a .full) (a .used) .why) ≡ treeUnit r y (nodesOf cs)) (a .full)
           (λ f. rw f (insert-full r y (nodesOf cs) (nodesOf ds) (a .full) (a .used) later q f))
@@ -75,7 +78,8 @@ module _ (r : Run) (y : List Float) (cs : List Cell) (k : TreeRoom r (length y) 
 
 -- ---- the units of the forces
 
-module _ (r : Run) (y P : List Float) (xs off : List ℕ) (cs : List Cell) (F : List Float) (k : ForceRoom r (length y) (length P) (length F) P xs off (nodesOf cs)) (b : Bool) (eb : b ≡ isTree (r .settings .method)) where
+module _ (r : Run) (y P : List Float) (xs off : List ℕ) (cs : List Cell) (F : List Float)
+    (k : ForceRoom r (length y) (length P) (length F) P xs off (nodesOf cs)) (b : Bool) (eb : b ≡ isTree (r .settings .method)) where
   pub run-small : (r .phase < 10000) × (r .units < 1000000000)
   run-small = (k .numbers .phase-small, k .numbers .units-small)
 
@@ -87,7 +91,8 @@ module _ (r : Run) (y P : List Float) (xs off : List ℕ) (cs : List Cell) (F : 
     seen-asks = k .phase-tree tree-run
 
     module _ (i : ℕ) (ei : i ≡ r .phase - r .settings .n - 1) where
-      pub point-asks : (Axes (r .settings .c)) × (i < r .settings .n) × (r .settings .n ≤ mostFrames) × (r .settings .n * r .settings .c ≤ length y) × (r .settings .n * (2 * r .settings .c + 1) ≤ length F) × (0 < r .used)
+      pub point-asks : (Axes (r .settings .c)) × (i < r .settings .n) × (r .settings .n ≤ mostFrames) × (r .settings .n * r .settings .c ≤ length y) ×
+          (r .settings .n * (2 * r .settings .c + 1) ≤ length F) × (0 < r .used)
           × (r .used ≤ length (nodesOf cs)) × (r .used ≤ mostWord) × (shaped (r .settings .c) (tree (r .used) (nodesOf cs)) ≡ true) × Linked (r .settings .n) P xs off i
       point-asks =
           let u = k .used-in tree-run in (
@@ -127,7 +132,8 @@ module _ (r : Run) (y v g P : List Float) (xs off : List ℕ) (F : List Float) (
 
   module _ (b₁ : Bool) (e₁ : b₁ ≡ isEnded (r .standing)) where
     pub over-told : T b₁ → (t : Turn) → t ≡ turnAs r Over → turned (state (t .run) (memory y v g P xs off F cs)) (t .why) ≡ unit (state r (memory y v g P xs off F cs))
-    over-told yes₁ t et = ap (λ (x : Turn). turned (state (x .run) (memory y v g P xs off F cs)) (x .why)) et ∙ unit-over (state r (memory y v g P xs off F cs)) (holds-as b₁ (isEnded (r .standing)) e₁ yes₁)
+    over-told yes₁ t et = ap (λ (x : Turn). turned (state (x .run) (memory y v g P xs off F cs)) (x .why)) et ∙
+        unit-over (state r (memory y v g P xs off F cs)) (holds-as b₁ (isEnded (r .standing)) e₁ yes₁)
 
     module _ (no₁ : T (not b₁)) (b₂ : Bool) (e₂ : b₂ ≡ eqb (groupOf r) 0) where
       live : isEnded (r .standing) ≡ false
@@ -140,7 +146,8 @@ module _ (r : Run) (y v g P : List Float) (xs off : List ℕ) (F : List Float) (
         pub tree-asks : TreeRoom r (length y) (nodesOf cs)
         tree-asks = tree-room (state r (memory y v g P xs off F cs)) k group-0
 
-        pub tree-told : (t : Turn) (ds : List Cell) → treeTurn (t .run) (nodesOf ds) (t .why) ≡ treeUnit r y (nodesOf cs) → turned (state (t .run) (memory y v g P xs off F ds)) (t .why) ≡ unit (state r (memory y v g P xs off F cs))
+        pub tree-told : (t : Turn) (ds : List Cell) → treeTurn (t .run) (nodesOf ds) (t .why) ≡ treeUnit r y (nodesOf cs) →
+            turned (state (t .run) (memory y v g P xs off F ds)) (t .why) ≡ unit (state r (memory y v g P xs off F cs))
         tree-told t ds e = tree-is (state r (memory y v g P xs off F cs)) live (t .run) (nodesOf ds) (t .why) group-0 e
 
       module _ (no₂ : T (not b₂)) (b₃ : Bool) (e₃ : b₃ ≡ eqb (groupOf r) 1) where
@@ -159,6 +166,8 @@ module _ (r : Run) (y v g P : List Float) (xs off : List ℕ) (F : List Float) (
           pub finish-asks : FinishRoom r (length y) (length v) (length g) (length F)
           finish-asks = finish-room (state r (memory y v g P xs off F cs)) k
 
-          pub finish-told : (t : Turn) (y′ v′ g′ : List Float) → finishTurn (t .run) y′ v′ g′ (t .why) ≡ finishUnit r y v g F → turned (state (t .run) (memory y′ v′ g′ P xs off F cs)) (t .why) ≡ unit (state r (memory y v g P xs off F cs))
+          pub finish-told : (t : Turn) (y′ v′ g′ : List Float) → finishTurn (t .run) y′ v′ g′ (t .why) ≡ finishUnit r y v g F →
+              turned (state (t .run) (memory y′ v′ g′ P xs off F cs)) (t .why) ≡ unit (state r (memory y v g P xs off F cs))
           finish-told t y′ v′ g′ e =
-              finish-is (state r (memory y v g P xs off F cs)) live (t .run) y′ v′ g′ (t .why) (eqb-false (groupOf r) 0 (fails-as b₂ (eqb (groupOf r) 0) e₂ no₂)) (eqb-false (groupOf r) 1 (fails-as b₃ (eqb (groupOf r) 1) e₃ no₃)) e
+              finish-is (state r (memory y v g P xs off F cs)) live (t .run) y′ v′ g′ (t .why)
+              (eqb-false (groupOf r) 0 (fails-as b₂ (eqb (groupOf r) 0) e₂ no₂)) (eqb-false (groupOf r) 1 (fails-as b₃ (eqb (groupOf r) 1) e₃ no₃)) e

@@ -41,7 +41,8 @@ group-zero r e =
     by-bool P (isTree (r .settings .method))
     (λ t. let q = sym (group-tree r t) ∙ e in by-bool P (leb (r .phase) n) (λ b. (t, leb-true (r .phase) n b))
     (λ b. by-bool P (leb (r .phase) (2 * n)) (λ d. absurd (let z : _≡_ {A = ℕ} 1 0 = rw (b, d) at q in omega arith)) (λ d. absurd (let z : _≡_ {A = ℕ} 2 0 = rw (b, d) at q in omega arith))))
-    (λ t. let q = sym (group-exact r t) ∙ e in by-bool P (ltb (r .phase) (2 * n)) (λ d. absurd (let z : _≡_ {A = ℕ} 1 0 = rw d at q in omega arith)) (λ d. absurd (let z : _≡_ {A = ℕ} 2 0 = rw d at q in omega arith)))
+    (λ t. let q = sym (group-exact r t) ∙ e in by-bool P (ltb (r .phase) (2 * n)) (λ d. absurd (let z : _≡_ {A = ℕ} 1 0 = rw d at q in omega arith))
+    (λ d. absurd (let z : _≡_ {A = ℕ} 2 0 = rw d at q in omega arith)))
 
 pub record OneUnit (r : Run) : Type 0 where
   pub tree : isTree (r .settings .method) ≡ true → (r .settings .n < r .phase) × (r .phase ≤ 2 * r .settings .n)
@@ -54,7 +55,8 @@ group-one r e =
     record {
       tree = λ t. (let P = (n < r .phase) × (r .phase ≤ 2 * n) in let q = sym (group-tree r t) ∙ e in by-bool P (leb (r .phase) n) (λ b. absurd (let z : _≡_ {A = ℕ} 0 1 = rw b at q in omega arith))
           (λ b. by-bool P (leb (r .phase) (2 * n)) (λ d. (leb-false (r .phase) n b, leb-true (r .phase) (2 * n) d)) (λ d. absurd (let z : _≡_ {A = ℕ} 2 1 = rw (b, d) at q in omega arith))));
-      exact = λ t. (let q = sym (group-exact r t) ∙ e in by-bool (r .phase < 2 * n) (ltb (r .phase) (2 * n)) (λ d. ltb-true (r .phase) (2 * n) d) (λ d. absurd (let z : _≡_ {A = ℕ} 2 1 = rw d at q in omega arith)));
+      exact = λ t. (let q = sym (group-exact r t) ∙ e in by-bool (r .phase < 2 * n) (ltb (r .phase) (2 * n)) (λ d. ltb-true (r .phase) (2 * n) d) (λ d. absurd
+          (let z : _≡_ {A = ℕ} 2 1 = rw d at q in omega arith)));
     }
 
 -- neither: the last unit of an iteration
@@ -75,7 +77,9 @@ module _ (s : State) (g : Workable s) where
   small-of =
       let r = s .run in
       let p = per-most (r .settings .method) (r .settings .n) (g .settings .n-most) in
-      let d = product-fits (r .done) (r .settings .iterations) (r .settings .method) (r .settings .n) (done-most (r .standing) (r .done) (r .settings .iterations) (r .phase) (r .settings .minimum) (g .counters .standing-fits)) (g .settings .iterations-most) (g .settings .n-most) in
+      let d = product-fits (r .done) (r .settings .iterations) (r .settings .method) (r .settings .n)
+      (done-most (r .standing) (r .done) (r .settings .iterations) (r .phase) (r .settings .minimum) (g .counters .standing-fits))
+      (g .settings .iterations-most) (g .settings .n-most) in
       let h = g .counters .phase-below in
       let t = g .counters .total in
       record { phase-small = omega arith; units-small = omega arith; n-most = g .settings .n-most }
@@ -98,7 +102,8 @@ module _ (s : State) (g : Workable s) where
         sound = λ q. looser n n (s .run .settings .c) (n + s .run .phase) (mostWord - 1) (tree (s .run .used) (s .memory .nodes)) (le-refl n) (omega arith) (c .tree q .each-node);
       }
 
-  pub force-room : groupOf (s .run) ≡ 1 → ForceRoom (s .run) (length (s .memory .positions)) (length (s .memory .affinities)) (length (s .memory .forces)) (s .memory .affinities) (s .memory .indices) (s .memory .offsets) (s .memory .nodes)
+  pub force-room : groupOf (s .run) ≡ 1 → ForceRoom (s .run) (length (s .memory .positions)) (length (s .memory .affinities)) (length (s .memory .forces))
+      (s .memory .affinities) (s .memory .indices) (s .memory .offsets) (s .memory .nodes)
   force-room e =
       let r = s .run in
       let n = r .settings .n in
@@ -119,8 +124,10 @@ module _ (s : State) (g : Workable s) where
         axes = λ t. axes (r .settings) (g .settings) t;
         used-some = λ t. g .contents t .tree (λ z. let h = o .tree t in omega arith) .used-some;
         used-in = λ t. g .contents t .tree (λ z. let h = o .tree t in omega arith) .used-most;
-        sound = λ t. looser n (suc mostWord) (r .settings .c) (n + r .phase) mostWord (tree (r .used) (s .memory .nodes)) (omega arith) (omega arith) (g .contents t .tree (λ z. let h = o .tree t in omega arith) .each-node);
-        linked = λ t. (let h = o .tree t in linked-at r (s .memory .indices) (s .memory .offsets) (s .memory .nodes) (g .contents t) (s .memory .affinities) (g .areas .tree-long t) (r .phase - n - 1) (omega arith));
+        sound = λ t. looser n (suc mostWord) (r .settings .c) (n + r .phase) mostWord (tree (r .used) (s .memory .nodes)) (omega arith) (omega arith)
+            (g .contents t .tree (λ z. let h = o .tree t in omega arith) .each-node);
+        linked = λ t. (let h = o .tree t in linked-at r (s .memory .indices) (s .memory .offsets) (s .memory .nodes) (g .contents t) (s .memory .affinities)
+            (g .areas .tree-long t) (r .phase - n - 1) (omega arith));
         phase-exact = o .exact;
         square-in = g .areas .exact-long;
       }

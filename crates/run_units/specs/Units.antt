@@ -79,13 +79,49 @@ abbrev pub turned : State → Why → Turned
 turned s y = record { now = s; why = y }
 
 abbrev pub withTree : Memory → TreeTurn → Turned
-withTree m t = turned (record { run = t .run; memory = record { positions = m .positions; increments = m .increments; gains = m .gains; affinities = m .affinities; indices = m .indices; offsets = m .offsets; forces = m .forces; nodes = t .nodes } }) (t .why)
+withTree m t = turned (record {
+  run = t .run;
+  memory = record {
+    positions = m .positions;
+    increments = m .increments;
+    gains = m .gains;
+    affinities = m .affinities;
+    indices = m .indices;
+    offsets = m .offsets;
+    forces = m .forces;
+    nodes = t .nodes;
+  };
+}) (t .why)
 
 abbrev pub withForces : Memory → Run → List Float → Turned
-withForces m r F = turned (record { run = r; memory = record { positions = m .positions; increments = m .increments; gains = m .gains; affinities = m .affinities; indices = m .indices; offsets = m .offsets; forces = F; nodes = m .nodes } }) Done
+withForces m r F = turned (record {
+  run = r;
+  memory = record {
+    positions = m .positions;
+    increments = m .increments;
+    gains = m .gains;
+    affinities = m .affinities;
+    indices = m .indices;
+    offsets = m .offsets;
+    forces = F;
+    nodes = m .nodes;
+  };
+}) Done
 
 abbrev pub withFinish : Memory → FinishTurn → Turned
-withFinish m t = turned (record { run = t .run; memory = record { positions = t .positions; increments = t .increments; gains = t .gains; affinities = m .affinities; indices = m .indices; offsets = m .offsets; forces = m .forces; nodes = m .nodes } }) (t .why)
+withFinish m t = turned (record {
+  run = t .run;
+  memory = record {
+    positions = t .positions;
+    increments = t .increments;
+    gains = t .gains;
+    affinities = m .affinities;
+    indices = m .indices;
+    offsets = m .offsets;
+    forces = m .forces;
+    nodes = m .nodes;
+  };
+}) (t .why)
 
 unfoldable pub unit : State → Turned
 unit s =

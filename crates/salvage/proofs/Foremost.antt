@@ -7,7 +7,7 @@ use lib.ListN.{length, set, drop, length-append, length-drop}
 use lib.Seq.{take-append-seam, drop-append-add, drop-drop, length-take-le, getD-take, getD-drop}
 use Rattle.laws.specs.Area.{num}
 use Rattle.laws.specs.Joined.{written}
-use Rattle.laws.proofs.Parts.{Spells, spells-more, spells-done}
+use Rattle.laws.proofs.Parts.{Spells, spells-next, spells-done}
 use Rattle.areas.proofs.Fetched.{put-next}
 use Rattle.frames.specs.Frames.{recordBytes}
 use Rattle.salvage.specs.Salvage.{recordAt, foremost}
@@ -32,8 +32,8 @@ module _ (f : List ℕ) (a : ℕ) (h : a + recordBytes ≤ length f) where
   record-byte t l = getD-take recordBytes (drop a f) t 0 l ∙ getD-drop a f t 0
 
   module _ {g₀ g : List ℕ} {to t : ℕ} (r : Spells (recordAt f a) g₀ to t g) where
-    pub record-more : to + recordBytes ≤ length g₀ → t < recordBytes → Spells (recordAt f a) g₀ to (t + 1) (set g (to + t) (num f (a + t)))
-    record-more m l = subst (λ (x : ℕ). Spells (recordAt f a) g₀ to (t + 1) (set g (to + t) x)) (record-byte t l) (spells-more 0 (omega (arith, copied-size)) (omega (arith, copied-size)) r)
+    pub record-next : to + recordBytes ≤ length g₀ → t < recordBytes → Spells (recordAt f a) g₀ to (t + 1) (set g (to + t) (num f (a + t)))
+    record-next m l = subst (λ (x : ℕ). Spells (recordAt f a) g₀ to (t + 1) (set g (to + t) x)) (record-byte t l) (spells-next 0 (omega (arith, copied-size)) (omega (arith, copied-size)) r)
 
     pub record-done : recordBytes ≤ t → g ≡ written (recordAt f a) to g₀
     record-done l = spells-done (omega (arith, copied-size)) r

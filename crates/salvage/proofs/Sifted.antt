@@ -11,7 +11,7 @@ use lib.ListN.{length, set, length-append}
 use borrow.Author.Tests.{lt-ltb, le-ltb, eq-eqb, ne-eqb, ltb-false}
 use Rattle.laws.specs.Joined.{written, those, joined}
 use Rattle.laws.proofs.Bools.{two, by-bool, or-left, or-right}
-use Rattle.laws.proofs.Joined.{those-yes, those-no, joined-more, length-map, map-append}
+use Rattle.laws.proofs.Joined.{those-yes, those-no, joined-next, length-map, map-append}
 use Rattle.frames.specs.Frames.{recordBytes, wholeRecords}
 use Rattle.salvage.specs.declared.Sift.{Sift}
 use Rattle.salvage.specs.declared.Salvaged.the-variants.{Saved, Short}
@@ -71,30 +71,30 @@ module _ (f : List ℕ) where
   -- ---- what is kept
 
   module _ (i : ℕ) (e : isKept f i ≡ true) where
-    pub kept-more : length (keptIn f (i + 1)) ≡ length (keptIn f i) + 1
-    kept-more = ap length (those-yes (isKept f) i e) ∙ length-append (keptIn f i) (i ∷ [])
+    pub kept-next : length (keptIn f (i + 1)) ≡ length (keptIn f i) + 1
+    kept-next = ap length (those-yes (isKept f) i e) ∙ length-append (keptIn f i) (i ∷ [])
 
     pub told-same : toldIn f (i + 1) ≡ toldIn f i
     told-same = those-no (λ j. not (isKept f j)) i (rw e)
 
-    pub bytes-more : bytesKept f (i + 1) ≡ bytesKept f i ++ recordAt f (i * recordBytes)
-    bytes-more = joined-more (bytesOf f) i ∙ rw e
+    pub bytes-next : bytesKept f (i + 1) ≡ bytesKept f i ++ recordAt f (i * recordBytes)
+    bytes-next = joined-next (bytesOf f) i ∙ rw e
 
   module _ (i : ℕ) (e : isKept f i ≡ false) where
     pub none-kept : keptIn f (i + 1) ≡ keptIn f i
     none-kept = those-no (isKept f) i e
 
-    pub told-more : toldIn f (i + 1) ≡ toldIn f i ++ (i ∷ [])
-    told-more = those-yes (λ j. not (isKept f j)) i (rw e)
+    pub told-next : toldIn f (i + 1) ≡ toldIn f i ++ (i ∷ [])
+    told-next = those-yes (λ j. not (isKept f j)) i (rw e)
 
     pub told-count : length (toldIn f (i + 1)) ≡ length (toldIn f i) + 1
-    told-count = ap length told-more ∙ length-append (toldIn f i) (i ∷ [])
+    told-count = ap length told-next ∙ length-append (toldIn f i) (i ∷ [])
 
-    pub rules-more : rulesTold f (i + 1) ≡ rulesTold f i ++ (ruleOf f i ∷ [])
-    rules-more = ap (map (ruleOf f)) told-more ∙ map-append (ruleOf f) (toldIn f i) (i ∷ [])
+    pub rules-next : rulesTold f (i + 1) ≡ rulesTold f i ++ (ruleOf f i ∷ [])
+    rules-next = ap (map (ruleOf f)) told-next ∙ map-append (ruleOf f) (toldIn f i) (i ∷ [])
 
     pub bytes-same : bytesKept f (i + 1) ≡ bytesKept f i
-    bytes-same = joined-more (bytesOf f) i ∙ rw e (append-nil (bytesKept f i))
+    bytes-same = joined-next (bytesOf f) i ∙ rw e (append-nil (bytesKept f i))
 
   pub bytes-size : (n : ℕ) → n ≤ wholeRecords f → length (bytesKept f n) ≡ length (keptIn f n) * recordBytes
   unfolding those joined
@@ -102,7 +102,7 @@ module _ (f : List ℕ) where
   bytes-size (suc n) h = subst (λ (m : ℕ). length (bytesKept f m) ≡ length (keptIn f m) * recordBytes) (add-one n) (⊎-elim
       (λ e.
       let r = recordAt f (n * recordBytes) in
-      omega (arith, bytes-size n (omega arith), kept-more n e, ap length (bytes-more n e), length-append (bytesKept f n) r, copied-size f (n * recordBytes) (whole-record n h)))
+      omega (arith, bytes-size n (omega arith), kept-next n e, ap length (bytes-next n e), length-append (bytesKept f n) r, copied-size f (n * recordBytes) (whole-record n h)))
       (λ e. omega (arith, bytes-size n (omega arith), ap length (bytes-same n e), ap length (none-kept n e)))
       (two (isKept f n)))
 
@@ -113,13 +113,13 @@ module _ (f : List ℕ) where
 
   module _ (i : ℕ) (e : isKept f i ≡ false) (l : List ℕ) (h : i < length l) where
     pub place-told : set (foremost (toldIn f i) l) (length (toldIn f i)) i ≡ foremost (toldIn f (i + 1)) l
-    place-told = foremost-put (toldIn f i) l i (omega (arith, counts i)) ∙ ap (λ (w : List ℕ). foremost w l) (sym (told-more i e))
+    place-told = foremost-put (toldIn f i) l i (omega (arith, counts i)) ∙ ap (λ (w : List ℕ). foremost w l) (sym (told-next i e))
 
     pub rule-told : set (foremost (rulesTold f i) l) (length (toldIn f i)) (ruleOf f i) ≡ foremost (rulesTold f (i + 1)) l
     rule-told =
         ap (λ (n : ℕ). set (foremost (rulesTold f i) l) n (ruleOf f i)) (sym (length-map (ruleOf f) (toldIn f i)))
         ∙ foremost-put (rulesTold f i) l (ruleOf f i) (omega (arith, counts i, length-map (ruleOf f) (toldIn f i)))
-        ∙ ap (λ (w : List ℕ). foremost w l) (sym (rules-more i e))
+        ∙ ap (λ (w : List ℕ). foremost w l) (sym (rules-next i e))
 
   -- ---- one record more
 
@@ -137,11 +137,11 @@ module _ (f : List ℕ) where
         let k : isKept f i ≡ true = kept-by-rule i h ∙ e in
         together
         (sym (last-yes i e))
-        (sym (kept-more i k))
+        (sym (kept-next i k))
         (ap length (sym (told-same i k)))
         (ap (λ (n : ℕ). written (recordAt f (i * recordBytes)) n (foremost (bytesKept f i) g)) (sym (bytes-size i (omega arith)))
         ∙ foremost-copy (bytesKept f i) g (recordAt f (i * recordBytes))
-        ∙ ap (λ (w : List ℕ). foremost w g) (sym (bytes-more i k)))
+        ∙ ap (λ (w : List ℕ). foremost w g) (sym (bytes-next i k)))
         (ap (λ (w : List ℕ). foremost w p) (sym (told-same i k)))
         (ap (λ (w : List ℕ). foremost (map (ruleOf f) w) r) (sym (told-same i k)))
 
@@ -225,8 +225,8 @@ module _ {f g p r : List ℕ} (room : SiftRoom f g p r) where
           ruleRoom = omega (arith, told, counts f i, s .rulesSize, room .rulesRoom, reads-whole f);
         }
 
-    pub sifted-more : (y : Sifting) → y ≡ siftStep f i x → Sifted f g p r (i + 1) y
-    sifted-more y e =
+    pub sifted-next : (y : Sifting) → y ≡ siftStep f i x → Sifted f g p r (i + 1) y
+    sifted-next y e =
         sifted-is (i + 1) (omega arith) y
         (e ∙ ap (siftStep f i) (s .same) ∙ sift-step f g p r i h (omega (arith, room .placesRoom, reads-whole f)) (omega (arith, room .rulesRoom, reads-whole f)))
 

@@ -11,68 +11,100 @@ use native.Mathlib.Nat.{not-suc-le-zero}
 use lib.Dec.{eqb}
 use lib.ListN.{length}
 use lib.Seq.{getD-append-seam}
-use borrow.Author.Tests.{not-false, eqb-false}
+use borrow.Author.Tests.{not-false, eqb-false, ne-eqb}
 use Rattle.laws.specs.Area.{num}
 use Rattle.laws.specs.Joined.{those}
 use Rattle.laws.proofs.Bools.{two, by-bool}
 use Rattle.laws.proofs.Joined.{those-yes, those-below}
 use Rattle.frames.specs.Frames.{recordBytes, pictureAt, sideAt, fieldAt, pictureFine, sideFine, fieldFine, spareFine, valuesFine, goodAlone, inOrder, badAt, wholeRecords}
-use Rattle.salvage.specs.Salvage.{ruleAlone, followsLast, ruleAfter, lastKept, ruleOf, isKept, keptIn}
-use Rattle.salvage.proofs.Sifted.{last-yes, last-no, last-within, rule-whole, kept-by-rule, kept-more, none-kept}
+use Rattle.salvage.specs.Salvage.{orderRule, ruleAlone, followsLast, ruleAfter, lastKept, ruleOf, isKept, keptIn}
+use Rattle.salvage.proofs.Sifted.{last-yes, last-no, last-within, rule-whole, kept-by-rule, kept-next, none-kept}
 use Rattle.salvaging.specs.Broken.{testsOf, FirstFails, LastBefore}
 use Rattle.salvaging.proofs.Picks.{those-count, those-prefix}
 
--- ---- six tests and the number of the first that fails
+-- ---- any tests in their order, and the number of the first that fails
 
-abbrev numbered : Bool → Bool → Bool → Bool → Bool → ℕ
-numbered p s b x v = cond (not p) 1 (cond (not s) 2 (cond (not b) 3 (cond (not x) 4 (cond (not v) 5 0))))
+-- counted from k; e where none fails
+abbrev numberedFrom : ℕ → ℕ → List Bool → ℕ
+numberedFrom e k [] = e
+numberedFrom e k (b ∷ bs) = cond (not b) k (numberedFrom e (suc k) bs)
 
-abbrev ordered : ℕ → Bool → ℕ
-ordered k o = cond (eqb k 0) (cond o 0 6) k
+-- a, and all of the others, joined as the reader joins its tests
+abbrev allAfter : Bool → List Bool → Bool
+allAfter a [] = a
+allAfter a (b ∷ bs) = allAfter (a && b) bs
 
-none-of-five : (p s b x v : Bool) → eqb (numbered p s b x v) 0 ≡ (p && s && b && x && v)
-none-of-five false s b x v = refl
-none-of-five true false b x v = refl
-none-of-five true true false x v = refl
-none-of-five true true true false v = refl
-none-of-five true true true true false = refl
-none-of-five true true true true true = refl
+none-fails : (k : ℕ) (a : Bool) (bs : List Bool) → allAfter a bs ≡ a && eqb (numberedFrom 0 (suc k) bs) 0
+none-fails k true [] = refl
+none-fails k false [] = refl
+none-fails k true (true ∷ bs) = none-fails (suc k) true bs
+none-fails k true (false ∷ bs) = none-fails (suc k) false bs ∙ sym (ne-eqb (suc k) 0 (λ z. omega arith))
+none-fails k false (true ∷ bs) = none-fails (suc k) false bs
+none-fails k false (false ∷ bs) = none-fails (suc k) false bs
 
-first-of-six : (p s b x v o : Bool) → (ordered (numbered p s b x v) o ≡ 0 → ⊥) → FirstFails (p ∷ s ∷ b ∷ x ∷ v ∷ o ∷ []) (ordered (numbered p s b x v) o)
-first-of-six false s b x v o h = refl
-first-of-six true false b x v o h = (refl, refl)
-first-of-six true true false x v o h = (refl, (refl, refl))
-first-of-six true true true false v o h = (refl, (refl, (refl, refl)))
-first-of-six true true true true false o h = (refl, (refl, (refl, (refl, refl))))
-first-of-six true true true true true false h = (refl, (refl, (refl, (refl, (refl, refl)))))
-first-of-six true true true true true true h = absurd (h refl)
+-- what comes after tests that all pass
+numbered-then : (e k : ℕ) (bs : List Bool) → cond (eqb (numberedFrom 0 (suc k) bs) 0) e (numberedFrom 0 (suc k) bs) ≡ numberedFrom e (suc k) bs
+numbered-then e k [] = refl
+numbered-then e k (true ∷ bs) = numbered-then e (suc k) bs
+numbered-then e k (false ∷ bs) = rw (ne-eqb (suc k) 0 (λ z. omega arith))
 
-no-order : (k : ℕ) (o : Bool) → eqb (ordered k o) 0 ≡ eqb k 0 && o
-no-order k o = by-bool (eqb (ordered k o) 0 ≡ eqb k 0 && o) (eqb k 0) (λ e. rw e (last o)) (λ e. rw (e, e))
+numbered-least : (k : ℕ) (bs : List Bool) → (numberedFrom 0 k bs ≡ 0 → ⊥) → k ≤ numberedFrom 0 k bs
+numbered-least k [] h = absurd (h refl)
+numbered-least k (true ∷ bs) h = let m = numbered-least (suc k) bs h in omega arith
+numbered-least k (false ∷ bs) h = omega arith
+
+first-fails : (k : ℕ) (bs : List Bool) → (numberedFrom 0 (suc k) bs ≡ 0 → ⊥) → (j : ℕ) → numberedFrom 0 (suc k) bs ≡ k + j → FirstFails bs j
+first-fails k [] h j e = absurd (h refl)
+first-fails k (false ∷ bs) h zero e = absurd (omega arith)
+first-fails k (false ∷ bs) h (suc zero) e = refl
+first-fails k (false ∷ bs) h (suc (suc j)) e = absurd (omega arith)
+first-fails k (true ∷ bs) h zero e = let m = numbered-least (suc (suc k)) bs h in absurd (omega arith)
+first-fails k (true ∷ bs) h (suc zero) e = let m = numbered-least (suc (suc k)) bs h in absurd (omega arith)
+first-fails k (true ∷ bs) h (suc (suc j)) e = (refl, first-fails (suc k) bs h (suc j) (omega arith))
+
+-- the order, asked last
+no-order : (k m : ℕ) (o : Bool) → (m ≡ 0 → ⊥) → eqb (cond (eqb k 0) (cond o 0 m) k) 0 ≡ eqb k 0 && o
+no-order k m o n = by-bool (eqb (cond (eqb k 0) (cond o 0 m) k) 0 ≡ eqb k 0 && o) (eqb k 0) (λ e. rw e (last o)) (λ e. rw (e, e))
   where
-    last : (o : Bool) → eqb (cond o 0 6) 0 ≡ o
+    last : (o : Bool) → eqb (cond o 0 m) 0 ≡ o
     last true = refl
-    last false = refl
+    last false = ne-eqb m 0 n
+
+order-last : (m : ℕ) (o : Bool) → cond o 0 m ≡ numberedFrom 0 m (o ∷ [])
+order-last m true = refl
+order-last m false = refl
 
 module _ (f : List ℕ) where
+  -- the tests that a record passes by itself
+  abbrev aloneTests : ℕ → List Bool
+  aloneTests a = pictureFine (pictureAt f a) ∷ sideFine (sideAt f a) ∷ fieldFine (fieldAt f a) ∷ spareFine f a ∷ valuesFine f a ∷ []
+
   alone-rule : (a : ℕ) → eqb (ruleAlone f a) 0 ≡ goodAlone f a
   unfolding ruleAlone goodAlone
-  alone-rule a = none-of-five (pictureFine (pictureAt f a)) (sideFine (sideAt f a)) (fieldFine (fieldAt f a)) (spareFine f a) (valuesFine f a)
+  alone-rule a = sym (none-fails 0 true (aloneTests a))
 
   after-rule : (l i : ℕ) → eqb (ruleAfter f l i) 0 ≡ goodAlone f (i * recordBytes) && followsLast f l i
   unfolding ruleAfter
-  after-rule l i = no-order (ruleAlone f (i * recordBytes)) (followsLast f l i) ∙ ap (λ (b : Bool). b && followsLast f l i) (alone-rule (i * recordBytes))
+  after-rule l i =
+      no-order (ruleAlone f (i * recordBytes)) orderRule (followsLast f l i) (λ z. omega arith) ∙
+      ap (λ (b : Bool). b && followsLast f l i) (alone-rule (i * recordBytes))
 
   pub kept-by-tests : (i : ℕ) → i < wholeRecords f → isKept f i ≡ goodAlone f (i * recordBytes) && followsLast f (lastKept f i) i
   kept-by-tests i h = kept-by-rule f i h ∙ after-rule (lastKept f i) i
 
-  first-after : (i : ℕ) → i < wholeRecords f → isKept f i ≡ false → FirstFails (testsOf f (lastKept f i) i) (ruleOf f i)
+  -- the rule told of a record is the number of its first test that fails
+  tests-numbered : (l i : ℕ) → ruleAfter f l i ≡ numberedFrom 0 1 (testsOf f l i)
   unfolding ruleAfter ruleAlone
+  tests-numbered l i =
+      ap (λ (e : ℕ). cond (eqb (ruleAlone f (i * recordBytes)) 0) e (ruleAlone f (i * recordBytes))) (order-last orderRule (followsLast f l i)) ∙
+      numbered-then (numberedFrom 0 orderRule (followsLast f l i ∷ [])) 0 (aloneTests (i * recordBytes))
+
+  first-after : (i : ℕ) → i < wholeRecords f → isKept f i ≡ false → FirstFails (testsOf f (lastKept f i) i) (ruleOf f i)
   first-after i h e =
-      let a = i * recordBytes in
-      subst (FirstFails (testsOf f (lastKept f i) i)) (sym (rule-whole f i h))
-      (first-of-six (pictureFine (pictureAt f a)) (sideFine (sideAt f a)) (fieldFine (fieldAt f a)) (spareFine f a) (valuesFine f a) (followsLast f (lastKept f i) i)
-      (eqb-false (ruleAfter f (lastKept f i) i) 0 (sym (kept-by-rule f i h) ∙ e)))
+      let told : eqb (ruleAfter f (lastKept f i) i) 0 ≡ false = sym (kept-by-rule f i h) ∙ e in
+      let rule = tests-numbered (lastKept f i) i in
+      subst (FirstFails (testsOf f (lastKept f i) i)) (sym (rule-whole f i h ∙ rule))
+      (first-fails 0 (testsOf f (lastKept f i) i) (λ z. eqb-false (ruleAfter f (lastKept f i) i) 0 told (rule ∙ z)) (numberedFrom 0 1 (testsOf f (lastKept f i) i)) (omega arith))
 
   -- ---- the last record kept
 
@@ -134,7 +166,7 @@ module _ (f : List ℕ) where
       (λ k.
       last-yes f i (sym (kept-by-rule f i h) ∙ k) ∙ add-one i
       ∙ ap suc (sym (ap (λ (w : List ℕ). num w j) (those-yes (isKept f) i k)
-      ∙ ap (num (keptIn f i ++ (i ∷ []))) (at (length (keptIn f i)) j (sym (kept-more f i k) ∙ q))
+      ∙ ap (num (keptIn f i ++ (i ∷ []))) (at (length (keptIn f i)) j (sym (kept-next f i k) ∙ q))
       ∙ getD-append-seam (keptIn f i) i [] 0)))
       (λ k.
       last-no f i (sym (kept-by-rule f i h) ∙ k)

@@ -1,7 +1,8 @@
 -- The product of two numbers modulo 2^64 from their halves of 32 bits, as the program computes it. Assumes nothing.
 use mathlib.Core.Path.{_≡_, refl, sym, ap, _∙_}
 use Prim.Native.Nat.{ℕ, _+_, _*_, _/_, _%_, _^_, _<_}
-use native.Mathlib.Nat.{le-of-lt, lt-of-le-of-lt, mul-le-mul-left, add-assoc, add-comm, add-left-comm, mul-assoc, mul-comm, mul-left-comm, mul-right-comm, mul-add, add-mul, div-add-mod', add-mod-mod, mul-add-mod-self-right}
+use native.Mathlib.Nat.{le-of-lt, lt-of-le-of-lt, mul-le-mul-left, add-assoc, add-comm, add-left-comm, mul-assoc, mul-comm, mul-left-comm, mul-right-comm}
+use native.Mathlib.Nat.{mul-add, add-mul, div-add-mod', add-mod-mod, mul-add-mod-self-right}
 use lib.Pow.{shl-lt, split}
 use lib.Bits.{bitAnd, and-mask}
 use mir.Syntax.{w64}

@@ -13,7 +13,8 @@ pub finish-no-moves : (b : Before) (n c : ℕ) → calmMoves b (n * c) ≡ false
 unfolding finishOf
 finish-no-moves b n c h = rw h
 
-pub finish-no-centred : (b : Before) (n c : ℕ) {s : List Float} → s ≡ meansOf b n c → calmMoves b (n * c) ≡ true → calmCentred s b c (n * c) ≡ false → stepOutcome (Refused 15) (b .positions) (b .increments) (b .gains) ≡ finishOf b n c
+pub finish-no-centred : (b : Before) (n c : ℕ) {s : List Float} → s ≡ meansOf b n c → calmMoves b (n * c) ≡ true → calmCentred s b c (n * c) ≡ false →
+    stepOutcome (Refused 15) (b .positions) (b .increments) (b .gains) ≡ finishOf b n c
 unfolding finishOf
 finish-no-centred b n c e h k = rw (h, rw e at k)
 

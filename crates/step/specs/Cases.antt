@@ -16,8 +16,10 @@ unfolding gainOf mul lt add ofBits
 gain-zero = refl
 
 -- two frames in one component: gradients -11 and 11, rate 5, momentum 0.5, starts 0 and 1, gains 1; a tail is kept
-pub step-two-frames : finishOf (before (bits 0x3fe0000000000000) (bits 0x4014000000000000) (at (bits 0xc026000000000000 ∷ bits 0x4026000000000000 ∷ [])) (zero64 ∷ one64 ∷ one64 ∷ []) (zero64 ∷ zero64 ∷ []) (one64 ∷ one64 ∷ [])) 2 1
-    ≡ stepOutcome Moved (bits 0x4050600000000000 ∷ bits 0xc050600000000000 ∷ one64 ∷ []) (bits 0x4050800000000000 ∷ bits 0xc050800000000000 ∷ []) (bits 0x3ff3333333333333 ∷ bits 0x3ff3333333333333 ∷ [])
+pub step-two-frames : finishOf (before (bits 0x3fe0000000000000) (bits 0x4014000000000000) (at (bits 0xc026000000000000 ∷ bits 0x4026000000000000 ∷ []))
+    (zero64 ∷ one64 ∷ one64 ∷ []) (zero64 ∷ zero64 ∷ []) (one64 ∷ one64 ∷ [])) 2 1
+    ≡ stepOutcome Moved (bits 0x4050600000000000 ∷ bits 0xc050600000000000 ∷ one64 ∷ []) (bits 0x4050800000000000 ∷ bits 0xc050800000000000 ∷ [])
+    (bits 0x3ff3333333333333 ∷ bits 0x3ff3333333333333 ∷ [])
 unfolding finishOf centredBy every loop upTo le neg add sub mul div lt ofInt ofBits
 step-two-frames = refl
 

@@ -41,8 +41,8 @@ record Row (b : Before) (c d q : ℕ) (s : List Float) (j : ℕ) (y : List Float
   new : q * c + d < j → at y d ≡ columnStep b c d q (at s d)
   old : j ≤ q * c + d → at y d ≡ at s d
 
-row-more : (b : Before) (c d q : ℕ) (s : List Float) → d < c → c ≤ length s → (j : ℕ) (y : List Float) → j < q * c + c → Row b c d q s j y → Row b c d q s (j + 1) (sumStep b c j y)
-row-more b c d q s h l j y t r = go (differ j (q * c + d))
+row-next : (b : Before) (c d q : ℕ) (s : List Float) → d < c → c ≤ length s → (j : ℕ) (y : List Float) → j < q * c + c → Row b c d q s j y → Row b c d q s (j + 1) (sumStep b c j y)
+row-next b c d q s h l j y t r = go (differ j (q * c + d))
   where
     i : ℕ
     i = j - q * c
@@ -79,7 +79,7 @@ row-more b c d q s h l j y t r = go (differ j (q * c + d))
 
 row-sum : (b : Before) (c d q : ℕ) (s : List Float) → d < c → c ≤ length s → Row b c d q s (q * c + c) (loop (sumStep b c) c (q * c) s)
 row-sum b c d q s h l =
-    loop-keeps (Row b c d q s) (sumStep b c) c (q * c) s (row-more b c d q s h l) (record { from = omega arith; size = refl; new = λ k. absurd (no k); old = λ _. refl })
+    loop-keeps (Row b c d q s) (sumStep b c) c (q * c) s (row-next b c d q s h l) (record { from = omega arith; size = refl; new = λ k. absurd (no k); old = λ _. refl })
   where
     no : q * c + d < q * c → ⊥
     no k = omega arith
@@ -109,8 +109,10 @@ columns b c d h l (suc n) =
     let s = loop (sumStep b c) (n * c) 0 zeros8 in
     let ih = columns b c d h l n in
     let r = row-sum b c d n s h (le-trans l (le-of-eq (sym (ih .size)))) in
-    let e : loop (sumStep b c) (suc n * c) 0 zeros8 ≡ loop (sumStep b c) c (n * c) s = ap (λ (x : ℕ). loop (sumStep b c) x 0 zeros8) (suc-mul n c) ∙ loop-add (sumStep b c) (n * c) c 0 zeros8 ∙ ap (λ (x : ℕ). loop (sumStep b c) c x s) (zero-add (n * c)) in
-    let k : columnOf b (suc n) c d ≡ columnStep b c d n (columnOf b n c d) = ap (λ (x : ℕ). loop (columnStep b c d) x 0 zero64) (sym (add-one n)) ∙ loop-add (columnStep b c d) n 1 0 zero64 ∙ ap (λ (x : ℕ). columnStep b c d x (columnOf b n c d)) (zero-add n) in
+    let e : loop (sumStep b c) (suc n * c) 0 zeros8 ≡ loop (sumStep b c) c (n * c) s = ap (λ (x : ℕ). loop (sumStep b c) x 0 zeros8) (suc-mul n c) ∙
+    loop-add (sumStep b c) (n * c) c 0 zeros8 ∙ ap (λ (x : ℕ). loop (sumStep b c) c x s) (zero-add (n * c)) in
+    let k : columnOf b (suc n) c d ≡ columnStep b c d n (columnOf b n c d) = ap (λ (x : ℕ). loop (columnStep b c d) x 0 zero64) (sym (add-one n)) ∙
+    loop-add (columnStep b c d) n 1 0 zero64 ∙ ap (λ (x : ℕ). columnStep b c d x (columnOf b n c d)) (zero-add n) in
     record {
       size = ap length e ∙ r .size ∙ ih .size;
       sum = ap (λ (x : List Float). at x d) e ∙ r .new (omega (arith, h)) ∙ ap (columnStep b c d n) (ih .sum) ∙ sym k;

@@ -75,7 +75,8 @@ module _ (y : List Float) (n : ℕ) (c : AllCalm y n) where
         somewhere = λ i h. (stripPlace y n i, (place-below y n i h, order-at y n c o room i h));
         once = λ p q hp hq e. sym (order-names y n c o room p hp .1) ∙ ap (stripPlace y n) e ∙ order-names y n c o room q hq .1;
         never-falls = λ p q l h. before-not-above y (num w p) (num w q) (order-rises y n c o room p q l h);
-        by-number = λ p q l h e. before-equal y (num w p) (num w q) (finite-at y n c (num w p) (order-names y n c o room p (omega arith) .0)) (finite-at y n c (num w q) (order-names y n c o room q h .0)) (order-rises y n c o room p q l h) e;
+        by-number = λ p q l h e. before-equal y (num w p) (num w q) (finite-at y n c (num w p) (order-names y n c o room p (omega arith) .0))
+            (finite-at y n c (num w q) (order-names y n c o room q h .0)) (order-rises y n c o room p q l h) e;
       }
 
   module _ (o : List ℕ) (r : ByRule y n o) where
@@ -109,4 +110,5 @@ module _ (y : List Float) (n : ℕ) (c : AllCalm y n) where
   one-order o o' r r' =
       let l = length-take-le n o (r .long) in
       ext-getD 0 (take n o) (take n o') (l ∙ sym (length-take-le n o' (r' .long)))
-      (λ q h. getD-take n o q 0 (omega (arith, l)) ∙ order-is o r o' (r' .long) q (omega (arith, l)) ∙ sym (order-is o' r' o' (r' .long) q (omega (arith, l))) ∙ sym (getD-take n o' q 0 (omega (arith, l))))
+      (λ q h. getD-take n o q 0 (omega (arith, l)) ∙ order-is o r o' (r' .long) q (omega (arith, l)) ∙ sym (order-is o' r' o' (r' .long) q (omega (arith, l))) ∙
+      sym (getD-take n o' q 0 (omega (arith, l))))

@@ -103,9 +103,20 @@ not-done a k = by-bool (isDone a ≡ false) (isDone a) (λ t. absurd (k (framesI
 module _ (f : Fault) (w : List ℕ) (y : List Float) (o g : List ℕ) (n : ℕ) where
   through : handTested f w y o g .answer ≡ Done n → Through f w y o g
   unfolding handTested
-  through e = by-bool (Through f w y o g) (isFine f) (λ a. by-bool (Through f w y o g) (inProfile (settingsOf w)) (λ b. by-bool (Through f w y o g) (isEnded (standingOf (num w 9))) (λ c. by-bool (Through f w y o g) (calmAlong y (num w 0)) (λ d. by-bool (Through f w y o g) (ltb (length o) (num w 0) || ltb (length g) (num w 0))
+  through e = by-bool (Through f w y o g) (isFine f) (λ a. by-bool (Through f w y o g) (inProfile (settingsOf w)) (λ b. by-bool (Through f w y o g)
+      (isEnded (standingOf (num w 9))) (λ c. by-bool (Through f w y o g) (calmAlong y (num w 0)) (λ d. by-bool (Through f w y o g)
+      (ltb (length o) (num w 0) || ltb (length g) (num w 0))
       (λ s. refuses refl (rw (a, b, c, d, s) at e))
-      (λ s. record { found-fine = a; profile = b; end = c; all-fine = d; order-room = ltb-false (length o) (num w 0) (or-left (ltb (length o) (num w 0)) (ltb (length g) (num w 0)) s); gaps-room = ltb-false (length g) (num w 0) (or-right (ltb (length o) (num w 0)) (ltb (length g) (num w 0)) s) }))
+      (λ s. record {
+        found-fine = a;
+        profile = b;
+        end = c;
+        all-fine = d;
+        order-room = ltb-false (length o) (num w 0)
+            (or-left (ltb (length o) (num w 0)) (ltb (length g) (num w 0)) s);
+        gaps-room = ltb-false (length g) (num w 0)
+            (or-right (ltb (length o) (num w 0)) (ltb (length g) (num w 0)) s);
+      }))
       (λ d. refuses refl (rw (a, b, c, d) at e)))
       (λ c. refuses refl (rw (a, b, c) at e)))
       (λ b. refuses refl (rw (a, b) at e)))
@@ -115,7 +126,8 @@ module _ (f : Fault) (w : List ℕ) (y : List Float) (o g : List ℕ) where
   -- refused, nothing is changed
   keeps : isDone (handTested f w y o g .answer) ≡ false → handTested f w y o g ≡ handing (handTested f w y o g .answer) o g
   unfolding handTested alongLine
-  keeps e = by-bool Kept (isFine f) (λ a. by-bool Kept (inProfile (settingsOf w)) (λ b. by-bool Kept (isEnded (standingOf (num w 9))) (λ c. by-bool Kept (calmAlong y (num w 0)) (λ d. by-bool Kept (ltb (length o) (num w 0) || ltb (length g) (num w 0))
+  keeps e = by-bool Kept (isFine f) (λ a. by-bool Kept (inProfile (settingsOf w)) (λ b. by-bool Kept (isEnded (standingOf (num w 9))) (λ c. by-bool Kept
+      (calmAlong y (num w 0)) (λ d. by-bool Kept (ltb (length o) (num w 0) || ltb (length g) (num w 0))
       (λ s. rw (a, b, c, d, s))
       (λ s. absurd (true≢false (rw (a, b, c, d, s) at e))))
       (λ d. rw (a, b, c, d)))
@@ -176,6 +188,8 @@ module _ (w : List ℕ) (m : Memory) (o g : List ℕ) where
   refused-keeps k = keeps (handFault w m) w (m .positions) o g (not-done (left .answer) k)
 
   -- every ended run in the profile is handed out: whoever prepared, read or thinned it
-  pub handed-where : isFine (handFault w m) ≡ true → inProfile (settingsOf w) ≡ true → isEnded (standingOf (num w 9)) ≡ true → calmAlong (m .positions) (num w 0) ≡ true → num w 0 ≤ length o → num w 0 ≤ length g → left .answer ≡ Done (num w 0)
+  pub handed-where : isFine (handFault w m) ≡ true → inProfile (settingsOf w) ≡ true → isEnded (standingOf (num w 9)) ≡ true →
+      calmAlong (m .positions) (num w 0) ≡ true → num w 0 ≤ length o → num w 0 ≤ length g → left .answer ≡ Done (num w 0)
   unfolding handedOut alongLine
-  handed-where a b c d h k = ap (λ (x : Handing). x .answer) (line-is (handFault w m) w (m .positions) o g (record { found-fine = a; profile = b; end = c; all-fine = d; order-room = h; gaps-room = k }))
+  handed-where a b c d h k = ap (λ (x : Handing). x .answer)
+      (line-is (handFault w m) w (m .positions) o g (record { found-fine = a; profile = b; end = c; all-fine = d; order-room = h; gaps-room = k }))

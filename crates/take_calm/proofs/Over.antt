@@ -12,7 +12,7 @@ use lib.Ieee.{Float, nan, binary64, ofInt, add, sub, div}
 use Rattle.laws.specs.Area.{at, num, zero64}
 use Rattle.laws.specs.Loops.{loop, every}
 use Rattle.laws.proofs.Loops.{loop-last, loop-same}
-use Rattle.laws.proofs.Every.{every-none, every-next, every-same, every-no}
+use Rattle.laws.proofs.Every.{every-none, every-step, every-same, every-no}
 use Rattle.laws.proofs.Joined.{those-none, those-yes, those-no, those-at}
 use Rattle.laws.proofs.Written.{written-at}
 use Rattle.elementary.specs.Limits.{calm}
@@ -29,21 +29,23 @@ sumOver v X = sumOf (λ i. v (num X i)) (length X)
 long : (X : List ℕ) (x : ℕ) → length (X ++ (x ∷ [])) ≡ length X + 1
 long X x = length-append X (x ∷ [])
 
-sum-over-more : (v : ℕ → Float) (X : List ℕ) (x : ℕ) → sumOver v (X ++ (x ∷ [])) ≡ add binary64 (sumOver v X) (v x)
-sum-over-more v X x =
+sum-over-next : (v : ℕ → Float) (X : List ℕ) (x : ℕ) → sumOver v (X ++ (x ∷ [])) ≡ add binary64 (sumOver v X) (v x)
+sum-over-next v X x =
     let f = plusNext (λ i. v (num (X ++ (x ∷ [])) i)) in
     ap (λ (k : ℕ). loop f k 0 zero64) (long X x ∙ add-one (length X))
     ∙ loop-last f (length X) zero64
-    ∙ ap (λ (s : Float). add binary64 s (v (num (X ++ (x ∷ [])) (length X)))) (loop-same f (plusNext (λ i. v (num X i))) (length X) 0 zero64 (λ j s a b. ap (λ (k : ℕ). add binary64 s (v k)) (List·getD-append X (x ∷ []) 0 j (omega arith))))
+    ∙ ap (λ (s : Float). add binary64 s (v (num (X ++ (x ∷ [])) (length X))))
+    (loop-same f (plusNext (λ i. v (num X i))) (length X) 0 zero64 (λ j s a b. ap (λ (k : ℕ). add binary64 s (v k))
+    (List·getD-append X (x ∷ []) 0 j (omega arith))))
     ∙ ap (λ (k : ℕ). add binary64 (sumOver v X) (v k)) (getD-append-seam X x [] 0)
 
 abbrev pub everyOver : (ℕ → Bool) → List ℕ → Bool
 everyOver q X = every (λ i. q (num X i)) (length X)
 
-every-over-more : (q : ℕ → Bool) (X : List ℕ) (x : ℕ) → everyOver q (X ++ (x ∷ [])) ≡ everyOver q X && q x
-every-over-more q X x =
+every-over-next : (q : ℕ → Bool) (X : List ℕ) (x : ℕ) → everyOver q (X ++ (x ∷ [])) ≡ everyOver q X && q x
+every-over-next q X x =
     ap (every (λ i. q (num (X ++ (x ∷ [])) i))) (long X x)
-    ∙ every-next (λ i. q (num (X ++ (x ∷ [])) i)) (length X)
+    ∙ every-step (λ i. q (num (X ++ (x ∷ [])) i)) (length X)
     ∙ ap (λ (b : Bool). b && q (num (X ++ (x ∷ [])) (length X))) (every-same (λ i. q (num (X ++ (x ∷ [])) i)) (λ i. q (num X i)) (length X) (λ j a. ap q (List·getD-append X (x ∷ []) 0 j a)))
     ∙ ap (λ (k : ℕ). everyOver q X && q k) (getD-append-seam X x [] 0)
 
@@ -62,8 +64,12 @@ module _ {v : ℕ → Float} {g : List ℕ} {n : ℕ} where
     pub sums-left-pass : j < n → isAmong g j ≡ true → SumsLeft v g n (j + 1) s
     sums-left-pass h e = record { within = omega arith; same = r .same ∙ ap (sumOver v) (sym (those-no (λ j. not (isAmong g j)) j (ap not e))) }
 
-    pub sums-left-more : j < n → isAmong g j ≡ false → SumsLeft v g n (j + 1) (add binary64 s (v j))
-    sums-left-more h e = record { within = omega arith; same = ap (λ (x : Float). add binary64 x (v j)) (r .same) ∙ sym (ap (sumOver v) (those-yes (λ j. not (isAmong g j)) j (ap not e)) ∙ sum-over-more v (survivors g j) j) }
+    pub sums-left-next : j < n → isAmong g j ≡ false → SumsLeft v g n (j + 1) (add binary64 s (v j))
+    sums-left-next h e = record {
+      within = omega arith;
+      same = ap (λ (x : Float). add binary64 x (v j)) (r .same) ∙
+          sym (ap (sumOver v) (those-yes (λ j. not (isAmong g j)) j (ap not e)) ∙ sum-over-next v (survivors g j) j);
+    }
 
     pub sums-left-done : n ≤ j → s ≡ sumOver v (survivors g n)
     sums-left-done h = r .same ∙ ap (λ (k : ℕ). sumOver v (survivors g k)) (here (r .within) h)
@@ -85,8 +91,8 @@ module _ {q : ℕ → Bool} {g : List ℕ} {n : ℕ} where
     pub tests-left-pass : j < n → isAmong g j ≡ true → TestsLeft q g n (j + 1)
     tests-left-pass h e = record { within = omega arith; fine = ap (everyOver q) (those-no (λ j. not (isAmong g j)) j (ap not e)) ∙ r .fine }
 
-    pub tests-left-more : j < n → isAmong g j ≡ false → q j ≡ true → TestsLeft q g n (j + 1)
-    tests-left-more h e t = record { within = omega arith; fine = ap (everyOver q) (those-yes (λ j. not (isAmong g j)) j (ap not e)) ∙ every-over-more q (survivors g j) j ∙ rw (r .fine, t) }
+    pub tests-left-next : j < n → isAmong g j ≡ false → q j ≡ true → TestsLeft q g n (j + 1)
+    tests-left-next h e t = record { within = omega arith; fine = ap (everyOver q) (those-yes (λ j. not (isAmong g j)) j (ap not e)) ∙ every-over-next q (survivors g j) j ∙ rw (r .fine, t) }
 
     pub tests-left-no : j < n → isAmong g j ≡ false → q j ≡ false → everyOver q (survivors g n) ≡ false
     tests-left-no h e t =
@@ -102,8 +108,10 @@ module _ {q : ℕ → Bool} {g : List ℕ} {n : ℕ} where
 -- ---- means
 
 -- a frame's values less what stands for the means are the centred ones
-pub calm-row-same : (keep : List ℕ) (c : ℕ) (y means : List Float) → Means keep c y means → (j : ℕ) → every (λ d. calm (sub binary64 (at y (j * c + d)) (at means d))) c ≡ every (λ d. calm (centredLeft keep c y j d)) c
-calm-row-same keep c y means s j = every-same (λ d. calm (sub binary64 (at y (j * c + d)) (at means d))) (λ d. calm (centredLeft keep c y j d)) c (λ d h. ap (λ (x : Float). calm (sub binary64 (at y (j * c + d)) x)) (s .each-mean d h))
+pub calm-row-same : (keep : List ℕ) (c : ℕ) (y means : List Float) → Means keep c y means → (j : ℕ) →
+    every (λ d. calm (sub binary64 (at y (j * c + d)) (at means d))) c ≡ every (λ d. calm (centredLeft keep c y j d)) c
+calm-row-same keep c y means s j = every-same (λ d. calm (sub binary64 (at y (j * c + d)) (at means d))) (λ d. calm (centredLeft keep c y j d)) c (λ d h. ap
+    (λ (x : Float). calm (sub binary64 (at y (j * c + d)) x)) (s .each-mean d h))
 
 -- written to an array of eight, they are the means
 pub means-written : (keep : List ℕ) (c : ℕ) (y l means : List Float) → length l ≡ 8 → c ≤ 8 → means ≡ loop (meanAt keep c y) c 0 l → Means keep c y means

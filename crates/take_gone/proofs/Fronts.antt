@@ -18,8 +18,8 @@ module _ {A : Type 0} where
   fronts-start l₀ = record { long = refl; size = refl; same = refl }
 
   -- one more is written
-  pub fronts-more : {l₀ X l : List A} {q : ℕ} (v : A) → q < length l₀ → Fronts l₀ X q l → Fronts l₀ (X ++ (v ∷ [])) (q + 1) (set l q v)
-  fronts-more {l₀} {X} {l} {q} v h f = record {
+  pub fronts-next : {l₀ X l : List A} {q : ℕ} (v : A) → q < length l₀ → Fronts l₀ X q l → Fronts l₀ (X ++ (v ∷ [])) (q + 1) (set l q v)
+  fronts-next {l₀} {X} {l} {q} v h f = record {
     long = length-append X (v ∷ []) ∙ ap (λ (x : ℕ). x + 1) (f .long);
     size = length-set l q v ∙ f .size;
     same =

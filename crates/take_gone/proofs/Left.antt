@@ -19,7 +19,7 @@ use Rattle.laws.proofs.Bools.{two, and-left, and-right}
 use Rattle.laws.proofs.Joined.{length-those, those-below, those-rise, those-yes, those-no, those-none, spot-yes, spot-no}
 use Rattle.laws.proofs.Sums.{row-sum, sum-same, sum-add, sum-const, sum-le, bit-le, bit-and-true}
 use Rattle.take_gone.specs.Gone.{standsAt, isAmong, goneFineAt, goneFine, survivors, Climbs}
-use Rattle.take_gone.proofs.Fronts.{Fronts, fronts-start, fronts-more, fronts-as}
+use Rattle.take_gone.proofs.Fronts.{Fronts, fronts-start, fronts-next, fronts-as}
 
 -- ---- what the test of the list says
 
@@ -31,7 +31,8 @@ module _ (g : List ℕ) (n : ℕ) (f : goneFine g n ≡ true) where
   next : (t : ℕ) → suc t < length g → num g t < num g (suc t)
   unfolding goneFineAt
   next t h =
-      let b : (eqb (suc t) 0 || ltb (num g (suc t - 1)) (num g (suc t))) ≡ true = and-left (eqb (suc t) 0 || ltb (num g (suc t - 1)) (num g (suc t))) (ltb (num g (suc t)) n) (every-at (goneFineAt g n) (length g) f (suc t) h) in
+      let b : (eqb (suc t) 0 || ltb (num g (suc t - 1)) (num g (suc t))) ≡ true = and-left (eqb (suc t) 0 || ltb (num g (suc t - 1)) (num g (suc t)))
+      (ltb (num g (suc t)) n) (every-at (goneFineAt g n) (length g) f (suc t) h) in
       subst (λ (x : ℕ). num g x < num g (suc t)) (minus t) (ltb-true (num g (suc t - 1)) (num g (suc t)) (rw (ne-eqb (suc t) 0 (λ e. omega arith)) at b))
     where
       minus : (t : ℕ) → suc t - 1 ≡ t
@@ -107,11 +108,15 @@ module _ {g : List ℕ} {n : ℕ} {old₀ : List ℕ} where
     pub surviving-pass : j < n → isAmong g j ≡ true → Surviving g n old₀ q (j + 1) old
     surviving-pass h e = record { within = omega arith; front = fronts-as (sym (those-no (λ j. not (isAmong g j)) j (ap not e))) (s .front) }
 
-    pub surviving-more : j < n → n ≤ length old₀ → isAmong g j ≡ false → Surviving g n old₀ (q + 1) (j + 1) (set old q j)
-    surviving-more h l e = record { within = omega arith; front = fronts-as (sym (those-yes (λ j. not (isAmong g j)) j (ap not e))) (fronts-more j (surviving-room h l) (s .front)) }
+    pub surviving-next : j < n → n ≤ length old₀ → isAmong g j ≡ false → Surviving g n old₀ (q + 1) (j + 1) (set old q j)
+    surviving-next h l e = record { within = omega arith; front = fronts-as (sym (those-yes (λ j. not (isAmong g j)) j (ap not e))) (fronts-next j (surviving-room h l) (s .front)) }
 
     pub surviving-done : n ≤ j → (q ≡ length (survivors g n)) × (old ≡ survivors g n ++ drop (length (survivors g n)) old₀)
-    surviving-done h = (sym (s .front .long) ∙ ap (λ (x : ℕ). length (survivors g x)) here, s .front .same ∙ ap (λ (x : ℕ). survivors g j ++ drop x old₀) (sym (s .front .long)) ∙ ap (λ (x : ℕ). survivors g x ++ drop (length (survivors g x)) old₀) here)
+    surviving-done h = (
+      sym (s .front .long) ∙ ap (λ (x : ℕ). length (survivors g x)) here,
+      s .front .same ∙
+          ap (λ (x : ℕ). survivors g j ++ drop x old₀) (sym (s .front .long)) ∙ ap (λ (x : ℕ). survivors g x ++ drop (length (survivors g x)) old₀) here,
+    )
       where
         here : j ≡ n
         here = omega (arith, s .within)

@@ -65,8 +65,8 @@ module _ {l : List ℕ} {g j : ℕ} (r : Abreast l g j) where
       same t g a b = omega arith
 
   -- where it is not, the index stays
-  pub abreast-more : isAmong l j ≡ false → Abreast l g (j + 1)
-  abreast-more e = record {
+  pub abreast-next : isAmong l j ≡ false → Abreast l g (j + 1)
+  abreast-next e = record {
     rises = r .rises;
     within = r .within;
     passed = λ t a. omega (arith, r .passed t a);

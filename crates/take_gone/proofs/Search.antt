@@ -13,7 +13,7 @@ use Rattle.laws.specs.Loops.{first, every}
 use Rattle.laws.specs.Area.{num}
 use Rattle.laws.specs.Sums.{sum, bit}
 use Rattle.laws.specs.Joined.{those}
-use Rattle.laws.proofs.Bisects.{Bisects, bisects-start, bisects-within, bisects-more, bisects-done}
+use Rattle.laws.proofs.Bisects.{Bisects, bisects-start, bisects-within, bisects-next, bisects-done}
 use Rattle.laws.proofs.First.{first-at, first-none, first-holds, first-le}
 use Rattle.laws.proofs.Every.{every-at}
 use Rattle.laws.proofs.Bools.{two, and-left, and-right, not-true-is}
@@ -45,8 +45,8 @@ module _ {l : List ℕ} {j k low left : ℕ} (c : Climbs l) (h : Halving l j k l
   pub halving-within : 1 < left → low + left / 2 < length l
   halving-within m = omega (arith, bisects-within rises (h .search) m)
 
-  pub halving-more : (r : ℕ) → 1 < left → r ≡ cond (leb (num l (low + left / 2)) j) (low + left / 2) low → Halving l j k r (left - left / 2)
-  halving-more r m e = record { whole = h .whole; search = bisects-more rises (h .search) r m e }
+  pub halving-next : (r : ℕ) → 1 < left → r ≡ cond (leb (num l (low + left / 2)) j) (low + left / 2) low → Halving l j k r (left - left / 2)
+  halving-next r m e = record { whole = h .whole; search = bisects-next rises (h .search) r m e }
 
   only-here : left ≤ 1 → (t : ℕ) → t < length l → num l t ≡ j → t ≡ low
   only-here m t a q = omega (arith, bisects-done rises (h .search) m t a (ap (num l) (zero-plus t) ∙ q))
@@ -56,7 +56,8 @@ module _ {l : List ℕ} {j k low left : ℕ} (c : Climbs l) (h : Halving l j k l
 
   -- one place is left: j stands there, or nowhere
   pub halving-found : left ≤ 1 → num l low ≡ j → low ≡ standsAt l j
-  halving-found m e = sym (first-at (λ t. eqb (num l t) j) (length l) low (omega (arith, halving-inside)) (eq-eqb (num l low) j e) (λ s a. ne-eqb (num l s) j (λ q. omega (arith, a, only-here m s (omega (arith, halving-inside)) q))))
+  halving-found m e = sym (first-at (λ t. eqb (num l t) j) (length l) low (omega (arith, halving-inside)) (eq-eqb (num l low) j e) (λ s a. ne-eqb (num l s) j
+      (λ q. omega (arith, a, only-here m s (omega (arith, halving-inside)) q))))
 
   pub halving-none : left ≤ 1 → (num l low ≡ j → ⊥) → k ≡ standsAt l j
   halving-none m n = h .whole ∙ sym (first-none (λ t. eqb (num l t) j) (length l) (λ t a. ne-eqb (num l t) j (λ q. n (ap (num l) (sym (only-here m t a q)) ∙ q))))

@@ -107,7 +107,8 @@ pub record Judging (r : Run) (g : List ℕ) (m : ℕ) (t : Settings) : Type 0 wh
   pub below : lt (r .settings .perplexity) (ofInt binary64 (pos (length (survivors g (r .settings .n))))) ≡ true
   pub settings : t ≡ thinned (r .settings) m
 
-pub judging : (r : Run) (g : List ℕ) (m k : ℕ) (t : Settings) → r .phase ≡ 0 → goneFine g (r .settings .n) ≡ true → m ≡ r .settings .n - length g → 2 ≤ m → t ≡ thinned (r .settings) m → k ≡ lateFault t → k ≡ 0 → Judging r g m t
+pub judging : (r : Run) (g : List ℕ) (m k : ℕ) (t : Settings) → r .phase ≡ 0 → goneFine g (r .settings .n) ≡ true → m ≡ r .settings .n - length g → 2 ≤ m →
+    t ≡ thinned (r .settings) m → k ≡ lateFault t → k ≡ 0 → Judging r g m t
 judging r g m k t p f e h q l z =
     let c : m ≡ length (survivors g (r .settings .n)) = e ∙ count-left g (r .settings .n) f .1 in
     record {
@@ -124,7 +125,8 @@ pub judging-room : {r : Run} {g : List ℕ} {m : ℕ} {t : Settings} {y : List F
 judging-room {r} {g} {m} {t} v j = record {
   samples-most = v .settings-good .n-most;
   thinned-as = j .settings ∙ ap (thinned (r .settings)) (j .count);
-  thinned-good = rw (j .settings ∙ ap (thinned (r .settings)) (j .count)) (thinned-fine (r .settings) (length (survivors g (r .settings .n))) (v .settings-good) (j .enough) (survivors-few g (r .settings .n)) (j .below));
+  thinned-good = rw (j .settings ∙ ap (thinned (r .settings)) (j .count))
+      (thinned-fine (r .settings) (length (survivors g (r .settings .n))) (v .settings-good) (j .enough) (survivors-few g (r .settings .n)) (j .below));
   gone-rises = gone-climbs g (r .settings .n) (j .listed-fine);
   counted-lie = v .lists-lie;
   counted-name = v .lists-name;
@@ -156,7 +158,8 @@ module _ (r : Run) (g : List ℕ) (y : List Float) (I O : List ℕ) where
         unfolding outlookOf
         judged-crowded e = rw (eq-eqb (r .phase) 0 p, f, le-ltb (length (survivors g (r .settings .n))) 2 m, b, e)
 
-        pub judged-left : (k : ℕ) → k ≡ length (survivors g (r .settings .n)) → crowded (r .settings) (survivors g (r .settings .n)) I O ≡ false → calmLeft (survivors g (r .settings .n)) (r .settings .c) y ≡ true → Left k ≡ outlookOf r g y I O
+        pub judged-left : (k : ℕ) → k ≡ length (survivors g (r .settings .n)) → crowded (r .settings) (survivors g (r .settings .n)) I O ≡ false →
+            calmLeft (survivors g (r .settings .n)) (r .settings .c) y ≡ true → Left k ≡ outlookOf r g y I O
         unfolding outlookOf
         judged-left k q e c = rw (eq-eqb (r .phase) 0 p, f, le-ltb (length (survivors g (r .settings .n))) 2 m, b, e, c) (ap Left q)
 
@@ -164,11 +167,16 @@ module _ (r : Run) (g : List ℕ) (y : List Float) (I O : List ℕ) where
         unfolding outlookOf
         judged-barred e c = rw (eq-eqb (r .phase) 0 p, f, le-ltb (length (survivors g (r .settings .n))) 2 m, b, e, c)
 
-pub told-crowded : {r : Run} {g : List ℕ} {m : ℕ} {t : Settings} (y : List Float) (I O : List ℕ) → Judging r g m t → crowded (r .settings) (survivors g (r .settings .n)) I O ≡ true → Crowded ≡ outlookOf r g y I O
+pub told-crowded : {r : Run} {g : List ℕ} {m : ℕ} {t : Settings} (y : List Float) (I O : List ℕ) → Judging r g m t →
+    crowded (r .settings) (survivors g (r .settings .n)) I O ≡ true → Crowded ≡ outlookOf r g y I O
 told-crowded {r} {g} y I O j e = judged-crowded r g y I O (j .between) (j .listed-fine) (j .enough) (j .below) e
 
-pub told-left : {r : Run} {g : List ℕ} {m : ℕ} {t : Settings} (y : List Float) (I O : List ℕ) → Judging r g m t → crowded (r .settings) (survivors g (r .settings .n)) I O ≡ false → calmLeft (survivors g (r .settings .n)) (r .settings .c) y ≡ true → Left m ≡ outlookOf r g y I O
+pub told-left : {r : Run} {g : List ℕ} {m : ℕ} {t : Settings} (y : List Float) (I O : List ℕ) → Judging r g m t →
+    crowded (r .settings) (survivors g (r .settings .n)) I O ≡ false → calmLeft (survivors g (r .settings .n)) (r .settings .c) y ≡ true →
+    Left m ≡ outlookOf r g y I O
 told-left {r} {g} {m} y I O j e c = judged-left r g y I O (j .between) (j .listed-fine) (j .enough) (j .below) m (j .count) e c
 
-pub told-barred : {r : Run} {g : List ℕ} {m : ℕ} {t : Settings} (y : List Float) (I O : List ℕ) → Judging r g m t → crowded (r .settings) (survivors g (r .settings .n)) I O ≡ false → calmLeft (survivors g (r .settings .n)) (r .settings .c) y ≡ false → Barred ≡ outlookOf r g y I O
+pub told-barred : {r : Run} {g : List ℕ} {m : ℕ} {t : Settings} (y : List Float) (I O : List ℕ) → Judging r g m t →
+    crowded (r .settings) (survivors g (r .settings .n)) I O ≡ false → calmLeft (survivors g (r .settings .n)) (r .settings .c) y ≡ false →
+    Barred ≡ outlookOf r g y I O
 told-barred {r} {g} y I O j e c = judged-barred r g y I O (j .between) (j .listed-fine) (j .enough) (j .below) e c

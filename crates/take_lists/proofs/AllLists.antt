@@ -7,16 +7,16 @@ use native.Mathlib.Nat.{le-antisymm, le-refl}
 use lib.ListN.{length, set, drop}
 use Rattle.laws.specs.Area.{num}
 use Rattle.laws.specs.Joined.{joined, each, written}
-use Rattle.laws.proofs.Joined.{joined-none, joined-more, length-map}
+use Rattle.laws.proofs.Joined.{joined-none, joined-next, length-map}
 use Rattle.take_gone.specs.Gone.{standsAt, Climbs}
-use Rattle.take_gone.proofs.Fronts.{Fronts, fronts-start, fronts-more, fronts-at, fronts-as}
+use Rattle.take_gone.proofs.Fronts.{Fronts, fronts-start, fronts-next, fronts-at, fronts-as}
 use Rattle.take_rows.specs.Rows.{shrunk, Staying}
 use Rattle.take_lists.specs.Packed.{keptLinks, indicesLeft, weightsLeft, linksBefore, linksLeft, packedIndices, packedWeights, packedOffsets, Listed}
 use Rattle.take_lists.specs.Steps.{keptFrom, indicesFrom, weightsFrom, closedWeights, closedIndices, closedOffsets}
 use Rattle.take_rows.specs.Rows.{clearedFrom}
 use Rattle.take_lists.proofs.Fronting.{fronts-join, front-shrunk}
 use Rattle.take_lists.proofs.OneList.{kept-same, indices-same, weights-same}
-use Rattle.take_lists.proofs.Bounds.{kept-from, lists-rise, before-none, before-more, before-low, before-all, packed-indices-size, packed-weights-size, packed-offsets-size}
+use Rattle.take_lists.proofs.Bounds.{kept-from, lists-rise, before-none, before-next, before-low, before-all, packed-indices-size, packed-weights-size, packed-offsets-size}
 
 pub record Closes (keep W₀ I₀ O₀ : List ℕ) (i q : ℕ) (W I O : List ℕ) : Type 0 where
   pub within : i ≤ length keep
@@ -107,28 +107,28 @@ module _ {keep W₀ I₀ O₀ : List ℕ} {n : ℕ} (climbs : Climbs keep) (kept
             ∙ sym (kept-from keep I₀ O₀ (num keep i))
 
         -- a list more
-        pub closes-more : {q' : ℕ} {W' I' : List ℕ}
+        pub closes-next : {q' : ℕ} {W' I' : List ℕ}
             → q' ≡ q + length (keptFrom keep I a (b - a))
             → W' ≡ written (weightsFrom keep W I a (b - a)) q W
             → I' ≡ written (indicesFrom keep I a (b - a)) q I
             → length W' ≡ length W
             → length I' ≡ length I
             → Closes keep W₀ I₀ O₀ (i + 1) q' W' I' (set O i q)
-        closes-more {q'} {W'} {I'} e w x sw sx =
+        closes-next {q'} {W'} {I'} e w x sw sx =
             let c : q' ≡ q + length (keptLinks keep I₀ O₀ (num keep i)) = e ∙ ap (λ (y : List ℕ). q + length y) kept-given in
             let ew : q + length (weightsLeft keep W₀ I₀ O₀ (num keep i)) ≡ q' = ap (λ (y : ℕ). q + y) (length-map (λ t. num W₀ (a₀ + t)) (keptLinks keep I₀ O₀ (num keep i))) ∙ sym c in
             let ex : q + length (indicesLeft keep I₀ O₀ (num keep i)) ≡ q' = ap (λ (y : ℕ). q + y) (length-map (λ t. standsAt keep (num I₀ (a₀ + t))) (keptLinks keep I₀ O₀ (num keep i))) ∙ sym c in
             record {
               within = omega arith;
-              count = omega (arith, c, r .count, before-more keep I₀ O₀ i);
-              weights = fronts-as (sym (joined-more (λ h. weightsLeft keep W₀ I₀ O₀ (num keep h)) i))
+              count = omega (arith, c, r .count, before-next keep I₀ O₀ i);
+              weights = fronts-as (sym (joined-next (λ h. weightsLeft keep W₀ I₀ O₀ (num keep h)) i))
                   (subst (λ (y : ℕ). Fronts W₀ (joined (λ h. weightsLeft keep W₀ I₀ O₀ (num keep h)) i ++ weightsLeft keep W₀ I₀ O₀ (num keep i)) y W') ew
                   (fronts-join (weightsLeft keep W₀ I₀ O₀ (num keep i)) (w ∙ ap (λ (y : List ℕ). written y q W) weights-given) sw (r .weights)));
-              indices = fronts-as (sym (joined-more (λ h. indicesLeft keep I₀ O₀ (num keep h)) i))
+              indices = fronts-as (sym (joined-next (λ h. indicesLeft keep I₀ O₀ (num keep h)) i))
                   (subst (λ (y : ℕ). Fronts I₀ (joined (λ h. indicesLeft keep I₀ O₀ (num keep h)) i ++ indicesLeft keep I₀ O₀ (num keep i)) y I') ex
                   (fronts-join (indicesLeft keep I₀ O₀ (num keep i)) (x ∙ ap (λ (y : List ℕ). written y q I) indices-given) sx (r .indices)));
-              offsets = fronts-as (ap (λ (y : ℕ). each (linksBefore keep I₀ O₀) i ++ (y ∷ [])) (r .count) ∙ sym (joined-more (λ h. linksBefore keep I₀ O₀ h ∷ []) i))
-                  (fronts-more q (omega (arith, closes-offset .0, r .offsets .size)) (r .offsets));
+              offsets = fronts-as (ap (λ (y : ℕ). each (linksBefore keep I₀ O₀) i ++ (y ∷ [])) (r .count) ∙ sym (joined-next (λ h. linksBefore keep I₀ O₀ h ∷ []) i))
+                  (fronts-next q (omega (arith, closes-offset .0, r .offsets .size)) (r .offsets));
             }
 
     -- all lists, and the end of the last one
@@ -143,9 +143,9 @@ module _ {keep W₀ I₀ O₀ : List ℕ} {n : ℕ} (climbs : Climbs keep) (kept
           c,
           r .weights .same ∙ ap (λ (x : ℕ). joined (λ h. weightsLeft keep W₀ I₀ O₀ (num keep h)) x ++ drop q W₀) s ∙ ap (λ (x : ℕ). packedWeights keep W₀ I₀ O₀ ++ drop x W₀) c,
           r .indices .same ∙ ap (λ (x : ℕ). joined (λ h. indicesLeft keep I₀ O₀ (num keep h)) x ++ drop q I₀) s ∙ ap (λ (x : ℕ). packedIndices keep I₀ O₀ ++ drop x I₀) c,
-          fronts-more q (omega (arith, closes-offset .0, r .offsets .size)) (r .offsets) .same
+          fronts-next q (omega (arith, closes-offset .0, r .offsets .size)) (r .offsets) .same
               ∙ ap (λ (y : ℕ). each (linksBefore keep I₀ O₀) i ++ (y ∷ []) ++ drop (i + 1) O₀) (r .count)
-              ∙ ap (λ (y : List ℕ). y ++ drop (i + 1) O₀) (sym (joined-more (λ h. linksBefore keep I₀ O₀ h ∷ []) i))
+              ∙ ap (λ (y : List ℕ). y ++ drop (i + 1) O₀) (sym (joined-next (λ h. linksBefore keep I₀ O₀ h ∷ []) i))
               ∙ ap (λ (x : ℕ). each (linksBefore keep I₀ O₀) (x + 1) ++ drop (x + 1) O₀) s,
         )
 

@@ -11,7 +11,7 @@ use lib.ListN.{length}
 use Rattle.laws.specs.Sums.{bit}
 use Rattle.laws.specs.Area.{num}
 use Rattle.laws.specs.Joined.{those, joined}
-use Rattle.laws.proofs.Sums.{sum-none, sum-more, sum-same, sum-le, sum-const, bit-le}
+use Rattle.laws.proofs.Sums.{sum-none, sum-next, sum-same, sum-le, sum-const, bit-le}
 use Rattle.laws.proofs.Joined.{length-those, length-joined, length-map}
 use Rattle.laws.proofs.Laid.{singles-size}
 use Rattle.take_gone.specs.Gone.{standsAt, isAmong, Climbs}
@@ -52,8 +52,8 @@ packed-offsets-size keep I O = singles-size (linksBefore keep I O) (length keep 
 pub before-none : (keep I O : List ℕ) → linksBefore keep I O 0 ≡ 0
 before-none keep I O = sum-none (λ h. length (keptLinks keep I O (num keep h)))
 
-pub before-more : (keep I O : List ℕ) (i : ℕ) → linksBefore keep I O (i + 1) ≡ linksBefore keep I O i + length (keptLinks keep I O (num keep i))
-before-more keep I O i = sum-more (λ h. length (keptLinks keep I O (num keep h))) i
+pub before-next : (keep I O : List ℕ) (i : ℕ) → linksBefore keep I O (i + 1) ≡ linksBefore keep I O i + length (keptLinks keep I O (num keep i))
+before-next keep I O i = sum-next (λ h. length (keptLinks keep I O (num keep h))) i
 
 module _ {n w x : ℕ} {O : List ℕ} (lists : Listed n w x O) where
   -- the lists lie one after the other
@@ -75,17 +75,17 @@ module _ {n w x : ℕ} {O : List ℕ} (lists : Listed n w x O) where
         omega (
           arith,
           ap (linksBefore keep I O) (add-one i),
-          before-more keep I O i,
+          before-next keep I O i,
           before-low i (omega arith),
           kept-few keep I O (num keep i),
           lists .offsets-rise (num keep i) (kept .below i (omega arith)),
           lists-rise (num keep i + 1) (num keep (suc i)) (omega (arith, climbs .climb i (suc i) (omega arith) l)) (omega (arith, kept .below (suc i) l)),
         )
 
-    pub before-next : (i : ℕ) → i < length keep → linksBefore keep I O (i + 1) ≤ num O (num keep i + 1)
-    before-next i l = omega (arith, before-more keep I O i, before-low i l, kept-few keep I O (num keep i), lists .offsets-rise (num keep i) (kept .below i l))
+    pub before-below : (i : ℕ) → i < length keep → linksBefore keep I O (i + 1) ≤ num O (num keep i + 1)
+    before-below i l = omega (arith, before-next keep I O i, before-low i l, kept-few keep I O (num keep i), lists .offsets-rise (num keep i) (kept .below i l))
 
     -- no more links are left than there were
     pub before-all : (i : ℕ) → i ≤ length keep → linksBefore keep I O i ≤ num O n
     before-all zero h = omega (arith, before-none keep I O)
-    before-all (suc i) h = omega (arith, ap (linksBefore keep I O) (add-one i), before-next i (omega arith), lists-rise (num keep i + 1) n (omega (arith, kept .below i (omega arith))) (omega arith))
+    before-all (suc i) h = omega (arith, ap (linksBefore keep I O) (add-one i), before-below i (omega arith), lists-rise (num keep i + 1) n (omega (arith, kept .below i (omega arith))) (omega arith))

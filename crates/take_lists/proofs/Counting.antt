@@ -9,7 +9,7 @@ use lib.ListN.{length, length-append, List·getD-append}
 use lib.Seq.{getD-append-seam}
 use Rattle.laws.specs.Area.{num}
 use Rattle.laws.specs.Sums.{sum, bit}
-use Rattle.laws.proofs.Sums.{sum-none, sum-more, sum-same, sum-le, sum-const, bit-le}
+use Rattle.laws.proofs.Sums.{sum-none, sum-next, sum-same, sum-le, sum-const, bit-le}
 use Rattle.laws.proofs.Joined.{length-those, those-none, those-yes, those-no, those-below}
 use Rattle.take_gone.specs.Gone.{isAmong, survivors}
 use Rattle.take_gone.proofs.Left.{left-among}
@@ -33,15 +33,15 @@ module _ {g I : List ℕ} {a k : ℕ} where
 
   module _ {t c : ℕ} (l : t < k) (r : Sees g I a k t c) where
     next : (b : Bool) → b ≡ isAmong g (num I (a + t)) → namedLeft g I a (t + 1) ≡ c + bit (not b)
-    next b e = sum-more (λ t. bit (not (isAmong g (num I (a + t))))) t ∙ ap (λ (x : ℕ). x + bit (not (isAmong g (num I (a + t))))) (sym (r .same)) ∙ ap (λ (x : Bool). c + bit (not x)) (sym e)
+    next b e = sum-next (λ t. bit (not (isAmong g (num I (a + t))))) t ∙ ap (λ (x : ℕ). x + bit (not (isAmong g (num I (a + t))))) (sym (r .same)) ∙ ap (λ (x : Bool). c + bit (not x)) (sym e)
 
     pub sees-pass : true ≡ isAmong g (num I (a + t)) → Sees g I a k (t + 1) c
     unfolding bit
     sees-pass e = record { within = omega arith; most = omega (arith, r .most); same = omega (arith, next true e) }
 
-    pub sees-more : false ≡ isAmong g (num I (a + t)) → Sees g I a k (t + 1) (c + 1)
+    pub sees-next : false ≡ isAmong g (num I (a + t)) → Sees g I a k (t + 1) (c + 1)
     unfolding bit
-    sees-more e = record { within = omega arith; most = omega (arith, r .most); same = omega (arith, next false e) }
+    sees-next e = record { within = omega arith; most = omega (arith, r .most); same = omega (arith, next false e) }
 
   pub sees-done : {t c : ℕ} → k ≤ t → Sees g I a k t c → c ≡ namedLeft g I a k
   sees-done h r = r .same ∙ ap (namedLeft g I a) (le-antisymm (r .within) h)
@@ -51,10 +51,10 @@ module _ {g I : List ℕ} {a k : ℕ} where
 abbrev over : (ℕ → ℕ) → List ℕ → ℕ
 over f l = sum (λ h. f (num l h)) (length l)
 
-over-more : (f : ℕ → ℕ) (l : List ℕ) (x : ℕ) → over f (l ++ (x ∷ [])) ≡ over f l + f x
-over-more f l x =
+over-next : (f : ℕ → ℕ) (l : List ℕ) (x : ℕ) → over f (l ++ (x ∷ [])) ≡ over f l + f x
+over-next f l x =
     ap (sum (λ h. f (num (l ++ (x ∷ [])) h))) (length-append l (x ∷ []))
-    ∙ sum-more (λ h. f (num (l ++ (x ∷ [])) h)) (length l)
+    ∙ sum-next (λ h. f (num (l ++ (x ∷ [])) h)) (length l)
     ∙ ap (λ (y : ℕ). y + f (num (l ++ (x ∷ [])) (length l))) (sum-same (λ h. f (num (l ++ (x ∷ [])) h)) (λ h. f (num l h)) (length l) (λ h m. ap f (List·getD-append l (x ∷ []) 0 h m)))
     ∙ ap (λ (y : ℕ). over f l + f y) (getD-append-seam l x [] 0)
 
@@ -107,12 +107,12 @@ module _ {g I O : List ℕ} {n w x : ℕ} (lists : Listed n w x O) where
         pub tallies-room : c + v ≤ num O (j + 1)
         tallies-room = omega (arith, given, r .most, named-few g I (num O j) (num O (j + 1) - num O j), lists .offsets-rise j l)
 
-        pub tallies-more : false ≡ isAmong g j → Tallies g I O n (j + 1) (c + v)
-        tallies-more e = record {
+        pub tallies-next : false ≡ isAmong g j → Tallies g I O n (j + 1) (c + v)
+        tallies-next e = record {
           within = omega arith;
           same =
               ap (λ (y : ℕ). c + y) given ∙ ap (λ (y : ℕ). y + leftOf g I O j) (r .same)
-              ∙ sym (over-more (leftOf g I O) (survivors g j) j)
+              ∙ sym (over-next (leftOf g I O) (survivors g j) j)
               ∙ ap (over (leftOf g I O)) (sym (those-yes (λ j. not (isAmong g j)) j (ap not (sym e))));
           most = tallies-room;
         }

@@ -7,7 +7,7 @@ use lib.ListN.{length, set, take, drop, replicate, length-append, take-append-dr
 use lib.Seq.{length-take-le, take-at, drop-at}
 use Rattle.laws.specs.Joined.{written}
 use Rattle.laws.proofs.Changed.{drop-later}
-use Rattle.take_gone.proofs.Fronts.{Fronts, fronts-more, fronts-as}
+use Rattle.take_gone.proofs.Fronts.{Fronts, fronts-next, fronts-as}
 use Rattle.take_rows.specs.Rows.{shrunk}
 use Rattle.take_rows.specs.Rows.{clearedFrom}
 
@@ -28,8 +28,8 @@ module _ {A : Type 0} where
   pub appends-as : {l₀ w w' l : List A} {q e : ℕ} → w ≡ w' → Appends l₀ q w e l → Appends l₀ q w' e l
   appends-as {l₀} {w} {w'} {l} {q} s f = record { below = f .below; front = fronts-as (ap (λ (x : List A). take q l₀ ++ x) s) (f .front) }
 
-  pub appends-more : {l₀ w l : List A} {q e : ℕ} (v : A) → e < length l₀ → Appends l₀ q w e l → Appends l₀ q (w ++ (v ∷ [])) (e + 1) (set l e v)
-  appends-more {l₀} {w} {l} {q} {e} v h f = record { below = f .below; front = fronts-as (append-assoc (take q l₀) w (v ∷ [])) (fronts-more v h (f .front)) }
+  pub appends-next : {l₀ w l : List A} {q e : ℕ} (v : A) → e < length l₀ → Appends l₀ q w e l → Appends l₀ q (w ++ (v ∷ [])) (e + 1) (set l e v)
+  appends-next {l₀} {w} {l} {q} {e} v h f = record { below = f .below; front = fronts-as (append-assoc (take q l₀) w (v ∷ [])) (fronts-next v h (f .front)) }
 
   -- how far it goes
   pub appends-upto : {l₀ w l : List A} {q e : ℕ} → Appends l₀ q w e l → e ≡ q + length w
@@ -75,11 +75,11 @@ module _ {A : Type 0} where
         none : (a : ℕ) → 0 ≡ a - a
         none a = omega arith
 
-    pub blanks-more : {p : ℕ} {l : List A} → b ≤ length l₀ → p < b → Blanks z l₀ a b p l → Blanks z l₀ a b (p + 1) (set l p z)
-    blanks-more {p} {l} m h r = record {
+    pub blanks-next : {p : ℕ} {l : List A} → b ≤ length l₀ → p < b → Blanks z l₀ a b p l → Blanks z l₀ a b (p + 1) (set l p z)
+    blanks-next {p} {l} m h r = record {
       from = omega (arith, r .from);
       within = omega arith;
-      zeros = appends-as (replicate-append-replicate (p - a) 1 z ∙ ap (λ (x : ℕ). replicate x z) (one a p (r .from))) (appends-more z (omega arith) (r .zeros));
+      zeros = appends-as (replicate-append-replicate (p - a) 1 z ∙ ap (λ (x : ℕ). replicate x z) (one a p (r .from))) (appends-next z (omega arith) (r .zeros));
     }
       where
         one : (a p : ℕ) → a ≤ p → p - a + 1 ≡ p + 1 - a

@@ -13,7 +13,7 @@ use Rattle.laws.proofs.Joined.{those-none, those-yes, those-no, those-same, map
 use Rattle.take_gone.specs.Gone.{standsAt, isAmong}
 use Rattle.take_gone.proofs.Fronts.{fronts-at}
 use Rattle.take_lists.specs.Steps.{keptFrom, indicesFrom, weightsFrom}
-use Rattle.take_lists.proofs.Fronting.{Appends, appends-start, appends-as, appends-more, appends-upto, appends-done}
+use Rattle.take_lists.proofs.Fronting.{Appends, appends-start, appends-as, appends-next, appends-upto, appends-done}
 
 module _ {A : Type 0} (f : ℕ → A) (p : ℕ → Bool) where
   map-none : [] ≡ map f (those p 0)
@@ -65,18 +65,18 @@ module _ {keep W₀ I₀ : List ℕ} {a k q : ℕ} (low : q ≤ a) (wide : a + k
             indices = appends-as (map-no (λ t. standsAt keep (num I₀ (a + t))) (λ t. isAmong keep (num I₀ (a + t))) t no) (r .indices);
           }
 
-      pub sifts-more : x < length keep → Sifts keep W₀ I₀ a k q (t + 1) (e + 1) (set W e (num W (a + t))) (set I e x)
-      sifts-more h =
+      pub sifts-next : x < length keep → Sifts keep W₀ I₀ a k q (t + 1) (e + 1) (set W e (num W (a + t))) (set I e x)
+      sifts-next h =
           let yes : isAmong keep (num I₀ (a + t)) ≡ true = lt-ltb _ _ (subst (λ (y : ℕ). y < length keep) stands h) in
           record {
             within = omega arith;
             few = omega (arith, r .few);
             weights = appends-as
                 (ap (λ (v : ℕ). weightsFrom keep W₀ I₀ a t ++ (v ∷ [])) weight-same ∙ map-yes (λ t. num W₀ (a + t)) (λ t. isAmong keep (num I₀ (a + t))) t yes)
-                (appends-more (num W (a + t)) (omega (arith, r .few)) (r .weights));
+                (appends-next (num W (a + t)) (omega (arith, r .few)) (r .weights));
             indices = appends-as
                 (ap (λ (v : ℕ). indicesFrom keep I₀ a t ++ (v ∷ [])) stands ∙ map-yes (λ t. standsAt keep (num I₀ (a + t))) (λ t. isAmong keep (num I₀ (a + t))) t yes)
-                (appends-more x (omega (arith, r .few)) (r .indices));
+                (appends-next x (omega (arith, r .few)) (r .indices));
           }
 
   pub sifts-done : {t e : ℕ} {W I : List ℕ} → k ≤ t → Sifts keep W₀ I₀ a k q t e W I

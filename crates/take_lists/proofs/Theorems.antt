@@ -17,7 +17,7 @@ use Rattle.take_gone.specs.Gone.{standsAt, isAmong, Climbs}
 use Rattle.take_rows.specs.Rows.{shrunk, Staying}
 use Rattle.take_lists.specs.Packed.{keptLinks, indicesLeft, weightsLeft, linksBefore, linksLeft, packedIndices, packedWeights, packedOffsets, Listed}
 use Rattle.take_lists.specs.Steps.{keptFrom}
-use Rattle.take_lists.proofs.Bounds.{before-none, before-more, before-all, packed-indices-size, packed-weights-size, packed-offsets-size}
+use Rattle.take_lists.proofs.Bounds.{before-none, before-next, before-all, packed-indices-size, packed-weights-size, packed-offsets-size}
 
 -- where link t of packed list i stands, and where it stood
 abbrev pub newPlace : List ℕ → List ℕ → List ℕ → ℕ → ℕ → ℕ
@@ -57,7 +57,7 @@ module _ (keep I O : List ℕ) where
 
   -- list i has as many links as are left of the list of its frame
   pub packed-offsets-step : (i : ℕ) → i < length keep → num (packedOffsets keep I O) (i + 1) ≡ num (packedOffsets keep I O) i + length (keptLinks keep I O (num keep i))
-  packed-offsets-step i l = packed-offset-at (i + 1) (omega arith) ∙ before-more keep I O i ∙ ap (λ (x : ℕ). x + length (keptLinks keep I O (num keep i))) (sym (packed-offset-at i (omega arith)))
+  packed-offsets-step i l = packed-offset-at (i + 1) (omega arith) ∙ before-next keep I O i ∙ ap (λ (x : ℕ). x + length (keptLinks keep I O (num keep i))) (sym (packed-offset-at i (omega arith)))
 
   pub packed-offsets-rise : (i : ℕ) → i < length keep → num (packedOffsets keep I O) i ≤ num (packedOffsets keep I O) (i + 1)
   packed-offsets-rise i l = omega (arith, packed-offsets-step i l)

@@ -47,14 +47,23 @@ module _ {M : Type 1} (𝓤 : URA M) (H : Heap 𝓤) (A : Atoms 𝓤) (mem : Mem
   said-lent-positions : (s₀ : Settings) (p : ℕ) (t₀ : ℕ) (q₀ : ℕ) (res : ℕ) → ent 𝓤 (Said-lent-positions s₀ p t₀ q₀ res) (fact 𝓤 (res ≡ lentPositions s₀ p t₀ q₀))
   said-lent-positions s₀ p t₀ q₀ res = exE 𝓤 _ (λ ws. snd∗ 𝓤 (sem 𝓤 H A (lasts lent-positions′.ended tt (s₀, (p, (t₀, (q₀, tt)))) ws)) (fact 𝓤 (res ≡ lentPositions s₀ p t₀ q₀)))
 
-  goes-lent-positions : Given 𝓤 H A → (s₀ : Settings) (p : ℕ) (t₀ : ℕ) (q₀ : ℕ) → IsSettings s₀ → p < 2 ^ 64 → t₀ < 2 ^ 64 → q₀ < 2 ^ 64 → ent 𝓤 (emp 𝓤) (Contract-lent-positions .pre (to-lent-positions s₀ p t₀ q₀))
-  goes-lent-positions W s₀ p t₀ q₀ g-s₀ g-p g-t₀ g-q₀ = qed W [] ∵ nothing ! $ nothing ! $ owned ! usize (Is usize) (uint-makes 𝓤 H A W w64) q₀ _ (refl, g-q₀) $ fjoin ! $ owned ! usize (Is usize) (uint-makes 𝓤 H A W w64) t₀ _ (refl, g-t₀) $ fjoin ! $ owned ! usize (Is usize) (uint-makes 𝓤 H A W w64) p _ (refl, g-p) $ fjoin ! $ owned ! Settings′.the-row (Is Settings′.the-row) ((LL.makes Settings′.the-type Settings″.the-plain) 𝓤 H A) s₀ _ g-s₀ $ fjoin ! $ move ! (1 ∷ 0 ∷ []) $ join ! $ frame ! $ nothing ! $ done !
+  goes-lent-positions : Given 𝓤 H A → (s₀ : Settings) (p : ℕ) (t₀ : ℕ) (q₀ : ℕ) → IsSettings s₀ → p < 2 ^ 64 → t₀ < 2 ^ 64 → q₀ < 2 ^ 64 →
+      ent 𝓤 (emp 𝓤) (Contract-lent-positions .pre (to-lent-positions s₀ p t₀ q₀))
+  goes-lent-positions W s₀ p t₀ q₀ g-s₀ g-p g-t₀ g-q₀ = qed W [] ∵ nothing ! $ nothing ! $ owned ! usize (Is usize) (uint-makes 𝓤 H A W w64) q₀ _ (refl, g-q₀) $
+      fjoin ! $ owned ! usize (Is usize) (uint-makes 𝓤 H A W w64) t₀ _ (refl, g-t₀) $ fjoin ! $
+      owned ! usize (Is usize) (uint-makes 𝓤 H A W w64) p _ (refl, g-p) $ fjoin ! $
+      owned ! Settings′.the-row (Is Settings′.the-row) ((LL.makes Settings′.the-type Settings″.the-plain) 𝓤 H A) s₀ _ g-s₀ $ fjoin ! $ move ! (1 ∷ 0 ∷ []) $
+      join ! $ frame ! $ nothing ! $ done !
 
-module _ {M : Type 1} {𝓤 : URA M} {H : Heap 𝓤} {A : Atoms 𝓤} {K : Type 0} {W : Given 𝓤 H A} {Γ : List (Item 𝓤)} {E : Env 𝓤 H} {C : Calls 𝓤 H} {Λ : Loops 𝓤 H} {xs : List Operand} {q : After 𝓤 H} {d : Place} {rest : Code} where
-  pub calls-lent-positions : K → FmC 𝓤 H (W .laws) C → (mem : Memory → SProp 𝓤) (run : Routine → Fun 𝓤) → Triple 𝓤 (C #take-out·lent-positions) (Contract-lent-positions 𝓤 H A mem run) → (s₀ : Settings) (p : ℕ) (t₀ : ℕ) (q₀ : ℕ) → IsSettings s₀ → p < 2 ^ 64 → t₀ < 2 ^ 64 → q₀ < 2 ^ 64
+module _ {M : Type 1} {𝓤 : URA M} {H : Heap 𝓤} {A : Atoms 𝓤} {K : Type 0} {W : Given 𝓤 H A} {Γ : List (Item 𝓤)} {E : Env 𝓤 H} {C : Calls 𝓤 H} {Λ : Loops 𝓤 H}
+    {xs : List Operand} {q : After 𝓤 H} {d : Place} {rest : Code} where
+  pub calls-lent-positions : K → FmC 𝓤 H (W .laws) C → (mem : Memory → SProp 𝓤) (run : Routine → Fun 𝓤) →
+      Triple 𝓤 (C #take-out·lent-positions) (Contract-lent-positions 𝓤 H A mem run) → (s₀ : Settings) (p : ℕ) (t₀ : ℕ) (q₀ : ℕ) → IsSettings s₀ → p < 2 ^ 64 →
+      t₀ < 2 ^ 64 → q₀ < 2 ^ 64
       → ((P : Item 𝓤) → Opds K W (P ∷ Γ) E xs (val-Settings s₀ ∷ vint w64 p ∷ vint w64 t₀ ∷ vint w64 q₀ ∷ []))
       → ((res : ℕ) → res ≡ lentPositions s₀ p t₀ q₀ → Is usize res (vint w64 res ∷ []) → Seq K W Γ (lands C Λ E d (vint w64 res) rest q))
       → Seq K W Γ (runs C Λ E (seq (call #take-out·lent-positions xs d) rest) q)
   calls-lent-positions t fm mem run met s₀ p t₀ q₀ g-s₀ g-p g-t₀ g-q₀ os k =
-      calls-plain t fm (Contract-lent-positions 𝓤 H A mem run) met (to-lent-positions 𝓤 H A mem run s₀ p t₀ q₀) usize (vint w64) (uint-tells w64) (Said-lent-positions 𝓤 H A mem run s₀ p t₀ q₀) (λ (res : ℕ). res ≡ lentPositions s₀ p t₀ q₀) (said-lent-positions 𝓤 H A mem run s₀ p t₀ q₀)
+      calls-plain t fm (Contract-lent-positions 𝓤 H A mem run) met (to-lent-positions 𝓤 H A mem run s₀ p t₀ q₀) usize (vint w64) (uint-tells w64)
+      (Said-lent-positions 𝓤 H A mem run s₀ p t₀ q₀) (λ (res : ℕ). res ≡ lentPositions s₀ p t₀ q₀) (said-lent-positions 𝓤 H A mem run s₀ p t₀ q₀)
       (λ _. id⊢ 𝓤 _) (goes-lent-positions 𝓤 H A mem run W s₀ p t₀ q₀ g-s₀ g-p g-t₀ g-q₀) (os _) k

@@ -58,7 +58,8 @@ abbrev cut : ℕ → Holdings → Holdings
 cut p h = holdings (take p (h .positions)) (h .increments) (h .gains) (h .affinities) (h .indices) (h .offsets) (h .forces) (h .table) (h .old)
 
 -- what the entry tests ask of the areas, they ask of the state that these are
-pub words-told : (r : Run) (h : Holdings) (ns : List Node) → faultAt r (length (h .positions)) (length (h .increments)) (length (h .gains)) (length (h .affinities)) (length (h .forces)) (h .indices) (h .offsets) ns ≡ faultOf (stateHeld r h ns)
+pub words-told : (r : Run) (h : Holdings) (ns : List Node) → faultAt r (length (h .positions)) (length (h .increments)) (length (h .gains))
+    (length (h .affinities)) (length (h .forces)) (h .indices) (h .offsets) ns ≡ faultOf (stateHeld r h ns)
 unfolding faultOf
 words-told r h ns = rw (length-map bits (h .increments), length-map bits (h .gains), length-map bits (h .affinities))
 
@@ -86,13 +87,16 @@ good-listed s g t =
         one n = omega arith
 
 -- lists that are long enough as values are so as words
-pub words-listed : (r : Run) (h : Holdings) (ns : List Node) → Good (stateHeld r h ns) → isTree (r .settings .method) ≡ true → Listed (r .settings .n) (length (h .affinities)) (length (h .indices)) (h .offsets)
+pub words-listed : (r : Run) (h : Holdings) (ns : List Node) → Good (stateHeld r h ns) → isTree (r .settings .method) ≡ true →
+    Listed (r .settings .n) (length (h .affinities)) (length (h .indices)) (h .offsets)
 words-listed r h ns g b = subst (λ (x : ℕ). Listed (r .settings .n) x (length (h .indices)) (h .offsets)) (length-map bits (h .affinities)) (good-listed (stateHeld r h ns) g b)
 
 -- a record and areas that pass: everything that is packed lies within its area
 pub room-shown : (r : Run) (h : Holdings) (ns : List Node) → isFine (takeFault r h ns) ≡ true → TakeRoom r h
 unfolding takeFault
-room-shown r h ns e = go (fault-fine (stateHeld r (cut p h) ns) (ap isFine (sym (words-told r (cut p h) ns)) ∙ subst (λ (x : ℕ). isFine (faultAt r x (length (h .increments)) (length (h .gains)) (length (h .affinities)) (length (h .forces)) (h .indices) (h .offsets) ns) ≡ true) (sym cut-long) e))
+room-shown r h ns e = go (fault-fine (stateHeld r (cut p h) ns) (ap isFine (sym (words-told r (cut p h) ns)) ∙
+    subst (λ (x : ℕ). isFine (faultAt r x (length (h .increments)) (length (h .gains)) (length (h .affinities)) (length (h .forces)) (h .indices)
+    (h .offsets) ns) ≡ true) (sym cut-long) e))
   where
     p : ℕ
     p = lentPositions (r .settings) (length (h .positions)) (length (h .table)) (length (h .old))
@@ -128,7 +132,14 @@ room-shown r h ns e = go (fault-fine (stateHeld r (cut p h) ns) (ap isFine (sym 
         frames n c a b = let k : 1 ≤ n = omega arith in let h : 1 * 1 ≤ n * c = mul-le-mul k b in omega (arith, h)
 
         lies : Good (stateHeld r (cut p h) ns) → isTree (r .settings .method) ≡ true → Listed (r .settings .n) (length (h .indices)) (length (h .indices)) (h .offsets)
-        lies g b = let k = words-listed r (cut p h) ns g b in record { offsets-long = k .offsets-long; offsets-rise = k .offsets-rise; offsets-begin = k .offsets-begin; weights-long = k .indices-long; indices-long = k .indices-long }
+        lies g b = let k = words-listed r (cut p h) ns g b in
+            record {
+              offsets-long = k .offsets-long;
+              offsets-rise = k .offsets-rise;
+              offsets-begin = k .offsets-begin;
+              weights-long = k .indices-long;
+              indices-long = k .indices-long;
+            }
 
 -- ---- with the machine's counts of the areas
 

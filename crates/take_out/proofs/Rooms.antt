@@ -57,7 +57,15 @@ module _ {s : Settings} {g : List ℕ} {h : Holdings} (r : PackRoom s g h) where
   front-survives old m e o = ap (take m) o ∙ take-at (survivors g (s .n)) (drop (length (survivors g (s .n))) (h .old)) m (sym e)
 
   pub pack-values-room : (keep : List ℕ) → keep ≡ survivors g (s .n) → ValuesRoom s g keep (length (h .positions)) (length (h .increments)) (length (h .gains)) (length (h .table))
-  pack-values-room keep e = record { values-good = r .pack-good; values-gone = r .pack-gone; values-keep = e; p-long = r .pack-positions; i-long = r .pack-increments; v-long = r .pack-gains; t-long = r .pack-table }
+  pack-values-room keep e = record {
+    values-good = r .pack-good;
+    values-gone = r .pack-gone;
+    values-keep = e;
+    p-long = r .pack-positions;
+    i-long = r .pack-increments;
+    v-long = r .pack-gains;
+    t-long = r .pack-table;
+  }
 
   pub pack-links-room : (keep : List ℕ) → keep ≡ survivors g (s .n) → LinksRoom s keep (length (h .affinities)) (length (h .indices)) (h .offsets)
   pack-links-room keep e = record {

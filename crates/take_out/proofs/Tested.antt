@@ -64,6 +64,7 @@ module _ (f : Fault) (r : Run) (g : List ℕ) (h : Holdings) where
     unfolding takeTested
     tested-told n = rw (e, sym w, n)
 
-    pub tested-done : isAccepted v ≡ true → (x : Run) (k : Holdings) → x ≡ thinnedRun r (r .settings .n - length g) → k ≡ packedAreas (r .settings) (survivors g (r .settings .n)) h → tookOut (Told v) x k ≡ takeTested f r g h
+    pub tested-done : isAccepted v ≡ true → (x : Run) (k : Holdings) → x ≡ thinnedRun r (r .settings .n - length g) →
+        k ≡ packedAreas (r .settings) (survivors g (r .settings .n)) h → tookOut (Told v) x k ≡ takeTested f r g h
     unfolding takeTested
     tested-done n x k a b = rw (e, sym w, n, a, b, tested-count r g h w n .1)

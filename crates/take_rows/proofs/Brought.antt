@@ -31,7 +31,8 @@ module _ {keep : List ℕ} {n : ℕ} (k : Staying keep n) {row : ℕ → List �
   row-brought w p h e = each-same (λ d. num l (x * w + d)) (λ d. num l₀ (num keep i * w + d)) w
       (λ d m. ap (λ (y : ℕ). num l (y * w + d)) e ∙ fronts-at (p .front) 0 (num keep i * w + d) (omega (arith, kept-no-lower k w i h)))
 
-  pub square-brought : Packs row (length keep) (length keep) l₀ i l → i < length keep → x ≡ num keep i → each (λ j. num l (x * n + num keep j)) (length keep) ≡ each (λ j. num l₀ (num keep i * n + num keep j)) (length keep)
+  pub square-brought : Packs row (length keep) (length keep) l₀ i l → i < length keep → x ≡ num keep i →
+      each (λ j. num l (x * n + num keep j)) (length keep) ≡ each (λ j. num l₀ (num keep i * n + num keep j)) (length keep)
   square-brought p h e = each-same (λ j. num l (x * n + num keep j)) (λ j. num l₀ (num keep i * n + num keep j)) (length keep)
       (λ j m. ap (λ (y : ℕ). num l (y * n + num keep j)) e ∙ fronts-at (p .front) 0 (num keep i * n + num keep j) (omega (arith, square-no-lower k i h)))
 

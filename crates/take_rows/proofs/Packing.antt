@@ -10,10 +10,10 @@ use lib.Seq.{take-at, drop-at, drop-drop, length-take-le}
 use Rattle.laws.specs.Area.{num}
 use Rattle.laws.specs.Joined.{joined, each}
 use Rattle.laws.proofs.Numbers.{row-in}
-use Rattle.laws.proofs.Joined.{joined-more, joined-none}
+use Rattle.laws.proofs.Joined.{joined-next, joined-none}
 use Rattle.laws.proofs.Changed.{drop-later}
 use Rattle.laws.proofs.Laid.{singles-size}
-use Rattle.take_gone.proofs.Fronts.{Fronts, fronts-more, fronts-at, fronts-as}
+use Rattle.take_gone.proofs.Fronts.{Fronts, fronts-next, fronts-at, fronts-as}
 use Rattle.take_rows.specs.Rows.{shrunk, Staying}
 
 module _ {A : Type 0} where
@@ -51,12 +51,12 @@ module _ {A : Type 0} where
         none = ap (λ (x : List A). take to l₀ ++ x) (joined-none (λ j. g j ∷ [])) ∙ append-nil (take to l₀)
 
     module _ {d : ℕ} {l : List A} (b : Brings g to w l₀ d l) where
-      pub brings-more : (v : A) → v ≡ g d → to + w ≤ length l₀ → d < w → Brings g to w l₀ (d + 1) (set l (to + d) v)
-      brings-more v e h m = record {
+      pub brings-next : (v : A) → v ≡ g d → to + w ≤ length l₀ → d < w → Brings g to w l₀ (d + 1) (set l (to + d) v)
+      brings-next v e h m = record {
         within = omega arith;
         front = rw (sym (add-assoc to d 1)) (fronts-as
-            (append-assoc (take to l₀) (each g d) (v ∷ []) ∙ ap (λ (x : A). take to l₀ ++ (each g d ++ (x ∷ []))) e ∙ ap (λ (x : List A). take to l₀ ++ x) (sym (joined-more (λ j. g j ∷ []) d)))
-            (fronts-more v (omega arith) (b .front)));
+            (append-assoc (take to l₀) (each g d) (v ∷ []) ∙ ap (λ (x : A). take to l₀ ++ (each g d ++ (x ∷ []))) e ∙ ap (λ (x : List A). take to l₀ ++ x) (sym (joined-next (λ j. g j ∷ []) d)))
+            (fronts-next v (omega arith) (b .front)));
       }
 
       -- what lies from place `to + d` on has not been touched
@@ -104,15 +104,15 @@ module _ {A : Type 0} where
       behind q h = drop-later l l₀ (i * w) q h (ap (drop (i * w)) (p .front .same) ∙ drop-at (joined row i) (drop (i * w) l₀) (i * w) (p .front .long))
 
       -- row i stood as R somewhere further on
-      pub packs-more : {l' R : List A} → i < m → R ≡ row i → length (row i) ≡ w → length l' ≡ length l → l' ≡ take (i * w) l ++ (R ++ drop (i * w + w) l) → Packs row w m l₀ (i + 1) l'
-      packs-more {l'} {R} h e s k u = record {
+      pub packs-next : {l' R : List A} → i < m → R ≡ row i → length (row i) ≡ w → length l' ≡ length l → l' ≡ take (i * w) l ++ (R ++ drop (i * w + w) l) → Packs row w m l₀ (i + 1) l'
+      packs-next {l'} {R} h e s k u = record {
         within = omega arith;
         front = record {
-          long = ap length (joined-more row i) ∙ length-append (joined row i) (row i) ∙ rw (p .front .long, s) (next i);
+          long = ap length (joined-next row i) ∙ length-append (joined row i) (row i) ∙ rw (p .front .long, s) (next i);
           size = k ∙ p .front .size;
           same =
               u ∙ rw (front-survives, e, behind (i * w + w) (omega arith)) (sym (append-assoc (joined row i) (row i) (drop (i * w + w) l₀)))
-              ∙ ap (λ (x : List A). x ++ drop (i * w + w) l₀) (sym (joined-more row i))
+              ∙ ap (λ (x : List A). x ++ drop (i * w + w) l₀) (sym (joined-next row i))
               ∙ ap (λ (x : ℕ). joined row (i + 1) ++ drop x l₀) (next i);
         };
       }

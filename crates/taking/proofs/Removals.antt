@@ -38,7 +38,8 @@ use Rattle.taking.proofs.Twice.{twice-as-once, CentredTwice, positions-
 
 -- ---- two removals
 
--- of a run with the record r and the areas h: first and second are two removals one after the other, g1 the list of the first; one is a removal of u. Values that are only moved are the same bit for bit
+-- of a run with the record r and the areas h: first and second are two removals one after the other, g1 the list of the first; one is a removal of u. Values
+-- that are only moved are the same bit for bit
 pub record OneRemoval (g1 u : List ℕ) (r : Run) (h : Holdings) (first second one : TookOut) : Type 0 where
   pub run : second .run ≡ one .run
   pub increments : second .areas .increments ≡ one .areas .increments
@@ -227,7 +228,8 @@ union-taken-or-barred g1 g2 u r h ns q2 q3 m1 m2 e f l a1 a2 =
 
 -- ---- the links
 
--- a removal of g from a run with the record r and the areas h has left x: the lists of the survivors stand at the front of the areas, one after the other, and their links are exactly the old ones between survivors, with the words of their weights
+-- a removal of g from a run with the record r and the areas h has left x: the lists of the survivors stand at the front of the areas, one after the other, and
+-- their links are exactly the old ones between survivors, with the words of their weights
 pub record LinksLeft (g : List ℕ) (r : Run) (h x : Holdings) : Type 0 where
   pub offsets : x .offsets ≡ shrunk 0 (r .settings .n + 1) (packedOffsets (survivors g (r .settings .n)) (h .indices) (h .offsets)) (h .offsets)
   pub indices : x .indices ≡ shrunk 0 (num (h .offsets) (r .settings .n)) (packedIndices (survivors g (r .settings .n)) (h .indices) (h .offsets)) (h .indices)

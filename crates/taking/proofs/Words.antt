@@ -39,7 +39,22 @@ module _ (w : List ℕ) (n u : ℕ) (h : 14 ≤ length w) where
   -- what they say with the words beside them
   said : runOf put ≡ record { settings = thinned (settingsOf w) n; standing = standingOf (num w 9); done = num w 10; phase = num w 11; units = u; used = num w 13 }
   unfolding runOf settingsOf thinned
-  said = rw (samples, total, other 1 (λ e. omega arith) (λ e. omega arith), other 2 (λ e. omega arith) (λ e. omega arith), other 3 (λ e. omega arith) (λ e. omega arith), other 4 (λ e. omega arith) (λ e. omega arith), other 5 (λ e. omega arith) (λ e. omega arith), other 6 (λ e. omega arith) (λ e. omega arith), other 7 (λ e. omega arith) (λ e. omega arith), other 8 (λ e. omega arith) (λ e. omega arith), other 9 (λ e. omega arith) (λ e. omega arith), other 10 (λ e. omega arith) (λ e. omega arith), other 11 (λ e. omega arith) (λ e. omega arith), other 13 (λ e. omega arith) (λ e. omega arith))
+  said = rw (
+    samples,
+    total,
+    other 1 (λ e. omega arith) (λ e. omega arith),
+    other 2 (λ e. omega arith) (λ e. omega arith),
+    other 3 (λ e. omega arith) (λ e. omega arith),
+    other 4 (λ e. omega arith) (λ e. omega arith),
+    other 5 (λ e. omega arith) (λ e. omega arith),
+    other 6 (λ e. omega arith) (λ e. omega arith),
+    other 7 (λ e. omega arith) (λ e. omega arith),
+    other 8 (λ e. omega arith) (λ e. omega arith),
+    other 9 (λ e. omega arith) (λ e. omega arith),
+    other 10 (λ e. omega arith) (λ e. omega arith),
+    other 11 (λ e. omega arith) (λ e. omega arith),
+    other 13 (λ e. omega arith) (λ e. omega arith),
+  )
 
 -- the words of the record that they were read from stay as they say
 size-same : (w : List ℕ) → 14 ≤ length w → runOf (sizePut (runOf w) w) ≡ runOf w

@@ -17,7 +17,9 @@ fewest-decimals : (n k : ℕ) → k ≤ 20 → Fewest 10 1 n k → k ≡ decimal
 unfolding decimals
 fewest-decimals n k h f =
     let e : k ≡ (k - 1) + 1 = omega (arith, f .0) in
-    e ∙ ap (λ (x : ℕ). x + 1) (sym (first-at (λ k. ltb n (10 ^ (k + 1))) 20 (k - 1) (omega (arith, f .0)) (lt-ltb n (10 ^ (k - 1 + 1)) (le-trans (f .1) (powers (omega arith)))) (λ s l. le-ltb n (10 ^ (s + 1)) (le-trans (powers (omega arith)) (f .2 (omega arith))))))
+    e ∙ ap (λ (x : ℕ). x + 1) (sym (first-at (λ k. ltb n (10 ^ (k + 1))) 20 (k - 1) (omega (arith, f .0))
+    (lt-ltb n (10 ^ (k - 1 + 1)) (le-trans (f .1) (powers (omega arith)))) (λ s l. le-ltb n (10 ^ (s + 1))
+    (le-trans (powers (omega arith)) (f .2 (omega arith))))))
   where
     powers : {i j : ℕ} → i ≤ j → 10 ^ i ≤ 10 ^ j
     powers m = pow-le-pow-right (omega arith) m

@@ -96,15 +96,23 @@ module _ {M : Type 1} (𝓤 : URA M) (H : Heap 𝓤) (A : Atoms 𝓤) (mem : Mem
   said-looking cells used n c res = exE 𝓤 _ (λ ws. snd∗ 𝓤 (sem 𝓤 H A (lasts looking′.ended tt (cells, (used, (n, (c, tt)))) ws)) (fact 𝓤 (res ≡ lookingOf cells used n c)))
 
   goes-looking : Given 𝓤 H A → (cells : ℕ) (used : ℕ) (n : ℕ) (c : ℕ) → cells < 2 ^ 64 → used < 2 ^ 64 → n < 2 ^ 64 → c < 2 ^ 64 → ent 𝓤 (emp 𝓤) (Contract-looking .pre (to-looking cells used n c))
-  goes-looking W cells used n c g-cells g-used g-n g-c = qed W [] ∵ nothing ! $ nothing ! $ owned ! usize (Is usize) (uint-makes 𝓤 H A W w64) c _ (refl, g-c) $ fjoin ! $ owned ! usize (Is usize) (uint-makes 𝓤 H A W w64) n _ (refl, g-n) $ fjoin ! $ owned ! usize (Is usize) (uint-makes 𝓤 H A W w64) used _ (refl, g-used) $ fjoin ! $ owned ! usize (Is usize) (uint-makes 𝓤 H A W w64) cells _ (refl, g-cells) $ fjoin ! $ move ! (1 ∷ 0 ∷ []) $ join ! $ frame ! $ nothing ! $ done !
+  goes-looking W cells used n c g-cells g-used g-n g-c = qed W [] ∵ nothing ! $ nothing ! $ owned ! usize (Is usize) (uint-makes 𝓤 H A W w64) c _ (refl, g-c) $
+      fjoin ! $ owned ! usize (Is usize) (uint-makes 𝓤 H A W w64) n _ (refl, g-n) $ fjoin ! $
+      owned ! usize (Is usize) (uint-makes 𝓤 H A W w64) used _ (refl, g-used) $ fjoin ! $
+      owned ! usize (Is usize) (uint-makes 𝓤 H A W w64) cells _ (refl, g-cells) $ fjoin ! $ move ! (1 ∷ 0 ∷ []) $ join ! $ frame ! $ nothing ! $ done !
 
-module _ {M : Type 1} {𝓤 : URA M} {H : Heap 𝓤} {A : Atoms 𝓤} {K : Type 0} {W : Given 𝓤 H A} {Γ : List (Item 𝓤)} {E : Env 𝓤 H} {C : Calls 𝓤 H} {Λ : Loops 𝓤 H} {xs : List Operand} {q : After 𝓤 H} {d : Place} {rest : Code} where
-  pub calls-looking : K → FmC 𝓤 H (W .laws) C → (mem : Memory → SProp 𝓤) (run : Routine → Fun 𝓤) → Triple 𝓤 (C #tree·wellformed·looking) (Contract-looking 𝓤 H A mem run) → (cells : ℕ) (used : ℕ) (n : ℕ) (c : ℕ) → cells < 2 ^ 64 → used < 2 ^ 64 → n < 2 ^ 64 → c < 2 ^ 64
+module _ {M : Type 1} {𝓤 : URA M} {H : Heap 𝓤} {A : Atoms 𝓤} {K : Type 0} {W : Given 𝓤 H A} {Γ : List (Item 𝓤)} {E : Env 𝓤 H} {C : Calls 𝓤 H} {Λ : Loops 𝓤 H}
+    {xs : List Operand} {q : After 𝓤 H} {d : Place} {rest : Code} where
+  pub calls-looking : K → FmC 𝓤 H (W .laws) C → (mem : Memory → SProp 𝓤) (run : Routine → Fun 𝓤) →
+      Triple 𝓤 (C #tree·wellformed·looking) (Contract-looking 𝓤 H A mem run) → (cells : ℕ) (used : ℕ) (n : ℕ) (c : ℕ) → cells < 2 ^ 64 → used < 2 ^ 64 →
+      n < 2 ^ 64 → c < 2 ^ 64
       → ((P : Item 𝓤) → Opds K W (P ∷ Γ) E xs (vint w64 cells ∷ vint w64 used ∷ vint w64 n ∷ vint w64 c ∷ []))
       → ((res : Look) → res ≡ lookingOf cells used n c → Is Look′.the-row res (val-Look res ∷ []) → Seq K W Γ (lands C Λ E d (val-Look res) rest q))
       → Seq K W Γ (runs C Λ E (seq (call #tree·wellformed·looking xs d) rest) q)
   calls-looking t fm mem run met cells used n c g-cells g-used g-n g-c os k =
-      calls-plain t fm (Contract-looking 𝓤 H A mem run) met (to-looking 𝓤 H A mem run cells used n c) Look′.the-row (val-Look) (LL.tells Look′.the-type Look″.the-laws) (Said-looking 𝓤 H A mem run cells used n c) (λ (res : Look). res ≡ lookingOf cells used n c) (said-looking 𝓤 H A mem run cells used n c)
+      calls-plain t fm (Contract-looking 𝓤 H A mem run) met (to-looking 𝓤 H A mem run cells used n c) Look′.the-row (val-Look)
+      (LL.tells Look′.the-type Look″.the-laws) (Said-looking 𝓤 H A mem run cells used n c) (λ (res : Look). res ≡ lookingOf cells used n c)
+      (said-looking 𝓤 H A mem run cells used n c)
       (λ _. id⊢ 𝓤 _) (goes-looking 𝓤 H A mem run W cells used n c g-cells g-used g-n g-c) (os _) k
 
 -- ---- `looks_on`
@@ -122,15 +130,18 @@ module _ {M : Type 1} (𝓤 : URA M) (H : Heap 𝓤) (A : Atoms 𝓤) (mem : Mem
   said-looks-on s₀ res = exE 𝓤 _ (λ ws. snd∗ 𝓤 (sem 𝓤 H A (lasts looks-on′.ended tt (s₀, tt) ws)) (fact 𝓤 (res ≡ looksOn s₀)))
 
   goes-looks-on : Given 𝓤 H A → (s₀ : Look) → IsLook s₀ → ent 𝓤 (emp 𝓤) (Contract-looks-on .pre (to-looks-on s₀))
-  goes-looks-on W s₀ g-s₀ = qed W [] ∵ nothing ! $ nothing ! $ owned ! Look′.the-row (Is Look′.the-row) ((LL.makes Look′.the-type Look″.the-plain) 𝓤 H A) s₀ _ g-s₀ $ fjoin ! $ move ! (1 ∷ 0 ∷ []) $ join ! $ frame ! $ nothing ! $ done !
+  goes-looks-on W s₀ g-s₀ = qed W [] ∵ nothing ! $ nothing ! $ owned ! Look′.the-row (Is Look′.the-row)
+      ((LL.makes Look′.the-type Look″.the-plain) 𝓤 H A) s₀ _ g-s₀ $ fjoin ! $ move ! (1 ∷ 0 ∷ []) $ join ! $ frame ! $ nothing ! $ done !
 
-module _ {M : Type 1} {𝓤 : URA M} {H : Heap 𝓤} {A : Atoms 𝓤} {K : Type 0} {W : Given 𝓤 H A} {Γ : List (Item 𝓤)} {E : Env 𝓤 H} {C : Calls 𝓤 H} {Λ : Loops 𝓤 H} {xs : List Operand} {q : After 𝓤 H} {d : Place} {rest : Code} where
+module _ {M : Type 1} {𝓤 : URA M} {H : Heap 𝓤} {A : Atoms 𝓤} {K : Type 0} {W : Given 𝓤 H A} {Γ : List (Item 𝓤)} {E : Env 𝓤 H} {C : Calls 𝓤 H} {Λ : Loops 𝓤 H}
+    {xs : List Operand} {q : After 𝓤 H} {d : Place} {rest : Code} where
   pub calls-looks-on : K → FmC 𝓤 H (W .laws) C → (mem : Memory → SProp 𝓤) (run : Routine → Fun 𝓤) → Triple 𝓤 (C #tree·wellformed·looks-on) (Contract-looks-on 𝓤 H A mem run) → (s₀ : Look) → IsLook s₀
       → ((P : Item 𝓤) → Opds K W (P ∷ Γ) E xs (val-Look s₀ ∷ []))
       → ((res : Bool) → res ≡ looksOn s₀ → Is bool res (vbool res ∷ []) → Seq K W Γ (lands C Λ E d (vbool res) rest q))
       → Seq K W Γ (runs C Λ E (seq (call #tree·wellformed·looks-on xs d) rest) q)
   calls-looks-on t fm mem run met s₀ g-s₀ os k =
-      calls-plain t fm (Contract-looks-on 𝓤 H A mem run) met (to-looks-on 𝓤 H A mem run s₀) bool (vbool) (bool-tells) (Said-looks-on 𝓤 H A mem run s₀) (λ (res : Bool). res ≡ looksOn s₀) (said-looks-on 𝓤 H A mem run s₀)
+      calls-plain t fm (Contract-looks-on 𝓤 H A mem run) met (to-looks-on 𝓤 H A mem run s₀) bool (vbool) (bool-tells) (Said-looks-on 𝓤 H A mem run s₀)
+      (λ (res : Bool). res ≡ looksOn s₀) (said-looks-on 𝓤 H A mem run s₀)
       (λ _. id⊢ 𝓤 _) (goes-looks-on 𝓤 H A mem run W s₀ g-s₀) (os _) k
 
 -- ---- `looked`
@@ -148,15 +159,21 @@ module _ {M : Type 1} (𝓤 : URA M) (H : Heap 𝓤) (A : Atoms 𝓤) (mem : Mem
   said-looked s₀ v₀ res = exE 𝓤 _ (λ ws. snd∗ 𝓤 (sem 𝓤 H A (lasts looked′.ended tt (s₀, (v₀, tt)) ws)) (fact 𝓤 (res ≡ lookedOf s₀ v₀)))
 
   goes-looked : Given 𝓤 H A → (s₀ : Look) (v₀ : Node) → IsLook s₀ → IsNode v₀ → (Axes (s₀ .c)) × (s₀ .i + 1 < 2 ^ 64) → ent 𝓤 (emp 𝓤) (Contract-looked .pre (to-looked s₀ v₀))
-  goes-looked W s₀ v₀ g-s₀ g-v₀ l = qed W [] ∵ says ! l $ nothing ! $ owned ! Node′.the-row (Is Node′.the-row) ((LL.makes Node′.the-type Node″.the-plain) 𝓤 H A) v₀ _ g-v₀ $ fjoin ! $ owned ! Look′.the-row (Is Look′.the-row) ((LL.makes Look′.the-type Look″.the-plain) 𝓤 H A) s₀ _ g-s₀ $ fjoin ! $ nothing ! $ frame ! $ done !
+  goes-looked W s₀ v₀ g-s₀ g-v₀ l = qed W [] ∵ says ! l $ nothing ! $
+      owned ! Node′.the-row (Is Node′.the-row) ((LL.makes Node′.the-type Node″.the-plain) 𝓤 H A) v₀ _ g-v₀ $ fjoin ! $
+      owned ! Look′.the-row (Is Look′.the-row) ((LL.makes Look′.the-type Look″.the-plain) 𝓤 H A) s₀ _ g-s₀ $ fjoin ! $ nothing ! $ frame ! $ done !
 
-module _ {M : Type 1} {𝓤 : URA M} {H : Heap 𝓤} {A : Atoms 𝓤} {K : Type 0} {W : Given 𝓤 H A} {Γ : List (Item 𝓤)} {E : Env 𝓤 H} {C : Calls 𝓤 H} {Λ : Loops 𝓤 H} {xs : List Operand} {q : After 𝓤 H} {d : Place} {rest : Code} where
-  pub calls-looked : K → FmC 𝓤 H (W .laws) C → (mem : Memory → SProp 𝓤) (run : Routine → Fun 𝓤) → Triple 𝓤 (C #tree·wellformed·looked) (Contract-looked 𝓤 H A mem run) → (s₀ : Look) (v₀ : Node) → IsLook s₀ → IsNode v₀ → (Axes (s₀ .c)) × (s₀ .i + 1 < 2 ^ 64)
+module _ {M : Type 1} {𝓤 : URA M} {H : Heap 𝓤} {A : Atoms 𝓤} {K : Type 0} {W : Given 𝓤 H A} {Γ : List (Item 𝓤)} {E : Env 𝓤 H} {C : Calls 𝓤 H} {Λ : Loops 𝓤 H}
+    {xs : List Operand} {q : After 𝓤 H} {d : Place} {rest : Code} where
+  pub calls-looked : K → FmC 𝓤 H (W .laws) C → (mem : Memory → SProp 𝓤) (run : Routine → Fun 𝓤) →
+      Triple 𝓤 (C #tree·wellformed·looked) (Contract-looked 𝓤 H A mem run) → (s₀ : Look) (v₀ : Node) → IsLook s₀ → IsNode v₀ → (Axes (s₀ .c)) ×
+      (s₀ .i + 1 < 2 ^ 64)
       → ((P : Item 𝓤) → Opds K W (P ∷ Γ) E xs (val-Look s₀ ∷ val-Node v₀ ∷ []))
       → ((res : Look) → res ≡ lookedOf s₀ v₀ → Is Look′.the-row res (val-Look res ∷ []) → Seq K W Γ (lands C Λ E d (val-Look res) rest q))
       → Seq K W Γ (runs C Λ E (seq (call #tree·wellformed·looked xs d) rest) q)
   calls-looked t fm mem run met s₀ v₀ g-s₀ g-v₀ l os k =
-      calls-plain t fm (Contract-looked 𝓤 H A mem run) met (to-looked 𝓤 H A mem run s₀ v₀) Look′.the-row (val-Look) (LL.tells Look′.the-type Look″.the-laws) (Said-looked 𝓤 H A mem run s₀ v₀) (λ (res : Look). res ≡ lookedOf s₀ v₀) (said-looked 𝓤 H A mem run s₀ v₀)
+      calls-plain t fm (Contract-looked 𝓤 H A mem run) met (to-looked 𝓤 H A mem run s₀ v₀) Look′.the-row (val-Look) (LL.tells Look′.the-type Look″.the-laws)
+      (Said-looked 𝓤 H A mem run s₀ v₀) (λ (res : Look). res ≡ lookedOf s₀ v₀) (said-looked 𝓤 H A mem run s₀ v₀)
       (λ _. id⊢ 𝓤 _) (goes-looked 𝓤 H A mem run W s₀ v₀ g-s₀ g-v₀ l) (os _) k
 
 -- ---- `probes_on`
@@ -174,15 +191,18 @@ module _ {M : Type 1} (𝓤 : URA M) (H : Heap 𝓤) (A : Atoms 𝓤) (mem : Mem
   said-probes-on s₀ res = exE 𝓤 _ (λ ws. snd∗ 𝓤 (sem 𝓤 H A (lasts probes-on′.ended tt (s₀, tt) ws)) (fact 𝓤 (res ≡ probesOn s₀)))
 
   goes-probes-on : Given 𝓤 H A → (s₀ : Probe) → IsProbe s₀ → ent 𝓤 (emp 𝓤) (Contract-probes-on .pre (to-probes-on s₀))
-  goes-probes-on W s₀ g-s₀ = qed W [] ∵ nothing ! $ nothing ! $ owned ! Probe′.the-row (Is Probe′.the-row) ((LL.makes Probe′.the-type Probe″.the-plain) 𝓤 H A) s₀ _ g-s₀ $ fjoin ! $ move ! (1 ∷ 0 ∷ []) $ join ! $ frame ! $ nothing ! $ done !
+  goes-probes-on W s₀ g-s₀ = qed W [] ∵ nothing ! $ nothing ! $ owned ! Probe′.the-row (Is Probe′.the-row)
+      ((LL.makes Probe′.the-type Probe″.the-plain) 𝓤 H A) s₀ _ g-s₀ $ fjoin ! $ move ! (1 ∷ 0 ∷ []) $ join ! $ frame ! $ nothing ! $ done !
 
-module _ {M : Type 1} {𝓤 : URA M} {H : Heap 𝓤} {A : Atoms 𝓤} {K : Type 0} {W : Given 𝓤 H A} {Γ : List (Item 𝓤)} {E : Env 𝓤 H} {C : Calls 𝓤 H} {Λ : Loops 𝓤 H} {xs : List Operand} {q : After 𝓤 H} {d : Place} {rest : Code} where
+module _ {M : Type 1} {𝓤 : URA M} {H : Heap 𝓤} {A : Atoms 𝓤} {K : Type 0} {W : Given 𝓤 H A} {Γ : List (Item 𝓤)} {E : Env 𝓤 H} {C : Calls 𝓤 H} {Λ : Loops 𝓤 H}
+    {xs : List Operand} {q : After 𝓤 H} {d : Place} {rest : Code} where
   pub calls-probes-on : K → FmC 𝓤 H (W .laws) C → (mem : Memory → SProp 𝓤) (run : Routine → Fun 𝓤) → Triple 𝓤 (C #tree·ways·probes-on) (Contract-probes-on 𝓤 H A mem run) → (s₀ : Probe) → IsProbe s₀
       → ((P : Item 𝓤) → Opds K W (P ∷ Γ) E xs (val-Probe s₀ ∷ []))
       → ((res : Bool) → res ≡ probesOn s₀ → Is bool res (vbool res ∷ []) → Seq K W Γ (lands C Λ E d (vbool res) rest q))
       → Seq K W Γ (runs C Λ E (seq (call #tree·ways·probes-on xs d) rest) q)
   calls-probes-on t fm mem run met s₀ g-s₀ os k =
-      calls-plain t fm (Contract-probes-on 𝓤 H A mem run) met (to-probes-on 𝓤 H A mem run s₀) bool (vbool) (bool-tells) (Said-probes-on 𝓤 H A mem run s₀) (λ (res : Bool). res ≡ probesOn s₀) (said-probes-on 𝓤 H A mem run s₀)
+      calls-plain t fm (Contract-probes-on 𝓤 H A mem run) met (to-probes-on 𝓤 H A mem run s₀) bool (vbool) (bool-tells) (Said-probes-on 𝓤 H A mem run s₀)
+      (λ (res : Bool). res ≡ probesOn s₀) (said-probes-on 𝓤 H A mem run s₀)
       (λ _. id⊢ 𝓤 _) (goes-probes-on 𝓤 H A mem run W s₀ g-s₀) (os _) k
 
 -- ---- `splits_on`
@@ -200,15 +220,18 @@ module _ {M : Type 1} (𝓤 : URA M) (H : Heap 𝓤) (A : Atoms 𝓤) (mem : Mem
   said-splits-on s₀ res = exE 𝓤 _ (λ ws. snd∗ 𝓤 (sem 𝓤 H A (lasts splits-on′.ended tt (s₀, tt) ws)) (fact 𝓤 (res ≡ splitsOn s₀)))
 
   goes-splits-on : Given 𝓤 H A → (s₀ : Split) → IsSplit s₀ → ent 𝓤 (emp 𝓤) (Contract-splits-on .pre (to-splits-on s₀))
-  goes-splits-on W s₀ g-s₀ = qed W [] ∵ nothing ! $ nothing ! $ owned ! Split′.the-row (Is Split′.the-row) ((LL.makes Split′.the-type Split″.the-plain) 𝓤 H A) s₀ _ g-s₀ $ fjoin ! $ move ! (1 ∷ 0 ∷ []) $ join ! $ frame ! $ nothing ! $ done !
+  goes-splits-on W s₀ g-s₀ = qed W [] ∵ nothing ! $ nothing ! $ owned ! Split′.the-row (Is Split′.the-row)
+      ((LL.makes Split′.the-type Split″.the-plain) 𝓤 H A) s₀ _ g-s₀ $ fjoin ! $ move ! (1 ∷ 0 ∷ []) $ join ! $ frame ! $ nothing ! $ done !
 
-module _ {M : Type 1} {𝓤 : URA M} {H : Heap 𝓤} {A : Atoms 𝓤} {K : Type 0} {W : Given 𝓤 H A} {Γ : List (Item 𝓤)} {E : Env 𝓤 H} {C : Calls 𝓤 H} {Λ : Loops 𝓤 H} {xs : List Operand} {q : After 𝓤 H} {d : Place} {rest : Code} where
+module _ {M : Type 1} {𝓤 : URA M} {H : Heap 𝓤} {A : Atoms 𝓤} {K : Type 0} {W : Given 𝓤 H A} {Γ : List (Item 𝓤)} {E : Env 𝓤 H} {C : Calls 𝓤 H} {Λ : Loops 𝓤 H}
+    {xs : List Operand} {q : After 𝓤 H} {d : Place} {rest : Code} where
   pub calls-splits-on : K → FmC 𝓤 H (W .laws) C → (mem : Memory → SProp 𝓤) (run : Routine → Fun 𝓤) → Triple 𝓤 (C #tree·ways·splits-on) (Contract-splits-on 𝓤 H A mem run) → (s₀ : Split) → IsSplit s₀
       → ((P : Item 𝓤) → Opds K W (P ∷ Γ) E xs (val-Split s₀ ∷ []))
       → ((res : Bool) → res ≡ splitsOn s₀ → Is bool res (vbool res ∷ []) → Seq K W Γ (lands C Λ E d (vbool res) rest q))
       → Seq K W Γ (runs C Λ E (seq (call #tree·ways·splits-on xs d) rest) q)
   calls-splits-on t fm mem run met s₀ g-s₀ os k =
-      calls-plain t fm (Contract-splits-on 𝓤 H A mem run) met (to-splits-on 𝓤 H A mem run s₀) bool (vbool) (bool-tells) (Said-splits-on 𝓤 H A mem run s₀) (λ (res : Bool). res ≡ splitsOn s₀) (said-splits-on 𝓤 H A mem run s₀)
+      calls-plain t fm (Contract-splits-on 𝓤 H A mem run) met (to-splits-on 𝓤 H A mem run s₀) bool (vbool) (bool-tells) (Said-splits-on 𝓤 H A mem run s₀)
+      (λ (res : Bool). res ≡ splitsOn s₀) (said-splits-on 𝓤 H A mem run s₀)
       (λ _. id⊢ 𝓤 _) (goes-splits-on 𝓤 H A mem run W s₀ g-s₀) (os _) k
 
 -- ---- `child_on`
@@ -226,15 +249,19 @@ module _ {M : Type 1} (𝓤 : URA M) (H : Heap 𝓤) (A : Atoms 𝓤) (mem : Mem
   said-child-on s₀ res = exE 𝓤 _ (λ ws. snd∗ 𝓤 (sem 𝓤 H A (lasts child-on′.ended tt (s₀, tt) ws)) (fact 𝓤 (res ≡ childOn s₀)))
 
   goes-child-on : Given 𝓤 H A → (s₀ : Split) → IsSplit s₀ → Axes (s₀ .c) → ent 𝓤 (emp 𝓤) (Contract-child-on .pre (to-child-on s₀))
-  goes-child-on W s₀ g-s₀ l = qed W [] ∵ says ! l $ nothing ! $ owned ! Split′.the-row (Is Split′.the-row) ((LL.makes Split′.the-type Split″.the-plain) 𝓤 H A) s₀ _ g-s₀ $ fjoin ! $ nothing ! $ frame ! $ done !
+  goes-child-on W s₀ g-s₀ l = qed W [] ∵ says ! l $ nothing ! $ owned ! Split′.the-row (Is Split′.the-row)
+      ((LL.makes Split′.the-type Split″.the-plain) 𝓤 H A) s₀ _ g-s₀ $ fjoin ! $ nothing ! $ frame ! $ done !
 
-module _ {M : Type 1} {𝓤 : URA M} {H : Heap 𝓤} {A : Atoms 𝓤} {K : Type 0} {W : Given 𝓤 H A} {Γ : List (Item 𝓤)} {E : Env 𝓤 H} {C : Calls 𝓤 H} {Λ : Loops 𝓤 H} {xs : List Operand} {q : After 𝓤 H} {d : Place} {rest : Code} where
-  pub calls-child-on : K → FmC 𝓤 H (W .laws) C → (mem : Memory → SProp 𝓤) (run : Routine → Fun 𝓤) → Triple 𝓤 (C #tree·ways·child-on) (Contract-child-on 𝓤 H A mem run) → (s₀ : Split) → IsSplit s₀ → Axes (s₀ .c)
+module _ {M : Type 1} {𝓤 : URA M} {H : Heap 𝓤} {A : Atoms 𝓤} {K : Type 0} {W : Given 𝓤 H A} {Γ : List (Item 𝓤)} {E : Env 𝓤 H} {C : Calls 𝓤 H} {Λ : Loops 𝓤 H}
+    {xs : List Operand} {q : After 𝓤 H} {d : Place} {rest : Code} where
+  pub calls-child-on : K → FmC 𝓤 H (W .laws) C → (mem : Memory → SProp 𝓤) (run : Routine → Fun 𝓤) →
+      Triple 𝓤 (C #tree·ways·child-on) (Contract-child-on 𝓤 H A mem run) → (s₀ : Split) → IsSplit s₀ → Axes (s₀ .c)
       → ((P : Item 𝓤) → Opds K W (P ∷ Γ) E xs (val-Split s₀ ∷ []))
       → ((res : Node) → res ≡ childOn s₀ → Is Node′.the-row res (val-Node res ∷ []) → Seq K W Γ (lands C Λ E d (val-Node res) rest q))
       → Seq K W Γ (runs C Λ E (seq (call #tree·ways·child-on xs d) rest) q)
   calls-child-on t fm mem run met s₀ g-s₀ l os k =
-      calls-plain t fm (Contract-child-on 𝓤 H A mem run) met (to-child-on 𝓤 H A mem run s₀) Node′.the-row (val-Node) (LL.tells Node′.the-type Node″.the-laws) (Said-child-on 𝓤 H A mem run s₀) (λ (res : Node). res ≡ childOn s₀) (said-child-on 𝓤 H A mem run s₀)
+      calls-plain t fm (Contract-child-on 𝓤 H A mem run) met (to-child-on 𝓤 H A mem run s₀) Node′.the-row (val-Node) (LL.tells Node′.the-type Node″.the-laws)
+      (Said-child-on 𝓤 H A mem run s₀) (λ (res : Node). res ≡ childOn s₀) (said-child-on 𝓤 H A mem run s₀)
       (λ _. id⊢ 𝓤 _) (goes-child-on 𝓤 H A mem run W s₀ g-s₀ l) (os _) k
 
 -- ---- `child_place`
@@ -252,15 +279,19 @@ module _ {M : Type 1} (𝓤 : URA M) (H : Heap 𝓤) (A : Atoms 𝓤) (mem : Mem
   said-child-place s₀ res = exE 𝓤 _ (λ ws. snd∗ 𝓤 (sem 𝓤 H A (lasts child-place′.ended tt (s₀, tt) ws)) (fact 𝓤 (res ≡ childPlace s₀)))
 
   goes-child-place : Given 𝓤 H A → (s₀ : Split) → IsSplit s₀ → childPlace s₀ < 2 ^ 64 → ent 𝓤 (emp 𝓤) (Contract-child-place .pre (to-child-place s₀))
-  goes-child-place W s₀ g-s₀ l = qed W [] ∵ says ! l $ nothing ! $ owned ! Split′.the-row (Is Split′.the-row) ((LL.makes Split′.the-type Split″.the-plain) 𝓤 H A) s₀ _ g-s₀ $ fjoin ! $ nothing ! $ frame ! $ done !
+  goes-child-place W s₀ g-s₀ l = qed W [] ∵ says ! l $ nothing ! $
+      owned ! Split′.the-row (Is Split′.the-row) ((LL.makes Split′.the-type Split″.the-plain) 𝓤 H A) s₀ _ g-s₀ $ fjoin ! $ nothing ! $ frame ! $ done !
 
-module _ {M : Type 1} {𝓤 : URA M} {H : Heap 𝓤} {A : Atoms 𝓤} {K : Type 0} {W : Given 𝓤 H A} {Γ : List (Item 𝓤)} {E : Env 𝓤 H} {C : Calls 𝓤 H} {Λ : Loops 𝓤 H} {xs : List Operand} {q : After 𝓤 H} {d : Place} {rest : Code} where
-  pub calls-child-place : K → FmC 𝓤 H (W .laws) C → (mem : Memory → SProp 𝓤) (run : Routine → Fun 𝓤) → Triple 𝓤 (C #tree·ways·child-place) (Contract-child-place 𝓤 H A mem run) → (s₀ : Split) → IsSplit s₀ → childPlace s₀ < 2 ^ 64
+module _ {M : Type 1} {𝓤 : URA M} {H : Heap 𝓤} {A : Atoms 𝓤} {K : Type 0} {W : Given 𝓤 H A} {Γ : List (Item 𝓤)} {E : Env 𝓤 H} {C : Calls 𝓤 H} {Λ : Loops 𝓤 H}
+    {xs : List Operand} {q : After 𝓤 H} {d : Place} {rest : Code} where
+  pub calls-child-place : K → FmC 𝓤 H (W .laws) C → (mem : Memory → SProp 𝓤) (run : Routine → Fun 𝓤) →
+      Triple 𝓤 (C #tree·ways·child-place) (Contract-child-place 𝓤 H A mem run) → (s₀ : Split) → IsSplit s₀ → childPlace s₀ < 2 ^ 64
       → ((P : Item 𝓤) → Opds K W (P ∷ Γ) E xs (val-Split s₀ ∷ []))
       → ((res : ℕ) → res ≡ childPlace s₀ → Is usize res (vint w64 res ∷ []) → Seq K W Γ (lands C Λ E d (vint w64 res) rest q))
       → Seq K W Γ (runs C Λ E (seq (call #tree·ways·child-place xs d) rest) q)
   calls-child-place t fm mem run met s₀ g-s₀ l os k =
-      calls-plain t fm (Contract-child-place 𝓤 H A mem run) met (to-child-place 𝓤 H A mem run s₀) usize (vint w64) (uint-tells w64) (Said-child-place 𝓤 H A mem run s₀) (λ (res : ℕ). res ≡ childPlace s₀) (said-child-place 𝓤 H A mem run s₀)
+      calls-plain t fm (Contract-child-place 𝓤 H A mem run) met (to-child-place 𝓤 H A mem run s₀) usize (vint w64) (uint-tells w64)
+      (Said-child-place 𝓤 H A mem run s₀) (λ (res : ℕ). res ≡ childPlace s₀) (said-child-place 𝓤 H A mem run s₀)
       (λ _. id⊢ 𝓤 _) (goes-child-place 𝓤 H A mem run W s₀ g-s₀ l) (os _) k
 
 -- ---- `made`
@@ -278,15 +309,19 @@ module _ {M : Type 1} (𝓤 : URA M) (H : Heap 𝓤) (A : Atoms 𝓤) (mem : Mem
   said-made s₀ res = exE 𝓤 _ (λ ws. snd∗ 𝓤 (sem 𝓤 H A (lasts made′.ended tt (s₀, tt) ws)) (fact 𝓤 (res ≡ madeOf s₀)))
 
   goes-made : Given 𝓤 H A → (s₀ : Split) → IsSplit s₀ → s₀ .made + 1 < 2 ^ 64 → ent 𝓤 (emp 𝓤) (Contract-made .pre (to-made s₀))
-  goes-made W s₀ g-s₀ l = qed W [] ∵ says ! l $ nothing ! $ owned ! Split′.the-row (Is Split′.the-row) ((LL.makes Split′.the-type Split″.the-plain) 𝓤 H A) s₀ _ g-s₀ $ fjoin ! $ nothing ! $ frame ! $ done !
+  goes-made W s₀ g-s₀ l = qed W [] ∵ says ! l $ nothing ! $ owned ! Split′.the-row (Is Split′.the-row)
+      ((LL.makes Split′.the-type Split″.the-plain) 𝓤 H A) s₀ _ g-s₀ $ fjoin ! $ nothing ! $ frame ! $ done !
 
-module _ {M : Type 1} {𝓤 : URA M} {H : Heap 𝓤} {A : Atoms 𝓤} {K : Type 0} {W : Given 𝓤 H A} {Γ : List (Item 𝓤)} {E : Env 𝓤 H} {C : Calls 𝓤 H} {Λ : Loops 𝓤 H} {xs : List Operand} {q : After 𝓤 H} {d : Place} {rest : Code} where
-  pub calls-made : K → FmC 𝓤 H (W .laws) C → (mem : Memory → SProp 𝓤) (run : Routine → Fun 𝓤) → Triple 𝓤 (C #tree·ways·made) (Contract-made 𝓤 H A mem run) → (s₀ : Split) → IsSplit s₀ → s₀ .made + 1 < 2 ^ 64
+module _ {M : Type 1} {𝓤 : URA M} {H : Heap 𝓤} {A : Atoms 𝓤} {K : Type 0} {W : Given 𝓤 H A} {Γ : List (Item 𝓤)} {E : Env 𝓤 H} {C : Calls 𝓤 H} {Λ : Loops 𝓤 H}
+    {xs : List Operand} {q : After 𝓤 H} {d : Place} {rest : Code} where
+  pub calls-made : K → FmC 𝓤 H (W .laws) C → (mem : Memory → SProp 𝓤) (run : Routine → Fun 𝓤) → Triple 𝓤 (C #tree·ways·made) (Contract-made 𝓤 H A mem run) →
+      (s₀ : Split) → IsSplit s₀ → s₀ .made + 1 < 2 ^ 64
       → ((P : Item 𝓤) → Opds K W (P ∷ Γ) E xs (val-Split s₀ ∷ []))
       → ((res : Split) → res ≡ madeOf s₀ → Is Split′.the-row res (val-Split res ∷ []) → Seq K W Γ (lands C Λ E d (val-Split res) rest q))
       → Seq K W Γ (runs C Λ E (seq (call #tree·ways·made xs d) rest) q)
   calls-made t fm mem run met s₀ g-s₀ l os k =
-      calls-plain t fm (Contract-made 𝓤 H A mem run) met (to-made 𝓤 H A mem run s₀) Split′.the-row (val-Split) (LL.tells Split′.the-type Split″.the-laws) (Said-made 𝓤 H A mem run s₀) (λ (res : Split). res ≡ madeOf s₀) (said-made 𝓤 H A mem run s₀)
+      calls-plain t fm (Contract-made 𝓤 H A mem run) met (to-made 𝓤 H A mem run s₀) Split′.the-row (val-Split) (LL.tells Split′.the-type Split″.the-laws)
+      (Said-made 𝓤 H A mem run s₀) (λ (res : Split). res ≡ madeOf s₀) (said-made 𝓤 H A mem run s₀)
       (λ _. id⊢ 𝓤 _) (goes-made 𝓤 H A mem run W s₀ g-s₀ l) (os _) k
 
 -- ---- `node_met`
@@ -304,15 +339,18 @@ module _ {M : Type 1} (𝓤 : URA M) (H : Heap 𝓤) (A : Atoms 𝓤) (mem : Mem
   said-node-met s₀ res = exE 𝓤 _ (λ ws. snd∗ 𝓤 (sem 𝓤 H A (lasts node-met′.ended tt (s₀, tt) ws)) (fact 𝓤 (res ≡ s₀ .out .node)))
 
   goes-node-met : Given 𝓤 H A → (s₀ : Split) → IsSplit s₀ → ent 𝓤 (emp 𝓤) (Contract-node-met .pre (to-node-met s₀))
-  goes-node-met W s₀ g-s₀ = qed W [] ∵ nothing ! $ nothing ! $ owned ! Split′.the-row (Is Split′.the-row) ((LL.makes Split′.the-type Split″.the-plain) 𝓤 H A) s₀ _ g-s₀ $ fjoin ! $ move ! (1 ∷ 0 ∷ []) $ join ! $ frame ! $ nothing ! $ done !
+  goes-node-met W s₀ g-s₀ = qed W [] ∵ nothing ! $ nothing ! $ owned ! Split′.the-row (Is Split′.the-row)
+      ((LL.makes Split′.the-type Split″.the-plain) 𝓤 H A) s₀ _ g-s₀ $ fjoin ! $ move ! (1 ∷ 0 ∷ []) $ join ! $ frame ! $ nothing ! $ done !
 
-module _ {M : Type 1} {𝓤 : URA M} {H : Heap 𝓤} {A : Atoms 𝓤} {K : Type 0} {W : Given 𝓤 H A} {Γ : List (Item 𝓤)} {E : Env 𝓤 H} {C : Calls 𝓤 H} {Λ : Loops 𝓤 H} {xs : List Operand} {q : After 𝓤 H} {d : Place} {rest : Code} where
+module _ {M : Type 1} {𝓤 : URA M} {H : Heap 𝓤} {A : Atoms 𝓤} {K : Type 0} {W : Given 𝓤 H A} {Γ : List (Item 𝓤)} {E : Env 𝓤 H} {C : Calls 𝓤 H} {Λ : Loops 𝓤 H}
+    {xs : List Operand} {q : After 𝓤 H} {d : Place} {rest : Code} where
   pub calls-node-met : K → FmC 𝓤 H (W .laws) C → (mem : Memory → SProp 𝓤) (run : Routine → Fun 𝓤) → Triple 𝓤 (C #tree·ways·node-met) (Contract-node-met 𝓤 H A mem run) → (s₀ : Split) → IsSplit s₀
       → ((P : Item 𝓤) → Opds K W (P ∷ Γ) E xs (val-Split s₀ ∷ []))
       → ((res : Node) → res ≡ s₀ .out .node → Is Node′.the-row res (val-Node res ∷ []) → Seq K W Γ (lands C Λ E d (val-Node res) rest q))
       → Seq K W Γ (runs C Λ E (seq (call #tree·ways·node-met xs d) rest) q)
   calls-node-met t fm mem run met s₀ g-s₀ os k =
-      calls-plain t fm (Contract-node-met 𝓤 H A mem run) met (to-node-met 𝓤 H A mem run s₀) Node′.the-row (val-Node) (LL.tells Node′.the-type Node″.the-laws) (Said-node-met 𝓤 H A mem run s₀) (λ (res : Node). res ≡ s₀ .out .node) (said-node-met 𝓤 H A mem run s₀)
+      calls-plain t fm (Contract-node-met 𝓤 H A mem run) met (to-node-met 𝓤 H A mem run s₀) Node′.the-row (val-Node) (LL.tells Node′.the-type Node″.the-laws)
+      (Said-node-met 𝓤 H A mem run s₀) (λ (res : Node). res ≡ s₀ .out .node) (said-node-met 𝓤 H A mem run s₀)
       (λ _. id⊢ 𝓤 _) (goes-node-met 𝓤 H A mem run W s₀ g-s₀) (os _) k
 
 -- ---- `stepped`
@@ -330,15 +368,20 @@ module _ {M : Type 1} (𝓤 : URA M) (H : Heap 𝓤) (A : Atoms 𝓤) (mem : Mem
   said-stepped w s₀ res = exE 𝓤 _ (λ ws. snd∗ 𝓤 (sem 𝓤 H A (lasts stepped′.ended tt (w, (s₀, tt)) ws)) (fact 𝓤 (res ≡ steppedOf w s₀)))
 
   goes-stepped : Given 𝓤 H A → (w : Way) (s₀ : Split) → IsWay w → IsSplit s₀ → w .used + s₀ .out .fresh < 2 ^ 64 → ent 𝓤 (emp 𝓤) (Contract-stepped .pre (to-stepped w s₀))
-  goes-stepped W w s₀ g-w g-s₀ l = qed W [] ∵ says ! l $ nothing ! $ owned ! Split′.the-row (Is Split′.the-row) ((LL.makes Split′.the-type Split″.the-plain) 𝓤 H A) s₀ _ g-s₀ $ fjoin ! $ owned ! Way′.the-row (Is Way′.the-row) ((LL.makes Way′.the-type Way″.the-plain) 𝓤 H A) w _ g-w $ fjoin ! $ nothing ! $ frame ! $ done !
+  goes-stepped W w s₀ g-w g-s₀ l = qed W [] ∵ says ! l $ nothing ! $
+      owned ! Split′.the-row (Is Split′.the-row) ((LL.makes Split′.the-type Split″.the-plain) 𝓤 H A) s₀ _ g-s₀ $ fjoin ! $
+      owned ! Way′.the-row (Is Way′.the-row) ((LL.makes Way′.the-type Way″.the-plain) 𝓤 H A) w _ g-w $ fjoin ! $ nothing ! $ frame ! $ done !
 
-module _ {M : Type 1} {𝓤 : URA M} {H : Heap 𝓤} {A : Atoms 𝓤} {K : Type 0} {W : Given 𝓤 H A} {Γ : List (Item 𝓤)} {E : Env 𝓤 H} {C : Calls 𝓤 H} {Λ : Loops 𝓤 H} {xs : List Operand} {q : After 𝓤 H} {d : Place} {rest : Code} where
-  pub calls-stepped : K → FmC 𝓤 H (W .laws) C → (mem : Memory → SProp 𝓤) (run : Routine → Fun 𝓤) → Triple 𝓤 (C #tree·ways·stepped) (Contract-stepped 𝓤 H A mem run) → (w : Way) (s₀ : Split) → IsWay w → IsSplit s₀ → w .used + s₀ .out .fresh < 2 ^ 64
+module _ {M : Type 1} {𝓤 : URA M} {H : Heap 𝓤} {A : Atoms 𝓤} {K : Type 0} {W : Given 𝓤 H A} {Γ : List (Item 𝓤)} {E : Env 𝓤 H} {C : Calls 𝓤 H} {Λ : Loops 𝓤 H}
+    {xs : List Operand} {q : After 𝓤 H} {d : Place} {rest : Code} where
+  pub calls-stepped : K → FmC 𝓤 H (W .laws) C → (mem : Memory → SProp 𝓤) (run : Routine → Fun 𝓤) →
+      Triple 𝓤 (C #tree·ways·stepped) (Contract-stepped 𝓤 H A mem run) → (w : Way) (s₀ : Split) → IsWay w → IsSplit s₀ → w .used + s₀ .out .fresh < 2 ^ 64
       → ((P : Item 𝓤) → Opds K W (P ∷ Γ) E xs (val-Way w ∷ val-Split s₀ ∷ []))
       → ((res : Step) → res ≡ steppedOf w s₀ → Is Step′.the-row res (val-Step res ∷ []) → Seq K W Γ (lands C Λ E d (val-Step res) rest q))
       → Seq K W Γ (runs C Λ E (seq (call #tree·ways·stepped xs d) rest) q)
   calls-stepped t fm mem run met w s₀ g-w g-s₀ l os k =
-      calls-plain t fm (Contract-stepped 𝓤 H A mem run) met (to-stepped 𝓤 H A mem run w s₀) Step′.the-row (val-Step) (LL.tells Step′.the-type Step″.the-laws) (Said-stepped 𝓤 H A mem run w s₀) (λ (res : Step). res ≡ steppedOf w s₀) (said-stepped 𝓤 H A mem run w s₀)
+      calls-plain t fm (Contract-stepped 𝓤 H A mem run) met (to-stepped 𝓤 H A mem run w s₀) Step′.the-row (val-Step) (LL.tells Step′.the-type Step″.the-laws)
+      (Said-stepped 𝓤 H A mem run w s₀) (λ (res : Step). res ≡ steppedOf w s₀) (said-stepped 𝓤 H A mem run w s₀)
       (λ _. id⊢ 𝓤 _) (goes-stepped 𝓤 H A mem run W w s₀ g-w g-s₀ l) (os _) k
 
 -- ---- `goes_on`
@@ -356,15 +399,18 @@ module _ {M : Type 1} (𝓤 : URA M) (H : Heap 𝓤) (A : Atoms 𝓤) (mem : Mem
   said-goes-on w res = exE 𝓤 _ (λ ws. snd∗ 𝓤 (sem 𝓤 H A (lasts goes-on′.ended tt (w, tt) ws)) (fact 𝓤 (res ≡ notEnded w)))
 
   goes-goes-on : Given 𝓤 H A → (w : Way) → IsWay w → ent 𝓤 (emp 𝓤) (Contract-goes-on .pre (to-goes-on w))
-  goes-goes-on W w g-w = qed W [] ∵ nothing ! $ nothing ! $ owned ! Way′.the-row (Is Way′.the-row) ((LL.makes Way′.the-type Way″.the-plain) 𝓤 H A) w _ g-w $ fjoin ! $ move ! (1 ∷ 0 ∷ []) $ join ! $ frame ! $ nothing ! $ done !
+  goes-goes-on W w g-w = qed W [] ∵ nothing ! $ nothing ! $ owned ! Way′.the-row (Is Way′.the-row) ((LL.makes Way′.the-type Way″.the-plain) 𝓤 H A) w _ g-w $
+      fjoin ! $ move ! (1 ∷ 0 ∷ []) $ join ! $ frame ! $ nothing ! $ done !
 
-module _ {M : Type 1} {𝓤 : URA M} {H : Heap 𝓤} {A : Atoms 𝓤} {K : Type 0} {W : Given 𝓤 H A} {Γ : List (Item 𝓤)} {E : Env 𝓤 H} {C : Calls 𝓤 H} {Λ : Loops 𝓤 H} {xs : List Operand} {q : After 𝓤 H} {d : Place} {rest : Code} where
+module _ {M : Type 1} {𝓤 : URA M} {H : Heap 𝓤} {A : Atoms 𝓤} {K : Type 0} {W : Given 𝓤 H A} {Γ : List (Item 𝓤)} {E : Env 𝓤 H} {C : Calls 𝓤 H} {Λ : Loops 𝓤 H}
+    {xs : List Operand} {q : After 𝓤 H} {d : Place} {rest : Code} where
   pub calls-goes-on : K → FmC 𝓤 H (W .laws) C → (mem : Memory → SProp 𝓤) (run : Routine → Fun 𝓤) → Triple 𝓤 (C #tree·ways·goes-on) (Contract-goes-on 𝓤 H A mem run) → (w : Way) → IsWay w
       → ((P : Item 𝓤) → Opds K W (P ∷ Γ) E xs (val-Way w ∷ []))
       → ((res : Bool) → res ≡ notEnded w → Is bool res (vbool res ∷ []) → Seq K W Γ (lands C Λ E d (vbool res) rest q))
       → Seq K W Γ (runs C Λ E (seq (call #tree·ways·goes-on xs d) rest) q)
   calls-goes-on t fm mem run met w g-w os k =
-      calls-plain t fm (Contract-goes-on 𝓤 H A mem run) met (to-goes-on 𝓤 H A mem run w) bool (vbool) (bool-tells) (Said-goes-on 𝓤 H A mem run w) (λ (res : Bool). res ≡ notEnded w) (said-goes-on 𝓤 H A mem run w)
+      calls-plain t fm (Contract-goes-on 𝓤 H A mem run) met (to-goes-on 𝓤 H A mem run w) bool (vbool) (bool-tells) (Said-goes-on 𝓤 H A mem run w)
+      (λ (res : Bool). res ≡ notEnded w) (said-goes-on 𝓤 H A mem run w)
       (λ _. id⊢ 𝓤 _) (goes-goes-on 𝓤 H A mem run W w g-w) (os _) k
 
 -- ---- `lowered`
@@ -382,15 +428,20 @@ module _ {M : Type 1} (𝓤 : URA M) (H : Heap 𝓤) (A : Atoms 𝓤) (mem : Mem
   said-lowered w s₀ res = exE 𝓤 _ (λ ws. snd∗ 𝓤 (sem 𝓤 H A (lasts lowered′.ended tt (w, (s₀, tt)) ws)) (fact 𝓤 (res ≡ sunkOf w s₀)))
 
   goes-lowered : Given 𝓤 H A → (w : Way) (s₀ : Step) → IsWay w → IsStep s₀ → w .depth + 1 < 2 ^ 64 → ent 𝓤 (emp 𝓤) (Contract-lowered .pre (to-lowered w s₀))
-  goes-lowered W w s₀ g-w g-s₀ l = qed W [] ∵ says ! l $ nothing ! $ owned ! Step′.the-row (Is Step′.the-row) ((LL.makes Step′.the-type Step″.the-plain) 𝓤 H A) s₀ _ g-s₀ $ fjoin ! $ owned ! Way′.the-row (Is Way′.the-row) ((LL.makes Way′.the-type Way″.the-plain) 𝓤 H A) w _ g-w $ fjoin ! $ nothing ! $ frame ! $ done !
+  goes-lowered W w s₀ g-w g-s₀ l = qed W [] ∵ says ! l $ nothing ! $
+      owned ! Step′.the-row (Is Step′.the-row) ((LL.makes Step′.the-type Step″.the-plain) 𝓤 H A) s₀ _ g-s₀ $ fjoin ! $
+      owned ! Way′.the-row (Is Way′.the-row) ((LL.makes Way′.the-type Way″.the-plain) 𝓤 H A) w _ g-w $ fjoin ! $ nothing ! $ frame ! $ done !
 
-module _ {M : Type 1} {𝓤 : URA M} {H : Heap 𝓤} {A : Atoms 𝓤} {K : Type 0} {W : Given 𝓤 H A} {Γ : List (Item 𝓤)} {E : Env 𝓤 H} {C : Calls 𝓤 H} {Λ : Loops 𝓤 H} {xs : List Operand} {q : After 𝓤 H} {d : Place} {rest : Code} where
-  pub calls-lowered : K → FmC 𝓤 H (W .laws) C → (mem : Memory → SProp 𝓤) (run : Routine → Fun 𝓤) → Triple 𝓤 (C #tree·ways·lowered) (Contract-lowered 𝓤 H A mem run) → (w : Way) (s₀ : Step) → IsWay w → IsStep s₀ → w .depth + 1 < 2 ^ 64
+module _ {M : Type 1} {𝓤 : URA M} {H : Heap 𝓤} {A : Atoms 𝓤} {K : Type 0} {W : Given 𝓤 H A} {Γ : List (Item 𝓤)} {E : Env 𝓤 H} {C : Calls 𝓤 H} {Λ : Loops 𝓤 H}
+    {xs : List Operand} {q : After 𝓤 H} {d : Place} {rest : Code} where
+  pub calls-lowered : K → FmC 𝓤 H (W .laws) C → (mem : Memory → SProp 𝓤) (run : Routine → Fun 𝓤) →
+      Triple 𝓤 (C #tree·ways·lowered) (Contract-lowered 𝓤 H A mem run) → (w : Way) (s₀ : Step) → IsWay w → IsStep s₀ → w .depth + 1 < 2 ^ 64
       → ((P : Item 𝓤) → Opds K W (P ∷ Γ) E xs (val-Way w ∷ val-Step s₀ ∷ []))
       → ((res : Way) → res ≡ sunkOf w s₀ → Is Way′.the-row res (val-Way res ∷ []) → Seq K W Γ (lands C Λ E d (val-Way res) rest q))
       → Seq K W Γ (runs C Λ E (seq (call #tree·ways·lowered xs d) rest) q)
   calls-lowered t fm mem run met w s₀ g-w g-s₀ l os k =
-      calls-plain t fm (Contract-lowered 𝓤 H A mem run) met (to-lowered 𝓤 H A mem run w s₀) Way′.the-row (val-Way) (LL.tells Way′.the-type Way″.the-laws) (Said-lowered 𝓤 H A mem run w s₀) (λ (res : Way). res ≡ sunkOf w s₀) (said-lowered 𝓤 H A mem run w s₀)
+      calls-plain t fm (Contract-lowered 𝓤 H A mem run) met (to-lowered 𝓤 H A mem run w s₀) Way′.the-row (val-Way) (LL.tells Way′.the-type Way″.the-laws)
+      (Said-lowered 𝓤 H A mem run w s₀) (λ (res : Way). res ≡ sunkOf w s₀) (said-lowered 𝓤 H A mem run w s₀)
       (λ _. id⊢ 𝓤 _) (goes-lowered 𝓤 H A mem run W w s₀ g-w g-s₀ l) (os _) k
 
 -- ---- `answer`
@@ -408,13 +459,16 @@ module _ {M : Type 1} (𝓤 : URA M) (H : Heap 𝓤) (A : Atoms 𝓤) (mem : Mem
   said-answer w res = exE 𝓤 _ (λ ws. snd∗ 𝓤 (sem 𝓤 H A (lasts answer′.ended tt (w, tt) ws)) (fact 𝓤 (res ≡ answered w)))
 
   goes-answer : Given 𝓤 H A → (w : Way) → IsWay w → ent 𝓤 (emp 𝓤) (Contract-answer .pre (to-answer w))
-  goes-answer W w g-w = qed W [] ∵ nothing ! $ nothing ! $ owned ! Way′.the-row (Is Way′.the-row) ((LL.makes Way′.the-type Way″.the-plain) 𝓤 H A) w _ g-w $ fjoin ! $ move ! (1 ∷ 0 ∷ []) $ join ! $ frame ! $ nothing ! $ done !
+  goes-answer W w g-w = qed W [] ∵ nothing ! $ nothing ! $ owned ! Way′.the-row (Is Way′.the-row) ((LL.makes Way′.the-type Way″.the-plain) 𝓤 H A) w _ g-w $
+      fjoin ! $ move ! (1 ∷ 0 ∷ []) $ join ! $ frame ! $ nothing ! $ done !
 
-module _ {M : Type 1} {𝓤 : URA M} {H : Heap 𝓤} {A : Atoms 𝓤} {K : Type 0} {W : Given 𝓤 H A} {Γ : List (Item 𝓤)} {E : Env 𝓤 H} {C : Calls 𝓤 H} {Λ : Loops 𝓤 H} {xs : List Operand} {q : After 𝓤 H} {d : Place} {rest : Code} where
+module _ {M : Type 1} {𝓤 : URA M} {H : Heap 𝓤} {A : Atoms 𝓤} {K : Type 0} {W : Given 𝓤 H A} {Γ : List (Item 𝓤)} {E : Env 𝓤 H} {C : Calls 𝓤 H} {Λ : Loops 𝓤 H}
+    {xs : List Operand} {q : After 𝓤 H} {d : Place} {rest : Code} where
   pub calls-answer : K → FmC 𝓤 H (W .laws) C → (mem : Memory → SProp 𝓤) (run : Routine → Fun 𝓤) → Triple 𝓤 (C #tree·ways·answer) (Contract-answer 𝓤 H A mem run) → (w : Way) → IsWay w
       → ((P : Item 𝓤) → Opds K W (P ∷ Γ) E xs (val-Way w ∷ []))
       → ((res : Inserted) → res ≡ answered w → Is Inserted′.the-row res (val-Inserted res ∷ []) → Seq K W Γ (lands C Λ E d (val-Inserted res) rest q))
       → Seq K W Γ (runs C Λ E (seq (call #tree·ways·answer xs d) rest) q)
   calls-answer t fm mem run met w g-w os k =
-      calls-plain t fm (Contract-answer 𝓤 H A mem run) met (to-answer 𝓤 H A mem run w) Inserted′.the-row (val-Inserted) (LL.tells Inserted′.the-type Inserted″.the-laws) (Said-answer 𝓤 H A mem run w) (λ (res : Inserted). res ≡ answered w) (said-answer 𝓤 H A mem run w)
+      calls-plain t fm (Contract-answer 𝓤 H A mem run) met (to-answer 𝓤 H A mem run w) Inserted′.the-row (val-Inserted)
+      (LL.tells Inserted′.the-type Inserted″.the-laws) (Said-answer 𝓤 H A mem run w) (λ (res : Inserted). res ≡ answered w) (said-answer 𝓤 H A mem run w)
       (λ _. id⊢ 𝓤 _) (goes-answer 𝓤 H A mem run W w g-w) (os _) k

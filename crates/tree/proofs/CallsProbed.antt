@@ -51,22 +51,51 @@ module _ {M : Type 1} (𝓤 : URA M) (H : Heap 𝓤) (A : Atoms 𝓤) (mem : Mem
   Contract-probed = tripleOf 𝓤 H A callee.signature (callee.spec 𝓤 H A mem run)
 
   abbrev to : Seat → List Float → Probe → Node → Contract-probed .Ghost
-  to s-positions positions s₀ v₀ = (((s-positions .life, tt), (s-positions .share, tt), tt, (ref-at s-positions positions, (s₀, (v₀, tt))), (word s-positions ∷ [], (val-Probe s₀ ∷ [], (val-Node v₀ ∷ [], tt)))), tt)
+  to s-positions positions s₀ v₀ = (
+    (
+      (s-positions .life, tt),
+      (s-positions .share, tt),
+      tt,
+      (ref-at s-positions positions, (s₀, (v₀, tt))),
+      (
+        word s-positions ∷
+            [],
+        (val-Probe s₀ ∷ [], (val-Node v₀ ∷ [], tt)),
+      ),
+    ),
+    tt,
+  )
 
-  goes : Given 𝓤 H A → (s-positions : Seat) (positions : List Float) (s₀ : Probe) (v₀ : Node) → IsProbe s₀ → IsNode v₀ → (Axes (s₀ .c)) × (s₀ .depth + 1 < 2 ^ 64) × LeafIn (length positions) (s₀ .c) (v₀ .leaf) → ent 𝓤 (⋆ 𝓤 H A (‵ (Tok s-positions) ∷ ‵ (Shr f64 s-positions positions) ∷ [])) (Contract-probed .pre (to s-positions positions s₀ v₀))
-  goes W s-positions positions s₀ v₀ g-s₀ g-v₀ l = qed W (‵ (Tok s-positions) ∷ ‵ (Shr f64 s-positions positions) ∷ []) ∵ says ! l $ nothing ! $ move ! (1 ∷ 0 ∷ []) $ join ! $ frame ! $ nothing ! $ owned ! Node′.the-row (Is Node′.the-row) ((LL.makes Node′.the-type Node″.the-plain) 𝓤 H A) v₀ _ g-v₀ $ fjoin ! $ owned ! Probe′.the-row (Is Probe′.the-row) ((LL.makes Probe′.the-type Probe″.the-plain) 𝓤 H A) s₀ _ g-s₀ $ fjoin ! $ move ! (1 ∷ 0 ∷ []) $ fjoin ! $ done !
+  goes : Given 𝓤 H A → (s-positions : Seat) (positions : List Float) (s₀ : Probe) (v₀ : Node) → IsProbe s₀ → IsNode v₀ → (Axes (s₀ .c)) ×
+      (s₀ .depth + 1 < 2 ^ 64) × LeafIn (length positions) (s₀ .c) (v₀ .leaf) →
+      ent 𝓤 (⋆ 𝓤 H A (‵ (Tok s-positions) ∷ ‵ (Shr f64 s-positions positions) ∷ [])) (Contract-probed .pre (to s-positions positions s₀ v₀))
+  goes W s-positions positions s₀ v₀ g-s₀ g-v₀ l = qed W (‵ (Tok s-positions) ∷ ‵ (Shr f64 s-positions positions) ∷ []) ∵ says ! l $ nothing ! $
+      move ! (1 ∷ 0 ∷ []) $ join ! $ frame ! $ nothing ! $ owned ! Node′.the-row (Is Node′.the-row)
+      ((LL.makes Node′.the-type Node″.the-plain) 𝓤 H A) v₀ _ g-v₀ $ fjoin ! $
+      owned ! Probe′.the-row (Is Probe′.the-row) ((LL.makes Probe′.the-type Probe″.the-plain) 𝓤 H A) s₀ _ g-s₀ $ fjoin ! $ move ! (1 ∷ 0 ∷ []) $ fjoin ! $
+      done !
 
-module _ {M : Type 1} {𝓤 : URA M} {H : Heap 𝓤} {A : Atoms 𝓤} {K : Type 0} {W : Given 𝓤 H A} {Γ : List (Item 𝓤)} {E : Env 𝓤 H} {C : Calls 𝓤 H} {Λ : Loops 𝓤 H} {xs : List Operand} {q : After 𝓤 H} {d : Place} {rest : Code} where
+module _ {M : Type 1} {𝓤 : URA M} {H : Heap 𝓤} {A : Atoms 𝓤} {K : Type 0} {W : Given 𝓤 H A} {Γ : List (Item 𝓤)} {E : Env 𝓤 H} {C : Calls 𝓤 H} {Λ : Loops 𝓤 H}
+    {xs : List Operand} {q : After 𝓤 H} {d : Place} {rest : Code} where
   pub calls-probed-c : K → FmC 𝓤 H (W .laws) C → (mem : Memory → SProp 𝓤) (run : Routine → Fun 𝓤) → Triple 𝓤 (C #tree·ways·probed) (Contract-probed 𝓤 H A mem run)
       → (s-positions : Seat) (positions : List Float) (s₀ : Probe) (v₀ : Node) → IsProbe s₀ → IsNode v₀ → (Axes (s₀ .c)) × (s₀ .depth + 1 < 2 ^ 64) × LeafIn (length positions) (s₀ .c) (v₀ .leaf)
       → ((P Ω0 : Item 𝓤) → Opds K W (P ∷ Ω0 ∷ Γ) E xs (word s-positions ∷ val-Probe s₀ ∷ val-Node v₀ ∷ []))
-      → ((res : Probe) → Ensured-probed positions s₀ v₀ res → Is Probe′.the-row res (val-Probe res ∷ []) → Seq K W (‵ (Shr f64 s-positions positions) ∷ ‵ (Tok s-positions) ∷ Γ) (lands C Λ E d (val-Probe res) rest q))
+      → ((res : Probe) → Ensured-probed positions s₀ v₀ res → Is Probe′.the-row res (val-Probe res ∷ []) →
+      Seq K W (‵ (Shr f64 s-positions positions) ∷ ‵ (Tok s-positions) ∷ Γ) (lands C Λ E d (val-Probe res) rest q))
       → Seq K W (‵ (Shr f64 s-positions positions) ∷ ‵ (Tok s-positions) ∷ Γ) (runs C Λ E (seq (call #tree·ways·probed xs d) rest) q)
   calls-probed-c t fm mem run met s-positions positions s₀ v₀ g-s₀ g-v₀ l os k =
       lend-copy t f64 s-positions positions $
       group t 2 $ use1 W (raw (Contract-probed 𝓤 H A mem run .pre (to 𝓤 H A mem run s-positions positions s₀ v₀))) (goes 𝓤 H A mem run W s-positions positions s₀ v₀ g-s₀ g-v₀ l) $
       calls-at t fm (Contract-probed 𝓤 H A mem run) met (to 𝓤 H A mem run s-positions positions s₀ v₀) (os _ _) (λ out.
-      use1 W (later (some (λ (res : Probe). ((‵ (Tok s-positions) ⊛ ‵ ftrue) ⊛ ‵ (Probe′.the-row .own res (out ∷ []))) ⊛ raw (ensured 𝓤 H A callee.ended (callee.clauses 𝓤 H A mem run) (s-positions .life, tt) (ref-at s-positions positions, (s₀, (v₀, tt))) tt res)))) (id⊢ 𝓤 _) $ await t tt $ pick t (λ res.
-      split t $ move t (1 ∷ []) $ use1 W (some (λ (ws : Unit {0} × (Unit {0} × (Unit {0} × (Unit {0})))). ‵ (lasts callee.ended (s-positions .life, tt) (ref-at s-positions positions, (s₀, (v₀, tt))) ws) ⊛ raw (fact 𝓤 (Ensured-probed positions s₀ v₀ res)))) (id⊢ 𝓤 _) $ pick t (λ ws. split t $ move t (1 ∷ []) $ heard t (Ensured-probed positions s₀ v₀ res) (λ e. fsplit t $ drop t $ fsplit t $ drop t $ fsplit t $ drop t $ drop t $ split t $ move t (1 ∷ []) $ peeks t Probe′.the-row (Is Probe′.the-row) (shows 𝓤 H A Probe′.the-row) res (out ∷ []) (λ is. drop t $ split t $ move t (1 ∷ []) $ drop t $
+      use1 W (later (some (λ (res : Probe). ((‵ (Tok s-positions) ⊛ ‵ ftrue) ⊛ ‵ (Probe′.the-row .own res (out ∷ []))) ⊛
+      raw (ensured 𝓤 H A callee.ended (callee.clauses 𝓤 H A mem run) (s-positions .life, tt) (ref-at s-positions positions, (s₀, (v₀, tt))) tt res))))
+      (id⊢ 𝓤 _) $ await t tt $ pick t (λ res.
+      split t $ move t (1 ∷ []) $ use1 W (some (λ (ws : Unit {0} × (Unit {0} × (Unit {0} × (Unit {0})))).
+      ‵ (lasts callee.ended (s-positions .life, tt) (ref-at s-positions positions, (s₀, (v₀, tt))) ws) ⊛ raw (fact 𝓤 (Ensured-probed positions s₀ v₀ res))))
+      (id⊢ 𝓤 _) $ pick t (λ ws. split t $ move t (1 ∷ []) $ heard t (Ensured-probed positions s₀ v₀ res) (λ e. fsplit t $ drop t $ fsplit t $ drop t $
+      fsplit t $ drop t $ drop t $ split t $ move t (1 ∷ []) $
+      peeks t Probe′.the-row (Is Probe′.the-row) (shows 𝓤 H A Probe′.the-row) res (out ∷ []) (λ is. drop t $ split t $ move t (1 ∷ []) $ drop t $
       move t (1 ∷ 0 ∷ []) $
-      subst (λ (u : Val). Seq K W (‵ (Shr f64 s-positions positions) ∷ ‵ (Tok s-positions) ∷ Γ) (lands C Λ E d u rest q)) (sym (ap only (LL.tells Probe′.the-type Probe″.the-laws res (out ∷ []) is))) (k res e (subst (Is Probe′.the-row res) (LL.tells Probe′.the-type Probe″.the-laws res (out ∷ []) is) is)))))))
+      subst (λ (u : Val). Seq K W (‵ (Shr f64 s-positions positions) ∷ ‵ (Tok s-positions) ∷ Γ) (lands C Λ E d u rest q))
+      (sym (ap only (LL.tells Probe′.the-type Probe″.the-laws res (out ∷ []) is)))
+      (k res e (subst (Is Probe′.the-row res) (LL.tells Probe′.the-type Probe″.the-laws res (out ∷ []) is) is)))))))

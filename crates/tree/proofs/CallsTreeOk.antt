@@ -51,22 +51,48 @@ module _ {M : Type 1} (𝓤 : URA M) (H : Heap 𝓤) (A : Atoms 𝓤) (mem : Mem
   Contract-tree-ok = tripleOf 𝓤 H A callee.signature (callee.spec 𝓤 H A mem run)
 
   abbrev to : Seat → List Cell → ℕ → ℕ → ℕ → Contract-tree-ok .Ghost
-  to s-cells cells used n c = (((s-cells .life, tt), (s-cells .share, tt), tt, (ref-at s-cells cells, (used, (n, (c, tt)))), (word s-cells ∷ [], (vint w64 used ∷ [], (vint w64 n ∷ [], (vint w64 c ∷ [], tt))))), tt)
+  to s-cells cells used n c = (
+    (
+      (s-cells .life, tt),
+      (s-cells .share, tt),
+      tt,
+      (ref-at s-cells cells, (used, (n, (c, tt)))),
+      (
+        word s-cells ∷ [],
+        (vint w64 used ∷ [], (vint w64 n ∷ [], (vint w64 c ∷ [], tt))),
+      ),
+    ),
+    tt,
+  )
 
-  goes : Given 𝓤 H A → (s-cells : Seat) (cells : List Cell) (used : ℕ) (n : ℕ) (c : ℕ) → used < 2 ^ 64 → n < 2 ^ 64 → c < 2 ^ 64 → Axes c → ent 𝓤 (⋆ 𝓤 H A (‵ (Tok s-cells) ∷ ‵ (Shr Cell′.the-row s-cells cells) ∷ [])) (Contract-tree-ok .pre (to s-cells cells used n c))
-  goes W s-cells cells used n c g-used g-n g-c l = qed W (‵ (Tok s-cells) ∷ ‵ (Shr Cell′.the-row s-cells cells) ∷ []) ∵ says ! l $ nothing ! $ move ! (1 ∷ 0 ∷ []) $ join ! $ frame ! $ nothing ! $ owned ! usize (Is usize) (uint-makes 𝓤 H A W w64) c _ (refl, g-c) $ fjoin ! $ owned ! usize (Is usize) (uint-makes 𝓤 H A W w64) n _ (refl, g-n) $ fjoin ! $ owned ! usize (Is usize) (uint-makes 𝓤 H A W w64) used _ (refl, g-used) $ fjoin ! $ move ! (1 ∷ 0 ∷ []) $ fjoin ! $ done !
+  goes : Given 𝓤 H A → (s-cells : Seat) (cells : List Cell) (used : ℕ) (n : ℕ) (c : ℕ) → used < 2 ^ 64 → n < 2 ^ 64 → c < 2 ^ 64 → Axes c →
+      ent 𝓤 (⋆ 𝓤 H A (‵ (Tok s-cells) ∷ ‵ (Shr Cell′.the-row s-cells cells) ∷ [])) (Contract-tree-ok .pre (to s-cells cells used n c))
+  goes W s-cells cells used n c g-used g-n g-c l = qed W (‵ (Tok s-cells) ∷ ‵ (Shr Cell′.the-row s-cells cells) ∷ []) ∵ says ! l $ nothing ! $
+      move ! (1 ∷ 0 ∷ []) $ join ! $ frame ! $ nothing ! $ owned ! usize (Is usize) (uint-makes 𝓤 H A W w64) c _ (refl, g-c) $ fjoin ! $
+      owned ! usize (Is usize) (uint-makes 𝓤 H A W w64) n _ (refl, g-n) $ fjoin ! $ owned ! usize (Is usize) (uint-makes 𝓤 H A W w64) used _ (refl, g-used) $
+      fjoin ! $ move ! (1 ∷ 0 ∷ []) $ fjoin ! $ done !
 
-module _ {M : Type 1} {𝓤 : URA M} {H : Heap 𝓤} {A : Atoms 𝓤} {K : Type 0} {W : Given 𝓤 H A} {Γ : List (Item 𝓤)} {E : Env 𝓤 H} {C : Calls 𝓤 H} {Λ : Loops 𝓤 H} {xs : List Operand} {q : After 𝓤 H} {d : Place} {rest : Code} where
+module _ {M : Type 1} {𝓤 : URA M} {H : Heap 𝓤} {A : Atoms 𝓤} {K : Type 0} {W : Given 𝓤 H A} {Γ : List (Item 𝓤)} {E : Env 𝓤 H} {C : Calls 𝓤 H} {Λ : Loops 𝓤 H}
+    {xs : List Operand} {q : After 𝓤 H} {d : Place} {rest : Code} where
   pub calls-tree-ok-c : K → FmC 𝓤 H (W .laws) C → (mem : Memory → SProp 𝓤) (run : Routine → Fun 𝓤) → Triple 𝓤 (C #tree·wellformed·tree-ok) (Contract-tree-ok 𝓤 H A mem run)
       → (s-cells : Seat) (cells : List Cell) (used : ℕ) (n : ℕ) (c : ℕ) → used < 2 ^ 64 → n < 2 ^ 64 → c < 2 ^ 64 → Axes c
       → ((P Ω0 : Item 𝓤) → Opds K W (P ∷ Ω0 ∷ Γ) E xs (word s-cells ∷ vint w64 used ∷ vint w64 n ∷ vint w64 c ∷ []))
-      → ((res : Contents) → Ensured-tree-ok cells used n c res → Is Contents′.the-row res (val-Contents res ∷ []) → Seq K W (‵ (Shr Cell′.the-row s-cells cells) ∷ ‵ (Tok s-cells) ∷ Γ) (lands C Λ E d (val-Contents res) rest q))
+      → ((res : Contents) → Ensured-tree-ok cells used n c res → Is Contents′.the-row res (val-Contents res ∷ []) →
+      Seq K W (‵ (Shr Cell′.the-row s-cells cells) ∷ ‵ (Tok s-cells) ∷ Γ) (lands C Λ E d (val-Contents res) rest q))
       → Seq K W (‵ (Shr Cell′.the-row s-cells cells) ∷ ‵ (Tok s-cells) ∷ Γ) (runs C Λ E (seq (call #tree·wellformed·tree-ok xs d) rest) q)
   calls-tree-ok-c t fm mem run met s-cells cells used n c g-used g-n g-c l os k =
       lend-copy t Cell′.the-row s-cells cells $
       group t 2 $ use1 W (raw (Contract-tree-ok 𝓤 H A mem run .pre (to 𝓤 H A mem run s-cells cells used n c))) (goes 𝓤 H A mem run W s-cells cells used n c g-used g-n g-c l) $
       calls-at t fm (Contract-tree-ok 𝓤 H A mem run) met (to 𝓤 H A mem run s-cells cells used n c) (os _ _) (λ out.
-      use1 W (later (some (λ (res : Contents). ((‵ (Tok s-cells) ⊛ ‵ ftrue) ⊛ ‵ (Contents′.the-row .own res (out ∷ []))) ⊛ raw (ensured 𝓤 H A callee.ended (callee.clauses 𝓤 H A mem run) (s-cells .life, tt) (ref-at s-cells cells, (used, (n, (c, tt)))) tt res)))) (id⊢ 𝓤 _) $ await t tt $ pick t (λ res.
-      split t $ move t (1 ∷ []) $ use1 W (some (λ (ws : Unit {0} × (Unit {0} × (Unit {0} × (Unit {0} × (Unit {0}))))). ‵ (lasts callee.ended (s-cells .life, tt) (ref-at s-cells cells, (used, (n, (c, tt)))) ws) ⊛ raw (fact 𝓤 (Ensured-tree-ok cells used n c res)))) (id⊢ 𝓤 _) $ pick t (λ ws. split t $ move t (1 ∷ []) $ heard t (Ensured-tree-ok cells used n c res) (λ e. fsplit t $ drop t $ fsplit t $ drop t $ fsplit t $ drop t $ fsplit t $ drop t $ drop t $ split t $ move t (1 ∷ []) $ peeks t Contents′.the-row (Is Contents′.the-row) (shows 𝓤 H A Contents′.the-row) res (out ∷ []) (λ is. drop t $ split t $ move t (1 ∷ []) $ drop t $
+      use1 W (later (some (λ (res : Contents). ((‵ (Tok s-cells) ⊛ ‵ ftrue) ⊛ ‵ (Contents′.the-row .own res (out ∷ []))) ⊛
+      raw (ensured 𝓤 H A callee.ended (callee.clauses 𝓤 H A mem run) (s-cells .life, tt) (ref-at s-cells cells, (used, (n, (c, tt)))) tt res)))) (id⊢ 𝓤 _) $
+      await t tt $ pick t (λ res.
+      split t $ move t (1 ∷ []) $ use1 W (some (λ (ws : Unit {0} × (Unit {0} × (Unit {0} × (Unit {0} × (Unit {0}))))).
+      ‵ (lasts callee.ended (s-cells .life, tt) (ref-at s-cells cells, (used, (n, (c, tt)))) ws) ⊛ raw (fact 𝓤 (Ensured-tree-ok cells used n c res))))
+      (id⊢ 𝓤 _) $ pick t (λ ws. split t $ move t (1 ∷ []) $ heard t (Ensured-tree-ok cells used n c res) (λ e. fsplit t $ drop t $ fsplit t $ drop t $
+      fsplit t $ drop t $ fsplit t $ drop t $ drop t $ split t $ move t (1 ∷ []) $
+      peeks t Contents′.the-row (Is Contents′.the-row) (shows 𝓤 H A Contents′.the-row) res (out ∷ []) (λ is. drop t $ split t $ move t (1 ∷ []) $ drop t $
       move t (1 ∷ 0 ∷ []) $
-      subst (λ (u : Val). Seq K W (‵ (Shr Cell′.the-row s-cells cells) ∷ ‵ (Tok s-cells) ∷ Γ) (lands C Λ E d u rest q)) (sym (ap only (EL.tells Contents′.the-type Contents″.the-laws res (out ∷ []) is))) (k res e (subst (Is Contents′.the-row res) (EL.tells Contents′.the-type Contents″.the-laws res (out ∷ []) is) is)))))))
+      subst (λ (u : Val). Seq K W (‵ (Shr Cell′.the-row s-cells cells) ∷ ‵ (Tok s-cells) ∷ Γ) (lands C Λ E d u rest q))
+      (sym (ap only (EL.tells Contents′.the-type Contents″.the-laws res (out ∷ []) is)))
+      (k res e (subst (Is Contents′.the-row res) (EL.tells Contents′.the-type Contents″.the-laws res (out ∷ []) is) is)))))))

@@ -13,7 +13,7 @@ use native.Mathlib.Decide.{ℕ-discrete}
 use Rattle.lent.proofs.Holds.{holds-as, fails-as}
 use Rattle.laws.specs.Domain.{deepest, mostWord}
 use Rattle.laws.proofs.Numbers.{row-in}
-use Rattle.laws.proofs.Loops.{Loops, loop-start, loop-more, loop-done}
+use Rattle.laws.proofs.Loops.{Loops, loop-start, loop-next, loop-done}
 use Rattle.tree_node.specs.declared.Node.{Node}
 use Rattle.tree_node.specs.declared.Cell.{Cell}
 use Rattle.tree_node.specs.Node.{Axes, pointOf}
@@ -52,7 +52,13 @@ pub record Making (s₀ : Split) (ns₀ : List Node) (s : Split) (ns : List Node
 
 pub making-start : (s₀ : Split) (ns : List Node) → s₀ .made ≡ 0 → Making s₀ ns s₀ ns
 making-start s₀ ns e =
-    record { out-same = refl; q-same = refl; c-same = refl; made-so = subst (λ (k : ℕ). Loops (childStep (s₀ .c) (s₀ .out .node) (s₀ .out .old) (s₀ .q)) (s₀ .out .fresh) ns k ns) (sym e) (loop-start (childStep (s₀ .c) (s₀ .out .node) (s₀ .out .old) (s₀ .q)) (s₀ .out .fresh) ns) }
+    record {
+      out-same = refl;
+      q-same = refl;
+      c-same = refl;
+      made-so = subst (λ (k : ℕ). Loops (childStep (s₀ .c) (s₀ .out .node) (s₀ .out .old) (s₀ .q))
+          (s₀ .out .fresh) ns k ns) (sym e) (loop-start (childStep (s₀ .c) (s₀ .out .node) (s₀ .out .old) (s₀ .q)) (s₀ .out .fresh) ns);
+    }
 
 module _ (s₀ : Split) (ns₀ : List Node) (s : Split) (cs : List Cell) (k : Making s₀ ns₀ s (nodesOf cs)) (b : Bool) (eb : b ≡ splitsOn s) where
   abbrev fresh-same : s .out .fresh ≡ s₀ .out .fresh
@@ -89,7 +95,8 @@ module _ (s₀ : Split) (ns₀ : List Node) (s : Split) (cs : List Cell) (k : Ma
             out-same = k .out-same;
             q-same = k .q-same;
             c-same = k .c-same;
-            made-so = subst (λ (ms : List Node). Loops (childStep (s₀ .c) (s₀ .out .node) (s₀ .out .old) (s₀ .q)) (s₀ .out .fresh) ns₀ (s .made + 1) ms) (sym step) (loop-more (k .made-so) making-less);
+            made-so = subst (λ (ms : List Node). Loops (childStep (s₀ .c) (s₀ .out .node) (s₀ .out .old) (s₀ .q)) (s₀ .out .fresh) ns₀ (s .made + 1) ms)
+                (sym step) (loop-next (k .made-so) making-less);
           })
 
     pub making-nearer : (z : Split) → z ≡ madeOf s → s₀ .out .fresh - z .made < s₀ .out .fresh - s .made
@@ -119,7 +126,8 @@ module _ (w : Way) (y : List Float) (cs : List Cell) (k : LevelAsks w (length y)
     pub level-stores : (x : Node) → x ≡ s .out .node → (w .node < length cs) × (leafWord (x .leaf) ≤ mostWord)
     level-stores x ex = (level-in, rw (ex, out-is) (k .leaf-named))
 
-    pub level-splits : (ds : List Cell) → (x : Node) → nodesOf ds ≡ set (nodesOf cs) (w .node) x → (Axes (s .c)) × (s .out .old < mostWord) × (s .out .node .first + s .out .fresh ≤ length ds) × (s .made ≡ 0)
+    pub level-splits : (ds : List Cell) → (x : Node) → nodesOf ds ≡ set (nodesOf cs) (w .node) x → (Axes (s .c)) × (s .out .old < mostWord) ×
+        (s .out .node .first + s .out .fresh ≤ length ds) × (s .made ≡ 0)
     unfolding metOf
     level-splits ds x ed =
         let l : length ds ≡ length (nodesOf cs) = sym (nodes-length ds) ∙ ap (λ (ns : List Node). length ns) ed ∙ length-set (nodesOf cs) (w .node) x in
@@ -130,7 +138,8 @@ module _ (w : Way) (y : List Float) (cs : List Cell) (k : LevelAsks w (length y)
 
     pub level-told : (x : Node) → x ≡ s .out .node → (ds : List Cell) → nodesOf ds ≡ set (nodesOf cs) (w .node) x
         → (es : List Cell) → nodesOf es ≡ subdivided (s .c) (s .out .node) (s .out .old) (s .q) (s .out .fresh) (nodesOf ds) → (r : Step) → r ≡ steppedOf w s
-        → (tree (r .used) (nodesOf es) ≡ levelAt y (w .c) (w .p) (w .j) (w .depth) (w .node) (tree (w .used) (nodesOf cs))) × (r .next ≡ wayTurn w (nodeAt (nodesOf cs) (w .node)) .next) × (r .last ≡ wayTurn w (nodeAt (nodesOf cs) (w .node)) .last)
+        → (tree (r .used) (nodesOf es) ≡ levelAt y (w .c) (w .p) (w .j) (w .depth) (w .node) (tree (w .used) (nodesOf cs))) ×
+        (r .next ≡ wayTurn w (nodeAt (nodesOf cs) (w .node)) .next) × (r .last ≡ wayTurn w (nodeAt (nodesOf cs) (w .node)) .last)
     unfolding metOf
     level-told x ex ds ed es′ ee r er = (
       rw (er, ee, ed, ex, met-is),
@@ -184,14 +193,33 @@ module _ (y : List Float) (n used j c : ℕ) (cs : List Cell) (inside : used ≤
       probes-asks a m e h = (
         subst Axes (sym (k .c-same)) a,
         omega (arith, k .on going .1 .deep, probes-in, e, h),
-        λ o eo. subst (λ (x : ℕ). o * x + x ≤ length y) (sym (k .c-same)) (row-in o n c (length y) (tree-point n c (mostWord - 1) (tree used ns) ok (s .node) o here (sym (ap (λ (x : Node). x .leaf) ev) ∙ eo)) rows),
+        λ o eo. subst (λ (x : ℕ). o * x + x ≤ length y) (sym (k .c-same))
+            (row-in o n c (length y) (tree-point n c (mostWord - 1) (tree used ns) ok (s .node) o here (sym (ap (λ (x : Node). x .leaf) ev) ∙ eo)) rows),
       )
 
-      leaf-told : nodeAt ns (s .node) .first ≡ 0 → probedOf y s v ≡ record { p = s .p; c = s .c; depth = s .depth; node = s .node; ended = true; more = leafNeeds y c p (s .depth) (nodeAt ns (s .node)) (nodeAt ns (s .node) .leaf) }
+      leaf-told : nodeAt ns (s .node) .first ≡ 0 →
+          probedOf y s v ≡ record {
+            p = s .p;
+            c = s .c;
+            depth = s .depth;
+            node = s .node;
+            ended = true;
+            more = leafNeeds y c p (s .depth) (nodeAt ns (s .node))
+                (nodeAt ns (s .node) .leaf);
+          }
       unfolding probedOf
       leaf-told z = rw (ev, eq-eqb _ _ z, k .p-same, k .c-same)
 
-      inner-told : (nodeAt ns (s .node) .first ≡ 0 → ⊥) → probedOf y s v ≡ record { p = s .p; c = s .c; depth = s .depth + 1; node = nodeAt ns (s .node) .first + childIndex c (nodeAt ns (s .node) .centre) p; ended = false; more = 0 }
+      inner-told : (nodeAt ns (s .node) .first ≡ 0 → ⊥) →
+          probedOf y s v ≡ record {
+            p = s .p;
+            c = s .c;
+            depth = s .depth + 1;
+            node = nodeAt ns (s .node) .first + childIndex c
+                (nodeAt ns (s .node) .centre) p;
+            ended = false;
+            more = 0;
+          }
       unfolding probedOf
       inner-told z = rw (ev, ne-eqb _ _ z, k .p-same, k .c-same)
 

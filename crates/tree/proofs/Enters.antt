@@ -35,7 +35,8 @@ module _ (y : List Float) (n used j c : ℕ) (ns₀ : List Node) where
     pub p-same : w .p ≡ pointOf y c j
     pub c-same : w .c ≡ c
     pub j-same : w .j ≡ j
-    pub on : w .ended ≡ false → (w .full ≡ false) × (whole ≤ nameable (length ns₀)) × Sinks n c (mostWord - 1) (length ns₀) whole y (pointOf y c j) j (tree used ns₀) (w .depth) (w .node) (tree (w .used) ns)
+    pub on : w .ended ≡ false → (w .full ≡ false) × (whole ≤ nameable (length ns₀)) ×
+        Sinks n c (mostWord - 1) (length ns₀) whole y (pointOf y c j) j (tree used ns₀) (w .depth) (w .node) (tree (w .used) ns)
     pub off : w .ended ≡ true → insertion (w .full) (tree (w .used) ns) ≡ insertOf y c j (tree used ns₀)
 
   abbrev pub levelsLeft : Way → ℕ
@@ -140,7 +141,9 @@ module _ (y : List Float) (n used j c : ℕ) (cs₀ : List Cell) where
       enters-deep m e h = omega (arith, sinks-up goes hj (omega arith) fit, nodes-length cs₀, e, h)
 
       module _ (s : Step) (ds : List Cell)
-          (es : (tree (s .used) (nodesOf ds) ≡ levelAt y (w .c) (w .p) (w .j) (w .depth) (w .node) t) × (s .next ≡ wayTurn w (nodeAt (nodesOf cs) (w .node)) .next) × (s .last ≡ wayTurn w (nodeAt (nodesOf cs) (w .node)) .last)) (u : Way) (eu : u ≡ sunkOf w s) where
+          (es : (tree (s .used) (nodesOf ds) ≡ levelAt y (w .c) (w .p) (w .j) (w .depth) (w .node) t) ×
+          (s .next ≡ wayTurn w (nodeAt (nodesOf cs) (w .node)) .next) × (s .last ≡ wayTurn w (nodeAt (nodesOf cs) (w .node)) .last)) (u : Way)
+          (eu : u ≡ sunkOf w s) where
         led : tree (s .used) (nodesOf ds) ≡ levelAt y c p j (w .depth) (w .node) t
         led = es .0 ∙ level-same
 
@@ -154,11 +157,13 @@ module _ (y : List Float) (n used j c : ℕ) (cs₀ : List Cell) where
               c-same = k .c-same;
               j-same = k .j-same;
               on = λ e. (k .on going .0, named, sinks-on goes hj (omega arith) fit (tree (s .used) (nodesOf ds)) (s .next) (s .last) led (es .1 ∙ ap (λ (o : Out). o .next) turn-same) last-same e);
-              off = λ e. rw (k .on going .0) (ap (insertion false) (sinks-in goes hj (omega arith) fit (tree (s .used) (nodesOf ds)) (s .last) led last-same e) ∙ sym (taken y c j (tree used ns₀) named));
+              off = λ e. rw (k .on going .0) (ap (insertion false)
+                  (sinks-in goes hj (omega arith) fit (tree (s .used) (nodesOf ds)) (s .last) led last-same e) ∙ sym (taken y c j (tree used ns₀) named));
             })
 
         pub enters-nearer : levelsLeft y n used j c ns₀ u < levelsLeft y n used j c ns₀ w
-        enters-nearer = rw (eu, going) (by-bool (cond (s .last) 0 (suc (length ns₀ - (w .depth + 1))) < suc (length ns₀ - w .depth)) (s .last) (λ e. rw e (omega arith)) (λ e. rw e (omega (arith, sinks-up goes hj (omega arith) fit))))
+        enters-nearer = rw (eu, going) (by-bool (cond (s .last) 0 (suc (length ns₀ - (w .depth + 1))) < suc (length ns₀ - w .depth)) (s .last) (λ e. rw e
+            (omega arith)) (λ e. rw e (omega (arith, sinks-up goes hj (omega arith) fit))))
 
     pub enters-end : T (not b) → (a : Inserted) → a ≡ answered w → insertion (a .full) (tree (a .used) (nodesOf cs)) ≡ insertOf y c j (tree used ns₀)
     enters-end over a ea = rw ea (k .off (not-false (w .ended) (fails-as b (notEnded w) eb over)))

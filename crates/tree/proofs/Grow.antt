@@ -67,8 +67,8 @@ module _ (u : ℕ) (f : ℕ → Node) where
   abbrev Made : List Node → ℕ → List Node → Type 0
   Made ns b ms = (length ms ≡ length ns) × ((k : ℕ) → (u ≤ k → k < u + b → ⊥) → nodeAt ms k ≡ nodeAt ns k) × ((k : ℕ) → k < b → u + k < length ns → nodeAt ms (u + k) ≡ f k)
 
-  made-more : (ns : List Node) (b : ℕ) (ms : List Node) → Made ns b ms → Made ns (b + 1) (makeStep b ms)
-  made-more ns b ms (e, out, in') = (
+  made-next : (ns : List Node) (b : ℕ) (ms : List Node) → Made ns b ms → Made ns (b + 1) (makeStep b ms)
+  made-next ns b ms (e, out, in') = (
     length-set ms (u + b) (f b) ∙ e,
     (λ k n. getD-set-other ms (u + b) k (f b) blank (λ x. n (omega (arith, x)) (omega (arith, x))) ∙ out k (λ x y. n x (omega arith))),
     λ k l r. elim (ℕ-discrete k b) [
@@ -79,7 +79,8 @@ module _ (u : ℕ) (f : ℕ → Node) where
 
   pub made : (n : ℕ) (ns : List Node) → Made ns n (loop makeStep n 0 ns)
   unfolding loop
-  made n ns = subst (λ (k : ℕ). Made ns k (loop makeStep n 0 ns)) (zero-add n) (loop-keeps (Made ns) makeStep n 0 ns (λ j y l h. made-more ns j y h) (refl, (λ k x. refl), (λ k l r. absurd (not-suc-le-zero l))))
+  made n ns = subst (λ (k : ℕ). Made ns k (loop makeStep n 0 ns)) (zero-add n)
+      (loop-keeps (Made ns) makeStep n 0 ns (λ j y l h. made-next ns j y h) (refl, (λ k x. refl), (λ k l r. absurd (not-suc-le-zero l))))
 
 -- ---- the children made
 

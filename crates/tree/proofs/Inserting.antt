@@ -49,7 +49,12 @@ unfolding nodeOk
 node-facts n c m used k v e =
     let b = blockOk c used k (v .first) in
     let r = and-right (leb (v .count) m) (pointOk n (v .leaf) && b) e in
-    record { few = leb-true (v .count) m (and-left (leb (v .count) m) (pointOk n (v .leaf) && b) e); point = and-left (pointOk n (v .leaf)) b r; above = block-facts c used k (v .first) (and-right (pointOk n (v .leaf)) b r) }
+    record {
+      few = leb-true (v .count) m (and-left (leb (v .count) m) (pointOk n (v .leaf) && b) e);
+      point = and-left
+          (pointOk n (v .leaf)) b r;
+      above = block-facts c used k (v .first) (and-right (pointOk n (v .leaf)) b r);
+    }
 
 pub node-ok : (n c m used k : ℕ) (v : Node) → NodeFacts n c m used k v → nodeOk n m c used k v ≡ true
 unfolding nodeOk
@@ -156,7 +161,8 @@ module _ (y : List Float) (c : ℕ) (p : List Float) where
   needs-leaf g d i ns l z e = rw (eq-eqb _ _ z, needsOf) (rw e)
 
   -- nodes that agree from node b on are counted alike from there
-  pub needs-agree : (t : Tree) (ms : List Node) (b : ℕ) → Rises c t → ((k : ℕ) → b ≤ k → k < t .used → nodeAt ms k ≡ nodeAt (t .nodes) k) → (g d k : ℕ) → b ≤ k → k < t .used → needsOf g y c p d k ms ≡ needsOf g y c p d k (t .nodes)
+  pub needs-agree : (t : Tree) (ms : List Node) (b : ℕ) → Rises c t → ((k : ℕ) → b ≤ k → k < t .used → nodeAt ms k ≡ nodeAt (t .nodes) k) → (g d k : ℕ) →
+      b ≤ k → k < t .used → needsOf g y c p d k ms ≡ needsOf g y c p d k (t .nodes)
   unfolding needsOf
   needs-agree t ms b s same zero d k l u = refl
   needs-agree t ms b s same (suc g) d k l u =
@@ -164,7 +170,8 @@ module _ (y : List Float) (c : ℕ) (p : List Float) where
       let e = same k l u in
       let w = nodeAt ns k in
       elim (ℕ-discrete (w .first) 0) [
-        | yes z ↦ needs-leaf g d k ms (w .leaf) (ap (λ (x : Node). x .first) e ∙ z) (ap (λ (x : Node). x .leaf) e) ∙ ap (λ (x : Node). leafNeeds y c p d x (w .leaf)) e ∙ sym (needs-leaf g d k ns (w .leaf) z refl)
+        | yes z ↦ needs-leaf g d k ms (w .leaf) (ap (λ (x : Node). x .first) e ∙ z) (ap (λ (x : Node). x .leaf) e) ∙
+            ap (λ (x : Node). leafNeeds y c p d x (w .leaf)) e ∙ sym (needs-leaf g d k ns (w .leaf) z refl)
         | no z ↦
             let a = s k u z in
             needs-inner g d k ms (λ x. z (sym (ap (λ (x : Node). x .first) e) ∙ x))
@@ -200,10 +207,16 @@ module _ (y : List Float) (c : ℕ) (p : List Float) where
         | yes x ↦
             let e' : nodeAt ns k ≡ occupied o (absorbed c q (cellOf c v b)) = rw (eq-eqb b (childIndex c (v .centre) q) x) at e in
             rw (left deepest d l, splits-same (deepest - (d + 1)) c (v .centre) (v .half) q p (sym x), suc-mul)
-            (ap (λ (k : ℕ). k + 2 ^ c) (sym (needs-leaf g (d + 1) k ns (Occupied o) (ap (λ (x : Node). x .first) e') (ap (λ (x : Node). x .leaf) e') ∙ ap (λ (x : Node). leafNeeds y c p (d + 1) x (Occupied o)) e')) ∙ plus (needsOf (suc g) y c p (d + 1) k ns) (2 ^ c))
+            (ap (λ (k : ℕ). k + 2 ^ c) (sym (needs-leaf g (d + 1) k ns (Occupied o) (ap (λ (x : Node). x .first) e') (ap (λ (x : Node). x .leaf) e') ∙
+            ap (λ (x : Node). leafNeeds y c p (d + 1) x (Occupied o)) e')) ∙ plus (needsOf (suc g) y c p (d + 1) k ns) (2 ^ c))
         | no x ↦
             let e' : nodeAt ns k ≡ cellOf c v b = rw (ne-eqb b (childIndex c (v .centre) q) x) at e in
-            rw (left deepest d l, splits-apart (deepest - (d + 1)) c (v .centre) (v .half) q p (λ w. x (sym w)), one-mul, needs-leaf g (d + 1) k ns Empty (ap (λ (x : Node). x .first) e') (ap (λ (x : Node). x .leaf) e')) (sym (add-zero (2 ^ c)))
+            rw (
+              left deepest d l,
+              splits-apart (deepest - (d + 1)) c (v .centre) (v .half) q p (λ w. x (sym w)),
+              one-mul,
+              needs-leaf g (d + 1) k ns Empty (ap (λ (x : Node). x .first) e') (ap (λ (x : Node). x .leaf) e'),
+            ) (sym (add-zero (2 ^ c)))
       ]
     where
       plus : (a b : ℕ) → a + b ≡ b + a
@@ -227,7 +240,8 @@ split-sound n c m i o q t a li lc hc ho hm s k lk x lx =
       | no l ↦
           let b = x - u in
           let eb : u + b ≡ x = omega (arith, l) in
-          let e : nodeAt (subdivided c w o q (2 ^ c) ns) x ≡ childOf c w o q b = ap (nodeAt (subdivided c w o q (2 ^ c) ns)) (sym eb) ∙ filled-in c w o q (2 ^ c) ns b (omega (arith, l, lx)) (omega (arith, eb, lx, lc, length-set (t .nodes) i w)) in
+          let e : nodeAt (subdivided c w o q (2 ^ c) ns) x ≡ childOf c w o q b = ap (nodeAt (subdivided c w o q (2 ^ c) ns)) (sym eb) ∙
+          filled-in c w o q (2 ^ c) ns b (omega (arith, l, lx)) (omega (arith, eb, lx, lc, length-set (t .nodes) i w)) in
           let f = child-facts n c m (u + 2 ^ c) x w o q b ho hm in
           rw e (fewer n c m (m + 1) (u + 2 ^ c) x (childOf c w o q b) (omega arith) f, λ _. f .few)
     ]
@@ -303,7 +317,10 @@ module _ (n c m cap N : ℕ) (y p : List Float) (j : ℕ) (hj : j < n) (hm : 1 �
           room = k .room;
           nodes = length-set (t .nodes) i (absorbed c p v) ∙ k .nodes;
           sound = stored-sound n c m i next t (absorbed c p v) in-list up (absorbed-facts n c m (t .used) i p v few (k .sound i (k .node) .0)) (k .sound);
-          total = ap (λ (x : ℕ). t .used + x) (needs-agree y c p t (set (t .nodes) i (absorbed c p v)) (i + 1) (λ x lx. k .sound x lx .0 .above) (λ x l _. getD-set-other (t .nodes) i x (absorbed c p v) blank (λ w. omega (arith, w, l))) g (d + 1) next (omega (arith, up)) lu ∙ sym (needs-inner y c p g d i (t .nodes) z) ∙ sym fuel) ∙ k .total;
+          total = ap (λ (x : ℕ). t .used + x)
+              (needs-agree y c p t (set (t .nodes) i (absorbed c p v)) (i + 1) (λ x lx. k .sound x lx .0 .above) (λ x l _. getD-set-other (t .nodes) i x
+              (absorbed c p v) blank (λ w. omega (arith, w, l))) g (d + 1) next (omega (arith, up)) lu ∙ sym (needs-inner y c p g d i (t .nodes) z) ∙
+              sym fuel) ∙ k .total;
         }))
         (λ z e x. absurd (true≢false x))
         (λ o z e l x. absurd (true≢false x))
@@ -341,7 +358,9 @@ module _ (n c m cap N : ℕ) (y p : List Float) (j : ℕ) (hj : j < n) (hm : 1 �
         (sym (add-zero (t .used)) ∙ ap (λ (x : ℕ). t .used + x) (sym (fuel ∙ needs-leaf y c p (cap - (d + 1)) d i (t .nodes) Empty z e)) ∙ k .total))
         (λ o z e l _.
         stored-ends (absorbed c p v) 0 j (absorbed-facts n c m (t .used) i p v few (k .sound i (k .node) .0))
-        (sym (add-zero (t .used)) ∙ ap (λ (x : ℕ). t .used + x) (sym (no-splits (splitsOf (deepest - d) c (v .centre) (v .half) (pointOf y c o) p) d (2 ^ c) (splits-le (deepest - d) c (v .centre) (v .half) (pointOf y c o) p) l)) ∙ split-total o z e))
+        (sym (add-zero (t .used)) ∙ ap (λ (x : ℕ). t .used + x)
+        (sym (no-splits (splitsOf (deepest - d) c (v .centre) (v .half) (pointOf y c o) p) d (2 ^ c)
+        (splits-le (deepest - d) c (v .centre) (v .half) (pointOf y c o) p) l)) ∙ split-total o z e))
         (λ o z e l x. absurd (true≢false (sym x)))
       where
         stored-ends : (a : Node) (x o : ℕ) → NodeFacts n c (m + 1) (t .used) i a → t .used ≡ N → Ended n c m cap N (levelled y c i (out a x 0 o true) t)
@@ -350,7 +369,8 @@ module _ (n c m cap N : ℕ) (y p : List Float) (j : ℕ) (hj : j < n) (hm : 1 �
             (record {
               used = e;
               nodes = length-set (t .nodes) i a ∙ k .nodes;
-              tree = every-all (λ z. nodeOk n (m + 1) c (t .used) z (nodeAt (set (t .nodes) i a) z)) (t .used) (λ z l. node-ok n c (m + 1) (t .used) z (nodeAt (set (t .nodes) i a) z) (stored-sound n c m i (t .used) t a in-list (k .node) f (k .sound) z l .0));
+              tree = every-all (λ z. nodeOk n (m + 1) c (t .used) z (nodeAt (set (t .nodes) i a) z)) (t .used) (λ z l. node-ok n c (m + 1) (t .used) z
+                  (nodeAt (set (t .nodes) i a) z) (stored-sound n c m i (t .used) t a in-list (k .node) f (k .sound) z l .0));
             })
 
     -- the nodes that a level makes lie within the arena
@@ -383,20 +403,29 @@ module _ (n c m cap N : ℕ) (y p : List Float) (j : ℕ) (hj : j < n) (hm : 1 �
       none-left e a b c = omega (arith, e, a, b, c)
   inserted-ends (suc g) d i t e k = go (λ k'. inserted-ends g (d + 1) (turnAt c p j d i t .next) (levelAt y c p j d i t) (omega (arith, e)) k') (turnAt c p j d i t .last) refl
     where
-      go : (Ok n c m cap N y p (d + 1) (turnAt c p j d i t .next) (levelAt y c p j d i t) → Ended n c m cap N (inserted g y c p j (d + 1) (turnAt c p j d i t .next) (levelAt y c p j d i t))) → (b : Bool) → turnAt c p j d i t .last ≡ b → Ended n c m cap N (elim (turnAt c p j d i t .last) [ true ↦ levelAt y c p j d i t | false ↦ inserted g y c p j (d + 1) (turnAt c p j d i t .next) (levelAt y c p j d i t) ])
+      go : (Ok n c m cap N y p (d + 1) (turnAt c p j d i t .next) (levelAt y c p j d i t) →
+          Ended n c m cap N (inserted g y c p j (d + 1) (turnAt c p j d i t .next) (levelAt y c p j d i t))) → (b : Bool) → turnAt c p j d i t .last ≡ b →
+          Ended n c m cap N (elim (turnAt c p j d i t .last) [
+            | true ↦ levelAt y c p j d i t
+            | false ↦
+                inserted g y c p j (d + 1) (turnAt c p j d i t .next) (levelAt y c p j d i t)
+          ])
       go h true x = rw x (ok-last d i t k x)
       go h false x = rw x (h (ok-next d i t k x))
 
 -- ---- where it begins
 
-pub ok-start : (n c m : ℕ) (y p : List Float) (t : Tree) → treeOk n m c t ≡ true → 0 < t .used → t .used ≤ length (t .nodes) → Ok n c m (length (t .nodes)) (t .used + needsOf (length (t .nodes)) y c p 0 0 (t .nodes)) y p 0 0 t
+pub ok-start : (n c m : ℕ) (y p : List Float) (t : Tree) → treeOk n m c t ≡ true → 0 < t .used → t .used ≤ length (t .nodes) →
+    Ok n c m (length (t .nodes)) (t .used + needsOf (length (t .nodes)) y c p 0 0 (t .nodes)) y p 0 0 t
 ok-start n c m y p t e h l =
     record {
       deep = omega arith;
       node = h;
       room = l;
       nodes = refl;
-      sound = λ k lk. let f = node-facts n c m (t .used) k (nodeAt (t .nodes) k) (every-at (λ i. nodeOk n m c (t .used) i (nodeAt (t .nodes) i)) (t .used) e k lk) in (fewer n c m (m + 1) (t .used) k (nodeAt (t .nodes) k) (omega arith) f, λ _. f .few);
+      sound = λ k lk. let f = node-facts n c m (t .used) k (nodeAt (t .nodes) k)
+          (every-at (λ i. nodeOk n m c (t .used) i (nodeAt (t .nodes) i)) (t .used) e k lk) in
+          (fewer n c m (m + 1) (t .used) k (nodeAt (t .nodes) k) (omega arith) f, λ _. f .few);
       total = rw sub-zero;
     }
 
@@ -444,7 +473,7 @@ tree-facts n c m t e i l = node-facts n c m (t .used) i (nodeAt (t .nodes) i) (e
 pub tree-point : (n c m : ℕ) (t : Tree) → treeOk n m c t ≡ true → (i o : ℕ) → i < t .used → nodeAt (t .nodes) i .leaf ≡ Occupied o → o < n
 tree-point n c m t e i o l q = point-below n (nodeAt (t .nodes) i .leaf) o (tree-facts n c m t e i l .point) q
 
--- a point needs at most 50 splits
+-- a point needs at most `deepest` splits
 pub needs-few : (g : ℕ) (y : List Float) (c : ℕ) (p : List Float) (d i : ℕ) (ns : List Node) → needsOf g y c p d i ns ≤ deepest * 2 ^ c
 unfolding needsOf
 needs-few zero y c p d i ns = omega arith
@@ -474,7 +503,8 @@ next-in n c m t p e i l z = let a = tree-facts n c m t e i l .above z in (a .0, 
 
 -- ---- the loop, for the code
 
-pub sinks-start : (n c m : ℕ) (y p : List Float) (j : ℕ) (t : Tree) (more : ℕ) → more ≡ needsOf (length (t .nodes)) y c p 0 0 (t .nodes) → treeOk n m c t ≡ true → 0 < t .used → t .used ≤ length (t .nodes)
+pub sinks-start : (n c m : ℕ) (y p : List Float) (j : ℕ) (t : Tree) (more : ℕ) → more ≡ needsOf (length (t .nodes)) y c p 0 0 (t .nodes) →
+    treeOk n m c t ≡ true → 0 < t .used → t .used ≤ length (t .nodes)
     → Sinks n c m (length (t .nodes)) (t .used + more) y p j t 0 0 t
 sinks-start n c m y p j t more e ok h l = rw e (record { ok = ok-start n c m y p t ok h l; same = rw sub-zero })
 

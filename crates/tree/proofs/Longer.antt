@@ -25,7 +25,7 @@ use Rattle.tree_walk.specs.Repel.{repelled}
 use Rattle.tree_walk.proofs.Longer.{repelled-longer as walked-longer}
 use Rattle.tree.proofs.Grow.{makeStep}
 use Rattle.tree.proofs.Inserting.{Ok, Rises, needs-agree, needs-fuel, ok-start, ok-room, ok-next, inserted-last, inserted-next, tree-facts}
-use Rattle.tree.proofs.Whole.{needed, taken, taken-fits, taken-ends, built-more, built-full}
+use Rattle.tree.proofs.Whole.{needed, taken, taken-fits, taken-ends, built-next, built-full}
 use Rattle.tree.proofs.Opens.{blocks-in}
 
 -- a well-formed tree within its arena
@@ -109,14 +109,16 @@ module _ (more : List Node) where
         ∙ ap extended (sym (inserted-next g y c p j d i t r refl x)))
 
   -- an insertion that is not refused does the same in the longer arena
-  pub insert-longer : (y : List Float) (n c m j : ℕ) (t : Tree) → j < n → 1 ≤ m → Fits n c m t → insertOf y c j t .full ≡ false → insertOf y c j (extended t) ≡ insertion false (extended (insertOf y c j t .tree))
+  pub insert-longer : (y : List Float) (n c m j : ℕ) (t : Tree) → j < n → 1 ≤ m → Fits n c m t → insertOf y c j t .full ≡ false →
+      insertOf y c j (extended t) ≡ insertion false (extended (insertOf y c j t .tree))
   insert-longer y n c m j t hj hm f e =
       let ns = t .nodes in
       let p = pointOf y c j in
       let fit = taken-fits y c j t e in
       let ll = length-append ns more in
       taken y c j (extended t) (omega (arith, fit, needs-longer y n c m j t f, nameable-longer (length ns) (length (ns ++ more)) (omega (arith, ll))))
-      ∙ ap (insertion false) (inserted-longer n c m (length ns) (t .used + needed y c j t) y p j hj hm (omega (arith, fit, nameable-most (length ns))) (length ns) (length (ns ++ more)) 0 0 t (ok-start n c m y p t (f .sound) (f .some) (f .within)) (omega arith) (omega (arith, ll))
+      ∙ ap (insertion false) (inserted-longer n c m (length ns) (t .used + needed y c j t) y p j hj hm (omega (arith, fit, nameable-most (length ns)))
+      (length ns) (length (ns ++ more)) 0 0 t (ok-start n c m y p t (f .sound) (f .some) (f .within)) (omega arith) (omega (arith, ll))
       ∙ ap (λ (x : Insertion). extended (x .tree)) (sym (taken y c j t fit)))
 
   -- ---- all points: what was built without a refusal, the longer arena holds too
@@ -125,14 +127,15 @@ module _ (more : List Node) where
       → Fits n c (m + k) (built y c k t .tree) × (built y c k (extended t) ≡ insertion false (extended (built y c k t .tree)))
   unfolding built loop
   built-longer y n c m t hm f zero h e = (rw (add-zero m) f, refl)
-  built-longer y n c m t hm f (suc k) h e = by-bool (Fits n c (m + suc k) (built y c (suc k) t .tree) × (built y c (suc k) (extended t) ≡ insertion false (extended (built y c (suc k) t .tree)))) (built y c k t .full)
+  built-longer y n c m t hm f (suc k) h e = by-bool (Fits n c (m + suc k) (built y c (suc k) t .tree) ×
+      (built y c (suc k) (extended t) ≡ insertion false (extended (built y c (suc k) t .tree)))) (built y c k t .full)
       (λ x. absurd (true≢false (sym (built-full y c t k x) ∙ e)))
       (λ x.
       let b = built y c k t .tree in
       let i = built-longer y n c m t hm f k (omega (arith, h)) x in
-      let step = built-more y c t k x in
+      let step = built-next y c t k x in
       let q : insertOf y c k b .full ≡ false = rw step at e in
-      let step' = built-more y c (extended t) k (ap (λ (z : Insertion). z .full) (i .1)) in
+      let step' = built-next y c (extended t) k (ap (λ (z : Insertion). z .full) (i .1)) in
       rw step (
         subst (λ (a : ℕ). Fits n c a (insertOf y c k b .tree)) (up m k) (insert-fits y n c (m + k) k b (omega (arith, h)) (omega (arith, hm)) (i .0) q),
         step' ∙ ap (λ (z : Insertion). insertOf y c k (z .tree)) (i .1) ∙ insert-longer y n c (m + k) k b (omega (arith, h)) (omega (arith, hm)) (i .0) q,
@@ -144,5 +147,6 @@ module _ (more : List Node) where
   -- ---- the walk
 
   -- repulsion looks at no node past those in use
-  pub repels-on-longer : (n c m : ℕ) (t : Tree) → Fits n c m t → (q : ℕ) (p : List Float) (theta2 : Float) → repelled (t .used) c q p theta2 (t .nodes ++ more) ≡ repelled (t .used) c q p theta2 (t .nodes)
+  pub repels-on-longer : (n c m : ℕ) (t : Tree) → Fits n c m t → (q : ℕ) (p : List Float) (theta2 : Float) →
+      repelled (t .used) c q p theta2 (t .nodes ++ more) ≡ repelled (t .used) c q p theta2 (t .nodes)
   repels-on-longer n c m t f q p theta2 = walked-longer (t .nodes) more (t .used) c (f .within) (blocks-in n c m t (f .sound)) q p theta2 (f .some)

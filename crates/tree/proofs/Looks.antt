@@ -10,7 +10,7 @@ use lib.ListN.{length}
 use borrow.Author.Tests.{eq-eqb, ne-eqb, lt-ltb, le-ltb, ltb-true, ltb-false}
 use Rattle.lent.proofs.Holds.{holds-as, fails-as}
 use Rattle.laws.proofs.Bools.{by-bool}
-use Rattle.laws.proofs.First.{Seeks, seek-start, seek-more}
+use Rattle.laws.proofs.First.{Seeks, seek-start, seek-next}
 use Rattle.tree_node.specs.declared.Node.{Node}
 use Rattle.tree_node.specs.declared.Cell.{Cell}
 use Rattle.tree_node.specs.Node.{Axes}
@@ -101,7 +101,7 @@ module _ (n c used : ℕ) (cs : List Cell) where
                   n-same = k .n-same;
                   c-same = k .c-same;
                   used-same = k .used-same;
-                  below = λ _. (inside .0, inside .1, seek-more (inside .2) next (ap not e));
+                  below = λ _. (inside .0, inside .1, seek-next (inside .2) next (ap not e));
                   found = λ f. let q : nodeFound s v ≡ Fine = told ∙ rw e in absurd (true≢false (sym (ap contentsFine q) ∙ f));
                 }
 

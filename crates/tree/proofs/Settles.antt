@@ -63,7 +63,8 @@ module _ (y : List Float) (c : ℕ) (w : Node) (o : ℕ) (ns : List Node) (h : w
           let e : w .first + i ≡ x = omega (arith, a) in
           let l : i < 2 ^ c = omega (arith, a, b) in
           let r : w .first + i < length ns = omega (arith, e, b, h) in
-          subst (λ (z : ℕ). nodeAt empties z ≡ nodeAt (subdivided c w o q (2 ^ c) ns) z) e (made (w .first) (cellOf c w) (2 ^ c) ns .2 i l r ∙ sym (filled-in c w o q (2 ^ c) ns i l r ∙ child-other i (λ z. n (omega (arith, e, z)))))
+          subst (λ (z : ℕ). nodeAt empties z ≡ nodeAt (subdivided c w o q (2 ^ c) ns) z) e
+          (made (w .first) (cellOf c w) (2 ^ c) ns .2 i l r ∙ sym (filled-in c w o q (2 ^ c) ns i l r ∙ child-other i (λ z. n (omega (arith, e, z)))))
 
       go : (x : ℕ) → (x ≡ w .first + k → ⊥) → nodeAt empties x ≡ nodeAt (subdivided c w o q (2 ^ c) ns) x
       go x n =

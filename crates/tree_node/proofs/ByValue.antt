@@ -51,15 +51,19 @@ module _ {M : Type 1} (𝓤 : URA M) (H : Heap 𝓤) (A : Atoms 𝓤) (mem : Mem
   said-read-node x₀ res = exE 𝓤 _ (λ ws. snd∗ 𝓤 (sem 𝓤 H A (lasts read-node′.ended tt (x₀, tt) ws)) (fact 𝓤 (res ≡ nodeOf x₀)))
 
   goes-read-node : Given 𝓤 H A → (x₀ : Cell) → IsCell x₀ → ent 𝓤 (emp 𝓤) (Contract-read-node .pre (to-read-node x₀))
-  goes-read-node W x₀ g-x₀ = qed W [] ∵ nothing ! $ nothing ! $ owned ! Cell′.the-row (Is Cell′.the-row) ((LL.makes Cell′.the-type Cell″.the-plain) 𝓤 H A) x₀ _ g-x₀ $ fjoin ! $ move ! (1 ∷ 0 ∷ []) $ join ! $ frame ! $ nothing ! $ done !
+  goes-read-node W x₀ g-x₀ = qed W [] ∵ nothing ! $ nothing ! $ owned ! Cell′.the-row (Is Cell′.the-row)
+      ((LL.makes Cell′.the-type Cell″.the-plain) 𝓤 H A) x₀ _ g-x₀ $ fjoin ! $ move ! (1 ∷ 0 ∷ []) $ join ! $ frame ! $ nothing ! $ done !
 
-module _ {M : Type 1} {𝓤 : URA M} {H : Heap 𝓤} {A : Atoms 𝓤} {K : Type 0} {W : Given 𝓤 H A} {Γ : List (Item 𝓤)} {E : Env 𝓤 H} {C : Calls 𝓤 H} {Λ : Loops 𝓤 H} {xs : List Operand} {q : After 𝓤 H} {d : Place} {rest : Code} where
-  pub calls-read-node : K → FmC 𝓤 H (W .laws) C → (mem : Memory → SProp 𝓤) (run : Routine → Fun 𝓤) → Triple 𝓤 (C #tree-node·arena·read-node) (Contract-read-node 𝓤 H A mem run) → (x₀ : Cell) → IsCell x₀
+module _ {M : Type 1} {𝓤 : URA M} {H : Heap 𝓤} {A : Atoms 𝓤} {K : Type 0} {W : Given 𝓤 H A} {Γ : List (Item 𝓤)} {E : Env 𝓤 H} {C : Calls 𝓤 H} {Λ : Loops 𝓤 H}
+    {xs : List Operand} {q : After 𝓤 H} {d : Place} {rest : Code} where
+  pub calls-read-node : K → FmC 𝓤 H (W .laws) C → (mem : Memory → SProp 𝓤) (run : Routine → Fun 𝓤) →
+      Triple 𝓤 (C #tree-node·arena·read-node) (Contract-read-node 𝓤 H A mem run) → (x₀ : Cell) → IsCell x₀
       → ((P : Item 𝓤) → Opds K W (P ∷ Γ) E xs (val-Cell x₀ ∷ []))
       → ((res : Node) → res ≡ nodeOf x₀ → Is Node′.the-row res (val-Node res ∷ []) → Seq K W Γ (lands C Λ E d (val-Node res) rest q))
       → Seq K W Γ (runs C Λ E (seq (call #tree-node·arena·read-node xs d) rest) q)
   calls-read-node t fm mem run met x₀ g-x₀ os k =
-      calls-plain t fm (Contract-read-node 𝓤 H A mem run) met (to-read-node 𝓤 H A mem run x₀) Node′.the-row (val-Node) (LL.tells Node′.the-type Node″.the-laws) (Said-read-node 𝓤 H A mem run x₀) (λ (res : Node). res ≡ nodeOf x₀) (said-read-node 𝓤 H A mem run x₀)
+      calls-plain t fm (Contract-read-node 𝓤 H A mem run) met (to-read-node 𝓤 H A mem run x₀) Node′.the-row (val-Node) (LL.tells Node′.the-type Node″.the-laws)
+      (Said-read-node 𝓤 H A mem run x₀) (λ (res : Node). res ≡ nodeOf x₀) (said-read-node 𝓤 H A mem run x₀)
       (λ _. id⊢ 𝓤 _) (goes-read-node 𝓤 H A mem run W x₀ g-x₀) (os _) k
 
 -- ---- `lay_node`
@@ -77,13 +81,17 @@ module _ {M : Type 1} (𝓤 : URA M) (H : Heap 𝓤) (A : Atoms 𝓤) (mem : Mem
   said-lay-node v₀ res = exE 𝓤 _ (λ ws. snd∗ 𝓤 (sem 𝓤 H A (lasts lay-node′.ended tt (v₀, tt) ws)) (fact 𝓤 (res ≡ laidOf v₀)))
 
   goes-lay-node : Given 𝓤 H A → (v₀ : Node) → IsNode v₀ → leafWord (v₀ .leaf) ≤ mostWord → ent 𝓤 (emp 𝓤) (Contract-lay-node .pre (to-lay-node v₀))
-  goes-lay-node W v₀ g-v₀ l = qed W [] ∵ says ! l $ nothing ! $ owned ! Node′.the-row (Is Node′.the-row) ((LL.makes Node′.the-type Node″.the-plain) 𝓤 H A) v₀ _ g-v₀ $ fjoin ! $ nothing ! $ frame ! $ done !
+  goes-lay-node W v₀ g-v₀ l = qed W [] ∵ says ! l $ nothing ! $ owned ! Node′.the-row (Is Node′.the-row)
+      ((LL.makes Node′.the-type Node″.the-plain) 𝓤 H A) v₀ _ g-v₀ $ fjoin ! $ nothing ! $ frame ! $ done !
 
-module _ {M : Type 1} {𝓤 : URA M} {H : Heap 𝓤} {A : Atoms 𝓤} {K : Type 0} {W : Given 𝓤 H A} {Γ : List (Item 𝓤)} {E : Env 𝓤 H} {C : Calls 𝓤 H} {Λ : Loops 𝓤 H} {xs : List Operand} {q : After 𝓤 H} {d : Place} {rest : Code} where
-  pub calls-lay-node : K → FmC 𝓤 H (W .laws) C → (mem : Memory → SProp 𝓤) (run : Routine → Fun 𝓤) → Triple 𝓤 (C #tree-node·arena·lay-node) (Contract-lay-node 𝓤 H A mem run) → (v₀ : Node) → IsNode v₀ → leafWord (v₀ .leaf) ≤ mostWord
+module _ {M : Type 1} {𝓤 : URA M} {H : Heap 𝓤} {A : Atoms 𝓤} {K : Type 0} {W : Given 𝓤 H A} {Γ : List (Item 𝓤)} {E : Env 𝓤 H} {C : Calls 𝓤 H} {Λ : Loops 𝓤 H}
+    {xs : List Operand} {q : After 𝓤 H} {d : Place} {rest : Code} where
+  pub calls-lay-node : K → FmC 𝓤 H (W .laws) C → (mem : Memory → SProp 𝓤) (run : Routine → Fun 𝓤) →
+      Triple 𝓤 (C #tree-node·arena·lay-node) (Contract-lay-node 𝓤 H A mem run) → (v₀ : Node) → IsNode v₀ → leafWord (v₀ .leaf) ≤ mostWord
       → ((P : Item 𝓤) → Opds K W (P ∷ Γ) E xs (val-Node v₀ ∷ []))
       → ((res : Cell) → res ≡ laidOf v₀ → Is Cell′.the-row res (val-Cell res ∷ []) → Seq K W Γ (lands C Λ E d (val-Cell res) rest q))
       → Seq K W Γ (runs C Λ E (seq (call #tree-node·arena·lay-node xs d) rest) q)
   calls-lay-node t fm mem run met v₀ g-v₀ l os k =
-      calls-plain t fm (Contract-lay-node 𝓤 H A mem run) met (to-lay-node 𝓤 H A mem run v₀) Cell′.the-row (val-Cell) (LL.tells Cell′.the-type Cell″.the-laws) (Said-lay-node 𝓤 H A mem run v₀) (λ (res : Cell). res ≡ laidOf v₀) (said-lay-node 𝓤 H A mem run v₀)
+      calls-plain t fm (Contract-lay-node 𝓤 H A mem run) met (to-lay-node 𝓤 H A mem run v₀) Cell′.the-row (val-Cell) (LL.tells Cell′.the-type Cell″.the-laws)
+      (Said-lay-node 𝓤 H A mem run v₀) (λ (res : Cell). res ≡ laidOf v₀) (said-lay-node 𝓤 H A mem run v₀)
       (λ _. id⊢ 𝓤 _) (goes-lay-node 𝓤 H A mem run W v₀ g-v₀ l) (os _) k

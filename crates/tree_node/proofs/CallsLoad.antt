@@ -51,10 +51,13 @@ module _ {M : Type 1} (𝓤 : URA M) (H : Heap 𝓤) (A : Atoms 𝓤) (mem : Mem
   abbrev to : Seat → List Cell → ℕ → Contract-load .Ghost
   to s-cells cells i = (((s-cells .life, tt), (s-cells .share, tt), tt, (ref-at s-cells cells, (i, tt)), (word s-cells ∷ [], (vint w64 i ∷ [], tt))), tt)
 
-  goes : Given 𝓤 H A → (s-cells : Seat) (cells : List Cell) (i : ℕ) → i < 2 ^ 64 → i < length cells → ent 𝓤 (⋆ 𝓤 H A (‵ (Tok s-cells) ∷ ‵ (Shr Cell′.the-row s-cells cells) ∷ [])) (Contract-load .pre (to s-cells cells i))
-  goes W s-cells cells i g-i l = qed W (‵ (Tok s-cells) ∷ ‵ (Shr Cell′.the-row s-cells cells) ∷ []) ∵ says ! l $ nothing ! $ move ! (1 ∷ 0 ∷ []) $ join ! $ frame ! $ nothing ! $ owned ! usize (Is usize) (uint-makes 𝓤 H A W w64) i _ (refl, g-i) $ fjoin ! $ move ! (1 ∷ 0 ∷ []) $ fjoin ! $ done !
+  goes : Given 𝓤 H A → (s-cells : Seat) (cells : List Cell) (i : ℕ) → i < 2 ^ 64 → i < length cells →
+      ent 𝓤 (⋆ 𝓤 H A (‵ (Tok s-cells) ∷ ‵ (Shr Cell′.the-row s-cells cells) ∷ [])) (Contract-load .pre (to s-cells cells i))
+  goes W s-cells cells i g-i l = qed W (‵ (Tok s-cells) ∷ ‵ (Shr Cell′.the-row s-cells cells) ∷ []) ∵ says ! l $ nothing ! $ move ! (1 ∷ 0 ∷ []) $ join ! $
+      frame ! $ nothing ! $ owned ! usize (Is usize) (uint-makes 𝓤 H A W w64) i _ (refl, g-i) $ fjoin ! $ move ! (1 ∷ 0 ∷ []) $ fjoin ! $ done !
 
-module _ {M : Type 1} {𝓤 : URA M} {H : Heap 𝓤} {A : Atoms 𝓤} {K : Type 0} {W : Given 𝓤 H A} {Γ : List (Item 𝓤)} {E : Env 𝓤 H} {C : Calls 𝓤 H} {Λ : Loops 𝓤 H} {xs : List Operand} {q : After 𝓤 H} {d : Place} {rest : Code} where
+module _ {M : Type 1} {𝓤 : URA M} {H : Heap 𝓤} {A : Atoms 𝓤} {K : Type 0} {W : Given 𝓤 H A} {Γ : List (Item 𝓤)} {E : Env 𝓤 H} {C : Calls 𝓤 H} {Λ : Loops 𝓤 H}
+    {xs : List Operand} {q : After 𝓤 H} {d : Place} {rest : Code} where
   pub calls-load-c : K → FmC 𝓤 H (W .laws) C → (mem : Memory → SProp 𝓤) (run : Routine → Fun 𝓤) → Triple 𝓤 (C #tree-node·arena·load) (Contract-load 𝓤 H A mem run)
       → (s-cells : Seat) (cells : List Cell) (i : ℕ) → i < 2 ^ 64 → i < length cells
       → ((P Ω0 : Item 𝓤) → Opds K W (P ∷ Ω0 ∷ Γ) E xs (word s-cells ∷ vint w64 i ∷ []))
@@ -64,10 +67,18 @@ module _ {M : Type 1} {𝓤 : URA M} {H : Heap 𝓤} {A : Atoms 𝓤} {K : Type 
       lend-copy t Cell′.the-row s-cells cells $
       group t 2 $ use1 W (raw (Contract-load 𝓤 H A mem run .pre (to 𝓤 H A mem run s-cells cells i))) (goes 𝓤 H A mem run W s-cells cells i g-i l) $
       calls-at t fm (Contract-load 𝓤 H A mem run) met (to 𝓤 H A mem run s-cells cells i) (os _ _) (λ out.
-      use1 W (later (some (λ (res : Node). ((‵ (Tok s-cells) ⊛ ‵ ftrue) ⊛ ‵ (Node′.the-row .own res (out ∷ []))) ⊛ raw (ensured 𝓤 H A callee.ended (callee.clauses 𝓤 H A mem run) (s-cells .life, tt) (ref-at s-cells cells, (i, tt)) tt res)))) (id⊢ 𝓤 _) $ await t tt $ pick t (λ res.
-      split t $ move t (1 ∷ []) $ use1 W (some (λ (ws : Unit {0} × (Unit {0} × (Unit {0}))). ‵ (lasts callee.ended (s-cells .life, tt) (ref-at s-cells cells, (i, tt)) ws) ⊛ raw (fact 𝓤 (Ensured-load cells i res)))) (id⊢ 𝓤 _) $ pick t (λ ws. split t $ move t (1 ∷ []) $ heard t (Ensured-load cells i res) (λ e. fsplit t $ drop t $ fsplit t $ drop t $ drop t $ split t $ move t (1 ∷ []) $ peeks t Node′.the-row (Is Node′.the-row) (shows 𝓤 H A Node′.the-row) res (out ∷ []) (λ is. drop t $ split t $ move t (1 ∷ []) $ drop t $
+      use1 W (later (some (λ (res : Node). ((‵ (Tok s-cells) ⊛ ‵ ftrue) ⊛ ‵ (Node′.the-row .own res (out ∷ []))) ⊛
+      raw (ensured 𝓤 H A callee.ended (callee.clauses 𝓤 H A mem run) (s-cells .life, tt) (ref-at s-cells cells, (i, tt)) tt res)))) (id⊢ 𝓤 _) $ await t tt $
+      pick t (λ res.
+      split t $ move t (1 ∷ []) $ use1 W (some (λ (ws : Unit {0} × (Unit {0} × (Unit {0}))).
+      ‵ (lasts callee.ended (s-cells .life, tt) (ref-at s-cells cells, (i, tt)) ws) ⊛ raw (fact 𝓤 (Ensured-load cells i res)))) (id⊢ 𝓤 _) $
+      pick t (λ ws. split t $ move t (1 ∷ []) $ heard t (Ensured-load cells i res) (λ e. fsplit t $ drop t $ fsplit t $ drop t $ drop t $ split t $
+      move t (1 ∷ []) $ peeks t Node′.the-row (Is Node′.the-row) (shows 𝓤 H A Node′.the-row) res (out ∷ []) (λ is. drop t $ split t $ move t (1 ∷ []) $
+      drop t $
       move t (1 ∷ 0 ∷ []) $
-      subst (λ (u : Val). Seq K W (‵ (Shr Cell′.the-row s-cells cells) ∷ ‵ (Tok s-cells) ∷ Γ) (lands C Λ E d u rest q)) (sym (ap only (LL.tells Node′.the-type Node″.the-laws res (out ∷ []) is))) (k res e (subst (Is Node′.the-row res) (LL.tells Node′.the-type Node″.the-laws res (out ∷ []) is) is)))))))
+      subst (λ (u : Val). Seq K W (‵ (Shr Cell′.the-row s-cells cells) ∷ ‵ (Tok s-cells) ∷ Γ) (lands C Λ E d u rest q))
+      (sym (ap only (LL.tells Node′.the-type Node″.the-laws res (out ∷ []) is)))
+      (k res e (subst (Is Node′.the-row res) (LL.tells Node′.the-type Node″.the-laws res (out ∷ []) is) is)))))))
 
   pub calls-load-s : K → FmC 𝓤 H (W .laws) C → (mem : Memory → SProp 𝓤) (run : Routine → Fun 𝓤) → Triple 𝓤 (C #tree-node·arena·load) (Contract-load 𝓤 H A mem run)
       → (s-cells : Seat) (cells : List Cell) (i : ℕ) → i < 2 ^ 64 → i < length cells
@@ -78,7 +89,15 @@ module _ {M : Type 1} {𝓤 : URA M} {H : Heap 𝓤} {A : Atoms 𝓤} {K : Type 
       lend-shr t tt Cell′.the-row s-cells cells (λ ν-cells δ-cells w-cells.
       group t 2 $ use1 W (raw (Contract-load 𝓤 H A mem run .pre (to 𝓤 H A mem run (lent-to s-cells ν-cells δ-cells) cells i))) (goes 𝓤 H A mem run W (lent-to s-cells ν-cells δ-cells) cells i g-i l) $
       calls-at t fm (Contract-load 𝓤 H A mem run) met (to 𝓤 H A mem run (lent-to s-cells ν-cells δ-cells) cells i) (os _ _) (λ out.
-      use1 W (later (some (λ (res : Node). ((‵ (Tok (lent-to s-cells ν-cells δ-cells)) ⊛ ‵ ftrue) ⊛ ‵ (Node′.the-row .own res (out ∷ []))) ⊛ raw (ensured 𝓤 H A callee.ended (callee.clauses 𝓤 H A mem run) (ν-cells ∷ [], tt) (ref-at (lent-to s-cells ν-cells δ-cells) cells, (i, tt)) tt res)))) (id⊢ 𝓤 _) $ await t tt $ pick t (λ res.
-      split t $ move t (1 ∷ []) $ use1 W (some (λ (ws : Unit {0} × (Unit {0} × (Unit {0}))). ‵ (lasts callee.ended (ν-cells ∷ [], tt) (ref-at (lent-to s-cells ν-cells δ-cells) cells, (i, tt)) ws) ⊛ raw (fact 𝓤 (Ensured-load cells i res)))) (id⊢ 𝓤 _) $ pick t (λ ws. split t $ move t (1 ∷ []) $ heard t (Ensured-load cells i res) (λ e. fsplit t $ drop t $ fsplit t $ drop t $ drop t $ split t $ move t (1 ∷ []) $ peeks t Node′.the-row (Is Node′.the-row) (shows 𝓤 H A Node′.the-row) res (out ∷ []) (λ is. drop t $ split t $ move t (1 ∷ []) $ drop t $
+      use1 W (later (some (λ (res : Node). ((‵ (Tok (lent-to s-cells ν-cells δ-cells)) ⊛ ‵ ftrue) ⊛ ‵ (Node′.the-row .own res (out ∷ []))) ⊛
+      raw (ensured 𝓤 H A callee.ended (callee.clauses 𝓤 H A mem run) (ν-cells ∷ [], tt) (ref-at (lent-to s-cells ν-cells δ-cells) cells, (i, tt)) tt res))))
+      (id⊢ 𝓤 _) $ await t tt $ pick t (λ res.
+      split t $ move t (1 ∷ []) $ use1 W (some (λ (ws : Unit {0} × (Unit {0} × (Unit {0}))).
+      ‵ (lasts callee.ended (ν-cells ∷ [], tt) (ref-at (lent-to s-cells ν-cells δ-cells) cells, (i, tt)) ws) ⊛ raw (fact 𝓤 (Ensured-load cells i res))))
+      (id⊢ 𝓤 _) $ pick t (λ ws. split t $ move t (1 ∷ []) $ heard t (Ensured-load cells i res) (λ e. fsplit t $ drop t $ fsplit t $ drop t $ drop t $
+      split t $ move t (1 ∷ []) $ peeks t Node′.the-row (Is Node′.the-row) (shows 𝓤 H A Node′.the-row) res (out ∷ []) (λ is. drop t $ split t $
+      move t (1 ∷ []) $ drop t $
       back-shr t tt Cell′.the-row s-cells ν-cells δ-cells cells w-cells $
-      subst (λ (u : Val). Seq K W (‵ (Mut Cell′.the-row s-cells cells) ∷ ‵ (Tok s-cells) ∷ Γ) (lands C Λ E d u rest q)) (sym (ap only (LL.tells Node′.the-type Node″.the-laws res (out ∷ []) is))) (k res e (subst (Is Node′.the-row res) (LL.tells Node′.the-type Node″.the-laws res (out ∷ []) is) is))))))))
+      subst (λ (u : Val). Seq K W (‵ (Mut Cell′.the-row s-cells cells) ∷ ‵ (Tok s-cells) ∷ Γ) (lands C Λ E d u rest q))
+      (sym (ap only (LL.tells Node′.the-type Node″.the-laws res (out ∷ []) is)))
+      (k res e (subst (Is Node′.the-row res) (LL.tells Node′.the-type Node″.the-laws res (out ∷ []) is) is))))))))

@@ -87,13 +87,15 @@ module _ {M : Type 1} (𝓤 : URA M) (H : Heap 𝓤) (A : Atoms 𝓤) (mem : Mem
   goes-wide : Given 𝓤 H A → (x : ℕ) → x < 2 ^ 32 → ent 𝓤 (emp 𝓤) (Wide .pre (to-wide x))
   goes-wide W x gx = qed W [] ∵ nothing ! $ nothing ! $ owned ! u32 (Is u32) (uint-makes 𝓤 H A W w32) x _ (refl, gx) $ fjoin ! $ move ! (1 ∷ 0 ∷ []) $ join ! $ frame ! $ nothing ! $ done !
 
-module _ {M : Type 1} {𝓤 : URA M} {H : Heap 𝓤} {A : Atoms 𝓤} {K : Type 0} {W : Given 𝓤 H A} {Γ : List (Item 𝓤)} {E : Env 𝓤 H} {C : Calls 𝓤 H} {Λ : Loops 𝓤 H} {xs : List Operand} {q : Post 𝓤 H} {d : Place} {rest : Body} where
+module _ {M : Type 1} {𝓤 : URA M} {H : Heap 𝓤} {A : Atoms 𝓤} {K : Type 0} {W : Given 𝓤 H A} {Γ : List (Item 𝓤)} {E : Env 𝓤 H} {C : Calls 𝓤 H} {Λ : Loops 𝓤 H}
+    {xs : List Operand} {q : Post 𝓤 H} {d : Place} {rest : Body} where
   pub calls-wide : K → FmC 𝓤 H (W .laws) C → (mem : Memory → SProp 𝓤) (run : Routine → Fun 𝓤) → Triple 𝓤 (C #tree_walk·wide) (Wide 𝓤 H A mem run) → (x : ℕ) → x < 2 ^ 32
       → ((P : Item 𝓤) → Opds K W (P ∷ Γ) E xs (vint w32 x ∷ []))
       → ((r : ℕ) → r ≡ x → Is usize r (vint w64 r ∷ []) → Seq K W Γ (lands C Λ E d (vint w64 r) rest q))
       → Seq K W Γ (runs C Λ E (seq (call #tree_walk·wide xs d) rest) q)
   calls-wide t fm mem run met x gx os k =
-      calls-plain t fm (Wide 𝓤 H A mem run) met (to-wide 𝓤 H A mem run x) usize (vint w64) (uint-tells w64) (Said-wide 𝓤 H A mem run x) (λ r. r ≡ x) (said-wide 𝓤 H A mem run x) (λ _. id⊢ 𝓤 _) (goes-wide 𝓤 H A mem run W x gx) (os _) k
+      calls-plain t fm (Wide 𝓤 H A mem run) met (to-wide 𝓤 H A mem run x) usize (vint w64) (uint-tells w64) (Said-wide 𝓤 H A mem run x) (λ r. r ≡ x)
+      (said-wide 𝓤 H A mem run x) (λ _. id⊢ 𝓤 _) (goes-wide 𝓤 H A mem run W x gx) (os _) k
 
 -- ---- `standing`
 module _ {M : Type 1} (𝓤 : URA M) (H : Heap 𝓤) (A : Atoms 𝓤) (mem : Memory → SProp 𝓤) (run : Routine → Fun 𝓤) where
@@ -110,15 +112,22 @@ module _ {M : Type 1} (𝓤 : URA M) (H : Heap 𝓤) (A : Atoms 𝓤) (mem : Mem
   said-standing a i e l r = exE 𝓤 _ (λ ws. snd∗ 𝓤 (sem 𝓤 H A (lasts standing.ended tt (a, (i, (e, (l, tt)))) ws)) (fact 𝓤 (r ≡ freshSpot a i e l)))
 
   goes-standing : Given 𝓤 H A → (a : Acc) (i : ℕ) (e : ℕ) (l : ℕ) → IsAcc a → i < 2 ^ 32 → e < 2 ^ 32 → l < 2 ^ 64 → ent 𝓤 (emp 𝓤) (Standing .pre (to-standing a i e l))
-  goes-standing W a i e l ga gi ge gl = qed W [] ∵ nothing ! $ nothing ! $ owned ! usize (Is usize) (uint-makes 𝓤 H A W w64) l _ (refl, gl) $ fjoin ! $ owned ! u32 (Is u32) (uint-makes 𝓤 H A W w32) e _ (refl, ge) $ fjoin ! $ owned ! u32 (Is u32) (uint-makes 𝓤 H A W w32) i _ (refl, gi) $ fjoin ! $ owned ! Acc′.the-row (Is Acc′.the-row) ((LL.makes Acc′.the-type Acc″.the-plain) 𝓤 H A) a _ ga $ fjoin ! $ move ! (1 ∷ 0 ∷ []) $ join ! $ frame ! $ nothing ! $ done !
+  goes-standing W a i e l ga gi ge gl = qed W [] ∵ nothing ! $ nothing ! $ owned ! usize (Is usize) (uint-makes 𝓤 H A W w64) l _ (refl, gl) $ fjoin ! $
+      owned ! u32 (Is u32) (uint-makes 𝓤 H A W w32) e _ (refl, ge) $ fjoin ! $ owned ! u32 (Is u32) (uint-makes 𝓤 H A W w32) i _ (refl, gi) $ fjoin ! $
+      owned ! Acc′.the-row (Is Acc′.the-row) ((LL.makes Acc′.the-type Acc″.the-plain) 𝓤 H A) a _ ga $ fjoin ! $ move ! (1 ∷ 0 ∷ []) $ join ! $ frame ! $
+      nothing ! $ done !
 
-module _ {M : Type 1} {𝓤 : URA M} {H : Heap 𝓤} {A : Atoms 𝓤} {K : Type 0} {W : Given 𝓤 H A} {Γ : List (Item 𝓤)} {E : Env 𝓤 H} {C : Calls 𝓤 H} {Λ : Loops 𝓤 H} {xs : List Operand} {q : Post 𝓤 H} {d : Place} {rest : Body} where
-  pub calls-standing : K → FmC 𝓤 H (W .laws) C → (mem : Memory → SProp 𝓤) (run : Routine → Fun 𝓤) → Triple 𝓤 (C #tree_walk·standing) (Standing 𝓤 H A mem run) → (a : Acc) (i : ℕ) (e : ℕ) (l : ℕ) → IsAcc a → i < 2 ^ 32 → e < 2 ^ 32 → l < 2 ^ 64
+module _ {M : Type 1} {𝓤 : URA M} {H : Heap 𝓤} {A : Atoms 𝓤} {K : Type 0} {W : Given 𝓤 H A} {Γ : List (Item 𝓤)} {E : Env 𝓤 H} {C : Calls 𝓤 H} {Λ : Loops 𝓤 H}
+    {xs : List Operand} {q : Post 𝓤 H} {d : Place} {rest : Body} where
+  pub calls-standing : K → FmC 𝓤 H (W .laws) C → (mem : Memory → SProp 𝓤) (run : Routine → Fun 𝓤) → Triple 𝓤 (C #tree_walk·standing) (Standing 𝓤 H A mem run) →
+      (a : Acc) (i : ℕ) (e : ℕ) (l : ℕ) → IsAcc a → i < 2 ^ 32 → e < 2 ^ 32 → l < 2 ^ 64
       → ((P : Item 𝓤) → Opds K W (P ∷ Γ) E xs (val-Acc a ∷ vint w32 i ∷ vint w32 e ∷ vint w64 l ∷ []))
       → ((r : Spot) → r ≡ freshSpot a i e l → Is Spot′.the-row r (val-Spot r ∷ []) → Seq K W Γ (lands C Λ E d (val-Spot r) rest q))
       → Seq K W Γ (runs C Λ E (seq (call #tree_walk·standing xs d) rest) q)
   calls-standing t fm mem run met a i e l ga gi ge gl os k =
-      calls-plain t fm (Standing 𝓤 H A mem run) met (to-standing 𝓤 H A mem run a i e l) Spot′.the-row (val-Spot) (LL.tells Spot′.the-type Spot″.the-laws) (Said-standing 𝓤 H A mem run a i e l) (λ r. r ≡ freshSpot a i e l) (said-standing 𝓤 H A mem run a i e l) (λ _. id⊢ 𝓤 _) (goes-standing 𝓤 H A mem run W a i e l ga gi ge gl) (os _) k
+      calls-plain t fm (Standing 𝓤 H A mem run) met (to-standing 𝓤 H A mem run a i e l) Spot′.the-row (val-Spot) (LL.tells Spot′.the-type Spot″.the-laws)
+      (Said-standing 𝓤 H A mem run a i e l) (λ r. r ≡ freshSpot a i e l) (said-standing 𝓤 H A mem run a i e l) (λ _. id⊢ 𝓤 _)
+      (goes-standing 𝓤 H A mem run W a i e l ga gi ge gl) (os _) k
 
 -- ---- `resumed`
 module _ {M : Type 1} (𝓤 : URA M) (H : Heap 𝓤) (A : Atoms 𝓤) (mem : Memory → SProp 𝓤) (run : Routine → Fun 𝓤) where
@@ -135,15 +144,20 @@ module _ {M : Type 1} (𝓤 : URA M) (H : Heap 𝓤) (A : Atoms 𝓤) (mem : Mem
   said-resumed s a r = exE 𝓤 _ (λ ws. snd∗ 𝓤 (sem 𝓤 H A (lasts resumed.ended tt (s, (a, tt)) ws)) (fact 𝓤 (r ≡ freshSpot a (s .at) (s .end) (s .level))))
 
   goes-resumed : Given 𝓤 H A → (s : Spot) (a : Acc) → IsSpot s → IsAcc a → ent 𝓤 (emp 𝓤) (Resumed .pre (to-resumed s a))
-  goes-resumed W s a gs ga = qed W [] ∵ nothing ! $ nothing ! $ owned ! Acc′.the-row (Is Acc′.the-row) ((LL.makes Acc′.the-type Acc″.the-plain) 𝓤 H A) a _ ga $ fjoin ! $ owned ! Spot′.the-row (Is Spot′.the-row) ((LL.makes Spot′.the-type Spot″.the-plain) 𝓤 H A) s _ gs $ fjoin ! $ move ! (1 ∷ 0 ∷ []) $ join ! $ frame ! $ nothing ! $ done !
+  goes-resumed W s a gs ga = qed W [] ∵ nothing ! $ nothing ! $ owned ! Acc′.the-row (Is Acc′.the-row) ((LL.makes Acc′.the-type Acc″.the-plain) 𝓤 H A) a _ ga $
+      fjoin ! $ owned ! Spot′.the-row (Is Spot′.the-row) ((LL.makes Spot′.the-type Spot″.the-plain) 𝓤 H A) s _ gs $ fjoin ! $ move ! (1 ∷ 0 ∷ []) $ join ! $
+      frame ! $ nothing ! $ done !
 
-module _ {M : Type 1} {𝓤 : URA M} {H : Heap 𝓤} {A : Atoms 𝓤} {K : Type 0} {W : Given 𝓤 H A} {Γ : List (Item 𝓤)} {E : Env 𝓤 H} {C : Calls 𝓤 H} {Λ : Loops 𝓤 H} {xs : List Operand} {q : Post 𝓤 H} {d : Place} {rest : Body} where
+module _ {M : Type 1} {𝓤 : URA M} {H : Heap 𝓤} {A : Atoms 𝓤} {K : Type 0} {W : Given 𝓤 H A} {Γ : List (Item 𝓤)} {E : Env 𝓤 H} {C : Calls 𝓤 H} {Λ : Loops 𝓤 H}
+    {xs : List Operand} {q : Post 𝓤 H} {d : Place} {rest : Body} where
   pub calls-resumed : K → FmC 𝓤 H (W .laws) C → (mem : Memory → SProp 𝓤) (run : Routine → Fun 𝓤) → Triple 𝓤 (C #tree_walk·resumed) (Resumed 𝓤 H A mem run) → (s : Spot) (a : Acc) → IsSpot s → IsAcc a
       → ((P : Item 𝓤) → Opds K W (P ∷ Γ) E xs (val-Spot s ∷ val-Acc a ∷ []))
       → ((r : Spot) → r ≡ freshSpot a (s .at) (s .end) (s .level) → Is Spot′.the-row r (val-Spot r ∷ []) → Seq K W Γ (lands C Λ E d (val-Spot r) rest q))
       → Seq K W Γ (runs C Λ E (seq (call #tree_walk·resumed xs d) rest) q)
   calls-resumed t fm mem run met s a gs ga os k =
-      calls-plain t fm (Resumed 𝓤 H A mem run) met (to-resumed 𝓤 H A mem run s a) Spot′.the-row (val-Spot) (LL.tells Spot′.the-type Spot″.the-laws) (Said-resumed 𝓤 H A mem run s a) (λ r. r ≡ freshSpot a (s .at) (s .end) (s .level)) (said-resumed 𝓤 H A mem run s a) (λ _. id⊢ 𝓤 _) (goes-resumed 𝓤 H A mem run W s a gs ga) (os _) k
+      calls-plain t fm (Resumed 𝓤 H A mem run) met (to-resumed 𝓤 H A mem run s a) Spot′.the-row (val-Spot) (LL.tells Spot′.the-type Spot″.the-laws)
+      (Said-resumed 𝓤 H A mem run s a) (λ r. r ≡ freshSpot a (s .at) (s .end) (s .level)) (said-resumed 𝓤 H A mem run s a) (λ _. id⊢ 𝓤 _)
+      (goes-resumed 𝓤 H A mem run W s a gs ga) (os _) k
 
 -- ---- `nothing_yet`
 module _ {M : Type 1} (𝓤 : URA M) (H : Heap 𝓤) (A : Atoms 𝓤) (mem : Memory → SProp 𝓤) (run : Routine → Fun 𝓤) where
@@ -162,10 +176,12 @@ module _ {M : Type 1} (𝓤 : URA M) (H : Heap 𝓤) (A : Atoms 𝓤) (mem : Mem
   goes-nothing-yet : Given 𝓤 H A → ent 𝓤 (emp 𝓤) (NothingYet .pre to-nothing-yet)
   goes-nothing-yet W = qed W [] ∵ nothing ! $ nothing ! $ move ! (1 ∷ 0 ∷ []) $ join ! $ frame ! $ nothing ! $ done !
 
-module _ {M : Type 1} {𝓤 : URA M} {H : Heap 𝓤} {A : Atoms 𝓤} {K : Type 0} {W : Given 𝓤 H A} {Γ : List (Item 𝓤)} {E : Env 𝓤 H} {C : Calls 𝓤 H} {Λ : Loops 𝓤 H} {xs : List Operand} {q : Post 𝓤 H} {d : Place} {rest : Body} where
+module _ {M : Type 1} {𝓤 : URA M} {H : Heap 𝓤} {A : Atoms 𝓤} {K : Type 0} {W : Given 𝓤 H A} {Γ : List (Item 𝓤)} {E : Env 𝓤 H} {C : Calls 𝓤 H} {Λ : Loops 𝓤 H}
+    {xs : List Operand} {q : Post 𝓤 H} {d : Place} {rest : Body} where
   pub calls-nothing-yet : K → FmC 𝓤 H (W .laws) C → (mem : Memory → SProp 𝓤) (run : Routine → Fun 𝓤) → Triple 𝓤 (C #tree_walk·nothing-yet) (NothingYet 𝓤 H A mem run)
       → ((P : Item 𝓤) → Opds K W (P ∷ Γ) E xs [])
       → ((r : Acc) → r ≡ empty → Is Acc′.the-row r (val-Acc r ∷ []) → Seq K W Γ (lands C Λ E d (val-Acc r) rest q))
       → Seq K W Γ (runs C Λ E (seq (call #tree_walk·nothing-yet xs d) rest) q)
   calls-nothing-yet t fm mem run met os k =
-      calls-plain t fm (NothingYet 𝓤 H A mem run) met (to-nothing-yet 𝓤 H A mem run) Acc′.the-row (val-Acc) (LL.tells Acc′.the-type Acc″.the-laws) (Said-nothing-yet 𝓤 H A mem run) (λ r. r ≡ empty) (said-nothing-yet 𝓤 H A mem run) (λ _. id⊢ 𝓤 _) (goes-nothing-yet 𝓤 H A mem run W) (os _) k
+      calls-plain t fm (NothingYet 𝓤 H A mem run) met (to-nothing-yet 𝓤 H A mem run) Acc′.the-row (val-Acc) (LL.tells Acc′.the-type Acc″.the-laws)
+      (Said-nothing-yet 𝓤 H A mem run) (λ r. r ≡ empty) (said-nothing-yet 𝓤 H A mem run) (λ _. id⊢ 𝓤 _) (goes-nothing-yet 𝓤 H A mem run W) (os _) k

@@ -72,7 +72,8 @@ module _ {M : Type 1} (𝓤 : URA M) (H : Heap 𝓤) (A : Atoms 𝓤) (mem : Mem
       nothing ! $ owned ! usize (Is usize) (uint-makes 𝓤 H A W w64) i _ (refl, gi) $ fjoin ! $ move ! (1 ∷ 0 ∷ []) $ fjoin ! $ done !
 
 -- the operands of a call, at the values vs, read with two entries of no matter what in front
-module _ {M : Type 1} {𝓤 : URA M} {H : Heap 𝓤} {A : Atoms 𝓤} {K : Type 0} {W : Given 𝓤 H A} {Γ : List (Item 𝓤)} {E : Env 𝓤 H} {C : Calls 𝓤 H} {Λ : Loops 𝓤 H} {xs : List Operand} {p : Post 𝓤 H} {d : Place} {rest : Body} where
+module _ {M : Type 1} {𝓤 : URA M} {H : Heap 𝓤} {A : Atoms 𝓤} {K : Type 0} {W : Given 𝓤 H A} {Γ : List (Item 𝓤)} {E : Env 𝓤 H} {C : Calls 𝓤 H} {Λ : Loops 𝓤 H}
+    {xs : List Operand} {p : Post 𝓤 H} {d : Place} {rest : Body} where
   pub calls-cell-at : K → FmC 𝓤 H (W .laws) C → (mem : Memory → SProp 𝓤) (run : Routine → Fun 𝓤) → Triple 𝓤 (C #tree_node·cell-at) (CellAt 𝓤 H A mem run)
       → (κ : Lft) (q : Share) (b o : ℕ) (γ : GName) (ys : List Cell) (n i : ℕ) → i < 2 ^ 64 → i < length ys
       → ((P Ω : Item 𝓤) → Opds K W (P ∷ Ω ∷ Γ) E xs (sliceVal (b, o) n ∷ vint w64 i ∷ []))
@@ -84,5 +85,9 @@ module _ {M : Type 1} {𝓤 : URA M} {H : Heap 𝓤} {A : Atoms 𝓤} {K : Type 
       calls-at t fm (CellAt 𝓤 H A mem run) met (to-cell-at 𝓤 H A mem run κ q b o γ ys n i) (os _ _) (λ v.
       use1 W (later (some (λ (r : Cell). ((‵ (flft κ q) ⊛ ‵ ftrue) ⊛ ‵ (N.the-row .own r (v ∷ []))) ⊛ raw (Said 𝓤 H A mem run κ b o γ ys i r)))) (id⊢ 𝓤 _) $ await t tt $ pick t (λ r.
       split t $ move t (1 ∷ []) $ use1 W (raw (fact 𝓤 (r ≡ cellAt ys i))) (said 𝓤 H A mem run κ b o γ ys i r) $ heard t (r ≡ cellAt ys i) (λ e.
-      split t $ move t (1 ∷ []) $ rewrite t 0 (λ (z : Cell). ‵ (N.the-row .own z (v ∷ []))) e refl $ peeks t N.the-row (Is N.the-row) (shows 𝓤 H A N.the-row) (cellAt ys i) (v ∷ []) (λ is. drop t $ split t $ move t (1 ∷ []) $ drop t $ move t (1 ∷ 0 ∷ []) $
-      subst (λ (u : Val). Seq K W (‵ (ShrCells κ b o γ ys n) ∷ ‵ (flft κ q) ∷ Γ) (lands C Λ E d u rest p)) (sym (ap only (LL.tells N.the-type N′.the-laws (cellAt ys i) (v ∷ []) is))) (k (subst (Is N.the-row (cellAt ys i)) (LL.tells N.the-type N′.the-laws (cellAt ys i) (v ∷ []) is) is))))))
+      split t $ move t (1 ∷ []) $ rewrite t 0 (λ (z : Cell). ‵ (N.the-row .own z (v ∷ []))) e refl $
+      peeks t N.the-row (Is N.the-row) (shows 𝓤 H A N.the-row) (cellAt ys i) (v ∷ []) (λ is. drop t $ split t $ move t (1 ∷ []) $ drop t $
+      move t (1 ∷ 0 ∷ []) $
+      subst (λ (u : Val). Seq K W (‵ (ShrCells κ b o γ ys n) ∷ ‵ (flft κ q) ∷ Γ) (lands C Λ E d u rest p))
+      (sym (ap only (LL.tells N.the-type N′.the-laws (cellAt ys i) (v ∷ []) is)))
+      (k (subst (Is N.the-row (cellAt ys i)) (LL.tells N.the-type N′.the-laws (cellAt ys i) (v ∷ []) is) is))))))

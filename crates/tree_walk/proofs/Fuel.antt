@@ -39,7 +39,7 @@ opened c q p theta2 v k x h₀ h₁ z = go (eqb (v .count) 0) (rw (eq-eqb (v .fi
     go true y = h₀ y
     go false y = leaf-small q (v .count) (v .leaf) (λ w. h₀ (y ∙ w)) (λ w. h₁ (y ∙ w))
 
-nowhere : (i used : ℕ) → i < used → used ≤ i + 0 → ⊥
+pub nowhere : (i used : ℕ) → i < used → used ≤ i + 0 → ⊥
 nowhere i used l m = omega arith
 
 module _ (c q : ℕ) (p : List Float) (theta2 : Float) (ns : List Node) where

@@ -77,7 +77,8 @@ module _ (levels size used : ℕ) (eye : Eye) (ys : List Cell) (low to : ℕ) (a
         deeper : r .deep < r .stop → Deep levels used eye ys low goal (s .st) (s .s) r zs
         deeper l = going-deep levels used eye ys (req .4) (req .0) (s .going) less (gave .0) (gave .1) l
 
-        pub resumes : (l : r .deep < r .stop) (a : Acc) → FoundDeeper ys used eye (r .deep) (r .stop) (r .acc) a → (w : Spot) → w ≡ freshSpot a (r .at) (r .end) (r .level) → Goes levels used eye ys low goal (s .st) (s .s) w zs
+        pub resumes : (l : r .deep < r .stop) (a : Acc) → FoundDeeper ys used eye (r .deep) (r .stop) (r .acc) a → (w : Spot) →
+            w ≡ freshSpot a (r .at) (r .end) (r .level) → Goes levels used eye ys low goal (s .st) (s .s) w zs
         resumes l a ea w ew = subst (λ (u : Spot). Goes levels used eye ys low goal (s .st) (s .s) u zs) (sym ew) (deeper l .onto a ea)
 
         pub smaller : r .deep < r .stop → used - r .deep < used - low

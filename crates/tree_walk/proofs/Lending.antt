@@ -62,15 +62,19 @@ module _ {M : Type 1} (𝓤 : URA M) (H : Heap 𝓤) (A : Atoms 𝓤) (mem : Mem
       → ent 𝓤 (sep 𝓤 (A .lft (ν ∷ []) fullShare) (sem 𝓤 H A (MutRef (named 0) (ν ∷ []) (Array u32 64) .own (array-at b δ st) (vptr b 0 ∷ [])))) (ShortTurn .pre (to-short b st v s y ν δ))
   goes-short W b st v s y gv gs gy l ν δ =
       qed W (‵ (flft (ν ∷ []) fullShare) ∷ ‵ (MutRef (named 0) (ν ∷ []) (Array u32 64) .own (array-at b δ st) (vptr b 0 ∷ [])) ∷ []) ∵ says ! l $ nothing ! $ move ! (1 ∷ 0 ∷ []) $ join ! $ frame ! $
-      nothing ! $ owned ! Eye′.the-row (Is Eye′.the-row) ((LL.makes Eye′.the-type Eye″.the-plain) 𝓤 H A) y _ gy $ fjoin ! $ owned ! Spot′.the-row (Is Spot′.the-row) ((LL.makes Spot′.the-type Spot″.the-plain) 𝓤 H A) s _ gs $ fjoin ! $
+      nothing ! $ owned ! Eye′.the-row (Is Eye′.the-row) ((LL.makes Eye′.the-type Eye″.the-plain) 𝓤 H A) y _ gy $ fjoin ! $
+      owned ! Spot′.the-row (Is Spot′.the-row) ((LL.makes Spot′.the-type Spot″.the-plain) 𝓤 H A) s _ gs $ fjoin ! $
       owned ! N.the-row (Is N.the-row) ((LL.makes N.the-type N′.the-plain) 𝓤 H A) v _ gv $ fjoin ! $ move ! (1 ∷ 0 ∷ []) $ fjoin ! $ done !
 
   pub told-short : Given 𝓤 H A → (b : ℕ) (st : List ℕ) (v : Cell) (s : Spot) (y : Eye) (ν : ℕ) (δ : GName) (u : Val)
       → ent 𝓤 (ShortTurn .post (to-short b st v s y ν δ) u) (H .⇛ (ex 𝓤 (Told 𝓤 H A u32 64 Spot′.the-row val-Spot (Gives 32 st v s y) ν δ u)))
   told-short W b st v s y ν δ u =
       qed W (raw (ShortTurn .post (to-short b st v s y ν δ) u) ∷ []) ∵ updating ! $
-      use1 W (later (some (λ (r : Spot). ((‵ (flft (ν ∷ []) fullShare) ⊛ ‵ ftrue) ⊛ ‵ (Spot′.the-row .own r (u ∷ []))) ⊛ raw (ensured 𝓤 H A short.ended (short.clauses 𝓤 H A mem run) (ν ∷ [], tt) (array-at b δ st, (v, (s, (y, tt)))) tt r)))) (id⊢ 𝓤 _) $ await ! tt $ pick ! (λ r.
-      split ! $ move ! (1 ∷ []) $ use1 W (some (λ (ws : List ℕ × (Unit {0} × (Unit {0} × (Unit {0} × Unit {0})))). ‵ (lasts short.ended (ν ∷ [], tt) (array-at b δ st, (v, (s, (y, tt)))) ws) ⊛ raw (fact 𝓤 (Gives 32 st v s y r (ws .0))))) (id⊢ 𝓤 _) $ pick ! (λ ws.
+      use1 W (later (some (λ (r : Spot). ((‵ (flft (ν ∷ []) fullShare) ⊛ ‵ ftrue) ⊛ ‵ (Spot′.the-row .own r (u ∷ []))) ⊛
+      raw (ensured 𝓤 H A short.ended (short.clauses 𝓤 H A mem run) (ν ∷ [], tt) (array-at b δ st, (v, (s, (y, tt)))) tt r)))) (id⊢ 𝓤 _) $ await ! tt $
+      pick ! (λ r.
+      split ! $ move ! (1 ∷ []) $ use1 W (some (λ (ws : List ℕ × (Unit {0} × (Unit {0} × (Unit {0} × Unit {0})))).
+      ‵ (lasts short.ended (ν ∷ [], tt) (array-at b δ st, (v, (s, (y, tt)))) ws) ⊛ raw (fact 𝓤 (Gives 32 st v s y r (ws .0))))) (id⊢ 𝓤 _) $ pick ! (λ ws.
       split ! $ move ! (1 ∷ []) $ heard ! (Gives 32 st v s y r (ws .0)) (λ e. fsplit ! $ move ! (1 ∷ []) $ drop ! $
       -- [the last value; the token and the result]
       move ! (1 ∷ []) $ split ! $ move ! (1 ∷ []) $ peeks ! Spot′.the-row (Is Spot′.the-row) (shows 𝓤 H A Spot′.the-row) r (u ∷ []) (λ is. drop ! $ split ! $ move ! (1 ∷ []) $ drop ! $ at-once ! $
@@ -89,15 +93,19 @@ module _ {M : Type 1} (𝓤 : URA M) (H : Heap 𝓤) (A : Atoms 𝓤) (mem : Mem
       → ent 𝓤 (sep 𝓤 (A .lft (ν ∷ []) fullShare) (sem 𝓤 H A (MutRef (named 0) (ν ∷ []) (Array u32 512) .own (array-at b δ st) (vptr b 0 ∷ [])))) (LongTurn .pre (to-long b st v s y ν δ))
   goes-long W b st v s y gv gs gy l ν δ =
       qed W (‵ (flft (ν ∷ []) fullShare) ∷ ‵ (MutRef (named 0) (ν ∷ []) (Array u32 512) .own (array-at b δ st) (vptr b 0 ∷ [])) ∷ []) ∵ says ! l $ nothing ! $ move ! (1 ∷ 0 ∷ []) $ join ! $ frame ! $
-      nothing ! $ owned ! Eye′.the-row (Is Eye′.the-row) ((LL.makes Eye′.the-type Eye″.the-plain) 𝓤 H A) y _ gy $ fjoin ! $ owned ! Spot′.the-row (Is Spot′.the-row) ((LL.makes Spot′.the-type Spot″.the-plain) 𝓤 H A) s _ gs $ fjoin ! $
+      nothing ! $ owned ! Eye′.the-row (Is Eye′.the-row) ((LL.makes Eye′.the-type Eye″.the-plain) 𝓤 H A) y _ gy $ fjoin ! $
+      owned ! Spot′.the-row (Is Spot′.the-row) ((LL.makes Spot′.the-type Spot″.the-plain) 𝓤 H A) s _ gs $ fjoin ! $
       owned ! N.the-row (Is N.the-row) ((LL.makes N.the-type N′.the-plain) 𝓤 H A) v _ gv $ fjoin ! $ move ! (1 ∷ 0 ∷ []) $ fjoin ! $ done !
 
   pub told-long : Given 𝓤 H A → (b : ℕ) (st : List ℕ) (v : Cell) (s : Spot) (y : Eye) (ν : ℕ) (δ : GName) (u : Val)
       → ent 𝓤 (LongTurn .post (to-long b st v s y ν δ) u) (H .⇛ (ex 𝓤 (Told 𝓤 H A u32 512 Spot′.the-row val-Spot (Gives 256 st v s y) ν δ u)))
   told-long W b st v s y ν δ u =
       qed W (raw (LongTurn .post (to-long b st v s y ν δ) u) ∷ []) ∵ updating ! $
-      use1 W (later (some (λ (r : Spot). ((‵ (flft (ν ∷ []) fullShare) ⊛ ‵ ftrue) ⊛ ‵ (Spot′.the-row .own r (u ∷ []))) ⊛ raw (ensured 𝓤 H A long.ended (long.clauses 𝓤 H A mem run) (ν ∷ [], tt) (array-at b δ st, (v, (s, (y, tt)))) tt r)))) (id⊢ 𝓤 _) $ await ! tt $ pick ! (λ r.
-      split ! $ move ! (1 ∷ []) $ use1 W (some (λ (ws : List ℕ × (Unit {0} × (Unit {0} × (Unit {0} × Unit {0})))). ‵ (lasts long.ended (ν ∷ [], tt) (array-at b δ st, (v, (s, (y, tt)))) ws) ⊛ raw (fact 𝓤 (Gives 256 st v s y r (ws .0))))) (id⊢ 𝓤 _) $ pick ! (λ ws.
+      use1 W (later (some (λ (r : Spot). ((‵ (flft (ν ∷ []) fullShare) ⊛ ‵ ftrue) ⊛ ‵ (Spot′.the-row .own r (u ∷ []))) ⊛
+      raw (ensured 𝓤 H A long.ended (long.clauses 𝓤 H A mem run) (ν ∷ [], tt) (array-at b δ st, (v, (s, (y, tt)))) tt r)))) (id⊢ 𝓤 _) $ await ! tt $
+      pick ! (λ r.
+      split ! $ move ! (1 ∷ []) $ use1 W (some (λ (ws : List ℕ × (Unit {0} × (Unit {0} × (Unit {0} × Unit {0})))).
+      ‵ (lasts long.ended (ν ∷ [], tt) (array-at b δ st, (v, (s, (y, tt)))) ws) ⊛ raw (fact 𝓤 (Gives 256 st v s y r (ws .0))))) (id⊢ 𝓤 _) $ pick ! (λ ws.
       split ! $ move ! (1 ∷ []) $ heard ! (Gives 256 st v s y r (ws .0)) (λ e. fsplit ! $ move ! (1 ∷ []) $ drop ! $
       -- [the last value; the token and the result]
       move ! (1 ∷ []) $ split ! $ move ! (1 ∷ []) $ peeks ! Spot′.the-row (Is Spot′.the-row) (shows 𝓤 H A Spot′.the-row) r (u ∷ []) (λ is. drop ! $ split ! $ move ! (1 ∷ []) $ drop ! $ at-once ! $

@@ -30,7 +30,8 @@ module _ (ns more : List Node) (used c : ℕ) (within : used ≤ length ns) (ok 
               let b = block c q p theta2 ns used ok i l h₀ h₁ in
               opens c q p theta2 (ns ++ more) g i a (λ x. h₀ (sym k ∙ x)) (λ x. h₁ (sym k ∙ x))
               ∙ ap (λ (v : Node). loop (λ j y. walkOf g c q p theta2 (ns ++ more) (v .first + j) y) (2 ^ c) 0 a) e
-              ∙ loop-same (λ j y. walkOf g c q p theta2 (ns ++ more) (nodeAt ns i .first + j) y) (λ j y. walkOf g c q p theta2 ns (nodeAt ns i .first + j) y) (2 ^ c) 0 a (λ j y _ lj. walk-longer g (nodeAt ns i .first + j) y (omega (arith, b, lj)))
+              ∙ loop-same (λ j y. walkOf g c q p theta2 (ns ++ more) (nodeAt ns i .first + j) y) (λ j y. walkOf g c q p theta2 ns (nodeAt ns i .first + j) y)
+              (2 ^ c) 0 a (λ j y _ lj. walk-longer g (nodeAt ns i .first + j) y (omega (arith, b, lj)))
               ∙ sym (opens c q p theta2 ns g i a h₀ h₁)
         ]
       ]

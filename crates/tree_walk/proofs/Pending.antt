@@ -1,4 +1,5 @@
--- The loop of the walk, with a stack of any number of levels. What is still to be walked is a list of cells: those from where the walk stands up to the end of their block, then the rest of each block on the stack, the highest level first.
+-- The loop of the walk, with a stack of any number of levels. What is still to be walked is a list of cells: those from where the walk stands up to the end of
+-- their block, then the rest of each block on the stack, the highest level first.
 -- The result is the walks from these, one after the other, from what has been gathered. A turn takes the first of them off, or puts its children in its place.
 --     pending          what is still to be walked
 --     Going            the invariant.       going-start, going-turn, going-next, going-deep, going-done       its laws
@@ -26,7 +27,8 @@ use Rattle.tree_walk.specs.declared.Spot.{Spot}
 use Rattle.tree_walk.specs.Repel.{walkOf, Blocks}
 use Rattle.tree_walk.specs.Turn.{freshSpot, pastCell, openedOf, pushedOf, seenAs, turnedOf, stackedOf}
 use Rattle.tree_walk.proofs.Fuel.{block, whole-skip, whole-body, whole-open}
-use Rattle.tree_walk.proofs.Walked.{numbersFrom, visitsOf, load, load-app, load-block, weight-pos, Inside, inside-app, inside-range, node-at, over-cells, walks, walks-app, walks-range, cell-first, some-children, just-added}
+use Rattle.tree_walk.proofs.Walked.{numbersFrom, visitsOf, load, load-app, load-block, weight-pos, Inside, inside-app, inside-range, node-at, over-cells}
+use Rattle.tree_walk.proofs.Walked.{walks, walks-app, walks-range, cell-first, some-children, just-added}
 
 -- no cells are left to a walk of their own
 abbrev None : Spot → Type 0
@@ -56,7 +58,8 @@ module _ (levels : ℕ) where
   frames-set st l x y zero h m = refl
   frames-set st l x y (suc k) h m =
       let low : num (set (set st l x) (l + levels) y) k ≡ num st k = getD-set-other (set st l x) (l + levels) k y 0 (λ q. omega (arith, q)) ∙ getD-set-other st l k x 0 (λ q. omega (arith, q)) in
-      let high : num (set (set st l x) (l + levels) y) (k + levels) ≡ num st (k + levels) = getD-set-other (set st l x) (l + levels) (k + levels) y 0 (λ q. omega (arith, q)) ∙ getD-set-other st l (k + levels) x 0 (λ q. omega (arith, q)) in
+      let high : num (set (set st l x) (l + levels) y) (k + levels) ≡ num st (k + levels) = getD-set-other (set st l x) (l + levels) (k + levels) y 0
+      (λ q. omega (arith, q)) ∙ getD-set-other st l (k + levels) x 0 (λ q. omega (arith, q)) in
       rw (low, high) (ap (λ (r : List ℕ). numbersFrom (num st k) (num st (k + levels) - num st k) ++ r) (frames-set st l x y k (omega arith) m))
 
   -- ---- the stack is in order: no level is empty, and where the walk is at the end of a block, none is left
@@ -101,8 +104,30 @@ module _ (levels : ℕ) where
   onward-stands st s a k l =
       onward-cases (λ r. Stands st (restOnStack st s) a r × None r) st s a
       (λ m. (record { sound = record { size = k .size; room = k .room; live = inl m; full = k .full }; ahead = refl; gives = refl }, none-zero))
-      (λ m e. (record { sound = record { size = k .size; room = omega arith; live = inr refl; full = λ j h. absurd (none-below j h) }; ahead = ap (λ (n : ℕ). numbersFrom (s .at + 1) n ++ []) (none (s .end) (s .at + 1) m) ∙ sym (rest-over st s m ∙ ap (frames st) e); gives = refl }, none-zero))
-      (λ m n. (record { sound = record { size = k .size; room = omega (arith, k .room); live = inl (k .full (s .level - 1) (omega arith)); full = λ j h. k .full j (omega arith) }; ahead = sym (rest-over st s m ∙ frames-top st (s .level) n); gives = refl }, none-zero))
+      (λ m e. (
+        record {
+          sound = record { size = k .size; room = omega arith; live = inr refl; full = λ j h. absurd (none-below j h) };
+          ahead = ap
+              (λ (n : ℕ). numbersFrom (s .at + 1) n ++ []) (none (s .end) (s .at + 1) m) ∙ sym (rest-over st s m ∙ ap (frames st) e);
+          gives = refl;
+        },
+        none-zero,
+      ))
+      (λ m n. (
+        record {
+          sound = record {
+            size = k .size;
+            room = omega (arith, k .room);
+            live = inl
+                (k .full (s .level - 1) (omega arith));
+            full = λ j h. k .full j (omega arith);
+          };
+          ahead = sym
+              (rest-over st s m ∙ frames-top st (s .level) n);
+          gives = refl;
+        },
+        none-zero,
+      ))
     where
       none-below : (j : ℕ) → j < 0 → ⊥
       none-below j h = omega arith
@@ -133,8 +158,10 @@ module _ (levels : ℕ) where
 
   over-below : (st : List ℕ) (s : Spot) (j : ℕ) → j < s .level → s .level < levels → num st j < num st (j + levels) → num (over st s) j < num (over st s) (j + levels)
   over-below st s j h n f =
-      let low : num (over st s) j ≡ num st j = getD-set-other (set st (s .level) (s .at + 1)) (s .level + levels) j (s .end) 0 (λ q. omega (arith, q)) ∙ getD-set-other st (s .level) j (s .at + 1) 0 (λ q. omega (arith, q)) in
-      let high : num (over st s) (j + levels) ≡ num st (j + levels) = getD-set-other (set st (s .level) (s .at + 1)) (s .level + levels) (j + levels) (s .end) 0 (λ q. omega (arith, q)) ∙ getD-set-other st (s .level) (j + levels) (s .at + 1) 0 (λ q. omega (arith, q)) in
+      let low : num (over st s) j ≡ num st j = getD-set-other (set st (s .level) (s .at + 1)) (s .level + levels) j (s .end) 0 (λ q. omega (arith, q)) ∙
+      getD-set-other st (s .level) j (s .at + 1) 0 (λ q. omega (arith, q)) in
+      let high : num (over st s) (j + levels) ≡ num st (j + levels) = getD-set-other (set st (s .level) (s .at + 1)) (s .level + levels) (j + levels) (s .end) 0
+      (λ q. omega (arith, q)) ∙ getD-set-other st (s .level) (j + levels) (s .at + 1) 0 (λ q. omega (arith, q)) in
       rw (low, high) f
 
   top : (l m : ℕ) → m ≡ suc l → (zs : List ℕ) → frames zs m ≡ numbersFrom (num zs l) (num zs (l + levels) - num zs l) ++ frames zs l
@@ -143,8 +170,10 @@ module _ (levels : ℕ) where
   pub opened-stands : (st : List ℕ) (s : Spot) (f e : ℕ) → SoundStack st s → s .at < s .end → f < e → Opens st s f e (openedOf levels s f e) (pushedOf levels st s)
   opened-stands st s f e k l fe =
       opened-cases (Opens st s f e) st s f e
-      (λ m n. let low : num (over st s) (s .level) ≡ s .at + 1 = getD-set-other (set st (s .level) (s .at + 1)) (s .level + levels) (s .level) (s .end) 0 (λ q. omega (arith, q)) ∙ getD-set-same st (s .level) (s .at + 1) 0 (omega (arith, k .size)) in
-      let high : num (over st s) (s .level + levels) ≡ s .end = getD-set-same (set st (s .level) (s .at + 1)) (s .level + levels) (s .end) 0 (omega (arith, k .size, length-set st (s .level) (s .at + 1))) in
+      (λ m n. let low : num (over st s) (s .level) ≡ s .at + 1 = getD-set-other (set st (s .level) (s .at + 1)) (s .level + levels) (s .level) (s .end) 0
+      (λ q. omega (arith, q)) ∙ getD-set-same st (s .level) (s .at + 1) 0 (omega (arith, k .size)) in
+      let high : num (over st s) (s .level + levels) ≡ s .end = getD-set-same (set st (s .level) (s .at + 1)) (s .level + levels) (s .end) 0
+      (omega (arith, k .size, length-set st (s .level) (s .at + 1))) in
       inl (
         record {
           sound = record {
@@ -156,13 +185,24 @@ module _ (levels : ℕ) where
               | no q ↦ over-below st s j (omega arith) n (k .full j (omega arith))
             ];
           };
-          ahead = ap (λ (r : List ℕ). numbersFrom f (e - f) ++ r) (top (s .level) (s .level + 1) (omega arith) (over st s) ∙ rw (low, high) (ap (λ (r : List ℕ). numbersFrom (s .at + 1) (s .end - (s .at + 1)) ++ r) (frames-set st (s .level) (s .at + 1) (s .end) (s .level) (omega arith) n)));
+          ahead = ap (λ (r : List ℕ). numbersFrom f (e - f) ++ r)
+              (top (s .level) (s .level + 1) (omega arith) (over st s) ∙
+              rw (low, high) (ap (λ (r : List ℕ). numbersFrom (s .at + 1) (s .end - (s .at + 1)) ++ r)
+              (frames-set st (s .level) (s .at + 1) (s .end) (s .level) (omega arith) n)));
           gives = refl;
         },
         none-zero,
       ))
       (λ m n. inr (refl, refl, record { sound = record { size = k .size; room = k .room; live = inl m; full = k .full }; ahead = refl; gives = refl }))
-      (λ m. inl (record { sound = record { size = k .size; room = k .room; live = inl fe; full = k .full }; ahead = ap (λ (r : List ℕ). numbersFrom f (e - f) ++ r) (sym (rest-over st s m)); gives = refl }, none-zero))
+      (λ m. inl (
+        record {
+          sound = record { size = k .size; room = k .room; live = inl fe; full = k .full };
+          ahead = ap (λ (r : List ℕ). numbersFrom f
+              (e - f) ++ r) (sym (rest-over st s m));
+          gives = refl;
+        },
+        none-zero,
+      ))
 
   -- ---- the invariant
 
@@ -224,7 +264,8 @@ module _ (levels : ℕ) where
     abbrev pub Next : ℕ → Acc → List ℕ → Spot → Spot → List ℕ → Type 0
     Next low goal st s t zs = (None t × Goes low goal st s t zs) ⊎ Deep low goal st s t zs
 
-    from-stands : (st : List ℕ) (s : Spot) {low : ℕ} {goal : Acc} {zs xs : List ℕ} {r : Spot} {a : Acc} → Stands zs xs a r → s .at < s .end → Inside low used xs → walks used y cs xs a ≡ goal → load used xs < visitsOf used (s .at) + load used (restOnStack st s) → Goes low goal st s r zs
+    from-stands : (st : List ℕ) (s : Spot) {low : ℕ} {goal : Acc} {zs xs : List ℕ} {r : Spot} {a : Acc} → Stands zs xs a r → s .at < s .end →
+        Inside low used xs → walks used y cs xs a ≡ goal → load used xs < visitsOf used (s .at) + load used (restOnStack st s) → Goes low goal st s r zs
     from-stands st s {low} {goal} {zs} {xs} {r} w l i e h = (
       record {
         sound = w .sound;
@@ -235,32 +276,58 @@ module _ (levels : ℕ) where
     )
 
     module _ (ok : Blocks used (y .c) (nodesOf cs)) (ax : Axes (y .c)) where
-      pub going-turn : {low : ℕ} {goal : Acc} {st : List ℕ} {s : Spot} → Going used y cs low goal st s → s .at < s .end → Next low goal st s (turnedOf levels y (cellAt cs (s .at)) st s) (stackedOf levels y (cellAt cs (s .at)) st s)
+      pub going-turn : {low : ℕ} {goal : Acc} {st : List ℕ} {s : Spot} → Going used y cs low goal st s → s .at < s .end →
+          Next low goal st s (turnedOf levels y (cellAt cs (s .at)) st s) (stackedOf levels y (cellAt cs (s .at)) st s)
       going-turn {low} {goal} {st} {s} g l =
           let i : ((low ≤ s .at) × (s .at < used)) × Inside low used (restOnStack st s) = subst (Inside low used) (pending-first st s l) (g .inside) in
-          let e : walks used y cs (restOnStack st s) (walkOf used (y .c) (y .q) (y .p) (y .theta2) (nodesOf cs) (s .at) (s .acc)) ≡ goal = sym (ap (λ (xs : List ℕ). walks used y cs xs (s .acc)) (pending-first st s l)) ∙ g .same in
+          let e : walks used y cs (restOnStack st s) (walkOf used (y .c) (y .q) (y .p) (y .theta2) (nodesOf cs) (s .at) (s .acc)) ≡ goal = sym
+          (ap (λ (xs : List ℕ). walks used y cs xs (s .acc)) (pending-first st s l)) ∙ g .same in
           let k : kindOf (y .c) (y .q) (y .p) (y .theta2) (nodeAt (nodesOf cs) (s .at)) ≡ seenAs y (cellAt cs (s .at)) = ap (kindOf (y .c) (y .q) (y .p) (y .theta2)) (node-at cs (s .at)) in
           let u : load used (restOnStack st s) < visitsOf used (s .at) + load used (restOnStack st s) = omega (arith, weight-pos used (s .at)) in
           turned-cases (Next low goal st s) y (cellAt cs (s .at)) st s
           (λ z. let w : Stands st (restOnStack st s) (s .acc) (pastCell levels st s (s .acc)) × None (pastCell levels st s (s .acc)) = onward-stands st s (s .acc) (g .sound) l in
-          inl (w .1, from-stands st s (w .0) l (i .1) (ap (walks used y cs (restOnStack st s)) (sym (whole-skip (y .c) (y .q) (y .p) (y .theta2) (nodesOf cs) used ok (s .at) (s .acc) (i .0 .1) (k ∙ z))) ∙ e) u))
-          (λ z. let w : Stands st (restOnStack st s) (bodyOf (y .c) (y .p) (nodeOf (cellAt cs (s .at))) (s .acc)) (pastCell levels st s (bodyOf (y .c) (y .p) (nodeOf (cellAt cs (s .at))) (s .acc))) × None (pastCell levels st s (bodyOf (y .c) (y .p) (nodeOf (cellAt cs (s .at))) (s .acc))) = onward-stands st s (bodyOf (y .c) (y .p) (nodeOf (cellAt cs (s .at))) (s .acc)) (g .sound) l in
-          inl (w .1, from-stands st s (w .0) l (i .1) (ap (walks used y cs (restOnStack st s)) (ap (λ (n : Node). bodyOf (y .c) (y .p) n (s .acc)) (sym (node-at cs (s .at))) ∙ sym (whole-body (y .c) (y .q) (y .p) (y .theta2) (nodesOf cs) used ok (s .at) (s .acc) (i .0 .1) (k ∙ z))) ∙ e) u))
-          (λ z₀ z₁. let b : (s .at < cellAt cs (s .at) .first) × (cellAt cs (s .at) .first + 2 ^ (y .c) ≤ used) = subst (λ (f : ℕ). (s .at < f) × (f + 2 ^ (y .c) ≤ used)) (cell-first cs (s .at)) (block (y .c) (y .q) (y .p) (y .theta2) (nodesOf cs) used ok (s .at) (i .0 .1) (λ x. z₀ (sym k ∙ x)) (λ x. z₁ (sym k ∙ x))) in
-          let o : walkOf used (y .c) (y .q) (y .p) (y .theta2) (nodesOf cs) (s .at) (s .acc) ≡ over-cells used y cs (cellAt cs (s .at) .first) (2 ^ (y .c)) (s .acc) = whole-open (y .c) (y .q) (y .p) (y .theta2) (nodesOf cs) used ok (s .at) (s .acc) (i .0 .1) (λ x. z₀ (sym k ∙ x)) (λ x. z₁ (sym k ∙ x)) ∙ ap (λ (f : ℕ). over-cells used y cs f (2 ^ (y .c)) (s .acc)) (cell-first cs (s .at)) in
+          inl (
+            w .1,
+            from-stands st s (w .0) l (i .1)
+                (ap (walks used y cs (restOnStack st s))
+                (sym (whole-skip (y .c) (y .q) (y .p) (y .theta2) (nodesOf cs) used ok (s .at) (s .acc) (i .0 .1) (k ∙ z))) ∙ e) u,
+          ))
+          (λ z. let w : Stands st (restOnStack st s) (bodyOf (y .c) (y .p) (nodeOf (cellAt cs (s .at))) (s .acc))
+          (pastCell levels st s (bodyOf (y .c) (y .p) (nodeOf (cellAt cs (s .at))) (s .acc))) ×
+          None (pastCell levels st s (bodyOf (y .c) (y .p) (nodeOf (cellAt cs (s .at))) (s .acc))) = onward-stands st s
+          (bodyOf (y .c) (y .p) (nodeOf (cellAt cs (s .at))) (s .acc)) (g .sound) l in
+          inl (
+            w .1,
+            from-stands st s (w .0) l (i .1)
+                (ap (walks used y cs (restOnStack st s)) (ap (λ (n : Node). bodyOf (y .c) (y .p) n (s .acc)) (sym (node-at cs (s .at))) ∙
+                sym (whole-body (y .c) (y .q) (y .p) (y .theta2) (nodesOf cs) used ok (s .at) (s .acc) (i .0 .1) (k ∙ z))) ∙ e) u,
+          ))
+          (λ z₀ z₁. let b : (s .at < cellAt cs (s .at) .first) × (cellAt cs (s .at) .first + 2 ^ (y .c) ≤ used) = subst (λ (f : ℕ). (s .at < f) ×
+          (f + 2 ^ (y .c) ≤ used)) (cell-first cs (s .at))
+          (block (y .c) (y .q) (y .p) (y .theta2) (nodesOf cs) used ok (s .at) (i .0 .1) (λ x. z₀ (sym k ∙ x)) (λ x. z₁ (sym k ∙ x))) in
+          let o : walkOf used (y .c) (y .q) (y .p) (y .theta2) (nodesOf cs) (s .at) (s .acc) ≡ over-cells used y cs (cellAt cs (s .at) .first) (2 ^ (y .c))
+          (s .acc) = whole-open (y .c) (y .q) (y .p) (y .theta2) (nodesOf cs) used ok (s .at) (s .acc) (i .0 .1) (λ x. z₀ (sym k ∙ x)) (λ x. z₁
+          (sym k ∙ x)) ∙ ap (λ (f : ℕ). over-cells used y cs f (2 ^ (y .c)) (s .acc)) (cell-first cs (s .at)) in
           let d : cellAt cs (s .at) .first + 2 ^ (y .c) - cellAt cs (s .at) .first ≡ 2 ^ (y .c) = just-added (cellAt cs (s .at) .first) (2 ^ (y .c)) in
           ⊎-elim
           (λ w. inl (
             w .1,
-            from-stands st s (w .0) l (rw d (inside-app low used (numbersFrom (cellAt cs (s .at) .first) (2 ^ (y .c))) (restOnStack st s) (inside-range low used (2 ^ (y .c)) (cellAt cs (s .at) .first) (omega (arith, b, i .0)) (b .1)) (i .1)))
-                (rw d (walks-app used y cs (numbersFrom (cellAt cs (s .at) .first) (2 ^ (y .c))) (restOnStack st s) (s .acc) ∙ ap (walks used y cs (restOnStack st s)) (walks-range used y cs (cellAt cs (s .at) .first) (2 ^ (y .c)) (s .acc) ∙ sym o) ∙ e))
-                (rw d (rw (load-app used (numbersFrom (cellAt cs (s .at) .first) (2 ^ (y .c))) (restOnStack st s)) (omega (arith, load-block used (s .at) (cellAt cs (s .at) .first) (2 ^ (y .c)) (b .0) (omega (arith, b .1)) (few-children (y .c) ax))))),
+            from-stands st s (w .0) l (rw d (inside-app low used (numbersFrom (cellAt cs (s .at) .first) (2 ^ (y .c))) (restOnStack st s)
+                (inside-range low used (2 ^ (y .c)) (cellAt cs (s .at) .first) (omega (arith, b, i .0)) (b .1)) (i .1)))
+                (rw d (walks-app used y cs (numbersFrom (cellAt cs (s .at) .first) (2 ^ (y .c))) (restOnStack st s) (s .acc) ∙
+                ap (walks used y cs (restOnStack st s)) (walks-range used y cs (cellAt cs (s .at) .first) (2 ^ (y .c)) (s .acc) ∙ sym o) ∙ e))
+                (rw d (rw (load-app used (numbersFrom (cellAt cs (s .at) .first) (2 ^ (y .c))) (restOnStack st s))
+                (omega (arith, load-block used (s .at) (cellAt cs (s .at) .first) (2 ^ (y .c)) (b .0) (omega (arith, b .1)) (few-children (y .c) ax))))),
           ))
           (λ w. inr (record {
             some = rw (w .0, w .1) (omega (arith, some-children (y .c)));
             further = rw (w .0) (omega (arith, b .0, i .0));
             within = rw (w .1) (b .1);
-            onto = λ a q. from-stands st s (record { sound = record { size = w .2 .sound .size; room = w .2 .sound .room; live = w .2 .sound .live; full = w .2 .sound .full }; ahead = w .2 .ahead; gives = refl }) l (i .1)
+            onto = λ a q. from-stands st s (record {
+              sound = record { size = w .2 .sound .size; room = w .2 .sound .room; live = w .2 .sound .live; full = w .2 .sound .full };
+              ahead = w .2 .ahead;
+              gives = refl;
+            }) l (i .1)
                 (ap (walks used y cs (restOnStack st s)) (q ∙ rw (w .0, w .1, w .2 .gives, d) (sym o)) ∙ e) u;
           }))
           (opened-stands st s (cellAt cs (s .at) .first) (cellAt cs (s .at) .first + 2 ^ (y .c)) (g .sound) l (omega (arith, some-children (y .c)))))
@@ -269,12 +336,16 @@ module _ (levels : ℕ) where
       pub going-first : {low : ℕ} {goal : Acc} {st : List ℕ} {s : Spot} → Going used y cs low goal st s → s .at < s .end → (low ≤ s .at) × (s .at < used)
       going-first {low} {goal} {st} {s} g l = let i : ((low ≤ s .at) × (s .at < used)) × Inside low used (restOnStack st s) = subst (Inside low used) (pending-first st s l) (g .inside) in i .0
 
-      going-both : {low : ℕ} {goal : Acc} {st zs : List ℕ} {s r : Spot} → Going used y cs low goal st s → s .at < s .end → r ≡ turnedOf levels y (cellAt cs (s .at)) st s → zs ≡ stackedOf levels y (cellAt cs (s .at)) st s → Next low goal st s r zs
-      going-both {low} {goal} {st} {zs} {s} {r} g l e f = subst (λ (t : Spot). Next low goal st s t zs) (sym e) (subst (Next low goal st s (turnedOf levels y (cellAt cs (s .at)) st s)) (sym f) (going-turn g l))
+      going-both : {low : ℕ} {goal : Acc} {st zs : List ℕ} {s r : Spot} → Going used y cs low goal st s → s .at < s .end →
+          r ≡ turnedOf levels y (cellAt cs (s .at)) st s → zs ≡ stackedOf levels y (cellAt cs (s .at)) st s → Next low goal st s r zs
+      going-both {low} {goal} {st} {zs} {s} {r} g l e f = subst (λ (t : Spot). Next low goal st s t zs) (sym e)
+          (subst (Next low goal st s (turnedOf levels y (cellAt cs (s .at)) st s)) (sym f) (going-turn g l))
 
       -- the turn has led to r, with zs on the stack
-      pub going-next : {low : ℕ} {goal : Acc} {st zs : List ℕ} {s r : Spot} → Going used y cs low goal st s → s .at < s .end → r ≡ turnedOf levels y (cellAt cs (s .at)) st s → zs ≡ stackedOf levels y (cellAt cs (s .at)) st s → (r .deep < r .stop → ⊥) → Goes low goal st s r zs
+      pub going-next : {low : ℕ} {goal : Acc} {st zs : List ℕ} {s r : Spot} → Going used y cs low goal st s → s .at < s .end →
+          r ≡ turnedOf levels y (cellAt cs (s .at)) st s → zs ≡ stackedOf levels y (cellAt cs (s .at)) st s → (r .deep < r .stop → ⊥) → Goes low goal st s r zs
       going-next g l e f n = ⊎-elim (λ w. w .1) (λ d. absurd (n (d .some))) (going-both g l e f)
 
-      pub going-deep : {low : ℕ} {goal : Acc} {st zs : List ℕ} {s r : Spot} → Going used y cs low goal st s → s .at < s .end → r ≡ turnedOf levels y (cellAt cs (s .at)) st s → zs ≡ stackedOf levels y (cellAt cs (s .at)) st s → r .deep < r .stop → Deep low goal st s r zs
+      pub going-deep : {low : ℕ} {goal : Acc} {st zs : List ℕ} {s r : Spot} → Going used y cs low goal st s → s .at < s .end →
+          r ≡ turnedOf levels y (cellAt cs (s .at)) st s → zs ≡ stackedOf levels y (cellAt cs (s .at)) st s → r .deep < r .stop → Deep low goal st s r zs
       going-deep g l e f d = ⊎-elim (λ w. absurd (w .0 d)) (λ w. w) (going-both g l e f)

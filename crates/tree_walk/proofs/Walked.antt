@@ -130,7 +130,8 @@ module _ (used : ℕ) (y : Eye) (cs : List Cell) (ok : Blocks used (y .c) (nodes
   first-fits h i l =
       elim (ℕ-discrete (cellAt cs i .first) 0) [
         | yes z ↦ omega (arith, z, few-children (y .c) ax)
-        | no n ↦ let b : (i < cellAt cs i .first) × (cellAt cs i .first + 2 ^ (y .c) ≤ used) = subst (λ (f : ℕ). (i < f) × (f + 2 ^ (y .c) ≤ used)) (cell-first cs i) (ok i l (λ x. n (sym (cell-first cs i) ∙ x))) in omega (arith, b .1, h)
+        | no n ↦ let b : (i < cellAt cs i .first) × (cellAt cs i .first + 2 ^ (y .c) ≤ used) = subst (λ (f : ℕ). (i < f) ×
+            (f + 2 ^ (y .c) ≤ used)) (cell-first cs i) (ok i l (λ x. n (sym (cell-first cs i) ∙ x))) in omega (arith, b .1, h)
       ]
 
 -- the walk from the root is the repulsion

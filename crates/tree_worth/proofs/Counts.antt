@@ -8,7 +8,7 @@ use native.Mathlib.Numerals.{add-one}
 use native.Mathlib.Decide.{ℕ-discrete}
 use native.Mathlib.Nat.{not-suc-le-zero}
 use lib.ListN.{length, set, length-set}
-use lib.Seq.{getD-set-same, getD-set-other}
+use lib.Seq.{getD-set-same}
 use lib.Ieee.{Float}
 use Rattle.laws.specs.Domain.{deepest}
 use Rattle.laws.specs.Loops.{loop, every}
@@ -29,9 +29,9 @@ use Rattle.tree.specs.Insert.{Tree, tree, subdivided, turnAt, levelled, levelAt
 use Rattle.tree.specs.Box.{boxed}
 use Rattle.tree.proofs.Grow.{filled-out}
 use Rattle.tree.proofs.Inserting.{turn-cases, inserted-last, inserted-next, level-plain, Ok, ok-next, ok-start}
-use Rattle.tree.proofs.Whole.{needed, taken, taken-fits, taken-ends, built-more, built-full}
+use Rattle.tree.proofs.Whole.{needed, taken, taken-fits, taken-ends, built-next, built-full}
 use Rattle.tree_worth.specs.Worth.{LeafCounts}
-use Rattle.tree_worth.proofs.Tallies.{owed-out, Tallied, inner-tallied, last-tallied, split-tallied}
+use Rattle.tree_worth.proofs.Tallies.{stored-other, owed-out, Tallied, inner-tallied, last-tallied, split-tallied}
 
 -- ---- one descent: the point has come to node i at depth d, and the root will count r
 
@@ -45,7 +45,8 @@ pub record Settled (c r : ℕ) (t : Tree) : Type 0 where
   pub tallied : Tallied c 0 0 t
   pub root : nodeAt (t .nodes) 0 .count ≡ r
 
-root-on : (i r : ℕ) (w : Node) (ns : List Node) → i < length ns → w .count ≡ nodeAt ns i .count + 1 → (i ≡ 0 → nodeAt ns 0 .count + 1 ≡ r) → ((i ≡ 0 → ⊥) → nodeAt ns 0 .count ≡ r) → nodeAt (set ns i w) 0 .count ≡ r
+root-on : (i r : ℕ) (w : Node) (ns : List Node) → i < length ns → w .count ≡ nodeAt ns i .count + 1 → (i ≡ 0 → nodeAt ns 0 .count + 1 ≡ r) → ((i ≡ 0 → ⊥) →
+    nodeAt ns 0 .count ≡ r) → nodeAt (set ns i w) 0 .count ≡ r
 root-on i r w ns l e a b =
     elim (ℕ-discrete i 0) [
       | yes z ↦
@@ -53,7 +54,7 @@ root-on i r w ns l e a b =
           let q : nodeAt (set ns i w) 0 .count ≡ w .count = ap (λ (x : ℕ). nodeAt (set ns i w) x .count) (sym z) ∙ ap (λ (y : Node). y .count) s in
           let f : nodeAt ns i .count ≡ nodeAt ns 0 .count = ap (λ (x : ℕ). nodeAt ns x .count) z in
           omega (arith, q, e, f, a z)
-      | no z ↦ ap (λ (y : Node). y .count) (getD-set-other ns i 0 w blank (λ x. z (sym x))) ∙ b z
+      | no z ↦ ap (λ (y : Node). y .count) (stored-other ns i w 0 (λ x. z (sym x))) ∙ b z
     ]
 
 -- an occupied leaf takes one more
@@ -84,7 +85,8 @@ module _ (n c m cap N r : ℕ) (y p : List Float) (j : ℕ) (hj : j < n) (hm : 1
     says z = subst (λ (x : ℕ). LeafCounts x (v .count) (v .leaf)) (k .tallied .depth) (k .tallied .leaf i (ok .node) z)
 
     abbrev Goal : Out → Type 0
-    Goal x = (x .last ≡ false → Ok n c m cap N y p (d + 1) (x .next) (levelled y c i x t)) → (x .last ≡ false → Comes c (d + 1) (x .next) r (levelled y c i x t)) × (x .last ≡ true → Settled c r (levelled y c i x t))
+    Goal x = (x .last ≡ false → Ok n c m cap N y p (d + 1) (x .next) (levelled y c i x t)) → (x .last ≡ false →
+        Comes c (d + 1) (x .next) r (levelled y c i x t)) × (x .last ≡ true → Settled c r (levelled y c i x t))
 
     inner : (v .first ≡ 0 → ⊥) → Comes c (d + 1) (v .first + childIndex c (v .centre) p) r (tree (t .used) (set (t .nodes) i (absorbed c p v)))
     unfolding absorbed
@@ -149,20 +151,39 @@ module _ (n c m cap N r : ℕ) (y p : List Float) (j : ℕ) (hj : j < n) (hm : 1
       none-left e a b c = omega (arith, e, a, b, c)
   descends (suc g) d i t e ok k = by-bool (Settled c r (inserted (suc g) y c p j d i t)) (turnAt c p j d i t .last)
       (λ x. rw (inserted-last g y c p j d i t (turnAt c p j d i t) refl x) (comes d i t ok k (ok-next n c m cap N y p j hj hm fit d i t ok) .1 x))
-      (λ x. rw (inserted-next g y c p j d i t (turnAt c p j d i t) refl x) (descends g (d + 1) (turnAt c p j d i t .next) (levelAt y c p j d i t) (omega (arith, e)) (ok-next n c m cap N y p j hj hm fit d i t ok x) (comes d i t ok k (ok-next n c m cap N y p j hj hm fit d i t ok) .0 x)))
+      (λ x. rw (inserted-next g y c p j d i t (turnAt c p j d i t) refl x)
+      (descends g (d + 1) (turnAt c p j d i t .next) (levelAt y c p j d i t) (omega (arith, e)) (ok-next n c m cap N y p j hj hm fit d i t ok x)
+      (comes d i t ok k (ok-next n c m cap N y p j hj hm fit d i t ok) .0 x)))
 
 -- ---- one point more
 
-insert-settles : (y : List Float) (n c m j r : ℕ) (t : Tree) → j < n → 1 ≤ m → treeOk n m c t ≡ true → 0 < t .used → t .used ≤ length (t .nodes) → t .used + needed y c j t ≤ nameable (length (t .nodes)) → Settled c r t → Settled c (r + 1) (insertOf y c j t .tree)
+insert-settles : (y : List Float) (n c m j r : ℕ) (t : Tree) → j < n → 1 ≤ m → treeOk n m c t ≡ true → 0 < t .used → t .used ≤ length (t .nodes) →
+    t .used + needed y c j t ≤ nameable (length (t .nodes)) → Settled c r t → Settled c (r + 1) (insertOf y c j t .tree)
 insert-settles y n c m j r t hj hm ok some inside fit k =
     rw (taken y c j t fit)
-    (descends n c m (length (t .nodes)) (t .used + needed y c j t) (r + 1) y (pointOf y c j) j hj hm (omega (arith, fit, nameable-most (length (t .nodes)))) (length (t .nodes)) 0 0 t (less (length (t .nodes))) (ok-start n c m y (pointOf y c j) t ok some inside)
+    (descends n c m (length (t .nodes)) (t .used + needed y c j t) (r + 1) y (pointOf y c j) j hj hm (omega (arith, fit, nameable-most (length (t .nodes))))
+    (length (t .nodes)) 0 0 t (less (length (t .nodes))) (ok-start n c m y (pointOf y c j) t ok some inside)
     (record { tallied = k .tallied; early = λ _. ap (λ (x : ℕ). x + 1) (k .root); late = λ z. absurd (z refl) }))
   where
     less : (g : ℕ) → g ≡ g - 0
     less g = omega arith
 
 -- ---- all of them, from the box on
+
+-- none was refused: what the box has, and one more keeps, holds after i of them
+pub built-keeps : (y : List Float) (n c : ℕ) (t : Tree) (P : ℕ → Tree → Type 0) → P 0 t → ((i : ℕ) → i < n → built y c i t .full ≡ false →
+    insertOf y c i (built y c i t .tree) .full ≡ false → P i (built y c i t .tree) → P (i + 1) (insertOf y c i (built y c i t .tree) .tree)) →
+    (i : ℕ) → i ≤ n → built y c i t .full ≡ false → P i (built y c i t .tree)
+unfolding built loop
+built-keeps y n c t P start next zero l e = start
+built-keeps y n c t P start next (suc i) l e = by-bool (P (suc i) (built y c (suc i) t .tree)) (built y c i t .full)
+    (λ f. absurd (true≢false (sym (built-full y c t i f) ∙ e)))
+    (λ f. more f (built-keeps y n c t P start next i (omega arith) f))
+  where
+    more : built y c i t .full ≡ false → P i (built y c i t .tree) → P (suc i) (built y c (suc i) t .tree)
+    more f s =
+        let q : insertOf y c i (built y c i t .tree) .full ≡ false = rw (built-next y c t i f) at e in
+        rw (built-next y c t i f) (rw (sym (add-one i)) (next i l f q s))
 
 pub record Accounted (n c i : ℕ) (t : Tree) : Type 0 where
   pub some : 0 < t .used
@@ -224,24 +245,15 @@ module _ (y : List Float) (n c : ℕ) where
     abbrev boxedTree : Tree
     boxedTree = boxed y n c before
 
-    -- none was refused: so all of this holds after i of them
+    -- so all of this holds after i of them
     pub built-stands : (i : ℕ) → i ≤ n → built y c i boxedTree .full ≡ false → Accounted n c i (built y c i boxedTree .tree)
-    unfolding built loop
-    built-stands zero l e = box-stands before h
-    built-stands (suc i) l e = by-bool (Accounted n c (suc i) (built y c (suc i) boxedTree .tree)) (built y c i boxedTree .full)
-        (λ f. absurd (true≢false (sym (built-full y c boxedTree i f) ∙ e)))
-        (λ f. more f (built-stands i (omega arith) f))
-      where
-        more : built y c i boxedTree .full ≡ false → Accounted n c i (built y c i boxedTree .tree) → Accounted n c (suc i) (built y c (suc i) boxedTree .tree)
-        more f s =
-            let t = built y c i boxedTree .tree in
-            let q : insertOf y c i t .full ≡ false = rw (built-more y c boxedTree i f) at e in
-            let fit = taken-fits y c i t q in
-            let g = taken-ends y c i t n (i + 1) l (omega arith) (s .tree) (s .some) (s .within) fit in
-            rw (built-more y c boxedTree i f)
-            (record {
-              some = omega (arith, g .used, s .some);
-              within = omega (arith, g .used, g .nodes, fit, nameable-most (length (t .nodes)));
-              tree = rw (sym (add-one i)) (g .tree);
-              settled = rw (sym (add-one i)) (insert-settles y n c (i + 1) i i t l (omega arith) (s .tree) (s .some) (s .within) fit (s .settled));
-            })
+    built-stands = built-keeps y n c boxedTree (Accounted n c) (box-stands before h) (λ i l _ q s.
+        let t = built y c i boxedTree .tree in
+        let fit = taken-fits y c i t q in
+        let g = taken-ends y c i t n (i + 1) l (omega arith) (s .tree) (s .some) (s .within) fit in
+        record {
+          some = omega (arith, g .used, s .some);
+          within = omega (arith, g .used, g .nodes, fit, nameable-most (length (t .nodes)));
+          tree = g .tree;
+          settled = insert-settles y n c (i + 1) i i t l (omega arith) (s .tree) (s .some) (s .within) fit (s .settled);
+        })

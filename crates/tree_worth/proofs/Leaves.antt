@@ -13,6 +13,7 @@ use Rattle.laws.specs.Joined.{joined}
 use Rattle.laws.proofs.Sums.{sum-same}
 use Rattle.tree_node.specs.declared.Node.{Node}
 use Rattle.tree_node.specs.Arena.{nodeAt}
+use Rattle.tree_walk.proofs.Fuel.{nowhere}
 use Rattle.tree.specs.Insert.{Tree}
 use Rattle.tree_worth.specs.Worth.{leavesOf, timesIn, countsOf, childCounts}
 use Rattle.tree_worth.proofs.Sums.{sum-nothing, term-le, sum-some, sum-one-only}
@@ -126,14 +127,8 @@ module _ (c : ℕ) (t : Tree) (h : Tallied c 0 0 t) (some : 0 < t .used) where
 
   -- any number of levels that reaches the last used node gives the same
   leaves-fuel : (g g' i : ℕ) → i < u → u ≤ i + g → u ≤ i + g' → leavesOf g c ns i ≡ leavesOf g' c ns i
-  leaves-fuel zero g' i l a b = absurd (nowhere i l a)
-    where
-      nowhere : (i : ℕ) → i < u → u ≤ i + 0 → ⊥
-      nowhere i l a = omega (arith, l, a)
-  leaves-fuel (suc g) zero i l a b = absurd (nowhere i l b)
-    where
-      nowhere : (i : ℕ) → i < u → u ≤ i + 0 → ⊥
-      nowhere i l a = omega (arith, l, a)
+  leaves-fuel zero g' i l a b = absurd (nowhere i u l a)
+  leaves-fuel (suc g) zero i l a b = absurd (nowhere i u l b)
   leaves-fuel (suc g) (suc g') i l a a' =
       elim (ℕ-discrete (nodeAt ns i .first) 0) [
         | yes z ↦ elim (ℕ-discrete (nodeAt ns i .count) 0) [
@@ -159,10 +154,7 @@ module _ (c : ℕ) (t : Tree) (h : Tallied c 0 0 t) (some : 0 < t .used) where
   -- ---- what their counts add up to
 
   pub below-counts : (g i : ℕ) → i < u → u ≤ i + g → countsOf ns (leavesOf g c ns i) ≡ nodeAt ns i .count
-  below-counts zero i l a = absurd (nowhere i l a)
-    where
-      nowhere : (i : ℕ) → i < u → u ≤ i + 0 → ⊥
-      nowhere i l a = omega (arith, l, a)
+  below-counts zero i l a = absurd (nowhere i u l a)
   below-counts (suc g) i l a =
       elim (ℕ-discrete (nodeAt ns i .first) 0) [
         | yes z ↦ elim (ℕ-discrete (nodeAt ns i .count) 0) [
@@ -185,10 +177,13 @@ module _ (c : ℕ) (t : Tree) (h : Tallied c 0 0 t) (some : 0 < t .used) where
       elim (ℕ-discrete (nodeAt ns i .first) 0) [
         | yes z ↦ elim (ℕ-discrete (nodeAt ns i .count) 0) [
           | yes e ↦ absurd (none-none k (leavesOf (suc g) c ns i) (leaves-empty c ns g i z e) s)
-          | no e ↦ (let q : i ≡ k = times-is k i (subst (λ (x : List ℕ). 0 < timesIn k x) (leaves-here c ns g i z e) s) in subst (λ (x : ℕ). (x < u) × (nodeAt ns x .first ≡ 0) × (nodeAt ns x .count ≡ 0 → ⊥)) q (l, z, e))
+          | no e ↦ (let q : i ≡ k = times-is k i (subst (λ (x : List ℕ). 0 < timesIn k x) (leaves-here c ns g i z e) s) in subst (λ (x : ℕ). (x < u) ×
+              (nodeAt ns x .first ≡ 0) × (nodeAt ns x .count ≡ 0 → ⊥)) q (l, z, e))
         ]
         | no z ↦
-            let r = sum-some (λ b. timesIn k (leavesOf g c ns (nodeAt ns i .first + b))) (2 ^ c) (subst (λ (x : ℕ). 0 < x) (ap (timesIn k) (leaves-inner c ns g i z) ∙ times-joined k (λ b. leavesOf g c ns (nodeAt ns i .first + b)) (2 ^ c)) s) in
+            let r = sum-some (λ b. timesIn k (leavesOf g c ns (nodeAt ns i .first + b))) (2 ^ c)
+            (subst (λ (x : ℕ). 0 < x) (ap (timesIn k) (leaves-inner c ns g i z) ∙ times-joined k (λ b. leavesOf g c ns (nodeAt ns i .first + b)) (2 ^ c)) s)
+            in
             below-only k g (nodeAt ns i .first + r .0) (child-in i l z (r .0) (r .1)) (r .2)
       ]
 
@@ -201,11 +196,15 @@ module _ (c : ℕ) (t : Tree) (h : Tallied c 0 0 t) (some : 0 < t .used) where
       elim (ℕ-discrete (nodeAt ns i .first) 0) [
         | yes z ↦ elim (ℕ-discrete (nodeAt ns i .count) 0) [
           | yes e ↦ absurd (none-none k (leavesOf (suc g) c ns i) (leaves-empty c ns g i z e) s)
-          | no e ↦ (let q : i ≡ k = times-is k i (subst (λ (x : List ℕ). 0 < timesIn k x) (leaves-here c ns g i z e) s) in (0, (let w : h .deep i ≡ h .deep k = ap (h .deep) q in omega (arith, w)), sym q))
+          | no e ↦ (let q : i ≡ k = times-is k i (subst (λ (x : List ℕ). 0 < timesIn k x) (leaves-here c ns g i z e) s) in
+              (0, (let w : h .deep i ≡ h .deep k = ap (h .deep) q in omega (arith, w)), sym q))
         ]
         | no z ↦
-            let r = sum-some (λ b. timesIn k (leavesOf g c ns (nodeAt ns i .first + b))) (2 ^ c) (subst (λ (x : ℕ). 0 < x) (ap (timesIn k) (leaves-inner c ns g i z) ∙ times-joined k (λ b. leavesOf g c ns (nodeAt ns i .first + b)) (2 ^ c)) s) in
-            let w : (m : ℕ) × (m + h .deep (nodeAt ns i .first + r .0) ≡ h .deep k) × (climbed (h .up) m k ≡ nodeAt ns i .first + r .0) = leads k g (nodeAt ns i .first + r .0) (child-in i l z (r .0) (r .1)) (r .2) in
+            let r = sum-some (λ b. timesIn k (leavesOf g c ns (nodeAt ns i .first + b))) (2 ^ c)
+            (subst (λ (x : ℕ). 0 < x) (ap (timesIn k) (leaves-inner c ns g i z) ∙ times-joined k (λ b. leavesOf g c ns (nodeAt ns i .first + b)) (2 ^ c)) s)
+            in
+            let w : (m : ℕ) × (m + h .deep (nodeAt ns i .first + r .0) ≡ h .deep k) ×
+            (climbed (h .up) m k ≡ nodeAt ns i .first + r .0) = leads k g (nodeAt ns i .first + r .0) (child-in i l z (r .0) (r .1)) (r .2) in
             let o = h .of-child i l z (r .0) (r .1) in
             (suc (w .0), omega (arith, w .1, o .1), ap (h .up) (w .2) ∙ o .0)
       ]

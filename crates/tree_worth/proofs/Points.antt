@@ -4,19 +4,17 @@ use mathlib.Core.List.{List, [], _∷_}
 use mathlib.Core.Bool.{Bool, true, false, true≢false}
 use Prim.Native.Nat.{ℕ, zero, suc, _+_, _-_, _^_, _<_, _≤_}
 use native.Mathlib.Omega.{arith}
-use native.Mathlib.Numerals.{add-one}
 use native.Mathlib.Decide.{ℕ-discrete, decLt}
 use native.Mathlib.Nat.{not-suc-le-zero}
 use lib.Dec.{eqb}
 use lib.ListN.{length, set}
-use lib.Seq.{getD-set-same, getD-set-other}
+use lib.Seq.{getD-set-same}
 use lib.Ieee.{Float}
 use borrow.Author.Tests.{eq-eqb, ne-eqb}
 use Rattle.laws.specs.Domain.{deepest}
-use Rattle.laws.specs.Loops.{loop}
 use Rattle.laws.specs.Sums.{sum, bit}
 use Rattle.laws.proofs.Bools.{by-bool}
-use Rattle.laws.proofs.Sums.{sum-same, sum-more, sum-none}
+use Rattle.laws.proofs.Sums.{sum-same, sum-next, sum-none}
 use Rattle.tree_node.specs.declared.Node.{Node}
 use Rattle.tree_node.specs.declared.Leaf.{Leaf}
 use Rattle.tree_node.specs.declared.Leaf.the-variants.{Empty, Occupied}
@@ -31,11 +29,11 @@ use Rattle.tree_turns.specs.Turns.{absorbed, occupied, parent, out, childOf}
 use Rattle.tree.specs.Insert.{Tree, tree, subdivided, turnAt, levelled, levelAt, inserted, insertOf, treeOk, built}
 use Rattle.tree.specs.Box.{boxed}
 use Rattle.tree.proofs.Inserting.{turn-cases, inserted-last, inserted-next, level-plain, Ok, ok-next, ok-start}
-use Rattle.tree.proofs.Whole.{needed, taken, taken-fits, built-more, built-full}
+use Rattle.tree.proofs.Whole.{needed, taken, taken-fits}
 use Rattle.tree_worth.specs.Worth.{LeafCounts, leafFor, leafIn, pointsOf}
 use Rattle.tree_worth.proofs.Sums.{sum-at, sum-two}
-use Rattle.tree_worth.proofs.Tallies.{Tallied, split-tallied, new-here, new-old, new-child, child-first, child-count, child-empty, first-i, first-new}
-use Rattle.tree_worth.proofs.Counts.{Comes, comes, one-held, Settled, Accounted, built-stands}
+use Rattle.tree_worth.proofs.Tallies.{stored-other, stored-same, Tallied, split-tallied, new-here, new-old, new-child, child-first, child-count, child-empty, first-i, first-new}
+use Rattle.tree_worth.proofs.Counts.{Comes, comes, one-held, Settled, Accounted, built-keeps, built-stands}
 use Rattle.tree_worth.proofs.Routes.{nextOf, routeOf, route-same, route-leaf, route-inner, route-ends, split-route}
 
 -- of the first j points
@@ -53,21 +51,19 @@ bit-no x k n = rw (ne-eqb x k n)
 
 -- ---- a level that only stores its node
 
-module _ (y : List Float) (c j i u : ℕ) (ns : List Node) (h : Lodged y c j (tree u ns)) (li : i < u) (room : u ≤ length ns) (w : Node) (ef : w .first ≡ nodeAt ns i .first) (ez : w .centre ≡ nodeAt ns i .centre) where
+module _ (y : List Float) (c j i u : ℕ) (ns : List Node) (h : Lodged y c j (tree u ns)) (li : i < u) (room : u ≤ length ns) (w : Node)
+    (ef : w .first ≡ nodeAt ns i .first) (ez : w .centre ≡ nodeAt ns i .centre) where
   abbrev ms : List Node
   ms = set ns i w
 
   here : nodeAt ms i ≡ w
   here = getD-set-same ns i w blank (omega (arith, li, room))
 
-  other : (x : ℕ) → (x ≡ i → ⊥) → nodeAt ms x ≡ nodeAt ns x
-  other x n = getD-set-other ns i x w blank n
-
   first-same : (x : ℕ) → nodeAt ms x .first ≡ nodeAt ns x .first
-  first-same x = elim (ℕ-discrete x i) [ yes e ↦ rw e (ap (λ (v : Node). v .first) here ∙ ef) | no n ↦ ap (λ (v : Node). v .first) (other x n) ]
+  first-same = stored-same ns i w (λ v. v .first) (omega (arith, li, room)) ef
 
   centre-same : (x : ℕ) → nodeAt ms x .centre ≡ nodeAt ns x .centre
-  centre-same x = elim (ℕ-discrete x i) [ yes e ↦ rw e (ap (λ (v : Node). v .centre) here ∙ ez) | no n ↦ ap (λ (v : Node). v .centre) (other x n) ]
+  centre-same = stored-same ns i w (λ v. v .centre) (omega (arith, li, room)) ez
 
   pub routes-kept : (p : List Float) (x : ℕ) → leafFor u c p ms x ≡ leafFor u c p ns x
   routes-kept p x = route-same c p ns ms first-same centre-same u x
@@ -77,29 +73,34 @@ module _ (y : List Float) (c j i u : ℕ) (ns : List Node) (h : Lodged y c j (tr
 
   pub inner-placed : (nodeAt ns i .first ≡ 0 → ⊥) → Lodged y c j (tree u ms)
   inner-placed z = record {
-    counts = λ k l e. (let n = not-i k e in ap (λ (v : Node). v .count) (other k n) ∙ h .counts k l (sym (first-same k) ∙ e) ∙ sym (points-kept j k));
-    named = λ k o l e q. (let n = not-i k e in let r = h .named k o l (sym (first-same k) ∙ e) (sym (ap (λ (v : Node). v .leaf) (other k n)) ∙ q) in (r .0, routes-kept (pointOf y c o) 0 ∙ r .1));
+    counts = λ k l e. (let n = not-i k e in ap (λ (v : Node). v .count) (stored-other ns i w k n) ∙ h .counts k l (sym (first-same k) ∙ e) ∙ sym (points-kept j k));
+    named = λ k o l e q.
+        let n = not-i k e in
+        let r = h .named k o l (sym (first-same k) ∙ e) (sym (ap (λ (v : Node). v .leaf) (stored-other ns i w k n)) ∙ q) in
+        (r .0, routes-kept (pointOf y c o) 0 ∙ r .1);
   }
     where
       not-i : (k : ℕ) → nodeAt ms k .first ≡ 0 → k ≡ i → ⊥
       not-i k e x = z (ap (λ (y : ℕ). nodeAt ns y .first) (sym x) ∙ (sym (first-same k) ∙ e))
 
-  pub last-placed : w .count ≡ nodeAt ns i .count + 1 → nodeAt ns i .first ≡ 0 → leafIn y c (tree u ns) j ≡ i → ((o : ℕ) → w .leaf ≡ Occupied o → (o < j + 1) × (leafIn y c (tree u ns) o ≡ i)) → Lodged y c (j + 1) (tree u ms)
+  pub last-placed : w .count ≡ nodeAt ns i .count + 1 → nodeAt ns i .first ≡ 0 → leafIn y c (tree u ns) j ≡ i → ((o : ℕ) → w .leaf ≡ Occupied o → (o < j + 1) ×
+      (leafIn y c (tree u ns) o ≡ i)) → Lodged y c (j + 1) (tree u ms)
   last-placed ec z at wn = record {
     counts = λ k l e.
-        let s : pointsOf y c (tree u ms) (j + 1) k ≡ pointsOf y c (tree u ns) j k + bit (eqb (leafIn y c (tree u ns) j) k) = points-kept (j + 1) k ∙ sum-more (λ x. bit (eqb (leafIn y c (tree u ns) x) k)) j in
+        let s : pointsOf y c (tree u ms) (j + 1) k ≡ pointsOf y c (tree u ns) j k + bit (eqb (leafIn y c (tree u ns) j) k) = points-kept (j + 1) k ∙
+        sum-next (λ x. bit (eqb (leafIn y c (tree u ns) x) k)) j in
         elim (ℕ-discrete k i) [
           | yes x ↦
               let a : nodeAt ms k .count ≡ nodeAt ns i .count + 1 = ap (λ (y : ℕ). nodeAt ms y .count) x ∙ ap (λ (v : Node). v .count) here ∙ ec in
               let b : nodeAt ns i .count ≡ pointsOf y c (tree u ns) j k = h .counts i li z ∙ ap (pointsOf y c (tree u ns) j) (sym x) in
               omega (arith, s, a, b, bit-yes (leafIn y c (tree u ns) j) k (at ∙ sym x))
           | no x ↦
-              let a : nodeAt ms k .count ≡ nodeAt ns k .count = ap (λ (v : Node). v .count) (other k x) in
+              let a : nodeAt ms k .count ≡ nodeAt ns k .count = ap (λ (v : Node). v .count) (stored-other ns i w k x) in
               omega (arith, s, a, h .counts k l (sym (first-same k) ∙ e), bit-no (leafIn y c (tree u ns) j) k (λ q. x (sym q ∙ at)))
         ];
     named = λ k o l e q. elim (ℕ-discrete k i) [
       | yes x ↦ (let r = wn o (sym (ap (λ (v : Node). v .leaf) here) ∙ (ap (λ (y : ℕ). nodeAt ms y .leaf) (sym x) ∙ q)) in (r .0, routes-kept (pointOf y c o) 0 ∙ r .1 ∙ sym x))
-      | no x ↦ (let r = h .named k o l (sym (first-same k) ∙ e) (sym (ap (λ (v : Node). v .leaf) (other k x)) ∙ q) in (omega (arith, r .0), routes-kept (pointOf y c o) 0 ∙ r .1))
+      | no x ↦ (let r = h .named k o l (sym (first-same k) ∙ e) (sym (ap (λ (v : Node). v .leaf) (stored-other ns i w k x)) ∙ q) in (omega (arith, r .0), routes-kept (pointOf y c o) 0 ∙ r .1))
     ];
   }
 
@@ -260,7 +261,8 @@ module _ (n c m cap N r : ℕ) (y : List Float) (j : ℕ) (hj : j < n) (hm : 1 �
     comes-here z = e .way ∙ route-leaf c p u ns (k .tallied .above) i z
 
     abbrev Step : Out → Type 0
-    Step x = (x .last ≡ false → Ok n c m cap N y p (d + 1) (x .next) (levelled y c i x t)) → (x .last ≡ false → Enters (x .next) (levelled y c i x t)) × (x .last ≡ true → Lodged y c (j + 1) (levelled y c i x t))
+    Step x = (x .last ≡ false → Ok n c m cap N y p (d + 1) (x .next) (levelled y c i x t)) → (x .last ≡ false → Enters (x .next) (levelled y c i x t)) ×
+        (x .last ≡ true → Lodged y c (j + 1) (levelled y c i x t))
 
     inner : (v .first ≡ 0 → ⊥) → Enters (v .first + childIndex c (v .centre) p) (tree u (set ns i (absorbed c p v)))
     unfolding absorbed
@@ -272,10 +274,12 @@ module _ (n c m cap N r : ℕ) (y : List Float) (j : ℕ) (hj : j < n) (hm : 1 �
         kept : (x : ℕ) → leafFor u c p (set ns i (absorbed c p v)) x ≡ leafFor u c p ns x
         kept x = routes-kept y c j i u ns (e .placed) (ok .node) whole (absorbed c p v) refl refl p x
 
-    ends : (w : Node) → w .first ≡ v .first → w .centre ≡ v .centre → w .count ≡ v .count + 1 → v .first ≡ 0 → ((o : ℕ) → w .leaf ≡ Occupied o → (o < j + 1) × (leafIn y c t o ≡ i)) → Lodged y c (j + 1) (tree u (set ns i w))
+    ends : (w : Node) → w .first ≡ v .first → w .centre ≡ v .centre → w .count ≡ v .count + 1 → v .first ≡ 0 → ((o : ℕ) → w .leaf ≡ Occupied o → (o < j + 1) ×
+        (leafIn y c t o ≡ i)) → Lodged y c (j + 1) (tree u (set ns i w))
     ends w ef ez ec z wn = last-placed y c j i u ns (e .placed) (ok .node) whole w ef ez ec z (comes-here z) wn
 
-    splits : (o : ℕ) → v .first ≡ 0 → v .leaf ≡ Occupied o → d < deepest → u + 2 ^ c ≤ length ns → Enters (u + childIndex c (v .centre) p) (levelled y c i (out (parent u (absorbed c p v)) (u + childIndex c (v .centre) p) (2 ^ c) o false) t)
+    splits : (o : ℕ) → v .first ≡ 0 → v .leaf ≡ Occupied o → d < deepest → u + 2 ^ c ≤ length ns →
+        Enters (u + childIndex c (v .centre) p) (levelled y c i (out (parent u (absorbed c p v)) (u + childIndex c (v .centre) p) (2 ^ c) o false) t)
     splits o z q l space =
         let one : v .count ≡ 1 = one-held d (v .count) (v .leaf) o q l (says z) in
         record {
@@ -292,11 +296,14 @@ module _ (n c m cap N r : ℕ) (y : List Float) (j : ℕ) (hj : j < n) (hm : 1 �
         ))
         (λ z q _. (
           (λ x. absurd (true≢false x)),
-          λ _. subst (Lodged y c (j + 1)) (sym (level-plain y c i (occupied j (absorbed c p v)) 0 j true t)) (ends (occupied j (absorbed c p v)) refl refl refl z (λ o w. subst (λ (x : ℕ). (x < j + 1) × (leafIn y c t x ≡ i)) (sym (word-same j o w)) (omega arith, comes-here z))),
+          λ _. subst (Lodged y c (j + 1)) (sym (level-plain y c i (occupied j (absorbed c p v)) 0 j true t))
+              (ends (occupied j (absorbed c p v)) refl refl refl z (λ o w. subst (λ (x : ℕ). (x < j + 1) ×
+              (leafIn y c t x ≡ i)) (sym (word-same j o w)) (omega arith, comes-here z))),
         ))
         (λ o z q l _. (
           (λ x. absurd (true≢false x)),
-          λ _. subst (Lodged y c (j + 1)) (sym (level-plain y c i (absorbed c p v) 0 j true t)) (ends (absorbed c p v) refl refl refl z (λ o' w. let g = e .placed .named i o' (ok .node) z w in (omega (arith, g .0), g .1))),
+          λ _. subst (Lodged y c (j + 1)) (sym (level-plain y c i (absorbed c p v) 0 j true t))
+              (ends (absorbed c p v) refl refl refl z (λ o' w. let g = e .placed .named i o' (ok .node) z w in (omega (arith, g .0), g .1))),
         ))
         (λ o z q l next. (
           (λ x. splits o z q l (omega (arith, next x .room, ok .nodes))),
@@ -312,15 +319,19 @@ module _ (n c m cap N r : ℕ) (y : List Float) (j : ℕ) (hj : j < n) (hm : 1 �
       let next = ok-next n c m cap N y p j hj hm fit d i t ok in
       by-bool (Lodged y c (j + 1) (inserted (suc g) y c p j d i t)) (turnAt c p j d i t .last)
       (λ x. rw (inserted-last g y c p j d i t (turnAt c p j d i t) refl x) (enters d i t ok k e next .1 x))
-      (λ x. rw (inserted-next g y c p j d i t (turnAt c p j d i t) refl x) (places g (d + 1) (turnAt c p j d i t .next) (levelAt y c p j d i t) (omega (arith, z)) (next x) (comes n c m cap N r y p j hj hm fit d i t ok k next .0 x) (enters d i t ok k e next .0 x)))
+      (λ x. rw (inserted-next g y c p j d i t (turnAt c p j d i t) refl x)
+      (places g (d + 1) (turnAt c p j d i t .next) (levelAt y c p j d i t) (omega (arith, z)) (next x)
+      (comes n c m cap N r y p j hj hm fit d i t ok k next .0 x) (enters d i t ok k e next .0 x)))
 
 -- ---- all of them, from the box on
 
 module _ (y : List Float) (n c : ℕ) where
-  one-more : (m j r : ℕ) (t : Tree) → j < n → 1 ≤ m → treeOk n m c t ≡ true → 0 < t .used → t .used ≤ length (t .nodes) → t .used + needed y c j t ≤ nameable (length (t .nodes)) → Settled c r t → Lodged y c j t → Lodged y c (j + 1) (insertOf y c j t .tree)
+  one-more : (m j r : ℕ) (t : Tree) → j < n → 1 ≤ m → treeOk n m c t ≡ true → 0 < t .used → t .used ≤ length (t .nodes) →
+      t .used + needed y c j t ≤ nameable (length (t .nodes)) → Settled c r t → Lodged y c j t → Lodged y c (j + 1) (insertOf y c j t .tree)
   one-more m j r t hj hm ok some inside fit k e =
       rw (taken y c j t fit)
-      (places n c m (length (t .nodes)) (t .used + needed y c j t) (r + 1) y j hj hm (omega (arith, fit, nameable-most (length (t .nodes)))) (length (t .nodes)) 0 0 t (less (length (t .nodes))) (ok-start n c m y (pointOf y c j) t ok some inside)
+      (places n c m (length (t .nodes)) (t .used + needed y c j t) (r + 1) y j hj hm (omega (arith, fit, nameable-most (length (t .nodes))))
+      (length (t .nodes)) 0 0 t (less (length (t .nodes))) (ok-start n c m y (pointOf y c j) t ok some inside)
       (record { tallied = k .tallied; early = λ _. ap (λ (x : ℕ). x + 1) (k .root); late = λ z. absurd (z refl) })
       (record { placed = e; way = refl }))
     where
@@ -352,15 +363,7 @@ module _ (y : List Float) (n c : ℕ) where
     boxedTree = boxed y n c before
 
     pub built-placed : (i : ℕ) → i ≤ n → built y c i boxedTree .full ≡ false → Lodged y c i (built y c i boxedTree .tree)
-    unfolding built loop
-    built-placed zero l e = box-placed before h
-    built-placed (suc i) l e = by-bool (Lodged y c (suc i) (built y c (suc i) boxedTree .tree)) (built y c i boxedTree .full)
-        (λ f. absurd (true≢false (sym (built-full y c boxedTree i f) ∙ e)))
-        (λ f. more f (built-placed i (omega arith) f))
-      where
-        more : built y c i boxedTree .full ≡ false → Lodged y c i (built y c i boxedTree .tree) → Lodged y c (suc i) (built y c (suc i) boxedTree .tree)
-        more f s =
-            let t = built y c i boxedTree .tree in
-            let q : insertOf y c i t .full ≡ false = rw (built-more y c boxedTree i f) at e in
-            let a = built-stands y n c before h i (omega (arith, l)) f in
-            rw (built-more y c boxedTree i f) (rw (sym (add-one i)) (one-more (i + 1) i i t l (omega arith) (a .tree) (a .some) (a .within) (taken-fits y c i t q) (a .settled) s))
+    built-placed = built-keeps y n c boxedTree (Lodged y c) (box-placed before h) (λ i l f q s.
+        let t = built y c i boxedTree .tree in
+        let a = built-stands y n c before h i (omega (arith, l)) f in
+        one-more (i + 1) i i t l (omega arith) (a .tree) (a .some) (a .within) (taken-fits y c i t q) (a .settled) s)

@@ -11,6 +11,7 @@ use Rattle.tree_node.specs.Arena.{nodeAt}
 use Rattle.tree_children.specs.Children.{childIndex}
 use Rattle.tree_children.proofs.Below.{child-below}
 use Rattle.tree_walk.specs.Repel.{Blocks}
+use Rattle.tree_walk.proofs.Fuel.{nowhere}
 use Rattle.tree_worth.specs.Worth.{leafFor}
 
 module _ (c : ℕ) (p : List Float) where
@@ -27,7 +28,8 @@ module _ (c : ℕ) (p : List Float) where
   goes-down g ns i z = rw (ne-eqb _ _ z, leafFor)
 
   -- nodes with the same children and centres lead alike
-  pub route-same : (ns ms : List Node) → ((x : ℕ) → nodeAt ms x .first ≡ nodeAt ns x .first) → ((x : ℕ) → nodeAt ms x .centre ≡ nodeAt ns x .centre) → (g i : ℕ) → leafFor g c p ms i ≡ leafFor g c p ns i
+  pub route-same : (ns ms : List Node) → ((x : ℕ) → nodeAt ms x .first ≡ nodeAt ns x .first) → ((x : ℕ) → nodeAt ms x .centre ≡ nodeAt ns x .centre) →
+      (g i : ℕ) → leafFor g c p ms i ≡ leafFor g c p ns i
   unfolding leafFor
   route-same ns ms f h zero i = refl
   route-same ns ms f h (suc g) i = elim (ℕ-discrete (nodeAt ns i .first) 0) [
@@ -43,14 +45,8 @@ module _ (c : ℕ) (p : List Float) where
 
     -- any number of levels that reaches the last used node leads alike
     pub route-fuel : (g g' i : ℕ) → i < u → u ≤ i + g → u ≤ i + g' → leafFor g c p ns i ≡ leafFor g' c p ns i
-    route-fuel zero g' i l a b = absurd (nowhere i l a)
-      where
-        nowhere : (i : ℕ) → i < u → u ≤ i + 0 → ⊥
-        nowhere i l a = omega (arith, l, a)
-    route-fuel (suc g) zero i l a b = absurd (nowhere i l b)
-      where
-        nowhere : (i : ℕ) → i < u → u ≤ i + 0 → ⊥
-        nowhere i l a = omega (arith, l, a)
+    route-fuel zero g' i l a b = absurd (nowhere i u l a)
+    route-fuel (suc g) zero i l a b = absurd (nowhere i u l b)
     route-fuel (suc g) (suc g') i l a b = elim (ℕ-discrete (nodeAt ns i .first) 0) [
       | yes z ↦ stops-here (suc g) ns i z ∙ sym (stops-here (suc g') ns i z)
       | no z ↦
@@ -69,10 +65,7 @@ module _ (c : ℕ) (p : List Float) where
 
     -- it leads to a used leaf
     ends-at : (g i : ℕ) → i < u → u ≤ i + g → (leafFor g c p ns i < u) × (nodeAt ns (leafFor g c p ns i) .first ≡ 0)
-    ends-at zero i l a = absurd (nowhere i l a)
-      where
-        nowhere : (i : ℕ) → i < u → u ≤ i + 0 → ⊥
-        nowhere i l a = omega (arith, l, a)
+    ends-at zero i l a = absurd (nowhere i u l a)
     ends-at (suc g) i l a = elim (ℕ-discrete (nodeAt ns i .first) 0) [
       | yes z ↦ rw (stops-here (suc g) ns i z) (l, z)
       | no z ↦
@@ -86,7 +79,8 @@ module _ (c : ℕ) (p : List Float) where
 
   -- ---- leaf i of u nodes gets its 2^c children from node u on
 
-  module _ (u i : ℕ) (ns ms : List Node) (ok : Blocks u c ns) (ok' : Blocks (u + 2 ^ c) c ms) (li : i < u) (leaf : nodeAt ns i .first ≡ 0) (first-i : nodeAt ms i .first ≡ u) (centre-i : nodeAt ms i .centre ≡ nodeAt ns i .centre)
+  module _ (u i : ℕ) (ns ms : List Node) (ok : Blocks u c ns) (ok' : Blocks (u + 2 ^ c) c ms) (li : i < u) (leaf : nodeAt ns i .first ≡ 0)
+      (first-i : nodeAt ms i .first ≡ u) (centre-i : nodeAt ms i .centre ≡ nodeAt ns i .centre)
       (old : (x : ℕ) → x < u → (x ≡ i → ⊥) → nodeAt ms x ≡ nodeAt ns x) (new : (b : ℕ) → b < 2 ^ c → nodeAt ms (u + b) .first ≡ 0) where
     abbrev before : ℕ → ℕ
     before x = routeOf u ns ok x
@@ -105,10 +99,7 @@ module _ (c : ℕ) (p : List Float) where
 
     -- what came to leaf i comes to one of its children; what came elsewhere comes there still
     pub split-route : (g x : ℕ) → x < u → u ≤ x + g → (before x ≡ i → after x ≡ child) × ((before x ≡ i → ⊥) → after x ≡ before x)
-    split-route zero x l a = absurd (nowhere x l a)
-      where
-        nowhere : (x : ℕ) → x < u → u ≤ x + 0 → ⊥
-        nowhere x l a = omega (arith, l, a)
+    split-route zero x l a = absurd (nowhere x u l a)
     split-route (suc g) x l a = elim (ℕ-discrete (nodeAt ns x .first) 0) [
       | yes z ↦ elim (ℕ-discrete x i) [
         | yes e ↦ ((λ _. ap after e ∙ from-i), λ n. absurd (n (route-leaf u ns ok x z ∙ e)))
@@ -123,6 +114,7 @@ module _ (c : ℕ) (p : List Float) where
           let h = next-used u ns ok x l z in
           let b : before x ≡ before (nextOf ns x) = route-inner u ns ok x l z in
           let f : after x ≡ after (nextOf ns x) = route-inner (u + 2 ^ c) ms ok' x (omega (arith, l)) (λ q. z (sym (ap (λ (v : Node). v .first) (old x l n)) ∙ q)) ∙ ap after e in
-          let r : (before (nextOf ns x) ≡ i → after (nextOf ns x) ≡ child) × ((before (nextOf ns x) ≡ i → ⊥) → after (nextOf ns x) ≡ before (nextOf ns x)) = split-route g (nextOf ns x) (h .1) (omega (arith, h .0, a)) in
+          let r : (before (nextOf ns x) ≡ i → after (nextOf ns x) ≡ child) × ((before (nextOf ns x) ≡ i → ⊥) →
+          after (nextOf ns x) ≡ before (nextOf ns x)) = split-route g (nextOf ns x) (h .1) (omega (arith, h .0, a)) in
           ((λ q. f ∙ r .0 (sym b ∙ q)), λ q. f ∙ r .1 (λ w. q (b ∙ w)) ∙ sym b)
     ]

@@ -50,7 +50,11 @@ sum-one-only f zero h o = omega arith
 sum-one-only f (suc n) h o = elim (ℕ-discrete (f n) 0) [
   | yes x ↦ omega (arith, x, sum-one-only f n (λ b l. h b (omega arith)) (λ a b la lb. o a b (omega arith) (omega arith)))
   | no x ↦
-      let r : sum f n ≡ 0 = sum-same f (λ _. 0) n (λ b l. elim (ℕ-discrete (f b) 0) [ yes z ↦ z | no z ↦ absurd (apart b l (o b n (omega arith) (omega arith) (omega (arith, z)) (omega (arith, x)))) ]) ∙ sum-const 0 n ∙ mul-zero n in
+      let r : sum f n ≡ 0 = sum-same f (λ _. 0) n (λ b l. elim (ℕ-discrete (f b) 0) [
+        | yes z ↦ z
+        | no z ↦
+            absurd (apart b l (o b n (omega arith) (omega arith) (omega (arith, z)) (omega (arith, x))))
+      ]) ∙ sum-const 0 n ∙ mul-zero n in
       omega (arith, r, h n (omega arith))
 ]
   where

@@ -26,6 +26,18 @@ use Rattle.tree.proofs.Grow.{filled-out, filled-in, length-filled}
 use Rattle.tree_worth.specs.Worth.{blockCounts, childCounts, LeafCounts}
 use Rattle.tree_worth.proofs.Sums.{sum-bumped}
 
+-- ---- w is stored as node i
+
+module _ (ns : List Node) (i : ℕ) (w : Node) where
+  pub stored-other : (x : ℕ) → (x ≡ i → ⊥) → nodeAt (set ns i w) x ≡ nodeAt ns x
+  stored-other x n = getD-set-other ns i x w blank n
+
+  -- what w has as node i had it, every node has as before
+  pub stored-same : {A : Type 0} (f : Node → A) → i < length ns → f w ≡ f (nodeAt ns i) → (x : ℕ) → f (nodeAt (set ns i w) x) ≡ f (nodeAt ns x)
+  stored-same f l e x = elim (ℕ-discrete x i) [ yes q ↦ rw q (ap f (getD-set-same ns i w blank l) ∙ e) | no n ↦ ap f (stored-other x n) ]
+
+-- ---- what is owed
+
 -- what the children from node f on have yet to count: 1 where node i is one of them
 unfoldable pub owed : ℕ → ℕ → ℕ → ℕ
 owed c f i = cond (leb f i) (cond (ltb i (f + 2 ^ c)) 1 0) 0
@@ -58,7 +70,8 @@ pub record Tallied (c d i : ℕ) (t : Tree) : Type 0 where
   pub leaf : (k : ℕ) → k < t .used → nodeAt (t .nodes) k .first ≡ 0 → LeafCounts (deep k) (nodeAt (t .nodes) k .count) (nodeAt (t .nodes) k .leaf)
 
 -- node i has counted one more: so has the block that it is in
-block-owed : (c i f : ℕ) (ns ms : List Node) → nodeAt ms i .count ≡ nodeAt ns i .count + 1 → ((x : ℕ) → f ≤ x → x < f + 2 ^ c → (x ≡ i → ⊥) → nodeAt ms x .count ≡ nodeAt ns x .count) → blockCounts c ms f ≡ blockCounts c ns f + owed c f i
+block-owed : (c i f : ℕ) (ns ms : List Node) → nodeAt ms i .count ≡ nodeAt ns i .count + 1 → ((x : ℕ) → f ≤ x → x < f + 2 ^ c → (x ≡ i → ⊥) →
+    nodeAt ms x .count ≡ nodeAt ns x .count) → blockCounts c ms f ≡ blockCounts c ns f + owed c f i
 block-owed c i f ns ms e s =
     elim (decLt i f) [
       | yes x ↦ out (λ a b. omega (arith, a, x))
@@ -69,7 +82,9 @@ block-owed c i f ns ms e s =
     ]
   where
     out : (f ≤ i → i < f + 2 ^ c → ⊥) → blockCounts c ms f ≡ blockCounts c ns f + owed c f i
-    out n = rw (owed-out c f i n, add-zero) (sum-same (λ b. nodeAt ms (f + b) .count) (λ b. nodeAt ns (f + b) .count) (2 ^ c) (λ b l. s (f + b) (omega arith) (omega arith) (λ z. n (omega (arith, z)) (omega (arith, z, l)))))
+    out n = rw (owed-out c f i n, add-zero)
+        (sum-same (λ b. nodeAt ms (f + b) .count) (λ b. nodeAt ns (f + b) .count) (2 ^ c) (λ b l. s (f + b) (omega arith) (omega arith) (λ z. n
+        (omega (arith, z)) (omega (arith, z, l)))))
 
     inside : f ≤ i → i < f + 2 ^ c → blockCounts c ms f ≡ blockCounts c ns f + owed c f i
     inside a b =
@@ -84,7 +99,8 @@ module _ (c d i u : ℕ) (ns : List Node) (k : Tallied c d i (tree u ns)) (li : 
   v = nodeAt ns i
 
   -- node i is nobody's child but its parent's
-  one-block : (x y : ℕ) → x < u → y < u → (nodeAt ns x .first ≡ 0 → ⊥) → (nodeAt ns y .first ≡ 0 → ⊥) → (b : ℕ) → b < 2 ^ c → nodeAt ns x .first ≤ nodeAt ns y .first + b → nodeAt ns y .first + b < nodeAt ns x .first + 2 ^ c → x ≡ y
+  one-block : (x y : ℕ) → x < u → y < u → (nodeAt ns x .first ≡ 0 → ⊥) → (nodeAt ns y .first ≡ 0 → ⊥) → (b : ℕ) → b < 2 ^ c →
+      nodeAt ns x .first ≤ nodeAt ns y .first + b → nodeAt ns y .first + b < nodeAt ns x .first + 2 ^ c → x ≡ y
   one-block x y lx ly zx zy b lb h l =
       let a = nodeAt ns y .first + b - nodeAt ns x .first in
       let q : nodeAt ns x .first + a ≡ nodeAt ns y .first + b = omega (arith, h) in
@@ -99,19 +115,17 @@ module _ (c d i u : ℕ) (ns : List Node) (k : Tallied c d i (tree u ns)) (li : 
     here : nodeAt ms i ≡ w
     here = getD-set-same ns i w blank (omega (arith, li, room))
 
-    other : (x : ℕ) → (x ≡ i → ⊥) → nodeAt ms x ≡ nodeAt ns x
-    other x n = getD-set-other ns i x w blank n
-
     first-same : (x : ℕ) → nodeAt ms x .first ≡ nodeAt ns x .first
-    first-same x = elim (ℕ-discrete x i) [ yes e ↦ rw e (ap (λ (y : Node). y .first) here ∙ ef) | no n ↦ ap (λ (y : Node). y .first) (other x n) ]
+    first-same = stored-same ns i w (λ y. y .first) (omega (arith, li, room)) ef
 
     count-here : nodeAt ms i .count ≡ v .count + 1
     count-here = ap (λ (y : Node). y .count) here ∙ ec
 
     sums-on : (f : ℕ) → blockCounts c ms f ≡ blockCounts c ns f + owed c f i
-    sums-on f = block-owed c i f ns ms count-here (λ x a b n. ap (λ (y : Node). y .count) (other x n))
+    sums-on f = block-owed c i f ns ms count-here (λ x a b n. ap (λ (y : Node). y .count) (stored-other ns i w x n))
 
-    module _ (e next : ℕ) (depth-next : k .deep next ≡ e) (here-owed : (v .first ≡ 0 → ⊥) → owed c (v .first) next ≡ 1) (none-owed : (x : ℕ) → x < u → (x ≡ i → ⊥) → (nodeAt ns x .first ≡ 0 → ⊥) → owed c (nodeAt ns x .first) next ≡ 0)
+    module _ (e next : ℕ) (depth-next : k .deep next ≡ e) (here-owed : (v .first ≡ 0 → ⊥) → owed c (v .first) next ≡ 1)
+        (none-owed : (x : ℕ) → x < u → (x ≡ i → ⊥) → (nodeAt ns x .first ≡ 0 → ⊥) → owed c (nodeAt ns x .first) next ≡ 0)
         (says : v .first ≡ 0 → LeafCounts (k .deep i) (w .count) (w .leaf)) where
       tally-on : (x : ℕ) → x < u → (nodeAt ns x .first ≡ 0 → ⊥) → nodeAt ms x .count ≡ blockCounts c ms (nodeAt ns x .first) + owed c (nodeAt ns x .first) next
       tally-on x lx z =
@@ -124,7 +138,7 @@ module _ (c d i u : ℕ) (ns : List Node) (k : Tallied c d i (tree u ns)) (li : 
                 let s : blockCounts c ms (nodeAt ns x .first) ≡ blockCounts c ns (v .first) + owed c (v .first) i = ap (λ (y : ℕ). blockCounts c ms (nodeAt ns y .first)) e ∙ sums-on (v .first) in
                 omega (arith, r, o, t, s)
             | no n ↦
-                let r : nodeAt ms x .count ≡ nodeAt ns x .count = ap (λ (y : Node). y .count) (other x n) in
+                let r : nodeAt ms x .count ≡ nodeAt ns x .count = ap (λ (y : Node). y .count) (stored-other ns i w x n) in
                 omega (arith, r, none-owed x lx n z, k .tally x lx z, sums-on (nodeAt ns x .first))
           ]
 
@@ -132,7 +146,7 @@ module _ (c d i u : ℕ) (ns : List Node) (k : Tallied c d i (tree u ns)) (li : 
       leaf-on x lx z =
           elim (ℕ-discrete x i) [
             | yes e ↦ rw (e, here) (says (sym (ap (λ (y : ℕ). nodeAt ns y .first) e) ∙ z))
-            | no n ↦ rw (other x n) (k .leaf x lx z)
+            | no n ↦ rw (stored-other ns i w x n) (k .leaf x lx z)
           ]
 
       pub stored-tallied : Tallied c e next (tree u ms)
@@ -194,7 +208,11 @@ module _ (c d i u : ℕ) (ns : List Node) (k : Tallied c d i (tree u ns)) (li : 
 
     child-says : (d b : ℕ) → LeafCounts d (childOf c a o q b .count) (childOf c a o q b .leaf)
     unfolding childOf absorbed
-    child-says d b = elim (ℕ-discrete b (childIndex c (a .centre) q)) [ yes e ↦ rw (eq-eqb b (childIndex c (a .centre) q) e) (omega arith, λ _. refl) | no n ↦ rw (ne-eqb b (childIndex c (a .centre) q) n) refl ]
+    child-says d b = elim (ℕ-discrete b (childIndex c (a .centre) q)) [
+      | yes e ↦ rw (eq-eqb b (childIndex c (a .centre) q) e) (omega arith, λ _. refl)
+      | no n ↦
+          rw (ne-eqb b (childIndex c (a .centre) q) n) refl
+    ]
 
     -- the old point is in one of the children
     children-count : blockCounts c new u ≡ 1
@@ -202,7 +220,8 @@ module _ (c d i u : ℕ) (ns : List Node) (k : Tallied c d i (tree u ns)) (li : 
         let s = childIndex c (a .centre) q in
         let l : s < 2 ^ c = child-below c (a .centre) q in
         let r : sum (λ (_ : ℕ). 0) (2 ^ c) ≡ 0 = sum-const 0 (2 ^ c) ∙ mul-zero (2 ^ c) in
-        let t : blockCounts c new u ≡ sum (λ (_ : ℕ). 0) (2 ^ c) + 1 = sum-bumped (λ _. 0) (λ b. nodeAt new (u + b) .count) (2 ^ c) s l (ap (λ (y : Node). y .count) (new-child s l) ∙ child-count) (λ b lb n. ap (λ (y : Node). y .count) (new-child b lb) ∙ child-empty b n) in
+        let t : blockCounts c new u ≡ sum (λ (_ : ℕ). 0) (2 ^ c) + 1 = sum-bumped (λ _. 0) (λ b. nodeAt new (u + b) .count) (2 ^ c) s l
+        (ap (λ (y : Node). y .count) (new-child s l) ∙ child-count) (λ b lb n. ap (λ (y : Node). y .count) (new-child b lb) ∙ child-empty b n) in
         omega (arith, r, t)
 
     count-on : nodeAt new i .count ≡ v .count + 1

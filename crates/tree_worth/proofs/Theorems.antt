@@ -1,12 +1,13 @@
 -- What the tree is worth: of the arena t that i insertions made of a box, none of them refused, whatever the nodes held before. Assumes nothing.
 --     root-counts                 the root counts i
 --     split-counts                a node with children counts what they count together
---     shallow-leaf-holds-one      a leaf above depth 50 is empty and counts 0, or holds a point and counts 1
+--     shallow-leaf-holds-one      a leaf above the depth `deepest` is empty and counts 0, or holds a point and counts 1
 --     leaf-holds-some             any leaf is empty exactly where it counts 0
 --     angle-zero-sums-leaves      with an angle of zero the repulsion on a point is the sum over the leaves that count a point, apart from one that holds it alone
 --     leaves-once, leaves-all, leaves-only, leaves-add-up     that list has each of these leaves once and nothing else, and their counts add up to i
 --     one-parent, one-depth       every used node but the root is the child of exactly one used node, and every used node has one depth
---     point-in-leaf, leaf-counts-points, leaf-holds-its-point     every point lies in the cell of one leaf; a leaf counts those of the first i that lie in its cell, and the one that it holds is one of them
+-- point-in-leaf, leaf-counts-points, leaf-holds-its-point every point lies in the cell of one leaf; a leaf counts those of the first i that lie in its cell,
+-- and the one that it holds is one of them
 --     tree-worth                  all of this together
 use mathlib.Core.Path.{_≡_, refl, sym, ap, subst, _∙_}
 use mathlib.Core.Logic.{_⊎_, inl, inr}
@@ -58,21 +59,24 @@ module _ (y : List Float) (n c i : ℕ) (before : List Node) (nodes-some : 0 < l
   split-counts = tally-whole c t tallied (worth-stands .some)
 
   pub shallow-leaf-holds-one : (k d : ℕ) → k < t .used → nodeAt (t .nodes) k .first ≡ 0 → Deep c (t .nodes) d k → d < deepest → EmptyLeaf (nodeAt (t .nodes) k) ⊎ HoldsOne (nodeAt (t .nodes) k)
-  shallow-leaf-holds-one k d l z w s = holds-one (tallied .deep k) (nodeAt (t .nodes) k .count) (nodeAt (t .nodes) k) (nodeAt (t .nodes) k .leaf) (omega (arith, way-deep c t tallied (worth-stands .some) d k w .1, s)) refl refl (tallied .leaf k l z)
+  shallow-leaf-holds-one k d l z w s = holds-one (tallied .deep k) (nodeAt (t .nodes) k .count) (nodeAt (t .nodes) k) (nodeAt (t .nodes) k .leaf)
+      (omega (arith, way-deep c t tallied (worth-stands .some) d k w .1, s)) refl refl (tallied .leaf k l z)
 
   pub leaf-holds-some : (k : ℕ) → k < t .used → nodeAt (t .nodes) k .first ≡ 0 → EmptyLeaf (nodeAt (t .nodes) k) ⊎ HoldsSome (nodeAt (t .nodes) k)
   leaf-holds-some k l z = holds-some (tallied .deep k) (nodeAt (t .nodes) k .count) (nodeAt (t .nodes) k) (nodeAt (t .nodes) k .leaf) refl refl (tallied .leaf k l z)
 
   -- every used node is at a depth, and at no other
   pub one-depth : (k : ℕ) → k < t .used → (d : ℕ) × Deep c (t .nodes) d k × ((e : ℕ) → Deep c (t .nodes) e k → e ≡ d)
-  one-depth k l = let w = way-there c t tallied (worth-stands .some) k l in (w .0, w .1, λ e x. sym (way-deep c t tallied (worth-stands .some) e k x .1) ∙ way-deep c t tallied (worth-stands .some) (w .0) k (w .1) .1)
+  one-depth k l = let w = way-there c t tallied (worth-stands .some) k l in
+      (w .0, w .1, λ e x. sym (way-deep c t tallied (worth-stands .some) e k x .1) ∙ way-deep c t tallied (worth-stands .some) (w .0) k (w .1) .1)
 
   -- every used node but the root is the child of a used node, and of no other
   pub one-parent : (k : ℕ) → 0 < k → k < t .used → (p : ℕ) × (p < t .used) × IsChild c (t .nodes) p k × ((q : ℕ) → q < t .used → IsChild c (t .nodes) q k → q ≡ p)
   one-parent k h l = let w = parent-there c t tallied (worth-stands .some) k h l in (w .0, w .1, w .2, λ q lq x. parent-only c t tallied (worth-stands .some) k q (w .0) lq (w .1) x (w .2))
 
   -- of a point q with coordinates p
-  pub angle-zero-sums-leaves : (q : ℕ) (p : List Float) (angle : Float) → NoAngle angle → repelled (t .used) c q p (mul binary64 angle angle) (t .nodes) ≡ leavesAdd c q p (t .nodes) (leavesIn c t) nothing
+  pub angle-zero-sums-leaves : (q : ℕ) (p : List Float) (angle : Float) → NoAngle angle →
+      repelled (t .used) c q p (mul binary64 angle angle) (t .nodes) ≡ leavesAdd c q p (t .nodes) (leavesIn c t) nothing
   unfolding repelled
   angle-zero-sums-leaves q p angle flat = walk-adds c q p angle flat t tallied (worth-stands .some) (t .used) 0 nothing (worth-stands .some)
 

@@ -39,7 +39,8 @@ unfolding storedRead
 stored-is g d e l q a b c h i j k = rw (a, b, c, h, i, j, k, q)
 
 -- room is room
-pub room-is : (f : List ℕ) (d : Stored) (F nodes : ℕ) → hasRoom (wordIn f) d F nodes ≡ roomFor f (length (d .run)) (length (d .positions)) (length (d .increments)) (length (d .gains)) (length (d .affinities)) (length (d .indices)) (length (d .offsets)) F nodes
+pub room-is : (f : List ℕ) (d : Stored) (F nodes : ℕ) → hasRoom (wordIn f) d F nodes ≡ roomFor f (length (d .run)) (length (d .positions))
+    (length (d .increments)) (length (d .gains)) (length (d .affinities)) (length (d .indices)) (length (d .offsets)) F nodes
 unfolding hasRoom
 room-is f d F nodes = refl
 

@@ -13,6 +13,7 @@ use Rattle.little.specs.Little.{wordIn}
 use Rattle.run_record.specs.Record.{isTree}
 use Rattle.run_entry.specs.Entry.{GoodAreas}
 use Rattle.record_words.specs.RecordWords.{settingsOf}
+use Rattle.record_words.proofs.Laws.{method-tree}
 use Rattle.parked.specs.declared.Layout.{Layout}
 use Rattle.parked.specs.Layout.{layoutOf}
 use Rattle.parked.specs.Fine.{layoutBy, wordFine, affinityFine, heldFits, indexFits, offsetFits}
@@ -20,7 +21,7 @@ use Rattle.parked_file.specs.File.{isParked}
 use Rattle.unpark.specs.Unpark.{recordRead, settingsRead}
 use Rattle.unpark.specs.Steps.{Narrow, ListsRoom}
 use Rattle.parked_file.proofs.Lies.{Lies}
-use Rattle.parked_file.proofs.Heads.{Headed, links-few, tree-method}
+use Rattle.parked_file.proofs.Heads.{Headed, links-few}
 use Rattle.parked_file.proofs.Stands.{file-lies, head-good, parked-head, parked-end, parked-word}
 
 -- ---- the words of the lists
@@ -96,12 +97,24 @@ module _ (f : List ℕ) (p : isParked f ≡ true) where
   indices-narrow : Narrow f (L .indices) (L .links)
   indices-narrow i m =
       let h = file-lies f in
-      omega (arith, n-is, ltb-true (wordIn f (L .indices + i)) (L .n) (sym (index-is (wordIn f) L h i m) ∙ parked-word f p (L .indices + i) (omega (arith, h .positions, h .increments, h .gains, h .held)) (omega (arith, h .indices, h .weights))))
+      omega (
+        arith,
+        n-is,
+        ltb-true (wordIn f (L .indices + i)) (L .n)
+            (sym (index-is (wordIn f) L h i m) ∙ parked-word f p (L .indices + i) (omega (arith, h .positions, h .increments, h .gains, h .held))
+            (omega (arith, h .indices, h .weights))),
+      )
 
   offsets-narrow : L .tree ≡ true → Narrow f (L .affinities) (L .held)
   offsets-narrow t i m =
       let h = file-lies f in
-      omega (arith, links-are, offset-few (wordIn f) L h (L .affinities + i - L .affinities) (L .affinities + i) (sym (offset-is (wordIn f) L h i t m) ∙ parked-word f p (L .affinities + i) (omega (arith, h .positions, h .increments, h .gains)) (omega (arith, h .held, h .indices, h .weights))))
+      omega (
+        arith,
+        links-are,
+        offset-few (wordIn f) L h (L .affinities + i - L .affinities) (L .affinities + i)
+            (sym (offset-is (wordIn f) L h i t m) ∙ parked-word f p (L .affinities + i) (omega (arith, h .positions, h .increments, h .gains))
+            (omega (arith, h .held, h .indices, h .weights))),
+      )
 
   -- the same of what is equal to it
   module _ (l : Layout) (e : l ≡ layoutBy (wordIn f)) where
@@ -119,7 +132,7 @@ module _ (f : List ℕ) (p : isParked f ≡ true) where
   module _ {P I G A X O F nodes : ℕ} (r : GoodAreas (settingsRead (wordIn f)) P I G A X O F nodes) where
     tree-is : isTree (settingsRead (wordIn f) .method) ≡ L .tree
     unfolding settingsRead settingsOf recordRead layoutBy layoutOf
-    tree-is = tree-method (wordIn f 0) (in-head .first .method)
+    tree-is = method-tree (wordIn f 0) (in-head .first .method)
 
     pub cells-room : (L .cells ≤ P) × (L .cells ≤ I) × (L .cells ≤ G)
     unfolding settingsRead settingsOf recordRead layoutBy layoutOf

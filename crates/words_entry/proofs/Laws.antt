@@ -20,7 +20,8 @@ use Rattle.fault_words.proofs.Fit.{unread-bad}
 use Rattle.words_entry.specs.WordsEntry.{wordsFault}
 
 -- words that pass are a record that passes
-pub words-fine : (w : List ℕ) (p i g a f : ℕ) (xs off : List ℕ) (ns : List Node) → isFine (wordsFault w p i g a f xs off ns) ≡ true → (runFine w ≡ true) × (isFine (faultAt (runOf w) p i g a f xs off ns) ≡ true)
+pub words-fine : (w : List ℕ) (p i g a f : ℕ) (xs off : List ℕ) (ns : List Node) → isFine (wordsFault w p i g a f xs off ns) ≡ true → (runFine w ≡ true) ×
+    (isFine (faultAt (runOf w) p i g a f xs off ns) ≡ true)
 unfolding wordsFault
 words-fine w p i g a f xs off ns e = by-bool ((runFine w ≡ true) × (isFine (faultAt (runOf w) p i g a f xs off ns) ≡ true)) (runFine w)
     (λ t. (t, rw t at e))

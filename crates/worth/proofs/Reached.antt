@@ -69,7 +69,9 @@ module _ (s : State) (h : Honest s) (tree : isTree (s .run .settings .method) �
   -- the forces unit of point q, whatever the lists and the forces area hold
   pub flat-forces : NoAngle (s .run .settings .angle) → (x : Float) (q : ℕ) (W : List Float) (I O : List ℕ) (F : List Float)
       → forcesOf x (s .run .settings .angle) (s .run .settings .c) (s .memory .positions) W I O (s .run .used) (s .memory .nodes) q F
-      ≡ stored (s .run .settings .c) q (attractionOf x (s .run .settings .c) (s .memory .positions) W I O q) (leavesAdd (s .run .settings .c) q (pointOf (s .memory .positions) (s .run .settings .c) q) (s .memory .nodes) (leavesIn (s .run .settings .c) (treeIn s)) nothing) F
+      ≡ stored (s .run .settings .c) q (attractionOf x (s .run .settings .c) (s .memory .positions) W I O q)
+      (leavesAdd (s .run .settings .c) q (pointOf (s .memory .positions) (s .run .settings .c) q) (s .memory .nodes)
+      (leavesIn (s .run .settings .c) (treeIn s)) nothing) F
   unfolding forcesOf
   flat-forces a x q W I O F =
       let c = s .run .settings .c in
@@ -94,7 +96,9 @@ module _ (s : State) (h : Honest s) (tree : isTree (s .run .settings .method) �
       let t = works bs s in
       let e = works-settings bs s h in
       let u : t .run .units ≡ done = after-each bs s .total in
-      let w : TreeWorth (t .run .settings .c) (insertionsIn (t .run .settings .n) (t .run .units)) t = honest-worth t (stays-honest bs s h) (ap (λ (x : Settings). isTree (x .method)) e ∙ tree) (λ z. inside (ap (λ (x : Settings). done % (2 * x .n + 2)) (sym e) ∙ ap (λ (x : ℕ). x % (2 * t .run .settings .n + 2)) (sym u) ∙ z)) in
+      let w : TreeWorth (t .run .settings .c) (insertionsIn (t .run .settings .n) (t .run .units)) t = honest-worth t (stays-honest bs s h)
+      (ap (λ (x : Settings). isTree (x .method)) e ∙ tree) (λ z. inside
+      (ap (λ (x : Settings). done % (2 * x .n + 2)) (sym e) ∙ ap (λ (x : ℕ). x % (2 * t .run .settings .n + 2)) (sym u) ∙ z)) in
       subst (λ (x : Settings). TreeWorth (x .c) (insertionsIn (x .n) done) t) e (subst (λ (x : ℕ). TreeWorth (t .run .settings .c) (insertionsIn (t .run .settings .n) x) t) u w)
 
 -- ---- from preparation on: the answers tell all units
@@ -124,6 +128,8 @@ module _ (s : Settings) (table start : List Float) (cs : List Cell) (l : Lent) (
       let told = toldAll bs begun in
       let t = works bs begun in
       let u : begun .run .units + told ≡ told = ap (λ (x : ℕ). x + told) fresh-units ∙ zero-add told in
-      let w : Midway (run .settings .n) (begun .run .units + told) → TreeWorth (run .settings .c) (insertionsIn (run .settings .n) (begun .run .units + told)) t = works-worth begun (preparation-honest s table start cs l run ready) (ap (λ (x : Settings). isTree (x .method)) fresh-settings ∙ tree) bs in
+      let w : Midway (run .settings .n) (begun .run .units + told) →
+      TreeWorth (run .settings .c) (insertionsIn (run .settings .n) (begun .run .units + told)) t = works-worth begun
+      (preparation-honest s table start cs l run ready) (ap (λ (x : Settings). isTree (x .method)) fresh-settings ∙ tree) bs in
       subst (λ (x : Settings). Midway (x .n) told → TreeWorth (x .c) (insertionsIn (x .n) told) t) fresh-settings
       (subst (λ (x : ℕ). Midway (run .settings .n) x → TreeWorth (run .settings .c) (insertionsIn (run .settings .n) x) t) u w)

@@ -41,13 +41,16 @@ module _ (h : HostWorked) (g : Readable h) (honest : Honest (hostState h)) (tree
 
   pub host-worth : Midway (S .n) done → TreeWorth (S .c) (insertionsIn (S .n) done) (hostState (hostWorks bs h))
   host-worth = subst (λ (t : State). Midway (S .n) done → TreeWorth (S .c) (insertionsIn (S .n) done) t) (sym (works-state bs h g))
-      (subst (λ (x : ℕ). Midway (S .n) (hostState h .run .units + x) → TreeWorth (S .c) (insertionsIn (S .n) (hostState h .run .units + x)) (works bs (hostState h))) (sym (told-is bs h g)) (works-worth (hostState h) honest tree bs))
+      (subst (λ (x : ℕ). Midway (S .n) (hostState h .run .units + x) →
+      TreeWorth (S .c) (insertionsIn (S .n) (hostState h .run .units + x)) (works bs (hostState h))) (sym (told-is bs h g))
+      (works-worth (hostState h) honest tree bs))
 
 module _ (s : List ℕ) (table start : List Float) (cs : List Cell) (l : Lent) (w : List ℕ) (ready : hostPrepare s table start (length cs) l w .number ≡ 0) (a : List ℕ) (room : 5 ≤ length a) where
   abbrev begun : HostWorked
   begun = hostBegun s table start cs l w ready a room
 
-  pub host-begun-worth : (bs : List ℕ) → isTree (settingsOf s .method) ≡ true → Midway (settingsOf s .n) (hostTold bs begun) → TreeWorth (settingsOf s .c) (insertionsIn (settingsOf s .n) (hostTold bs begun)) (hostState (hostWorks bs begun))
+  pub host-begun-worth : (bs : List ℕ) → isTree (settingsOf s .method) ≡ true → Midway (settingsOf s .n) (hostTold bs begun) →
+      TreeWorth (settingsOf s .c) (insertionsIn (settingsOf s .n) (hostTold bs begun)) (hostState (hostWorks bs begun))
   unfolding freshRun
   host-begun-worth bs tree =
       let f : hostState begun .run ≡ freshRun (settingsOf s) = begun-fresh s table start cs l w ready a room in
@@ -55,11 +58,13 @@ module _ (s : List ℕ) (table start : List Float) (cs : List Cell) (l : Lent) (
       let u : hostState begun .run .units + hostTold bs begun ≡ hostTold bs begun = ap (λ (r : Run). r .units + hostTold bs begun) f ∙ zero-add (hostTold bs begun) in
       let w = host-worth begun (begun-readable s table start cs l w ready a room) (host-begun-honest s table start cs l w ready a room) (ap (λ (x : Settings). isTree (x .method)) S ∙ tree) bs in
       subst (λ (x : Settings). Midway (x .n) (hostTold bs begun) → TreeWorth (x .c) (insertionsIn (x .n) (hostTold bs begun)) (hostState (hostWorks bs begun))) S
-      (subst (λ (x : ℕ). Midway (hostState begun .run .settings .n) x → TreeWorth (hostState begun .run .settings .c) (insertionsIn (hostState begun .run .settings .n) x) (hostState (hostWorks bs begun))) u w)
+      (subst (λ (x : ℕ). Midway (hostState begun .run .settings .n) x →
+      TreeWorth (hostState begun .run .settings .c) (insertionsIn (hostState begun .run .settings .n) x) (hostState (hostWorks bs begun))) u w)
 
 -- ---- a run that was read
 
-module _ (f : List ℕ) (d : Stored) (F : List Float) (nodes k : ℕ) (answer : unparkOf f d F nodes .answer ≡ Read k) (ns : List Node) (some : isTree (settingsRead (wordIn f) .method) ≡ true → 1 ≤ length ns) where
+module _ (f : List ℕ) (d : Stored) (F : List Float) (nodes k : ℕ) (answer : unparkOf f d F nodes .answer ≡ Read k) (ns : List Node)
+    (some : isTree (settingsRead (wordIn f) .method) ≡ true → 1 ≤ length ns) where
   abbrev readState : State
   readState = stateIn (unparkOf f d F nodes .left) (unparkOf f d F nodes .forces) ns
 

@@ -3,7 +3,7 @@
 use crate::descent::{prepare, work, Areas, Method, Record, Rows, Settings};
 use crate::divergence::divergence;
 use crate::scatter::SplitMix64;
-use crate::tree::Node;
+use crate::tree::{Node, DEEPEST};
 
 const NODE: Node = Node::unused(0.0, 0);
 /// How long each run is.
@@ -36,7 +36,7 @@ fn begin(n: usize, c: usize, seed: u64) -> (Record, Areas) {
         indices: vec![0; links],
         offsets: vec![0; n + 1],
         forces: vec![0.0; n * (2 * c + 1)],
-        nodes: vec![NODE; 1 + 50 * (1 << c) * n],
+        nodes: vec![NODE; 1 + DEEPEST * (1 << c) * n],
     };
     let mut rows = Rows {
         values: vec![0.0; n],

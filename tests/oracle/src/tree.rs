@@ -3,7 +3,7 @@
 use crate::elementary::at_least;
 
 /// A leaf this deep, or deeper, keeps its first point.
-const DEEPEST: usize = 50;
+pub const DEEPEST: usize = 50;
 /// The padding of the box, and the least half of its span.
 const PADDING: f64 = 1e-12;
 

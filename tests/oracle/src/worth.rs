@@ -190,7 +190,7 @@ mod tests {
             let (kind, c) = (round % HARD_KINDS, 1 + round / HARD_KINDS % 3);
             let n = 2 + random.next() as usize % 20;
             let positions = hard_positions(kind, n, c, || random.next());
-            let mut nodes = vec![Node::unused(f64::NAN, 77); 1 + (1 << c) * 50 * (n - 1)];
+            let mut nodes = vec![Node::unused(f64::NAN, 77); 1 + (1 << c) * DEEPEST * (n - 1)];
             plant(&mut nodes, &positions, n, c);
             let mut used = 1;
             for i in 0..=n {

@@ -25,7 +25,9 @@ distance-by-requires c κs = search needs
 
 returns : tie.Need-returns
 unfolding distanceOf
-returns c = rw (c .distance-by .ensures, c .before .dot .ensures, c .before .before .before .before .before .before .pre .1 .0, c .before .before .before .before .before .before .pre .1 .1) refl
+returns c =
+    let the-start = c .before .before .before .before .before .before in
+    rw (c .distance-by .ensures, c .before .dot .ensures, the-start .pre .1 .0, the-start .pre .1 .1) refl
 
 pub distance-spec : {M : Type 1} → statement M
 distance-spec =

@@ -51,7 +51,9 @@ mul-row-2 : tie.Need-mul-row-2
 mul-row-2 c = search needs
 
 slice-write-row-2 : tie.Need-slice-write-row-2
-slice-write-row-2 c = simp length-set (omega (arith, c .before .before .before .before .before .before .before .before .before .pre .0 .4))
+slice-write-row-2 c =
+    let the-start = c .before .before .before .before .before .before .before .before .before in
+    simp length-set (omega (arith, the-start .pre .0 .4))
 
 add-distance-by-2 : tie.Need-add-distance-by-2
 add-distance-by-2 c = search needs
@@ -72,7 +74,9 @@ mul-row-3 : tie.Need-mul-row-3
 mul-row-3 c = search needs
 
 slice-write-row-3 : tie.Need-slice-write-row-3
-slice-write-row-3 c = simp length-set (omega (arith, c .before .before .before .before .before .before .before .before .before .before .before .pre .0 .4))
+slice-write-row-3 c =
+    let the-start = c .before .before .before .before .before .before .before .before .before .before .before in
+    simp length-set (omega (arith, the-start .pre .0 .4))
 
 add-distance-by-3 : tie.Need-add-distance-by-3
 add-distance-by-3 c = search needs
@@ -93,17 +97,27 @@ mul-row-4 : tie.Need-mul-row-4
 mul-row-4 c = search needs
 
 slice-write-row-4 : tie.Need-slice-write-row-4
-slice-write-row-4 c = simp length-set (omega (arith, c .before .before .before .before .before .before .before .before .before .before .before .before .before .pre .0 .4))
+slice-write-row-4 c =
+    let the-start = c .before .before .before .before .before .before .before .before .before .before .before .before .before in
+    simp length-set (omega (arith, the-start .pre .0 .4))
 
 same-length : tie.Need-same-length
 same-length c = search needs
 
 returns : tie.Need-returns
 returns c =
-    let dots = c .before .before .before .before .before .before .before .before .dot-four .ensures in
-    let pre = c .before .before .before .before .before .before .before .before .before .before .before .before .before .pre in
-    let j = c .before .before .before .before .before .before .before .before .before .before .before .before .before .args .j in
-    four-written _ _ _ _ _ _ _ _ _ (c .before .before .before .before .before .before .distance-by .ensures ∙ apart-is _ _ _ j _ _ _ (pre .1 .0) (pre .1 .1 j (omega arith)) (dots .0)) (c .before .before .before .before .distance-by2 .ensures ∙ apart-is _ _ _ (j + 1) _ _ _ (pre .1 .0) (pre .1 .1 (j + 1) (omega arith)) (dots .1)) (c .before .before .distance-by3 .ensures ∙ apart-is _ _ _ (j + 2) _ _ _ (pre .1 .0) (pre .1 .1 (j + 2) (omega arith)) (dots .2)) (c .distance-by4 .ensures ∙ apart-is _ _ _ (j + 3) _ _ _ (pre .1 .0) (pre .1 .1 (j + 3) (omega arith)) (dots .3))
+    let the-distance-by3 = c .before .before .distance-by3 in
+    let the-distance-by2 = c .before .before .before .before .distance-by2 in
+    let the-distance-by = c .before .before .before .before .before .before .distance-by in
+    let the-dot-four = c .before .before .before .before .before .before .before .before .dot-four in
+    let the-start = c .before .before .before .before .before .before .before .before .before .before .before .before .before in
+    let dots = the-dot-four .ensures in
+    let pre = the-start .pre in
+    let j = the-start .args .j in
+    four-written _ _ _ _ _ _ _ _ _ (the-distance-by .ensures ∙ apart-is _ _ _ j _ _ _ (pre .1 .0) (pre .1 .1 j (omega arith)) (dots .0))
+    (the-distance-by2 .ensures ∙ apart-is _ _ _ (j + 1) _ _ _ (pre .1 .0) (pre .1 .1 (j + 1) (omega arith)) (dots .1))
+    (the-distance-by3 .ensures ∙ apart-is _ _ _ (j + 2) _ _ _ (pre .1 .0) (pre .1 .1 (j + 2) (omega arith)) (dots .2))
+    (c .distance-by4 .ensures ∙ apart-is _ _ _ (j + 3) _ _ _ (pre .1 .0) (pre .1 .1 (j + 3) (omega arith)) (dots .3))
 
 pub distance-four-spec : {M : Type 1} → statement M
 distance-four-spec =

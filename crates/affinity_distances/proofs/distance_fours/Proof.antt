@@ -25,7 +25,19 @@ sub-loop : tie.Need-sub-loop Inv-loop μ-loop
 sub-loop c = search needs
 
 distance-four-requires : tie.Need-distance-four-requires Inv-loop μ-loop
-distance-four-requires c κs = ((row-in _ _ _ _ (c .before .before .before .before .before .before .pre .0 .0) (c .before .before .before .before .before .before .pre .0 .1), rows-in _ (c .before .before .before .before .before .before .args .n) _ _ (omega arith) (c .before .before .before .before .before .before .pre .0 .1), omega (arith, c .before .before .before .before .before .before .pre .0), omega (arith, c .before .before .before .before .before .before .pre .0), omega (arith, c .before .before .before .before .before .before .pre .0, c .before .before .loop .inv .1)), (c .before .before .before .before .before .before .pre .1 _ (c .before .before .before .before .before .before .pre .0 .0), λ t h. c .before .before .before .before .before .before .pre .1 t (omega arith)))
+distance-four-requires c κs =
+    let the-loop = c .before .before .loop in
+    let the-start = c .before .before .before .before .before .before in (
+      (
+        row-in _ _ _ _ (the-start .pre .0 .0) (the-start .pre .0 .1),
+        rows-in _ (the-start .args .n) _ _ (omega arith) (the-start .pre .0 .1),
+        omega
+            (arith, the-start .pre .0),
+        omega (arith, the-start .pre .0),
+        omega (arith, the-start .pre .0, the-loop .inv .1),
+      ),
+      (the-start .pre .1 _ (the-start .pre .0 .0), λ t h. the-start .pre .1 t (omega arith)),
+    )
 
 add-j : tie.Need-add-j Inv-loop μ-loop
 add-j c = search needs
@@ -34,7 +46,10 @@ loop-less : tie.Need-loop-less Inv-loop μ-loop
 loop-less c = search needs
 
 loop-again : tie.Need-loop-again Inv-loop μ-loop
-loop-again c = (omega arith, c .before .before .distance-four .kept .1 .1 .1 .1 .1 .0 ∙ c .before .before .before .before .before .loop .inv .1, c .before .before .distance-four .ensures ∙ loop-many _ _ _ _ (c .before .before .before .before .before .loop .inv .2) 4)
+loop-again c =
+    let the-distance-four = c .before .before .distance-four in
+    let the-loop = c .before .before .before .before .before .loop in
+    (omega arith, the-distance-four .kept .1 .1 .1 .1 .1 .0 ∙ the-loop .inv .1, the-distance-four .ensures ∙ loop-many _ _ _ _ (the-loop .inv .2) 4)
 
 same-length : tie.Need-same-length Inv-loop μ-loop
 same-length c = c .before .loop .inv .1

@@ -2,7 +2,7 @@
 use borrow.Author.Needs.{needs}
 use native.Mathlib.Omega.{arith}
 use Prim.Native.Nat.{_-_}
-use Rattle.laws.proofs.Loops.{Loops, loop-start, loop-more, loop-done}
+use Rattle.laws.proofs.Loops.{Loops, loop-start, loop-next, loop-done}
 use Rattle.affinity_distances.specs.Distances.{dotStep}
 use Rattle.affinity_distances.proofs.dot.Statement.{statement}
 use Rattle.affinity_distances.proofs.dot.Tie as tie
@@ -47,7 +47,7 @@ loop-less : tie.Need-loop-less Inv-loop μ-loop
 loop-less c = search needs
 
 loop-again : tie.Need-loop-again Inv-loop μ-loop
-loop-again c = loop-more (c .before .before .before .loop .inv) (omega arith)
+loop-again c = loop-next (c .before .before .before .loop .inv) (omega arith)
 
 returns : tie.Need-returns Inv-loop μ-loop
 returns c = loop-done (c .before .loop .inv) (omega arith)

@@ -2,14 +2,15 @@
 use borrow.Author.Needs.{needs}
 use native.Mathlib.Omega.{arith}
 use Prim.Native.Nat.{_-_}
-use Rattle.laws.proofs.Loops.{Loops, loop-start, loop-more, loop-done}
+use Rattle.laws.proofs.Loops.{Loops, loop-start, loop-next, loop-done}
 use Rattle.affinity_distances.specs.Distances.{dotStep}
 use Rattle.affinity_distances.proofs.Fours.{one-on, two-on, three-on}
 use Rattle.affinity_distances.proofs.dot_four.Statement.{statement}
 use Rattle.affinity_distances.proofs.dot_four.Tie as tie
 
 abbrev Inv-loop : tie.InvT-loop
-Inv-loop table f i j o a b c d first₀ second₀ third₀ fourth₀ k₀ first second third fourth k = Loops (dotStep table o a) f first₀ k first × Loops (dotStep table o b) f second₀ k second × Loops (dotStep table o c) f third₀ k third × Loops (dotStep table o d) f fourth₀ k fourth
+Inv-loop table f i j o a b c d first₀ second₀ third₀ fourth₀ k₀ first second third fourth k = Loops (dotStep table o a) f first₀ k first ×
+    Loops (dotStep table o b) f second₀ k second × Loops (dotStep table o c) f third₀ k third × Loops (dotStep table o d) f fourth₀ k fourth
 
 abbrev μ-loop : tie.MeasureT-loop
 μ-loop table f i j o a b c d first₀ second₀ third₀ fourth₀ k₀ first second third fourth k = f - k
@@ -84,10 +85,26 @@ loop-less : tie.Need-loop-less Inv-loop μ-loop
 loop-less c = search needs
 
 loop-again : tie.Need-loop-again Inv-loop μ-loop
-loop-again c = (loop-more (c .before .before .before .before .before .before .loop .inv .0) (omega arith), loop-more (c .before .before .before .before .before .before .loop .inv .1) (omega arith), loop-more (c .before .before .before .before .before .before .loop .inv .2) (omega arith), loop-more (c .before .before .before .before .before .before .loop .inv .3) (omega arith))
+loop-again c =
+    let the-loop = c .before .before .before .before .before .before .loop in (
+      loop-next (the-loop .inv .0) (omega arith),
+      loop-next (the-loop .inv .1) (omega arith),
+      loop-next (the-loop .inv .2) (omega arith),
+      loop-next
+          (the-loop .inv .3) (omega arith),
+    )
 
 returns : tie.Need-returns Inv-loop μ-loop
-returns c = (loop-done (c .before .loop .inv .0) (omega arith), rw (one-on (c .before .before .args .j) (c .before .before .args .f)) (loop-done (c .before .loop .inv .1) (omega arith)), rw (two-on (c .before .before .args .j) (c .before .before .args .f)) (loop-done (c .before .loop .inv .2) (omega arith)), rw (three-on (c .before .before .args .j) (c .before .before .args .f)) (loop-done (c .before .loop .inv .3) (omega arith)))
+returns c =
+    let the-start = c .before .before in (
+      loop-done (c .before .loop .inv .0) (omega arith),
+      rw (one-on (the-start .args .j) (the-start .args .f))
+          (loop-done (c .before .loop .inv .1) (omega arith)),
+      rw (two-on (the-start .args .j) (the-start .args .f))
+          (loop-done (c .before .loop .inv .2) (omega arith)),
+      rw (three-on (the-start .args .j) (the-start .args .f))
+          (loop-done (c .before .loop .inv .3) (omega arith)),
+    )
 
 pub dot-four-spec : {M : Type 1} → statement M
 dot-four-spec =

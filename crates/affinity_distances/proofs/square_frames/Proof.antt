@@ -2,7 +2,7 @@
 use mathlib.Core.Path.{_≡_}
 use Prim.Native.Nat.{_-_}
 use lib.ListN.{length}
-use Rattle.laws.proofs.Loops.{Loops, loop-start, loop-more, loop-done}
+use Rattle.laws.proofs.Loops.{Loops, loop-start, loop-next, loop-done}
 use Rattle.laws.proofs.Numbers.{row-in}
 use Rattle.affinity_distances.specs.Distances.{squareStep}
 use borrow.Author.Needs.{needs}
@@ -20,7 +20,9 @@ loop-holds : tie.Need-loop-holds Inv-loop μ-loop
 loop-holds c = (search needs, loop-start _ _ _)
 
 dot-requires : tie.Need-dot-requires Inv-loop μ-loop
-dot-requires c κs = (row-in _ _ _ _ (c .loop-test .taken) (c .before .before .before .before .pre .0), row-in _ _ _ _ (c .loop-test .taken) (c .before .before .before .before .pre .0))
+dot-requires c κs =
+    let the-start = c .before .before .before .before in
+    (row-in _ _ _ _ (c .loop-test .taken) (the-start .pre .0), row-in _ _ _ _ (c .loop-test .taken) (the-start .pre .0))
 
 mul-squares : tie.Need-mul-squares Inv-loop μ-loop
 mul-squares c = search needs
@@ -35,7 +37,7 @@ loop-less : tie.Need-loop-less Inv-loop μ-loop
 loop-less c = search needs
 
 loop-again : tie.Need-loop-again Inv-loop μ-loop
-loop-again c = (search needs, rw (c .dot .ensures) (loop-more (c .before .before .loop .inv .1) (omega arith)))
+loop-again c = (search needs, rw (c .dot .ensures) (loop-next (c .before .before .loop .inv .1) (omega arith)))
 
 same-length : tie.Need-same-length Inv-loop μ-loop
 same-length c = search needs

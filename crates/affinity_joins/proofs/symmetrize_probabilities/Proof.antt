@@ -1,5 +1,5 @@
 -- `affinity::exact::symmetrize_probabilities` meets its contract: i frames are joined with their lower ones. Assumes nothing.
-use Rattle.laws.proofs.Loops.{Loops, loop-start, loop-more, loop-done}
+use Rattle.laws.proofs.Loops.{Loops, loop-start, loop-next, loop-done}
 use Rattle.affinity_joins.specs.Joins.{frameJoined}
 use mathlib.Core.Path.{refl, _∙_, _≡_}
 use lib.Ieee.{inFloat}
@@ -25,7 +25,10 @@ loop-holds : tie.Need-loop-holds Inv-loop μ-loop
 loop-holds c = (refl, loop-start _ _ _)
 
 join-frame-requires : tie.Need-join-frame-requires Inv-loop μ-loop
-join-frame-requires c κs = (c .before .loop-test .taken, rw (c .before .before .loop .inv .0) (c .before .before .before .before .before .pre .1))
+join-frame-requires c κs =
+    let the-loop = c .before .before .loop in
+    let the-start = c .before .before .before .before .before in
+    (c .before .loop-test .taken, rw (the-loop .inv .0) (the-start .pre .1))
 
 add-i : tie.Need-add-i Inv-loop μ-loop
 add-i c = search needs
@@ -34,7 +37,11 @@ loop-less : tie.Need-loop-less Inv-loop μ-loop
 loop-less c = search needs
 
 loop-again : tie.Need-loop-again Inv-loop μ-loop
-loop-again c = (c .before .before .join-frame .kept .0 ∙ c .before .before .before .before .before .loop .inv .0, rw (c .before .before .join-frame .ensures) (loop-more (c .before .before .before .before .before .loop .inv .1) (c .before .before .before .before .loop-test .taken)))
+loop-again c =
+    let the-join-frame = c .before .before .join-frame in
+    let the-loop-test = c .before .before .before .before .loop-test in
+    let the-loop = c .before .before .before .before .before .loop in
+    (the-join-frame .kept .0 ∙ the-loop .inv .0, rw (the-join-frame .ensures) (loop-next (the-loop .inv .1) (the-loop-test .taken)))
 
 same-length : tie.Need-same-length Inv-loop μ-loop
 same-length c = c .before .loop .inv .0

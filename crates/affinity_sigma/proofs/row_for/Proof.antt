@@ -22,6 +22,9 @@ returns c =
     let the-share-out = c .before .before .share-out in
     let the-total = c .before .before .before .before .total in
     let the-weigh = c .before .before .before .before .before .before .before .before .weigh in
+    let the-share-out = the-share-out in
+    let the-total = the-total in
+    let the-weigh = the-weigh in
     (rw (the-total .ensures, the-weigh .ensures) at (the-share-out .ensures), rw (the-weigh .ensures) at (the-total .ensures))
 
 pub row-for-spec : {M : Type 1} → statement M

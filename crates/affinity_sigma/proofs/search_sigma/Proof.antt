@@ -3,7 +3,7 @@ use lib.ListN.{length}
 use Prim.Native.Nat.{_-_}
 use mathlib.Core.Path.{_≡_, refl}
 use Rattle.affinity_sigma.specs.Sigma.{close, mostRounds}
-use Rattle.affinity_sigma.proofs.Rounds.{Narrows, unbounded, narrows-start, narrows-more, narrows-met, narrows-done}
+use Rattle.affinity_sigma.proofs.Rounds.{Narrows, unbounded, narrows-start, narrows-next, narrows-met, narrows-done}
 use borrow.Author.Needs.{needs}
 use Rattle.affinity_sigma.proofs.search_sigma.Statement.{statement}
 use Rattle.affinity_sigma.proofs.search_sigma.Tie as tie
@@ -41,12 +41,16 @@ loop-again c =
     let the-excess-of = c .before .before .before .excess-of in
     let the-row-for = c .before .before .before .before .before .before .before .row-for in
     let the-loop-test = c .before .before .before .before .before .before .before .before .before .loop-test in
-    let the-loop = c .before .before .before .before .before .before .before .before .before .before .loop in (
+    let the-loop = c .before .before .before .before .before .before .before .before .before .before .loop in
+    let the-absolute = the-absolute in
+    let the-excess-of = the-excess-of in
+    let the-row-for = the-row-for in
+    let the-loop-test = the-loop-test in
+    let the-loop = the-loop in (
       search needs,
-      narrows-more (the-loop .inv .1) (the-loop-test .taken)
+      narrows-next (the-loop .inv .1) (the-loop-test .taken)
           (record { row-is = the-row-for .ensures .0; sum-is = the-row-for .ensures .1; off-by = the-excess-of .ensures })
-          (rw (the-absolute .ensures) at (c .before .if1 .left))
-          (c .next .ensures),
+          (rw (the-absolute .ensures) at (c .before .if1 .left)) (c .next .ensures),
     )
 
 same-length : tie.Need-same-length Inv-loop μ-loop
@@ -60,12 +64,17 @@ same-length-2 c = search needs
 
 returns-2 : tie.Need-returns-2 Inv-loop μ-loop
 returns-2 c =
-    let the-absolute = c .before .absolute in
     let the-excess-of = c .before .before .excess-of in
     let the-row-for = c .before .before .before .before .before .before .row-for in
     let the-loop-test = c .before .before .before .before .before .before .before .before .loop-test in
     let the-loop = c .before .before .before .before .before .before .before .before .before .loop in
-    narrows-met (the-loop .inv .1) (the-loop-test .taken) (record { row-is = the-row-for .ensures .0; sum-is = the-row-for .ensures .1; off-by = the-excess-of .ensures })
+    let the-absolute = c .before .absolute in
+    let the-excess-of = the-excess-of in
+    let the-row-for = the-row-for in
+    let the-loop-test = the-loop-test in
+    let the-loop = the-loop in
+    narrows-met (the-loop .inv .1) (the-loop-test .taken)
+    (record { row-is = the-row-for .ensures .0; sum-is = the-row-for .ensures .1; off-by = the-excess-of .ensures })
     (rw (the-absolute .ensures) at (c .if1 .taken))
 
 pub search-sigma-spec : {M : Type 1} → statement M

@@ -1,3 +1,4 @@
+-- `answer_words::put_after` meets its contract: by `bad-after`, `fine-after`.
 use Rattle.answer_words.proofs.Laws.{bad-after, fine-after}
 use mathlib.Core.Path.{sym, _∙_}
 use borrow.Author.Needs.{needs}
@@ -17,7 +18,11 @@ same-length : tie.Need-same-length
 same-length c = search needs
 
 returns-2 : tie.Need-returns-2
-returns-2 c = fine-after _ _ _ (sym (c .before .before .before .before .before .is-bad .ensures) ∙ c .before .before .before .before .if1 .left) (c .before .before .put-progress .ensures)
+returns-2 c =
+    let the-put-progress = c .before .before .put-progress in
+    let the-if1 = c .before .before .before .before .if1 in
+    let the-is-bad = c .before .before .before .before .before .is-bad in
+    fine-after _ _ _ (sym (the-is-bad .ensures) ∙ the-if1 .left) (the-put-progress .ensures)
 
 pub put-after-spec : {M : Type 1} → statement M
 put-after-spec =

@@ -1,3 +1,4 @@
+-- `answer_words::put_answer` meets its contract: from what its calls promise.
 use lib.ListN.{length-set}
 use Rattle.answer_words.specs.AnswerWords.{answerPut}
 use borrow.Author.Needs.{needs}
@@ -46,7 +47,12 @@ same-length c = search needs
 
 returns : tie.Need-returns
 unfolding answerPut
-returns c = rw (c .before .before .before .before .kind-word .ensures, c .before .before .before .number .ensures, c .before .before .units-word .ensures, c .before .fault-word .ensures, c .fault-value .ensures, c .before .before .before .before .before .fault-in .ensures)
+returns c =
+    let the-units-word = c .before .before .units-word in
+    let the-number = c .before .before .before .number in
+    let the-kind-word = c .before .before .before .before .kind-word in
+    let the-fault-in = c .before .before .before .before .before .fault-in in
+    rw (the-kind-word .ensures, the-number .ensures, the-units-word .ensures, c .before .fault-word .ensures, c .fault-value .ensures, the-fault-in .ensures)
 
 pub put-answer-spec : {M : Type 1} → statement M
 put-answer-spec =

@@ -1,3 +1,4 @@
+-- `answer_words::units_word` meets its contract: each need follows from its own premises.
 use Rattle.descent.specs.Descent.{unitsOf}
 use borrow.Author.Needs.{needs}
 use Rattle.answer_words.proofs.units_word.Statement.{statement}

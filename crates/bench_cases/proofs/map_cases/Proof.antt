@@ -1,3 +1,4 @@
+-- `bench_cases::map_cases` meets its contract: the loop keeps what has been done equal to its part of the whole.
 use Prim.Native.Nat.{_≤_, _-_}
 use borrow.Author.Needs.{needs}
 use Rattle.bench_cases.proofs.map_cases.Statement.{statement}

@@ -1,3 +1,4 @@
+-- `bench_lines::put_position` meets its contract: by `puts-then`.
 use Rattle.bench_lines.specs.BenchLines.{positionText}
 use Rattle.text.proofs.Puts.{puts-then}
 use borrow.Author.Needs.{needs}
@@ -34,7 +35,19 @@ same-length c = search needs
 
 returns : tie.Need-returns
 unfolding positionText
-returns c = (puts-then (puts-then (puts-then ((rw (c .before .before .before .before .before .before .before .before .before .before .before .before .before .before .before .before .before .before .bits-of .ensures) at (c .before .before .before .before .before .before .before .before .before .before .before .before .before .before .before .before .before .put-hex .ensures .0))) (c .before .before .before .before .before .before .before .before .before .before .before .before .put .ensures)) (rw (c .before .before .before .before .before .before .before .before .bits-of2 .ensures) at (c .before .before .before .before .before .before .before .put-hex2 .ensures .0))) (c .before .before .put2 .ensures), omega (arith, c .before .before .before .before .before .before .before .before .before .before .before .before .before .before .before .before .before .put-hex .ensures .1, c .before .before .before .before .before .before .before .before .before .before .before .before .put .ensures .place, c .before .before .before .before .before .before .before .put-hex2 .ensures .1, c .before .before .put2 .ensures .place))
+returns c =
+    let the-put2 = c .before .before .put2 in
+    let the-put-hex2 = c .before .before .before .before .before .before .before .put-hex2 in
+    let the-bits-of2 = c .before .before .before .before .before .before .before .before .bits-of2 in
+    let the-put = c .before .before .before .before .before .before .before .before .before .before .before .before .put in
+    let far-1 = c .before .before .before .before .before .before .before .before .before .before .before .before in
+    let the-put-hex = far-1 .before .before .before .before .before .put-hex in
+    let the-bits-of = far-1 .before .before .before .before .before .before .bits-of in (
+      puts-then (puts-then (puts-then ((rw (the-bits-of .ensures) at (the-put-hex .ensures .0))) (the-put .ensures))
+          (rw (the-bits-of2 .ensures) at (the-put-hex2 .ensures .0))) (the-put2 .ensures),
+      omega
+          (arith, the-put-hex .ensures .1, the-put .ensures .place, the-put-hex2 .ensures .1, the-put2 .ensures .place),
+    )
 
 pub put-position-spec : {M : Type 1} → statement M
 put-position-spec =

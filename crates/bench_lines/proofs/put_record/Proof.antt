@@ -1,3 +1,4 @@
+-- `bench_lines::put_record` meets its contract: by `puts-then`.
 use Rattle.bench_lines.specs.BenchLines.{recordText}
 use Rattle.text.proofs.Puts.{puts-then}
 use borrow.Author.Needs.{needs}
@@ -33,7 +34,15 @@ same-length c = search needs
 
 returns : tie.Need-returns
 unfolding recordText
-returns c = puts-then (puts-then (puts-then (puts-then ((c .before .before .before .before .before .before .before .before .before .before .before .before .before .before .before .before .before .before .before .before .put .ensures)) (c .before .before .before .before .before .before .before .before .before .before .before .before .before .before .before .before .put-decimal .ensures .0)) (c .before .before .before .before .before .before .before .before .before .before .before .put2 .ensures)) (c .before .before .before .before .before .before .before .put-decimal2 .ensures .0)) (c .before .before .put3 .ensures)
+returns c =
+    let the-put3 = c .before .before .put3 in
+    let the-put-decimal2 = c .before .before .before .before .before .before .before .put-decimal2 in
+    let the-put2 = c .before .before .before .before .before .before .before .before .before .before .before .put2 in
+    let the-put-decimal = c .before .before .before .before .before .before .before .before .before .before .before .before .before .before .before .before .put-decimal in
+    let far-1 = c .before .before .before .before .before .before .before .before .before .before .before .before in
+    let the-put = far-1 .before .before .before .before .before .before .before .before .put in
+    puts-then (puts-then (puts-then (puts-then ((the-put .ensures)) (the-put-decimal .ensures .0)) (the-put2 .ensures)) (the-put-decimal2 .ensures .0))
+    (the-put3 .ensures)
 
 pub put-record-spec : {M : Type 1} → statement M
 put-record-spec =

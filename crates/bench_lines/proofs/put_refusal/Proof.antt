@@ -1,3 +1,4 @@
+-- `bench_lines::put_refusal` meets its contract: by `puts-then`.
 use Rattle.bench_lines.specs.BenchLines.{refusalText}
 use Rattle.text.proofs.Puts.{puts-then}
 use borrow.Author.Needs.{needs}
@@ -24,7 +25,11 @@ same-length c = search needs
 
 returns : tie.Need-returns
 unfolding refusalText
-returns c = puts-then (puts-then ((c .before .before .before .before .before .before .before .before .before .before .before .put .ensures)) (c .before .before .before .before .before .before .before .put-decimal .ensures .0)) (c .before .before .put2 .ensures)
+returns c =
+    let the-put2 = c .before .before .put2 in
+    let the-put-decimal = c .before .before .before .before .before .before .before .put-decimal in
+    let the-put = c .before .before .before .before .before .before .before .before .before .before .before .put in
+    puts-then (puts-then ((the-put .ensures)) (the-put-decimal .ensures .0)) (the-put2 .ensures)
 
 pub put-refusal-spec : {M : Type 1} → statement M
 put-refusal-spec =

@@ -68,13 +68,19 @@ work-on-requires : tie.Need-work-on-requires
 work-on-requires c κs = search needs
 
 returns : tie.Need-returns
-returns c = refused-map _ _ _ _ _ (c .before .before .before .before .before .before .before .before .before .before .before .before .prepare .ensures) _ (c .before .p .given .1)
+returns c =
+    let the-prepare = c .before .before .before .before .before .before .before .before .before .before .before .before .prepare in
+    refused-map _ _ _ _ _ (the-prepare .ensures) _ (c .before .p .given .1)
 
 returns-2 : tie.Need-returns-2
 returns-2 c =
-    worked-is _ _ _ _ _ (c .before .before .before .before .before .before .before .before .before .before .before .before .before .before .before .before .before .before .before .before .before .before .before .before .prepare .ensures) _ _ _ _ (c .before .before .before .before .before .before .before .before .before .before .before .before .before .p2 .given .1)
-    (c .before .before .before .before .before .before .before .before .before .before .before .before .before .before .before .before .before .before .before .before .before .before .before .before .before .before .before .before .before .before .before .before .before .before .zero-cells .ensures)
-    (c .before .before .before .before .work-on .ensures)
+    let the-work-on = c .before .before .before .before .work-on in
+    let the-p2 = c .before .before .before .before .before .before .before .before .before .before .before .before .before .p2 in
+    let far-1 = c .before .before .before .before .before .before .before .before .before .before .before .before in
+    let far-2 = far-1 .before .before .before .before .before .before .before .before .before .before .before .before in
+    let the-prepare = far-2 .prepare in
+    let the-zero-cells = far-2 .before .before .before .before .before .before .before .before .before .before .zero-cells in
+    worked-is _ _ _ _ _ (the-prepare .ensures) _ _ _ _ (the-p2 .given .1) (the-zero-cells .ensures) (the-work-on .ensures)
 
 pub descend-spec : {M : Type 1} → statement M
 descend-spec =

@@ -1,3 +1,4 @@
+-- `bench_mapping::map_frames` meets its contract: from what its calls promise.
 use Rattle.bench_mapping.specs.Mapping.{mapped}
 use mathlib.Core.Path.{sym}
 use lib.Seq.{length-take-le}
@@ -44,7 +45,11 @@ descend-requires c κs = search needs
 
 returns : tie.Need-returns
 unfolding mapped
-returns c = rw (sym (c .before .before .before .before .before .table-of .ensures .1), sym (c .before .before .before .before .start-of .ensures .1), sym (c .before .before .before .settings .ensures)) (c .descend .ensures)
+returns c =
+    let the-settings = c .before .before .before .settings in
+    let the-start-of = c .before .before .before .before .start-of in
+    let the-table-of = c .before .before .before .before .before .table-of in
+    rw (sym (the-table-of .ensures .1), sym (the-start-of .ensures .1), sym (the-settings .ensures)) (c .descend .ensures)
 
 pub map-frames-spec : {M : Type 1} → statement M
 map-frames-spec =

@@ -1,3 +1,4 @@
+-- `bench_mapping::number` meets its contract: from what its calls promise.
 use Rattle.bench_mapping.specs.Mapping.{mapNumber}
 use borrow.Author.Needs.{needs}
 use Rattle.bench_mapping.proofs.number.Statement.{statement}

@@ -1,3 +1,4 @@
+-- `bench_mapping::settings` meets its contract: each need follows from its own premises.
 use lib.Ieee.{ofBits}
 use Rattle.bench_mapping.specs.Mapping.{benchSettings}
 use borrow.Author.Needs.{needs}

@@ -1,7 +1,8 @@
+-- `bench_mapping::table_of` meets its contract: the loop keeps `Loops`; by `loop-start`, `loop-next`, `loop-done`.
 use mathlib.Core.Path.{_≡_}
 use lib.ListN.{length}
 use Rattle.bench_mapping.specs.Mapping.{featureStep, benchTable, zeros}
-use Rattle.laws.proofs.Loops.{Loops, loop-start as begin, loop-more, loop-done}
+use Rattle.laws.proofs.Loops.{Loops, loop-start as begin, loop-next, loop-done}
 use Prim.Native.Nat.{_-_}
 use borrow.Author.Needs.{needs}
 use native.Mathlib.Omega.{arith}
@@ -39,7 +40,9 @@ loop-less : tie.Need-loop-less Inv-loop μ-loop
 loop-less c = search needs
 
 loop-again : tie.Need-loop-again Inv-loop μ-loop
-loop-again c = (search needs, rw (c .before .frame-at .ensures) (loop-more (c .before .before .before .loop .inv .1) (omega arith)))
+loop-again c =
+    let the-loop = c .before .before .before .loop in
+    (search needs, rw (c .before .frame-at .ensures) (loop-next (the-loop .inv .1) (omega arith)))
 
 returns : tie.Need-returns Inv-loop μ-loop
 unfolding benchTable

@@ -1,5 +1,6 @@
+-- `bench_printout::put_frames` meets its contract: the loop keeps `Lines`; by `lines-start`, `lines-next`, `lines-done`, `puts-then`.
 use Prim.Native.Nat.{_-_}
-use Rattle.bench_printout.proofs.Lines.{Lines, lines-start, lines-more, lines-done}
+use Rattle.bench_printout.proofs.Lines.{Lines, lines-start, lines-next, lines-done}
 use Rattle.bench_printout.specs.Printed.{frameText}
 use Rattle.text.proofs.Puts.{puts-then}
 use borrow.Author.Needs.{needs}
@@ -23,7 +24,12 @@ frame-at-requires : tie.Need-frame-at-requires Inv-loop μ-loop
 frame-at-requires c κs = search needs
 
 put-label-requires : tie.Need-put-label-requires Inv-loop μ-loop
-put-label-requires c κs = omega (arith, c .before .before .before .loop .inv .small, c .before .before .before .loop .inv .size, c .before .before .loop-test .taken, c .before .before .before .before .count .ensures .1, c .before .before .before .before .before .before .before .pre)
+put-label-requires c κs =
+    let the-loop-test = c .before .before .loop-test in
+    let the-loop = c .before .before .before .loop in
+    let the-count = c .before .before .before .before .count in
+    let the-start = c .before .before .before .before .before .before .before in
+    omega (arith, the-loop .inv .small, the-loop .inv .size, the-loop-test .taken, the-count .ensures .1, the-start .pre)
 
 mul-put-position : tie.Need-mul-put-position Inv-loop μ-loop
 mul-put-position c = search needs
@@ -47,7 +53,22 @@ array-read-put-position-2 : tie.Need-array-read-put-position-2 Inv-loop μ-loop
 array-read-put-position-2 c = search needs
 
 put-position-requires : tie.Need-put-position-requires Inv-loop μ-loop
-put-position-requires c κs = omega (arith, c .before .before .before .put-label .ensures .1, c .before .before .before .put-label .kept .0, c .before .before .before .before .before .before .before .loop .inv .small, c .before .before .before .before .before .before .before .loop .inv .size, c .before .before .before .before .before .before .loop-test .taken, c .before .before .before .before .before .before .before .before .count .ensures .1, c .before .before .before .before .before .before .before .before .before .before .before .pre)
+put-position-requires c κs =
+    let the-put-label = c .before .before .before .put-label in
+    let the-loop-test = c .before .before .before .before .before .before .loop-test in
+    let the-loop = c .before .before .before .before .before .before .before .loop in
+    let the-count = c .before .before .before .before .before .before .before .before .count in
+    let the-start = c .before .before .before .before .before .before .before .before .before .before .before in
+    omega (
+      arith,
+      the-put-label .ensures .1,
+      the-put-label .kept .0,
+      the-loop .inv .small,
+      the-loop .inv .size,
+      the-loop-test .taken,
+      the-count .ensures .1,
+      the-start .pre,
+    )
 
 add-i : tie.Need-add-i Inv-loop μ-loop
 add-i c = search needs
@@ -56,7 +77,14 @@ loop-less : tie.Need-loop-less Inv-loop μ-loop
 loop-less c = search needs
 
 loop-again : tie.Need-loop-again Inv-loop μ-loop
-loop-again c = lines-more (c .before .before .before .before .before .before .before .before .before .loop-test .taken) (c .before .before .before .before .before .before .before .before .before .before .loop .inv) (puts-then (rw (c .before .before .before .before .before .before .before .before .frame-at .ensures) at (c .before .before .before .before .before .before .put-label .ensures .0)) (c .before .before .put-position .ensures .0)) (omega (arith, c .before .before .before .before .before .before .put-label .ensures .1, c .before .before .put-position .ensures .1))
+loop-again c =
+    let the-put-position = c .before .before .put-position in
+    let the-put-label = c .before .before .before .before .before .before .put-label in
+    let the-frame-at = c .before .before .before .before .before .before .before .before .frame-at in
+    let the-loop-test = c .before .before .before .before .before .before .before .before .before .loop-test in
+    let the-loop = c .before .before .before .before .before .before .before .before .before .before .loop in
+    lines-next (the-loop-test .taken) (the-loop .inv) (puts-then (rw (the-frame-at .ensures) at (the-put-label .ensures .0)) (the-put-position .ensures .0))
+    (omega (arith, the-put-label .ensures .1, the-put-position .ensures .1))
 
 same-length : tie.Need-same-length Inv-loop μ-loop
 same-length c = search needs

@@ -1,3 +1,4 @@
+-- `bench_printout::put_map` meets its contract: by `puts-then`.
 use Rattle.bench_printout.specs.Printed.{mapText}
 use Rattle.text.proofs.Puts.{puts-then}
 use borrow.Author.Needs.{needs}
@@ -30,7 +31,15 @@ same-length c = search needs
 
 returns : tie.Need-returns
 unfolding mapText
-returns c = puts-then (puts-then (puts-then (puts-then (c .before .before .before .before .before .before .before .before .before .before .before .before .before .before .before .before .before .before .before .before .put .ensures) (c .before .before .before .before .before .before .before .before .before .before .before .before .before .before .before .put2 .ensures)) (c .before .before .before .before .before .before .before .before .before .before .before .put-decimal .ensures .0)) (c .before .before .before .before .before .before .put3 .ensures)) (c .before .before .put-frames .ensures)
+returns c =
+    let the-put-frames = c .before .before .put-frames in
+    let the-put3 = c .before .before .before .before .before .before .put3 in
+    let the-put-decimal = c .before .before .before .before .before .before .before .before .before .before .before .put-decimal in
+    let the-put2 = c .before .before .before .before .before .before .before .before .before .before .before .before .before .before .before .put2 in
+    let far-1 = c .before .before .before .before .before .before .before .before .before .before .before .before in
+    let the-put = far-1 .before .before .before .before .before .before .before .before .put in
+    puts-then (puts-then (puts-then (puts-then (the-put .ensures) (the-put2 .ensures)) (the-put-decimal .ensures .0)) (the-put3 .ensures))
+    (the-put-frames .ensures)
 
 pub put-map-spec : {M : Type 1} → statement M
 put-map-spec =

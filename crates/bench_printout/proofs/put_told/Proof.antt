@@ -1,3 +1,4 @@
+-- `bench_printout::put_told` meets its contract: from what its calls promise.
 use Rattle.bench_printout.specs.Printed.{toldText}
 use borrow.Author.Needs.{needs}
 use Rattle.bench_printout.proofs.put_told.Statement.{statement}
@@ -35,21 +36,33 @@ same-length c = search needs
 
 returns : tie.Need-returns
 unfolding toldText
-returns c = rw (c .before .before .before .before .enum-told .given .1) (rw (c .before .before .before .before .before .before .number .ensures, c .before .before .before .before .enum-told .given .1) at (c .before .before .put-refusal .ensures))
+returns c =
+    let the-put-refusal = c .before .before .put-refusal in
+    let the-enum-told = c .before .before .before .before .enum-told in
+    let the-number = c .before .before .before .before .before .before .number in
+    rw (the-enum-told .given .1) (rw (the-number .ensures, the-enum-told .given .1) at (the-put-refusal .ensures))
 
 same-length-2 : tie.Need-same-length-2
 same-length-2 c = search needs
 
 returns-2 : tie.Need-returns-2
 unfolding toldText
-returns-2 c = rw (c .before .before .before .before .before .t .given .1) (rw (c .before .before .before .before .before .before .before .number .ensures, c .before .before .before .before .before .t .given .1) at (c .before .before .put-record .ensures))
+returns-2 c =
+    let the-put-record = c .before .before .put-record in
+    let the-t = c .before .before .before .before .before .t in
+    let the-number = c .before .before .before .before .before .before .before .number in
+    rw (the-t .given .1) (rw (the-number .ensures, the-t .given .1) at (the-put-record .ensures))
 
 same-length-3 : tie.Need-same-length-3
 same-length-3 c = search needs
 
 returns-3 : tie.Need-returns-3
 unfolding toldText
-returns-3 c = rw (c .before .before .before .before .enum-told2 .given .1) (rw (c .before .before .before .before .before .before .number .ensures, c .before .before .before .before .enum-told2 .given .1) at (c .before .before .put-refusal2 .ensures))
+returns-3 c =
+    let the-put-refusal2 = c .before .before .put-refusal2 in
+    let the-enum-told2 = c .before .before .before .before .enum-told2 in
+    let the-number = c .before .before .before .before .before .before .number in
+    rw (the-enum-told2 .given .1) (rw (the-number .ensures, the-enum-told2 .given .1) at (the-put-refusal2 .ensures))
 
 same-length-4 : tie.Need-same-length-4
 same-length-4 c = search needs

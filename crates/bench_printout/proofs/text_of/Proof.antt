@@ -1,3 +1,4 @@
+-- `bench_printout::text_of` meets its contract: by `puts-front`.
 use Rattle.text.proofs.Puts.{puts-front}
 use Rattle.bench_printout.specs.Printed.{printed}
 use borrow.Author.Needs.{needs}

@@ -1,3 +1,4 @@
+-- `descent::number` meets its contract: from what its calls promise.
 use Rattle.descent.specs.Descent.{workNumber}
 use borrow.Author.Needs.{needs}
 use Rattle.descent.proofs.number.Statement.{statement}

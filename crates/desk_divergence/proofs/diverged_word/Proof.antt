@@ -1,3 +1,4 @@
+-- `desk_divergence::diverged_word` meets its contract: from what its calls promise.
 use Rattle.desk_divergence.specs.HostDivergence.{divergedWord}
 use borrow.Author.Needs.{needs}
 use Rattle.desk_divergence.proofs.diverged_word.Statement.{statement}

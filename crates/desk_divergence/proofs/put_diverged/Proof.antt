@@ -1,3 +1,4 @@
+-- `desk_divergence::put_diverged` meets its contract: from what its calls promise.
 use Rattle.desk_divergence.specs.HostDivergence.{divergedTold}
 use borrow.Author.Needs.{needs}
 use native.Mathlib.Omega.{arith}

@@ -1,3 +1,4 @@
+-- `desk_files::host_frame` meets its contract: from what its calls promise.
 use Rattle.desk_files.specs.Files.{hostFrame}
 use borrow.Author.Tests.{lt-ltb, le-ltb}
 use borrow.Author.Needs.{needs}
@@ -19,7 +20,11 @@ same-length c = search needs
 
 returns-2 : tie.Need-returns-2
 unfolding hostFrame
-returns-2 c = rw (le-ltb _ _ (c .before .before .before .before .before .if1 .left), c .before .before .put-frame .ensures, c .before .before .before .before .frame-at .ensures)
+returns-2 c =
+    let the-put-frame = c .before .before .put-frame in
+    let the-frame-at = c .before .before .before .before .frame-at in
+    let the-if1 = c .before .before .before .before .before .if1 in
+    rw (le-ltb _ _ (the-if1 .left), the-put-frame .ensures, the-frame-at .ensures)
 
 pub host-frame-spec : {M : Type 1} → statement M
 host-frame-spec =

@@ -1,3 +1,4 @@
+-- `desk_files::host_frames` meets its contract: from what its calls promise.
 use Rattle.desk_files.specs.Files.{hostFrames}
 use borrow.Author.Tests.{eq-eqb, ne-eqb}
 use mathlib.Core.Path.{sym, _∙_}
@@ -29,14 +30,20 @@ same-length c = search needs
 
 returns-2 : tie.Need-returns-2
 unfolding hostFrames
-returns-2 c = rw (ne-eqb _ _ (c .before .before .before .before .if1 .left), sym (c .before .before .before .read-frames .ensures) ∙ c .before .n .given .1)
+returns-2 c =
+    let the-read-frames = c .before .before .before .read-frames in
+    let the-if1 = c .before .before .before .before .if1 in
+    rw (ne-eqb _ _ (the-if1 .left), sym (the-read-frames .ensures) ∙ c .before .n .given .1)
 
 same-length-2 : tie.Need-same-length-2
 same-length-2 c = search needs
 
 returns-3 : tie.Need-returns-3
 unfolding hostFrames
-returns-3 c = rw (ne-eqb _ _ (c .before .before .before .before .if1 .left), sym (c .before .before .before .read-frames .ensures) ∙ c .before .p .given .1)
+returns-3 c =
+    let the-read-frames = c .before .before .before .read-frames in
+    let the-if1 = c .before .before .before .before .if1 in
+    rw (ne-eqb _ _ (the-if1 .left), sym (the-read-frames .ensures) ∙ c .before .p .given .1)
 
 pub host-frames-spec : {M : Type 1} → statement M
 host-frames-spec =

@@ -1,3 +1,4 @@
+-- `desk_files::host_scatter` meets its contract: by `scattered-is`.
 use Rattle.desk_files.proofs.Laws.{scattered-is}
 use borrow.Author.Needs.{needs}
 use Rattle.desk_files.proofs.host_scatter.Statement.{statement}
@@ -19,13 +20,17 @@ same-length : tie.Need-same-length
 same-length c = search needs
 
 returns : tie.Need-returns
-returns c = scattered-is (c .before .before .before .before .scatter .result) _ (c .before .before .before .before .scatter .ensures) _ (rw (c .enum-told .given .1))
+returns c =
+    let the-scatter = c .before .before .before .before .scatter in
+    scattered-is (the-scatter .result) _ (the-scatter .ensures) _ (rw (c .enum-told .given .1))
 
 same-length-2 : tie.Need-same-length-2
 same-length-2 c = search needs
 
 returns-2 : tie.Need-returns-2
-returns-2 c = scattered-is (c .before .before .before .before .before .scatter .result) _ (c .before .before .before .before .before .scatter .ensures) _ (rw (c .before .k .given .1))
+returns-2 c =
+    let the-scatter = c .before .before .before .before .before .scatter in
+    scattered-is (the-scatter .result) _ (the-scatter .ensures) _ (rw (c .before .k .given .1))
 
 pub host-scatter-spec : {M : Type 1} → statement M
 host-scatter-spec =

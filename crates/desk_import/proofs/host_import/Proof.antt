@@ -1,3 +1,4 @@
+-- `desk_import::host_import` meets its contract: by `import-mute`, `import-unset`, `import-short`, `import-answered`.
 use Rattle.partner_import.specs.Import.{loading}
 use Rattle.desk_import.proofs.Laws.{import-mute, import-unset, import-short, import-answered}
 use borrow.Author.Needs.{needs}
@@ -15,7 +16,10 @@ use Rattle.partner_import.proofs.number.Reads as number-reads
 use Rattle.record_words.proofs.settings_of.Reads as settings-of-reads
 
 returns : tie.Need-returns
-returns c = import-mute _ _ _ _ (loading (c .before .before .before .before .before .before .before .before .before .before .before .before .before .args .positions .now) (c .before .before .before .before .before .before .before .before .before .before .before .before .before .args .increments .now) (c .before .before .before .before .before .before .before .before .before .before .before .before .before .args .gains .now) (c .before .before .before .before .before .before .before .before .before .before .before .before .before .args .affinities .now) (c .before .before .before .before .before .before .before .before .before .before .before .before .before .args .indices .now) (c .before .before .before .before .before .before .before .before .before .before .before .before .before .args .offsets .now) (c .before .before .before .before .before .before .before .before .before .before .before .before .before .args .forces .now)) _ _ (c .if1 .taken)
+returns c =
+    let the-start = c .before .before .before .before .before .before .before .before .before .before .before .before .before in
+    import-mute _ _ _ _ (loading (the-start .args .positions .now) (the-start .args .increments .now) (the-start .args .gains .now)
+    (the-start .args .affinities .now) (the-start .args .indices .now) (the-start .args .offsets .now) (the-start .args .forces .now)) _ _ (c .if1 .taken)
 
 slice-write-answer : tie.Need-slice-write-answer
 slice-write-answer c = search needs
@@ -24,7 +28,11 @@ same-length : tie.Need-same-length
 same-length c = search needs
 
 returns-2 : tie.Need-returns-2
-returns-2 c = import-unset _ _ _ _ (loading (c .before .before .before .before .before .before .before .before .before .before .before .before .before .before .args .positions .now) (c .before .before .before .before .before .before .before .before .before .before .before .before .before .before .args .increments .now) (c .before .before .before .before .before .before .before .before .before .before .before .before .before .before .args .gains .now) (c .before .before .before .before .before .before .before .before .before .before .before .before .before .before .args .affinities .now) (c .before .before .before .before .before .before .before .before .before .before .before .before .before .before .args .indices .now) (c .before .before .before .before .before .before .before .before .before .before .before .before .before .before .args .offsets .now) (c .before .before .before .before .before .before .before .before .before .before .before .before .before .before .args .forces .now)) _ _ (c .before .if1 .left) (c .if2 .taken)
+returns-2 c =
+    let the-start = c .before .before .before .before .before .before .before .before .before .before .before .before .before .before in
+    import-unset _ _ _ _ (loading (the-start .args .positions .now) (the-start .args .increments .now) (the-start .args .gains .now)
+    (the-start .args .affinities .now) (the-start .args .indices .now) (the-start .args .offsets .now) (the-start .args .forces .now)) _ _
+    (c .before .if1 .left) (c .if2 .taken)
 
 settings-of-requires : tie.Need-settings-of-requires
 settings-of-requires c κs = search needs
@@ -39,7 +47,15 @@ same-length-2 : tie.Need-same-length-2
 same-length-2 c = search needs
 
 returns-3 : tie.Need-returns-3
-returns-3 c = import-short _ _ _ _ (loading (c .before .before .before .before .before .before .before .before .before .before .before .before .before .before .before .before .before .args .positions .now) (c .before .before .before .before .before .before .before .before .before .before .before .before .before .before .before .before .before .args .increments .now) (c .before .before .before .before .before .before .before .before .before .before .before .before .before .before .before .before .before .args .gains .now) (c .before .before .before .before .before .before .before .before .before .before .before .before .before .before .before .before .before .args .affinities .now) (c .before .before .before .before .before .before .before .before .before .before .before .before .before .before .before .before .before .args .indices .now) (c .before .before .before .before .before .before .before .before .before .before .before .before .before .before .before .before .before .args .offsets .now) (c .before .before .before .before .before .before .before .before .before .before .before .before .before .before .before .before .before .args .forces .now)) _ _ (c .before .before .before .before .if1 .left) (c .before .before .before .if2 .left) (c .before .if3 .taken) (c .before .before .settings-of .ensures) (c .short-import .ensures)
+returns-3 c =
+    let the-settings-of = c .before .before .settings-of in
+    let the-if2 = c .before .before .before .if2 in
+    let the-if1 = c .before .before .before .before .if1 in
+    let far-1 = c .before .before .before .before .before .before .before .before .before .before .before .before in
+    let the-start = far-1 .before .before .before .before .before in
+    import-short _ _ _ _ (loading (the-start .args .positions .now) (the-start .args .increments .now) (the-start .args .gains .now)
+    (the-start .args .affinities .now) (the-start .args .indices .now) (the-start .args .offsets .now) (the-start .args .forces .now)) _ _ (the-if1 .left)
+    (the-if2 .left) (c .before .if3 .taken) (the-settings-of .ensures) (c .short-import .ensures)
 
 import-requires : tie.Need-import-requires
 import-requires c κs = search needs
@@ -87,7 +103,21 @@ same-length-11 : tie.Need-same-length-11
 same-length-11 c = search needs
 
 returns-4 : tie.Need-returns-4
-returns-4 c = import-answered _ _ _ _ (loading (c .before .before .before .before .before .before .before .before .before .before .before .before .before .before .before .before .before .before .before .before .before .before .before .before .before .before .before .before .before .before .before .before .before .before .before .before .before .before .before .before .before .before .before .before .args .positions .now) (c .before .before .before .before .before .before .before .before .before .before .before .before .before .before .before .before .before .before .before .before .before .before .before .before .before .before .before .before .before .before .before .before .before .before .before .before .before .before .before .before .before .before .before .before .args .increments .now) (c .before .before .before .before .before .before .before .before .before .before .before .before .before .before .before .before .before .before .before .before .before .before .before .before .before .before .before .before .before .before .before .before .before .before .before .before .before .before .before .before .before .before .before .before .args .gains .now) (c .before .before .before .before .before .before .before .before .before .before .before .before .before .before .before .before .before .before .before .before .before .before .before .before .before .before .before .before .before .before .before .before .before .before .before .before .before .before .before .before .before .before .before .before .args .affinities .now) (c .before .before .before .before .before .before .before .before .before .before .before .before .before .before .before .before .before .before .before .before .before .before .before .before .before .before .before .before .before .before .before .before .before .before .before .before .before .before .before .before .before .before .before .before .args .indices .now) (c .before .before .before .before .before .before .before .before .before .before .before .before .before .before .before .before .before .before .before .before .before .before .before .before .before .before .before .before .before .before .before .before .before .before .before .before .before .before .before .before .before .before .before .before .args .offsets .now) (c .before .before .before .before .before .before .before .before .before .before .before .before .before .before .before .before .before .before .before .before .before .before .before .before .before .before .before .before .before .before .before .before .before .before .before .before .before .before .before .before .before .before .before .before .args .forces .now)) _ _ (c .before .before .before .before .before .before .before .before .before .before .before .before .before .before .before .before .before .before .before .before .before .before .before .before .before .before .before .before .before .before .before .if1 .left) (c .before .before .before .before .before .before .before .before .before .before .before .before .before .before .before .before .before .before .before .before .before .before .before .before .before .before .before .before .before .before .if2 .left) (c .before .before .before .before .before .before .before .before .before .before .before .before .before .before .before .before .before .before .before .before .before .before .before .before .before .before .before .before .if3 .left) (c .before .before .before .before .before .before .before .before .before .before .before .before .before .before .before .before .before .before .before .before .before .before .before .before .before .before .before .before .before .settings-of .ensures) (c .before .before .before .before .before .before .before .before .before .before .before .before .before .before .before .before .before .before .before .before .import .ensures) (c .before .before .before .before .put-record-of .ensures) (c .before .import-told .ensures) (c .number .ensures)
+returns-4 c =
+    let the-put-record-of = c .before .before .before .before .put-record-of in
+    let far-1 = c .before .before .before .before .before .before .before .before .before .before .before .before in
+    let the-import = far-1 .before .before .before .before .before .before .before .before .import in
+    let far-2 = far-1 .before .before .before .before .before .before .before .before .before .before .before .before in
+    let the-if3 = far-2 .before .before .before .before .if3 in
+    let the-settings-of = far-2 .before .before .before .before .before .settings-of in
+    let the-if2 = far-2 .before .before .before .before .before .before .if2 in
+    let the-if1 = far-2 .before .before .before .before .before .before .before .if1 in
+    let far-3 = far-2 .before .before .before .before .before .before .before .before .before .before .before .before in
+    let the-start = far-3 .before .before .before .before .before .before .before .before in
+    import-answered _ _ _ _
+    (loading (the-start .args .positions .now) (the-start .args .increments .now) (the-start .args .gains .now) (the-start .args .affinities .now)
+    (the-start .args .indices .now) (the-start .args .offsets .now) (the-start .args .forces .now)) _ _ (the-if1 .left) (the-if2 .left) (the-if3 .left)
+    (the-settings-of .ensures) (the-import .ensures) (the-put-record-of .ensures) (c .before .import-told .ensures) (c .number .ensures)
 
 pub host-import-spec : {M : Type 1} → statement M
 host-import-spec =

@@ -1,3 +1,4 @@
+-- `desk_import::import_told` meets its contract: each need follows from its own premises.
 use Rattle.desk_import.specs.HostImport.{importTold}
 use borrow.Author.Needs.{needs}
 use native.Mathlib.Omega.{arith}

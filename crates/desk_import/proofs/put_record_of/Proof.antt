@@ -1,3 +1,4 @@
+-- `desk_import::put_record_of` meets its contract: from what its calls promise.
 use borrow.Author.Needs.{needs}
 use native.Mathlib.Omega.{arith}
 use borrow.Author.Needs.{needs}

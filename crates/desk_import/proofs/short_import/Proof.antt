@@ -1,3 +1,4 @@
+-- `desk_import::short_import` meets its contract: from what its calls promise.
 use borrow.Author.Tests.{eq-eqb, ne-eqb}
 use mathlib.Core.Path.{refl, sym, _∙_}
 use borrow.Author.Needs.{needs}
@@ -17,13 +18,18 @@ import-fault-requires : tie.Need-import-fault-requires
 import-fault-requires c κs = search needs
 
 returns : tie.Need-returns
-returns c = rw (eq-eqb _ _ (sym (rw (c .before .before .tree-settings .ensures) at (c .before .import-fault .ensures)) ∙ c .if1 .taken))
+returns c =
+    let the-tree-settings = c .before .before .tree-settings in
+    rw (eq-eqb _ _ (sym (rw (the-tree-settings .ensures) at (c .before .import-fault .ensures)) ∙ c .if1 .taken))
 
 cast-result : tie.Need-cast-result
 cast-result c = search needs
 
 returns-2 : tie.Need-returns-2
-returns-2 c = rw (ne-eqb _ _ (λ q. c .if1 .left ((rw (c .before .before .tree-settings .ensures) at (c .before .import-fault .ensures)) ∙ q))) (rw (c .before .before .tree-settings .ensures) at (c .before .import-fault .ensures))
+returns-2 c =
+    let the-tree-settings = c .before .before .tree-settings in
+    rw (ne-eqb _ _ (λ q. c .if1 .left ((rw (the-tree-settings .ensures) at (c .before .import-fault .ensures)) ∙ q)))
+    (rw (the-tree-settings .ensures) at (c .before .import-fault .ensures))
 
 pub short-import-spec : {M : Type 1} → statement M
 short-import-spec =

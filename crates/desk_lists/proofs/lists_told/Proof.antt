@@ -1,3 +1,4 @@
+-- `desk_lists::lists_told` meets its contract: from what its calls promise.
 use Rattle.desk_lists.specs.HostLists.{listsTold}
 use borrow.Author.Needs.{needs}
 use Rattle.desk_lists.proofs.lists_told.Statement.{statement}

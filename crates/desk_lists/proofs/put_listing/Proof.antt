@@ -1,3 +1,4 @@
+-- `desk_lists::put_listing` meets its contract: from what its calls promise.
 use borrow.Author.Needs.{needs}
 use Rattle.desk_lists.proofs.put_listing.Statement.{statement}
 use Rattle.desk_lists.proofs.put_listing.Tie as tie

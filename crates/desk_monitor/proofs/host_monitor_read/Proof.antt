@@ -5,7 +5,10 @@ use Rattle.desk_monitor.proofs.host_monitor_read.Statement.{statement}
 use Rattle.desk_monitor.proofs.host_monitor_read.Tie as tie
 
 returns : tie.Need-returns
-returns c = read-mute (c .before .before .before .before .before .before .before .args .file .now) (c .before .before .before .before .before .before .before .args .pictures .now) (c .before .before .before .before .before .before .before .args .sides .now) (c .before .before .before .before .before .before .before .args .fields .now) (c .before .before .before .before .before .before .before .args .positions .now) (c .before .before .before .before .before .before .before .args .answer .now) (c .if1 .taken)
+returns c =
+    let the-start = c .before .before .before .before .before .before .before in
+    read-mute (the-start .args .file .now) (the-start .args .pictures .now) (the-start .args .sides .now) (the-start .args .fields .now)
+    (the-start .args .positions .now) (the-start .args .answer .now) (c .if1 .taken)
 
 read-monitor-requires : tie.Need-read-monitor-requires
 read-monitor-requires c κs = search needs
@@ -38,7 +41,14 @@ same-length-5 : tie.Need-same-length-5
 same-length-5 c = search needs
 
 returns-2 : tie.Need-returns-2
-returns-2 c = read-answered (c .before .before .before .before .before .before .before .before .before .before .before .before .before .before .before .before .before .before .before .before .before .before .args .file .now) (c .before .before .before .before .before .before .before .before .before .before .before .before .before .before .before .before .before .before .before .before .before .before .args .pictures .now) (c .before .before .before .before .before .before .before .before .before .before .before .before .before .before .before .before .before .before .before .before .before .before .args .sides .now) (c .before .before .before .before .before .before .before .before .before .before .before .before .before .before .before .before .before .before .before .before .before .before .args .fields .now) (c .before .before .before .before .before .before .before .before .before .before .before .before .before .before .before .before .before .before .before .before .before .before .args .positions .now) (c .before .before .before .before .before .before .before .before .before .before .before .before .before .before .before .before .before .before .before .before .before .before .args .answer .now) (c .before .before .before .before .before .before .before .before .before .before .before .before .before .before .before .if1 .left) (c .before .before .before .before .before .before .before .before .before .before .read-monitor .ensures) (c .before .read-told .ensures) (c .number .ensures)
+returns-2 c =
+    let the-read-monitor = c .before .before .before .before .before .before .before .before .before .before .read-monitor in
+    let the-if1 = c .before .before .before .before .before .before .before .before .before .before .before .before .before .before .before .if1 in
+    let far-1 = c .before .before .before .before .before .before .before .before .before .before .before .before in
+    let the-start = far-1 .before .before .before .before .before .before .before .before .before .before in
+    read-answered (the-start .args .file .now) (the-start .args .pictures .now) (the-start .args .sides .now) (the-start .args .fields .now)
+    (the-start .args .positions .now) (the-start .args .answer .now) (the-if1 .left) (the-read-monitor .ensures) (c .before .read-told .ensures)
+    (c .number .ensures)
 
 pub host-monitor-read-spec : {M : Type 1} → statement M
 host-monitor-read-spec =

@@ -5,7 +5,10 @@ use Rattle.desk_monitor.proofs.host_monitor_write.Statement.{statement}
 use Rattle.desk_monitor.proofs.host_monitor_write.Tie as tie
 
 returns : tie.Need-returns
-returns c = write-mute (c .before .before .before .before .before .before .before .args .n) (c .before .before .before .before .before .before .before .args .pictures .now) (c .before .before .before .before .before .before .before .args .sides .now) (c .before .before .before .before .before .before .before .args .fields .now) (c .before .before .before .before .before .before .before .args .positions .now) (c .before .before .before .before .before .before .before .args .target .now) (c .before .before .before .before .before .before .before .args .answer .now) (c .if1 .taken)
+returns c =
+    let the-start = c .before .before .before .before .before .before .before in
+    write-mute (the-start .args .n) (the-start .args .pictures .now) (the-start .args .sides .now) (the-start .args .fields .now)
+    (the-start .args .positions .now) (the-start .args .target .now) (the-start .args .answer .now) (c .if1 .taken)
 
 write-monitor-requires : tie.Need-write-monitor-requires
 write-monitor-requires c κs = search needs
@@ -29,7 +32,13 @@ same-length-2 : tie.Need-same-length-2
 same-length-2 c = search needs
 
 returns-2 : tie.Need-returns-2
-returns-2 c = write-answered (c .before .before .before .before .before .before .before .before .before .before .before .before .before .args .n) (c .before .before .before .before .before .before .before .before .before .before .before .before .before .args .pictures .now) (c .before .before .before .before .before .before .before .before .before .before .before .before .before .args .sides .now) (c .before .before .before .before .before .before .before .before .before .before .before .before .before .args .fields .now) (c .before .before .before .before .before .before .before .before .before .before .before .before .before .args .positions .now) (c .before .before .before .before .before .before .before .before .before .before .before .before .before .args .target .now) (c .before .before .before .before .before .before .before .before .before .before .before .before .before .args .answer .now) (c .before .before .before .before .before .before .if1 .left) (c .before .before .before .before .write-monitor .ensures) (c .before .monitored-told .ensures) (c .number .ensures)
+returns-2 c =
+    let the-write-monitor = c .before .before .before .before .write-monitor in
+    let the-if1 = c .before .before .before .before .before .before .if1 in
+    let the-start = c .before .before .before .before .before .before .before .before .before .before .before .before .before in
+    write-answered (the-start .args .n) (the-start .args .pictures .now) (the-start .args .sides .now) (the-start .args .fields .now)
+    (the-start .args .positions .now) (the-start .args .target .now) (the-start .args .answer .now) (the-if1 .left) (the-write-monitor .ensures)
+    (c .before .monitored-told .ensures) (c .number .ensures)
 
 pub host-monitor-write-spec : {M : Type 1} → statement M
 host-monitor-write-spec =

@@ -1,3 +1,4 @@
+-- `desk_park::parked_told` meets its contract: from what its calls promise.
 use Rattle.desk_park.specs.HostPark.{parkedTold}
 use borrow.Author.Needs.{needs}
 use Rattle.desk_park.proofs.parked_told.Statement.{statement}

@@ -1,3 +1,4 @@
+-- `desk_park::put_parked` meets its contract: from what its calls promise.
 use borrow.Author.Needs.{needs}
 use Rattle.desk_park.proofs.put_parked.Statement.{statement}
 use Rattle.desk_park.proofs.put_parked.Tie as tie

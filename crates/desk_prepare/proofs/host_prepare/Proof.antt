@@ -1,3 +1,4 @@
+-- `desk_prepare::host_prepare` meets its contract: by `settings-long`, `unread-begun`, `short-begun`, `begun-is`.
 use Rattle.record_words.proofs.Laws.{settings-long}
 use Rattle.desk_prepare.proofs.Laws.{unread-begun, short-begun, begun-is}
 use Rattle.prepare.specs.Prepare.{prepareNumber}
@@ -20,7 +21,12 @@ short-number-requires : tie.Need-short-number-requires
 short-number-requires c κs = search needs
 
 returns-2 : tie.Need-returns-2
-returns-2 c = short-begun _ _ _ _ _ _ (sym (c .before .before .before .before .settings-fine .ensures) ∙ not-false _ (c .before .before .before .if1 .left)) (c .before .if2 .taken) (c .before .before .settings-of .ensures) (c .short-number .ensures)
+returns-2 c =
+    let the-settings-of = c .before .before .settings-of in
+    let the-if1 = c .before .before .before .if1 in
+    let the-settings-fine = c .before .before .before .before .settings-fine in
+    short-begun _ _ _ _ _ _ (sym (the-settings-fine .ensures) ∙ not-false _ (the-if1 .left)) (c .before .if2 .taken) (the-settings-of .ensures)
+    (c .short-number .ensures)
 
 prepare-requires : tie.Need-prepare-requires
 prepare-requires c κs = search needs
@@ -35,7 +41,11 @@ enum-known-p-2 : tie.Need-enum-known-p-2
 enum-known-p-2 c = search needs
 
 put-run-requires : tie.Need-put-run-requires
-put-run-requires c κs = c .before .before .before .before .before .before .before .before .before .before .before .before .before .before .before .before .before .before .before .before .before .before .before .before .before .before .before .before .before .before .before .before .if2 .left
+put-run-requires c κs =
+    let far-1 = c .before .before .before .before .before .before .before .before .before .before .before .before in
+    let far-2 = far-1 .before .before .before .before .before .before .before .before .before .before .before .before in
+    let the-if2 = far-2 .before .before .before .before .before .before .before .before .if2 in
+    the-if2 .left
 
 same-length : tie.Need-same-length
 same-length c = search needs
@@ -66,7 +76,16 @@ same-length-9 c = search needs
 
 returns-3 : tie.Need-returns-3
 unfolding prepareNumber
-returns-3 c = begun-is _ _ _ _ _ _ (sym (c .before .before .before .before .before .before .before .before .before .before .before .before .before .before .before .before .before .before .before .before .before .before .before .before .before .before .before .before .before .before .before .before .before .before .settings-fine .ensures) ∙ not-false _ (c .before .before .before .before .before .before .before .before .before .before .before .before .before .before .before .before .before .before .before .before .before .before .before .before .before .before .before .before .before .before .before .before .before .if1 .left)) (c .before .before .before .before .before .before .before .before .before .before .before .before .before .before .before .before .before .before .before .before .before .before .before .before .before .before .before .before .before .before .before .if2 .left) (c .before .before .before .before .before .before .before .before .before .before .before .before .before .before .before .before .before .before .before .before .before .before .before .before .before .before .before .before .before .before .before .before .settings-of .ensures) (c .before .before .before .before .before .before .before .before .before .before .before .before .before .before .before .before .before .before .before .before .before .prepare .ensures) (rw (c .before .p .given .1)) (rw (c .before .p .given .1))
+returns-3 c =
+    let far-1 = c .before .before .before .before .before .before .before .before .before .before .before .before in
+    let the-prepare = far-1 .before .before .before .before .before .before .before .before .before .prepare in
+    let far-2 = far-1 .before .before .before .before .before .before .before .before .before .before .before .before in
+    let the-if2 = far-2 .before .before .before .before .before .before .before .if2 in
+    let the-settings-of = far-2 .before .before .before .before .before .before .before .before .settings-of in
+    let the-if1 = far-2 .before .before .before .before .before .before .before .before .before .if1 in
+    let the-settings-fine = far-2 .before .before .before .before .before .before .before .before .before .before .settings-fine in
+    begun-is _ _ _ _ _ _ (sym (the-settings-fine .ensures) ∙ not-false _ (the-if1 .left)) (the-if2 .left) (the-settings-of .ensures) (the-prepare .ensures)
+    (rw (c .before .p .given .1)) (rw (c .before .p .given .1))
 
 same-length-10 : tie.Need-same-length-10
 same-length-10 c = search needs
@@ -100,7 +119,19 @@ same-length-19 c = search needs
 
 returns-4 : tie.Need-returns-4
 unfolding prepareNumber
-returns-4 c = begun-is _ _ _ _ _ _ (sym (c .before .before .before .before .before .before .before .before .before .before .before .before .before .before .before .before .before .before .before .before .before .before .before .before .before .before .before .before .before .before .before .before .before .before .before .before .before .before .settings-fine .ensures) ∙ not-false _ (c .before .before .before .before .before .before .before .before .before .before .before .before .before .before .before .before .before .before .before .before .before .before .before .before .before .before .before .before .before .before .before .before .before .before .before .before .before .if1 .left)) (c .before .before .before .before .before .before .before .before .before .before .before .before .before .before .before .before .before .before .before .before .before .before .before .before .before .before .before .before .before .before .before .before .before .before .before .if2 .left) (c .before .before .before .before .before .before .before .before .before .before .before .before .before .before .before .before .before .before .before .before .before .before .before .before .before .before .before .before .before .before .before .before .before .before .before .before .settings-of .ensures) (c .before .before .before .before .before .before .before .before .before .before .before .before .before .before .before .before .before .before .before .before .before .before .before .before .before .prepare .ensures) (rw (c .before .before .before .before .before .p2 .given .1)) (rw (c .before .before .before .before .before .p2 .given .1) (c .before .before .put-run .ensures))
+returns-4 c =
+    let the-put-run = c .before .before .put-run in
+    let the-p2 = c .before .before .before .before .before .p2 in
+    let far-1 = c .before .before .before .before .before .before .before .before .before .before .before .before in
+    let far-2 = far-1 .before .before .before .before .before .before .before .before .before .before .before .before in
+    let the-prepare = far-2 .before .prepare in
+    let the-if2 = far-2 .before .before .before .before .before .before .before .before .before .before .before .if2 in
+    let far-3 = far-2 .before .before .before .before .before .before .before .before .before .before .before .before in
+    let the-settings-of = far-3 .settings-of in
+    let the-if1 = far-3 .before .if1 in
+    let the-settings-fine = far-3 .before .before .settings-fine in
+    begun-is _ _ _ _ _ _ (sym (the-settings-fine .ensures) ∙ not-false _ (the-if1 .left)) (the-if2 .left) (the-settings-of .ensures) (the-prepare .ensures)
+    (rw (the-p2 .given .1)) (rw (the-p2 .given .1) (the-put-run .ensures))
 
 pub host-prepare-spec : {M : Type 1} → statement M
 host-prepare-spec =

@@ -1,3 +1,4 @@
+-- `desk_prepare_strip::host_prepare_strip` meets its contract: by `barred-words`, `words-passed-on`.
 use Rattle.desk_prepare_strip.proofs.Laws.{barred-words, words-passed-on}
 use mathlib.Core.Path.{sym, _∙_}
 use borrow.Author.Needs.{needs}
@@ -44,7 +45,13 @@ same-length-10 : tie.Need-same-length-10
 same-length-10 c = search needs
 
 returns-2 : tie.Need-returns-2
-returns-2 c = c .before .before .before .before .before .before .before .before .before .before .before .before .before .before .before .before .before .before .before .before .host-prepare .ensures ∙ words-passed-on _ _ _ _ _ _ (sym (c .before .before .before .before .before .before .before .before .before .before .before .before .before .before .before .before .before .before .before .before .before .before .before .before .before .before .before .before .before .before .before .before .words-barred .ensures) ∙ c .before .before .before .before .before .before .before .before .before .before .before .before .before .before .before .before .before .before .before .before .before .before .before .before .before .before .before .before .before .before .before .if1 .left)
+returns-2 c =
+    let far-1 = c .before .before .before .before .before .before .before .before .before .before .before .before in
+    let the-host-prepare = far-1 .before .before .before .before .before .before .before .before .host-prepare in
+    let far-2 = far-1 .before .before .before .before .before .before .before .before .before .before .before .before in
+    let the-if1 = far-2 .before .before .before .before .before .before .before .if1 in
+    let the-words-barred = far-2 .before .before .before .before .before .before .before .before .words-barred in
+    the-host-prepare .ensures ∙ words-passed-on _ _ _ _ _ _ (sym (the-words-barred .ensures) ∙ the-if1 .left)
 
 pub host-prepare-strip-spec : {M : Type 1} → statement M
 host-prepare-strip-spec =

@@ -1,3 +1,4 @@
+-- `desk_prepare_strip::words_barred` meets its contract: by `settings-long`.
 use Rattle.record_words.proofs.Laws.{settings-long}
 use borrow.Author.Tests.{not-true, not-false}
 use mathlib.Core.Path.{sym, _∙_}
@@ -18,7 +19,10 @@ strip-bars-requires : tie.Need-strip-bars-requires
 strip-bars-requires c κs = search needs
 
 returns-2 : tie.Need-returns-2
-returns-2 c = rw (sym (c .before .before .before .settings-fine .ensures) ∙ not-false _ (c .before .before .if1 .left), sym (c .before .settings-of .ensures)) (c .strip-bars .ensures)
+returns-2 c =
+    let the-if1 = c .before .before .if1 in
+    let the-settings-fine = c .before .before .before .settings-fine in
+    rw (sym (the-settings-fine .ensures) ∙ not-false _ (the-if1 .left), sym (c .before .settings-of .ensures)) (c .strip-bars .ensures)
 
 pub words-barred-spec : {M : Type 1} → statement M
 words-barred-spec =

@@ -1,3 +1,4 @@
+-- `desk_record::put_sizes` meets its contract: by `nodes-few`.
 use Rattle.desk_record.proofs.Laws.{nodes-few}
 use Rattle.desk_record.specs.Records.{lengthsPut}
 use Rattle.run_entry.proofs.Laws.{axes}
@@ -36,29 +37,50 @@ slice-write-words-6 : tie.Need-slice-write-words-6
 slice-write-words-6 c = simp length-set (omega (arith, c .before .before .before .before .before .pre .0))
 
 corners-requires : tie.Need-corners-requires
-corners-requires c κs = axes _ (c .before .before .before .before .before .pre .1) (sym (c .before .before .is-tree .ensures) ∙ c .before .if1 .taken)
+corners-requires c κs =
+    let the-is-tree = c .before .before .is-tree in
+    let the-start = c .before .before .before .before .before in
+    axes _ (the-start .pre .1) (sym (the-is-tree .ensures) ∙ c .before .if1 .taken)
 
 mul-words : tie.Need-mul-words
-mul-words c = rw (c .corners .ensures) (omega (arith, nodes-few _ (c .before .before .before .before .before .before .pre .1) (sym (c .before .before .before .is-tree .ensures) ∙ c .before .before .if1 .taken) .0))
+mul-words c =
+    let the-if1 = c .before .before .if1 in
+    let the-is-tree = c .before .before .before .is-tree in
+    let the-start = c .before .before .before .before .before .before in
+    rw (c .corners .ensures) (omega (arith, nodes-few _ (the-start .pre .1) (sym (the-is-tree .ensures) ∙ the-if1 .taken) .0))
 
 sub-words : tie.Need-sub-words
 sub-words c = omega (arith, c .before .before .before .before .before .before .before .pre .1 .n-some)
 
 mul-words-2 : tie.Need-mul-words-2
-mul-words-2 c = rw (c .before .corners .ensures) (omega (arith, nodes-few _ (c .before .before .before .before .before .before .before .pre .1) (sym (c .before .before .before .before .is-tree .ensures) ∙ c .before .before .before .if1 .taken) .1))
+mul-words-2 c =
+    let the-if1 = c .before .before .before .if1 in
+    let the-is-tree = c .before .before .before .before .is-tree in
+    let the-start = c .before .before .before .before .before .before .before in
+    rw (c .before .corners .ensures) (omega (arith, nodes-few _ (the-start .pre .1) (sym (the-is-tree .ensures) ∙ the-if1 .taken) .1))
 
 add-words-2 : tie.Need-add-words-2
-add-words-2 c = rw (c .before .corners .ensures) (omega (arith, nodes-few _ (c .before .before .before .before .before .before .before .pre .1) (sym (c .before .before .before .before .is-tree .ensures) ∙ c .before .before .before .if1 .taken) .1))
+add-words-2 c =
+    let the-if1 = c .before .before .before .if1 in
+    let the-is-tree = c .before .before .before .before .is-tree in
+    let the-start = c .before .before .before .before .before .before .before in
+    rw (c .before .corners .ensures) (omega (arith, nodes-few _ (the-start .pre .1) (sym (the-is-tree .ensures) ∙ the-if1 .taken) .1))
 
 slice-write-words-7 : tie.Need-slice-write-words-7
-slice-write-words-7 c = simp length-set (omega (arith, c .before .before .before .before .before .before .before .pre .0))
+slice-write-words-7 c =
+    let the-start = c .before .before .before .before .before .before .before in
+    simp length-set (omega (arith, the-start .pre .0))
 
 same-length : tie.Need-same-length
 same-length c = simp length-set
 
 returns : tie.Need-returns
 unfolding lengthsPut
-returns c = rw ((sym (c .before .before .before .before .is-tree .ensures) ∙ c .before .before .before .if1 .taken), c .before .corners .ensures, c .before .before .before .before .before .sizes-of .ensures)
+returns c =
+    let the-if1 = c .before .before .before .if1 in
+    let the-is-tree = c .before .before .before .before .is-tree in
+    let the-sizes-of = c .before .before .before .before .before .sizes-of in
+    rw ((sym (the-is-tree .ensures) ∙ the-if1 .taken), c .before .corners .ensures, the-sizes-of .ensures)
 
 slice-write-words-8 : tie.Need-slice-write-words-8
 slice-write-words-8 c = simp length-set (omega (arith, c .before .before .before .before .pre .0))

@@ -1,3 +1,4 @@
+-- `desk_record::said` meets its contract: by `run-long`.
 use Rattle.record_words.proofs.Laws.{run-long}
 use Rattle.desk_record.specs.Records.{saidOf}
 use borrow.Author.Tests.{not-true, not-false}
@@ -18,7 +19,10 @@ mul-result : tie.Need-mul-result
 mul-result c = search needs
 
 shared-slice-read-result : tie.Need-shared-slice-read-result
-shared-slice-read-result c = omega (arith, c .before .before .before .before .pre, run-long _ (sym (c .before .before .run-fine .ensures) ∙ not-false _ (c .before .if1 .left)))
+shared-slice-read-result c =
+    let the-run-fine = c .before .before .run-fine in
+    let the-start = c .before .before .before .before in
+    omega (arith, the-start .pre, run-long _ (sym (the-run-fine .ensures) ∙ not-false _ (c .before .if1 .left)))
 
 returns-2 : tie.Need-returns-2
 unfolding saidOf

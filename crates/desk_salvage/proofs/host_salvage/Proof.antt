@@ -27,10 +27,10 @@ same-length-4 c = search needs
 
 returns-2 : tie.Need-returns-2
 returns-2 c =
-    salvaged-left _ _ _ _ _
-    (c .before .before .before .before .before .before .before .before .before .before .before .before .before .before .if1 .left) _ _ _ _
-    (c .before .before .before .before .before .before .before .before .before .before .salvage .ensures) _ _
-    (c .before .before .put-salvaged .ensures)
+    let the-put-salvaged = c .before .before .put-salvaged in
+    let the-salvage = c .before .before .before .before .before .before .before .before .before .before .salvage in
+    let the-if1 = c .before .before .before .before .before .before .before .before .before .before .before .before .before .before .if1 in
+    salvaged-left _ _ _ _ _ (the-if1 .left) _ _ _ _ (the-salvage .ensures) _ _ (the-put-salvaged .ensures)
 
 pub host-salvage-spec : {M : Type 1} → statement M
 host-salvage-spec =

@@ -1,3 +1,4 @@
+-- `desk_strip::hand_told` meets its contract: from what its calls promise.
 use Rattle.desk_strip.specs.HostStrip.{handTold}
 use borrow.Author.Needs.{needs}
 use Rattle.desk_strip.proofs.hand_told.Statement.{statement}

@@ -1,3 +1,4 @@
+-- `desk_strip::put_handed` meets its contract: from what its calls promise.
 use borrow.Author.Needs.{needs}
 use Rattle.desk_strip.proofs.put_handed.Statement.{statement}
 use Rattle.desk_strip.proofs.put_handed.Tie as tie

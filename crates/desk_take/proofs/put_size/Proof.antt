@@ -1,3 +1,4 @@
+-- `desk_take::put_size` meets its contract: each need follows from its own premises.
 use mathlib.Core.Path.{refl, _∙_}
 use lib.ListN.{set, length-set}
 use Rattle.desk_take.specs.HostTake.{sizePut}
@@ -13,7 +14,8 @@ slice-write-words : tie.Need-slice-write-words
 slice-write-words c = search needs
 
 slice-write-words-2 : tie.Need-slice-write-words-2
-slice-write-words-2 c = omega (arith, c .before .pre, length-set (c .before .args .words .now) 0 (c .before .args .r .settings .n))
+slice-write-words-2 c =
+    omega (arith, c .before .pre, length-set (c .before .args .words .now) 0 (c .before .args .r .settings .n))
 
 same-length : tie.Need-same-length
 same-length c = search needs

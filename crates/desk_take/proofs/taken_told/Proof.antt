@@ -1,3 +1,4 @@
+-- `desk_take::taken_told` meets its contract: from what its calls promise.
 use Rattle.desk_take.specs.HostTake.{takenTold}
 use borrow.Author.Needs.{needs}
 use native.Mathlib.Omega.{arith}

@@ -1,3 +1,4 @@
+-- `desk_unpark::host_unpark` meets its contract: by `mute-left`, `unparked-left`.
 use Rattle.desk_unpark.proofs.Laws.{mute-left, unparked-left}
 use borrow.Author.Needs.{needs}
 use Rattle.desk_unpark.proofs.host_unpark.Statement.{statement}
@@ -40,7 +41,13 @@ same-length-9 : tie.Need-same-length-9
 same-length-9 c = search needs
 
 returns-2 : tie.Need-returns-2
-returns-2 c = unparked-left _ _ _ _ _ (c .before .before .before .before .before .before .before .before .before .before .before .before .before .before .before .before .before .before .before .before .before .before .before .before .before .before .before .before .before .if1 .left) _ _ _ (c .before .before .before .before .before .before .before .before .before .before .before .before .before .before .before .before .before .before .before .before .unpark .ensures) _ _ (c .before .before .put-unparked .ensures)
+returns-2 c =
+    let the-put-unparked = c .before .before .put-unparked in
+    let far-1 = c .before .before .before .before .before .before .before .before .before .before .before .before in
+    let the-unpark = far-1 .before .before .before .before .before .before .before .before .unpark in
+    let far-2 = far-1 .before .before .before .before .before .before .before .before .before .before .before .before in
+    let the-if1 = far-2 .before .before .before .before .before .if1 in
+    unparked-left _ _ _ _ _ (the-if1 .left) _ _ _ (the-unpark .ensures) _ _ (the-put-unparked .ensures)
 
 pub host-unpark-spec : {M : Type 1} → statement M
 host-unpark-spec =

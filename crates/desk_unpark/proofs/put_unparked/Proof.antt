@@ -1,3 +1,4 @@
+-- `desk_unpark::put_unparked` meets its contract: from what its calls promise.
 use borrow.Author.Needs.{needs}
 use Rattle.desk_unpark.proofs.put_unparked.Statement.{statement}
 use Rattle.desk_unpark.proofs.put_unparked.Tie as tie

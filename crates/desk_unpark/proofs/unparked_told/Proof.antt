@@ -1,3 +1,4 @@
+-- `desk_unpark::unparked_told` meets its contract: each need follows from its own premises.
 use Rattle.desk_unpark.specs.HostUnpark.{unparkedTold}
 use borrow.Author.Needs.{needs}
 use Rattle.desk_unpark.proofs.unparked_told.Statement.{statement}

@@ -1,3 +1,4 @@
+-- `desk_work::is_unread` meets its contract: from what its calls promise.
 use borrow.Author.Needs.{needs}
 use Rattle.desk_work.proofs.is_unread.Statement.{statement}
 use Rattle.desk_work.proofs.is_unread.Tie as tie

@@ -16,7 +16,10 @@ same-length : tie.Need-same-length
 same-length c = search needs
 
 returns : tie.Need-returns
-returns c = (rw (c .number-of .ensures, c .before .before .before .before .before .unread-fault .ensures), rw (c .before .before .before .put-answer .ensures, c .before .before .before .before .before .unread-fault .ensures))
+returns c =
+    let the-put-answer = c .before .before .before .put-answer in
+    let the-unread-fault = c .before .before .before .before .before .unread-fault in
+    (rw (c .number-of .ensures, the-unread-fault .ensures), rw (the-put-answer .ensures, the-unread-fault .ensures))
 
 pub put-unread-spec : {M : Type 1} → statement M
 put-unread-spec =

@@ -1,3 +1,4 @@
+-- `divergence::figure` meets its contract: from what its calls promise.
 use mathlib.Core.Path.{sym, _∙_}
 use Rattle.divergence.specs.Divergence.{figureOf}
 use borrow.Author.Needs.{needs}
@@ -12,24 +13,40 @@ is-tree-requires : tie.Need-is-tree-requires
 is-tree-requires c κs = search needs
 
 normaliser-requires : tie.Need-normaliser-requires
-normaliser-requires c κs = (c .before .before .before .before .before .before .before .before .before .pre .total-room .settings-good .c-most, c .before .before .before .before .before .before .before .before .before .pre .total-room .forces-long)
+normaliser-requires c κs =
+    let the-start = c .before .before .before .before .before .before .before .before .before in
+    (the-start .pre .total-room .settings-good .c-most, the-start .pre .total-room .forces-long)
 
 barnes-hut-kl-requires : tie.Need-barnes-hut-kl-requires
-barnes-hut-kl-requires c κs = (c .before .before .before .before .before .before .before .before .before .before .pre .copy-long, c .before .before .before .before .before .before .before .before .before .before .pre .lists-within (sym (c .before .before .is-tree .ensures) ∙ c .before .if1 .taken))
+barnes-hut-kl-requires c κs =
+    let the-is-tree = c .before .before .is-tree in
+    let the-start = c .before .before .before .before .before .before .before .before .before .before in
+    (the-start .pre .copy-long, the-start .pre .lists-within (sym (the-is-tree .ensures) ∙ c .before .if1 .taken))
 
 returns : tie.Need-returns
 unfolding figureOf
-returns c = rw (sym (c .before .before .before .is-tree .ensures) ∙ c .before .before .if1 .taken, c .barnes-hut-kl .ensures, c .before .normaliser .ensures, c .before .before .before .before .last-exaggeration .ensures)
+returns c =
+    let the-if1 = c .before .before .if1 in
+    let the-is-tree = c .before .before .before .is-tree in
+    let the-last-exaggeration = c .before .before .before .before .last-exaggeration in
+    rw (sym (the-is-tree .ensures) ∙ the-if1 .taken, c .barnes-hut-kl .ensures, c .before .normaliser .ensures, the-last-exaggeration .ensures)
 
 total-requires : tie.Need-total-requires
 total-requires c κs = c .before .before .before .before .before .before .before .before .before .pre .total-room
 
 kl-divergence-requires : tie.Need-kl-divergence-requires
-kl-divergence-requires c κs = (c .before .before .before .before .before .before .before .before .before .before .pre .copy-long, c .before .before .before .before .before .before .before .before .before .before .pre .exact-long (sym (c .before .before .is-tree .ensures) ∙ c .before .if1 .left))
+kl-divergence-requires c κs =
+    let the-is-tree = c .before .before .is-tree in
+    let the-start = c .before .before .before .before .before .before .before .before .before .before in
+    (the-start .pre .copy-long, the-start .pre .exact-long (sym (the-is-tree .ensures) ∙ c .before .if1 .left))
 
 returns-2 : tie.Need-returns-2
 unfolding figureOf
-returns-2 c = rw (sym (c .before .before .before .is-tree .ensures) ∙ c .before .before .if1 .left, c .kl-divergence .ensures, c .before .total .ensures, c .before .before .before .before .last-exaggeration .ensures)
+returns-2 c =
+    let the-if1 = c .before .before .if1 in
+    let the-is-tree = c .before .before .before .is-tree in
+    let the-last-exaggeration = c .before .before .before .before .last-exaggeration in
+    rw (sym (the-is-tree .ensures) ∙ the-if1 .left, c .kl-divergence .ensures, c .before .total .ensures, the-last-exaggeration .ensures)
 
 pub figure-spec : {M : Type 1} → statement M
 figure-spec = tie.close (tie.spec last-exaggeration-requires is-tree-requires normaliser-requires barnes-hut-kl-requires returns total-requires kl-divergence-requires returns-2)

@@ -1,3 +1,4 @@
+-- `divergence::just_ended` meets its contract: each need follows from its own premises.
 use borrow.Author.Tests.{eq-eqb, ne-eqb}
 use Rattle.divergence.specs.Divergence.{justEnded}
 use borrow.Author.Needs.{needs}

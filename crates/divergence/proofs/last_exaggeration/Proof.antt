@@ -1,3 +1,4 @@
+-- `divergence::last_exaggeration` meets its contract: each need follows from its own premises.
 use borrow.Author.Tests.{le-leb, lt-leb}
 use Rattle.laws.specs.Domain.{earlyIterations}
 use Rattle.divergence.specs.Divergence.{lastExaggeration}

@@ -1,3 +1,4 @@
+-- `divergence::number` meets its contract: from what its calls promise.
 use Rattle.divergence.specs.Divergence.{divergenceNumber}
 use borrow.Author.Needs.{needs}
 use native.Mathlib.Omega.{arith}

@@ -1,3 +1,4 @@
+-- `divergence::smaller` meets its contract: each need follows from its own premises.
 use borrow.Author.Needs.{needs}
 use native.Mathlib.Omega.{arith}
 use Rattle.divergence.proofs.smaller.Statement.{statement}

@@ -1,3 +1,4 @@
+-- `divergence::too_early` meets its contract: from what its calls promise.
 use mathlib.Core.Path.{sym, _∙_}
 use borrow.Author.Tests.{not-true, not-false}
 use Rattle.divergence.specs.Divergence.{tooEarly}

@@ -1,5 +1,6 @@
+-- `divergence_sums::barnes_hut_kl` meets its contract: the loop keeps `Loops`; by `loop-start`, `loop-next`, `loop-done`.
 use Rattle.divergence_sums.specs.Sums.{klList, klLists}
-use Rattle.laws.proofs.Loops.{Loops, loop-start, loop-more, loop-done}
+use Rattle.laws.proofs.Loops.{Loops, loop-start, loop-next, loop-done}
 use Prim.Native.Nat.{_-_}
 use borrow.Author.Needs.{needs}
 use native.Mathlib.Omega.{arith}
@@ -16,7 +17,9 @@ loop-holds : tie.Need-loop-holds Inv-loop μ-loop
 loop-holds c = loop-start _ _ _
 
 kl-list-requires : tie.Need-kl-list-requires Inv-loop μ-loop
-kl-list-requires c κs = ((c .loop-test .taken, c .before .before .before .before .before .before .pre .0), c .before .before .before .before .before .before .pre .1 _ (c .loop-test .taken))
+kl-list-requires c κs =
+    let the-start = c .before .before .before .before .before .before in
+    ((c .loop-test .taken, the-start .pre .0), the-start .pre .1 _ (c .loop-test .taken))
 
 add-i : tie.Need-add-i Inv-loop μ-loop
 add-i c = search needs
@@ -25,7 +28,7 @@ loop-less : tie.Need-loop-less Inv-loop μ-loop
 loop-less c = search needs
 
 loop-again : tie.Need-loop-again Inv-loop μ-loop
-loop-again c = rw (c .kl-list .ensures) (loop-more (c .before .before .loop .inv) (omega arith))
+loop-again c = rw (c .kl-list .ensures) (loop-next (c .before .before .loop .inv) (omega arith))
 
 returns : tie.Need-returns Inv-loop μ-loop
 unfolding klLists

@@ -1,5 +1,6 @@
+-- `divergence_sums::kl_divergence` meets its contract: the loop keeps `Loops`; by `loop-start`, `loop-next`, `loop-done`.
 use Rattle.divergence_sums.specs.Sums.{klRowStep, klDense}
-use Rattle.laws.proofs.Loops.{Loops, loop-start, loop-more, loop-done}
+use Rattle.laws.proofs.Loops.{Loops, loop-start, loop-next, loop-done}
 use Prim.Native.Nat.{_-_}
 use borrow.Author.Needs.{needs}
 use native.Mathlib.Omega.{arith}
@@ -25,7 +26,7 @@ loop-less : tie.Need-loop-less Inv-loop μ-loop
 loop-less c = search needs
 
 loop-again : tie.Need-loop-again Inv-loop μ-loop
-loop-again c = rw (c .kl-divergence-row .ensures) (loop-more (c .before .before .loop .inv) (omega arith))
+loop-again c = rw (c .kl-divergence-row .ensures) (loop-next (c .before .before .loop .inv) (omega arith))
 
 returns : tie.Need-returns Inv-loop μ-loop
 unfolding klDense

@@ -1,3 +1,4 @@
+-- `divergence_sums::kl_divergence_row` meets its contract: the loop keeps `Loops`; by `loop-start`, `loop-on`, `loop-done`.
 use Rattle.divergence_sums.specs.Sums.{klStep, klRow}
 use Rattle.laws.proofs.Loops.{Loops, loop-start, loop-on, loop-done}
 use Prim.Native.Nat.{_-_}
@@ -28,7 +29,9 @@ loop-less : tie.Need-loop-less Inv-loop μ-loop
 loop-less c = search needs
 
 loop-again : tie.Need-loop-again Inv-loop μ-loop
-loop-again c = rw (c .kl-together .ensures) (loop-on _ (c .before .before .before .loop .inv) (c .before .together .ensures .2))
+loop-again c =
+    let the-loop = c .before .before .before .loop in
+    rw (c .kl-together .ensures) (loop-on _ (the-loop .inv) (c .before .together .ensures .2))
 
 returns : tie.Need-returns Inv-loop μ-loop
 unfolding klRow

@@ -1,3 +1,4 @@
+-- `divergence_sums::kl_link` meets its contract: by `row-in`.
 use Rattle.laws.proofs.Numbers.{row-in}
 use Rattle.divergence_sums.specs.Sums.{klLink}
 use borrow.Author.Needs.{needs}
@@ -21,7 +22,12 @@ wide-requires : tie.Need-wide-requires
 wide-requires c κs = search needs
 
 apart-requires : tie.Need-apart-requires
-apart-requires c κs = (row-in _ (c .before .before .before .before .before .before .args .n) (c .before .before .before .before .before .before .args .c) _ (c .before .before .before .before .before .before .pre .0) (c .before .before .before .before .before .before .pre .1), rw (c .wide .ensures) (row-in _ (c .before .before .before .before .before .before .args .n) (c .before .before .before .before .before .before .args .c) _ (c .before .before .before .before .before .before .pre .4) (c .before .before .before .before .before .before .pre .1)))
+apart-requires c κs =
+    let the-start = c .before .before .before .before .before .before in (
+      row-in _ (the-start .args .n) (the-start .args .c) _ (the-start .pre .0) (the-start .pre .1),
+      rw (c .wide .ensures)
+          (row-in _ (the-start .args .n) (the-start .args .c) _ (the-start .pre .4) (the-start .pre .1)),
+    )
 
 kl-term-requires : tie.Need-kl-term-requires
 kl-term-requires c κs = search needs

@@ -1,3 +1,4 @@
+-- `divergence_sums::kl_list` meets its contract: from what its calls promise.
 use Rattle.divergence_sums.specs.Sums.{klList}
 use borrow.Author.Needs.{needs}
 use native.Mathlib.Omega.{arith}
@@ -29,7 +30,19 @@ sub-kl-links : tie.Need-sub-kl-links
 sub-kl-links c = search needs
 
 kl-links-requires : tie.Need-kl-links-requires
-kl-links-requires c κs = rw (c .wide2 .ensures, c .before .before .wide .ensures) ((c .before .before .before .before .before .before .before .before .pre .0 .0, c .before .before .before .before .before .before .before .before .pre .0 .1, omega (arith, (c .before .before .before .before .before .before .before .before .pre .1) .rises, (c .before .before .before .before .before .before .before .before .pre .1) .weights), omega (arith, (c .before .before .before .before .before .before .before .before .pre .1) .rises, (c .before .before .before .before .before .before .before .before .pre .1) .indices)), λ k l. (c .before .before .before .before .before .before .before .before .pre .1) .frames k (omega (arith, l, (c .before .before .before .before .before .before .before .before .pre .1) .rises)))
+kl-links-requires c κs =
+    let the-wide = c .before .before .wide in
+    let the-start = c .before .before .before .before .before .before .before .before in
+    rw (c .wide2 .ensures, the-wide .ensures) (
+      (
+        the-start .pre .0 .0,
+        the-start .pre .0 .1,
+        omega (arith, (the-start .pre .1) .rises, (the-start .pre .1) .weights),
+        omega
+            (arith, (the-start .pre .1) .rises, (the-start .pre .1) .indices),
+      ),
+      λ k l. (the-start .pre .1) .frames k (omega (arith, l, (the-start .pre .1) .rises)),
+    )
 
 returns : tie.Need-returns
 unfolding klList

@@ -1,3 +1,4 @@
+-- `divergence_sums::kl_pair` meets its contract: by `row-in`.
 use lib.ListN.{length}
 use Rattle.laws.proofs.Numbers.{row-in}
 use borrow.Author.Tests.{eq-eqb, ne-eqb}
@@ -12,16 +13,43 @@ unfolding klPair
 returns c = rw (eq-eqb _ _ (c .if1 .taken))
 
 mul-p : tie.Need-mul-p
-mul-p c = omega (arith, row-in (c .before .before .args .i) (c .before .before .args .n) (c .before .before .args .n) (length (c .before .before .args .affinities .now)) (c .before .before .pre .0) (c .before .before .pre .2))
+mul-p c =
+    let the-start = c .before .before in
+    omega (
+      arith,
+      row-in (the-start .args .i) (the-start .args .n) (the-start .args .n) (length (the-start .args .affinities .now)) (the-start .pre .0)
+          (the-start .pre .2),
+    )
 
 add-p : tie.Need-add-p
-add-p c = omega (arith, row-in (c .before .before .args .i) (c .before .before .args .n) (c .before .before .args .n) (length (c .before .before .args .affinities .now)) (c .before .before .pre .0) (c .before .before .pre .2), c .before .before .pre .1)
+add-p c =
+    let the-start = c .before .before in
+    omega (
+      arith,
+      row-in (the-start .args .i) (the-start .args .n) (the-start .args .n) (length (the-start .args .affinities .now)) (the-start .pre .0)
+          (the-start .pre .2),
+      the-start .pre .1,
+    )
 
 mul-p-2 : tie.Need-mul-p-2
-mul-p-2 c = omega (arith, row-in (c .before .before .args .i) (c .before .before .args .n) (c .before .before .args .n) (length (c .before .before .args .affinities .now)) (c .before .before .pre .0) (c .before .before .pre .2), c .before .before .pre .1)
+mul-p-2 c =
+    let the-start = c .before .before in
+    omega (
+      arith,
+      row-in (the-start .args .i) (the-start .args .n) (the-start .args .n) (length (the-start .args .affinities .now)) (the-start .pre .0)
+          (the-start .pre .2),
+      the-start .pre .1,
+    )
 
 shared-slice-read-p : tie.Need-shared-slice-read-p
-shared-slice-read-p c = omega (arith, row-in (c .before .before .before .args .i) (c .before .before .before .args .n) (c .before .before .before .args .n) (length (c .before .before .before .args .affinities .now)) (c .before .before .before .pre .0) (c .before .before .before .pre .2), c .before .before .before .pre .1)
+shared-slice-read-p c =
+    let the-start = c .before .before .before in
+    omega (
+      arith,
+      row-in (the-start .args .i) (the-start .args .n) (the-start .args .n) (length (the-start .args .affinities .now)) (the-start .pre .0)
+          (the-start .pre .2),
+      the-start .pre .1,
+    )
 
 kl-term-requires : tie.Need-kl-term-requires
 kl-term-requires c κs = search needs

@@ -1,5 +1,6 @@
+-- `divergence_sums::kl_pairs` meets its contract: the loop keeps `Loops`; by `loop-start`, `loop-next`, `loop-done`.
 use Rattle.divergence_sums.specs.Sums.{klSharedStep}
-use Rattle.laws.proofs.Loops.{Loops, loop-start, loop-more, loop-done}
+use Rattle.laws.proofs.Loops.{Loops, loop-start, loop-next, loop-done}
 use Prim.Native.Nat.{_-_}
 use borrow.Author.Needs.{needs}
 use native.Mathlib.Omega.{arith}
@@ -34,7 +35,7 @@ loop-less : tie.Need-loop-less Inv-loop μ-loop
 loop-less c = search needs
 
 loop-again : tie.Need-loop-again Inv-loop μ-loop
-loop-again c = rw (c .kl-pair .ensures) (loop-more (c .before .before .before .loop .inv) (omega arith))
+loop-again c = rw (c .kl-pair .ensures) (loop-next (c .before .before .before .loop .inv) (omega arith))
 
 returns : tie.Need-returns Inv-loop μ-loop
 returns c = loop-done (c .before .loop .inv) (omega arith)

@@ -1,3 +1,4 @@
+-- `divergence_sums::kl_term` meets its contract: from what its calls promise.
 use Rattle.divergence_sums.specs.Sums.{klTerm}
 use borrow.Author.Needs.{needs}
 use native.Mathlib.Omega.{arith}

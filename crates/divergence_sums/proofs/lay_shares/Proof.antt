@@ -1,7 +1,8 @@
+-- `divergence_sums::lay_shares` meets its contract: the loop keeps `Loops`; by `row-in`, `loop-start`, `loop-next`, `loop-done`.
 use mathlib.Core.Path.{_≡_, refl}
 use lib.ListN.{length}
 use Rattle.laws.proofs.Numbers.{row-in}
-use Rattle.laws.proofs.Loops.{Loops, loop-start, loop-more, loop-done}
+use Rattle.laws.proofs.Loops.{Loops, loop-start, loop-next, loop-done}
 use Rattle.divergence_sums.specs.Sums.{klShare, klShareStep}
 use Prim.Native.Nat.{_-_}
 use borrow.Author.Needs.{needs}
@@ -22,7 +23,12 @@ add-num : tie.Need-add-num Inv-loop μ-loop
 add-num c = search needs
 
 num-requires : tie.Need-num-requires Inv-loop μ-loop
-num-requires c κs = (row-in _ (c .before .before .before .before .args .n) _ _ (c .before .before .before .before .pre .0) (c .before .before .before .before .pre .2), row-in _ (c .before .before .before .before .args .n) _ _ (omega (arith, c .before .before .before .before .pre .1, c .loop-test .taken)) (c .before .before .before .before .pre .2))
+num-requires c κs =
+    let the-start = c .before .before .before .before in (
+      row-in _ (the-start .args .n) _ _ (the-start .pre .0) (the-start .pre .2),
+      row-in _ (the-start .args .n) _ _
+          (omega (arith, the-start .pre .1, c .loop-test .taken)) (the-start .pre .2),
+    )
 
 mul-shares : tie.Need-mul-shares Inv-loop μ-loop
 mul-shares c = search needs
@@ -38,7 +44,9 @@ loop-less c = search needs
 
 loop-again : tie.Need-loop-again Inv-loop μ-loop
 unfolding klShare
-loop-again c = (search needs, rw (c .num .ensures) (loop-more (c .before .before .loop .inv .1) (c .before .loop-test .taken)))
+loop-again c =
+    let the-loop = c .before .before .loop in
+    (search needs, rw (c .num .ensures) (loop-next (the-loop .inv .1) (c .before .loop-test .taken)))
 
 same-length : tie.Need-same-length Inv-loop μ-loop
 same-length c = search needs

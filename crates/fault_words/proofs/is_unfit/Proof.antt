@@ -1,3 +1,4 @@
+-- `fault_words::is_unfit` meets its contract: from what its calls promise.
 use borrow.Author.Tests.{eq-eqb, ne-eqb}
 use Rattle.fault_words.specs.FaultWords.{unfit}
 use borrow.Author.Needs.{needs}

@@ -29,7 +29,10 @@ same-length c = search needs
 
 returns-2 : tie.Need-returns-2
 unfolding unfitTold
-returns-2 c = rw (ne-eqb _ _ (c .before .before .before .if1 .left), c .fault-number .ensures, c .before .fault-value .ensures, c .before .before .unread-fault .ensures)
+returns-2 c =
+    let the-unread-fault = c .before .before .unread-fault in
+    let the-if1 = c .before .before .before .if1 in
+    rw (ne-eqb _ _ (the-if1 .left), c .fault-number .ensures, c .before .fault-value .ensures, the-unread-fault .ensures)
 
 pub put-unfit-spec : {M : Type 1} → statement M
 put-unfit-spec =

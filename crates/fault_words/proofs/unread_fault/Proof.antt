@@ -26,7 +26,9 @@ settings-fine-requires : tie.Need-settings-fine-requires
 settings-fine-requires c κs = search needs
 
 returns-2 : tie.Need-returns-2
-returns-2 c = rw (le-ltb _ _ (c .before .before .if1 .left), sym (c .before .settings-fine .ensures) ∙ not-true _ (c .if2 .taken))
+returns-2 c =
+    let the-if1 = c .before .before .if1 in
+    rw (le-ltb _ _ (the-if1 .left), sym (c .before .settings-fine .ensures) ∙ not-true _ (c .if2 .taken))
 
 settings-of-requires : tie.Need-settings-of-requires
 settings-of-requires c κs = omega (arith, c .before .before .if1 .left)
@@ -35,10 +37,22 @@ settings-fault-requires : tie.Need-settings-fault-requires
 settings-fault-requires c κs = search needs
 
 returns-3 : tie.Need-returns-3
-returns-3 c = rw (ne-eqb _ 0 (c .if3 .taken)) at (read-so-far _ (c .before .before .before .before .before .if1 .left) (c .before .before .before .before .settings-fine .ensures) (c .before .before .before .if2 .left) (c .before .before .settings-of .ensures) (c .before .settings-fault .ensures))
+returns-3 c =
+    let the-settings-of = c .before .before .settings-of in
+    let the-if2 = c .before .before .before .if2 in
+    let the-settings-fine = c .before .before .before .before .settings-fine in
+    let the-if1 = c .before .before .before .before .before .if1 in
+    rw (ne-eqb _ 0 (c .if3 .taken)) at
+    (read-so-far _ (the-if1 .left) (the-settings-fine .ensures) (the-if2 .left) (the-settings-of .ensures) (c .before .settings-fault .ensures))
 
 returns-4 : tie.Need-returns-4
-returns-4 c = rw (eq-eqb _ 0 (c .if3 .left)) at (read-so-far _ (c .before .before .before .before .before .if1 .left) (c .before .before .before .before .settings-fine .ensures) (c .before .before .before .if2 .left) (c .before .before .settings-of .ensures) (c .before .settings-fault .ensures))
+returns-4 c =
+    let the-settings-of = c .before .before .settings-of in
+    let the-if2 = c .before .before .before .if2 in
+    let the-settings-fine = c .before .before .before .before .settings-fine in
+    let the-if1 = c .before .before .before .before .before .if1 in
+    rw (eq-eqb _ 0 (c .if3 .left)) at
+    (read-so-far _ (the-if1 .left) (the-settings-fine .ensures) (the-if2 .left) (the-settings-of .ensures) (c .before .settings-fault .ensures))
 
 pub unread-fault-spec : {M : Type 1} → statement M
 unread-fault-spec =

@@ -1,3 +1,4 @@
+-- `frame_words::put_frame` meets its contract: from what its calls promise.
 use Rattle.frame_words.specs.FrameWords.{framePut}
 use mathlib.Core.Path.{_∙_}
 use lib.ListN.{length-set}
@@ -28,14 +29,23 @@ put-features-requires : tie.Need-put-features-requires
 put-features-requires c κs = simp length-set (c .before .before .before .before .before .pre)
 
 put-starts-requires : tie.Need-put-starts-requires
-put-starts-requires c κs = rw (c .before .before .before .put-features .kept .0) (simp length-set (c .before .before .before .before .before .before .before .before .before .pre))
+put-starts-requires c κs =
+    let the-put-features = c .before .before .before .put-features in
+    let the-start = c .before .before .before .before .before .before .before .before .before in
+    rw (the-put-features .kept .0) (simp length-set (the-start .pre))
 
 same-length : tie.Need-same-length
-same-length c = c .before .before .put-starts .kept .0 ∙ (c .before .before .before .before .before .before .put-features .kept .0 ∙ simp length-set)
+same-length c =
+    let the-put-starts = c .before .before .put-starts in
+    let the-put-features = c .before .before .before .before .before .before .put-features in
+    the-put-starts .kept .0 ∙ (the-put-features .kept .0 ∙ simp length-set)
 
 returns : tie.Need-returns
 unfolding framePut
-returns c = rw (c .before .before .put-starts .ensures, c .before .before .before .before .before .before .put-features .ensures)
+returns c =
+    let the-put-starts = c .before .before .put-starts in
+    let the-put-features = c .before .before .before .before .before .before .put-features in
+    rw (the-put-starts .ensures, the-put-features .ensures)
 
 pub put-frame-spec : {M : Type 1} → statement M
 put-frame-spec =

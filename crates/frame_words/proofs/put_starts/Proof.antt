@@ -1,4 +1,5 @@
-use Rattle.laws.proofs.Loops.{Loops, loop-start, loop-more, loop-done}
+-- `frame_words::put_starts` meets its contract: the loop keeps `Loops`; by `loop-start`, `loop-next`, `loop-done`.
+use Rattle.laws.proofs.Loops.{Loops, loop-start, loop-next, loop-done}
 use Rattle.laws.specs.Area.{at}
 use lib.Ieee.{binary64, toBits}
 use lib.ListN.{length, set, length-set}
@@ -42,7 +43,10 @@ loop-less : tie.Need-loop-less Inv-loop μ-loop
 loop-less c = search needs
 
 loop-again : tie.Need-loop-again Inv-loop μ-loop
-loop-again c = (simp length-set (c .before .before .before .loop .inv .0), rw (c .bits-of .ensures) (loop-more (c .before .before .before .loop .inv .1) (c .before .before .loop-test .taken)))
+loop-again c =
+    let the-loop-test = c .before .before .loop-test in
+    let the-loop = c .before .before .before .loop in
+    (simp length-set (the-loop .inv .0), rw (c .bits-of .ensures) (loop-next (the-loop .inv .1) (the-loop-test .taken)))
 
 same-length : tie.Need-same-length Inv-loop μ-loop
 same-length c = search needs

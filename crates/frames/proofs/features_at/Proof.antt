@@ -1,3 +1,4 @@
+-- `frames::features_at` meets its contract: from what its calls promise.
 use Rattle.frames.specs.Frames.{featuresAt}
 use borrow.Author.Needs.{needs}
 use Rattle.frames.proofs.features_at.Statement.{statement}
@@ -41,7 +42,12 @@ value-requires-6 c κs = search needs
 
 returns : tie.Need-returns
 unfolding featuresAt
-returns c = rw (c .before .before .before .before .before .value .ensures, c .before .before .before .before .value2 .ensures, c .before .before .before .value3 .ensures, c .before .before .value4 .ensures, c .before .value5 .ensures, c .value6 .ensures)
+returns c =
+    let the-value4 = c .before .before .value4 in
+    let the-value3 = c .before .before .before .value3 in
+    let the-value2 = c .before .before .before .before .value2 in
+    let the-value = c .before .before .before .before .before .value in
+    rw (the-value .ensures, the-value2 .ensures, the-value3 .ensures, the-value4 .ensures, c .before .value5 .ensures, c .value6 .ensures)
 
 pub features-at-spec : {M : Type 1} → statement M
 features-at-spec =

@@ -1,3 +1,4 @@
+-- `frames::field_fine` meets its contract: each need follows from its own premises.
 use Rattle.frames.specs.Frames.{fieldFine}
 use borrow.Author.Needs.{needs}
 use Rattle.frames.proofs.field_fine.Statement.{statement}

@@ -1,3 +1,4 @@
+-- `frames::frame_at` meets its contract: from what its calls promise.
 use borrow.Author.Tests.{lt-ltb, le-ltb}
 use Rattle.frames.specs.Frames.{frameOf}
 use borrow.Author.Needs.{needs}
@@ -33,7 +34,12 @@ shared-slice-read-t16 c = search needs
 
 returns : tie.Need-returns
 unfolding frameOf
-returns c = rw (lt-ltb _ _ (c .before .before .before .before .before .if1 .taken), c .before .before .half-word .ensures .0, c .before .before .before .before .features-at .ensures, c .before .before .before .starts-at .ensures)
+returns c =
+    let the-half-word = c .before .before .half-word in
+    let the-starts-at = c .before .before .before .starts-at in
+    let the-features-at = c .before .before .before .before .features-at in
+    let the-if1 = c .before .before .before .before .before .if1 in
+    rw (lt-ltb _ _ (the-if1 .taken), the-half-word .ensures .0, the-features-at .ensures, the-starts-at .ensures)
 
 returns-2 : tie.Need-returns-2
 unfolding frameOf

@@ -1,3 +1,4 @@
+-- `frames::in_order` meets its contract: from what its calls promise.
 use borrow.Author.Tests.{eq-eqb, ne-eqb}
 use Rattle.frames.specs.Frames.{inOrder}
 use borrow.Author.Needs.{needs}
@@ -40,7 +41,11 @@ may-follow-requires c κs = search needs
 
 returns-2 : tie.Need-returns-2
 unfolding inOrder
-returns-2 c = rw (ne-eqb _ _ (c .before .before .before .before .before .if1 .left), c .may-follow .ensures, c .before .before .half-word2 .ensures .0, c .before .before .before .before .half-word .ensures .0)
+returns-2 c =
+    let the-half-word2 = c .before .before .half-word2 in
+    let the-half-word = c .before .before .before .before .half-word in
+    let the-if1 = c .before .before .before .before .before .if1 in
+    rw (ne-eqb _ _ (the-if1 .left), c .may-follow .ensures, the-half-word2 .ensures .0, the-half-word .ensures .0)
 
 pub in-order-spec : {M : Type 1} → statement M
 in-order-spec =

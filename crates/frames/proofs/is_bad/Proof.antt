@@ -1,3 +1,4 @@
+-- `frames::is_bad` meets its contract: from what its calls promise.
 use mathlib.Core.Path.{sym, _∙_}
 use Rattle.frames.specs.Frames.{badAt}
 use borrow.Author.Needs.{needs}

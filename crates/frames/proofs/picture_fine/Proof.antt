@@ -1,3 +1,4 @@
+-- `frames::picture_fine` meets its contract: each need follows from its own premises.
 use borrow.Author.Tests.{le-leb, lt-leb}
 use Rattle.frames.specs.Frames.{pictureFine}
 use Rattle.frames.proofs.picture_fine.Statement.{statement}

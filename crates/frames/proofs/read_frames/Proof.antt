@@ -1,7 +1,8 @@
+-- `frames::read_frames` meets its contract: the loop keeps `Seeks`; by `bad-one`, `all-good`, `seek-start`, `seek-next`.
 use Prim.Native.Nat.{_-_}
 use mathlib.Core.Path.{sym, _∙_}
 use Rattle.frames.proofs.Reader.{bad-one, all-good, stray}
-use Rattle.laws.proofs.First.{Seeks, seek-start, seek-more}
+use Rattle.laws.proofs.First.{Seeks, seek-start, seek-next}
 use Rattle.frames.specs.Frames.{badAt, wholeRecords}
 use borrow.Author.Needs.{needs}
 use Rattle.frames.proofs.read_frames.Statement.{statement}
@@ -20,7 +21,10 @@ is-bad-requires : tie.Need-is-bad-requires Inv-loop μ-loop
 is-bad-requires c κs = search needs
 
 returns : tie.Need-returns Inv-loop μ-loop
-returns c = bad-one _ _ (c .before .before .before .loop .inv) (c .before .before .loop-test .taken) (sym (c .before .is-bad .ensures) ∙ c .if1 .taken)
+returns c =
+    let the-loop-test = c .before .before .loop-test in
+    let the-loop = c .before .before .before .loop in
+    bad-one _ _ (the-loop .inv) (the-loop-test .taken) (sym (c .before .is-bad .ensures) ∙ c .if1 .taken)
 
 add-i : tie.Need-add-i Inv-loop μ-loop
 add-i c = search needs
@@ -29,7 +33,10 @@ loop-less : tie.Need-loop-less Inv-loop μ-loop
 loop-less c = search needs
 
 loop-again : tie.Need-loop-again Inv-loop μ-loop
-loop-again c = seek-more (c .before .before .before .loop .inv) (c .before .before .loop-test .taken) (sym (c .before .is-bad .ensures) ∙ c .if1 .left)
+loop-again c =
+    let the-loop-test = c .before .before .loop-test in
+    let the-loop = c .before .before .before .loop in
+    seek-next (the-loop .inv) (the-loop-test .taken) (sym (c .before .is-bad .ensures) ∙ c .if1 .left)
 
 returns-2 : tie.Need-returns-2 Inv-loop μ-loop
 returns-2 c = all-good _ _ (c .before .before .loop .inv) (c .before .loop-test .left) (c .if2 .taken)

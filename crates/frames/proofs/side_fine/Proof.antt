@@ -1,3 +1,4 @@
+-- `frames::side_fine` meets its contract: each need follows from its own premises.
 use borrow.Author.Tests.{eq-eqb, ne-eqb}
 use Rattle.frames.specs.Frames.{sideFine}
 use Rattle.frames.proofs.side_fine.Statement.{statement}

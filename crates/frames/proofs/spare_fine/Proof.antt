@@ -1,3 +1,4 @@
+-- `frames::spare_fine` meets its contract: each need follows from its own premises.
 use borrow.Author.Tests.{eq-eqb, ne-eqb}
 use Rattle.frames.specs.Frames.{spareFine}
 use borrow.Author.Needs.{needs}

@@ -1,3 +1,4 @@
+-- `frames::starts_at` meets its contract: from what its calls promise.
 use Rattle.frames.specs.Frames.{startsAt}
 use borrow.Author.Needs.{needs}
 use Rattle.frames.proofs.starts_at.Statement.{statement}

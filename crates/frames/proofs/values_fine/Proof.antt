@@ -1,8 +1,9 @@
+-- `frames::values_fine` meets its contract: the loop keeps what has been done equal to its part of the whole; by `every-none`, `every-next`, `every-no`, `every-done`.
 use borrow.Author.Tests.{not-true, not-false}
 use Prim.Native.Nat.{_+_, _*_, _≤_, _-_}
 use mathlib.Core.Bool.{true}
 use mathlib.Core.Path.{_≡_, sym, _∙_}
-use Rattle.laws.proofs.Every.{every-none, every-more, every-no, every-done}
+use Rattle.laws.proofs.Every.{every-none, every-next, every-no, every-done}
 use Rattle.laws.specs.Loops.{every}
 use Rattle.elementary.specs.Limits.{inDomain}
 use Rattle.frames.specs.Frames.{valuesFine}
@@ -38,7 +39,10 @@ in-domain-requires c κs = search needs
 
 returns : tie.Need-returns Inv-loop μ-loop
 unfolding valuesFine
-returns c = sym (every-no _ 8 _ (c .before .before .before .loop-test .taken) (rw (c .before .before .value .ensures) at (sym (c .before .in-domain .ensures) ∙ not-true _ (c .if1 .taken))))
+returns c =
+    let the-value = c .before .before .value in
+    let the-loop-test = c .before .before .before .loop-test in
+    sym (every-no _ 8 _ (the-loop-test .taken) (rw (the-value .ensures) at (sym (c .before .in-domain .ensures) ∙ not-true _ (c .if1 .taken))))
 
 add-k : tie.Need-add-k Inv-loop μ-loop
 add-k c = search needs
@@ -47,7 +51,10 @@ loop-less : tie.Need-loop-less Inv-loop μ-loop
 loop-less c = search needs
 
 loop-again : tie.Need-loop-again Inv-loop μ-loop
-loop-again c = (omega arith, every-more _ _ (c .before .before .before .before .loop .inv .1) (rw (c .before .before .value .ensures) at (sym (c .before .in-domain .ensures) ∙ not-false _ (c .if1 .left))))
+loop-again c =
+    let the-value = c .before .before .value in
+    let the-loop = c .before .before .before .before .loop in
+    (omega arith, every-next _ _ (the-loop .inv .1) (rw (the-value .ensures) at (sym (c .before .in-domain .ensures) ∙ not-false _ (c .if1 .left))))
 
 returns-2 : tie.Need-returns-2 Inv-loop μ-loop
 unfolding valuesFine

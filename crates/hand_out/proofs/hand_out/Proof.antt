@@ -1,5 +1,8 @@
 -- `hand_out::hand_out` meets its contract: a walk of its MIR. Printed (tests/walks_local).
+-- Locals: l0 the answer, l1 words, l2 positions, l3 increments, l4 gains, l5 affinities, l6 indices, l7 offsets, l8 forces, l9 cells, l10 order, l11 gaps, from
+-- l12 on the code's own, as `rt mir` numbers them. On entry local li is thing 44 - 2·i of what is held; what is put in front of it moves it up.
 -- Assumes nothing.
+use Rattle.lent.proofs.Beside.{_∥_}
 use mathlib.Core.Path.{refl, sym, _∙_}
 use Prim.Native.Nat.{ℕ}
 use mathlib.Core.List.{List, [], _∷_}
@@ -21,6 +24,7 @@ use contract.Running.{givenOf, tables, tablesOf}
 use types.Kit.{Given, ‵, _⊛_, ⋆, _$_, _∵_, !, qed, by, move, keep, drop, split, join, fsplit, fjoin, suffices, frame, done}
 use types.Part.{agg, whole, sub, look-in}
 use types.Run.{look, init, forget, stop, hop, fld, from, load, addr, of-opd, and-then, no-more, assigns, land, returns, enter, alloc1, alloc0, params1, pass1, pass0, free1, free0}
+use contract.Lifetimes.{Lfts, Shares}
 use denote.RattleType.{owns}
 use denote.Laws.{Is}
 use denote.Builtin.{u32, u64, f64}
@@ -64,10 +68,15 @@ use Rattle.hand_out.proofs.hand_out.Statement as stated
 use Rattle.hand_out.proofs.hand_out.Code as code
 
 abbrev Arg : Type 0
-Arg = RefT (List ℕ) × (RefT (List Float) × (RefT (List Float) × (RefT (List Float) × (RefT (List Float) × (RefT (List ℕ) × (RefT (List ℕ) × (RefT (List Float) × (RefT (List Cell) × (RefT (List ℕ) × (RefT (List ℕ) × (Unit {0})))))))))))
+Arg = RefT (List ℕ) × (RefT (List Float) × (RefT (List Float) × (RefT (List Float) × (RefT (List Float) × (RefT (List ℕ) × (RefT (List ℕ) × (RefT (List Float) ×
+    (RefT (List Cell) × (RefT (List ℕ) × (RefT (List ℕ) × (Unit {0})))))))))))
 
 abbrev stayed : Stays (f.ended .signature .params) (f.ended .kept)
-stayed = (stay-none-slice (0 ∷ []) tt (plain (λ _. u64)) yes, (stay-none-slice (1 ∷ []) tt (plain (λ _. f64)) yes, (stay-none-slice (2 ∷ []) tt (plain (λ _. f64)) yes, (stay-none-slice (3 ∷ []) tt (plain (λ _. f64)) yes, (stay-none-slice (4 ∷ []) tt (plain (λ _. f64)) yes, (stay-none-slice (5 ∷ []) tt (plain (λ _. u32)) yes, (stay-none-slice (6 ∷ []) tt (plain (λ _. u32)) yes, (stay-none-slice (7 ∷ []) tt (plain (λ _. f64)) yes, (stay-none-slice (8 ∷ []) tt (plain (λ _. Cell′.the-row)) yes, (stay-slice (9 ∷ []) tt (plain (λ _. u32)), (stay-slice (10 ∷ []) tt (plain (λ _. u64)), tt)))))))))))
+stayed = (stay-none-slice (0 ∷ []) tt (plain (λ _. u64)) yes ∥ stay-none-slice (1 ∷ []) tt (plain (λ _. f64)) yes ∥
+    stay-none-slice (2 ∷ []) tt (plain (λ _. f64)) yes ∥ stay-none-slice (3 ∷ []) tt (plain (λ _. f64)) yes ∥
+    stay-none-slice (4 ∷ []) tt (plain (λ _. f64)) yes ∥ stay-none-slice (5 ∷ []) tt (plain (λ _. u32)) yes ∥
+    stay-none-slice (6 ∷ []) tt (plain (λ _. u32)) yes ∥ stay-none-slice (7 ∷ []) tt (plain (λ _. f64)) yes ∥
+    stay-none-slice (8 ∷ []) tt (plain (λ _. Cell′.the-row)) yes ∥ stay-slice (9 ∷ []) tt (plain (λ _. u32)) ∥ stay-slice (10 ∷ []) tt (plain (λ _. u64)) ∥ tt)
 
 module _ {M : Type 1} (𝓤 : URA M) (H : Heap 𝓤) (A : Atoms 𝓤) (W : Given 𝓤 H A) (mem : Memory → SProp 𝓤) (run-of : Routine → Fun 𝓤)
     (s-words : Seat) (words : List ℕ) (ln-words : length words ≡ s-words .count) (room-words : Room u64 (s-words .count))
@@ -81,14 +90,24 @@ module _ {M : Type 1} (𝓤 : URA M) (H : Heap 𝓤) (A : Atoms 𝓤) (W : Given
     (s-cells : Seat) (cells : List Cell) (ln-cells : length cells ≡ s-cells .count) (room-cells : Room Cell′.the-row (s-cells .count))
     (s-order : Seat) (order : List ℕ) (ln-order : length order ≡ s-order .count) (room-order : Room u32 (s-order .count))
     (s-gaps : Seat) (gaps : List ℕ) (ln-gaps : length gaps ≡ s-gaps .count) (room-gaps : Room u64 (s-gaps .count)) where
-  abbrev x : Arg
-  x = (ref-at s-words words, (ref-at s-positions positions, (ref-at s-increments increments, (ref-at s-gains gains, (ref-at s-affinities affinities, (ref-at s-indices indices, (ref-at s-offsets offsets, (ref-at s-forces forces, (ref-at s-cells cells, (ref-at s-order order, (ref-at s-gaps gaps, tt)))))))))))
+  abbrev lives : Lfts (f.signature .lifetimes)
+  lives = (s-words .life ∥ s-positions .life ∥ s-increments .life ∥ s-gains .life ∥ s-affinities .life ∥ s-indices .life ∥ s-offsets .life ∥ s-forces .life ∥
+      s-cells .life ∥ s-order .life ∥ s-gaps .life ∥ tt)
 
-  abbrev at : Vals f.signature (s-words .life, (s-positions .life, (s-increments .life, (s-gains .life, (s-affinities .life, (s-indices .life, (s-offsets .life, (s-forces .life, (s-cells .life, (s-order .life, (s-gaps .life, tt)))))))))))
-  at = (word s-words ∷ [], (word s-positions ∷ [], (word s-increments ∷ [], (word s-gains ∷ [], (word s-affinities ∷ [], (word s-indices ∷ [], (word s-offsets ∷ [], (word s-forces ∷ [], (word s-cells ∷ [], (word s-order ∷ [], (word s-gaps ∷ [], tt)))))))))))
+  abbrev shares : Shares (f.signature .lifetimes)
+  shares = (s-words .share ∥ s-positions .share ∥ s-increments .share ∥ s-gains .share ∥ s-affinities .share ∥ s-indices .share ∥ s-offsets .share ∥
+      s-forces .share ∥ s-cells .share ∥ s-order .share ∥ s-gaps .share ∥ tt)
+
+  abbrev x : Arg
+  x = (ref-at s-words words ∥ ref-at s-positions positions ∥ ref-at s-increments increments ∥ ref-at s-gains gains ∥ ref-at s-affinities affinities ∥
+      ref-at s-indices indices ∥ ref-at s-offsets offsets ∥ ref-at s-forces forces ∥ ref-at s-cells cells ∥ ref-at s-order order ∥ ref-at s-gaps gaps ∥ tt)
+
+  abbrev at : Vals f.signature lives
+  at = (word s-words ∷ [] ∥ word s-positions ∷ [] ∥ word s-increments ∷ [] ∥ word s-gains ∷ [] ∥ word s-affinities ∷ [] ∥ word s-indices ∷ [] ∥
+      word s-offsets ∷ [] ∥ word s-forces ∷ [] ∥ word s-cells ∷ [] ∥ word s-order ∷ [] ∥ word s-gaps ∷ [] ∥ tt)
 
   abbrev Post : Val → SProp 𝓤
-  Post = walkOf 𝓤 H A f.ended stayed (f.clauses 𝓤 H A mem run-of) .post (((s-words .life, (s-positions .life, (s-increments .life, (s-gains .life, (s-affinities .life, (s-indices .life, (s-offsets .life, (s-forces .life, (s-cells .life, (s-order .life, (s-gaps .life, tt))))))))))), (s-words .share, (s-positions .share, (s-increments .share, (s-gains .share, (s-affinities .share, (s-indices .share, (s-offsets .share, (s-forces .share, (s-cells .share, (s-order .share, (s-gaps .share, tt))))))))))), tt, x, at), tt)
+  Post = walkOf 𝓤 H A f.ended stayed (f.clauses 𝓤 H A mem run-of) .post ((lives, shares, tt, x, at), tt)
 
   typed-Fault : (v : Fault) → IsFault v → T (hasTy Fault″.mir (val-Fault v)) × WT (val-Fault v)
   typed-Fault v g = Fault″.the-field-laws .lawful 𝓤 H A W .typed (Fault′.the-type .to v) _ g .0
@@ -96,44 +115,125 @@ module _ {M : Type 1} (𝓤 : URA M) (H : Heap 𝓤) (A : Atoms 𝓤) (W : Given
   typed-Handed : (v : Handed) → IsHanded v → T (hasTy Handed″.mir (val-Handed v)) × WT (val-Handed v)
   typed-Handed v g = Handed″.the-field-laws .lawful 𝓤 H A W .typed (Handed′.the-type .to v) _ g .0
 
-  exits : (res : Handed) (order′ : List ℕ) (gaps′ : List ℕ) → IsHanded res → length order′ ≡ s-order .count → length gaps′ ≡ s-gaps .count → handing res order′ gaps′ ≡ handedOut words (memory positions increments gains affinities indices offsets forces cells) order gaps → ent 𝓤 (⋆ 𝓤 H A (‵ (Shr u64 s-words words) ∷ ‵ (Tok s-words) ∷ ‵ (Shr f64 s-positions positions) ∷ ‵ (Tok s-positions) ∷ ‵ (Shr f64 s-increments increments) ∷ ‵ (Tok s-increments) ∷ ‵ (Shr f64 s-gains gains) ∷ ‵ (Tok s-gains) ∷ ‵ (Shr f64 s-affinities affinities) ∷ ‵ (Tok s-affinities) ∷ ‵ (Shr u32 s-indices indices) ∷ ‵ (Tok s-indices) ∷ ‵ (Shr u32 s-offsets offsets) ∷ ‵ (Tok s-offsets) ∷ ‵ (Shr f64 s-forces forces) ∷ ‵ (Tok s-forces) ∷ ‵ (Shr Cell′.the-row s-cells cells) ∷ ‵ (Tok s-cells) ∷ ‵ (Mut u32 s-order order′) ∷ ‵ (Tok s-order) ∷ ‵ (Mut u64 s-gaps gaps′) ∷ ‵ (Tok s-gaps) ∷ [])) (Post (val-Handed res))
+  exits : (res : Handed) (order′ : List ℕ) (gaps′ : List ℕ) → IsHanded res → length order′ ≡ s-order .count → length gaps′ ≡ s-gaps .count →
+      handing res order′ gaps′ ≡ handedOut words (memory positions increments gains affinities indices offsets forces cells) order gaps →
+      ent 𝓤 (⋆ 𝓤 H A (‵ (Shr u64 s-words words) ∷ ‵ (Tok s-words) ∷ ‵ (Shr f64 s-positions positions) ∷ ‵ (Tok s-positions) ∷
+      ‵ (Shr f64 s-increments increments) ∷ ‵ (Tok s-increments) ∷ ‵ (Shr f64 s-gains gains) ∷ ‵ (Tok s-gains) ∷ ‵ (Shr f64 s-affinities affinities) ∷
+      ‵ (Tok s-affinities) ∷ ‵ (Shr u32 s-indices indices) ∷ ‵ (Tok s-indices) ∷ ‵ (Shr u32 s-offsets offsets) ∷ ‵ (Tok s-offsets) ∷
+      ‵ (Shr f64 s-forces forces) ∷ ‵ (Tok s-forces) ∷ ‵ (Shr Cell′.the-row s-cells cells) ∷ ‵ (Tok s-cells) ∷ ‵ (Mut u32 s-order order′) ∷ ‵ (Tok s-order) ∷
+      ‵ (Mut u64 s-gaps gaps′) ∷ ‵ (Tok s-gaps) ∷ [])) (Post (val-Handed res))
   exits res order′ gaps′ is le-order le-gaps e =
-      qed W (‵ (Shr u64 s-words words) ∷ ‵ (Tok s-words) ∷ ‵ (Shr f64 s-positions positions) ∷ ‵ (Tok s-positions) ∷ ‵ (Shr f64 s-increments increments) ∷ ‵ (Tok s-increments) ∷ ‵ (Shr f64 s-gains gains) ∷ ‵ (Tok s-gains) ∷ ‵ (Shr f64 s-affinities affinities) ∷ ‵ (Tok s-affinities) ∷ ‵ (Shr u32 s-indices indices) ∷ ‵ (Tok s-indices) ∷ ‵ (Shr u32 s-offsets offsets) ∷ ‵ (Tok s-offsets) ∷ ‵ (Shr f64 s-forces forces) ∷ ‵ (Tok s-forces) ∷ ‵ (Shr Cell′.the-row s-cells cells) ∷ ‵ (Tok s-cells) ∷ ‵ (Mut u32 s-order order′) ∷ ‵ (Tok s-order) ∷ ‵ (Mut u64 s-gaps gaps′) ∷ ‵ (Tok s-gaps) ∷ []) ∵
-      suffices ! _ (ends-at 𝓤 H A f.ended stayed (f.clauses 𝓤 H A mem run-of) W (((s-words .life, (s-positions .life, (s-increments .life, (s-gains .life, (s-affinities .life, (s-indices .life, (s-offsets .life, (s-forces .life, (s-cells .life, (s-order .life, (s-gaps .life, tt))))))))))), (s-words .share, (s-positions .share, (s-increments .share, (s-gains .share, (s-affinities .share, (s-indices .share, (s-offsets .share, (s-forces .share, (s-cells .share, (s-order .share, (s-gaps .share, tt))))))))))), tt, x, at), tt) (val-Handed res) res (tt, (tt, (tt, (tt, (tt, (tt, (tt, (tt, (tt, (order′, (gaps′, tt))))))))))) (tt, (tt, (tt, (tt, (tt, (tt, (tt, (tt, (tt, (le-order ∙ sym ln-order, (le-gaps ∙ sym ln-gaps, tt)))))))))))) $ says ! e $
-      nothing ! $ move ! (22 ∷ 0 ∷ []) $ join ! $ move ! (20 ∷ 0 ∷ []) $ join ! $ move ! (18 ∷ 0 ∷ []) $ join ! $ move ! (16 ∷ 0 ∷ []) $ join ! $ move ! (14 ∷ 0 ∷ []) $ join ! $ move ! (12 ∷ 0 ∷ []) $ join ! $ move ! (10 ∷ 0 ∷ []) $ join ! $ move ! (8 ∷ 0 ∷ []) $ join ! $ move ! (6 ∷ 0 ∷ []) $ join ! $ move ! (4 ∷ 0 ∷ []) $ join ! $ move ! (2 ∷ 0 ∷ []) $ join ! $ frame ! $ nothing ! $ move ! (11 ∷ 0 ∷ []) $ fjoin ! $ move ! (10 ∷ 0 ∷ []) $ fjoin ! $ move ! (9 ∷ 0 ∷ []) $ fjoin ! $ move ! (8 ∷ 0 ∷ []) $ fjoin ! $ move ! (7 ∷ 0 ∷ []) $ fjoin ! $ move ! (6 ∷ 0 ∷ []) $ fjoin ! $ move ! (5 ∷ 0 ∷ []) $ fjoin ! $ move ! (4 ∷ 0 ∷ []) $ fjoin ! $ move ! (3 ∷ 0 ∷ []) $ fjoin ! $ move ! (2 ∷ 0 ∷ []) $ fjoin ! $ move ! (1 ∷ 0 ∷ []) $ fjoin ! $ frame ! $ owned ! Handed′.the-row (Is Handed′.the-row) ((EL.makes Handed′.the-type Handed″.the-plain) 𝓤 H A) res _ is $ done !
+      qed W (‵ (Shr u64 s-words words) ∷ ‵ (Tok s-words) ∷ ‵ (Shr f64 s-positions positions) ∷ ‵ (Tok s-positions) ∷ ‵ (Shr f64 s-increments increments) ∷
+      ‵ (Tok s-increments) ∷ ‵ (Shr f64 s-gains gains) ∷ ‵ (Tok s-gains) ∷ ‵ (Shr f64 s-affinities affinities) ∷ ‵ (Tok s-affinities) ∷
+      ‵ (Shr u32 s-indices indices) ∷ ‵ (Tok s-indices) ∷ ‵ (Shr u32 s-offsets offsets) ∷ ‵ (Tok s-offsets) ∷ ‵ (Shr f64 s-forces forces) ∷
+      ‵ (Tok s-forces) ∷ ‵ (Shr Cell′.the-row s-cells cells) ∷ ‵ (Tok s-cells) ∷ ‵ (Mut u32 s-order order′) ∷ ‵ (Tok s-order) ∷ ‵ (Mut u64 s-gaps gaps′) ∷
+      ‵ (Tok s-gaps) ∷ []) ∵
+      suffices ! _ (ends-at 𝓤 H A f.ended stayed (f.clauses 𝓤 H A mem run-of) W ((lives, shares, tt, x, at), tt) (val-Handed res) res
+      (tt, (tt, (tt, (tt, (tt, (tt, (tt, (tt, (tt, (order′, (gaps′, tt))))))))))) (tt ∥ tt ∥ tt ∥ tt ∥ tt ∥ tt ∥ tt ∥ tt ∥ tt ∥ le-order ∙ sym ln-order ∥
+      le-gaps ∙ sym ln-gaps ∥ tt)) $ says ! e $
+      nothing ! $ move ! (22 ∷ 0 ∷ []) $ join ! $ move ! (20 ∷ 0 ∷ []) $ join ! $ move ! (18 ∷ 0 ∷ []) $ join ! $ move ! (16 ∷ 0 ∷ []) $ join ! $
+      move ! (14 ∷ 0 ∷ []) $ join ! $ move ! (12 ∷ 0 ∷ []) $ join ! $ move ! (10 ∷ 0 ∷ []) $ join ! $ move ! (8 ∷ 0 ∷ []) $ join ! $ move ! (6 ∷ 0 ∷ []) $
+      join ! $ move ! (4 ∷ 0 ∷ []) $ join ! $ move ! (2 ∷ 0 ∷ []) $ join ! $ frame ! $ nothing ! $ move ! (11 ∷ 0 ∷ []) $ fjoin ! $ move ! (10 ∷ 0 ∷ []) $
+      fjoin ! $ move ! (9 ∷ 0 ∷ []) $ fjoin ! $ move ! (8 ∷ 0 ∷ []) $ fjoin ! $ move ! (7 ∷ 0 ∷ []) $ fjoin ! $ move ! (6 ∷ 0 ∷ []) $ fjoin ! $
+      move ! (5 ∷ 0 ∷ []) $ fjoin ! $ move ! (4 ∷ 0 ∷ []) $ fjoin ! $ move ! (3 ∷ 0 ∷ []) $ fjoin ! $ move ! (2 ∷ 0 ∷ []) $ fjoin ! $ move ! (1 ∷ 0 ∷ []) $
+      fjoin ! $ frame ! $ owned ! Handed′.the-row (Is Handed′.the-row) ((EL.makes Handed′.the-type Handed″.the-plain) 𝓤 H A) res _ is $ done !
 
-  module _ (C : Calls 𝓤 H) (Λ : Loops 𝓤 H) (fm : FmC 𝓤 H (W .laws) C) (known-words-fault : Triple 𝓤 (C #words-entry·words-fault) (Contract-words-fault 𝓤 H A mem run-of)) (known-hand-tested : Triple 𝓤 (C #hand-out·hand-tested) (Contract-hand-tested 𝓤 H A mem run-of)) where
-    walk : ent 𝓤 (onEntry 𝓤 H A f.signature (s-words .life, (s-positions .life, (s-increments .life, (s-gains .life, (s-affinities .life, (s-indices .life, (s-offsets .life, (s-forces .life, (s-cells .life, (s-order .life, (s-gaps .life, tt))))))))))) (s-words .share, (s-positions .share, (s-increments .share, (s-gains .share, (s-affinities .share, (s-indices .share, (s-offsets .share, (s-forces .share, (s-cells .share, (s-order .share, (s-gaps .share, tt))))))))))) x at) (WpFn 𝓤 H C Λ code.function (word s-words ∷ word s-positions ∷ word s-increments ∷ word s-gains ∷ word s-affinities ∷ word s-indices ∷ word s-offsets ∷ word s-forces ∷ word s-cells ∷ word s-order ∷ word s-gaps ∷ []) Post)
+  module _ (C : Calls 𝓤 H) (Λ : Loops 𝓤 H) (fm : FmC 𝓤 H (W .laws) C)
+      (known-words-fault : Triple 𝓤 (C #words-entry·words-fault) (Contract-words-fault 𝓤 H A mem run-of))
+      (known-hand-tested : Triple 𝓤 (C #hand-out·hand-tested) (Contract-hand-tested 𝓤 H A mem run-of)) where
+    walk : ent 𝓤 (onEntry 𝓤 H A f.signature lives shares x at)
+        (WpFn 𝓤 H C Λ code.function (word s-words ∷ word s-positions ∷ word s-increments ∷ word s-gains ∷ word s-affinities ∷ word s-indices ∷ word s-offsets ∷
+        word s-forces ∷ word s-cells ∷ word s-order ∷ word s-gaps ∷ []) Post)
     walk =
-        qed W ((‵ (Tok s-words) ⊛ ‵ (Tok s-positions) ⊛ ‵ (Tok s-increments) ⊛ ‵ (Tok s-gains) ⊛ ‵ (Tok s-affinities) ⊛ ‵ (Tok s-indices) ⊛ ‵ (Tok s-offsets) ⊛ ‵ (Tok s-forces) ⊛ ‵ (Tok s-cells) ⊛ ‵ (Tok s-order) ⊛ ‵ (Tok s-gaps) ⊛ ‵ ftrue) ∷ ‵ (owns (ShrSlice (named 0) (s-words .life) u64 ∷ ShrSlice (named 1) (s-positions .life) f64 ∷ ShrSlice (named 2) (s-increments .life) f64 ∷ ShrSlice (named 3) (s-gains .life) f64 ∷ ShrSlice (named 4) (s-affinities .life) f64 ∷ ShrSlice (named 5) (s-indices .life) u32 ∷ ShrSlice (named 6) (s-offsets .life) u32 ∷ ShrSlice (named 7) (s-forces .life) f64 ∷ ShrSlice (named 8) (s-cells .life) Cell′.the-row ∷ MutSlice (named 9) (s-order .life) u32 ∷ MutSlice (named 10) (s-gaps .life) u64 ∷ []) x at) ∷ []) ∵ enter ! C Λ code.function (word s-words ∷ word s-positions ∷ word s-increments ∷ word s-gains ∷ word s-affinities ∷ word s-indices ∷ word s-offsets ∷ word s-forces ∷ word s-cells ∷ word s-order ∷ word s-gaps ∷ []) _ $
-        alloc1 ! (λ l0. alloc1 ! (λ l1. alloc1 ! (λ l2. alloc1 ! (λ l3. alloc1 ! (λ l4. alloc1 ! (λ l5. alloc1 ! (λ l6. alloc1 ! (λ l7. alloc1 ! (λ l8. alloc1 ! (λ l9. alloc1 ! (λ l10. alloc1 ! (λ l11. alloc1 ! (λ l12. alloc1 ! (λ l13. alloc1 ! (λ l14. alloc1 ! (λ l15. alloc1 ! (λ l16. alloc1 ! (λ l17. alloc1 ! (λ l18. alloc1 ! (λ l19. alloc1 ! (λ l20. alloc1 ! (λ l21. alloc1 ! (λ l22. alloc0 ! $ params1 ! $
-        pass1 ! (init ! 42 refl (tt, (tt, (record { fits = room-words .0 }, tt)))) $ pass1 ! (init ! 40 refl (tt, (tt, (record { fits = room-positions .0 }, tt)))) $ pass1 ! (init ! 38 refl (tt, (tt, (record { fits = room-increments .0 }, tt)))) $ pass1 ! (init ! 36 refl (tt, (tt, (record { fits = room-gains .0 }, tt)))) $ pass1 ! (init ! 34 refl (tt, (tt, (record { fits = room-affinities .0 }, tt)))) $ pass1 ! (init ! 32 refl (tt, (tt, (record { fits = room-indices .0 }, tt)))) $ pass1 ! (init ! 30 refl (tt, (tt, (record { fits = room-offsets .0 }, tt)))) $ pass1 ! (init ! 28 refl (tt, (tt, (record { fits = room-forces .0 }, tt)))) $ pass1 ! (init ! 26 refl (tt, (tt, (record { fits = room-cells .0 }, tt)))) $ pass1 ! (init ! 24 refl (tt, (tt, (record { fits = room-order .0 }, tt)))) $ pass1 ! (init ! 22 refl (tt, (tt, (record { fits = room-gaps .0 }, tt)))) $ pass0 ! $
-        move ! (47 ∷ []) $ fsplit ! $ move ! (1 ∷ []) $ fsplit ! $ move ! (1 ∷ []) $ fsplit ! $ move ! (1 ∷ []) $ fsplit ! $ move ! (1 ∷ []) $ fsplit ! $ move ! (1 ∷ []) $ fsplit ! $ move ! (1 ∷ []) $ fsplit ! $ move ! (1 ∷ []) $ fsplit ! $ move ! (1 ∷ []) $ fsplit ! $ move ! (1 ∷ []) $ fsplit ! $ move ! (1 ∷ []) $ fsplit ! $ move ! (1 ∷ []) $ drop ! $ move ! (57 ∷ []) $ split ! $ move ! (1 ∷ []) $ split ! $ move ! (1 ∷ []) $ split ! $ move ! (1 ∷ []) $ split ! $ move ! (1 ∷ []) $ split ! $ move ! (1 ∷ []) $ split ! $ move ! (1 ∷ []) $ split ! $ move ! (1 ∷ []) $ split ! $ move ! (1 ∷ []) $ split ! $ move ! (1 ∷ []) $ split ! $ move ! (1 ∷ []) $ split ! $ move ! (1 ∷ []) $ drop ! $ move ! (21 ∷ 10 ∷ 20 ∷ 9 ∷ 19 ∷ 8 ∷ 18 ∷ 7 ∷ 17 ∷ 6 ∷ 16 ∷ 5 ∷ 15 ∷ 4 ∷ 14 ∷ 3 ∷ 13 ∷ 2 ∷ 12 ∷ 1 ∷ 11 ∷ 0 ∷ []) $
+        qed W ((‵ (Tok s-words) ⊛ ‵ (Tok s-positions) ⊛ ‵ (Tok s-increments) ⊛ ‵ (Tok s-gains) ⊛ ‵ (Tok s-affinities) ⊛ ‵ (Tok s-indices) ⊛ ‵ (Tok s-offsets) ⊛
+        ‵ (Tok s-forces) ⊛ ‵ (Tok s-cells) ⊛ ‵ (Tok s-order) ⊛ ‵ (Tok s-gaps) ⊛ ‵ ftrue) ∷
+        ‵ (owns (ShrSlice (named 0) (s-words .life) u64 ∷ ShrSlice (named 1) (s-positions .life) f64 ∷ ShrSlice (named 2) (s-increments .life) f64 ∷
+        ShrSlice (named 3) (s-gains .life) f64 ∷ ShrSlice (named 4) (s-affinities .life) f64 ∷ ShrSlice (named 5) (s-indices .life) u32 ∷
+        ShrSlice (named 6) (s-offsets .life) u32 ∷ ShrSlice (named 7) (s-forces .life) f64 ∷ ShrSlice (named 8) (s-cells .life) Cell′.the-row ∷
+        MutSlice (named 9) (s-order .life) u32 ∷ MutSlice (named 10) (s-gaps .life) u64 ∷ []) x at) ∷ []) ∵
+        enter ! C Λ code.function (word s-words ∷ word s-positions ∷ word s-increments ∷ word s-gains ∷ word s-affinities ∷ word s-indices ∷
+        word s-offsets ∷ word s-forces ∷ word s-cells ∷ word s-order ∷ word s-gaps ∷ []) _ $
+        alloc1 ! (λ l0. alloc1 ! (λ l1. alloc1 ! (λ l2. alloc1 ! (λ l3. alloc1 ! (λ l4. alloc1 ! (λ l5. alloc1 ! (λ l6. alloc1 ! (λ l7. alloc1 ! (λ l8.
+        alloc1 ! (λ l9. alloc1 ! (λ l10. alloc1 ! (λ l11. alloc1 ! (λ l12. alloc1 ! (λ l13. alloc1 ! (λ l14. alloc1 ! (λ l15. alloc1 ! (λ l16.
+        alloc1 ! (λ l17. alloc1 ! (λ l18. alloc1 ! (λ l19. alloc1 ! (λ l20. alloc1 ! (λ l21. alloc1 ! (λ l22. alloc0 ! $ params1 ! $
+        pass1 ! (init ! 42 refl (tt, (tt, (record { fits = room-words .0 }, tt)))) $
+        pass1 ! (init ! 40 refl (tt, (tt, (record { fits = room-positions .0 }, tt)))) $
+        pass1 ! (init ! 38 refl (tt, (tt, (record { fits = room-increments .0 }, tt)))) $
+        pass1 ! (init ! 36 refl (tt, (tt, (record { fits = room-gains .0 }, tt)))) $
+        pass1 ! (init ! 34 refl (tt, (tt, (record { fits = room-affinities .0 }, tt)))) $
+        pass1 ! (init ! 32 refl (tt, (tt, (record { fits = room-indices .0 }, tt)))) $
+        pass1 ! (init ! 30 refl (tt, (tt, (record { fits = room-offsets .0 }, tt)))) $
+        pass1 ! (init ! 28 refl (tt, (tt, (record { fits = room-forces .0 }, tt)))) $
+        pass1 ! (init ! 26 refl (tt, (tt, (record { fits = room-cells .0 }, tt)))) $
+        pass1 ! (init ! 24 refl (tt, (tt, (record { fits = room-order .0 }, tt)))) $
+        pass1 ! (init ! 22 refl (tt, (tt, (record { fits = room-gaps .0 }, tt)))) $ pass0 ! $
+        move ! (47 ∷ []) $ fsplit ! $ move ! (1 ∷ []) $ fsplit ! $ move ! (1 ∷ []) $ fsplit ! $ move ! (1 ∷ []) $ fsplit ! $ move ! (1 ∷ []) $ fsplit ! $
+        move ! (1 ∷ []) $ fsplit ! $ move ! (1 ∷ []) $ fsplit ! $ move ! (1 ∷ []) $ fsplit ! $ move ! (1 ∷ []) $ fsplit ! $ move ! (1 ∷ []) $ fsplit ! $
+        move ! (1 ∷ []) $ fsplit ! $ move ! (1 ∷ []) $ drop ! $ move ! (57 ∷ []) $ split ! $ move ! (1 ∷ []) $ split ! $ move ! (1 ∷ []) $ split ! $
+        move ! (1 ∷ []) $ split ! $ move ! (1 ∷ []) $ split ! $ move ! (1 ∷ []) $ split ! $ move ! (1 ∷ []) $ split ! $ move ! (1 ∷ []) $ split ! $
+        move ! (1 ∷ []) $ split ! $ move ! (1 ∷ []) $ split ! $ move ! (1 ∷ []) $ split ! $ move ! (1 ∷ []) $ drop ! $
+        move ! (21 ∷ 10 ∷ 20 ∷ 9 ∷ 19 ∷ 8 ∷ 18 ∷ 7 ∷ 17 ∷ 6 ∷ 16 ∷ 5 ∷ 15 ∷ 4 ∷ 14 ∷ 3 ∷ 13 ∷ 2 ∷ 12 ∷ 1 ∷ 11 ∷ 0 ∷ []) $
         assigns ! (of-opd ! (load ! (from ! (fld ! refl (stop !))) (look-in ! 62 (sub ! 1 refl (whole !))))) (from ! (stop !)) (init ! 38 refl (tt, record { fits = room-positions .0 })) $
         assigns ! (of-opd ! (load ! (from ! (fld ! refl (stop !))) (look-in ! 60 (sub ! 1 refl (whole !))))) (from ! (stop !)) (init ! 36 refl (tt, record { fits = room-increments .0 })) $
         assigns ! (of-opd ! (load ! (from ! (fld ! refl (stop !))) (look-in ! 58 (sub ! 1 refl (whole !))))) (from ! (stop !)) (init ! 34 refl (tt, record { fits = room-gains .0 })) $
         assigns ! (of-opd ! (load ! (from ! (fld ! refl (stop !))) (look-in ! 56 (sub ! 1 refl (whole !))))) (from ! (stop !)) (init ! 32 refl (tt, record { fits = room-affinities .0 })) $
         assigns ! (of-opd ! (load ! (from ! (fld ! refl (stop !))) (look-in ! 50 (sub ! 1 refl (whole !))))) (from ! (stop !)) (init ! 30 refl (tt, record { fits = room-forces .0 })) $
         move ! (0 ∷ 1 ∷ 10 ∷ 11 ∷ 12 ∷ 13 ∷ 16 ∷ 17 ∷ []) $
-        calls-words-fault-cccc ! fm mem run-of known-words-fault s-words words (s-positions .count) (s-increments .count) (s-gains .count) (s-affinities .count) (s-forces .count) s-indices indices s-offsets offsets s-cells cells (room-positions .0) (room-increments .0) (room-gains .0) (room-affinities .0) (room-forces .0) (λ _ _ _ _ _. and-then ! (load ! (from ! (stop !)) (look ! 61 refl)) (and-then ! (load ! (from ! (stop !)) (look ! 35 refl)) (and-then ! (load ! (from ! (stop !)) (look ! 33 refl)) (and-then ! (load ! (from ! (stop !)) (look ! 31 refl)) (and-then ! (load ! (from ! (stop !)) (look ! 29 refl)) (and-then ! (load ! (from ! (stop !)) (look ! 27 refl)) (and-then ! (load ! (from ! (stop !)) (look ! 51 refl)) (and-then ! (load ! (from ! (stop !)) (look ! 49 refl)) (and-then ! (load ! (from ! (stop !)) (look ! 45 refl)) (no-more !)))))))))) (λ r1 e1 is1.
+        calls-words-fault-cccc ! fm mem run-of known-words-fault s-words words (s-positions .count) (s-increments .count) (s-gains .count) (s-affinities .count)
+        (s-forces .count) s-indices indices s-offsets offsets s-cells cells (room-positions .0) (room-increments .0) (room-gains .0) (room-affinities .0)
+        (room-forces .0) (λ _ _ _ _ _. and-then ! (load ! (from ! (stop !)) (look ! 61 refl))
+        (and-then ! (load ! (from ! (stop !)) (look ! 35 refl))
+        (and-then ! (load ! (from ! (stop !)) (look ! 33 refl))
+        (and-then ! (load ! (from ! (stop !)) (look ! 31 refl))
+        (and-then ! (load ! (from ! (stop !)) (look ! 29 refl))
+        (and-then ! (load ! (from ! (stop !)) (look ! 27 refl))
+        (and-then ! (load ! (from ! (stop !)) (look ! 51 refl))
+        (and-then ! (load ! (from ! (stop !)) (look ! 49 refl)) (and-then ! (load ! (from ! (stop !)) (look ! 45 refl)) (no-more !)))))))))) (λ r1 e1 is1.
         land ! (from ! (stop !)) (init ! 42 refl (typed-Fault r1 is1)) $
         assigns ! (addr ! (from ! (fld ! refl (hop ! (look-in ! 46 (sub ! 0 refl (whole !))) (stop !))))) (from ! (stop !)) (init ! 28 refl (tt, tt)) $
-        assigns ! (agg ! (and-then ! (load ! (from ! (stop !)) (look ! 28 refl)) (and-then ! (load ! (from ! (fld ! refl (stop !))) (look-in ! 46 (sub ! 1 refl (whole !)))) (no-more !)))) (from ! (stop !)) (init ! 26 refl (tt, (tt, (record { fits = room-order .0 }, tt)))) $
+        assigns ! (agg ! (and-then ! (load ! (from ! (stop !)) (look ! 28 refl))
+        (and-then ! (load ! (from ! (fld ! refl (stop !))) (look-in ! 46 (sub ! 1 refl (whole !)))) (no-more !)))) (from ! (stop !))
+        (init ! 26 refl (tt, (tt, (record { fits = room-order .0 }, tt)))) $
         assigns ! (addr ! (from ! (fld ! refl (hop ! (look-in ! 44 (sub ! 0 refl (whole !))) (stop !))))) (from ! (stop !)) (init ! 24 refl (tt, tt)) $
-        assigns ! (agg ! (and-then ! (load ! (from ! (stop !)) (look ! 24 refl)) (and-then ! (load ! (from ! (fld ! refl (stop !))) (look-in ! 44 (sub ! 1 refl (whole !)))) (no-more !)))) (from ! (stop !)) (init ! 22 refl (tt, (tt, (record { fits = room-gaps .0 }, tt)))) $
+        assigns ! (agg ! (and-then ! (load ! (from ! (stop !)) (look ! 24 refl))
+        (and-then ! (load ! (from ! (fld ! refl (stop !))) (look-in ! 44 (sub ! 1 refl (whole !)))) (no-more !)))) (from ! (stop !))
+        (init ! 22 refl (tt, (tt, (record { fits = room-gaps .0 }, tt)))) $
         move ! (0 ∷ 1 ∷ 8 ∷ 9 ∷ 18 ∷ 19 ∷ 20 ∷ 21 ∷ []) $
-        calls-hand-tested-ccmm ! fm mem run-of known-hand-tested r1 s-words words s-positions positions s-order order s-gaps gaps ln-order ln-gaps is1 (hand-asks words positions increments gains affinities indices offsets forces cells _ _ _ _ _ ln-positions ln-increments ln-gains ln-affinities ln-forces r1 e1) (λ _ _ _ _ _. and-then ! (load ! (from ! (stop !)) (look ! 39 refl)) (and-then ! (load ! (from ! (stop !)) (look ! 61 refl)) (and-then ! (load ! (from ! (stop !)) (look ! 59 refl)) (and-then ! (load ! (from ! (stop !)) (look ! 23 refl)) (and-then ! (load ! (from ! (stop !)) (look ! 19 refl)) (no-more !)))))) (λ r2 order2 gaps2 e2 is2 l-order2 l-gaps2.
+        calls-hand-tested-ccmm ! fm mem run-of known-hand-tested r1 s-words words s-positions positions s-order order s-gaps gaps ln-order ln-gaps is1
+        (hand-asks words positions increments gains affinities indices offsets forces cells _ _ _ _ _ ln-positions ln-increments ln-gains ln-affinities
+        ln-forces r1 e1) (λ _ _ _ _ _. and-then ! (load ! (from ! (stop !)) (look ! 39 refl))
+        (and-then ! (load ! (from ! (stop !)) (look ! 61 refl))
+        (and-then ! (load ! (from ! (stop !)) (look ! 59 refl))
+        (and-then ! (load ! (from ! (stop !)) (look ! 23 refl)) (and-then ! (load ! (from ! (stop !)) (look ! 19 refl)) (no-more !))))))
+        (λ r2 order2 gaps2 e2 is2 l-order2 l-gaps2.
         land ! (from ! (stop !)) (init ! 40 refl (typed-Handed r2 is2)) $
         assigns ! (of-opd ! (load ! (from ! (stop !)) (look ! 40 refl))) (from ! (stop !)) (init ! 66 refl (typed-Handed r2 is2)) $
-        returns ! (look ! 66 refl) $ forget ! 22 refl $ forget ! 24 refl $ forget ! 26 refl $ forget ! 28 refl $ forget ! 30 refl $ forget ! 32 refl $ forget ! 34 refl $ forget ! 36 refl $ forget ! 38 refl $ forget ! 40 refl $ forget ! 42 refl $ forget ! 44 refl $ forget ! 46 refl $ forget ! 48 refl $ forget ! 50 refl $ forget ! 52 refl $ forget ! 54 refl $ forget ! 56 refl $ forget ! 58 refl $ forget ! 60 refl $ forget ! 62 refl $ forget ! 64 refl $ forget ! 66 refl $
-        move ! (66 ∷ 67 ∷ []) $ free1 ! $ move ! (64 ∷ 65 ∷ []) $ free1 ! $ move ! (62 ∷ 63 ∷ []) $ free1 ! $ move ! (60 ∷ 61 ∷ []) $ free1 ! $ move ! (58 ∷ 59 ∷ []) $ free1 ! $ move ! (56 ∷ 57 ∷ []) $ free1 ! $ move ! (54 ∷ 55 ∷ []) $ free1 ! $ move ! (52 ∷ 53 ∷ []) $ free1 ! $ move ! (50 ∷ 51 ∷ []) $ free1 ! $ move ! (48 ∷ 49 ∷ []) $ free1 ! $ move ! (46 ∷ 47 ∷ []) $ free1 ! $ move ! (44 ∷ 45 ∷ []) $ free1 ! $ move ! (42 ∷ 43 ∷ []) $ free1 ! $ move ! (40 ∷ 41 ∷ []) $ free1 ! $ move ! (38 ∷ 39 ∷ []) $ free1 ! $ move ! (36 ∷ 37 ∷ []) $ free1 ! $ move ! (34 ∷ 35 ∷ []) $ free1 ! $ move ! (32 ∷ 33 ∷ []) $ free1 ! $ move ! (30 ∷ 31 ∷ []) $ free1 ! $ move ! (28 ∷ 29 ∷ []) $ free1 ! $ move ! (26 ∷ 27 ∷ []) $ free1 ! $ move ! (24 ∷ 25 ∷ []) $ free1 ! $ move ! (22 ∷ 23 ∷ []) $ free1 ! $ free0 ! $
-        keep ! (0 ∷ 1 ∷ 2 ∷ 3 ∷ 14 ∷ 15 ∷ 16 ∷ 17 ∷ 18 ∷ 19 ∷ 8 ∷ 9 ∷ 10 ∷ 11 ∷ 20 ∷ 21 ∷ 12 ∷ 13 ∷ 4 ∷ 5 ∷ 6 ∷ 7 ∷ []) $ by ! (exits r2 order2 gaps2 is2 l-order2 l-gaps2 (hand-said words positions increments gains affinities indices offsets forces cells _ _ _ _ _ ln-positions ln-increments ln-gains ln-affinities ln-forces r1 e1 r2 order order2 gaps gaps2 e2)))))))))))))))))))))))))))
+        returns ! (look ! 66 refl) $ forget ! 22 refl $ forget ! 24 refl $ forget ! 26 refl $ forget ! 28 refl $ forget ! 30 refl $ forget ! 32 refl $
+        forget ! 34 refl $ forget ! 36 refl $ forget ! 38 refl $ forget ! 40 refl $ forget ! 42 refl $ forget ! 44 refl $ forget ! 46 refl $
+        forget ! 48 refl $ forget ! 50 refl $ forget ! 52 refl $ forget ! 54 refl $ forget ! 56 refl $ forget ! 58 refl $ forget ! 60 refl $
+        forget ! 62 refl $ forget ! 64 refl $ forget ! 66 refl $
+        move ! (66 ∷ 67 ∷ []) $ free1 ! $ move ! (64 ∷ 65 ∷ []) $ free1 ! $ move ! (62 ∷ 63 ∷ []) $ free1 ! $ move ! (60 ∷ 61 ∷ []) $ free1 ! $
+        move ! (58 ∷ 59 ∷ []) $ free1 ! $ move ! (56 ∷ 57 ∷ []) $ free1 ! $ move ! (54 ∷ 55 ∷ []) $ free1 ! $ move ! (52 ∷ 53 ∷ []) $ free1 ! $
+        move ! (50 ∷ 51 ∷ []) $ free1 ! $ move ! (48 ∷ 49 ∷ []) $ free1 ! $ move ! (46 ∷ 47 ∷ []) $ free1 ! $ move ! (44 ∷ 45 ∷ []) $ free1 ! $
+        move ! (42 ∷ 43 ∷ []) $ free1 ! $ move ! (40 ∷ 41 ∷ []) $ free1 ! $ move ! (38 ∷ 39 ∷ []) $ free1 ! $ move ! (36 ∷ 37 ∷ []) $ free1 ! $
+        move ! (34 ∷ 35 ∷ []) $ free1 ! $ move ! (32 ∷ 33 ∷ []) $ free1 ! $ move ! (30 ∷ 31 ∷ []) $ free1 ! $ move ! (28 ∷ 29 ∷ []) $ free1 ! $
+        move ! (26 ∷ 27 ∷ []) $ free1 ! $ move ! (24 ∷ 25 ∷ []) $ free1 ! $ move ! (22 ∷ 23 ∷ []) $ free1 ! $ free0 ! $
+        keep ! (0 ∷ 1 ∷ 2 ∷ 3 ∷ 14 ∷ 15 ∷ 16 ∷ 17 ∷ 18 ∷ 19 ∷ 8 ∷ 9 ∷ 10 ∷ 11 ∷ 20 ∷ 21 ∷ 12 ∷ 13 ∷ 4 ∷ 5 ∷ 6 ∷ 7 ∷ []) $
+        by ! (exits r2 order2 gaps2 is2 l-order2 l-gaps2
+        (hand-said words positions increments gains affinities indices offsets forces cells _ _ _ _ _ ln-positions ln-increments ln-gains ln-affinities
+        ln-forces r1 e1 r2 order order2 gaps gaps2 e2)))))))))))))))))))))))))))
 
 module _ {M : Type 1} (𝓤 : URA M) (H : Heap 𝓤) (A : Atoms 𝓤) (W : Given 𝓤 H A) (mem : Memory → SProp 𝓤) (run-of : Routine → Fun 𝓤) where
-  hand-out-walks : (C : Calls 𝓤 H) (Λ : Loops 𝓤 H) → FmC 𝓤 H (W .laws) C → Triple 𝓤 (C #words-entry·words-fault) (Contract-words-fault 𝓤 H A mem run-of) → Triple 𝓤 (C #hand-out·hand-tested) (Contract-hand-tested 𝓤 H A mem run-of) → Walks 𝓤 H A f.ended stayed (WpFn 𝓤 H C Λ code.function) (f.clauses 𝓤 H A mem run-of)
+  hand-out-walks : (C : Calls 𝓤 H) (Λ : Loops 𝓤 H) → FmC 𝓤 H (W .laws) C → Triple 𝓤 (C #words-entry·words-fault) (Contract-words-fault 𝓤 H A mem run-of) →
+      Triple 𝓤 (C #hand-out·hand-tested) (Contract-hand-tested 𝓤 H A mem run-of) →
+      Walks 𝓤 H A f.ended stayed (WpFn 𝓤 H C Λ code.function) (f.clauses 𝓤 H A mem run-of)
   hand-out-walks C Λ fm known-words-fault known-hand-tested = walked 𝓤 H A f.ended stayed (f.clauses 𝓤 H A mem run-of) (WpFn 𝓤 H C Λ code.function)
-      (λ κs. (slice-vals, (slice-vals, (slice-vals, (slice-vals, (slice-vals, (slice-vals, (slice-vals, (slice-vals, (slice-vals, (slice-vals, (slice-vals, tt))))))))))))
-      (λ κs. (shr-slice-tells (named 0) (κs .0) u64, (shr-slice-tells (named 1) (κs .1 .0) f64, (shr-slice-tells (named 2) (κs .1 .1 .0) f64, (shr-slice-tells (named 3) (κs .1 .1 .1 .0) f64, (shr-slice-tells (named 4) (κs .1 .1 .1 .1 .0) f64, (shr-slice-tells (named 5) (κs .1 .1 .1 .1 .1 .0) u32, (shr-slice-tells (named 6) (κs .1 .1 .1 .1 .1 .1 .0) u32, (shr-slice-tells (named 7) (κs .1 .1 .1 .1 .1 .1 .1 .0) f64, (shr-slice-tells (named 8) (κs .1 .1 .1 .1 .1 .1 .1 .1 .0) Cell′.the-row, (mut-slice-tells (named 9) (κs .1 .1 .1 .1 .1 .1 .1 .1 .1 .0) u32, (mut-slice-tells (named 10) (κs .1 .1 .1 .1 .1 .1 .1 .1 .1 .1 .0) u64, tt))))))))))))
+      (λ κs. (slice-vals ∥ slice-vals ∥ slice-vals ∥ slice-vals ∥ slice-vals ∥ slice-vals ∥ slice-vals ∥ slice-vals ∥ slice-vals ∥ slice-vals ∥ slice-vals ∥ tt))
+      (λ κs. (shr-slice-tells (named 0) (κs .0) u64 ∥ shr-slice-tells (named 1) (κs .1 .0) f64 ∥ shr-slice-tells (named 2) (κs .1 .1 .0) f64 ∥
+      shr-slice-tells (named 3) (κs .1 .1 .1 .0) f64 ∥ shr-slice-tells (named 4) (κs .1 .1 .1 .1 .0) f64 ∥
+      shr-slice-tells (named 5) (κs .1 .1 .1 .1 .1 .0) u32 ∥ shr-slice-tells (named 6) (κs .1 .1 .1 .1 .1 .1 .0) u32 ∥
+      shr-slice-tells (named 7) (κs .1 .1 .1 .1 .1 .1 .1 .0) f64 ∥ shr-slice-tells (named 8) (κs .1 .1 .1 .1 .1 .1 .1 .1 .0) Cell′.the-row ∥
+      mut-slice-tells (named 9) (κs .1 .1 .1 .1 .1 .1 .1 .1 .1 .0) u32 ∥ mut-slice-tells (named 10) (κs .1 .1 .1 .1 .1 .1 .1 .1 .1 .1 .0) u64 ∥ tt))
       (λ κs qs bounds a _ are. via 𝓤 _ (fst∗ 𝓤 _ (emp 𝓤))
       (walk 𝓤 H A W mem run-of
       (record { life = κs .0; share = qs .0; block = a .0 .ptr .0; off = a .0 .ptr .1; tag = a .0 .name; count = length (a .0 .now) }) (a .0 .now)
@@ -142,21 +242,81 @@ module _ {M : Type 1} (𝓤 : URA M) (H : Heap 𝓤) (A : Atoms 𝓤) (W : Given
       refl (are .1 .0 .0 .1)
       (record { life = κs .1 .1 .0; share = qs .1 .1 .0; block = a .1 .1 .0 .ptr .0; off = a .1 .1 .0 .ptr .1; tag = a .1 .1 .0 .name; count = length (a .1 .1 .0 .now) }) (a .1 .1 .0 .now)
       refl (are .1 .1 .0 .0 .1)
-      (record { life = κs .1 .1 .1 .0; share = qs .1 .1 .1 .0; block = a .1 .1 .1 .0 .ptr .0; off = a .1 .1 .1 .0 .ptr .1; tag = a .1 .1 .1 .0 .name; count = length (a .1 .1 .1 .0 .now) }) (a .1 .1 .1 .0 .now)
+      (record {
+        life = κs .1 .1 .1 .0;
+        share = qs .1 .1 .1 .0;
+        block = a .1 .1 .1 .0 .ptr .0;
+        off = a .1 .1 .1 .0 .ptr .1;
+        tag = a .1 .1 .1 .0 .name;
+        count = length (a .1 .1 .1 .0 .now);
+      }) (a .1 .1 .1 .0 .now)
       refl (are .1 .1 .1 .0 .0 .1)
-      (record { life = κs .1 .1 .1 .1 .0; share = qs .1 .1 .1 .1 .0; block = a .1 .1 .1 .1 .0 .ptr .0; off = a .1 .1 .1 .1 .0 .ptr .1; tag = a .1 .1 .1 .1 .0 .name; count = length (a .1 .1 .1 .1 .0 .now) }) (a .1 .1 .1 .1 .0 .now)
+      (record {
+        life = κs .1 .1 .1 .1 .0;
+        share = qs .1 .1 .1 .1 .0;
+        block = a .1 .1 .1 .1 .0 .ptr .0;
+        off = a .1 .1 .1 .1 .0 .ptr .1;
+        tag = a .1 .1 .1 .1 .0 .name;
+        count = length (a .1 .1 .1 .1 .0 .now);
+      }) (a .1 .1 .1 .1 .0 .now)
       refl (are .1 .1 .1 .1 .0 .0 .1)
-      (record { life = κs .1 .1 .1 .1 .1 .0; share = qs .1 .1 .1 .1 .1 .0; block = a .1 .1 .1 .1 .1 .0 .ptr .0; off = a .1 .1 .1 .1 .1 .0 .ptr .1; tag = a .1 .1 .1 .1 .1 .0 .name; count = length (a .1 .1 .1 .1 .1 .0 .now) }) (a .1 .1 .1 .1 .1 .0 .now)
+      (record {
+        life = κs .1 .1 .1 .1 .1 .0;
+        share = qs .1 .1 .1 .1 .1 .0;
+        block = a .1 .1 .1 .1 .1 .0 .ptr .0;
+        off = a .1 .1 .1 .1 .1 .0 .ptr .1;
+        tag = a .1 .1 .1 .1 .1 .0 .name;
+        count = length (a .1 .1 .1 .1 .1 .0 .now);
+      }) (a .1 .1 .1 .1 .1 .0 .now)
       refl (are .1 .1 .1 .1 .1 .0 .0 .1)
-      (record { life = κs .1 .1 .1 .1 .1 .1 .0; share = qs .1 .1 .1 .1 .1 .1 .0; block = a .1 .1 .1 .1 .1 .1 .0 .ptr .0; off = a .1 .1 .1 .1 .1 .1 .0 .ptr .1; tag = a .1 .1 .1 .1 .1 .1 .0 .name; count = length (a .1 .1 .1 .1 .1 .1 .0 .now) }) (a .1 .1 .1 .1 .1 .1 .0 .now)
+      (record {
+        life = κs .1 .1 .1 .1 .1 .1 .0;
+        share = qs .1 .1 .1 .1 .1 .1 .0;
+        block = a .1 .1 .1 .1 .1 .1 .0 .ptr .0;
+        off = a .1 .1 .1 .1 .1 .1 .0 .ptr .1;
+        tag = a .1 .1 .1 .1 .1 .1 .0 .name;
+        count = length (a .1 .1 .1 .1 .1 .1 .0 .now);
+      }) (a .1 .1 .1 .1 .1 .1 .0 .now)
       refl (are .1 .1 .1 .1 .1 .1 .0 .0 .1)
-      (record { life = κs .1 .1 .1 .1 .1 .1 .1 .0; share = qs .1 .1 .1 .1 .1 .1 .1 .0; block = a .1 .1 .1 .1 .1 .1 .1 .0 .ptr .0; off = a .1 .1 .1 .1 .1 .1 .1 .0 .ptr .1; tag = a .1 .1 .1 .1 .1 .1 .1 .0 .name; count = length (a .1 .1 .1 .1 .1 .1 .1 .0 .now) }) (a .1 .1 .1 .1 .1 .1 .1 .0 .now)
+      (record {
+        life = κs .1 .1 .1 .1 .1 .1 .1 .0;
+        share = qs .1 .1 .1 .1 .1 .1 .1 .0;
+        block = a .1 .1 .1 .1 .1 .1 .1 .0 .ptr .0;
+        off = a .1 .1 .1 .1 .1 .1 .1 .0 .ptr .1;
+        tag = a .1 .1 .1 .1 .1 .1 .1 .0 .name;
+        count = length (a .1 .1 .1 .1 .1 .1 .1 .0 .now);
+      })
+      (a .1 .1 .1 .1 .1 .1 .1 .0 .now)
       refl (are .1 .1 .1 .1 .1 .1 .1 .0 .0 .1)
-      (record { life = κs .1 .1 .1 .1 .1 .1 .1 .1 .0; share = qs .1 .1 .1 .1 .1 .1 .1 .1 .0; block = a .1 .1 .1 .1 .1 .1 .1 .1 .0 .ptr .0; off = a .1 .1 .1 .1 .1 .1 .1 .1 .0 .ptr .1; tag = a .1 .1 .1 .1 .1 .1 .1 .1 .0 .name; count = length (a .1 .1 .1 .1 .1 .1 .1 .1 .0 .now) }) (a .1 .1 .1 .1 .1 .1 .1 .1 .0 .now)
+      (record {
+        life = κs .1 .1 .1 .1 .1 .1 .1 .1 .0;
+        share = qs .1 .1 .1 .1 .1 .1 .1 .1 .0;
+        block = a .1 .1 .1 .1 .1 .1 .1 .1 .0 .ptr .0;
+        off = a .1 .1 .1 .1 .1 .1 .1 .1 .0 .ptr .1;
+        tag = a .1 .1 .1 .1 .1 .1 .1 .1 .0 .name;
+        count = length (a .1 .1 .1 .1 .1 .1 .1 .1 .0 .now);
+      })
+      (a .1 .1 .1 .1 .1 .1 .1 .1 .0 .now)
       refl (are .1 .1 .1 .1 .1 .1 .1 .1 .0 .0 .1)
-      (record { life = κs .1 .1 .1 .1 .1 .1 .1 .1 .1 .0; share = qs .1 .1 .1 .1 .1 .1 .1 .1 .1 .0; block = a .1 .1 .1 .1 .1 .1 .1 .1 .1 .0 .ptr .0; off = a .1 .1 .1 .1 .1 .1 .1 .1 .1 .0 .ptr .1; tag = a .1 .1 .1 .1 .1 .1 .1 .1 .1 .0 .name; count = length (a .1 .1 .1 .1 .1 .1 .1 .1 .1 .0 .now) }) (a .1 .1 .1 .1 .1 .1 .1 .1 .1 .0 .now)
+      (record {
+        life = κs .1 .1 .1 .1 .1 .1 .1 .1 .1 .0;
+        share = qs .1 .1 .1 .1 .1 .1 .1 .1 .1 .0;
+        block = a .1 .1 .1 .1 .1 .1 .1 .1 .1 .0 .ptr .0;
+        off = a .1 .1 .1 .1 .1 .1 .1 .1 .1 .0 .ptr .1;
+        tag = a .1 .1 .1 .1 .1 .1 .1 .1 .1 .0 .name;
+        count = length (a .1 .1 .1 .1 .1 .1 .1 .1 .1 .0 .now);
+      })
+      (a .1 .1 .1 .1 .1 .1 .1 .1 .1 .0 .now)
       refl (are .1 .1 .1 .1 .1 .1 .1 .1 .1 .0 .0 .1)
-      (record { life = κs .1 .1 .1 .1 .1 .1 .1 .1 .1 .1 .0; share = qs .1 .1 .1 .1 .1 .1 .1 .1 .1 .1 .0; block = a .1 .1 .1 .1 .1 .1 .1 .1 .1 .1 .0 .ptr .0; off = a .1 .1 .1 .1 .1 .1 .1 .1 .1 .1 .0 .ptr .1; tag = a .1 .1 .1 .1 .1 .1 .1 .1 .1 .1 .0 .name; count = length (a .1 .1 .1 .1 .1 .1 .1 .1 .1 .1 .0 .now) }) (a .1 .1 .1 .1 .1 .1 .1 .1 .1 .1 .0 .now)
+      (record {
+        life = κs .1 .1 .1 .1 .1 .1 .1 .1 .1 .1 .0;
+        share = qs .1 .1 .1 .1 .1 .1 .1 .1 .1 .1 .0;
+        block = a .1 .1 .1 .1 .1 .1 .1 .1 .1 .1 .0 .ptr .0;
+        off = a .1 .1 .1 .1 .1 .1 .1 .1 .1 .1 .0 .ptr .1;
+        tag = a .1 .1 .1 .1 .1 .1 .1 .1 .1 .1 .0 .name;
+        count = length
+            (a .1 .1 .1 .1 .1 .1 .1 .1 .1 .1 .0 .now);
+      }) (a .1 .1 .1 .1 .1 .1 .1 .1 .1 .1 .0 .now)
       refl (are .1 .1 .1 .1 .1 .1 .1 .1 .1 .1 .0 .0 .1)
       C Λ fm known-words-fault known-hand-tested))
 
@@ -164,7 +324,12 @@ hand-out-meets : {M : Type 1} (𝓤 : URA M) (H : Heap 𝓤) (A : Atoms 𝓤) �
     → Triple 𝓤 (𝓣 .C #words-entry·words-fault) (Contract-words-fault 𝓤 H A mem run-of) → Triple 𝓤 (𝓣 .C #hand-out·hand-tested) (Contract-hand-tested 𝓤 H A mem run-of)
     → Meets 𝓤 H A f.signature (WpFn 𝓤 H (𝓣 .C) (𝓣 .Λ) code.function) (f.spec 𝓤 H A mem run-of)
 hand-out-meets 𝓤 H A W mem run-of 𝓣 known-words-fault known-hand-tested =
-    walk-meets 𝓤 H A f.ended stayed W (goes-none-slice 𝓤 H A W 11 (0 ∷ []) tt (plain (λ _. u64)) yes, (goes-none-slice 𝓤 H A W 11 (1 ∷ []) tt (plain (λ _. f64)) yes, (goes-none-slice 𝓤 H A W 11 (2 ∷ []) tt (plain (λ _. f64)) yes, (goes-none-slice 𝓤 H A W 11 (3 ∷ []) tt (plain (λ _. f64)) yes, (goes-none-slice 𝓤 H A W 11 (4 ∷ []) tt (plain (λ _. f64)) yes, (goes-none-slice 𝓤 H A W 11 (5 ∷ []) tt (plain (λ _. u32)) yes, (goes-none-slice 𝓤 H A W 11 (6 ∷ []) tt (plain (λ _. u32)) yes, (goes-none-slice 𝓤 H A W 11 (7 ∷ []) tt (plain (λ _. f64)) yes, (goes-none-slice 𝓤 H A W 11 (8 ∷ []) tt (plain (λ _. Cell′.the-row)) yes, (goes-slice 𝓤 H A W 11 9 tt (plain (λ _. u32)), (goes-slice 𝓤 H A W 11 10 tt (plain (λ _. u64)), tt))))))))))) (f.clauses 𝓤 H A mem run-of)
+    walk-meets 𝓤 H A f.ended stayed W (goes-none-slice 𝓤 H A W 11 (0 ∷ []) tt (plain (λ _. u64)) yes ∥
+    goes-none-slice 𝓤 H A W 11 (1 ∷ []) tt (plain (λ _. f64)) yes ∥ goes-none-slice 𝓤 H A W 11 (2 ∷ []) tt (plain (λ _. f64)) yes ∥
+    goes-none-slice 𝓤 H A W 11 (3 ∷ []) tt (plain (λ _. f64)) yes ∥ goes-none-slice 𝓤 H A W 11 (4 ∷ []) tt (plain (λ _. f64)) yes ∥
+    goes-none-slice 𝓤 H A W 11 (5 ∷ []) tt (plain (λ _. u32)) yes ∥ goes-none-slice 𝓤 H A W 11 (6 ∷ []) tt (plain (λ _. u32)) yes ∥
+    goes-none-slice 𝓤 H A W 11 (7 ∷ []) tt (plain (λ _. f64)) yes ∥ goes-none-slice 𝓤 H A W 11 (8 ∷ []) tt (plain (λ _. Cell′.the-row)) yes ∥
+    goes-slice 𝓤 H A W 11 9 tt (plain (λ _. u32)) ∥ goes-slice 𝓤 H A W 11 10 tt (plain (λ _. u64)) ∥ tt) (f.clauses 𝓤 H A mem run-of)
     (WpFn 𝓤 H (𝓣 .C) (𝓣 .Λ) code.function) (WpFn-mono 𝓤 H (W .laws) 𝓣 code.function) (hand-out-walks 𝓤 H A W mem run-of (𝓣 .C) (𝓣 .Λ) (fmOf 𝓤 H (W .laws) 𝓣) known-words-fault known-hand-tested)
 
 pub hand-out-spec : {M : Type 1} → stated.statement M

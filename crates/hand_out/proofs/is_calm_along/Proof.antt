@@ -1,7 +1,7 @@
--- `hand_out::is_calm_along` meets its contract: the loop keeps what has been done equal to its part of the whole; by `every-none`, `every-more`, `every-no`, `every-done`.
+-- `hand_out::is_calm_along` meets its contract: the loop keeps what has been done equal to its part of the whole; by `every-none`, `every-next`, `every-no`, `every-done`.
 use Rattle.hand_out.specs.HandOut.{calmAlong}
 use Rattle.elementary.specs.Limits.{calm}
-use Rattle.laws.proofs.Every.{every-none, every-more, every-no, every-done}
+use Rattle.laws.proofs.Every.{every-none, every-next, every-no, every-done}
 use Rattle.laws.specs.Area.{at}
 use Rattle.laws.specs.Loops.{every}
 use mathlib.Core.Path.{_≡_, sym, _∙_}
@@ -46,7 +46,7 @@ loop-less c = search needs
 loop-again : tie.Need-loop-again Inv-loop μ-loop
 loop-again c =
     let the-loop = c .before .before .before .before .loop in
-    (omega arith, every-more _ _ (the-loop .inv .1) (sym (c .before .is-calm .ensures) ∙ not-false _ (c .if1 .left)))
+    (omega arith, every-next _ _ (the-loop .inv .1) (sym (c .before .is-calm .ensures) ∙ not-false _ (c .if1 .left)))
 
 returns-2 : tie.Need-returns-2 Inv-loop μ-loop
 unfolding calmAlong

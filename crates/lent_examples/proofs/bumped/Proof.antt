@@ -1,5 +1,8 @@
 -- `lent_examples::bumped` meets its contract: a walk of its MIR. Printed (tests/walks_local).
+-- Locals: l0 the answer, l1 c, l2 more, l3 mark, from l4 on the code's own, as `rt mir` numbers them. On entry local li is thing 12 - 2·i of what is held; what
+-- is put in front of it moves it up.
 -- Assumes nothing.
+use Rattle.lent.proofs.Beside.{_∥_}
 use mathlib.Core.Path.{refl}
 use Prim.Native.Nat.{ℕ, _^_}
 use mathlib.Core.Bool.{true}
@@ -76,29 +79,37 @@ module _ {M : Type 1} (𝓤 : URA M) (H : Heap 𝓤) (A : Atoms 𝓤) (W : Given
   exits res is e =
       qed W [] ∵
       suffices ! _ (ends-at 𝓤 H A f.ended stayed (f.clauses 𝓤 H A mem run-of) W ((tt, tt, tt, x, at), tt) (val-Counter res) res (tt, (tt, (tt, tt))) (tt, (tt, (tt, tt)))) $ says ! e $
-      nothing ! $ frame ! $ nothing ! $ owned ! f64 (Is f64) (float-makes 𝓤 H A W binary64) mark _ (refl, g-mark) $ fjoin ! $ owned ! u32 (Is u32) (uint-makes 𝓤 H A W w32) more _ (refl, g-more) $ fjoin ! $ owned ! Counter′.the-row (Is Counter′.the-row) ((LL.makes Counter′.the-type Counter″.the-plain) 𝓤 H A) c _ g-c $ fjoin ! $ frame ! $ owned ! Counter′.the-row (Is Counter′.the-row) ((LL.makes Counter′.the-type Counter″.the-plain) 𝓤 H A) res _ is $ done !
+      nothing ! $ frame ! $ nothing ! $ owned ! f64 (Is f64) (float-makes 𝓤 H A W binary64) mark _ (refl, g-mark) $ fjoin ! $
+      owned ! u32 (Is u32) (uint-makes 𝓤 H A W w32) more _ (refl, g-more) $ fjoin ! $
+      owned ! Counter′.the-row (Is Counter′.the-row) ((LL.makes Counter′.the-type Counter″.the-plain) 𝓤 H A) c _ g-c $ fjoin ! $ frame ! $
+      owned ! Counter′.the-row (Is Counter′.the-row) ((LL.makes Counter′.the-type Counter″.the-plain) 𝓤 H A) res _ is $ done !
 
   module _ (C : Calls 𝓤 H) (Λ : Loops 𝓤 H) (fm : FmC 𝓤 H (W .laws) C) (known-bump : Triple 𝓤 (C #lent-examples·bump) (Contract-bump 𝓤 H A mem run-of)) where
     walk : CountFits c more → ent 𝓤 (onEntry 𝓤 H A f.signature tt tt x at) (WpFn 𝓤 H C Λ code.function (val-Counter c ∷ vint w32 more ∷ vfloat binary64 mark ∷ []) Post)
     walk ready =
         qed W (‵ ftrue ∷ ‵ (owns (Counter′.the-row ∷ u32 ∷ f64 ∷ []) x at) ∷ []) ∵ enter ! C Λ code.function (val-Counter c ∷ vint w32 more ∷ vfloat binary64 mark ∷ []) _ $
         alloc1 ! (λ l0. alloc1 ! (λ l1. alloc1 ! (λ l2. alloc1 ! (λ l3. alloc1 ! (λ l4. alloc1 ! (λ l5. alloc1 ! (λ l6. alloc0 ! $ params1 ! $
-        pass1 ! (init ! 10 refl (typed-Counter c g-c)) $ pass1 ! (init ! 8 refl (tt, record { fits = g-more })) $ pass1 ! (init ! 6 refl (float-lawful 𝓤 H A W binary64 .typed mark _ (refl, g-mark) .0)) $ pass0 ! $
+        pass1 ! (init ! 10 refl (typed-Counter c g-c)) $ pass1 ! (init ! 8 refl (tt, record { fits = g-more })) $
+        pass1 ! (init ! 6 refl (float-lawful 𝓤 H A W binary64 .typed mark _ (refl, g-mark) .0)) $ pass0 ! $
         move ! (15 ∷ []) $ fsplit ! $ drop ! $ fsplit ! $ drop ! $ fsplit ! $ drop ! $ drop ! $ move ! (14 ∷ []) $ drop ! $
         assigns ! (of-opd ! (load ! (from ! (stop !)) (look ! 10 refl))) (from ! (stop !)) (init ! 4 refl (typed-Counter c g-c)) $
         assigns ! (addr ! (from ! (stop !))) (from ! (stop !)) (init ! 0 refl (tt, tt)) $
         move ! (4 ∷ []) $
         lend-struct ! tt Counter′.the-row tt val-Counter ((LL.makes Counter′.the-type Counter″.the-plain) 𝓤 H A) l4 c g-c (λ ν-own4 δ-own4.
-        calls-bump-r ! fm mem run-of known-bump (local-at l4 1 ν-own4 δ-own4) c more mark g-more g-mark ready (λ _ _. and-then ! (load ! (from ! (stop !)) (look ! 3 refl)) (and-then ! (load ! (from ! (stop !)) (look ! 10 refl)) (and-then ! (load ! (from ! (stop !)) (look ! 8 refl)) (no-more !)))) (λ r1 own41 e1 is1.
+        calls-bump-r ! fm mem run-of known-bump (local-at l4 1 ν-own4 δ-own4) c more mark g-more g-mark ready
+        (λ _ _. and-then ! (load ! (from ! (stop !)) (look ! 3 refl))
+        (and-then ! (load ! (from ! (stop !)) (look ! 10 refl)) (and-then ! (load ! (from ! (stop !)) (look ! 8 refl)) (no-more !)))) (λ r1 own41 e1 is1.
         land ! (from ! (stop !)) (init ! 5 refl (tt, tt)) $
         back-struct ! tt Counter′.the-row tt val-Counter (LL.tells Counter′.the-type Counter″.the-laws) l4 ν-own4 δ-own4 own41 (λ is-own41.
         assigns ! (of-opd ! (load ! (from ! (stop !)) (look ! 0 refl))) (from ! (stop !)) (init ! 12 refl (typed-Counter own41 is-own41)) $
         returns ! (look ! 12 refl) $ forget ! 1 refl $ forget ! 3 refl $ forget ! 0 refl $ forget ! 6 refl $ forget ! 8 refl $ forget ! 10 refl $ forget ! 12 refl $
-        move ! (12 ∷ 13 ∷ []) $ free1 ! $ move ! (10 ∷ 11 ∷ []) $ free1 ! $ move ! (8 ∷ 9 ∷ []) $ free1 ! $ move ! (6 ∷ 7 ∷ []) $ free1 ! $ move ! (0 ∷ 5 ∷ []) $ free1 ! $ move ! (2 ∷ 3 ∷ []) $ free1 ! $ free1 ! $ free0 ! $
+        move ! (12 ∷ 13 ∷ []) $ free1 ! $ move ! (10 ∷ 11 ∷ []) $ free1 ! $ move ! (8 ∷ 9 ∷ []) $ free1 ! $ move ! (6 ∷ 7 ∷ []) $ free1 ! $
+        move ! (0 ∷ 5 ∷ []) $ free1 ! $ move ! (2 ∷ 3 ∷ []) $ free1 ! $ free1 ! $ free0 ! $
         keep ! ([]) $ by ! (exits own41 is-own41 e1)))))))))))
 
 module _ {M : Type 1} (𝓤 : URA M) (H : Heap 𝓤) (A : Atoms 𝓤) (W : Given 𝓤 H A) (mem : Memory → SProp 𝓤) (run-of : Routine → Fun 𝓤) where
-  bumped-walks : (C : Calls 𝓤 H) (Λ : Loops 𝓤 H) → FmC 𝓤 H (W .laws) C → Triple 𝓤 (C #lent-examples·bump) (Contract-bump 𝓤 H A mem run-of) → Walks 𝓤 H A f.ended stayed (WpFn 𝓤 H C Λ code.function) (f.clauses 𝓤 H A mem run-of)
+  bumped-walks : (C : Calls 𝓤 H) (Λ : Loops 𝓤 H) → FmC 𝓤 H (W .laws) C → Triple 𝓤 (C #lent-examples·bump) (Contract-bump 𝓤 H A mem run-of) →
+      Walks 𝓤 H A f.ended stayed (WpFn 𝓤 H C Λ code.function) (f.clauses 𝓤 H A mem run-of)
   bumped-walks C Λ fm known-bump = walked 𝓤 H A f.ended stayed (f.clauses 𝓤 H A mem run-of) (WpFn 𝓤 H C Λ code.function)
       (λ κs. (LL.vals Counter′.the-type Counter″.the-laws, (uint-vals w32, (float-vals binary64, tt))))
       (λ κs. (LL.tells Counter′.the-type Counter″.the-laws, (uint-tells w32, (float-tells binary64, tt))))
@@ -113,7 +124,8 @@ bumped-meets : {M : Type 1} (𝓤 : URA M) (H : Heap 𝓤) (A : Atoms 𝓤) → 
     → Triple 𝓤 (𝓣 .C #lent-examples·bump) (Contract-bump 𝓤 H A mem run-of)
     → Meets 𝓤 H A f.signature (WpFn 𝓤 H (𝓣 .C) (𝓣 .Λ) code.function) (f.spec 𝓤 H A mem run-of)
 bumped-meets 𝓤 H A W mem run-of 𝓣 known-bump =
-    walk-meets 𝓤 H A f.ended stayed W (goes-none 𝓤 H A W 0 (λ _. Counter′.the-row) yes (λ κs x f. refl), (goes-none 𝓤 H A W 0 (λ _. u32) yes (λ κs x f. refl), (goes-none 𝓤 H A W 0 (λ _. f64) yes (λ κs x f. refl), tt))) (f.clauses 𝓤 H A mem run-of)
+    walk-meets 𝓤 H A f.ended stayed W (goes-none 𝓤 H A W 0 (λ _. Counter′.the-row) yes (λ κs x f. refl) ∥ goes-none 𝓤 H A W 0 (λ _. u32) yes (λ κs x f. refl) ∥
+    goes-none 𝓤 H A W 0 (λ _. f64) yes (λ κs x f. refl) ∥ tt) (f.clauses 𝓤 H A mem run-of)
     (WpFn 𝓤 H (𝓣 .C) (𝓣 .Λ) code.function) (WpFn-mono 𝓤 H (W .laws) 𝓣 code.function) (bumped-walks 𝓤 H A W mem run-of (𝓣 .C) (𝓣 .Λ) (fmOf 𝓤 H (W .laws) 𝓣) known-bump)
 
 pub bumped-spec : {M : Type 1} → stated.statement M

@@ -1,4 +1,6 @@
 -- `lent_examples::get_from` meets its contract: a walk of its MIR. Printed (tests/walks_local).
+-- Locals: l0 the answer, l1 cells, l2 i, from l3 on the code's own, as `rt mir` numbers them. On entry local li is thing 12 - 2·i of what is held; what is put
+-- in front of it moves it up.
 -- Assumes nothing.
 use mathlib.Core.Path.{refl, sym, subst}
 use Prim.Native.Nat.{ℕ, _^_}
@@ -75,30 +77,38 @@ module _ {M : Type 1} (𝓤 : URA M) (H : Heap 𝓤) (A : Atoms 𝓤) (W : Given
   exits res is e =
       qed W [] ∵
       suffices ! _ (ends-at 𝓤 H A f.ended stayed (f.clauses 𝓤 H A mem run-of) W ((tt, tt, tt, x, at), tt) (val-Cell res) res (tt, (tt, tt)) (tt, (tt, tt))) $ says ! e $
-      nothing ! $ frame ! $ nothing ! $ owned ! usize (Is usize) (uint-makes 𝓤 H A W w64) i _ (refl, g-i) $ fjoin ! $ owned ! (Array Cell′.the-row 8) (Is (Array Cell′.the-row 8)) (array-makes 𝓤 H A W Cell′.the-row ((LL.makes Cell′.the-type Cell″.the-plain) 𝓤 H A) 8) cells _ g-cells $ fjoin ! $ frame ! $ owned ! Cell′.the-row (Is Cell′.the-row) ((LL.makes Cell′.the-type Cell″.the-plain) 𝓤 H A) res _ is $ done !
+      nothing ! $ frame ! $ nothing ! $ owned ! usize (Is usize) (uint-makes 𝓤 H A W w64) i _ (refl, g-i) $ fjoin ! $
+      owned ! (Array Cell′.the-row 8) (Is (Array Cell′.the-row 8))
+      (array-makes 𝓤 H A W Cell′.the-row ((LL.makes Cell′.the-type Cell″.the-plain) 𝓤 H A) 8) cells _ g-cells $ fjoin ! $ frame ! $
+      owned ! Cell′.the-row (Is Cell′.the-row) ((LL.makes Cell′.the-type Cell″.the-plain) 𝓤 H A) res _ is $ done !
 
   module _ (C : Calls 𝓤 H) (Λ : Loops 𝓤 H) (fm : FmC 𝓤 H (W .laws) C) (known-cell-at : Triple 𝓤 (C #tree-node·arena·cell-at) (Contract-cell-at 𝓤 H A mem run-of)) where
     walk : i < 8 → ent 𝓤 (onEntry 𝓤 H A f.signature tt tt x at) (WpFn 𝓤 H C Λ code.function (array-val (LL.vals Cell′.the-type Cell″.the-laws) cells ∷ vint w64 i ∷ []) Post)
     walk ready =
         qed W (‵ ftrue ∷ ‵ (owns ((Array Cell′.the-row 8) ∷ usize ∷ []) x at) ∷ []) ∵ enter ! C Λ code.function (array-val (LL.vals Cell′.the-type Cell″.the-laws) cells ∷ vint w64 i ∷ []) _ $
         alloc1 ! (λ l0. alloc1 ! (λ l1. alloc1 ! (λ l2. alloc1 ! (λ l3. alloc1 ! (λ l4. alloc1 ! (λ l5. alloc1 ! (λ l6. alloc0 ! $ params1 ! $
-        pass1 ! (init ! 10 refl (array-lawful 𝓤 H A W Cell′.the-row (LL.lawful Cell′.the-type Cell″.the-laws 𝓤 H A W) 8 .typed cells _ g-cells .0)) $ pass1 ! (init ! 8 refl (tt, record { fits = g-i })) $ pass0 ! $
+        pass1 ! (init ! 10 refl (array-lawful 𝓤 H A W Cell′.the-row (LL.lawful Cell′.the-type Cell″.the-laws 𝓤 H A W) 8 .typed cells _ g-cells .0)) $
+        pass1 ! (init ! 8 refl (tt, record { fits = g-i })) $ pass0 ! $
         move ! (15 ∷ []) $ fsplit ! $ drop ! $ fsplit ! $ drop ! $ drop ! $ move ! (14 ∷ []) $ drop ! $
-        assigns ! (of-opd ! (load ! (from ! (stop !)) (look ! 10 refl))) (from ! (stop !)) (init ! 6 refl (array-lawful 𝓤 H A W Cell′.the-row (LL.lawful Cell′.the-type Cell″.the-laws 𝓤 H A W) 8 .typed cells _ g-cells .0)) $
+        assigns ! (of-opd ! (load ! (from ! (stop !)) (look ! 10 refl))) (from ! (stop !))
+        (init ! 6 refl (array-lawful 𝓤 H A W Cell′.the-row (LL.lawful Cell′.the-type Cell″.the-laws 𝓤 H A W) 8 .typed cells _ g-cells .0)) $
         assigns ! (addr ! (from ! (stop !))) (from ! (stop !)) (init ! 2 refl (tt, tt)) $
         assigns ! (agg ! (and-then ! (load ! (from ! (stop !)) (look ! 2 refl)) (and-then ! (lit ! tt) (no-more !)))) (from ! (stop !)) (init ! 0 refl (tt, (tt, (record { fits = lit< tt }, tt)))) $
         move ! (6 ∷ []) $
         lend-whole-shr ! tt Cell′.the-row tt (LL.vals Cell′.the-type Cell″.the-laws) ((LL.makes Cell′.the-type Cell″.the-plain) 𝓤 H A) 8 l3 cells g-cells (lit< tt, lit< tt) (λ ν-own3 δ-own3.
-        calls-cell-at-c ! fm mem run-of known-cell-at (local-at l3 8 ν-own3 δ-own3) cells i g-i (subst (λ (m : ℕ). i < m) (sym (g-cells .1 .0 .1)) ready) (λ _ _. and-then ! (load ! (from ! (stop !)) (look ! 3 refl)) (and-then ! (load ! (from ! (stop !)) (look ! 10 refl)) (no-more !))) (λ r1 e1 is1.
+        calls-cell-at-c ! fm mem run-of known-cell-at (local-at l3 8 ν-own3 δ-own3) cells i g-i (subst (λ (m : ℕ). i < m) (sym (g-cells .1 .0 .1)) ready)
+        (λ _ _. and-then ! (load ! (from ! (stop !)) (look ! 3 refl)) (and-then ! (load ! (from ! (stop !)) (look ! 10 refl)) (no-more !))) (λ r1 e1 is1.
         land ! (from ! (stop !)) (init ! 7 refl (typed-Cell r1 is1)) $
         back-whole-shr ! tt Cell′.the-row (LL.vals Cell′.the-type Cell″.the-laws) (LL.tells Cell′.the-type Cell″.the-laws) 8 l3 ν-own3 δ-own3 cells (g-cells .1 .0 .1) $
         assigns ! (of-opd ! (load ! (from ! (stop !)) (look ! 5 refl))) (from ! (stop !)) (init ! 12 refl (typed-Cell r1 is1)) $
         returns ! (look ! 12 refl) $ forget ! 1 refl $ forget ! 3 refl $ forget ! 5 refl $ forget ! 0 refl $ forget ! 8 refl $ forget ! 10 refl $ forget ! 12 refl $
-        move ! (12 ∷ 13 ∷ []) $ free1 ! $ move ! (10 ∷ 11 ∷ []) $ free1 ! $ move ! (8 ∷ 9 ∷ []) $ free1 ! $ move ! (0 ∷ 7 ∷ []) $ free1 ! $ move ! (4 ∷ 5 ∷ []) $ free1 ! $ move ! (2 ∷ 3 ∷ []) $ free1 ! $ free1 ! $ free0 ! $
+        move ! (12 ∷ 13 ∷ []) $ free1 ! $ move ! (10 ∷ 11 ∷ []) $ free1 ! $ move ! (8 ∷ 9 ∷ []) $ free1 ! $ move ! (0 ∷ 7 ∷ []) $ free1 ! $
+        move ! (4 ∷ 5 ∷ []) $ free1 ! $ move ! (2 ∷ 3 ∷ []) $ free1 ! $ free1 ! $ free0 ! $
         keep ! ([]) $ by ! (exits r1 is1 e1))))))))))
 
 module _ {M : Type 1} (𝓤 : URA M) (H : Heap 𝓤) (A : Atoms 𝓤) (W : Given 𝓤 H A) (mem : Memory → SProp 𝓤) (run-of : Routine → Fun 𝓤) where
-  get-from-walks : (C : Calls 𝓤 H) (Λ : Loops 𝓤 H) → FmC 𝓤 H (W .laws) C → Triple 𝓤 (C #tree-node·arena·cell-at) (Contract-cell-at 𝓤 H A mem run-of) → Walks 𝓤 H A f.ended stayed (WpFn 𝓤 H C Λ code.function) (f.clauses 𝓤 H A mem run-of)
+  get-from-walks : (C : Calls 𝓤 H) (Λ : Loops 𝓤 H) → FmC 𝓤 H (W .laws) C → Triple 𝓤 (C #tree-node·arena·cell-at) (Contract-cell-at 𝓤 H A mem run-of) →
+      Walks 𝓤 H A f.ended stayed (WpFn 𝓤 H C Λ code.function) (f.clauses 𝓤 H A mem run-of)
   get-from-walks C Λ fm known-cell-at = walked 𝓤 H A f.ended stayed (f.clauses 𝓤 H A mem run-of) (WpFn 𝓤 H C Λ code.function)
       (λ κs. (array-vals (LL.vals Cell′.the-type Cell″.the-laws), (uint-vals w64, tt)))
       (λ κs. (array-tells Cell′.the-row (LL.vals Cell′.the-type Cell″.the-laws) (LL.tells Cell′.the-type Cell″.the-laws) 8, (uint-tells w64, tt)))
@@ -112,7 +122,10 @@ get-from-meets : {M : Type 1} (𝓤 : URA M) (H : Heap 𝓤) (A : Atoms 𝓤) �
     → Triple 𝓤 (𝓣 .C #tree-node·arena·cell-at) (Contract-cell-at 𝓤 H A mem run-of)
     → Meets 𝓤 H A f.signature (WpFn 𝓤 H (𝓣 .C) (𝓣 .Λ) code.function) (f.spec 𝓤 H A mem run-of)
 get-from-meets 𝓤 H A W mem run-of 𝓣 known-cell-at =
-    walk-meets 𝓤 H A f.ended stayed W (goes-none 𝓤 H A W 0 (λ _. (Array Cell′.the-row 8)) yes (λ κs x f. refl), (goes-none 𝓤 H A W 0 (λ _. usize) yes (λ κs x f. refl), tt)) (f.clauses 𝓤 H A mem run-of)
+    walk-meets 𝓤 H A f.ended stayed W (
+      goes-none 𝓤 H A W 0 (λ _. (Array Cell′.the-row 8)) yes (λ κs x f. refl),
+      (goes-none 𝓤 H A W 0 (λ _. usize) yes (λ κs x f. refl), tt),
+    ) (f.clauses 𝓤 H A mem run-of)
     (WpFn 𝓤 H (𝓣 .C) (𝓣 .Λ) code.function) (WpFn-mono 𝓤 H (W .laws) 𝓣 code.function) (get-from-walks 𝓤 H A W mem run-of (𝓣 .C) (𝓣 .Λ) (fmOf 𝓤 H (W .laws) 𝓣) known-cell-at)
 
 pub get-from-spec : {M : Type 1} → stated.statement M

@@ -1,3 +1,4 @@
+-- `little::half_word` meets its contract: from what its calls promise.
 use mathlib.Core.Path.{sym}
 use Rattle.little.proofs.Bytes.{four}
 use borrow.Author.Needs.{needs}
@@ -57,7 +58,11 @@ add-result-3 : tie.Need-add-result-3
 add-result-3 c = search needs
 
 returns : tie.Need-returns
-returns c = (rw (c .wide4 .ensures .0, c .before .before .wide3 .ensures .0, c .before .before .before .before .wide2 .ensures .0, c .before .before .before .before .before .before .wide .ensures .0) (sym (four _ _)), omega arith)
+returns c =
+    let the-wide3 = c .before .before .wide3 in
+    let the-wide2 = c .before .before .before .before .wide2 in
+    let the-wide = c .before .before .before .before .before .before .wide in
+    (rw (c .wide4 .ensures .0, the-wide3 .ensures .0, the-wide2 .ensures .0, the-wide .ensures .0) (sym (four _ _)), omega arith)
 
 pub half-word-spec : {M : Type 1} → statement M
 half-word-spec =

@@ -1,6 +1,7 @@
-use Rattle.little.proofs.Bytes.{length-bytes, Remains, remains-start, remains-byte, remains-more}
+-- `little::put_bytes` meets its contract: the loop keeps `Spells` and `Remains`; by `length-bytes`, `remains-start`, `remains-byte`, `remains-next`, `spells-start`, `spells-next` and others.
+use Rattle.little.proofs.Bytes.{length-bytes, Remains, remains-start, remains-byte, remains-next}
 use Rattle.little.specs.Little.{littleBytes}
-use Rattle.laws.proofs.Parts.{Spells, spells-start, spells-more, spells-done}
+use Rattle.laws.proofs.Parts.{Spells, spells-start, spells-next, spells-done}
 use Prim.Native.Nat.{_-_}
 use borrow.Author.Needs.{needs}
 use native.Mathlib.Omega.{arith}
@@ -32,17 +33,22 @@ loop-less : tie.Need-loop-less Inv-loop μ-loop
 loop-less c = search needs
 
 loop-again : tie.Need-loop-again Inv-loop μ-loop
-loop-again c = (
-  rw (remains-byte (c .loop-test .taken) (c .before .loop .inv .1))
-      (spells-more 0 (omega (arith, length-bytes (c .before .before .args .k) (c .before .before .args .v), c .before .before .pre)) (omega (arith, length-bytes (c .before .before .args .k) (c .before .before .args .v), c .loop-test .taken)) (c .before .loop .inv .0)),
-  remains-more (c .loop-test .taken) (c .before .loop .inv .1),
-)
+loop-again c =
+    let the-start = c .before .before in (
+      rw (remains-byte (c .loop-test .taken) (c .before .loop .inv .1))
+          (spells-next 0 (omega (arith, length-bytes (the-start .args .k) (the-start .args .v), the-start .pre))
+          (omega (arith, length-bytes (the-start .args .k) (the-start .args .v), c .loop-test .taken)) (c .before .loop .inv .0)),
+      remains-next (c .loop-test .taken)
+          (c .before .loop .inv .1),
+    )
 
 same-length : tie.Need-same-length Inv-loop μ-loop
 same-length c = c .before .loop .inv .0 .size
 
 returns : tie.Need-returns Inv-loop μ-loop
-returns c = spells-done (omega (arith, length-bytes (c .before .before .args .k) (c .before .before .args .v), c .loop-test .left)) (c .before .loop .inv .0)
+returns c =
+    let the-start = c .before .before in
+    spells-done (omega (arith, length-bytes (the-start .args .k) (the-start .args .v), c .loop-test .left)) (c .before .loop .inv .0)
 
 pub put-bytes-spec : {M : Type 1} → statement M
 put-bytes-spec =

@@ -1,3 +1,4 @@
+-- `little::value` meets its contract: from what its calls promise.
 use Rattle.little.specs.Little.{valueAt}
 use borrow.Author.Needs.{needs}
 use Rattle.little.proofs.value.Statement.{statement}

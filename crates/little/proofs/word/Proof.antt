@@ -1,3 +1,4 @@
+-- `little::word` meets its contract: from what its calls promise.
 use Rattle.little.proofs.Bytes.{eight}
 use borrow.Author.Needs.{needs}
 use Rattle.little.proofs.word.Statement.{statement}

@@ -18,14 +18,22 @@ side-fine-requires c κs = search needs
 
 returns-2 : tie.Need-returns-2
 unfolding frameFine
-returns-2 c = rw (sym (c .before .before .before .picture-fine .ensures) ∙ not-false _ (c .before .before .if1 .left), sym (c .before .side-fine .ensures) ∙ not-true _ (c .if2 .taken))
+returns-2 c =
+    let the-if1 = c .before .before .if1 in
+    let the-picture-fine = c .before .before .before .picture-fine in
+    rw (sym (the-picture-fine .ensures) ∙ not-false _ (the-if1 .left), sym (c .before .side-fine .ensures) ∙ not-true _ (c .if2 .taken))
 
 field-fine-requires : tie.Need-field-fine-requires
 field-fine-requires c κs = search needs
 
 returns-3 : tie.Need-returns-3
 unfolding frameFine
-returns-3 c = rw (sym (c .before .before .before .before .picture-fine .ensures) ∙ not-false _ (c .before .before .before .if1 .left), sym (c .before .before .side-fine .ensures) ∙ not-false _ (c .before .if2 .left)) (c .field-fine .ensures)
+returns-3 c =
+    let the-side-fine = c .before .before .side-fine in
+    let the-if1 = c .before .before .before .if1 in
+    let the-picture-fine = c .before .before .before .before .picture-fine in
+    rw (sym (the-picture-fine .ensures) ∙ not-false _ (the-if1 .left), sym (the-side-fine .ensures) ∙ not-false _ (c .before .if2 .left))
+    (c .field-fine .ensures)
 
 pub frame-fine-spec : {M : Type 1} → statement M
 frame-fine-spec =

@@ -1,6 +1,6 @@
 -- A record written byte by byte: the loop of the laws on areas, of a list of sixteen.
 use Prim.Native.Nat.{_-_}
-use Rattle.laws.proofs.Parts.{Spells, spells-start, spells-more, spells-done}
+use Rattle.laws.proofs.Parts.{Spells, spells-start, spells-next, spells-done}
 use Rattle.monitor.proofs.Laws.{record-size}
 use Rattle.monitor.specs.Monitor.{monitorRecord}
 use borrow.Author.Needs.{needs}
@@ -36,13 +36,25 @@ loop-less : tie.Need-loop-less Inv-loop μ-loop
 loop-less c = search needs
 
 loop-again : tie.Need-loop-again Inv-loop μ-loop
-loop-again c = rw (c .before .before .record-bytes .ensures) (spells-more 0 (omega (arith, (record-size (c .before .before .before .before .args .picture) (c .before .before .before .before .args .side) (c .before .before .before .before .args .field) (c .before .before .before .before .args .x) (c .before .before .before .before .args .y)))) (omega (arith, (record-size (c .before .before .before .before .args .picture) (c .before .before .before .before .args .side) (c .before .before .before .before .args .field) (c .before .before .before .before .args .x) (c .before .before .before .before .args .y)))) (c .before .loop .inv))
+loop-again c =
+    let the-record-bytes = c .before .before .record-bytes in
+    let the-start = c .before .before .before .before in
+    rw (the-record-bytes .ensures)
+    (spells-next 0 (omega
+    (arith, (record-size (the-start .args .picture) (the-start .args .side) (the-start .args .field) (the-start .args .x) (the-start .args .y))))
+    (omega (arith, (record-size (the-start .args .picture) (the-start .args .side) (the-start .args .field) (the-start .args .x) (the-start .args .y))))
+    (c .before .loop .inv))
 
 same-length : tie.Need-same-length Inv-loop μ-loop
 same-length c = search needs
 
 returns : tie.Need-returns Inv-loop μ-loop
-returns c = spells-done (omega (arith, (record-size (c .before .before .before .before .args .picture) (c .before .before .before .before .args .side) (c .before .before .before .before .args .field) (c .before .before .before .before .args .x) (c .before .before .before .before .args .y)))) (c .before .loop .inv)
+returns c =
+    let the-start = c .before .before .before .before in
+    spells-done (omega (
+      arith,
+      (record-size (the-start .args .picture) (the-start .args .side) (the-start .args .field) (the-start .args .x) (the-start .args .y)),
+    )) (c .before .loop .inv)
 
 pub put-record-spec : {M : Type 1} → statement M
 put-record-spec =

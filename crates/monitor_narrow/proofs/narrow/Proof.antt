@@ -27,10 +27,14 @@ cast-t10 : tie.Need-cast-t10
 cast-t10 c = search needs
 
 returns-2 : tie.Need-returns-2
-returns-2 c = narrow-fits (c .before .before .before .args .bits) (c .before .magnitude .result) (omega arith) (c .before .magnitude .ensures) (omega arith) (omega arith)
+returns-2 c =
+    let the-start = c .before .before .before in
+    narrow-fits (the-start .args .bits) (c .before .magnitude .result) (omega arith) (c .before .magnitude .ensures) (omega arith) (omega arith)
 
 returns-3 : tie.Need-returns-3
-returns-3 c = narrow-past (c .before .before .before .args .bits) (c .before .magnitude .result) (omega arith) (c .before .magnitude .ensures) (omega arith)
+returns-3 c =
+    let the-start = c .before .before .before in
+    narrow-past (the-start .args .bits) (c .before .magnitude .result) (omega arith) (c .before .magnitude .ensures) (omega arith)
 
 pub narrow-spec : {M : Type 1} → statement M
 narrow-spec =

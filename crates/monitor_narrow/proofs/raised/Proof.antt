@@ -31,10 +31,16 @@ shl-result : tie.Need-shl-result
 shl-result c = omega (arith, placed (c .before .args .t) (omega arith) (omega arith) .most)
 
 add-result : tie.Need-add-result
-add-result c = rw (mod-eq-of-lt {n = (c .before .args .t) * 2 ^ (leadingZeros 64 (c .before .args .t) - 11)} {m = 2 ^ 64} (omega (arith, placed (c .before .args .t) (omega arith) (omega arith) .high))) (omega (arith, placed (c .before .args .t) (omega arith) (omega arith) .high))
+add-result c =
+    rw (mod-eq-of-lt {n = (c .before .args .t) * 2 ^ (leadingZeros 64 (c .before .args .t) - 11)} {m = 2 ^ 64}
+    (omega (arith, placed (c .before .args .t) (omega arith) (omega arith) .high)))
+    (omega (arith, placed (c .before .args .t) (omega arith) (omega arith) .high))
 
 returns-2 : tie.Need-returns-2
-returns-2 c = rw (mod-eq-of-lt {n = (c .before .args .t) * 2 ^ (leadingZeros 64 (c .before .args .t) - 11)} {m = 2 ^ 64} (omega (arith, placed (c .before .args .t) (omega arith) (omega arith) .high))) (raised-some (c .before .args .t) (c .before .pre) (c .if1 .left), omega (arith, placed (c .before .args .t) (omega arith) (omega arith) .high))
+returns-2 c =
+    rw (mod-eq-of-lt {n = (c .before .args .t) * 2 ^ (leadingZeros 64 (c .before .args .t) - 11)} {m = 2 ^ 64}
+    (omega (arith, placed (c .before .args .t) (omega arith) (omega arith) .high)))
+    (raised-some (c .before .args .t) (c .before .pre) (c .if1 .left), omega (arith, placed (c .before .args .t) (omega arith) (omega arith) .high))
 
 pub raised-spec : {M : Type 1} → statement M
 raised-spec =

@@ -27,7 +27,9 @@ add-result-2 : tie.Need-add-result-2
 add-result-2 c = search needs
 
 returns-3 : tie.Need-returns-3
-returns-3 c = rw (c .raised .ensures .0) (widen-small (c .before .before .before .args .bits) (omega arith) (c .before .if3 .taken))
+returns-3 c =
+    let the-start = c .before .before .before in
+    rw (c .raised .ensures .0) (widen-small (the-start .args .bits) (omega arith) (c .before .if3 .taken))
 
 add-result-3 : tie.Need-add-result-3
 add-result-3 c = search needs

@@ -1,7 +1,7 @@
 -- A byte of each record: the loop of the laws that fills an area's front.
 use Rattle.monitor_read.specs.MonitorRead.{byteAt}
 use Prim.Native.Nat.{_-_}
-use Rattle.areas.proofs.Fetched.{Fetches, fetches-start, fetches-more, fetches-done}
+use Rattle.areas.proofs.Fetched.{Fetches, fetches-start, fetches-next, fetches-done}
 use borrow.Author.Needs.{needs}
 use Rattle.monitor_read.proofs.fetch_bytes.Statement.{statement}
 use Rattle.monitor_read.proofs.fetch_bytes.Tie as tie
@@ -37,7 +37,7 @@ loop-again : tie.Need-loop-again Inv-loop μ-loop
 loop-again c =
     let the-loop = c .before .before .loop in
     let the-start = c .before .before .before in
-    fetches-more (the-start .pre .0) (c .before .loop-test .taken) (the-loop .inv)
+    fetches-next (the-start .pre .0) (c .before .loop-test .taken) (the-loop .inv)
 
 same-length : tie.Need-same-length Inv-loop μ-loop
 same-length c = c .before .loop .inv .size

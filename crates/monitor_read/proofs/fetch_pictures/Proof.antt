@@ -1,7 +1,7 @@
 -- The pictures, one after the other: the loop of the laws that fills an area's front.
 use Rattle.monitor_read.specs.MonitorRead.{monitorPicture}
 use Prim.Native.Nat.{_-_}
-use Rattle.areas.proofs.Fetched.{Fetches, fetches-start, fetches-more, fetches-done}
+use Rattle.areas.proofs.Fetched.{Fetches, fetches-start, fetches-next, fetches-done}
 use borrow.Author.Needs.{needs}
 use native.Mathlib.Omega.{arith}
 use Rattle.monitor_read.proofs.fetch_pictures.Statement.{statement}
@@ -41,7 +41,7 @@ loop-again : tie.Need-loop-again Inv-loop μ-loop
 loop-again c =
     let the-loop = c .before .before .loop in
     let the-start = c .before .before .before .before .before in
-    rw (c .half-word .ensures .0) (fetches-more (the-start .pre .0) (c .before .loop-test .taken) (the-loop .inv))
+    rw (c .half-word .ensures .0) (fetches-next (the-start .pre .0) (c .before .loop-test .taken) (the-loop .inv))
 
 same-length : tie.Need-same-length Inv-loop μ-loop
 same-length c = c .before .loop .inv .size

@@ -1,7 +1,7 @@
 -- The coordinates, widened: the loop of the laws that fills an area's front.
 use Rattle.monitor_read.specs.MonitorRead.{widenedAt}
 use Prim.Native.Nat.{_-_, _*_}
-use Rattle.areas.proofs.Fetched.{Fetches, fetches-start, fetches-more, fetches-done}
+use Rattle.areas.proofs.Fetched.{Fetches, fetches-start, fetches-next, fetches-done}
 use borrow.Author.Needs.{needs}
 use Rattle.monitor_read.proofs.fetch_positions.Statement.{statement}
 use Rattle.monitor_read.proofs.fetch_positions.Tie as tie
@@ -41,7 +41,7 @@ loop-again c =
     let the-loop-test = c .before .before .loop-test in
     let the-loop = c .before .before .before .loop in
     let the-start = c .before .before .before .before .before .before in
-    rw (c .widen .ensures, c .before .coordinate .ensures) (fetches-more (the-start .pre .0) (the-loop-test .taken) (the-loop .inv))
+    rw (c .widen .ensures, c .before .coordinate .ensures) (fetches-next (the-start .pre .0) (the-loop-test .taken) (the-loop .inv))
 
 same-length : tie.Need-same-length Inv-loop μ-loop
 same-length c = c .before .loop .inv .size

@@ -1,7 +1,7 @@
 -- The first bad record: the loop of the laws that looks for the least place at which a test holds.
 use Prim.Native.Nat.{_-_}
 use mathlib.Core.Path.{sym, _∙_}
-use Rattle.laws.proofs.First.{Seeks, seek-start, seek-more, seek-stop, seek-done}
+use Rattle.laws.proofs.First.{Seeks, seek-start, seek-next, seek-stop, seek-done}
 use Rattle.monitor_read.specs.MonitorRead.{brokenAt, wholeMonitor}
 use borrow.Author.Needs.{needs}
 use Rattle.monitor_read.proofs.first_broken.Statement.{statement}
@@ -35,7 +35,7 @@ loop-again : tie.Need-loop-again Inv-loop μ-loop
 loop-again c =
     let the-loop-test = c .before .before .loop-test in
     let the-loop = c .before .before .before .loop in
-    seek-more (the-loop .inv) (the-loop-test .taken) (sym (c .before .is-broken .ensures) ∙ c .if1 .left)
+    seek-next (the-loop .inv) (the-loop-test .taken) (sym (c .before .is-broken .ensures) ∙ c .if1 .left)
 
 returns-2 : tie.Need-returns-2 Inv-loop μ-loop
 returns-2 c = seek-done (c .before .loop .inv) (c .loop-test .left)

@@ -21,7 +21,10 @@ shared-slice-read-may-follow : tie.Need-shared-slice-read-may-follow
 shared-slice-read-may-follow c = search needs
 
 cast-may-follow : tie.Need-cast-may-follow
-cast-may-follow c = omega (arith, c .before .before .before .shared-slice-known .given (c .before .before .before .before .args .i - 1))
+cast-may-follow c =
+    let the-shared-slice-known = c .before .before .before .shared-slice-known in
+    let the-start = c .before .before .before .before in
+    omega (arith, the-shared-slice-known .given (the-start .args .i - 1))
 
 sub-may-follow-2 : tie.Need-sub-may-follow-2
 sub-may-follow-2 c = search needs
@@ -36,7 +39,10 @@ shared-slice-read-may-follow-3 : tie.Need-shared-slice-read-may-follow-3
 shared-slice-read-may-follow-3 c = search needs
 
 cast-may-follow-2 : tie.Need-cast-may-follow-2
-cast-may-follow-2 c = omega (arith, c .before .before .before .before .before .shared-slice-known .given (c .before .before .before .before .before .before .args .i))
+cast-may-follow-2 c =
+    let the-shared-slice-known = c .before .before .before .before .before .shared-slice-known in
+    let the-start = c .before .before .before .before .before .before in
+    omega (arith, the-shared-slice-known .given (the-start .args .i))
 
 shared-slice-read-may-follow-4 : tie.Need-shared-slice-read-may-follow-4
 shared-slice-read-may-follow-4 c = search needs

@@ -44,7 +44,11 @@ is-past-requires-2 c κs = search needs
 
 returns-2 : tie.Need-returns-2
 unfolding pastAt
-returns-2 c = rw (rw (c .before .before .before .before .before .narrow .ensures) at (sym (c .before .before .before .before .is-past .ensures) ∙ c .before .before .before .if1 .left)) (rw (c .before .narrow2 .ensures) at (c .is-past2 .ensures))
+returns-2 c =
+    let the-if1 = c .before .before .before .if1 in
+    let the-is-past = c .before .before .before .before .is-past in
+    let the-narrow = c .before .before .before .before .before .narrow in
+    rw (rw (the-narrow .ensures) at (sym (the-is-past .ensures) ∙ the-if1 .left)) (rw (c .before .narrow2 .ensures) at (c .is-past2 .ensures))
 
 pub is-beyond-spec : {M : Type 1} → statement M
 is-beyond-spec =

@@ -14,7 +14,10 @@ shared-slice-read-frame-fine : tie.Need-shared-slice-read-frame-fine
 shared-slice-read-frame-fine c = search needs
 
 cast-frame-fine : tie.Need-cast-frame-fine
-cast-frame-fine c = omega (arith, c .before .before .before .shared-slice-known .given (c .before .before .before .before .args .i))
+cast-frame-fine c =
+    let the-shared-slice-known = c .before .before .before .shared-slice-known in
+    let the-start = c .before .before .before .before in
+    omega (arith, the-shared-slice-known .given (the-start .args .i))
 
 shared-slice-read-frame-fine-2 : tie.Need-shared-slice-read-frame-fine-2
 shared-slice-read-frame-fine-2 c = search needs
@@ -34,7 +37,9 @@ follows-requires c κs = search needs
 
 returns-2 : tie.Need-returns-2
 unfolding wrongAt
-returns-2 c = rw (sym (c .before .before .frame-fine .ensures) ∙ not-false _ (c .before .if1 .left), c .follows .ensures)
+returns-2 c =
+    let the-frame-fine = c .before .before .frame-fine in
+    rw (sym (the-frame-fine .ensures) ∙ not-false _ (c .before .if1 .left), c .follows .ensures)
 
 pub is-wrong-spec : {M : Type 1} → statement M
 is-wrong-spec =

@@ -1,7 +1,7 @@
 -- The records laid one after the other: the loop of the laws on rows, sixteen bytes wide.
 use Prim.Native.Nat.{_-_}
 use Rattle.laws.proofs.Laid.{Lays, lays-start, lays-done}
-use Rattle.monitor_write.proofs.Laws.{records-more, row-size}
+use Rattle.monitor_write.proofs.Laws.{records-next, row-size}
 use Rattle.monitor_write.specs.MonitorWrite.{monitorRow}
 use borrow.Author.Needs.{needs}
 use Rattle.monitor_write.proofs.put_records.Statement.{statement}
@@ -75,7 +75,19 @@ loop-less c = search needs
 
 loop-again : tie.Need-loop-again Inv-loop μ-loop
 unfolding monitorRow
-loop-again c = records-more (c .before .before .before .before .before .before .before .before .before .before .before .before .before .before .loop .inv) (c .before .before .before .before .before .before .before .before .before .before .before .before .before .loop-test .taken) (c .before .before .before .before .before .before .before .before .before .before .before .before .before .before .before .before .before .before .before .before .pre .target-long) (row-size (c .before .before .before .before .before .before .before .before .before .before .before .before .before .before .before .before .before .before .before .before .args .pictures .now) (c .before .before .before .before .before .before .before .before .before .before .before .before .before .before .before .before .before .before .before .before .args .sides .now) (c .before .before .before .before .before .before .before .before .before .before .before .before .before .before .before .before .before .before .before .before .args .fields .now) (c .before .before .before .before .before .before .before .before .before .before .before .before .before .before .before .before .before .before .before .before .args .positions .now) (c .before .before .before .before .before .before .before .before .before .before .before .before .before .before .loop .i)) (c .before .before .put-record .kept .0) (rw (c .before .before .before .before .before .before .before .before .before .before .single-bits .ensures, c .before .before .before .before .before .before .before .before .before .before .before .narrow .ensures, c .before .before .before .before .before .before .before .single-bits2 .ensures, c .before .before .before .before .before .before .before .before .narrow2 .ensures) at (c .before .before .put-record .ensures))
+loop-again c =
+    let the-put-record = c .before .before .put-record in
+    let the-single-bits2 = c .before .before .before .before .before .before .before .single-bits2 in
+    let the-narrow2 = c .before .before .before .before .before .before .before .before .narrow2 in
+    let the-single-bits = c .before .before .before .before .before .before .before .before .before .before .single-bits in
+    let the-narrow = c .before .before .before .before .before .before .before .before .before .before .before .narrow in
+    let the-loop-test = c .before .before .before .before .before .before .before .before .before .before .before .before .before .loop-test in
+    let the-loop = c .before .before .before .before .before .before .before .before .before .before .before .before .before .before .loop in
+    let far-1 = c .before .before .before .before .before .before .before .before .before .before .before .before in
+    let the-start = far-1 .before .before .before .before .before .before .before .before in
+    records-next (the-loop .inv) (the-loop-test .taken) (the-start .pre .target-long)
+    (row-size (the-start .args .pictures .now) (the-start .args .sides .now) (the-start .args .fields .now) (the-start .args .positions .now) (the-loop .i))
+    (the-put-record .kept .0) (rw (the-single-bits .ensures, the-narrow .ensures, the-single-bits2 .ensures, the-narrow2 .ensures) at (the-put-record .ensures))
 
 same-length : tie.Need-same-length Inv-loop μ-loop
 same-length c = c .before .loop .inv .size

@@ -16,7 +16,9 @@ returns c = rw (sym (c .before .frames-room .ensures) ∙ not-true _ (c .if1 .ta
 
 returns-2 : tie.Need-returns-2
 unfolding roomToWrite
-returns-2 c = rw (sym (c .before .frames-room .ensures) ∙ not-false _ (c .if1 .left)) (records-fit (c .before .before .args .n) (c .before .before .args .t))
+returns-2 c =
+    let the-start = c .before .before in
+    rw (sym (c .before .frames-room .ensures) ∙ not-false _ (c .if1 .left)) (records-fit (the-start .args .n) (the-start .args .t))
 
 pub room-spec : {M : Type 1} → statement M
 room-spec = tie.close (tie.spec frames-room-requires returns returns-2)

@@ -1,7 +1,7 @@
--- `park::is_calm_area` meets its contract: the loop keeps what has been done equal to its part of the whole; by `every-none`, `every-more`, `every-no`, `every-done`.
+-- `park::is_calm_area` meets its contract: the loop keeps what has been done equal to its part of the whole; by `every-none`, `every-next`, `every-no`, `every-done`.
 use Rattle.park.specs.Park.{calmAll}
 use Rattle.elementary.specs.Limits.{calm}
-use Rattle.laws.proofs.Every.{every-none, every-more, every-no, every-done}
+use Rattle.laws.proofs.Every.{every-none, every-next, every-no, every-done}
 use Rattle.laws.specs.Area.{num, bits}
 use Rattle.laws.specs.Loops.{every}
 use mathlib.Core.Path.{_≡_, sym, _∙_}
@@ -51,7 +51,7 @@ loop-again : tie.Need-loop-again Inv-loop μ-loop
 loop-again c =
     let the-value-of = c .before .before .value-of in
     let the-loop = c .before .before .before .before .before .loop in
-    (omega arith, every-more _ _ (the-loop .inv .1) (rw (the-value-of .ensures) at (sym (c .before .is-calm .ensures) ∙ not-false _ (c .if1 .left))))
+    (omega arith, every-next _ _ (the-loop .inv .1) (rw (the-value-of .ensures) at (sym (c .before .is-calm .ensures) ∙ not-false _ (c .if1 .left))))
 
 returns-2 : tie.Need-returns-2 Inv-loop μ-loop
 unfolding calmAll

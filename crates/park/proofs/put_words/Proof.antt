@@ -1,6 +1,6 @@
--- `park::put_words` meets its contract: the loop keeps `Lays`; by `length-bytes`, `words-more`, `lays-start`, `lays-done`.
+-- `park::put_words` meets its contract: the loop keeps `Lays`; by `length-bytes`, `words-next`, `lays-start`, `lays-done`.
 use Rattle.little.proofs.Bytes.{length-bytes}
-use Rattle.park.proofs.Laws.{wordBytes, words-more}
+use Rattle.park.proofs.Laws.{wordBytes, words-next}
 use Rattle.park.specs.Park.{parkedInto}
 use Rattle.parked.specs.Parked.{storedOf}
 use Rattle.laws.proofs.Laid.{Lays, lays-start, lays-done}
@@ -11,7 +11,8 @@ use Rattle.park.proofs.put_words.Statement.{statement}
 use Rattle.park.proofs.put_words.Tie as tie
 
 abbrev Inv-loop : tie.InvT-loop
-Inv-loop words positions increments gains affinities indices offsets l target₀ w₀ target w = Lays 8 (wordBytes l (storedOf words positions increments gains affinities indices offsets)) (l .end) target₀ w target
+Inv-loop words positions increments gains affinities indices offsets l target₀ w₀ target w = Lays 8
+    (wordBytes l (storedOf words positions increments gains affinities indices offsets)) (l .end) target₀ w target
 
 abbrev μ-loop : tie.MeasureT-loop
 μ-loop words positions increments gains affinities indices offsets l target₀ w₀ target w = l .end - w
@@ -50,7 +51,7 @@ loop-again c =
     let the-if1 = c .before .before .before .before .before .if1 in
     let the-loop = c .before .before .before .before .before .before .before .loop in
     let the-start = c .before .before .before .before .before .before .before .before .before .before .before .before .before .before .before .before in
-    words-more (the-loop .inv) (the-if1 .taken) (the-start .pre .1) (length-bytes 8 _) (the-put-word .kept .0)
+    words-next (the-loop .inv) (the-if1 .taken) (the-start .pre .1) (length-bytes 8 _) (the-put-word .kept .0)
     (rw (the-parked-word .ensures) at (the-put-word .ensures))
 
 same-length : tie.Need-same-length Inv-loop μ-loop

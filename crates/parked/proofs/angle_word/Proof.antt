@@ -1,3 +1,4 @@
+-- `parked::angle_word` meets its contract: each need follows from its own premises.
 use borrow.Author.Needs.{needs}
 use Rattle.parked.proofs.angle_word.Statement.{statement}
 use Rattle.parked.proofs.angle_word.Tie as tie

@@ -1,3 +1,4 @@
+-- `parked::area_number` meets its contract: each need follows from its own premises.
 use Prim.Native.Nat.{_-_}
 use Rattle.parked.specs.Parked.{areaWord}
 use borrow.Author.Tests.{lt-ltb, le-ltb}

@@ -1,3 +1,4 @@
+-- `parked::area_word` meets its contract: each need follows from its own premises.
 use Rattle.parked.specs.Parked.{areaWord}
 use borrow.Author.Tests.{lt-ltb, le-ltb}
 use borrow.Author.Needs.{needs}

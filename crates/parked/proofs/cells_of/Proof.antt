@@ -1,3 +1,4 @@
+-- `parked::cells_of` meets its contract: each need follows from its own premises.
 use mathlib.Core.Path.{refl}
 use native.Mathlib.Nat.{mul-le-mul}
 use native.Mathlib.Omega.{arith}

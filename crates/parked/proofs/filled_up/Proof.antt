@@ -1,3 +1,4 @@
+-- `parked::filled_up` meets its contract: each need follows from its own premises.
 use Rattle.parked.specs.Layout.{filledUp}
 use mathlib.Core.Path.{refl}
 use native.Mathlib.Omega.{arith}

@@ -1,3 +1,4 @@
+-- `parked::head_word` meets its contract: by `head-told`.
 use Rattle.parked.proofs.Laws.{head-told}
 use borrow.Author.Needs.{needs}
 use Rattle.parked.proofs.head_word.Statement.{statement}
@@ -43,7 +44,9 @@ array-read-result : tie.Need-array-read-result
 array-read-result c = search needs
 
 returns : tie.Need-returns
-returns c = head-told _ _ _ _ (c .before .before .before .before .before .before .before .before .before .before .angle-word .ensures)
+returns c =
+    let the-angle-word = c .before .before .before .before .before .before .before .before .before .before .angle-word in
+    head-told _ _ _ _ (the-angle-word .ensures)
 
 pub head-word-spec : {M : Type 1} → statement M
 head-word-spec =

@@ -1,3 +1,4 @@
+-- `parked::held_of` meets its contract: each need follows from its own premises.
 use native.Mathlib.Nat.{mul-le-mul}
 use native.Mathlib.Omega.{arith}
 use borrow.Author.Needs.{needs}

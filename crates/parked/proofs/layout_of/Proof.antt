@@ -1,3 +1,4 @@
+-- `parked::layout_of` meets its contract: from what its calls promise.
 use Rattle.parked.specs.Layout.{layoutOf}
 use mathlib.Core.Path.{refl}
 use borrow.Author.Needs.{needs}
@@ -39,7 +40,11 @@ add-end c = search needs
 
 returns : tie.Need-returns
 unfolding layoutOf
-returns c = rw (c .filled-up3 .ensures .0, c .before .filled-up2 .ensures .0, c .before .before .filled-up .ensures .0, c .before .before .before .held-of .ensures .0, c .before .before .before .before .cells-of .ensures .0) refl
+returns c =
+    let the-filled-up = c .before .before .filled-up in
+    let the-held-of = c .before .before .before .held-of in
+    let the-cells-of = c .before .before .before .before .cells-of in
+    rw (c .filled-up3 .ensures .0, c .before .filled-up2 .ensures .0, the-filled-up .ensures .0, the-held-of .ensures .0, the-cells-of .ensures .0) refl
 
 pub layout-of-spec : {M : Type 1} → statement M
 layout-of-spec =

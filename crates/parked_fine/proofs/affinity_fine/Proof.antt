@@ -1,3 +1,4 @@
+-- `parked_fine::affinity_fine` meets its contract: from what its calls promise.
 use Rattle.parked.specs.Fine.{affinityFine}
 use borrow.Author.Tests.{lt-ltb, le-ltb}
 use borrow.Author.Needs.{needs}
@@ -16,14 +17,18 @@ index-fits-requires c κs = search needs
 
 returns-2 : tie.Need-returns-2
 unfolding affinityFine
-returns-2 c = rw (c .index-fits .ensures) (simp (le-ltb _ _ (c .before .before .before .if1 .left), lt-ltb _ _ (c .before .if2 .taken)))
+returns-2 c =
+    let the-if1 = c .before .before .before .if1 in
+    rw (c .index-fits .ensures) (simp (le-ltb _ _ (the-if1 .left), lt-ltb _ _ (c .before .if2 .taken)))
 
 weight-fits-requires : tie.Need-weight-fits-requires
 weight-fits-requires c κs = search needs
 
 returns-3 : tie.Need-returns-3
 unfolding affinityFine
-returns-3 c = rw (c .weight-fits .ensures) (simp (le-ltb _ _ (c .before .before .before .if1 .left), le-ltb _ _ (c .before .if2 .left)))
+returns-3 c =
+    let the-if1 = c .before .before .before .if1 in
+    rw (c .weight-fits .ensures) (simp (le-ltb _ _ (the-if1 .left), le-ltb _ _ (c .before .if2 .left)))
 
 pub affinity-fine-spec : {M : Type 1} → statement M
 affinity-fine-spec =

@@ -1,3 +1,4 @@
+-- `parked_fine::angle_fine` meets its contract: from what its calls promise.
 use borrow.Author.Tests.{eq-eqb, ne-eqb}
 use borrow.Author.Needs.{needs}
 use Rattle.parked_fine.proofs.angle_fine.Statement.{statement}

@@ -1,3 +1,4 @@
+-- `parked_fine::in_range` meets its contract: each need follows from its own premises.
 use borrow.Author.Tests.{le-leb, lt-leb}
 use Rattle.parked_fine.proofs.in_range.Statement.{statement}
 use Rattle.parked_fine.proofs.in_range.Tie as tie

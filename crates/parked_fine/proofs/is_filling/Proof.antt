@@ -1,3 +1,4 @@
+-- `parked_fine::is_filling` meets its contract: from what its calls promise.
 use borrow.Author.Needs.{needs}
 use Rattle.parked_fine.proofs.is_filling.Statement.{statement}
 use Rattle.parked_fine.proofs.is_filling.Tie as tie

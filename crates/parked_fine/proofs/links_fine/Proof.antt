@@ -1,3 +1,4 @@
+-- `parked_fine::links_fine` meets its contract: by `most-links`.
 use Rattle.parked_fine.proofs.Laws.{most-links}
 use borrow.Author.Tests.{eq-eqb, ne-eqb}
 use borrow.Author.Needs.{needs}
@@ -12,10 +13,14 @@ mul-result : tie.Need-mul-result
 mul-result c = search needs
 
 neighbours-requires : tie.Need-neighbours-requires
-neighbours-requires c κs = rw (c .value-of .ensures) (c .before .before .pre .1, c .before .before .pre .2, c .before .before .pre .0)
+neighbours-requires c κs =
+    let the-start = c .before .before in
+    rw (c .value-of .ensures) (the-start .pre .1, the-start .pre .2, the-start .pre .0)
 
 mul-result-2 : tie.Need-mul-result-2
-mul-result-2 c = rw (c .neighbours .ensures) (omega (arith, most-links (c .before .value-of .result) (c .before .before .before .args .n) (c .before .before .before .pre .0)))
+mul-result-2 c =
+    let the-start = c .before .before .before in
+    rw (c .neighbours .ensures) (omega (arith, most-links (c .before .value-of .result) (the-start .args .n) (the-start .pre .0)))
 
 returns : tie.Need-returns
 returns c = rw (c .neighbours .ensures, c .before .value-of .ensures, eq-eqb _ _ (c .before .before .if1 .taken))

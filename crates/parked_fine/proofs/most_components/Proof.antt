@@ -1,3 +1,4 @@
+-- `parked_fine::most_components` meets its contract: each need follows from its own premises.
 use borrow.Author.Tests.{eq-eqb, ne-eqb}
 use Rattle.parked_fine.proofs.most_components.Statement.{statement}
 use Rattle.parked_fine.proofs.most_components.Tie as tie

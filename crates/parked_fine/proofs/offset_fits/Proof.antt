@@ -1,3 +1,4 @@
+-- `parked_fine::offset_fits` meets its contract: from what its calls promise.
 use Rattle.parked.specs.Fine.{offsetFits}
 use borrow.Author.Tests.{eq-eqb, ne-eqb, le-leb, lt-leb}
 use borrow.Author.Needs.{needs}
@@ -25,19 +26,55 @@ word-requires-2 c κs = search needs
 
 returns-2 : tie.Need-returns-2
 unfolding offsetFits
-returns-2 c = rw ((ne-eqb _ _ (c .before .before .if1 .left)), lt-leb _ _ (rw (c .before .before .before .word .ensures, c .before .word2 .ensures) at (c .if2 .taken)))
+returns-2 c =
+    let the-if1 = c .before .before .if1 in
+    let the-word = c .before .before .before .word in
+    rw ((ne-eqb _ _ (the-if1 .left)), lt-leb _ _ (rw (the-word .ensures, c .before .word2 .ensures) at (c .if2 .taken)))
 
 returns-3 : tie.Need-returns-3
 unfolding offsetFits
-returns-3 c = rw ((ne-eqb _ _ (c .before .before .before .before .if1 .left)), (le-leb _ _ (rw (c .before .before .before .before .before .word .ensures, c .before .before .before .word2 .ensures) at (c .before .before .if2 .left))), lt-leb _ _ (rw (c .before .before .before .before .before .word .ensures) at (c .if3 .taken)))
+returns-3 c =
+    let the-if2 = c .before .before .if2 in
+    let the-word2 = c .before .before .before .word2 in
+    let the-if1 = c .before .before .before .before .if1 in
+    let the-word = c .before .before .before .before .before .word in
+    rw (
+      (ne-eqb _ _ (the-if1 .left)),
+      (le-leb _ _ (rw (the-word .ensures, the-word2 .ensures) at (the-if2 .left))),
+      lt-leb _ _
+          (rw (the-word .ensures) at (c .if3 .taken)),
+    )
 
 returns-4 : tie.Need-returns-4
 unfolding offsetFits
-returns-4 c = rw ((ne-eqb _ _ (c .before .before .before .before .before .before .if1 .left)), (le-leb _ _ (rw (c .before .before .before .before .before .before .before .word .ensures, c .before .before .before .before .before .word2 .ensures) at (c .before .before .before .before .if2 .left))), (le-leb _ _ (rw (c .before .before .before .before .before .before .before .word .ensures) at (c .before .before .if3 .left))), ne-eqb _ _ (c .if4 .taken))
+returns-4 c =
+    let the-if3 = c .before .before .if3 in
+    let the-if2 = c .before .before .before .before .if2 in
+    let the-word2 = c .before .before .before .before .before .word2 in
+    let the-if1 = c .before .before .before .before .before .before .if1 in
+    let the-word = c .before .before .before .before .before .before .before .word in
+    rw (
+      (ne-eqb _ _ (the-if1 .left)),
+      (le-leb _ _ (rw (the-word .ensures, the-word2 .ensures) at (the-if2 .left))),
+      (le-leb _ _ (rw (the-word .ensures) at (the-if3 .left))),
+      ne-eqb _ _ (c .if4 .taken),
+    )
 
 returns-5 : tie.Need-returns-5
 unfolding offsetFits
-returns-5 c = rw (c .before .before .before .before .before .before .before .before .word .ensures, (ne-eqb _ _ (c .before .before .before .before .before .before .before .if1 .left)), (le-leb _ _ (rw (c .before .before .before .before .before .before .before .before .word .ensures, c .before .before .before .before .before .before .word2 .ensures) at (c .before .before .before .before .before .if2 .left))), (le-leb _ _ (rw (c .before .before .before .before .before .before .before .before .word .ensures) at (c .before .before .before .if3 .left))), eq-eqb _ _ (c .before .if4 .left))
+returns-5 c =
+    let the-if3 = c .before .before .before .if3 in
+    let the-if2 = c .before .before .before .before .before .if2 in
+    let the-word2 = c .before .before .before .before .before .before .word2 in
+    let the-if1 = c .before .before .before .before .before .before .before .if1 in
+    let the-word = c .before .before .before .before .before .before .before .before .word in
+    rw (
+      the-word .ensures,
+      (ne-eqb _ _ (the-if1 .left)),
+      (le-leb _ _ (rw (the-word .ensures, the-word2 .ensures) at (the-if2 .left))),
+      (le-leb _ _ (rw (the-word .ensures) at (the-if3 .left))),
+      eq-eqb _ _ (c .before .if4 .left),
+    )
 
 pub offset-fits-spec : {M : Type 1} → statement M
 offset-fits-spec =

@@ -1,3 +1,4 @@
+-- `parked_fine::perplexity_fine` meets its contract: from what its calls promise.
 use lib.Ieee.{inFloat}
 use lib.Dec.{le→leb}
 use Prim.Native.Nat.{_^_}
@@ -15,7 +16,9 @@ is-positive-requires : tie.Need-is-positive-requires
 is-positive-requires c κs = search needs
 
 returns : tie.Need-returns
-returns c = rw (rw (c .before .before .value-of .ensures) at (sym (c .before .is-positive .ensures) ∙ not-true _ (c .if1 .taken)))
+returns c =
+    let the-value-of = c .before .before .value-of in
+    rw (rw (the-value-of .ensures) at (sym (c .before .is-positive .ensures) ∙ not-true _ (c .if1 .taken)))
 
 int-to-float-is-below : tie.Need-int-to-float-is-below
 unfolding inFloat
@@ -25,7 +28,11 @@ is-below-requires : tie.Need-is-below-requires
 is-below-requires c κs = search needs
 
 returns-2 : tie.Need-returns-2
-returns-2 c = rw (c .is-below .ensures, c .before .before .before .before .value-of .ensures, rw (c .before .before .before .before .value-of .ensures) at (sym (c .before .before .before .is-positive .ensures) ∙ not-false _ (c .before .before .if1 .left)))
+returns-2 c =
+    let the-if1 = c .before .before .if1 in
+    let the-is-positive = c .before .before .before .is-positive in
+    let the-value-of = c .before .before .before .before .value-of in
+    rw (c .is-below .ensures, the-value-of .ensures, rw (the-value-of .ensures) at (sym (the-is-positive .ensures) ∙ not-false _ (the-if1 .left)))
 
 pub perplexity-fine-spec : {M : Type 1} → statement M
 perplexity-fine-spec =

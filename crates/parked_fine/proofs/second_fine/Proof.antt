@@ -1,3 +1,4 @@
+-- `parked_fine::second_fine` meets its contract: from what its calls promise.
 use Rattle.parked.specs.Fine.{secondFine}
 use mathlib.Core.Path.{sym, _∙_}
 use borrow.Author.Tests.{not-true, not-false}
@@ -20,21 +21,53 @@ is-positive-requires c κs = search needs
 
 returns-2 : tie.Need-returns-2
 unfolding secondFine
-returns-2 c = rw ((sym (c .before .before .before .before .perplexity-fine .ensures) ∙ not-false _ (c .before .before .before .if1 .left)), rw (c .before .before .value-of .ensures) at (sym (c .before .is-positive .ensures) ∙ not-true _ (c .if2 .taken)))
+returns-2 c =
+    let the-value-of = c .before .before .value-of in
+    let the-if1 = c .before .before .before .if1 in
+    let the-perplexity-fine = c .before .before .before .before .perplexity-fine in
+    rw (
+      (sym (the-perplexity-fine .ensures) ∙ not-false _ (the-if1 .left)),
+      rw (the-value-of .ensures) at
+          (sym (c .before .is-positive .ensures) ∙ not-true _ (c .if2 .taken)),
+    )
 
 in-range-requires : tie.Need-in-range-requires
 in-range-requires c κs = search needs
 
 returns-3 : tie.Need-returns-3
 unfolding secondFine
-returns-3 c = rw ((sym (c .before .before .before .before .before .before .perplexity-fine .ensures) ∙ not-false _ (c .before .before .before .before .before .if1 .left)), (rw (c .before .before .before .before .value-of .ensures) at (sym (c .before .before .before .is-positive .ensures) ∙ not-false _ (c .before .before .if2 .left))), sym (c .before .in-range .ensures) ∙ not-true _ (c .if3 .taken))
+returns-3 c =
+    let the-if2 = c .before .before .if2 in
+    let the-is-positive = c .before .before .before .is-positive in
+    let the-value-of = c .before .before .before .before .value-of in
+    let the-if1 = c .before .before .before .before .before .if1 in
+    let the-perplexity-fine = c .before .before .before .before .before .before .perplexity-fine in
+    rw (
+      (sym (the-perplexity-fine .ensures) ∙ not-false _ (the-if1 .left)),
+      (rw (the-value-of .ensures) at (sym (the-is-positive .ensures) ∙ not-false _ (the-if2 .left))),
+      sym (c .before .in-range .ensures) ∙ not-true _
+          (c .if3 .taken),
+    )
 
 angle-fine-requires : tie.Need-angle-fine-requires
 angle-fine-requires c κs = search needs
 
 returns-4 : tie.Need-returns-4
 unfolding secondFine
-returns-4 c = rw (c .angle-fine .ensures, (sym (c .before .before .before .before .before .before .before .perplexity-fine .ensures) ∙ not-false _ (c .before .before .before .before .before .before .if1 .left)), (rw (c .before .before .before .before .before .value-of .ensures) at (sym (c .before .before .before .before .is-positive .ensures) ∙ not-false _ (c .before .before .before .if2 .left))), sym (c .before .before .in-range .ensures) ∙ not-false _ (c .before .if3 .left))
+returns-4 c =
+    let the-in-range = c .before .before .in-range in
+    let the-if2 = c .before .before .before .if2 in
+    let the-is-positive = c .before .before .before .before .is-positive in
+    let the-value-of = c .before .before .before .before .before .value-of in
+    let the-if1 = c .before .before .before .before .before .before .if1 in
+    let the-perplexity-fine = c .before .before .before .before .before .before .before .perplexity-fine in
+    rw (
+      c .angle-fine .ensures,
+      (sym (the-perplexity-fine .ensures) ∙ not-false _ (the-if1 .left)),
+      (rw (the-value-of .ensures) at (sym (the-is-positive .ensures) ∙ not-false _ (the-if2 .left))),
+      sym (the-in-range .ensures) ∙ not-false _
+          (c .before .if3 .left),
+    )
 
 pub second-fine-spec : {M : Type 1} → statement M
 second-fine-spec =

@@ -1,3 +1,4 @@
+-- `parked_fine::value_fits` meets its contract: from what its calls promise.
 use Rattle.parked.specs.Fine.{valueFits}
 use borrow.Author.Tests.{lt-ltb, le-ltb}
 use borrow.Author.Needs.{needs}
@@ -21,7 +22,10 @@ is-calm-requires c κs = search needs
 
 returns : tie.Need-returns
 unfolding valueFits
-returns c = rw (c .is-calm .ensures, c .before .value-of .ensures, c .before .before .word .ensures, lt-ltb _ _ (c .before .before .before .if1 .taken))
+returns c =
+    let the-word = c .before .before .word in
+    let the-if1 = c .before .before .before .if1 in
+    rw (c .is-calm .ensures, c .before .value-of .ensures, the-word .ensures, lt-ltb _ _ (the-if1 .taken))
 
 is-filling-requires : tie.Need-is-filling-requires
 is-filling-requires c κs = search needs

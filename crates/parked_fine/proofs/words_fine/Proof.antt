@@ -1,7 +1,8 @@
+-- `parked_fine::words_fine` meets its contract: the loop keeps what has been done equal to its part of the whole; by `every-none`, `every-next`, `every-no`, `every-done`.
 use Rattle.parked.specs.Fine.{wordFine}
 use Rattle.little.specs.Little.{wordIn}
 use Rattle.laws.specs.Loops.{every}
-use Rattle.laws.proofs.Every.{every-none, every-more, every-no, every-done}
+use Rattle.laws.proofs.Every.{every-none, every-next, every-no, every-done}
 use borrow.Author.Tests.{not-true, not-false}
 use mathlib.Core.Path.{_≡_, sym, _∙_}
 use mathlib.Core.Bool.{true}
@@ -30,7 +31,9 @@ word-fine-requires : tie.Need-word-fine-requires Inv-loop μ-loop
 word-fine-requires c κs = search needs
 
 returns : tie.Need-returns Inv-loop μ-loop
-returns c = sym (every-no _ 4 _ (c .before .before .loop-test .taken) (sym (c .before .word-fine .ensures) ∙ not-true _ (c .if1 .taken)))
+returns c =
+    let the-loop-test = c .before .before .loop-test in
+    sym (every-no _ 4 _ (the-loop-test .taken) (sym (c .before .word-fine .ensures) ∙ not-true _ (c .if1 .taken)))
 
 add-k : tie.Need-add-k Inv-loop μ-loop
 add-k c = search needs
@@ -39,7 +42,9 @@ loop-less : tie.Need-loop-less Inv-loop μ-loop
 loop-less c = search needs
 
 loop-again : tie.Need-loop-again Inv-loop μ-loop
-loop-again c = (omega arith, every-more _ _ (c .before .before .before .loop .inv .1) (sym (c .before .word-fine .ensures) ∙ not-false _ (c .if1 .left)))
+loop-again c =
+    let the-loop = c .before .before .before .loop in
+    (omega arith, every-next _ _ (the-loop .inv .1) (sym (c .before .word-fine .ensures) ∙ not-false _ (c .if1 .left)))
 
 returns-2 : tie.Need-returns-2 Inv-loop μ-loop
 returns-2 c = every-done _ 4 _ (c .before .loop .inv .1) (c .before .loop .inv .0) (c .loop-test .left)

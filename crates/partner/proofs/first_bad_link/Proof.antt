@@ -1,3 +1,4 @@
+-- `partner::first_bad_link` meets its contract: by `unfit-within`, `first-bad-told`.
 use Rattle.partner.proofs.Judged.{unfit-within, first-bad-told}
 use mathlib.Core.Path.{refl, sym, _∙_}
 use borrow.Author.Needs.{needs}
@@ -21,7 +22,9 @@ rising-from-requires-2 : tie.Need-rising-from-requires-2
 rising-from-requires-2 c κs = omega (arith, c .rising-from .ensures .0)
 
 first-lonely-requires : tie.Need-first-lonely-requires
-first-lonely-requires c κs = (rw (c .before .before .first-unfit .ensures) (unfit-within _ _ _), c .rising-from2 .ensures .0, c .before .rising-from .ensures .1, c .rising-from2 .ensures .1)
+first-lonely-requires c κs =
+    let the-first-unfit = c .before .before .first-unfit in
+    (rw (the-first-unfit .ensures) (unfit-within _ _ _), c .rising-from2 .ensures .0, c .before .rising-from .ensures .1, c .rising-from2 .ensures .1)
 
 returns : tie.Need-returns
 returns c = c .first-lonely .ensures ∙ rw (c .before .before .before .first-unfit .ensures) (first-bad-told _ _ _)

@@ -1,6 +1,7 @@
+-- `partner::is_met` meets its contract: the loop keeps `Bisects`; by `met-empty`, `met-done`, `bisects-start`, `bisects-within`, `bisects-next`.
 use mathlib.Core.Path.{refl, sym, _∙_}
 use Rattle.partner.proofs.Mirrors.{met-empty, met-done}
-use Rattle.laws.proofs.Bisects.{Bisects, bisects-start, bisects-within, bisects-more}
+use Rattle.laws.proofs.Bisects.{Bisects, bisects-start, bisects-within, bisects-next}
 use Rattle.partner.specs.Partner.{linkPair, turnedPair}
 use borrow.Author.Needs.{needs}
 use native.Mathlib.Omega.{arith}
@@ -28,7 +29,9 @@ loop-holds : tie.Need-loop-holds Inv-loop μ-loop
 loop-holds c = bisects-start (c .before .if1 .left)
 
 raised-pair-requires : tie.Need-raised-pair-requires Inv-loop μ-loop
-raised-pair-requires c κs = omega (arith, bisects-within (c .before .before .before .before .before .pre .2 .rises) (c .before .loop .inv) (c .loop-test .taken), c .before .before .before .before .before .pre .1)
+raised-pair-requires c κs =
+    let the-start = c .before .before .before .before .before in
+    omega (arith, bisects-within (the-start .pre .2 .rises) (c .before .loop .inv) (c .loop-test .taken), the-start .pre .1)
 
 sub-left : tie.Need-sub-left Inv-loop μ-loop
 sub-left c = search needs
@@ -37,13 +40,22 @@ loop-less : tie.Need-loop-less Inv-loop μ-loop
 loop-less c = search needs
 
 loop-again : tie.Need-loop-again Inv-loop μ-loop
-loop-again c = bisects-more (c .before .before .before .before .before .before .pre .2 .rises) (c .before .before .loop .inv) _ (c .before .loop-test .taken) (rw (c .before .before .before .turned-pair .ensures) at (c .raised-pair .ensures))
+loop-again c =
+    let the-loop = c .before .before .loop in
+    let the-turned-pair = c .before .before .before .turned-pair in
+    let the-start = c .before .before .before .before .before .before in
+    bisects-next (the-start .pre .2 .rises) (the-loop .inv) _ (c .before .loop-test .taken) (rw (the-turned-pair .ensures) at (c .raised-pair .ensures))
 
 is-mirror-requires : tie.Need-is-mirror-requires Inv-loop μ-loop
-is-mirror-requires c κs = (c .before .before .before .before .before .pre .0, omega (arith, c .before .loop .inv .inside, c .before .loop .inv .some, c .before .before .before .before .before .pre .1))
+is-mirror-requires c κs =
+    let the-start = c .before .before .before .before .before in
+    (the-start .pre .0, omega (arith, c .before .loop .inv .inside, c .before .loop .inv .some, the-start .pre .1))
 
 returns-2 : tie.Need-returns-2 Inv-loop μ-loop
-returns-2 c = c .is-mirror .ensures ∙ met-done _ _ _ _ (c .before .before .before .before .before .before .pre .2) (c .before .before .loop .inv) (omega (arith, c .before .loop-test .left))
+returns-2 c =
+    let the-loop = c .before .before .loop in
+    let the-start = c .before .before .before .before .before .before in
+    c .is-mirror .ensures ∙ met-done _ _ _ _ (the-start .pre .2) (the-loop .inv) (omega (arith, c .before .loop-test .left))
 
 pub is-met-spec : {M : Type 1} → statement M
 is-met-spec =

@@ -1,4 +1,5 @@
-use Rattle.partner.proofs.Mirrors.{met-more}
+-- `partner::is_met_anywhere` meets its contract: the loop keeps what has been done equal to its part of the whole; by `met-next`, `met-some`, `met-none`.
+use Rattle.partner.proofs.Mirrors.{met-next}
 use borrow.Author.Tests.{not-true, not-false}
 use mathlib.Core.Path.{_≡_, refl, sym, _∙_}
 use mathlib.Core.Bool.{false}
@@ -26,10 +27,14 @@ add-is-mirror : tie.Need-add-is-mirror Inv-loop μ-loop
 add-is-mirror c = search needs
 
 is-mirror-requires : tie.Need-is-mirror-requires Inv-loop μ-loop
-is-mirror-requires c κs = (c .before .before .before .pre .0, omega (arith, c .loop-test .taken, c .before .before .before .pre .1))
+is-mirror-requires c κs =
+    let the-start = c .before .before .before in
+    (the-start .pre .0, omega (arith, c .loop-test .taken, the-start .pre .1))
 
 returns : tie.Need-returns Inv-loop μ-loop
-returns c = sym (met-some _ _ _ _ _ (c .before .before .loop-test .taken) (sym (c .before .is-mirror .ensures) ∙ c .if1 .taken))
+returns c =
+    let the-loop-test = c .before .before .loop-test in
+    sym (met-some _ _ _ _ _ (the-loop-test .taken) (sym (c .before .is-mirror .ensures) ∙ c .if1 .taken))
 
 add-t : tie.Need-add-t Inv-loop μ-loop
 add-t c = search needs
@@ -38,7 +43,10 @@ loop-less : tie.Need-loop-less Inv-loop μ-loop
 loop-less c = search needs
 
 loop-again : tie.Need-loop-again Inv-loop μ-loop
-loop-again c = (omega (arith, c .before .before .loop-test .taken), met-more _ _ _ 0 _ (c .before .before .before .loop .inv .1) (sym (c .before .is-mirror .ensures) ∙ c .if1 .left))
+loop-again c =
+    let the-loop-test = c .before .before .loop-test in
+    let the-loop = c .before .before .before .loop in
+    (omega (arith, the-loop-test .taken), met-next _ _ _ 0 _ (the-loop .inv .1) (sym (c .before .is-mirror .ensures) ∙ c .if1 .left))
 
 returns-2 : tie.Need-returns-2 Inv-loop μ-loop
 returns-2 c = sym (met-none _ _ _ _ (λ s l. c .before .loop .inv .1 s (omega (arith, c .loop-test .left))))

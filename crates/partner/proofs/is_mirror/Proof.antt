@@ -1,3 +1,4 @@
+-- `partner::is_mirror` meets its contract: by `mirror-not-from`, `mirror-not-to`, `mirror-weight`, `and-no`.
 use Rattle.partner.proofs.Mirrors.{mirror-not-from, mirror-not-to, mirror-weight}
 use Rattle.laws.proofs.Bools.{and-no}
 use Rattle.partner.specs.Partner.{isMirror}
@@ -22,7 +23,9 @@ link-to-requires : tie.Need-link-to-requires
 link-to-requires c κs = search needs
 
 returns : tie.Need-returns
-returns c = sym (mirror-not-from _ _ _ (λ q. c .if1 .taken (c .before .before .link-from .ensures .0 ∙ q ∙ sym (c .before .link-to .ensures .0))))
+returns c =
+    let the-link-from = c .before .before .link-from in
+    sym (mirror-not-from _ _ _ (λ q. c .if1 .taken (the-link-from .ensures .0 ∙ q ∙ sym (c .before .link-to .ensures .0))))
 
 link-to-requires-2 : tie.Need-link-to-requires-2
 link-to-requires-2 c κs = search needs
@@ -31,7 +34,9 @@ link-from-requires-2 : tie.Need-link-from-requires-2
 link-from-requires-2 c κs = search needs
 
 returns-2 : tie.Need-returns-2
-returns-2 c = sym (mirror-not-to _ _ _ (λ q. c .if2 .taken (c .before .before .link-to2 .ensures .0 ∙ q ∙ sym (c .before .link-from2 .ensures .0))))
+returns-2 c =
+    let the-link-to2 = c .before .before .link-to2 in
+    sym (mirror-not-to _ _ _ (λ q. c .if2 .taken (the-link-to2 .ensures .0 ∙ q ∙ sym (c .before .link-from2 .ensures .0))))
 
 link-weight-requires : tie.Need-link-weight-requires
 link-weight-requires c κs = search needs
@@ -40,7 +45,16 @@ link-weight-requires-2 : tie.Need-link-weight-requires-2
 link-weight-requires-2 c κs = search needs
 
 returns-3 : tie.Need-returns-3
-returns-3 c = rw (c .before .link-weight .ensures, c .link-weight2 .ensures) (sym (mirror-weight _ _ _ (sym (c .before .before .before .before .before .before .before .link-from .ensures .0) ∙ c .before .before .before .before .before .if1 .left ∙ c .before .before .before .before .before .before .link-to .ensures .0) (sym (c .before .before .before .before .link-to2 .ensures .0) ∙ c .before .before .if2 .left ∙ c .before .before .before .link-from2 .ensures .0)))
+returns-3 c =
+    let the-if2 = c .before .before .if2 in
+    let the-link-from2 = c .before .before .before .link-from2 in
+    let the-link-to2 = c .before .before .before .before .link-to2 in
+    let the-if1 = c .before .before .before .before .before .if1 in
+    let the-link-to = c .before .before .before .before .before .before .link-to in
+    let the-link-from = c .before .before .before .before .before .before .before .link-from in
+    rw (c .before .link-weight .ensures, c .link-weight2 .ensures)
+    (sym (mirror-weight _ _ _ (sym (the-link-from .ensures .0) ∙ the-if1 .left ∙ the-link-to .ensures .0)
+    (sym (the-link-to2 .ensures .0) ∙ the-if2 .left ∙ the-link-from2 .ensures .0)))
 
 pub is-mirror-spec : {M : Type 1} → statement M
 is-mirror-spec =

@@ -1,3 +1,4 @@
+-- `partner::is_mirrored` meets its contract: by `met-first`, `met-second`, `met-third`.
 use Rattle.partner.proofs.Mirrors.{met-first, met-second, met-third}
 use mathlib.Core.Path.{refl, sym, _∙_}
 use borrow.Author.Needs.{needs}
@@ -14,13 +15,17 @@ is-met-requires : tie.Need-is-met-requires
 is-met-requires c κs = search needs
 
 returns : tie.Need-returns
-returns c = sym (met-first _ _ _ _ _ (c .before .before .before .pre .1) (sym (c .before .is-met .ensures) ∙ c .if1 .taken))
+returns c =
+    let the-start = c .before .before .before in
+    sym (met-first _ _ _ _ _ (the-start .pre .1) (sym (c .before .is-met .ensures) ∙ c .if1 .taken))
 
 is-met-requires-2 : tie.Need-is-met-requires-2
 is-met-requires-2 c κs = search needs
 
 returns-2 : tie.Need-returns-2
-returns-2 c = sym (met-second _ _ _ _ _ (c .before .before .before .before .before .pre .1) (sym (c .before .is-met2 .ensures) ∙ c .if2 .taken))
+returns-2 c =
+    let the-start = c .before .before .before .before .before in
+    sym (met-second _ _ _ _ _ (the-start .pre .1) (sym (c .before .is-met2 .ensures) ∙ c .if2 .taken))
 
 add-is-met-anywhere : tie.Need-add-is-met-anywhere
 add-is-met-anywhere c = search needs
@@ -35,7 +40,9 @@ is-met-anywhere-requires : tie.Need-is-met-anywhere-requires
 is-met-anywhere-requires c κs = search needs
 
 returns-3 : tie.Need-returns-3
-returns-3 c = c .is-met-anywhere .ensures ∙ met-third _ _ _ _ _ (c .before .before .before .before .before .before .pre .1) (sym (c .before .before .before .before .is-met .ensures) ∙ c .before .before .before .if1 .left) (sym (c .before .before .is-met2 .ensures) ∙ c .before .if2 .left)
+returns-3 c = c .is-met-anywhere .ensures ∙ met-third _ _ _ _ _ (c .before .before .before .before .before .before .pre .1)
+    (sym (c .before .before .before .before .is-met .ensures) ∙ c .before .before .before .if1 .left)
+    (sym (c .before .before .is-met2 .ensures) ∙ c .before .if2 .left)
 
 pub is-mirrored-spec : {M : Type 1} → statement M
 is-mirrored-spec =

@@ -1,3 +1,4 @@
+-- `partner::is_raised` meets its contract: from what its calls promise.
 use borrow.Author.Tests.{eq-eqb, ne-eqb}
 use mathlib.Core.Path.{refl}
 use mathlib.Core.Bool.{true}

@@ -1,3 +1,4 @@
+-- `partner::link_fine` meets its contract: by `fine-many`, `fine-from`, `fine-to`, `fine-low`, `fine-same`, `fine-rest`.
 use borrow.Author.Tests.{not-true, not-false}
 use mathlib.Core.Path.{refl, sym, _∙_}
 use Rattle.partner.proofs.Fine.{fine-many, fine-from, fine-to, fine-low, fine-same, fine-rest}
@@ -37,7 +38,10 @@ returns-4 : tie.Need-returns-4
 returns-4 c = sym (fine-low _ _ _ _ (sym (c .before .is-raised .ensures) ∙ not-true _ (c .if4 .taken)))
 
 returns-5 : tie.Need-returns-5
-returns-5 c = sym (fine-same _ _ _ _ (sym (c .before .before .before .before .before .before .link-from .ensures .0) ∙ (c .if5 .taken) ∙ (c .before .before .before .before .before .link-to .ensures .0)))
+returns-5 c =
+    let the-link-to = c .before .before .before .before .before .link-to in
+    let the-link-from = c .before .before .before .before .before .before .link-from in
+    sym (fine-same _ _ _ _ (sym (the-link-from .ensures .0) ∙ (c .if5 .taken) ∙ (the-link-to .ensures .0)))
 
 link-weight-requires : tie.Need-link-weight-requires
 link-weight-requires c κs = search needs
@@ -49,7 +53,20 @@ is-positive-requires : tie.Need-is-positive-requires
 is-positive-requires c κs = search needs
 
 returns-6 : tie.Need-returns-6
-returns-6 c = c .is-positive .ensures ∙ rw (c .before .value-of .ensures, c .before .before .link-weight .ensures) (sym (fine-rest _ _ _ _ (omega (arith, c .before .before .before .before .before .before .before .before .before .before .if1 .left)) (omega (arith, c .before .before .before .before .before .before .before .if2 .left, (c .before .before .before .before .before .before .before .before .before .link-from .ensures .0))) (omega (arith, c .before .before .before .before .before .before .if3 .left, (c .before .before .before .before .before .before .before .before .link-to .ensures .0))) (sym (c .before .before .before .before .before .is-raised .ensures) ∙ not-false _ (c .before .before .before .before .if4 .left)) (λ q. c .before .before .before .if5 .left ((c .before .before .before .before .before .before .before .before .before .link-from .ensures .0) ∙ q ∙ sym (c .before .before .before .before .before .before .before .before .link-to .ensures .0)))))
+returns-6 c =
+    let the-link-weight = c .before .before .link-weight in
+    let the-if5 = c .before .before .before .if5 in
+    let the-if4 = c .before .before .before .before .if4 in
+    let the-is-raised = c .before .before .before .before .before .is-raised in
+    let the-if3 = c .before .before .before .before .before .before .if3 in
+    let the-if2 = c .before .before .before .before .before .before .before .if2 in
+    let the-link-to = c .before .before .before .before .before .before .before .before .link-to in
+    let the-link-from = c .before .before .before .before .before .before .before .before .before .link-from in
+    let the-if1 = c .before .before .before .before .before .before .before .before .before .before .if1 in
+    c .is-positive .ensures ∙ rw (c .before .value-of .ensures, the-link-weight .ensures)
+    (sym (fine-rest _ _ _ _ (omega (arith, the-if1 .left)) (omega (arith, the-if2 .left, (the-link-from .ensures .0)))
+    (omega (arith, the-if3 .left, (the-link-to .ensures .0))) (sym (the-is-raised .ensures) ∙ not-false _ (the-if4 .left))
+    (λ q. the-if5 .left ((the-link-from .ensures .0) ∙ q ∙ sym (the-link-to .ensures .0)))))
 
 pub link-fine-spec : {M : Type 1} → statement M
 link-fine-spec =

@@ -1,3 +1,4 @@
+-- `partner::raised_pair` meets its contract: from what its calls promise.
 use mathlib.Core.Path.{sym}
 use borrow.Author.Tests.{le-leb, lt-leb}
 use borrow.Author.Needs.{needs}

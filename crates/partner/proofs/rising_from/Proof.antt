@@ -1,7 +1,8 @@
+-- `partner::rising_from` meets its contract: the loop keeps `PairsRise`; by `rise-none`, `rise-one`, `rise-next`.
 use borrow.Author.Tests.{not-true, not-false}
 use Prim.Native.Nat.{_-_, _+_, _≤_}
 use mathlib.Core.Path.{refl, sym, _∙_}
-use Rattle.partner.proofs.Judged.{rise-none, rise-one, rise-more}
+use Rattle.partner.proofs.Judged.{rise-none, rise-one, rise-next}
 use Rattle.partner.specs.Partner.{PairsRise, wholeLinks}
 use borrow.Author.Needs.{needs}
 use native.Mathlib.Omega.{arith}
@@ -42,7 +43,15 @@ loop-less : tie.Need-loop-less Inv-loop μ-loop
 loop-less c = search needs
 
 loop-again : tie.Need-loop-again Inv-loop μ-loop
-loop-again c = (omega arith, omega (arith, c .before .before .loop-test .taken, c .before .before .before .before .before .before .pre), rise-more (c .before .before .before .loop .inv .0) (c .before .before .before .loop .inv .2) (sym (c .before .is-raised .ensures) ∙ not-false _ (c .if2 .left)))
+loop-again c =
+    let the-loop-test = c .before .before .loop-test in
+    let the-loop = c .before .before .before .loop in
+    let the-start = c .before .before .before .before .before .before in (
+      omega arith,
+      omega (arith, the-loop-test .taken, the-start .pre),
+      rise-next (the-loop .inv .0) (the-loop .inv .2)
+          (sym (c .before .is-raised .ensures) ∙ not-false _ (c .if2 .left)),
+    )
 
 returns-3 : tie.Need-returns-3 Inv-loop μ-loop
 returns-3 c = (c .before .loop .inv .1, c .before .loop .inv .2)

@@ -1,11 +1,11 @@
--- `partner_import::start_fine` meets its contract: the loop keeps what has been done equal to its part of the whole; by `every-none`, `every-more`, `every-no`, `every-done`.
+-- `partner_import::start_fine` meets its contract: the loop keeps what has been done equal to its part of the whole; by `every-none`, `every-next`, `every-no`, `every-done`.
 use Prim.Native.Nat.{_-_, _≤_}
 use mathlib.Core.Path.{_≡_, sym, _∙_}
 use mathlib.Core.Bool.{true}
 use borrow.Author.Tests.{not-true, not-false}
 use Rattle.partner_import.specs.Import.{startFine}
 use Rattle.laws.specs.Loops.{every}
-use Rattle.laws.proofs.Every.{every-none, every-more, every-no, every-done}
+use Rattle.laws.proofs.Every.{every-none, every-next, every-no, every-done}
 use borrow.Author.Needs.{needs}
 use native.Mathlib.Omega.{arith}
 use Rattle.partner_import.proofs.start_fine.Statement.{statement}
@@ -54,7 +54,7 @@ loop-again c =
     let the-value-of = c .before .before .value-of in
     let the-loop-test = c .before .before .before .before .loop-test in
     let the-loop = c .before .before .before .before .before .loop in (
-      every-more _ _ (the-loop .inv .0) (sym (rw (the-value-of .ensures) at (c .before .in-domain .ensures)) ∙ not-false _ (c .if1 .left)),
+      every-next _ _ (the-loop .inv .0) (sym (rw (the-value-of .ensures) at (c .before .in-domain .ensures)) ∙ not-false _ (c .if1 .left)),
       omega
           (arith, the-loop-test .taken),
     )

@@ -1,9 +1,11 @@
+-- `partner_load::load_offsets` meets its contract: the loop keeps `Fetches` and `ListsBegin`; by `lists-start`, `lists-over`, `lists-next`, `lists-counted`,
+-- `fetches-start`, `fetches-next` and others.
 use mathlib.Core.Path.{sym}
 use Prim.Native.Nat.{_+_, _-_}
-use Rattle.partner_load.proofs.Counted.{ListsBegin, lists-start, lists-next, lists-more, lists-counted}
+use Rattle.partner_load.proofs.Counted.{ListsBegin, lists-start, lists-over, lists-next, lists-counted}
 use Rattle.partner_load.specs.Loaded.{linksBelow, offsetsLoaded}
 use Rattle.partner.specs.Partner.{wholeLinks}
-use Rattle.areas.proofs.Fetched.{Fetches, fetches-start, fetches-more, fetches-done}
+use Rattle.areas.proofs.Fetched.{Fetches, fetches-start, fetches-next, fetches-done}
 use borrow.Author.Needs.{needs}
 use native.Mathlib.Omega.{arith}
 use Rattle.partner_load.proofs.load_offsets.Statement.{statement}
@@ -31,7 +33,10 @@ mul-offsets : tie.Need-mul-offsets Inv-loop μ-loop
 mul-offsets c = search needs
 
 slice-write-offsets : tie.Need-slice-write-offsets Inv-loop μ-loop
-slice-write-offsets c = omega (arith, c .before .before .before .before .before .pre .1, c .before .before .loop .inv .0 .size, c .before .loop-test .taken)
+slice-write-offsets c =
+    let the-loop = c .before .before .loop in
+    let the-start = c .before .before .before .before .before in
+    omega (arith, the-start .pre .1, the-loop .inv .0 .size, c .before .loop-test .taken)
 
 add-j : tie.Need-add-j Inv-loop μ-loop
 add-j c = search needs
@@ -40,7 +45,14 @@ loop-less : tie.Need-loop-less Inv-loop μ-loop
 loop-less c = search needs
 
 loop-again : tie.Need-loop-again Inv-loop μ-loop
-loop-again c = (rw (sym (lists-counted (c .before .before .before .before .before .pre .3) (lists-next (c .before .before .loop .inv .1) (c .list-from .ensures .0) (c .list-from .ensures .1) (c .list-from .ensures .2)) (c .list-from .ensures .3))) (fetches-more (c .before .before .before .before .before .pre .1) (omega (arith, c .before .loop-test .taken)) (c .before .before .loop .inv .0)), lists-more (lists-next (c .before .before .loop .inv .1) (c .list-from .ensures .0) (c .list-from .ensures .1) (c .list-from .ensures .2)))
+loop-again c =
+    let the-loop = c .before .before .loop in
+    let the-start = c .before .before .before .before .before in (
+      rw (sym (lists-counted (the-start .pre .3) (lists-over (the-loop .inv .1) (c .list-from .ensures .0) (c .list-from .ensures .1) (c .list-from .ensures .2))
+          (c .list-from .ensures .3))) (fetches-next (the-start .pre .1) (omega (arith, c .before .loop-test .taken)) (the-loop .inv .0)),
+      lists-next
+          (lists-over (the-loop .inv .1) (c .list-from .ensures .0) (c .list-from .ensures .1) (c .list-from .ensures .2)),
+    )
 
 same-length : tie.Need-same-length Inv-loop μ-loop
 same-length c = search needs

@@ -1,7 +1,7 @@
--- `partner_write::put_list` meets its contract: the loop keeps `RowsPut`; by `rows-put-start`, `rows-put-done`, `link-more`, `link-size`.
+-- `partner_write::put_list` meets its contract: the loop keeps `RowsPut`; by `rows-put-start`, `rows-put-done`, `link-next`, `link-size`.
 use Prim.Native.Nat.{_+_, _-_, _*_}
 use Rattle.partner_write.specs.Write.{linkAt}
-use Rattle.partner_write.proofs.Laws.{RowsPut, rows-put-start, rows-put-done, link-more, link-size}
+use Rattle.partner_write.proofs.Laws.{RowsPut, rows-put-start, rows-put-done, link-next, link-size}
 use borrow.Author.Needs.{needs}
 use native.Mathlib.Omega.{arith}
 use Rattle.partner_write.proofs.put_list.Statement.{statement}
@@ -72,7 +72,7 @@ loop-again c =
     let the-loop-test = c .before .before .before .before .before .before .loop-test in
     let the-loop = c .before .before .before .before .before .before .before .loop in
     let the-start = c .before .before .before .before .before .before .before .before .before .before .before in
-    link-more (the-start .args .a) (the-loop .inv) (the-loop-test .taken) (the-start .pre .2) (λ j. link-size _ _ _) (the-put-link .kept .0)
+    link-next (the-start .args .a) (the-loop .inv) (the-loop-test .taken) (the-start .pre .2) (λ j. link-size _ _ _) (the-put-link .kept .0)
     (the-put-link .ensures)
 
 same-length : tie.Need-same-length Inv-loop μ-loop

@@ -1,7 +1,7 @@
--- `partner_write::put_lists` meets its contract: the loop keeps `RowsPut`; by `rows-put-start`, `list-within`, `list-more`, `lists-end`.
+-- `partner_write::put_lists` meets its contract: the loop keeps `RowsPut`; by `rows-put-start`, `list-within`, `list-next`, `lists-end`.
 use Prim.Native.Nat.{_+_, _-_}
 use Rattle.partner_write.specs.Write.{listRecords}
-use Rattle.partner_write.proofs.Laws.{RowsPut, rows-put-start, list-within, list-more, lists-end}
+use Rattle.partner_write.proofs.Laws.{RowsPut, rows-put-start, list-within, list-next, lists-end}
 use borrow.Author.Needs.{needs}
 use native.Mathlib.Omega.{arith}
 use Rattle.partner_write.proofs.put_lists.Statement.{statement}
@@ -75,7 +75,7 @@ loop-again c =
     let the-loop-test = c .before .before .before .before .before .before .loop-test in
     let the-loop = c .before .before .before .before .before .before .before .loop in
     let the-start = c .before .before .before .before .before .before .before .before .before .before .before .before in
-    list-more (the-start .pre .0) (the-loop .inv) (the-loop-test .taken) (the-put-list .kept .0) (the-put-list .ensures)
+    list-next (the-start .pre .0) (the-loop .inv) (the-loop-test .taken) (the-put-list .kept .0) (the-put-list .ensures)
 
 same-length : tie.Need-same-length Inv-loop μ-loop
 same-length c = c .before .loop .inv .size

@@ -1,3 +1,4 @@
+-- `prepare_strip::prepare_strip` meets its contract: by `barred-outcome`, `passed-on`.
 use Rattle.prepare_strip.proofs.Laws.{barred-outcome, passed-on}
 use mathlib.Core.Path.{sym, _∙_}
 use borrow.Author.Needs.{needs}
@@ -41,7 +42,13 @@ same-length-9 : tie.Need-same-length-9
 same-length-9 c = search needs
 
 returns-2 : tie.Need-returns-2
-returns-2 c = c .before .before .before .before .before .before .before .before .before .before .before .before .before .before .before .before .before .before .prepare .ensures ∙ passed-on _ _ _ _ _ (sym (c .before .before .before .before .before .before .before .before .before .before .before .before .before .before .before .before .before .before .before .before .before .before .before .before .before .before .before .before .before .strip-bars .ensures) ∙ c .before .before .before .before .before .before .before .before .before .before .before .before .before .before .before .before .before .before .before .before .before .before .before .before .before .before .before .before .if1 .left)
+returns-2 c =
+    let far-1 = c .before .before .before .before .before .before .before .before .before .before .before .before in
+    let the-prepare = far-1 .before .before .before .before .before .before .prepare in
+    let far-2 = far-1 .before .before .before .before .before .before .before .before .before .before .before .before in
+    let the-if1 = far-2 .before .before .before .before .if1 in
+    let the-strip-bars = far-2 .before .before .before .before .before .strip-bars in
+    the-prepare .ensures ∙ passed-on _ _ _ _ _ (sym (the-strip-bars .ensures) ∙ the-if1 .left)
 
 pub prepare-strip-spec : {M : Type 1} → statement M
 prepare-strip-spec =

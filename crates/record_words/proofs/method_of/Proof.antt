@@ -1,3 +1,4 @@
+-- `record_words::method_of` meets its contract: each need follows from its own premises.
 use borrow.Author.Tests.{eq-eqb, ne-eqb}
 use Rattle.record_words.specs.RecordWords.{methodOf}
 use Rattle.record_words.proofs.method_of.Statement.{statement}

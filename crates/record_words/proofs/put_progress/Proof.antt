@@ -1,3 +1,4 @@
+-- `record_words::put_progress` meets its contract: from what its calls promise.
 use lib.ListN.{length-set}
 use Rattle.record_words.specs.RecordWords.{progressPut}
 use borrow.Author.Needs.{needs}

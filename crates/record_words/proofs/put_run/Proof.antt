@@ -1,3 +1,4 @@
+-- `record_words::put_run` meets its contract: from what its calls promise.
 use Rattle.record_words.specs.RecordWords.{runPut}
 use borrow.Author.Needs.{needs}
 use Rattle.record_words.proofs.put_run.Statement.{statement}
@@ -14,7 +15,10 @@ same-length c = search needs
 
 returns : tie.Need-returns
 unfolding runPut
-returns c = rw (c .before .before .put-progress .ensures, c .before .before .before .before .before .before .put-settings .ensures)
+returns c =
+    let the-put-progress = c .before .before .put-progress in
+    let the-put-settings = c .before .before .before .before .before .before .put-settings in
+    rw (the-put-progress .ensures, the-put-settings .ensures)
 
 pub put-run-spec : {M : Type 1} → statement M
 put-run-spec =

@@ -1,3 +1,4 @@
+-- `record_words::put_settings` meets its contract: from what its calls promise.
 use lib.ListN.{length-set}
 use Rattle.record_words.specs.RecordWords.{settingsPut}
 use borrow.Author.Needs.{needs}
@@ -52,7 +53,11 @@ same-length c = search needs
 
 returns : tie.Need-returns
 unfolding settingsPut
-returns c = rw (c .before .before .before .before .method-word .ensures, c .before .before .before .bits-of .ensures, c .before .before .bits-of2 .ensures, c .before .bits-of3 .ensures, c .bits-of4 .ensures)
+returns c =
+    let the-bits-of2 = c .before .before .bits-of2 in
+    let the-bits-of = c .before .before .before .bits-of in
+    let the-method-word = c .before .before .before .before .method-word in
+    rw (the-method-word .ensures, the-bits-of .ensures, the-bits-of2 .ensures, c .before .bits-of3 .ensures, c .bits-of4 .ensures)
 
 pub put-settings-spec : {M : Type 1} → statement M
 put-settings-spec =

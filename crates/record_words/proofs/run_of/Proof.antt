@@ -1,3 +1,4 @@
+-- `record_words::run_of` meets its contract: from what its calls promise.
 use Rattle.record_words.specs.RecordWords.{runOf}
 use borrow.Author.Needs.{needs}
 use Rattle.record_words.proofs.run_of.Statement.{statement}
@@ -26,7 +27,10 @@ shared-slice-read-t15 c = search needs
 
 returns : tie.Need-returns
 unfolding runOf
-returns c = rw (c .before .before .before .before .before .before .settings-of .ensures, c .before .before .before .before .standing-of .ensures)
+returns c =
+    let the-standing-of = c .before .before .before .before .standing-of in
+    let the-settings-of = c .before .before .before .before .before .before .settings-of in
+    rw (the-settings-of .ensures, the-standing-of .ensures)
 
 pub run-of-spec : {M : Type 1} → statement M
 run-of-spec =

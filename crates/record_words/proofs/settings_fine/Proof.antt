@@ -1,3 +1,4 @@
+-- `record_words::settings_fine` meets its contract: each need follows from its own premises.
 use borrow.Author.Tests.{le-leb, lt-leb}
 use Rattle.record_words.specs.RecordWords.{settingsFine}
 use borrow.Author.Needs.{needs}

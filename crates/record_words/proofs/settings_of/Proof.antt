@@ -1,3 +1,4 @@
+-- `record_words::settings_of` meets its contract: from what its calls promise.
 use Rattle.record_words.specs.RecordWords.{settingsOf}
 use borrow.Author.Needs.{needs}
 use Rattle.record_words.proofs.settings_of.Statement.{statement}
@@ -47,7 +48,13 @@ shared-slice-read-t22 c = search needs
 
 returns : tie.Need-returns
 unfolding settingsOf
-returns c = rw (c .before .before .before .before .before .before .before .before .before .before .before .before .value-of .ensures, c .before .before .before .before .before .before .before .before .before .before .value-of2 .ensures, c .before .before .before .before .before .before .before .before .value-of3 .ensures, c .before .before .before .before .before .before .value-of4 .ensures, c .before .before .before .before .method-of .ensures)
+returns c =
+    let the-method-of = c .before .before .before .before .method-of in
+    let the-value-of4 = c .before .before .before .before .before .before .value-of4 in
+    let the-value-of3 = c .before .before .before .before .before .before .before .before .value-of3 in
+    let the-value-of2 = c .before .before .before .before .before .before .before .before .before .before .value-of2 in
+    let the-value-of = c .before .before .before .before .before .before .before .before .before .before .before .before .value-of in
+    rw (the-value-of .ensures, the-value-of2 .ensures, the-value-of3 .ensures, the-value-of4 .ensures, the-method-of .ensures)
 
 pub settings-of-spec : {M : Type 1} → statement M
 settings-of-spec =

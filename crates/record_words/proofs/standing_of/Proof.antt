@@ -1,3 +1,4 @@
+-- `record_words::standing_of` meets its contract: each need follows from its own premises.
 use borrow.Author.Tests.{eq-eqb, ne-eqb}
 use Rattle.record_words.specs.RecordWords.{standingOf}
 use Rattle.record_words.proofs.standing_of.Statement.{statement}

@@ -1,3 +1,4 @@
+-- `replay::put_counts` meets its contract: by `puts-then`.
 use Rattle.replay.specs.Line.{countsText}
 use Rattle.text.proofs.Puts.{puts-then}
 use borrow.Author.Needs.{needs}
@@ -34,7 +35,18 @@ same-length c = search needs
 
 returns : tie.Need-returns
 unfolding countsText
-returns c = (puts-then (puts-then (puts-then (puts-then (c .before .before .before .before .before .before .before .before .before .before .before .before .before .before .before .before .before .before .before .before .put .ensures) (c .before .before .before .before .before .before .before .before .before .before .before .before .before .before .before .before .put-decimal .ensures .0)) (c .before .before .before .before .before .before .before .before .before .before .before .put2 .ensures)) (c .before .before .before .before .before .before .before .put-decimal2 .ensures .0)) (c .before .before .put3 .ensures), omega (arith, c .before .before .before .before .before .before .before .before .before .before .before .before .before .before .before .before .before .before .before .before .put .ensures .place, c .before .before .before .before .before .before .before .before .before .before .before .before .before .before .before .before .put-decimal .ensures .1, c .before .before .before .before .before .before .before .before .before .before .before .put2 .ensures .place, c .before .before .before .before .before .before .before .put-decimal2 .ensures .1, c .before .before .put3 .ensures .place))
+returns c =
+    let the-put3 = c .before .before .put3 in
+    let the-put-decimal2 = c .before .before .before .before .before .before .before .put-decimal2 in
+    let the-put2 = c .before .before .before .before .before .before .before .before .before .before .before .put2 in
+    let the-put-decimal = c .before .before .before .before .before .before .before .before .before .before .before .before .before .before .before .before .put-decimal in
+    let far-1 = c .before .before .before .before .before .before .before .before .before .before .before .before in
+    let the-put = far-1 .before .before .before .before .before .before .before .before .put in (
+      puts-then (puts-then (puts-then (puts-then (the-put .ensures) (the-put-decimal .ensures .0)) (the-put2 .ensures)) (the-put-decimal2 .ensures .0))
+          (the-put3 .ensures),
+      omega
+          (arith, the-put .ensures .place, the-put-decimal .ensures .1, the-put2 .ensures .place, the-put-decimal2 .ensures .1, the-put3 .ensures .place),
+    )
 
 pub put-counts-spec : {M : Type 1} → statement M
 put-counts-spec =

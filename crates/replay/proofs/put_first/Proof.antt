@@ -1,3 +1,4 @@
+-- `replay::put_first` meets its contract: by `puts-then`.
 use borrow.Author.Tests.{eq-eqb, ne-eqb}
 use Rattle.replay.specs.Line.{firstText}
 use Rattle.text.proofs.Puts.{puts-then}
@@ -38,7 +39,12 @@ same-length-2 c = search needs
 
 returns-2 : tie.Need-returns-2
 unfolding firstText
-returns-2 c = rw (ne-eqb _ _ (c .before .before .before .before .before .before .before .before .before .before .before .before .before .before .if1 .left)) (puts-then (puts-then (c .before .before .before .before .before .before .before .before .before .before .before .put2 .ensures) (c .before .before .before .before .before .before .before .put-decimal .ensures .0)) (c .before .before .put3 .ensures))
+returns-2 c =
+    let the-put3 = c .before .before .put3 in
+    let the-put-decimal = c .before .before .before .before .before .before .before .put-decimal in
+    let the-put2 = c .before .before .before .before .before .before .before .before .before .before .before .put2 in
+    let the-if1 = c .before .before .before .before .before .before .before .before .before .before .before .before .before .before .if1 in
+    rw (ne-eqb _ _ (the-if1 .left)) (puts-then (puts-then (the-put2 .ensures) (the-put-decimal .ensures .0)) (the-put3 .ensures))
 
 pub put-first-spec : {M : Type 1} → statement M
 put-first-spec =

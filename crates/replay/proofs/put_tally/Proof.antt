@@ -1,3 +1,4 @@
+-- `replay::put_tally` meets its contract: by `puts-then`.
 use Rattle.replay.specs.Line.{talliedText}
 use Rattle.text.proofs.Puts.{puts-then}
 use borrow.Author.Needs.{needs}
@@ -24,7 +25,12 @@ same-length c = search needs
 
 returns : tie.Need-returns
 unfolding talliedText
-returns c = puts-then (puts-then (rw (c .before .before .before .before .before .before .before .before .before .before .before .before .before .shown .ensures .1 .1) at (c .before .before .before .before .before .before .before .before .before .before .put .ensures)) (c .before .before .before .before .before .before .put-counts .ensures .0)) (c .before .before .put-first .ensures)
+returns c =
+    let the-put-first = c .before .before .put-first in
+    let the-put-counts = c .before .before .before .before .before .before .put-counts in
+    let the-put = c .before .before .before .before .before .before .before .before .before .before .put in
+    let the-shown = c .before .before .before .before .before .before .before .before .before .before .before .before .before .shown in
+    puts-then (puts-then (rw (the-shown .ensures .1 .1) at (the-put .ensures)) (the-put-counts .ensures .0)) (the-put-first .ensures)
 
 pub put-tally-spec : {M : Type 1} → statement M
 put-tally-spec =

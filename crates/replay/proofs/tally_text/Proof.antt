@@ -1,3 +1,4 @@
+-- `replay::tally_text` meets its contract: by `puts-front`.
 use Rattle.text.proofs.Puts.{puts-front}
 use borrow.Author.Needs.{needs}
 use Rattle.replay.proofs.tally_text.Statement.{statement}

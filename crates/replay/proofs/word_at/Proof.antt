@@ -1,3 +1,4 @@
+-- `replay::word_at` meets its contract: from what its calls promise.
 use borrow.Author.Tests.{lt-ltb, le-ltb}
 use Rattle.replay.specs.Replay.{wordOf}
 use borrow.Author.Needs.{needs}

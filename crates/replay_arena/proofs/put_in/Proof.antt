@@ -1,5 +1,8 @@
 -- `replay_arena::put_in` meets its contract: a walk of its MIR. Printed (tests/walks_local).
+-- Locals: l0 the answer, l1 cells, l2 k, l3 positions, l4 n, l5 used, l6 j, l7 c, from l8 on the code's own, as `rt mir` numbers them. On entry local li is
+-- thing 26 - 2·i of what is held; what is put in front of it moves it up.
 -- Assumes nothing.
+use Rattle.lent.proofs.Beside.{_∥_}
 use mathlib.Core.Path.{refl}
 use Prim.Native.Nat.{ℕ, _^_}
 use mathlib.Core.List.{List, [], _∷_, _++_}
@@ -76,7 +79,8 @@ abbrev Arg : Type 0
 Arg = List Cell × (ℕ × (RefT (List Float) × (ℕ × (ℕ × (ℕ × (ℕ × (Unit {0})))))))
 
 abbrev stayed : Stays (f.ended .signature .params) (f.ended .kept)
-stayed = (stay-none (λ _. (Array Cell′.the-row 512)) yes, (stay-none (λ _. usize) yes, (stay-none-slice (0 ∷ []) tt (plain (λ _. f64)) yes, (stay-none (λ _. usize) yes, (stay-none (λ _. usize) yes, (stay-none (λ _. u32) yes, (stay-none (λ _. usize) yes, tt)))))))
+stayed = (stay-none (λ _. (Array Cell′.the-row 512)) yes ∥ stay-none (λ _. usize) yes ∥ stay-none-slice (0 ∷ []) tt (plain (λ _. f64)) yes ∥
+    stay-none (λ _. usize) yes ∥ stay-none (λ _. usize) yes ∥ stay-none (λ _. u32) yes ∥ stay-none (λ _. usize) yes ∥ tt)
 
 module _ {M : Type 1} (𝓤 : URA M) (H : Heap 𝓤) (A : Atoms 𝓤) (W : Given 𝓤 H A) (mem : Memory → SProp 𝓤) (run-of : Routine → Fun 𝓤)
     (cells : List Cell) (g-cells : Is (Array Cell′.the-row 512) cells (array-vals (LL.vals Cell′.the-type Cell″.the-laws) cells))
@@ -90,7 +94,7 @@ module _ {M : Type 1} (𝓤 : URA M) (H : Heap 𝓤) (A : Atoms 𝓤) (W : Given
   x = (cells, (k₀, (ref-at s-positions positions, (n, (used, (j, (c, tt)))))))
 
   abbrev at : Vals f.signature (s-positions .life, tt)
-  at = (array-val (LL.vals Cell′.the-type Cell″.the-laws) cells ∷ [], (vint w64 k₀ ∷ [], (word s-positions ∷ [], (vint w64 n ∷ [], (vint w64 used ∷ [], (vint w32 j ∷ [], (vint w64 c ∷ [], tt)))))))
+  at = (array-val (LL.vals Cell′.the-type Cell″.the-laws) cells ∷ [] ∥ vint w64 k₀ ∷ [] ∥ word s-positions ∷ [] ∥ vint w64 n ∷ [] ∥ vint w64 used ∷ [] ∥ vint w32 j ∷ [] ∥ vint w64 c ∷ [] ∥ tt)
 
   abbrev Post : Val → SProp 𝓤
   Post = walkOf 𝓤 H A f.ended stayed (f.clauses 𝓤 H A mem run-of) .post (((s-positions .life, tt), (s-positions .share, tt), tt, x, at), tt)
@@ -101,42 +105,86 @@ module _ {M : Type 1} (𝓤 : URA M) (H : Heap 𝓤) (A : Atoms 𝓤) (W : Given
   typed-Put : (v : Put) → IsPut v → T (hasTy Put″.mir (val-Put v)) × WT (val-Put v)
   typed-Put v g = LL.lawful Put′.the-type Put″.the-laws 𝓤 H A W .typed v _ g .0
 
-  exits : (res : Put) → IsPut res → (toldBy k₀ res ≡ insertOf positions c j (tree used (front k₀ cells))) × (behind k₀ (res .cells) ≡ behind k₀ cells) → ent 𝓤 (⋆ 𝓤 H A (‵ (Shr f64 s-positions positions) ∷ ‵ (Tok s-positions) ∷ [])) (Post (val-Put res))
+  exits : (res : Put) → IsPut res → (toldBy k₀ res ≡ insertOf positions c j (tree used (front k₀ cells))) × (behind k₀ (res .cells) ≡ behind k₀ cells) →
+      ent 𝓤 (⋆ 𝓤 H A (‵ (Shr f64 s-positions positions) ∷ ‵ (Tok s-positions) ∷ [])) (Post (val-Put res))
   exits res is e =
       qed W (‵ (Shr f64 s-positions positions) ∷ ‵ (Tok s-positions) ∷ []) ∵
-      suffices ! _ (ends-at 𝓤 H A f.ended stayed (f.clauses 𝓤 H A mem run-of) W (((s-positions .life, tt), (s-positions .share, tt), tt, x, at), tt) (val-Put res) res (tt, (tt, (tt, (tt, (tt, (tt, (tt, tt))))))) (tt, (tt, (tt, (tt, (tt, (tt, (tt, tt)))))))) $ says ! e $
-      nothing ! $ move ! (2 ∷ 0 ∷ []) $ join ! $ frame ! $ nothing ! $ owned ! usize (Is usize) (uint-makes 𝓤 H A W w64) c _ (refl, g-c) $ fjoin ! $ owned ! u32 (Is u32) (uint-makes 𝓤 H A W w32) j _ (refl, g-j) $ fjoin ! $ owned ! usize (Is usize) (uint-makes 𝓤 H A W w64) used _ (refl, g-used) $ fjoin ! $ owned ! usize (Is usize) (uint-makes 𝓤 H A W w64) n _ (refl, g-n) $ fjoin ! $ move ! (1 ∷ 0 ∷ []) $ fjoin ! $ owned ! usize (Is usize) (uint-makes 𝓤 H A W w64) k₀ _ (refl, g-k₀) $ fjoin ! $ owned ! (Array Cell′.the-row 512) (Is (Array Cell′.the-row 512)) (array-makes 𝓤 H A W Cell′.the-row ((LL.makes Cell′.the-type Cell″.the-plain) 𝓤 H A) 512) cells _ g-cells $ fjoin ! $ frame ! $ owned ! Put′.the-row (Is Put′.the-row) ((LL.makes Put′.the-type Put″.the-plain) 𝓤 H A) res _ is $ done !
+      suffices ! _ (ends-at 𝓤 H A f.ended stayed (f.clauses 𝓤 H A mem run-of) W (((s-positions .life, tt), (s-positions .share, tt), tt, x, at), tt)
+      (val-Put res) res (tt, (tt, (tt, (tt, (tt, (tt, (tt, tt))))))) (tt, (tt, (tt, (tt, (tt, (tt, (tt, tt)))))))) $ says ! e $
+      nothing ! $ move ! (2 ∷ 0 ∷ []) $ join ! $ frame ! $ nothing ! $ owned ! usize (Is usize) (uint-makes 𝓤 H A W w64) c _ (refl, g-c) $ fjoin ! $
+      owned ! u32 (Is u32) (uint-makes 𝓤 H A W w32) j _ (refl, g-j) $ fjoin ! $ owned ! usize (Is usize) (uint-makes 𝓤 H A W w64) used _ (refl, g-used) $
+      fjoin ! $ owned ! usize (Is usize) (uint-makes 𝓤 H A W w64) n _ (refl, g-n) $ fjoin ! $ move ! (1 ∷ 0 ∷ []) $ fjoin ! $
+      owned ! usize (Is usize) (uint-makes 𝓤 H A W w64) k₀ _ (refl, g-k₀) $ fjoin ! $
+      owned ! (Array Cell′.the-row 512) (Is (Array Cell′.the-row 512))
+      (array-makes 𝓤 H A W Cell′.the-row ((LL.makes Cell′.the-type Cell″.the-plain) 𝓤 H A) 512) cells _ g-cells $ fjoin ! $ frame ! $
+      owned ! Put′.the-row (Is Put′.the-row) ((LL.makes Put′.the-type Put″.the-plain) 𝓤 H A) res _ is $ done !
 
-  module _ (C : Calls 𝓤 H) (Λ : Loops 𝓤 H) (fm : FmC 𝓤 H (W .laws) C) (known-insert : Triple 𝓤 (C #tree·insertion·insert) (Contract-insert 𝓤 H A mem run-of)) (known-put-of : Triple 𝓤 (C #replay-arena·put-of) (Contract-put-of 𝓤 H A mem run-of)) where
-    walk : (Axes c) × (k₀ ≤ 512) × (n * c ≤ length positions) × (j < n) × (n < mostWord) × (fineOf k₀ used n c cells ≡ true) → ent 𝓤 (onEntry 𝓤 H A f.signature (s-positions .life, tt) (s-positions .share, tt) x at) (WpFn 𝓤 H C Λ code.function (array-val (LL.vals Cell′.the-type Cell″.the-laws) cells ∷ vint w64 k₀ ∷ word s-positions ∷ vint w64 n ∷ vint w64 used ∷ vint w32 j ∷ vint w64 c ∷ []) Post)
+  module _ (C : Calls 𝓤 H) (Λ : Loops 𝓤 H) (fm : FmC 𝓤 H (W .laws) C) (known-insert : Triple 𝓤 (C #tree·insertion·insert) (Contract-insert 𝓤 H A mem run-of))
+      (known-put-of : Triple 𝓤 (C #replay-arena·put-of) (Contract-put-of 𝓤 H A mem run-of)) where
+    walk : (Axes c) × (k₀ ≤ 512) × (n * c ≤ length positions) × (j < n) × (n < mostWord) × (fineOf k₀ used n c cells ≡ true) →
+        ent 𝓤 (onEntry 𝓤 H A f.signature (s-positions .life, tt) (s-positions .share, tt) x at)
+        (WpFn 𝓤 H C Λ code.function (array-val (LL.vals Cell′.the-type Cell″.the-laws) cells ∷ vint w64 k₀ ∷ word s-positions ∷ vint w64 n ∷ vint w64 used ∷
+        vint w32 j ∷ vint w64 c ∷ []) Post)
     walk ready =
-        qed W ((‵ (Tok s-positions) ⊛ ‵ ftrue) ∷ ‵ (owns ((Array Cell′.the-row 512) ∷ usize ∷ ShrSlice (named 0) (s-positions .life) f64 ∷ usize ∷ usize ∷ u32 ∷ usize ∷ []) x at) ∷ []) ∵ enter ! C Λ code.function (array-val (LL.vals Cell′.the-type Cell″.the-laws) cells ∷ vint w64 k₀ ∷ word s-positions ∷ vint w64 n ∷ vint w64 used ∷ vint w32 j ∷ vint w64 c ∷ []) _ $
-        alloc1 ! (λ l0. alloc1 ! (λ l1. alloc1 ! (λ l2. alloc1 ! (λ l3. alloc1 ! (λ l4. alloc1 ! (λ l5. alloc1 ! (λ l6. alloc1 ! (λ l7. alloc1 ! (λ l8. alloc1 ! (λ l9. alloc1 ! (λ l10. alloc1 ! (λ l11. alloc1 ! (λ l12. alloc1 ! (λ l13. alloc0 ! $ params1 ! $
-        pass1 ! (init ! 24 refl (array-lawful 𝓤 H A W Cell′.the-row (LL.lawful Cell′.the-type Cell″.the-laws 𝓤 H A W) 512 .typed cells _ g-cells .0)) $ pass1 ! (init ! 22 refl (tt, record { fits = g-k₀ })) $ pass1 ! (init ! 20 refl (tt, (tt, (record { fits = room-positions .0 }, tt)))) $ pass1 ! (init ! 18 refl (tt, record { fits = g-n })) $ pass1 ! (init ! 16 refl (tt, record { fits = g-used })) $ pass1 ! (init ! 14 refl (tt, record { fits = g-j })) $ pass1 ! (init ! 12 refl (tt, record { fits = g-c })) $ pass0 ! $
-        move ! (29 ∷ []) $ fsplit ! $ drop ! $ fsplit ! $ drop ! $ fsplit ! $ move ! (1 ∷ []) $ fsplit ! $ drop ! $ fsplit ! $ drop ! $ fsplit ! $ drop ! $ fsplit ! $ drop ! $ drop ! $ move ! (29 ∷ []) $ split ! $ move ! (1 ∷ []) $ drop ! $ move ! (1 ∷ 0 ∷ []) $
-        assigns ! (of-opd ! (load ! (from ! (stop !)) (look ! 26 refl))) (from ! (stop !)) (init ! 12 refl (array-lawful 𝓤 H A W Cell′.the-row (LL.lawful Cell′.the-type Cell″.the-laws 𝓤 H A W) 512 .typed cells _ g-cells .0)) $
+        qed W ((‵ (Tok s-positions) ⊛ ‵ ftrue) ∷
+        ‵ (owns ((Array Cell′.the-row 512) ∷ usize ∷ ShrSlice (named 0) (s-positions .life) f64 ∷ usize ∷ usize ∷ u32 ∷ usize ∷ []) x at) ∷ []) ∵
+        enter ! C Λ code.function (array-val (LL.vals Cell′.the-type Cell″.the-laws) cells ∷ vint w64 k₀ ∷ word s-positions ∷ vint w64 n ∷ vint w64 used ∷
+        vint w32 j ∷ vint w64 c ∷ []) _ $
+        alloc1 ! (λ l0. alloc1 ! (λ l1. alloc1 ! (λ l2. alloc1 ! (λ l3. alloc1 ! (λ l4. alloc1 ! (λ l5. alloc1 ! (λ l6. alloc1 ! (λ l7. alloc1 ! (λ l8.
+        alloc1 ! (λ l9. alloc1 ! (λ l10. alloc1 ! (λ l11. alloc1 ! (λ l12. alloc1 ! (λ l13. alloc0 ! $ params1 ! $
+        pass1 ! (init ! 24 refl (array-lawful 𝓤 H A W Cell′.the-row (LL.lawful Cell′.the-type Cell″.the-laws 𝓤 H A W) 512 .typed cells _ g-cells .0)) $
+        pass1 ! (init ! 22 refl (tt, record { fits = g-k₀ })) $ pass1 ! (init ! 20 refl (tt, (tt, (record { fits = room-positions .0 }, tt)))) $
+        pass1 ! (init ! 18 refl (tt, record { fits = g-n })) $ pass1 ! (init ! 16 refl (tt, record { fits = g-used })) $
+        pass1 ! (init ! 14 refl (tt, record { fits = g-j })) $ pass1 ! (init ! 12 refl (tt, record { fits = g-c })) $ pass0 ! $
+        move ! (29 ∷ []) $ fsplit ! $ drop ! $ fsplit ! $ drop ! $ fsplit ! $ move ! (1 ∷ []) $ fsplit ! $ drop ! $ fsplit ! $ drop ! $ fsplit ! $ drop ! $
+        fsplit ! $ drop ! $ drop ! $ move ! (29 ∷ []) $ split ! $ move ! (1 ∷ []) $ drop ! $ move ! (1 ∷ 0 ∷ []) $
+        assigns ! (of-opd ! (load ! (from ! (stop !)) (look ! 26 refl))) (from ! (stop !))
+        (init ! 12 refl (array-lawful 𝓤 H A W Cell′.the-row (LL.lawful Cell′.the-type Cell″.the-laws 𝓤 H A W) 512 .typed cells _ g-cells .0)) $
         assigns ! (addr ! (from ! (stop !))) (from ! (stop !)) (init ! 6 refl (tt, tt)) $
-        assigns ! (agg ! (and-then ! (load ! (from ! (stop !)) (look ! 6 refl)) (and-then ! (load ! (from ! (stop !)) (look ! 24 refl)) (no-more !)))) (from ! (stop !)) (init ! 4 refl (tt, (tt, (record { fits = g-k₀ }, tt)))) $
+        assigns ! (agg ! (and-then ! (load ! (from ! (stop !)) (look ! 6 refl)) (and-then ! (load ! (from ! (stop !)) (look ! 24 refl)) (no-more !))))
+        (from ! (stop !)) (init ! 4 refl (tt, (tt, (record { fits = g-k₀ }, tt)))) $
         move ! (12 ∷ []) $
-        lend-front ! tt Cell′.the-row tt (LL.vals Cell′.the-type Cell″.the-laws) ((LL.makes Cell′.the-type Cell″.the-plain) 𝓤 H A) 512 l8 k₀ cells g-cells (lit< tt, lit< tt) (ready .1) (λ ν-own8 δ-own8 count-own8.
+        lend-front ! tt Cell′.the-row tt (LL.vals Cell′.the-type Cell″.the-laws) ((LL.makes Cell′.the-type Cell″.the-plain) 𝓤 H A) 512 l8 k₀ cells g-cells
+        (lit< tt, lit< tt) (ready .1) (λ ν-own8 δ-own8 count-own8.
         move ! (0 ∷ 1 ∷ 3 ∷ 4 ∷ []) $
-        calls-insert-mc ! fm mem run-of known-insert (local-at l8 k₀ ν-own8 δ-own8) (take k₀ cells) s-positions positions n used j c count-own8 g-n g-used g-j g-c (put-asks n used j c k₀ cells positions ready) (λ _ _ _. and-then ! (load ! (from ! (stop !)) (look ! 6 refl)) (and-then ! (load ! (from ! (stop !)) (look ! 23 refl)) (and-then ! (load ! (from ! (stop !)) (look ! 21 refl)) (and-then ! (load ! (from ! (stop !)) (look ! 19 refl)) (and-then ! (load ! (from ! (stop !)) (look ! 17 refl)) (and-then ! (load ! (from ! (stop !)) (look ! 15 refl)) (no-more !))))))) (λ r1 own81 e1 is1 l-own81.
+        calls-insert-mc ! fm mem run-of known-insert (local-at l8 k₀ ν-own8 δ-own8)
+        (take k₀ cells) s-positions positions n used j c count-own8 g-n g-used g-j g-c (put-asks n used j c k₀ cells positions ready)
+        (λ _ _ _. and-then ! (load ! (from ! (stop !)) (look ! 6 refl))
+        (and-then ! (load ! (from ! (stop !)) (look ! 23 refl))
+        (and-then ! (load ! (from ! (stop !)) (look ! 21 refl))
+        (and-then ! (load ! (from ! (stop !)) (look ! 19 refl))
+        (and-then ! (load ! (from ! (stop !)) (look ! 17 refl)) (and-then ! (load ! (from ! (stop !)) (look ! 15 refl)) (no-more !)))))))
+        (λ r1 own81 e1 is1 l-own81.
         land ! (from ! (stop !)) (init ! 13 refl (typed-Inserted r1 is1)) $
-        move ! (0 ∷ 1 ∷ 4 ∷ []) $ back-front ! tt Cell′.the-row (LL.vals Cell′.the-type Cell″.the-laws) (LL.tells Cell′.the-type Cell″.the-laws) 512 l8 k₀ ν-own8 δ-own8 cells own81 (g-cells .1 .0 .1) (λ le-own81 is-own81.
-        assigns ! (of-opd ! (load ! (from ! (stop !)) (look ! 0 refl))) (from ! (stop !)) (init ! 3 refl (array-lawful 𝓤 H A W Cell′.the-row (LL.lawful Cell′.the-type Cell″.the-laws 𝓤 H A W) 512 .typed (own81 ++ drop-list k₀ cells) _ is-own81 .0)) $
-        calls-put-of ! fm mem run-of known-put-of r1 (own81 ++ drop-list k₀ cells) is1 is-own81 (λ _. and-then ! (load ! (from ! (stop !)) (look ! 12 refl)) (and-then ! (load ! (from ! (stop !)) (look ! 4 refl)) (no-more !))) (λ r2 e2 is2.
+        move ! (0 ∷ 1 ∷ 4 ∷ []) $ back-front ! tt Cell′.the-row (LL.vals Cell′.the-type Cell″.the-laws)
+        (LL.tells Cell′.the-type Cell″.the-laws) 512 l8 k₀ ν-own8 δ-own8 cells own81 (g-cells .1 .0 .1) (λ le-own81 is-own81.
+        assigns ! (of-opd ! (load ! (from ! (stop !)) (look ! 0 refl))) (from ! (stop !))
+        (init ! 3 refl (array-lawful 𝓤 H A W Cell′.the-row (LL.lawful Cell′.the-type Cell″.the-laws 𝓤 H A W) 512 .typed
+        (own81 ++ drop-list k₀ cells) _ is-own81 .0)) $
+        calls-put-of ! fm mem run-of known-put-of r1 (own81 ++ drop-list k₀ cells) is1 is-own81 (λ _. and-then ! (load ! (from ! (stop !)) (look ! 12 refl))
+        (and-then ! (load ! (from ! (stop !)) (look ! 4 refl)) (no-more !))) (λ r2 e2 is2.
         land ! (from ! (stop !)) (init ! 9 refl (typed-Put r2 is2)) $
         assigns ! (of-opd ! (load ! (from ! (stop !)) (look ! 9 refl))) (from ! (stop !)) (init ! 28 refl (typed-Put r2 is2)) $
-        returns ! (look ! 28 refl) $ forget ! 3 refl $ forget ! 5 refl $ forget ! 7 refl $ forget ! 9 refl $ forget ! 11 refl $ forget ! 0 refl $ forget ! 14 refl $ forget ! 16 refl $ forget ! 18 refl $ forget ! 20 refl $ forget ! 22 refl $ forget ! 24 refl $ forget ! 26 refl $ forget ! 28 refl $
-        move ! (28 ∷ 29 ∷ []) $ free1 ! $ move ! (26 ∷ 27 ∷ []) $ free1 ! $ move ! (24 ∷ 25 ∷ []) $ free1 ! $ move ! (22 ∷ 23 ∷ []) $ free1 ! $ move ! (20 ∷ 21 ∷ []) $ free1 ! $ move ! (18 ∷ 19 ∷ []) $ free1 ! $ move ! (16 ∷ 17 ∷ []) $ free1 ! $ move ! (14 ∷ 15 ∷ []) $ free1 ! $ move ! (0 ∷ 13 ∷ []) $ free1 ! $ move ! (10 ∷ 11 ∷ []) $ free1 ! $ move ! (8 ∷ 9 ∷ []) $ free1 ! $ move ! (6 ∷ 7 ∷ []) $ free1 ! $ move ! (4 ∷ 5 ∷ []) $ free1 ! $ move ! (2 ∷ 3 ∷ []) $ free1 ! $ free0 ! $
+        returns ! (look ! 28 refl) $ forget ! 3 refl $ forget ! 5 refl $ forget ! 7 refl $ forget ! 9 refl $ forget ! 11 refl $ forget ! 0 refl $
+        forget ! 14 refl $ forget ! 16 refl $ forget ! 18 refl $ forget ! 20 refl $ forget ! 22 refl $ forget ! 24 refl $ forget ! 26 refl $
+        forget ! 28 refl $
+        move ! (28 ∷ 29 ∷ []) $ free1 ! $ move ! (26 ∷ 27 ∷ []) $ free1 ! $ move ! (24 ∷ 25 ∷ []) $ free1 ! $ move ! (22 ∷ 23 ∷ []) $ free1 ! $
+        move ! (20 ∷ 21 ∷ []) $ free1 ! $ move ! (18 ∷ 19 ∷ []) $ free1 ! $ move ! (16 ∷ 17 ∷ []) $ free1 ! $ move ! (14 ∷ 15 ∷ []) $ free1 ! $
+        move ! (0 ∷ 13 ∷ []) $ free1 ! $ move ! (10 ∷ 11 ∷ []) $ free1 ! $ move ! (8 ∷ 9 ∷ []) $ free1 ! $ move ! (6 ∷ 7 ∷ []) $ free1 ! $
+        move ! (4 ∷ 5 ∷ []) $ free1 ! $ move ! (2 ∷ 3 ∷ []) $ free1 ! $ free0 ! $
         keep ! (0 ∷ 1 ∷ []) $ by ! (exits r2 is2 (put-told n used j c k₀ cells positions ready r1 own81 e1 l-own81 r2 e2))))))))))))))))))))
 
 module _ {M : Type 1} (𝓤 : URA M) (H : Heap 𝓤) (A : Atoms 𝓤) (W : Given 𝓤 H A) (mem : Memory → SProp 𝓤) (run-of : Routine → Fun 𝓤) where
-  put-in-walks : (C : Calls 𝓤 H) (Λ : Loops 𝓤 H) → FmC 𝓤 H (W .laws) C → Triple 𝓤 (C #tree·insertion·insert) (Contract-insert 𝓤 H A mem run-of) → Triple 𝓤 (C #replay-arena·put-of) (Contract-put-of 𝓤 H A mem run-of) → Walks 𝓤 H A f.ended stayed (WpFn 𝓤 H C Λ code.function) (f.clauses 𝓤 H A mem run-of)
+  put-in-walks : (C : Calls 𝓤 H) (Λ : Loops 𝓤 H) → FmC 𝓤 H (W .laws) C → Triple 𝓤 (C #tree·insertion·insert) (Contract-insert 𝓤 H A mem run-of) →
+      Triple 𝓤 (C #replay-arena·put-of) (Contract-put-of 𝓤 H A mem run-of) →
+      Walks 𝓤 H A f.ended stayed (WpFn 𝓤 H C Λ code.function) (f.clauses 𝓤 H A mem run-of)
   put-in-walks C Λ fm known-insert known-put-of = walked 𝓤 H A f.ended stayed (f.clauses 𝓤 H A mem run-of) (WpFn 𝓤 H C Λ code.function)
-      (λ κs. (array-vals (LL.vals Cell′.the-type Cell″.the-laws), (uint-vals w64, (slice-vals, (uint-vals w64, (uint-vals w64, (uint-vals w32, (uint-vals w64, tt))))))))
-      (λ κs. (array-tells Cell′.the-row (LL.vals Cell′.the-type Cell″.the-laws) (LL.tells Cell′.the-type Cell″.the-laws) 512, (uint-tells w64, (shr-slice-tells (named 0) (κs .0) f64, (uint-tells w64, (uint-tells w64, (uint-tells w32, (uint-tells w64, tt))))))))
-      (λ κs qs bounds a _ are. needs 𝓤 ((Axes (a .1 .1 .1 .1 .1 .1 .0)) × ((a .1 .0) ≤ 512) × ((a .1 .1 .1 .0) * (a .1 .1 .1 .1 .1 .1 .0) ≤ length (a .1 .1 .0 .now)) × ((a .1 .1 .1 .1 .1 .0) < (a .1 .1 .1 .0)) × ((a .1 .1 .1 .0) < mostWord) × (fineOf (a .1 .0) (a .1 .1 .1 .1 .0) (a .1 .1 .1 .0) (a .1 .1 .1 .1 .1 .1 .0) (a .0) ≡ true)) _
+      (λ κs. (array-vals (LL.vals Cell′.the-type Cell″.the-laws) ∥ uint-vals w64 ∥ slice-vals ∥ uint-vals w64 ∥ uint-vals w64 ∥ uint-vals w32 ∥ uint-vals w64 ∥ tt))
+      (λ κs. (array-tells Cell′.the-row (LL.vals Cell′.the-type Cell″.the-laws) (LL.tells Cell′.the-type Cell″.the-laws) 512 ∥ uint-tells w64 ∥
+      shr-slice-tells (named 0) (κs .0) f64 ∥ uint-tells w64 ∥ uint-tells w64 ∥ uint-tells w32 ∥ uint-tells w64 ∥ tt))
+      (λ κs qs bounds a _ are. needs 𝓤 ((Axes (a .1 .1 .1 .1 .1 .1 .0)) × ((a .1 .0) ≤ 512) ×
+      ((a .1 .1 .1 .0) * (a .1 .1 .1 .1 .1 .1 .0) ≤ length (a .1 .1 .0 .now)) × ((a .1 .1 .1 .1 .1 .0) < (a .1 .1 .1 .0)) × ((a .1 .1 .1 .0) < mostWord) ×
+      (fineOf (a .1 .0) (a .1 .1 .1 .1 .0) (a .1 .1 .1 .0) (a .1 .1 .1 .1 .1 .1 .0) (a .0) ≡ true)) _
       (walk 𝓤 H A W mem run-of
       (a .0) (are .0)
       (a .1 .0) (are .1 .0 .1)
@@ -152,7 +200,10 @@ put-in-meets : {M : Type 1} (𝓤 : URA M) (H : Heap 𝓤) (A : Atoms 𝓤) → 
     → Triple 𝓤 (𝓣 .C #tree·insertion·insert) (Contract-insert 𝓤 H A mem run-of) → Triple 𝓤 (𝓣 .C #replay-arena·put-of) (Contract-put-of 𝓤 H A mem run-of)
     → Meets 𝓤 H A f.signature (WpFn 𝓤 H (𝓣 .C) (𝓣 .Λ) code.function) (f.spec 𝓤 H A mem run-of)
 put-in-meets 𝓤 H A W mem run-of 𝓣 known-insert known-put-of =
-    walk-meets 𝓤 H A f.ended stayed W (goes-none 𝓤 H A W 1 (λ _. (Array Cell′.the-row 512)) yes (λ κs x f. refl), (goes-none 𝓤 H A W 1 (λ _. usize) yes (λ κs x f. refl), (goes-none-slice 𝓤 H A W 1 (0 ∷ []) tt (plain (λ _. f64)) yes, (goes-none 𝓤 H A W 1 (λ _. usize) yes (λ κs x f. refl), (goes-none 𝓤 H A W 1 (λ _. usize) yes (λ κs x f. refl), (goes-none 𝓤 H A W 1 (λ _. u32) yes (λ κs x f. refl), (goes-none 𝓤 H A W 1 (λ _. usize) yes (λ κs x f. refl), tt))))))) (f.clauses 𝓤 H A mem run-of)
+    walk-meets 𝓤 H A f.ended stayed W (goes-none 𝓤 H A W 1 (λ _. (Array Cell′.the-row 512)) yes (λ κs x f. refl) ∥
+    goes-none 𝓤 H A W 1 (λ _. usize) yes (λ κs x f. refl) ∥ goes-none-slice 𝓤 H A W 1 (0 ∷ []) tt (plain (λ _. f64)) yes ∥
+    goes-none 𝓤 H A W 1 (λ _. usize) yes (λ κs x f. refl) ∥ goes-none 𝓤 H A W 1 (λ _. usize) yes (λ κs x f. refl) ∥
+    goes-none 𝓤 H A W 1 (λ _. u32) yes (λ κs x f. refl) ∥ goes-none 𝓤 H A W 1 (λ _. usize) yes (λ κs x f. refl) ∥ tt) (f.clauses 𝓤 H A mem run-of)
     (WpFn 𝓤 H (𝓣 .C) (𝓣 .Λ) code.function) (WpFn-mono 𝓤 H (W .laws) 𝓣 code.function) (put-in-walks 𝓤 H A W mem run-of (𝓣 .C) (𝓣 .Λ) (fmOf 𝓤 H (W .laws) 𝓣) known-insert known-put-of)
 
 pub put-in-spec : {M : Type 1} → stated.statement M

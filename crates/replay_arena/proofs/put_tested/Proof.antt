@@ -11,13 +11,17 @@ fine-in-requires : tie.Need-fine-in-requires
 fine-in-requires c κs = search needs
 
 returns : tie.Need-returns
-returns c = (λ e. absurd (true≢false (sym e ∙ sym (c .before .fine-in .ensures) ∙ not-true _ (c .if1 .taken))), λ _. refl, refl)
+returns c =
+    (λ e. absurd (true≢false (sym e ∙ sym (c .before .fine-in .ensures) ∙ not-true _ (c .if1 .taken))), λ _. refl, refl)
 
 put-in-requires : tie.Need-put-in-requires
-put-in-requires c κs = ((search needs), (search needs), (search needs), (search needs), (search needs), sym (c .before .fine-in .ensures) ∙ not-false _ (c .if1 .left))
+put-in-requires c κs =
+    ((search needs), (search needs), (search needs), (search needs), (search needs), sym (c .before .fine-in .ensures) ∙ not-false _ (c .if1 .left))
 
 returns-2 : tie.Need-returns-2
-returns-2 c = (λ _. c .put-in .ensures .0, λ e. absurd (true≢false (sym (not-false _ (c .before .if1 .left)) ∙ c .before .before .fine-in .ensures ∙ e)), c .put-in .ensures .1)
+returns-2 c =
+    let the-fine-in = c .before .before .fine-in in
+    (λ _. c .put-in .ensures .0, λ e. absurd (true≢false (sym (not-false _ (c .before .if1 .left)) ∙ the-fine-in .ensures ∙ e)), c .put-in .ensures .1)
 
 pub put-tested-spec : {M : Type 1} → statement M
 put-tested-spec = tie.close (tie.spec fine-in-requires returns put-in-requires returns-2)

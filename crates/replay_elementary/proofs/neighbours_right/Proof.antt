@@ -1,3 +1,4 @@
+-- `replay_elementary::neighbours_right` meets its contract: each need follows from its own premises.
 use Prim.Native.Nat.{_^_}
 use lib.Dec.{le→leb}
 use lib.Ieee.{inFloat}

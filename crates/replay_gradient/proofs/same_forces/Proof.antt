@@ -1,3 +1,4 @@
+-- `replay_gradient::same_forces` meets its contract: each need follows from its own premises.
 use mathlib.Core.Path.{sym}
 use lib.Seq.{length-take-le}
 use borrow.Author.Needs.{needs}
@@ -24,7 +25,9 @@ both-requires : tie.Need-both-requires
 both-requires c κs = search needs
 
 slice-aggregate-same-area : tie.Need-slice-aggregate-same-area
-slice-aggregate-same-area c = sym (length-take-le (c .before .before .before .before .before .before .before .args .m) (c .before .before .before .before .before .before .before .args .forces .now) (omega (arith, c .before .before .before .before .before .before .before .pre)))
+slice-aggregate-same-area c =
+    let the-start = c .before .before .before .before .before .before .before in
+    sym (length-take-le (the-start .args .m) (the-start .args .forces .now) (omega (arith, the-start .pre)))
 
 plus-requires : tie.Need-plus-requires
 plus-requires c κs = search needs

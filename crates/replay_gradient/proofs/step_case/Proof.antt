@@ -1,3 +1,4 @@
+-- `replay_gradient::step_case` meets its contract: from what its calls promise.
 use borrow.Author.Needs.{needs}
 use native.Mathlib.Omega.{arith}
 use Rattle.replay_gradient.proofs.step_case.Statement.{statement}
@@ -79,7 +80,28 @@ slice-aggregate-finish-4 : tie.Need-slice-aggregate-finish-4
 slice-aggregate-finish-4 c = search needs
 
 finish-requires : tie.Need-finish-requires
-finish-requires c κs = (c .before .before .before .before .before .before .before .before .before .before .before .before .before .before .before .before .before .before .before .before .before .before .before .before .pre .1, c .before .before .before .before .before .before .before .before .before .before .before .before .before .before .before .before .before .before .before .before .before .before .before .before .pre .2, omega (arith, c .before .before .before .before .before .before .before .before .before .before .before .before .before .before .before .before .before .before .before .before .before .before .before .before .pre .0), omega (arith, c .before .before .before .before .before .before .before .before .before .before .before .before .before .before .before .before .before .before .before .before .times2 .ensures .0, c .before .before .before .before .before .before .before .before .before .before .before .before .before .before .before .before .before .before .before .if2 .left, c .before .before .before .before .before .before .before .before .before .ready .ok .1 .0 .1), omega (arith, c .before .before .before .before .before .before .before .before .before .before .before .before .before .before .before .before .before .before .before .before .before .before .times .ensures .0, c .before .before .before .before .before .before .before .before .before .before .before .before .before .before .before .before .before .before .before .before .before .if1 .left, c .before .before .before .before .before .before .before .ready2 .ok .1 .0 .1), omega (arith, c .before .before .before .before .before .before .before .before .before .before .before .before .before .before .before .before .before .before .before .before .before .before .times .ensures .0, c .before .before .before .before .before .before .before .before .before .before .before .before .before .before .before .before .before .before .before .before .before .if1 .left, c .before .before .before .before .before .before .ready3 .ok .1 .0 .1), omega (arith, c .before .before .before .before .before .before .before .before .before .before .before .before .before .before .before .before .before .before .before .before .before .before .times .ensures .0, c .before .before .before .before .before .before .before .before .before .before .before .before .before .before .before .before .before .before .before .before .before .if1 .left, c .before .before .before .before .ready4 .ok .1 .0 .1))
+finish-requires c κs =
+    let the-ready4 = c .before .before .before .before .ready4 in
+    let the-ready3 = c .before .before .before .before .before .before .ready3 in
+    let the-ready2 = c .before .before .before .before .before .before .before .ready2 in
+    let the-ready = c .before .before .before .before .before .before .before .before .before .ready in
+    let far-1 = c .before .before .before .before .before .before .before .before .before .before .before .before in
+    let the-if2 = far-1 .before .before .before .before .before .before .before .if2 in
+    let the-times2 = far-1 .before .before .before .before .before .before .before .before .times2 in
+    let the-if1 = far-1 .before .before .before .before .before .before .before .before .before .if1 in
+    let the-times = far-1 .before .before .before .before .before .before .before .before .before .before .times in
+    let far-2 = far-1 .before .before .before .before .before .before .before .before .before .before .before .before in
+    let the-start = far-2 in (
+      the-start .pre .1,
+      the-start .pre .2,
+      omega (arith, the-start .pre .0),
+      omega (arith, the-times2 .ensures .0, the-if2 .left, the-ready .ok .1 .0 .1),
+      omega
+          (arith, the-times .ensures .0, the-if1 .left, the-ready2 .ok .1 .0 .1),
+      omega (arith, the-times .ensures .0, the-if1 .left, the-ready3 .ok .1 .0 .1),
+      omega
+          (arith, the-times .ensures .0, the-if1 .left, the-ready4 .ok .1 .0 .1),
+    )
 
 number-requires : tie.Need-number-requires
 number-requires c κs = search needs

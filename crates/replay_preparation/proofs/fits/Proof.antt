@@ -1,3 +1,4 @@
+-- `replay_preparation::fits` meets its contract: from what its calls promise.
 use mathlib.Core.Path.{sym}
 use mathlib.Core.Bool.{true≢false}
 use borrow.Author.Tests.{leb-true}
@@ -29,7 +30,18 @@ mul-result : tie.Need-mul-result
 mul-result c = search needs
 
 returns-3 : tie.Need-returns-3
-returns-3 c = λ e. (omega (arith, c .before .before .before .before .before .before .if1 .left), c .before .before .before .before .before .if2 .taken, c .before .before .before .if3 .taken, rw (c .times .ensures .0, c .before .before .neighbours .ensures) at (leb-true (2 * c .times .result) 8100 e))
+returns-3 c =
+    let the-neighbours = c .before .before .neighbours in
+    let the-if3 = c .before .before .before .if3 in
+    let the-if2 = c .before .before .before .before .before .if2 in
+    let the-if1 = c .before .before .before .before .before .before .if1 in
+    λ e. (
+      omega (arith, the-if1 .left),
+      the-if2 .taken,
+      the-if3 .taken,
+      rw (c .times .ensures .0, the-neighbours .ensures) at
+          (leb-true (2 * c .times .result) 8100 e),
+    )
 
 returns-4 : tie.Need-returns-4
 returns-4 c = λ e. absurd (true≢false (sym e))

@@ -1,3 +1,4 @@
+-- `replay_preparation::lists_case` meets its contract: from what its calls promise.
 use borrow.Author.Tests.{not-false}
 use borrow.Author.Needs.{needs}
 use native.Mathlib.Omega.{arith}
@@ -68,7 +69,28 @@ slice-aggregate-neighbor-probabilities-7 : tie.Need-slice-aggregate-neighbor-pro
 slice-aggregate-neighbor-probabilities-7 c = search needs
 
 neighbor-probabilities-requires : tie.Need-neighbor-probabilities-requires
-neighbor-probabilities-requires c κs = ((c .before .before .before .before .before .before .before .before .before .before .before .before .before .before .before .before .before .before .before .before .before .before .before .before .before .before .fits2 .ensures (not-false _ (c .before .before .before .before .before .before .before .before .before .before .before .before .before .before .before .before .before .before .before .before .before .before .before .before .before .if1 .left)) .0, search needs, c .before .before .before .before .before .before .before .before .before .before .before .before .before .before .before .before .before .before .before .before .before .before .before .before .before .before .fits2 .ensures (not-false _ (c .before .before .before .before .before .before .before .before .before .before .before .before .before .before .before .before .before .before .before .before .before .before .before .before .before .if1 .left)) .1, c .before .before .before .before .before .before .before .before .before .before .before .before .before .before .before .before .before .before .before .before .before .before .before .before .before .before .fits2 .ensures (not-false _ (c .before .before .before .before .before .before .before .before .before .before .before .before .before .before .before .before .before .before .before .before .before .before .before .before .before .if1 .left)) .2), (search needs, omega (arith, c .before .before .before .before .before .before .before .before .before .before .before .before .before .before .before .before .before .before .before .before .before .before .before .before .before .before .fits2 .ensures (not-false _ (c .before .before .before .before .before .before .before .before .before .before .before .before .before .before .before .before .before .before .before .before .before .before .before .before .before .if1 .left)) .3), omega (arith, c .before .before .before .before .before .before .before .before .before .before .before .before .before .before .before .before .before .before .before .before .before .before .before .before .before .before .fits2 .ensures (not-false _ (c .before .before .before .before .before .before .before .before .before .before .before .before .before .before .before .before .before .before .before .before .before .before .before .before .before .if1 .left)) .3), search needs, search needs, search needs, search needs))
+neighbor-probabilities-requires c κs =
+    let far-1 = c .before .before .before .before .before .before .before .before .before .before .before .before in
+    let far-2 = far-1 .before .before .before .before .before .before .before .before .before .before .before .before in
+    let the-if1 = far-2 .before .if1 in
+    let the-fits2 = far-2 .before .before .fits2 in (
+      (
+        the-fits2 .ensures (not-false _ (the-if1 .left)) .0,
+        search needs,
+        the-fits2 .ensures (not-false _ (the-if1 .left)) .1,
+        the-fits2 .ensures
+            (not-false _ (the-if1 .left)) .2,
+      ),
+      (
+        search needs,
+        omega (arith, the-fits2 .ensures (not-false _ (the-if1 .left)) .3),
+        omega (arith, the-fits2 .ensures (not-false _ (the-if1 .left)) .3),
+        search needs,
+        search needs,
+        search needs,
+        search needs,
+      ),
+    )
 
 slice-aggregate-same-lists : tie.Need-slice-aggregate-same-lists
 slice-aggregate-same-lists c = search needs

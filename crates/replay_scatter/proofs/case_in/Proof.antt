@@ -1,3 +1,4 @@
+-- `replay_scatter::case_in` meets its contract: each need follows from its own premises.
 use mathlib.Core.Path.{sym}
 use lib.Seq.{length-take-le}
 use borrow.Author.Needs.{needs}
@@ -12,7 +13,9 @@ slice-relend-prefix-case-right : tie.Need-slice-relend-prefix-case-right
 slice-relend-prefix-case-right c = search needs
 
 slice-aggregate-case-right : tie.Need-slice-aggregate-case-right
-slice-aggregate-case-right c = sym (length-take-le (c .before .before .before .before .args .end) (c .before .before .before .before .args .space .now) (omega arith))
+slice-aggregate-case-right c =
+    let the-start = c .before .before .before .before in
+    sym (length-take-le (the-start .args .end) (the-start .args .space .now) (omega arith))
 
 case-right-requires : tie.Need-case-right-requires
 case-right-requires c κs = search needs

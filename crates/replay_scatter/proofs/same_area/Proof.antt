@@ -1,3 +1,4 @@
+-- `replay_scatter::same_area` meets its contract: the loop keeps what has been done equal to its part of the whole.
 use lib.ListN.{length}
 use Prim.Native.Nat.{_≤_, _-_}
 use borrow.Author.Needs.{needs}

@@ -1,3 +1,4 @@
+-- `replay_tree::sizes_right` meets its contract: from what its calls promise.
 use borrow.Author.Tests.{leb-true}
 use mathlib.Core.Bool.{true≢false}
 use mathlib.Core.Path.{sym}
@@ -22,7 +23,18 @@ product-requires : tie.Need-product-requires
 product-requires c κs = search needs
 
 returns-5 : tie.Need-returns-5
-returns-5 c = λ e. (omega (arith, c .before .before .before .before .if1 .left), (omega (arith, c .before .before .before .if2 .left), omega (arith, c .before .before .if3 .left)), omega (arith, c .before .if4 .left), rw (c .product .ensures .0) at (leb-true (c .product .result) (c .before .before .before .before .before .args .room) e))
+returns-5 c =
+    let the-if3 = c .before .before .if3 in
+    let the-if2 = c .before .before .before .if2 in
+    let the-if1 = c .before .before .before .before .if1 in
+    let the-start = c .before .before .before .before .before in
+    λ e. (
+      omega (arith, the-if1 .left),
+      (omega (arith, the-if2 .left), omega (arith, the-if3 .left)),
+      omega (arith, c .before .if4 .left),
+      rw
+          (c .product .ensures .0) at (leb-true (c .product .result) (the-start .args .room) e),
+    )
 
 pub sizes-right-spec : {M : Type 1} → statement M
 sizes-right-spec =

@@ -1,3 +1,4 @@
+-- `replay_tree::tree_cases` meets its contract: the loop keeps what has been done equal to its part of the whole.
 use borrow.Author.Tests.{not-false}
 use native.Mathlib.Omega.{arith}
 use Prim.Native.Nat.{_≤_, _-_}

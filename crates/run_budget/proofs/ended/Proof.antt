@@ -1,3 +1,4 @@
+-- `run_budget::ended` meets its contract: from what its calls promise.
 use Rattle.run_budget.specs.Budget.{endedOf}
 use borrow.Author.Needs.{needs}
 use native.Mathlib.Omega.{arith}

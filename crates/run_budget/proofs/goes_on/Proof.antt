@@ -1,3 +1,4 @@
+-- `run_budget::goes_on` meets its contract: from what its calls promise.
 use Rattle.run_budget.specs.Budget.{spendsOn}
 use borrow.Author.Needs.{needs}
 use native.Mathlib.Omega.{arith}

@@ -1,3 +1,4 @@
+-- `run_budget::halted` meets its contract: from what its calls promise.
 use Rattle.run_budget.specs.Budget.{haltedOf}
 use mathlib.Core.Path.{sym, _∙_}
 use borrow.Author.Needs.{needs}

@@ -1,3 +1,4 @@
+-- `run_budget::onward` meets its contract: from what its calls promise.
 use Rattle.run_budget.specs.Budget.{countedOn}
 use borrow.Author.Needs.{needs}
 use native.Mathlib.Omega.{arith}

@@ -1,3 +1,4 @@
+-- `run_budget::stands` meets its contract: each need follows from its own premises.
 use borrow.Author.Needs.{needs}
 use Rattle.run_budget.proofs.stands.Statement.{statement}
 use Rattle.run_budget.proofs.stands.Tie as tie

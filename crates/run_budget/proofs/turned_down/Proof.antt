@@ -1,3 +1,4 @@
+-- `run_budget::turned_down` meets its contract: each need follows from its own premises.
 use borrow.Author.Needs.{needs}
 use Rattle.run_budget.proofs.turned_down.Statement.{statement}
 use Rattle.run_budget.proofs.turned_down.Tie as tie

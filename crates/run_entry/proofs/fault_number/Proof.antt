@@ -1,3 +1,4 @@
+-- `run_entry::fault_number` meets its contract: each need follows from its own premises.
 use Rattle.run_entry.specs.Entry.{faultNumber}
 use borrow.Author.Needs.{needs}
 use Rattle.run_entry.proofs.fault_number.Statement.{statement}

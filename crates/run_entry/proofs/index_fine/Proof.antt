@@ -1,3 +1,4 @@
+-- `run_entry::index_fine` meets its contract: from what its calls promise.
 use Rattle.run_entry.specs.Entry.{indexFine}
 use borrow.Author.Needs.{needs}
 use Rattle.run_entry.proofs.index_fine.Statement.{statement}

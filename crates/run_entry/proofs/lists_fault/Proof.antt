@@ -1,3 +1,4 @@
+-- `run_entry::lists_fault` meets its contract: by `listed-most`, `links-is`.
 use Rattle.run_entry.specs.Entry.{listsFault}
 use borrow.Author.Tests.{lt-ltb, le-ltb}
 use Rattle.run_entry.proofs.Laws.{listed-most, links-is}
@@ -31,7 +32,14 @@ before-requires c κs = search needs
 
 returns : tie.Need-returns
 unfolding listsFault
-returns c = rw (lt-ltb _ _ (rw (rw (c .before .before .before .sizes-of .ensures) at (c .before .before .first-offset .ensures)) at (c .before .if1 .taken)), c .before2 .ensures, (rw (c .before .before .before .sizes-of .ensures) at (c .before .before .first-offset .ensures)))
+returns c =
+    let the-first-offset = c .before .before .first-offset in
+    let the-sizes-of = c .before .before .before .sizes-of in
+    rw (
+      lt-ltb _ _ (rw (rw (the-sizes-of .ensures) at (the-first-offset .ensures)) at (c .before .if1 .taken)),
+      c .before2 .ensures,
+      (rw (the-sizes-of .ensures) at (the-first-offset .ensures)),
+    )
 
 mul-wide : tie.Need-mul-wide
 mul-wide c = search needs
@@ -43,15 +51,46 @@ wide-requires : tie.Need-wide-requires
 wide-requires c κs = search needs
 
 first-index-requires : tie.Need-first-index-requires
-first-index-requires c κs = omega (arith, listed-most (c .before .before .before .before .before .before .before .before .args .r .settings) (c .before .before .before .before .before .before .before .before .args .offsets .now) (omega (arith, (c .before .before .before .before .before .before .before .before .pre .settings-good) .n-some)) (rw (rw (c .before .before .before .before .sizes-of .ensures) at (c .before .before .before .first-offset .ensures)) at (c .before .before .if1 .left)), links-is (c .before .before .before .before .before .before .before .before .args .r .settings), c .wide .ensures, c .before .before .before .before .before .before .before .before .pre .x-long)
+first-index-requires c κs =
+    let the-if1 = c .before .before .if1 in
+    let the-first-offset = c .before .before .before .first-offset in
+    let the-sizes-of = c .before .before .before .before .sizes-of in
+    let the-start = c .before .before .before .before .before .before .before .before in
+    omega (
+      arith,
+      listed-most (the-start .args .r .settings) (the-start .args .offsets .now) (omega (arith, (the-start .pre .settings-good) .n-some))
+          (rw (rw (the-sizes-of .ensures) at (the-first-offset .ensures)) at (the-if1 .left)),
+      links-is (the-start .args .r .settings),
+      c .wide .ensures,
+      the-start .pre .x-long,
+    )
 
 returns-2 : tie.Need-returns-2
 unfolding listsFault
-returns-2 c = rw (le-ltb _ _ (rw (rw (c .before .before .before .before .before .before .sizes-of .ensures) at (c .before .before .before .before .before .first-offset .ensures)) at (c .before .before .before .before .if1 .left)), lt-ltb _ _ (rw ((rw (c .before .before .wide .ensures) at (c .before .first-index .ensures)), c .before .before .wide .ensures) at (c .if2 .taken)), (rw (c .before .before .wide .ensures) at (c .before .first-index .ensures)))
+returns-2 c =
+    let the-wide = c .before .before .wide in
+    let the-if1 = c .before .before .before .before .if1 in
+    let the-first-offset = c .before .before .before .before .before .first-offset in
+    let the-sizes-of = c .before .before .before .before .before .before .sizes-of in
+    rw (
+      le-ltb _ _ (rw (rw (the-sizes-of .ensures) at (the-first-offset .ensures)) at (the-if1 .left)),
+      lt-ltb _ _
+          (rw ((rw (the-wide .ensures) at (c .before .first-index .ensures)), the-wide .ensures) at (c .if2 .taken)),
+      (rw (the-wide .ensures) at (c .before .first-index .ensures)),
+    )
 
 returns-3 : tie.Need-returns-3
 unfolding listsFault
-returns-3 c = rw (le-ltb _ _ (rw (rw (c .before .before .before .before .before .before .sizes-of .ensures) at (c .before .before .before .before .before .first-offset .ensures)) at (c .before .before .before .before .if1 .left)), le-ltb _ _ (rw ((rw (c .before .before .wide .ensures) at (c .before .first-index .ensures)), c .before .before .wide .ensures) at (c .if2 .left)))
+returns-3 c =
+    let the-wide = c .before .before .wide in
+    let the-if1 = c .before .before .before .before .if1 in
+    let the-first-offset = c .before .before .before .before .before .first-offset in
+    let the-sizes-of = c .before .before .before .before .before .before .sizes-of in
+    rw (
+      le-ltb _ _ (rw (rw (the-sizes-of .ensures) at (the-first-offset .ensures)) at (the-if1 .left)),
+      le-ltb _ _
+          (rw ((rw (the-wide .ensures) at (c .before .first-index .ensures)), the-wide .ensures) at (c .if2 .left)),
+    )
 
 pub lists-fault-spec : {M : Type 1} → statement M
 lists-fault-spec =

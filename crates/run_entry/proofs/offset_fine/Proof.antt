@@ -1,3 +1,4 @@
+-- `run_entry::offset_fine` meets its contract: from what its calls promise.
 use borrow.Author.Tests.{eq-eqb, ne-eqb, le-leb, lt-leb}
 use Rattle.run_entry.specs.Entry.{offsetFine}
 use borrow.Author.Needs.{needs}
@@ -40,11 +41,17 @@ wide-requires-3 c κs = search needs
 
 returns-2 : tie.Need-returns-2
 unfolding offsetFine
-returns-2 c = rw (ne-eqb _ _ (c .before .before .before .before .before .if1 .left), lt-leb _ _ (rw (c .before .wide3 .ensures, c .before .before .before .wide2 .ensures) at (c .if2 .taken)))
+returns-2 c =
+    let the-wide2 = c .before .before .before .wide2 in
+    let the-if1 = c .before .before .before .before .before .if1 in
+    rw (ne-eqb _ _ (the-if1 .left), lt-leb _ _ (rw (c .before .wide3 .ensures, the-wide2 .ensures) at (c .if2 .taken)))
 
 returns-3 : tie.Need-returns-3
 unfolding offsetFine
-returns-3 c = rw (ne-eqb _ _ (c .before .before .before .before .before .if1 .left), le-leb _ _ (rw (c .before .wide3 .ensures, c .before .before .before .wide2 .ensures) at (c .if2 .left)), c .before .wide3 .ensures)
+returns-3 c =
+    let the-wide2 = c .before .before .before .wide2 in
+    let the-if1 = c .before .before .before .before .before .if1 in
+    rw (ne-eqb _ _ (the-if1 .left), le-leb _ _ (rw (c .before .wide3 .ensures, the-wide2 .ensures) at (c .if2 .left)), c .before .wide3 .ensures)
 
 pub offset-fine-spec : {M : Type 1} → statement M
 offset-fine-spec =

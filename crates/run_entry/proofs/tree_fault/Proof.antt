@@ -1,3 +1,4 @@
+-- `run_entry::tree_fault` meets its contract: each need follows from its own premises.
 use borrow.Author.Needs.{needs}
 use Rattle.run_entry.proofs.tree_fault.Statement.{statement}
 use Rattle.run_entry.proofs.tree_fault.Tie as tie

@@ -1,3 +1,4 @@
+-- `run_finish::finish_unit` meets its contract: by `finish-moved`, `finish-wild`.
 use native.Mathlib.Nat.{le-refl}
 use Rattle.run_finish.specs.Finish.{paceOf, finishUnit}
 use Rattle.run_finish.proofs.Finished.{finish-moved, finish-wild}
@@ -7,10 +8,21 @@ use Rattle.run_finish.proofs.finish_unit.Statement.{statement}
 use Rattle.run_finish.proofs.finish_unit.Tie as tie
 
 pace-requires : tie.Need-pace-requires
-pace-requires c κs = ((c .before .before .before .before .before .pre) .c-most, (c .before .before .before .before .before .pre) .forces-in)
+pace-requires c κs =
+    let the-start = c .before .before .before .before .before in
+    ((the-start .pre) .c-most, (the-start .pre) .forces-in)
 
 finish-requires : tie.Need-finish-requires
-finish-requires c κs = ((c .before .before .before .before .before .before .before .before .before .pre) .c-some, (c .before .before .before .before .before .before .before .before .before .pre) .c-most, (c .before .before .before .before .before .before .before .before .before .pre) .numbers .n-most, (c .before .before .before .before .before .before .before .before .before .pre) .forces-in, (c .before .before .before .before .before .before .before .before .before .pre) .positions-in, (c .before .before .before .before .before .before .before .before .before .pre) .increments-in, (c .before .before .before .before .before .before .before .before .before .pre) .gains-in)
+finish-requires c κs =
+    let the-start = c .before .before .before .before .before .before .before .before .before in (
+      (the-start .pre) .c-some,
+      (the-start .pre) .c-most,
+      (the-start .pre) .numbers .n-most,
+      (the-start .pre) .forces-in,
+      (the-start .pre) .positions-in,
+      (the-start .pre) .increments-in,
+      (the-start .pre) .gains-in,
+    )
 
 enum-told : tie.Need-enum-told
 enum-told c = search needs
@@ -29,16 +41,28 @@ same-length-3 c = search needs
 
 returns : tie.Need-returns
 unfolding finishUnit paceOf
-returns c = finish-wild _ _ _ _ _ _ _ _ (rw (c .before .before .before .before .before .before .before .before .before .before .before .before .pace .ensures) at (c .before .before .before .before .before .before .before .before .finish .ensures)) _ _ (c .enum-told2 .given .1)
+returns c =
+    let the-finish = c .before .before .before .before .before .before .before .before .finish in
+    let the-pace = c .before .before .before .before .before .before .before .before .before .before .before .before .pace in
+    finish-wild _ _ _ _ _ _ _ _ (rw (the-pace .ensures) at (the-finish .ensures)) _ _ (c .enum-told2 .given .1)
 
 mul-norm : tie.Need-mul-norm
-mul-norm c = omega (arith, (c .before .before .before .before .before .before .before .before .before .before .before .before .before .before .before .before .before .before .before .pre) .positions-in)
+mul-norm c =
+    let far-1 = c .before .before .before .before .before .before .before .before .before .before .before .before in
+    let the-start = far-1 .before .before .before .before .before .before .before in
+    omega (arith, (the-start .pre) .positions-in)
 
 norm-requires : tie.Need-norm-requires
-norm-requires c κs = ((c .before .before .before .before .before .before .before .before .before .before .before .before .before .before .before .before .before .before .before .pre) .c-some, (c .before .before .before .before .before .before .before .before .before .before .before .before .before .before .before .before .before .before .before .pre) .c-most, le-refl _, (c .before .before .before .before .before .before .before .before .before .before .before .before .before .before .before .before .before .before .before .pre) .forces-in)
+norm-requires c κs =
+    let far-1 = c .before .before .before .before .before .before .before .before .before .before .before .before in
+    let the-start = far-1 .before .before .before .before .before .before .before in
+    ((the-start .pre) .c-some, (the-start .pre) .c-most, le-refl _, (the-start .pre) .forces-in)
 
 closed-requires : tie.Need-closed-requires
-closed-requires c κs = ((c .before .before .before .before .before .before .before .before .before .before .before .before .before .before .before .before .before .before .before .before .pre) .done-small, (c .before .before .before .before .before .before .before .before .before .before .before .before .before .before .before .before .before .before .before .before .pre) .numbers .units-small)
+closed-requires c κs =
+    let far-1 = c .before .before .before .before .before .before .before .before .before .before .before .before in
+    let the-start = far-1 .before .before .before .before .before .before .before .before in
+    ((the-start .pre) .done-small, (the-start .pre) .numbers .units-small)
 
 same-length-4 : tie.Need-same-length-4
 same-length-4 c = search needs
@@ -51,7 +75,12 @@ same-length-6 c = search needs
 
 returns-2 : tie.Need-returns-2
 unfolding finishUnit paceOf
-returns-2 c = finish-moved _ _ _ _ _ _ _ _ (rw (c .before .before .before .before .before .before .before .before .before .before .before .before .before .before .before .pace .ensures) at (c .before .before .before .before .before .before .before .before .before .before .before .finish .ensures)) (c .before .before .before .enum-told .given .1) (rw (c .before .before .before .before .before .before .before .before .before .before .before .before .before .before .before .pace .ensures) at (c .before .norm .ensures)) (c .closed .ensures)
+returns-2 c =
+    let the-enum-told = c .before .before .before .enum-told in
+    let the-finish = c .before .before .before .before .before .before .before .before .before .before .before .finish in
+    let the-pace = c .before .before .before .before .before .before .before .before .before .before .before .before .before .before .before .pace in
+    finish-moved _ _ _ _ _ _ _ _ (rw (the-pace .ensures) at (the-finish .ensures)) (the-enum-told .given .1)
+    (rw (the-pace .ensures) at (c .before .norm .ensures)) (c .closed .ensures)
 
 pub finish-unit-spec : {M : Type 1} → statement M
 finish-unit-spec =

@@ -1,3 +1,4 @@
+-- `run_finish::pace` meets its contract: from what its calls promise.
 use mathlib.Core.Path.{sym, _∙_}
 use Rattle.run_finish.specs.Finish.{paceOf}
 use borrow.Author.Needs.{needs}
@@ -15,7 +16,10 @@ momentum-requires c κs = search needs
 
 returns : tie.Need-returns
 unfolding paceOf
-returns c = rw ((sym (c .before .before .before .is-tree .ensures) ∙ c .before .before .if1 .taken), c .before .normaliser .ensures, c .momentum .ensures)
+returns c =
+    let the-if1 = c .before .before .if1 in
+    let the-is-tree = c .before .before .before .is-tree in
+    rw ((sym (the-is-tree .ensures) ∙ the-if1 .taken), c .before .normaliser .ensures, c .momentum .ensures)
 
 momentum-requires-2 : tie.Need-momentum-requires-2
 momentum-requires-2 c κs = search needs

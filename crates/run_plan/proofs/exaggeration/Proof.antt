@@ -1,3 +1,4 @@
+-- `run_plan::exaggeration` meets its contract: each need follows from its own premises.
 use borrow.Author.Tests.{lt-ltb, le-ltb}
 use Rattle.run_plan.specs.Plan.{exaggerationOf}
 use Rattle.run_plan.proofs.exaggeration.Statement.{statement}

@@ -1,3 +1,4 @@
+-- `run_plan::group` meets its contract: from what its calls promise.
 use mathlib.Core.Path.{sym, _∙_}
 use borrow.Author.Tests.{lt-ltb, le-ltb, le-leb, lt-leb}
 use Rattle.run_plan.specs.Plan.{groupOf}
@@ -10,29 +11,46 @@ is-tree-requires c κs = search needs
 
 returns : tie.Need-returns
 unfolding groupOf
-returns c = rw ((sym (c .before .before .before .before .is-tree .ensures) ∙ c .before .before .before .if1 .taken), le-leb _ _ (c .if2 .taken))
+returns c =
+    let the-if1 = c .before .before .before .if1 in
+    let the-is-tree = c .before .before .before .before .is-tree in
+    rw ((sym (the-is-tree .ensures) ∙ the-if1 .taken), le-leb _ _ (c .if2 .taken))
 
 mul-if3 : tie.Need-mul-if3
 mul-if3 c = search needs
 
 returns-2 : tie.Need-returns-2
 unfolding groupOf
-returns-2 c = rw ((sym (c .before .before .before .before .before .before .before .is-tree .ensures) ∙ c .before .before .before .before .before .before .if1 .taken), lt-leb _ _ (c .before .before .before .if2 .left), le-leb _ _ (c .if3 .taken))
+returns-2 c =
+    let the-if2 = c .before .before .before .if2 in
+    let the-if1 = c .before .before .before .before .before .before .if1 in
+    let the-is-tree = c .before .before .before .before .before .before .before .is-tree in
+    rw ((sym (the-is-tree .ensures) ∙ the-if1 .taken), lt-leb _ _ (the-if2 .left), le-leb _ _ (c .if3 .taken))
 
 returns-3 : tie.Need-returns-3
 unfolding groupOf
-returns-3 c = rw ((sym (c .before .before .before .before .before .before .before .is-tree .ensures) ∙ c .before .before .before .before .before .before .if1 .taken), lt-leb _ _ (c .before .before .before .if2 .left), lt-leb _ _ (c .if3 .left))
+returns-3 c =
+    let the-if2 = c .before .before .before .if2 in
+    let the-if1 = c .before .before .before .before .before .before .if1 in
+    let the-is-tree = c .before .before .before .before .before .before .before .is-tree in
+    rw ((sym (the-is-tree .ensures) ∙ the-if1 .taken), lt-leb _ _ (the-if2 .left), lt-leb _ _ (c .if3 .left))
 
 mul-if4 : tie.Need-mul-if4
 mul-if4 c = search needs
 
 returns-4 : tie.Need-returns-4
 unfolding groupOf
-returns-4 c = rw ((sym (c .before .before .before .before .is-tree .ensures) ∙ c .before .before .before .if1 .left), lt-ltb _ _ (c .if4 .taken))
+returns-4 c =
+    let the-if1 = c .before .before .before .if1 in
+    let the-is-tree = c .before .before .before .before .is-tree in
+    rw ((sym (the-is-tree .ensures) ∙ the-if1 .left), lt-ltb _ _ (c .if4 .taken))
 
 returns-5 : tie.Need-returns-5
 unfolding groupOf
-returns-5 c = rw ((sym (c .before .before .before .before .is-tree .ensures) ∙ c .before .before .before .if1 .left), le-ltb _ _ (c .if4 .left))
+returns-5 c =
+    let the-if1 = c .before .before .before .if1 in
+    let the-is-tree = c .before .before .before .before .is-tree in
+    rw ((sym (the-is-tree .ensures) ∙ the-if1 .left), le-ltb _ _ (c .if4 .left))
 
 pub group-spec : {M : Type 1} → statement M
 group-spec =

@@ -1,3 +1,4 @@
+-- `run_plan::momentum` meets its contract: each need follows from its own premises.
 use borrow.Author.Tests.{lt-ltb, le-ltb}
 use Rattle.run_plan.specs.Plan.{momentumOf}
 use Rattle.run_plan.proofs.momentum.Statement.{statement}

@@ -1,3 +1,4 @@
+-- `run_units::inserted` meets its contract: from what its calls promise.
 use Rattle.run_units.specs.Units.{insertedOf}
 use borrow.Author.Needs.{needs}
 use native.Mathlib.Omega.{arith}

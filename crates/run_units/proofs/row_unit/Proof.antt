@@ -1,3 +1,4 @@
+-- `run_units::row_unit` meets its contract: from what its calls promise.
 use Rattle.run_units.specs.Units.{rowUnit}
 use borrow.Author.Tests.{lt-ltb, le-ltb}
 use borrow.Author.Needs.{needs}
@@ -32,7 +33,11 @@ same-length-2 c = search needs
 
 returns-2 : tie.Need-returns-2
 unfolding rowUnit
-returns-2 c = rw (le-ltb _ _ (c .before .before .before .before .before .before .before .if1 .left)) (rw (c .before .before .before .before .before .before .exaggeration .ensures) at (c .before .before .gradient-row .ensures))
+returns-2 c =
+    let the-gradient-row = c .before .before .gradient-row in
+    let the-exaggeration = c .before .before .before .before .before .before .exaggeration in
+    let the-if1 = c .before .before .before .before .before .before .before .if1 in
+    rw (le-ltb _ _ (the-if1 .left)) (rw (the-exaggeration .ensures) at (the-gradient-row .ensures))
 
 pub row-unit-spec : {M : Type 1} → statement M
 row-unit-spec =

@@ -1,5 +1,8 @@
 -- `run_units::tree_unit` meets its contract: a walk of its MIR. Printed (tests/walks).
+-- Locals: l0 the answer, l1 r, l2 positions, l3 cells, from l4 on the code's own, as `rt mir` numbers them. On entry local li is thing 30 - 2·i of what is
+-- held; what is put in front of it moves it up.
 -- Assumes nothing.
+use Rattle.lent.proofs.Beside.{_∥_}
 use mathlib.Core.Path.{refl, sym, _∙_}
 use Prim.Native.Nat.{ℕ}
 use mathlib.Core.List.{List, [], _∷_}
@@ -19,7 +22,8 @@ use contract.Monad.{Fun}
 use contract.Running.{givenOf, tables, tablesOf}
 use types.Kit.{Given, ‵, _⊛_, ⋆, atRet, _$_, _∵_, !, qed, by, move, keep, drop, split, join, fsplit, fjoin, suffices, frame, done}
 use types.Part.{agg, whole, sub, look-in}
-use types.Run.{look, init, forget, stop, hop, fld, from, load, addr, of-opd, and-then, no-more, assigns, land, first, branches, skips, exec, returns, returns-within, enter, alloc1, alloc0, params1, pass1, pass0, free1, free0}
+use types.Run.{look, init, forget, stop, hop, fld, from, load, addr, of-opd, and-then, no-more, assigns, land, first, branches, skips, exec, returns}
+use types.Run.{returns-within, enter, alloc1, alloc0, params1, pass1, pass0, free1, free0}
 use denote.RattleType.{owns}
 use denote.Laws.{Is}
 use denote.Builtin.{f64}
@@ -93,7 +97,7 @@ abbrev Arg : Type 0
 Arg = Run × (RefT (List Float) × (RefT (List Cell) × (Unit {0})))
 
 abbrev stayed : Stays (f.ended .signature .params) (f.ended .kept)
-stayed = (stay-none (λ _. Run′.the-row) yes, (stay-none-slice (0 ∷ []) tt (plain (λ _. f64)) yes, (stay-slice (1 ∷ []) tt (plain (λ _. Cell′.the-row)), tt)))
+stayed = (stay-none (λ _. Run′.the-row) yes ∥ stay-none-slice (0 ∷ []) tt (plain (λ _. f64)) yes ∥ stay-slice (1 ∷ []) tt (plain (λ _. Cell′.the-row)) ∥ tt)
 
 module _ {M : Type 1} (𝓤 : URA M) (H : Heap 𝓤) (A : Atoms 𝓤) (W : Given 𝓤 H A) (mem : Memory → SProp 𝓤) (run-of : Routine → Fun 𝓤)
     (r : Run) (g-r : IsRun r)
@@ -120,62 +124,117 @@ module _ {M : Type 1} (𝓤 : URA M) (H : Heap 𝓤) (A : Atoms 𝓤) (W : Given
   typed-Turn : (v : Turn) → IsTurn v → T (hasTy Turn″.mir (val-Turn v)) × WT (val-Turn v)
   typed-Turn v g = LL.lawful Turn′.the-type Turn″.the-laws 𝓤 H A W .typed v _ g .0
 
-  exits : (res : Turn) (cells′ : List Cell) → IsTurn res → length cells′ ≡ s-cells .count → treeTurn (res .run) (nodesOf cells′) (res .why) ≡ treeUnit r positions (nodesOf cells) → ent 𝓤 (⋆ 𝓤 H A (‵ (Shr f64 s-positions positions) ∷ ‵ (Tok s-positions) ∷ ‵ (Mut Cell′.the-row s-cells cells′) ∷ ‵ (Tok s-cells) ∷ [])) (Post (val-Turn res))
+  exits : (res : Turn) (cells′ : List Cell) → IsTurn res → length cells′ ≡ s-cells .count →
+      treeTurn (res .run) (nodesOf cells′) (res .why) ≡ treeUnit r positions (nodesOf cells) →
+      ent 𝓤 (⋆ 𝓤 H A (‵ (Shr f64 s-positions positions) ∷ ‵ (Tok s-positions) ∷ ‵ (Mut Cell′.the-row s-cells cells′) ∷ ‵ (Tok s-cells) ∷ []))
+      (Post (val-Turn res))
   exits res cells′ is le-cells e =
       qed W (‵ (Shr f64 s-positions positions) ∷ ‵ (Tok s-positions) ∷ ‵ (Mut Cell′.the-row s-cells cells′) ∷ ‵ (Tok s-cells) ∷ []) ∵
-      suffices ! _ (ends-at 𝓤 H A f.ended stayed (f.clauses 𝓤 H A mem run-of) W (((s-positions .life, (s-cells .life, tt)), (s-positions .share, (s-cells .share, tt)), tt, x, at), tt) (val-Turn res) res (tt, (tt, (cells′, tt))) (tt, (tt, (le-cells ∙ sym ln-cells, tt)))) $ says ! e $
-      nothing ! $ move ! (4 ∷ 0 ∷ []) $ join ! $ move ! (2 ∷ 0 ∷ []) $ join ! $ frame ! $ nothing ! $ move ! (2 ∷ 0 ∷ []) $ fjoin ! $ move ! (1 ∷ 0 ∷ []) $ fjoin ! $ owned ! Run′.the-row (Is Run′.the-row) ((LL.makes Run′.the-type Run″.the-plain) 𝓤 H A) r _ g-r $ fjoin ! $ frame ! $ owned ! Turn′.the-row (Is Turn′.the-row) ((LL.makes Turn′.the-type Turn″.the-plain) 𝓤 H A) res _ is $ done !
+      suffices ! _ (ends-at 𝓤 H A f.ended stayed (f.clauses 𝓤 H A mem run-of) W
+      (((s-positions .life, (s-cells .life, tt)), (s-positions .share, (s-cells .share, tt)), tt, x, at), tt) (val-Turn res) res (tt, (tt, (cells′, tt)))
+      (tt, (tt, (le-cells ∙ sym ln-cells, tt)))) $ says ! e $
+      nothing ! $ move ! (4 ∷ 0 ∷ []) $ join ! $ move ! (2 ∷ 0 ∷ []) $ join ! $ frame ! $ nothing ! $ move ! (2 ∷ 0 ∷ []) $ fjoin ! $ move ! (1 ∷ 0 ∷ []) $
+      fjoin ! $ owned ! Run′.the-row (Is Run′.the-row) ((LL.makes Run′.the-type Run″.the-plain) 𝓤 H A) r _ g-r $ fjoin ! $ frame ! $
+      owned ! Turn′.the-row (Is Turn′.the-row) ((LL.makes Turn′.the-type Turn″.the-plain) 𝓤 H A) res _ is $ done !
 
-  module _ (C : Calls 𝓤 H) (Λ : Loops 𝓤 H) (fm : FmC 𝓤 H (W .laws) C) (known-is-box : Triple 𝓤 (C #run-units·is-box) (Contract-is-box 𝓤 H A mem run-of)) (known-plant : Triple 𝓤 (C #tree·root·plant) (Contract-plant 𝓤 H A mem run-of)) (known-planted : Triple 𝓤 (C #run-units·planted) (Contract-planted 𝓤 H A mem run-of)) (known-point-next : Triple 𝓤 (C #run-units·point-next) (Contract-point-next 𝓤 H A mem run-of)) (known-insert : Triple 𝓤 (C #tree·insertion·insert) (Contract-insert 𝓤 H A mem run-of)) (known-inserted : Triple 𝓤 (C #run-units·inserted) (Contract-inserted 𝓤 H A mem run-of)) where
+  module _ (C : Calls 𝓤 H) (Λ : Loops 𝓤 H) (fm : FmC 𝓤 H (W .laws) C) (known-is-box : Triple 𝓤 (C #run-units·is-box) (Contract-is-box 𝓤 H A mem run-of))
+      (known-plant : Triple 𝓤 (C #tree·root·plant) (Contract-plant 𝓤 H A mem run-of))
+      (known-planted : Triple 𝓤 (C #run-units·planted) (Contract-planted 𝓤 H A mem run-of))
+      (known-point-next : Triple 𝓤 (C #run-units·point-next) (Contract-point-next 𝓤 H A mem run-of))
+      (known-insert : Triple 𝓤 (C #tree·insertion·insert) (Contract-insert 𝓤 H A mem run-of))
+      (known-inserted : Triple 𝓤 (C #run-units·inserted) (Contract-inserted 𝓤 H A mem run-of)) where
     abbrev τ : ℕ → Ty
     τ k = type-of k pieces.locals
 
     abbrev En : (l0 l1 l2 l3 l4 l5 l6 l7 l8 l9 l10 l11 l12 l13 l14 l15 : ℕ) → Env 𝓤 H
-    En l0 l1 l2 l3 l4 l5 l6 l7 l8 l9 l10 l11 l12 l13 l14 l15 = (τ 0, l0) ∷ (τ 1, l1) ∷ (τ 2, l2) ∷ (τ 3, l3) ∷ (τ 4, l4) ∷ (τ 5, l5) ∷ (τ 6, l6) ∷ (τ 7, l7) ∷ (τ 8, l8) ∷ (τ 9, l9) ∷ (τ 10, l10) ∷ (τ 11, l11) ∷ (τ 12, l12) ∷ (τ 13, l13) ∷ (τ 14, l14) ∷ (τ 15, l15) ∷ []
+    En l0 l1 l2 l3 l4 l5 l6 l7 l8 l9 l10 l11 l12 l13 l14 l15 = (τ 0, l0) ∷ (τ 1, l1) ∷ (τ 2, l2) ∷ (τ 3, l3) ∷ (τ 4, l4) ∷ (τ 5, l5) ∷ (τ 6, l6) ∷ (τ 7, l7) ∷
+        (τ 8, l8) ∷ (τ 9, l9) ∷ (τ 10, l10) ∷ (τ 11, l11) ∷ (τ 12, l12) ∷ (τ 13, l13) ∷ (τ 14, l14) ∷ (τ 15, l15) ∷ []
 
-    walk : TreeRoom r (length positions) (nodesOf cells) → ent 𝓤 (onEntry 𝓤 H A f.signature (s-positions .life, (s-cells .life, tt)) (s-positions .share, (s-cells .share, tt)) x at) (WpFn 𝓤 H C Λ code.function (val-Run r ∷ word s-positions ∷ word s-cells ∷ []) Post)
+    walk : TreeRoom r (length positions) (nodesOf cells) →
+        ent 𝓤 (onEntry 𝓤 H A f.signature (s-positions .life, (s-cells .life, tt)) (s-positions .share, (s-cells .share, tt)) x at)
+        (WpFn 𝓤 H C Λ code.function (val-Run r ∷ word s-positions ∷ word s-cells ∷ []) Post)
     walk ready =
-        qed W ((‵ (Tok s-positions) ⊛ ‵ (Tok s-cells) ⊛ ‵ ftrue) ∷ ‵ (owns (Run′.the-row ∷ ShrSlice (named 0) (s-positions .life) f64 ∷ MutSlice (named 1) (s-cells .life) Cell′.the-row ∷ []) x at) ∷ []) ∵ enter ! C Λ code.function (val-Run r ∷ word s-positions ∷ word s-cells ∷ []) _ $
-        alloc1 ! (λ l0. alloc1 ! (λ l1. alloc1 ! (λ l2. alloc1 ! (λ l3. alloc1 ! (λ l4. alloc1 ! (λ l5. alloc1 ! (λ l6. alloc1 ! (λ l7. alloc1 ! (λ l8. alloc1 ! (λ l9. alloc1 ! (λ l10. alloc1 ! (λ l11. alloc1 ! (λ l12. alloc1 ! (λ l13. alloc1 ! (λ l14. alloc1 ! (λ l15. alloc0 ! $ params1 ! $
-        pass1 ! (init ! 28 refl (typed-Run r g-r)) $ pass1 ! (init ! 26 refl (tt, (tt, (record { fits = room-positions .0 }, tt)))) $ pass1 ! (init ! 24 refl (tt, (tt, (record { fits = room-cells .0 }, tt)))) $ pass0 ! $
-        move ! (33 ∷ []) $ fsplit ! $ drop ! $ fsplit ! $ move ! (1 ∷ []) $ fsplit ! $ move ! (1 ∷ []) $ drop ! $ move ! (34 ∷ []) $ split ! $ move ! (1 ∷ []) $ split ! $ move ! (1 ∷ []) $ drop ! $ move ! (3 ∷ 1 ∷ 2 ∷ 0 ∷ []) $
-        assigns ! (of-opd ! (load ! (from ! (fld ! refl (stop !))) (look-in ! 32 (sub ! 0 refl (whole !))))) (from ! (stop !)) (init ! 26 refl (typed-Settings (r .settings) (LL.owed Run′.the-type Run″.the-laws r _ g-r .0))) $
+        qed W ((‵ (Tok s-positions) ⊛ ‵ (Tok s-cells) ⊛ ‵ ftrue) ∷
+        ‵ (owns (Run′.the-row ∷ ShrSlice (named 0) (s-positions .life) f64 ∷ MutSlice (named 1) (s-cells .life) Cell′.the-row ∷ []) x at) ∷ []) ∵
+        enter ! C Λ code.function (val-Run r ∷ word s-positions ∷ word s-cells ∷ []) _ $
+        alloc1 ! (λ l0. alloc1 ! (λ l1. alloc1 ! (λ l2. alloc1 ! (λ l3. alloc1 ! (λ l4. alloc1 ! (λ l5. alloc1 ! (λ l6. alloc1 ! (λ l7. alloc1 ! (λ l8.
+        alloc1 ! (λ l9. alloc1 ! (λ l10. alloc1 ! (λ l11. alloc1 ! (λ l12. alloc1 ! (λ l13. alloc1 ! (λ l14. alloc1 ! (λ l15. alloc0 ! $ params1 ! $
+        pass1 ! (init ! 28 refl (typed-Run r g-r)) $ pass1 ! (init ! 26 refl (tt, (tt, (record { fits = room-positions .0 }, tt)))) $
+        pass1 ! (init ! 24 refl (tt, (tt, (record { fits = room-cells .0 }, tt)))) $ pass0 ! $
+        move ! (33 ∷ []) $ fsplit ! $ drop ! $ fsplit ! $ move ! (1 ∷ []) $ fsplit ! $ move ! (1 ∷ []) $ drop ! $ move ! (34 ∷ []) $ split ! $ move ! (1 ∷ []) $
+        split ! $ move ! (1 ∷ []) $ drop ! $ move ! (3 ∷ 1 ∷ 2 ∷ 0 ∷ []) $
+        assigns ! (of-opd ! (load ! (from ! (fld ! refl (stop !))) (look-in ! 32 (sub ! 0 refl (whole !))))) (from ! (stop !))
+        (init ! 26 refl (typed-Settings (r .settings) (LL.owed Run′.the-type Run″.the-laws r _ g-r .0))) $
         calls-is-box ! fm mem run-of known-is-box r g-r (λ _. and-then ! (load ! (from ! (stop !)) (look ! 33 refl)) (no-more !)) (λ r1 e1 is1.
         land ! (from ! (stop !)) (init ! 24 refl (tt, tt)) $
         assigns ! (of-opd ! (load ! (from ! (stop !)) (look ! 24 refl))) (from ! (stop !)) (init ! 14 refl (tt, tt)) $
         first ! $ branches ! (load ! (from ! (stop !)) (look ! 14 refl))
         (λ yes1.
         assigns ! (addr ! (from ! (fld ! refl (hop ! (look-in ! 28 (sub ! 0 refl (whole !))) (stop !))))) (from ! (stop !)) (init ! 10 refl (tt, tt)) $
-        assigns ! (agg ! (and-then ! (load ! (from ! (stop !)) (look ! 10 refl)) (and-then ! (load ! (from ! (fld ! refl (stop !))) (look-in ! 28 (sub ! 1 refl (whole !)))) (no-more !)))) (from ! (stop !)) (init ! 8 refl (tt, (tt, (record { fits = room-cells .0 }, tt)))) $
+        assigns ! (agg ! (and-then ! (load ! (from ! (stop !)) (look ! 10 refl))
+        (and-then ! (load ! (from ! (fld ! refl (stop !))) (look-in ! 28 (sub ! 1 refl (whole !)))) (no-more !)))) (from ! (stop !))
+        (init ! 8 refl (tt, (tt, (record { fits = room-cells .0 }, tt)))) $
         move ! (2 ∷ 3 ∷ 0 ∷ 1 ∷ []) $
-        calls-plant-mc ! fm mem run-of known-plant s-cells cells s-positions positions (r .settings .n) (r .settings .c) ln-cells (LL.owed Settings′.the-type Settings″.the-laws (r .settings) _ (LL.owed Run′.the-type Run″.the-laws r _ g-r .0) .0 .1) (LL.owed Settings′.the-type Settings″.the-laws (r .settings) _ (LL.owed Run′.the-type Run″.the-laws r _ g-r .0) .1 .1 .0 .1) (box-asks r positions cells ready r1 e1) (λ _ _ _. and-then ! (load ! (from ! (stop !)) (look ! 7 refl)) (and-then ! (load ! (from ! (stop !)) (look ! 29 refl)) (and-then ! (load ! (from ! (fld ! refl (stop !))) (look-in ! 25 (sub ! 0 refl (whole !)))) (and-then ! (load ! (from ! (fld ! refl (stop !))) (look-in ! 25 (sub ! 2 refl (whole !)))) (no-more !))))) (λ r2 cells2 e2 is2 l-cells2.
+        calls-plant-mc ! fm mem run-of known-plant s-cells cells s-positions positions (r .settings .n) (r .settings .c) ln-cells
+        (LL.owed Settings′.the-type Settings″.the-laws (r .settings) _ (LL.owed Run′.the-type Run″.the-laws r _ g-r .0) .0 .1)
+        (LL.owed Settings′.the-type Settings″.the-laws (r .settings) _ (LL.owed Run′.the-type Run″.the-laws r _ g-r .0) .1 .1 .0 .1)
+        (box-asks r positions cells ready r1 e1) (λ _ _ _. and-then ! (load ! (from ! (stop !)) (look ! 7 refl))
+        (and-then ! (load ! (from ! (stop !)) (look ! 29 refl))
+        (and-then ! (load ! (from ! (fld ! refl (stop !))) (look-in ! 25 (sub ! 0 refl (whole !))))
+        (and-then ! (load ! (from ! (fld ! refl (stop !))) (look-in ! 25 (sub ! 2 refl (whole !)))) (no-more !))))) (λ r2 cells2 e2 is2 l-cells2.
         land ! (from ! (stop !)) (init ! 12 refl (tt, tt)) $
         calls-planted ! fm mem run-of known-planted r g-r (ready .numbers) (λ _. and-then ! (load ! (from ! (stop !)) (look ! 33 refl)) (no-more !)) (λ r3 e3 is3.
         land ! (from ! (stop !)) (init ! 22 refl (typed-Turn r3 is3)) $
         assigns ! (of-opd ! (load ! (from ! (stop !)) (look ! 22 refl))) (from ! (stop !)) (init ! 34 refl (typed-Turn r3 is3)) $
-        returns-within ! Post refl (look ! 34 refl) $ forget ! 8 refl $ forget ! 10 refl $ forget ! 12 refl $ forget ! 14 refl $ forget ! 22 refl $ forget ! 24 refl $ forget ! 26 refl $ forget ! 28 refl $ forget ! 30 refl $ forget ! 32 refl $ forget ! 34 refl $
-        move ! (34 ∷ 35 ∷ []) $ free1 ! $ move ! (32 ∷ 33 ∷ []) $ free1 ! $ move ! (30 ∷ 31 ∷ []) $ free1 ! $ move ! (28 ∷ 29 ∷ []) $ free1 ! $ move ! (26 ∷ 27 ∷ []) $ free1 ! $ move ! (24 ∷ 25 ∷ []) $ free1 ! $ move ! (22 ∷ 23 ∷ []) $ free1 ! $ move ! (20 ∷ 21 ∷ []) $ free1 ! $ move ! (18 ∷ 19 ∷ []) $ free1 ! $ move ! (16 ∷ 17 ∷ []) $ free1 ! $ move ! (14 ∷ 15 ∷ []) $ free1 ! $ move ! (12 ∷ 13 ∷ []) $ free1 ! $ move ! (10 ∷ 11 ∷ []) $ free1 ! $ move ! (8 ∷ 9 ∷ []) $ free1 ! $ move ! (6 ∷ 7 ∷ []) $ free1 ! $ move ! (4 ∷ 5 ∷ []) $ free1 ! $ free0 ! $
+        returns-within ! Post refl (look ! 34 refl) $ forget ! 8 refl $ forget ! 10 refl $ forget ! 12 refl $ forget ! 14 refl $ forget ! 22 refl $
+        forget ! 24 refl $ forget ! 26 refl $ forget ! 28 refl $ forget ! 30 refl $ forget ! 32 refl $ forget ! 34 refl $
+        move ! (34 ∷ 35 ∷ []) $ free1 ! $ move ! (32 ∷ 33 ∷ []) $ free1 ! $ move ! (30 ∷ 31 ∷ []) $ free1 ! $ move ! (28 ∷ 29 ∷ []) $ free1 ! $
+        move ! (26 ∷ 27 ∷ []) $ free1 ! $ move ! (24 ∷ 25 ∷ []) $ free1 ! $ move ! (22 ∷ 23 ∷ []) $ free1 ! $ move ! (20 ∷ 21 ∷ []) $ free1 ! $
+        move ! (18 ∷ 19 ∷ []) $ free1 ! $ move ! (16 ∷ 17 ∷ []) $ free1 ! $ move ! (14 ∷ 15 ∷ []) $ free1 ! $ move ! (12 ∷ 13 ∷ []) $ free1 ! $
+        move ! (10 ∷ 11 ∷ []) $ free1 ! $ move ! (8 ∷ 9 ∷ []) $ free1 ! $ move ! (6 ∷ 7 ∷ []) $ free1 ! $ move ! (4 ∷ 5 ∷ []) $ free1 ! $ free0 ! $
         keep ! (2 ∷ 3 ∷ 0 ∷ 1 ∷ []) $ by ! (exits r3 cells2 is3 l-cells2 (box-told r positions cells ready r1 e1 yes1 cells2 e2 r3 e3)))))
         (λ no1. skips ! $ exec ! C Λ (En l0 l1 l2 l3 l4 l5 l6 l7 l8 l9 l10 l11 l12 l13 l14 l15) pieces.t-5 (atRet (En l0 l1 l2 l3 l4 l5 l6 l7 l8 l9 l10 l11 l12 l13 l14 l15) Post) $
         calls-point-next ! fm mem run-of known-point-next r g-r (next-asks r positions cells ready r1 e1 no1) (λ _. and-then ! (load ! (from ! (stop !)) (look ! 33 refl)) (no-more !)) (λ r4 e4 is4.
         land ! (from ! (stop !)) (init ! 20 refl (tt, record { fits = is4 .1 })) $
         assigns ! (addr ! (from ! (fld ! refl (hop ! (look-in ! 28 (sub ! 0 refl (whole !))) (stop !))))) (from ! (stop !)) (init ! 6 refl (tt, tt)) $
-        assigns ! (agg ! (and-then ! (load ! (from ! (stop !)) (look ! 6 refl)) (and-then ! (load ! (from ! (fld ! refl (stop !))) (look-in ! 28 (sub ! 1 refl (whole !)))) (no-more !)))) (from ! (stop !)) (init ! 4 refl (tt, (tt, (record { fits = room-cells .0 }, tt)))) $
+        assigns ! (agg ! (and-then ! (load ! (from ! (stop !)) (look ! 6 refl))
+        (and-then ! (load ! (from ! (fld ! refl (stop !))) (look-in ! 28 (sub ! 1 refl (whole !)))) (no-more !)))) (from ! (stop !))
+        (init ! 4 refl (tt, (tt, (record { fits = room-cells .0 }, tt)))) $
         move ! (2 ∷ 3 ∷ 0 ∷ 1 ∷ []) $
-        calls-insert-mc ! fm mem run-of known-insert s-cells cells s-positions positions (r .settings .n) (r .used) r4 (r .settings .c) ln-cells (LL.owed Settings′.the-type Settings″.the-laws (r .settings) _ (LL.owed Run′.the-type Run″.the-laws r _ g-r .0) .0 .1) (LL.owed Run′.the-type Run″.the-laws r _ g-r .1 .1 .1 .1 .1 .0 .1) (is4 .1) (LL.owed Settings′.the-type Settings″.the-laws (r .settings) _ (LL.owed Run′.the-type Run″.the-laws r _ g-r .0) .1 .1 .0 .1) (insert-asks r positions cells ready r1 e1 no1 r4 e4) (λ _ _ _. and-then ! (load ! (from ! (stop !)) (look ! 3 refl)) (and-then ! (load ! (from ! (stop !)) (look ! 29 refl)) (and-then ! (load ! (from ! (fld ! refl (stop !))) (look-in ! 25 (sub ! 0 refl (whole !)))) (and-then ! (load ! (from ! (fld ! refl (stop !))) (look-in ! 31 (sub ! 5 refl (whole !)))) (and-then ! (load ! (from ! (stop !)) (look ! 19 refl)) (and-then ! (load ! (from ! (fld ! refl (stop !))) (look-in ! 25 (sub ! 2 refl (whole !)))) (no-more !))))))) (λ r5 cells5 e5 is5 l-cells5.
+        calls-insert-mc ! fm mem run-of known-insert s-cells cells s-positions positions (r .settings .n) (r .used) r4 (r .settings .c) ln-cells
+        (LL.owed Settings′.the-type Settings″.the-laws (r .settings) _ (LL.owed Run′.the-type Run″.the-laws r _ g-r .0) .0 .1)
+        (LL.owed Run′.the-type Run″.the-laws r _ g-r .1 .1 .1 .1 .1 .0 .1) (is4 .1)
+        (LL.owed Settings′.the-type Settings″.the-laws (r .settings) _ (LL.owed Run′.the-type Run″.the-laws r _ g-r .0) .1 .1 .0 .1)
+        (insert-asks r positions cells ready r1 e1 no1 r4 e4) (λ _ _ _. and-then ! (load ! (from ! (stop !)) (look ! 3 refl))
+        (and-then ! (load ! (from ! (stop !)) (look ! 29 refl))
+        (and-then ! (load ! (from ! (fld ! refl (stop !))) (look-in ! 25 (sub ! 0 refl (whole !))))
+        (and-then ! (load ! (from ! (fld ! refl (stop !))) (look-in ! 31 (sub ! 5 refl (whole !))))
+        (and-then ! (load ! (from ! (stop !)) (look ! 19 refl))
+        (and-then ! (load ! (from ! (fld ! refl (stop !))) (look-in ! 25 (sub ! 2 refl (whole !)))) (no-more !))))))) (λ r5 cells5 e5 is5 l-cells5.
         land ! (from ! (stop !)) (init ! 18 refl (typed-Inserted r5 is5)) $
-        calls-inserted ! fm mem run-of known-inserted r (r5 .full) (r5 .used) g-r tt (LL.owed Inserted′.the-type Inserted″.the-laws r5 _ is5 .1 .0 .1) (ready .numbers) (λ _. and-then ! (load ! (from ! (stop !)) (look ! 33 refl)) (and-then ! (load ! (from ! (fld ! refl (stop !))) (look-in ! 19 (sub ! 0 refl (whole !)))) (and-then ! (load ! (from ! (fld ! refl (stop !))) (look-in ! 19 (sub ! 1 refl (whole !)))) (no-more !)))) (λ r6 e6 is6.
+        calls-inserted ! fm mem run-of known-inserted r (r5 .full) (r5 .used) g-r tt (LL.owed Inserted′.the-type Inserted″.the-laws r5 _ is5 .1 .0 .1)
+        (ready .numbers) (λ _. and-then ! (load ! (from ! (stop !)) (look ! 33 refl))
+        (and-then ! (load ! (from ! (fld ! refl (stop !))) (look-in ! 19 (sub ! 0 refl (whole !))))
+        (and-then ! (load ! (from ! (fld ! refl (stop !))) (look-in ! 19 (sub ! 1 refl (whole !)))) (no-more !)))) (λ r6 e6 is6.
         land ! (from ! (stop !)) (init ! 16 refl (typed-Turn r6 is6)) $
         assigns ! (of-opd ! (load ! (from ! (stop !)) (look ! 16 refl))) (from ! (stop !)) (init ! 34 refl (typed-Turn r6 is6)) $
-        returns ! (look ! 34 refl) $ forget ! 4 refl $ forget ! 6 refl $ forget ! 14 refl $ forget ! 16 refl $ forget ! 18 refl $ forget ! 20 refl $ forget ! 24 refl $ forget ! 26 refl $ forget ! 28 refl $ forget ! 30 refl $ forget ! 32 refl $ forget ! 34 refl $
-        move ! (34 ∷ 35 ∷ []) $ free1 ! $ move ! (32 ∷ 33 ∷ []) $ free1 ! $ move ! (30 ∷ 31 ∷ []) $ free1 ! $ move ! (28 ∷ 29 ∷ []) $ free1 ! $ move ! (26 ∷ 27 ∷ []) $ free1 ! $ move ! (24 ∷ 25 ∷ []) $ free1 ! $ move ! (22 ∷ 23 ∷ []) $ free1 ! $ move ! (20 ∷ 21 ∷ []) $ free1 ! $ move ! (18 ∷ 19 ∷ []) $ free1 ! $ move ! (16 ∷ 17 ∷ []) $ free1 ! $ move ! (14 ∷ 15 ∷ []) $ free1 ! $ move ! (12 ∷ 13 ∷ []) $ free1 ! $ move ! (10 ∷ 11 ∷ []) $ free1 ! $ move ! (8 ∷ 9 ∷ []) $ free1 ! $ move ! (6 ∷ 7 ∷ []) $ free1 ! $ move ! (4 ∷ 5 ∷ []) $ free1 ! $ free0 ! $
+        returns ! (look ! 34 refl) $ forget ! 4 refl $ forget ! 6 refl $ forget ! 14 refl $ forget ! 16 refl $ forget ! 18 refl $ forget ! 20 refl $
+        forget ! 24 refl $ forget ! 26 refl $ forget ! 28 refl $ forget ! 30 refl $ forget ! 32 refl $ forget ! 34 refl $
+        move ! (34 ∷ 35 ∷ []) $ free1 ! $ move ! (32 ∷ 33 ∷ []) $ free1 ! $ move ! (30 ∷ 31 ∷ []) $ free1 ! $ move ! (28 ∷ 29 ∷ []) $ free1 ! $
+        move ! (26 ∷ 27 ∷ []) $ free1 ! $ move ! (24 ∷ 25 ∷ []) $ free1 ! $ move ! (22 ∷ 23 ∷ []) $ free1 ! $ move ! (20 ∷ 21 ∷ []) $ free1 ! $
+        move ! (18 ∷ 19 ∷ []) $ free1 ! $ move ! (16 ∷ 17 ∷ []) $ free1 ! $ move ! (14 ∷ 15 ∷ []) $ free1 ! $ move ! (12 ∷ 13 ∷ []) $ free1 ! $
+        move ! (10 ∷ 11 ∷ []) $ free1 ! $ move ! (8 ∷ 9 ∷ []) $ free1 ! $ move ! (6 ∷ 7 ∷ []) $ free1 ! $ move ! (4 ∷ 5 ∷ []) $ free1 ! $ free0 ! $
         keep ! (2 ∷ 3 ∷ 0 ∷ 1 ∷ []) $ by ! (exits r6 cells5 is6 l-cells5 (insert-told r positions cells ready r1 e1 no1 r4 e4 r5 cells5 e5 r6 e6)))))))))))))))))))))))
 
 module _ {M : Type 1} (𝓤 : URA M) (H : Heap 𝓤) (A : Atoms 𝓤) (W : Given 𝓤 H A) (mem : Memory → SProp 𝓤) (run-of : Routine → Fun 𝓤) where
-  tree-unit-walks : (C : Calls 𝓤 H) (Λ : Loops 𝓤 H) → FmC 𝓤 H (W .laws) C → Triple 𝓤 (C #run-units·is-box) (Contract-is-box 𝓤 H A mem run-of) → Triple 𝓤 (C #tree·root·plant) (Contract-plant 𝓤 H A mem run-of) → Triple 𝓤 (C #run-units·planted) (Contract-planted 𝓤 H A mem run-of) → Triple 𝓤 (C #run-units·point-next) (Contract-point-next 𝓤 H A mem run-of) → Triple 𝓤 (C #tree·insertion·insert) (Contract-insert 𝓤 H A mem run-of) → Triple 𝓤 (C #run-units·inserted) (Contract-inserted 𝓤 H A mem run-of) → Walks 𝓤 H A f.ended stayed (WpFn 𝓤 H C Λ code.function) (f.clauses 𝓤 H A mem run-of)
+  tree-unit-walks : (C : Calls 𝓤 H) (Λ : Loops 𝓤 H) → FmC 𝓤 H (W .laws) C → Triple 𝓤 (C #run-units·is-box) (Contract-is-box 𝓤 H A mem run-of) →
+      Triple 𝓤 (C #tree·root·plant) (Contract-plant 𝓤 H A mem run-of) → Triple 𝓤 (C #run-units·planted) (Contract-planted 𝓤 H A mem run-of) →
+      Triple 𝓤 (C #run-units·point-next) (Contract-point-next 𝓤 H A mem run-of) → Triple 𝓤 (C #tree·insertion·insert) (Contract-insert 𝓤 H A mem run-of) →
+      Triple 𝓤 (C #run-units·inserted) (Contract-inserted 𝓤 H A mem run-of) →
+      Walks 𝓤 H A f.ended stayed (WpFn 𝓤 H C Λ code.function) (f.clauses 𝓤 H A mem run-of)
   tree-unit-walks C Λ fm known-is-box known-plant known-planted known-point-next known-insert known-inserted = walked 𝓤 H A f.ended stayed (f.clauses 𝓤 H A mem run-of) (WpFn 𝓤 H C Λ code.function)
       (λ κs. (LL.vals Run′.the-type Run″.the-laws, (slice-vals, (slice-vals, tt))))
-      (λ κs. (LL.tells Run′.the-type Run″.the-laws, (shr-slice-tells (named 0) (κs .0) f64, (mut-slice-tells (named 1) (κs .1 .0) Cell′.the-row, tt))))
+      (λ κs. (LL.tells Run′.the-type Run″.the-laws ∥ shr-slice-tells (named 0) (κs .0) f64 ∥ mut-slice-tells (named 1) (κs .1 .0) Cell′.the-row ∥ tt))
       (λ κs qs bounds a _ are. needs 𝓤 (TreeRoom (a .0) (length (a .1 .0 .now)) (nodesOf (a .1 .1 .0 .now))) _
       (walk 𝓤 H A W mem run-of
       (a .0) (are .0)
@@ -186,11 +245,16 @@ module _ {M : Type 1} (𝓤 : URA M) (H : Heap 𝓤) (A : Atoms 𝓤) (W : Given
       C Λ fm known-is-box known-plant known-planted known-point-next known-insert known-inserted))
 
 tree-unit-meets : {M : Type 1} (𝓤 : URA M) (H : Heap 𝓤) (A : Atoms 𝓤) → Given 𝓤 H A → (mem : Memory → SProp 𝓤) (run-of : Routine → Fun 𝓤) (𝓣 : Tables 𝓤 H)
-    → Triple 𝓤 (𝓣 .C #run-units·is-box) (Contract-is-box 𝓤 H A mem run-of) → Triple 𝓤 (𝓣 .C #tree·root·plant) (Contract-plant 𝓤 H A mem run-of) → Triple 𝓤 (𝓣 .C #run-units·planted) (Contract-planted 𝓤 H A mem run-of) → Triple 𝓤 (𝓣 .C #run-units·point-next) (Contract-point-next 𝓤 H A mem run-of) → Triple 𝓤 (𝓣 .C #tree·insertion·insert) (Contract-insert 𝓤 H A mem run-of) → Triple 𝓤 (𝓣 .C #run-units·inserted) (Contract-inserted 𝓤 H A mem run-of)
+    → Triple 𝓤 (𝓣 .C #run-units·is-box) (Contract-is-box 𝓤 H A mem run-of) → Triple 𝓤 (𝓣 .C #tree·root·plant) (Contract-plant 𝓤 H A mem run-of) →
+    Triple 𝓤 (𝓣 .C #run-units·planted) (Contract-planted 𝓤 H A mem run-of) → Triple 𝓤 (𝓣 .C #run-units·point-next) (Contract-point-next 𝓤 H A mem run-of) →
+    Triple 𝓤 (𝓣 .C #tree·insertion·insert) (Contract-insert 𝓤 H A mem run-of) → Triple 𝓤 (𝓣 .C #run-units·inserted) (Contract-inserted 𝓤 H A mem run-of)
     → Meets 𝓤 H A f.signature (WpFn 𝓤 H (𝓣 .C) (𝓣 .Λ) code.function) (f.spec 𝓤 H A mem run-of)
 tree-unit-meets 𝓤 H A W mem run-of 𝓣 known-is-box known-plant known-planted known-point-next known-insert known-inserted =
-    walk-meets 𝓤 H A f.ended stayed W (goes-none 𝓤 H A W 2 (λ _. Run′.the-row) yes (λ κs x f. refl), (goes-none-slice 𝓤 H A W 2 (0 ∷ []) tt (plain (λ _. f64)) yes, (goes-slice 𝓤 H A W 2 1 tt (plain (λ _. Cell′.the-row)), tt))) (f.clauses 𝓤 H A mem run-of)
-    (WpFn 𝓤 H (𝓣 .C) (𝓣 .Λ) code.function) (WpFn-mono 𝓤 H (W .laws) 𝓣 code.function) (tree-unit-walks 𝓤 H A W mem run-of (𝓣 .C) (𝓣 .Λ) (fmOf 𝓤 H (W .laws) 𝓣) known-is-box known-plant known-planted known-point-next known-insert known-inserted)
+    walk-meets 𝓤 H A f.ended stayed W (goes-none 𝓤 H A W 2 (λ _. Run′.the-row) yes (λ κs x f. refl) ∥
+    goes-none-slice 𝓤 H A W 2 (0 ∷ []) tt (plain (λ _. f64)) yes ∥ goes-slice 𝓤 H A W 2 1 tt (plain (λ _. Cell′.the-row)) ∥ tt) (f.clauses 𝓤 H A mem run-of)
+    (WpFn 𝓤 H (𝓣 .C) (𝓣 .Λ) code.function) (WpFn-mono 𝓤 H (W .laws) 𝓣 code.function)
+    (tree-unit-walks 𝓤 H A W mem run-of (𝓣 .C) (𝓣 .Λ) (fmOf 𝓤 H (W .laws) 𝓣) known-is-box known-plant known-planted known-point-next known-insert
+    known-inserted)
 
 pub tree-unit-spec : {M : Type 1} → stated.statement M
 unfolding code.routine tablesOf

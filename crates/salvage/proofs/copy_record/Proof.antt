@@ -1,5 +1,5 @@
 -- `salvage::copy_record` meets its contract: t bytes are copied. Assumes nothing.
-use Rattle.salvage.proofs.Foremost.{record-more, record-done}
+use Rattle.salvage.proofs.Foremost.{record-next, record-done}
 use Prim.Native.Nat.{_-_}
 use Rattle.laws.proofs.Parts.{Spells, spells-start}
 use Rattle.frames.specs.Frames.{recordBytes}
@@ -36,7 +36,10 @@ loop-less : tie.Need-loop-less Inv-loop μ-loop
 loop-less c = search needs
 
 loop-again : tie.Need-loop-again Inv-loop μ-loop
-loop-again c = record-more _ _ (c .before .before .before .pre .1) (c .before .before .loop .inv) (c .before .before .before .pre .0) (c .before .loop-test .taken)
+loop-again c =
+    let the-loop = c .before .before .loop in
+    let the-start = c .before .before .before in
+    record-next _ _ (the-start .pre .1) (the-loop .inv) (the-start .pre .0) (c .before .loop-test .taken)
 
 same-length : tie.Need-same-length Inv-loop μ-loop
 same-length c = search needs

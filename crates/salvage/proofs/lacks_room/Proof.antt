@@ -17,11 +17,15 @@ records-read-requires c κs = search needs
 
 returns-2 : tie.Need-returns-2
 unfolding lacksRoom
-returns-2 c = rw (le-ltb _ _ (c .before .before .if1 .left), lt-ltb _ _ (rw (c .before .records-read .ensures) at (c .if2 .taken)))
+returns-2 c =
+    let the-if1 = c .before .before .if1 in
+    rw (le-ltb _ _ (the-if1 .left), lt-ltb _ _ (rw (c .before .records-read .ensures) at (c .if2 .taken)))
 
 returns-3 : tie.Need-returns-3
 unfolding lacksRoom
-returns-3 c = rw (le-ltb _ _ (c .before .before .if1 .left), le-ltb _ _ (rw (c .before .records-read .ensures) at (c .if2 .left)), c .before .records-read .ensures)
+returns-3 c =
+    let the-if1 = c .before .before .if1 in
+    rw (le-ltb _ _ (the-if1 .left), le-ltb _ _ (rw (c .before .records-read .ensures) at (c .if2 .left)), c .before .records-read .ensures)
 
 pub lacks-room-spec : {M : Type 1} → statement M
 lacks-room-spec = tie.close (tie.spec mul-if1 returns records-read-requires returns-2 returns-3)

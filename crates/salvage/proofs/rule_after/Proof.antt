@@ -21,11 +21,17 @@ follows-last-requires c κs = search needs
 
 returns-2 : tie.Need-returns-2
 unfolding ruleAfter
-returns-2 c = rw (eq-eqb _ _ (sym (c .before .before .before .rule-alone .ensures) ∙ c .before .before .if1 .left), sym (c .before .follows-last .ensures) ∙ c .if2 .taken)
+returns-2 c =
+    let the-if1 = c .before .before .if1 in
+    let the-rule-alone = c .before .before .before .rule-alone in
+    rw (eq-eqb _ _ (sym (the-rule-alone .ensures) ∙ the-if1 .left), sym (c .before .follows-last .ensures) ∙ c .if2 .taken)
 
 returns-3 : tie.Need-returns-3
 unfolding ruleAfter
-returns-3 c = rw (eq-eqb _ _ (sym (c .before .before .before .rule-alone .ensures) ∙ c .before .before .if1 .left), sym (c .before .follows-last .ensures) ∙ c .if2 .left)
+returns-3 c =
+    let the-if1 = c .before .before .if1 in
+    let the-rule-alone = c .before .before .before .rule-alone in
+    rw (eq-eqb _ _ (sym (the-rule-alone .ensures) ∙ the-if1 .left), sym (c .before .follows-last .ensures) ∙ c .if2 .left)
 
 pub rule-after-spec : {M : Type 1} → statement M
 rule-after-spec =

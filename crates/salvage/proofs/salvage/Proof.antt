@@ -13,7 +13,10 @@ returns : tie.Need-returns
 returns c = short-left _ _ _ _ (sym (c .before .lacks-room .ensures) ∙ c .if1 .taken)
 
 sift-all-requires : tie.Need-sift-all-requires
-sift-all-requires c κs = sift-room _ _ _ _ (sym (c .before .before .before .before .lacks-room .ensures) ∙ c .before .before .before .if1 .left)
+sift-all-requires c κs =
+    let the-if1 = c .before .before .before .if1 in
+    let the-lacks-room = c .before .before .before .before .lacks-room in
+    sift-room _ _ _ _ (sym (the-lacks-room .ensures) ∙ the-if1 .left)
 
 same-length : tie.Need-same-length
 same-length c = search needs
@@ -26,45 +29,38 @@ same-length-3 c = search needs
 
 returns-2 : tie.Need-returns-2
 returns-2 c =
-    saved-left _ _ _ _
-    (sym (c .before .before .before .before .before .before .before .before .before .before .before .before .lacks-room .ensures)
-    ∙ c .before .before .before .before .before .before .before .before .before .before .before .if1 .left)
-    (c .before .before .before .before .before .before .before .sift-all .ensures)
-    (c .if2 .taken)
+    let the-sift-all = c .before .before .before .before .before .before .before .sift-all in
+    let the-if1 = c .before .before .before .before .before .before .before .before .before .before .before .if1 in
+    let the-lacks-room = c .before .before .before .before .before .before .before .before .before .before .before .before .lacks-room in
+    saved-left _ _ _ _ (sym (the-lacks-room .ensures) ∙ the-if1 .left) (the-sift-all .ensures) (c .if2 .taken)
 
 mul-places : tie.Need-mul-places
 mul-places c =
-    omega (
-      arith,
-      tail-room _ _ _ _ (sym (c .before .before .before .before .before .before .before .before .before .before .before .before .lacks-room .ensures)
-          ∙ c .before .before .before .before .before .before .before .before .before .before .before .if1 .left)
-          (c .before .before .before .before .before .before .before .sift-all .ensures) (c .if2 .left),
-    )
+    let the-sift-all = c .before .before .before .before .before .before .before .sift-all in
+    let the-if1 = c .before .before .before .before .before .before .before .before .before .before .before .if1 in
+    let the-lacks-room = c .before .before .before .before .before .before .before .before .before .before .before .before .lacks-room in
+    omega (arith, tail-room _ _ _ _ (sym (the-lacks-room .ensures) ∙ the-if1 .left) (the-sift-all .ensures) (c .if2 .left))
 
 slice-write-places : tie.Need-slice-write-places
 slice-write-places c =
-    tail-room _ _ _ _
-    (sym (c .before .before .before .before .before .before .before .before .before .before .before .before .lacks-room .ensures)
-    ∙ c .before .before .before .before .before .before .before .before .before .before .before .if1 .left)
-    (c .before .before .before .before .before .before .before .sift-all .ensures)
-    (c .if2 .left) .0
+    let the-sift-all = c .before .before .before .before .before .before .before .sift-all in
+    let the-if1 = c .before .before .before .before .before .before .before .before .before .before .before .if1 in
+    let the-lacks-room = c .before .before .before .before .before .before .before .before .before .before .before .before .lacks-room in
+    tail-room _ _ _ _ (sym (the-lacks-room .ensures) ∙ the-if1 .left) (the-sift-all .ensures) (c .if2 .left) .0
 
 slice-write-rules : tie.Need-slice-write-rules
 slice-write-rules c =
-    tail-room _ _ _ _
-    (sym (c .before .before .before .before .before .before .before .before .before .before .before .before .lacks-room .ensures)
-    ∙ c .before .before .before .before .before .before .before .before .before .before .before .if1 .left)
-    (c .before .before .before .before .before .before .before .sift-all .ensures)
-    (c .if2 .left) .1
+    let the-sift-all = c .before .before .before .before .before .before .before .sift-all in
+    let the-if1 = c .before .before .before .before .before .before .before .before .before .before .before .if1 in
+    let the-lacks-room = c .before .before .before .before .before .before .before .before .before .before .before .before .lacks-room in
+    tail-room _ _ _ _ (sym (the-lacks-room .ensures) ∙ the-if1 .left) (the-sift-all .ensures) (c .if2 .left) .1
 
 add-all : tie.Need-add-all
 add-all c =
-    omega (
-      arith,
-      tail-room _ _ _ _ (sym (c .before .before .before .before .before .before .before .before .before .before .before .before .lacks-room .ensures)
-          ∙ c .before .before .before .before .before .before .before .before .before .before .before .if1 .left)
-          (c .before .before .before .before .before .before .before .sift-all .ensures) (c .if2 .left),
-    )
+    let the-sift-all = c .before .before .before .before .before .before .before .sift-all in
+    let the-if1 = c .before .before .before .before .before .before .before .before .before .before .before .if1 in
+    let the-lacks-room = c .before .before .before .before .before .before .before .before .before .before .before .before .lacks-room in
+    omega (arith, tail-room _ _ _ _ (sym (the-lacks-room .ensures) ∙ the-if1 .left) (the-sift-all .ensures) (c .if2 .left))
 
 same-length-4 : tie.Need-same-length-4
 same-length-4 c = search needs
@@ -77,11 +73,10 @@ same-length-6 c = search needs
 
 returns-3 : tie.Need-returns-3
 returns-3 c =
-    tail-left _ _ _ _
-    (sym (c .before .before .before .before .before .before .before .before .before .before .before .before .lacks-room .ensures)
-    ∙ c .before .before .before .before .before .before .before .before .before .before .before .if1 .left)
-    (c .before .before .before .before .before .before .before .sift-all .ensures)
-    (c .if2 .left)
+    let the-sift-all = c .before .before .before .before .before .before .before .sift-all in
+    let the-if1 = c .before .before .before .before .before .before .before .before .before .before .before .if1 in
+    let the-lacks-room = c .before .before .before .before .before .before .before .before .before .before .before .before .lacks-room in
+    tail-left _ _ _ _ (sym (the-lacks-room .ensures) ∙ the-if1 .left) (the-sift-all .ensures) (c .if2 .left)
 
 pub salvage-spec : {M : Type 1} → statement M
 salvage-spec =

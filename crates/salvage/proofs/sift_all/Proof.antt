@@ -1,5 +1,5 @@
 -- `salvage::sift_all` meets its contract: i records are sifted. Assumes nothing.
-use Rattle.salvage.proofs.Sifted.{Sifted, sifted-start, sifted-can, sifted-more, sifted-done}
+use Rattle.salvage.proofs.Sifted.{Sifted, sifted-start, sifted-can, sifted-next, sifted-done}
 use Prim.Native.Nat.{_-_}
 use Rattle.salvage.specs.Steps.{sifting}
 use borrow.Author.Needs.{needs}
@@ -30,11 +30,11 @@ loop-less c = search needs
 
 loop-again : tie.Need-loop-again Inv-loop μ-loop
 loop-again c =
-    sifted-more
-    (c .before .before .before .before .before .before .before .before .before .before .before .before .before .before .before .before .pre)
-    (c .before .before .before .before .before .before .before .before .before .before .before .loop .inv)
-    (c .before .before .before .before .before .before .before .before .before .before .loop-test .taken) _
-    (c .before .before .before .before .before .before .sift-one .ensures)
+    let the-sift-one = c .before .before .before .before .before .before .sift-one in
+    let the-loop-test = c .before .before .before .before .before .before .before .before .before .before .loop-test in
+    let the-loop = c .before .before .before .before .before .before .before .before .before .before .before .loop in
+    let the-start = c .before .before .before .before .before .before .before .before .before .before .before .before .before .before .before .before in
+    sifted-next (the-start .pre) (the-loop .inv) (the-loop-test .taken) _ (the-sift-one .ensures)
 
 same-length : tie.Need-same-length Inv-loop μ-loop
 same-length c = c .before .loop .inv .goodSize
@@ -46,7 +46,9 @@ same-length-3 : tie.Need-same-length-3 Inv-loop μ-loop
 same-length-3 c = c .before .loop .inv .rulesSize
 
 returns : tie.Need-returns Inv-loop μ-loop
-returns c = sifted-done (c .before .before .before .before .before .before .pre) (c .before .loop .inv) (c .loop-test .left)
+returns c =
+    let the-start = c .before .before .before .before .before .before in
+    sifted-done (the-start .pre) (c .before .loop .inv) (c .loop-test .left)
 
 pub sift-all-spec : {M : Type 1} → statement M
 sift-all-spec =

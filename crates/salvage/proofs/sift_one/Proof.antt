@@ -29,7 +29,11 @@ same-length c = search needs
 
 returns : tie.Need-returns
 unfolding siftStep
-returns c = rw (eq-eqb _ _ (sym (c .before .before .before .before .before .rule-after .ensures) ∙ c .before .before .before .before .if1 .taken), c .before .before .copy-record .ensures)
+returns c =
+    let the-copy-record = c .before .before .copy-record in
+    let the-if1 = c .before .before .before .before .if1 in
+    let the-rule-after = c .before .before .before .before .before .rule-after in
+    rw (eq-eqb _ _ (sym (the-rule-after .ensures) ∙ the-if1 .taken), the-copy-record .ensures)
 
 mul-places : tie.Need-mul-places
 mul-places c = search needs

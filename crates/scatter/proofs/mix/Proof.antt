@@ -21,7 +21,11 @@ fold-requires-3 c κs = search needs
 
 returns : tie.Need-returns
 unfolding mixOf
-returns c = rw (c .fold3 .ensures, c .before .wrapping-mul2 .ensures, c .before .before .fold2 .ensures, c .before .before .before .wrapping-mul .ensures, c .before .before .before .before .fold .ensures)
+returns c =
+    let the-fold2 = c .before .before .fold2 in
+    let the-wrapping-mul = c .before .before .before .wrapping-mul in
+    let the-fold = c .before .before .before .before .fold in
+    rw (c .fold3 .ensures, c .before .wrapping-mul2 .ensures, the-fold2 .ensures, the-wrapping-mul .ensures, the-fold .ensures)
 
 pub mix-spec : {M : Type 1} → statement M
 mix-spec =

@@ -2,7 +2,7 @@
 use mathlib.Core.Path.{_≡_, ap}
 use Prim.Native.Nat.{_-_}
 use lib.ListN.{length}
-use Rattle.laws.proofs.Loops.{Loops, loop-start, loop-more, loop-done}
+use Rattle.laws.proofs.Loops.{Loops, loop-start, loop-next, loop-done}
 use Rattle.scatter.specs.Scatter.{Spread, spread, scatterStep}
 use borrow.Author.Needs.{needs}
 use native.Mathlib.Omega.{arith}
@@ -40,7 +40,10 @@ loop-less : tie.Need-loop-less Inv-loop μ-loop
 loop-less c = search needs
 
 loop-again : tie.Need-loop-again Inv-loop μ-loop
-loop-again c = (search needs, rw (c .coordinate .ensures, c .before .mix .ensures, c .before .before .wrapping-add-u64 .ensures) (loop-more (c .before .before .before .before .loop .inv .1) (omega arith)))
+loop-again c =
+    let the-wrapping-add-u64 = c .before .before .wrapping-add-u64 in
+    let the-loop = c .before .before .before .before .loop in
+    (search needs, rw (c .coordinate .ensures, c .before .mix .ensures, the-wrapping-add-u64 .ensures) (loop-next (the-loop .inv .1) (omega arith)))
 
 same-length : tie.Need-same-length Inv-loop μ-loop
 same-length c = search needs

@@ -1,3 +1,4 @@
+-- `step::finish` meets its contract: by `finish-no-moves`, `finish-no-centred`, `finish-done`.
 use Prim.Native.Nat.{_^_}
 use lib.Dec.{le→leb}
 use lib.Ieee.{inFloat}
@@ -29,7 +30,9 @@ returns c = finish-no-moves _ _ _ (sym (c .before .sum-moves .ensures .0) ∙ no
 
 int-to-float-take-means : tie.Need-int-to-float-take-means
 unfolding inFloat
-int-to-float-take-means c = le→leb (c .before .before .before .before .before .before .before .before .before .before .before .before .args .n) (2 ^ 53) (omega arith)
+int-to-float-take-means c =
+    let the-start = c .before .before .before .before .before .before .before .before .before .before .before .before in
+    le→leb (the-start .args .n) (2 ^ 53) (omega arith)
 
 take-means-requires : tie.Need-take-means-requires
 take-means-requires c κs = search needs
@@ -47,7 +50,12 @@ same-length-6 : tie.Need-same-length-6
 same-length-6 c = search needs
 
 returns-2 : tie.Need-returns-2
-returns-2 c = finish-no-centred _ _ _ (rw (c .before .before .before .before .before .before .before .before .before .before .sum-moves .ensures .1) at (c .before .before .before .before .before .before .take-means .ensures)) (sym (c .before .before .before .before .before .before .before .before .before .before .sum-moves .ensures .0) ∙ (not-false _ (c .before .before .before .before .before .before .before .before .before .if1 .left))) (sym (c .before .calm-centred .ensures) ∙ not-true _ (c .if2 .taken))
+returns-2 c =
+    let the-take-means = c .before .before .before .before .before .before .take-means in
+    let the-if1 = c .before .before .before .before .before .before .before .before .before .if1 in
+    let the-sum-moves = c .before .before .before .before .before .before .before .before .before .before .sum-moves in
+    finish-no-centred _ _ _ (rw (the-sum-moves .ensures .1) at (the-take-means .ensures)) (sym (the-sum-moves .ensures .0) ∙ (not-false _ (the-if1 .left)))
+    (sym (c .before .calm-centred .ensures) ∙ not-true _ (c .if2 .taken))
 
 write-moves-requires : tie.Need-write-moves-requires
 write-moves-requires c κs = search needs
@@ -62,7 +70,16 @@ same-length-9 : tie.Need-same-length-9
 same-length-9 c = search needs
 
 returns-3 : tie.Need-returns-3
-returns-3 c = finish-done _ _ _ (rw (c .before .before .before .before .before .before .before .before .before .before .before .before .before .before .before .before .before .before .before .before .before .sum-moves .ensures .1) at (c .before .before .before .before .before .before .before .before .before .before .before .before .before .before .before .before .before .take-means .ensures)) (sym (c .before .before .before .before .before .before .before .before .before .before .before .before .before .before .before .before .before .before .before .before .before .sum-moves .ensures .0) ∙ (not-false _ (c .before .before .before .before .before .before .before .before .before .before .before .before .before .before .before .before .before .before .before .before .if1 .left))) (sym (c .before .before .before .before .before .before .before .before .before .before .before .before .calm-centred .ensures) ∙ not-false _ (c .before .before .before .before .before .before .before .before .before .before .before .if2 .left)) (c .before .before .before .before .before .before .write-moves .ensures)
+returns-3 c =
+    let the-write-moves = c .before .before .before .before .before .before .write-moves in
+    let the-if2 = c .before .before .before .before .before .before .before .before .before .before .before .if2 in
+    let the-calm-centred = c .before .before .before .before .before .before .before .before .before .before .before .before .calm-centred in
+    let far-1 = c .before .before .before .before .before .before .before .before .before .before .before .before in
+    let the-take-means = far-1 .before .before .before .before .before .take-means in
+    let the-if1 = far-1 .before .before .before .before .before .before .before .before .if1 in
+    let the-sum-moves = far-1 .before .before .before .before .before .before .before .before .before .sum-moves in
+    finish-done _ _ _ (rw (the-sum-moves .ensures .1) at (the-take-means .ensures)) (sym (the-sum-moves .ensures .0) ∙ (not-false _ (the-if1 .left)))
+    (sym (the-calm-centred .ensures) ∙ not-false _ (the-if2 .left)) (the-write-moves .ensures)
 
 pub finish-spec : {M : Type 1} → statement M
 finish-spec =

@@ -1,3 +1,4 @@
+-- `step_gains::changed_gain` meets its contract: each need follows from its own premises.
 use Rattle.step_gains.specs.Gains.{changed}
 use Rattle.step_gains.proofs.changed_gain.Statement.{statement}
 use Rattle.step_gains.proofs.changed_gain.Tie as tie

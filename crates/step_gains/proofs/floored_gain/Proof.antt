@@ -1,3 +1,4 @@
+-- `step_gains::floored_gain` meets its contract: each need follows from its own premises.
 use Rattle.step_gains.specs.Gains.{floored}
 use Rattle.step_gains.proofs.floored_gain.Statement.{statement}
 use Rattle.step_gains.proofs.floored_gain.Tie as tie

@@ -1,3 +1,4 @@
+-- `step_gains::new_element` meets its contract: from what its calls promise.
 use mathlib.Core.Path.{refl}
 use Rattle.step_gains.specs.Gains.{newOf}
 use borrow.Author.Needs.{needs}

@@ -1,3 +1,4 @@
+-- `step_gains::new_gain` meets its contract: from what its calls promise.
 use mathlib.Core.Path.{_∙_, ap}
 use Rattle.step_gains.specs.Gains.{gainOf, floored}
 use borrow.Author.Needs.{needs}

@@ -1,3 +1,4 @@
+-- `step_gains::new_increment` meets its contract: each need follows from its own premises.
 use Rattle.step_gains.specs.Gains.{incrementOf}
 use borrow.Author.Needs.{needs}
 use Rattle.step_gains.proofs.new_increment.Statement.{statement}

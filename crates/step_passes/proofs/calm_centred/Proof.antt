@@ -1,6 +1,7 @@
+-- `step_passes::calm_centred` meets its contract: the loop keeps `Tested`; by `component-in`, `tested-start`, `tested-next`, `tested-no`, `tested-done`.
 use borrow.Author.Tests.{not-true, not-false}
 use mathlib.Core.Path.{sym, _∙_}
-use Rattle.step_passes.proofs.Laws.{component-in, Tested, tested-start, tested-more, tested-no, tested-done}
+use Rattle.step_passes.proofs.Laws.{component-in, Tested, tested-start, tested-next, tested-no, tested-done}
 use Rattle.step_passes.specs.Passes.{paced}
 use Prim.Native.Nat.{_-_}
 use borrow.Author.Needs.{needs}
@@ -24,16 +25,26 @@ rem-d : tie.Need-rem-d Inv-loop μ-loop
 rem-d c = search needs
 
 mul-is-calm : tie.Need-mul-is-calm Inv-loop μ-loop
-mul-is-calm c = record { fits = omega (arith, (component-in (c .before .before .loop .e) (c .before .before .before .before .before .before .before .args .c) (c .before .before .before .before .before .before .before .pre .0) (c .before .before .before .before .before .before .before .pre .1))) }
+mul-is-calm c =
+    let the-loop = c .before .before .loop in
+    let the-start = c .before .before .before .before .before .before .before in
+    record { fits = omega (arith, (component-in (the-loop .e) (the-start .args .c) (the-start .pre .0) (the-start .pre .1))) }
 
 element-copy-out-is-calm : tie.Need-element-copy-out-is-calm Inv-loop μ-loop
-element-copy-out-is-calm c = (component-in (c .before .before .loop .e) (c .before .before .before .before .before .before .before .args .c) (c .before .before .before .before .before .before .before .pre .0) (c .before .before .before .before .before .before .before .pre .1))
+element-copy-out-is-calm c =
+    let the-loop = c .before .before .loop in
+    let the-start = c .before .before .before .before .before .before .before in
+    (component-in (the-loop .e) (the-start .args .c) (the-start .pre .0) (the-start .pre .1))
 
 is-calm-requires : tie.Need-is-calm-requires Inv-loop μ-loop
 is-calm-requires c κs = search needs
 
 returns : tie.Need-returns Inv-loop μ-loop
-returns c = tested-no (c .before .before .before .before .before .before .loop .inv) (c .before .before .before .before .before .loop-test .taken) (c .before .before .before .before .element-at .ensures) (sym (c .before .is-calm .ensures) ∙ not-true _ (c .if1 .taken))
+returns c =
+    let the-element-at = c .before .before .before .before .element-at in
+    let the-loop-test = c .before .before .before .before .before .loop-test in
+    let the-loop = c .before .before .before .before .before .before .loop in
+    tested-no (the-loop .inv) (the-loop-test .taken) (the-element-at .ensures) (sym (c .before .is-calm .ensures) ∙ not-true _ (c .if1 .taken))
 
 add-e : tie.Need-add-e Inv-loop μ-loop
 add-e c = search needs
@@ -42,7 +53,11 @@ loop-less : tie.Need-loop-less Inv-loop μ-loop
 loop-less c = search needs
 
 loop-again : tie.Need-loop-again Inv-loop μ-loop
-loop-again c = tested-more (c .before .before .before .before .before .before .loop .inv) (c .before .before .before .before .before .loop-test .taken) (c .before .before .before .before .element-at .ensures) (sym (c .before .is-calm .ensures) ∙ not-false _ (c .if1 .left))
+loop-again c =
+    let the-element-at = c .before .before .before .before .element-at in
+    let the-loop-test = c .before .before .before .before .before .loop-test in
+    let the-loop = c .before .before .before .before .before .before .loop in
+    tested-next (the-loop .inv) (the-loop-test .taken) (the-element-at .ensures) (sym (c .before .is-calm .ensures) ∙ not-false _ (c .if1 .left))
 
 returns-2 : tie.Need-returns-2 Inv-loop μ-loop
 returns-2 c = tested-done (c .before .loop .inv) (c .loop-test .left)

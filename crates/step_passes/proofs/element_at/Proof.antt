@@ -1,3 +1,4 @@
+-- `step_passes::element_at` meets its contract: from what its calls promise.
 use Rattle.step_passes.specs.Passes.{elementAt}
 use borrow.Author.Needs.{needs}
 use Rattle.step_passes.proofs.element_at.Statement.{statement}

@@ -1,3 +1,4 @@
+-- `step_passes::still_calm` meets its contract: by `and-no`.
 use borrow.Author.Tests.{not-true, not-false}
 use borrow.Author.Needs.{needs}
 use mathlib.Core.Path.{sym, _∙_}
@@ -12,13 +13,19 @@ is-calm-requires : tie.Need-is-calm-requires
 is-calm-requires c κs = search needs
 
 returns-2 : tie.Need-returns-2
-returns-2 c = rw (sym (c .before .is-calm .ensures) ∙ not-true _ (c .if2 .taken)) (sym (and-no (c .before .before .before .args .sofar)))
+returns-2 c =
+    let the-start = c .before .before .before in
+    rw (sym (c .before .is-calm .ensures) ∙ not-true _ (c .if2 .taken)) (sym (and-no (the-start .args .sofar)))
 
 is-calm-requires-2 : tie.Need-is-calm-requires-2
 is-calm-requires-2 c κs = search needs
 
 returns-3 : tie.Need-returns-3
-returns-3 c = rw (not-false (c .before .before .before .before .args .sofar) (c .before .before .before .if1 .left), sym (c .before .before .is-calm .ensures) ∙ not-false _ (c .before .if2 .left), c .is-calm2 .ensures)
+returns-3 c =
+    let the-is-calm = c .before .before .is-calm in
+    let the-if1 = c .before .before .before .if1 in
+    let the-start = c .before .before .before .before in
+    rw (not-false (the-start .args .sofar) (the-if1 .left), sym (the-is-calm .ensures) ∙ not-false _ (c .before .if2 .left), c .is-calm2 .ensures)
 
 pub still-calm-spec : {M : Type 1} → statement M
 still-calm-spec =

@@ -1,4 +1,5 @@
-use Rattle.step_passes.proofs.Laws.{component-in, Summed, summed-start, summed-more, summed-done}
+-- `step_passes::sum_moves` meets its contract: the loop keeps `Summed`; by `component-in`, `summed-start`, `summed-next`, `summed-done`.
+use Rattle.step_passes.proofs.Laws.{component-in, Summed, summed-start, summed-next, summed-done}
 use Rattle.step_passes.specs.Passes.{paced}
 use Prim.Native.Nat.{_-_}
 use borrow.Author.Needs.{needs}
@@ -25,16 +26,28 @@ rem-d : tie.Need-rem-d Inv-loop μ-loop
 rem-d c = search needs
 
 mul-sums : tie.Need-mul-sums Inv-loop μ-loop
-mul-sums c = record { fits = omega (arith, component-in (c .before .before .before .loop .e) (c .before .before .before .before .before .before .before .before .args .c) (c .before .before .before .before .before .before .before .before .pre .0) (c .before .before .before .before .before .before .before .before .pre .1)) }
+mul-sums c =
+    let the-loop = c .before .before .before .loop in
+    let the-start = c .before .before .before .before .before .before .before .before in
+    record { fits = omega (arith, component-in (the-loop .e) (the-start .args .c) (the-start .pre .0) (the-start .pre .1)) }
 
 element-copy-out-sums : tie.Need-element-copy-out-sums Inv-loop μ-loop
-element-copy-out-sums c = component-in (c .before .before .before .loop .e) (c .before .before .before .before .before .before .before .before .args .c) (c .before .before .before .before .before .before .before .before .pre .0) (c .before .before .before .before .before .before .before .before .pre .1)
+element-copy-out-sums c =
+    let the-loop = c .before .before .before .loop in
+    let the-start = c .before .before .before .before .before .before .before .before in
+    component-in (the-loop .e) (the-start .args .c) (the-start .pre .0) (the-start .pre .1)
 
 mul-sums-2 : tie.Need-mul-sums-2 Inv-loop μ-loop
-mul-sums-2 c = record { fits = omega (arith, component-in (c .before .before .before .before .before .loop .e) (c .before .before .before .before .before .before .before .before .before .before .args .c) (c .before .before .before .before .before .before .before .before .before .before .pre .0) (c .before .before .before .before .before .before .before .before .before .before .pre .1)) }
+mul-sums-2 c =
+    let the-loop = c .before .before .before .before .before .loop in
+    let the-start = c .before .before .before .before .before .before .before .before .before .before in
+    record { fits = omega (arith, component-in (the-loop .e) (the-start .args .c) (the-start .pre .0) (the-start .pre .1)) }
 
 element-write-sums : tie.Need-element-write-sums Inv-loop μ-loop
-element-write-sums c = component-in (c .before .before .before .before .before .loop .e) (c .before .before .before .before .before .before .before .before .before .before .args .c) (c .before .before .before .before .before .before .before .before .before .before .pre .0) (c .before .before .before .before .before .before .before .before .before .before .pre .1)
+element-write-sums c =
+    let the-loop = c .before .before .before .before .before .loop in
+    let the-start = c .before .before .before .before .before .before .before .before .before .before in
+    component-in (the-loop .e) (the-start .args .c) (the-start .pre .0) (the-start .pre .1)
 
 add-e : tie.Need-add-e Inv-loop μ-loop
 add-e c = search needs
@@ -43,7 +56,12 @@ loop-less : tie.Need-loop-less Inv-loop μ-loop
 loop-less c = search needs
 
 loop-again : tie.Need-loop-again Inv-loop μ-loop
-loop-again c = summed-more (c .before .before .before .before .before .loop .inv) (c .before .before .before .before .loop-test .taken) (c .before .before .before .element-at .ensures) (c .before .before .still-calm .ensures)
+loop-again c =
+    let the-still-calm = c .before .before .still-calm in
+    let the-element-at = c .before .before .before .element-at in
+    let the-loop-test = c .before .before .before .before .loop-test in
+    let the-loop = c .before .before .before .before .before .loop in
+    summed-next (the-loop .inv) (the-loop-test .taken) (the-element-at .ensures) (the-still-calm .ensures)
 
 returns : tie.Need-returns Inv-loop μ-loop
 returns c = summed-done (c .before .loop .inv) (c .loop-test .left)

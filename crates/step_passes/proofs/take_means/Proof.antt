@@ -1,5 +1,6 @@
+-- `step_passes::take_means` meets its contract: the loop keeps `Loops`; by `loop-start`, `loop-next`, `loop-done`.
 use Rattle.step_passes.specs.Passes.{meanStep}
-use Rattle.laws.proofs.Loops.{Loops, loop-start, loop-more, loop-done}
+use Rattle.laws.proofs.Loops.{Loops, loop-start, loop-next, loop-done}
 use Prim.Native.Nat.{_-_}
 use borrow.Author.Needs.{needs}
 use native.Mathlib.Omega.{arith}
@@ -34,7 +35,7 @@ loop-less : tie.Need-loop-less Inv-loop μ-loop
 loop-less c = search needs
 
 loop-again : tie.Need-loop-again Inv-loop μ-loop
-loop-again c = loop-more (c .before .before .loop .inv) (omega arith)
+loop-again c = loop-next (c .before .before .loop .inv) (omega arith)
 
 returns : tie.Need-returns Inv-loop μ-loop
 returns c = loop-done (c .before .loop .inv) (omega arith)

@@ -1,5 +1,6 @@
+-- `step_passes::write_moves` meets its contract: the loop keeps `Written`; by `component-in`, `written-start`, `written-next`, `written-done`.
 use mathlib.Core.Path.{refl, _≡_}
-use Rattle.step_passes.proofs.Laws.{component-in, Written, written-start, written-more, written-done}
+use Rattle.step_passes.proofs.Laws.{component-in, Written, written-start, written-next, written-done}
 use Rattle.step_passes.specs.Passes.{paced}
 use lib.ListN.{length}
 use Prim.Native.Nat.{_-_}
@@ -9,7 +10,9 @@ use Rattle.step_passes.proofs.write_moves.Statement.{statement}
 use Rattle.step_passes.proofs.write_moves.Tie as tie
 
 abbrev Inv-loop : tie.InvT-loop
-Inv-loop pace n c forces positions₀ increments₀ gains₀ m means e₀ positions increments gains e = (length positions ≡ length positions₀) × (length increments ≡ length increments₀) × (length gains ≡ length gains₀) × Written means (paced pace c forces positions₀ increments₀ gains₀) c m e positions increments gains
+Inv-loop pace n c forces positions₀ increments₀ gains₀ m means e₀ positions increments gains e = (length positions ≡ length positions₀) ×
+    (length increments ≡ length increments₀) × (length gains ≡ length gains₀) ×
+    Written means (paced pace c forces positions₀ increments₀ gains₀) c m e positions increments gains
 
 abbrev μ-loop : tie.MeasureT-loop
 μ-loop pace n c forces positions₀ increments₀ gains₀ m means e₀ positions increments gains e = m - e
@@ -24,10 +27,16 @@ rem-d : tie.Need-rem-d Inv-loop μ-loop
 rem-d c = search needs
 
 mul-positions : tie.Need-mul-positions Inv-loop μ-loop
-mul-positions c = record { fits = omega (arith, (component-in (c .before .before .before .before .before .loop .e) (c .before .before .before .before .before .before .before .before .before .before .args .c) (c .before .before .before .before .before .before .before .before .before .before .pre .0) (c .before .before .before .before .before .before .before .before .before .before .pre .1))) }
+mul-positions c =
+    let the-loop = c .before .before .before .before .before .loop in
+    let the-start = c .before .before .before .before .before .before .before .before .before .before in
+    record { fits = omega (arith, (component-in (the-loop .e) (the-start .args .c) (the-start .pre .0) (the-start .pre .1))) }
 
 element-copy-out-positions : tie.Need-element-copy-out-positions Inv-loop μ-loop
-element-copy-out-positions c = (component-in (c .before .before .before .before .before .loop .e) (c .before .before .before .before .before .before .before .before .before .before .args .c) (c .before .before .before .before .before .before .before .before .before .before .pre .0) (c .before .before .before .before .before .before .before .before .before .before .pre .1))
+element-copy-out-positions c =
+    let the-loop = c .before .before .before .before .before .loop in
+    let the-start = c .before .before .before .before .before .before .before .before .before .before in
+    (component-in (the-loop .e) (the-start .args .c) (the-start .pre .0) (the-start .pre .1))
 
 mul-positions-2 : tie.Need-mul-positions-2 Inv-loop μ-loop
 mul-positions-2 c = search needs
@@ -54,7 +63,12 @@ loop-less : tie.Need-loop-less Inv-loop μ-loop
 loop-less c = search needs
 
 loop-again : tie.Need-loop-again Inv-loop μ-loop
-loop-again c = let w = written-more (c .before .before .before .before .before .before .before .loop .inv .3) (c .before .before .before .before .before .before .loop-test .taken) (c .before .before .element-at .ensures) in (w .ahead-y .size, w .ahead-v .size, w .ahead-g .size, w)
+loop-again c =
+    let the-element-at = c .before .before .element-at in
+    let the-loop-test = c .before .before .before .before .before .before .loop-test in
+    let the-loop = c .before .before .before .before .before .before .before .loop in
+    let w = written-next (the-loop .inv .3) (the-loop-test .taken) (the-element-at .ensures) in
+    (w .ahead-y .size, w .ahead-v .size, w .ahead-g .size, w)
 
 same-length : tie.Need-same-length Inv-loop μ-loop
 same-length c = search needs

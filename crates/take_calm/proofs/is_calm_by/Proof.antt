@@ -1,7 +1,8 @@
--- `take_calm::is_calm_by` meets its contract: the loop keeps `TestsLeft` and `Abreast`; by `abreast-start`, `abreast-room`, `abreast-pass`, `abreast-more`, `tests-left-start`, `tests-left-pass` and others.
+-- `take_calm::is_calm_by` meets its contract: the loop keeps `TestsLeft` and `Abreast`; by `abreast-start`, `abreast-room`, `abreast-pass`, `abreast-next`,
+-- `tests-left-start`, `tests-left-pass` and others.
 use Rattle.take_gone.specs.Gone.{Abreast}
-use Rattle.take_gone.proofs.Next.{abreast-start, abreast-room, abreast-pass, abreast-more}
-use Rattle.take_calm.proofs.Over.{TestsLeft, tests-left-start, tests-left-pass, tests-left-more, tests-left-no, tests-left-done, calm-row-same}
+use Rattle.take_gone.proofs.Next.{abreast-start, abreast-room, abreast-pass, abreast-next}
+use Rattle.take_calm.proofs.Over.{TestsLeft, tests-left-start, tests-left-pass, tests-left-next, tests-left-no, tests-left-done, calm-row-same}
 use Rattle.take_calm.specs.CalmLeft.{calmLeft}
 use Rattle.take_rows.specs.Rows.{centredLeft}
 use Rattle.take_gone.specs.Gone.{survivors}
@@ -94,10 +95,10 @@ loop-again-2 c =
     let the-loop-test = c .before .before .before .before .loop-test in
     let the-loop = c .before .before .before .before .before .loop in
     let the-start = c .before .before .before .before .before .before .before .before in (
-      tests-left-more (the-loop .inv .0) (the-loop-test .taken) (sym (the-is-next .ensures) ∙ the-if1 .left)
+      tests-left-next (the-loop .inv .0) (the-loop-test .taken) (sym (the-is-next .ensures) ∙ the-if1 .left)
           (sym (c .before .is-calm-row .ensures ∙ calm-row-same (survivors (the-start .args .gone .now) (the-start .args .n)) (the-start .args .c)
           (the-start .args .positions .now) (the-start .args .means .now) (the-start .pre .4) (the-loop .j)) ∙ not-false _ (c .if2 .left)),
-      abreast-more
+      abreast-next
           (the-loop .inv .1) (sym (the-is-next .ensures) ∙ the-if1 .left),
     )
 

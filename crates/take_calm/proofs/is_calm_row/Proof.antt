@@ -1,6 +1,6 @@
--- `take_calm::is_calm_row` meets its contract: the loop keeps what has been done equal to its part of the whole; by `every-none`, `every-more`, `every-no`, `every-done`.
+-- `take_calm::is_calm_row` meets its contract: the loop keeps what has been done equal to its part of the whole; by `every-none`, `every-next`, `every-no`, `every-done`.
 use Rattle.elementary.specs.Limits.{calm}
-use Rattle.laws.proofs.Every.{every-none, every-more, every-no, every-done}
+use Rattle.laws.proofs.Every.{every-none, every-next, every-no, every-done}
 use Rattle.laws.specs.Loops.{every}
 use Rattle.laws.specs.Area.{at}
 use borrow.Author.Tests.{not-true, not-false}
@@ -59,7 +59,7 @@ loop-again : tie.Need-loop-again Inv-loop μ-loop
 loop-again c =
     let the-loop-test = c .before .before .before .before .loop-test in
     let the-loop = c .before .before .before .before .before .loop in
-    (every-more _ _ (the-loop .inv .0) (sym (c .before .is-calm .ensures) ∙ not-false _ (c .if1 .left)), omega (arith, the-loop-test .taken))
+    (every-next _ _ (the-loop .inv .0) (sym (c .before .is-calm .ensures) ∙ not-false _ (c .if1 .left)), omega (arith, the-loop-test .taken))
 
 returns-2 : tie.Need-returns-2 Inv-loop μ-loop
 returns-2 c = every-done _ _ _ (c .before .loop .inv .0) (c .before .loop .inv .1) (c .loop-test .left)

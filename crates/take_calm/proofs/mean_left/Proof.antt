@@ -1,8 +1,9 @@
--- `take_calm::mean_left` meets its contract: the loop keeps `SumsLeft` and `Abreast`; by `abreast-start`, `abreast-room`, `abreast-pass`, `abreast-more`, `sums-left-start`, `sums-left-pass` and others.
+-- `take_calm::mean_left` meets its contract: the loop keeps `SumsLeft` and `Abreast`; by `abreast-start`, `abreast-room`, `abreast-pass`, `abreast-next`,
+-- `sums-left-start`, `sums-left-pass` and others.
 use Rattle.take_gone.specs.Gone.{Abreast}
-use Rattle.take_gone.proofs.Next.{abreast-start, abreast-room, abreast-pass, abreast-more}
+use Rattle.take_gone.proofs.Next.{abreast-start, abreast-room, abreast-pass, abreast-next}
 use Rattle.take_gone.specs.Gone.{survivors}
-use Rattle.take_calm.proofs.Over.{SumsLeft, sums-left-start, sums-left-pass, sums-left-more, sums-left-done, sumOver}
+use Rattle.take_calm.proofs.Over.{SumsLeft, sums-left-start, sums-left-pass, sums-left-next, sums-left-done, sumOver}
 use Rattle.take_gone.proofs.Left.{survivors-few}
 use Rattle.laws.proofs.Numbers.{row-in}
 use Rattle.laws.specs.Area.{at}
@@ -93,8 +94,8 @@ loop-again-2 c =
     let the-is-next = c .before .before .is-next in
     let the-loop-test = c .before .before .before .loop-test in
     let the-loop = c .before .before .before .before .loop in (
-      sums-left-more (the-loop .inv .0) (the-loop-test .taken) (sym (the-is-next .ensures) ∙ c .before .if1 .left),
-      abreast-more (the-loop .inv .1)
+      sums-left-next (the-loop .inv .0) (the-loop-test .taken) (sym (the-is-next .ensures) ∙ c .before .if1 .left),
+      abreast-next (the-loop .inv .1)
           (sym (the-is-next .ensures) ∙ c .before .if1 .left),
     )
 

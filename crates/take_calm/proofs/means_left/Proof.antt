@@ -1,11 +1,11 @@
--- `take_calm::means_left` meets its contract: the loop keeps `Loops`; by `loop-start`, `loop-more`, `loop-done`.
+-- `take_calm::means_left` meets its contract: the loop keeps `Loops`; by `loop-start`, `loop-next`, `loop-done`.
 use Rattle.take_calm.specs.CalmLeft.{meanAt}
 use Rattle.take_gone.specs.Gone.{survivors}
 use lib.Ieee.{Float}
 use lib.ListN.{set}
 use mathlib.Core.Path.{ap}
 use Prim.Native.Nat.{_-_}
-use Rattle.laws.proofs.Loops.{Loops, loop-start, loop-more, loop-done}
+use Rattle.laws.proofs.Loops.{Loops, loop-start, loop-next, loop-done}
 use borrow.Author.Needs.{needs}
 use native.Mathlib.Omega.{arith}
 use Rattle.take_calm.proofs.means_left.Statement.{statement}
@@ -41,7 +41,7 @@ loop-less : tie.Need-loop-less Inv-loop μ-loop
 loop-less c = search needs
 
 loop-again : tie.Need-loop-again Inv-loop μ-loop
-loop-again c = rw (c .mean-left .ensures) (loop-more (c .before .before .loop .inv) (c .before .loop-test .taken))
+loop-again c = rw (c .mean-left .ensures) (loop-next (c .before .before .loop .inv) (c .before .loop-test .taken))
 
 returns : tie.Need-returns Inv-loop μ-loop
 returns c = loop-done (c .before .loop .inv) (c .loop-test .left)

@@ -1,6 +1,7 @@
+-- `take_gone::gone_fine` meets its contract: the loop keeps what has been done equal to its part of the whole; by `every-none`, `every-next`, `every-no`, `every-done`.
 use lib.ListN.{length}
 use Rattle.take_gone.specs.Gone.{goneFineAt}
-use Rattle.laws.proofs.Every.{every-none, every-more, every-no, every-done}
+use Rattle.laws.proofs.Every.{every-none, every-next, every-no, every-done}
 use Rattle.laws.specs.Loops.{every}
 use borrow.Author.Tests.{not-true, not-false}
 use mathlib.Core.Bool.{true}
@@ -27,7 +28,10 @@ gone-fine-at-requires : tie.Need-gone-fine-at-requires Inv-loop μ-loop
 gone-fine-at-requires c κs = search needs
 
 returns : tie.Need-returns Inv-loop μ-loop
-returns c = sym (every-no _ _ (c .before .before .before .loop .t) (c .before .before .loop-test .taken) (sym (c .before .gone-fine-at .ensures) ∙ not-true _ (c .if1 .taken)))
+returns c =
+    let the-loop-test = c .before .before .loop-test in
+    let the-loop = c .before .before .before .loop in
+    sym (every-no _ _ (the-loop .t) (the-loop-test .taken) (sym (c .before .gone-fine-at .ensures) ∙ not-true _ (c .if1 .taken)))
 
 add-t : tie.Need-add-t Inv-loop μ-loop
 add-t c = search needs
@@ -36,7 +40,10 @@ loop-less : tie.Need-loop-less Inv-loop μ-loop
 loop-less c = search needs
 
 loop-again : tie.Need-loop-again Inv-loop μ-loop
-loop-again c = (every-more _ _ (c .before .before .before .loop .inv .0) (sym (c .before .gone-fine-at .ensures) ∙ not-false _ (c .if1 .left)), omega (arith, c .before .before .loop-test .taken))
+loop-again c =
+    let the-loop-test = c .before .before .loop-test in
+    let the-loop = c .before .before .before .loop in
+    (every-next _ _ (the-loop .inv .0) (sym (c .before .gone-fine-at .ensures) ∙ not-false _ (c .if1 .left)), omega (arith, the-loop-test .taken))
 
 returns-2 : tie.Need-returns-2 Inv-loop μ-loop
 returns-2 c = every-done _ _ _ (c .before .loop .inv .0) (c .before .loop .inv .1) (c .loop-test .left)

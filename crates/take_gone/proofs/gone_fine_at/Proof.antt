@@ -1,3 +1,4 @@
+-- `take_gone::gone_fine_at` meets its contract: from what its calls promise.
 use Rattle.take_gone.specs.Gone.{goneFineAt}
 use borrow.Author.Tests.{eq-eqb, ne-eqb, lt-ltb, le-ltb}
 use mathlib.Core.Path.{_∙_, sym}
@@ -49,7 +50,10 @@ names-requires-2 c κs = search needs
 
 returns-2 : tie.Need-returns-2
 unfolding goneFineAt
-returns-2 c = rw (ne-eqb _ _ (c .before .before .before .before .before .if1 .left), lt-ltb _ _ (c .before .before .if2 .taken)) (c .names2 .ensures)
+returns-2 c =
+    let the-if2 = c .before .before .if2 in
+    let the-if1 = c .before .before .before .before .before .if1 in
+    rw (ne-eqb _ _ (the-if1 .left), lt-ltb _ _ (the-if2 .taken)) (c .names2 .ensures)
 
 returns-3 : tie.Need-returns-3
 unfolding goneFineAt

@@ -1,3 +1,4 @@
+-- `take_gone::is_among` meets its contract: from what its calls promise.
 use lib.ListN.{length}
 use lib.Dec.{ltb}
 use Prim.Native.Nat.{ℕ}

@@ -1,3 +1,4 @@
+-- `take_gone::is_next` meets its contract: by `abreast-here`, `abreast-end`.
 use Rattle.take_gone.proofs.Next.{abreast-here, abreast-end}
 use borrow.Author.Needs.{needs}
 use native.Mathlib.Omega.{arith}

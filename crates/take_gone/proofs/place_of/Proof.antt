@@ -1,5 +1,6 @@
+-- `take_gone::place_of` meets its contract: the loop keeps `Halving`; by `empty-none`, `halving-start`, `halving-inside`, `halving-within`, `halving-next`, `halving-found` and others.
 use Rattle.take_gone.proofs.Search.{empty-none}
-use Rattle.take_gone.proofs.Search.{Halving, halving-start, halving-inside, halving-within, halving-more, halving-found, halving-none}
+use Rattle.take_gone.proofs.Search.{Halving, halving-start, halving-inside, halving-within, halving-next, halving-found, halving-none}
 use mathlib.Core.Path.{refl, sym}
 use borrow.Author.Needs.{needs}
 use native.Mathlib.Omega.{arith}
@@ -22,7 +23,9 @@ loop-holds : tie.Need-loop-holds Inv-loop μ-loop
 loop-holds c = halving-start refl (c .if1 .left)
 
 raised-requires : tie.Need-raised-requires Inv-loop μ-loop
-raised-requires c κs = halving-within (c .before .before .before .before .pre) (c .before .loop .inv) (c .loop-test .taken)
+raised-requires c κs =
+    let the-start = c .before .before .before .before in
+    halving-within (the-start .pre) (c .before .loop .inv) (c .loop-test .taken)
 
 sub-left : tie.Need-sub-left Inv-loop μ-loop
 sub-left c = search needs
@@ -31,19 +34,31 @@ loop-less : tie.Need-loop-less Inv-loop μ-loop
 loop-less c = search needs
 
 loop-again : tie.Need-loop-again Inv-loop μ-loop
-loop-again c = halving-more (c .before .before .before .before .before .pre) (c .before .before .loop .inv) _ (c .before .loop-test .taken) (c .raised .ensures)
+loop-again c =
+    let the-loop = c .before .before .loop in
+    let the-start = c .before .before .before .before .before in
+    halving-next (the-start .pre) (the-loop .inv) _ (c .before .loop-test .taken) (c .raised .ensures)
 
 mul-if2 : tie.Need-mul-if2 Inv-loop μ-loop
 mul-if2 c = omega (arith, halving-inside (c .before .before .before .before .pre) (c .before .loop .inv))
 
 shared-slice-read-if2 : tie.Need-shared-slice-read-if2 Inv-loop μ-loop
-shared-slice-read-if2 c = omega (arith, halving-inside (c .before .before .before .before .before .pre) (c .before .before .loop .inv))
+shared-slice-read-if2 c =
+    let the-loop = c .before .before .loop in
+    let the-start = c .before .before .before .before .before in
+    omega (arith, halving-inside (the-start .pre) (the-loop .inv))
 
 returns-2 : tie.Need-returns-2 Inv-loop μ-loop
-returns-2 c = halving-found (c .before .before .before .before .before .before .pre) (c .before .before .before .loop .inv) (omega arith) (c .if2 .taken)
+returns-2 c =
+    let the-loop = c .before .before .before .loop in
+    let the-start = c .before .before .before .before .before .before in
+    halving-found (the-start .pre) (the-loop .inv) (omega arith) (c .if2 .taken)
 
 returns-3 : tie.Need-returns-3 Inv-loop μ-loop
-returns-3 c = halving-none (c .before .before .before .before .before .before .pre) (c .before .before .before .loop .inv) (omega arith) (c .if2 .left)
+returns-3 c =
+    let the-loop = c .before .before .before .loop in
+    let the-start = c .before .before .before .before .before .before in
+    halving-none (the-start .pre) (the-loop .inv) (omega arith) (c .if2 .left)
 
 pub place-of-spec : {M : Type 1} → statement M
 place-of-spec =

@@ -1,6 +1,8 @@
+-- `take_gone::put_survivors` meets its contract: the loop keeps `Surviving` and `Abreast`; by `abreast-start`, `abreast-room`, `abreast-pass`, `abreast-next`,
+-- `surviving-start`, `surviving-room` and others.
 use Rattle.take_gone.specs.Gone.{Abreast}
-use Rattle.take_gone.proofs.Next.{abreast-start, abreast-room, abreast-pass, abreast-more}
-use Rattle.take_gone.proofs.Left.{Surviving, surviving-start, surviving-room, surviving-pass, surviving-more, surviving-done}
+use Rattle.take_gone.proofs.Next.{abreast-start, abreast-room, abreast-pass, abreast-next}
+use Rattle.take_gone.proofs.Left.{Surviving, surviving-start, surviving-room, surviving-pass, surviving-next, surviving-done}
 use lib.ListN.{length-set}
 use borrow.Author.Tests.{not-true, not-false}
 use mathlib.Core.Path.{sym, _∙_}
@@ -29,7 +31,9 @@ is-next-requires : tie.Need-is-next-requires Inv-loop μ-loop
 is-next-requires c κs = c .before .loop .inv .1
 
 add-g : tie.Need-add-g Inv-loop μ-loop
-add-g c = omega (arith, abreast-room (c .before .before .before .loop .inv .1) (sym (c .before .is-next .ensures) ∙ c .if1 .taken))
+add-g c =
+    let the-loop = c .before .before .before .loop in
+    omega (arith, abreast-room (the-loop .inv .1) (sym (c .before .is-next .ensures) ∙ c .if1 .taken))
 
 add-j : tie.Need-add-j Inv-loop μ-loop
 add-j c = search needs
@@ -38,19 +42,40 @@ loop-less : tie.Need-loop-less Inv-loop μ-loop
 loop-less c = search needs
 
 loop-again : tie.Need-loop-again Inv-loop μ-loop
-loop-again c = (surviving-pass (c .before .before .before .loop .inv .0) (c .before .before .loop-test .taken) (sym (c .before .is-next .ensures) ∙ c .if1 .taken), abreast-pass (c .before .before .before .loop .inv .1) (sym (c .before .is-next .ensures) ∙ c .if1 .taken))
+loop-again c =
+    let the-loop-test = c .before .before .loop-test in
+    let the-loop = c .before .before .before .loop in (
+      surviving-pass (the-loop .inv .0) (the-loop-test .taken) (sym (c .before .is-next .ensures) ∙ c .if1 .taken),
+      abreast-pass (the-loop .inv .1)
+          (sym (c .before .is-next .ensures) ∙ c .if1 .taken),
+    )
 
 cast-old : tie.Need-cast-old Inv-loop μ-loop
-cast-old c = omega (arith, c .before .before .before .before .before .before .pre .0, c .before .before .loop-test .taken)
+cast-old c =
+    let the-loop-test = c .before .before .loop-test in
+    let the-start = c .before .before .before .before .before .before in
+    omega (arith, the-start .pre .0, the-loop-test .taken)
 
 mul-old : tie.Need-mul-old Inv-loop μ-loop
-mul-old c = omega (arith, surviving-room (c .before .before .before .loop .inv .0) (c .before .before .loop-test .taken) (c .before .before .before .before .before .before .pre .1), c .before .before .before .loop .inv .0 .front .size)
+mul-old c =
+    let the-loop-test = c .before .before .loop-test in
+    let the-loop = c .before .before .before .loop in
+    let the-start = c .before .before .before .before .before .before in
+    omega (arith, surviving-room (the-loop .inv .0) (the-loop-test .taken) (the-start .pre .1), the-loop .inv .0 .front .size)
 
 slice-write-old : tie.Need-slice-write-old Inv-loop μ-loop
-slice-write-old c = omega (arith, surviving-room (c .before .before .before .loop .inv .0) (c .before .before .loop-test .taken) (c .before .before .before .before .before .before .pre .1), c .before .before .before .loop .inv .0 .front .size)
+slice-write-old c =
+    let the-loop-test = c .before .before .loop-test in
+    let the-loop = c .before .before .before .loop in
+    let the-start = c .before .before .before .before .before .before in
+    omega (arith, surviving-room (the-loop .inv .0) (the-loop-test .taken) (the-start .pre .1), the-loop .inv .0 .front .size)
 
 add-q : tie.Need-add-q Inv-loop μ-loop
-add-q c = omega (arith, surviving-room (c .before .before .before .loop .inv .0) (c .before .before .loop-test .taken) (c .before .before .before .before .before .before .pre .1), c .before .before .before .loop .inv .0 .front .size)
+add-q c =
+    let the-loop-test = c .before .before .loop-test in
+    let the-loop = c .before .before .before .loop in
+    let the-start = c .before .before .before .before .before .before in
+    omega (arith, surviving-room (the-loop .inv .0) (the-loop-test .taken) (the-start .pre .1), the-loop .inv .0 .front .size)
 
 add-j-2 : tie.Need-add-j-2 Inv-loop μ-loop
 add-j-2 c = search needs
@@ -59,7 +84,14 @@ loop-less-2 : tie.Need-loop-less-2 Inv-loop μ-loop
 loop-less-2 c = search needs
 
 loop-again-2 : tie.Need-loop-again-2 Inv-loop μ-loop
-loop-again-2 c = (surviving-more (c .before .before .before .loop .inv .0) (c .before .before .loop-test .taken) (c .before .before .before .before .before .before .pre .1) (sym (c .before .is-next .ensures) ∙ c .if1 .left), abreast-more (c .before .before .before .loop .inv .1) (sym (c .before .is-next .ensures) ∙ c .if1 .left))
+loop-again-2 c =
+    let the-loop-test = c .before .before .loop-test in
+    let the-loop = c .before .before .before .loop in
+    let the-start = c .before .before .before .before .before .before in (
+      surviving-next (the-loop .inv .0) (the-loop-test .taken) (the-start .pre .1) (sym (c .before .is-next .ensures) ∙ c .if1 .left),
+      abreast-next
+          (the-loop .inv .1) (sym (c .before .is-next .ensures) ∙ c .if1 .left),
+    )
 
 same-length : tie.Need-same-length Inv-loop μ-loop
 same-length c = c .before .loop .inv .0 .front .size

@@ -1,3 +1,4 @@
+-- `take_gone::raised` meets its contract: each need follows from its own premises.
 use borrow.Author.Tests.{le-leb, lt-leb}
 use borrow.Author.Needs.{needs}
 use native.Mathlib.Omega.{arith}

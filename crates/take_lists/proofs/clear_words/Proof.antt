@@ -1,6 +1,6 @@
 -- `take_lists::clear_words` meets its contract: the places from a up to p are cleared (`Blanks`). Assumes nothing.
 use Prim.Native.Nat.{_-_}
-use Rattle.take_lists.proofs.Fronting.{Blanks, blanks-start, blanks-more, blanks-done}
+use Rattle.take_lists.proofs.Fronting.{Blanks, blanks-start, blanks-next, blanks-done}
 use borrow.Author.Needs.{needs}
 use Rattle.take_lists.proofs.clear_words.Statement.{statement}
 use Rattle.take_lists.proofs.clear_words.Tie as tie
@@ -27,7 +27,7 @@ loop-less : tie.Need-loop-less Inv-loop μ-loop
 loop-less c = search needs
 
 loop-again : tie.Need-loop-again Inv-loop μ-loop
-loop-again c = blanks-more (c .before .before .pre .1) (c .loop-test .taken) (c .before .loop .inv)
+loop-again c = blanks-next (c .before .before .pre .1) (c .loop-test .taken) (c .before .loop .inv)
 
 same-length : tie.Need-same-length Inv-loop μ-loop
 same-length c = search needs

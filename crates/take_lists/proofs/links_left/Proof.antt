@@ -1,7 +1,7 @@
 -- `take_lists::links_left` meets its contract: the lists of j frames are looked at (`Tallies`). Assumes nothing.
 use Rattle.take_gone.specs.Gone.{Abreast}
-use Rattle.take_gone.proofs.Next.{abreast-start, abreast-room, abreast-pass, abreast-more}
-use Rattle.take_lists.proofs.Counting.{Tallies, tallies-start, tallies-pass, tallies-inside, tallies-room, tallies-more, tallies-done}
+use Rattle.take_gone.proofs.Next.{abreast-start, abreast-room, abreast-pass, abreast-next}
+use Rattle.take_lists.proofs.Counting.{Tallies, tallies-start, tallies-pass, tallies-inside, tallies-room, tallies-next, tallies-done}
 use mathlib.Core.Path.{sym, _∙_}
 use Prim.Native.Nat.{_+_, _-_}
 use borrow.Author.Needs.{needs}
@@ -25,10 +25,15 @@ is-next-requires : tie.Need-is-next-requires Inv-loop μ-loop
 is-next-requires c κs = c .before .loop .inv .1
 
 add-g : tie.Need-add-g Inv-loop μ-loop
-add-g c = omega (arith, abreast-room (c .before .before .before .loop .inv .1) (sym (c .before .is-next .ensures) ∙ c .if1 .taken))
+add-g c =
+    let the-loop = c .before .before .before .loop in
+    omega (arith, abreast-room (the-loop .inv .1) (sym (c .before .is-next .ensures) ∙ c .if1 .taken))
 
 add-j : tie.Need-add-j Inv-loop μ-loop
-add-j c = omega (arith, c .before .before .before .before .before .before .before .pre .0, c .before .before .loop-test .taken)
+add-j c =
+    let the-loop-test = c .before .before .loop-test in
+    let the-start = c .before .before .before .before .before .before .before in
+    omega (arith, the-start .pre .0, the-loop-test .taken)
 
 loop-less : tie.Need-loop-less Inv-loop μ-loop
 loop-less c = search needs
@@ -42,19 +47,31 @@ loop-again c =
     (tallies-pass (r .pre .2) (test .taken) (turn .inv .0) (sym found), abreast-pass (turn .inv .1) found)
 
 mul-wide : tie.Need-mul-wide Inv-loop μ-loop
-mul-wide c = omega (arith, c .before .before .before .before .before .before .before .pre .2 .offsets-long, c .before .before .loop-test .taken)
+mul-wide c =
+    let the-loop-test = c .before .before .loop-test in
+    let the-start = c .before .before .before .before .before .before .before in
+    omega (arith, the-start .pre .2 .offsets-long, the-loop-test .taken)
 
 shared-slice-read-wide : tie.Need-shared-slice-read-wide Inv-loop μ-loop
-shared-slice-read-wide c = omega (arith, c .before .before .before .before .before .before .before .before .pre .2 .offsets-long, c .before .before .before .loop-test .taken)
+shared-slice-read-wide c =
+    let the-loop-test = c .before .before .before .loop-test in
+    let the-start = c .before .before .before .before .before .before .before .before in
+    omega (arith, the-start .pre .2 .offsets-long, the-loop-test .taken)
 
 wide-requires : tie.Need-wide-requires Inv-loop μ-loop
 wide-requires c κs = search needs
 
 add-wide : tie.Need-add-wide Inv-loop μ-loop
-add-wide c = omega (arith, c .before .before .before .before .before .before .before .before .before .pre .0, c .before .before .before .before .loop-test .taken)
+add-wide c =
+    let the-loop-test = c .before .before .before .before .loop-test in
+    let the-start = c .before .before .before .before .before .before .before .before .before in
+    omega (arith, the-start .pre .0, the-loop-test .taken)
 
 mul-wide-2 : tie.Need-mul-wide-2 Inv-loop μ-loop
-mul-wide-2 c = omega (arith, c .before .before .before .before .before .before .before .before .before .pre .2 .offsets-long, c .before .before .before .before .loop-test .taken)
+mul-wide-2 c =
+    let the-loop-test = c .before .before .before .before .loop-test in
+    let the-start = c .before .before .before .before .before .before .before .before .before in
+    omega (arith, the-start .pre .2 .offsets-long, the-loop-test .taken)
 
 shared-slice-read-wide-2 : tie.Need-shared-slice-read-wide-2 Inv-loop μ-loop
 shared-slice-read-wide-2 c =
@@ -75,20 +92,33 @@ sub-list-left c =
 
 list-left-requires : tie.Need-list-left-requires Inv-loop μ-loop
 list-left-requires c κs =
-    let r = c .before .before .before .before .before .before .before .before .before .before .before in
-    let turn = c .before .before .before .before .before .before .before .loop in
-    let test = c .before .before .before .before .before .before .loop-test in
-    let first = c .before .before .wide in
+    let the-wide = c .before .before .wide in
+    let the-loop-test = c .before .before .before .before .before .before .loop-test in
+    let the-loop = c .before .before .before .before .before .before .before .loop in
+    let the-start = c .before .before .before .before .before .before .before .before .before .before .before in
+    let r = the-start in
+    let turn = the-loop in
+    let test = the-loop-test in
+    let first = the-wide in
     (r .pre .1, omega (arith, tallies-inside (r .pre .2) (test .taken) (turn .inv .0) (first .ensures) (c .wide2 .ensures)))
 
 add-c : tie.Need-add-c Inv-loop μ-loop
 add-c c =
-    let r = c .before .before .before .before .before .before .before .before .before .before .before .before in
-    let shared-slice-known3 = c .before .before .before .before .before .before .before .before .before .shared-slice-known3 in
-    let turn = c .before .before .before .before .before .before .before .before .loop in
-    let test = c .before .before .before .before .before .before .before .loop-test in
-    let first = c .before .before .before .wide in
-    omega (arith, tallies-room (r .pre .2) (test .taken) (turn .inv .0) (first .ensures) (c .before .wide2 .ensures) (c .list-left .ensures), shared-slice-known3 .given (turn .j + 1))
+    let the-wide = c .before .before .before .wide in
+    let the-loop-test = c .before .before .before .before .before .before .before .loop-test in
+    let the-loop = c .before .before .before .before .before .before .before .before .loop in
+    let the-shared-slice-known3 = c .before .before .before .before .before .before .before .before .before .shared-slice-known3 in
+    let the-start = c .before .before .before .before .before .before .before .before .before .before .before .before in
+    let r = the-start in
+    let shared-slice-known3 = the-shared-slice-known3 in
+    let turn = the-loop in
+    let test = the-loop-test in
+    let first = the-wide in
+    omega (
+      arith,
+      tallies-room (r .pre .2) (test .taken) (turn .inv .0) (first .ensures) (c .before .wide2 .ensures) (c .list-left .ensures),
+      shared-slice-known3 .given (turn .j + 1),
+    )
 
 add-j-2 : tie.Need-add-j-2 Inv-loop μ-loop
 add-j-2 c =
@@ -101,17 +131,28 @@ loop-less-2 c = search needs
 
 loop-again-2 : tie.Need-loop-again-2 Inv-loop μ-loop
 loop-again-2 c =
-    let r = c .before .before .before .before .before .before .before .before .before .before .before .before in
-    let turn = c .before .before .before .before .before .before .before .before .loop in
-    let test = c .before .before .before .before .before .before .before .loop-test in
-    let found = c .before .before .before .before .before .before .is-next in
-    let case = c .before .before .before .before .before .if1 in
-    let first = c .before .before .before .wide in
-    let no = sym (found .ensures) ∙ case .left in
-    (tallies-more (r .pre .2) (test .taken) (turn .inv .0) (first .ensures) (c .before .wide2 .ensures) (c .list-left .ensures) (sym no), abreast-more (turn .inv .1) no)
+    let the-wide = c .before .before .before .wide in
+    let the-if1 = c .before .before .before .before .before .if1 in
+    let the-is-next = c .before .before .before .before .before .before .is-next in
+    let the-loop-test = c .before .before .before .before .before .before .before .loop-test in
+    let the-loop = c .before .before .before .before .before .before .before .before .loop in
+    let the-start = c .before .before .before .before .before .before .before .before .before .before .before .before in
+    let r = the-start in
+    let turn = the-loop in
+    let test = the-loop-test in
+    let found = the-is-next in
+    let case = the-if1 in
+    let first = the-wide in
+    let no = sym (found .ensures) ∙ case .left in (
+      tallies-next (r .pre .2) (test .taken) (turn .inv .0) (first .ensures) (c .before .wide2 .ensures) (c .list-left .ensures) (sym no),
+      abreast-next
+          (turn .inv .1) no,
+    )
 
 returns : tie.Need-returns Inv-loop μ-loop
-returns c = tallies-done (c .before .before .before .before .before .pre .2) (c .before .before .before .before .before .pre .3) (c .loop-test .left) (c .before .loop .inv .0)
+returns c =
+    let the-start = c .before .before .before .before .before in
+    tallies-done (the-start .pre .2) (the-start .pre .3) (c .loop-test .left) (c .before .loop .inv .0)
 
 pub links-left-spec : {M : Type 1} → statement M
 links-left-spec =

@@ -1,7 +1,7 @@
 -- `take_lists::list_left` meets its contract: t links are looked at (`Sees`). Assumes nothing.
 use mathlib.Core.Path.{sym, _∙_}
 use Prim.Native.Nat.{_-_}
-use Rattle.take_lists.proofs.Counting.{Sees, sees-start, sees-pass, sees-more, sees-done}
+use Rattle.take_lists.proofs.Counting.{Sees, sees-start, sees-pass, sees-next, sees-done}
 use borrow.Author.Needs.{needs}
 use Rattle.take_lists.proofs.list_left.Statement.{statement}
 use Rattle.take_lists.proofs.list_left.Tie as tie
@@ -34,7 +34,10 @@ loop-less : tie.Need-loop-less Inv-loop μ-loop
 loop-less c = search needs
 
 loop-again : tie.Need-loop-again Inv-loop μ-loop
-loop-again c = sees-pass (c .before .before .before .loop-test .taken) (c .before .before .before .before .loop .inv) (sym (c .if1 .taken) ∙ c .before .is-among .ensures)
+loop-again c =
+    let the-loop-test = c .before .before .before .loop-test in
+    let the-loop = c .before .before .before .before .loop in
+    sees-pass (the-loop-test .taken) (the-loop .inv) (sym (c .if1 .taken) ∙ c .before .is-among .ensures)
 
 add-c : tie.Need-add-c Inv-loop μ-loop
 add-c c = search needs
@@ -46,7 +49,10 @@ loop-less-2 : tie.Need-loop-less-2 Inv-loop μ-loop
 loop-less-2 c = search needs
 
 loop-again-2 : tie.Need-loop-again-2 Inv-loop μ-loop
-loop-again-2 c = sees-more (c .before .before .before .loop-test .taken) (c .before .before .before .before .loop .inv) (sym (c .if1 .left) ∙ c .before .is-among .ensures)
+loop-again-2 c =
+    let the-loop-test = c .before .before .before .loop-test in
+    let the-loop = c .before .before .before .before .loop in
+    sees-next (the-loop-test .taken) (the-loop .inv) (sym (c .if1 .left) ∙ c .before .is-among .ensures)
 
 returns : tie.Need-returns Inv-loop μ-loop
 returns c = sees-done (c .loop-test .left) (c .before .loop .inv)

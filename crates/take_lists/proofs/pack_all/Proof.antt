@@ -1,6 +1,6 @@
 -- `take_lists::pack_all` meets its contract: i lists stand at the front, one after the other, and their offsets (`Closes`). Assumes nothing.
 use lib.ListN.{length-set, length}
-use Rattle.take_lists.proofs.AllLists.{Closes, closes-start, closes-offset, closes-frame, closes-room, closes-more, closes-done}
+use Rattle.take_lists.proofs.AllLists.{Closes, closes-start, closes-offset, closes-frame, closes-room, closes-next, closes-done}
 use mathlib.Core.Path.{_∙_}
 use Prim.Native.Nat.{_-_}
 use borrow.Author.Needs.{needs}
@@ -15,7 +15,9 @@ abbrev μ-loop : tie.MeasureT-loop
 μ-loop weights₀ indices₀ offsets₀ n keep q₀ i₀ weights indices offsets q i = length keep - i
 
 loop-holds : tie.Need-loop-holds Inv-loop μ-loop
-loop-holds c = closes-start (c .before .before .before .before .pre .1) (c .before .before .before .before .pre .2) (c .before .before .before .before .pre .3)
+loop-holds c =
+    let the-start = c .before .before .before .before in
+    closes-start (the-start .pre .1) (the-start .pre .2) (the-start .pre .3)
 
 mul-wide : tie.Need-mul-wide Inv-loop μ-loop
 mul-wide c = search needs
@@ -72,11 +74,16 @@ wide-requires-3 c κs = search needs
 
 sub-k : tie.Need-sub-k Inv-loop μ-loop
 sub-k c =
-    let r = c .before .before .before .before .before .before .before .before .before .before .before .before in
-    let turn = c .before .before .before .before .before .before .before .loop in
-    let test = c .before .before .before .before .before .before .loop-test in
-    let first = c .before .before .before .before .wide in
-    let second = c .before .before .wide2 in
+    let the-wide2 = c .before .before .wide2 in
+    let the-wide = c .before .before .before .before .wide in
+    let the-loop-test = c .before .before .before .before .before .before .loop-test in
+    let the-loop = c .before .before .before .before .before .before .before .loop in
+    let the-start = c .before .before .before .before .before .before .before .before .before .before .before .before in
+    let r = the-start in
+    let turn = the-loop in
+    let test = the-loop-test in
+    let first = the-wide in
+    let second = the-wide2 in
     omega (arith, closes-room (r .pre .1) (r .pre .2) (r .pre .3) (turn .inv) (test .taken) (first .ensures) (second .ensures) (c .wide3 .ensures))
 
 cast-offsets : tie.Need-cast-offsets Inv-loop μ-loop
@@ -100,19 +107,28 @@ slice-write-offsets c =
 
 pack-list-requires : tie.Need-pack-list-requires Inv-loop μ-loop
 pack-list-requires c κs =
-    let r = c .before .before .before .before .before .before .before .before .before .before .before .before .before .before in
-    let turn = c .before .before .before .before .before .before .before .before .before .loop in
-    let test = c .before .before .before .before .before .before .before .before .loop-test in
-    let first = c .before .before .before .before .before .before .wide in
-    let second = c .before .before .before .before .wide2 in
-    let third = c .before .before .wide3 in
+    let the-wide3 = c .before .before .wide3 in
+    let the-wide2 = c .before .before .before .before .wide2 in
+    let the-wide = c .before .before .before .before .before .before .wide in
+    let the-loop-test = c .before .before .before .before .before .before .before .before .loop-test in
+    let the-loop = c .before .before .before .before .before .before .before .before .before .loop in
+    let the-start = c .before .before .before .before .before .before .before .before .before .before .before .before .before .before in
+    let r = the-start in
+    let turn = the-loop in
+    let test = the-loop-test in
+    let first = the-wide in
+    let second = the-wide2 in
+    let third = the-wide3 in
     let room = closes-room (r .pre .1) (r .pre .2) (r .pre .3) (turn .inv) (test .taken) (first .ensures) (second .ensures) (third .ensures) in
     (r .pre .1, omega (arith, r .pre .0, r .pre .2 .few), omega (arith, room), omega (arith, room), omega (arith, room))
 
 add-i : tie.Need-add-i Inv-loop μ-loop
 add-i c =
-    let r = c .before .before .before .before .before .before .before .before .before .before .before .before .before .before .before .before .before .before .before in
-    let test = c .before .before .before .before .before .before .before .before .before .before .before .before .before .loop-test in
+    let the-loop-test = c .before .before .before .before .before .before .before .before .before .before .before .before .before .loop-test in
+    let far-1 = c .before .before .before .before .before .before .before .before .before .before .before .before in
+    let the-start = far-1 .before .before .before .before .before .before .before in
+    let r = the-start in
+    let test = the-loop-test in
     omega (arith, test .taken, r .pre .0, r .pre .2 .few)
 
 loop-less : tie.Need-loop-less Inv-loop μ-loop
@@ -120,15 +136,23 @@ loop-less c = search needs
 
 loop-again : tie.Need-loop-again Inv-loop μ-loop
 loop-again c =
-    let r = c .before .before .before .before .before .before .before .before .before .before .before .before .before .before .before .before .before .before .before in
-    let turn = c .before .before .before .before .before .before .before .before .before .before .before .before .before .before .loop in
-    let test = c .before .before .before .before .before .before .before .before .before .before .before .before .before .loop-test in
-    let first = c .before .before .before .before .before .before .before .before .before .before .before .wide in
-    let second = c .before .before .before .before .before .before .before .before .before .wide2 in
-    let third = c .before .before .before .before .before .before .before .wide3 in
-    let packed = c .before .before .before .before .pack-list in
-    closes-more (r .pre .1) (r .pre .2) (r .pre .3) (turn .inv) (test .taken) (first .ensures) (second .ensures) (third .ensures)
-    (packed .ensures .0) (packed .ensures .1 .0) (packed .ensures .1 .1) (packed .kept .0) (packed .kept .1 .0)
+    let the-pack-list = c .before .before .before .before .pack-list in
+    let the-wide3 = c .before .before .before .before .before .before .before .wide3 in
+    let the-wide2 = c .before .before .before .before .before .before .before .before .before .wide2 in
+    let the-wide = c .before .before .before .before .before .before .before .before .before .before .before .wide in
+    let the-loop-test = c .before .before .before .before .before .before .before .before .before .before .before .before .before .loop-test in
+    let the-loop = c .before .before .before .before .before .before .before .before .before .before .before .before .before .before .loop in
+    let far-1 = c .before .before .before .before .before .before .before .before .before .before .before .before in
+    let the-start = far-1 .before .before .before .before .before .before .before in
+    let r = the-start in
+    let turn = the-loop in
+    let test = the-loop-test in
+    let first = the-wide in
+    let second = the-wide2 in
+    let third = the-wide3 in
+    let packed = the-pack-list in
+    closes-next (r .pre .1) (r .pre .2) (r .pre .3) (turn .inv) (test .taken) (first .ensures) (second .ensures) (third .ensures) (packed .ensures .0)
+    (packed .ensures .1 .0) (packed .ensures .1 .1) (packed .kept .0) (packed .kept .1 .0)
 
 cast-offsets-2 : tie.Need-cast-offsets-2 Inv-loop μ-loop
 cast-offsets-2 c =
@@ -157,8 +181,10 @@ same-length-3 c = length-set (c .before .loop .offsets) _ _ ∙ c .before .loop 
 
 returns : tie.Need-returns Inv-loop μ-loop
 returns c =
-    let r = c .before .before .before .before .before .before in
-    let d = closes-done (r .pre .1) (r .pre .2) (r .pre .3) (c .before .loop .inv) (c .loop-test .left) in (d .0, (d .1, (d .2, d .3)))
+    let the-start = c .before .before .before .before .before .before in
+    let r = the-start in
+    let d = closes-done (r .pre .1) (r .pre .2) (r .pre .3) (c .before .loop .inv) (c .loop-test .left) in
+    (d .0, (d .1, (d .2, d .3)))
 
 pub pack-all-spec : {M : Type 1} → statement M
 pack-all-spec =

@@ -1,5 +1,5 @@
--- `take_rows::bring_centred` meets its contract: the loop keeps `Brings`; by `brings-start`, `brings-more`, `brings-at`, `brings-done`.
-use Rattle.take_rows.proofs.Packing.{Brings, brings-start, brings-more, brings-at, brings-done}
+-- `take_rows::bring_centred` meets its contract: the loop keeps `Brings`; by `brings-start`, `brings-next`, `brings-at`, `brings-done`.
+use Rattle.take_rows.proofs.Packing.{Brings, brings-start, brings-next, brings-at, brings-done}
 use Rattle.laws.specs.Area.{at}
 use lib.Ieee.{Float, nan, binary64, sub}
 use mathlib.Core.Path.{refl, sym, ap, _∙_}
@@ -74,7 +74,7 @@ loop-again c =
     let the-loop-test = c .before .before .loop-test in
     let the-loop = c .before .before .before .loop in
     let the-start = c .before .before .before .before in
-    brings-more (the-loop .inv) _
+    brings-next (the-loop .inv) _
     (ap (λ (x : Float). sub binary64 x (at (the-start .args .means .now) (the-loop .d)))
     (brings-at (the-loop .inv) nan (the-start .args .from + the-loop .d) (omega (arith, the-start .pre)))) (omega (arith, the-start .pre))
     (the-loop-test .taken)

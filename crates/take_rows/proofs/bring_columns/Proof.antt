@@ -1,6 +1,6 @@
--- `take_rows::bring_columns` meets its contract: the loop keeps `Brings`; by `brings-start`, `brings-more`, `brings-at`, `brings-done`.
+-- `take_rows::bring_columns` meets its contract: the loop keeps `Brings`; by `brings-start`, `brings-next`, `brings-at`, `brings-done`.
 use Prim.Native.Nat.{ℕ}
-use Rattle.take_rows.proofs.Packing.{Brings, brings-start, brings-more, brings-at, brings-done}
+use Rattle.take_rows.proofs.Packing.{Brings, brings-start, brings-next, brings-at, brings-done}
 use Rattle.laws.specs.Area.{num}
 use lib.ListN.{length}
 use mathlib.Core.Path.{refl, sym, ap, _∙_}
@@ -112,7 +112,7 @@ loop-again c =
     let the-loop-test = c .before .before .before .loop-test in
     let the-loop = c .before .before .before .before .loop in
     let the-start = c .before .before .before .before .before .before .before in
-    brings-more (the-loop .inv) _
+    brings-next (the-loop .inv) _
     (ap (λ (x : ℕ). num (the-loop .area) (the-start .args .from + x)) (c .before .wide .ensures) ∙ brings-at (the-loop .inv) 0
     (the-start .args .from + num (the-start .args .keep .now) (the-loop .j))
     (omega (arith, the-start .pre, the-start .pre .2 .no-lower (the-loop .j) (the-loop-test .taken)))) (omega (arith, the-start .pre, the-start .pre .2 .few))

@@ -1,5 +1,5 @@
--- `take_rows::bring_row` meets its contract: the loop keeps `Brings`; by `brings-start`, `brings-more`, `brings-at`, `brings-done`.
-use Rattle.take_rows.proofs.Packing.{Brings, brings-start, brings-more, brings-at, brings-done}
+-- `take_rows::bring_row` meets its contract: the loop keeps `Brings`; by `brings-start`, `brings-next`, `brings-at`, `brings-done`.
+use Rattle.take_rows.proofs.Packing.{Brings, brings-start, brings-next, brings-at, brings-done}
 use Rattle.laws.specs.Area.{num}
 use mathlib.Core.Path.{refl, sym, ap, _∙_}
 use Prim.Native.Nat.{_+_, _-_}
@@ -62,7 +62,7 @@ loop-again : tie.Need-loop-again Inv-loop μ-loop
 loop-again c =
     let the-loop = c .before .before .loop in
     let the-start = c .before .before .before in
-    brings-more (the-loop .inv) _ (brings-at (the-loop .inv) 0 _ (omega (arith, the-start .pre))) (omega (arith, the-start .pre)) (c .before .loop-test .taken)
+    brings-next (the-loop .inv) _ (brings-at (the-loop .inv) 0 _ (omega (arith, the-start .pre))) (omega (arith, the-start .pre)) (c .before .loop-test .taken)
 
 same-length : tie.Need-same-length Inv-loop μ-loop
 same-length c = c .before .loop .inv .front .size

@@ -1,6 +1,6 @@
--- `take_rows::clear_between` meets its contract: the loop keeps `Brings`; by `brings-cleared`, `brings-start`, `brings-more`, `brings-done`, `each-one`.
+-- `take_rows::clear_between` meets its contract: the loop keeps `Brings`; by `brings-cleared`, `brings-start`, `brings-next`, `brings-done`, `each-one`.
 use Rattle.take_rows.proofs.Packing.{brings-cleared}
-use Rattle.take_rows.proofs.Packing.{Brings, brings-start, brings-more, brings-done, each-one}
+use Rattle.take_rows.proofs.Packing.{Brings, brings-start, brings-next, brings-done, each-one}
 use Rattle.laws.specs.Area.{zero64}
 use lib.ListN.{take, drop}
 use lib.Ieee.{Float}
@@ -44,7 +44,7 @@ loop-less c = search needs
 loop-again : tie.Need-loop-again Inv-loop μ-loop
 loop-again c =
     let the-start = c .before .before in
-    brings-more (c .before .loop .inv) zero64 refl (omega (arith, the-start .pre)) (c .loop-test .taken)
+    brings-next (c .before .loop .inv) zero64 refl (omega (arith, the-start .pre)) (c .loop-test .taken)
 
 same-length : tie.Need-same-length Inv-loop μ-loop
 same-length c = c .before .loop .inv .front .size

@@ -1,6 +1,6 @@
--- `take_rows::clear_bits` meets its contract: the loop keeps `Brings`; by `brings-cleared`, `brings-start`, `brings-more`, `brings-done`, `each-one`.
+-- `take_rows::clear_bits` meets its contract: the loop keeps `Brings`; by `brings-cleared`, `brings-start`, `brings-next`, `brings-done`, `each-one`.
 use Rattle.take_rows.proofs.Packing.{brings-cleared}
-use Rattle.take_rows.proofs.Packing.{Brings, brings-start, brings-more, brings-done, each-one}
+use Rattle.take_rows.proofs.Packing.{Brings, brings-start, brings-next, brings-done, each-one}
 use lib.ListN.{take, drop}
 use mathlib.Core.List.{List, _++_}
 use mathlib.Core.Path.{refl, sym, ap, _∙_}
@@ -40,7 +40,7 @@ loop-less : tie.Need-loop-less Inv-loop μ-loop
 loop-less c = search needs
 
 loop-again : tie.Need-loop-again Inv-loop μ-loop
-loop-again c = brings-more (c .before .loop .inv) 0 refl (omega (arith, c .before .before .pre)) (c .loop-test .taken)
+loop-again c = brings-next (c .before .loop .inv) 0 refl (omega (arith, c .before .before .pre)) (c .loop-test .taken)
 
 same-length : tie.Need-same-length Inv-loop μ-loop
 same-length c = c .before .loop .inv .front .size

@@ -1,6 +1,6 @@
--- `take_rows::pack_centred` meets its contract: the loop keeps `Packs`; by `row-room`, `centred-brought`, `row-long`, `packs-start`, `packs-more`, `packs-done` and others.
+-- `take_rows::pack_centred` meets its contract: the loop keeps `Packs`; by `row-room`, `centred-brought`, `row-long`, `packs-start`, `packs-next`, `packs-done` and others.
 use Rattle.take_rows.proofs.Brought.{row-room, centred-brought, row-long}
-use Rattle.take_rows.proofs.Packing.{Packs, packs-start, packs-more, packs-done, kept-all}
+use Rattle.take_rows.proofs.Packing.{Packs, packs-start, packs-next, packs-done, kept-all}
 use Rattle.take_rows.specs.Rows.{centredLeft}
 use Rattle.laws.specs.Joined.{each}
 use Rattle.laws.specs.Area.{at, num, zero64}
@@ -79,7 +79,7 @@ loop-again c =
     let the-loop-test = c .before .before .before .before .before .before .loop-test in
     let the-loop = c .before .before .before .before .before .before .before .loop in
     let the-start = c .before .before .before .before .before .before .before .before .before .before in
-    packs-more (the-loop .inv) (the-loop-test .taken)
+    packs-next (the-loop .inv) (the-loop-test .taken)
     (centred-brought (the-start .pre .3) (the-start .args .c) (the-start .pre .4) (the-loop .inv) (the-loop-test .taken) (the-wide .ensures))
     (row-long _ (the-start .args .c)) (the-bring-centred .kept .0) (the-bring-centred .ensures)
 

@@ -1,6 +1,6 @@
--- `take_rows::pack_rows` meets its contract: the loop keeps `Packs`; by `row-room`, `row-brought`, `row-long`, `packs-start`, `packs-more`, `packs-done` and others.
+-- `take_rows::pack_rows` meets its contract: the loop keeps `Packs`; by `row-room`, `row-brought`, `row-long`, `packs-start`, `packs-next`, `packs-done` and others.
 use Rattle.take_rows.proofs.Brought.{row-room, row-brought, row-long}
-use Rattle.take_rows.proofs.Packing.{Packs, packs-start, packs-more, packs-done, kept-all}
+use Rattle.take_rows.proofs.Packing.{Packs, packs-start, packs-next, packs-done, kept-all}
 use Rattle.laws.specs.Joined.{each}
 use Rattle.laws.specs.Area.{num}
 use lib.ListN.{length}
@@ -76,7 +76,7 @@ loop-again c =
     let the-loop-test = c .before .before .before .before .before .before .loop-test in
     let the-loop = c .before .before .before .before .before .before .before .loop in
     let the-start = c .before .before .before .before .before .before .before .before .before .before in
-    packs-more (the-loop .inv) (the-loop-test .taken)
+    packs-next (the-loop .inv) (the-loop-test .taken)
     (row-brought (the-start .pre .3) (the-start .args .w) (the-loop .inv) (the-loop-test .taken) (the-wide .ensures)) (row-long _ (the-start .args .w))
     (the-bring-row .kept .0) (the-bring-row .ensures)
 

@@ -1,6 +1,6 @@
--- `take_rows::pack_square` meets its contract: the loop keeps `Packs`; by `square-room`, `square-brought`, `square-few`, `row-long`, `packs-start`, `packs-more` and others.
+-- `take_rows::pack_square` meets its contract: the loop keeps `Packs`; by `square-room`, `square-brought`, `square-few`, `row-long`, `packs-start`, `packs-next` and others.
 use Rattle.take_rows.proofs.Brought.{square-room, square-brought, square-few, row-long}
-use Rattle.take_rows.proofs.Packing.{Packs, packs-start, packs-more, packs-done, kept-all}
+use Rattle.take_rows.proofs.Packing.{Packs, packs-start, packs-next, packs-done, kept-all}
 use Rattle.laws.specs.Joined.{each}
 use Rattle.laws.specs.Area.{num}
 use lib.ListN.{length}
@@ -69,7 +69,7 @@ loop-again c =
     let the-loop-test = c .before .before .before .before .before .before .loop-test in
     let the-loop = c .before .before .before .before .before .before .before .loop in
     let the-start = c .before .before .before .before .before .before .before .before .before .before in
-    packs-more (the-loop .inv) (the-loop-test .taken) (square-brought (the-start .pre .2) (the-loop .inv) (the-loop-test .taken) (the-wide .ensures))
+    packs-next (the-loop .inv) (the-loop-test .taken) (square-brought (the-start .pre .2) (the-loop .inv) (the-loop-test .taken) (the-wide .ensures))
     (row-long _ (length (the-start .args .keep .now))) (the-bring-columns .kept .0) (the-bring-columns .ensures)
 
 mul-clear-bits : tie.Need-mul-clear-bits Inv-loop μ-loop

@@ -1,7 +1,8 @@
+-- `text::put` meets its contract: the loop keeps `Spells`; by `spells-start`, `spells-next`, `puts-done`.
 use borrow.Author.Needs.{needs}
 use Prim.Native.Nat.{_-_}
 use lib.ListN.{length}
-use Rattle.laws.proofs.Parts.{Spells, spells-start, spells-more}
+use Rattle.laws.proofs.Parts.{Spells, spells-start, spells-next}
 use Rattle.text.proofs.Puts.{puts-done}
 use Rattle.text.proofs.put.Statement.{statement}
 use Rattle.text.proofs.put.Tie as tie
@@ -31,7 +32,10 @@ loop-less : tie.Need-loop-less Inv-loop μ-loop
 loop-less c = search needs
 
 loop-again : tie.Need-loop-again Inv-loop μ-loop
-loop-again c = spells-more 0 (c .before .before .before .pre) (c .before .loop-test .taken) (c .before .before .loop .inv)
+loop-again c =
+    let the-loop = c .before .before .loop in
+    let the-start = c .before .before .before in
+    spells-next 0 (the-start .pre) (c .before .loop-test .taken) (the-loop .inv)
 
 add-result : tie.Need-add-result Inv-loop μ-loop
 add-result c = search needs

@@ -1,3 +1,4 @@
+-- `text::put_decimal` meets its contract: by `decimal-room`, `decimal-put`.
 use borrow.Author.Needs.{needs}
 use native.Mathlib.Omega.{arith}
 use Rattle.text.proofs.Fewest.{decimal-room, decimal-put}
@@ -14,13 +15,21 @@ slice-aggregate-put : tie.Need-slice-aggregate-put
 slice-aggregate-put c = search needs
 
 put-requires : tie.Need-put-requires
-put-requires c κs = omega (arith, decimal-room _ _ (c .before .before .before .before .before .fits .n .fits) (c .before .before .decimal .ensures .1 .0), c .before .before .decimal .ensures .0 .1, c .before .before .before .before .before .pre)
+put-requires c κs =
+    let the-decimal = c .before .before .decimal in
+    let the-fits = c .before .before .before .before .before .fits in
+    let the-start = c .before .before .before .before .before in
+    omega (arith, decimal-room _ _ (the-fits .n .fits) (the-decimal .ensures .1 .0), the-decimal .ensures .0 .1, the-start .pre)
 
 same-length : tie.Need-same-length
 same-length c = search needs
 
 returns : tie.Need-returns
-returns c = decimal-put (c .before .before .put .ensures) (c .before .before .before .before .before .decimal .ensures .0 .1) (c .before .before .before .before .before .before .before .before .fits .n .fits) (c .before .before .before .before .before .decimal .ensures .1 .0) (c .before .before .before .before .before .decimal .ensures .1 .1)
+returns c =
+    let the-put = c .before .before .put in
+    let the-decimal = c .before .before .before .before .before .decimal in
+    let the-fits = c .before .before .before .before .before .before .before .before .fits in
+    decimal-put (the-put .ensures) (the-decimal .ensures .0 .1) (the-fits .n .fits) (the-decimal .ensures .1 .0) (the-decimal .ensures .1 .1)
 
 pub put-decimal-spec : {M : Type 1} → statement M
 put-decimal-spec =

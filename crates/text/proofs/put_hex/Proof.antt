@@ -1,3 +1,4 @@
+-- `text::put_hex` meets its contract: by `hex-room`, `hex-put`.
 use borrow.Author.Needs.{needs}
 use native.Mathlib.Omega.{arith}
 use Rattle.text.proofs.Fewest.{hex-room, hex-put}
@@ -14,13 +15,21 @@ slice-aggregate-put : tie.Need-slice-aggregate-put
 slice-aggregate-put c = search needs
 
 put-requires : tie.Need-put-requires
-put-requires c κs = omega (arith, hex-room _ _ (c .before .before .before .before .before .fits .n .fits) (c .before .before .hex .ensures .1 .0), c .before .before .hex .ensures .0 .1, c .before .before .before .before .before .pre)
+put-requires c κs =
+    let the-hex = c .before .before .hex in
+    let the-fits = c .before .before .before .before .before .fits in
+    let the-start = c .before .before .before .before .before in
+    omega (arith, hex-room _ _ (the-fits .n .fits) (the-hex .ensures .1 .0), the-hex .ensures .0 .1, the-start .pre)
 
 same-length : tie.Need-same-length
 same-length c = search needs
 
 returns : tie.Need-returns
-returns c = hex-put (c .before .before .put .ensures) (c .before .before .before .before .before .hex .ensures .0 .1) (c .before .before .before .before .before .before .before .before .fits .n .fits) (c .before .before .before .before .before .hex .ensures .1 .0) (c .before .before .before .before .before .hex .ensures .1 .1)
+returns c =
+    let the-put = c .before .before .put in
+    let the-hex = c .before .before .before .before .before .hex in
+    let the-fits = c .before .before .before .before .before .before .before .before .fits in
+    hex-put (the-put .ensures) (the-hex .ensures .0 .1) (the-fits .n .fits) (the-hex .ensures .1 .0) (the-hex .ensures .1 .1)
 
 pub put-hex-spec : {M : Type 1} → statement M
 put-hex-spec =

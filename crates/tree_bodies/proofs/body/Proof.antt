@@ -1,3 +1,4 @@
+-- `tree_bodies::body` meets its contract: from what its calls promise.
 use Rattle.tree_bodies.specs.Bodies.{bodyOf}
 use borrow.Author.Needs.{needs}
 use Rattle.tree_bodies.proofs.body.Statement.{statement}

@@ -1,3 +1,4 @@
+-- `tree_bodies::gap` meets its contract: each need follows from its own premises.
 use Rattle.tree_bodies.specs.Bodies.{gapOf}
 use Rattle.laws.specs.Loops.{loop}
 use Rattle.tree_node.proofs.Axes.{third}

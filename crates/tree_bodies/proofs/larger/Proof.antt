@@ -1,3 +1,4 @@
+-- `tree_bodies::larger` meets its contract: each need follows from its own premises.
 use Rattle.tree_bodies.specs.Bodies.{wider}
 use Rattle.tree_bodies.proofs.larger.Statement.{statement}
 use Rattle.tree_bodies.proofs.larger.Tie as tie

@@ -1,3 +1,4 @@
+-- `tree_bodies::leaf_kind` meets its contract: each need follows from its own premises.
 use borrow.Author.Tests.{eq-eqb, ne-eqb}
 use borrow.Author.Needs.{needs}
 use Rattle.tree_bodies.proofs.leaf_kind.Statement.{statement}

@@ -1,3 +1,4 @@
+-- `tree_bodies::max_width` meets its contract: from what its calls promise.
 use Rattle.tree_bodies.specs.Bodies.{widthOf}
 use Rattle.laws.specs.Loops.{loop}
 use Rattle.tree_node.proofs.Axes.{third}
@@ -33,7 +34,12 @@ larger-requires-3 c κs = search needs
 
 returns-3 : tie.Need-returns-3
 unfolding widthOf loop
-returns-3 c = rw ((third _ (c .before .before .before .before .before .pre) (c .before .before .before .if1 .left) (c .before .if2 .left)), c .larger3 .ensures, c .before .before .larger2 .ensures, c .before .before .before .before .larger .ensures)
+returns-3 c =
+    let the-larger2 = c .before .before .larger2 in
+    let the-if1 = c .before .before .before .if1 in
+    let the-larger = c .before .before .before .before .larger in
+    let the-start = c .before .before .before .before .before in
+    rw ((third _ (the-start .pre) (the-if1 .left) (c .before .if2 .left)), c .larger3 .ensures, the-larger2 .ensures, the-larger .ensures)
 
 pub max-width-spec : {M : Type 1} → statement M
 max-width-spec =

@@ -1,3 +1,4 @@
+-- `tree_bodies::pushed` meets its contract: each need follows from its own premises.
 use Rattle.laws.specs.Loops.{loop}
 use Rattle.tree_node.proofs.Axes.{third}
 use borrow.Author.Needs.{needs}

@@ -1,3 +1,4 @@
+-- `tree_children::bit` meets its contract: by `shl-one`.
 use lib.Pow.{pow-mono}
 use Rattle.laws.proofs.Numbers.{shl-one}
 use Rattle.tree_children.specs.Children.{bitOf}
@@ -11,7 +12,8 @@ shl-result c = search needs
 
 returns : tie.Need-returns
 unfolding bitOf
-returns c = rw (c .if1 .taken, shl-one (c .before .args .d) (omega arith)) (search needs, pow-mono {j = 2} (omega arith))
+returns c =
+    rw (c .if1 .taken, shl-one (c .before .args .d) (omega arith)) (search needs, pow-mono {j = 2} (omega arith))
 
 returns-2 : tie.Need-returns-2
 unfolding bitOf

@@ -1,3 +1,4 @@
+-- `tree_children::cell` meets its contract: from what its calls promise.
 use borrow.Author.Needs.{needs}
 use Rattle.tree_children.proofs.cell.Statement.{statement}
 use Rattle.tree_children.proofs.cell.Tie as tie

@@ -1,3 +1,4 @@
+-- `tree_children::child_centre` meets its contract: from what its calls promise.
 use Rattle.tree_children.specs.Children.{childCentre}
 use Rattle.laws.specs.Loops.{loop}
 use Rattle.tree_node.proofs.Axes.{third}
@@ -42,7 +43,12 @@ moved-requires-3 c κs = search needs
 
 returns-3 : tie.Need-returns-3
 unfolding childCentre loop
-returns-3 c = rw ((third _ (c .before .before .before .before .before .pre) (c .before .before .before .if1 .left) (c .before .if2 .left)), c .moved3 .ensures, c .before .before .moved2 .ensures, c .before .before .before .before .moved .ensures)
+returns-3 c =
+    let the-moved2 = c .before .before .moved2 in
+    let the-if1 = c .before .before .before .if1 in
+    let the-moved = c .before .before .before .before .moved in
+    let the-start = c .before .before .before .before .before in
+    rw ((third _ (the-start .pre) (the-if1 .left) (c .before .if2 .left)), c .moved3 .ensures, the-moved2 .ensures, the-moved .ensures)
 
 pub child-centre-spec : {M : Type 1} → statement M
 child-centre-spec =

@@ -1,3 +1,4 @@
+-- `tree_children::child_half` meets its contract: each need follows from its own premises.
 use Rattle.tree_children.specs.Children.{childHalf}
 use Rattle.laws.specs.Loops.{loop}
 use Rattle.tree_node.proofs.Axes.{third}

@@ -1,3 +1,4 @@
+-- `tree_children::child_index` meets its contract: from what its calls promise.
 use Rattle.tree_children.specs.Children.{childIndex}
 use Rattle.laws.specs.Loops.{loop}
 use Rattle.tree_node.proofs.Axes.{third}
@@ -49,7 +50,12 @@ add-result c = search needs
 
 returns-3 : tie.Need-returns-3
 unfolding childIndex loop
-returns-3 c = rw ((third _ (c .before .before .before .before .before .pre) (c .before .before .before .if1 .left) (c .before .if2 .left)), c .bit3 .ensures .0, c .before .before .bit2 .ensures .0, c .before .before .before .before .bit .ensures .0) (omega arith)
+returns-3 c =
+    let the-bit2 = c .before .before .bit2 in
+    let the-if1 = c .before .before .before .if1 in
+    let the-bit = c .before .before .before .before .bit in
+    let the-start = c .before .before .before .before .before in
+    rw ((third _ (the-start .pre) (the-if1 .left) (c .before .if2 .left)), c .bit3 .ensures .0, the-bit2 .ensures .0, the-bit .ensures .0) (omega arith)
 
 pub child-index-spec : {M : Type 1} → statement M
 child-index-spec =

@@ -1,3 +1,4 @@
+-- `tree_children::moved` meets its contract: each need follows from its own premises.
 use borrow.Author.Tests.{eq-eqb, ne-eqb}
 use Rattle.tree_children.specs.Children.{movedOf}
 use borrow.Author.Needs.{needs}

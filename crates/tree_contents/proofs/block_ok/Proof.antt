@@ -1,3 +1,4 @@
+-- `tree_contents::block_ok` meets its contract: by `few-children`, `shl-one`.
 use Rattle.tree_node.proofs.Axes.{few-children}
 use Rattle.laws.proofs.Numbers.{shl-one}
 use borrow.Author.Tests.{eq-eqb, ne-eqb, lt-ltb, le-ltb}
@@ -16,10 +17,14 @@ shl-result : tie.Need-shl-result
 shl-result c = search needs
 
 add-result : tie.Need-add-result
-add-result c = rw (shl-one (c .before .before .args .c) (omega arith)) (omega (arith, few-children (c .before .before .args .c) (c .before .before .pre)))
+add-result c =
+    let the-start = c .before .before in
+    rw (shl-one (the-start .args .c) (omega arith)) (omega (arith, few-children (the-start .args .c) (the-start .pre)))
 
 returns-3 : tie.Need-returns-3
-returns-3 c = rw (ne-eqb _ _ (c .before .if1 .left), lt-ltb _ _ (c .if2 .left), shl-one (c .before .before .args .c) (omega arith))
+returns-3 c =
+    let the-start = c .before .before in
+    rw (ne-eqb _ _ (c .before .if1 .left), lt-ltb _ _ (c .if2 .left), shl-one (the-start .args .c) (omega arith))
 
 pub block-ok-spec : {M : Type 1} → statement M
 block-ok-spec = tie.close (tie.spec returns returns-2 shl-result add-result returns-3)

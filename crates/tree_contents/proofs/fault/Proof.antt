@@ -1,3 +1,4 @@
+-- `tree_contents::fault` meets its contract: from what its calls promise.
 use mathlib.Core.Path.{sym, _∙_}
 use borrow.Author.Tests.{lt-ltb, le-ltb}
 use Rattle.tree_contents.specs.Contents.{nodeFault}

@@ -1,3 +1,4 @@
+-- `tree_contents::point_ok` meets its contract: each need follows from its own premises.
 use borrow.Author.Needs.{needs}
 use Rattle.tree_contents.proofs.point_ok.Statement.{statement}
 use Rattle.tree_contents.proofs.point_ok.Tie as tie

@@ -1,3 +1,4 @@
+-- `tree_turns::absorb` meets its contract: from what its calls promise.
 use Rattle.tree_turns.specs.Turns.{absorbed, massOf}
 use borrow.Author.Needs.{needs}
 use Rattle.tree_turns.proofs.absorb.Statement.{statement}

@@ -1,3 +1,4 @@
+-- `tree_turns::mean` meets its contract: each need follows from its own premises.
 use Rattle.tree_turns.specs.Turns.{meanOf}
 use borrow.Author.Needs.{needs}
 use Rattle.tree_turns.proofs.mean.Statement.{statement}

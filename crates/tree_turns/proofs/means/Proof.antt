@@ -1,3 +1,4 @@
+-- `tree_turns::means` meets its contract: from what its calls promise.
 use Rattle.laws.specs.Loops.{loop}
 use Rattle.tree_node.proofs.Axes.{third}
 use borrow.Author.Needs.{needs}
@@ -50,7 +51,12 @@ array-write-t-3 c = search needs
 
 returns-3 : tie.Need-returns-3
 unfolding loop
-returns-3 c = rw ((third _ (c .before .before .before .before .before .pre) (c .before .before .before .if1 .left) (c .before .if2 .left)), c .mean3 .ensures, c .before .before .mean2 .ensures, c .before .before .before .before .mean .ensures)
+returns-3 c =
+    let the-mean2 = c .before .before .mean2 in
+    let the-if1 = c .before .before .before .if1 in
+    let the-mean = c .before .before .before .before .mean in
+    let the-start = c .before .before .before .before .before in
+    rw ((third _ (the-start .pre) (the-if1 .left) (c .before .if2 .left)), c .mean3 .ensures, the-mean2 .ensures, the-mean .ensures)
 
 pub means-spec : {M : Type 1} → statement M
 means-spec =

@@ -1,3 +1,4 @@
+-- `tree_turns::turn` meets its contract: by `child-below`, `shl-one`.
 use lib.Pow.{pow-mono}
 use Rattle.tree_children.proofs.Below.{child-below}
 use Rattle.tree_turns.specs.Turns.{turnOf}
@@ -18,11 +19,23 @@ cast-t15 : tie.Need-cast-t15
 cast-t15 c = search needs
 
 add-t16 : tie.Need-add-t16
-add-t16 c = rw (c .before .before .before .child-index .ensures) (omega (arith, child-below (c .before .before .before .before .before .before .args .c) (c .before .before .before .before .before .before .args .v .centre) (c .before .before .before .before .before .before .args .p), pow-mono {i = c .before .before .before .before .before .before .args .c} {j = 3} (omega arith), c .struct-known2 .given))
+add-t16 c =
+    let the-child-index = c .before .before .before .child-index in
+    let the-start = c .before .before .before .before .before .before in
+    rw (the-child-index .ensures)
+    (omega (
+      arith,
+      child-below (the-start .args .c) (the-start .args .v .centre) (the-start .args .p),
+      pow-mono {i = the-start .args .c} {j = 3} (omega arith),
+      c .struct-known2 .given,
+    ))
 
 returns : tie.Need-returns
 unfolding turnOf
-returns c = simp (ne-eqb _ _ (c .before .if1 .taken), c .before .before .before .before .before .absorb .ensures, c .before .before .before .child-index .ensures)
+returns c =
+    let the-child-index = c .before .before .before .child-index in
+    let the-absorb = c .before .before .before .before .before .absorb in
+    simp (ne-eqb _ _ (c .before .if1 .taken), the-absorb .ensures, the-child-index .ensures)
 
 enum-known-l : tie.Need-enum-known-l
 enum-known-l c = search needs
@@ -38,27 +51,53 @@ settled-requires c κs = search needs
 
 returns-2 : tie.Need-returns-2
 unfolding turnOf
-returns-2 c = simp (c .settled .ensures, eq-eqb _ _ (c .before .before .before .before .if1 .left), c .before .before .enum-told .given .1, c .before .occupy .ensures, c .before .before .before .before .before .before .before .before .absorb .ensures)
+returns-2 c =
+    let the-enum-told = c .before .before .enum-told in
+    let the-if1 = c .before .before .before .before .if1 in
+    let the-absorb = c .before .before .before .before .before .before .before .before .absorb in
+    simp (c .settled .ensures, eq-eqb _ _ (the-if1 .left), the-enum-told .given .1, c .before .occupy .ensures, the-absorb .ensures)
 
 settled-requires-2 : tie.Need-settled-requires-2
 settled-requires-2 c κs = search needs
 
 returns-3 : tie.Need-returns-3
 unfolding turnOf
-returns-3 c = simp (c .settled2 .ensures, eq-eqb _ _ (c .before .before .before .before .before .if1 .left), c .before .before .before .l .given .1, le-leb _ _ (c .before .if2 .taken), c .before .before .before .before .before .before .before .before .before .absorb .ensures)
+returns-3 c =
+    let the-l = c .before .before .before .l in
+    let the-if1 = c .before .before .before .before .before .if1 in
+    let the-absorb = c .before .before .before .before .before .before .before .before .before .absorb in
+    simp (c .settled2 .ensures, eq-eqb _ _ (the-if1 .left), the-l .given .1, le-leb _ _ (c .before .if2 .taken), the-absorb .ensures)
 
 split-requires : tie.Need-split-requires
 split-requires c κs = search needs
 
 add-t18 : tie.Need-add-t18
-add-t18 c = rw (c .before .before .before .before .before .before .before .child-index .ensures) (omega (arith, child-below (c .before .before .before .before .before .before .before .before .before .before .args .c) (c .before .before .before .before .before .before .before .before .before .before .args .v .centre) (c .before .before .before .before .before .before .before .before .before .before .args .p), pow-mono {i = c .before .before .before .before .before .before .before .before .before .before .args .c} {j = 3} (omega arith)))
+add-t18 c =
+    let the-child-index = c .before .before .before .before .before .before .before .child-index in
+    let the-start = c .before .before .before .before .before .before .before .before .before .before in
+    rw (the-child-index .ensures)
+    (omega (arith, child-below (the-start .args .c) (the-start .args .v .centre) (the-start .args .p), pow-mono {i = the-start .args .c} {j = 3} (omega arith)))
 
 shl-t19 : tie.Need-shl-t19
 shl-t19 c = search needs
 
 returns-4 : tie.Need-returns-4
 unfolding turnOf
-returns-4 c = simp (eq-eqb _ _ (c .before .before .before .before .before .if1 .left), c .before .before .before .l .given .1, lt-leb _ _ (c .before .if2 .left), c .split .ensures, c .before .before .before .before .before .before .before .before .before .absorb .ensures, c .before .before .before .before .before .before .before .child-index .ensures, shl-one (c .before .before .before .before .before .before .before .before .before .before .args .c) (omega arith))
+returns-4 c =
+    let the-l = c .before .before .before .l in
+    let the-if1 = c .before .before .before .before .before .if1 in
+    let the-child-index = c .before .before .before .before .before .before .before .child-index in
+    let the-absorb = c .before .before .before .before .before .before .before .before .before .absorb in
+    let the-start = c .before .before .before .before .before .before .before .before .before .before in
+    simp (
+      eq-eqb _ _ (the-if1 .left),
+      the-l .given .1,
+      lt-leb _ _ (c .before .if2 .left),
+      c .split .ensures,
+      the-absorb .ensures,
+      the-child-index .ensures,
+      shl-one (the-start .args .c) (omega arith),
+    )
 
 pub turn-spec : {M : Type 1} → statement M
 turn-spec =

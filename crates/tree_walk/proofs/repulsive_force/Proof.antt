@@ -1,5 +1,8 @@
 -- `tree_walk::repulsive_force` meets its contract: a walk of its MIR, by hand. The slice is passed on to `walk`, which starts at the root with nothing.
+-- Locals: l0 the answer, l1 cells, l2 used, l3 eye, from l4 on the code's own, as `rt mir` numbers them. On entry local li is thing 10 - 2·i of what is held;
+-- what is put in front of it moves it up.
 -- Assumes nothing.
+use Rattle.lent.proofs.Beside.{_∥_}
 use mathlib.Core.Path.{_≡_, refl, _∙_}
 use Prim.Native.Nat.{ℕ, _<_, _≤_, _^_}
 use mathlib.Core.List.{List, [], _∷_}
@@ -66,12 +69,13 @@ abbrev Arg : Type 0
 Arg = RefT (List Cell) × (ℕ × (Eye × Unit {0}))
 
 abbrev stayed : Stays (f.ended .signature .params) (f.ended .kept)
-stayed = (stay-none-slice (0 ∷ []) tt (plain (λ _. N.the-row)) yes, (stay-none (λ _. usize) yes, (stay-none (λ _. Eye′.the-row) yes, tt)))
+stayed = (stay-none-slice (0 ∷ []) tt (plain (λ _. N.the-row)) yes ∥ stay-none (λ _. usize) yes ∥ stay-none (λ _. Eye′.the-row) yes ∥ tt)
 
 abbrev Req : List Cell → ℕ → Eye → Type 0
 Req ys used eye = (Axes (eye .c)) × (0 < used) × (used ≤ length ys) × (used ≤ mostWord) × Blocks used (eye .c) (nodesOf ys)
 
-module _ {M : Type 1} (𝓤 : URA M) (H : Heap 𝓤) (A : Atoms 𝓤) (W : Given 𝓤 H A) (mem : Memory → SProp 𝓤) (run : Routine → Fun 𝓤) (κ : Lft) (q : Share) (b o : ℕ) (γ : GName) (ys : List Cell) (used : ℕ) (eye : Eye) (room : Room N.the-row (length ys)) (gused : used < 2 ^ 64) (geye : IsEye eye) where
+module _ {M : Type 1} (𝓤 : URA M) (H : Heap 𝓤) (A : Atoms 𝓤) (W : Given 𝓤 H A) (mem : Memory → SProp 𝓤) (run : Routine → Fun 𝓤) (κ : Lft) (q : Share) (b o : ℕ)
+    (γ : GName) (ys : List Cell) (used : ℕ) (eye : Eye) (room : Room N.the-row (length ys)) (gused : used < 2 ^ 64) (geye : IsEye eye) where
   abbrev n : ℕ
   n = length ys
 
@@ -89,38 +93,51 @@ module _ {M : Type 1} (𝓤 : URA M) (H : Heap 𝓤) (A : Atoms 𝓤) (W : Given
       qed W (‵ (ShrCells κ b o γ ys n) ∷ ‵ (flft κ q) ∷ []) ∵
       suffices ! _ (ends-at 𝓤 H A f.ended stayed (f.clauses 𝓤 H A mem run) W (((κ, tt), (q, tt), tt, x, at), tt) (val-Acc r) r (tt, (tt, (tt, tt))) (tt, (tt, (tt, tt)))) $ says ! e $
       nothing ! $ move ! (2 ∷ 0 ∷ []) $ join ! $ frame ! $
-      nothing ! $ owned ! Eye′.the-row (Is Eye′.the-row) ((LL.makes Eye′.the-type Eye″.the-plain) 𝓤 H A) eye _ geye $ fjoin ! $ owned ! usize (Is usize) (uint-makes 𝓤 H A W w64) used _ (refl, gused) $ fjoin ! $ move ! (1 ∷ 0 ∷ []) $ fjoin ! $ frame ! $
+      nothing ! $ owned ! Eye′.the-row (Is Eye′.the-row) ((LL.makes Eye′.the-type Eye″.the-plain) 𝓤 H A) eye _ geye $ fjoin ! $
+      owned ! usize (Is usize) (uint-makes 𝓤 H A W w64) used _ (refl, gused) $ fjoin ! $ move ! (1 ∷ 0 ∷ []) $ fjoin ! $ frame ! $
       owned ! Acc′.the-row (Is Acc′.the-row) ((LL.makes Acc′.the-type Acc″.the-plain) 𝓤 H A) r _ gr $ done !
 
-  module _ (C : Calls 𝓤 H) (Λ : Loops 𝓤 H) (fm : FmC 𝓤 H (W .laws) C) (known-nothing-yet : Triple 𝓤 (C #tree_walk·nothing-yet) (NothingYet 𝓤 H A mem run)) (known-walk : Triple 𝓤 (C #tree_walk·walk) (WalkC 𝓤 H A mem run)) where
+  module _ (C : Calls 𝓤 H) (Λ : Loops 𝓤 H) (fm : FmC 𝓤 H (W .laws) C) (known-nothing-yet : Triple 𝓤 (C #tree_walk·nothing-yet) (NothingYet 𝓤 H A mem run))
+      (known-walk : Triple 𝓤 (C #tree_walk·walk) (WalkC 𝓤 H A mem run)) where
     walk : Req ys used eye → ent 𝓤 (onEntry 𝓤 H A f.signature (κ, tt) (q, tt) x at) (WpFn 𝓤 H C Λ code.function (sliceVal (b, o) n ∷ vint w64 used ∷ val-Eye eye ∷ []) Post)
     walk req =
-        qed W ((‵ (flft κ q) ⊛ ‵ ftrue) ∷ ‵ (owns (ShrSlice (named 0) κ N.the-row ∷ usize ∷ Eye′.the-row ∷ []) x at) ∷ []) ∵ enter ! C Λ code.function (sliceVal (b, o) n ∷ vint w64 used ∷ val-Eye eye ∷ []) _ $
+        qed W ((‵ (flft κ q) ⊛ ‵ ftrue) ∷ ‵ (owns (ShrSlice (named 0) κ N.the-row ∷ usize ∷ Eye′.the-row ∷ []) x at) ∷ []) ∵
+        enter ! C Λ code.function (sliceVal (b, o) n ∷ vint w64 used ∷ val-Eye eye ∷ []) _ $
         alloc1 ! (λ l0. alloc1 ! (λ l1. alloc1 ! (λ l2. alloc1 ! (λ l3. alloc1 ! (λ l4. alloc1 ! (λ l5. alloc0 ! $ params1 ! $
         pass1 ! (init ! 8 refl (tt, (tt, (record { fits = room .0 }, tt)))) $ pass1 ! (init ! 6 refl (tt, record { fits = gused })) $ pass1 ! (init ! 4 refl (typed-eye 𝓤 H A W eye geye)) $ pass0 ! $
         move ! (13 ∷ []) $ fsplit ! $ move ! (1 ∷ []) $ drop ! $ move ! (13 ∷ []) $ split ! $ move ! (1 ∷ []) $ drop ! $ move ! (1 ∷ 0 ∷ []) $
         -- [the slice; the token; _5; …; _4; …; … ; _1; …; room for _0; …]
         calls-nothing-yet ! fm mem run known-nothing-yet (λ _. no-more !) (λ a ea ga.
         land ! (from ! (stop !)) (init ! 4 refl (typed-acc 𝓤 H A W a ga)) $
-        calls-walk ! fm mem run κ q b o γ ys n used eye 0 1 a gused geye (lit< tt) (lit< tt) ga (req .0, req .1, req .2, req .3, req .4) (known-walk (to-walk 𝓤 H A mem run κ q b o γ ys n used eye 0 1 a))
-        (λ _ _. and-then ! (load ! (from ! (stop !)) (look ! 10 refl)) (and-then ! (load ! (from ! (stop !)) (look ! 8 refl)) (and-then ! (load ! (from ! (stop !)) (look ! 6 refl)) (and-then ! (lit ! tt) (and-then ! (lit ! tt) (and-then ! (load ! (from ! (stop !)) (look ! 4 refl)) (no-more !))))))) (λ r e gr.
+        calls-walk ! fm mem run κ q b o γ ys n used eye 0 1 a gused geye (lit< tt) (lit< tt) ga (req .0, req .1, req .2, req .3, req .4)
+        (known-walk (to-walk 𝓤 H A mem run κ q b o γ ys n used eye 0 1 a))
+        (λ _ _. and-then ! (load ! (from ! (stop !)) (look ! 10 refl))
+        (and-then ! (load ! (from ! (stop !)) (look ! 8 refl))
+        (and-then ! (load ! (from ! (stop !)) (look ! 6 refl))
+        (and-then ! (lit ! tt) (and-then ! (lit ! tt) (and-then ! (load ! (from ! (stop !)) (look ! 4 refl)) (no-more !))))))) (λ r e gr.
         land ! (from ! (stop !)) (init ! 2 refl (typed-acc 𝓤 H A W r gr)) $
         assigns ! (of-opd ! (load ! (from ! (stop !)) (look ! 2 refl))) (from ! (stop !)) (init ! 12 refl (typed-acc 𝓤 H A W r gr)) $
         returns ! (look ! 12 refl) $ forget ! 2 refl $ forget ! 4 refl $ forget ! 6 refl $ forget ! 8 refl $ forget ! 10 refl $ forget ! 12 refl $
-        move ! (12 ∷ 13 ∷ []) $ free1 ! $ move ! (10 ∷ 11 ∷ []) $ free1 ! $ move ! (8 ∷ 9 ∷ []) $ free1 ! $ move ! (6 ∷ 7 ∷ []) $ free1 ! $ move ! (4 ∷ 5 ∷ []) $ free1 ! $ move ! (2 ∷ 3 ∷ []) $ free1 ! $ free0 ! $
+        move ! (12 ∷ 13 ∷ []) $ free1 ! $ move ! (10 ∷ 11 ∷ []) $ free1 ! $ move ! (8 ∷ 9 ∷ []) $ free1 ! $ move ! (6 ∷ 7 ∷ []) $ free1 ! $
+        move ! (4 ∷ 5 ∷ []) $ free1 ! $ move ! (2 ∷ 3 ∷ []) $ free1 ! $ free0 ! $
         keep ! (0 ∷ 1 ∷ []) $ by ! (exits r (e ∙ from-root used eye ys a ea) gr)))))))))
 
 module _ {M : Type 1} (𝓤 : URA M) (H : Heap 𝓤) (A : Atoms 𝓤) (W : Given 𝓤 H A) (mem : Memory → SProp 𝓤) (run : Routine → Fun 𝓤) where
-  repulsive-force-walks : (C : Calls 𝓤 H) (Λ : Loops 𝓤 H) → FmC 𝓤 H (W .laws) C → Triple 𝓤 (C #tree_walk·nothing-yet) (NothingYet 𝓤 H A mem run) → Triple 𝓤 (C #tree_walk·walk) (WalkC 𝓤 H A mem run) → Walks 𝓤 H A f.ended stayed (WpFn 𝓤 H C Λ code.function) (f.clauses 𝓤 H A mem run)
-  repulsive-force-walks C Λ fm known-nothing-yet known-walk = walked 𝓤 H A f.ended stayed (f.clauses 𝓤 H A mem run) (WpFn 𝓤 H C Λ code.function) (λ κs. (slice-vals, (uint-vals w64, (LL.vals Eye′.the-type Eye″.the-laws, tt)))) (λ κs. (shr-slice-tells (named 0) (κs .0) N.the-row, (uint-tells w64, (LL.tells Eye′.the-type Eye″.the-laws, tt))))
+  repulsive-force-walks : (C : Calls 𝓤 H) (Λ : Loops 𝓤 H) → FmC 𝓤 H (W .laws) C → Triple 𝓤 (C #tree_walk·nothing-yet) (NothingYet 𝓤 H A mem run) →
+      Triple 𝓤 (C #tree_walk·walk) (WalkC 𝓤 H A mem run) → Walks 𝓤 H A f.ended stayed (WpFn 𝓤 H C Λ code.function) (f.clauses 𝓤 H A mem run)
+  repulsive-force-walks C Λ fm known-nothing-yet known-walk = walked 𝓤 H A f.ended stayed (f.clauses 𝓤 H A mem run) (WpFn 𝓤 H C Λ code.function) (λ κs.
+      (slice-vals, (uint-vals w64, (LL.vals Eye′.the-type Eye″.the-laws, tt)))) (λ κs. (shr-slice-tells (named 0) (κs .0) N.the-row ∥ uint-tells w64 ∥
+      LL.tells Eye′.the-type Eye″.the-laws ∥ tt))
       (λ κs qs bounds a g are. needs 𝓤 (Req (a .0 .now) (a .1 .0) (a .1 .1 .0)) _
-      (walk 𝓤 H A W mem run (κs .0) (qs .0) (a .0 .ptr .0) (a .0 .ptr .1) (a .0 .name) (a .0 .now) (a .1 .0) (a .1 .1 .0) (are .0 .0 .1) (are .1 .0 .1) (are .1 .1 .0) C Λ fm known-nothing-yet known-walk))
+      (walk 𝓤 H A W mem run (κs .0) (qs .0) (a .0 .ptr .0) (a .0 .ptr .1) (a .0 .name) (a .0 .now) (a .1 .0) (a .1 .1 .0) (are .0 .0 .1) (are .1 .0 .1)
+      (are .1 .1 .0) C Λ fm known-nothing-yet known-walk))
 
 repulsive-force-meets : {M : Type 1} (𝓤 : URA M) (H : Heap 𝓤) (A : Atoms 𝓤) → Given 𝓤 H A → (mem : Memory → SProp 𝓤) (run : Routine → Fun 𝓤) (𝓣 : Tables 𝓤 H)
     → Triple 𝓤 (𝓣 .C #tree_walk·nothing-yet) (NothingYet 𝓤 H A mem run) → Triple 𝓤 (𝓣 .C #tree_walk·walk) (WalkC 𝓤 H A mem run)
     → Meets 𝓤 H A f.signature (WpFn 𝓤 H (𝓣 .C) (𝓣 .Λ) code.function) (f.spec 𝓤 H A mem run)
 repulsive-force-meets 𝓤 H A W mem run 𝓣 known-nothing-yet known-walk =
-    walk-meets 𝓤 H A f.ended stayed W (goes-none-slice 𝓤 H A W 1 (0 ∷ []) tt (plain (λ _. N.the-row)) yes, (goes-none 𝓤 H A W 1 (λ _. usize) yes (λ κs x f. refl), (goes-none 𝓤 H A W 1 (λ _. Eye′.the-row) yes (λ κs x f. refl), tt))) (f.clauses 𝓤 H A mem run)
+    walk-meets 𝓤 H A f.ended stayed W (goes-none-slice 𝓤 H A W 1 (0 ∷ []) tt (plain (λ _. N.the-row)) yes ∥
+    goes-none 𝓤 H A W 1 (λ _. usize) yes (λ κs x f. refl) ∥ goes-none 𝓤 H A W 1 (λ _. Eye′.the-row) yes (λ κs x f. refl) ∥ tt) (f.clauses 𝓤 H A mem run)
     (WpFn 𝓤 H (𝓣 .C) (𝓣 .Λ) code.function) (WpFn-mono 𝓤 H (W .laws) 𝓣 code.function) (repulsive-force-walks 𝓤 H A W mem run (𝓣 .C) (𝓣 .Λ) (fmOf 𝓤 H (W .laws) 𝓣) known-nothing-yet known-walk)
 
 pub repulsive-force-spec : {M : Type 1} → stated.statement M

@@ -1,5 +1,8 @@
 -- `words_entry::words_fault` meets its contract: a walk of its MIR. Printed (tests/walks_local).
+-- Locals: l0 the answer, l1 words, l2 p, l3 i, l4 g, l5 a, l6 f, l7 indices, l8 offsets, l9 cells, from l10 on the code's own, as `rt mir` numbers them. On
+-- entry local li is thing 28 - 2·i of what is held; what is put in front of it moves it up.
 -- Assumes nothing.
+use Rattle.lent.proofs.Beside.{_∥_}
 use mathlib.Core.Path.{refl}
 use Prim.Native.Nat.{ℕ, _<_, _^_}
 use mathlib.Core.List.{List, [], _∷_}
@@ -19,7 +22,9 @@ use sound.WpLaws.{FmC, fmOf, WpFn-mono}
 use contract.Monad.{Fun}
 use contract.Running.{givenOf, tables, tablesOf}
 use types.Kit.{Given, ‵, _⊛_, ⋆, atRet, _$_, _∵_, !, qed, by, move, keep, drop, split, join, fsplit, fjoin, suffices, frame, done}
-use types.Run.{look, init, forget, stop, from, load, of-opd, and-then, no-more, assigns, land, first, branches, skips, exec, returns, returns-within, enter, alloc1, alloc0, params1, pass1, pass0, free1, free0}
+use types.Run.{look, init, forget, stop, from, load, of-opd, and-then, no-more, assigns, land, first, branches, skips, exec, returns, returns-within, enter}
+use types.Run.{alloc1, alloc0, params1, pass1, pass0, free1, free0}
+use contract.Lifetimes.{Lfts, Shares}
 use denote.RattleType.{owns}
 use denote.Laws.{Is}
 use denote.Plain.{uint-makes, uint-tells, uint-vals}
@@ -77,7 +82,9 @@ abbrev Arg : Type 0
 Arg = RefT (List ℕ) × (ℕ × (ℕ × (ℕ × (ℕ × (ℕ × (RefT (List ℕ) × (RefT (List ℕ) × (RefT (List Cell) × (Unit {0})))))))))
 
 abbrev stayed : Stays (f.ended .signature .params) (f.ended .kept)
-stayed = (stay-none-slice (0 ∷ []) tt (plain (λ _. u64)) yes, (stay-none (λ _. usize) yes, (stay-none (λ _. usize) yes, (stay-none (λ _. usize) yes, (stay-none (λ _. usize) yes, (stay-none (λ _. usize) yes, (stay-none-slice (1 ∷ []) tt (plain (λ _. u32)) yes, (stay-none-slice (2 ∷ []) tt (plain (λ _. u32)) yes, (stay-none-slice (3 ∷ []) tt (plain (λ _. Cell′.the-row)) yes, tt)))))))))
+stayed = (stay-none-slice (0 ∷ []) tt (plain (λ _. u64)) yes ∥ stay-none (λ _. usize) yes ∥ stay-none (λ _. usize) yes ∥ stay-none (λ _. usize) yes ∥
+    stay-none (λ _. usize) yes ∥ stay-none (λ _. usize) yes ∥ stay-none-slice (1 ∷ []) tt (plain (λ _. u32)) yes ∥
+    stay-none-slice (2 ∷ []) tt (plain (λ _. u32)) yes ∥ stay-none-slice (3 ∷ []) tt (plain (λ _. Cell′.the-row)) yes ∥ tt)
 
 module _ {M : Type 1} (𝓤 : URA M) (H : Heap 𝓤) (A : Atoms 𝓤) (W : Given 𝓤 H A) (mem : Memory → SProp 𝓤) (run-of : Routine → Fun 𝓤)
     (s-words : Seat) (words : List ℕ) (ln-words : length words ≡ s-words .count) (room-words : Room u64 (s-words .count))
@@ -89,14 +96,20 @@ module _ {M : Type 1} (𝓤 : URA M) (H : Heap 𝓤) (A : Atoms 𝓤) (W : Given
     (s-indices : Seat) (indices : List ℕ) (ln-indices : length indices ≡ s-indices .count) (room-indices : Room u32 (s-indices .count))
     (s-offsets : Seat) (offsets : List ℕ) (ln-offsets : length offsets ≡ s-offsets .count) (room-offsets : Room u32 (s-offsets .count))
     (s-cells : Seat) (cells : List Cell) (ln-cells : length cells ≡ s-cells .count) (room-cells : Room Cell′.the-row (s-cells .count)) where
-  abbrev x : Arg
-  x = (ref-at s-words words, (p, (i, (g₀, (a₀, (f₀, (ref-at s-indices indices, (ref-at s-offsets offsets, (ref-at s-cells cells, tt)))))))))
+  abbrev lives : Lfts (f.signature .lifetimes)
+  lives = (s-words .life, (s-indices .life, (s-offsets .life, (s-cells .life, tt))))
 
-  abbrev at : Vals f.signature (s-words .life, (s-indices .life, (s-offsets .life, (s-cells .life, tt))))
-  at = (word s-words ∷ [], (vint w64 p ∷ [], (vint w64 i ∷ [], (vint w64 g₀ ∷ [], (vint w64 a₀ ∷ [], (vint w64 f₀ ∷ [], (word s-indices ∷ [], (word s-offsets ∷ [], (word s-cells ∷ [], tt)))))))))
+  abbrev shares : Shares (f.signature .lifetimes)
+  shares = (s-words .share, (s-indices .share, (s-offsets .share, (s-cells .share, tt))))
+
+  abbrev x : Arg
+  x = (ref-at s-words words ∥ p ∥ i ∥ g₀ ∥ a₀ ∥ f₀ ∥ ref-at s-indices indices ∥ ref-at s-offsets offsets ∥ ref-at s-cells cells ∥ tt)
+
+  abbrev at : Vals f.signature lives
+  at = (word s-words ∷ [] ∥ vint w64 p ∷ [] ∥ vint w64 i ∷ [] ∥ vint w64 g₀ ∷ [] ∥ vint w64 a₀ ∷ [] ∥ vint w64 f₀ ∷ [] ∥ word s-indices ∷ [] ∥ word s-offsets ∷ [] ∥ word s-cells ∷ [] ∥ tt)
 
   abbrev Post : Val → SProp 𝓤
-  Post = walkOf 𝓤 H A f.ended stayed (f.clauses 𝓤 H A mem run-of) .post (((s-words .life, (s-indices .life, (s-offsets .life, (s-cells .life, tt)))), (s-words .share, (s-indices .share, (s-offsets .share, (s-cells .share, tt)))), tt, x, at), tt)
+  Post = walkOf 𝓤 H A f.ended stayed (f.clauses 𝓤 H A mem run-of) .post ((lives, shares, tt, x, at), tt)
 
   typed-Fault : (v : Fault) → IsFault v → T (hasTy Fault″.mir (val-Fault v)) × WT (val-Fault v)
   typed-Fault v g = Fault″.the-field-laws .lawful 𝓤 H A W .typed (Fault′.the-type .to v) _ g .0
@@ -104,25 +117,54 @@ module _ {M : Type 1} (𝓤 : URA M) (H : Heap 𝓤) (A : Atoms 𝓤) (W : Given
   typed-Run : (v : Run) → IsRun v → T (hasTy Run″.mir (val-Run v)) × WT (val-Run v)
   typed-Run v g = LL.lawful Run′.the-type Run″.the-laws 𝓤 H A W .typed v _ g .0
 
-  exits : (res : Fault) → IsFault res → res ≡ wordsFault words p i g₀ a₀ f₀ indices offsets (nodesOf cells) → ent 𝓤 (⋆ 𝓤 H A (‵ (Shr u64 s-words words) ∷ ‵ (Tok s-words) ∷ ‵ (Shr u32 s-indices indices) ∷ ‵ (Tok s-indices) ∷ ‵ (Shr u32 s-offsets offsets) ∷ ‵ (Tok s-offsets) ∷ ‵ (Shr Cell′.the-row s-cells cells) ∷ ‵ (Tok s-cells) ∷ [])) (Post (val-Fault res))
+  exits : (res : Fault) → IsFault res → res ≡ wordsFault words p i g₀ a₀ f₀ indices offsets (nodesOf cells) →
+      ent 𝓤 (⋆ 𝓤 H A (‵ (Shr u64 s-words words) ∷ ‵ (Tok s-words) ∷ ‵ (Shr u32 s-indices indices) ∷ ‵ (Tok s-indices) ∷ ‵ (Shr u32 s-offsets offsets) ∷
+      ‵ (Tok s-offsets) ∷ ‵ (Shr Cell′.the-row s-cells cells) ∷ ‵ (Tok s-cells) ∷ [])) (Post (val-Fault res))
   exits res is e =
-      qed W (‵ (Shr u64 s-words words) ∷ ‵ (Tok s-words) ∷ ‵ (Shr u32 s-indices indices) ∷ ‵ (Tok s-indices) ∷ ‵ (Shr u32 s-offsets offsets) ∷ ‵ (Tok s-offsets) ∷ ‵ (Shr Cell′.the-row s-cells cells) ∷ ‵ (Tok s-cells) ∷ []) ∵
-      suffices ! _ (ends-at 𝓤 H A f.ended stayed (f.clauses 𝓤 H A mem run-of) W (((s-words .life, (s-indices .life, (s-offsets .life, (s-cells .life, tt)))), (s-words .share, (s-indices .share, (s-offsets .share, (s-cells .share, tt)))), tt, x, at), tt) (val-Fault res) res (tt, (tt, (tt, (tt, (tt, (tt, (tt, (tt, (tt, tt))))))))) (tt, (tt, (tt, (tt, (tt, (tt, (tt, (tt, (tt, tt)))))))))) $ says ! e $
-      nothing ! $ move ! (8 ∷ 0 ∷ []) $ join ! $ move ! (6 ∷ 0 ∷ []) $ join ! $ move ! (4 ∷ 0 ∷ []) $ join ! $ move ! (2 ∷ 0 ∷ []) $ join ! $ frame ! $ nothing ! $ move ! (4 ∷ 0 ∷ []) $ fjoin ! $ move ! (3 ∷ 0 ∷ []) $ fjoin ! $ move ! (2 ∷ 0 ∷ []) $ fjoin ! $ owned ! usize (Is usize) (uint-makes 𝓤 H A W w64) f₀ _ (refl, g-f₀) $ fjoin ! $ owned ! usize (Is usize) (uint-makes 𝓤 H A W w64) a₀ _ (refl, g-a₀) $ fjoin ! $ owned ! usize (Is usize) (uint-makes 𝓤 H A W w64) g₀ _ (refl, g-g₀) $ fjoin ! $ owned ! usize (Is usize) (uint-makes 𝓤 H A W w64) i _ (refl, g-i) $ fjoin ! $ owned ! usize (Is usize) (uint-makes 𝓤 H A W w64) p _ (refl, g-p) $ fjoin ! $ move ! (1 ∷ 0 ∷ []) $ fjoin ! $ frame ! $ owned ! Fault′.the-row (Is Fault′.the-row) ((EL.makes Fault′.the-type Fault″.the-plain) 𝓤 H A) res _ is $ done !
+      qed W (‵ (Shr u64 s-words words) ∷ ‵ (Tok s-words) ∷ ‵ (Shr u32 s-indices indices) ∷ ‵ (Tok s-indices) ∷ ‵ (Shr u32 s-offsets offsets) ∷
+      ‵ (Tok s-offsets) ∷ ‵ (Shr Cell′.the-row s-cells cells) ∷ ‵ (Tok s-cells) ∷ []) ∵
+      suffices ! _ (ends-at 𝓤 H A f.ended stayed (f.clauses 𝓤 H A mem run-of) W ((lives, shares, tt, x, at), tt) (val-Fault res) res
+      (tt, (tt, (tt, (tt, (tt, (tt, (tt, (tt, (tt, tt))))))))) (tt, (tt, (tt, (tt, (tt, (tt, (tt, (tt, (tt, tt)))))))))) $ says ! e $
+      nothing ! $ move ! (8 ∷ 0 ∷ []) $ join ! $ move ! (6 ∷ 0 ∷ []) $ join ! $ move ! (4 ∷ 0 ∷ []) $ join ! $ move ! (2 ∷ 0 ∷ []) $ join ! $ frame ! $
+      nothing ! $ move ! (4 ∷ 0 ∷ []) $ fjoin ! $ move ! (3 ∷ 0 ∷ []) $ fjoin ! $ move ! (2 ∷ 0 ∷ []) $ fjoin ! $
+      owned ! usize (Is usize) (uint-makes 𝓤 H A W w64) f₀ _ (refl, g-f₀) $ fjoin ! $ owned ! usize (Is usize) (uint-makes 𝓤 H A W w64) a₀ _ (refl, g-a₀) $
+      fjoin ! $ owned ! usize (Is usize) (uint-makes 𝓤 H A W w64) g₀ _ (refl, g-g₀) $ fjoin ! $
+      owned ! usize (Is usize) (uint-makes 𝓤 H A W w64) i _ (refl, g-i) $ fjoin ! $ owned ! usize (Is usize) (uint-makes 𝓤 H A W w64) p _ (refl, g-p) $
+      fjoin ! $ move ! (1 ∷ 0 ∷ []) $ fjoin ! $ frame ! $ owned ! Fault′.the-row (Is Fault′.the-row)
+      ((EL.makes Fault′.the-type Fault″.the-plain) 𝓤 H A) res _ is $ done !
 
-  module _ (C : Calls 𝓤 H) (Λ : Loops 𝓤 H) (fm : FmC 𝓤 H (W .laws) C) (known-run-fine : Triple 𝓤 (C #record-words·run-fine) (Contract-run-fine 𝓤 H A mem run-of)) (known-run-of : Triple 𝓤 (C #record-words·run-of) (Contract-run-of 𝓤 H A mem run-of)) (known-fault-at : Triple 𝓤 (C #run-entry·fault-at) (Contract-fault-at 𝓤 H A mem run-of)) (known-unread-fault : Triple 𝓤 (C #fault-words·unread-fault) (Contract-unread-fault 𝓤 H A mem run-of)) where
+  module _ (C : Calls 𝓤 H) (Λ : Loops 𝓤 H) (fm : FmC 𝓤 H (W .laws) C)
+      (known-run-fine : Triple 𝓤 (C #record-words·run-fine) (Contract-run-fine 𝓤 H A mem run-of))
+      (known-run-of : Triple 𝓤 (C #record-words·run-of) (Contract-run-of 𝓤 H A mem run-of))
+      (known-fault-at : Triple 𝓤 (C #run-entry·fault-at) (Contract-fault-at 𝓤 H A mem run-of))
+      (known-unread-fault : Triple 𝓤 (C #fault-words·unread-fault) (Contract-unread-fault 𝓤 H A mem run-of)) where
     abbrev τ : ℕ → Ty
     τ k = type-of k pieces.locals
 
     abbrev En : (l0 l1 l2 l3 l4 l5 l6 l7 l8 l9 l10 l11 l12 l13 l14 : ℕ) → Env 𝓤 H
-    En l0 l1 l2 l3 l4 l5 l6 l7 l8 l9 l10 l11 l12 l13 l14 = (τ 0, l0) ∷ (τ 1, l1) ∷ (τ 2, l2) ∷ (τ 3, l3) ∷ (τ 4, l4) ∷ (τ 5, l5) ∷ (τ 6, l6) ∷ (τ 7, l7) ∷ (τ 8, l8) ∷ (τ 9, l9) ∷ (τ 10, l10) ∷ (τ 11, l11) ∷ (τ 12, l12) ∷ (τ 13, l13) ∷ (τ 14, l14) ∷ []
+    En l0 l1 l2 l3 l4 l5 l6 l7 l8 l9 l10 l11 l12 l13 l14 = (τ 0, l0) ∷ (τ 1, l1) ∷ (τ 2, l2) ∷ (τ 3, l3) ∷ (τ 4, l4) ∷ (τ 5, l5) ∷ (τ 6, l6) ∷ (τ 7, l7) ∷
+        (τ 8, l8) ∷ (τ 9, l9) ∷ (τ 10, l10) ∷ (τ 11, l11) ∷ (τ 12, l12) ∷ (τ 13, l13) ∷ (τ 14, l14) ∷ []
 
-    walk : ent 𝓤 (onEntry 𝓤 H A f.signature (s-words .life, (s-indices .life, (s-offsets .life, (s-cells .life, tt)))) (s-words .share, (s-indices .share, (s-offsets .share, (s-cells .share, tt)))) x at) (WpFn 𝓤 H C Λ code.function (word s-words ∷ vint w64 p ∷ vint w64 i ∷ vint w64 g₀ ∷ vint w64 a₀ ∷ vint w64 f₀ ∷ word s-indices ∷ word s-offsets ∷ word s-cells ∷ []) Post)
+    walk : ent 𝓤 (onEntry 𝓤 H A f.signature lives shares x at)
+        (WpFn 𝓤 H C Λ code.function (word s-words ∷ vint w64 p ∷ vint w64 i ∷ vint w64 g₀ ∷ vint w64 a₀ ∷ vint w64 f₀ ∷ word s-indices ∷ word s-offsets ∷
+        word s-cells ∷ []) Post)
     walk =
-        qed W ((‵ (Tok s-words) ⊛ ‵ (Tok s-indices) ⊛ ‵ (Tok s-offsets) ⊛ ‵ (Tok s-cells) ⊛ ‵ ftrue) ∷ ‵ (owns (ShrSlice (named 0) (s-words .life) u64 ∷ usize ∷ usize ∷ usize ∷ usize ∷ usize ∷ ShrSlice (named 1) (s-indices .life) u32 ∷ ShrSlice (named 2) (s-offsets .life) u32 ∷ ShrSlice (named 3) (s-cells .life) Cell′.the-row ∷ []) x at) ∷ []) ∵ enter ! C Λ code.function (word s-words ∷ vint w64 p ∷ vint w64 i ∷ vint w64 g₀ ∷ vint w64 a₀ ∷ vint w64 f₀ ∷ word s-indices ∷ word s-offsets ∷ word s-cells ∷ []) _ $
-        alloc1 ! (λ l0. alloc1 ! (λ l1. alloc1 ! (λ l2. alloc1 ! (λ l3. alloc1 ! (λ l4. alloc1 ! (λ l5. alloc1 ! (λ l6. alloc1 ! (λ l7. alloc1 ! (λ l8. alloc1 ! (λ l9. alloc1 ! (λ l10. alloc1 ! (λ l11. alloc1 ! (λ l12. alloc1 ! (λ l13. alloc1 ! (λ l14. alloc0 ! $ params1 ! $
-        pass1 ! (init ! 26 refl (tt, (tt, (record { fits = room-words .0 }, tt)))) $ pass1 ! (init ! 24 refl (tt, record { fits = g-p })) $ pass1 ! (init ! 22 refl (tt, record { fits = g-i })) $ pass1 ! (init ! 20 refl (tt, record { fits = g-g₀ })) $ pass1 ! (init ! 18 refl (tt, record { fits = g-a₀ })) $ pass1 ! (init ! 16 refl (tt, record { fits = g-f₀ })) $ pass1 ! (init ! 14 refl (tt, (tt, (record { fits = room-indices .0 }, tt)))) $ pass1 ! (init ! 12 refl (tt, (tt, (record { fits = room-offsets .0 }, tt)))) $ pass1 ! (init ! 10 refl (tt, (tt, (record { fits = room-cells .0 }, tt)))) $ pass0 ! $
-        move ! (31 ∷ []) $ fsplit ! $ move ! (1 ∷ []) $ fsplit ! $ drop ! $ fsplit ! $ drop ! $ fsplit ! $ drop ! $ fsplit ! $ drop ! $ fsplit ! $ drop ! $ fsplit ! $ move ! (1 ∷ []) $ fsplit ! $ move ! (1 ∷ []) $ fsplit ! $ move ! (1 ∷ []) $ drop ! $ move ! (34 ∷ []) $ split ! $ move ! (1 ∷ []) $ split ! $ move ! (1 ∷ []) $ split ! $ move ! (1 ∷ []) $ split ! $ move ! (1 ∷ []) $ drop ! $ move ! (7 ∷ 3 ∷ 6 ∷ 2 ∷ 5 ∷ 1 ∷ 4 ∷ 0 ∷ []) $
+        qed W ((‵ (Tok s-words) ⊛ ‵ (Tok s-indices) ⊛ ‵ (Tok s-offsets) ⊛ ‵ (Tok s-cells) ⊛ ‵ ftrue) ∷
+        ‵ (owns (ShrSlice (named 0) (s-words .life) u64 ∷ usize ∷ usize ∷ usize ∷ usize ∷ usize ∷ ShrSlice (named 1) (s-indices .life) u32 ∷
+        ShrSlice (named 2) (s-offsets .life) u32 ∷ ShrSlice (named 3) (s-cells .life) Cell′.the-row ∷ []) x at) ∷ []) ∵
+        enter ! C Λ code.function (word s-words ∷ vint w64 p ∷ vint w64 i ∷ vint w64 g₀ ∷ vint w64 a₀ ∷ vint w64 f₀ ∷ word s-indices ∷ word s-offsets ∷
+        word s-cells ∷ []) _ $
+        alloc1 ! (λ l0. alloc1 ! (λ l1. alloc1 ! (λ l2. alloc1 ! (λ l3. alloc1 ! (λ l4. alloc1 ! (λ l5. alloc1 ! (λ l6. alloc1 ! (λ l7. alloc1 ! (λ l8.
+        alloc1 ! (λ l9. alloc1 ! (λ l10. alloc1 ! (λ l11. alloc1 ! (λ l12. alloc1 ! (λ l13. alloc1 ! (λ l14. alloc0 ! $ params1 ! $
+        pass1 ! (init ! 26 refl (tt, (tt, (record { fits = room-words .0 }, tt)))) $ pass1 ! (init ! 24 refl (tt, record { fits = g-p })) $
+        pass1 ! (init ! 22 refl (tt, record { fits = g-i })) $ pass1 ! (init ! 20 refl (tt, record { fits = g-g₀ })) $
+        pass1 ! (init ! 18 refl (tt, record { fits = g-a₀ })) $ pass1 ! (init ! 16 refl (tt, record { fits = g-f₀ })) $
+        pass1 ! (init ! 14 refl (tt, (tt, (record { fits = room-indices .0 }, tt)))) $
+        pass1 ! (init ! 12 refl (tt, (tt, (record { fits = room-offsets .0 }, tt)))) $
+        pass1 ! (init ! 10 refl (tt, (tt, (record { fits = room-cells .0 }, tt)))) $ pass0 ! $
+        move ! (31 ∷ []) $ fsplit ! $ move ! (1 ∷ []) $ fsplit ! $ drop ! $ fsplit ! $ drop ! $ fsplit ! $ drop ! $ fsplit ! $ drop ! $ fsplit ! $ drop ! $
+        fsplit ! $ move ! (1 ∷ []) $ fsplit ! $ move ! (1 ∷ []) $ fsplit ! $ move ! (1 ∷ []) $ drop ! $ move ! (34 ∷ []) $ split ! $ move ! (1 ∷ []) $
+        split ! $ move ! (1 ∷ []) $ split ! $ move ! (1 ∷ []) $ split ! $ move ! (1 ∷ []) $ drop ! $ move ! (7 ∷ 3 ∷ 6 ∷ 2 ∷ 5 ∷ 1 ∷ 4 ∷ 0 ∷ []) $
         calls-run-fine-c ! fm mem run-of known-run-fine s-words words (λ _ _. and-then ! (load ! (from ! (stop !)) (look ! 34 refl)) (no-more !)) (λ r1 e1 is1.
         land ! (from ! (stop !)) (init ! 16 refl (tt, tt)) $
         assigns ! (of-opd ! (load ! (from ! (stop !)) (look ! 16 refl))) (from ! (stop !)) (init ! 8 refl (tt, tt)) $
@@ -131,25 +173,47 @@ module _ {M : Type 1} (𝓤 : URA M) (H : Heap 𝓤) (A : Atoms 𝓤) (W : Given
         calls-run-of-c ! fm mem run-of known-run-of s-words words (words-long words r1 e1 yes1) (λ _ _. and-then ! (load ! (from ! (stop !)) (look ! 34 refl)) (no-more !)) (λ r2 e2 is2.
         land ! (from ! (stop !)) (init ! 14 refl (typed-Run r2 is2)) $
         move ! (2 ∷ 3 ∷ 4 ∷ 5 ∷ 6 ∷ 7 ∷ []) $
-        calls-fault-at-ccc ! fm mem run-of known-fault-at r2 p i g₀ a₀ f₀ s-indices indices s-offsets offsets s-cells cells is2 g-p g-i g-g₀ g-a₀ g-f₀ (λ _ _ _ _. and-then ! (load ! (from ! (stop !)) (look ! 12 refl)) (and-then ! (load ! (from ! (stop !)) (look ! 30 refl)) (and-then ! (load ! (from ! (stop !)) (look ! 28 refl)) (and-then ! (load ! (from ! (stop !)) (look ! 26 refl)) (and-then ! (load ! (from ! (stop !)) (look ! 24 refl)) (and-then ! (load ! (from ! (stop !)) (look ! 22 refl)) (and-then ! (load ! (from ! (stop !)) (look ! 20 refl)) (and-then ! (load ! (from ! (stop !)) (look ! 18 refl)) (and-then ! (load ! (from ! (stop !)) (look ! 16 refl)) (no-more !)))))))))) (λ r3 e3 is3.
+        calls-fault-at-ccc ! fm mem run-of known-fault-at r2 p i g₀ a₀ f₀ s-indices indices s-offsets offsets s-cells cells is2 g-p g-i g-g₀ g-a₀ g-f₀
+        (λ _ _ _ _. and-then ! (load ! (from ! (stop !)) (look ! 12 refl))
+        (and-then ! (load ! (from ! (stop !)) (look ! 30 refl))
+        (and-then ! (load ! (from ! (stop !)) (look ! 28 refl))
+        (and-then ! (load ! (from ! (stop !)) (look ! 26 refl))
+        (and-then ! (load ! (from ! (stop !)) (look ! 24 refl))
+        (and-then ! (load ! (from ! (stop !)) (look ! 22 refl))
+        (and-then ! (load ! (from ! (stop !)) (look ! 20 refl))
+        (and-then ! (load ! (from ! (stop !)) (look ! 18 refl)) (and-then ! (load ! (from ! (stop !)) (look ! 16 refl)) (no-more !)))))))))) (λ r3 e3 is3.
         land ! (from ! (stop !)) (init ! 12 refl (typed-Fault r3 is3)) $
         assigns ! (of-opd ! (load ! (from ! (stop !)) (look ! 12 refl))) (from ! (stop !)) (init ! 36 refl (typed-Fault r3 is3)) $
-        returns-within ! Post refl (look ! 36 refl) $ forget ! 8 refl $ forget ! 12 refl $ forget ! 14 refl $ forget ! 16 refl $ forget ! 18 refl $ forget ! 20 refl $ forget ! 22 refl $ forget ! 24 refl $ forget ! 26 refl $ forget ! 28 refl $ forget ! 30 refl $ forget ! 32 refl $ forget ! 34 refl $ forget ! 36 refl $
-        move ! (36 ∷ 37 ∷ []) $ free1 ! $ move ! (34 ∷ 35 ∷ []) $ free1 ! $ move ! (32 ∷ 33 ∷ []) $ free1 ! $ move ! (30 ∷ 31 ∷ []) $ free1 ! $ move ! (28 ∷ 29 ∷ []) $ free1 ! $ move ! (26 ∷ 27 ∷ []) $ free1 ! $ move ! (24 ∷ 25 ∷ []) $ free1 ! $ move ! (22 ∷ 23 ∷ []) $ free1 ! $ move ! (20 ∷ 21 ∷ []) $ free1 ! $ move ! (18 ∷ 19 ∷ []) $ free1 ! $ move ! (16 ∷ 17 ∷ []) $ free1 ! $ move ! (14 ∷ 15 ∷ []) $ free1 ! $ move ! (12 ∷ 13 ∷ []) $ free1 ! $ move ! (10 ∷ 11 ∷ []) $ free1 ! $ move ! (8 ∷ 9 ∷ []) $ free1 ! $ free0 ! $
+        returns-within ! Post refl (look ! 36 refl) $ forget ! 8 refl $ forget ! 12 refl $ forget ! 14 refl $ forget ! 16 refl $ forget ! 18 refl $
+        forget ! 20 refl $ forget ! 22 refl $ forget ! 24 refl $ forget ! 26 refl $ forget ! 28 refl $ forget ! 30 refl $ forget ! 32 refl $
+        forget ! 34 refl $ forget ! 36 refl $
+        move ! (36 ∷ 37 ∷ []) $ free1 ! $ move ! (34 ∷ 35 ∷ []) $ free1 ! $ move ! (32 ∷ 33 ∷ []) $ free1 ! $ move ! (30 ∷ 31 ∷ []) $ free1 ! $
+        move ! (28 ∷ 29 ∷ []) $ free1 ! $ move ! (26 ∷ 27 ∷ []) $ free1 ! $ move ! (24 ∷ 25 ∷ []) $ free1 ! $ move ! (22 ∷ 23 ∷ []) $ free1 ! $
+        move ! (20 ∷ 21 ∷ []) $ free1 ! $ move ! (18 ∷ 19 ∷ []) $ free1 ! $ move ! (16 ∷ 17 ∷ []) $ free1 ! $ move ! (14 ∷ 15 ∷ []) $ free1 ! $
+        move ! (12 ∷ 13 ∷ []) $ free1 ! $ move ! (10 ∷ 11 ∷ []) $ free1 ! $ move ! (8 ∷ 9 ∷ []) $ free1 ! $ free0 ! $
         keep ! (6 ∷ 7 ∷ 0 ∷ 1 ∷ 2 ∷ 3 ∷ 4 ∷ 5 ∷ []) $ by ! (exits r3 is3 (tested-said words r1 e1 p i g₀ a₀ f₀ indices offsets cells yes1 r2 e2 r3 e3)))))
         (λ no1. skips ! $ exec ! C Λ (En l0 l1 l2 l3 l4 l5 l6 l7 l8 l9 l10 l11 l12 l13 l14) pieces.t-4 (atRet (En l0 l1 l2 l3 l4 l5 l6 l7 l8 l9 l10 l11 l12 l13 l14) Post) $
         calls-unread-fault-c ! fm mem run-of known-unread-fault s-words words (λ _ _. and-then ! (load ! (from ! (stop !)) (look ! 34 refl)) (no-more !)) (λ r4 e4 is4.
         land ! (from ! (stop !)) (init ! 10 refl (typed-Fault r4 is4)) $
         assigns ! (of-opd ! (load ! (from ! (stop !)) (look ! 10 refl))) (from ! (stop !)) (init ! 36 refl (typed-Fault r4 is4)) $
-        returns ! (look ! 36 refl) $ forget ! 8 refl $ forget ! 10 refl $ forget ! 16 refl $ forget ! 18 refl $ forget ! 20 refl $ forget ! 22 refl $ forget ! 24 refl $ forget ! 26 refl $ forget ! 28 refl $ forget ! 30 refl $ forget ! 32 refl $ forget ! 34 refl $ forget ! 36 refl $
-        move ! (36 ∷ 37 ∷ []) $ free1 ! $ move ! (34 ∷ 35 ∷ []) $ free1 ! $ move ! (32 ∷ 33 ∷ []) $ free1 ! $ move ! (30 ∷ 31 ∷ []) $ free1 ! $ move ! (28 ∷ 29 ∷ []) $ free1 ! $ move ! (26 ∷ 27 ∷ []) $ free1 ! $ move ! (24 ∷ 25 ∷ []) $ free1 ! $ move ! (22 ∷ 23 ∷ []) $ free1 ! $ move ! (20 ∷ 21 ∷ []) $ free1 ! $ move ! (18 ∷ 19 ∷ []) $ free1 ! $ move ! (16 ∷ 17 ∷ []) $ free1 ! $ move ! (14 ∷ 15 ∷ []) $ free1 ! $ move ! (12 ∷ 13 ∷ []) $ free1 ! $ move ! (10 ∷ 11 ∷ []) $ free1 ! $ move ! (8 ∷ 9 ∷ []) $ free1 ! $ free0 ! $
+        returns ! (look ! 36 refl) $ forget ! 8 refl $ forget ! 10 refl $ forget ! 16 refl $ forget ! 18 refl $ forget ! 20 refl $ forget ! 22 refl $
+        forget ! 24 refl $ forget ! 26 refl $ forget ! 28 refl $ forget ! 30 refl $ forget ! 32 refl $ forget ! 34 refl $ forget ! 36 refl $
+        move ! (36 ∷ 37 ∷ []) $ free1 ! $ move ! (34 ∷ 35 ∷ []) $ free1 ! $ move ! (32 ∷ 33 ∷ []) $ free1 ! $ move ! (30 ∷ 31 ∷ []) $ free1 ! $
+        move ! (28 ∷ 29 ∷ []) $ free1 ! $ move ! (26 ∷ 27 ∷ []) $ free1 ! $ move ! (24 ∷ 25 ∷ []) $ free1 ! $ move ! (22 ∷ 23 ∷ []) $ free1 ! $
+        move ! (20 ∷ 21 ∷ []) $ free1 ! $ move ! (18 ∷ 19 ∷ []) $ free1 ! $ move ! (16 ∷ 17 ∷ []) $ free1 ! $ move ! (14 ∷ 15 ∷ []) $ free1 ! $
+        move ! (12 ∷ 13 ∷ []) $ free1 ! $ move ! (10 ∷ 11 ∷ []) $ free1 ! $ move ! (8 ∷ 9 ∷ []) $ free1 ! $ free0 ! $
         keep ! (0 ∷ 1 ∷ 2 ∷ 3 ∷ 4 ∷ 5 ∷ 6 ∷ 7 ∷ []) $ by ! (exits r4 is4 (unreadable-said words r1 e1 p i g₀ a₀ f₀ indices offsets cells no1 r4 e4))))))))))))))))))))
 
 module _ {M : Type 1} (𝓤 : URA M) (H : Heap 𝓤) (A : Atoms 𝓤) (W : Given 𝓤 H A) (mem : Memory → SProp 𝓤) (run-of : Routine → Fun 𝓤) where
-  words-fault-walks : (C : Calls 𝓤 H) (Λ : Loops 𝓤 H) → FmC 𝓤 H (W .laws) C → Triple 𝓤 (C #record-words·run-fine) (Contract-run-fine 𝓤 H A mem run-of) → Triple 𝓤 (C #record-words·run-of) (Contract-run-of 𝓤 H A mem run-of) → Triple 𝓤 (C #run-entry·fault-at) (Contract-fault-at 𝓤 H A mem run-of) → Triple 𝓤 (C #fault-words·unread-fault) (Contract-unread-fault 𝓤 H A mem run-of) → Walks 𝓤 H A f.ended stayed (WpFn 𝓤 H C Λ code.function) (f.clauses 𝓤 H A mem run-of)
+  words-fault-walks : (C : Calls 𝓤 H) (Λ : Loops 𝓤 H) → FmC 𝓤 H (W .laws) C → Triple 𝓤 (C #record-words·run-fine) (Contract-run-fine 𝓤 H A mem run-of) →
+      Triple 𝓤 (C #record-words·run-of) (Contract-run-of 𝓤 H A mem run-of) → Triple 𝓤 (C #run-entry·fault-at) (Contract-fault-at 𝓤 H A mem run-of) →
+      Triple 𝓤 (C #fault-words·unread-fault) (Contract-unread-fault 𝓤 H A mem run-of) →
+      Walks 𝓤 H A f.ended stayed (WpFn 𝓤 H C Λ code.function) (f.clauses 𝓤 H A mem run-of)
   words-fault-walks C Λ fm known-run-fine known-run-of known-fault-at known-unread-fault = walked 𝓤 H A f.ended stayed (f.clauses 𝓤 H A mem run-of) (WpFn 𝓤 H C Λ code.function)
-      (λ κs. (slice-vals, (uint-vals w64, (uint-vals w64, (uint-vals w64, (uint-vals w64, (uint-vals w64, (slice-vals, (slice-vals, (slice-vals, tt))))))))))
-      (λ κs. (shr-slice-tells (named 0) (κs .0) u64, (uint-tells w64, (uint-tells w64, (uint-tells w64, (uint-tells w64, (uint-tells w64, (shr-slice-tells (named 1) (κs .1 .0) u32, (shr-slice-tells (named 2) (κs .1 .1 .0) u32, (shr-slice-tells (named 3) (κs .1 .1 .1 .0) Cell′.the-row, tt))))))))))
+      (λ κs. (slice-vals ∥ uint-vals w64 ∥ uint-vals w64 ∥ uint-vals w64 ∥ uint-vals w64 ∥ uint-vals w64 ∥ slice-vals ∥ slice-vals ∥ slice-vals ∥ tt))
+      (λ κs. (shr-slice-tells (named 0) (κs .0) u64 ∥ uint-tells w64 ∥ uint-tells w64 ∥ uint-tells w64 ∥ uint-tells w64 ∥ uint-tells w64 ∥
+      shr-slice-tells (named 1) (κs .1 .0) u32 ∥ shr-slice-tells (named 2) (κs .1 .1 .0) u32 ∥ shr-slice-tells (named 3) (κs .1 .1 .1 .0) Cell′.the-row ∥
+      tt))
       (λ κs qs bounds a _ are. via 𝓤 _ (fst∗ 𝓤 _ (emp 𝓤))
       (walk 𝓤 H A W mem run-of
       (record { life = κs .0; share = qs .0; block = a .0 .ptr .0; off = a .0 .ptr .1; tag = a .0 .name; count = length (a .0 .now) }) (a .0 .now)
@@ -159,20 +223,48 @@ module _ {M : Type 1} (𝓤 : URA M) (H : Heap 𝓤) (A : Atoms 𝓤) (W : Given
       (a .1 .1 .1 .0) (are .1 .1 .1 .0 .1)
       (a .1 .1 .1 .1 .0) (are .1 .1 .1 .1 .0 .1)
       (a .1 .1 .1 .1 .1 .0) (are .1 .1 .1 .1 .1 .0 .1)
-      (record { life = κs .1 .0; share = qs .1 .0; block = a .1 .1 .1 .1 .1 .1 .0 .ptr .0; off = a .1 .1 .1 .1 .1 .1 .0 .ptr .1; tag = a .1 .1 .1 .1 .1 .1 .0 .name; count = length (a .1 .1 .1 .1 .1 .1 .0 .now) }) (a .1 .1 .1 .1 .1 .1 .0 .now)
+      (record {
+        life = κs .1 .0;
+        share = qs .1 .0;
+        block = a .1 .1 .1 .1 .1 .1 .0 .ptr .0;
+        off = a .1 .1 .1 .1 .1 .1 .0 .ptr .1;
+        tag = a .1 .1 .1 .1 .1 .1 .0 .name;
+        count = length (a .1 .1 .1 .1 .1 .1 .0 .now);
+      }) (a .1 .1 .1 .1 .1 .1 .0 .now)
       refl (are .1 .1 .1 .1 .1 .1 .0 .0 .1)
-      (record { life = κs .1 .1 .0; share = qs .1 .1 .0; block = a .1 .1 .1 .1 .1 .1 .1 .0 .ptr .0; off = a .1 .1 .1 .1 .1 .1 .1 .0 .ptr .1; tag = a .1 .1 .1 .1 .1 .1 .1 .0 .name; count = length (a .1 .1 .1 .1 .1 .1 .1 .0 .now) }) (a .1 .1 .1 .1 .1 .1 .1 .0 .now)
+      (record {
+        life = κs .1 .1 .0;
+        share = qs .1 .1 .0;
+        block = a .1 .1 .1 .1 .1 .1 .1 .0 .ptr .0;
+        off = a .1 .1 .1 .1 .1 .1 .1 .0 .ptr .1;
+        tag = a .1 .1 .1 .1 .1 .1 .1 .0 .name;
+        count = length (a .1 .1 .1 .1 .1 .1 .1 .0 .now);
+      }) (a .1 .1 .1 .1 .1 .1 .1 .0 .now)
       refl (are .1 .1 .1 .1 .1 .1 .1 .0 .0 .1)
-      (record { life = κs .1 .1 .1 .0; share = qs .1 .1 .1 .0; block = a .1 .1 .1 .1 .1 .1 .1 .1 .0 .ptr .0; off = a .1 .1 .1 .1 .1 .1 .1 .1 .0 .ptr .1; tag = a .1 .1 .1 .1 .1 .1 .1 .1 .0 .name; count = length (a .1 .1 .1 .1 .1 .1 .1 .1 .0 .now) }) (a .1 .1 .1 .1 .1 .1 .1 .1 .0 .now)
+      (record {
+        life = κs .1 .1 .1 .0;
+        share = qs .1 .1 .1 .0;
+        block = a .1 .1 .1 .1 .1 .1 .1 .1 .0 .ptr .0;
+        off = a .1 .1 .1 .1 .1 .1 .1 .1 .0 .ptr .1;
+        tag = a .1 .1 .1 .1 .1 .1 .1 .1 .0 .name;
+        count = length (a .1 .1 .1 .1 .1 .1 .1 .1 .0 .now);
+      }) (a .1 .1 .1 .1 .1 .1 .1 .1 .0 .now)
       refl (are .1 .1 .1 .1 .1 .1 .1 .1 .0 .0 .1)
       C Λ fm known-run-fine known-run-of known-fault-at known-unread-fault))
 
 words-fault-meets : {M : Type 1} (𝓤 : URA M) (H : Heap 𝓤) (A : Atoms 𝓤) → Given 𝓤 H A → (mem : Memory → SProp 𝓤) (run-of : Routine → Fun 𝓤) (𝓣 : Tables 𝓤 H)
-    → Triple 𝓤 (𝓣 .C #record-words·run-fine) (Contract-run-fine 𝓤 H A mem run-of) → Triple 𝓤 (𝓣 .C #record-words·run-of) (Contract-run-of 𝓤 H A mem run-of) → Triple 𝓤 (𝓣 .C #run-entry·fault-at) (Contract-fault-at 𝓤 H A mem run-of) → Triple 𝓤 (𝓣 .C #fault-words·unread-fault) (Contract-unread-fault 𝓤 H A mem run-of)
+    → Triple 𝓤 (𝓣 .C #record-words·run-fine) (Contract-run-fine 𝓤 H A mem run-of) → Triple 𝓤 (𝓣 .C #record-words·run-of) (Contract-run-of 𝓤 H A mem run-of) →
+    Triple 𝓤 (𝓣 .C #run-entry·fault-at) (Contract-fault-at 𝓤 H A mem run-of) →
+    Triple 𝓤 (𝓣 .C #fault-words·unread-fault) (Contract-unread-fault 𝓤 H A mem run-of)
     → Meets 𝓤 H A f.signature (WpFn 𝓤 H (𝓣 .C) (𝓣 .Λ) code.function) (f.spec 𝓤 H A mem run-of)
 words-fault-meets 𝓤 H A W mem run-of 𝓣 known-run-fine known-run-of known-fault-at known-unread-fault =
-    walk-meets 𝓤 H A f.ended stayed W (goes-none-slice 𝓤 H A W 4 (0 ∷ []) tt (plain (λ _. u64)) yes, (goes-none 𝓤 H A W 4 (λ _. usize) yes (λ κs x f. refl), (goes-none 𝓤 H A W 4 (λ _. usize) yes (λ κs x f. refl), (goes-none 𝓤 H A W 4 (λ _. usize) yes (λ κs x f. refl), (goes-none 𝓤 H A W 4 (λ _. usize) yes (λ κs x f. refl), (goes-none 𝓤 H A W 4 (λ _. usize) yes (λ κs x f. refl), (goes-none-slice 𝓤 H A W 4 (1 ∷ []) tt (plain (λ _. u32)) yes, (goes-none-slice 𝓤 H A W 4 (2 ∷ []) tt (plain (λ _. u32)) yes, (goes-none-slice 𝓤 H A W 4 (3 ∷ []) tt (plain (λ _. Cell′.the-row)) yes, tt))))))))) (f.clauses 𝓤 H A mem run-of)
-    (WpFn 𝓤 H (𝓣 .C) (𝓣 .Λ) code.function) (WpFn-mono 𝓤 H (W .laws) 𝓣 code.function) (words-fault-walks 𝓤 H A W mem run-of (𝓣 .C) (𝓣 .Λ) (fmOf 𝓤 H (W .laws) 𝓣) known-run-fine known-run-of known-fault-at known-unread-fault)
+    walk-meets 𝓤 H A f.ended stayed W (goes-none-slice 𝓤 H A W 4 (0 ∷ []) tt (plain (λ _. u64)) yes ∥ goes-none 𝓤 H A W 4 (λ _. usize) yes (λ κs x f. refl) ∥
+    goes-none 𝓤 H A W 4 (λ _. usize) yes (λ κs x f. refl) ∥ goes-none 𝓤 H A W 4 (λ _. usize) yes (λ κs x f. refl) ∥
+    goes-none 𝓤 H A W 4 (λ _. usize) yes (λ κs x f. refl) ∥ goes-none 𝓤 H A W 4 (λ _. usize) yes (λ κs x f. refl) ∥
+    goes-none-slice 𝓤 H A W 4 (1 ∷ []) tt (plain (λ _. u32)) yes ∥ goes-none-slice 𝓤 H A W 4 (2 ∷ []) tt (plain (λ _. u32)) yes ∥
+    goes-none-slice 𝓤 H A W 4 (3 ∷ []) tt (plain (λ _. Cell′.the-row)) yes ∥ tt) (f.clauses 𝓤 H A mem run-of)
+    (WpFn 𝓤 H (𝓣 .C) (𝓣 .Λ) code.function) (WpFn-mono 𝓤 H (W .laws) 𝓣 code.function)
+    (words-fault-walks 𝓤 H A W mem run-of (𝓣 .C) (𝓣 .Λ) (fmOf 𝓤 H (W .laws) 𝓣) known-run-fine known-run-of known-fault-at known-unread-fault)
 
 pub words-fault-spec : {M : Type 1} → stated.statement M
 unfolding code.routine tablesOf
@@ -183,4 +275,5 @@ words-fault-spec 𝓤 H 𝓜 𝓖 𝓡 =
     (cited 𝓤 H (Contract-run-fine 𝓤 H (𝓖 .A) (𝓜 .mem) (𝓡 .run)) 𝓜 𝓡 code.env #record-words·run-fine run-fine-def.routine code.calls-record-words·run-fine (run-fine-thm.met 𝓤 H 𝓜 𝓖 𝓡))
     (cited 𝓤 H (Contract-run-of 𝓤 H (𝓖 .A) (𝓜 .mem) (𝓡 .run)) 𝓜 𝓡 code.env #record-words·run-of run-of-def.routine code.calls-record-words·run-of (run-of-thm.met 𝓤 H 𝓜 𝓖 𝓡))
     (cited 𝓤 H (Contract-fault-at 𝓤 H (𝓖 .A) (𝓜 .mem) (𝓡 .run)) 𝓜 𝓡 code.env #run-entry·fault-at fault-at-def.routine code.calls-run-entry·fault-at (fault-at-thm.met 𝓤 H 𝓜 𝓖 𝓡))
-    (cited 𝓤 H (Contract-unread-fault 𝓤 H (𝓖 .A) (𝓜 .mem) (𝓡 .run)) 𝓜 𝓡 code.env #fault-words·unread-fault unread-fault-def.routine code.calls-fault-words·unread-fault (unread-fault-thm.met 𝓤 H 𝓜 𝓖 𝓡)))
+    (cited 𝓤 H (Contract-unread-fault 𝓤 H (𝓖 .A) (𝓜 .mem) (𝓡 .run)) 𝓜 𝓡 code.env #fault-words·unread-fault unread-fault-def.routine
+    code.calls-fault-words·unread-fault (unread-fault-thm.met 𝓤 H 𝓜 𝓖 𝓡)))

@@ -3,7 +3,7 @@
 use super::*;
 use crate::descent::{prepare, work, Rows};
 use crate::scatter::SplitMix64;
-use crate::tree::Node;
+use crate::tree::{Node, DEEPEST};
 
 const NODE: Node = Node::unused(7.5, 9);
 
@@ -37,7 +37,7 @@ fn random_run(settings: Settings, seed: u64) -> (Record, Areas) {
         indices: vec![9; 2 * n * n],
         offsets: vec![9; n + 4],
         forces: marks(n * (2 * c + 1)),
-        nodes: vec![NODE; 1 + 400 * n],
+        nodes: vec![NODE; 1 + 8 * DEEPEST * n],
     };
     let mut rows = Rows {
         values: marks(n),

@@ -4,7 +4,7 @@ use super::*;
 use crate::descent::{prepare, work, Answer, Rows};
 use crate::lists::park::{contents, damage, file, run, words_of, STANDINGS};
 use crate::scatter::SplitMix64;
-use crate::tree::Node;
+use crate::tree::{Node, DEEPEST};
 use crate::words::{from_bytes, to_bytes};
 
 /// Small runs of both methods, every c and every state.
@@ -276,7 +276,7 @@ fn begun(settings: Settings, seed: u64) -> (Record, Areas) {
         indices: vec![0; 2 * n * n],
         offsets: vec![0; n + 1],
         forces: vec![0.0; n * (2 * c + 1)],
-        nodes: vec![Node::unused(7.5, 9); 400 * n],
+        nodes: vec![Node::unused(7.5, 9); 8 * DEEPEST * n],
     };
     let mut rows = Rows {
         values: vec![0.0; n],

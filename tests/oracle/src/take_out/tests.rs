@@ -5,7 +5,7 @@ use crate::descent::{prepare, work, Answer, Rows, Standing};
 use crate::elementary::CALM;
 use crate::lists::park::shorten;
 use crate::scatter::SplitMix64;
-use crate::tree::Node;
+use crate::tree::{Node, DEEPEST};
 
 /// A run with what is lent besides.
 #[derive(Clone, Debug, PartialEq)]
@@ -356,7 +356,7 @@ fn begun(settings: Settings, seed: u64, iterations: usize) -> Lent {
         indices: vec![9; 2 * n * n],
         offsets: vec![9; n + 3],
         forces: vec![7.0; n * (2 * c + 1) + 2],
-        nodes: vec![Node::unused(7.5, 9); 400 * n],
+        nodes: vec![Node::unused(7.5, 9); 8 * DEEPEST * n],
     };
     let mut rows = Rows {
         values: vec![0.0; n],

@@ -1,11 +1,11 @@
--- `affinity::exact::conditional_probabilities` meets its contract: the loop keeps `Loops` and `Lays`; by `loop-start`, `loop-more`, `loop-done`, `row-in`, `lays-start`, `lays-more` and others.
+-- `affinity::exact::conditional_probabilities` meets its contract: the loop keeps `Loops` and `Lays`; by `loop-start`, `loop-next`, `loop-done`, `row-in`, `lays-start`, `lays-next` and others.
 use Rattle.affinity_distances.specs.Distances.{distanceRow}
-use Rattle.laws.proofs.Loops.{Loops, loop-start, loop-more, loop-done}
+use Rattle.laws.proofs.Loops.{Loops, loop-start, loop-next, loop-done}
 use mathlib.Core.Path.{_≡_, refl, _∙_}
 use lib.ListN.{length}
 use Prim.Native.Nat.{_-_}
 use Rattle.laws.proofs.Numbers.{row-in}
-use Rattle.laws.proofs.Laid.{Lays, lays-start, lays-more, lays-done}
+use Rattle.laws.proofs.Laid.{Lays, lays-start, lays-next, lays-done}
 use Rattle.affinity.specs.Steps.{conditionals}
 use borrow.Author.Needs.{needs}
 use Rattle.affinity.proofs.exact.conditional_probabilities.Statement.{statement}
@@ -14,7 +14,8 @@ use Rattle.affinity.proofs.exact.conditional_probabilities.Tie as tie
 -- `affinity::exact::conditional_probabilities` meets its contract: i rows of shares are laid, and the row holds the distances of the last. Assumes nothing.
 
 abbrev Inv-loop : tie.InvT-loop
-Inv-loop table n f perplexity squares affinities₀ row₀ i₀ affinities row i = (length row ≡ length row₀) × Loops (distanceRow table n f) n row₀ i row × Lays n (conditionals table n f perplexity) n affinities₀ i affinities
+Inv-loop table n f perplexity squares affinities₀ row₀ i₀ affinities row i = (length row ≡ length row₀) × Loops (distanceRow table n f) n row₀ i row ×
+    Lays n (conditionals table n f perplexity) n affinities₀ i affinities
 
 abbrev μ-loop : tie.MeasureT-loop
 μ-loop table n f perplexity squares affinities₀ row₀ i₀ affinities row i = n - i
@@ -53,8 +54,8 @@ loop-again c =
     let the-start = c .before .before .before .before .before .before .before .before .before .before .before .before .before in (
       the-conditional-row .kept .1 .1 .1 .1 .1 .1 .1 .0 ∙ the-loop .inv .0,
       rw (the-conditional-row .ensures .1)
-          (loop-more (the-loop .inv .1) (the-loop-test .taken)),
-      lays-more _ _ (the-loop .inv .2) (the-loop-test .taken) (the-start .pre .0 .3)
+          (loop-next (the-loop .inv .1) (the-loop-test .taken)),
+      lays-next _ _ (the-loop .inv .2) (the-loop-test .taken) (the-start .pre .0 .3)
           (the-conditional-row .kept .1 .1 .1 .1 .1 .1 .0) (the-conditional-row .ensures .0),
     )
 

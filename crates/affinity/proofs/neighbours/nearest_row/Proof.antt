@@ -12,7 +12,9 @@ distance-row-requires c κs =
 nearest-requires : tie.Need-nearest-requires
 nearest-requires c κs =
     let the-distance-row = c .before .before .before .before .before .distance-row in
-    let the-start = c .before .before .before .before .before .before .before .before .before .before .before .before in (
+    let the-start = c .before .before .before .before .before .before .before .before .before .before .before .before in
+    let the-distance-row = the-distance-row in
+    let the-start = the-start in (
       (
         the-start .pre .0 .1,
         rw (the-distance-row .kept .1 .1 .1 .1 .1 .0) (the-start .pre .1 .0 .1),
@@ -29,7 +31,9 @@ same-length : tie.Need-same-length
 same-length c = c .before .before .before .before .nearest .kept .1 .1 .1 .1 .0
 
 same-length-2 : tie.Need-same-length-2
-same-length-2 c = c .before .before .before .before .before .before .before .before .before .before .distance-row .kept .1 .1 .1 .1 .1 .0
+same-length-2 c =
+    let the-distance-row = c .before .before .before .before .before .before .before .before .before .before .distance-row in
+    the-distance-row .kept .1 .1 .1 .1 .1 .0
 
 same-length-3 : tie.Need-same-length-3
 same-length-3 c = c .before .before .before .before .nearest .kept .1 .1 .1 .1 .1 .0
@@ -38,7 +42,10 @@ returns : tie.Need-returns
 returns c =
     let the-nearest = c .before .before .before .before .nearest in
     let the-distance-row = c .before .before .before .before .before .before .before .before .before .before .distance-row in
-    let far-1 = c .before .before .before .before .before .before .before .before .before .before .before .before in
+    let the-start = c .before .before .before .before .before .before .before .before .before .before .before .before in
+    let the-nearest = the-nearest in
+    let the-distance-row = the-distance-row in
+    let far-1 = the-start in
     let the-start = far-1 .before .before .before .before .before in
     let a = the-start .args in
     nearest-done (a .table .now) (a .n) (a .f) (a .k) (a .i) (a .row-values .now) (a .weights .now) (a .row-indices .now) (the-start .pre .1 .0 .1)

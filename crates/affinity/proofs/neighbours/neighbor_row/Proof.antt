@@ -11,7 +11,8 @@ use Rattle.affinity.proofs.neighbours.neighbor_row.Tie as tie
 
 nearest-row-requires : tie.Need-nearest-row-requires
 nearest-row-requires c κs =
-    let the-start = c .before .before .before .before .before .before .before .before .before in (
+    let the-start = c .before .before .before .before .before .before .before .before .before in
+    let the-start = the-start in (
       (the-start .pre .0 .0, the-start .pre .0 .1, the-start .pre .0 .2, the-start .pre .0 .4, the-start .pre .0 .5),
       ((the-start .pre .1 .0 .0, the-start .pre .1 .0 .2, le-trans (le-of-lt (the-start .pre .0 .3)) (the-start .pre .1 .0 .3)), the-start .pre .1 .1),
     )
@@ -19,10 +20,13 @@ nearest-row-requires c κs =
 binary-search-sigma-requires : tie.Need-binary-search-sigma-requires
 binary-search-sigma-requires c κs =
     let the-nearest-row = c .before .before .before .before .before .before .before .before .nearest-row in
-    let far-1 = c .before .before .before .before .before .before .before .before .before .before .before .before in
+    let the-start = c .before .before .before .before .before .before .before .before .before .before .before .before in
+    let the-nearest-row = the-nearest-row in
+    let far-1 = the-start in
     let the-start = far-1 .before .before .before .before .before .before in (
       rw (the-nearest-row .kept .1 .1 .1 .1 .1 .1 .0) (the-start .pre .1 .0 .0),
-      rw (the-nearest-row .kept .1 .1 .1 .1 .1 .1 .1 .0) (le-trans (le-of-lt (the-start .pre .0 .3)) (the-start .pre .1 .0 .2)),
+      rw (the-nearest-row .kept .1 .1 .1 .1 .1 .1 .1 .0)
+          (le-trans (le-of-lt (the-start .pre .0 .3)) (the-start .pre .1 .0 .2)),
       le-trans (le-of-lt (the-start .pre .0 .3)) (the-start .pre .0 .1),
     )
 
@@ -46,13 +50,17 @@ by-index-requires : tie.Need-by-index-requires
 by-index-requires c κs =
     let the-divide = c .before .before .before .before .before .before .divide in
     let the-binary-search-sigma = c .before .before .before .before .before .before .before .before .before .before .before .binary-search-sigma in
-    let far-1 = c .before .before .before .before .before .before .before .before .before .before .before .before in
+    let the-start = c .before .before .before .before .before .before .before .before .before .before .before .before in
+    let the-divide = the-divide in
+    let the-binary-search-sigma = the-binary-search-sigma in
+    let far-1 = the-start in
     let the-nearest-row = far-1 .before .before .before .before .before .before .before .before .nearest-row in
     let far-2 = far-1 .before .before .before .before .before .before .before .before .before .before .before .before in
     let the-start = far-2 .before .before .before .before .before .before in (
       rw ((the-divide .kept .0), (the-binary-search-sigma .kept .1 .1 .1 .0), (the-nearest-row .kept .1 .1 .1 .1 .1 .1 .1 .0))
           (le-trans (le-of-lt (the-start .pre .0 .3)) (the-start .pre .1 .0 .2)),
-      rw (the-nearest-row .kept .1 .1 .1 .1 .1 .1 .1 .1 .0) (le-trans (le-of-lt (the-start .pre .0 .3)) (the-start .pre .1 .0 .3)),
+      rw (the-nearest-row .kept .1 .1 .1 .1 .1 .1 .1 .1 .0)
+          (le-trans (le-of-lt (the-start .pre .0 .3)) (the-start .pre .1 .0 .3)),
       rw (the-nearest-row .kept .1 .1 .1 .1 .1 .1 .0) (the-start .pre .1 .0 .0),
       the-start .pre .1 .0 .1,
     )
@@ -71,7 +79,9 @@ same-length-2 c = (c .before .before .before .before .by-index .kept .1 .1 .1 .1
 same-length-3 : tie.Need-same-length-3
 same-length-3 c =
     let the-divide = c .before .before .before .before .before .before .before .before .before .before .before .divide in
-    let far-1 = c .before .before .before .before .before .before .before .before .before .before .before .before in
+    let the-start = c .before .before .before .before .before .before .before .before .before .before .before .before in
+    let the-divide = the-divide in
+    let far-1 = the-start in
     let the-binary-search-sigma = far-1 .before .before .before .before .binary-search-sigma in
     let far-2 = far-1 .before .before .before .before .before .before .before .before .before .before .before .before in
     let the-nearest-row = far-2 .before .nearest-row in
@@ -87,7 +97,10 @@ returns : tie.Need-returns
 returns c =
     let the-by-index = c .before .before .before .before .by-index in
     let the-divide = c .before .before .before .before .before .before .before .before .before .before .before .divide in
-    let far-1 = c .before .before .before .before .before .before .before .before .before .before .before .before in
+    let the-start = c .before .before .before .before .before .before .before .before .before .before .before .before in
+    let the-by-index = the-by-index in
+    let the-divide = the-divide in
+    let far-1 = the-start in
     let the-binary-search-sigma = far-1 .before .before .before .before .binary-search-sigma in
     let far-2 = far-1 .before .before .before .before .before .before .before .before .before .before .before .before in
     let the-nearest-row = far-2 .before .nearest-row in

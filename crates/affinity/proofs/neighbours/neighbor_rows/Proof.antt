@@ -1,6 +1,6 @@
--- `affinity::neighbours::neighbor_rows` meets its contract: the loop keeps `Lays` and `Loops`; by `loop-start`, `loop-more`, `loop-done`, `lays-row`, `row-in`, `lays-start` and others.
+-- `affinity::neighbours::neighbor_rows` meets its contract: the loop keeps `Lays` and `Loops`; by `loop-start`, `loop-next`, `loop-done`, `lays-row`, `row-in`, `lays-start` and others.
 use Rattle.affinity.specs.Steps.{sharesLeft, framesLeft}
-use Rattle.laws.proofs.Loops.{Loops, loop-start, loop-more, loop-done}
+use Rattle.laws.proofs.Loops.{Loops, loop-start, loop-next, loop-done}
 use mathlib.Core.Path.{_≡_, refl, _∙_}
 use lib.ListN.{length}
 use Prim.Native.Nat.{_-_, _+_, _*_}
@@ -17,7 +17,10 @@ use Rattle.affinity.proofs.neighbours.neighbor_rows.Tie as tie
 -- `affinity::neighbours::neighbor_rows` meets its contract: i rows are laid in both areas, and the preparation rows hold what the last of them left. Assumes nothing.
 
 abbrev Inv-loop : tie.InvT-loop
-Inv-loop table n f k perplexity squares weights₀ indices₀ row-values₀ row-indices₀ i₀ weights indices row-values row-indices i = Lays k (λ j. valuesIn (neighbourRow table n f k perplexity j)) n weights₀ i weights × Lays k (λ j. framesIn (neighbourRow table n f k perplexity j)) n indices₀ i indices × (length row-values ≡ length row-values₀) × Loops (sharesLeft table n f k perplexity) n row-values₀ i row-values × (length row-indices ≡ length row-indices₀) × Loops (framesLeft table n f k) n row-indices₀ i row-indices
+Inv-loop table n f k perplexity squares weights₀ indices₀ row-values₀ row-indices₀ i₀ weights indices row-values row-indices i = Lays k (λ j. valuesIn
+    (neighbourRow table n f k perplexity j)) n weights₀ i weights × Lays k (λ j. framesIn (neighbourRow table n f k perplexity j)) n indices₀ i indices ×
+    (length row-values ≡ length row-values₀) × Loops (sharesLeft table n f k perplexity) n row-values₀ i row-values ×
+    (length row-indices ≡ length row-indices₀) × Loops (framesLeft table n f k) n row-indices₀ i row-indices
 
 abbrev μ-loop : tie.MeasureT-loop
 μ-loop table n f k perplexity squares weights₀ indices₀ row-values₀ row-indices₀ i₀ weights indices row-values row-indices i = n - i
@@ -117,10 +120,10 @@ loop-again c =
           (the-start .pre .1 .0 .1) (the-neighbor-row .kept .1 .1 .1 .1 .1 .1 .1 .1 .0) (the-neighbor-row .ensures .1 .0) (the-loop .inv .1),
       the-neighbor-row .kept .1 .1 .1 .1 .1 .1 .1 .1 .1 .0 ∙ the-loop .inv .2,
       rw (the-neighbor-row .ensures .1 .1 .0)
-          (loop-more (the-loop .inv .3) (the-loop-test .taken)),
+          (loop-next (the-loop .inv .3) (the-loop-test .taken)),
       the-neighbor-row .kept .1 .1 .1 .1 .1 .1 .1 .1 .1 .1 .0 ∙ the-loop .inv .4,
       rw
-          (the-neighbor-row .ensures .1 .1 .1) (loop-more (the-loop .inv .5) (the-loop-test .taken)),
+          (the-neighbor-row .ensures .1 .1 .1) (loop-next (the-loop .inv .5) (the-loop-test .taken)),
     )
 
 same-length : tie.Need-same-length Inv-loop μ-loop

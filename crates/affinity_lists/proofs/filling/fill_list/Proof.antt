@@ -2,7 +2,7 @@
 use mathlib.Core.Path.{refl, _∙_}
 use Prim.Native.Nat.{_-_, _<_, _≤_}
 use borrow.Author.Tests.{not-true, not-false}
-use Rattle.affinity_lists.proofs.Listing.{Writing, writing-start, writing-mark, writing-sought, writing-pass, writing-room, writing-more, writing-below, writing-held, writing-done}
+use Rattle.affinity_lists.proofs.Listing.{Writing, writing-start, writing-mark, writing-sought, writing-pass, writing-room, writing-next, writing-below, writing-held, writing-done}
 use lib.ListN.{length, length-set}
 use borrow.Author.Needs.{needs}
 use native.Mathlib.Omega.{arith}
@@ -74,7 +74,14 @@ loop-again-2 c =
     (the-link-of .ensures .1 .1 .0) (not-true _ (c .if2 .taken))
 
 -- where a link is found there is room for it
-room : (c : lts.Else2 (link-of-reads.Asked, link-of-reads.Learnt, held-reads.Asked, held-reads.Learnt) reads.Pre reads.Post Inv-loop μ-loop) → (0 < c .before .before .before .before .before .before .before .before .loop .q) × (c .before .before .before .before .before .before .before .before .loop .q ≤ length (c .before .before .before .before .before .before .before .before .loop .indices)) × (c .before .before .before .before .before .before .before .before .loop .q ≤ length (c .before .before .before .before .before .before .before .before .loop .weights)) × (c .before .before .before .before .before .before .before .before .loop .j - 1 < length (c .before .before .before .before .before .before .before .before .loop .row-indices))
+room : (c : lts.Else2 (link-of-reads.Asked, link-of-reads.Learnt, held-reads.Asked, held-reads.Learnt) reads.Pre reads.Post Inv-loop μ-loop) →
+    (0 < c .before .before .before .before .before .before .before .before .loop .q) ×
+    (c .before .before .before .before .before .before .before .before .loop .q ≤ length
+    (c .before .before .before .before .before .before .before .before .loop .indices)) ×
+    (c .before .before .before .before .before .before .before .before .loop .q ≤ length
+    (c .before .before .before .before .before .before .before .before .loop .weights)) ×
+    (c .before .before .before .before .before .before .before .before .loop .j - 1 < length
+    (c .before .before .before .before .before .before .before .before .loop .row-indices))
 room c =
     let the-link-of = c .before .before .link-of in
     let the-if1 = c .before .before .before .before .before .before .if1 in
@@ -119,7 +126,7 @@ loop-again-3 c =
     let the-if1 = c .before .before .before .before .before .before .if1 in
     let the-loop = c .before .before .before .before .before .before .before .before .loop in
     let the-start = c .before .before .before .before .before .before .before .before .before .before .before .before .before .before in
-    writing-more (the-start .pre) (the-loop .j - 1) (the-loop .j) (omega arith) (the-loop .inv) (the-if1 .left) _ (the-link-of .ensures .0) _
+    writing-next (the-start .pre) (the-loop .j - 1) (the-loop .j) (omega arith) (the-loop .inv) (the-if1 .left) _ (the-link-of .ensures .0) _
     (the-link-of .ensures .1 .1 .0) (not-false _ (c .if2 .left)) _ _ _ refl (the-link-of .ensures .1 .0) (the-link-of .ensures .1 .1 .1)
 
 sub-held : tie.Need-sub-held Inv-loop μ-loop

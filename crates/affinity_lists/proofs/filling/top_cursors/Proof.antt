@@ -2,7 +2,7 @@
 use native.Mathlib.Nat.{le-refl}
 use Prim.Native.Nat.{_-_, _*_}
 use Rattle.laws.proofs.Numbers.{row-in}
-use Rattle.affinity_lists.proofs.Topping.{Topping, topping-start, topping-more, topping-done}
+use Rattle.affinity_lists.proofs.Topping.{Topping, topping-start, topping-next, topping-done}
 use borrow.Author.Needs.{needs}
 use native.Mathlib.Omega.{arith}
 use Rattle.affinity_lists.proofs.filling.top_cursors.Statement.{statement}
@@ -60,7 +60,7 @@ loop-again : tie.Need-loop-again Inv-loop μ-loop
 loop-again c =
     let the-loop = c .before .before .loop in
     let the-start = c .before .before .before .before .before in
-    topping-more _ (the-start .pre .3) (c .before .loop-test .taken) (c .held .ensures) (the-loop .inv)
+    topping-next _ (the-start .pre .3) (c .before .loop-test .taken) (c .held .ensures) (the-loop .inv)
 
 same-length : tie.Need-same-length Inv-loop μ-loop
 same-length c = c .before .loop .inv .size

@@ -1,5 +1,5 @@
 -- `lists::rows::misses` meets its contract: t terms, each at most 1, are added. Assumes nothing.
-use Rattle.laws.proofs.Sums.{adds-room, Adds, adds-start, adds-more, adds-done}
+use Rattle.laws.proofs.Sums.{adds-room, Adds, adds-start, adds-next, adds-done}
 use Rattle.affinity_lists.proofs.Linked.{miss-le}
 use Rattle.affinity_lists.specs.Steps.{missOf}
 use Prim.Native.Nat.{_-_}
@@ -36,7 +36,7 @@ loop-less c = search needs
 loop-again : tie.Need-loop-again Inv-loop μ-loop
 loop-again c =
     let the-loop = c .before .before .loop in
-    adds-more (c .miss .ensures) (miss-le _ _ _ _) (c .before .loop-test .taken) (the-loop .inv)
+    adds-next (c .miss .ensures) (miss-le _ _ _ _) (c .before .loop-test .taken) (the-loop .inv)
 
 returns : tie.Need-returns Inv-loop μ-loop
 returns c = adds-done (c .loop-test .left) (c .before .loop .inv) .0

@@ -1,5 +1,5 @@
 -- `lists::rows::total` meets its contract: the misses of j rows, each at most k, are added; with n·k they are the links. Assumes nothing.
-use Rattle.laws.proofs.Sums.{adds-room, Adds, adds-start, adds-more, adds-done}
+use Rattle.laws.proofs.Sums.{adds-room, Adds, adds-start, adds-next, adds-done}
 use Rattle.affinity_lists.proofs.Linked.{misses-le, links-count}
 use Rattle.affinity_lists.specs.Steps.{missesOf}
 use Prim.Native.Nat.{_-_}
@@ -37,7 +37,7 @@ loop-less c = search needs
 loop-again : tie.Need-loop-again Inv-loop μ-loop
 loop-again c =
     let the-loop = c .before .before .loop in
-    adds-more (c .misses .ensures) (misses-le _ _ _) (c .before .loop-test .taken) (the-loop .inv)
+    adds-next (c .misses .ensures) (misses-le _ _ _) (c .before .loop-test .taken) (the-loop .inv)
 
 mul-result : tie.Need-mul-result Inv-loop μ-loop
 mul-result c = omega (arith, c .before .before .before .pre .1)

@@ -1,7 +1,7 @@
 -- `sigma::entropies::add_singly` meets its contract: t terms are added, from j on. Assumes nothing.
 use mathlib.Core.Path.{refl, _∙_}
 use Prim.Native.Nat.{_+_, _-_}
-use Rattle.laws.proofs.Loops.{Loops, loop-start, loop-more, loop-done}
+use Rattle.laws.proofs.Loops.{Loops, loop-start, loop-next, loop-done}
 use Rattle.affinity_sigma.specs.Sigma.{entropyStep}
 use Rattle.laws.proofs.Loops.{loop-moved}
 use borrow.Author.Needs.{needs}
@@ -37,7 +37,7 @@ loop-less : tie.Need-loop-less Inv-loop μ-loop
 loop-less c = search needs
 
 loop-again : tie.Need-loop-again Inv-loop μ-loop
-loop-again c = rw (c .term .ensures) (loop-more (c .before .before .before .loop .inv) (omega arith))
+loop-again c = rw (c .term .ensures) (loop-next (c .before .before .before .loop .inv) (omega arith))
 
 returns : tie.Need-returns Inv-loop μ-loop
 returns c = loop-done (c .before .loop .inv) (omega arith) ∙ loop-moved _ _ _ _ _ (λ t y h. refl)

@@ -1,6 +1,6 @@
 -- `sigma::entropies::add_terms` meets its contract: t terms are added. Assumes nothing.
 use Prim.Native.Nat.{_-_}
-use Rattle.laws.proofs.Loops.{Loops, loop-start, loop-more, loop-done}
+use Rattle.laws.proofs.Loops.{Loops, loop-start, loop-next, loop-done}
 use Rattle.affinity_sigma.specs.Blocks.{termStep}
 use borrow.Author.Needs.{needs}
 use native.Mathlib.Omega.{arith}
@@ -41,10 +41,11 @@ loop-less : tie.Need-loop-less Inv-loop μ-loop
 loop-less c = search needs
 
 loop-again : tie.Need-loop-again Inv-loop μ-loop
-loop-again c = rw (c .term-by .ensures) (loop-more (c .before .before .before .before .loop .inv) (omega arith))
+loop-again c = rw (c .term-by .ensures) (loop-next (c .before .before .before .before .loop .inv) (omega arith))
 
 returns : tie.Need-returns Inv-loop μ-loop
 returns c = loop-done (c .before .loop .inv) (omega arith)
 
 pub add-terms-spec : {M : Type 1} → statement M
-add-terms-spec = tie.close (tie.spec Inv-loop μ-loop loop-holds add-term-by mul-term-by shared-slice-read-term-by mul-term-by-2 element-copy-out-term-by term-by-requires add-t loop-less loop-again returns)
+add-terms-spec = tie.close (tie.spec Inv-loop μ-loop loop-holds add-term-by mul-term-by shared-slice-read-term-by mul-term-by-2 element-copy-out-term-by
+    term-by-requires add-t loop-less loop-again returns)

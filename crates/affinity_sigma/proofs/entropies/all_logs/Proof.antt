@@ -1,6 +1,6 @@
 -- `sigma::entropies::all_logs` meets its contract: t logarithms are written. Assumes nothing.
 use Prim.Native.Nat.{_-_}
-use Rattle.laws.proofs.Loops.{Loops, loop-start, loop-more, loop-done}
+use Rattle.laws.proofs.Loops.{Loops, loop-start, loop-next, loop-done}
 use Rattle.affinity_sigma.specs.Blocks.{logStep}
 use borrow.Author.Needs.{needs}
 use native.Mathlib.Omega.{arith}
@@ -44,10 +44,11 @@ loop-less : tie.Need-loop-less Inv-loop μ-loop
 loop-less c = search needs
 
 loop-again : tie.Need-loop-again Inv-loop μ-loop
-loop-again c = rw (c .log-by .ensures) (loop-more (c .before .before .before .before .loop .inv) (omega arith))
+loop-again c = rw (c .log-by .ensures) (loop-next (c .before .before .before .before .loop .inv) (omega arith))
 
 returns : tie.Need-returns Inv-loop μ-loop
 returns c = loop-done (c .before .loop .inv) (omega arith)
 
 pub all-logs-spec : {M : Type 1} → statement M
-all-logs-spec = tie.close (tie.spec Inv-loop μ-loop loop-holds mul-log-by element-copy-out-log-by mul-log-by-2 element-copy-out-log-by-2 log-by-requires mul-ls element-write-ls add-t loop-less loop-again returns)
+all-logs-spec = tie.close (tie.spec Inv-loop μ-loop loop-holds mul-log-by element-copy-out-log-by mul-log-by-2 element-copy-out-log-by-2 log-by-requires mul-ls
+    element-write-ls add-t loop-less loop-again returns)

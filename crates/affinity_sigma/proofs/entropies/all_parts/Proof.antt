@@ -1,7 +1,7 @@
 -- `sigma::entropies::all_parts` meets its contract: t shares are taken apart. Assumes nothing.
 use Prim.Native.Nat.{_-_}
 use Rattle.laws.proofs.Every.{every-at}
-use Rattle.laws.proofs.Loops.{Loops, loop-start, loop-more, loop-done}
+use Rattle.laws.proofs.Loops.{Loops, loop-start, loop-next, loop-done}
 use Rattle.affinity_sigma.specs.Blocks.{digitStep, powerStep}
 use borrow.Author.Needs.{needs}
 use native.Mathlib.Omega.{arith}
@@ -54,10 +54,17 @@ loop-less : tie.Need-loop-less Inv-loop μ-loop
 loop-less c = search needs
 
 loop-again : tie.Need-loop-again Inv-loop μ-loop
-loop-again c = (rw (c .before .digits-of .ensures, c .before .before .held .ensures .0) (loop-more (c .before .before .before .before .before .loop .inv .0) (omega arith)), rw (c .power-of .ensures, c .before .before .held .ensures .0) (loop-more (c .before .before .before .before .before .loop .inv .1) (omega arith)))
+loop-again c =
+    let the-held = c .before .before .held in
+    let the-loop = c .before .before .before .before .before .loop in (
+      rw (c .before .digits-of .ensures, the-held .ensures .0) (loop-next (the-loop .inv .0) (omega arith)),
+      rw (c .power-of .ensures, the-held .ensures .0)
+          (loop-next (the-loop .inv .1) (omega arith)),
+    )
 
 returns : tie.Need-returns Inv-loop μ-loop
 returns c = (loop-done (c .before .loop .inv .0) (omega arith), loop-done (c .before .loop .inv .1) (omega arith))
 
 pub all-parts-spec : {M : Type 1} → statement M
-all-parts-spec = tie.close (tie.spec Inv-loop μ-loop loop-holds add-held mul-held shared-slice-read-held held-requires digits-of-requires mul-ms element-write-ms power-of-requires mul-ks element-write-ks add-t loop-less loop-again returns)
+all-parts-spec = tie.close (tie.spec Inv-loop μ-loop loop-holds add-held mul-held shared-slice-read-held held-requires digits-of-requires mul-ms
+    element-write-ms power-of-requires mul-ks element-write-ks add-t loop-less loop-again returns)

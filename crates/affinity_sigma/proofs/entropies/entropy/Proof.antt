@@ -36,7 +36,9 @@ sub-add-block : tie.Need-sub-add-block Inv-loop μ-loop
 sub-add-block c = search needs
 
 add-block-requires-2 : tie.Need-add-block-requires-2 Inv-loop μ-loop
-add-block-requires-2 c κs = (omega (arith, c .before .before .before .pre, c .before .loop .inv .within), omega (arith, c .loop-test .left))
+add-block-requires-2 c κs =
+    let the-start = c .before .before .before in
+    (omega (arith, the-start .pre, c .before .loop .inv .within), omega (arith, c .loop-test .left))
 
 returns : tie.Need-returns Inv-loop μ-loop
 returns c = c .add-block2 .ensures ∙ c .before .before .loop .inv .same

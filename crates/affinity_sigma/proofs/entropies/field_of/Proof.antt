@@ -13,7 +13,8 @@ float-to-bits-result : tie.Need-float-to-bits-result
 float-to-bits-result c = rw (not-nan _ (at-most-number (c .args .v) one64 (c .pre .1))) tt
 
 cast-result : tie.Need-cast-result
-cast-result c = record { fits = omega (arith, field-most (c .args .v) (passes _ (c .good .0 .1)) (c .pre .0) (c .pre .1)) }
+cast-result c =
+    record { fits = omega (arith, field-most (c .args .v) (passes _ (c .good .0 .1)) (c .pre .0) (c .pre .1)) }
 
 returns : tie.Need-returns
 returns c = (refl, field-most (c .args .v) (passes _ (c .good .0 .1)) (c .pre .0) (c .pre .1))

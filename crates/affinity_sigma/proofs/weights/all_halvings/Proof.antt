@@ -1,7 +1,7 @@
 -- `sigma::weights::all_halvings` meets its contract: t exponents are done. Assumes nothing.
 use Prim.Native.Nat.{_-_}
 use Rattle.laws.proofs.Every.{every-at}
-use Rattle.laws.proofs.Loops.{Loops, loop-start, loop-more, loop-done}
+use Rattle.laws.proofs.Loops.{Loops, loop-start, loop-next, loop-done}
 use Rattle.affinity_sigma.specs.Blocks.{halvingStep}
 use borrow.Author.Needs.{needs}
 use native.Mathlib.Omega.{arith}
@@ -39,7 +39,7 @@ loop-less : tie.Need-loop-less Inv-loop μ-loop
 loop-less c = search needs
 
 loop-again : tie.Need-loop-again Inv-loop μ-loop
-loop-again c = rw (c .halvings .ensures) (loop-more (c .before .before .before .loop .inv) (omega arith))
+loop-again c = rw (c .halvings .ensures) (loop-next (c .before .before .before .loop .inv) (omega arith))
 
 returns : tie.Need-returns Inv-loop μ-loop
 returns c = loop-done (c .before .loop .inv) (omega arith)

@@ -1,6 +1,6 @@
 -- `sigma::weights::all_series` meets its contract: t series are written. Assumes nothing.
 use Prim.Native.Nat.{_-_}
-use Rattle.laws.proofs.Loops.{Loops, loop-start, loop-more, loop-done}
+use Rattle.laws.proofs.Loops.{Loops, loop-start, loop-next, loop-done}
 use Rattle.affinity_sigma.specs.Blocks.{seriesStep}
 use borrow.Author.Needs.{needs}
 use native.Mathlib.Omega.{arith}
@@ -47,10 +47,13 @@ loop-less : tie.Need-loop-less Inv-loop μ-loop
 loop-less c = search needs
 
 loop-again : tie.Need-loop-again Inv-loop μ-loop
-loop-again c = rw (c .series-at .ensures, c .before .rest .ensures) (loop-more (c .before .before .before .before .before .loop .inv) (omega arith))
+loop-again c =
+    let the-loop = c .before .before .before .before .before .loop in
+    rw (c .series-at .ensures, c .before .rest .ensures) (loop-next (the-loop .inv) (omega arith))
 
 returns : tie.Need-returns Inv-loop μ-loop
 returns c = loop-done (c .before .loop .inv) (omega arith)
 
 pub all-series-spec : {M : Type 1} → statement M
-all-series-spec = tie.close (tie.spec Inv-loop μ-loop loop-holds mul-rest element-copy-out-rest mul-rest-2 element-copy-out-rest-2 rest-requires series-at-requires mul-ts element-write-ts add-t loop-less loop-again returns)
+all-series-spec = tie.close (tie.spec Inv-loop μ-loop loop-holds mul-rest element-copy-out-rest mul-rest-2 element-copy-out-rest-2 rest-requires
+    series-at-requires mul-ts element-write-ts add-t loop-less loop-again returns)

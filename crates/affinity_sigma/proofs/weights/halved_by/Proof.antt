@@ -19,10 +19,13 @@ sub-result c = search needs
 
 float-from-bits-result : tie.Need-float-from-bits-result
 unfolding power isNan
-float-from-bits-result c = rw (mod-eq-of-lt {n = (1023 - c .before .args .u) * 2 ^ 52} {m = 2 ^ 64} (omega arith), nanBits-is, halved-power (c .before .args .u) (c .before .pre)) tt
+float-from-bits-result c =
+    rw (mod-eq-of-lt {n = (1023 - c .before .args .u) * 2 ^ 52} {m = 2 ^ 64} (omega arith), nanBits-is, halved-power (c .before .args .u) (c .before .pre)) tt
 
 returns-2 : tie.Need-returns-2
-returns-2 c = rw (c .if1 .left, mod-eq-of-lt {n = (1023 - c .before .args .u) * 2 ^ 52} {m = 2 ^ 64} (omega arith), halved-power (c .before .args .u) (c .before .pre)) refl
+returns-2 c =
+    rw (c .if1 .left, mod-eq-of-lt {n = (1023 - c .before .args .u) * 2 ^ 52} {m = 2 ^ 64} (omega arith), halved-power (c .before .args .u) (c .before .pre))
+    refl
 
 pub halved-by-spec : {M : Type 1} → statement M
 halved-by-spec = tie.close (tie.spec returns sub-result float-from-bits-result returns-2)

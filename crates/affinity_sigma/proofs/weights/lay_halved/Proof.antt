@@ -2,7 +2,7 @@
 use mathlib.Core.Path.{_≡_}
 use Prim.Native.Nat.{_-_}
 use lib.ListN.{length}
-use Rattle.laws.proofs.Loops.{Loops, loop-start, loop-more, loop-done}
+use Rattle.laws.proofs.Loops.{Loops, loop-start, loop-next, loop-done}
 use Rattle.affinity_sigma.specs.Blocks.{halvedStep}
 use borrow.Author.Needs.{needs}
 use native.Mathlib.Omega.{arith}
@@ -58,7 +58,9 @@ loop-less : tie.Need-loop-less Inv-loop μ-loop
 loop-less c = search needs
 
 loop-again : tie.Need-loop-again Inv-loop μ-loop
-loop-again c = (search needs, rw (c .halved-by .ensures) (loop-more (c .before .before .before .before .before .loop .inv .1) (omega arith)))
+loop-again c =
+    let the-loop = c .before .before .before .before .before .loop in
+    (search needs, rw (c .halved-by .ensures) (loop-next (the-loop .inv .1) (omega arith)))
 
 same-length : tie.Need-same-length Inv-loop μ-loop
 same-length c = search needs
@@ -67,4 +69,6 @@ returns : tie.Need-returns Inv-loop μ-loop
 returns c = loop-done (c .before .loop .inv .1) (omega arith)
 
 pub lay-halved-spec : {M : Type 1} → statement M
-lay-halved-spec = tie.close (tie.spec Inv-loop μ-loop loop-holds add-halved-by mul-halved-by shared-slice-read-halved-by mul-halved-by-2 element-copy-out-halved-by mul-halved-by-3 element-copy-out-halved-by-2 halved-by-requires add-shares mul-shares slice-write-shares add-t loop-less loop-again same-length returns)
+lay-halved-spec = tie.close (tie.spec Inv-loop μ-loop loop-holds add-halved-by mul-halved-by shared-slice-read-halved-by mul-halved-by-2
+    element-copy-out-halved-by mul-halved-by-3 element-copy-out-halved-by-2 halved-by-requires add-shares mul-shares slice-write-shares add-t loop-less
+    loop-again same-length returns)

@@ -20,7 +20,13 @@ int-to-float-k c = search needs
 
 returns : tie.Need-returns
 unfolding reduced
-returns c = rw (toZ-ofZ w32 (pos (c .before .args .u)) (small-signed _ (c .before .pre)), +ℤ-idl, toZ-ofZ w32 (negℤ (pos (c .before .args .u))) (small-minus _ (c .before .pre))) refl
+returns c =
+    rw (
+      toZ-ofZ w32 (pos (c .before .args .u)) (small-signed _ (c .before .pre)),
+      +ℤ-idl,
+      toZ-ofZ w32 (negℤ (pos (c .before .args .u)))
+          (small-minus _ (c .before .pre)),
+    ) refl
 
 pub rest-spec : {M : Type 1} → statement M
 rest-spec = tie.close (tie.spec cast-k sub-k int-to-float-k returns)

@@ -22,7 +22,14 @@ sub-loop : tie.Need-sub-loop Inv-loop μ-loop
 sub-loop c = c .loop .inv .1 .within
 
 weigh-block-requires : tie.Need-weigh-block-requires Inv-loop μ-loop
-weigh-block-requires c κs = (omega (arith, c .before .before .before .before .before .pre .0, c .before .loop-test .taken), omega (arith, c .before .before .before .before .before .pre .1, c .before .before .loop .inv .0, c .before .loop-test .taken), omega arith)
+weigh-block-requires c κs =
+    let the-loop = c .before .before .loop in
+    let the-start = c .before .before .before .before .before in (
+      omega (arith, the-start .pre .0, c .before .loop-test .taken),
+      omega (arith, the-start .pre .1, the-loop .inv .0, c .before .loop-test .taken),
+      omega
+          arith,
+    )
 
 add-j : tie.Need-add-j Inv-loop μ-loop
 add-j c = search needs
@@ -31,16 +38,29 @@ loop-less : tie.Need-loop-less Inv-loop μ-loop
 loop-less c = search needs
 
 loop-again : tie.Need-loop-again Inv-loop μ-loop
-loop-again c = (c .before .before .weigh-block .kept .1 .1 .1 .1 .0 ∙ c .before .before .before .before .before .loop .inv .0, rw (c .before .before .weigh-block .ensures) (loop-on 32 (c .before .before .before .before .before .loop .inv .1) (omega arith)))
+loop-again c =
+    let the-weigh-block = c .before .before .weigh-block in
+    let the-loop = c .before .before .before .before .before .loop in
+    (the-weigh-block .kept .1 .1 .1 .1 .0 ∙ the-loop .inv .0, rw (the-weigh-block .ensures) (loop-on 32 (the-loop .inv .1) (omega arith)))
 
 sub-weigh-block : tie.Need-sub-weigh-block Inv-loop μ-loop
 sub-weigh-block c = search needs
 
 weigh-block-requires-2 : tie.Need-weigh-block-requires-2 Inv-loop μ-loop
-weigh-block-requires-2 c κs = (omega (arith, c .before .before .before .before .before .pre .0, c .before .before .loop .inv .1 .within), omega (arith, c .before .before .before .before .before .pre .1, c .before .before .loop .inv .0, c .before .before .loop .inv .1 .within), omega (arith, c .before .loop-test .left))
+weigh-block-requires-2 c κs =
+    let the-loop = c .before .before .loop in
+    let the-start = c .before .before .before .before .before in (
+      omega (arith, the-start .pre .0, the-loop .inv .1 .within),
+      omega (arith, the-start .pre .1, the-loop .inv .0, the-loop .inv .1 .within),
+      omega
+          (arith, c .before .loop-test .left),
+    )
 
 same-length : tie.Need-same-length Inv-loop μ-loop
-same-length c = c .before .before .weigh-block2 .kept .1 .1 .1 .1 .0 ∙ c .before .before .before .before .before .loop .inv .0
+same-length c =
+    let the-weigh-block2 = c .before .before .weigh-block2 in
+    let the-loop = c .before .before .before .before .before .loop in
+    the-weigh-block2 .kept .1 .1 .1 .1 .0 ∙ the-loop .inv .0
 
 returns : tie.Need-returns Inv-loop μ-loop
 returns c = c .before .before .weigh-block2 .ensures ∙ c .before .before .before .before .before .loop .inv .1 .same

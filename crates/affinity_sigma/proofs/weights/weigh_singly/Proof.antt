@@ -2,7 +2,7 @@
 use mathlib.Core.Path.{_≡_, sym, _∙_}
 use Prim.Native.Nat.{_+_, _-_}
 use lib.ListN.{length, set}
-use Rattle.laws.proofs.Loops.{Loops, loop-start, loop-more, loop-done}
+use Rattle.laws.proofs.Loops.{Loops, loop-start, loop-next, loop-done}
 use Rattle.affinity_sigma.specs.Sigma.{weighStep}
 use Rattle.laws.proofs.Loops.{loop-moved}
 use mathlib.Core.Path.{refl}
@@ -48,7 +48,9 @@ loop-less : tie.Need-loop-less Inv-loop μ-loop
 loop-less c = search needs
 
 loop-again : tie.Need-loop-again Inv-loop μ-loop
-loop-again c = (search needs, rw (c .weight .ensures) (loop-more (c .before .before .before .loop .inv .1) (omega arith)))
+loop-again c =
+    let the-loop = c .before .before .before .loop in
+    (search needs, rw (c .weight .ensures) (loop-next (the-loop .inv .1) (omega arith)))
 
 same-length : tie.Need-same-length Inv-loop μ-loop
 same-length c = search needs
@@ -57,4 +59,5 @@ returns : tie.Need-returns Inv-loop μ-loop
 returns c = loop-done (c .before .loop .inv .1) (omega arith) ∙ loop-moved _ _ _ _ _ (λ t y h. refl)
 
 pub weigh-singly-spec : {M : Type 1} → statement M
-weigh-singly-spec = tie.close (tie.spec Inv-loop μ-loop loop-holds add-weight mul-weight shared-slice-read-weight weight-requires add-shares mul-shares slice-write-shares add-t loop-less loop-again same-length returns)
+weigh-singly-spec = tie.close (tie.spec Inv-loop μ-loop loop-holds add-weight mul-weight shared-slice-read-weight weight-requires add-shares mul-shares
+    slice-write-shares add-t loop-less loop-again same-length returns)

@@ -1,4 +1,4 @@
--- `blind::looks::all_at_zero` meets its contract: the loop keeps what has been done equal to its part of the whole; by `every-none`, `every-more`, `every-no`, `every-done`.
+-- `blind::looks::all_at_zero` meets its contract: the loop keeps what has been done equal to its part of the whole; by `every-none`, `every-next`, `every-no`, `every-done`.
 use mathlib.Core.Path.{_≡_, sym, _∙_}
 use mathlib.Core.Bool.{true}
 use Prim.Native.Nat.{_-_, _≤_}
@@ -6,7 +6,7 @@ use borrow.Author.Tests.{not-true, not-false}
 use lib.Ieee.{eq}
 use Rattle.laws.specs.Loops.{every}
 use Rattle.laws.specs.Area.{at, zero64}
-use Rattle.laws.proofs.Every.{every-none, every-more, every-no, every-done}
+use Rattle.laws.proofs.Every.{every-none, every-next, every-no, every-done}
 use borrow.Author.Needs.{needs}
 use Rattle.blind.proofs.looks.all_at_zero.Statement.{statement}
 use Rattle.blind.proofs.looks.all_at_zero.Tie as tie
@@ -43,7 +43,7 @@ loop-less c = search needs
 loop-again : tie.Need-loop-again Inv-loop μ-loop
 loop-again c =
     let the-loop = c .before .before .before .before .loop in
-    (search needs, every-more _ _ (the-loop .inv .1) (sym (c .before .is-zero .ensures) ∙ not-false _ (c .if1 .left)))
+    (search needs, every-next _ _ (the-loop .inv .1) (sym (c .before .is-zero .ensures) ∙ not-false _ (c .if1 .left)))
 
 returns-2 : tie.Need-returns-2 Inv-loop μ-loop
 returns-2 c = every-done _ _ _ (c .before .loop .inv .1) (c .before .loop .inv .0) (c .loop-test .left)

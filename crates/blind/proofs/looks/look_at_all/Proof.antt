@@ -1,9 +1,9 @@
--- `blind::looks::look_at_all` meets its contract: the loop keeps `Adds` and `Scratch`; by `adds-room`, `adds-start`, `adds-more`, `adds-done`, `bit-le`, `scratch-start` and others.
+-- `blind::looks::look_at_all` meets its contract: the loop keeps `Adds` and `Scratch`; by `adds-room`, `adds-start`, `adds-next`, `adds-done`, `bit-le`, `scratch-start` and others.
 use Rattle.laws.proofs.Sums.{adds-room}
 use mathlib.Core.Path.{ap, _∙_}
 use Prim.Native.Nat.{_-_}
 use Rattle.laws.specs.Sums.{bit}
-use Rattle.laws.proofs.Sums.{Adds, adds-start, adds-more, adds-done, bit-le}
+use Rattle.laws.proofs.Sums.{Adds, adds-start, adds-next, adds-done, bit-le}
 use Rattle.laws.proofs.Parts.{Scratch, scratch-start}
 use Rattle.blind.specs.Blind.{blindAt, aloneAt}
 use Rattle.blind.proofs.Laws.{scratch-kept, kept-by, room-kept}
@@ -72,8 +72,8 @@ loop-again c =
     let the-look = c .before .before .before .before .before .before .before .before .look in
     let the-loop-test = c .before .before .before .before .before .before .before .before .before .before .before .before .loop-test in
     let the-loop = c .before .before .before .before .before .before .before .before .before .before .before .before .before .loop in (
-      adds-more (c .before .one-if .ensures ∙ ap bit (the-look .ensures .0 .0)) (bit-le _) (the-loop-test .taken) (the-loop .inv .0),
-      adds-more
+      adds-next (c .before .one-if .ensures ∙ ap bit (the-look .ensures .0 .0)) (bit-le _) (the-loop-test .taken) (the-loop .inv .0),
+      adds-next
           (c .one-if2 .ensures ∙ ap bit (the-look .ensures .0 .1)) (bit-le _) (the-loop-test .taken) (the-loop .inv .1),
       scratch-kept (the-look .kept .1 .1 .1 .1 .0)
           (the-look .ensures .1 .0) (the-loop .inv .2),

@@ -1,3 +1,4 @@
+-- `elementary::exponential::taylor` meets its contract: the loop keeps what has been done equal to its part of the whole; by `series-step`, `series-end`.
 use Rattle.elementary.proofs.Powers.{series-step, series-end}
 use Rattle.elementary.specs.Exp.{series}
 use Prim.Native.Nat.{_≤_}

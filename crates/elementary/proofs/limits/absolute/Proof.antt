@@ -1,3 +1,4 @@
+-- `elementary::limits::absolute` meets its contract: by `abs-negative`, `abs-zero`, `abs-positive`.
 use denote.Floats.{passes}
 use Rattle.elementary.proofs.Signs.{abs-negative, abs-zero, abs-positive}
 use Rattle.elementary.proofs.limits.absolute.Statement.{statement}

@@ -1,3 +1,4 @@
+-- `elementary::limits::ceil_of` meets its contract: from what its calls promise.
 use Rattle.elementary.proofs.Ceil.{cut}
 use borrow.Author.Needs.{needs}
 use native.Mathlib.Omega.{arith}
@@ -11,13 +12,25 @@ nearest-u64-to-f64-requires : tie.Need-nearest-u64-to-f64-requires
 nearest-u64-to-f64-requires c κs = search needs
 
 add-result : tie.Need-add-result
-add-result c = let k = cut (c .before .before .before .args .q) (c .before .before .before .pre) in rw (c .before .before .truncating-f64-to-u64 .ensures) (record { fits = omega (arith, k .small) })
+add-result c =
+    let the-truncating-f64-to-u64 = c .before .before .truncating-f64-to-u64 in
+    let the-start = c .before .before .before in
+    let k = cut (the-start .args .q) (the-start .pre) in
+    rw (the-truncating-f64-to-u64 .ensures) (record { fits = omega (arith, k .small) })
 
 returns : tie.Need-returns
-returns c = let k = cut (c .before .before .before .args .q) (c .before .before .before .pre) in rw (c .before .before .truncating-f64-to-u64 .ensures) (k .more (rw (c .before .nearest-u64-to-f64 .ensures, c .before .before .truncating-f64-to-u64 .ensures) at (c .if1 .taken)))
+returns c =
+    let the-truncating-f64-to-u64 = c .before .before .truncating-f64-to-u64 in
+    let the-start = c .before .before .before in
+    let k = cut (the-start .args .q) (the-start .pre) in
+    rw (the-truncating-f64-to-u64 .ensures) (k .more (rw (c .before .nearest-u64-to-f64 .ensures, the-truncating-f64-to-u64 .ensures) at (c .if1 .taken)))
 
 returns-2 : tie.Need-returns-2
-returns-2 c = let k = cut (c .before .before .before .args .q) (c .before .before .before .pre) in rw (c .before .before .truncating-f64-to-u64 .ensures) (k .even (rw (c .before .nearest-u64-to-f64 .ensures, c .before .before .truncating-f64-to-u64 .ensures) at (c .if1 .left)))
+returns-2 c =
+    let the-truncating-f64-to-u64 = c .before .before .truncating-f64-to-u64 in
+    let the-start = c .before .before .before in
+    let k = cut (the-start .args .q) (the-start .pre) in
+    rw (the-truncating-f64-to-u64 .ensures) (k .even (rw (c .before .nearest-u64-to-f64 .ensures, the-truncating-f64-to-u64 .ensures) at (c .if1 .left)))
 
 pub ceil-of-spec : {M : Type 1} → statement M
 ceil-of-spec =

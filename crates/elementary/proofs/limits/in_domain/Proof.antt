@@ -1,3 +1,4 @@
+-- `elementary::limits::in_domain` meets its contract: each need follows from its own premises.
 use Rattle.elementary.specs.Limits.{upTo}
 use Rattle.elementary.proofs.limits.in_domain.Statement.{statement}
 use Rattle.elementary.proofs.limits.in_domain.Tie as tie

@@ -1,3 +1,4 @@
+-- `elementary::limits::is_calm` meets its contract: each need follows from its own premises.
 use Rattle.elementary.specs.Limits.{upTo}
 use Rattle.elementary.proofs.limits.is_calm.Statement.{statement}
 use Rattle.elementary.proofs.limits.is_calm.Tie as tie

@@ -1,3 +1,4 @@
+-- `elementary::limits::neighbours` meets its contract: by `three-bounded`, `ceil-small`, `one-neighbour`, `all-others`, `nearest-ones`.
 use lib.Ieee.{mul, binary64}
 use Rattle.elementary.specs.Limits.{neighboursOf, ceilOf, three64}
 use Rattle.elementary.proofs.Ceil.{three-bounded, ceil-small, one-neighbour, all-others, nearest-ones}
@@ -10,11 +11,21 @@ ceil-of-requires : tie.Need-ceil-of-requires
 ceil-of-requires c κs = three-bounded (c .args .perplexity) (c .args .n) (c .pre .2) (c .pre .0) (c .pre .1)
 
 add-k : tie.Need-add-k
-add-k c = rw (c .ceil-of .ensures) (record { fits = omega (arith, ceil-small (mul binary64 three64 (c .before .args .perplexity)) (three-bounded (c .before .args .perplexity) (c .before .args .n) (c .before .pre .2) (c .before .pre .0) (c .before .pre .1))) })
+add-k c =
+    rw (c .ceil-of .ensures)
+    (record {
+      fits = omega (
+        arith,
+        ceil-small (mul binary64 three64 (c .before .args .perplexity))
+            (three-bounded (c .before .args .perplexity) (c .before .args .n) (c .before .pre .2) (c .before .pre .0) (c .before .pre .1)),
+      );
+    })
 
 returns : tie.Need-returns
 unfolding neighboursOf
-returns c = one-neighbour (ceilOf (mul binary64 three64 (c .before .before .args .perplexity))) (c .before .before .args .n) (c .if1 .taken)
+returns c =
+    let the-start = c .before .before in
+    one-neighbour (ceilOf (mul binary64 three64 (the-start .args .perplexity))) (the-start .args .n) (c .if1 .taken)
 
 sub-if2 : tie.Need-sub-if2
 sub-if2 c = search needs
@@ -24,11 +35,19 @@ sub-result c = search needs
 
 returns-2 : tie.Need-returns-2
 unfolding neighboursOf
-returns-2 c = all-others (ceilOf (mul binary64 three64 (c .before .before .before .args .perplexity))) (c .before .before .before .args .n) (c .before .if1 .left) (rw (c .before .before .ceil-of .ensures) at (c .if2 .taken))
+returns-2 c =
+    let the-ceil-of = c .before .before .ceil-of in
+    let the-start = c .before .before .before in
+    all-others (ceilOf (mul binary64 three64 (the-start .args .perplexity))) (the-start .args .n) (c .before .if1 .left)
+    (rw (the-ceil-of .ensures) at (c .if2 .taken))
 
 returns-3 : tie.Need-returns-3
 unfolding neighboursOf
-returns-3 c = rw (c .before .before .ceil-of .ensures) (nearest-ones (ceilOf (mul binary64 three64 (c .before .before .before .args .perplexity))) (c .before .before .before .args .n) (rw (c .before .before .ceil-of .ensures) at (c .if2 .left)))
+returns-3 c =
+    let the-ceil-of = c .before .before .ceil-of in
+    let the-start = c .before .before .before in
+    rw (the-ceil-of .ensures)
+    (nearest-ones (ceilOf (mul binary64 three64 (the-start .args .perplexity))) (the-start .args .n) (rw (the-ceil-of .ensures) at (c .if2 .left)))
 
 pub neighbours-spec : {M : Type 1} → statement M
 neighbours-spec =

@@ -1,3 +1,4 @@
+-- `elementary::limits::unless_above` meets its contract: each need follows from its own premises.
 use Rattle.elementary.specs.Limits.{unlessAbove}
 use Rattle.elementary.proofs.limits.unless_above.Statement.{statement}
 use Rattle.elementary.proofs.limits.unless_above.Tie as tie

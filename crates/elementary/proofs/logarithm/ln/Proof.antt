@@ -1,3 +1,4 @@
+-- `elementary::logarithm::ln` meets its contract: by `ln-nan`, `ln-none`, `ln-inf`, `positive-bits`, `not-nan`.
 use mathlib.Core.Path.{_∙_, ap}
 use denote.Floats.{passes}
 use lib.Ieee.Bits.{ofBits-toBits}
@@ -25,10 +26,15 @@ float-to-bits-ln-bits c = rw (not-nan _ (c .before .before .if1 .left)) tt
 
 ln-bits-requires : tie.Need-ln-bits-requires
 unfolding ofBits div
-ln-bits-requires c κs = positive-bits _ (passes _ (c .before .before .before .good .0 .1)) (c .before .before .if1 .left) (c .before .if2 .left) (c .if3 .left)
+ln-bits-requires c κs =
+    let the-if1 = c .before .before .if1 in
+    let the-start = c .before .before .before in
+    positive-bits _ (passes _ (the-start .good .0 .1)) (the-if1 .left) (c .before .if2 .left) (c .if3 .left)
 
 returns-4 : tie.Need-returns-4
-returns-4 c = c .ln-bits .ensures ∙ ap lnOf (ofBits-toBits binary64 _ (passes _ (c .before .before .before .before .good .0 .1)))
+returns-4 c =
+    let the-start = c .before .before .before .before in
+    c .ln-bits .ensures ∙ ap lnOf (ofBits-toBits binary64 _ (passes _ (the-start .good .0 .1)))
 
 pub ln-spec : {M : Type 1} → statement M
 ln-spec =

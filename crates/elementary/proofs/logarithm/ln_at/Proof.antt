@@ -1,3 +1,4 @@
+-- `elementary::logarithm::ln_at` meets its contract: from what its calls promise.
 use mathlib.Core.Path.{refl}
 use mir.Syntax.{w64}
 use mir.ValLaws.{toZ-ofZ}
@@ -14,7 +15,10 @@ nearest-i64-to-f64-requires c κs = search needs
 
 returns : tie.Need-returns
 unfolding lnAt
-returns c = rw (c .nearest-i64-to-f64 .ensures, c .before .odd-series .ensures, toZ-ofZ w64 (c .before .before .args .k) (c .before .before .fits .k)) refl
+returns c =
+    let the-fits = c .before .before .fits in
+    let the-start = c .before .before in
+    rw (c .nearest-i64-to-f64 .ensures, c .before .odd-series .ensures, toZ-ofZ w64 (the-start .args .k) (the-fits .k)) refl
 
 pub ln-at-spec : {M : Type 1} → statement M
 ln-at-spec = tie.close (tie.spec odd-series-requires nearest-i64-to-f64-requires returns)

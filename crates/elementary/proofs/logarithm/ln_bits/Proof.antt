@@ -1,3 +1,4 @@
+-- `elementary::logarithm::ln_bits` meets its contract: by `ln-normal`.
 use native.Mathlib.Nat.{mod-eq-of-lt}
 use Prim.Native.Nat.{_*_, _^_, _/_}
 use mathlib.Core.Path.{refl, sym}
@@ -23,7 +24,10 @@ ln-digits-requires : tie.Need-ln-digits-requires
 ln-digits-requires c κs = search needs
 
 returns-2 : tie.Need-returns-2
-returns-2 c = rw (c .ln-digits .ensures, mod-eq-of-lt {n = c .before .before .args .b / 2 ^ 52 * 2 ^ 52} {m = 2 ^ 64} (omega arith)) (sym (ln-normal (c .before .before .args .b) (c .before .before .args .b / 2 ^ 52) refl (omega arith) (c .before .before .pre .1)))
+returns-2 c =
+    let the-start = c .before .before in
+    rw (c .ln-digits .ensures, mod-eq-of-lt {n = the-start .args .b / 2 ^ 52 * 2 ^ 52} {m = 2 ^ 64} (omega arith))
+    (sym (ln-normal (the-start .args .b) (the-start .args .b / 2 ^ 52) refl (omega arith) (the-start .pre .1)))
 
 pub ln-bits-spec : {M : Type 1} → statement M
 ln-bits-spec =

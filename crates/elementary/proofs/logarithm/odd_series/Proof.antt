@@ -1,6 +1,7 @@
+-- `elementary::logarithm::odd_series` meets its contract: the loop keeps `Loops`; by `loop-start`, `loop-next`, `loop-done`.
 use Prim.Native.Nat.{_-_}
 use Rattle.elementary.specs.Ln.{oddStep, oddSeries}
-use Rattle.laws.proofs.Loops.{Loops, loop-start, loop-more, loop-done}
+use Rattle.laws.proofs.Loops.{Loops, loop-start, loop-next, loop-done}
 use borrow.Author.Needs.{needs}
 use native.Mathlib.Omega.{arith}
 use Rattle.elementary.proofs.logarithm.odd_series.Statement.{statement}
@@ -31,7 +32,7 @@ loop-less : tie.Need-loop-less Inv-loop μ-loop
 loop-less c = search needs
 
 loop-again : tie.Need-loop-again Inv-loop μ-loop
-loop-again c = loop-more (c .before .before .loop .inv) (omega arith)
+loop-again c = loop-next (c .before .before .loop .inv) (omega arith)
 
 returns : tie.Need-returns Inv-loop μ-loop
 unfolding oddSeries

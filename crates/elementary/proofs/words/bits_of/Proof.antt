@@ -1,3 +1,4 @@
+-- `elementary::words::bits_of` meets its contract: by `is-nan`, `not-nan`.
 use lib.Ieee.{toBits}
 use Rattle.elementary.proofs.Nans.{is-nan, not-nan}
 use borrow.Author.Needs.{needs}

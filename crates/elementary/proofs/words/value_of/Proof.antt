@@ -1,3 +1,4 @@
+-- `elementary::words::value_of` meets its contract: by `made-nan`, `nan-bits`, `plain-bits`.
 use mathlib.Core.Path.{sym, _∙_}
 use Rattle.elementary.proofs.Nans.{made-nan, nan-bits, plain-bits}
 use borrow.Author.Needs.{needs}

@@ -1,5 +1,6 @@
+-- `gradient::element::norm` meets its contract: the loop keeps `Loops`; by `loop-start`, `loop-next`, `loop-done`.
 use Rattle.gradient.specs.Element.{normStep, normOf, gradientOf}
-use Rattle.laws.proofs.Loops.{Loops, loop-start, loop-more, loop-done}
+use Rattle.laws.proofs.Loops.{Loops, loop-start, loop-next, loop-done}
 use Prim.Native.Nat.{_-_}
 use borrow.Author.Needs.{needs}
 use native.Mathlib.Omega.{arith}
@@ -31,7 +32,10 @@ loop-less : tie.Need-loop-less Inv-loop μ-loop
 loop-less c = search needs
 
 loop-again : tie.Need-loop-again Inv-loop μ-loop
-loop-again c = rw (c .unless-above .ensures, c .before .absolute .ensures, c .before .before .gradient-at .ensures) (loop-more (c .before .before .before .before .loop .inv) (omega arith))
+loop-again c =
+    let the-gradient-at = c .before .before .gradient-at in
+    let the-loop = c .before .before .before .before .loop in
+    rw (c .unless-above .ensures, c .before .absolute .ensures, the-gradient-at .ensures) (loop-next (the-loop .inv) (omega arith))
 
 returns : tie.Need-returns Inv-loop μ-loop
 unfolding normOf

@@ -1,3 +1,4 @@
+-- `gradient::element::normaliser` meets its contract: from what its calls promise.
 use Rattle.gradient.specs.Element.{normaliserOf}
 use borrow.Author.Needs.{needs}
 use Rattle.gradient.proofs.element.normaliser.Statement.{statement}

@@ -1,6 +1,7 @@
+-- `gradient::element::share_sum` meets its contract: the loop keeps `Loops`; by `row-in`, `loop-start`, `loop-next`, `loop-done`.
 use Rattle.laws.proofs.Numbers.{row-in}
 use Rattle.gradient.specs.Element.{shareStep}
-use Rattle.laws.proofs.Loops.{Loops, loop-start, loop-more, loop-done}
+use Rattle.laws.proofs.Loops.{Loops, loop-start, loop-next, loop-done}
 use lib.ListN.{length}
 use Prim.Native.Nat.{_-_, _+_, _*_}
 use borrow.Author.Needs.{needs}
@@ -24,19 +25,44 @@ add-s : tie.Need-add-s Inv-loop μ-loop
 add-s c = search needs
 
 mul-s-2 : tie.Need-mul-s-2 Inv-loop μ-loop
-mul-s-2 c = omega (arith, (row-in (c .before .loop .i) (c .before .before .args .n) (2 * c .before .before .args .c + 1) (length (c .before .before .args .forces .now)) (c .loop-test .taken) (c .before .before .pre .1)))
+mul-s-2 c =
+    let the-start = c .before .before in
+    omega (
+      arith,
+      (row-in (c .before .loop .i) (the-start .args .n) (2 * the-start .args .c + 1) (length (the-start .args .forces .now)) (c .loop-test .taken)
+          (the-start .pre .1)),
+    )
 
 mul-s-3 : tie.Need-mul-s-3 Inv-loop μ-loop
 mul-s-3 c = search needs
 
 add-s-2 : tie.Need-add-s-2 Inv-loop μ-loop
-add-s-2 c = omega (arith, (row-in (c .before .loop .i) (c .before .before .args .n) (2 * c .before .before .args .c + 1) (length (c .before .before .args .forces .now)) (c .loop-test .taken) (c .before .before .pre .1)))
+add-s-2 c =
+    let the-start = c .before .before in
+    omega (
+      arith,
+      (row-in (c .before .loop .i) (the-start .args .n) (2 * the-start .args .c + 1) (length (the-start .args .forces .now)) (c .loop-test .taken)
+          (the-start .pre .1)),
+    )
 
 mul-s-4 : tie.Need-mul-s-4 Inv-loop μ-loop
-mul-s-4 c = omega (arith, (row-in (c .before .loop .i) (c .before .before .args .n) (2 * c .before .before .args .c + 1) (length (c .before .before .args .forces .now)) (c .loop-test .taken) (c .before .before .pre .1)))
+mul-s-4 c =
+    let the-start = c .before .before in
+    omega (
+      arith,
+      (row-in (c .before .loop .i) (the-start .args .n) (2 * the-start .args .c + 1) (length (the-start .args .forces .now)) (c .loop-test .taken)
+          (the-start .pre .1)),
+    )
 
 shared-slice-read-s : tie.Need-shared-slice-read-s Inv-loop μ-loop
-shared-slice-read-s c = omega (arith, (row-in (c .before .before .loop .i) (c .before .before .before .args .n) (2 * c .before .before .before .args .c + 1) (length (c .before .before .before .args .forces .now)) (c .before .loop-test .taken) (c .before .before .before .pre .1)))
+shared-slice-read-s c =
+    let the-loop = c .before .before .loop in
+    let the-start = c .before .before .before in
+    omega (
+      arith,
+      (row-in (the-loop .i) (the-start .args .n) (2 * the-start .args .c + 1) (length (the-start .args .forces .now)) (c .before .loop-test .taken)
+          (the-start .pre .1)),
+    )
 
 add-i : tie.Need-add-i Inv-loop μ-loop
 add-i c = search needs
@@ -45,7 +71,7 @@ loop-less : tie.Need-loop-less Inv-loop μ-loop
 loop-less c = search needs
 
 loop-again : tie.Need-loop-again Inv-loop μ-loop
-loop-again c = loop-more (c .before .before .loop .inv) (omega arith)
+loop-again c = loop-next (c .before .before .loop .inv) (omega arith)
 
 returns : tie.Need-returns Inv-loop μ-loop
 returns c = loop-done (c .before .loop .inv) (omega arith)

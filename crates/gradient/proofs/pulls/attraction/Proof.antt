@@ -1,3 +1,4 @@
+-- `gradient::pulls::attraction` meets its contract: by `row-in`.
 use Rattle.gradient.specs.Forces.{attractionOf}
 use Rattle.laws.proofs.Numbers.{row-in}
 use borrow.Author.Needs.{needs}
@@ -6,7 +7,9 @@ use Rattle.gradient.proofs.pulls.attraction.Statement.{statement}
 use Rattle.gradient.proofs.pulls.attraction.Tie as tie
 
 point-requires : tie.Need-point-requires
-point-requires c κs = (c .before .before .before .before .pre .0 .0, row-in _ (c .before .before .before .before .args .n) (c .before .before .before .before .args .c) _ (c .before .before .before .before .pre .0 .1) (c .before .before .before .before .pre .0 .2))
+point-requires c κs =
+    let the-start = c .before .before .before .before in
+    (the-start .pre .0 .0, row-in _ (the-start .args .n) (the-start .args .c) _ (the-start .pre .0 .1) (the-start .pre .0 .2))
 
 mul-wide : tie.Need-mul-wide
 mul-wide c = search needs
@@ -33,11 +36,26 @@ sub-follow-all : tie.Need-sub-follow-all
 sub-follow-all c = search needs
 
 follow-all-requires : tie.Need-follow-all-requires
-follow-all-requires c κs = rw (c .wide2 .ensures, c .before .before .wide .ensures) ((c .before .before .before .before .before .before .before .before .before .pre .0 .0, c .before .before .before .before .before .before .before .before .before .pre .0 .2, omega (arith, (c .before .before .before .before .before .before .before .before .before .pre .1) .rises, (c .before .before .before .before .before .before .before .before .before .pre .1) .weights), omega (arith, (c .before .before .before .before .before .before .before .before .before .pre .1) .rises, (c .before .before .before .before .before .before .before .before .before .pre .1) .indices)), λ k l. (c .before .before .before .before .before .before .before .before .before .pre .1) .frames k (omega (arith, l, (c .before .before .before .before .before .before .before .before .before .pre .1) .rises)))
+follow-all-requires c κs =
+    let the-wide = c .before .before .wide in
+    let the-start = c .before .before .before .before .before .before .before .before .before in
+    rw (c .wide2 .ensures, the-wide .ensures) (
+      (
+        the-start .pre .0 .0,
+        the-start .pre .0 .2,
+        omega (arith, (the-start .pre .1) .rises, (the-start .pre .1) .weights),
+        omega
+            (arith, (the-start .pre .1) .rises, (the-start .pre .1) .indices),
+      ),
+      λ k l. (the-start .pre .1) .frames k (omega (arith, l, (the-start .pre .1) .rises)),
+    )
 
 returns : tie.Need-returns
 unfolding attractionOf
-returns c = rw (c .follow-all .ensures, c .before .wide2 .ensures, c .before .before .before .wide .ensures, c .before .before .before .before .before .point .ensures)
+returns c =
+    let the-wide = c .before .before .before .wide in
+    let the-point = c .before .before .before .before .before .point in
+    rw (c .follow-all .ensures, c .before .wide2 .ensures, the-wide .ensures, the-point .ensures)
 
 pub attraction-spec : {M : Type 1} → statement M
 attraction-spec =

@@ -1,3 +1,4 @@
+-- `gradient::pulls::follow` meets its contract: by `row-in`.
 use Rattle.laws.proofs.Numbers.{row-in}
 use borrow.Author.Needs.{needs}
 use Rattle.gradient.proofs.pulls.follow.Statement.{statement}
@@ -13,7 +14,9 @@ wide-requires : tie.Need-wide-requires
 wide-requires c κs = search needs
 
 point-requires : tie.Need-point-requires
-point-requires c κs = (c .before .before .before .before .before .pre .0, rw (c .wide .ensures) (row-in _ (c .before .before .before .before .before .args .n) (c .before .before .before .before .before .args .c) _ (c .before .before .before .before .before .pre .4) (c .before .before .before .before .before .pre .1)))
+point-requires c κs =
+    let the-start = c .before .before .before .before .before in
+    (the-start .pre .0, rw (c .wide .ensures) (row-in _ (the-start .args .n) (the-start .args .c) _ (the-start .pre .4) (the-start .pre .1)))
 
 mul-attract : tie.Need-mul-attract
 mul-attract c = search needs

@@ -1,3 +1,4 @@
+-- `gradient::pulls::place_forces` meets its contract: by `row-in`.
 use Rattle.laws.proofs.Numbers.{row-in}
 use Prim.Native.Nat.{_+_, _*_}
 use borrow.Author.Needs.{needs}
@@ -5,10 +6,14 @@ use Rattle.gradient.proofs.pulls.place_forces.Statement.{statement}
 use Rattle.gradient.proofs.pulls.place_forces.Tie as tie
 
 attraction-requires : tie.Need-attraction-requires
-attraction-requires c κs = ((c .before .before .before .before .before .pre .0, c .before .before .before .before .before .pre .1, c .before .before .before .before .before .pre .2), c .before .before .before .before .before .pre .4)
+attraction-requires c κs =
+    let the-start = c .before .before .before .before .before in
+    ((the-start .pre .0, the-start .pre .1, the-start .pre .2), the-start .pre .4)
 
 store-requires : tie.Need-store-requires
-store-requires c κs = (c .before .before .before .before .before .before .before .pre .0, row-in _ (c .before .before .before .before .before .before .before .args .n) (2 * c .before .before .before .before .before .before .before .args .c + 1) _ (c .before .before .before .before .before .before .before .pre .1) (c .before .before .before .before .before .before .before .pre .3))
+store-requires c κs =
+    let the-start = c .before .before .before .before .before .before .before in
+    (the-start .pre .0, row-in _ (the-start .args .n) (2 * the-start .args .c + 1) _ (the-start .pre .1) (the-start .pre .3))
 
 same-length : tie.Need-same-length
 same-length c = search needs

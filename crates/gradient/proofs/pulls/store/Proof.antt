@@ -1,3 +1,4 @@
+-- `gradient::pulls::store` meets its contract: from what its calls promise.
 use mathlib.Core.Path.{_∙_}
 use lib.ListN.{length-set}
 use Rattle.gradient.specs.Forces.{stored}
@@ -36,11 +37,17 @@ slice-write-forces : tie.Need-slice-write-forces
 slice-write-forces c = search needs
 
 same-length : tie.Need-same-length
-same-length c = simp length-set (c .before .before .put2 .kept .0 ∙ c .before .before .before .before .before .before .before .put .kept .0)
+same-length c =
+    let the-put2 = c .before .before .put2 in
+    let the-put = c .before .before .before .before .before .before .before .put in
+    simp length-set (the-put2 .kept .0 ∙ the-put .kept .0)
 
 returns : tie.Need-returns
 unfolding stored
-returns c = rw (c .before .before .put2 .ensures, c .before .before .before .before .before .before .before .put .ensures)
+returns c =
+    let the-put2 = c .before .before .put2 in
+    let the-put = c .before .before .before .before .before .before .before .put in
+    rw (the-put2 .ensures, the-put .ensures)
 
 pub store-spec : {M : Type 1} → statement M
 store-spec =

@@ -1,3 +1,4 @@
+-- `gradient::rows::gradient_row` meets its contract: by `row-in`.
 use lib.ListN.{length}
 use Rattle.laws.proofs.Numbers.{row-in}
 use Rattle.gradient.specs.Exact.{gradientRow}
@@ -19,10 +20,23 @@ gather-requires : tie.Need-gather-requires
 gather-requires c κs = search needs
 
 mul-slopes : tie.Need-mul-slopes
-mul-slopes c = omega (arith, (row-in (c .before .before .before .before .before .before .args .i) (c .before .before .before .before .before .before .args .n) (c .before .before .before .before .before .before .args .c) (length (c .before .before .before .before .before .before .args .positions .now)) (c .before .before .before .before .before .before .pre .1) (c .before .before .before .before .before .before .pre .2)))
+mul-slopes c =
+    let the-start = c .before .before .before .before .before .before in
+    omega (
+      arith,
+      (row-in (the-start .args .i) (the-start .args .n) (the-start .args .c) (length (the-start .args .positions .now)) (the-start .pre .1)
+          (the-start .pre .2)),
+    )
 
 slopes-requires : tie.Need-slopes-requires
-slopes-requires c κs = (c .before .before .before .before .before .before .pre .0, (row-in (c .before .before .before .before .before .before .args .i) (c .before .before .before .before .before .before .args .n) (c .before .before .before .before .before .before .args .c) (length (c .before .before .before .before .before .before .args .positions .now)) (c .before .before .before .before .before .before .pre .1) (c .before .before .before .before .before .before .pre .2)), (row-in (c .before .before .before .before .before .before .args .i) (c .before .before .before .before .before .before .args .n) (c .before .before .before .before .before .before .args .c) (length (c .before .before .before .before .before .before .args .forces .now)) (c .before .before .before .before .before .before .pre .1) (omega (arith, c .before .before .before .before .before .before .pre .4))))
+slopes-requires c κs =
+    let the-start = c .before .before .before .before .before .before in (
+      the-start .pre .0,
+      (row-in (the-start .args .i) (the-start .args .n) (the-start .args .c) (length (the-start .args .positions .now)) (the-start .pre .1)
+          (the-start .pre .2)),
+      (row-in (the-start .args .i) (the-start .args .n) (the-start .args .c) (length (the-start .args .forces .now)) (the-start .pre .1)
+          (omega (arith, the-start .pre .4))),
+    )
 
 same-length : tie.Need-same-length
 same-length c = search needs

@@ -1,3 +1,4 @@
+-- `gradient::rows::total_row` meets its contract: from what its calls promise.
 use borrow.Author.Tests.{eq-eqb, ne-eqb}
 use Rattle.gradient.specs.Exact.{totalRow}
 use borrow.Author.Needs.{needs}

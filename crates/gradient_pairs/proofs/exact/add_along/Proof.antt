@@ -157,7 +157,9 @@ array-write-t-8 c = search needs
 
 returns-9 : tie.Need-returns-9
 unfolding loop
-returns-9 c = rw (le-antisymm (c .before .before .before .before .before .before .before .before .before .before .before .before .before .before .before .before .pre .0) (omega arith), add-zero)
+returns-9 c =
+    let the-start = c .before .before .before .before .before .before .before .before .before .before .before .before .before .before .before .before in
+    rw (le-antisymm (the-start .pre .0) (omega arith), add-zero)
 
 pub add-along-spec : {M : Type 1} → statement M
 add-along-spec =

@@ -1,3 +1,4 @@
+-- `gradient_pairs::exact::add_frame` meets its contract: from what its calls promise.
 use Rattle.gradient_pairs.specs.Exact.{pullBy}
 use borrow.Author.Needs.{needs}
 use Rattle.gradient_pairs.proofs.exact.add_frame.Statement.{statement}

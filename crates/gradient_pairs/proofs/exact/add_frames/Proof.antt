@@ -1,6 +1,6 @@
 -- The frames one after the other, by the turn and the end of a counting loop.
 use Rattle.gradient_pairs.specs.Exact.{weighedStep}
-use Rattle.laws.proofs.Loops.{Loops, loop-start, loop-more, loop-done}
+use Rattle.laws.proofs.Loops.{Loops, loop-start, loop-next, loop-done}
 use Rattle.laws.proofs.Numbers.{row-in}
 use Prim.Native.Nat.{_-_}
 use borrow.Author.Needs.{needs}
@@ -28,7 +28,8 @@ shared-slice-read-add-frame c = search needs
 
 add-frame-requires : tie.Need-add-frame-requires Inv-loop μ-loop
 add-frame-requires c κs =
-    let b = c .before .before .before .before .before in
+    let the-start = c .before .before .before .before .before in
+    let b = the-start in
     (b .pre .0, row-in _ (b .args .n) (b .args .c) _ (omega (arith, b .pre .1, c .before .loop-test .taken)) (b .pre .2))
 
 add-k : tie.Need-add-k Inv-loop μ-loop
@@ -38,7 +39,7 @@ loop-less : tie.Need-loop-less Inv-loop μ-loop
 loop-less c = search needs
 
 loop-again : tie.Need-loop-again Inv-loop μ-loop
-loop-again c = rw (c .add-frame .ensures) (loop-more (c .before .before .before .loop .inv) (omega arith))
+loop-again c = rw (c .add-frame .ensures) (loop-next (c .before .before .before .loop .inv) (omega arith))
 
 returns : tie.Need-returns Inv-loop μ-loop
 returns c = loop-done (c .before .loop .inv) (omega arith)

@@ -1,6 +1,7 @@
+-- `gradient_pairs::exact::add_row` meets its contract: the loop keeps `Loops`; by `row-in`, `loop-start`, `loop-next`, `loop-done`.
 use Rattle.laws.proofs.Numbers.{row-in}
 use Rattle.gradient_pairs.specs.Exact.{numStep}
-use Rattle.laws.proofs.Loops.{Loops, loop-start, loop-more, loop-done}
+use Rattle.laws.proofs.Loops.{Loops, loop-start, loop-next, loop-done}
 use Prim.Native.Nat.{_-_}
 use borrow.Author.Needs.{needs}
 use native.Mathlib.Omega.{arith}
@@ -17,7 +18,12 @@ loop-holds : tie.Need-loop-holds Inv-loop μ-loop
 loop-holds c = loop-start _ _ _
 
 num-requires : tie.Need-num-requires Inv-loop μ-loop
-num-requires c κs = (row-in _ (c .before .before .before .args .n) (c .before .before .before .args .c) _ (c .before .before .before .pre .0) (c .before .before .before .pre .1), row-in _ (c .before .before .before .args .n) (c .before .before .before .args .c) _ (c .loop-test .taken) (c .before .before .before .pre .1))
+num-requires c κs =
+    let the-start = c .before .before .before in (
+      row-in _ (the-start .args .n) (the-start .args .c) _ (the-start .pre .0) (the-start .pre .1),
+      row-in _ (the-start .args .n) (the-start .args .c) _
+          (c .loop-test .taken) (the-start .pre .1),
+    )
 
 add-j : tie.Need-add-j Inv-loop μ-loop
 add-j c = search needs
@@ -26,7 +32,7 @@ loop-less : tie.Need-loop-less Inv-loop μ-loop
 loop-less c = search needs
 
 loop-again : tie.Need-loop-again Inv-loop μ-loop
-loop-again c = rw (c .num .ensures) (loop-more (c .before .before .loop .inv) (omega arith))
+loop-again c = rw (c .num .ensures) (loop-next (c .before .before .loop .inv) (omega arith))
 
 returns : tie.Need-returns Inv-loop μ-loop
 returns c = loop-done (c .before .loop .inv) (omega arith)

@@ -29,7 +29,9 @@ loop-less : tie.Need-loop-less Inv-loop μ-loop
 loop-less c = search needs
 
 loop-again : tie.Need-loop-again Inv-loop μ-loop
-loop-again c = rw (c .gather-some .ensures) (loop-on _ (c .before .before .before .loop .inv) (c .before .together .ensures .2))
+loop-again c =
+    let the-loop = c .before .before .before .loop in
+    rw (c .gather-some .ensures) (loop-on _ (the-loop .inv) (c .before .together .ensures .2))
 
 returns : tie.Need-returns Inv-loop μ-loop
 unfolding pullsOf

@@ -33,11 +33,14 @@ add-frames-requires c κs =
 
 returns : tie.Need-returns
 returns c =
-    let b = c .before .before .before .before .before .before .before .before .before .before .before in
+    let the-lay-weights = c .before .before .before .lay-weights in
+    let the-lay-nums = c .before .before .before .before .before .before .before .lay-nums in
+    let the-start = c .before .before .before .before .before .before .before .before .before .before .before in
+    let b = the-start in
     let a = b .args in
-    c .add-frames .ensures
-    ∙ rw (c .before .before .before .lay-weights .ensures, c .before .before .before .before .before .before .before .lay-nums .ensures)
-    (gathered-in-parts (a .positions .now) (a .affinities .now) (a .exaggeration) (a .total) (a .n) (a .c) (a .i) (a .j) (a .m) _ _ (a .x) (b .pre .3) (b .pre .3))
+    c .add-frames .ensures ∙ rw (the-lay-weights .ensures, the-lay-nums .ensures)
+    (gathered-in-parts (a .positions .now) (a .affinities .now) (a .exaggeration) (a .total) (a .n) (a .c) (a .i) (a .j) (a .m) _ _ (a .x) (b .pre .3)
+    (b .pre .3))
 
 pub gather-some-spec : {M : Type 1} → statement M
 gather-some-spec =

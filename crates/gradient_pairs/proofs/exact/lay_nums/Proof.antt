@@ -2,7 +2,7 @@
 use mathlib.Core.Path.{_≡_, refl}
 use lib.ListN.{length}
 use Rattle.gradient_pairs.specs.Exact.{numLaid}
-use Rattle.laws.proofs.Loops.{Loops, loop-start, loop-more, loop-done}
+use Rattle.laws.proofs.Loops.{Loops, loop-start, loop-next, loop-done}
 use Rattle.laws.proofs.Numbers.{row-in}
 use Prim.Native.Nat.{_-_}
 use borrow.Author.Needs.{needs}
@@ -24,7 +24,8 @@ add-num c = search needs
 
 num-requires : tie.Need-num-requires Inv-loop μ-loop
 num-requires c κs =
-    let b = c .before .before .before .before in
+    let the-start = c .before .before .before .before in
+    let b = the-start in
     (row-in _ (b .args .n) _ _ (b .pre .0) (b .pre .2), row-in _ (b .args .n) _ _ (omega (arith, b .pre .1, c .loop-test .taken)) (b .pre .2))
 
 mul-nums : tie.Need-mul-nums Inv-loop μ-loop
@@ -40,7 +41,9 @@ loop-less : tie.Need-loop-less Inv-loop μ-loop
 loop-less c = search needs
 
 loop-again : tie.Need-loop-again Inv-loop μ-loop
-loop-again c = (search needs, rw (c .num .ensures) (loop-more (c .before .before .loop .inv .1) (c .before .loop-test .taken)))
+loop-again c =
+    let the-loop = c .before .before .loop in
+    (search needs, rw (c .num .ensures) (loop-next (the-loop .inv .1) (c .before .loop-test .taken)))
 
 same-length : tie.Need-same-length Inv-loop μ-loop
 same-length c = search needs

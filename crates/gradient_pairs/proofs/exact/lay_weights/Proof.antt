@@ -2,7 +2,7 @@
 use mathlib.Core.Path.{_≡_, refl}
 use lib.ListN.{length}
 use Rattle.gradient_pairs.specs.Exact.{weightLaid}
-use Rattle.laws.proofs.Loops.{Loops, loop-start, loop-more, loop-done}
+use Rattle.laws.proofs.Loops.{Loops, loop-start, loop-next, loop-done}
 use Rattle.laws.proofs.Numbers.{row-in}
 use Prim.Native.Nat.{_-_}
 use borrow.Author.Needs.{needs}
@@ -21,28 +21,38 @@ loop-holds c = (refl, loop-start _ _ _)
 
 mul-push : tie.Need-mul-push Inv-loop μ-loop
 mul-push c =
-    let b = c .before .before .before .before .before in
+    let the-start = c .before .before .before .before .before in
+    let b = the-start in
     omega (arith, row-in (b .args .i) (b .args .n) (b .args .n) (length (b .args .affinities .now)) (b .pre .0) (b .pre .2), b .pre .1, c .loop-test .taken)
 
 add-push : tie.Need-add-push Inv-loop μ-loop
 add-push c =
-    let b = c .before .before .before .before .before in
+    let the-start = c .before .before .before .before .before in
+    let b = the-start in
     omega (arith, row-in (b .args .i) (b .args .n) (b .args .n) (length (b .args .affinities .now)) (b .pre .0) (b .pre .2), b .pre .1, c .loop-test .taken)
 
 add-push-2 : tie.Need-add-push-2 Inv-loop μ-loop
 add-push-2 c =
-    let b = c .before .before .before .before .before in
+    let the-start = c .before .before .before .before .before in
+    let b = the-start in
     omega (arith, row-in (b .args .i) (b .args .n) (b .args .n) (length (b .args .affinities .now)) (b .pre .0) (b .pre .2), b .pre .1, c .loop-test .taken)
 
 mul-push-2 : tie.Need-mul-push-2 Inv-loop μ-loop
 mul-push-2 c =
-    let b = c .before .before .before .before .before in
+    let the-start = c .before .before .before .before .before in
+    let b = the-start in
     omega (arith, row-in (b .args .i) (b .args .n) (b .args .n) (length (b .args .affinities .now)) (b .pre .0) (b .pre .2), b .pre .1, c .loop-test .taken)
 
 shared-slice-read-push : tie.Need-shared-slice-read-push Inv-loop μ-loop
 shared-slice-read-push c =
-    let b = c .before .before .before .before .before .before in
-    omega (arith, row-in (b .args .i) (b .args .n) (b .args .n) (length (b .args .affinities .now)) (b .pre .0) (b .pre .2), b .pre .1, c .before .loop-test .taken)
+    let the-start = c .before .before .before .before .before .before in
+    let b = the-start in
+    omega (
+      arith,
+      row-in (b .args .i) (b .args .n) (b .args .n) (length (b .args .affinities .now)) (b .pre .0) (b .pre .2),
+      b .pre .1,
+      c .before .loop-test .taken,
+    )
 
 mul-push-3 : tie.Need-mul-push-3 Inv-loop μ-loop
 mul-push-3 c = search needs
@@ -66,7 +76,10 @@ loop-less : tie.Need-loop-less Inv-loop μ-loop
 loop-less c = search needs
 
 loop-again : tie.Need-loop-again Inv-loop μ-loop
-loop-again c = (search needs, rw (c .push .ensures) (loop-more (c .before .before .before .before .loop .inv .1) (c .before .before .before .loop-test .taken)))
+loop-again c =
+    let the-loop-test = c .before .before .before .loop-test in
+    let the-loop = c .before .before .before .before .loop in
+    (search needs, rw (c .push .ensures) (loop-next (the-loop .inv .1) (the-loop-test .taken)))
 
 same-length : tie.Need-same-length Inv-loop μ-loop
 same-length c = search needs

@@ -1,3 +1,4 @@
+-- `gradient_pairs::exact::num` meets its contract: from what its calls promise.
 use borrow.Author.Tests.{eq-eqb, ne-eqb}
 use Rattle.gradient_pairs.specs.Exact.{numOf}
 use borrow.Author.Needs.{needs}

@@ -1,3 +1,4 @@
+-- `gradient_pairs::exact::push` meets its contract: from what its calls promise.
 use Rattle.gradient_pairs.specs.Exact.{pushOf}
 use borrow.Author.Needs.{needs}
 use Rattle.gradient_pairs.proofs.exact.push.Statement.{statement}

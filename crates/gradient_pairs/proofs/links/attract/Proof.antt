@@ -1,3 +1,4 @@
+-- `gradient_pairs::links::attract` meets its contract: from what its calls promise.
 use Rattle.gradient_pairs.specs.Links.{pulled}
 use borrow.Author.Needs.{needs}
 use Rattle.gradient_pairs.proofs.links.attract.Statement.{statement}

@@ -1,3 +1,4 @@
+-- `gradient_pairs::links::pull` meets its contract: from what its calls promise.
 use Rattle.gradient_pairs.specs.Links.{pullOf}
 use borrow.Author.Needs.{needs}
 use Rattle.gradient_pairs.proofs.links.pull.Statement.{statement}

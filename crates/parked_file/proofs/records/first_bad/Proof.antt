@@ -1,7 +1,7 @@
--- `parked_file::records::first_bad` meets its contract: the loop keeps `Seeks`; by `words-stand`, `due-is`, `seeks-three`, `seek-more`, `seek-stop`, `seek-done`.
+-- `parked_file::records::first_bad` meets its contract: the loop keeps `Seeks`; by `words-stand`, `due-is`, `seeks-three`, `seek-next`, `seek-stop`, `seek-done`.
 use Rattle.parked_file.proofs.Stands.{missing, words-stand, due-is, seeks-three}
 use Rattle.parked_file.specs.File.{recordStands, recordsDue, firstBad}
-use Rattle.laws.proofs.First.{Seeks, seek-more, seek-stop, seek-done}
+use Rattle.laws.proofs.First.{Seeks, seek-next, seek-stop, seek-done}
 use Prim.Native.Nat.{_≤_, _-_}
 use mathlib.Core.Bool.{not}
 use borrow.Author.Tests.{not-true, not-false}
@@ -49,7 +49,7 @@ loop-again c =
     let the-loop = c .before .before .before .before .loop in
     let the-start = c .before .before .before .before .before .before .before in (
       omega arith,
-      seek-more (the-loop .inv .1) (omega (arith, (due-is _ _ (the-start .pre .1))))
+      seek-next (the-loop .inv .1) (omega (arith, (due-is _ _ (the-start .pre .1))))
           (ap not ((words-stand _ _ _ _ (the-start .pre .1) (the-loop .inv .0) (omega arith) (c .before .words-fine .ensures)) ∙ not-false _ (c .if2 .left))),
     )
 

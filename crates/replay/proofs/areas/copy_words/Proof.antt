@@ -1,4 +1,5 @@
-use Rattle.laws.proofs.Loops.{Loops, loop-start, loop-more, loop-done}
+-- `replay::areas::copy_words` meets its contract: the loop keeps `Loops`; by `loop-start`, `loop-next`, `loop-done`.
+use Rattle.laws.proofs.Loops.{Loops, loop-start, loop-next, loop-done}
 use Rattle.laws.specs.Area.{bits}
 use lib.ListN.{set}
 use Rattle.replay.specs.Replay.{wordOf}
@@ -38,7 +39,10 @@ loop-less : tie.Need-loop-less Inv-loop μ-loop
 loop-less c = search needs
 
 loop-again : tie.Need-loop-again Inv-loop μ-loop
-loop-again c = (search needs, rw (c .value-at .ensures, c .before .plus .ensures) (loop-more (c .before .before .before .loop .inv .1) (c .before .before .loop-test .taken)))
+loop-again c =
+    let the-loop-test = c .before .before .loop-test in
+    let the-loop = c .before .before .before .loop in
+    (search needs, rw (c .value-at .ensures, c .before .plus .ensures) (loop-next (the-loop .inv .1) (the-loop-test .taken)))
 
 same-length : tie.Need-same-length Inv-loop μ-loop
 same-length c = search needs

@@ -1,4 +1,5 @@
-use Rattle.laws.proofs.Loops.{Loops, loop-start, loop-more, loop-done}
+-- `replay::areas::mark` meets its contract: the loop keeps `Loops`; by `loop-start`, `loop-next`, `loop-done`.
+use Rattle.laws.proofs.Loops.{Loops, loop-start, loop-next, loop-done}
 use Rattle.laws.specs.Area.{bits}
 use lib.ListN.{set}
 use native.Mathlib.Omega.{arith}
@@ -37,7 +38,13 @@ loop-less : tie.Need-loop-less Inv-loop μ-loop
 loop-less c = search needs
 
 loop-again : tie.Need-loop-again Inv-loop μ-loop
-loop-again c = (search needs, rw (c .value-of .ensures, c .before .wrapping-add-u64 .ensures) (loop-more (c .before .before .before .loop .inv .1) (omega (arith, c .before .before .loop-test .taken, c .before .before .before .loop .inv .0))))
+loop-again c =
+    let the-loop-test = c .before .before .loop-test in
+    let the-loop = c .before .before .before .loop in (
+      search needs,
+      rw (c .value-of .ensures, c .before .wrapping-add-u64 .ensures)
+          (loop-next (the-loop .inv .1) (omega (arith, the-loop-test .taken, the-loop .inv .0))),
+    )
 
 same-length : tie.Need-same-length Inv-loop μ-loop
 same-length c = search needs

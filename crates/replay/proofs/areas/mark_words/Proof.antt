@@ -1,4 +1,5 @@
-use Rattle.laws.proofs.Loops.{Loops, loop-start, loop-more, loop-done}
+-- `replay::areas::mark_words` meets its contract: the loop keeps `Loops`; by `loop-start`, `loop-next`, `loop-done`.
+use Rattle.laws.proofs.Loops.{Loops, loop-start, loop-next, loop-done}
 use lib.ListN.{set}
 use native.Mathlib.Omega.{arith}
 use mathlib.Core.Path.{_≡_, refl}
@@ -36,7 +37,8 @@ loop-less : tie.Need-loop-less Inv-loop μ-loop
 loop-less c = search needs
 
 loop-again : tie.Need-loop-again Inv-loop μ-loop
-loop-again c = (search needs, loop-more (c .before .loop .inv .1) (omega (arith, c .loop-test .taken, c .before .loop .inv .0)))
+loop-again c =
+    (search needs, loop-next (c .before .loop .inv .1) (omega (arith, c .loop-test .taken, c .before .loop .inv .0)))
 
 same-length : tie.Need-same-length Inv-loop μ-loop
 same-length c = search needs

@@ -1,6 +1,8 @@
+-- `replay::areas::same_area` meets its contract: the loop keeps what has been done equal to its part of the whole; by `value-passed`, `value-right`,
+-- `value-wrong`, `area-before`, `area-short`, `area-is` and others.
 use Rattle.replay.proofs.Compared.{value-passed, value-right, value-wrong, area-before, area-short, area-is}
 use Rattle.replay.specs.Areas.{rightValue}
-use Rattle.laws.proofs.Every.{every-all, every-more, every-no, every-done}
+use Rattle.laws.proofs.Every.{every-all, every-next, every-no, every-done}
 use Rattle.laws.specs.Loops.{every}
 use mathlib.Core.Path.{_≡_, sym}
 use mathlib.Core.Bool.{true}
@@ -24,7 +26,13 @@ returns-2 : tie.Need-returns-2 Inv-loop μ-loop
 returns-2 c = area-short _ _ _ _ _ (c .before .if1 .left) (c .if2 .taken)
 
 loop-holds : tie.Need-loop-holds Inv-loop μ-loop
-loop-holds c = (omega arith, c .before .if1 .left, every-all _ _ (value-passed (c .before .before .before .before .args .area .now) (c .before .before .before .before .args .from) (c .before .before .before .before .args .m) (c .before .before .before .before .args .list .now) (c .before .before .before .before .args .a)))
+loop-holds c =
+    let the-start = c .before .before .before .before in (
+      omega arith,
+      c .before .if1 .left,
+      every-all _ _
+          (value-passed (the-start .args .area .now) (the-start .args .from) (the-start .args .m) (the-start .args .list .now) (the-start .args .a)),
+    )
 
 mul-bits-of : tie.Need-mul-bits-of Inv-loop μ-loop
 mul-bits-of c = search needs
@@ -39,7 +47,17 @@ wanted-requires : tie.Need-wanted-requires Inv-loop μ-loop
 wanted-requires c κs = search needs
 
 returns-3 : tie.Need-returns-3 Inv-loop μ-loop
-returns-3 c = area-is _ _ _ _ _ _ (c .before .before .before .before .before .before .before .if1 .left) (c .before .before .before .before .before .before .if2 .left) (sym (every-no _ _ _ (c .before .before .before .before .loop-test .taken) (value-wrong (c .before .before .before .before .before .before .before .before .before .before .args .area .now) (c .before .before .before .before .before .before .before .before .before .before .args .from) (c .before .before .before .before .before .before .before .before .before .before .args .m) (c .before .before .before .before .before .before .before .before .before .before .args .list .now) (c .before .before .before .before .before .before .before .before .before .before .args .a) (c .before .before .before .before .before .loop .i) (c .before .before .before .before .before .loop .inv .0) (c .before .before .bits-of .ensures) (c .before .wanted .ensures) (c .if3 .taken))))
+returns-3 c =
+    let the-bits-of = c .before .before .bits-of in
+    let the-loop-test = c .before .before .before .before .loop-test in
+    let the-loop = c .before .before .before .before .before .loop in
+    let the-if2 = c .before .before .before .before .before .before .if2 in
+    let the-if1 = c .before .before .before .before .before .before .before .if1 in
+    let the-start = c .before .before .before .before .before .before .before .before .before .before in
+    area-is _ _ _ _ _ _ (the-if1 .left) (the-if2 .left)
+    (sym (every-no _ _ _ (the-loop-test .taken)
+    (value-wrong (the-start .args .area .now) (the-start .args .from) (the-start .args .m) (the-start .args .list .now) (the-start .args .a) (the-loop .i)
+    (the-loop .inv .0) (the-bits-of .ensures) (c .before .wanted .ensures) (c .if3 .taken))))
 
 add-i : tie.Need-add-i Inv-loop μ-loop
 add-i c = search needs
@@ -48,10 +66,23 @@ loop-less : tie.Need-loop-less Inv-loop μ-loop
 loop-less c = search needs
 
 loop-again : tie.Need-loop-again Inv-loop μ-loop
-loop-again c = (omega (arith, c .before .before .before .before .before .loop .inv .0), omega (arith, c .before .before .before .before .loop-test .taken), every-more _ _ (c .before .before .before .before .before .loop .inv .2) (value-right (c .before .before .before .before .before .before .before .before .before .before .args .area .now) (c .before .before .before .before .before .before .before .before .before .before .args .from) (c .before .before .before .before .before .before .before .before .before .before .args .m) (c .before .before .before .before .before .before .before .before .before .before .args .list .now) (c .before .before .before .before .before .before .before .before .before .before .args .a) (c .before .before .before .before .before .loop .i) (c .before .before .before .before .before .loop .inv .0) (c .before .before .bits-of .ensures) (c .before .wanted .ensures) (c .if3 .left)))
+loop-again c =
+    let the-bits-of = c .before .before .bits-of in
+    let the-loop-test = c .before .before .before .before .loop-test in
+    let the-loop = c .before .before .before .before .before .loop in
+    let the-start = c .before .before .before .before .before .before .before .before .before .before in (
+      omega (arith, the-loop .inv .0),
+      omega (arith, the-loop-test .taken),
+      every-next _ _ (the-loop .inv .2)
+          (value-right (the-start .args .area .now) (the-start .args .from) (the-start .args .m) (the-start .args .list .now) (the-start .args .a) (the-loop .i)
+          (the-loop .inv .0) (the-bits-of .ensures) (c .before .wanted .ensures) (c .if3 .left)),
+    )
 
 returns-4 : tie.Need-returns-4 Inv-loop μ-loop
-returns-4 c = area-is _ _ _ _ _ _ (c .before .before .before .if1 .left) (c .before .before .if2 .left) (every-done _ _ _ (c .before .loop .inv .2) (c .before .loop .inv .1) (c .loop-test .left))
+returns-4 c =
+    let the-if2 = c .before .before .if2 in
+    let the-if1 = c .before .before .before .if1 in
+    area-is _ _ _ _ _ _ (the-if1 .left) (the-if2 .left) (every-done _ _ _ (c .before .loop .inv .2) (c .before .loop .inv .1) (c .loop-test .left))
 
 pub same-area-spec : {M : Type 1} → statement M
 same-area-spec =

@@ -1,6 +1,8 @@
+-- `replay::areas::same_numbers` meets its contract: the loop keeps what has been done equal to its part of the whole; by `number-right`, `number-wrong`,
+-- `numbers-short`, `numbers-are`, `every-none`, `every-next` and others.
 use Rattle.replay.proofs.Compared.{number-right, number-wrong, numbers-short, numbers-are}
 use Rattle.replay.specs.Areas.{rightNumber}
-use Rattle.laws.proofs.Every.{every-none, every-more, every-no, every-done}
+use Rattle.laws.proofs.Every.{every-none, every-next, every-no, every-done}
 use Rattle.laws.specs.Loops.{every}
 use mathlib.Core.Path.{_≡_, sym}
 use mathlib.Core.Bool.{true}
@@ -36,7 +38,16 @@ wanted-requires : tie.Need-wanted-requires Inv-loop μ-loop
 wanted-requires c κs = search needs
 
 returns-2 : tie.Need-returns-2 Inv-loop μ-loop
-returns-2 c = numbers-are _ _ _ _ _ (c .before .before .before .before .before .before .if1 .left) (sym (every-no _ _ _ (c .before .before .before .before .loop-test .taken) (number-wrong (c .before .before .before .before .before .before .before .before .before .args .area .now) (c .before .before .before .before .before .before .before .before .before .args .m) (c .before .before .before .before .before .before .before .before .before .args .list .now) (c .before .before .before .before .before .before .before .before .before .args .a) (c .before .before .before .before .before .loop .i) (c .before .before .wide .ensures) (c .before .wanted .ensures) (c .if2 .taken))))
+returns-2 c =
+    let the-wide = c .before .before .wide in
+    let the-loop-test = c .before .before .before .before .loop-test in
+    let the-loop = c .before .before .before .before .before .loop in
+    let the-if1 = c .before .before .before .before .before .before .if1 in
+    let the-start = c .before .before .before .before .before .before .before .before .before in
+    numbers-are _ _ _ _ _ (the-if1 .left)
+    (sym (every-no _ _ _ (the-loop-test .taken)
+    (number-wrong (the-start .args .area .now) (the-start .args .m) (the-start .args .list .now) (the-start .args .a) (the-loop .i) (the-wide .ensures)
+    (c .before .wanted .ensures) (c .if2 .taken))))
 
 add-i : tie.Need-add-i Inv-loop μ-loop
 add-i c = search needs
@@ -45,10 +56,21 @@ loop-less : tie.Need-loop-less Inv-loop μ-loop
 loop-less c = search needs
 
 loop-again : tie.Need-loop-again Inv-loop μ-loop
-loop-again c = (omega (arith, c .before .before .before .before .loop-test .taken), every-more _ _ (c .before .before .before .before .before .loop .inv .1) (number-right (c .before .before .before .before .before .before .before .before .before .args .area .now) (c .before .before .before .before .before .before .before .before .before .args .m) (c .before .before .before .before .before .before .before .before .before .args .list .now) (c .before .before .before .before .before .before .before .before .before .args .a) (c .before .before .before .before .before .loop .i) (c .before .before .wide .ensures) (c .before .wanted .ensures) (c .if2 .left)))
+loop-again c =
+    let the-wide = c .before .before .wide in
+    let the-loop-test = c .before .before .before .before .loop-test in
+    let the-loop = c .before .before .before .before .before .loop in
+    let the-start = c .before .before .before .before .before .before .before .before .before in (
+      omega (arith, the-loop-test .taken),
+      every-next _ _ (the-loop .inv .1)
+          (number-right (the-start .args .area .now) (the-start .args .m) (the-start .args .list .now) (the-start .args .a) (the-loop .i) (the-wide .ensures)
+          (c .before .wanted .ensures) (c .if2 .left)),
+    )
 
 returns-3 : tie.Need-returns-3 Inv-loop μ-loop
-returns-3 c = numbers-are _ _ _ _ _ (c .before .before .if1 .left) (every-done _ _ _ (c .before .loop .inv .1) (c .before .loop .inv .0) (c .loop-test .left))
+returns-3 c =
+    let the-if1 = c .before .before .if1 in
+    numbers-are _ _ _ _ _ (the-if1 .left) (every-done _ _ _ (c .before .loop .inv .1) (c .before .loop .inv .0) (c .loop-test .left))
 
 pub same-numbers-spec : {M : Type 1} → statement M
 same-numbers-spec =

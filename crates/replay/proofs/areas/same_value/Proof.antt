@@ -1,3 +1,4 @@
+-- `replay::areas::same_value` meets its contract: from what its calls promise.
 use borrow.Author.Needs.{needs}
 use Rattle.replay.proofs.areas.same_value.Statement.{statement}
 use Rattle.replay.proofs.areas.same_value.Tie as tie

@@ -1,3 +1,4 @@
+-- `replay::areas::value_at` meets its contract: from what its calls promise.
 use mathlib.Core.Path.{ap, _∙_}
 use Prim.Native.Nat.{ℕ}
 use Rattle.laws.specs.Area.{bits}

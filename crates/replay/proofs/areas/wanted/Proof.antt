@@ -1,3 +1,4 @@
+-- `replay::areas::wanted` meets its contract: from what its calls promise.
 use borrow.Author.Tests.{lt-ltb, le-ltb}
 use borrow.Author.Needs.{needs}
 use Rattle.replay.proofs.areas.wanted.Statement.{statement}

@@ -1,5 +1,7 @@
+-- `replay_affinity::choices::read_distances` meets its contract: the loop keeps `Plains`; by `above-plain`, `plain-next`.
 use Rattle.affinity_near.specs.Near.{Plains}
-use Rattle.replay_affinity.proofs.Plain.{above-plain, plain-more}
+use Rattle.affinity_near.proofs.Apart.{above-plain}
+use Rattle.replay_affinity.proofs.Plain.{plain-next}
 use native.Mathlib.Nat.{not-suc-le-zero}
 use mathlib.Core.Path.{refl, _≡_}
 use lib.ListN.{length}
@@ -43,7 +45,14 @@ loop-less : tie.Need-loop-less Inv-loop μ-loop
 loop-less c = search needs
 
 loop-again : tie.Need-loop-again Inv-loop μ-loop
-loop-again c = (search needs, omega arith, plain-more (c .before .before .before .before .before .loop .to) (c .before .before .before .before .before .loop .i) (c .unless-above .result) (omega (arith, c .before .before .before .before .before .loop .inv .0, c .before .before .before .before .before .before .before .before .pre)) (rw (c .unless-above .ensures) (above-plain _)) (c .before .before .before .before .before .loop .inv .2))
+loop-again c =
+    let the-loop = c .before .before .before .before .before .loop in
+    let the-start = c .before .before .before .before .before .before .before .before in (
+      search needs,
+      omega arith,
+      plain-next (the-loop .to) (the-loop .i) (c .unless-above .result) (omega (arith, the-loop .inv .0, the-start .pre))
+          (rw (c .unless-above .ensures) (above-plain _)) (the-loop .inv .2),
+    )
 
 same-length : tie.Need-same-length Inv-loop μ-loop
 same-length c = search needs

@@ -1,3 +1,4 @@
+-- `replay_affinity::joins::case_at` meets its contract: from what its calls promise.
 use Prim.Native.Nat.{_^_}
 use lib.Dec.{le→leb}
 use lib.Ieee.{inFloat}
@@ -80,7 +81,10 @@ slice-aggregate-read-links-2 c = search needs
 
 int-to-float-read-links : tie.Need-int-to-float-read-links
 unfolding inFloat
-int-to-float-read-links c = le→leb (c .before .before .before .before .before .before .before .before .before .before .before .before .before .before .before .before .before .before .before .before .before .before .args .n) (2 ^ 53) (omega (arith, c .before .before .before .before .before .before .before .before .before .before .before .before .before .before .before .before .before .before .before .before .before .before .pre .1))
+int-to-float-read-links c =
+    let far-1 = c .before .before .before .before .before .before .before .before .before .before .before .before in
+    let the-start = far-1 .before .before .before .before .before .before .before .before .before .before in
+    le→leb (the-start .args .n) (2 ^ 53) (omega (arith, the-start .pre .1))
 
 read-links-requires : tie.Need-read-links-requires
 read-links-requires c κs = search needs
@@ -104,7 +108,14 @@ join-right-requires : tie.Need-join-right-requires
 join-right-requires c κs = search needs
 
 returns-2 : tie.Need-returns-2
-returns-2 c = (omega (arith, c .before .before .before .before .before .before .before .before .before .before .before .before .before .before .before .before .before .before .before .before .before .before .before .before .before .before .before .before .before .before .before .before .before .before .before .before .pre, c .before .before .before .before .before .before .before .before .before .before .before .before .before .before .before .before .before .before .before .before .before .before .before .before .before .before .before .before .before .before .before .before .before .before .product .ensures .1, c .before .before .before .before .before .before .before .before .before .before .before .before .before .before .before .before .before .before .before .before .before .before .before .before .before .before .before .before .before .before .before .before .if1 .left), omega (arith, c .before .before .before .before .before .before .before .before .before .before .before .before .before .before .before .before .before .before .before .before .before .before .before .before .before .before .before .before .before .before .before .before .before .before .before .before .pre, c .before .before .before .before .before .before .before .before .before .before .before .before .before .before .before .before .before .before .before .before .before .before .before .before .before .before .before .before .before .before .before .before .before .before .product .ensures .1, c .before .before .before .before .before .before .before .before .before .before .before .before .before .before .before .before .before .before .before .before .before .before .before .before .before .before .before .before .before .before .before .before .if1 .left))
+returns-2 c =
+    let far-1 = c .before .before .before .before .before .before .before .before .before .before .before .before in
+    let far-2 = far-1 .before .before .before .before .before .before .before .before .before .before .before .before in
+    let the-if1 = far-2 .before .before .before .before .before .before .before .before .if1 in
+    let the-product = far-2 .before .before .before .before .before .before .before .before .before .before .product in
+    let far-3 = far-2 .before .before .before .before .before .before .before .before .before .before .before .before in
+    let the-start = far-3 in
+    (omega (arith, the-start .pre, the-product .ensures .1, the-if1 .left), omega (arith, the-start .pre, the-product .ensures .1, the-if1 .left))
 
 pub case-at-spec : {M : Type 1} → statement M
 case-at-spec =

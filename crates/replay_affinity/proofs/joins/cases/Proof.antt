@@ -1,3 +1,4 @@
+-- `replay_affinity::joins::cases` meets its contract: the loop keeps what has been done equal to its part of the whole.
 use borrow.Author.Tests.{not-false}
 use Prim.Native.Nat.{_≤_, _-_}
 use borrow.Author.Needs.{needs}

@@ -1,3 +1,4 @@
+-- `replay_affinity::joins::join_right` meets its contract: from what its calls promise.
 use borrow.Author.Tests.{not-false}
 use borrow.Author.Needs.{needs}
 use native.Mathlib.Omega.{arith}
@@ -15,11 +16,27 @@ returns c = search needs
 
 symmetrise-requires : tie.Need-symmetrise-requires
 symmetrise-requires c κs =
-    let p = c .before .before .before .before .before .before .before .before .before .before .before .before .before .before .pre in
-    record { frames = (omega (arith, p .0 .1), p .0 .2); weights = p .1 .0; indices = p .1 .1; offsets = p .1 .2; rowValues = p .1 .3; rowIndices = p .1 .4; rows = c .before .before .before .before .before .before .rows-right .ensures (not-false _ (c .before .before .before .before .before .if1 .left)) }
+    let the-if1 = c .before .before .before .before .before .if1 in
+    let the-rows-right = c .before .before .before .before .before .before .rows-right in
+    let the-start = c .before .before .before .before .before .before .before .before .before .before .before .before .before .before in
+    let p = the-start .pre in
+    record {
+      frames = (omega (arith, p .0 .1), p .0 .2);
+      weights = p .1 .0;
+      indices = p .1 .1;
+      offsets = p .1 .2;
+      rowValues = p .1 .3;
+      rowIndices = p .1 .4;
+      rows = the-rows-right .ensures (not-false _ (the-if1 .left));
+    }
 
 same-offsets-requires : tie.Need-same-offsets-requires
-same-offsets-requires c κs = (omega (arith, c .before .before .before .before .before .before .before .before .before .before .before .symmetrise .kept .1 .1 .0, c .before .before .before .before .before .before .before .before .before .before .before .before .before .before .before .before .before .before .before .before .before .before .before .before .before .before .pre .1 .2), omega (arith, c .before .before .before .before .before .before .before .before .before .before .before .before .before .before .before .before .before .before .before .before .before .before .before .before .before .before .pre .0 .1), omega (arith, c .before .before .before .before .before .before .before .before .before .before .before .before .before .before .before .before .before .before .before .before .before .before .before .before .before .before .pre .0 .0))
+same-offsets-requires c κs =
+    let the-symmetrise = c .before .before .before .before .before .before .before .before .before .before .before .symmetrise in
+    let far-1 = c .before .before .before .before .before .before .before .before .before .before .before .before in
+    let far-2 = far-1 .before .before .before .before .before .before .before .before .before .before .before .before in
+    let the-start = far-2 .before .before in
+    (omega (arith, the-symmetrise .kept .1 .1 .0, the-start .pre .1 .2), omega (arith, the-start .pre .0 .1), omega (arith, the-start .pre .0 .0))
 
 same-length-2 : tie.Need-same-length-2
 same-length-2 c = search needs
@@ -46,7 +63,17 @@ add-same-links-2 : tie.Need-add-same-links-2
 add-same-links-2 c = search needs
 
 same-links-requires : tie.Need-same-links-requires
-same-links-requires c κs = (omega (arith, c .before .before .before .before .before .before .before .before .before .before .before .before .before .before .before .before .before .before .before .before .before .before .before .before .before .before .before .before .before .before .pre .0 .0, c .before .before .before .before .before .before .before .before .before .before .before .before .before .before .before .before .before .before .before .before .before .before .before .before .before .before .before .before .before .before .pre .0 .1), c .before .before .before .before .before .before .before .before .before .before .before .before .before .before .before .before .before .before .before .before .before .before .before .before .before .before .before .before .before .before .pre .0 .3, omega (arith, c .before .before .before .before .before .before .before .before .before .before .before .before .before .before .before .symmetrise .kept .0, c .before .before .before .before .before .before .before .before .before .before .before .before .before .before .before .before .before .before .before .before .before .before .before .before .before .before .before .before .before .before .pre .0 .4), omega (arith, c .before .before .before .before .before .before .before .before .before .before .before .before .before .before .before .symmetrise .kept .1 .0, c .before .before .before .before .before .before .before .before .before .before .before .before .before .before .before .before .before .before .before .before .before .before .before .before .before .before .before .before .before .before .pre .0 .5))
+same-links-requires c κs =
+    let the-symmetrise = c .before .before .before .before .before .before .before .before .before .before .before .before .before .before .before .symmetrise in
+    let far-1 = c .before .before .before .before .before .before .before .before .before .before .before .before in
+    let far-2 = far-1 .before .before .before .before .before .before .before .before .before .before .before .before in
+    let the-start = far-2 .before .before .before .before .before .before in (
+      omega (arith, the-start .pre .0 .0, the-start .pre .0 .1),
+      the-start .pre .0 .3,
+      omega (arith, the-symmetrise .kept .0, the-start .pre .0 .4),
+      omega
+          (arith, the-symmetrise .kept .1 .0, the-start .pre .0 .5),
+    )
 
 same-length-7 : tie.Need-same-length-7
 same-length-7 c = search needs

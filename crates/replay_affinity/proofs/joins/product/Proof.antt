@@ -1,3 +1,4 @@
+-- `replay_affinity::joins::product` meets its contract: each need follows from its own premises.
 use native.Mathlib.Nat.{mul-le-mul}
 use mathlib.Core.Path.{refl}
 use native.Mathlib.Omega.{arith}

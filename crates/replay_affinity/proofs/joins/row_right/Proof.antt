@@ -1,9 +1,10 @@
+-- `replay_affinity::joins::row_right` meets its contract: the loop keeps `Risen`; by `row-in`, `risen-none`, `risen-next`, `row-there`, `all-done`.
 use mathlib.Core.Path.{sym, subst}
 use mathlib.Core.Bool.{true≢false}
 use Prim.Native.Nat.{ℕ, _≤_, _-_, _+_, _*_}
 use Rattle.laws.specs.Area.{num}
 use Rattle.laws.proofs.Numbers.{row-in}
-use Rattle.replay_affinity.proofs.Rowing.{Risen, risen-none, risen-more, row-there, all-done}
+use Rattle.replay_affinity.proofs.Rowing.{Risen, risen-none, risen-next, row-there, all-done}
 use borrow.Author.Needs.{needs}
 use native.Mathlib.Omega.{arith}
 use Rattle.replay_affinity.proofs.joins.row_right.Statement.{statement}
@@ -25,10 +26,14 @@ add-wide : tie.Need-add-wide Inv-loop μ-loop
 add-wide c = omega (arith, row-in _ _ _ _ (c .before .before .before .pre .0) (c .before .before .before .pre .1))
 
 mul-wide : tie.Need-mul-wide Inv-loop μ-loop
-mul-wide c = omega (arith, row-in _ _ _ _ (c .before .before .before .pre .0) (c .before .before .before .pre .1), c .loop-test .taken)
+mul-wide c =
+    let the-start = c .before .before .before in
+    omega (arith, row-in _ _ _ _ (the-start .pre .0) (the-start .pre .1), c .loop-test .taken)
 
 shared-slice-read-wide : tie.Need-shared-slice-read-wide Inv-loop μ-loop
-shared-slice-read-wide c = omega (arith, row-in _ _ _ _ (c .before .before .before .before .pre .0) (c .before .before .before .before .pre .1), c .before .loop-test .taken)
+shared-slice-read-wide c =
+    let the-start = c .before .before .before .before in
+    omega (arith, row-in _ _ _ _ (the-start .pre .0) (the-start .pre .1), c .before .loop-test .taken)
 
 wide-requires : tie.Need-wide-requires Inv-loop μ-loop
 wide-requires c κs = search needs
@@ -52,13 +57,24 @@ loop-less : tie.Need-loop-less Inv-loop μ-loop
 loop-less c = search needs
 
 loop-again : tie.Need-loop-again Inv-loop μ-loop
-loop-again c = (omega arith, rw (c .before .before .before .wide .ensures) (risen-more (rw (c .before .before .before .wide .ensures) at (c .before .before .if1 .left)) (rw (c .before .before .before .wide .ensures) at (c .before .if2 .left)) (rw (c .before .before .before .wide .ensures) at (c .if3 .left)) (c .before .before .before .before .before .before .loop .inv .1)))
+loop-again c =
+    let the-if1 = c .before .before .if1 in
+    let the-wide = c .before .before .before .wide in
+    let the-loop = c .before .before .before .before .before .before .loop in (
+      omega arith,
+      rw (the-wide .ensures)
+          (risen-next (rw (the-wide .ensures) at (the-if1 .left)) (rw (the-wide .ensures) at (c .before .if2 .left)) (rw (the-wide .ensures) at (c .if3 .left))
+          (the-loop .inv .1)),
+    )
 
 returns-4 : tie.Need-returns-4 Inv-loop μ-loop
 returns-4 c =
-    let a = c .before .before .before .args in
+    let the-start = c .before .before .before in
+    let a = the-start .args in
     let l = c .before .loop in
-    λ _. row-there (a .indices .now) (subst (λ (x : ℕ). Risen (a .n) x (a .i) (l .low) (λ s. num (a .indices .now) (a .i * a .k + s))) (all-done (l .t) (a .k) (l .inv .0) (c .loop-test .left)) (l .inv .1))
+    λ _. row-there (a .indices .now)
+    (subst (λ (x : ℕ). Risen (a .n) x (a .i) (l .low) (λ s. num (a .indices .now) (a .i * a .k + s))) (all-done (l .t) (a .k) (l .inv .0) (c .loop-test .left))
+    (l .inv .1))
 
 pub row-right-spec : {M : Type 1} → statement M
 row-right-spec =

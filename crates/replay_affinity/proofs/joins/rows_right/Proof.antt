@@ -1,3 +1,4 @@
+-- `replay_affinity::joins::rows_right` meets its contract: the loop keeps `Rowed`; by `rows-none`, `all-done`.
 use mathlib.Core.Path.{sym, subst}
 use mathlib.Core.Bool.{true≢false}
 use Prim.Native.Nat.{ℕ, _≤_, _-_}
@@ -32,11 +33,14 @@ loop-less : tie.Need-loop-less Inv-loop μ-loop
 loop-less c = search needs
 
 loop-again : tie.Need-loop-again Inv-loop μ-loop
-loop-again c = (omega arith, c .before .row-right .ensures (not-false _ (c .if1 .left)) (c .before .before .before .loop .inv .1))
+loop-again c =
+    let the-loop = c .before .before .before .loop in
+    (omega arith, c .before .row-right .ensures (not-false _ (c .if1 .left)) (the-loop .inv .1))
 
 returns-2 : tie.Need-returns-2 Inv-loop μ-loop
 returns-2 c =
-    let a = c .before .before .before .args in
+    let the-start = c .before .before .before in
+    let a = the-start .args in
     let l = c .before .loop in
     λ _. subst (λ (x : ℕ). Rowed x (a .n) (a .k) (a .indices .now)) (all-done (l .i) (a .n) (l .inv .0) (c .loop-test .left)) (l .inv .1)
 

@@ -1,3 +1,4 @@
+-- `replay_areas::bytes::byte_at` meets its contract: from what its calls promise.
 use Rattle.replay_areas.specs.Said.{listByte}
 use borrow.Author.Needs.{needs}
 use native.Mathlib.Omega.{arith}

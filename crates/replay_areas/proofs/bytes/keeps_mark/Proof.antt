@@ -1,3 +1,4 @@
+-- `replay_areas::bytes::keeps_mark` meets its contract: each need follows from its own premises.
 use borrow.Author.Tests.{lt-ltb, le-ltb}
 use borrow.Author.Needs.{needs}
 use native.Mathlib.Omega.{arith}

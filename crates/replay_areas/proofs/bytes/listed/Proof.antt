@@ -1,3 +1,4 @@
+-- `replay_areas::bytes::listed` meets its contract: by `and-no`.
 use Rattle.laws.proofs.Bools.{and-no}
 use borrow.Author.Tests.{lt-ltb, le-ltb}
 use Rattle.replay_areas.specs.Said.{listedByte}

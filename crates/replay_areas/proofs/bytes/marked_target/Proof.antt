@@ -1,7 +1,8 @@
+-- `replay_areas::bytes::marked_target` meets its contract: the loop keeps `Fetches`; by `fetches-whole`, `fetches-start`, `fetches-next`.
 use native.Mathlib.Omega.{arith}
 use Rattle.replay_areas.proofs.Whole.{fetches-whole}
 use Rattle.replay_areas.specs.Said.{byteMark}
-use Rattle.areas.proofs.Fetched.{Fetches, fetches-start, fetches-more}
+use Rattle.areas.proofs.Fetched.{Fetches, fetches-start, fetches-next}
 use mathlib.Core.Path.{refl}
 use mathlib.Core.Path.{_≡_}
 use Prim.Native.Nat.{_-_}
@@ -35,7 +36,8 @@ loop-less : tie.Need-loop-less Inv-loop μ-loop
 loop-less c = search needs
 
 loop-again : tie.Need-loop-again Inv-loop μ-loop
-loop-again c = (fetches-more (omega (arith, c .before .loop .inv .1)) (c .loop-test .taken) (c .before .loop .inv .0), c .before .loop .inv .1)
+loop-again c =
+    (fetches-next (omega (arith, c .before .loop .inv .1)) (c .loop-test .taken) (c .before .loop .inv .0), c .before .loop .inv .1)
 
 returns : tie.Need-returns Inv-loop μ-loop
 returns c = fetches-whole (c .loop-test .left) (c .before .loop .inv .0) (c .before .loop .inv .1)

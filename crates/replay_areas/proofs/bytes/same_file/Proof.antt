@@ -1,3 +1,4 @@
+-- `replay_areas::bytes::same_file` meets its contract: the loop keeps what has been done equal to its part of the whole; by `every-none`, `every-next`, `every-no`, `every-done`.
 use native.Mathlib.Omega.{arith}
 use mathlib.Core.Path.{_≡_, sym, _∙_}
 use mathlib.Core.Bool.{true}
@@ -6,7 +7,7 @@ use lib.ListN.{length}
 use lib.Dec.{eqb}
 use Rattle.laws.specs.Area.{num}
 use Rattle.replay_areas.specs.Said.{listedByte}
-use Rattle.laws.proofs.Every.{every-none, every-more, every-no, every-done}
+use Rattle.laws.proofs.Every.{every-none, every-next, every-no, every-done}
 use Rattle.laws.specs.Loops.{every}
 use Prim.Native.Nat.{_≤_, _-_}
 use borrow.Author.Needs.{needs}
@@ -29,7 +30,10 @@ listed-requires : tie.Need-listed-requires Inv-loop μ-loop
 listed-requires c κs = search needs
 
 returns : tie.Need-returns Inv-loop μ-loop
-returns c = sym (every-no _ _ (c .before .before .before .before .loop .i) (c .before .before .before .loop-test .taken) (ne-eqb _ _ (λ q. c .if1 .taken (q ∙ sym (c .before .listed .ensures)))))
+returns c =
+    let the-loop-test = c .before .before .before .loop-test in
+    let the-loop = c .before .before .before .before .loop in
+    sym (every-no _ _ (the-loop .i) (the-loop-test .taken) (ne-eqb _ _ (λ q. c .if1 .taken (q ∙ sym (c .before .listed .ensures)))))
 
 add-i : tie.Need-add-i Inv-loop μ-loop
 add-i c = search needs
@@ -38,7 +42,10 @@ loop-less : tie.Need-loop-less Inv-loop μ-loop
 loop-less c = search needs
 
 loop-again : tie.Need-loop-again Inv-loop μ-loop
-loop-again c = (every-more _ _ (c .before .before .before .before .loop .inv .0) (eq-eqb _ _ (c .if1 .left ∙ c .before .listed .ensures)), omega (arith, c .before .before .before .loop-test .taken))
+loop-again c =
+    let the-loop-test = c .before .before .before .loop-test in
+    let the-loop = c .before .before .before .before .loop in
+    (every-next _ _ (the-loop .inv .0) (eq-eqb _ _ (c .if1 .left ∙ c .before .listed .ensures)), omega (arith, the-loop-test .taken))
 
 returns-2 : tie.Need-returns-2 Inv-loop μ-loop
 returns-2 c = every-done _ _ _ (c .before .loop .inv .0) (c .before .loop .inv .1) (c .loop-test .left)

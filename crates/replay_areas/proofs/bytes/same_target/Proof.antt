@@ -1,10 +1,11 @@
+-- `replay_areas::bytes::same_target` meets its contract: the loop keeps what has been done equal to its part of the whole; by `every-none`, `every-next`, `every-no`, `every-done`.
 use Prim.Native.Nat.{_-_, _≤_}
 use mathlib.Core.Path.{_≡_, sym, _∙_}
 use mathlib.Core.Bool.{true}
 use borrow.Author.Tests.{eq-eqb, ne-eqb}
 use lib.Dec.{eqb}
 use Rattle.replay_areas.specs.Said.{listByte, listedByte}
-use Rattle.laws.proofs.Every.{every-none, every-more, every-no, every-done}
+use Rattle.laws.proofs.Every.{every-none, every-next, every-no, every-done}
 use Rattle.laws.specs.Loops.{every}
 use borrow.Author.Needs.{needs}
 use native.Mathlib.Omega.{arith}
@@ -37,7 +38,11 @@ byte-at-requires : tie.Need-byte-at-requires Inv-loop μ-loop
 byte-at-requires c κs = search needs
 
 returns : tie.Need-returns Inv-loop μ-loop
-returns c = sym (every-no _ _ (c .before .before .before .before .loop .i) (c .before .before .before .loop-test .taken) (ne-eqb _ _ (λ q. c .if1 .taken (c .before .before .listed .ensures ∙ q ∙ sym (c .before .byte-at .ensures)))))
+returns c =
+    let the-listed = c .before .before .listed in
+    let the-loop-test = c .before .before .before .loop-test in
+    let the-loop = c .before .before .before .before .loop in
+    sym (every-no _ _ (the-loop .i) (the-loop-test .taken) (ne-eqb _ _ (λ q. c .if1 .taken (the-listed .ensures ∙ q ∙ sym (c .before .byte-at .ensures)))))
 
 add-i : tie.Need-add-i Inv-loop μ-loop
 add-i c = search needs
@@ -46,7 +51,14 @@ loop-less : tie.Need-loop-less Inv-loop μ-loop
 loop-less c = search needs
 
 loop-again : tie.Need-loop-again Inv-loop μ-loop
-loop-again c = (every-more _ _ (c .before .before .before .before .loop .inv .0) (eq-eqb _ _ (sym (c .before .before .listed .ensures) ∙ c .if1 .left ∙ c .before .byte-at .ensures)), omega (arith, c .before .before .before .loop-test .taken))
+loop-again c =
+    let the-listed = c .before .before .listed in
+    let the-loop-test = c .before .before .before .loop-test in
+    let the-loop = c .before .before .before .before .loop in (
+      every-next _ _ (the-loop .inv .0) (eq-eqb _ _ (sym (the-listed .ensures) ∙ c .if1 .left ∙ c .before .byte-at .ensures)),
+      omega
+          (arith, the-loop-test .taken),
+    )
 
 returns-2 : tie.Need-returns-2 Inv-loop μ-loop
 returns-2 c = every-done _ _ _ (c .before .loop .inv .0) (c .before .loop .inv .1) (c .loop-test .left)

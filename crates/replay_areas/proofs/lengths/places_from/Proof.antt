@@ -1,3 +1,4 @@
+-- `replay_areas::lengths::places_from` meets its contract: from what its calls promise.
 use borrow.Author.Needs.{needs}
 use native.Mathlib.Omega.{arith}
 use borrow.Author.Needs.{needs}
@@ -26,7 +27,12 @@ plus-requires-6 : tie.Need-plus-requires-6
 plus-requires-6 c κs = search needs
 
 returns : tie.Need-returns
-returns c = rw (c .plus6 .ensures, c .before .plus5 .ensures, c .before .before .plus4 .ensures, c .before .before .before .plus3 .ensures, c .before .before .before .before .plus2 .ensures, c .before .before .before .before .before .plus .ensures)
+returns c =
+    let the-plus4 = c .before .before .plus4 in
+    let the-plus3 = c .before .before .before .plus3 in
+    let the-plus2 = c .before .before .before .before .plus2 in
+    let the-plus = c .before .before .before .before .before .plus in
+    rw (c .plus6 .ensures, c .before .plus5 .ensures, the-plus4 .ensures, the-plus3 .ensures, the-plus2 .ensures, the-plus .ensures)
 
 pub places-from-spec : {M : Type 1} → statement M
 places-from-spec =

@@ -1,3 +1,4 @@
+-- `replay_areas::wanted::zeros_at` meets its contract: from what its calls promise.
 use Prim.Native.Nat.{ℕ, _+_, _*_, _≤_}
 use native.Mathlib.Nat.{mul-le-mul}
 use native.Mathlib.Omega.{arith}
@@ -24,7 +25,9 @@ add-result : tie.Need-add-result
 add-result c = search needs
 
 mul-result-2 : tie.Need-mul-result-2
-mul-result-2 c = record { fits = omega (arith, mul-le-mul (c .before .before .length-at .ensures) (odd (c .length-at2 .ensures))) }
+mul-result-2 c =
+    let the-length-at = c .before .before .length-at in
+    record { fits = omega (arith, mul-le-mul (the-length-at .ensures) (odd (c .length-at2 .ensures))) }
 
 returns : tie.Need-returns
 returns c = search needs

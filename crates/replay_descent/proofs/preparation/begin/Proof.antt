@@ -1,3 +1,4 @@
+-- `replay_descent::preparation::begin` meets its contract: each need follows from its own premises.
 use mathlib.Core.Path.{sym}
 use lib.Seq.{length-take-le}
 use borrow.Author.Needs.{needs}
@@ -35,13 +36,19 @@ array-share-prefix-table : tie.Need-array-share-prefix-table
 array-share-prefix-table c = search needs
 
 slice-aggregate-prepared : tie.Need-slice-aggregate-prepared
-slice-aggregate-prepared c = sym (length-take-le (c .before .before .before .before .before .before .before .table-length .result) (c .before .before .before .before .values-at .result) (search needs))
+slice-aggregate-prepared c =
+    let the-values-at = c .before .before .before .before .values-at in
+    let the-table-length = c .before .before .before .before .before .before .before .table-length in
+    sym (length-take-le (the-table-length .result) (the-values-at .result) (search needs))
 
 array-share-prefix-start : tie.Need-array-share-prefix-start
 array-share-prefix-start c = search needs
 
 slice-aggregate-prepared-2 : tie.Need-slice-aggregate-prepared-2
-slice-aggregate-prepared-2 c = sym (length-take-le (c .before .before .before .before .before .before .before .start-length .result) (c .before .before .values-at2 .result) (search needs))
+slice-aggregate-prepared-2 c =
+    let the-values-at2 = c .before .before .values-at2 in
+    let the-start-length = c .before .before .before .before .before .before .before .start-length in
+    sym (length-take-le (the-start-length .result) (the-values-at2 .result) (search needs))
 
 marked-requires : tie.Need-marked-requires
 marked-requires c κs = search needs

@@ -1,9 +1,10 @@
+-- `replay_forces::figures::all_linked` meets its contract: the loop keeps `Linked`; by `each-next`.
 use mathlib.Core.Bool.{true≢false}
 use mathlib.Core.Path.{sym}
 use Prim.Native.Nat.{ℕ, _<_, _≤_, _-_}
 use borrow.Author.Tests.{not-false}
 use Rattle.gradient.specs.Forces.{Linked}
-use Rattle.replay_forces.proofs.Below.{each-more}
+use Rattle.replay_forces.proofs.Below.{each-next}
 use borrow.Author.Needs.{needs}
 use native.Mathlib.Omega.{arith}
 use Rattle.replay_forces.proofs.figures.all_linked.Statement.{statement}
@@ -31,7 +32,15 @@ loop-less : tie.Need-loop-less Inv-loop μ-loop
 loop-less c = search needs
 
 loop-again : tie.Need-loop-again Inv-loop μ-loop
-loop-again c = (omega (arith, c .before .before .loop-test .taken), each-more (λ (j : ℕ). Linked (c .before .before .before .before .before .before .before .args .n) (c .before .before .before .before .before .before .before .args .weights .now) (c .before .before .before .before .before .before .before .args .indices .now) (c .before .before .before .before .before .before .before .args .offsets .now) j) (c .before .before .before .loop .i) (c .before .before .before .loop .inv .1) (c .before .linked .ensures (not-false _ (c .if1 .left))))
+loop-again c =
+    let the-loop-test = c .before .before .loop-test in
+    let the-loop = c .before .before .before .loop in
+    let the-start = c .before .before .before .before .before .before .before in (
+      omega (arith, the-loop-test .taken),
+      each-next
+          (λ (j : ℕ). Linked (the-start .args .n) (the-start .args .weights .now) (the-start .args .indices .now) (the-start .args .offsets .now) j) (the-loop .i)
+          (the-loop .inv .1) (c .before .linked .ensures (not-false _ (c .if1 .left))),
+    )
 
 returns-2 : tie.Need-returns-2 Inv-loop μ-loop
 returns-2 c = λ e j l. (c .before .loop .inv .1) j (omega (arith, l, c .loop-test .left))

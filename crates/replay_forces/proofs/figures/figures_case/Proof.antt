@@ -1,3 +1,4 @@
+-- `replay_forces::figures::figures_case` meets its contract: from what its calls promise.
 use borrow.Author.Tests.{not-false}
 use borrow.Author.Needs.{needs}
 use native.Mathlib.Omega.{arith}
@@ -50,7 +51,9 @@ slice-aggregate-all-linked-3 : tie.Need-slice-aggregate-all-linked-3
 slice-aggregate-all-linked-3 c = search needs
 
 all-linked-requires : tie.Need-all-linked-requires
-all-linked-requires c κs = omega (arith, c .before .before .before .before .before .before .before .before .before .before .before .before .before .before .pre .1)
+all-linked-requires c κs =
+    let the-start = c .before .before .before .before .before .before .before .before .before .before .before .before .before .before in
+    omega (arith, the-start .pre .1)
 
 returns-2 : tie.Need-returns-2
 returns-2 c = search needs
@@ -68,10 +71,20 @@ slice-aggregate-barnes-hut-kl-4 : tie.Need-slice-aggregate-barnes-hut-kl-4
 slice-aggregate-barnes-hut-kl-4 c = search needs
 
 barnes-hut-kl-requires : tie.Need-barnes-hut-kl-requires
-barnes-hut-kl-requires c κs = (omega (arith, c .before .before .before .before .before .before .before .before .before .before .before .before .before .before .before .before .before .times .ensures .0, c .before .before .before .before .before .before .before .before .before .before .before .before .before .before .before .before .if1 .left, c .before .before .before .before .before .before .before .before .before .before .before .before .before .values-at .ok .1 .0 .1), c .before .before .before .before .before .all-linked .ensures (not-false _ (c .before .before .before .before .if2 .left)))
+barnes-hut-kl-requires c κs =
+    let the-if2 = c .before .before .before .before .if2 in
+    let the-all-linked = c .before .before .before .before .before .all-linked in
+    let the-values-at = c .before .before .before .before .before .before .before .before .before .before .before .before .before .values-at in
+    let the-if1 = c .before .before .before .before .before .before .before .before .before .before .before .before .before .before .before .before .if1 in
+    let far-1 = c .before .before .before .before .before .before .before .before .before .before .before .before in
+    let the-times = far-1 .before .before .before .before .before .times in
+    (omega (arith, the-times .ensures .0, the-if1 .left, the-values-at .ok .1 .0 .1), the-all-linked .ensures (not-false _ (the-if2 .left)))
 
 answer-at-requires : tie.Need-answer-at-requires
-answer-at-requires c κs = c .before .before .before .before .before .before .before .before .before .before .before .before .before .before .before .before .before .before .before .before .before .pre .1
+answer-at-requires c κs =
+    let far-1 = c .before .before .before .before .before .before .before .before .before .before .before .before in
+    let the-start = far-1 .before .before .before .before .before .before .before .before .before in
+    the-start .pre .1
 
 same-value-requires : tie.Need-same-value-requires
 same-value-requires c κs = search needs
@@ -80,4 +93,7 @@ returns-3 : tie.Need-returns-3
 returns-3 c = search needs
 
 pub figures-case-spec : {M : Type 1} → statement M
-figures-case-spec = tie.close (tie.spec cast-n times-requires returns plus-requires add-plus plus-requires-2 values-at-requires add-numbers-at numbers-at-requires numbers-at-requires-2 plus-requires-3 values-at-requires-2 slice-aggregate-all-linked slice-aggregate-all-linked-2 slice-aggregate-all-linked-3 all-linked-requires returns-2 slice-aggregate-barnes-hut-kl slice-aggregate-barnes-hut-kl-2 slice-aggregate-barnes-hut-kl-3 slice-aggregate-barnes-hut-kl-4 barnes-hut-kl-requires answer-at-requires same-value-requires returns-3)
+figures-case-spec = tie.close (tie.spec cast-n times-requires returns plus-requires add-plus plus-requires-2 values-at-requires add-numbers-at
+    numbers-at-requires numbers-at-requires-2 plus-requires-3 values-at-requires-2 slice-aggregate-all-linked slice-aggregate-all-linked-2
+    slice-aggregate-all-linked-3 all-linked-requires returns-2 slice-aggregate-barnes-hut-kl slice-aggregate-barnes-hut-kl-2 slice-aggregate-barnes-hut-kl-3
+    slice-aggregate-barnes-hut-kl-4 barnes-hut-kl-requires answer-at-requires same-value-requires returns-3)

@@ -1,6 +1,7 @@
+-- `replay_forces::links::below` meets its contract: the loop keeps `Below`; by `below-none`, `below-next`.
 use Prim.Native.Nat.{_≤_, _-_}
 use Rattle.gradient.specs.Forces.{Below}
-use Rattle.replay_forces.proofs.Below.{below-none, below-more}
+use Rattle.replay_forces.proofs.Below.{below-none, below-next}
 use mathlib.Core.Bool.{true≢false}
 use mathlib.Core.Path.{sym}
 use borrow.Author.Needs.{needs}
@@ -36,7 +37,13 @@ loop-less : tie.Need-loop-less Inv-loop μ-loop
 loop-less c = search needs
 
 loop-again : tie.Need-loop-again Inv-loop μ-loop
-loop-again c = (search needs, below-more (c .before .before .before .before .before .before .args .n) (c .before .before .before .before .loop .k) (c .before .before .before .before .before .before .args .indices .now) (c .before .before .before .before .loop .inv .1) (rw (c .before .wide .ensures) at (c .if1 .left)))
+loop-again c =
+    let the-loop = c .before .before .before .before .loop in
+    let the-start = c .before .before .before .before .before .before in (
+      search needs,
+      below-next (the-start .args .n) (the-loop .k) (the-start .args .indices .now) (the-loop .inv .1)
+          (rw (c .before .wide .ensures) at (c .if1 .left)),
+    )
 
 returns-2 : tie.Need-returns-2 Inv-loop μ-loop
 returns-2 c = λ e j l. (c .before .loop .inv .1) j (omega (arith, l, c .loop-test .left))

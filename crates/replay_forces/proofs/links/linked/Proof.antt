@@ -1,3 +1,4 @@
+-- `replay_forces::links::linked` meets its contract: from what its calls promise.
 use mathlib.Core.Path.{sym}
 use mathlib.Core.Bool.{true≢false}
 use borrow.Author.Needs.{needs}
@@ -44,7 +45,20 @@ below-requires : tie.Need-below-requires
 below-requires c κs = search needs
 
 returns-5 : tie.Need-returns-5
-returns-5 c = λ e. record { offsets = c .before .before .before .before .before .before .before .before .if1 .left; rises = rw (c .before .before .before .before .wide2 .ensures, c .before .before .before .before .before .before .wide .ensures) at (c .before .before .before .if2 .left); weights = rw (c .before .before .before .before .wide2 .ensures) at (c .before .before .if3 .left); indices = rw (c .before .before .before .before .wide2 .ensures) at (c .before .if4 .left); frames = rw (c .before .before .before .before .wide2 .ensures) at (c .below .ensures e) }
+returns-5 c =
+    let the-if3 = c .before .before .if3 in
+    let the-if2 = c .before .before .before .if2 in
+    let the-wide2 = c .before .before .before .before .wide2 in
+    let the-wide = c .before .before .before .before .before .before .wide in
+    let the-if1 = c .before .before .before .before .before .before .before .before .if1 in
+    λ e. record {
+      offsets = the-if1 .left;
+      rises = rw (the-wide2 .ensures, the-wide .ensures) at (the-if2 .left);
+      weights = rw (the-wide2 .ensures) at
+          (the-if3 .left);
+      indices = rw (the-wide2 .ensures) at (c .before .if4 .left);
+      frames = rw (the-wide2 .ensures) at (c .below .ensures e);
+    }
 
 pub linked-spec : {M : Type 1} → statement M
 linked-spec =

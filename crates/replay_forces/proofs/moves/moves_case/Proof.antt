@@ -1,3 +1,4 @@
+-- `replay_forces::moves::moves_case` meets its contract: from what its calls promise.
 use borrow.Author.Needs.{needs}
 use native.Mathlib.Omega.{arith}
 use Rattle.replay_forces.proofs.moves.moves_case.Statement.{statement}
@@ -79,7 +80,28 @@ slice-aggregate-same-moves-4 : tie.Need-slice-aggregate-same-moves-4
 slice-aggregate-same-moves-4 c = search needs
 
 same-moves-requires : tie.Need-same-moves-requires
-same-moves-requires c κs = (c .before .before .before .before .before .before .before .before .before .before .before .before .before .before .before .before .before .before .before .before .before .before .before .before .pre .1, c .before .before .before .before .before .before .before .before .before .before .before .before .before .before .before .before .before .before .before .before .before .before .before .before .pre .2, c .before .before .before .before .before .before .before .before .before .before .before .before .before .before .before .before .before .before .before .before .before .before .times .ensures .0, omega (arith, c .before .before .before .before .before .before .before .before .before .before .before .before .before .before .before .before .before .before .before .before .times2 .ensures .0, c .before .before .before .before .before .before .before .before .before .before .before .before .before .before .before .before .before .before .before .if2 .left, c .before .before .before .before .before .before .before .before .before .before .before .values-at .ok .1 .0 .1), omega (arith, c .before .before .before .before .before .before .before .before .before .before .before .before .before .before .before .before .before .before .before .before .before .if1 .left, c .before .before .before .before .before .before .before .before .before .values-at2 .ok .1 .0 .1), omega (arith, c .before .before .before .before .before .before .before .before .before .before .before .before .before .before .before .before .before .before .before .before .before .if1 .left, c .before .before .before .before .before .before .before .before .values-at3 .ok .1 .0 .1), omega (arith, c .before .before .before .before .before .before .before .before .before .before .before .before .before .before .before .before .before .before .before .before .before .if1 .left, c .before .before .before .before .before .before .values-at4 .ok .1 .0 .1))
+same-moves-requires c κs =
+    let the-values-at4 = c .before .before .before .before .before .before .values-at4 in
+    let the-values-at3 = c .before .before .before .before .before .before .before .before .values-at3 in
+    let the-values-at2 = c .before .before .before .before .before .before .before .before .before .values-at2 in
+    let the-values-at = c .before .before .before .before .before .before .before .before .before .before .before .values-at in
+    let far-1 = c .before .before .before .before .before .before .before .before .before .before .before .before in
+    let the-if2 = far-1 .before .before .before .before .before .before .before .if2 in
+    let the-times2 = far-1 .before .before .before .before .before .before .before .before .times2 in
+    let the-if1 = far-1 .before .before .before .before .before .before .before .before .before .if1 in
+    let the-times = far-1 .before .before .before .before .before .before .before .before .before .before .times in
+    let far-2 = far-1 .before .before .before .before .before .before .before .before .before .before .before .before in
+    let the-start = far-2 in (
+      the-start .pre .1,
+      the-start .pre .2,
+      the-times .ensures .0,
+      omega (arith, the-times2 .ensures .0, the-if2 .left, the-values-at .ok .1 .0 .1),
+      omega
+          (arith, the-if1 .left, the-values-at2 .ok .1 .0 .1),
+      omega (arith, the-if1 .left, the-values-at3 .ok .1 .0 .1),
+      omega
+          (arith, the-if1 .left, the-values-at4 .ok .1 .0 .1),
+    )
 
 returns-3 : tie.Need-returns-3
 returns-3 c = search needs

@@ -26,8 +26,13 @@ returns c = search needs
 
 loop-holds : tie.Need-loop-holds Inv-loop μ-loop
 loop-holds c =
-    let a = c .before .before .before .before .before .before .before .before .args in
-    ((search needs), (search needs), fine-walks 512 (a .used) (a .s .n) (a .s .c) (a .cells) (search needs) (sym (c .before .fine-in .ensures) ∙ not-false _ (c .if1 .left)))
+    let the-start = c .before .before .before .before .before .before .before .before in
+    let a = the-start .args in (
+      (search needs),
+      (search needs),
+      fine-walks 512 (a .used) (a .s .n) (a .s .c) (a .cells) (search needs)
+          (sym (c .before .fine-in .ensures) ∙ not-false _ (c .if1 .left)),
+    )
 
 one-point-requires : tie.Need-one-point-requires Inv-loop μ-loop
 one-point-requires c κs = search needs

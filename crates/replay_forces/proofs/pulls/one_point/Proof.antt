@@ -18,7 +18,19 @@ cast-forces-in : tie.Need-cast-forces-in
 cast-forces-in c = search needs
 
 forces-in-requires : tie.Need-forces-in-requires
-forces-in-requires c κs = ((search needs), (search needs), (search needs), (search needs), (search needs), (search needs), (search needs), c .before .before .before .linked .ensures (not-false _ (c .before .before .if1 .left)))
+forces-in-requires c κs =
+    let the-if1 = c .before .before .if1 in
+    let the-linked = c .before .before .before .linked in (
+      (search needs),
+      (search needs),
+      (search needs),
+      (search needs),
+      (search needs),
+      (search needs),
+      (search needs),
+      the-linked .ensures
+          (not-false _ (the-if1 .left)),
+    )
 
 same-length : tie.Need-same-length
 same-length c = search needs

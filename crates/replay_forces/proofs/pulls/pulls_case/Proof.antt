@@ -1,3 +1,4 @@
+-- `replay_forces::pulls::pulls_case` meets its contract: from what its calls promise.
 use borrow.Author.Needs.{needs}
 use native.Mathlib.Omega.{arith}
 use Rattle.replay_forces.proofs.pulls.pulls_case.Statement.{statement}
@@ -73,7 +74,20 @@ slice-aggregate-forces-of-5 : tie.Need-slice-aggregate-forces-of-5
 slice-aggregate-forces-of-5 c = search needs
 
 forces-of-requires : tie.Need-forces-of-requires
-forces-of-requires c κs = (c .before .before .before .before .before .before .before .before .before .before .before .before .before .before .before .before .before .before .before .before .before .before .pre .0, c .before .before .before .before .before .before .before .before .before .before .before .before .before .before .before .before .before .before .before .before .before .before .pre .1, omega (arith, c .before .before .before .before .before .before .before .before .before .before .before .before .before .before .before .before .before .before .before .times .ensures .0, c .before .before .before .before .before .before .before .before .before .before .before .before .before .before .before .before .before .before .if1 .left, c .before .before .before .before .before .before .before .before .before .before .before .before .values-at .ok .1 .0 .1), omega (arith, c .before .before .before .before .before .before .before .before .before .before .before .before .before .before .before .before .times2 .ensures .0, c .before .before .before .before .before .before .before .before .before .before .before .before .before .before .before .if2 .left))
+forces-of-requires c κs =
+    let the-values-at = c .before .before .before .before .before .before .before .before .before .before .before .before .values-at in
+    let the-if2 = c .before .before .before .before .before .before .before .before .before .before .before .before .before .before .before .if2 in
+    let the-times2 = c .before .before .before .before .before .before .before .before .before .before .before .before .before .before .before .before .times2 in
+    let far-1 = c .before .before .before .before .before .before .before .before .before .before .before .before in
+    let the-if1 = far-1 .before .before .before .before .before .before .if1 in
+    let the-times = far-1 .before .before .before .before .before .before .before .times in
+    let the-start = far-1 .before .before .before .before .before .before .before .before .before .before in (
+      the-start .pre .0,
+      the-start .pre .1,
+      omega (arith, the-times .ensures .0, the-if1 .left, the-values-at .ok .1 .0 .1),
+      omega
+          (arith, the-times2 .ensures .0, the-if2 .left),
+    )
 
 returns-3 : tie.Need-returns-3
 returns-3 c = search needs
@@ -82,10 +96,27 @@ slice-aggregate-same-forces : tie.Need-slice-aggregate-same-forces
 slice-aggregate-same-forces c = search needs
 
 answer-at-requires : tie.Need-answer-at-requires
-answer-at-requires c κs = c .before .before .before .before .before .before .before .before .before .before .before .before .before .before .before .before .before .before .before .before .before .before .before .before .before .before .pre .1
+answer-at-requires c κs =
+    let far-1 = c .before .before .before .before .before .before .before .before .before .before .before .before in
+    let far-2 = far-1 .before .before .before .before .before .before .before .before .before .before .before .before in
+    let the-start = far-2 .before .before in
+    the-start .pre .1
 
 same-forces-requires : tie.Need-same-forces-requires
-same-forces-requires c κs = (omega (arith, c .before .before .before .before .before .before .before .before .before .before .before .before .before .before .before .before .before .before .before .before .before .before .before .before .before .before .before .pre .1), omega (arith, c .before .before .before .before .before .before .before .before .before .before .before .before .before .before .before .before .before .before .before .before .before .before .before .before .before .before .before .pre .0), omega (arith, c .before .before .before .before .before .before .before .before .before .before .before .before .before .before .before .before .before .before .before .before .before .before .before .before .before .before .before .pre .0), c .before .before .before .before .before .before .before .before .before .before .before .before .before .before .before .before .before .before .before .before .before .before .before .before .times .ensures .0, omega (arith, c .before .before .before .before .before .before .before .before .before .before .before .before .before .before .before .before .before .before .before .before .before .times2 .ensures .0, c .before .before .before .before .before .before .before .before .before .before .before .before .before .before .before .before .before .before .before .before .if2 .left))
+same-forces-requires c κs =
+    let far-1 = c .before .before .before .before .before .before .before .before .before .before .before .before in
+    let the-if2 = far-1 .before .before .before .before .before .before .before .before .if2 in
+    let the-times2 = far-1 .before .before .before .before .before .before .before .before .before .times2 in
+    let far-2 = far-1 .before .before .before .before .before .before .before .before .before .before .before .before in
+    let the-times = far-2 .times in
+    let the-start = far-2 .before .before .before in (
+      omega (arith, the-start .pre .1),
+      omega (arith, the-start .pre .0),
+      omega (arith, the-start .pre .0),
+      the-times .ensures .0,
+      omega
+          (arith, the-times2 .ensures .0, the-if2 .left),
+    )
 
 returns-4 : tie.Need-returns-4
 returns-4 c = search needs

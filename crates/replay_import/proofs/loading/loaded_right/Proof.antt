@@ -1,3 +1,4 @@
+-- `replay_import::loading::loaded_right` meets its contract: from what its calls promise.
 use mathlib.Core.Path.{sym, subst}
 use Prim.Native.Nat.{ℕ, _≤_}
 use native.Mathlib.Omega.{arith}
@@ -95,10 +96,16 @@ marked-forces-requires : tie.Need-marked-forces-requires
 marked-forces-requires c κs = search needs
 
 array-share-prefix-settings : tie.Need-array-share-prefix-settings
-array-share-prefix-settings c = omega (arith, c .before .before .before .before .before .before .before .before .before .before .before .before .before .before .before .before .before .before .before .before .record-at .ok .1 .0 .1)
+array-share-prefix-settings c =
+    let far-1 = c .before .before .before .before .before .before .before .before .before .before .before .before in
+    let the-record-at = far-1 .before .before .before .before .before .before .before .before .record-at in
+    omega (arith, the-record-at .ok .1 .0 .1)
 
 slice-aggregate-load-back : tie.Need-slice-aggregate-load-back
-slice-aggregate-load-back c = sym (length-take-le 9 (c .before .before .before .before .before .before .before .before .before .before .before .before .before .before .before .before .before .before .before .before .before .record-at .result) (array-share-prefix-settings (c .before)))
+slice-aggregate-load-back c =
+    let far-1 = c .before .before .before .before .before .before .before .before .before .before .before .before in
+    let the-record-at = far-1 .before .before .before .before .before .before .before .before .before .record-at in
+    sym (length-take-le 9 (the-record-at .result) (array-share-prefix-settings (c .before)))
 
 array-share-prefix-start : tie.Need-array-share-prefix-start
 array-share-prefix-start c = search needs
@@ -113,7 +120,11 @@ slice-aggregate-load-back-3 : tie.Need-slice-aggregate-load-back-3
 slice-aggregate-load-back-3 c = sym (length-take-le _ _ (search needs))
 
 array-borrow-prefix-words : tie.Need-array-borrow-prefix-words
-array-borrow-prefix-words c = omega (arith, c .before .before .before .before .before .before .before .before .before .before .marked-record .ok .1 .0 .1, c .before .before .before .before .before .before .before .before .before .before .before .before .before .before .before .before .before .before .before .before .before .length-at .ensures)
+array-borrow-prefix-words c =
+    let the-marked-record = c .before .before .before .before .before .before .before .before .before .before .marked-record in
+    let far-1 = c .before .before .before .before .before .before .before .before .before .before .before .before in
+    let the-length-at = far-1 .before .before .before .before .before .before .before .before .before .length-at in
+    omega (arith, the-marked-record .ok .1 .0 .1, the-length-at .ensures)
 
 slice-aggregate-load-back-4 : tie.Need-slice-aggregate-load-back-4
 slice-aggregate-load-back-4 c = sym (length-take-le _ _ (array-borrow-prefix-words (c .before)))
@@ -161,10 +172,20 @@ slice-aggregate-load-back-11 : tie.Need-slice-aggregate-load-back-11
 slice-aggregate-load-back-11 c = sym (length-take-le _ _ (search needs))
 
 load-back-requires : tie.Need-load-back-requires
-load-back-requires c κs = (subst (λ (m : ℕ). m ≤ 1408) (sym (length-take-le _ _ (array-share-prefix-file (c .before .before .before .before .before .before .before .before .before)))) (c .before .before .before .before .before .before .before .before .before .before .before .before .before .before .before .before .before .before .before .before .before .before .before .before .before .length-at3 .ensures), c .before .before .before .before .before .before .before .before .before .before .before .before .before .before .before .before .before .before .before .before .before .before .before .lengths-at .ensures .7)
+load-back-requires c κs =
+    let the-start = c .before .before .before .before .before .before .before .before .before in
+    let far-1 = c .before .before .before .before .before .before .before .before .before .before .before .before in
+    let the-lengths-at = far-1 .before .before .before .before .before .before .before .before .before .before .before .lengths-at in
+    let far-2 = far-1 .before .before .before .before .before .before .before .before .before .before .before .before in
+    let the-length-at3 = far-2 .before .length-at3 in
+    (subst (λ (m : ℕ). m ≤ 1408) (sym (length-take-le _ _ (array-share-prefix-file (the-start)))) (the-length-at3 .ensures), the-lengths-at .ensures .7)
 
 words-of-requires : tie.Need-words-of-requires
-words-of-requires c κs = c .before .before .before .before .before .before .before .before .before .before .before .before .before .before .before .before .before .before .before .before .before .before .before .before .before .before .before .before .before .before .before .before .before .before .length-at3 .ensures
+words-of-requires c κs =
+    let far-1 = c .before .before .before .before .before .before .before .before .before .before .before .before in
+    let far-2 = far-1 .before .before .before .before .before .before .before .before .before .before .before .before in
+    let the-length-at3 = far-2 .before .before .before .before .before .before .before .before .before .before .length-at3 in
+    the-length-at3 .ensures
 
 plus-requires-8 : tie.Need-plus-requires-8
 plus-requires-8 c κs = search needs

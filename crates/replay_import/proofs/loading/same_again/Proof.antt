@@ -1,3 +1,4 @@
+-- `replay_import::loading::same_again` meets its contract: each need follows from its own premises.
 use mathlib.Core.Path.{sym}
 use lib.Seq.{length-take-le}
 use borrow.Author.Needs.{needs}

@@ -1,3 +1,4 @@
+-- `replay_park::reading::read_back` meets its contract: each need follows from its own premises.
 use borrow.Author.Needs.{needs}
 use Rattle.replay_park.proofs.reading.read_back.Statement.{statement}
 use Rattle.replay_park.proofs.reading.read_back.Tie as tie
@@ -42,7 +43,12 @@ returns : tie.Need-returns
 returns c = search needs
 
 same-again-requires : tie.Need-same-again-requires
-same-again-requires c κs = c .before .before .before .before .before .before .before .before .before .before .before .before .before .before .before .before .before .before .before .before .before .before .before .before .before .before .before .before .before .before .before .before .before .before .before .before .before .before .before .before .before .before .before .before .pre
+same-again-requires c κs =
+    let far-1 = c .before .before .before .before .before .before .before .before .before .before .before .before in
+    let far-2 = far-1 .before .before .before .before .before .before .before .before .before .before .before .before in
+    let far-3 = far-2 .before .before .before .before .before .before .before .before .before .before .before .before in
+    let the-start = far-3 .before .before .before .before .before .before .before .before in
+    the-start .pre
 
 same-length-9 : tie.Need-same-length-9
 same-length-9 c = search needs

@@ -1,3 +1,4 @@
+-- `replay_park::reading::read_right` meets its contract: from what its calls promise.
 use mathlib.Core.Path.{sym, subst}
 use Prim.Native.Nat.{ℕ, _≤_}
 use lib.Seq.{length-take-le}
@@ -105,7 +106,12 @@ slice-aggregate-read-back-9 : tie.Need-slice-aggregate-read-back-9
 slice-aggregate-read-back-9 c = sym (length-take-le _ _ (search needs))
 
 read-back-requires : tie.Need-read-back-requires
-read-back-requires c κs = (subst (λ (m : ℕ). m ≤ 1408) (sym (length-take-le _ _ (array-share-prefix-file (c .before .before .before .before .before .before .before .before .before)))) (c .before .before .before .before .before .before .before .before .before .before .before .before .before .before .before .before .before .before .before .before .before .before .before .length-at .ensures), c .before .before .before .before .before .before .before .before .before .before .before .before .before .before .before .before .before .lengths-at .ensures .7)
+read-back-requires c κs =
+    let the-start = c .before .before .before .before .before .before .before .before .before in
+    let far-1 = c .before .before .before .before .before .before .before .before .before .before .before .before in
+    let the-lengths-at = far-1 .before .before .before .before .before .lengths-at in
+    let the-length-at = far-1 .before .before .before .before .before .before .before .before .before .before .before .length-at in
+    (subst (λ (m : ℕ). m ≤ 1408) (sym (length-take-le _ _ (array-share-prefix-file (the-start)))) (the-length-at .ensures), the-lengths-at .ensures .7)
 
 plus-requires-5 : tie.Need-plus-requires-5
 plus-requires-5 c κs = search needs

@@ -1,5 +1,8 @@
 -- `replay_strip::lending::hand_in` meets its contract: a walk of its MIR. Printed (tests/walks_local).
+-- Locals: l0 the answer, l1 words, l2 positions, l3 increments, l4 gains, l5 affinities, l6 indices, l7 offsets, l8 forces, l9 cells, l10 k, l11 order, l12
+-- gaps, from l13 on the code's own, as `rt mir` numbers them. On entry local li is thing 40 - 2·i of what is held; what is put in front of it moves it up.
 -- Assumes nothing.
+use Rattle.lent.proofs.Beside.{_∥_}
 use mathlib.Core.Path.{refl, sym, _∙_}
 use Prim.Native.Nat.{ℕ, _<_, _^_}
 use mathlib.Core.List.{List, [], _∷_}
@@ -21,6 +24,7 @@ use contract.Running.{givenOf, tables, tablesOf}
 use types.Kit.{Given, ‵, _⊛_, ⋆, _$_, _∵_, !, qed, by, move, keep, drop, split, join, fsplit, fjoin, suffices, frame, done}
 use types.Part.{agg, whole, sub, look-in}
 use types.Run.{look, init, forget, stop, hop, fld, from, load, addr, of-opd, and-then, no-more, assigns, land, returns, enter, alloc1, alloc0, params1, pass1, pass0, free1, free0}
+use contract.Lifetimes.{Lfts, Shares}
 use denote.RattleType.{owns}
 use denote.Laws.{Is}
 use denote.Plain.{uint-makes, uint-tells, uint-vals}
@@ -62,10 +66,15 @@ use Rattle.replay_strip.proofs.lending.hand_in.Statement as stated
 use Rattle.replay_strip.proofs.lending.hand_in.Code as code
 
 abbrev Arg : Type 0
-Arg = RefT (List ℕ) × (RefT (List Float) × (RefT (List Float) × (RefT (List Float) × (RefT (List Float) × (RefT (List ℕ) × (RefT (List ℕ) × (RefT (List Float) × (List Cell × (ℕ × (RefT (List ℕ) × (RefT (List ℕ) × (Unit {0}))))))))))))
+Arg = RefT (List ℕ) × (RefT (List Float) × (RefT (List Float) × (RefT (List Float) × (RefT (List Float) × (RefT (List ℕ) × (RefT (List ℕ) × (RefT (List Float) ×
+    (List Cell × (ℕ × (RefT (List ℕ) × (RefT (List ℕ) × (Unit {0}))))))))))))
 
 abbrev stayed : Stays (f.ended .signature .params) (f.ended .kept)
-stayed = (stay-none-slice (0 ∷ []) tt (plain (λ _. u64)) yes, (stay-none-slice (1 ∷ []) tt (plain (λ _. f64)) yes, (stay-none-slice (2 ∷ []) tt (plain (λ _. f64)) yes, (stay-none-slice (3 ∷ []) tt (plain (λ _. f64)) yes, (stay-none-slice (4 ∷ []) tt (plain (λ _. f64)) yes, (stay-none-slice (5 ∷ []) tt (plain (λ _. u32)) yes, (stay-none-slice (6 ∷ []) tt (plain (λ _. u32)) yes, (stay-none-slice (7 ∷ []) tt (plain (λ _. f64)) yes, (stay-none (λ _. (Array Cell′.the-row 4)) yes, (stay-none (λ _. usize) yes, (stay-slice (8 ∷ []) tt (plain (λ _. u32)), (stay-slice (9 ∷ []) tt (plain (λ _. u64)), tt))))))))))))
+stayed = (stay-none-slice (0 ∷ []) tt (plain (λ _. u64)) yes ∥ stay-none-slice (1 ∷ []) tt (plain (λ _. f64)) yes ∥
+    stay-none-slice (2 ∷ []) tt (plain (λ _. f64)) yes ∥ stay-none-slice (3 ∷ []) tt (plain (λ _. f64)) yes ∥
+    stay-none-slice (4 ∷ []) tt (plain (λ _. f64)) yes ∥ stay-none-slice (5 ∷ []) tt (plain (λ _. u32)) yes ∥
+    stay-none-slice (6 ∷ []) tt (plain (λ _. u32)) yes ∥ stay-none-slice (7 ∷ []) tt (plain (λ _. f64)) yes ∥ stay-none (λ _. (Array Cell′.the-row 4)) yes ∥
+    stay-none (λ _. usize) yes ∥ stay-slice (8 ∷ []) tt (plain (λ _. u32)) ∥ stay-slice (9 ∷ []) tt (plain (λ _. u64)) ∥ tt)
 
 module _ {M : Type 1} (𝓤 : URA M) (H : Heap 𝓤) (A : Atoms 𝓤) (W : Given 𝓤 H A) (mem : Memory → SProp 𝓤) (run-of : Routine → Fun 𝓤)
     (s-words : Seat) (words : List ℕ) (ln-words : length words ≡ s-words .count) (room-words : Room u64 (s-words .count))
@@ -80,54 +89,144 @@ module _ {M : Type 1} (𝓤 : URA M) (H : Heap 𝓤) (A : Atoms 𝓤) (W : Given
     (k₀ : ℕ) (g-k₀ : k₀ < 2 ^ 64)
     (s-order : Seat) (order : List ℕ) (ln-order : length order ≡ s-order .count) (room-order : Room u32 (s-order .count))
     (s-gaps : Seat) (gaps : List ℕ) (ln-gaps : length gaps ≡ s-gaps .count) (room-gaps : Room u64 (s-gaps .count)) where
-  abbrev x : Arg
-  x = (ref-at s-words words, (ref-at s-positions positions, (ref-at s-increments increments, (ref-at s-gains gains, (ref-at s-affinities affinities, (ref-at s-indices indices, (ref-at s-offsets offsets, (ref-at s-forces forces, (cells, (k₀, (ref-at s-order order, (ref-at s-gaps gaps, tt))))))))))))
+  abbrev lives : Lfts (f.signature .lifetimes)
+  lives = (s-words .life ∥ s-positions .life ∥ s-increments .life ∥ s-gains .life ∥ s-affinities .life ∥ s-indices .life ∥ s-offsets .life ∥ s-forces .life ∥ s-order .life ∥ s-gaps .life ∥ tt)
 
-  abbrev at : Vals f.signature (s-words .life, (s-positions .life, (s-increments .life, (s-gains .life, (s-affinities .life, (s-indices .life, (s-offsets .life, (s-forces .life, (s-order .life, (s-gaps .life, tt))))))))))
-  at = (word s-words ∷ [], (word s-positions ∷ [], (word s-increments ∷ [], (word s-gains ∷ [], (word s-affinities ∷ [], (word s-indices ∷ [], (word s-offsets ∷ [], (word s-forces ∷ [], (array-val (LL.vals Cell′.the-type Cell″.the-laws) cells ∷ [], (vint w64 k₀ ∷ [], (word s-order ∷ [], (word s-gaps ∷ [], tt))))))))))))
+  abbrev shares : Shares (f.signature .lifetimes)
+  shares = (s-words .share ∥ s-positions .share ∥ s-increments .share ∥ s-gains .share ∥ s-affinities .share ∥ s-indices .share ∥ s-offsets .share ∥
+      s-forces .share ∥ s-order .share ∥ s-gaps .share ∥ tt)
+
+  abbrev x : Arg
+  x = (ref-at s-words words ∥ ref-at s-positions positions ∥ ref-at s-increments increments ∥ ref-at s-gains gains ∥ ref-at s-affinities affinities ∥
+      ref-at s-indices indices ∥ ref-at s-offsets offsets ∥ ref-at s-forces forces ∥ cells ∥ k₀ ∥ ref-at s-order order ∥ ref-at s-gaps gaps ∥ tt)
+
+  abbrev at : Vals f.signature lives
+  at = (word s-words ∷ [] ∥ word s-positions ∷ [] ∥ word s-increments ∷ [] ∥ word s-gains ∷ [] ∥ word s-affinities ∷ [] ∥ word s-indices ∷ [] ∥
+      word s-offsets ∷ [] ∥ word s-forces ∷ [] ∥ array-val (LL.vals Cell′.the-type Cell″.the-laws) cells ∷ [] ∥ vint w64 k₀ ∷ [] ∥ word s-order ∷ [] ∥
+      word s-gaps ∷ [] ∥ tt)
 
   abbrev Post : Val → SProp 𝓤
-  Post = walkOf 𝓤 H A f.ended stayed (f.clauses 𝓤 H A mem run-of) .post (((s-words .life, (s-positions .life, (s-increments .life, (s-gains .life, (s-affinities .life, (s-indices .life, (s-offsets .life, (s-forces .life, (s-order .life, (s-gaps .life, tt)))))))))), (s-words .share, (s-positions .share, (s-increments .share, (s-gains .share, (s-affinities .share, (s-indices .share, (s-offsets .share, (s-forces .share, (s-order .share, (s-gaps .share, tt)))))))))), tt, x, at), tt)
+  Post = walkOf 𝓤 H A f.ended stayed (f.clauses 𝓤 H A mem run-of) .post ((lives, shares, tt, x, at), tt)
 
   typed-Handed : (v : Handed) → IsHanded v → T (hasTy Handed″.mir (val-Handed v)) × WT (val-Handed v)
   typed-Handed v g = Handed″.the-field-laws .lawful 𝓤 H A W .typed (Handed′.the-type .to v) _ g .0
 
-  exits : (res : Handed) (order′ : List ℕ) (gaps′ : List ℕ) → IsHanded res → length order′ ≡ s-order .count → length gaps′ ≡ s-gaps .count → handing res order′ gaps′ ≡ handedOut words (memory positions increments gains affinities indices offsets forces (take k₀ cells)) order gaps → ent 𝓤 (⋆ 𝓤 H A (‵ (Shr u64 s-words words) ∷ ‵ (Tok s-words) ∷ ‵ (Shr f64 s-positions positions) ∷ ‵ (Tok s-positions) ∷ ‵ (Shr f64 s-increments increments) ∷ ‵ (Tok s-increments) ∷ ‵ (Shr f64 s-gains gains) ∷ ‵ (Tok s-gains) ∷ ‵ (Shr f64 s-affinities affinities) ∷ ‵ (Tok s-affinities) ∷ ‵ (Shr u32 s-indices indices) ∷ ‵ (Tok s-indices) ∷ ‵ (Shr u32 s-offsets offsets) ∷ ‵ (Tok s-offsets) ∷ ‵ (Shr f64 s-forces forces) ∷ ‵ (Tok s-forces) ∷ ‵ (Mut u32 s-order order′) ∷ ‵ (Tok s-order) ∷ ‵ (Mut u64 s-gaps gaps′) ∷ ‵ (Tok s-gaps) ∷ [])) (Post (val-Handed res))
+  exits : (res : Handed) (order′ : List ℕ) (gaps′ : List ℕ) → IsHanded res → length order′ ≡ s-order .count → length gaps′ ≡ s-gaps .count →
+      handing res order′ gaps′ ≡ handedOut words (memory positions increments gains affinities indices offsets forces (take k₀ cells)) order gaps →
+      ent 𝓤 (⋆ 𝓤 H A (‵ (Shr u64 s-words words) ∷ ‵ (Tok s-words) ∷ ‵ (Shr f64 s-positions positions) ∷ ‵ (Tok s-positions) ∷
+      ‵ (Shr f64 s-increments increments) ∷ ‵ (Tok s-increments) ∷ ‵ (Shr f64 s-gains gains) ∷ ‵ (Tok s-gains) ∷ ‵ (Shr f64 s-affinities affinities) ∷
+      ‵ (Tok s-affinities) ∷ ‵ (Shr u32 s-indices indices) ∷ ‵ (Tok s-indices) ∷ ‵ (Shr u32 s-offsets offsets) ∷ ‵ (Tok s-offsets) ∷
+      ‵ (Shr f64 s-forces forces) ∷ ‵ (Tok s-forces) ∷ ‵ (Mut u32 s-order order′) ∷ ‵ (Tok s-order) ∷ ‵ (Mut u64 s-gaps gaps′) ∷ ‵ (Tok s-gaps) ∷ []))
+      (Post (val-Handed res))
   exits res order′ gaps′ is le-order le-gaps e =
-      qed W (‵ (Shr u64 s-words words) ∷ ‵ (Tok s-words) ∷ ‵ (Shr f64 s-positions positions) ∷ ‵ (Tok s-positions) ∷ ‵ (Shr f64 s-increments increments) ∷ ‵ (Tok s-increments) ∷ ‵ (Shr f64 s-gains gains) ∷ ‵ (Tok s-gains) ∷ ‵ (Shr f64 s-affinities affinities) ∷ ‵ (Tok s-affinities) ∷ ‵ (Shr u32 s-indices indices) ∷ ‵ (Tok s-indices) ∷ ‵ (Shr u32 s-offsets offsets) ∷ ‵ (Tok s-offsets) ∷ ‵ (Shr f64 s-forces forces) ∷ ‵ (Tok s-forces) ∷ ‵ (Mut u32 s-order order′) ∷ ‵ (Tok s-order) ∷ ‵ (Mut u64 s-gaps gaps′) ∷ ‵ (Tok s-gaps) ∷ []) ∵
-      suffices ! _ (ends-at 𝓤 H A f.ended stayed (f.clauses 𝓤 H A mem run-of) W (((s-words .life, (s-positions .life, (s-increments .life, (s-gains .life, (s-affinities .life, (s-indices .life, (s-offsets .life, (s-forces .life, (s-order .life, (s-gaps .life, tt)))))))))), (s-words .share, (s-positions .share, (s-increments .share, (s-gains .share, (s-affinities .share, (s-indices .share, (s-offsets .share, (s-forces .share, (s-order .share, (s-gaps .share, tt)))))))))), tt, x, at), tt) (val-Handed res) res (tt, (tt, (tt, (tt, (tt, (tt, (tt, (tt, (tt, (tt, (order′, (gaps′, tt)))))))))))) (tt, (tt, (tt, (tt, (tt, (tt, (tt, (tt, (tt, (tt, (le-order ∙ sym ln-order, (le-gaps ∙ sym ln-gaps, tt))))))))))))) $ says ! e $
-      nothing ! $ move ! (20 ∷ 0 ∷ []) $ join ! $ move ! (18 ∷ 0 ∷ []) $ join ! $ move ! (16 ∷ 0 ∷ []) $ join ! $ move ! (14 ∷ 0 ∷ []) $ join ! $ move ! (12 ∷ 0 ∷ []) $ join ! $ move ! (10 ∷ 0 ∷ []) $ join ! $ move ! (8 ∷ 0 ∷ []) $ join ! $ move ! (6 ∷ 0 ∷ []) $ join ! $ move ! (4 ∷ 0 ∷ []) $ join ! $ move ! (2 ∷ 0 ∷ []) $ join ! $ frame ! $ nothing ! $ move ! (10 ∷ 0 ∷ []) $ fjoin ! $ move ! (9 ∷ 0 ∷ []) $ fjoin ! $ owned ! usize (Is usize) (uint-makes 𝓤 H A W w64) k₀ _ (refl, g-k₀) $ fjoin ! $ owned ! (Array Cell′.the-row 4) (Is (Array Cell′.the-row 4)) (array-makes 𝓤 H A W Cell′.the-row ((LL.makes Cell′.the-type Cell″.the-plain) 𝓤 H A) 4) cells _ g-cells $ fjoin ! $ move ! (8 ∷ 0 ∷ []) $ fjoin ! $ move ! (7 ∷ 0 ∷ []) $ fjoin ! $ move ! (6 ∷ 0 ∷ []) $ fjoin ! $ move ! (5 ∷ 0 ∷ []) $ fjoin ! $ move ! (4 ∷ 0 ∷ []) $ fjoin ! $ move ! (3 ∷ 0 ∷ []) $ fjoin ! $ move ! (2 ∷ 0 ∷ []) $ fjoin ! $ move ! (1 ∷ 0 ∷ []) $ fjoin ! $ frame ! $ owned ! Handed′.the-row (Is Handed′.the-row) ((EL.makes Handed′.the-type Handed″.the-plain) 𝓤 H A) res _ is $ done !
+      qed W (‵ (Shr u64 s-words words) ∷ ‵ (Tok s-words) ∷ ‵ (Shr f64 s-positions positions) ∷ ‵ (Tok s-positions) ∷ ‵ (Shr f64 s-increments increments) ∷
+      ‵ (Tok s-increments) ∷ ‵ (Shr f64 s-gains gains) ∷ ‵ (Tok s-gains) ∷ ‵ (Shr f64 s-affinities affinities) ∷ ‵ (Tok s-affinities) ∷
+      ‵ (Shr u32 s-indices indices) ∷ ‵ (Tok s-indices) ∷ ‵ (Shr u32 s-offsets offsets) ∷ ‵ (Tok s-offsets) ∷ ‵ (Shr f64 s-forces forces) ∷
+      ‵ (Tok s-forces) ∷ ‵ (Mut u32 s-order order′) ∷ ‵ (Tok s-order) ∷ ‵ (Mut u64 s-gaps gaps′) ∷ ‵ (Tok s-gaps) ∷ []) ∵
+      suffices ! _ (ends-at 𝓤 H A f.ended stayed (f.clauses 𝓤 H A mem run-of) W ((lives, shares, tt, x, at), tt) (val-Handed res) res
+      (tt, (tt, (tt, (tt, (tt, (tt, (tt, (tt, (tt, (tt, (order′, (gaps′, tt)))))))))))) (tt ∥ tt ∥ tt ∥ tt ∥ tt ∥ tt ∥ tt ∥ tt ∥ tt ∥ tt ∥
+      le-order ∙ sym ln-order ∥ le-gaps ∙ sym ln-gaps ∥ tt)) $ says ! e $
+      nothing ! $ move ! (20 ∷ 0 ∷ []) $ join ! $ move ! (18 ∷ 0 ∷ []) $ join ! $ move ! (16 ∷ 0 ∷ []) $ join ! $ move ! (14 ∷ 0 ∷ []) $ join ! $
+      move ! (12 ∷ 0 ∷ []) $ join ! $ move ! (10 ∷ 0 ∷ []) $ join ! $ move ! (8 ∷ 0 ∷ []) $ join ! $ move ! (6 ∷ 0 ∷ []) $ join ! $ move ! (4 ∷ 0 ∷ []) $
+      join ! $ move ! (2 ∷ 0 ∷ []) $ join ! $ frame ! $ nothing ! $ move ! (10 ∷ 0 ∷ []) $ fjoin ! $ move ! (9 ∷ 0 ∷ []) $ fjoin ! $
+      owned ! usize (Is usize) (uint-makes 𝓤 H A W w64) k₀ _ (refl, g-k₀) $ fjoin ! $
+      owned ! (Array Cell′.the-row 4) (Is (Array Cell′.the-row 4))
+      (array-makes 𝓤 H A W Cell′.the-row ((LL.makes Cell′.the-type Cell″.the-plain) 𝓤 H A) 4) cells _ g-cells $ fjoin ! $ move ! (8 ∷ 0 ∷ []) $ fjoin ! $
+      move ! (7 ∷ 0 ∷ []) $ fjoin ! $ move ! (6 ∷ 0 ∷ []) $ fjoin ! $ move ! (5 ∷ 0 ∷ []) $ fjoin ! $ move ! (4 ∷ 0 ∷ []) $ fjoin ! $ move ! (3 ∷ 0 ∷ []) $
+      fjoin ! $ move ! (2 ∷ 0 ∷ []) $ fjoin ! $ move ! (1 ∷ 0 ∷ []) $ fjoin ! $ frame ! $
+      owned ! Handed′.the-row (Is Handed′.the-row) ((EL.makes Handed′.the-type Handed″.the-plain) 𝓤 H A) res _ is $ done !
 
   module _ (C : Calls 𝓤 H) (Λ : Loops 𝓤 H) (fm : FmC 𝓤 H (W .laws) C) (known-hand-out : Triple 𝓤 (C #hand-out·hand-out) (Contract-hand-out 𝓤 H A mem run-of)) where
-    walk : k₀ ≤ 4 → ent 𝓤 (onEntry 𝓤 H A f.signature (s-words .life, (s-positions .life, (s-increments .life, (s-gains .life, (s-affinities .life, (s-indices .life, (s-offsets .life, (s-forces .life, (s-order .life, (s-gaps .life, tt)))))))))) (s-words .share, (s-positions .share, (s-increments .share, (s-gains .share, (s-affinities .share, (s-indices .share, (s-offsets .share, (s-forces .share, (s-order .share, (s-gaps .share, tt)))))))))) x at) (WpFn 𝓤 H C Λ code.function (word s-words ∷ word s-positions ∷ word s-increments ∷ word s-gains ∷ word s-affinities ∷ word s-indices ∷ word s-offsets ∷ word s-forces ∷ array-val (LL.vals Cell′.the-type Cell″.the-laws) cells ∷ vint w64 k₀ ∷ word s-order ∷ word s-gaps ∷ []) Post)
+    walk : k₀ ≤ 4 → ent 𝓤 (onEntry 𝓤 H A f.signature lives shares x at)
+        (WpFn 𝓤 H C Λ code.function (word s-words ∷ word s-positions ∷ word s-increments ∷ word s-gains ∷ word s-affinities ∷ word s-indices ∷ word s-offsets ∷
+        word s-forces ∷ array-val (LL.vals Cell′.the-type Cell″.the-laws) cells ∷ vint w64 k₀ ∷ word s-order ∷ word s-gaps ∷ []) Post)
     walk ready =
-        qed W ((‵ (Tok s-words) ⊛ ‵ (Tok s-positions) ⊛ ‵ (Tok s-increments) ⊛ ‵ (Tok s-gains) ⊛ ‵ (Tok s-affinities) ⊛ ‵ (Tok s-indices) ⊛ ‵ (Tok s-offsets) ⊛ ‵ (Tok s-forces) ⊛ ‵ (Tok s-order) ⊛ ‵ (Tok s-gaps) ⊛ ‵ ftrue) ∷ ‵ (owns (ShrSlice (named 0) (s-words .life) u64 ∷ ShrSlice (named 1) (s-positions .life) f64 ∷ ShrSlice (named 2) (s-increments .life) f64 ∷ ShrSlice (named 3) (s-gains .life) f64 ∷ ShrSlice (named 4) (s-affinities .life) f64 ∷ ShrSlice (named 5) (s-indices .life) u32 ∷ ShrSlice (named 6) (s-offsets .life) u32 ∷ ShrSlice (named 7) (s-forces .life) f64 ∷ (Array Cell′.the-row 4) ∷ usize ∷ MutSlice (named 8) (s-order .life) u32 ∷ MutSlice (named 9) (s-gaps .life) u64 ∷ []) x at) ∷ []) ∵ enter ! C Λ code.function (word s-words ∷ word s-positions ∷ word s-increments ∷ word s-gains ∷ word s-affinities ∷ word s-indices ∷ word s-offsets ∷ word s-forces ∷ array-val (LL.vals Cell′.the-type Cell″.the-laws) cells ∷ vint w64 k₀ ∷ word s-order ∷ word s-gaps ∷ []) _ $
-        alloc1 ! (λ l0. alloc1 ! (λ l1. alloc1 ! (λ l2. alloc1 ! (λ l3. alloc1 ! (λ l4. alloc1 ! (λ l5. alloc1 ! (λ l6. alloc1 ! (λ l7. alloc1 ! (λ l8. alloc1 ! (λ l9. alloc1 ! (λ l10. alloc1 ! (λ l11. alloc1 ! (λ l12. alloc1 ! (λ l13. alloc1 ! (λ l14. alloc1 ! (λ l15. alloc1 ! (λ l16. alloc1 ! (λ l17. alloc1 ! (λ l18. alloc1 ! (λ l19. alloc1 ! (λ l20. alloc0 ! $ params1 ! $
-        pass1 ! (init ! 38 refl (tt, (tt, (record { fits = room-words .0 }, tt)))) $ pass1 ! (init ! 36 refl (tt, (tt, (record { fits = room-positions .0 }, tt)))) $ pass1 ! (init ! 34 refl (tt, (tt, (record { fits = room-increments .0 }, tt)))) $ pass1 ! (init ! 32 refl (tt, (tt, (record { fits = room-gains .0 }, tt)))) $ pass1 ! (init ! 30 refl (tt, (tt, (record { fits = room-affinities .0 }, tt)))) $ pass1 ! (init ! 28 refl (tt, (tt, (record { fits = room-indices .0 }, tt)))) $ pass1 ! (init ! 26 refl (tt, (tt, (record { fits = room-offsets .0 }, tt)))) $ pass1 ! (init ! 24 refl (tt, (tt, (record { fits = room-forces .0 }, tt)))) $ pass1 ! (init ! 22 refl (array-lawful 𝓤 H A W Cell′.the-row (LL.lawful Cell′.the-type Cell″.the-laws 𝓤 H A W) 4 .typed cells _ g-cells .0)) $ pass1 ! (init ! 20 refl (tt, record { fits = g-k₀ })) $ pass1 ! (init ! 18 refl (tt, (tt, (record { fits = room-order .0 }, tt)))) $ pass1 ! (init ! 16 refl (tt, (tt, (record { fits = room-gaps .0 }, tt)))) $ pass0 ! $
-        move ! (43 ∷ []) $ fsplit ! $ move ! (1 ∷ []) $ fsplit ! $ move ! (1 ∷ []) $ fsplit ! $ move ! (1 ∷ []) $ fsplit ! $ move ! (1 ∷ []) $ fsplit ! $ move ! (1 ∷ []) $ fsplit ! $ move ! (1 ∷ []) $ fsplit ! $ move ! (1 ∷ []) $ fsplit ! $ move ! (1 ∷ []) $ fsplit ! $ drop ! $ fsplit ! $ drop ! $ fsplit ! $ move ! (1 ∷ []) $ fsplit ! $ move ! (1 ∷ []) $ drop ! $ move ! (52 ∷ []) $ split ! $ move ! (1 ∷ []) $ split ! $ move ! (1 ∷ []) $ split ! $ move ! (1 ∷ []) $ split ! $ move ! (1 ∷ []) $ split ! $ move ! (1 ∷ []) $ split ! $ move ! (1 ∷ []) $ split ! $ move ! (1 ∷ []) $ split ! $ move ! (1 ∷ []) $ split ! $ move ! (1 ∷ []) $ split ! $ move ! (1 ∷ []) $ drop ! $ move ! (19 ∷ 9 ∷ 18 ∷ 8 ∷ 17 ∷ 7 ∷ 16 ∷ 6 ∷ 15 ∷ 5 ∷ 14 ∷ 4 ∷ 13 ∷ 3 ∷ 12 ∷ 2 ∷ 11 ∷ 1 ∷ 10 ∷ 0 ∷ []) $
-        assigns ! (of-opd ! (load ! (from ! (stop !)) (look ! 42 refl))) (from ! (stop !)) (init ! 34 refl (array-lawful 𝓤 H A W Cell′.the-row (LL.lawful Cell′.the-type Cell″.the-laws 𝓤 H A W) 4 .typed cells _ g-cells .0)) $
+        qed W ((‵ (Tok s-words) ⊛ ‵ (Tok s-positions) ⊛ ‵ (Tok s-increments) ⊛ ‵ (Tok s-gains) ⊛ ‵ (Tok s-affinities) ⊛ ‵ (Tok s-indices) ⊛ ‵ (Tok s-offsets) ⊛
+        ‵ (Tok s-forces) ⊛ ‵ (Tok s-order) ⊛ ‵ (Tok s-gaps) ⊛ ‵ ftrue) ∷
+        ‵ (owns (ShrSlice (named 0) (s-words .life) u64 ∷ ShrSlice (named 1) (s-positions .life) f64 ∷ ShrSlice (named 2) (s-increments .life) f64 ∷
+        ShrSlice (named 3) (s-gains .life) f64 ∷ ShrSlice (named 4) (s-affinities .life) f64 ∷ ShrSlice (named 5) (s-indices .life) u32 ∷
+        ShrSlice (named 6) (s-offsets .life) u32 ∷ ShrSlice (named 7) (s-forces .life) f64 ∷ (Array Cell′.the-row 4) ∷ usize ∷
+        MutSlice (named 8) (s-order .life) u32 ∷ MutSlice (named 9) (s-gaps .life) u64 ∷ []) x at) ∷ []) ∵
+        enter ! C Λ code.function (word s-words ∷ word s-positions ∷ word s-increments ∷ word s-gains ∷ word s-affinities ∷ word s-indices ∷
+        word s-offsets ∷ word s-forces ∷ array-val (LL.vals Cell′.the-type Cell″.the-laws) cells ∷ vint w64 k₀ ∷ word s-order ∷ word s-gaps ∷ []) _ $
+        alloc1 ! (λ l0. alloc1 ! (λ l1. alloc1 ! (λ l2. alloc1 ! (λ l3. alloc1 ! (λ l4. alloc1 ! (λ l5. alloc1 ! (λ l6. alloc1 ! (λ l7. alloc1 ! (λ l8.
+        alloc1 ! (λ l9. alloc1 ! (λ l10. alloc1 ! (λ l11. alloc1 ! (λ l12. alloc1 ! (λ l13. alloc1 ! (λ l14. alloc1 ! (λ l15. alloc1 ! (λ l16.
+        alloc1 ! (λ l17. alloc1 ! (λ l18. alloc1 ! (λ l19. alloc1 ! (λ l20. alloc0 ! $ params1 ! $
+        pass1 ! (init ! 38 refl (tt, (tt, (record { fits = room-words .0 }, tt)))) $
+        pass1 ! (init ! 36 refl (tt, (tt, (record { fits = room-positions .0 }, tt)))) $
+        pass1 ! (init ! 34 refl (tt, (tt, (record { fits = room-increments .0 }, tt)))) $
+        pass1 ! (init ! 32 refl (tt, (tt, (record { fits = room-gains .0 }, tt)))) $
+        pass1 ! (init ! 30 refl (tt, (tt, (record { fits = room-affinities .0 }, tt)))) $
+        pass1 ! (init ! 28 refl (tt, (tt, (record { fits = room-indices .0 }, tt)))) $
+        pass1 ! (init ! 26 refl (tt, (tt, (record { fits = room-offsets .0 }, tt)))) $
+        pass1 ! (init ! 24 refl (tt, (tt, (record { fits = room-forces .0 }, tt)))) $
+        pass1 ! (init ! 22 refl (array-lawful 𝓤 H A W Cell′.the-row (LL.lawful Cell′.the-type Cell″.the-laws 𝓤 H A W) 4 .typed cells _ g-cells .0)) $
+        pass1 ! (init ! 20 refl (tt, record { fits = g-k₀ })) $ pass1 ! (init ! 18 refl (tt, (tt, (record { fits = room-order .0 }, tt)))) $
+        pass1 ! (init ! 16 refl (tt, (tt, (record { fits = room-gaps .0 }, tt)))) $ pass0 ! $
+        move ! (43 ∷ []) $ fsplit ! $ move ! (1 ∷ []) $ fsplit ! $ move ! (1 ∷ []) $ fsplit ! $ move ! (1 ∷ []) $ fsplit ! $ move ! (1 ∷ []) $ fsplit ! $
+        move ! (1 ∷ []) $ fsplit ! $ move ! (1 ∷ []) $ fsplit ! $ move ! (1 ∷ []) $ fsplit ! $ move ! (1 ∷ []) $ fsplit ! $ drop ! $ fsplit ! $ drop ! $
+        fsplit ! $ move ! (1 ∷ []) $ fsplit ! $ move ! (1 ∷ []) $ drop ! $ move ! (52 ∷ []) $ split ! $ move ! (1 ∷ []) $ split ! $ move ! (1 ∷ []) $
+        split ! $ move ! (1 ∷ []) $ split ! $ move ! (1 ∷ []) $ split ! $ move ! (1 ∷ []) $ split ! $ move ! (1 ∷ []) $ split ! $ move ! (1 ∷ []) $
+        split ! $ move ! (1 ∷ []) $ split ! $ move ! (1 ∷ []) $ split ! $ move ! (1 ∷ []) $ drop ! $
+        move ! (19 ∷ 9 ∷ 18 ∷ 8 ∷ 17 ∷ 7 ∷ 16 ∷ 6 ∷ 15 ∷ 5 ∷ 14 ∷ 4 ∷ 13 ∷ 3 ∷ 12 ∷ 2 ∷ 11 ∷ 1 ∷ 10 ∷ 0 ∷ []) $
+        assigns ! (of-opd ! (load ! (from ! (stop !)) (look ! 42 refl))) (from ! (stop !))
+        (init ! 34 refl (array-lawful 𝓤 H A W Cell′.the-row (LL.lawful Cell′.the-type Cell″.the-laws 𝓤 H A W) 4 .typed cells _ g-cells .0)) $
         assigns ! (addr ! (from ! (stop !))) (from ! (stop !)) (init ! 30 refl (tt, tt)) $
-        assigns ! (agg ! (and-then ! (load ! (from ! (stop !)) (look ! 30 refl)) (and-then ! (load ! (from ! (stop !)) (look ! 40 refl)) (no-more !)))) (from ! (stop !)) (init ! 28 refl (tt, (tt, (record { fits = g-k₀ }, tt)))) $
+        assigns ! (agg ! (and-then ! (load ! (from ! (stop !)) (look ! 30 refl)) (and-then ! (load ! (from ! (stop !)) (look ! 40 refl)) (no-more !))))
+        (from ! (stop !)) (init ! 28 refl (tt, (tt, (record { fits = g-k₀ }, tt)))) $
         assigns ! (addr ! (from ! (fld ! refl (hop ! (look-in ! 38 (sub ! 0 refl (whole !))) (stop !))))) (from ! (stop !)) (init ! 26 refl (tt, tt)) $
-        assigns ! (agg ! (and-then ! (load ! (from ! (stop !)) (look ! 26 refl)) (and-then ! (load ! (from ! (fld ! refl (stop !))) (look-in ! 38 (sub ! 1 refl (whole !)))) (no-more !)))) (from ! (stop !)) (init ! 24 refl (tt, (tt, (record { fits = room-order .0 }, tt)))) $
+        assigns ! (agg ! (and-then ! (load ! (from ! (stop !)) (look ! 26 refl))
+        (and-then ! (load ! (from ! (fld ! refl (stop !))) (look-in ! 38 (sub ! 1 refl (whole !)))) (no-more !)))) (from ! (stop !))
+        (init ! 24 refl (tt, (tt, (record { fits = room-order .0 }, tt)))) $
         assigns ! (addr ! (from ! (fld ! refl (hop ! (look-in ! 36 (sub ! 0 refl (whole !))) (stop !))))) (from ! (stop !)) (init ! 22 refl (tt, tt)) $
-        assigns ! (agg ! (and-then ! (load ! (from ! (stop !)) (look ! 22 refl)) (and-then ! (load ! (from ! (fld ! refl (stop !))) (look-in ! 36 (sub ! 1 refl (whole !)))) (no-more !)))) (from ! (stop !)) (init ! 20 refl (tt, (tt, (record { fits = room-gaps .0 }, tt)))) $
+        assigns ! (agg ! (and-then ! (load ! (from ! (stop !)) (look ! 22 refl))
+        (and-then ! (load ! (from ! (fld ! refl (stop !))) (look-in ! 36 (sub ! 1 refl (whole !)))) (no-more !)))) (from ! (stop !))
+        (init ! 20 refl (tt, (tt, (record { fits = room-gaps .0 }, tt)))) $
         move ! (34 ∷ []) $
-        lend-front-shr ! tt Cell′.the-row tt (LL.vals Cell′.the-type Cell″.the-laws) ((LL.makes Cell′.the-type Cell″.the-plain) 𝓤 H A) 4 l13 k₀ cells g-cells (lit< tt, lit< tt) ready (λ ν-own13 δ-own13 count-own13.
+        lend-front-shr ! tt Cell′.the-row tt (LL.vals Cell′.the-type Cell″.the-laws) ((LL.makes Cell′.the-type Cell″.the-plain) 𝓤 H A) 4 l13 k₀ cells g-cells
+        (lit< tt, lit< tt) ready (λ ν-own13 δ-own13 count-own13.
         move ! (3 ∷ 4 ∷ 5 ∷ 6 ∷ 7 ∷ 8 ∷ 9 ∷ 10 ∷ 11 ∷ 12 ∷ 13 ∷ 14 ∷ 15 ∷ 16 ∷ 17 ∷ 18 ∷ 0 ∷ 1 ∷ 19 ∷ 20 ∷ 21 ∷ 22 ∷ []) $
-        calls-hand-out-cccccccccmm ! fm mem run-of known-hand-out s-words words s-positions positions s-increments increments s-gains gains s-affinities affinities s-indices indices s-offsets offsets s-forces forces (local-at l13 k₀ ν-own13 δ-own13) (take k₀ cells) s-order order s-gaps gaps ln-order ln-gaps (λ _ _ _ _ _ _ _ _ _ _ _ _. and-then ! (load ! (from ! (stop !)) (look ! 50 refl)) (and-then ! (load ! (from ! (stop !)) (look ! 48 refl)) (and-then ! (load ! (from ! (stop !)) (look ! 46 refl)) (and-then ! (load ! (from ! (stop !)) (look ! 44 refl)) (and-then ! (load ! (from ! (stop !)) (look ! 42 refl)) (and-then ! (load ! (from ! (stop !)) (look ! 40 refl)) (and-then ! (load ! (from ! (stop !)) (look ! 38 refl)) (and-then ! (load ! (from ! (stop !)) (look ! 36 refl)) (and-then ! (load ! (from ! (stop !)) (look ! 21 refl)) (and-then ! (load ! (from ! (stop !)) (look ! 17 refl)) (and-then ! (load ! (from ! (stop !)) (look ! 13 refl)) (no-more !)))))))))))) (λ r1 order1 gaps1 e1 is1 l-order1 l-gaps1.
+        calls-hand-out-cccccccccmm ! fm mem run-of known-hand-out s-words words s-positions positions s-increments increments s-gains gains s-affinities
+        affinities s-indices indices s-offsets offsets s-forces forces (local-at l13 k₀ ν-own13 δ-own13)
+        (take k₀ cells) s-order order s-gaps gaps ln-order ln-gaps (λ _ _ _ _ _ _ _ _ _ _ _ _. and-then ! (load ! (from ! (stop !)) (look ! 50 refl))
+        (and-then ! (load ! (from ! (stop !)) (look ! 48 refl))
+        (and-then ! (load ! (from ! (stop !)) (look ! 46 refl))
+        (and-then ! (load ! (from ! (stop !)) (look ! 44 refl))
+        (and-then ! (load ! (from ! (stop !)) (look ! 42 refl))
+        (and-then ! (load ! (from ! (stop !)) (look ! 40 refl))
+        (and-then ! (load ! (from ! (stop !)) (look ! 38 refl))
+        (and-then ! (load ! (from ! (stop !)) (look ! 36 refl))
+        (and-then ! (load ! (from ! (stop !)) (look ! 21 refl))
+        (and-then ! (load ! (from ! (stop !)) (look ! 17 refl)) (and-then ! (load ! (from ! (stop !)) (look ! 13 refl)) (no-more !))))))))))))
+        (λ r1 order1 gaps1 e1 is1 l-order1 l-gaps1.
         land ! (from ! (stop !)) (init ! 35 refl (typed-Handed r1 is1)) $
-        move ! (16 ∷ 17 ∷ 22 ∷ []) $ back-front-shr ! tt Cell′.the-row (LL.vals Cell′.the-type Cell″.the-laws) (LL.tells Cell′.the-type Cell″.the-laws) 4 l13 k₀ ν-own13 δ-own13 cells (g-cells .1 .0 .1) $
+        move ! (16 ∷ 17 ∷ 22 ∷ []) $ back-front-shr ! tt Cell′.the-row (LL.vals Cell′.the-type Cell″.the-laws)
+        (LL.tells Cell′.the-type Cell″.the-laws) 4 l13 k₀ ν-own13 δ-own13 cells (g-cells .1 .0 .1) $
         assigns ! (of-opd ! (load ! (from ! (stop !)) (look ! 33 refl))) (from ! (stop !)) (init ! 60 refl (typed-Handed r1 is1)) $
-        returns ! (look ! 60 refl) $ forget ! 21 refl $ forget ! 23 refl $ forget ! 25 refl $ forget ! 27 refl $ forget ! 29 refl $ forget ! 31 refl $ forget ! 33 refl $ forget ! 0 refl $ forget ! 36 refl $ forget ! 38 refl $ forget ! 40 refl $ forget ! 42 refl $ forget ! 44 refl $ forget ! 46 refl $ forget ! 48 refl $ forget ! 50 refl $ forget ! 52 refl $ forget ! 54 refl $ forget ! 56 refl $ forget ! 58 refl $ forget ! 60 refl $
-        move ! (60 ∷ 61 ∷ []) $ free1 ! $ move ! (58 ∷ 59 ∷ []) $ free1 ! $ move ! (56 ∷ 57 ∷ []) $ free1 ! $ move ! (54 ∷ 55 ∷ []) $ free1 ! $ move ! (52 ∷ 53 ∷ []) $ free1 ! $ move ! (50 ∷ 51 ∷ []) $ free1 ! $ move ! (48 ∷ 49 ∷ []) $ free1 ! $ move ! (46 ∷ 47 ∷ []) $ free1 ! $ move ! (44 ∷ 45 ∷ []) $ free1 ! $ move ! (42 ∷ 43 ∷ []) $ free1 ! $ move ! (40 ∷ 41 ∷ []) $ free1 ! $ move ! (38 ∷ 39 ∷ []) $ free1 ! $ move ! (36 ∷ 37 ∷ []) $ free1 ! $ move ! (0 ∷ 35 ∷ []) $ free1 ! $ move ! (32 ∷ 33 ∷ []) $ free1 ! $ move ! (30 ∷ 31 ∷ []) $ free1 ! $ move ! (28 ∷ 29 ∷ []) $ free1 ! $ move ! (26 ∷ 27 ∷ []) $ free1 ! $ move ! (24 ∷ 25 ∷ []) $ free1 ! $ move ! (22 ∷ 23 ∷ []) $ free1 ! $ move ! (20 ∷ 21 ∷ []) $ free1 ! $ free0 ! $
+        returns ! (look ! 60 refl) $ forget ! 21 refl $ forget ! 23 refl $ forget ! 25 refl $ forget ! 27 refl $ forget ! 29 refl $ forget ! 31 refl $
+        forget ! 33 refl $ forget ! 0 refl $ forget ! 36 refl $ forget ! 38 refl $ forget ! 40 refl $ forget ! 42 refl $ forget ! 44 refl $
+        forget ! 46 refl $ forget ! 48 refl $ forget ! 50 refl $ forget ! 52 refl $ forget ! 54 refl $ forget ! 56 refl $ forget ! 58 refl $
+        forget ! 60 refl $
+        move ! (60 ∷ 61 ∷ []) $ free1 ! $ move ! (58 ∷ 59 ∷ []) $ free1 ! $ move ! (56 ∷ 57 ∷ []) $ free1 ! $ move ! (54 ∷ 55 ∷ []) $ free1 ! $
+        move ! (52 ∷ 53 ∷ []) $ free1 ! $ move ! (50 ∷ 51 ∷ []) $ free1 ! $ move ! (48 ∷ 49 ∷ []) $ free1 ! $ move ! (46 ∷ 47 ∷ []) $ free1 ! $
+        move ! (44 ∷ 45 ∷ []) $ free1 ! $ move ! (42 ∷ 43 ∷ []) $ free1 ! $ move ! (40 ∷ 41 ∷ []) $ free1 ! $ move ! (38 ∷ 39 ∷ []) $ free1 ! $
+        move ! (36 ∷ 37 ∷ []) $ free1 ! $ move ! (0 ∷ 35 ∷ []) $ free1 ! $ move ! (32 ∷ 33 ∷ []) $ free1 ! $ move ! (30 ∷ 31 ∷ []) $ free1 ! $
+        move ! (28 ∷ 29 ∷ []) $ free1 ! $ move ! (26 ∷ 27 ∷ []) $ free1 ! $ move ! (24 ∷ 25 ∷ []) $ free1 ! $ move ! (22 ∷ 23 ∷ []) $ free1 ! $
+        move ! (20 ∷ 21 ∷ []) $ free1 ! $ free0 ! $
         keep ! (0 ∷ 1 ∷ 2 ∷ 3 ∷ 4 ∷ 5 ∷ 6 ∷ 7 ∷ 8 ∷ 9 ∷ 10 ∷ 11 ∷ 12 ∷ 13 ∷ 14 ∷ 15 ∷ 16 ∷ 17 ∷ 18 ∷ 19 ∷ []) $ by ! (exits r1 order1 gaps1 is1 l-order1 l-gaps1 e1))))))))))))))))))))))))
 
 module _ {M : Type 1} (𝓤 : URA M) (H : Heap 𝓤) (A : Atoms 𝓤) (W : Given 𝓤 H A) (mem : Memory → SProp 𝓤) (run-of : Routine → Fun 𝓤) where
-  hand-in-walks : (C : Calls 𝓤 H) (Λ : Loops 𝓤 H) → FmC 𝓤 H (W .laws) C → Triple 𝓤 (C #hand-out·hand-out) (Contract-hand-out 𝓤 H A mem run-of) → Walks 𝓤 H A f.ended stayed (WpFn 𝓤 H C Λ code.function) (f.clauses 𝓤 H A mem run-of)
+  hand-in-walks : (C : Calls 𝓤 H) (Λ : Loops 𝓤 H) → FmC 𝓤 H (W .laws) C → Triple 𝓤 (C #hand-out·hand-out) (Contract-hand-out 𝓤 H A mem run-of) →
+      Walks 𝓤 H A f.ended stayed (WpFn 𝓤 H C Λ code.function) (f.clauses 𝓤 H A mem run-of)
   hand-in-walks C Λ fm known-hand-out = walked 𝓤 H A f.ended stayed (f.clauses 𝓤 H A mem run-of) (WpFn 𝓤 H C Λ code.function)
-      (λ κs. (slice-vals, (slice-vals, (slice-vals, (slice-vals, (slice-vals, (slice-vals, (slice-vals, (slice-vals, (array-vals (LL.vals Cell′.the-type Cell″.the-laws), (uint-vals w64, (slice-vals, (slice-vals, tt)))))))))))))
-      (λ κs. (shr-slice-tells (named 0) (κs .0) u64, (shr-slice-tells (named 1) (κs .1 .0) f64, (shr-slice-tells (named 2) (κs .1 .1 .0) f64, (shr-slice-tells (named 3) (κs .1 .1 .1 .0) f64, (shr-slice-tells (named 4) (κs .1 .1 .1 .1 .0) f64, (shr-slice-tells (named 5) (κs .1 .1 .1 .1 .1 .0) u32, (shr-slice-tells (named 6) (κs .1 .1 .1 .1 .1 .1 .0) u32, (shr-slice-tells (named 7) (κs .1 .1 .1 .1 .1 .1 .1 .0) f64, (array-tells Cell′.the-row (LL.vals Cell′.the-type Cell″.the-laws) (LL.tells Cell′.the-type Cell″.the-laws) 4, (uint-tells w64, (mut-slice-tells (named 8) (κs .1 .1 .1 .1 .1 .1 .1 .1 .0) u32, (mut-slice-tells (named 9) (κs .1 .1 .1 .1 .1 .1 .1 .1 .1 .0) u64, tt)))))))))))))
+      (λ κs. (slice-vals ∥ slice-vals ∥ slice-vals ∥ slice-vals ∥ slice-vals ∥ slice-vals ∥ slice-vals ∥ slice-vals ∥
+      array-vals (LL.vals Cell′.the-type Cell″.the-laws) ∥ uint-vals w64 ∥ slice-vals ∥ slice-vals ∥ tt))
+      (λ κs. (shr-slice-tells (named 0) (κs .0) u64 ∥ shr-slice-tells (named 1) (κs .1 .0) f64 ∥ shr-slice-tells (named 2) (κs .1 .1 .0) f64 ∥
+      shr-slice-tells (named 3) (κs .1 .1 .1 .0) f64 ∥ shr-slice-tells (named 4) (κs .1 .1 .1 .1 .0) f64 ∥
+      shr-slice-tells (named 5) (κs .1 .1 .1 .1 .1 .0) u32 ∥ shr-slice-tells (named 6) (κs .1 .1 .1 .1 .1 .1 .0) u32 ∥
+      shr-slice-tells (named 7) (κs .1 .1 .1 .1 .1 .1 .1 .0) f64 ∥
+      array-tells Cell′.the-row (LL.vals Cell′.the-type Cell″.the-laws) (LL.tells Cell′.the-type Cell″.the-laws) 4 ∥ uint-tells w64 ∥
+      mut-slice-tells (named 8) (κs .1 .1 .1 .1 .1 .1 .1 .1 .0) u32 ∥ mut-slice-tells (named 9) (κs .1 .1 .1 .1 .1 .1 .1 .1 .1 .0) u64 ∥ tt))
       (λ κs qs bounds a _ are. needs 𝓤 ((a .1 .1 .1 .1 .1 .1 .1 .1 .1 .0) ≤ 4) _
       (walk 𝓤 H A W mem run-of
       (record { life = κs .0; share = qs .0; block = a .0 .ptr .0; off = a .0 .ptr .1; tag = a .0 .name; count = length (a .0 .now) }) (a .0 .now)
@@ -136,21 +235,73 @@ module _ {M : Type 1} (𝓤 : URA M) (H : Heap 𝓤) (A : Atoms 𝓤) (W : Given
       refl (are .1 .0 .0 .1)
       (record { life = κs .1 .1 .0; share = qs .1 .1 .0; block = a .1 .1 .0 .ptr .0; off = a .1 .1 .0 .ptr .1; tag = a .1 .1 .0 .name; count = length (a .1 .1 .0 .now) }) (a .1 .1 .0 .now)
       refl (are .1 .1 .0 .0 .1)
-      (record { life = κs .1 .1 .1 .0; share = qs .1 .1 .1 .0; block = a .1 .1 .1 .0 .ptr .0; off = a .1 .1 .1 .0 .ptr .1; tag = a .1 .1 .1 .0 .name; count = length (a .1 .1 .1 .0 .now) }) (a .1 .1 .1 .0 .now)
+      (record {
+        life = κs .1 .1 .1 .0;
+        share = qs .1 .1 .1 .0;
+        block = a .1 .1 .1 .0 .ptr .0;
+        off = a .1 .1 .1 .0 .ptr .1;
+        tag = a .1 .1 .1 .0 .name;
+        count = length (a .1 .1 .1 .0 .now);
+      }) (a .1 .1 .1 .0 .now)
       refl (are .1 .1 .1 .0 .0 .1)
-      (record { life = κs .1 .1 .1 .1 .0; share = qs .1 .1 .1 .1 .0; block = a .1 .1 .1 .1 .0 .ptr .0; off = a .1 .1 .1 .1 .0 .ptr .1; tag = a .1 .1 .1 .1 .0 .name; count = length (a .1 .1 .1 .1 .0 .now) }) (a .1 .1 .1 .1 .0 .now)
+      (record {
+        life = κs .1 .1 .1 .1 .0;
+        share = qs .1 .1 .1 .1 .0;
+        block = a .1 .1 .1 .1 .0 .ptr .0;
+        off = a .1 .1 .1 .1 .0 .ptr .1;
+        tag = a .1 .1 .1 .1 .0 .name;
+        count = length (a .1 .1 .1 .1 .0 .now);
+      }) (a .1 .1 .1 .1 .0 .now)
       refl (are .1 .1 .1 .1 .0 .0 .1)
-      (record { life = κs .1 .1 .1 .1 .1 .0; share = qs .1 .1 .1 .1 .1 .0; block = a .1 .1 .1 .1 .1 .0 .ptr .0; off = a .1 .1 .1 .1 .1 .0 .ptr .1; tag = a .1 .1 .1 .1 .1 .0 .name; count = length (a .1 .1 .1 .1 .1 .0 .now) }) (a .1 .1 .1 .1 .1 .0 .now)
+      (record {
+        life = κs .1 .1 .1 .1 .1 .0;
+        share = qs .1 .1 .1 .1 .1 .0;
+        block = a .1 .1 .1 .1 .1 .0 .ptr .0;
+        off = a .1 .1 .1 .1 .1 .0 .ptr .1;
+        tag = a .1 .1 .1 .1 .1 .0 .name;
+        count = length (a .1 .1 .1 .1 .1 .0 .now);
+      }) (a .1 .1 .1 .1 .1 .0 .now)
       refl (are .1 .1 .1 .1 .1 .0 .0 .1)
-      (record { life = κs .1 .1 .1 .1 .1 .1 .0; share = qs .1 .1 .1 .1 .1 .1 .0; block = a .1 .1 .1 .1 .1 .1 .0 .ptr .0; off = a .1 .1 .1 .1 .1 .1 .0 .ptr .1; tag = a .1 .1 .1 .1 .1 .1 .0 .name; count = length (a .1 .1 .1 .1 .1 .1 .0 .now) }) (a .1 .1 .1 .1 .1 .1 .0 .now)
+      (record {
+        life = κs .1 .1 .1 .1 .1 .1 .0;
+        share = qs .1 .1 .1 .1 .1 .1 .0;
+        block = a .1 .1 .1 .1 .1 .1 .0 .ptr .0;
+        off = a .1 .1 .1 .1 .1 .1 .0 .ptr .1;
+        tag = a .1 .1 .1 .1 .1 .1 .0 .name;
+        count = length (a .1 .1 .1 .1 .1 .1 .0 .now);
+      }) (a .1 .1 .1 .1 .1 .1 .0 .now)
       refl (are .1 .1 .1 .1 .1 .1 .0 .0 .1)
-      (record { life = κs .1 .1 .1 .1 .1 .1 .1 .0; share = qs .1 .1 .1 .1 .1 .1 .1 .0; block = a .1 .1 .1 .1 .1 .1 .1 .0 .ptr .0; off = a .1 .1 .1 .1 .1 .1 .1 .0 .ptr .1; tag = a .1 .1 .1 .1 .1 .1 .1 .0 .name; count = length (a .1 .1 .1 .1 .1 .1 .1 .0 .now) }) (a .1 .1 .1 .1 .1 .1 .1 .0 .now)
+      (record {
+        life = κs .1 .1 .1 .1 .1 .1 .1 .0;
+        share = qs .1 .1 .1 .1 .1 .1 .1 .0;
+        block = a .1 .1 .1 .1 .1 .1 .1 .0 .ptr .0;
+        off = a .1 .1 .1 .1 .1 .1 .1 .0 .ptr .1;
+        tag = a .1 .1 .1 .1 .1 .1 .1 .0 .name;
+        count = length (a .1 .1 .1 .1 .1 .1 .1 .0 .now);
+      })
+      (a .1 .1 .1 .1 .1 .1 .1 .0 .now)
       refl (are .1 .1 .1 .1 .1 .1 .1 .0 .0 .1)
       (a .1 .1 .1 .1 .1 .1 .1 .1 .0) (are .1 .1 .1 .1 .1 .1 .1 .1 .0)
       (a .1 .1 .1 .1 .1 .1 .1 .1 .1 .0) (are .1 .1 .1 .1 .1 .1 .1 .1 .1 .0 .1)
-      (record { life = κs .1 .1 .1 .1 .1 .1 .1 .1 .0; share = qs .1 .1 .1 .1 .1 .1 .1 .1 .0; block = a .1 .1 .1 .1 .1 .1 .1 .1 .1 .1 .0 .ptr .0; off = a .1 .1 .1 .1 .1 .1 .1 .1 .1 .1 .0 .ptr .1; tag = a .1 .1 .1 .1 .1 .1 .1 .1 .1 .1 .0 .name; count = length (a .1 .1 .1 .1 .1 .1 .1 .1 .1 .1 .0 .now) }) (a .1 .1 .1 .1 .1 .1 .1 .1 .1 .1 .0 .now)
+      (record {
+        life = κs .1 .1 .1 .1 .1 .1 .1 .1 .0;
+        share = qs .1 .1 .1 .1 .1 .1 .1 .1 .0;
+        block = a .1 .1 .1 .1 .1 .1 .1 .1 .1 .1 .0 .ptr .0;
+        off = a .1 .1 .1 .1 .1 .1 .1 .1 .1 .1 .0 .ptr .1;
+        tag = a .1 .1 .1 .1 .1 .1 .1 .1 .1 .1 .0 .name;
+        count = length
+            (a .1 .1 .1 .1 .1 .1 .1 .1 .1 .1 .0 .now);
+      }) (a .1 .1 .1 .1 .1 .1 .1 .1 .1 .1 .0 .now)
       refl (are .1 .1 .1 .1 .1 .1 .1 .1 .1 .1 .0 .0 .1)
-      (record { life = κs .1 .1 .1 .1 .1 .1 .1 .1 .1 .0; share = qs .1 .1 .1 .1 .1 .1 .1 .1 .1 .0; block = a .1 .1 .1 .1 .1 .1 .1 .1 .1 .1 .1 .0 .ptr .0; off = a .1 .1 .1 .1 .1 .1 .1 .1 .1 .1 .1 .0 .ptr .1; tag = a .1 .1 .1 .1 .1 .1 .1 .1 .1 .1 .1 .0 .name; count = length (a .1 .1 .1 .1 .1 .1 .1 .1 .1 .1 .1 .0 .now) }) (a .1 .1 .1 .1 .1 .1 .1 .1 .1 .1 .1 .0 .now)
+      (record {
+        life = κs .1 .1 .1 .1 .1 .1 .1 .1 .1 .0;
+        share = qs .1 .1 .1 .1 .1 .1 .1 .1 .1 .0;
+        block = a .1 .1 .1 .1 .1 .1 .1 .1 .1 .1 .1 .0 .ptr .0;
+        off = a .1 .1 .1 .1 .1 .1 .1 .1 .1 .1 .1 .0 .ptr .1;
+        tag = a .1 .1 .1 .1 .1 .1 .1 .1 .1 .1 .1 .0 .name;
+        count = length
+            (a .1 .1 .1 .1 .1 .1 .1 .1 .1 .1 .1 .0 .now);
+      }) (a .1 .1 .1 .1 .1 .1 .1 .1 .1 .1 .1 .0 .now)
       refl (are .1 .1 .1 .1 .1 .1 .1 .1 .1 .1 .1 .0 .0 .1)
       C Λ fm known-hand-out))
 
@@ -158,7 +309,13 @@ hand-in-meets : {M : Type 1} (𝓤 : URA M) (H : Heap 𝓤) (A : Atoms 𝓤) →
     → Triple 𝓤 (𝓣 .C #hand-out·hand-out) (Contract-hand-out 𝓤 H A mem run-of)
     → Meets 𝓤 H A f.signature (WpFn 𝓤 H (𝓣 .C) (𝓣 .Λ) code.function) (f.spec 𝓤 H A mem run-of)
 hand-in-meets 𝓤 H A W mem run-of 𝓣 known-hand-out =
-    walk-meets 𝓤 H A f.ended stayed W (goes-none-slice 𝓤 H A W 10 (0 ∷ []) tt (plain (λ _. u64)) yes, (goes-none-slice 𝓤 H A W 10 (1 ∷ []) tt (plain (λ _. f64)) yes, (goes-none-slice 𝓤 H A W 10 (2 ∷ []) tt (plain (λ _. f64)) yes, (goes-none-slice 𝓤 H A W 10 (3 ∷ []) tt (plain (λ _. f64)) yes, (goes-none-slice 𝓤 H A W 10 (4 ∷ []) tt (plain (λ _. f64)) yes, (goes-none-slice 𝓤 H A W 10 (5 ∷ []) tt (plain (λ _. u32)) yes, (goes-none-slice 𝓤 H A W 10 (6 ∷ []) tt (plain (λ _. u32)) yes, (goes-none-slice 𝓤 H A W 10 (7 ∷ []) tt (plain (λ _. f64)) yes, (goes-none 𝓤 H A W 10 (λ _. (Array Cell′.the-row 4)) yes (λ κs x f. refl), (goes-none 𝓤 H A W 10 (λ _. usize) yes (λ κs x f. refl), (goes-slice 𝓤 H A W 10 8 tt (plain (λ _. u32)), (goes-slice 𝓤 H A W 10 9 tt (plain (λ _. u64)), tt)))))))))))) (f.clauses 𝓤 H A mem run-of)
+    walk-meets 𝓤 H A f.ended stayed W (goes-none-slice 𝓤 H A W 10 (0 ∷ []) tt (plain (λ _. u64)) yes ∥
+    goes-none-slice 𝓤 H A W 10 (1 ∷ []) tt (plain (λ _. f64)) yes ∥ goes-none-slice 𝓤 H A W 10 (2 ∷ []) tt (plain (λ _. f64)) yes ∥
+    goes-none-slice 𝓤 H A W 10 (3 ∷ []) tt (plain (λ _. f64)) yes ∥ goes-none-slice 𝓤 H A W 10 (4 ∷ []) tt (plain (λ _. f64)) yes ∥
+    goes-none-slice 𝓤 H A W 10 (5 ∷ []) tt (plain (λ _. u32)) yes ∥ goes-none-slice 𝓤 H A W 10 (6 ∷ []) tt (plain (λ _. u32)) yes ∥
+    goes-none-slice 𝓤 H A W 10 (7 ∷ []) tt (plain (λ _. f64)) yes ∥ goes-none 𝓤 H A W 10 (λ _. (Array Cell′.the-row 4)) yes (λ κs x f. refl) ∥
+    goes-none 𝓤 H A W 10 (λ _. usize) yes (λ κs x f. refl) ∥ goes-slice 𝓤 H A W 10 8 tt (plain (λ _. u32)) ∥ goes-slice 𝓤 H A W 10 9 tt (plain (λ _. u64)) ∥
+    tt) (f.clauses 𝓤 H A mem run-of)
     (WpFn 𝓤 H (𝓣 .C) (𝓣 .Λ) code.function) (WpFn-mono 𝓤 H (W .laws) 𝓣 code.function) (hand-in-walks 𝓤 H A W mem run-of (𝓣 .C) (𝓣 .Λ) (fmOf 𝓤 H (W .laws) 𝓣) known-hand-out)
 
 pub hand-in-spec : {M : Type 1} → stated.statement M

@@ -1,3 +1,4 @@
+-- `replay_take_out::areas::digest_bits` meets its contract: the loop keeps what has been done equal to its part of the whole.
 use Prim.Native.Nat.{_≤_, _-_}
 use borrow.Author.Needs.{needs}
 use Rattle.replay_take_out.proofs.areas.digest_bits.Statement.{statement}
@@ -12,8 +13,8 @@ abbrev μ-loop : tie.MeasureT-loop
 loop-holds : tie.Need-loop-holds Inv-loop μ-loop
 loop-holds c = search needs
 
-mul-more : tie.Need-mul-more Inv-loop μ-loop
-mul-more c = search needs
+mul-next : tie.Need-mul-more Inv-loop μ-loop
+mul-next c = search needs
 
 shared-slice-read-more : tie.Need-shared-slice-read-more Inv-loop μ-loop
 shared-slice-read-more c = search needs
@@ -40,7 +41,7 @@ digest-bits-spec =
     Inv-loop
     μ-loop
     loop-holds
-    mul-more
+    mul-next
     shared-slice-read-more
     more-requires
     add-i

@@ -1,3 +1,4 @@
+-- `replay_take_out::lengths::lengths_at` meets its contract: from what its calls promise.
 use borrow.Author.Needs.{needs}
 use borrow.Author.Needs.{needs}
 use Rattle.replay_take_out.proofs.lengths.lengths_at.Statement.{statement}
@@ -67,7 +68,30 @@ length-at-requires-11 : tie.Need-length-at-requires-11
 length-at-requires-11 c κs = search needs
 
 returns : tie.Need-returns
-returns c = (c .before .before .before .before .before .before .before .before .before .before .before .before .before .before .before .before .before .before .before .before .length-at .ensures, c .before .before .before .before .before .before .before .before .before .before .before .before .before .before .before .before .before .before .length-at2 .ensures, c .before .before .before .before .before .before .before .before .before .before .before .before .before .before .before .before .length-at3 .ensures, c .before .before .before .before .before .before .before .before .before .before .before .before .before .before .length-at4 .ensures, c .before .before .before .before .before .before .before .before .before .before .before .before .length-at5 .ensures, c .before .before .before .before .before .before .before .before .before .before .length-at6 .ensures, c .before .before .before .before .before .before .before .before .length-at7 .ensures, c .before .before .before .before .before .before .length-at8 .ensures, c .before .before .before .before .length-at9 .ensures, c .before .before .length-at10 .ensures, c .length-at11 .ensures)
+returns c =
+    let the-length-at10 = c .before .before .length-at10 in
+    let the-length-at9 = c .before .before .before .before .length-at9 in
+    let the-length-at8 = c .before .before .before .before .before .before .length-at8 in
+    let the-length-at7 = c .before .before .before .before .before .before .before .before .length-at7 in
+    let the-length-at6 = c .before .before .before .before .before .before .before .before .before .before .length-at6 in
+    let the-length-at5 = c .before .before .before .before .before .before .before .before .before .before .before .before .length-at5 in
+    let the-length-at4 = c .before .before .before .before .before .before .before .before .before .before .before .before .before .before .length-at4 in
+    let the-length-at3 = c .before .before .before .before .before .before .before .before .before .before .before .before .before .before .before .before .length-at3 in
+    let far-1 = c .before .before .before .before .before .before .before .before .before .before .before .before in
+    let the-length-at2 = far-1 .before .before .before .before .before .before .length-at2 in
+    let the-length-at = far-1 .before .before .before .before .before .before .before .before .length-at in (
+      the-length-at .ensures,
+      the-length-at2 .ensures,
+      the-length-at3 .ensures,
+      the-length-at4 .ensures,
+      the-length-at5 .ensures,
+      the-length-at6 .ensures,
+      the-length-at7 .ensures,
+      the-length-at8 .ensures,
+      the-length-at9 .ensures,
+      the-length-at10 .ensures,
+      c .length-at11 .ensures,
+    )
 
 pub lengths-at-spec : {M : Type 1} → statement M
 lengths-at-spec =

@@ -1,3 +1,4 @@
+-- `replay_take_out::taking::same_record` meets its contract: the loop keeps what has been done equal to its part of the whole.
 use Prim.Native.Nat.{_≤_, _-_}
 use borrow.Author.Needs.{needs}
 use Rattle.replay_take_out.proofs.taking.same_record.Statement.{statement}

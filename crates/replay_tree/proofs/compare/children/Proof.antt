@@ -1,3 +1,4 @@
+-- `replay_tree::compare::children` meets its contract: by `few-children`, `shl-one`.
 use Rattle.tree_node.proofs.Axes.{few-children}
 use Rattle.laws.proofs.Numbers.{shl-one}
 use borrow.Author.Needs.{needs}

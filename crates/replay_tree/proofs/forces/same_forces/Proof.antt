@@ -24,7 +24,8 @@ returns c = search needs
 
 loop-holds : tie.Need-loop-holds Inv-loop μ-loop
 loop-holds c =
-    let a = c .before .before .before .before .args in
+    let the-start = c .before .before .before .before in
+    let a = the-start .args in
     (search needs, fine-walks 512 (a .used) (a .n) (a .c) (a .cells) (search needs) (sym (c .before .fine-in .ensures) ∙ not-false _ (c .if1 .left)))
 
 mul-loop : tie.Need-mul-loop Inv-loop μ-loop
@@ -41,8 +42,11 @@ eye-of-requires c κs = search needs
 
 force-in-requires : tie.Need-force-in-requires Inv-loop μ-loop
 force-in-requires c κs =
-    let a = c .before .before .before .before .before .before .before .before .args in
-    subst (λ (m : ℕ). (Axes m) × (512 ≤ 512) × Walkable 512 (a .used) m (a .cells)) (sym (c .eye-of .ensures)) (c .before .before .before .before .before .before .before .before .pre .0, omega arith, c .before .before .before .loop .inv .1)
+    let the-loop = c .before .before .before .loop in
+    let the-start = c .before .before .before .before .before .before .before .before in
+    let a = the-start .args in
+    subst (λ (m : ℕ). (Axes m) × (512 ≤ 512) × Walkable 512 (a .used) m (a .cells)) (sym (c .eye-of .ensures))
+    (the-start .pre .0, omega arith, the-loop .inv .1)
 
 cast-product : tie.Need-cast-product Inv-loop μ-loop
 cast-product c = search needs

@@ -1,3 +1,4 @@
+-- `run_record::counters::finished_fits` meets its contract: each need follows from its own premises.
 use Rattle.run_record.specs.Record.{stateFits}
 use borrow.Author.Tests.{eq-eqb, ne-eqb}
 use Rattle.run_record.proofs.counters.finished_fits.Statement.{statement}

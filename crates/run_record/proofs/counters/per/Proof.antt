@@ -1,3 +1,4 @@
+-- `run_record::counters::per` meets its contract: from what its calls promise.
 use Rattle.run_record.specs.Record.{perOf}
 use mathlib.Core.Path.{sym, _∙_}
 use borrow.Author.Needs.{needs}

@@ -1,3 +1,4 @@
+-- `run_record::counters::state_fits` meets its contract: from what its calls promise.
 use Rattle.run_record.specs.Record.{stateFits}
 use mathlib.Core.Path.{refl}
 use borrow.Author.Needs.{needs}

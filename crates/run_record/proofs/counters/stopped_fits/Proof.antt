@@ -1,3 +1,4 @@
+-- `run_record::counters::stopped_fits` meets its contract: from what its calls promise.
 use Prim.Native.Nat.{suc}
 use native.Mathlib.Omega.{arith}
 use Rattle.laws.specs.Domain.{earlyIterations}
@@ -21,11 +22,17 @@ is-above-requires c κs = search needs
 
 returns-3 : tie.Need-returns-3
 unfolding stateFits
-returns-3 c = simp (le-leb _ _ (c .before .before .before .if1 .left), le-leb _ _ (c .before .before .if2 .left), sym (c .before .is-above .ensures) ∙ not-true _ (c .if3 .taken))
+returns-3 c =
+    let the-if2 = c .before .before .if2 in
+    let the-if1 = c .before .before .before .if1 in
+    simp (le-leb _ _ (the-if1 .left), le-leb _ _ (the-if2 .left), sym (c .before .is-above .ensures) ∙ not-true _ (c .if3 .taken))
 
 returns-4 : tie.Need-returns-4
 unfolding stateFits
-returns-4 c = simp (le-leb _ _ (c .before .before .before .if1 .left), le-leb _ _ (c .before .before .if2 .left), sym (c .before .is-above .ensures) ∙ not-false _ (c .if3 .left))
+returns-4 c =
+    let the-if2 = c .before .before .if2 in
+    let the-if1 = c .before .before .before .if1 in
+    simp (le-leb _ _ (the-if1 .left), le-leb _ _ (the-if2 .left), sym (c .before .is-above .ensures) ∙ not-false _ (c .if3 .left))
 
 pub stopped-fits-spec : {M : Type 1} → statement M
 stopped-fits-spec = tie.close (tie.spec returns returns-2 is-above-requires returns-3 returns-4)

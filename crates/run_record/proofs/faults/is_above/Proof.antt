@@ -1,3 +1,4 @@
+-- `run_record::faults::is_above` meets its contract: each need follows from its own premises.
 use Rattle.run_record.specs.Record.{aboveZero}
 use mathlib.Core.Path.{refl}
 use Rattle.run_record.proofs.faults.is_above.Statement.{statement}

@@ -1,3 +1,4 @@
+-- `run_record::faults::is_inside` meets its contract: each need follows from its own premises.
 use Rattle.run_record.specs.Record.{angleFine}
 use Rattle.run_record.proofs.faults.is_inside.Statement.{statement}
 use Rattle.run_record.proofs.faults.is_inside.Tie as tie

@@ -1,3 +1,4 @@
+-- `run_record::faults::is_positive` meets its contract: each need follows from its own premises.
 use Rattle.run_record.specs.Record.{positive}
 use Rattle.run_record.proofs.faults.is_positive.Statement.{statement}
 use Rattle.run_record.proofs.faults.is_positive.Tie as tie

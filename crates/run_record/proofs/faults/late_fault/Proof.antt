@@ -1,3 +1,4 @@
+-- `run_record::faults::late_fault` meets its contract: from what its calls promise.
 use borrow.Author.Tests.{eq-eqb, ne-eqb}
 use mathlib.Core.Path.{sym, _∙_}
 use Prim.Native.Nat.{_^_}

@@ -1,3 +1,4 @@
+-- `run_record::faults::neighbours` meets its contract: by `above-zero`.
 use Rattle.run_record.proofs.Laws.{above-zero}
 use borrow.Author.Needs.{needs}
 use Rattle.run_record.proofs.faults.neighbours.Statement.{statement}

@@ -1,3 +1,4 @@
+-- `run_record::progress::advanced` meets its contract: each need follows from its own premises.
 use Rattle.run_record.specs.Record.{advancedOf}
 use mathlib.Core.Path.{refl}
 use borrow.Author.Needs.{needs}

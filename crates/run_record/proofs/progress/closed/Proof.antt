@@ -1,3 +1,4 @@
+-- `run_record::progress::closed` meets its contract: from what its calls promise.
 use Rattle.run_record.specs.Record.{closedOf}
 use mathlib.Core.Path.{sym, _∙_}
 use borrow.Author.Tests.{eq-eqb, ne-eqb}
@@ -29,7 +30,11 @@ add-t12 c = search needs
 
 returns-2 : tie.Need-returns-2
 unfolding closedOf
-returns-2 c = simp (sym (c .before .before .before .before .before .before .stops-now .ensures) ∙ c .before .before .before .before .before .if1 .left, eq-eqb _ _ (c .before .before .if2 .taken))
+returns-2 c =
+    let the-if2 = c .before .before .if2 in
+    let the-if1 = c .before .before .before .before .before .if1 in
+    let the-stops-now = c .before .before .before .before .before .before .stops-now in
+    simp (sym (the-stops-now .ensures) ∙ the-if1 .left, eq-eqb _ _ (the-if2 .taken))
 
 add-t8 : tie.Need-add-t8
 add-t8 c = search needs
@@ -39,7 +44,11 @@ add-t14 c = search needs
 
 returns-3 : tie.Need-returns-3
 unfolding closedOf
-returns-3 c = simp (sym (c .before .before .before .before .before .before .stops-now .ensures) ∙ c .before .before .before .before .before .if1 .left, ne-eqb _ _ (c .before .before .if2 .left))
+returns-3 c =
+    let the-if2 = c .before .before .if2 in
+    let the-if1 = c .before .before .before .before .before .if1 in
+    let the-stops-now = c .before .before .before .before .before .before .stops-now in
+    simp (sym (the-stops-now .ensures) ∙ the-if1 .left, ne-eqb _ _ (the-if2 .left))
 
 pub closed-spec : {M : Type 1} → statement M
 closed-spec =

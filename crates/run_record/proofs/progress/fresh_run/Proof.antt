@@ -1,3 +1,4 @@
+-- `run_record::progress::fresh_run` meets its contract: each need follows from its own premises.
 use mathlib.Core.Path.{refl}
 use Rattle.run_record.specs.Record.{freshRun}
 use Rattle.run_record.proofs.progress.fresh_run.Statement.{statement}

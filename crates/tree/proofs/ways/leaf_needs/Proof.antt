@@ -1,3 +1,4 @@
+-- `tree::ways::leaf_needs` meets its contract: by `few-nodes`, `shl-one`.
 use Rattle.tree.proofs.Inserting.{few-nodes}
 use Rattle.laws.proofs.Numbers.{shl-one}
 use borrow.Author.Needs.{needs}
@@ -23,7 +24,10 @@ cast-point : tie.Need-cast-point
 cast-point c = search needs
 
 point-requires : tie.Need-point-requires
-point-requires c κs = (c .before .before .before .before .before .before .before .pre .0, c .before .before .before .before .before .before .before .pre .1 _ (c .before .before .before .before .l .given .1))
+point-requires c κs =
+    let the-l = c .before .before .before .before .l in
+    let the-start = c .before .before .before .before .before .before .before in
+    (the-start .pre .0, the-start .pre .1 _ (the-l .given .1))
 
 splits-requires : tie.Need-splits-requires
 splits-requires c κs = search needs
@@ -32,10 +36,17 @@ shl-result : tie.Need-shl-result
 shl-result c = search needs
 
 mul-result : tie.Need-mul-result
-mul-result c = rw (shl-one (c .before .before .before .before .before .before .before .before .before .before .args .s .c) (omega (arith, c .before .before .before .before .before .before .before .before .before .before .pre .0))) (omega (arith, few-nodes (c .before .splits .result) (c .before .before .before .before .before .before .before .before .before .before .args .s .c) (c .before .splits .ensures .1) (c .before .before .before .before .before .before .before .before .before .before .pre .0 .1)))
+mul-result c =
+    let the-start = c .before .before .before .before .before .before .before .before .before .before in
+    rw (shl-one (the-start .args .s .c) (omega (arith, the-start .pre .0)))
+    (omega (arith, few-nodes (c .before .splits .result) (the-start .args .s .c) (c .before .splits .ensures .1) (the-start .pre .0 .1)))
 
 returns-2 : tie.Need-returns-2
-returns-2 c = rw (shl-one (c .before .before .before .before .before .before .before .before .before .before .args .s .c) (omega (arith, c .before .before .before .before .before .before .before .before .before .before .pre .0)), c .before .splits .ensures .0, c .before .before .point .ensures, c .before .before .before .before .before .before .before .l .given .1)
+returns-2 c =
+    let the-point = c .before .before .point in
+    let the-l = c .before .before .before .before .before .before .before .l in
+    let the-start = c .before .before .before .before .before .before .before .before .before .before in
+    rw (shl-one (the-start .args .s .c) (omega (arith, the-start .pre .0)), c .before .splits .ensures .0, the-point .ensures, the-l .given .1)
 
 pub leaf-needs-spec : {M : Type 1} → statement M
 leaf-needs-spec =

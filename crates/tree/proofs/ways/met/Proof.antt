@@ -1,3 +1,4 @@
+-- `tree::ways::met` meets its contract: from what its calls promise.
 use Rattle.tree.specs.Ways.{metOf}
 use borrow.Author.Needs.{needs}
 use native.Mathlib.Omega.{arith}
@@ -19,7 +20,9 @@ cast-point : tie.Need-cast-point
 cast-point c = search needs
 
 point-requires : tie.Need-point-requires
-point-requires c κs = (c .before .before .before .before .before .pre .axes, rw (c .before .turn .ensures) (c .before .before .before .before .before .pre .old-in))
+point-requires c κs =
+    let the-start = c .before .before .before .before .before in
+    (the-start .pre .axes, rw (c .before .turn .ensures) (the-start .pre .old-in))
 
 returns : tie.Need-returns
 unfolding metOf

@@ -1,3 +1,4 @@
+-- `tree::ways::probed` meets its contract: by `child-below`.
 use lib.Pow.{pow-mono}
 use Rattle.tree_children.proofs.Below.{child-below}
 use Rattle.tree.specs.Ways.{probedOf}
@@ -26,7 +27,16 @@ child-index-requires : tie.Need-child-index-requires
 child-index-requires c κs = search needs
 
 add-node : tie.Need-add-node
-add-node c = rw (c .child-index .ensures) (omega (arith, child-below (c .before .before .before .before .before .before .before .args .s .c) (c .before .before .before .before .before .before .before .args .v .centre) (c .before .before .before .before .before .before .before .args .s .p), pow-mono {i = c .before .before .before .before .before .before .before .args .s .c} {j = 3} (c .before .before .before .before .before .before .before .pre .0 .1), c .before .struct-known2 .given))
+add-node c =
+    let the-start = c .before .before .before .before .before .before .before in
+    rw (c .child-index .ensures)
+    (omega (
+      arith,
+      child-below (the-start .args .s .c) (the-start .args .v .centre) (the-start .args .s .p),
+      pow-mono {i = the-start .args .s .c} {j = 3}
+          (the-start .pre .0 .1),
+      c .before .struct-known2 .given,
+    ))
 
 add-t9 : tie.Need-add-t9
 add-t9 c = search needs

@@ -1,3 +1,4 @@
+-- `tree::ways::splits` meets its contract: the loop keeps `Splits`; by `splits-few`, `splits-go`, `splits-last`, `splits-end`, `splits-le`.
 use Rattle.laws.specs.Domain.{deepest}
 use Rattle.tree.proofs.Grow.{Splits, splits-few, splits-go, splits-last, splits-end, splits-le}
 use Prim.Native.Nat.{_-_}
@@ -25,7 +26,14 @@ add-n : tie.Need-add-n Inv-loop μ-loop
 add-n c = omega (arith, splits-few (c .before .before .before .loop .inv))
 
 returns : tie.Need-returns Inv-loop μ-loop
-returns c = let a = c .before .before .before .before .before .args in let e = splits-last (c .before .before .before .before .loop .inv) (c .before .before .before .loop-test .taken) (rw (c .before .child-index2 .ensures, c .before .before .child-index .ensures) at (c .if1 .taken)) in (e, omega (arith, e, splits-le (deepest - a .depth) (a .c) (a .z0) (a .h0) (a .q) (a .p)))
+returns c =
+    let the-child-index = c .before .before .child-index in
+    let the-loop-test = c .before .before .before .loop-test in
+    let the-loop = c .before .before .before .before .loop in
+    let the-start = c .before .before .before .before .before in
+    let a = the-start .args in
+    let e = splits-last (the-loop .inv) (the-loop-test .taken) (rw (c .before .child-index2 .ensures, the-child-index .ensures) at (c .if1 .taken)) in
+    (e, omega (arith, e, splits-le (deepest - a .depth) (a .c) (a .z0) (a .h0) (a .q) (a .p)))
 
 child-centre-requires : tie.Need-child-centre-requires Inv-loop μ-loop
 child-centre-requires c κs = search needs
@@ -40,10 +48,21 @@ loop-less : tie.Need-loop-less Inv-loop μ-loop
 loop-less c = search needs
 
 loop-again : tie.Need-loop-again Inv-loop μ-loop
-loop-again c = rw (c .child-half .ensures, c .before .child-centre .ensures, c .before .before .before .before .child-index .ensures) (splits-go (c .before .before .before .before .before .before .loop .inv) (c .before .before .before .before .before .loop-test .taken) (rw (c .before .before .before .child-index2 .ensures, c .before .before .before .before .child-index .ensures) at (c .before .before .if1 .left)))
+loop-again c =
+    let the-if1 = c .before .before .if1 in
+    let the-child-index2 = c .before .before .before .child-index2 in
+    let the-child-index = c .before .before .before .before .child-index in
+    let the-loop-test = c .before .before .before .before .before .loop-test in
+    let the-loop = c .before .before .before .before .before .before .loop in
+    rw (c .child-half .ensures, c .before .child-centre .ensures, the-child-index .ensures)
+    (splits-go (the-loop .inv) (the-loop-test .taken) (rw (the-child-index2 .ensures, the-child-index .ensures) at (the-if1 .left)))
 
 returns-2 : tie.Need-returns-2 Inv-loop μ-loop
-returns-2 c = let a = c .before .before .args in let e = splits-end (c .before .loop .inv) (c .loop-test .left) in (e, omega (arith, e, splits-le (deepest - a .depth) (a .c) (a .z0) (a .h0) (a .q) (a .p)))
+returns-2 c =
+    let the-start = c .before .before in
+    let a = the-start .args in
+    let e = splits-end (c .before .loop .inv) (c .loop-test .left) in
+    (e, omega (arith, e, splits-le (deepest - a .depth) (a .c) (a .z0) (a .h0) (a .q) (a .p)))
 
 pub splits-spec : {M : Type 1} → statement M
 splits-spec =

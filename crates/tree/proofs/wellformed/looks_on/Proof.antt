@@ -1,3 +1,4 @@
+-- `tree::wellformed::looks_on` meets its contract: from what its calls promise.
 use Rattle.tree.specs.Contents.{looksOn}
 use borrow.Author.Needs.{needs}
 use native.Mathlib.Omega.{arith}

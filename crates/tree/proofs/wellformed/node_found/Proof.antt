@@ -1,3 +1,4 @@
+-- `tree::wellformed::node_found` meets its contract: from what its calls promise.
 use Rattle.tree.specs.Contents.{nodeFound}
 use borrow.Author.Needs.{needs}
 use native.Mathlib.Omega.{arith}

@@ -1,5 +1,8 @@
 -- `tree::wellformed::tree_ok` meets its contract: a walk of its MIR, with a loop. Printed (tests/walks).
+-- Locals: l0 the answer, l1 cells, l2 used, l3 n, l4 c, from l5 on the code's own, as `rt mir` numbers them. On entry local li is thing 20 - 2·i of what is
+-- held; what is put in front of it moves it up.
 -- Assumes nothing.
+use Rattle.lent.proofs.Beside.{_∥_}
 use mathlib.Core.Path.{refl}
 use Prim.Native.Nat.{ℕ, _-_}
 use mathlib.Core.List.{List, [], _∷_}
@@ -22,7 +25,8 @@ use contract.Monad.{Fun}
 use contract.Running.{givenOf, tables, tablesOf}
 use types.Kit.{Given, Item, ‵, _⊛_, ⋆, runs, anyQ, atRet, Sq, _$_, _∵_, !, qed, by, move, keep, drop, split, join, fsplit, fjoin, suffices, frame, done}
 use types.Part.{whole, sub, look-in}
-use types.Run.{look, store, init, forget, stop, fld, from, load, of-opd, and-then, no-more, assigns, assigns-last, land, first, branches, skips, jumps, blocks, exec, returns, enter, alloc1, alloc0, params1, pass1, pass0, free1, free0, Below, again, loops}
+use types.Run.{look, store, init, forget, stop, fld, from, load, of-opd, and-then, no-more, assigns, assigns-last, land, first, branches, skips, jumps, blocks}
+use types.Run.{exec, returns, enter, alloc1, alloc0, params1, pass1, pass0, free1, free0, Below, again, loops}
 use denote.RattleType.{owns}
 use denote.Laws.{Is}
 use denote.Plain.{uint-makes, uint-tells, uint-vals}
@@ -88,7 +92,7 @@ abbrev Arg : Type 0
 Arg = RefT (List Cell) × (ℕ × (ℕ × (ℕ × (Unit {0}))))
 
 abbrev stayed : Stays (f.ended .signature .params) (f.ended .kept)
-stayed = (stay-none-slice (0 ∷ []) tt (plain (λ _. Cell′.the-row)) yes, (stay-none (λ _. usize) yes, (stay-none (λ _. usize) yes, (stay-none (λ _. usize) yes, tt))))
+stayed = (stay-none-slice (0 ∷ []) tt (plain (λ _. Cell′.the-row)) yes ∥ stay-none (λ _. usize) yes ∥ stay-none (λ _. usize) yes ∥ stay-none (λ _. usize) yes ∥ tt)
 
 module _ {M : Type 1} (𝓤 : URA M) (H : Heap 𝓤) (A : Atoms 𝓤) (W : Given 𝓤 H A) (mem : Memory → SProp 𝓤) (run-of : Routine → Fun 𝓤)
     (s-cells : Seat) (cells : List Cell) (ln-cells : length cells ≡ s-cells .count) (room-cells : Room Cell′.the-row (s-cells .count))
@@ -116,8 +120,12 @@ module _ {M : Type 1} (𝓤 : URA M) (H : Heap 𝓤) (A : Atoms 𝓤) (W : Given
   exits : (res : Contents) → IsContents res → res ≡ contentsOf n c (tree used (nodesOf cells)) → ent 𝓤 (⋆ 𝓤 H A (‵ (Shr Cell′.the-row s-cells cells) ∷ ‵ (Tok s-cells) ∷ [])) (Post (val-Contents res))
   exits res is e =
       qed W (‵ (Shr Cell′.the-row s-cells cells) ∷ ‵ (Tok s-cells) ∷ []) ∵
-      suffices ! _ (ends-at 𝓤 H A f.ended stayed (f.clauses 𝓤 H A mem run-of) W (((s-cells .life, tt), (s-cells .share, tt), tt, x, at), tt) (val-Contents res) res (tt, (tt, (tt, (tt, tt)))) (tt, (tt, (tt, (tt, tt))))) $ says ! e $
-      nothing ! $ move ! (2 ∷ 0 ∷ []) $ join ! $ frame ! $ nothing ! $ owned ! usize (Is usize) (uint-makes 𝓤 H A W w64) c _ (refl, g-c) $ fjoin ! $ owned ! usize (Is usize) (uint-makes 𝓤 H A W w64) n _ (refl, g-n) $ fjoin ! $ owned ! usize (Is usize) (uint-makes 𝓤 H A W w64) used _ (refl, g-used) $ fjoin ! $ move ! (1 ∷ 0 ∷ []) $ fjoin ! $ frame ! $ owned ! Contents′.the-row (Is Contents′.the-row) ((EL.makes Contents′.the-type Contents″.the-plain) 𝓤 H A) res _ is $ done !
+      suffices ! _ (ends-at 𝓤 H A f.ended stayed (f.clauses 𝓤 H A mem run-of) W (((s-cells .life, tt), (s-cells .share, tt), tt, x, at), tt)
+      (val-Contents res) res (tt, (tt, (tt, (tt, tt)))) (tt, (tt, (tt, (tt, tt))))) $ says ! e $
+      nothing ! $ move ! (2 ∷ 0 ∷ []) $ join ! $ frame ! $ nothing ! $ owned ! usize (Is usize) (uint-makes 𝓤 H A W w64) c _ (refl, g-c) $ fjoin ! $
+      owned ! usize (Is usize) (uint-makes 𝓤 H A W w64) n _ (refl, g-n) $ fjoin ! $
+      owned ! usize (Is usize) (uint-makes 𝓤 H A W w64) used _ (refl, g-used) $ fjoin ! $ move ! (1 ∷ 0 ∷ []) $ fjoin ! $ frame ! $
+      owned ! Contents′.the-row (Is Contents′.the-row) ((EL.makes Contents′.the-type Contents″.the-plain) 𝓤 H A) res _ is $ done !
 
   -- what the loop's variable and the lists hold, and what is known of it
   pub record State : Type 0 where
@@ -135,7 +143,10 @@ module _ {M : Type 1} (𝓤 : URA M) (H : Heap 𝓤) (A : Atoms 𝓤) (W : Given
   Nearer-wf : WellFounded Nearer
   Nearer-wf = InvImage·wf left (Nat·lt-wfRel .wf)
 
-  module _ (𝓣 : Tables 𝓤 H) (known-looking : Triple 𝓤 (𝓣 .C #tree·wellformed·looking) (Contract-looking 𝓤 H A mem run-of)) (known-looks-on : Triple 𝓤 (𝓣 .C #tree·wellformed·looks-on) (Contract-looks-on 𝓤 H A mem run-of)) (known-load : Triple 𝓤 (𝓣 .C #tree-node·arena·load) (Contract-load 𝓤 H A mem run-of)) (known-looked : Triple 𝓤 (𝓣 .C #tree·wellformed·looked) (Contract-looked 𝓤 H A mem run-of)) where
+  module _ (𝓣 : Tables 𝓤 H) (known-looking : Triple 𝓤 (𝓣 .C #tree·wellformed·looking) (Contract-looking 𝓤 H A mem run-of))
+      (known-looks-on : Triple 𝓤 (𝓣 .C #tree·wellformed·looks-on) (Contract-looks-on 𝓤 H A mem run-of))
+      (known-load : Triple 𝓤 (𝓣 .C #tree-node·arena·load) (Contract-load 𝓤 H A mem run-of))
+      (known-looked : Triple 𝓤 (𝓣 .C #tree·wellformed·looked) (Contract-looked 𝓤 H A mem run-of)) where
     abbrev C : Calls 𝓤 H
     C = 𝓣 .C
 
@@ -154,7 +165,11 @@ module _ {M : Type 1} (𝓤 : URA M) (H : Heap 𝓤) (A : Atoms 𝓤) (W : Given
 
       abbrev At : State → List (Item 𝓤)
       At s = ‵ (Shr Cell′.the-row s-cells cells) ∷ ‵ (Tok s-cells)
-          ∷ ‵ (froom (τ 10) l10 0) ∷ ‵ (fdies (τ 10) l10) ∷ ‵ (froom (τ 9) l9 0) ∷ ‵ (fdies (τ 9) l9) ∷ ‵ (froom (τ 8) l8 0) ∷ ‵ (fdies (τ 8) l8) ∷ ‵ (froom (τ 7) l7 0) ∷ ‵ (fdies (τ 7) l7) ∷ ‵ (froom (τ 6) l6 0) ∷ ‵ (fdies (τ 6) l6) ∷ ‵ (fat fullShare (τ 5) l5 0 (val-Look (s .g))) ∷ ‵ (fdies (τ 5) l5) ∷ ‵ (fat fullShare (τ 4) l4 0 (vint w64 c)) ∷ ‵ (fdies (τ 4) l4) ∷ ‵ (fat fullShare (τ 3) l3 0 (vint w64 n)) ∷ ‵ (fdies (τ 3) l3) ∷ ‵ (fat fullShare (τ 2) l2 0 (vint w64 used)) ∷ ‵ (fdies (τ 2) l2) ∷ ‵ (fat fullShare (τ 1) l1 0 (word s-cells)) ∷ ‵ (fdies (τ 1) l1) ∷ ‵ (froom (τ 0) l0 0) ∷ ‵ (fdies (τ 0) l0) ∷ []
+          ∷ ‵ (froom (τ 10) l10 0) ∷ ‵ (fdies (τ 10) l10) ∷ ‵ (froom (τ 9) l9 0) ∷ ‵ (fdies (τ 9) l9) ∷ ‵ (froom (τ 8) l8 0) ∷ ‵ (fdies (τ 8) l8) ∷
+          ‵ (froom (τ 7) l7 0) ∷ ‵ (fdies (τ 7) l7) ∷ ‵ (froom (τ 6) l6 0) ∷ ‵ (fdies (τ 6) l6) ∷ ‵ (fat fullShare (τ 5) l5 0 (val-Look (s .g))) ∷
+          ‵ (fdies (τ 5) l5) ∷ ‵ (fat fullShare (τ 4) l4 0 (vint w64 c)) ∷ ‵ (fdies (τ 4) l4) ∷ ‵ (fat fullShare (τ 3) l3 0 (vint w64 n)) ∷
+          ‵ (fdies (τ 3) l3) ∷ ‵ (fat fullShare (τ 2) l2 0 (vint w64 used)) ∷ ‵ (fdies (τ 2) l2) ∷ ‵ (fat fullShare (τ 1) l1 0 (word s-cells)) ∷
+          ‵ (fdies (τ 1) l1) ∷ ‵ (froom (τ 0) l0 0) ∷ ‵ (fdies (τ 0) l0) ∷ []
 
       abbrev Turned : State → Out → SProp 𝓤
       Turned s = afterTurn 𝓤 H (Below 𝓤 H A Nearer At s) (afterBlock 𝓤 H (afterSeq 𝓤 H (Wp 𝓤 H C Λ En pieces.t-4 (atReturn 𝓤 H En Post)) (atReturn 𝓤 H En Post)))
@@ -166,18 +181,27 @@ module _ {M : Type 1} (𝓤 : URA M) (H : Heap 𝓤) (A : Atoms 𝓤) (W : Given
           land ! (from ! (stop !)) (init ! 2 refl (tt, tt)) $
           first ! $ branches ! (load ! (from ! (stop !)) (look ! 2 refl))
           (λ yes1. skips ! $ exec ! C Λ En (bodyAfter (bodyAfter pieces.turn-1)) (anyQ (Turned s)) $
-          calls-load-c ! fm mem run-of known-load s-cells cells (s .g .i) (LL.owed Look′.the-type Look″.the-laws (s .g) _ (s .is) .1 .1 .1 .0 .1) (looks-in n c used cells (s .g) (s .inv) r1 e1 yes1) (λ _ _. and-then ! (load ! (from ! (stop !)) (look ! 20 refl)) (and-then ! (load ! (from ! (fld ! refl (stop !))) (look-in ! 12 (sub ! 3 refl (whole !)))) (no-more !))) (λ r2 e2 is2.
+          calls-load-c ! fm mem run-of known-load s-cells cells (s .g .i) (LL.owed Look′.the-type Look″.the-laws (s .g) _ (s .is) .1 .1 .1 .0 .1)
+          (looks-in n c used cells (s .g) (s .inv) r1 e1 yes1) (λ _ _. and-then ! (load ! (from ! (stop !)) (look ! 20 refl))
+          (and-then ! (load ! (from ! (fld ! refl (stop !))) (look-in ! 12 (sub ! 3 refl (whole !)))) (no-more !))) (λ r2 e2 is2.
           land ! (from ! (stop !)) (init ! 10 refl (typed-Node r2 is2)) $
-          calls-looked ! fm mem run-of known-looked (s .g) r2 (s .is) is2 (looks-asks n c used cells (s .g) (s .inv) r1 e1 yes1 (s .ready) _ ln-cells (room-cells .0)) (λ _. and-then ! (load ! (from ! (stop !)) (look ! 13 refl)) (and-then ! (load ! (from ! (stop !)) (look ! 11 refl)) (no-more !))) (λ r3 e3 is3.
+          calls-looked ! fm mem run-of known-looked (s .g) r2 (s .is) is2
+          (looks-asks n c used cells (s .g) (s .inv) r1 e1 yes1 (s .ready) _ ln-cells (room-cells .0))
+          (λ _. and-then ! (load ! (from ! (stop !)) (look ! 13 refl)) (and-then ! (load ! (from ! (stop !)) (look ! 11 refl)) (no-more !))) (λ r3 e3 is3.
           land ! (from ! (stop !)) (init ! 8 refl (typed-Look r3 is3)) $
           assigns-last ! (of-opd ! (load ! (from ! (stop !)) (look ! 8 refl))) (from ! (stop !)) (store ! 12 refl (typed-Look r3 is3)) $
           forget ! 2 refl $ forget ! 8 refl $ forget ! 10 refl $
-          again ! Nearer At s (record { g = r3; is = is3; ready = (s .ready); inv = looks-next n c used cells (s .g) (s .inv) r1 e1 yes1 r2 e2 r3 e3 }) (looks-nearer n c used cells (s .g) (s .inv) r1 e1 yes1 r2 r3 e3))))
+          again ! Nearer At s (record { g = r3; is = is3; ready = (s .ready); inv = looks-next n c used cells (s .g) (s .inv) r1 e1 yes1 r2 e2 r3 e3 })
+          (looks-nearer n c used cells (s .g) (s .inv) r1 e1 yes1 r2 r3 e3))))
           (λ no1. jumps ! $ exec ! C Λ En pieces.t-4 (atRet En Post) $
-          assigns ! (of-opd ! (load ! (from ! (fld ! refl (stop !))) (look-in ! 12 (sub ! 4 refl (whole !))))) (from ! (stop !)) (init ! 6 refl (typed-Contents (s .g .found) (LL.owed Look′.the-type Look″.the-laws (s .g) _ (s .is) .1 .1 .1 .1 .0))) $
-          assigns ! (of-opd ! (load ! (from ! (stop !)) (look ! 6 refl))) (from ! (stop !)) (init ! 22 refl (typed-Contents (s .g .found) (LL.owed Look′.the-type Look″.the-laws (s .g) _ (s .is) .1 .1 .1 .1 .0))) $
+          assigns ! (of-opd ! (load ! (from ! (fld ! refl (stop !))) (look-in ! 12 (sub ! 4 refl (whole !))))) (from ! (stop !))
+          (init ! 6 refl (typed-Contents (s .g .found) (LL.owed Look′.the-type Look″.the-laws (s .g) _ (s .is) .1 .1 .1 .1 .0))) $
+          assigns ! (of-opd ! (load ! (from ! (stop !)) (look ! 6 refl))) (from ! (stop !))
+          (init ! 22 refl (typed-Contents (s .g .found) (LL.owed Look′.the-type Look″.the-laws (s .g) _ (s .is) .1 .1 .1 .1 .0))) $
           returns ! (look ! 22 refl) $ forget ! 2 refl $ forget ! 6 refl $ forget ! 12 refl $ forget ! 14 refl $ forget ! 16 refl $ forget ! 18 refl $ forget ! 20 refl $ forget ! 22 refl $
-          move ! (22 ∷ 23 ∷ []) $ free1 ! $ move ! (20 ∷ 21 ∷ []) $ free1 ! $ move ! (18 ∷ 19 ∷ []) $ free1 ! $ move ! (16 ∷ 17 ∷ []) $ free1 ! $ move ! (14 ∷ 15 ∷ []) $ free1 ! $ move ! (12 ∷ 13 ∷ []) $ free1 ! $ move ! (10 ∷ 11 ∷ []) $ free1 ! $ move ! (8 ∷ 9 ∷ []) $ free1 ! $ move ! (6 ∷ 7 ∷ []) $ free1 ! $ move ! (4 ∷ 5 ∷ []) $ free1 ! $ move ! (2 ∷ 3 ∷ []) $ free1 ! $ free0 ! $
+          move ! (22 ∷ 23 ∷ []) $ free1 ! $ move ! (20 ∷ 21 ∷ []) $ free1 ! $ move ! (18 ∷ 19 ∷ []) $ free1 ! $ move ! (16 ∷ 17 ∷ []) $ free1 ! $
+          move ! (14 ∷ 15 ∷ []) $ free1 ! $ move ! (12 ∷ 13 ∷ []) $ free1 ! $ move ! (10 ∷ 11 ∷ []) $ free1 ! $ move ! (8 ∷ 9 ∷ []) $ free1 ! $
+          move ! (6 ∷ 7 ∷ []) $ free1 ! $ move ! (4 ∷ 5 ∷ []) $ free1 ! $ move ! (2 ∷ 3 ∷ []) $ free1 ! $ free0 ! $
           keep ! (0 ∷ 1 ∷ []) $ by ! (exits (s .g .found) (LL.owed Look′.the-type Look″.the-laws (s .g) _ (s .is) .1 .1 .1 .1 .0) (looks-end n c used cells (s .g) (s .inv) r1 e1 no1))))
 
       loop-from : (s : State) → ent 𝓤 (⋆ 𝓤 H A (At s)) (Wp 𝓤 H C Λ En pieces.t-3 (atReturn 𝓤 H En Post))
@@ -185,21 +209,33 @@ module _ {M : Type 1} (𝓤 : URA M) (H : Heap 𝓤) (A : Atoms 𝓤) (W : Given
 
     walk : Axes c → ent 𝓤 (onEntry 𝓤 H A f.signature (s-cells .life, tt) (s-cells .share, tt) x at) (WpFn 𝓤 H C Λ code.function (word s-cells ∷ vint w64 used ∷ vint w64 n ∷ vint w64 c ∷ []) Post)
     walk ready =
-        qed W ((‵ (Tok s-cells) ⊛ ‵ ftrue) ∷ ‵ (owns (ShrSlice (named 0) (s-cells .life) Cell′.the-row ∷ usize ∷ usize ∷ usize ∷ []) x at) ∷ []) ∵ enter ! C Λ code.function (word s-cells ∷ vint w64 used ∷ vint w64 n ∷ vint w64 c ∷ []) _ $
-        alloc1 ! (λ l0. alloc1 ! (λ l1. alloc1 ! (λ l2. alloc1 ! (λ l3. alloc1 ! (λ l4. alloc1 ! (λ l5. alloc1 ! (λ l6. alloc1 ! (λ l7. alloc1 ! (λ l8. alloc1 ! (λ l9. alloc1 ! (λ l10. alloc0 ! $ params1 ! $
-        pass1 ! (init ! 18 refl (tt, (tt, (record { fits = room-cells .0 }, tt)))) $ pass1 ! (init ! 16 refl (tt, record { fits = g-used })) $ pass1 ! (init ! 14 refl (tt, record { fits = g-n })) $ pass1 ! (init ! 12 refl (tt, record { fits = g-c })) $ pass0 ! $
-        move ! (23 ∷ []) $ fsplit ! $ move ! (1 ∷ []) $ fsplit ! $ drop ! $ fsplit ! $ drop ! $ fsplit ! $ drop ! $ drop ! $ move ! (23 ∷ []) $ split ! $ move ! (1 ∷ []) $ drop ! $ move ! (1 ∷ 0 ∷ []) $
+        qed W ((‵ (Tok s-cells) ⊛ ‵ ftrue) ∷ ‵ (owns (ShrSlice (named 0) (s-cells .life) Cell′.the-row ∷ usize ∷ usize ∷ usize ∷ []) x at) ∷ []) ∵
+        enter ! C Λ code.function (word s-cells ∷ vint w64 used ∷ vint w64 n ∷ vint w64 c ∷ []) _ $
+        alloc1 ! (λ l0. alloc1 ! (λ l1. alloc1 ! (λ l2. alloc1 ! (λ l3. alloc1 ! (λ l4. alloc1 ! (λ l5. alloc1 ! (λ l6. alloc1 ! (λ l7. alloc1 ! (λ l8.
+        alloc1 ! (λ l9. alloc1 ! (λ l10. alloc0 ! $ params1 ! $
+        pass1 ! (init ! 18 refl (tt, (tt, (record { fits = room-cells .0 }, tt)))) $ pass1 ! (init ! 16 refl (tt, record { fits = g-used })) $
+        pass1 ! (init ! 14 refl (tt, record { fits = g-n })) $ pass1 ! (init ! 12 refl (tt, record { fits = g-c })) $ pass0 ! $
+        move ! (23 ∷ []) $ fsplit ! $ move ! (1 ∷ []) $ fsplit ! $ drop ! $ fsplit ! $ drop ! $ fsplit ! $ drop ! $ drop ! $ move ! (23 ∷ []) $ split ! $
+        move ! (1 ∷ []) $ drop ! $ move ! (1 ∷ 0 ∷ []) $
         assigns ! (of-opd ! (load ! (from ! (fld ! refl (stop !))) (look-in ! 20 (sub ! 1 refl (whole !))))) (from ! (stop !)) (init ! 4 refl (tt, record { fits = room-cells .0 })) $
-        calls-looking ! fm mem run-of known-looking (s-cells .count) used n c (room-cells .0) g-used g-n g-c (λ _. and-then ! (load ! (from ! (stop !)) (look ! 5 refl)) (and-then ! (load ! (from ! (stop !)) (look ! 19 refl)) (and-then ! (load ! (from ! (stop !)) (look ! 17 refl)) (and-then ! (load ! (from ! (stop !)) (look ! 15 refl)) (no-more !))))) (λ r1 e1 is1.
+        calls-looking ! fm mem run-of known-looking (s-cells .count) used n c (room-cells .0) g-used g-n g-c
+        (λ _. and-then ! (load ! (from ! (stop !)) (look ! 5 refl))
+        (and-then ! (load ! (from ! (stop !)) (look ! 19 refl))
+        (and-then ! (load ! (from ! (stop !)) (look ! 17 refl)) (and-then ! (load ! (from ! (stop !)) (look ! 15 refl)) (no-more !))))) (λ r1 e1 is1.
         land ! (from ! (stop !)) (init ! 12 refl (typed-Look r1 is1)) $
         forget ! 4 refl $
-        keep ! (0 ∷ 1 ∷ 2 ∷ 3 ∷ 4 ∷ 5 ∷ 6 ∷ 7 ∷ 8 ∷ 9 ∷ 10 ∷ 11 ∷ 12 ∷ 13 ∷ 14 ∷ 15 ∷ 16 ∷ 17 ∷ 18 ∷ 19 ∷ 20 ∷ 21 ∷ 22 ∷ 23 ∷ []) $ by ! (loop-from l0 l1 l2 l3 l4 l5 l6 l7 l8 l9 l10 (record { g = r1; is = is1; ready = ready; inv = looks-start n c used cells _ ln-cells r1 e1 }))))))))))))))
+        keep ! (0 ∷ 1 ∷ 2 ∷ 3 ∷ 4 ∷ 5 ∷ 6 ∷ 7 ∷ 8 ∷ 9 ∷ 10 ∷ 11 ∷ 12 ∷ 13 ∷ 14 ∷ 15 ∷ 16 ∷ 17 ∷ 18 ∷ 19 ∷ 20 ∷ 21 ∷ 22 ∷ 23 ∷ []) $
+        by ! (loop-from l0 l1 l2 l3 l4 l5 l6 l7 l8 l9 l10
+        (record { g = r1; is = is1; ready = ready; inv = looks-start n c used cells _ ln-cells r1 e1 }))))))))))))))
 
 module _ {M : Type 1} (𝓤 : URA M) (H : Heap 𝓤) (A : Atoms 𝓤) (W : Given 𝓤 H A) (mem : Memory → SProp 𝓤) (run-of : Routine → Fun 𝓤) where
-  tree-ok-walks : (𝓣 : Tables 𝓤 H) → Triple 𝓤 (𝓣 .C #tree·wellformed·looking) (Contract-looking 𝓤 H A mem run-of) → Triple 𝓤 (𝓣 .C #tree·wellformed·looks-on) (Contract-looks-on 𝓤 H A mem run-of) → Triple 𝓤 (𝓣 .C #tree-node·arena·load) (Contract-load 𝓤 H A mem run-of) → Triple 𝓤 (𝓣 .C #tree·wellformed·looked) (Contract-looked 𝓤 H A mem run-of) → Walks 𝓤 H A f.ended stayed (WpFn 𝓤 H (𝓣 .C) (𝓣 .Λ) code.function) (f.clauses 𝓤 H A mem run-of)
+  tree-ok-walks : (𝓣 : Tables 𝓤 H) → Triple 𝓤 (𝓣 .C #tree·wellformed·looking) (Contract-looking 𝓤 H A mem run-of) →
+      Triple 𝓤 (𝓣 .C #tree·wellformed·looks-on) (Contract-looks-on 𝓤 H A mem run-of) → Triple 𝓤 (𝓣 .C #tree-node·arena·load) (Contract-load 𝓤 H A mem run-of) →
+      Triple 𝓤 (𝓣 .C #tree·wellformed·looked) (Contract-looked 𝓤 H A mem run-of) →
+      Walks 𝓤 H A f.ended stayed (WpFn 𝓤 H (𝓣 .C) (𝓣 .Λ) code.function) (f.clauses 𝓤 H A mem run-of)
   tree-ok-walks 𝓣 known-looking known-looks-on known-load known-looked = walked 𝓤 H A f.ended stayed (f.clauses 𝓤 H A mem run-of) (WpFn 𝓤 H (𝓣 .C) (𝓣 .Λ) code.function)
       (λ κs. (slice-vals, (uint-vals w64, (uint-vals w64, (uint-vals w64, tt)))))
-      (λ κs. (shr-slice-tells (named 0) (κs .0) Cell′.the-row, (uint-tells w64, (uint-tells w64, (uint-tells w64, tt)))))
+      (λ κs. (shr-slice-tells (named 0) (κs .0) Cell′.the-row ∥ uint-tells w64 ∥ uint-tells w64 ∥ uint-tells w64 ∥ tt))
       (λ κs qs bounds a _ are. needs 𝓤 (Axes (a .1 .1 .1 .0)) _
       (walk 𝓤 H A W mem run-of
       (record { life = κs .0; share = qs .0; block = a .0 .ptr .0; off = a .0 .ptr .1; tag = a .0 .name; count = length (a .0 .now) }) (a .0 .now)
@@ -210,10 +246,14 @@ module _ {M : Type 1} (𝓤 : URA M) (H : Heap 𝓤) (A : Atoms 𝓤) (W : Given
       𝓣 known-looking known-looks-on known-load known-looked))
 
 tree-ok-meets : {M : Type 1} (𝓤 : URA M) (H : Heap 𝓤) (A : Atoms 𝓤) → Given 𝓤 H A → (mem : Memory → SProp 𝓤) (run-of : Routine → Fun 𝓤) (𝓣 : Tables 𝓤 H)
-    → Triple 𝓤 (𝓣 .C #tree·wellformed·looking) (Contract-looking 𝓤 H A mem run-of) → Triple 𝓤 (𝓣 .C #tree·wellformed·looks-on) (Contract-looks-on 𝓤 H A mem run-of) → Triple 𝓤 (𝓣 .C #tree-node·arena·load) (Contract-load 𝓤 H A mem run-of) → Triple 𝓤 (𝓣 .C #tree·wellformed·looked) (Contract-looked 𝓤 H A mem run-of)
+    → Triple 𝓤 (𝓣 .C #tree·wellformed·looking) (Contract-looking 𝓤 H A mem run-of) →
+    Triple 𝓤 (𝓣 .C #tree·wellformed·looks-on) (Contract-looks-on 𝓤 H A mem run-of) →
+    Triple 𝓤 (𝓣 .C #tree-node·arena·load) (Contract-load 𝓤 H A mem run-of) → Triple 𝓤 (𝓣 .C #tree·wellformed·looked) (Contract-looked 𝓤 H A mem run-of)
     → Meets 𝓤 H A f.signature (WpFn 𝓤 H (𝓣 .C) (𝓣 .Λ) code.function) (f.spec 𝓤 H A mem run-of)
 tree-ok-meets 𝓤 H A W mem run-of 𝓣 known-looking known-looks-on known-load known-looked =
-    walk-meets 𝓤 H A f.ended stayed W (goes-none-slice 𝓤 H A W 1 (0 ∷ []) tt (plain (λ _. Cell′.the-row)) yes, (goes-none 𝓤 H A W 1 (λ _. usize) yes (λ κs x f. refl), (goes-none 𝓤 H A W 1 (λ _. usize) yes (λ κs x f. refl), (goes-none 𝓤 H A W 1 (λ _. usize) yes (λ κs x f. refl), tt)))) (f.clauses 𝓤 H A mem run-of)
+    walk-meets 𝓤 H A f.ended stayed W (goes-none-slice 𝓤 H A W 1 (0 ∷ []) tt (plain (λ _. Cell′.the-row)) yes ∥
+    goes-none 𝓤 H A W 1 (λ _. usize) yes (λ κs x f. refl) ∥ goes-none 𝓤 H A W 1 (λ _. usize) yes (λ κs x f. refl) ∥
+    goes-none 𝓤 H A W 1 (λ _. usize) yes (λ κs x f. refl) ∥ tt) (f.clauses 𝓤 H A mem run-of)
     (WpFn 𝓤 H (𝓣 .C) (𝓣 .Λ) code.function) (WpFn-mono 𝓤 H (W .laws) 𝓣 code.function) (tree-ok-walks 𝓤 H A W mem run-of 𝓣 known-looking known-looks-on known-load known-looked)
 
 pub tree-ok-spec : {M : Type 1} → stated.statement M

@@ -1,3 +1,4 @@
+-- `tree_bounds::root::bounding_box` meets its contract: from what its calls promise.
 use Rattle.tree_node.proofs.Axes.{third}
 use Rattle.laws.specs.Loops.{loop}
 use Rattle.tree_bounds.specs.Bounds.{boxOf}
@@ -19,7 +20,11 @@ fresh-requires c κs = search needs
 
 returns : tie.Need-returns
 unfolding boxOf loop
-returns c = rw (c .fresh .ensures, c .before .reach .ensures, c .before .before .middle .ensures, c .before .before .before .before .span .ensures, c .before .before .before .if1 .taken)
+returns c =
+    let the-middle = c .before .before .middle in
+    let the-if1 = c .before .before .before .if1 in
+    let the-span = c .before .before .before .before .span in
+    rw (c .fresh .ensures, c .before .reach .ensures, the-middle .ensures, the-span .ensures, the-if1 .taken)
 
 span-requires-2 : tie.Need-span-requires-2
 span-requires-2 c κs = search needs
@@ -41,7 +46,23 @@ fresh-requires-2 c κs = search needs
 
 returns-2 : tie.Need-returns-2
 unfolding boxOf loop
-returns-2 c = rw (c .fresh2 .ensures, c .before .reach3 .ensures, c .before .before .reach2 .ensures, c .before .before .before .middle3 .ensures, c .before .before .before .before .middle2 .ensures, c .before .before .before .before .before .before .span2 .ensures, c .before .before .before .before .before .before .before .before .span .ensures, c .before .before .before .before .before .if2 .taken)
+returns-2 c =
+    let the-reach2 = c .before .before .reach2 in
+    let the-middle3 = c .before .before .before .middle3 in
+    let the-middle2 = c .before .before .before .before .middle2 in
+    let the-if2 = c .before .before .before .before .before .if2 in
+    let the-span2 = c .before .before .before .before .before .before .span2 in
+    let the-span = c .before .before .before .before .before .before .before .before .span in
+    rw (
+      c .fresh2 .ensures,
+      c .before .reach3 .ensures,
+      the-reach2 .ensures,
+      the-middle3 .ensures,
+      the-middle2 .ensures,
+      the-span2 .ensures,
+      the-span .ensures,
+      the-if2 .taken,
+    )
 
 span-requires-3 : tie.Need-span-requires-3
 span-requires-3 c κs = search needs
@@ -69,7 +90,31 @@ fresh-requires-3 c κs = search needs
 
 returns-3 : tie.Need-returns-3
 unfolding boxOf loop
-returns-3 c = rw (c .fresh3 .ensures, c .before .reach6 .ensures, c .before .before .reach5 .ensures, c .before .before .before .reach4 .ensures, c .before .before .before .before .middle6 .ensures, c .before .before .before .before .before .middle5 .ensures, c .before .before .before .before .before .before .middle4 .ensures, c .before .before .before .before .before .before .before .span3 .ensures, c .before .before .before .before .before .before .before .before .before .span2 .ensures, c .before .before .before .before .before .before .before .before .before .before .before .span .ensures, (third _ (c .before .before .before .before .before .before .before .before .before .before .before .before .before .pre .0) (c .before .before .before .before .before .before .before .before .before .before .if1 .left) (c .before .before .before .before .before .before .before .before .if2 .left)))
+returns-3 c =
+    let the-reach5 = c .before .before .reach5 in
+    let the-reach4 = c .before .before .before .reach4 in
+    let the-middle6 = c .before .before .before .before .middle6 in
+    let the-middle5 = c .before .before .before .before .before .middle5 in
+    let the-middle4 = c .before .before .before .before .before .before .middle4 in
+    let the-span3 = c .before .before .before .before .before .before .before .span3 in
+    let the-if2 = c .before .before .before .before .before .before .before .before .if2 in
+    let the-span2 = c .before .before .before .before .before .before .before .before .before .span2 in
+    let the-if1 = c .before .before .before .before .before .before .before .before .before .before .if1 in
+    let the-span = c .before .before .before .before .before .before .before .before .before .before .before .span in
+    let the-start = c .before .before .before .before .before .before .before .before .before .before .before .before .before in
+    rw (
+      c .fresh3 .ensures,
+      c .before .reach6 .ensures,
+      the-reach5 .ensures,
+      the-reach4 .ensures,
+      the-middle6 .ensures,
+      the-middle5 .ensures,
+      the-middle4 .ensures,
+      the-span3 .ensures,
+      the-span2 .ensures,
+      the-span .ensures,
+      (third _ (the-start .pre .0) (the-if1 .left) (the-if2 .left)),
+    )
 
 pub bounding-box-spec : {M : Type 1} → statement M
 bounding-box-spec =

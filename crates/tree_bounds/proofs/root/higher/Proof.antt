@@ -1,3 +1,4 @@
+-- `tree_bounds::root::higher` meets its contract: each need follows from its own premises.
 use Rattle.tree_bounds.specs.Bounds.{higher}
 use Rattle.tree_bounds.proofs.root.higher.Statement.{statement}
 use Rattle.tree_bounds.proofs.root.higher.Tie as tie

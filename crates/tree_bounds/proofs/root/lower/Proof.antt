@@ -1,3 +1,4 @@
+-- `tree_bounds::root::lower` meets its contract: each need follows from its own premises.
 use Rattle.tree_bounds.specs.Bounds.{lower}
 use Rattle.tree_bounds.proofs.root.lower.Statement.{statement}
 use Rattle.tree_bounds.proofs.root.lower.Tie as tie

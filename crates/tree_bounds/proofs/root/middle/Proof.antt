@@ -1,3 +1,4 @@
+-- `tree_bounds::root::middle` meets its contract: each need follows from its own premises.
 use mathlib.Core.Path.{refl}
 use Rattle.tree_bounds.specs.Bounds.{middleOf}
 use Rattle.tree_bounds.proofs.root.middle.Statement.{statement}

@@ -1,3 +1,4 @@
+-- `tree_bounds::root::reach` meets its contract: from what its calls promise.
 use Rattle.tree_bounds.specs.Bounds.{reachOf}
 use borrow.Author.Needs.{needs}
 use Rattle.tree_bounds.proofs.root.reach.Statement.{statement}

@@ -1,6 +1,7 @@
+-- `tree_bounds::root::span` meets its contract: the loop keeps `Loops`; by `row-in`, `loop-start`, `loop-next`, `loop-done`.
 use lib.Ieee.{div, neg, ofBits}
 use Rattle.laws.proofs.Numbers.{row-in}
-use Rattle.laws.proofs.Loops.{Loops, loop-start, loop-more, loop-done}
+use Rattle.laws.proofs.Loops.{Loops, loop-start, loop-next, loop-done}
 use Rattle.tree_bounds.specs.Bounds.{spanStep, spanOf}
 use lib.ListN.{length}
 use Prim.Native.Nat.{_-_}
@@ -19,16 +20,43 @@ loop-holds : tie.Need-loop-holds Inv-loop μ-loop
 loop-holds c = loop-start _ _ _
 
 mul-widen : tie.Need-mul-widen Inv-loop μ-loop
-mul-widen c = omega (arith, (row-in (c .before .loop .i) (c .before .before .before .args .n) (c .before .before .before .args .c) (length (c .before .before .before .args .positions .now)) (c .loop-test .taken) (c .before .before .before .pre .1)))
+mul-widen c =
+    let the-start = c .before .before .before in
+    omega (
+      arith,
+      (row-in (c .before .loop .i) (the-start .args .n) (the-start .args .c) (length (the-start .args .positions .now)) (c .loop-test .taken)
+          (the-start .pre .1)),
+    )
 
 add-widen : tie.Need-add-widen Inv-loop μ-loop
-add-widen c = omega (arith, (row-in (c .before .loop .i) (c .before .before .before .args .n) (c .before .before .before .args .c) (length (c .before .before .before .args .positions .now)) (c .loop-test .taken) (c .before .before .before .pre .1)), c .before .before .before .pre .0)
+add-widen c =
+    let the-start = c .before .before .before in
+    omega (
+      arith,
+      (row-in (c .before .loop .i) (the-start .args .n) (the-start .args .c) (length (the-start .args .positions .now)) (c .loop-test .taken)
+          (the-start .pre .1)),
+      the-start .pre .0,
+    )
 
 mul-widen-2 : tie.Need-mul-widen-2 Inv-loop μ-loop
-mul-widen-2 c = omega (arith, (row-in (c .before .loop .i) (c .before .before .before .args .n) (c .before .before .before .args .c) (length (c .before .before .before .args .positions .now)) (c .loop-test .taken) (c .before .before .before .pre .1)))
+mul-widen-2 c =
+    let the-start = c .before .before .before in
+    omega (
+      arith,
+      (row-in (c .before .loop .i) (the-start .args .n) (the-start .args .c) (length (the-start .args .positions .now)) (c .loop-test .taken)
+          (the-start .pre .1)),
+    )
 
 shared-slice-read-widen : tie.Need-shared-slice-read-widen Inv-loop μ-loop
-shared-slice-read-widen c = omega (arith, (row-in (c .before .before .loop .i) (c .before .before .before .before .args .n) (c .before .before .before .before .args .c) (length (c .before .before .before .before .args .positions .now)) (c .before .loop-test .taken) (c .before .before .before .before .pre .1)), c .before .before .before .before .pre .0)
+shared-slice-read-widen c =
+    let the-loop = c .before .before .loop in
+    let the-start = c .before .before .before .before in
+    omega (
+      arith,
+      (row-in (the-loop .i) (the-start .args .n) (the-start .args .c) (length (the-start .args .positions .now)) (c .before .loop-test .taken)
+          (the-start .pre .1)),
+      the-start .pre .0,
+    )
 
 widen-requires : tie.Need-widen-requires Inv-loop μ-loop
 widen-requires c κs = search needs
@@ -40,7 +68,7 @@ loop-less : tie.Need-loop-less Inv-loop μ-loop
 loop-less c = search needs
 
 loop-again : tie.Need-loop-again Inv-loop μ-loop
-loop-again c = rw (c .widen .ensures) (loop-more (c .before .before .before .loop .inv) (omega arith))
+loop-again c = rw (c .widen .ensures) (loop-next (c .before .before .before .loop .inv) (omega arith))
 
 returns : tie.Need-returns Inv-loop μ-loop
 unfolding spanOf div neg ofBits

@@ -1,3 +1,4 @@
+-- `tree_bounds::root::widen` meets its contract: from what its calls promise.
 use borrow.Author.Needs.{needs}
 use Rattle.tree_bounds.proofs.root.widen.Statement.{statement}
 use Rattle.tree_bounds.proofs.root.widen.Tie as tie

@@ -1,3 +1,4 @@
+-- `tree_node::arena::lay_node` meets its contract: from what its calls promise.
 use Rattle.tree_node.specs.Arena.{laidOf}
 use borrow.Author.Needs.{needs}
 use Rattle.tree_node.proofs.arena.lay_node.Statement.{statement}

@@ -1,3 +1,4 @@
+-- `tree_node::arena::leaf_word` meets its contract: each need follows from its own premises.
 use mathlib.Core.Path.{sym, ap}
 use Rattle.tree_node.specs.Arena.{leafWord}
 use borrow.Author.Needs.{needs}

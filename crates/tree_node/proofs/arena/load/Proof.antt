@@ -1,4 +1,6 @@
 -- `tree_node::arena::load` meets its contract: a walk of its MIR. Printed (tests/walks).
+-- Locals: l0 the answer, l1 cells, l2 i, from l3 on the code's own, as `rt mir` numbers them. On entry local li is thing 8 - 2·i of what is held; what is put
+-- in front of it moves it up.
 -- Assumes nothing.
 use mathlib.Core.Path.{refl}
 use Prim.Native.Nat.{ℕ, _^_}
@@ -87,17 +89,22 @@ module _ {M : Type 1} (𝓤 : URA M) (H : Heap 𝓤) (A : Atoms 𝓤) (W : Given
   exits : (res : Node) → IsNode res → res ≡ nodeAt (nodesOf cells) i → ent 𝓤 (⋆ 𝓤 H A (‵ (Shr Cell′.the-row s-cells cells) ∷ ‵ (Tok s-cells) ∷ [])) (Post (val-Node res))
   exits res is e =
       qed W (‵ (Shr Cell′.the-row s-cells cells) ∷ ‵ (Tok s-cells) ∷ []) ∵
-      suffices ! _ (ends-at 𝓤 H A f.ended stayed (f.clauses 𝓤 H A mem run-of) W (((s-cells .life, tt), (s-cells .share, tt), tt, x, at), tt) (val-Node res) res (tt, (tt, tt)) (tt, (tt, tt))) $ says ! e $
-      nothing ! $ move ! (2 ∷ 0 ∷ []) $ join ! $ frame ! $ nothing ! $ owned ! usize (Is usize) (uint-makes 𝓤 H A W w64) i _ (refl, g-i) $ fjoin ! $ move ! (1 ∷ 0 ∷ []) $ fjoin ! $ frame ! $ owned ! Node′.the-row (Is Node′.the-row) ((LL.makes Node′.the-type Node″.the-plain) 𝓤 H A) res _ is $ done !
+      suffices ! _ (ends-at 𝓤 H A f.ended stayed (f.clauses 𝓤 H A mem run-of) W (((s-cells .life, tt), (s-cells .share, tt), tt, x, at), tt) (val-Node res) res
+      (tt, (tt, tt)) (tt, (tt, tt))) $ says ! e $
+      nothing ! $ move ! (2 ∷ 0 ∷ []) $ join ! $ frame ! $ nothing ! $ owned ! usize (Is usize) (uint-makes 𝓤 H A W w64) i _ (refl, g-i) $ fjoin ! $
+      move ! (1 ∷ 0 ∷ []) $ fjoin ! $ frame ! $ owned ! Node′.the-row (Is Node′.the-row) ((LL.makes Node′.the-type Node″.the-plain) 𝓤 H A) res _ is $ done !
 
-  module _ (C : Calls 𝓤 H) (Λ : Loops 𝓤 H) (fm : FmC 𝓤 H (W .laws) C) (known-cell-at : Triple 𝓤 (C #tree-node·arena·cell-at) (Contract-cell-at 𝓤 H A mem run-of)) (known-read-node : Triple 𝓤 (C #tree-node·arena·read-node) (Contract-read-node 𝓤 H A mem run-of)) where
+  module _ (C : Calls 𝓤 H) (Λ : Loops 𝓤 H) (fm : FmC 𝓤 H (W .laws) C)
+      (known-cell-at : Triple 𝓤 (C #tree-node·arena·cell-at) (Contract-cell-at 𝓤 H A mem run-of))
+      (known-read-node : Triple 𝓤 (C #tree-node·arena·read-node) (Contract-read-node 𝓤 H A mem run-of)) where
     walk : i < length cells → ent 𝓤 (onEntry 𝓤 H A f.signature (s-cells .life, tt) (s-cells .share, tt) x at) (WpFn 𝓤 H C Λ code.function (word s-cells ∷ vint w64 i ∷ []) Post)
     walk ready =
         qed W ((‵ (Tok s-cells) ⊛ ‵ ftrue) ∷ ‵ (owns (ShrSlice (named 0) (s-cells .life) Cell′.the-row ∷ usize ∷ []) x at) ∷ []) ∵ enter ! C Λ code.function (word s-cells ∷ vint w64 i ∷ []) _ $
         alloc1 ! (λ l0. alloc1 ! (λ l1. alloc1 ! (λ l2. alloc1 ! (λ l3. alloc1 ! (λ l4. alloc0 ! $ params1 ! $
         pass1 ! (init ! 6 refl (tt, (tt, (record { fits = room-cells .0 }, tt)))) $ pass1 ! (init ! 4 refl (tt, record { fits = g-i })) $ pass0 ! $
         move ! (11 ∷ []) $ fsplit ! $ move ! (1 ∷ []) $ fsplit ! $ drop ! $ drop ! $ move ! (11 ∷ []) $ split ! $ move ! (1 ∷ []) $ drop ! $ move ! (1 ∷ 0 ∷ []) $
-        calls-cell-at-c ! fm mem run-of known-cell-at s-cells cells i g-i ready (λ _ _. and-then ! (load ! (from ! (stop !)) (look ! 8 refl)) (and-then ! (load ! (from ! (stop !)) (look ! 6 refl)) (no-more !))) (λ r1 e1 is1.
+        calls-cell-at-c ! fm mem run-of known-cell-at s-cells cells i g-i ready (λ _ _. and-then ! (load ! (from ! (stop !)) (look ! 8 refl))
+        (and-then ! (load ! (from ! (stop !)) (look ! 6 refl)) (no-more !))) (λ r1 e1 is1.
         land ! (from ! (stop !)) (init ! 4 refl (typed-Cell r1 is1)) $
         calls-read-node ! fm mem run-of known-read-node r1 is1 (λ _. and-then ! (load ! (from ! (stop !)) (look ! 5 refl)) (no-more !)) (λ r2 e2 is2.
         land ! (from ! (stop !)) (init ! 2 refl (typed-Node r2 is2)) $
@@ -107,7 +114,9 @@ module _ {M : Type 1} (𝓤 : URA M) (H : Heap 𝓤) (A : Atoms 𝓤) (W : Given
         keep ! (0 ∷ 1 ∷ []) $ by ! (exits r2 is2 (load-told cells i r1 e1 r2 e2)))))))))
 
 module _ {M : Type 1} (𝓤 : URA M) (H : Heap 𝓤) (A : Atoms 𝓤) (W : Given 𝓤 H A) (mem : Memory → SProp 𝓤) (run-of : Routine → Fun 𝓤) where
-  load-walks : (C : Calls 𝓤 H) (Λ : Loops 𝓤 H) → FmC 𝓤 H (W .laws) C → Triple 𝓤 (C #tree-node·arena·cell-at) (Contract-cell-at 𝓤 H A mem run-of) → Triple 𝓤 (C #tree-node·arena·read-node) (Contract-read-node 𝓤 H A mem run-of) → Walks 𝓤 H A f.ended stayed (WpFn 𝓤 H C Λ code.function) (f.clauses 𝓤 H A mem run-of)
+  load-walks : (C : Calls 𝓤 H) (Λ : Loops 𝓤 H) → FmC 𝓤 H (W .laws) C → Triple 𝓤 (C #tree-node·arena·cell-at) (Contract-cell-at 𝓤 H A mem run-of) →
+      Triple 𝓤 (C #tree-node·arena·read-node) (Contract-read-node 𝓤 H A mem run-of) →
+      Walks 𝓤 H A f.ended stayed (WpFn 𝓤 H C Λ code.function) (f.clauses 𝓤 H A mem run-of)
   load-walks C Λ fm known-cell-at known-read-node = walked 𝓤 H A f.ended stayed (f.clauses 𝓤 H A mem run-of) (WpFn 𝓤 H C Λ code.function)
       (λ κs. (slice-vals, (uint-vals w64, tt)))
       (λ κs. (shr-slice-tells (named 0) (κs .0) Cell′.the-row, (uint-tells w64, tt)))

@@ -1,3 +1,4 @@
+-- `tree_node::arena::nameable_of` meets its contract: each need follows from its own premises.
 use Rattle.tree_node.specs.Arena.{nameable}
 use borrow.Author.Needs.{needs}
 use Rattle.tree_node.proofs.arena.nameable_of.Statement.{statement}

@@ -1,5 +1,9 @@
--- `tree_node::arena::put_cell` meets its contract: a walk of its MIR, by hand. The place of `cells[i]` is computed, the borrow is opened, element i is taken out of the row and stored to whole, v is put in its place, and the borrow is closed at the list with v at i.
+-- `tree_node::arena::put_cell` meets its contract: a walk of its MIR, by hand. The place of `cells[i]` is computed, the borrow is opened, element i is taken
+-- out of the row and stored to whole, v is put in its place, and the borrow is closed at the list with v at i.
+-- Locals: l0 the answer, l1 cells, l2 i, l3 v, from l4 on the code's own, as `rt mir` numbers them. On entry local li is thing 10 - 2·i of what is held; what
+-- is put in front of it moves it up.
 -- Assumes nothing.
+use Rattle.lent.proofs.Beside.{_∥_}
 use mathlib.Core.Path.{_≡_, refl, sym, ap, subst}
 use Prim.Native.Nat.{ℕ, _<_, _^_, _*_}
 use native.Mathlib.Omega.{arith}
@@ -52,9 +56,10 @@ abbrev Arg : Type 0
 Arg = RefT (List Cell) × (ℕ × (Cell × Unit {0}))
 
 abbrev stayed : Stays (f.ended .signature .params) (f.ended .kept)
-stayed = (stay-slice (0 ∷ []) tt (plain (λ _. T.the-row)), (stay-none (λ _. usize) yes, (stay-none (λ _. T.the-row) yes, tt)))
+stayed = (stay-slice (0 ∷ []) tt (plain (λ _. T.the-row)) ∥ stay-none (λ _. usize) yes ∥ stay-none (λ _. T.the-row) yes ∥ tt)
 
-module _ {M : Type 1} (𝓤 : URA M) (H : Heap 𝓤) (A : Atoms 𝓤) (W : Given 𝓤 H A) (mem : Memory → SProp 𝓤) (run : Routine → Fun 𝓤) (κ : Lft) (q : Share) (b o : ℕ) (γ : GName) (ys : List Cell) (i : ℕ) (v : Cell) where
+module _ {M : Type 1} (𝓤 : URA M) (H : Heap 𝓤) (A : Atoms 𝓤) (W : Given 𝓤 H A) (mem : Memory → SProp 𝓤) (run : Routine → Fun 𝓤) (κ : Lft) (q : Share) (b o : ℕ)
+    (γ : GName) (ys : List Cell) (i : ℕ) (v : Cell) where
   abbrev at-list : List Cell → RefT (List Cell)
   at-list l = record { ptr = (b, o); name = γ; now = l }
 
@@ -78,19 +83,24 @@ module _ {M : Type 1} (𝓤 : URA M) (H : Heap 𝓤) (A : Atoms 𝓤) (W : Given
   abbrev Others : Fml
   Others = fsep (usize .own i (vint w64 i ∷ [])) (fsep (T.the-row .own v (mach ∷ [])) ftrue)
 
-  exits : Room T.the-row (length ys) → ent 𝓤 (⋆ 𝓤 H A (‵ (fobs γ (codedHoleys T.the-row .code (heres T.the-row zs))) ∷ ‵ (fbor κ (Held T.the-row (length zs) b o γ)) ∷ ‵ (flft κ q) ∷ ‵ Others ∷ [])) (Post vunit)
+  exits : Room T.the-row (length ys) →
+      ent 𝓤 (⋆ 𝓤 H A (‵ (fobs γ (codedHoleys T.the-row .code (heres T.the-row zs))) ∷ ‵ (fbor κ (Held T.the-row (length zs) b o γ)) ∷ ‵ (flft κ q) ∷ ‵ Others ∷
+      [])) (Post vunit)
   exits gn =
       qed W (‵ (fobs γ (codedHoleys T.the-row .code (heres T.the-row zs))) ∷ ‵ (fbor κ (Held T.the-row (length zs) b o γ)) ∷ ‵ (flft κ q) ∷ ‵ Others ∷ []) ∵
       suffices ! _ (ends-at 𝓤 H A f.ended stayed (f.clauses 𝓤 H A mem run) W (((κ, tt), (q, tt), tt, x, at), tt) vunit tt (zs, (tt, (tt, tt))) (length-set ys i v, (tt, (tt, tt)))) $ says ! refl $
       nothing ! $ move ! (3 ∷ 0 ∷ []) $ join ! $
-      frame ! $ fjoin ! $ pureI ! (at-slice T.the-row (at-list zs) (at .0)) (tt, (tt, tt)) (ap (λ (m : ℕ). sliceVal (b, o) m ∷ []) (sym (length-set ys i v)), subst (Room T.the-row) (sym (length-set ys i v)) gn) $ fjoin ! $ fjoin ! $ frame ! $
+      frame ! $ fjoin ! $ pureI ! (at-slice T.the-row (at-list zs) (at .0)) (tt, (tt, tt))
+      (ap (λ (m : ℕ). sliceVal (b, o) m ∷ []) (sym (length-set ys i v)), subst (Room T.the-row) (sym (length-set ys i v)) gn) $ fjoin ! $ fjoin ! $
+      frame ! $
       feqI ! (List Val) (vunit ∷ []) (vunit ∷ []) refl $ done !
 
   module _ (C : Calls 𝓤 H) (Λ : Loops 𝓤 H) where
     walk : Room T.the-row (length ys) → i < 2 ^ 64 → Is T.the-row v (mach ∷ []) → i < length ys → ent 𝓤 (onEntry 𝓤 H A f.signature (κ, tt) (q, tt) x at)
         (WpFn 𝓤 H C Λ code.function (sliceVal (b, o) (length ys) ∷ vint w64 i ∷ mach ∷ []) Post)
     walk gn gi gv l =
-        qed W ((‵ (flft κ q) ⊛ ‵ ftrue) ∷ ‵ (owns (MutSlice (named 0) κ T.the-row ∷ usize ∷ T.the-row ∷ []) x at) ∷ []) ∵ enter ! C Λ code.function (sliceVal (b, o) (length ys) ∷ vint w64 i ∷ mach ∷ []) _ $
+        qed W ((‵ (flft κ q) ⊛ ‵ ftrue) ∷ ‵ (owns (MutSlice (named 0) κ T.the-row ∷ usize ∷ T.the-row ∷ []) x at) ∷ []) ∵
+        enter ! C Λ code.function (sliceVal (b, o) (length ys) ∷ vint w64 i ∷ mach ∷ []) _ $
         alloc1 ! (λ l₀. alloc1 ! (λ l₁. alloc1 ! (λ l₂. alloc1 ! (λ l₃. alloc1 ! (λ l₄. alloc1 ! (λ l₅. alloc0 ! $ params1 ! $
         -- the slice reference is one parameter, a struct
         pass1 ! (init ! 8 refl (tt, (tt, (record { fits = gn .0 }, tt)))) $ pass1 ! (init ! 6 refl (tt, record { fits = gi })) $ pass1 ! (init ! 4 refl typed) $ pass0 ! $
@@ -98,14 +108,16 @@ module _ {M : Type 1} (𝓤 : URA M) (H : Heap 𝓤) (A : Atoms 𝓤) (W : Given
         assigns ! (bin ! (load ! (from ! (fld ! refl (stop !))) (look-in ! 8 (sub ! 0 refl (whole !)))) (load ! (from ! (stop !)) (look ! 2 refl)) tt) (from ! (stop !)) (init ! 0 refl (tt, tt)) $
         rewrite ! 0 (λ (p : ℕ). ‵ (fat fullShare tyPtr l₅ 0 (vptr b p))) (sym (place-is 88 o i)) refl $
         move ! (13 ∷ []) $ fsplit ! $ fsplit ! $ move ! (1 ∷ []) $ fsplit ! $ move ! (16 ∷ []) $ split ! $ move ! (2 ∷ 3 ∷ 0 ∷ []) $
-        opens-slice ! tt T.the-row ys b o $ elem-out ! T.the-row (Is T.the-row) (shows 𝓤 H A T.the-row) (LL.vals T.the-type T′.the-laws) (LL.tells T.the-type T′.the-laws) fullShare ys i void b o l (λ _.
+        opens-slice ! tt T.the-row ys b o $ elem-out ! T.the-row (Is T.the-row) (shows 𝓤 H A T.the-row) (LL.vals T.the-type T′.the-laws)
+        (LL.tells T.the-type T′.the-laws) fullShare ys i void b o l (λ _.
         -- [cells[i]; what it owns; the others; the open borrow; obs; auth; true; cells's fact; i's and v's; _5; …; _4; …; _3; …; _2; …; _1; …; _0; …]
         assigns ! (of-opd ! (load ! (from ! (stop !)) (look ! 13 refl))) (from ! (hop ! (look ! 9 refl) (stop !))) (store-raw ! 0 refl typed) $
         move ! (1 ∷ []) $ drop ! $ owned ! T.the-row (Is T.the-row) ((LL.makes T.the-type T′.the-plain) 𝓤 H A) v _ gv $ move ! (1 ∷ 0 ∷ []) $ elem-put ! T.the-row fullShare ys i v (mach ∷ []) b o l $
         closes-slice ! tt T.the-row ys zs (length-set ys i v) b o $
         assigns ! (of-opd ! (unit-lit !)) (from ! (stop !)) (init ! 16 refl (tt, tt)) $
         returns ! (look ! 16 refl) $ forget ! 6 refl $ forget ! 8 refl $ forget ! 10 refl $ forget ! 12 refl $ forget ! 14 refl $ forget ! 16 refl $
-        move ! (16 ∷ 17 ∷ []) $ free1 ! $ move ! (14 ∷ 15 ∷ []) $ free1 ! $ move ! (12 ∷ 13 ∷ []) $ free1 ! $ move ! (10 ∷ 11 ∷ []) $ free1 ! $ move ! (8 ∷ 9 ∷ []) $ free1 ! $ move ! (6 ∷ 7 ∷ []) $ free1 ! $ free0 ! $
+        move ! (16 ∷ 17 ∷ []) $ free1 ! $ move ! (14 ∷ 15 ∷ []) $ free1 ! $ move ! (12 ∷ 13 ∷ []) $ free1 ! $ move ! (10 ∷ 11 ∷ []) $ free1 ! $
+        move ! (8 ∷ 9 ∷ []) $ free1 ! $ move ! (6 ∷ 7 ∷ []) $ free1 ! $ free0 ! $
         keep ! (0 ∷ 1 ∷ 2 ∷ 5 ∷ []) $ by ! (exits gn))))))))
       where
         typed : T (hasTy T′.mir mach) × WT mach
@@ -116,13 +128,17 @@ module _ {M : Type 1} (𝓤 : URA M) (H : Heap 𝓤) (A : Atoms 𝓤) (W : Given
 
 module _ {M : Type 1} (𝓤 : URA M) (H : Heap 𝓤) (A : Atoms 𝓤) (W : Given 𝓤 H A) (mem : Memory → SProp 𝓤) (run : Routine → Fun 𝓤) where
   put-cell-walks : (C : Calls 𝓤 H) (Λ : Loops 𝓤 H) → Walks 𝓤 H A f.ended stayed (WpFn 𝓤 H C Λ code.function) (f.clauses 𝓤 H A mem run)
-  put-cell-walks C Λ = walked 𝓤 H A f.ended stayed (f.clauses 𝓤 H A mem run) (WpFn 𝓤 H C Λ code.function) (λ κs. (slice-vals, (uint-vals w64, (LL.vals T.the-type T′.the-laws, tt)))) (λ κs. (mut-slice-tells (named 0) (κs .0) T.the-row, (uint-tells w64, (LL.tells T.the-type T′.the-laws, tt))))
+  put-cell-walks C Λ = walked 𝓤 H A f.ended stayed (f.clauses 𝓤 H A mem run) (WpFn 𝓤 H C Λ code.function) (λ κs.
+      (slice-vals, (uint-vals w64, (LL.vals T.the-type T′.the-laws, tt)))) (λ κs. (mut-slice-tells (named 0) (κs .0) T.the-row ∥ uint-tells w64 ∥
+      LL.tells T.the-type T′.the-laws ∥ tt))
       (λ κs qs bounds a g are. needs 𝓤 (a .1 .0 < length (a .0 .now)) _
       (walk 𝓤 H A W mem run (κs .0) (qs .0) (a .0 .ptr .0) (a .0 .ptr .1) (a .0 .name) (a .0 .now) (a .1 .0) (a .1 .1 .0) C Λ (are .0 .0 .1) (are .1 .0 .1) (are .1 .1 .0)))
 
 put-cell-meets : {M : Type 1} (𝓤 : URA M) (H : Heap 𝓤) (A : Atoms 𝓤) → Given 𝓤 H A → (mem : Memory → SProp 𝓤) (run : Routine → Fun 𝓤) (𝓣 : Tables 𝓤 H)
     → Meets 𝓤 H A f.signature (WpFn 𝓤 H (𝓣 .C) (𝓣 .Λ) code.function) (f.spec 𝓤 H A mem run)
-put-cell-meets 𝓤 H A W mem run 𝓣 = walk-meets 𝓤 H A f.ended stayed W (goes-slice 𝓤 H A W 1 0 tt (plain (λ _. T.the-row)), (goes-none 𝓤 H A W 1 (λ _. usize) yes (λ κs x f. refl), (goes-none 𝓤 H A W 1 (λ _. T.the-row) yes (λ κs x f. refl), tt))) (f.clauses 𝓤 H A mem run) (WpFn 𝓤 H (𝓣 .C) (𝓣 .Λ) code.function) (WpFn-mono 𝓤 H (W .laws) 𝓣 code.function) (put-cell-walks 𝓤 H A W mem run (𝓣 .C) (𝓣 .Λ))
+put-cell-meets 𝓤 H A W mem run 𝓣 = walk-meets 𝓤 H A f.ended stayed W (goes-slice 𝓤 H A W 1 0 tt (plain (λ _. T.the-row)) ∥
+    goes-none 𝓤 H A W 1 (λ _. usize) yes (λ κs x f. refl) ∥ goes-none 𝓤 H A W 1 (λ _. T.the-row) yes (λ κs x f. refl) ∥ tt) (f.clauses 𝓤 H A mem run)
+    (WpFn 𝓤 H (𝓣 .C) (𝓣 .Λ) code.function) (WpFn-mono 𝓤 H (W .laws) 𝓣 code.function) (put-cell-walks 𝓤 H A W mem run (𝓣 .C) (𝓣 .Λ))
 
 pub put-cell-spec : {M : Type 1} → stated.statement M
 unfolding code.routine tablesOf

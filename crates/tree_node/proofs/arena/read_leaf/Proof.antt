@@ -1,3 +1,4 @@
+-- `tree_node::arena::read_leaf` meets its contract: each need follows from its own premises.
 use Rattle.tree_node.specs.Arena.{leafOf}
 use borrow.Author.Tests.{eq-eqb, ne-eqb}
 use borrow.Author.Needs.{needs}

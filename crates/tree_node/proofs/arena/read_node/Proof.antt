@@ -1,3 +1,4 @@
+-- `tree_node::arena::read_node` meets its contract: from what its calls promise.
 use Rattle.tree_node.specs.Arena.{nodeOf}
 use borrow.Author.Needs.{needs}
 use Rattle.tree_node.proofs.arena.read_node.Statement.{statement}

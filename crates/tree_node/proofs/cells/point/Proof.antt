@@ -1,3 +1,4 @@
+-- `tree_node::cells::point` meets its contract: each need follows from its own premises.
 use native.Mathlib.Nat.{add-zero}
 use Rattle.tree_node.specs.Node.{pointOf}
 use Rattle.laws.specs.Loops.{loop}
@@ -64,7 +65,11 @@ shared-slice-read-t26 c = search needs
 
 returns-3 : tie.Need-returns-3
 unfolding pointOf loop
-returns-3 c = rw ((third _ (c .before .before .before .before .before .pre .0) (c .before .before .before .before .if1 .left) (c .before .before .before .if2 .left)), add-zero)
+returns-3 c =
+    let the-if2 = c .before .before .before .if2 in
+    let the-if1 = c .before .before .before .before .if1 in
+    let the-start = c .before .before .before .before .before in
+    rw ((third _ (the-start .pre .0) (the-if1 .left) (the-if2 .left)), add-zero)
 
 pub point-spec : {M : Type 1} → statement M
 point-spec =

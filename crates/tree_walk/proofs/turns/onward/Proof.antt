@@ -1,3 +1,4 @@
+-- `tree_walk::turns::onward` meets its contract: from what its calls promise.
 use Rattle.tree_walk.specs.Turn.{pastCell}
 use borrow.Author.Tests.{eq-eqb, ne-eqb, lt-ltb, le-ltb}
 use borrow.Author.Needs.{needs}
@@ -19,7 +20,9 @@ standing-requires-2 c κs = search needs
 
 returns-2 : tie.Need-returns-2
 unfolding pastCell
-returns-2 c = rw (le-ltb _ _ (c .before .before .before .if1 .left), eq-eqb _ _ (c .before .if2 .taken)) (c .standing2 .ensures)
+returns-2 c =
+    let the-if1 = c .before .before .before .if1 in
+    rw (le-ltb _ _ (the-if1 .left), eq-eqb _ _ (c .before .if2 .taken)) (c .standing2 .ensures)
 
 sub-l : tie.Need-sub-l
 sub-l c = search needs
@@ -44,7 +47,10 @@ standing-requires-3 c κs = search needs
 
 returns-3 : tie.Need-returns-3
 unfolding pastCell
-returns-3 c = rw (le-ltb _ _ (c .before .before .before .before .before .before .if1 .left), ne-eqb _ _ (c .before .before .before .before .if2 .left)) (c .standing3 .ensures)
+returns-3 c =
+    let the-if2 = c .before .before .before .before .if2 in
+    let the-if1 = c .before .before .before .before .before .before .if1 in
+    rw (le-ltb _ _ (the-if1 .left), ne-eqb _ _ (the-if2 .left)) (c .standing3 .ensures)
 
 pub onward-spec : {M : Type 1} → statement M
 onward-spec =

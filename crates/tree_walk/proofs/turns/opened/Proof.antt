@@ -1,3 +1,4 @@
+-- `tree_walk::turns::opened` meets its contract: from what its calls promise.
 use Rattle.tree_walk.specs.Turn.{openedOf, pushedOf}
 use borrow.Author.Tests.{lt-ltb, le-ltb}
 use lib.ListN.{length-set}
@@ -22,7 +23,9 @@ mul-stack-2 : tie.Need-mul-stack-2
 mul-stack-2 c = search needs
 
 slice-write-stack-2 : tie.Need-slice-write-stack-2
-slice-write-stack-2 c = simp length-set (omega (arith, c .before .before .before .before .before .before .pre, c .if2 .taken))
+slice-write-stack-2 c =
+    let the-start = c .before .before .before .before .before .before in
+    simp length-set (omega (arith, the-start .pre, c .if2 .taken))
 
 add-standing : tie.Need-add-standing
 add-standing c = search needs
@@ -35,11 +38,17 @@ same-length c = search needs
 
 returns : tie.Need-returns
 unfolding openedOf pushedOf
-returns c = (rw (lt-ltb _ _ (c .before .before .if1 .taken), lt-ltb _ _ (c .before .if2 .taken)) (c .standing .ensures), rw (lt-ltb _ _ (c .before .before .if1 .taken), lt-ltb _ _ (c .before .if2 .taken)))
+returns c =
+    let the-if1 = c .before .before .if1 in (
+      rw (lt-ltb _ _ (the-if1 .taken), lt-ltb _ _ (c .before .if2 .taken)) (c .standing .ensures),
+      rw
+          (lt-ltb _ _ (the-if1 .taken), lt-ltb _ _ (c .before .if2 .taken)),
+    )
 
 returns-2 : tie.Need-returns-2
 unfolding openedOf pushedOf
-returns-2 c = (rw (lt-ltb _ _ (c .before .if1 .taken), le-ltb _ _ (c .if2 .left)), rw (lt-ltb _ _ (c .before .if1 .taken), le-ltb _ _ (c .if2 .left)))
+returns-2 c =
+    (rw (lt-ltb _ _ (c .before .if1 .taken), le-ltb _ _ (c .if2 .left)), rw (lt-ltb _ _ (c .before .if1 .taken), le-ltb _ _ (c .if2 .left)))
 
 standing-requires-2 : tie.Need-standing-requires-2
 standing-requires-2 c κs = search needs

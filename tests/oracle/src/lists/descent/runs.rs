@@ -3,6 +3,7 @@
 use super::{roomy, tight, Alteration, Call, Case, Start, NODES, POSITIONS, RATE};
 use crate::descent::{Answer, Method, Settings};
 use crate::scatter::SplitMix64;
+use crate::tree::DEEPEST;
 
 /// Every case of the list.
 pub fn cases() -> Vec<Vec<u64>> {
@@ -159,10 +160,10 @@ fn short_arenas(random: &mut SplitMix64) -> Vec<Vec<u64>> {
     for (n, c, together) in [(2, 1, true), (7, 2, false), (6, 1, false), (5, 3, false), (4, 2, true)] {
         let mut from = start(random, small(Method::BarnesHut, n, c), 0);
         if together {
-            // Two frames in one place: 50 levels.
+            // Two frames in one place: as many levels as there may be.
             from.start.copy_within(0..c, c);
         }
-        let most = 1 + 50 * (1 << c) * (n - 1);
+        let most = 1 + DEEPEST * (1 << c) * (n - 1);
         from.lengths = tight(&from.settings, most.min(512));
         let mut case = Case::new(&from);
         let mut nodes = 1;
