@@ -202,7 +202,9 @@ def test_interrupted_at_every_instruction_and_gone_on(method, units):
 
 
 CHILD = """
-import sys, time
+import signal, sys, time
+# a job in the background of a script is born deaf to SIGINT, and so would its children be
+signal.signal(signal.SIGINT, signal.default_int_handler)
 sys.path[:0] = sys.argv[1:3]
 from conftest import frames
 from brothanchor import TSNE
