@@ -151,18 +151,7 @@ impl fmt::Display for Blindness {
 mod tests {
     use super::*;
     use crate::map::{settings, Wishes};
-
-    /// Frames whose first features are these, and whose others are zero.
-    fn frames(first: &[f64]) -> Vec<Frame> {
-        let frame = |(picture, &first): (u32, &f64)| Frame {
-            picture,
-            side: 1,
-            field: 0,
-            features: [first, 0.0, 0.0, 0.0, 0.0, 0.0],
-            starts: [0.0; 2],
-        };
-        (1..).zip(first).map(frame).collect()
-    }
+    use crate::scaling::tests::frames;
 
     fn of(first: &[f64], perplexity: Option<f64>, factor: f64) -> Option<Blindness> {
         let wishes = Wishes {

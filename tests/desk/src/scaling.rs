@@ -84,11 +84,11 @@ fn power_of_two(median: f64, largest: f64) -> f64 {
 }
 
 #[cfg(test)]
-mod tests {
+pub(crate) mod tests {
     use super::*;
 
     /// Frames whose first features are these, and whose others are zero.
-    fn frames(first: &[f64]) -> Vec<Frame> {
+    pub(crate) fn frames(first: &[f64]) -> Vec<Frame> {
         let frame = |(picture, &first): (u32, &f64)| Frame {
             picture,
             side: 1,
