@@ -1,4 +1,7 @@
 // Squared distances between frames by x²ᵢ + x²ⱼ - 2·xᵢxⱼ, the squares worked out once for each frame.
+
+#![tactic(auto)]
+
 ghost use Rattle.std.specs.Prelude.{◌≡◌, ◌+◌, ◌*◌, ◌<◌, ◌≤◌, length};
 ghost use Rattle.std.specs.Float.{binary64};
 ghost use Rattle.std.specs.Float.Ieee.{add, sub, mul};
@@ -52,7 +55,7 @@ fn distance(table: &[f64], f: usize, squares: &[f64], i: usize, j: usize) -> f64
 }
 
 // A frame's products with four frames that follow each other.
-#[derive(Drop)]
+#[derive(Clone, Copy)]
 struct Dots {
     first: f64,
     second: f64,

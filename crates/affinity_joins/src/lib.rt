@@ -1,4 +1,7 @@
 // The two shares of each pair of frames together, in place: shares by rows become affinities.
+
+#![tactic(auto)]
+
 ghost use Rattle.std.specs.Prelude.{◌≡◌, ◌+◌, ◌*◌, ◌<◌, ◌≤◌, length};
 ghost use Rattle.laws.specs.Domain.{most_frames};
 ghost use Rattle.affinity_joins.specs.Joins.{pair_step, frame_joined, symmetrized};

@@ -1,4 +1,7 @@
 // The link of one frame with another while the lists are written, and where a frame stands in a row.
+
+#![tactic(auto)]
+
 ghost use Rattle.std.specs.Prelude.{◌≡◌, ◌+◌, ◌-◌, ◌*◌, ◌<◌, ◌≤◌, length};
 ghost use Rattle.laws.specs.Domain.{most_frames};
 ghost use Rattle.laws.specs.Area.{num, zero64};
@@ -69,7 +72,7 @@ fn joint(values: &[f64], a: usize, w: u32, p: u32, b: usize, c: u32, r: u32) -> 
 }
 
 // Whether two frames are linked, and the weight; +0.0 if they are not. Then the words of the cursors: of row i, and of row j or list j.
-#[derive(Drop)]
+#[derive(Clone, Copy)]
 pub struct Link {
     pub yes: bool,
     pub weight: f64,

@@ -1,4 +1,7 @@
 // The Barnes-Hut neighbour lists, made in place: n rows of k links become the lists of all frames.
+
+#![tactic(auto)]
+
 mod filling;
 mod rows;
 

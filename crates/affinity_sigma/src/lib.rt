@@ -1,4 +1,7 @@
 // The sigma search: the shares of a row of distances, with the width found by halving that gives them the perplexity asked for.
+
+#![tactic(auto)]
+
 ghost use Rattle.std.specs.Prelude.{◌≡◌, ◌≤◌, length};
 ghost use Rattle.laws.specs.Domain.{most_frames};
 ghost use Rattle.laws.specs.Loops.{loop};
@@ -11,7 +14,7 @@ mod weights;
 const MOST_ROUNDS: u32 = 50;
 
 // What the search knows of sigma: it lies above low and below high, and is tried next.
-#[derive(Drop)]
+#[derive(Clone, Copy)]
 struct Bounds {
     low: f64,
     high: f64,

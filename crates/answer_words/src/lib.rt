@@ -1,4 +1,7 @@
 // The work call's answer as plain words of 64 bits, and the record's words after it.
+
+#![tactic(auto)]
+
 ghost use Rattle.std.specs.Prelude.{◌≡◌, ◌≤◌, length};
 ghost use Rattle.descent.specs.Descent.{units_of};
 ghost use Rattle.answer_words.specs.AnswerWords.{is_bad, run_after, kind_word, fault_in, answer_put};

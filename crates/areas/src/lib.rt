@@ -1,4 +1,7 @@
 // The front of an area: filled with one value, cleared, or copied from another area. What lies past it is kept.
+
+#![tactic(auto)]
+
 ghost use Rattle.std.specs.Prelude.{◌≡◌, ◌+◌, ◌≤◌, length};
 ghost use Rattle.laws.specs.Joined.{pasted};
 ghost use Rattle.areas.specs.Filled.{filled};

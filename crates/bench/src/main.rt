@@ -1,4 +1,7 @@
 // The bench: reads a frame file from standard input and prints its map. One byte more than it takes is enough to see that a file is too long.
+
+#![tactic(auto)]
+
 use libc::{STDIN_FILENO, STDOUT_FILENO};
 
 fn map_input(file: &mut [u8]) {

@@ -1,4 +1,7 @@
 // Many frame files through the bench's map: for each a line with its number, then what the bench prints of it.
+
+#![tactic(auto)]
+
 use libc::STDOUT_FILENO;
 use replay::word_at;
 

@@ -1,4 +1,7 @@
 // The parts of what the bench prints: a frame's label and position, and a refusal.
+
+#![tactic(auto)]
+
 ghost use Rattle.std.specs.Prelude.{◌≡◌, ◌+◌, ◌≤◌, length};
 ghost use Rattle.text.specs.Text.{Puts};
 ghost use Rattle.bench_lines.specs.BenchLines.{label_text, position_text, refusal_text, record_text};

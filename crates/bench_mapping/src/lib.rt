@@ -1,5 +1,8 @@
 // The bench's map: from the bytes of a frame file to an answer and positions. The limit of bytes comes first, then the records,
 // then preparation with the bench's settings, then one work call that no run outlasts.
+
+#![tactic(auto)]
+
 ghost use Rattle.std.specs.Prelude.{◌≡◌, ◌≤◌, length, replicate};
 ghost use Rattle.tree_node.specs.Arena.{void};
 ghost use Rattle.run_entry.specs.State.{memory, state};
@@ -20,7 +23,7 @@ pub const BENCH_FRAMES: usize = 64;
 const BENCH_BYTES: usize = BENCH_FRAMES * RECORD_BYTES;
 
 // What the bench says of a file.
-#[derive(Drop)]
+#[derive(Clone, Copy)]
 pub enum Told {
     // 7: more bytes than the bench takes
     Long,
@@ -33,7 +36,7 @@ pub enum Told {
 }
 
 // The answer, and the positions afterwards: two for each frame, then zeros.
-#[derive(Drop)]
+#[derive(Clone, Copy)]
 pub struct Mapped {
     pub told: Told,
     pub positions: [f64; 128],

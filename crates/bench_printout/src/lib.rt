@@ -1,4 +1,7 @@
 // What the bench prints of a frame file: the answer with its units and a line for each frame, or the refusal.
+
+#![tactic(auto)]
+
 ghost use Rattle.std.specs.Prelude.{◌≡◌, ◌+◌, ◌≤◌, length};
 ghost use Rattle.io.specs.Counts.{IsPrefixLen};
 ghost use Rattle.laws.specs.Joined.{joined, written};

@@ -1,4 +1,7 @@
 // How many frames the sigma search leaves blind: the tests, then a look at each frame's search; the rows that it goes by end as zeros.
+
+#![tactic(auto)]
+
 pub mod faults;
 mod looks;
 
@@ -13,7 +16,7 @@ use looks::look_at_all;
 use run_record::Settings;
 
 // What the count of blind frames answers.
-#[derive(Drop)]
+#[derive(Clone, Copy)]
 pub enum Sight {
     // with the number of the first test that failed
     Refused(u8),

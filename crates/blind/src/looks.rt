@@ -15,7 +15,7 @@ use run_record::Settings;
 use run_record::faults::is_tree;
 
 // What is seen of a frame.
-#[derive(Drop)]
+#[derive(Clone, Copy)]
 struct Glance {
     // its search ends blind
     blind: bool,
@@ -24,7 +24,7 @@ struct Glance {
 }
 
 // Of how many frames it was seen.
-#[derive(Drop)]
+#[derive(Clone, Copy)]
 pub(crate) struct Glances {
     pub(crate) blind: usize,
     pub(crate) alone: usize,

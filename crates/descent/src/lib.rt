@@ -1,4 +1,7 @@
 // The work call: entry tests, then units until the budget is done, one is refused or the run has ended.
+
+#![tactic(auto)]
+
 ghost use Rattle.std.specs.Prelude.{◌≡◌};
 ghost use Rattle.run_entry.specs.Entry.{is_fine};
 ghost use Rattle.run_entry.specs.State.{memory, state};

@@ -1,4 +1,7 @@
 // The desk's library: what a C or Rust program calls, on numbers and slices. Each function is that of a crate below it, exported: a static library has the exported functions of its own crate alone.
+
+#![tactic(auto)]
+
 ghost use Rattle.std.specs.Prelude.{◌≡◌, length};
 ghost use Rattle.run_entry.specs.State.{memory};
 ghost use Rattle.blind.specs.Blind.{sight_rows};

@@ -1,4 +1,7 @@
 // The count of blind frames, with settings and answer as plain words.
+
+#![tactic(auto)]
+
 ghost use Rattle.std.specs.Prelude.{◌≡◌, ◌≤◌, length};
 ghost use Rattle.blind.specs.Faults.{blind_fault};
 ghost use Rattle.blind.specs.Blind.{sight_rows, sight_number};

@@ -1,4 +1,7 @@
 // The figure of the iteration just finished, with record and answer as plain words.
+
+#![tactic(auto)]
+
 ghost use Rattle.std.specs.Prelude.{◌≡◌, ◌≤◌, length};
 ghost use Rattle.run_entry.specs.State.{memory};
 ghost use Rattle.record_words.specs.RecordWords.{worded};

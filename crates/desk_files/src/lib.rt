@@ -1,4 +1,7 @@
 // Starting positions and the frame file, with plain words.
+
+#![tactic(auto)]
+
 ghost use Rattle.std.specs.Prelude.{◌≡◌};
 ghost use Rattle.scatter.specs.Scatter.{scatter_of};
 ghost use Rattle.record_words.specs.RecordWords.{worded};

@@ -1,4 +1,7 @@
 // A run begun from a partner's list, with settings, record and answer as plain words. Areas of values are lent by their bits.
+
+#![tactic(auto)]
+
 ghost use Rattle.std.specs.Prelude.{◌≡◌, ◌≤◌, length, set};
 ghost use Rattle.record_words.specs.RecordWords.{short_number};
 ghost use Rattle.partner.specs.Partner.{whole_links};

@@ -1,4 +1,7 @@
 // The two calls for the picture monitor, with the answer as plain words. Coordinates are lent by their bits.
+
+#![tactic(auto)]
+
 ghost use Rattle.std.specs.Prelude.{◌≡◌};
 ghost use Rattle.desk_monitor.specs.HostWrite.{monitored_told, host_monitored, host_monitor_write};
 ghost use Rattle.desk_monitor.specs.HostRead.{monitor_read_told, host_monitor_reading, host_monitor_read};

@@ -1,4 +1,7 @@
 // Parking a run, with record and answer as plain words. Areas of values are lent by their bits.
+
+#![tactic(auto)]
+
 ghost use Rattle.std.specs.Prelude.{◌≡◌, ◌≤◌, eqb, length, set};
 ghost use Rattle.tree_node.specs.Arena.{nodes_of};
 ghost use Rattle.record_words.specs.RecordWords.{worded};

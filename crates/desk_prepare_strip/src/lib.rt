@@ -1,4 +1,7 @@
 // Preparation of a strip, with settings and record as plain words.
+
+#![tactic(auto)]
+
 ghost use Rattle.std.specs.Prelude.{◌≡◌, ◌&&◌};
 ghost use Rattle.prepare.specs.Prepare.{lent, prepare_fault};
 ghost use Rattle.prepare_strip.specs.PrepareStrip.{strip_bars};

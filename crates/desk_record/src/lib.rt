@@ -1,4 +1,7 @@
 // What settings and records say, as plain words: how long the areas must be; state, iterations and units done.
+
+#![tactic(auto)]
+
 ghost use Rattle.std.specs.Prelude.{◌≡◌, ◌<◌, ◌≤◌, ◌^◌, length};
 ghost use Rattle.tree_node.specs.Node.{Axes};
 ghost use Rattle.run_record.specs.Record.{GoodSettings};

@@ -1,4 +1,7 @@
 // Salvaging a frame file, with the answer as plain words.
+
+#![tactic(auto)]
+
 ghost use Rattle.std.specs.Prelude.{◌≡◌, ◌≤◌, length};
 ghost use Rattle.salvage.specs.Salvage.{salvage_number};
 ghost use Rattle.desk_salvage.specs.HostSalvage.{salvaged_words, host_salvaged, host_salvage};

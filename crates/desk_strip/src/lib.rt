@@ -1,4 +1,7 @@
 // Handing out the frames of an ended strip run, with record and answer as plain words. Gaps are lent by their bits.
+
+#![tactic(auto)]
+
 ghost use Rattle.std.specs.Prelude.{◌≡◌, ◌≤◌, length, set};
 ghost use Rattle.run_entry.specs.State.{memory};
 ghost use Rattle.record_words.specs.RecordWords.{worded};

@@ -1,4 +1,7 @@
 // Taking frames out of a run, with record and answer as plain words, and values that are only moved as words too.
+
+#![tactic(auto)]
+
 ghost use Rattle.std.specs.Prelude.{◌≡◌, ◌≤◌, length, set};
 ghost use Rattle.tree_node.specs.Arena.{nodes_of};
 ghost use Rattle.record_words.specs.RecordWords.{worded};

@@ -1,4 +1,7 @@
 // Reading a parked run back, with record and answer as plain words. Areas of values are lent by their bits.
+
+#![tactic(auto)]
+
 ghost use Rattle.std.specs.Prelude.{◌≡◌, ◌≤◌, length, set};
 ghost use Rattle.record_words.specs.RecordWords.{worded};
 ghost use Rattle.parked.specs.Parked.{stored_of};

@@ -1,4 +1,7 @@
 // The work call, with record and answer as plain words.
+
+#![tactic(auto)]
+
 ghost use Rattle.std.specs.Prelude.{◌≡◌, not, ◌≤◌, ltb, length};
 ghost use Rattle.run_entry.specs.State.{memory};
 ghost use Rattle.run_budget.specs.declared.Answer.TheVariants.{Bad};

@@ -1,4 +1,7 @@
 // The Kullback-Leibler figure of the iteration just finished, or why there is none. No area is changed.
+
+#![tactic(auto)]
+
 ghost use Rattle.std.specs.Prelude.{◌≡◌, true, min};
 ghost use Rattle.run_entry.specs.State.{memory};
 ghost use Rattle.run_entry.specs.Entry.{is_fine};
@@ -13,7 +16,7 @@ use run_record::faults::is_tree;
 use tree_node::Cell;
 
 // What is answered.
-#[derive(Drop)]
+#[derive(Clone, Copy)]
 pub enum Diverged {
     Figure(f64),
     // 17: no iteration has just ended, or the forces give a total of 0

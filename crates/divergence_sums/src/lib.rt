@@ -1,4 +1,7 @@
 // The sums of the Kullback-Leibler figure: over pairs of frames for an exact run, over links for a Barnes-Hut run.
+
+#![tactic(auto)]
+
 ghost use Rattle.std.specs.Prelude.{◌≡◌, ℕ, ◌+◌, ◌*◌, ◌<◌, ◌≤◌, length};
 ghost use Rattle.laws.specs.Loops.{loop};
 ghost use Rattle.laws.specs.Area.{num};

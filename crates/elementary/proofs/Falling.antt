@@ -1,7 +1,7 @@
 -- From -745 to 709 exp is t·2^k, rounded once. And exp of a value with the sign -: finite, with the sign +, and at most 14. The bound is coarse; it is enough
 -- for what the weights need. Assumes nothing.
 use Rattle.std.proofs.Common.{◌≡◌, ℕ, zero, suc, ◌+◌, ◌-◌, ◌*◌, ◌^◌, ◌<◌, ◌≤◌, Bool, true, false, cond, T, ltb, ℤ, pos, negsuc, ◌+ℤ◌, neg_ℤ, sym, refl, ap, ◌∙◌, subst, ⊎_elim, true≢false, le_trans, le_of_eq, lt_of_lt_of_le, not-suc-le-zero, le_of_lt, mul-le-mul_right, mul_assoc, suc-mul, mul_comm, add-mul, add_comm, mul-lt-mul_of_pos_right, mul-pos, one-mul, zero-mul, mul-one, mul_right_comm, mul_left_comm, arith, lit<, lit≤, pow_pos, ltb-false, le-ltb}
-use lib.Ieee.{Float, inf, fin, binary64, up, down, unlike, round, sum, neg, add, sub, mul, div, lt, ne, fits, of_int, of_bits, is_nan}
+use lib.Ieee.{Float, inf, fin, binary64, up, down, unlike, round, sum, neg, add, sub, mul, div, lt, ne, fits, of_int, of_bits, is_nan, nan}
 use lib.Ieee.Fits.{down_pos, add-fits}
 use lib.Ieee.Exact.{HasValue, round_exact}
 use lib.Ieee.Back.{round_whole}
@@ -37,6 +37,8 @@ whole_of (fin false m e) p w = record {
   least = λ j l. near_le (m * up e) (down e) j (down_pos e) l;
   most = λ j l. near-ge (m * up e) (down e) j (down_pos e) (le_trans l (le_of_eq (mul-one (m * up e))));
 }
+whole_of nan p w = elim p [ ]
+whole_of (inf _) p w = elim w [ ]
 
 module _ (A B : ℕ) (h : 0 < B) (k : A ≤ 1075 * B) where
   abbrev rounded : Float
@@ -124,6 +126,8 @@ times-hi (fin true m e) k v h =
   where
     same : (M D : ℕ) → M ≡ k * D → M * (NH * 1) * 2 ^ 32 ≡ k * NH * (D * 2 ^ 32)
     same M D e = omega (arith, ap (λ (x : ℕ). x * NH) e, mul_right_comm k D NH, mul_assoc (k * NH) D (2 ^ 32))
+times-hi nan k v h = elim v [ ]
+times-hi (inf _) k v h = elim v [ ]
 
 -- a is the magnitude of x and b that of k·HI, each times c; jc is (|k| - 1)·c. L and HI are between 45426 / 65536 and 45427 / 65536
 gap-coarse : (a b c jc : ℕ) → jc ≤ 1075 * c → a * 65536 ≤ 45427 * (jc + c + c) → 45426 * jc ≤ a * 65536 → b * 65536 ≤ 45427 * (jc + c) →
@@ -166,6 +170,8 @@ first-left m e (fin true n g) j h v l r =
     ∙ mul_assoc NH (suc j * G) D
     ∙ ap (λ (k : ℕ). NH * k) (mul_assoc (suc j) G D ∙ ap (λ (k : ℕ). suc j * k) (mul_comm G D) ∙ suc-mul j C)) in
     sum-apart true (M * G) (N * D) C 6 8 (mul-pos (down_pos e) (down_pos g)) (lit< tt) six-eighths parts.0 parts.1
+first-left m e nan j h v l r = elim v [ ]
+first-left m e (inf _) j h v l r = elim v [ ]
 
 -- (x - k·HI) - k·LO, for a whole k of at most 1075 in magnitude
 second-left : (y k : Float) → Most 1075 1 k → Most 6 8 y → Most 7 8 (sub binary64 y (mul binary64 k ln2lo))
@@ -191,6 +197,8 @@ reduced-small m e zero h l r =
 
     wide : (z : Float) → Most 0 1 z → Most 1075 1 z
     wide (fin s k g) w = omega (arith, w)
+    wide nan w = elim w [ ]
+    wide (inf _) w = elim w [ ]
 reduced-small m e (suc j) h l r =
     let k = round binary64 true (suc j) 1 in
     let y = mul binary64 k ln2hi in
@@ -238,6 +246,8 @@ one-less-of (fin true n g) p =
     let C = 1 * down g in
     let most : Most 1 1 (sum binary64 false A true B C) = sum-apart false A B C 1 1 (omega (arith, down_pos g)) (lit< tt) (held_whole 1 (lit≤ tt)) (omega arith) (omega (arith, p.1)) in
     (sized false 1 1 (sum binary64 false A true B C) (plain-less A B C (omega (arith, p.1))) most, less-least A B C (omega (arith, down_pos g)) (omega (arith, p.1)) (omega (arith, p.1)) most)
+one-less-of nan p = elim p [ ]
+one-less-of (inf _) p = elim p [ ]
 
 one_less : (z : Float) → Sized true 7 8 z → Fair 1 (add binary64 one64 z)
 one_less z p = subst (λ (o : Float). Fair 1 (add binary64 o z)) (sym one-is) (one-less-of z p)
@@ -246,6 +256,8 @@ more-least : (n k : ℕ) (z : Float) → Sized false n 1 z → Most k 1 (add bin
 unfolding add sum
 more-least n k (fin true i g) p w = absurd (true≢false p.0)
 more-least n k (fin false i g) p w = least-round (1 * 2 ^ 0 * down g + i * up g * 1) (1 * down g) 1 8 k 1 (omega (arith, down_pos g)) (lit< tt) eighth w (omega arith)
+more-least n k nan p w = elim p [ ]
+more-least n k (inf _) p w = elim p [ ]
 
 -- one more than a value
 one_more : (n : ℕ) (z : Float) → n + 1 ≤ 2 ^ 53 → Sized false n 1 z → Fair (n + 1) (add binary64 one64 z)
@@ -275,6 +287,8 @@ series-fair (fin true m e) p =
     let w = series-falling (fin true m e) 13 one64 (lit≤ tt) (refl, p) one-fair in
     (sized-next false 1 14 1 (series (fin true m e) 13 one64) (lit≤ tt) w.0, w.1)
 series-fair (fin false m e) p = series-rising (fin false m e) 13 1 one64 (lit≤ tt) (lit≤ tt) (refl, p) one-fair
+series-fair nan p = elim p [ ]
+series-fair (inf _) p = elim p [ ]
 
 series-fits : (r : Float) (m : ℕ) (t : Float) → T (fits binary64 t) → T (fits binary64 (series r m t))
 unfolding series
@@ -363,3 +377,4 @@ exp-falling (fin true m e) p = go (ltb (745 * down e) (m * up e * 1)) (ltb (708 
     go true l h u = (refl, lit≤ tt)
     go false true h u = subst (λ (z : Float). up_to_whole z 14) (sym (under-once (fin true m e) h u)) (small-in m e h)
     go false false h u = small-in m e h
+exp-falling nan p = elim p [ ]

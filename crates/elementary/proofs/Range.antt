@@ -40,17 +40,23 @@ whole-plus : (z : Float) → sign_plus z → at_most z 1023 → from_minus 1021 
 unfolding whole_near signed
 whole-plus (fin true m e) p w = absurd (true≢false p)
 whole-plus (fin false m e) p w = near_le (m * up e) (down e) 1023 (down_pos e) w
+whole-plus nan p w = elim p [ ]
+whole-plus (inf _) p w = elim w [ ]
 
 whole-minus : (z : Float) → sign_plus z → Most 16343 16 z → from_minus 1021 1023 (whole_near (neg z))
 unfolding whole_near signed neg
 whole-minus (fin true m e) p w = absurd (true≢false p)
 whole-minus (fin false m e) p w = minus-whole (near_up (m * up e) (down e)) (near-half-le (m * up e) (down e) (down_pos e) w)
+whole-minus nan p w = elim p [ ]
+whole-minus (inf _) p w = elim w [ ]
 
 whole-under : (z : Float) → sign_plus z → at_most z 1075 → Least 1021 1 z → between_minus 1075 1021 (whole_near (neg z))
 unfolding whole_near signed neg
 whole-under (fin true m e) p w l = absurd (true≢false p)
 whole-under (fin false m e) p w l = minus-between (near_up (m * up e) (down e))
     (near-ge (m * up e) (down e) 1021 (down_pos e) (le_trans l (le_of_eq (mul-one (m * up e))))) (near_le (m * up e) (down e) 1075 (down_pos e) w)
+whole-under nan p w l = elim p [ ]
+whole-under (inf _) p w l = elim w [ ]
 
 -- ---- the quotient
 
@@ -145,6 +151,7 @@ under-is (fin true m e) b l = record {
 
 lifted : (k : ℤ) → between_minus 1075 1021 k → between_minus 1011 957 (k +ℤ pos 64)
 lifted (negsuc n) h = rw (lt-ltb 64 (suc n) (omega (arith, h.0))) (omega (arith, h.0), omega (arith, h.1))
+lifted (pos _) h = elim h [ ]
 
 under-range : (m : ℕ) (e : ℤ) → m * up e ≤ 745 * down e → 708 * down e ≤ m * up e → between_minus 1075 1021 (exp_k (fin true m e))
 under-range m e h l =
@@ -168,6 +175,7 @@ in-normal (negsuc n) h = omega (arith, h)
 
 raised-normal : (k : ℤ) → between_minus 1011 957 k → in_exp k × SFits w64 k
 raised-normal (negsuc n) h = (omega (arith, h.1), record { sfits = omega (arith, h.1) })
+raised-normal (pos _) h = elim h [ ]
 
 pub exp-normal : (x : Float) → ne x x ≡ false → lt x low708 ≡ false → lt high709 x ≡ false → in_exp (exp_k x)
 exp-normal x a b c = in-normal (exp_k x) (exp-range x a b c)

@@ -74,6 +74,8 @@ normal (fin s m e) A D n h v l b =
     (le_trans (mul-le-mul (le_trans (le_of_eq (sym (one-mul D))) l) (pow_mono b))
     (le_trans (le_of_eq (mul_assoc A 8 (2 ^ 1011) ∙ ap (λ (x : ℕ). x * (8 * 2 ^ 1011)) (sym (mul-one A)))) (mul-le-mul_left (A * 1) (lit≤ {m = 8 * 2 ^ 1011} {n = 2 ^ 1022} tt)))))
     (le_of_eq (sym v.1))
+normal nan A D n h v l b = elim v [ ]
+normal (inf _) A D n h v l b = elim v [ ]
 
 -- times 2^-64 it is what t·2^-(n + 64) is when rounded
 rounded-once : (y : Float) (A D n : ℕ) → 0 < D → HasValue y false (A * 1) (D * 2 ^ n) → mul binary64 y (fin false 1 (negsuc 63)) ≡ round binary64 false (A * 1) (D * 2 ^ (n + 64))
@@ -87,6 +89,8 @@ rounded-once (fin false m e) A D n h v =
     ∙ sym (mul_assoc (m * up e) (D * 2 ^ n) (2 ^ 64))
     ∙ ap (λ (x : ℕ). x * 2 ^ 64) v.1
     ∙ mul_assoc (A * 1) (down e) (2 ^ 64))
+rounded-once nan A D n h v = elim v [ ]
+rounded-once (inf _) A D n h v = elim v [ ]
 
 -- ---- of a float t and a power of two
 
@@ -96,6 +100,7 @@ times-exact nan k f w b = absurd w.0
 times-exact (inf s) k f w b = absurd w.0
 times-exact (fin true m e) k f w b = absurd (true≢false w.0.0)
 times-exact (fin false m e) (negsuc p) f w b = scaled m e (suc p) (digits false m e f).0 w.1 (omega (arith, w.0.1)) b.1
+times-exact (fin false m e) (pos _) f w b = elim b [ ]
 
 pub times-normal : (t : Float) (k : ℤ) → T (fits binary64 t) → Fair 14 t → between_minus 1011 957 k → Least 1 (2 ^ 1022) (mul binary64 t (power k))
 unfolding mul power
@@ -104,6 +109,7 @@ times-normal (inf s) k f w b = absurd w.0
 times-normal (fin true m e) k f w b = absurd (true≢false w.0.0)
 times-normal (fin false m e) (negsuc p) f w b =
     normal (mul binary64 (fin false m e) (power (negsuc p))) (m * up e) (down e) (suc p) (down_pos e) (times-exact (fin false m e) (negsuc p) f w b) w.1 b.1
+times-normal (fin false m e) (pos _) f w b = elim b [ ]
 
 -- k is - (n + 1), and k + 64 is - (j + 1)
 once-at : (m : ℕ) (e : ℤ) (n j : ℕ) → T (fits binary64 (fin false m e)) → Fair 14 (fin false m e) → (956 ≤ j) × (j ≤ 1010) → n ≡ j + 64 →
@@ -121,3 +127,4 @@ times-once nan k f w b = absurd w.0
 times-once (inf s) k f w b = absurd w.0
 times-once (fin true m e) k f w b = absurd (true≢false w.0.0)
 times-once (fin false m e) (negsuc n) f w b = rw (lt-ltb 64 (suc n) (omega (arith, b.0))) (once-at m e n (suc n - 65) f w (omega (arith, b.0), omega (arith, b.1)) (omega (arith, b.0)))
+times-once (fin false m e) (pos _) f w b = elim b [ ]

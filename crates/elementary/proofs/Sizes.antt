@@ -111,15 +111,26 @@ under (inf s) (fin false k g) n d p v t = infinite-above s k g p t
 under (fin true m e) y n d p v t = absurd (true≢false p)
 under (fin false m e) (fin true k g) n d p v t = absurd (true≢false v.0)
 under (fin false m e) (fin false k g) n d p v t = through (m * up e) (k * up g) n (down e) (down g) d (down_pos g) (ordered m e k g t) (le_of_eq v.1)
+under nan y n d p v t = elim p [ ]
+under (inf s) nan n d p v t = elim v [ ]
+under (inf s) (inf _) n d p v t = elim v [ ]
+under (fin false m e) nan n d p v t = elim v [ ]
+under (fin false m e) (inf _) n d p v t = elim v [ ]
 
 above : (z y : Float) (n N d D : ℕ) → sign_plus z → Most N D z → HasValue y false n d → T (le y z) → Least n d z
 above (fin true m e) y n N d D p w v t = absurd (true≢false p)
 above (fin false m e) (fin true k g) n N d D p w v t = absurd (true≢false v.0)
 above (fin false m e) (fin false k g) n N d D p w v t = through n (k * up g) (m * up e) d (down g) (down e) (down_pos g) (le_of_eq (sym v.1)) (ordered k g m e t)
+above nan y n N d D p w v t = elim p [ ]
+above (inf _) y n N d D p w v t = elim w [ ]
+above (fin false m e) nan n N d D p w v t = elim v [ ]
+above (fin false m e) (inf _) n N d D p w v t = elim v [ ]
 
 pub most-neg : (n d : ℕ) (z : Float) → Most n d z → Most n d (neg z)
 unfolding neg
 most-neg n d (fin s m e) w = w
+most-neg n d nan w = elim w [ ]
+most-neg n d (inf _) w = elim w [ ]
 
 most-plain : (a b n d : ℕ) → 0 < b → 0 < d → Held n d → a * d ≤ n * b → Most n d (round binary64 false a b)
 most-plain a b n d h k v l = under (round binary64 false a b) (round binary64 false n d) n d (signed_round binary64 false a b) v (round_mono binary64 a b n d h k l)
@@ -155,18 +166,28 @@ Sized s n d (fin t m e) = (t ≡ s) × (m * up e * d ≤ n * down e)
 
 pub sized : (s : Bool) (n d : ℕ) (x : Float) → Signed s x → Most n d x → Sized s n d x
 sized s n d (fin t m e) p q = (p, q)
+sized s n d nan p q = elim p [ ]
+sized s n d (inf _) p q = elim q [ ]
 
 pub sized-most : (s : Bool) (n d : ℕ) (x : Float) → Sized s n d x → Most n d x
 sized-most s n d (fin t m e) p = p.1
+sized-most s n d nan p = elim p [ ]
+sized-most s n d (inf _) p = elim p [ ]
 
 pub sized-signed : (s : Bool) (n d : ℕ) (x : Float) → Sized s n d x → Signed s x
 sized-signed s n d (fin t m e) p = p.0
+sized-signed s n d nan p = elim p [ ]
+sized-signed s n d (inf _) p = elim p [ ]
 
 pub most-more : (n k d : ℕ) (x : Float) → n ≤ k → Most n d x → Most k d x
 most-more n k d (fin t m e) h p = le_trans p (mul-le-mul_right (down e) h)
+most-more n k d nan h p = elim p [ ]
+most-more n k d (inf _) h p = elim p [ ]
 
 pub sized-next : (s : Bool) (n k d : ℕ) (x : Float) → n ≤ k → Sized s n d x → Sized s k d x
 sized-next s n k d (fin t m e) h p = (p.0, le_trans p.1 (mul-le-mul_right (down e) h))
+sized-next s n k d nan h p = elim p [ ]
+sized-next s n k d (inf _) h p = elim p [ ]
 
 pub sized-round : (s : Bool) (a b n d : ℕ) → 0 < b → 0 < d → Held n d → a * d ≤ n * b → Sized s n d (round binary64 s a b)
 sized-round s a b n d h k v l = sized s n d (round binary64 s a b) (signed_round binary64 s a b) (most-round s a b n d h k v l)
@@ -175,22 +196,32 @@ sized-round s a b n d h k v l = sized s n d (round binary64 s a b) (signed_round
 
 pub within-most : (n : ℕ) (x : Float) → at_most x n → Most n 1 x
 within-most n (fin s m e) w = omega (arith, w)
+within-most n nan w = elim w [ ]
+within-most n (inf _) w = elim w [ ]
 
 pub most-within : (n : ℕ) (x : Float) → Most n 1 x → at_most x n
 most-within n (fin s m e) w = omega (arith, w)
+most-within n nan w = elim w [ ]
+most-within n (inf _) w = elim w [ ]
 
 pub bounded : (a b n : ℕ) → 0 < b → n ≤ 2 ^ 53 → a ≤ n * b → at_most (round binary64 false a b) n
 bounded a b n h k l = most-within n (round binary64 false a b) (most-plain a b n 1 h (lit< tt) (held_whole n k) (le_trans (le_of_eq (mul-one a)) l))
 
 pub whole-sized : (n : ℕ) (x : Float) → Sized false n 1 x → up_to_whole x n
 whole-sized n (fin s m e) p = (p.0, omega (arith, p.1))
+whole-sized n nan p = elim p [ ]
+whole-sized n (inf _) p = elim p [ ]
 
 pub sized-whole : (n : ℕ) (x : Float) → up_to_whole x n → Sized false n 1 x
 sized-whole n (fin s m e) p = (p.0, omega (arith, p.1))
+sized-whole n nan p = elim p [ ]
+sized-whole n (inf _) p = elim p [ ]
 
 -- what lies between 0 and n is finite and not negative
 pub whole-not-negative : (n : ℕ) (x : Float) → up_to_whole x n → not_negative x
 whole-not-negative n (fin s m e) p = p.0
+whole-not-negative n nan p = elim p [ ]
+whole-not-negative n (inf _) p = elim p [ ]
 
 pub one-is : one64 ≡ fin false 1 (pos 0)
 unfolding of_bits
@@ -230,6 +261,8 @@ above-whole n (fin false m e) p = go (lt zero64 (fin false m e))
     go : (b : Bool) → up_to_whole (cond b (fin false m e) zero64) n
     go true = (refl, omega (arith, p))
     go false = zero-whole n
+above-whole n nan p = elim p [ ]
+above-whole n (inf _) p = elim p [ ]
 
 -- ---- sums
 
@@ -275,16 +308,20 @@ most-add a b d (fin s m e) (fin t n g) k v p q =
         let C = down e * down g in
         let h : 0 < C = mul-pos (down_pos e) (down_pos g) in
         let both : A * d + B * d ≤ (a + b) * C = rw (add-mul a b C) (omega (arith, P, Q)) in
-        elim s [
-          | true ↦ elim t [
+        elim s as (λ (u : Bool). Most (a + b) d (sum binary64 u A t B C)) [
+          | true ↦ elim t as (λ (u : Bool). Most (a + b) d (sum binary64 true A u B C)) [
             | true ↦ sum_alike true A B C (a + b) d h k v (rw (add-mul A B d) both)
             | false ↦ sum-apart true A B C (a + b) d h k v (omega (arith, both)) (omega (arith, both))
           ]
-          | false ↦ elim t [
+          | false ↦ elim t as (λ (u : Bool). Most (a + b) d (sum binary64 false A u B C)) [
             | true ↦ sum-apart false A B C (a + b) d h k v (omega (arith, both)) (omega (arith, both))
             | false ↦ sum_alike false A B C (a + b) d h k v (rw (add-mul A B d) both)
           ]
         ]
+most-add a b d nan y k v p q = elim p [ ]
+most-add a b d (inf _) y k v p q = elim p [ ]
+most-add a b d (fin s m e) nan k v p q = elim q [ ]
+most-add a b d (fin s m e) (inf _) k v p q = elim q [ ]
 
 pub plain-add : (x y : Float) → sign_plus x → sign_plus y → sign_plus (add binary64 x y)
 unfolding add sum
@@ -292,6 +329,9 @@ plain-add (inf t) (inf u) p q = rw (p, q) refl
 plain-add (inf t) (fin u n g) p q = p
 plain-add (fin t m e) (inf u) p q = q
 plain-add (fin t m e) (fin u n g) p q = rw (p, q) (signed_round binary64 false (m * up e * down g + n * up g * down e) (down e * down g))
+plain-add nan y p q = elim p [ ]
+plain-add (inf t) nan p q = elim q [ ]
+plain-add (fin t m e) nan p q = elim q [ ]
 
 -- what is taken away is no more than what it is taken from
 pub plain-less : (a b c : ℕ) → b ≤ a → sign_plus (sum binary64 false a true b c)
@@ -312,6 +352,10 @@ pub most-mul : (a c b d p q : ℕ) (x y : Float) → 0 < c → 0 < d → 0 < q �
 unfolding mul
 most-mul a c b d p q (fin s m e) (fin t n g) C D Q v l x y =
     most-round (unlike s t) (m * up e * (n * up g)) (down e * down g) p q (mul-pos (down_pos e) (down_pos g)) Q v (product (m * up e) (down e) (n * up g) (down g) a c b d p q C D x y l)
+most-mul a c b d p q nan _ C D Q v l x y = elim x [ ]
+most-mul a c b d p q (inf _) _ C D Q v l x y = elim x [ ]
+most-mul a c b d p q (fin s m e) nan C D Q v l x y = elim y [ ]
+most-mul a c b d p q (fin s m e) (inf _) C D Q v l x y = elim y [ ]
 
 pub sized-mul : (s t : Bool) (a c b d p q : ℕ) (x y : Float) → 0 < c → 0 < d → 0 < q → Held p q → a * b * q ≤ p * (c * d) → Sized s a c x → Sized t b d y → Sized (unlike s t) p q (mul binary64 x y)
 unfolding mul
@@ -320,6 +364,10 @@ sized-mul s t a c b d p q (fin u m e) (fin w n g) C D Q v l x y =
     let N = n * up g in
     subst (λ (z : Bool). Sized z p q (round binary64 (unlike u w) (M * N) (down e * down g))) (λ i. unlike (x.0 i) (y.0 i))
     (sized-round (unlike u w) (M * N) (down e * down g) p q (mul-pos (down_pos e) (down_pos g)) Q v (product M (down e) N (down g) a c b d p q C D x.1 y.1 l))
+sized-mul s t a c b d p q nan _ C D Q v l x y = elim x [ ]
+sized-mul s t a c b d p q (inf _) _ C D Q v l x y = elim x [ ]
+sized-mul s t a c b d p q (fin u m e) nan C D Q v l x y = elim y [ ]
+sized-mul s t a c b d p q (fin u m e) (inf _) C D Q v l x y = elim y [ ]
 
 pub least-mul : (a c b d p q n k : ℕ) (x y : Float) → 0 < c → 0 < d → 0 < q → Held p q → p * (c * d) ≤ a * b * q → sign_plus x → sign_plus y → Least a c x →
     Least b d y → Most n k (mul binary64 x y) → Least p q (mul binary64 x y)
@@ -331,6 +379,10 @@ least-mul a c b d p q n k (fin false m e) (fin false i g) C D Q v l s t x z w =
     let N = i * up g in
     least-round (M * N) (down e * down g) p q n k (mul-pos (down_pos e) (down_pos g)) Q v w
     (through p (a * b) (M * N) q (c * d) (down e * down g) (mul-pos C D) l (rw (mul-mul-mul_comm M N c d, mul-mul-mul_comm a b (down e) (down g)) (mul-le-mul x z)))
+least-mul a c b d p q n k nan y C D Q v l s t x z w = elim s [ ]
+least-mul a c b d p q n k (inf _) y C D Q v l s t x z w = elim x [ ]
+least-mul a c b d p q n k (fin false m e) nan C D Q v l s t x z w = elim t [ ]
+least-mul a c b d p q n k (fin false m e) (inf _) C D Q v l s t x z w = elim z [ ]
 
 -- ---- quotients
 
@@ -358,3 +410,7 @@ sized-div s t a c b d p q (fin u m e) (fin w n g) C B Q v l x z y =
     positive : (N d : ℕ) → 0 < N * d → 0 < N
     positive zero d h = absurd (lt_irrefl 0 (subst (λ (x : ℕ). 0 < x) (zero-mul d) h))
     positive (suc N) d h = omega arith
+sized-div s t a c b d p q nan _ C B Q v l x z y = elim x [ ]
+sized-div s t a c b d p q (inf _) _ C B Q v l x z y = elim x [ ]
+sized-div s t a c b d p q (fin u m e) nan C B Q v l x z y = elim z [ ]
+sized-div s t a c b d p q (fin u m e) (inf _) C B Q v l x z y = elim y [ ]

@@ -1,4 +1,7 @@
 // exp and ln as the scope paper and request 2026-05 fix them, and the small tests on numbers that every layer above needs.
+
+#![tactic(auto)]
+
 pub mod exponential;
 pub mod limits;
 pub mod logarithm;

@@ -1,4 +1,7 @@
 // A fault and what comes with it, as plain words of 64 bits; and what is wrong with words that are no record.
+
+#![tactic(auto)]
+
 ghost use Rattle.std.specs.Prelude.{◌≡◌};
 ghost use Rattle.record_words.specs.RecordWords.{worded};
 ghost use Rattle.fault_words.specs.FaultWords.{fault_word, fault_value, unread_fault, unfit, unfit_told};

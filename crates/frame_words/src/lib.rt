@@ -1,4 +1,7 @@
 // A frame as plain words of 64 bits.
+
+#![tactic(auto)]
+
 ghost use Rattle.std.specs.Prelude.{◌≡◌, ◌≤◌, length};
 ghost use Rattle.frame_words.specs.FrameWords.{features_put, starts_put, frame_put};
 

@@ -1,5 +1,8 @@
 // The frame file: records of 72 bytes, no header, little-endian. A record is good by itself or not, and stands in order or not;
 // the reader answers how many there are, or the place of the first bad one.
+
+#![tactic(auto)]
+
 ghost use Rattle.std.specs.Prelude.{◌≡◌, ◌+◌, ◌*◌, ◌/◌, ◌<◌, ◌≤◌, length};
 ghost use Rattle.frames.specs.Frames.{record_bytes, picture_at, picture_fine, side_fine, field_fine, spare_fine, values_fine, good_alone, may_follow, in_order, bad_at, frames_of, features_at, starts_at, frame_of};
 
@@ -10,7 +13,7 @@ pub const RECORD_BYTES: usize = 72;
 const MOST_PICTURE: u64 = 79999;
 
 // What the reader says of a file.
-#[derive(Drop)]
+#[derive(Clone, Copy)]
 pub enum Frames {
     // so many records, all good
     Good(usize),
@@ -19,7 +22,7 @@ pub enum Frames {
 }
 
 // One captured frame.
-#[derive(Drop)]
+#[derive(Clone, Copy)]
 pub struct Frame {
     // the picture's number on the disc
     pub picture: u32,

@@ -1,4 +1,7 @@
 // Hands out the frames of an ended strip run along the line with the gaps between them, or tells why not.
+
+#![tactic(auto)]
+
 ghost use Rattle.std.specs.Prelude.{◌≡◌, true, ◌≤◌, length};
 ghost use Rattle.laws.specs.Domain.{most_frames};
 ghost use Rattle.run_entry.specs.Entry.{is_fine};
@@ -15,7 +18,7 @@ use tree_node::Cell;
 use words_entry::words_fault;
 
 // What is answered.
-#[derive(Drop)]
+#[derive(Clone, Copy)]
 pub enum Handed {
     // so many frames
     Done(usize),

@@ -1,5 +1,8 @@
 // Worked examples: functions that lend a local array of structs, or a local struct of their own, to a callee. Their proofs are walks; no other crate uses them.
 // The arena's two functions are called with what is lent, and `put_from` with slices of numbers beside it.
+
+#![tactic(auto)]
+
 ghost use Rattle.std.specs.Prelude.{◌≡◌, ◌<◌, ◌≤◌, length, set};
 ghost use Rattle.tree_node.specs.Arena.{cell_at};
 ghost use Rattle.lent_examples.specs.Lending.{value_or, valued, CountFits, bumped_of, placed_of, noted_of};
@@ -51,7 +54,7 @@ pub fn front_at(cells: [Cell; 8], k: usize, i: usize) -> Cell
 
 // ---- A local struct, lent as a `&mut S`.
 
-#[derive(Drop)]
+#[derive(Clone, Copy)]
 pub struct Counter {
     pub total: u64,
     pub last: f64,
@@ -128,7 +131,7 @@ pub fn put_from(cells: &mut [Cell], values: &[f64], marks: &mut [u32], i: usize,
 }
 
 // What a caller returns that has such an array: a struct with the array in it, made by a covered function.
-#[derive(Drop)]
+#[derive(Clone, Copy)]
 pub struct Placed {
     pub mark: u32,
     pub cells: [Cell; 8],
@@ -174,7 +177,7 @@ pub fn note_from(c: &mut Counter, cells: &mut [Cell], values: &[f64], i: usize, 
     put_cell(cells, i, z);
 }
 
-#[derive(Drop)]
+#[derive(Clone, Copy)]
 pub struct Noted {
     pub counter: Counter,
     pub cells: [Cell; 8],

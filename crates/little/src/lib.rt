@@ -1,4 +1,7 @@
 // Numbers and values in a string of bytes, the lowest byte first.
+
+#![tactic(auto)]
+
 ghost use Rattle.std.specs.Prelude.{◌≡◌, ◌+◌, ◌<◌, ◌≤◌, length};
 ghost use Rattle.laws.specs.Joined.{written};
 ghost use Rattle.little.specs.Little.{little_bytes, little_of, value_at};

@@ -1,4 +1,7 @@
 // The record for the picture monitor: picture, side, field, two zeros, and the two coordinates by their single-precision bits, in 16 bytes.
+
+#![tactic(auto)]
+
 ghost use Rattle.std.specs.Prelude.{◌≡◌, ◌+◌, ◌≤◌, length};
 ghost use Rattle.laws.specs.Joined.{written};
 ghost use Rattle.little.specs.Little.{little_bytes};

@@ -1,4 +1,7 @@
 // A double in single precision and back, worked out from the bits: to nearest, ties to even, subnormals and signed zeros included.
+
+#![tactic(auto)]
+
 ghost use Rattle.std.specs.Prelude.{◌≡◌, ◌+◌, ◌*◌, ◌^◌, ◌<◌, ◌≤◌};
 ghost use Rattle.std.specs.Float.Ieee.Nearest.{closest};
 ghost use Rattle.monitor_narrow.specs.Narrow.{narrow_of, widen_of, finite_single};
@@ -17,7 +20,7 @@ const LEAD32: u64 = 0x800000;
 const INFINITE32: u64 = 0x7f800000;
 
 // What narrowing gives.
-#[derive(Drop)]
+#[derive(Clone, Copy)]
 pub enum Narrowed {
     // the bits of the single-precision value
     Single(u32),

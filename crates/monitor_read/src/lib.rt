@@ -1,4 +1,7 @@
 // Reads a file for the picture monitor into lent areas, or tells the first bad record.
+
+#![tactic(auto)]
+
 ghost use Rattle.std.specs.Prelude.{◌≡◌, ◌+◌, ◌*◌, ◌/◌, ◌≤◌, ◌<◌, length};
 ghost use Rattle.monitor.specs.Monitor.{monitor_bytes, follows_at};
 ghost use Rattle.monitor_read.specs.MonitorRead.{byte_at, monitor_picture, coordinate_at, coordinates_fine, broken_at, first_broken};
@@ -10,7 +13,7 @@ use monitor::{MONITOR_BYTES, frame_fine, frames_room};
 use monitor_narrow::{is_finite, widen};
 
 // What is answered.
-#[derive(Drop)]
+#[derive(Clone, Copy)]
 pub enum MonitorRead {
     // so many records, all good
     Read(usize),

@@ -1,4 +1,7 @@
 // Writes frames with two double-precision coordinates each as records for the picture monitor, or tells the first fault.
+
+#![tactic(auto)]
+
 ghost use Rattle.std.specs.Prelude.{◌≡◌, ◌<◌, ◌+◌, ◌*◌, length};
 ghost use Rattle.laws.specs.Area.{num};
 ghost use Rattle.laws.specs.Loops.{first};
@@ -11,7 +14,7 @@ use monitor::{MONITOR_BYTES, frame_fine, frames_room, put_record};
 use monitor_narrow::{Narrowed, narrow};
 
 // What is answered.
-#[derive(Drop)]
+#[derive(Clone, Copy)]
 pub enum Monitored {
     // so many records
     Written(usize),

@@ -1,4 +1,7 @@
 // Writes a run into records, or tells why not.
+
+#![tactic(auto)]
+
 ghost use Rattle.std.specs.Prelude.{◌≡◌, true, ◌*◌, ◌<◌, ◌≤◌, length};
 ghost use Rattle.laws.specs.Domain.{most_components, most_frames};
 ghost use Rattle.tree_node.specs.Arena.{nodes_of};
@@ -15,7 +18,7 @@ use tree_node::Cell;
 use words_entry::words_fault;
 
 // What is answered.
-#[derive(Drop)]
+#[derive(Clone, Copy)]
 pub enum Parked {
     // so many records
     Written(usize),

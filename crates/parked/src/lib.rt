@@ -1,4 +1,7 @@
 // A parked run: how it lies in its file, what each word is, and which words a run can have.
+
+#![tactic(auto)]
+
 ghost use Rattle.std.specs.Prelude.{◌≡◌, true, false, cond, ◌+◌, ◌*◌, ◌<◌, ◌≤◌, length};
 ghost use Rattle.laws.specs.Area.{num};
 ghost use Rattle.laws.specs.Domain.{most_components, most_frames};
@@ -6,7 +9,7 @@ ghost use Rattle.parked.specs.Layout.{filled_up, layout_of};
 ghost use Rattle.parked.specs.Parked.{stored_of, head_of, area_word, state_word, affinity_word, parked_word, StoredRoom};
 
 // How a run lies: where each area starts, in words of the file, and how many words it has before its filling.
-#[derive(Drop)]
+#[derive(Clone, Copy)]
 pub struct Layout {
     // a Barnes-Hut run
     pub tree: bool,

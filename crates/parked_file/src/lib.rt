@@ -1,9 +1,12 @@
 // Whether a file is a parked run: every record stands, or one is the first that does not.
+
+#![tactic(auto)]
+
 pub mod head;
 pub mod records;
 
 // What is said of a file.
-#[derive(Drop)]
+#[derive(Clone, Copy)]
 pub struct Verdict {
     // every record stands, and no byte follows
     pub parked: bool,

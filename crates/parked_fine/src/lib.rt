@@ -1,4 +1,7 @@
 // Whether a run can hold a record of a parked file after those before it: the first three records by value, the words of the areas where they lie.
+
+#![tactic(auto)]
+
 ghost use Rattle.std.specs.Prelude.{◌≡◌, true, cond, ◌&&◌, ◌+◌, ◌*◌, ◌≤◌, eqb, leb, length, pos};
 ghost use Rattle.std.specs.Float.Ieee.{lt, of_int};
 ghost use Rattle.std.specs.Float.{binary64};

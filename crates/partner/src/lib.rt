@@ -1,5 +1,8 @@
 // A neighbour list that another tool made: whether every record meets the rules, or the first one that does not.
 // Where the pairs rise, mirrors are found by halving; where they do not, by halving in the two rising parts at the file's front, then one by one.
+
+#![tactic(auto)]
+
 ghost use Rattle.std.specs.Prelude.{◌≡◌, cond, not, ◌||◌, ◌+◌, ◌-◌, ◌<◌, ◌≤◌, eqb, ltb, leb, length};
 ghost use Rattle.laws.specs.Loops.{first};
 ghost use Rattle.partner.specs.Partner.{whole_links, given_links, link_from, link_to, link_weight, link_pair, turned_pair, link_fine, is_mirror, mirrored_in, mirrored, first_bad_link, PairsRise};

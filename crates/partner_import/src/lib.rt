@@ -1,4 +1,7 @@
 // A Barnes-Hut run begun from a partner's list: the tests in their order, then lists and areas as a run begins, and its record.
+
+#![tactic(auto)]
+
 ghost use Rattle.std.specs.Prelude.{◌≡◌, true, ◌+◌, ◌*◌, ◌≤◌, length};
 ghost use Rattle.laws.specs.Joined.{pasted};
 ghost use Rattle.areas.specs.Filled.{filled};
@@ -18,7 +21,7 @@ use run_record::progress::fresh_run;
 use run_record::{Method, Run, Settings, Sizes};
 
 // What is answered.
-#[derive(Drop)]
+#[derive(Clone, Copy)]
 pub enum Imported {
     // 1 to 7 and 9 to 12: the number of the first test that failed
     Refused(u8),
@@ -29,7 +32,7 @@ pub enum Imported {
 }
 
 // The lengths of the areas that are lent, and the nodes of the arena.
-#[derive(Drop)]
+#[derive(Clone, Copy)]
 pub struct LentLengths {
     pub positions: usize,
     pub increments: usize,

@@ -1,4 +1,7 @@
 // A partner's list put into the areas of a run: indices and weights in the file's order, offsets by counting.
+
+#![tactic(auto)]
+
 ghost use Rattle.std.specs.Prelude.{◌≡◌, ℕ, ◌+◌, ◌<◌, ◌≤◌, length};
 ghost use Rattle.laws.specs.Domain.{most_frames};
 ghost use Rattle.partner.specs.Partner.{whole_links, link_from};

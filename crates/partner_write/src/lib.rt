@@ -1,4 +1,7 @@
 // Writes the neighbour lists of a Barnes-Hut run as records of 16 bytes, or tells why not.
+
+#![tactic(auto)]
+
 ghost use Rattle.std.specs.Prelude.{◌≡◌, true, ◌+◌, ◌*◌, ◌≤◌, length};
 ghost use Rattle.laws.specs.Area.{num};
 ghost use Rattle.laws.specs.Joined.{joined, written};
@@ -13,7 +16,7 @@ use tree_node::Cell;
 use words_entry::words_fault;
 
 // What is answered.
-#[derive(Drop)]
+#[derive(Clone, Copy)]
 pub enum ListsWritten {
     // so many records
     Written(usize),

@@ -1,4 +1,7 @@
 // Preparation: the tests 1 to 12 in their order, then the affinities by method, the areas as a run begins, and its record.
+
+#![tactic(auto)]
+
 ghost use Rattle.std.specs.Prelude.{◌≡◌, ◌+◌, ◌*◌, ◌≤◌, length};
 ghost use Rattle.laws.specs.Area.{zero64, one64};
 ghost use Rattle.laws.specs.Joined.{pasted};
@@ -18,7 +21,7 @@ use run_record::progress::fresh_run;
 use run_record::{Run, Settings, Sizes};
 
 // What preparation answers.
-#[derive(Drop)]
+#[derive(Clone, Copy)]
 pub enum Prepared {
     // with the number of the first test that failed
     Refused(u8),
@@ -27,7 +30,7 @@ pub enum Prepared {
 }
 
 // The lengths of the areas that are lent, and the nodes of the arena.
-#[derive(Drop)]
+#[derive(Clone, Copy)]
 pub struct Lengths {
     pub positions: usize,
     pub increments: usize,

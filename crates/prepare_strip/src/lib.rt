@@ -1,4 +1,7 @@
 // Preparation of a strip: as preparation, with 20 for settings outside the profile, after 11 and before 12.
+
+#![tactic(auto)]
+
 ghost use Rattle.std.specs.Prelude.{◌≡◌};
 ghost use Rattle.prepare.specs.Prepare.{prepare_fault, lent, prepare_outcome};
 ghost use Rattle.prepare_strip.specs.PrepareStrip.{strip_bars, prepared_strip};

@@ -1,4 +1,7 @@
 // exp and ln for a program outside, so that the bits of their answers can be looked at as they are. The desk's library calls both with numbers alone, and words cross its border with one NaN.
+
+#![tactic(auto)]
+
 ghost use Rattle.std.specs.Prelude.{◌≡◌};
 ghost use Rattle.elementary.specs.Exp.{exp_of};
 ghost use Rattle.elementary.specs.Ln.{ln_of};

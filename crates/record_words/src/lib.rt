@@ -1,4 +1,7 @@
 // Settings and record as plain words of 64 bits.
+
+#![tactic(auto)]
+
 ghost use Rattle.std.specs.Prelude.{◌≡◌, ◌≤◌, length};
 ghost use Rattle.record_words.specs.RecordWords.{method_of, method_word, settings_fine, settings_of, settings_put, standing_of, standing_word, run_fine, run_of, progress_put, run_put};
 

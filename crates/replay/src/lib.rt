@@ -1,4 +1,7 @@
 // What every replay program shares: the words of a list, the areas that are compared with them, the tally of what was compared, and its printing.
+
+#![tactic(auto)]
+
 pub mod areas;
 
 ghost use Rattle.std.specs.Prelude.{◌≡◌, ◌+◌, ◌≤◌, length, take};
@@ -12,7 +15,7 @@ use libc::STDOUT_FILENO;
 use text::{put, put_decimal};
 
 // How a replay went so far.
-#[derive(Drop)]
+#[derive(Clone, Copy)]
 pub struct Tally {
     // how many cases were compared
     pub cases: u64,

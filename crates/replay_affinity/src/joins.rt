@@ -155,7 +155,7 @@ fn sizes_right(a: usize, n: usize, k: usize) -> bool
 }
 
 // What became of one case: right or not, and the word after it.
-#[derive(Drop)]
+#[derive(Clone, Copy)]
 struct Next {
     right: bool,
     at: usize,

@@ -1,4 +1,7 @@
 // Replays the affinity lists: sigma searches by the scope paper's rule, the neighbours that the original chose, and the lists that it made of them.
+
+#![tactic(auto)]
+
 mod choices;
 mod joins;
 mod sigmas;

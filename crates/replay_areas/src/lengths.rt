@@ -6,7 +6,7 @@ use replay::areas::plus;
 use replay::word_at;
 
 // How long each area is, from positions to nodes.
-#[derive(Drop)]
+#[derive(Clone, Copy)]
 pub struct Lengths {
     pub positions: usize,
     pub increments: usize,
@@ -46,7 +46,7 @@ pub fn lengths_at(list: &[u8], i: usize) -> Lengths
 }
 
 // Where each area's words begin, and where the words after them do.
-#[derive(Drop)]
+#[derive(Clone, Copy)]
 pub struct Places {
     pub positions: usize,
     pub increments: usize,

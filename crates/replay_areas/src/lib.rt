@@ -1,4 +1,7 @@
 // What a case of a run's areas lends and compares, for the replays: areas of values by their bits and of numbers, files and targets, by value.
+
+#![tactic(auto)]
+
 pub mod bytes;
 pub mod lengths;
 pub mod values;

@@ -6,7 +6,7 @@ use replay::areas::{plus, same_numbers};
 use replay::word_at;
 
 // What a case wants of the areas: so many words of each, and zeros in so many forces.
-#[derive(Drop)]
+#[derive(Clone, Copy)]
 pub struct Wants {
     pub record: usize,
     pub lengths: Lengths,

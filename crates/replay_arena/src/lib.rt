@@ -1,5 +1,8 @@
 // An arena by value, for the programs that replay lists: 512 cells, of which the first k are lent to a function of the tree.
 // A function that lends is proved by a walk; one that calls it passes the arena by value, and the borrow checker covers it.
+
+#![tactic(auto)]
+
 pub mod marks;
 
 ghost use Rattle.std.specs.Prelude.{◌≡◌, ◌*◌, ◌<◌, ◌≤◌, true, false, length, slice_set};
@@ -22,7 +25,7 @@ use tree_node::Cell;
 use tree_walk::{Eye, repulsive_force};
 
 // What became of a point that was to go in.
-#[derive(Drop)]
+#[derive(Clone, Copy)]
 pub struct Put {
     pub cells: [Cell; 512],
     // the nodes that it needs are not there, and nothing has changed

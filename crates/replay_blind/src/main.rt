@@ -1,4 +1,7 @@
 // Replays the lists of counts of blind frames: what is told of each table, and what is left in the rows.
+
+#![tactic(auto)]
+
 mod sights;
 
 use replay::areas::plus;

@@ -24,7 +24,7 @@ fn rooms_fit(list: &[u8], i: usize) -> bool {
 }
 
 // How long the four rows and the answer are.
-#[derive(Drop)]
+#[derive(Clone, Copy)]
 struct Rooms {
     squares: usize,
     values: usize,
@@ -75,7 +75,7 @@ fn marked_answer() -> [u64; 4] {
 }
 
 // What a call leaves: its number, the words of its answer, and the rows.
-#[derive(Drop)]
+#[derive(Clone, Copy)]
 struct Left {
     number: u32,
     answer: [u64; 4],

@@ -7,7 +7,7 @@ use replay::word_at;
 use tree_node::Cell;
 
 // The eight areas of a work call, with room for every case.
-#[derive(Drop)]
+#[derive(Clone, Copy)]
 pub(crate) struct Areas {
     pub(crate) positions: [f64; 132],
     pub(crate) increments: [f64; 132],

@@ -5,7 +5,7 @@ use replay::word_at;
 use run_record::{Method, Run, Settings, Standing};
 
 // What a call alters in the record: a field and its word. From 14 on there is no such field.
-#[derive(Drop)]
+#[derive(Clone, Copy)]
 pub(crate) struct Change {
     field: u64,
     word: u64,

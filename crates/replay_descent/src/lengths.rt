@@ -6,7 +6,7 @@ use replay::areas::plus;
 use replay::word_at;
 
 // How much of each area is lent.
-#[derive(Drop)]
+#[derive(Clone, Copy)]
 pub(crate) struct Lent {
     pub(crate) positions: usize,
     pub(crate) increments: usize,

@@ -1,4 +1,7 @@
 // Replays the lists of whole runs: a preparation and the work calls after it, with what is altered and lent shorter on the way.
+
+#![tactic(auto)]
+
 mod areas;
 mod fields;
 mod lending;
@@ -17,7 +20,7 @@ use tree_node::Cell;
 use working::all_calls;
 
 // What a work call leaves: the record, the answer and the arena.
-#[derive(Drop)]
+#[derive(Clone, Copy)]
 pub struct Left {
     pub run: Run,
     pub answer: Answer,

@@ -40,7 +40,7 @@ fn values_at(list: &[u8], a: usize, m: usize) -> [f64; 200]
 }
 
 // The two rows that a preparation is lent beside the areas.
-#[derive(Drop)]
+#[derive(Clone, Copy)]
 struct Rows {
     values: [f64; 68],
     indices: [u32; 68],
@@ -64,7 +64,7 @@ fn same_rows(s: Rows, list: &[u8], i: usize, j: usize) -> bool {
 }
 
 // What a preparation gives: its outcome, the areas and the rows.
-#[derive(Drop)]
+#[derive(Clone, Copy)]
 struct Ready {
     outcome: Prepared,
     areas: Areas,
@@ -131,7 +131,7 @@ fn prepared(
 }
 
 // What a preparation leaves: the record, the areas, the number of calls that follow, and whether all came out as listed.
-#[derive(Drop)]
+#[derive(Clone, Copy)]
 pub(crate) struct Begun {
     pub(crate) run: Run,
     pub(crate) areas: Areas,

@@ -9,7 +9,7 @@ use replay::word_at;
 use run_record::Run;
 
 // What a call gives: its answer and the record, and the areas.
-#[derive(Drop)]
+#[derive(Clone, Copy)]
 struct Left {
     worked: Worked,
     areas: Areas,
@@ -58,7 +58,7 @@ fn worked(list: &[u8], b: usize, r: Run, s: Areas) -> Left {
 }
 
 // The record and the areas after a call, and whether all came out as listed.
-#[derive(Drop)]
+#[derive(Clone, Copy)]
 struct Called {
     run: Run,
     areas: Areas,

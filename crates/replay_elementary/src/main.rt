@@ -1,4 +1,7 @@
 // Replays the lists of exp, ln, the bounds and the counts of neighbours, and prints how many cases differ.
+
+#![tactic(auto)]
+
 use replay::word_at;
 
 fn exp_cases(list: &[u8]) -> replay::Tally {

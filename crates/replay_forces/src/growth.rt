@@ -6,7 +6,7 @@ use replay_arena::{plant_in, put_tested};
 use tree_node::Cell;
 
 // An arena, and the nodes in use; 0 where a point had no room.
-#[derive(Drop)]
+#[derive(Clone, Copy)]
 pub(crate) struct Grown {
     pub(crate) cells: [Cell; 512],
     pub(crate) used: usize,

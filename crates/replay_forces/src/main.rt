@@ -1,4 +1,7 @@
 // Replays what the original Rust itself gave: Barnes-Hut gradients with their normaliser, and the step before centring. And the divergence over links.
+
+#![tactic(auto)]
+
 mod areas;
 mod figures;
 mod growth;

@@ -15,7 +15,7 @@ use replay_arena::marks::marked;
 use tree_node::Cell;
 
 // What a case begins with.
-#[derive(Drop)]
+#[derive(Clone, Copy)]
 pub(crate) struct Case {
     // the sizes are such as a case has
     pub(crate) good: bool,
@@ -232,7 +232,7 @@ fn end_of(s: Case) -> usize
 }
 
 // What became of one case: right or not, and the word after it.
-#[derive(Drop)]
+#[derive(Clone, Copy)]
 pub(crate) struct Next {
     pub(crate) right: bool,
     pub(crate) at: usize,

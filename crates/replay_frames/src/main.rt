@@ -1,4 +1,7 @@
 // Replays the list of frame files: the answer, and each frame of a good file.
+
+#![tactic(auto)]
+
 ghost use Rattle.std.specs.Prelude.{◌+◌, ◌≤◌};
 
 use replay::word_at;
@@ -56,7 +59,7 @@ fn same_frames(file: &[u8], count: usize, list: &[u8], a: usize) -> bool
 }
 
 // What became of one case: right or not, and the word after it.
-#[derive(Drop)]
+#[derive(Clone, Copy)]
 struct Next {
     right: bool,
     at: usize,

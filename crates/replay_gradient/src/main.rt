@@ -1,4 +1,7 @@
 // Replays the lists of the exact gradient and of the step: every place of every area afterwards, the tails included. And those of the divergence over pairs.
+
+#![tactic(auto)]
+
 ghost use Rattle.std.specs.Prelude.{◌≡◌, ◌+◌, ◌*◌, ◌<◌, ◌≤◌, length};
 
 use divergence_sums::kl_divergence;

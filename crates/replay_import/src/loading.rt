@@ -15,7 +15,7 @@ use replay_areas::wanted::{Wants, same_lists, same_state, wanted};
 use replay_areas::{both, empty_cells};
 
 // Number and word 0 of an answer.
-#[derive(Drop)]
+#[derive(Clone, Copy)]
 struct Answer {
     number: u64,
     value: u64,
@@ -103,7 +103,7 @@ fn same_again(
 }
 
 // What is told of a list: number and value, and whether what was loaded is written as the same bytes.
-#[derive(Drop)]
+#[derive(Clone, Copy)]
 struct Told {
     number: u64,
     value: u64,

@@ -1,4 +1,7 @@
 // Replays the lists of partners' lists: files that are loaded into areas of marks or not, and runs whose lists are written into a target or not.
+
+#![tactic(auto)]
+
 mod lending;
 mod loading;
 mod writing;

@@ -30,7 +30,7 @@ fn same_told(a: ListsWritten, list: &[u8], i: usize) -> bool {
 }
 
 // What a call leaves: its answer, and the target.
-#[derive(Drop)]
+#[derive(Clone, Copy)]
 struct Left {
     answer: ListsWritten,
     target: [u8; 1408],

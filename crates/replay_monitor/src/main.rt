@@ -1,4 +1,7 @@
 // Replays the lists for the picture monitor: values that are narrowed, frames that are written and files that are read, or not.
+
+#![tactic(auto)]
+
 mod narrowing;
 mod reading;
 mod rooms;
@@ -12,7 +15,7 @@ use replay::word_at;
 use writing::written_right;
 
 // Which list it is.
-#[derive(Drop)]
+#[derive(Clone, Copy)]
 enum List {
     Narrow,
     Writes,

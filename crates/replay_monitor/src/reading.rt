@@ -12,7 +12,7 @@ use replay_areas::lengths::length_at;
 use replay_areas::values::{marked_numbers, marked_values, same_values};
 
 // What a call leaves: its number, word 0 and the areas.
-#[derive(Drop)]
+#[derive(Clone, Copy)]
 struct Left {
     number: u32,
     value: u64,

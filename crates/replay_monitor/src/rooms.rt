@@ -7,7 +7,7 @@ use replay_areas::both;
 use replay_areas::lengths::length_at;
 
 // How long pictures, sides, fields and positions are.
-#[derive(Drop)]
+#[derive(Clone, Copy)]
 pub(crate) struct Rooms {
     pub(crate) pictures: usize,
     pub(crate) sides: usize,
@@ -42,7 +42,7 @@ pub(crate) fn rooms_at(list: &[u8], i: usize) -> Rooms
 }
 
 // Where each area's words begin, and where the words after them do.
-#[derive(Drop)]
+#[derive(Clone, Copy)]
 pub(crate) struct Spots {
     pub(crate) pictures: usize,
     pub(crate) sides: usize,

@@ -1,4 +1,7 @@
 // Replays the lists of parked runs: runs that are written into a target or not, and files that are read into areas of marks or not.
+
+#![tactic(auto)]
+
 mod forces;
 mod lending;
 mod reading;

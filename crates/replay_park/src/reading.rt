@@ -68,7 +68,7 @@ fn same_again(
 }
 
 // What is told of a file: number and value, and whether what was read is parked as the same bytes.
-#[derive(Drop)]
+#[derive(Clone, Copy)]
 struct Told {
     number: u64,
     value: u64,

@@ -31,7 +31,7 @@ fn same_told(a: Parked, list: &[u8], i: usize) -> bool {
 }
 
 // What a call leaves: its answer, and the target.
-#[derive(Drop)]
+#[derive(Clone, Copy)]
 struct Left {
     answer: Parked,
     target: [u8; 1408],

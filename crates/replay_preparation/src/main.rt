@@ -1,4 +1,7 @@
 // Replays the lists of preparations by both routes: every place of every area afterwards, the tails and the zeroed rows included.
+
+#![tactic(auto)]
+
 ghost use Rattle.std.specs.Prelude.{◌≡◌, true, ◌+◌, ◌*◌, ◌<◌, ◌≤◌, pos};
 ghost use Rattle.std.specs.Float.Ieee.{lt, of_int};
 ghost use Rattle.std.specs.Float.{binary64};
@@ -178,7 +181,7 @@ fn rest(list: &[u8], a: usize, n: usize, f: usize) -> usize
 }
 
 // What became of one case: right or not, and the word after it.
-#[derive(Drop)]
+#[derive(Clone, Copy)]
 struct Next {
     right: bool,
     at: usize,

@@ -1,4 +1,7 @@
 // Replays the lists of scuffed frame files: what is kept of each, and what is told of the rest.
+
+#![tactic(auto)]
+
 mod saving;
 
 use replay::areas::plus;

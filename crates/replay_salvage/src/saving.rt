@@ -22,7 +22,7 @@ fn areas_fit(list: &[u8], i: usize) -> bool {
 }
 
 // How long target, places and rules are.
-#[derive(Drop)]
+#[derive(Clone, Copy)]
 struct Rooms {
     target: usize,
     places: usize,
@@ -41,7 +41,7 @@ fn rooms_at(list: &[u8], i: usize) -> Rooms
 }
 
 // What a call leaves: its number, the words of its answer, which were 9 each, and the areas.
-#[derive(Drop)]
+#[derive(Clone, Copy)]
 struct Left {
     number: u32,
     answer: [u64; 2],

@@ -1,4 +1,7 @@
 // Replays the list of scatters: the answer and the whole area afterwards, place by place.
+
+#![tactic(auto)]
+
 ghost use Rattle.std.specs.Prelude.{◌+◌, ◌≤◌};
 
 use replay::word_at;

@@ -38,7 +38,7 @@ fn floats_at(list: &[u8], a: usize) -> [f64; 48] {
 }
 
 // How long order and gaps are.
-#[derive(Drop)]
+#[derive(Clone, Copy)]
 struct Rooms {
     order: usize,
     gaps: usize,
@@ -55,7 +55,7 @@ fn rooms_at(list: &[u8], i: usize) -> Rooms
 }
 
 // What a call leaves: its answer, the order and the gaps.
-#[derive(Drop)]
+#[derive(Clone, Copy)]
 struct Left {
     answer: Handed,
     order: [u32; 48],

@@ -1,4 +1,7 @@
 // Replays the list of strips: ended runs whose frames are handed out along one line, and runs whose frames are not.
+
+#![tactic(auto)]
+
 mod handing;
 mod lending;
 

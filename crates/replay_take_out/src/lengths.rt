@@ -5,7 +5,7 @@ use replay::areas::plus;
 use replay::word_at;
 
 // How long each area is: those of the run, the table, the list of samples that go, and the old places.
-#[derive(Drop)]
+#[derive(Clone, Copy)]
 pub(crate) struct Lengths {
     pub(crate) positions: usize,
     pub(crate) increments: usize,
@@ -51,7 +51,7 @@ pub(crate) fn lengths_at(list: &[u8], i: usize) -> Lengths
 }
 
 // Where the words of each area that is listed begin, and where the words after them do.
-#[derive(Drop)]
+#[derive(Clone, Copy)]
 pub(crate) struct Places {
     pub(crate) positions: usize,
     pub(crate) increments: usize,

@@ -1,4 +1,7 @@
 // Replays the list of frames taken out of runs: runs that are thinned, and runs that are not.
+
+#![tactic(auto)]
+
 mod areas;
 mod lending;
 mod lengths;

@@ -64,7 +64,7 @@ fn value(a: Taken) -> u64 {
 }
 
 // What a call leaves besides areas: its answer, and the record's words.
-#[derive(Drop)]
+#[derive(Clone, Copy)]
 struct Told {
     answer: Taken,
     words: [u64; 14],

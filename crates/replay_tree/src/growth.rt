@@ -7,7 +7,7 @@ use replay_arena::{plant_in, put_tested};
 use tree_node::Cell;
 
 // What became of the points.
-#[derive(Drop)]
+#[derive(Clone, Copy)]
 pub(crate) struct Grown {
     pub(crate) cells: [Cell; 512],
     // nodes in use

@@ -1,4 +1,7 @@
 // Replays the lists of trees that the original built: every node, every point's force and share, and what becomes of an arena that is one node short.
+
+#![tactic(auto)]
+
 mod compare;
 mod forces;
 mod growth;
@@ -16,7 +19,7 @@ use replay::word_at;
 use replay_arena::marks::marked;
 
 // Where the parts of a case begin in the list, and how large they are.
-#[derive(Drop)]
+#[derive(Clone, Copy)]
 struct Case {
     // components
     c: usize,
@@ -31,7 +34,7 @@ struct Case {
 }
 
 // What became of one case: right or not, and the word after it.
-#[derive(Drop)]
+#[derive(Clone, Copy)]
 struct Next {
     right: bool,
     at: usize,

@@ -1,4 +1,7 @@
 // The units of a work call: until the budget is done, one is refused or the run has ended.
+
+#![tactic(auto)]
+
 ghost use Rattle.std.specs.Prelude.{◌≡◌, ◌+◌, ◌<◌, ◌^◌};
 ghost use Rattle.run_calls.specs.Machine.{go};
 ghost use Rattle.run_entry.specs.State.{memory, state};
@@ -13,7 +16,7 @@ use run_units::{is_done, one_unit};
 use tree_node::Cell;
 
 // What a work call answers, with the units done in it.
-#[derive(Drop)]
+#[derive(Clone, Copy)]
 pub enum Answer {
     Running(u32),
     Stopped(u32),
@@ -27,14 +30,14 @@ pub enum Answer {
 }
 
 // The record after a call, and the answer.
-#[derive(Drop)]
+#[derive(Clone, Copy)]
 pub struct Worked {
     pub run: Run,
     pub answer: Answer,
 }
 
 // A call as it goes.
-#[derive(Drop)]
+#[derive(Clone, Copy)]
 pub struct Going {
     pub run: Run,
     // whether the last unit that was tried was done, and if not, why

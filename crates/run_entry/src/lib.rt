@@ -1,4 +1,7 @@
 // The entry tests of a work call: the record, the areas, the contents, in this order.
+
+#![tactic(auto)]
+
 ghost use Rattle.std.specs.Prelude.{◌≡◌, not, ◌+◌, ◌-◌, ◌≤◌, ◌<◌, length};
 ghost use Rattle.laws.specs.Domain.{most_frames};
 ghost use Rattle.laws.specs.Loops.{first};
@@ -15,7 +18,7 @@ use tree::wellformed::tree_ok;
 use tree_node::Cell;
 
 // What the entry tests find, a case for each kind of fault.
-#[derive(Drop)]
+#[derive(Clone, Copy)]
 pub enum Fault {
     Fine,
     // with the number that 1 to 10 would give

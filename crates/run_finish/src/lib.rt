@@ -1,4 +1,7 @@
 // The finish of an iteration: Z, gradient, step and stop test; and how a unit tells what it did.
+
+#![tactic(auto)]
+
 ghost use Rattle.std.specs.Prelude.{◌≡◌, ◌+◌, ◌*◌, ◌≤◌, length};
 ghost use Rattle.run_finish.specs.Finish.{pace_of, finish_turn, finish_unit};
 ghost use Rattle.run_finish.specs.FinishRoom.{FinishRoom};
@@ -10,7 +13,7 @@ use run_record::progress::closed;
 use step::{Pace, Stepped};
 
 // Whether a unit was done, and if not, why.
-#[derive(Drop)]
+#[derive(Clone, Copy)]
 pub enum Why {
     Done,
     // 14: the arena has not the nodes that the point needs
@@ -22,7 +25,7 @@ pub enum Why {
 }
 
 // The record after a unit.
-#[derive(Drop)]
+#[derive(Clone, Copy)]
 pub struct Turn {
     pub run: Run,
     pub why: Why,

@@ -1,4 +1,7 @@
 // What an iteration goes by, and which of its units is next.
+
+#![tactic(auto)]
+
 ghost use Rattle.std.specs.Prelude.{◌≡◌, ◌≤◌};
 ghost use Rattle.laws.specs.Domain.{most_frames};
 ghost use Rattle.run_plan.specs.Plan.{exaggeration_of, momentum_of, group_of};

@@ -1,17 +1,20 @@
 // A run's settings and its record, by value: the tests 1 to 10 on settings, the counters, and what a unit does to the record.
+
+#![tactic(auto)]
+
 pub mod counters;
 pub mod faults;
 pub mod progress;
 
 // Which gradient the run goes by.
-#[derive(Drop)]
+#[derive(Clone, Copy)]
 pub enum Method {
     Exact,
     BarnesHut,
 }
 
 // How a run stands.
-#[derive(Drop)]
+#[derive(Clone, Copy)]
 pub enum Standing {
     Running,
     // the norm was below the minimum
@@ -20,7 +23,7 @@ pub enum Standing {
     Finished,
 }
 
-#[derive(Drop)]
+#[derive(Clone, Copy)]
 pub struct Settings {
     // samples, the frames on the map
     pub n: usize,
@@ -40,7 +43,7 @@ pub struct Settings {
 }
 
 // The run record.
-#[derive(Drop)]
+#[derive(Clone, Copy)]
 pub struct Run {
     pub settings: Settings,
     pub standing: Standing,
@@ -55,7 +58,7 @@ pub struct Run {
 }
 
 // How many elements the areas must have.
-#[derive(Drop)]
+#[derive(Clone, Copy)]
 pub struct Sizes {
     // positions, increments, gains
     pub cells: usize,

@@ -1,4 +1,7 @@
 // One unit of either method, over all areas.
+
+#![tactic(auto)]
+
 ghost use Rattle.std.specs.Prelude.{◌≡◌, ◌+◌, ◌-◌, ◌*◌, ◌<◌, ◌≤◌, length, eqb};
 ghost use Rattle.laws.specs.Domain.{most_frames};
 ghost use Rattle.tree_node.specs.Arena.{nodes_of};

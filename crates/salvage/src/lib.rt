@@ -1,5 +1,8 @@
 // A scuffed frame file: the records that are good by themselves and in order after the last one kept are copied into a second area,
 // the others are told by their place and the first rule that they broke.
+
+#![tactic(auto)]
+
 ghost use Rattle.std.specs.Prelude.{◌≡◌, ◌+◌, ◌*◌, ◌<◌, ◌≤◌, length};
 ghost use Rattle.laws.specs.Joined.{written};
 ghost use Rattle.frames.specs.Frames.{record_bytes, whole_records};
@@ -25,7 +28,7 @@ pub const ORDER_RULE: u8 = 6;
 pub const TAIL_RULE: u8 = 7;
 
 // What the call answers.
-#[derive(Drop)]
+#[derive(Clone, Copy)]
 pub enum Salvaged {
     // so many records are copied, and so many told
     Saved { kept: usize, told: usize },
@@ -34,7 +37,7 @@ pub enum Salvaged {
 }
 
 // Where the sifting stands.
-#[derive(Drop)]
+#[derive(Clone, Copy)]
 pub struct Sift {
     // one past the last record kept; 0 where none is
     pub last: usize,

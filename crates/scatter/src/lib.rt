@@ -1,11 +1,14 @@
 // The starting positions: small coordinates drawn from SplitMix64, row by row.
+
+#![tactic(auto)]
+
 ghost use Rattle.std.specs.Prelude.{◌≡◌, ◌*◌, ◌%◌, ◌^◌, ◌<◌, ◌≤◌, length};
 ghost use Rattle.scatter.specs.Scatter.{fold_of, mix_of, coordinate_of, scattered, scatter_outcome, scatter_of};
 
 use laws::{MOST_COMPONENTS, MOST_FRAMES};
 
 // What scatter answers: the positions are written, or they are not, for the reason with this number.
-#[derive(Drop)]
+#[derive(Clone, Copy)]
 pub enum Scattered {
     Done,
     Refused(u8),

@@ -1,4 +1,7 @@
 // The finish of an iteration: gains, increments, the move and the centring, with refusal 15 before any change.
+
+#![tactic(auto)]
+
 ghost use Rattle.std.specs.Prelude.{◌≡◌, ◌+◌, ◌*◌, ◌<◌, ◌≤◌, length};
 ghost use Rattle.laws.specs.Domain.{most_frames};
 ghost use Rattle.step_passes.specs.Passes.{paced};
@@ -9,7 +12,7 @@ pub use step_passes::{Pace, element_at};
 use step_passes::{calm_centred, sum_moves, take_means, write_moves};
 
 // What the finish answers.
-#[derive(Drop)]
+#[derive(Clone, Copy)]
 pub enum Stepped {
     Moved,
     // 15: a new value would be NaN or too large, and nothing has changed

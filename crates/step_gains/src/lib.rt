@@ -1,9 +1,12 @@
 // The new gain, increment and position of one element, by value.
+
+#![tactic(auto)]
+
 ghost use Rattle.std.specs.Prelude.{◌≡◌};
 ghost use Rattle.step_gains.specs.Gains.{changed, floored, gain_of, increment_of, new_of};
 
 // An element's new values, before centring.
-#[derive(Drop)]
+#[derive(Clone, Copy)]
 pub struct Element {
     pub gain: f64,
     pub increment: f64,

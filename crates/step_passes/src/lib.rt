@@ -1,4 +1,7 @@
 // The three passes of a step over the areas: the sums of the moved positions, the test of the centred ones, and the writing.
+
+#![tactic(auto)]
+
 ghost use Rattle.std.specs.Prelude.{◌≡◌, ◌&&◌, ◌+◌, ◌*◌, ◌<◌, ◌≤◌, length};
 ghost use Rattle.laws.specs.Loops.{loop};
 ghost use Rattle.elementary.specs.Limits.{calm};
@@ -7,7 +10,7 @@ ghost use Rattle.step_passes.specs.Passes.{element_at, paced, sum_step, mean_ste
 use step_gains::{Element, new_element};
 
 // What a step goes by.
-#[derive(Drop)]
+#[derive(Clone, Copy)]
 pub struct Pace {
     // whether the forces area holds the gradients themselves
     pub exact: bool,

@@ -1,4 +1,7 @@
 // The strip profile: the settings with which frames are mapped along one line.
+
+#![tactic(auto)]
+
 ghost use Rattle.std.specs.Prelude.{◌≡◌};
 ghost use Rattle.std.specs.Float.Ieee.{le};
 ghost use Rattle.strip_profile.specs.Profile.{half64, in_profile};

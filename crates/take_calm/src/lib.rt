@@ -1,4 +1,7 @@
 // The means of the positions that would be left, and whether 15 bars one of these once it is centred. Nothing is changed but the array for the means.
+
+#![tactic(auto)]
+
 ghost use Rattle.std.specs.Prelude.{◌≡◌, ◌+◌, ◌*◌, ◌<◌, ◌≤◌, length};
 ghost use Rattle.std.specs.Float.{binary64};
 ghost use Rattle.std.specs.Float.Ieee.{sub};

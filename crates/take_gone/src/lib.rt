@@ -1,4 +1,7 @@
 // The samples that are taken out, as a list that rises, and those that are left.
+
+#![tactic(auto)]
+
 ghost use Rattle.std.specs.Prelude.{◌≡◌, cond, ◌++◌, ◌+◌, ◌≤◌, ◌<◌, ltb, leb, length, drop};
 ghost use Rattle.laws.specs.Area.{num};
 ghost use Rattle.laws.specs.Domain.{most_frames};

@@ -1,4 +1,7 @@
 // The tests of what would be left, once those of a work call have passed. Nothing is changed.
+
+#![tactic(auto)]
+
 ghost use Rattle.std.specs.Prelude.{◌≡◌, true, ◌*◌, ◌≤◌, length};
 ghost use Rattle.laws.specs.Domain.{most_frames};
 ghost use Rattle.run_record.specs.Record.{GoodSettings, is_tree};
@@ -14,7 +17,7 @@ use take_gone::gone_fine;
 use take_lists::links_left;
 
 // What the tests say.
-#[derive(Drop)]
+#[derive(Clone, Copy)]
 pub enum Outlook {
     // so many survivors
     Left(usize),

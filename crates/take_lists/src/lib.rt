@@ -1,5 +1,8 @@
 // The neighbour lists packed in place: the lists of the frames that are left close ranks, links to the others vanish, and the frames named get their new numbers. Weights are only moved and stand as words, by their bits.
 // Writing never passes reading: no list grows, and no frame stands lower than its new place.
+
+#![tactic(auto)]
+
 ghost use Rattle.std.specs.Prelude.{◌≡◌, ℕ, ◌+◌, ◌<◌, ◌≤◌, length};
 ghost use Rattle.laws.specs.Area.{num};
 ghost use Rattle.laws.specs.Domain.{most_frames};

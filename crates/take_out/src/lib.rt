@@ -1,4 +1,7 @@
 // Takes frames out of a run: the tests first, then every area is packed in place.
+
+#![tactic(auto)]
+
 ghost use Rattle.std.specs.Prelude.{◌≡◌, true, ◌*◌, length};
 ghost use Rattle.laws.specs.Area.{zero64};
 ghost use Rattle.tree_node.specs.Arena.{nodes_of};
@@ -19,7 +22,7 @@ use take_rows::{pack_centred, pack_rows, pack_square};
 use tree_node::Cell;
 
 // What is answered.
-#[derive(Drop)]
+#[derive(Clone, Copy)]
 pub enum Taken {
     // what the tests of what would be left say
     Told(Outlook),
@@ -28,7 +31,7 @@ pub enum Taken {
 }
 
 // The answer, with the record afterwards.
-#[derive(Drop)]
+#[derive(Clone, Copy)]
 pub struct Took {
     pub answer: Taken,
     pub run: Run,

@@ -1,6 +1,9 @@
 // Areas with a row for each frame, packed in place: the rows of the frames that are left close ranks, zeros follow up to the old size.
 // Values that are only moved stand as words, by their bits, so that those of a NaN are kept too.
 // Writing never passes reading, since no frame stands lower than its new place.
+
+#![tactic(auto)]
+
 ghost use Rattle.std.specs.Prelude.{◌≡◌, ◌++◌, ◌+◌, ◌*◌, ◌≤◌, length, drop, take};
 ghost use Rattle.std.specs.Float.{binary64};
 ghost use Rattle.std.specs.Float.Ieee.{sub};

@@ -1,4 +1,7 @@
 // Text in a lent area of bytes: strings, decimal numbers and hex digits, put one after the other.
+
+#![tactic(auto)]
+
 ghost use Rattle.std.specs.Prelude.{◌≡◌, ◌+◌, ◌≤◌, length};
 ghost use Rattle.text.specs.Text.{decimal_of, hex_of, Puts};
 

@@ -1,4 +1,7 @@
 // The space-partitioning tree over an arena of cells: the root, insertion, the contents rule.
+
+#![tactic(auto)]
+
 pub mod insertion;
 pub mod root;
 mod ways;
@@ -8,7 +11,7 @@ pub use tree_contents::Contents;
 use tree_turns::Out;
 
 // Where a level leads.
-#[derive(Drop)]
+#[derive(Clone, Copy)]
 pub struct Step {
     // nodes in use
     pub used: usize,
@@ -19,7 +22,7 @@ pub struct Step {
 }
 
 // What an insertion answers.
-#[derive(Drop)]
+#[derive(Clone, Copy)]
 pub struct Inserted {
     // the nodes it needs are not there, and nothing has changed
     pub full: bool,
@@ -28,7 +31,7 @@ pub struct Inserted {
 }
 
 // The dry descent of a point.
-#[derive(Drop)]
+#[derive(Clone, Copy)]
 pub struct Probe {
     // the point's coordinates, in c components
     pub p: [f64; 3],
@@ -42,7 +45,7 @@ pub struct Probe {
 }
 
 // A point on its way down the tree.
-#[derive(Drop)]
+#[derive(Clone, Copy)]
 pub struct Way {
     // its coordinates in c components, and its number
     pub p: [f64; 3],
@@ -60,7 +63,7 @@ pub struct Way {
 }
 
 // A node that a point has come to, and the children that are made of it.
-#[derive(Drop)]
+#[derive(Clone, Copy)]
 pub struct Split {
     // what becomes of the node
     pub out: Out,
@@ -72,7 +75,7 @@ pub struct Split {
 }
 
 // How far the contents test has come.
-#[derive(Drop)]
+#[derive(Clone, Copy)]
 pub struct Look {
     // points, components, nodes in use
     pub n: usize,

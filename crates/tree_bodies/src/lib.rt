@@ -1,4 +1,7 @@
 // A node as seen from a point: its distance, its width, and what it adds where it acts as one body.
+
+#![tactic(auto)]
+
 ghost use Rattle.std.specs.Prelude.{◌≡◌};
 ghost use Rattle.laws.specs.Area.{at};
 ghost use Rattle.laws.specs.Loops.{loop};
@@ -8,7 +11,7 @@ ghost use Rattle.tree_bodies.specs.Bodies.{gap_of, wider, width_of, push_step, b
 use tree_node::{Leaf, Node};
 
 // The repulsion gathered so far, and the normaliser's share.
-#[derive(Drop)]
+#[derive(Clone, Copy)]
 pub struct Acc {
     pub neg: [f64; 3],
     pub sum: f64,

@@ -1,4 +1,7 @@
 // Where a point goes, and the cells of a node's children.
+
+#![tactic(auto)]
+
 ghost use Rattle.std.specs.Prelude.{◌≡◌, ◌<◌, ◌≤◌};
 ghost use Rattle.tree_node.specs.Node.{Axes};
 ghost use Rattle.tree_children.specs.Children.{bit_of, child_index, moved_of, child_half, child_centre, cell_of};

@@ -1,4 +1,7 @@
 // What the contents test asks of one node, and which part of it a faulty node breaks.
+
+#![tactic(auto)]
+
 ghost use Rattle.std.specs.Prelude.{◌≡◌};
 ghost use Rattle.tree_node.specs.Node.{Axes};
 ghost use Rattle.tree_contents.specs.Contents.{point_ok, block_ok, node_ok, node_fault};
@@ -6,7 +9,7 @@ ghost use Rattle.tree_contents.specs.Contents.{point_ok, block_ok, node_ok, node
 use tree_node::{Leaf, Node};
 
 // What the contents test says of the nodes in use.
-#[derive(Drop)]
+#[derive(Clone, Copy)]
 pub enum Contents {
     Fine,
     // the number in use is 0 or above the arena

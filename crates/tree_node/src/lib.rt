@@ -1,9 +1,12 @@
 // A node of the tree by value, and the cell in which it lies in memory.
+
+#![tactic(auto)]
+
 pub mod arena;
 pub mod cells;
 
 // What a leaf holds.
-#[derive(Drop)]
+#[derive(Clone, Copy)]
 pub enum Leaf {
     Empty,
     // the number of its point, the first that came
@@ -11,7 +14,7 @@ pub enum Leaf {
 }
 
 // A node of the tree, by value.
-#[derive(Drop)]
+#[derive(Clone, Copy)]
 pub struct Node {
     // the middle of the cell; components from c up are not looked at
     pub centre: [f64; 3],
@@ -29,7 +32,7 @@ pub struct Node {
 
 // A node as it lies in memory: plain numbers, in this order, 88 bytes; every bit pattern is one.
 #[repr(C)]
-#[derive(Drop)]
+#[derive(Clone, Copy)]
 pub struct Cell {
     // as those of `Node`
     pub centre: [f64; 3],

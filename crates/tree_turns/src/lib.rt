@@ -1,4 +1,7 @@
 // A node that takes a point in, a made child, and what a level of an insertion does with its node.
+
+#![tactic(auto)]
+
 ghost use Rattle.std.specs.Prelude.{◌≡◌, true, ◌<◌};
 ghost use Rattle.laws.specs.Domain.{most_word};
 ghost use Rattle.laws.specs.Loops.{loop};
@@ -10,7 +13,7 @@ use tree_children::{cell, child_index};
 use tree_node::{Leaf, Node};
 
 // What a level of an insertion does with its node.
-#[derive(Drop)]
+#[derive(Clone, Copy)]
 pub struct Out {
     // the node as it is to be stored
     pub node: Node,

@@ -1,5 +1,8 @@
 // The force walk, rule 4 of the scope paper: what the tree does to one point.
 // The walk is a loop. What it has still to come back to stands on a stack of 32 levels, and where an arena is deeper, `deeper` walks what lies below.
+
+#![tactic(auto)]
+
 ghost use Rattle.std.specs.Prelude.{◌≡◌, ◌-◌, ◌<◌, ◌≤◌, length};
 ghost use Rattle.laws.specs.Domain.{most_word};
 ghost use Rattle.tree_node.specs.Node.{Axes};
@@ -14,7 +17,7 @@ use tree_node::arena::cell_at;
 mod turns;
 
 // Who looks.
-#[derive(Drop)]
+#[derive(Clone, Copy)]
 pub struct Eye {
     // the coordinates of the point; components from c up are not looked at
     pub p: [f64; 3],
@@ -27,7 +30,7 @@ pub struct Eye {
 }
 
 // Where a walk stands.
-#[derive(Drop)]
+#[derive(Clone, Copy)]
 pub struct Spot {
     // what has been gathered
     pub acc: Acc,

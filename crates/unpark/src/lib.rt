@@ -1,4 +1,7 @@
 // Reads a parked run into lent areas, or tells the first bad record.
+
+#![tactic(auto)]
+
 ghost use Rattle.std.specs.Prelude.{◌≡◌, true, length};
 ghost use Rattle.laws.specs.Area.{zero64};
 ghost use Rattle.areas.specs.Filled.{filled};
@@ -20,7 +23,7 @@ mod record;
 mod room;
 
 // What is answered.
-#[derive(Drop)]
+#[derive(Clone, Copy)]
 pub enum Unparked {
     // so many records, all of them
     Read(usize),

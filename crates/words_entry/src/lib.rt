@@ -1,4 +1,7 @@
 // The entry tests of a work call where the record is lent as words.
+
+#![tactic(auto)]
+
 ghost use Rattle.std.specs.Prelude.{◌≡◌};
 ghost use Rattle.tree_node.specs.Arena.{nodes_of};
 ghost use Rattle.words_entry.specs.WordsEntry.{words_fault};

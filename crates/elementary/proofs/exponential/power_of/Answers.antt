@@ -5,23 +5,22 @@ use Rattle.std.proofs.Common.{suc, ◌*◌, ◌^◌, pos, mod-eq_of_lt, arith, w
 use lib.Ieee.{is_nan}
 use lib.Ieee.Bits.{nan_bits_is}
 use mir.ValLaws.{to_z-of_z}
-use Rattle.elementary.proofs.exponential.power_of.Statement.{statement}
-use Rattle.elementary.proofs.exponential.power_of.Tie as tie
+use Rattle.elementary.proofs.exponential.power_of.Goals as goal
 
-add-result : tie.Need-overflow-add-result
-add-result c =
+pub overflow_add-result : goal.overflow_add-result
+overflow_add-result c =
     let r = raised c.args.k c.requires in
     rw (to_z-of_z w64 c.args.k c.ranges.k, r.sum) (record { sfits = omega (arith, r.small) })
 
-cast-result : tie.Need-overflow-cast-result
-cast-result c =
+pub overflow_cast-result : goal.overflow_cast-result
+overflow_cast-result c =
     let r = raised c.args.k c.requires in
     rw (to_z-of_z w64 c.args.k c.ranges.k, r.sum, to_z-of_z w64 (pos (suc (field c.args.k))) (record { sfits = omega (arith, r.small) }))
     (tt, record { fits = omega (arith, r.small) })
 
-float-from-bits-result : tie.Need-float-from-bits-result
+pub float_from_bits-result : goal.float_from_bits-result
 unfolding power is_nan
-float-from-bits-result c =
+float_from_bits-result c =
     let r = raised c.args.k c.requires in
     rw (
       to_z-of_z w64 c.args.k c.ranges.k,
@@ -33,7 +32,7 @@ float-from-bits-result c =
       r.float,
     ) tt
 
-returns : tie.Need-returns
+pub returns : goal.returns
 returns c =
     let r = raised c.args.k c.requires in
     rw (
@@ -43,6 +42,3 @@ returns c =
       mod-eq_of_lt
           {n = suc (field c.args.k) * 2 ^ 52} {m = 2 ^ 64} (omega (arith, r.small)),
     ) r.float
-
-pub power-of-spec : {M : Type 1} → statement M
-power-of-spec = tie.close (tie.spec add-result cast-result float-from-bits-result returns)
