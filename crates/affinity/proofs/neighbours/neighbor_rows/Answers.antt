@@ -1,0 +1,125 @@
+use Rattle.laws.proofs.Loops.{loop-start, loop-next, loop-done}
+use mathlib.Core.Path.{refl, ◌∙◌}
+use Prim.Native.Nat.{◌-◌, ◌+◌, ◌*◌}
+use borrow.Rule.Slice.PartMut.{mid_len}
+use Rattle.affinity.proofs.Named.{lays-row}
+use Rattle.affinity_near.specs.Near.{Pair}
+use Rattle.laws.proofs.Numbers.{row_in}
+use Rattle.laws.proofs.Laid.{lays-start, lays-done}
+use native.Mathlib.Omega.{arith}
+use Rattle.affinity.proofs.neighbours.neighbor_rows.Goals as goal
+
+pub loop-i-init : goal.loop-i-init
+loop-i-init c =
+    (lays-start _ _, lays-start _ _, refl, loop-start _ _ _, refl, loop-start _ _ _)
+
+pub overflow_mul-a : goal.overflow_mul-a
+overflow_mul-a c =
+    omega (arith, (row_in c.loop-i.i c.args.n c.args.k _ c.loop-i-test.true c.requires.k_in_bounds.0))
+
+pub overflow_add-e : goal.overflow_add-e
+overflow_add-e c =
+    omega (arith, (row_in c.loop-i.i c.args.n c.args.k _ c.loop-i-test.true c.requires.k_in_bounds.0))
+
+pub offset_bounds-weights-a : goal.offset_bounds-weights-a
+offset_bounds-weights-a c =
+    omega (arith, (row_in c.loop-i.i c.args.n c.args.k _ c.loop-i-test.true c.requires.k_in_bounds.0))
+
+pub slice_bounds-neighbor_row-count : goal.slice_bounds-neighbor_row-count
+slice_bounds-neighbor_row-count c =
+    omega arith
+
+-- no goal: slice-bounds-neighbor-row-start
+-- part-neighbor-row-start : tie.Need-slice-bounds-neighbor-row-start invariant-loop decreases-loop
+-- part-neighbor-row-start c = omega arith
+
+-- no goal: slice-bounds-neighbor-row-end
+-- part-neighbor-row-end : tie.Need-slice-bounds-neighbor-row-end invariant-loop decreases-loop
+-- part-neighbor-row-end c =
+--     let the-start = c.before.before.before.before.before.before.before.before in
+--     rw c.before.loop.invariant.0.size (row_in c.before.loop.i the-start.args.n the-start.args.k _ c.loop-test.true the-start.requires.1.0.0)
+
+pub offset_bounds-indices-a : goal.offset_bounds-indices-a
+offset_bounds-indices-a c =
+    let the-loop = c.loop-i in
+    omega (arith, (row_in the-loop.i c.args.n c.args.k _ c.loop-i-test.true c.requires.k_in_bounds.0))
+
+pub slice_bounds-neighbor_row-count-in-loop-i : goal.slice_bounds-neighbor_row-count-in-loop-i
+slice_bounds-neighbor_row-count-in-loop-i c =
+    omega arith
+
+-- no goal: slice-bounds-neighbor-row-start-2
+-- part-neighbor-row-start-2 : tie.Need-slice-bounds-neighbor-row-start-2 invariant-loop decreases-loop
+-- part-neighbor-row-start-2 c = omega arith
+
+-- no goal: slice-bounds-neighbor-row-end-2
+-- part-neighbor-row-end-2 : tie.Need-slice-bounds-neighbor-row-end-2 invariant-loop decreases-loop
+-- part-neighbor-row-end-2 c =
+--     let the-loop = c.before.before.loop in
+--     let the-start = c.before.before.before.before.before.before.before.before.before in
+--     rw the-loop.invariant.1.size (row_in the-loop.i the-start.args.n the-start.args.k _ c.before.loop-test.true the-start.requires.1.0.1)
+
+pub neighbor_row-requires : goal.neighbor_row-requires
+neighbor_row-requires c =
+    let the-loop-test = c.loop-i-test in
+    let the-loop = c.loop-i in
+    record { i_lt_n = (the-loop-test.true, c.requires.n_le_most_frames.0, c.requires.n_le_most_frames.1, c.requires.n_le_most_frames.2, c.requires.n_le_most_frames.3, c.requires.n_le_most_frames.4); k_in_bounds = (
+          rw (mid_len (the-loop.i * c.args.k) (the-loop.i * c.args.k + c.args.k) the-loop.weights
+              (rw the-loop.invariant.0.size (row_in the-loop.i c.args.n c.args.k _ the-loop-test.true c.requires.k_in_bounds.0)))
+              (omega arith),
+          rw (mid_len (the-loop.i * c.args.k) (the-loop.i * c.args.k + c.args.k) the-loop.indices
+              (rw the-loop.invariant.1.size (row_in the-loop.i c.args.n c.args.k _ the-loop-test.true c.requires.k_in_bounds.1)))
+              (omega arith),
+          rw the-loop.invariant.2 c.requires.k_in_bounds.2,
+          rw the-loop.invariant.4 c.requires.k_in_bounds.3,
+        ); squared = c.requires.squared; }
+
+pub overflow_add-i : goal.overflow_add-i
+overflow_add-i c =
+    let the-loop-test = c.loop-i-test in
+    omega (arith, the-loop-test.true, c.requires.n_le_most_frames.0)
+
+pub loop-i-smaller : goal.loop-i-smaller
+loop-i-smaller c =
+    let the-loop-test = c.loop-i-test in
+    omega (arith, the-loop-test.true)
+
+pub loop-i-preserved : goal.loop-i-preserved
+loop-i-preserved c =
+    let the-neighbor-row = c.neighbor_row in
+    let the-loop-test = c.loop-i-test in
+    let the-loop = c.loop-i in
+    (
+      lays-row (λ (x : Pair). x.value) _ _ _ _ _ c.requires.n_le_most_frames.2
+          (the-loop.i * c.args.k + c.args.k - the-loop.i * c.args.k) (omega arith) the-loop-test.true c.requires.k_in_bounds.0
+          the-neighbor-row.auto.weights the-neighbor-row.ensures.weights_after the-loop.invariant.0,
+      lays-row (λ (x : Pair). x.index) _ _ _ _ _
+          c.requires.n_le_most_frames.2 (the-loop.i * c.args.k + c.args.k - the-loop.i * c.args.k) (omega arith) the-loop-test.true
+          c.requires.k_in_bounds.1 the-neighbor-row.auto.indices the-neighbor-row.ensures.indices_after the-loop.invariant.1,
+      the-neighbor-row.auto.row_values ∙ the-loop.invariant.2,
+      rw the-neighbor-row.ensures.row_values_after
+          (loop-next the-loop.invariant.3 the-loop-test.true),
+      the-neighbor-row.auto.row_indices ∙ the-loop.invariant.4,
+      rw
+          the-neighbor-row.ensures.row_indices_after (loop-next the-loop.invariant.5 the-loop-test.true),
+    )
+
+pub shape_of-weights : goal.shape_of-weights
+shape_of-weights c =
+    c.loop-i.invariant.0.size
+
+pub shape_of-indices : goal.shape_of-indices
+shape_of-indices c =
+    c.loop-i.invariant.1.size
+
+pub shape_of-row_values : goal.shape_of-row_values
+shape_of-row_values c =
+    c.loop-i.invariant.2
+
+pub shape_of-row_indices : goal.shape_of-row_indices
+shape_of-row_indices c =
+    c.loop-i.invariant.4
+
+pub returns : goal.returns
+returns c =
+    record { weights_after = lays-done _ _ c.loop-i.invariant.0 c.loop-i-test.false; indices_after = lays-done _ _ c.loop-i.invariant.1 c.loop-i-test.false; row_values_after = loop-done c.loop-i.invariant.3 c.loop-i-test.false; row_indices_after = loop-done c.loop-i.invariant.5 c.loop-i-test.false; }

@@ -1,0 +1,148 @@
+use mathlib.Core.Path.{refl, ◌∙◌}
+use Prim.Native.Nat.{◌-◌, ◌<◌, ◌≤◌}
+use borrow.Author.Tests.{not-true, not-false}
+use Rattle.affinity_lists.proofs.Listing.{writing_start, writing-mark, writing-sought, writing_pass, writing-room, writing-next, writing-below, writing-held, writing-done}
+use lib.ListN.{length, length-set}
+use native.Mathlib.Omega.{arith}
+use Rattle.affinity_lists.proofs.filling.fill_list.Reads as reads
+use Rattle.affinity_lists.proofs.filling.fill_list.Lts as lts
+use Rattle.affinity_links.proofs.held.Reads as held_reads
+use Rattle.affinity_links.proofs.link_of.Reads as link-of-reads
+use Rattle.affinity_lists.proofs.filling.fill_list.Goals as goal
+
+room : (c : lts.Else2 (link-of-reads.Asked, link-of-reads.Learnt, held_reads.Asked, held_reads.Learnt) reads.Pre reads.Post invariant-loop decreases-loop) →
+    (0 < c.before.before.before.before.before.before.before.before.loop.q) ×
+    (c.before.before.before.before.before.before.before.before.loop.q ≤ length
+    c.before.before.before.before.before.before.before.before.loop.indices) ×
+    (c.before.before.before.before.before.before.before.before.loop.q ≤ length
+    c.before.before.before.before.before.before.before.before.loop.weights) ×
+    (c.before.before.before.before.before.before.before.before.loop.j - 1 < length
+    c.before.before.before.before.before.before.before.before.loop.row-indices)
+room c =
+    let the-link-of = c.before.before.link-of in
+    let the-if1 = c.before.before.before.before.before.before.if1 in
+    let the-loop = c.before.before.before.before.before.before.before.before.loop in
+    let the-start = c.before.before.before.before.before.before.before.before.before.before.before.before.before.before in
+    writing-room the-start.requires (the-loop.j - 1) the-loop.j (omega arith) the-loop.invariant the-if1.false _ the-link-of.ensures.0 _
+    the-link-of.ensures.1.1.0 (not-false _ c.if2.false)
+
+pub offset_bounds-row_indices-i : goal.offset_bounds-row_indices-i
+offset_bounds-row_indices-i c =
+    omega (arith, c.requires.frame, c.requires.sizes)
+
+pub bounds-row_indices-i : goal.bounds-row_indices-i
+bounds-row_indices-i c =
+    omega (arith, c.requires.frame, c.requires.sizes)
+
+pub loop-j-init : goal.loop-j-init
+loop-j-init c =
+    writing_start c.requires
+
+pub loop-j-preserved-then-j-i : goal.loop-j-preserved-then-j-i
+loop-j-preserved-then-j-i c =
+    let the-loop = c.loop-j in
+    writing-mark c.requires (the-loop.j - 1) the-loop.j (omega arith) the-loop.invariant c.if-j-i.true
+
+pub offset_bounds-row_indices-j : goal.offset_bounds-row_indices-j
+offset_bounds-row_indices-j c =
+    let the-loop = c.loop-j in
+    omega (arith, c.requires.sizes, the-loop.invariant.within, the-loop.invariant.size)
+
+pub bounds-row_indices-j : goal.bounds-row_indices-j
+bounds-row_indices-j c =
+    let the-loop = c.loop-j in
+    omega (arith, c.requires.sizes, the-loop.invariant.within, the-loop.invariant.size)
+
+pub link_of-link-requires : goal.link_of-link-requires
+link_of-link-requires c =
+    let the-if1 = c.if-j-i in
+    let the-loop = c.loop-j in
+    writing-sought c.requires (the-loop.j - 1) the-loop.j (omega arith) the-loop.invariant the-if1.false
+
+pub loop-j-preserved-then-not-link : goal.loop-j-preserved-then-not-link
+loop-j-preserved-then-not-link c =
+    let the-link-of = c.link_of-link in
+    let the-if1 = c.if-j-i in
+    let the-loop = c.loop-j in
+    writing_pass c.requires (the-loop.j - 1) the-loop.j (omega arith) the-loop.invariant the-if1.false _ the-link-of.ensures.yes_value _
+    the-link-of.ensures.row_value (not-true _ c.if-not-link.true)
+
+pub offset_bounds-row_indices-j-in-loop-j : goal.offset_bounds-row_indices-j-in-loop-j
+offset_bounds-row_indices-j-in-loop-j c =
+    omega (arith, room c)
+
+pub bounds-row_indices-j-in-loop-j : goal.bounds-row_indices-j-in-loop-j
+bounds-row_indices-j-in-loop-j c =
+    omega (arith, room c)
+
+pub overflow_sub-q : goal.overflow_sub-q
+overflow_sub-q c =
+    omega (arith, room c)
+
+pub offset_bounds-weights-q : goal.offset_bounds-weights-q
+offset_bounds-weights-q c =
+    omega (arith, room c)
+
+pub bounds-weights-q : goal.bounds-weights-q
+bounds-weights-q c =
+    omega (arith, room c)
+
+pub overflow_cast-indices : goal.overflow_cast-indices
+overflow_cast-indices c =
+    let the-loop = c.loop-j in
+    omega (arith, c.requires.frame, the-loop.invariant.within)
+
+pub offset_bounds-indices-q : goal.offset_bounds-indices-q
+offset_bounds-indices-q c =
+    omega (arith, room c)
+
+pub bounds-indices-q : goal.bounds-indices-q
+bounds-indices-q c =
+    omega (arith, room c)
+
+pub loop-j-preserved : goal.loop-j-preserved
+loop-j-preserved c =
+    let the-link-of = c.link_of-link in
+    let the-if1 = c.if-j-i in
+    let the-loop = c.loop-j in
+    writing-next c.requires (the-loop.j - 1) the-loop.j (omega arith) the-loop.invariant the-if1.false _ the-link-of.ensures.yes_value _
+    the-link-of.ensures.row_value (not-false _ c.if-not-link.false) _ _ _ refl the-link-of.ensures.weight_value the-link-of.ensures.cursor_value
+
+pub overflow_sub-m : goal.overflow_sub-m
+overflow_sub-m c =
+    let the-loop = c.loop-j in
+    omega (arith, writing-below c.requires (omega arith) the-loop.invariant)
+
+pub held-requires : goal.held-requires
+held-requires c =
+    let the-loop = c.loop-j in
+    writing-held c.requires (omega arith) the-loop.invariant
+
+pub offset_bounds-row_indices-i-2 : goal.offset_bounds-row_indices-i-2
+offset_bounds-row_indices-i-2 c =
+    let the-loop = c.loop-j in
+    omega (arith, c.requires.frame, c.requires.sizes, the-loop.invariant.size)
+
+pub bounds-row_indices-i-2 : goal.bounds-row_indices-i-2
+bounds-row_indices-i-2 c =
+    let the-loop = c.loop-j in
+    omega (arith, c.requires.frame, c.requires.sizes, the-loop.invariant.size)
+
+pub shape_of-weights : goal.shape_of-weights
+shape_of-weights c =
+    c.loop-j.invariant.weights.size
+
+pub shape_of-indices : goal.shape_of-indices
+shape_of-indices c =
+    c.loop-j.invariant.indices.size
+
+pub shape_of-row_indices : goal.shape_of-row_indices
+shape_of-row_indices c =
+    let the-loop = c.loop-j in
+    length-set the-loop.row_indices _ _ ∙ the-loop.invariant.size
+
+pub returns : goal.returns
+returns c =
+    let the-loop = c.loop-j in
+    let d = writing-done c.requires (omega arith) the-loop.invariant _ c.held.ensures in
+    record { value = d.0; weights_after = d.1; indices_after = d.2; lowered = d.3; }

@@ -1,0 +1,33 @@
+-- `sigma::entropies::add_block` meets its contract: the three passes, or single terms. Assumes nothing.
+use mathlib.Core.Path.{refl, sym, ◌∙◌}
+use Prim.Native.Nat.{◌+◌}
+use borrow.Author.Tests.{not-false}
+use lib.ListN.{replicate}
+use Rattle.laws.specs.Area.{zero64}
+use Rattle.affinity_sigma.proofs.Shares.{block-added}
+use Rattle.affinity_sigma.proofs.entropies.add_block.Goals as goal
+
+pub returns-then-not-all_shares : goal.returns-then-not-all_shares
+returns-then-not-all_shares c =
+    c.add_singly.ensures
+
+pub all_parts-requires : goal.all_parts-requires
+all_parts-requires c =
+    let the-if1 = c.if-not-all_shares in
+    let the-all-shares = c.all_shares in
+    (c.requires.0, c.requires.1, sym the-all-shares.ensures ∙ not-false _ the-if1.false)
+
+pub add_terms-requires : goal.add_terms-requires
+add_terms-requires c =
+    c.requires
+
+pub returns : goal.returns
+returns c =
+    let the-all-logs = c.all_logs in
+    let the-all-parts = c.all_parts in
+    let the-if1 = c.if-not-all_shares in
+    let the-all-shares = c.all_shares in
+    let the-shared-slice-known = c.shared_slice_known-1 in
+    c.add_terms.ensures ∙ block-added c.args.shares.now c.args.j c.args.c (replicate 32 zero64) (replicate 32 zero64)
+    (replicate 32 zero64) _ _ _ c.requires.1 refl refl refl the-all-parts.ensures.ms_after the-all-parts.ensures.ks_after the-all-logs.ensures
+    (sym the-all-shares.ensures ∙ not-false _ the-if1.false) (λ t. c.type_inv.shares (c.args.j + t)) _

@@ -1,0 +1,20 @@
+use mathlib.Core.Path.{refl, sym}
+use Prim.Native.Nat.{◌-◌}
+use Rattle.laws.proofs.Every.{every-none}
+use Rattle.affinity_sigma.proofs.Blocks.{every-joined, every-whole}
+use native.Mathlib.Omega.{arith}
+use Rattle.affinity_sigma.proofs.entropies.all_shares.Goals as goal
+
+pub loop-t-init : goal.loop-t-init
+loop-t-init c =
+    (sym (every-none _), omega arith)
+
+pub loop-t-preserved : goal.loop-t-preserved
+loop-t-preserved c =
+    let the-loop-test = c.loop-t-test in
+    let the-loop = c.loop-t in
+    (every-joined _ _ c.and_also-all.ensures the-loop.invariant.0 refl, omega (arith, the-loop-test.true))
+
+pub returns : goal.returns
+returns c =
+    every-whole _ _ _ c.loop-t.invariant.0 c.loop-t.invariant.1 c.loop-t-test.false

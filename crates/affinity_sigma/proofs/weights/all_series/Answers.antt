@@ -1,0 +1,21 @@
+use Prim.Native.Nat.{◌-◌}
+use Rattle.laws.proofs.Loops.{loop-start, loop-next, loop-done}
+use native.Mathlib.Omega.{arith}
+use Rattle.affinity_sigma.proofs.weights.all_series.Goals as goal
+
+pub loop-t-init : goal.loop-t-init
+loop-t-init c =
+    loop-start _ _ _
+
+pub rest-requires : goal.rest-requires
+rest-requires c =
+    c.requires _ c.loop-t-test.true
+
+pub loop-t-preserved : goal.loop-t-preserved
+loop-t-preserved c =
+    let the-loop = c.loop-t in
+    rw (c.series_at.ensures, c.rest.ensures) (loop-next the-loop.invariant (omega arith))
+
+pub returns : goal.returns
+returns c =
+    loop-done c.loop-t.invariant (omega arith)

@@ -1,0 +1,15 @@
+-- `answer_words::put_after` meets its contract: by `bad-after`, `fine-after`.
+use Rattle.answer_words.proofs.Laws.{bad-after, fine-after}
+use mathlib.Core.Path.{sym, ◌∙◌}
+use Rattle.answer_words.proofs.put_after.Goals as goal
+
+pub returns-then-is_bad : goal.returns-then-is_bad
+returns-then-is_bad c =
+    bad-after _ _ _ (sym c.is_bad.ensures ∙ c.if-is_bad.true)
+
+pub returns : goal.returns
+returns c =
+    let the-put-progress = c.put_progress in
+    let the-if1 = c.if-is_bad in
+    let the-is-bad = c.is_bad in
+    fine-after _ _ _ (sym the-is-bad.ensures ∙ the-if1.false) the-put-progress.ensures

@@ -1,0 +1,15 @@
+use Rattle.laws.proofs.Parts.{clears-start, clears-next, clears-done}
+use Prim.Native.Nat.{◌-◌}
+use Rattle.areas.proofs.fill_words.Goals as goal
+
+pub loop-t-init : goal.loop-t-init
+loop-t-init c =
+    clears-start
+
+pub loop-t-preserved : goal.loop-t-preserved
+loop-t-preserved c =
+    clears-next c.requires c.loop-t-test.true c.loop-t.invariant
+
+pub returns : goal.returns
+returns c =
+    clears-done c.loop-t-test.false c.loop-t.invariant

@@ -1,0 +1,28 @@
+-- `bench_mapping::map_file` meets its contract: by `frames-few`, `too_long`, `bad-record`, `all-mapped`.
+use native.Mathlib.Omega.{arith}
+use Rattle.bench_mapping.proofs.Laws.{frames-few, too_long, bad-record, all-mapped}
+use mathlib.Core.Path.{sym, ◌∙◌}
+use Rattle.bench_mapping.proofs.map_file.Goals as goal
+
+pub returns-then-file-gt-BENCH_BYTES : goal.returns-then-file-gt-BENCH_BYTES
+returns-then-file-gt-BENCH_BYTES c =
+    too_long _ (omega (arith, c.if-file-gt-BENCH_BYTES.true))
+
+pub map_frames-requires : goal.map_frames-requires
+map_frames-requires c =
+    let the-read-frames = c.read_frames in
+    let the-if1 = c.if-file-gt-BENCH_BYTES in
+    frames-few _ _ (omega (arith, the-if1.false)) (sym the-read-frames.ensures ∙ c.n-1.given.1)
+
+pub returns-in-Bad : goal.returns-in-Bad
+returns-in-Bad c =
+    let the-read-frames = c.read_frames in
+    let the-if1 = c.if-file-gt-BENCH_BYTES in
+    bad-record _ (omega (arith, the-if1.false)) _ (sym the-read-frames.ensures ∙ c.p-1.given.1)
+
+pub returns-in-Good : goal.returns-in-Good
+returns-in-Good c =
+    let the-n = c.n-1 in
+    let the-read-frames = c.read_frames in
+    let the-if1 = c.if-file-gt-BENCH_BYTES in
+    all-mapped _ (omega (arith, the-if1.false)) _ _ (sym the-read-frames.ensures ∙ the-n.given.1) c.map_frames.ensures

@@ -1,0 +1,22 @@
+-- `bench_mapping::map_frames` meets its contract: from what its calls promise.
+use Rattle.bench_mapping.specs.Mapping.{mapped}
+use mathlib.Core.Path.{sym}
+use lib.Seq.{length-take-le}
+use native.Mathlib.Omega.{arith}
+use Rattle.bench_mapping.proofs.map_frames.Goals as goal
+
+pub slice_bounds-descend-end : goal.slice_bounds-descend-end
+slice_bounds-descend-end c =
+    sym (length-take-le _ _ (omega (arith, c.table_of-table.ensures.value)))
+
+pub slice_bounds-descend-end-2 : goal.slice_bounds-descend-end-2
+slice_bounds-descend-end-2 c =
+    sym (length-take-le _ _ (omega (arith, c.start_of_lem.ensures.0)))
+
+pub returns : goal.returns
+unfolding mapped
+returns c =
+    let the-settings = c.settings-s in
+    let the-start-of = c.start_of_lem in
+    let the-table-of = c.table_of-table in
+    rw (sym the-table-of.ensures.value_2, sym the-start-of.ensures.1, sym the-settings.ensures) c.descend.ensures

@@ -1,0 +1,26 @@
+use mathlib.Core.Path.{sym, ◌∙◌}
+use mathlib.Core.Bool.{true}
+use Prim.Native.Nat.{◌-◌}
+use borrow.Author.Tests.{not-true, not-false}
+use Rattle.laws.proofs.Every.{every-none, every-next, every-no, every-done}
+use Rattle.elementary.specs.Limits.{in_domain}
+use borrow.Author.Rules.{rules}
+use Rattle.blind.proofs.faults.table_fine.Goals as goal
+
+pub loop-i-init : goal.loop-i-init
+loop-i-init c =
+    (search rules, every-none _)
+
+pub returns-then-not-in_domain : goal.returns-then-not-in_domain
+returns-then-not-in_domain c =
+    let the-loop-test = c.loop-i-test in
+    sym (every-no _ _ _ the-loop-test.true (sym c.in_domain.ensures ∙ not-true _ c.if-not-in_domain.true))
+
+pub loop-i-preserved : goal.loop-i-preserved
+loop-i-preserved c =
+    let the-loop = c.loop-i in
+    (search rules, every-next _ _ the-loop.invariant.1 (sym c.in_domain.ensures ∙ not-false _ c.if-not-in_domain.false))
+
+pub returns : goal.returns
+returns c =
+    every-done _ _ _ c.loop-i.invariant.1 c.loop-i.invariant.0 c.loop-i-test.false

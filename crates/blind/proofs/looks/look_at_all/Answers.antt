@@ -1,0 +1,68 @@
+use Rattle.laws.proofs.Sums.{adds-room}
+use mathlib.Core.Path.{ap, ◌∙◌}
+use Prim.Native.Nat.{◌-◌}
+use Rattle.laws.specs.Sums.{bit}
+use Rattle.laws.proofs.Sums.{adds-start, adds-next, adds-done, bit_le}
+use Rattle.laws.proofs.Parts.{scratch-start}
+use Rattle.blind.proofs.Laws.{scratch-kept, kept_by, room-kept}
+use native.Mathlib.Omega.{arith}
+use Rattle.blind.proofs.looks.look_at_all.Goals as goal
+
+pub loop-i-init : goal.loop-i-init
+loop-i-init c =
+    (adds-start, adds-start, scratch-start, scratch-start, scratch-start)
+
+pub look-l-requires : goal.look-l-requires
+look-l-requires c =
+    let the-loop-test = c.loop-i-test in
+    let the-loop = c.loop-i in
+    record { i_lt_n = (the-loop-test.true, c.requires.squared); sight_room = room-kept c.requires.sight_room the-loop.invariant.2.size the-loop.invariant.3.size the-loop.invariant.4.size; }
+
+pub overflow_add-blind : goal.overflow_add-blind
+overflow_add-blind c =
+    let the-look = c.look-l in
+    let the-loop-test = c.loop-i-test in
+    let the-loop = c.loop-i in
+    let e = c.one_if-blind.ensures ∙ ap bit the-look.ensures.blind_value.0 in
+    let m = adds-room (bit_le _) the-loop-test.true the-loop.invariant.0 in
+    omega (arith, e, m, c.requires.sight_room.n-most)
+
+pub overflow_add-alone : goal.overflow_add-alone
+overflow_add-alone c =
+    let the-look = c.look-l in
+    let the-loop-test = c.loop-i-test in
+    let the-loop = c.loop-i in
+    let e = c.one_if-alone.ensures ∙ ap bit the-look.ensures.blind_value.1 in
+    let m = adds-room (bit_le _) the-loop-test.true the-loop.invariant.1 in
+    omega (arith, e, m, c.requires.sight_room.n-most)
+
+pub loop-i-preserved : goal.loop-i-preserved
+loop-i-preserved c =
+    let the-look = c.look-l in
+    let the-loop-test = c.loop-i-test in
+    let the-loop = c.loop-i in (
+      adds-next (c.one_if-blind.ensures ∙ ap bit the-look.ensures.blind_value.0) (bit_le _) the-loop-test.true the-loop.invariant.0,
+      adds-next
+          (c.one_if-alone.ensures ∙ ap bit the-look.ensures.blind_value.1) (bit_le _) the-loop-test.true the-loop.invariant.1,
+      scratch-kept the-look.auto.row_values
+          the-look.ensures.kept_past.0 the-loop.invariant.2,
+      scratch-kept the-look.auto.row_shares the-look.ensures.kept_past.1 the-loop.invariant.3,
+      scratch-kept
+          the-look.auto.row_indices the-look.ensures.kept_past.2 the-loop.invariant.4,
+    )
+
+pub shape_of-row_values : goal.shape_of-row_values
+shape_of-row_values c =
+    c.loop-i.invariant.2.size
+
+pub shape_of-row_shares : goal.shape_of-row_shares
+shape_of-row_shares c =
+    c.loop-i.invariant.3.size
+
+pub shape_of-row_indices : goal.shape_of-row_indices
+shape_of-row_indices c =
+    c.loop-i.invariant.4.size
+
+pub returns : goal.returns
+returns c =
+    record { blind_value = ((adds-done c.loop-i-test.false c.loop-i.invariant.0).0, (adds-done c.loop-i-test.false c.loop-i.invariant.1).0); kept_past = (kept_by c.loop-i.invariant.2, kept_by c.loop-i.invariant.3, kept_by c.loop-i.invariant.4); }

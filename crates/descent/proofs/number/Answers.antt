@@ -1,0 +1,33 @@
+-- `descent::number` meets its contract: from what its calls promise.
+use Rattle.descent.specs.Descent.{work_number}
+use Rattle.descent.proofs.number.Goals as goal
+
+pub returns-in-Running : goal.returns-in-Running
+unfolding work_number
+returns-in-Running c =
+    rw c.enum_told-1.given.1
+
+pub returns-in-Stopped : goal.returns-in-Stopped
+unfolding work_number
+returns-in-Stopped c =
+    rw c.enum_told-in-Stopped-1.given.1
+
+pub returns-in-Finished : goal.returns-in-Finished
+unfolding work_number
+returns-in-Finished c =
+    rw c.enum_told-in-Finished-1.given.1
+
+pub returns-in-Full : goal.returns-in-Full
+unfolding work_number
+returns-in-Full c =
+    rw c.enum_told-in-Full-1.given.1
+
+pub returns-in-Wild : goal.returns-in-Wild
+unfolding work_number
+returns-in-Wild c =
+    rw c.enum_told-in-Wild-1.given.1
+
+pub returns-in-Bad : goal.returns-in-Bad
+unfolding work_number
+returns-in-Bad c =
+    rw c.a-1.given.1 c.fault_number.ensures

@@ -1,0 +1,17 @@
+-- `desk_files::host_frame` meets its contract: from what its calls promise.
+use Rattle.desk_files.specs.Files.{host_frame}
+use borrow.Author.Tests.{lt-ltb, le-ltb}
+use Rattle.desk_files.proofs.host_frame.Goals as goal
+
+pub returns-then-frame-lt11 : goal.returns-then-frame-lt11
+unfolding host_frame
+returns-then-frame-lt11 c =
+    rw (lt-ltb _ _ c.if-frame-lt11.true)
+
+pub returns : goal.returns
+unfolding host_frame
+returns c =
+    let the-put-frame = c.put_frame in
+    let the-frame-at = c.frame_at-f in
+    let the-if1 = c.if-frame-lt11 in
+    rw (le-ltb _ _ the-if1.false, the-put-frame.ensures, the-frame-at.ensures)

@@ -1,0 +1,24 @@
+-- `desk_files::host_frames` meets its contract: from what its calls promise.
+use Rattle.desk_files.specs.Files.{host_frames}
+use borrow.Author.Tests.{eq-eqb, ne_eqb}
+use mathlib.Core.Path.{sym, ◌∙◌}
+use Rattle.desk_files.proofs.host_frames.Goals as goal
+
+pub returns-then-place-eq0 : goal.returns-then-place-eq0
+unfolding host_frames
+returns-then-place-eq0 c =
+    rw (eq-eqb _ _ c.if-place-eq0.true)
+
+pub returns-in-Good : goal.returns-in-Good
+unfolding host_frames
+returns-in-Good c =
+    let the-read-frames = c.read_frames in
+    let the-if1 = c.if-place-eq0 in
+    rw (ne_eqb _ _ the-if1.false, sym the-read-frames.ensures ∙ c.n-1.given.1)
+
+pub returns-in-Bad : goal.returns-in-Bad
+unfolding host_frames
+returns-in-Bad c =
+    let the-read-frames = c.read_frames in
+    let the-if1 = c.if-place-eq0 in
+    rw (ne_eqb _ _ the-if1.false, sym the-read-frames.ensures ∙ c.p-1.given.1)

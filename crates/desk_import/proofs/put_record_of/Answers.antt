@@ -1,0 +1,6 @@
+-- `desk_import::put_record_of` meets its contract: from what its calls promise.
+use Rattle.desk_import.proofs.put_record_of.Goals as goal
+
+pub returns-in-Loaded : goal.returns-in-Loaded
+returns-in-Loaded c =
+    rw c.a-1.given.1 c.put_run.ensures

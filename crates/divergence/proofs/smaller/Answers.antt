@@ -1,0 +1,11 @@
+-- `divergence::smaller` meets its contract: each need follows from its own premises.
+use native.Mathlib.Omega.{arith}
+use Rattle.divergence.proofs.smaller.Goals as goal
+
+pub returns-then-a-b : goal.returns-then-a-b
+returns-then-a-b c =
+    omega (arith, c.if-a-b.true)
+
+pub returns : goal.returns
+returns c =
+    omega (arith, c.if-a-b.false)

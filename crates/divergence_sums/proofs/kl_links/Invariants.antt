@@ -1,0 +1,11 @@
+-- `divergence_sums::kl_links` meets its contract: the loop keeps `Loops`; by `loop-start`, `loop-next`, `loop-done`.
+use Rattle.divergence_sums.specs.Sums.{kl_link_step}
+use Rattle.laws.proofs.Loops.{Loops}
+use Prim.Native.Nat.{◌-◌}
+use Rattle.divergence_sums.proofs.kl_links.Given as goal
+
+abbrev pub invariant-loop-k : goal.invariant-loop-k
+invariant-loop-k l = Loops (kl_link_step l.positions l.weights l.indices l.exaggeration l.z l.c l.i l.a) l.links l.initial.s l.k l.s
+
+abbrev pub decreases-loop-k : goal.decreases-loop-k
+decreases-loop-k l = l.links - l.k

@@ -1,0 +1,30 @@
+use mathlib.Core.Path.{refl}
+use Rattle.laws.proofs.Numbers.{row_in}
+use Rattle.laws.proofs.Loops.{loop-start, loop-next, loop-done}
+use Rattle.divergence_sums.specs.Sums.{kl_share}
+use Prim.Native.Nat.{◌-◌}
+use borrow.Author.Rules.{rules}
+use native.Mathlib.Omega.{arith}
+use Rattle.divergence_sums.proofs.lay_shares.Goals as goal
+
+pub loop-k-init : goal.loop-k-init
+loop-k-init c =
+    (refl, loop-start _ _ _)
+
+pub num-requires : goal.num-requires
+num-requires c =
+    (
+      row_in _ c.args.n _ _ c.requires.0 c.requires.2,
+      row_in _ c.args.n _ _
+          (omega (arith, c.requires.1, c.loop-k-test.true)) c.requires.2,
+    )
+
+pub loop-k-preserved : goal.loop-k-preserved
+unfolding kl_share
+loop-k-preserved c =
+    let the-loop = c.loop-k in
+    (search rules, rw c.num.ensures (loop-next the-loop.invariant.1 c.loop-k-test.true))
+
+pub returns : goal.returns
+returns c =
+    loop-done c.loop-k.invariant.1 c.loop-k-test.false

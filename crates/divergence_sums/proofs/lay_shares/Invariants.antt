@@ -1,0 +1,13 @@
+-- `divergence_sums::lay_shares` meets its contract: the loop keeps `Loops`; by `row_in`, `loop-start`, `loop-next`, `loop-done`.
+use mathlib.Core.Path.{◌≡◌}
+use lib.ListN.{length}
+use Rattle.laws.proofs.Loops.{Loops}
+use Rattle.divergence_sums.specs.Sums.{kl_share_step}
+use Prim.Native.Nat.{◌-◌}
+use Rattle.divergence_sums.proofs.lay_shares.Given as goal
+
+abbrev pub invariant-loop-k : goal.invariant-loop-k
+invariant-loop-k l = (length l.shares ≡ length l.initial.shares) × Loops (kl_share_step l.positions l.total l.c l.i l.j) l.m l.initial.shares l.k l.shares
+
+abbrev pub decreases-loop-k : goal.decreases-loop-k
+decreases-loop-k l = l.m - l.k

@@ -1,0 +1,49 @@
+-- Each answer is the definition's, by the tests passed on the way to it: too few words, a method that there is not, settings with a number, else the state.
+-- past the second test, with the settings' number k
+use borrow.Author.Tests.{lt-ltb, le-ltb, eq-eqb, ne_eqb, not-true, not-false}
+use mathlib.Core.Path.{◌≡◌, sym, ◌∙◌}
+use mathlib.Core.List.{List}
+use mathlib.Core.Bool.{Bool, false, not}
+use Prim.Native.Nat.{ℕ, ◌≤◌}
+use lib.ListN.{length}
+use native.Mathlib.Omega.{arith}
+use Rattle.run_record.specs.declared.Settings.{Settings}
+use Rattle.run_record.specs.Record.{settings_fault}
+use Rattle.record_words.specs.RecordWords.{settings_fine, settings_of}
+use Rattle.fault_words.specs.FaultWords.{settings_first, unread_fault}
+use Rattle.fault_words.proofs.Fit.{unread-state}
+use Rattle.fault_words.proofs.unread_fault.Goals as goal
+
+read-so-far : (w : List ℕ) {b : Bool} {s : Settings} {k : ℕ} → 14 ≤ length w → b ≡ settings_fine w → not b ≡ false → s ≡ settings_of w → k ≡ settings_fault s → settings_first k ≡ unread_fault w
+read-so-far w l f n es ek = unread-state w l (sym f ∙ not-false _ n) es ek
+
+pub returns-then-words-lt14 : goal.returns-then-words-lt14
+returns-then-words-lt14 c =
+    rw (lt-ltb _ _ c.if-words-lt14.true)
+
+pub returns-then-not-settings_fine : goal.returns-then-not-settings_fine
+returns-then-not-settings_fine c =
+    let the-if1 = c.if-words-lt14 in
+    rw (le-ltb _ _ the-if1.false, sym c.settings_fine.ensures ∙ not-true _ c.if-not-settings_fine.true)
+
+pub settings_of-s-requires : goal.settings_of-s-requires
+settings_of-s-requires c =
+    omega (arith, c.if-words-lt14.false)
+
+pub returns-then-k-ne0 : goal.returns-then-k-ne0
+returns-then-k-ne0 c =
+    let the-settings-of = c.settings_of-s in
+    let the-if2 = c.if-not-settings_fine in
+    let the-settings-fine = c.settings_fine in
+    let the-if1 = c.if-words-lt14 in
+    rw (ne_eqb _ 0 c.if-k-ne0.true) at
+    (read-so-far _ the-if1.false the-settings-fine.ensures the-if2.false the-settings-of.ensures c.settings_fault-k.ensures)
+
+pub returns : goal.returns
+returns c =
+    let the-settings-of = c.settings_of-s in
+    let the-if2 = c.if-not-settings_fine in
+    let the-settings-fine = c.settings_fine in
+    let the-if1 = c.if-words-lt14 in
+    rw (eq-eqb _ 0 c.if-k-ne0.false) at
+    (read-so-far _ the-if1.false the-settings-fine.ensures the-if2.false the-settings-of.ensures c.settings_fault-k.ensures)

@@ -1,0 +1,19 @@
+use Rattle.laws.proofs.Loops.{loop-start, loop-next, loop-done}
+use lib.ListN.{length-set}
+use Prim.Native.Nat.{◌-◌}
+use borrow.Author.Rules.{rules}
+use Rattle.frame_words.proofs.put_features.Goals as goal
+
+pub loop-k-init : goal.loop-k-init
+loop-k-init c =
+    (search rules, loop-start _ _ _)
+
+pub loop-k-preserved : goal.loop-k-preserved
+loop-k-preserved c =
+    let the-loop-test = c.loop-k-test in
+    let the-loop = c.loop-k in
+    (simp length-set the-loop.invariant.0, rw c.bits_of.ensures (loop-next the-loop.invariant.1 the-loop-test.true))
+
+pub returns : goal.returns
+returns c =
+    loop-done c.loop-k.invariant.1 c.loop-k-test.false

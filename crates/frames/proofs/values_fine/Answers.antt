@@ -1,0 +1,31 @@
+use borrow.Author.Tests.{not-true, not-false}
+use Prim.Native.Nat.{◌-◌}
+use mathlib.Core.Bool.{true}
+use mathlib.Core.Path.{sym, ◌∙◌}
+use Rattle.laws.proofs.Every.{every-none, every-next, every-no, every-done}
+use Rattle.elementary.specs.Limits.{in_domain}
+use Rattle.frames.specs.Frames.{values_fine}
+use native.Mathlib.Omega.{arith}
+use Rattle.frames.proofs.values_fine.Goals as goal
+
+pub loop-k-init : goal.loop-k-init
+loop-k-init c =
+    (omega arith, every-none _)
+
+pub returns-then-not-in_domain : goal.returns-then-not-in_domain
+unfolding values_fine
+returns-then-not-in_domain c =
+    let the_value = c.value-v in
+    let the-loop-test = c.loop-k-test in
+    sym (every-no _ 8 _ the-loop-test.true (rw the_value.ensures at (sym c.in_domain.ensures ∙ not-true _ c.if-not-in_domain.true)))
+
+pub loop-k-preserved : goal.loop-k-preserved
+loop-k-preserved c =
+    let the_value = c.value-v in
+    let the-loop = c.loop-k in
+    (omega arith, every-next _ _ the-loop.invariant.1 (rw the_value.ensures at (sym c.in_domain.ensures ∙ not-false _ c.if-not-in_domain.false)))
+
+pub returns : goal.returns
+unfolding values_fine
+returns c =
+    every-done _ 8 _ c.loop-k.invariant.1 c.loop-k.invariant.0 c.loop-k-test.false

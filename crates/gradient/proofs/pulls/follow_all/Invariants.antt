@@ -1,0 +1,11 @@
+-- `gradient::pulls::follow_all` meets its contract: the loop keeps `Loops`; by `loop-start`, `loop-next`, `loop-done`.
+use Rattle.gradient.specs.Forces.{link_step}
+use Rattle.laws.proofs.Loops.{Loops}
+use Prim.Native.Nat.{◌-◌}
+use Rattle.gradient.proofs.pulls.follow_all.Given as goal
+
+abbrev pub invariant-loop-k : goal.invariant-loop-k
+invariant-loop-k l = Loops (link_step l.exaggeration l.c l.positions l.weights l.indices l.p l.a) l.links l.initial.t l.k l.t
+
+abbrev pub decreases-loop-k : goal.decreases-loop-k
+decreases-loop-k l = l.links - l.k

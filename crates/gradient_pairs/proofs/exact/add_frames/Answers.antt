@@ -1,0 +1,22 @@
+use Rattle.laws.proofs.Loops.{loop-start, loop-next, loop-done}
+use Rattle.laws.proofs.Numbers.{row_in}
+use Prim.Native.Nat.{◌-◌}
+use native.Mathlib.Omega.{arith}
+use Rattle.gradient_pairs.proofs.exact.add_frames.Goals as goal
+
+pub loop-k-init : goal.loop-k-init
+loop-k-init c =
+    loop-start _ _ _
+
+pub add_frame-y-requires : goal.add_frame-y-requires
+add_frame-y-requires c =
+    let b = c in
+    (b.requires.0, row_in _ b.args.n b.args.c _ (omega (arith, b.requires.1, c.loop-k-test.true)) b.requires.2)
+
+pub loop-k-preserved : goal.loop-k-preserved
+loop-k-preserved c =
+    rw c.add_frame-y.ensures (loop-next c.loop-k.invariant (omega arith))
+
+pub returns : goal.returns
+returns c =
+    loop-done c.loop-k.invariant (omega arith)

@@ -1,0 +1,11 @@
+-- Row by parts: each takes the loop on by as many turns as it has frames.
+use Rattle.gradient_pairs.specs.Exact.{pull_step}
+use Rattle.laws.proofs.Loops.{Loops}
+use Prim.Native.Nat.{◌-◌}
+use Rattle.gradient_pairs.proofs.exact.gather.Given as goal
+
+abbrev pub invariant-loop-j : goal.invariant-loop-j
+invariant-loop-j l = Loops (pull_step l.positions l.affinities l.exaggeration l.total l.n l.c l.i) l.n l.initial.x l.j l.x
+
+abbrev pub decreases-loop-j : goal.decreases-loop-j
+decreases-loop-j l = l.n - l.j

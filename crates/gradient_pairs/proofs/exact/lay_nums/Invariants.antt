@@ -1,0 +1,13 @@
+-- A place is written in each turn, by the turn and the end of a counting loop.
+use mathlib.Core.Path.{◌≡◌}
+use lib.ListN.{length}
+use Rattle.gradient_pairs.specs.Exact.{num_laid}
+use Rattle.laws.proofs.Loops.{Loops}
+use Prim.Native.Nat.{◌-◌}
+use Rattle.gradient_pairs.proofs.exact.lay_nums.Given as goal
+
+abbrev pub invariant-loop-k : goal.invariant-loop-k
+invariant-loop-k l = (length l.nums ≡ length l.initial.nums) × Loops (num_laid l.positions l.c l.i l.j) l.m l.initial.nums l.k l.nums
+
+abbrev pub decreases-loop-k : goal.decreases-loop-k
+decreases-loop-k l = l.m - l.k

@@ -1,0 +1,52 @@
+use mathlib.Core.Path.{refl}
+use lib.ListN.{length}
+use Rattle.laws.proofs.Loops.{loop-start, loop-next, loop-done}
+use Rattle.laws.proofs.Numbers.{row_in}
+use Prim.Native.Nat.{◌-◌}
+use borrow.Author.Rules.{rules}
+use native.Mathlib.Omega.{arith}
+use Rattle.gradient_pairs.proofs.exact.lay_weights.Goals as goal
+
+pub loop-k-init : goal.loop-k-init
+loop-k-init c =
+    (refl, loop-start _ _ _)
+
+pub overflow_mul-i : goal.overflow_mul-i
+overflow_mul-i c =
+    let b = c in
+    omega (arith, row_in b.args.i b.args.n b.args.n (length b.args.affinities.now) b.requires.0 b.requires.2, b.requires.1, c.loop-k-test.true)
+
+pub overflow_add-j : goal.overflow_add-j
+overflow_add-j c =
+    let b = c in
+    omega (arith, row_in b.args.i b.args.n b.args.n (length b.args.affinities.now) b.requires.0 b.requires.2, b.requires.1, c.loop-k-test.true)
+
+pub overflow_add-i : goal.overflow_add-i
+overflow_add-i c =
+    let b = c in
+    omega (arith, row_in b.args.i b.args.n b.args.n (length b.args.affinities.now) b.requires.0 b.requires.2, b.requires.1, c.loop-k-test.true)
+
+pub offset_bounds-affinities-i : goal.offset_bounds-affinities-i
+offset_bounds-affinities-i c =
+    let b = c in
+    omega (arith, row_in b.args.i b.args.n b.args.n (length b.args.affinities.now) b.requires.0 b.requires.2, b.requires.1, c.loop-k-test.true)
+
+pub bounds-affinities-i : goal.bounds-affinities-i
+bounds-affinities-i c =
+    let b = c in
+    omega (
+      arith,
+      row_in b.args.i b.args.n b.args.n (length b.args.affinities.now) b.requires.0 b.requires.2,
+      b.requires.1,
+      c.loop-k-test.true,
+    )
+
+pub loop-k-preserved : goal.loop-k-preserved
+loop-k-preserved c =
+    let the-loop-test = c.loop-k-test in
+    let the-loop = c.loop-k in
+    (search rules, rw c.push.ensures (loop-next the-loop.invariant.1 the-loop-test.true))
+
+pub returns : goal.returns
+returns c =
+    loop-done c.loop-k.invariant.1 (omega arith)

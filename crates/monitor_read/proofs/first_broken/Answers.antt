@@ -1,0 +1,24 @@
+use Prim.Native.Nat.{◌-◌}
+use mathlib.Core.Path.{sym, ◌∙◌}
+use Rattle.laws.proofs.First.{seek-start, seek-next, seek_stop, seek-done}
+use Rattle.monitor_read.proofs.first_broken.Goals as goal
+
+pub loop-i-init : goal.loop-i-init
+loop-i-init c =
+    seek-start _ _
+
+pub returns-then-is_broken : goal.returns-then-is_broken
+returns-then-is_broken c =
+    let the-loop-test = c.loop-i-test in
+    let the-loop = c.loop-i in
+    seek_stop the-loop.invariant the-loop-test.true (sym c.is_broken.ensures ∙ c.if-is_broken.true)
+
+pub loop-i-preserved : goal.loop-i-preserved
+loop-i-preserved c =
+    let the-loop-test = c.loop-i-test in
+    let the-loop = c.loop-i in
+    seek-next the-loop.invariant the-loop-test.true (sym c.is_broken.ensures ∙ c.if-is_broken.false)
+
+pub returns : goal.returns
+returns c =
+    seek-done c.loop-i.invariant c.loop-i-test.false

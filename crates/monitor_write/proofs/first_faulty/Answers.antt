@@ -1,0 +1,24 @@
+use Prim.Native.Nat.{◌-◌}
+use mathlib.Core.Path.{sym, ◌∙◌}
+use Rattle.laws.proofs.First.{seek-start, seek-next, seek_stop, seek-done}
+use Rattle.monitor_write.proofs.first_faulty.Goals as goal
+
+pub loop-i-init : goal.loop-i-init
+loop-i-init c =
+    seek-start _ _
+
+pub returns-then-is_faulty : goal.returns-then-is_faulty
+returns-then-is_faulty c =
+    let the-loop-test = c.loop-i-test in
+    let the-loop = c.loop-i in
+    seek_stop the-loop.invariant the-loop-test.true (sym c.is_faulty.ensures ∙ c.if-is_faulty.true)
+
+pub loop-i-preserved : goal.loop-i-preserved
+loop-i-preserved c =
+    let the-loop-test = c.loop-i-test in
+    let the-loop = c.loop-i in
+    seek-next the-loop.invariant the-loop-test.true (sym c.is_faulty.ensures ∙ c.if-is_faulty.false)
+
+pub returns : goal.returns
+returns c =
+    seek-done c.loop-i.invariant c.loop-i-test.false

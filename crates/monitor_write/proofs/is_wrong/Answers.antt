@@ -1,0 +1,22 @@
+-- Picture, side, field and order: the frame's own rules, then the order.
+use borrow.Author.Tests.{not-true, not-false}
+use mathlib.Core.Path.{sym, ◌∙◌}
+use Rattle.monitor_write.specs.MonitorWrite.{wrong_at}
+use native.Mathlib.Omega.{arith}
+use Rattle.monitor_write.proofs.is_wrong.Goals as goal
+
+pub overflow_cast-pictures : goal.overflow_cast-pictures
+overflow_cast-pictures c =
+    let the-shared-slice-known = c.shared_slice_known-1 in
+    omega (arith, c.type_inv.pictures c.args.i)
+
+pub returns-then-not-frame_fine : goal.returns-then-not-frame_fine
+unfolding wrong_at
+returns-then-not-frame_fine c =
+    rw (sym c.frame_fine.ensures ∙ not-true _ c.if-not-frame_fine.true)
+
+pub returns : goal.returns
+unfolding wrong_at
+returns c =
+    let the-frame-fine = c.frame_fine in
+    rw (sym the-frame-fine.ensures ∙ not-false _ c.if-not-frame_fine.false, c.follows.ensures)

@@ -1,0 +1,13 @@
+-- `parked::cells_of` meets its contract: each need follows from its own premises.
+use mathlib.Core.Path.{refl}
+use native.Mathlib.Nat.{mul-le-mul}
+use native.Mathlib.Omega.{arith}
+use Rattle.parked.proofs.cells_of.Goals as goal
+
+pub overflow_mul-result : goal.overflow_mul-result
+overflow_mul-result c =
+    omega (arith, mul-le-mul c.requires.0 c.requires.1)
+
+pub returns : goal.returns
+returns c =
+    (refl, mul-le-mul c.requires.0 c.requires.1)

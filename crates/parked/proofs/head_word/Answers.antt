@@ -1,0 +1,8 @@
+-- `parked::head_word` meets its contract: by `head-told`.
+use Rattle.parked.proofs.Laws.{head-told}
+use Rattle.parked.proofs.head_word.Goals as goal
+
+pub returns : goal.returns
+returns c =
+    let the-angle-word = c.angle_word-angle in
+    head-told _ _ _ _ the-angle-word.ensures

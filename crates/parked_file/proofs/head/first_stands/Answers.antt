@@ -1,0 +1,17 @@
+-- `parked_file::head::first_stands` meets its contract: by `first-is`.
+use Rattle.parked_file.proofs.Stands.{missing, there, first-is}
+use mathlib.Core.Path.{sym, ◌∙◌}
+use Rattle.parked_file.proofs.head.first_stands.Goals as goal
+
+pub returns-then-file-lt32 : goal.returns-then-file-lt32
+returns-then-file-lt32 c =
+    sym (missing _ 0 c.if-file-lt32.true)
+
+pub returns : goal.returns
+returns c =
+    let the-word3 = c.word-3 in
+    let the-word2 = c.word-2 in
+    let the_word = c.word in
+    let the-if1 = c.if-file-lt32 in
+    rw (c.first_fine.ensures, the_word.ensures, the-word2.ensures, the-word3.ensures, c.word-4.ensures)
+    (sym (there _ 0 the-if1.false ∙ first-is _))

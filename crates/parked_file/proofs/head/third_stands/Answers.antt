@@ -1,0 +1,43 @@
+-- `parked_file::head::third_stands` meets its contract: by `above-zero`, `first-told`, `second-told`, `third-is`, `stands-first`, `stands-second`.
+use Rattle.run_record.proofs.Laws.{above-zero}
+use Rattle.parked_file.proofs.Heads.{first-told, second-told}
+use Rattle.parked_file.proofs.Stands.{missing, there, third-is, stands-first, stands-second}
+use mathlib.Core.Path.{sym, ◌∙◌}
+use Rattle.parked_file.proofs.head.third_stands.Goals as goal
+
+pub returns-then-file-lt96 : goal.returns-then-file-lt96
+returns-then-file-lt96 c =
+    sym (missing _ 2 c.if-file-lt96.true)
+
+pub third_fine-requires : goal.third_fine-requires
+third_fine-requires c =
+    let the-word3 = c.word-3 in
+    let the-word2 = c.word-2 in
+    rw (the-word2.ensures, the-word3.ensures) (
+      (first-told _ _ _ _ (stands-first _ c.requires.0)).n-most,
+      above-zero _
+          (second-told _ _ _ _ _ _ (stands-second _ c.requires.1)).perplexity-positive,
+      (second-told _ _ _ _ _ _ (stands-second _ c.requires.1)).perplexity-below,
+    )
+
+pub returns : goal.returns
+returns c =
+    let the-word7 = c.word-7 in
+    let the-word6 = c.word-6 in
+    let the-word5 = c.word-5 in
+    let the-word4 = c.word-4 in
+    let the-word3 = c.word-3 in
+    let the-word2 = c.word-2 in
+    let the_word = c.word in
+    let the-if1 = c.if-file-lt96 in
+    rw (
+      c.third_fine.ensures,
+      the_word.ensures,
+      the-word2.ensures,
+      the-word3.ensures,
+      the-word4.ensures,
+      the-word5.ensures,
+      the-word6.ensures,
+      the-word7.ensures,
+      c.word-8.ensures,
+    ) (sym (there _ 2 the-if1.false ∙ third-is _))

@@ -1,0 +1,44 @@
+use Rattle.parked_file.proofs.Stands.{missing, words-stand, due-is, seeks-three}
+use Rattle.parked_file.specs.File.{first_bad}
+use Rattle.laws.proofs.First.{seek-next, seek_stop, seek-done}
+use Prim.Native.Nat.{◌-◌}
+use mathlib.Core.Bool.{not}
+use borrow.Author.Tests.{not-true, not-false}
+use mathlib.Core.Path.{ap, ◌∙◌}
+use native.Mathlib.Omega.{arith}
+use Rattle.parked_file.proofs.records.first_bad.Goals as goal
+
+pub loop-q-init : goal.loop-q-init
+loop-q-init c =
+    (omega arith, seeks-three _ c.requires.0)
+
+pub returns-then-whole-q : goal.returns-then-whole-q
+unfolding first_bad
+returns-then-whole-q c =
+    let the-loop = c.loop-q in
+    seek_stop the-loop.invariant.1 (omega (arith, (due-is _ _ c.requires.1))) (ap not (missing _ _ (omega arith)))
+
+pub returns-then-not-words_fine : goal.returns-then-not-words_fine
+unfolding first_bad
+returns-then-not-words_fine c =
+    let the-loop = c.loop-q in
+    seek_stop the-loop.invariant.1 (omega (arith, (due-is _ _ c.requires.1)))
+    (ap not ((words-stand _ _ _ _ c.requires.1 the-loop.invariant.0 (omega arith) c.words_fine.ensures) ∙ not-true _ c.if-not-words_fine.true))
+
+pub loop-q-smaller : goal.loop-q-smaller
+loop-q-smaller c =
+    omega (arith, (due-is _ _ c.requires.1))
+
+pub loop-q-preserved : goal.loop-q-preserved
+loop-q-preserved c =
+    let the-loop = c.loop-q in
+    (
+      omega arith,
+      seek-next the-loop.invariant.1 (omega (arith, (due-is _ _ c.requires.1)))
+          (ap not ((words-stand _ _ _ _ c.requires.1 the-loop.invariant.0 (omega arith) c.words_fine.ensures) ∙ not-false _ c.if-not-words_fine.false)),
+    )
+
+pub returns : goal.returns
+unfolding first_bad
+returns c =
+    seek-done c.loop-q.invariant.1 (omega (arith, (due-is _ _ c.requires.1)))

@@ -1,0 +1,16 @@
+-- `parked_fine::value_fits` meets its contract: from what its calls promise.
+use Rattle.parked.specs.Fine.{value_fits}
+use borrow.Author.Tests.{lt-ltb, le-ltb}
+use Rattle.parked_fine.proofs.value_fits.Goals as goal
+
+pub returns-then-w-b : goal.returns-then-w-b
+unfolding value_fits
+returns-then-w-b c =
+    let the_word = c.word in
+    let the-if1 = c.if-w-b in
+    rw (c.is_calm.ensures, c.value_of_lem.ensures, the_word.ensures, lt-ltb _ _ the-if1.true)
+
+pub returns : goal.returns
+unfolding value_fits
+returns c =
+    rw (c.is_filling.ensures, le-ltb _ _ c.if-w-b.false)

@@ -1,0 +1,26 @@
+use Rattle.parked.specs.Fine.{word_fine}
+use Rattle.laws.proofs.Every.{every-none, every-next, every-no, every-done}
+use borrow.Author.Tests.{not-true, not-false}
+use mathlib.Core.Path.{sym, ◌∙◌}
+use mathlib.Core.Bool.{true}
+use Prim.Native.Nat.{◌-◌}
+use native.Mathlib.Omega.{arith}
+use Rattle.parked_fine.proofs.words_fine.Goals as goal
+
+pub loop-k-init : goal.loop-k-init
+loop-k-init c =
+    (omega arith, every-none _)
+
+pub returns-then-not-word_fine : goal.returns-then-not-word_fine
+returns-then-not-word_fine c =
+    let the-loop-test = c.loop-k-test in
+    sym (every-no _ 4 _ the-loop-test.true (sym c.word_fine.ensures ∙ not-true _ c.if-not-word_fine.true))
+
+pub loop-k-preserved : goal.loop-k-preserved
+loop-k-preserved c =
+    let the-loop = c.loop-k in
+    (omega arith, every-next _ _ the-loop.invariant.1 (sym c.word_fine.ensures ∙ not-false _ c.if-not-word_fine.false))
+
+pub returns : goal.returns
+returns c =
+    every-done _ 4 _ c.loop-k.invariant.1 c.loop-k.invariant.0 c.loop-k-test.false

@@ -1,0 +1,12 @@
+-- `partner::first_lonely` meets its contract: the loop keeps `Seeks`; by `seek-start`, `seek-next`, `seek_stop`, `seek-done`.
+use mathlib.Core.Bool.{not}
+use Prim.Native.Nat.{◌-◌}
+use Rattle.laws.proofs.First.{Seeks}
+use Rattle.partner.specs.Partner.{mirrored}
+use Rattle.partner.proofs.first_lonely.Given as goal
+
+abbrev pub invariant-loop-i : goal.invariant-loop-i
+invariant-loop-i l = Seeks (λ l.i. not (mirrored l.file l.i)) l.d l.i
+
+abbrev pub decreases-loop-i : goal.decreases-loop-i
+decreases-loop-i l = l.d - l.i

@@ -1,0 +1,27 @@
+use borrow.Author.Tests.{not-true, not-false}
+use mathlib.Core.Path.{sym, ap, ◌∙◌}
+use mathlib.Core.Bool.{not}
+use Prim.Native.Nat.{◌-◌}
+use Rattle.laws.proofs.First.{seek-start, seek-next, seek_stop, seek-done}
+use Rattle.partner.specs.Partner.{link_fine}
+use Rattle.partner.proofs.first_unfit.Goals as goal
+
+pub loop-i-init : goal.loop-i-init
+loop-i-init c =
+    seek-start _ _
+
+pub returns-then-not-link_fine : goal.returns-then-not-link_fine
+returns-then-not-link_fine c =
+    let the-loop-test = c.loop-i-test in
+    let the-loop = c.loop-i in
+    seek_stop the-loop.invariant the-loop-test.true (ap not (sym c.link_fine.ensures ∙ not-true _ c.if-not-link_fine.true))
+
+pub loop-i-preserved : goal.loop-i-preserved
+loop-i-preserved c =
+    let the-loop-test = c.loop-i-test in
+    let the-loop = c.loop-i in
+    seek-next the-loop.invariant the-loop-test.true (ap not (sym c.link_fine.ensures ∙ not-false _ c.if-not-link_fine.false))
+
+pub returns : goal.returns
+returns c =
+    seek-done c.loop-i.invariant c.loop-i-test.false

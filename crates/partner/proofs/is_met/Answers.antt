@@ -1,0 +1,32 @@
+use mathlib.Core.Path.{sym, ◌∙◌}
+use Rattle.partner.proofs.Mirrors.{met-empty, met-done}
+use Rattle.laws.proofs.Bisects.{bisects-start, bisects-within, bisects-next}
+use native.Mathlib.Omega.{arith}
+use Rattle.partner.proofs.is_met.Goals as goal
+
+pub returns-then-k-eq0 : goal.returns-then-k-eq0
+returns-then-k-eq0 c =
+    rw c.if-k-eq0.true (sym (met-empty _ _ _))
+
+pub loop-left-init : goal.loop-left-init
+loop-left-init c =
+    bisects-start c.if-k-eq0.false
+
+pub raised_pair-low-requires : goal.raised_pair-low-requires
+raised_pair-low-requires c =
+    omega (arith, bisects-within c.requires.2.rises c.loop-left.invariant c.loop-left-test.true, c.requires.1)
+
+pub loop-left-preserved : goal.loop-left-preserved
+loop-left-preserved c =
+    let the-loop = c.loop-left in
+    let the-turned-pair = c.Turned_pair in
+    bisects-next c.requires.2.rises the-loop.invariant _ c.loop-left-test.true (rw the-turned-pair.ensures at c.raised_pair-low.ensures)
+
+pub is_mirror-requires : goal.is_mirror-requires
+is_mirror-requires c =
+    (c.requires.0, omega (arith, c.loop-left.invariant.inside, c.loop-left.invariant.some, c.requires.1))
+
+pub returns : goal.returns
+returns c =
+    let the-loop = c.loop-left in
+    c.is_mirror.ensures ∙ met-done _ _ _ _ c.requires.2 the-loop.invariant (omega (arith, c.loop-left-test.false))

@@ -1,0 +1,12 @@
+-- `partner::is_raised` meets its contract: from what its calls promise.
+use borrow.Author.Tests.{eq-eqb, ne_eqb}
+use mathlib.Core.Bool.{true}
+use Rattle.partner.proofs.is_raised.Goals as goal
+
+pub returns-then-i-eq0 : goal.returns-then-i-eq0
+returns-then-i-eq0 c =
+    rw (eq-eqb _ _ c.if-i-eq0.true)
+
+pub returns : goal.returns
+returns c =
+    rw (ne_eqb _ _ c.if-i-eq0.false, c.link_pair.ensures, c.link_pair-2.ensures)

@@ -1,0 +1,37 @@
+use borrow.Author.Tests.{not-false}
+use Prim.Native.Nat.{◌-◌}
+use mathlib.Core.Path.{sym, ◌∙◌}
+use Rattle.partner.proofs.Judged.{rise-none, rise_one, rise-next}
+use native.Mathlib.Omega.{arith}
+use Rattle.partner.proofs.rising_from.Goals as goal
+
+pub returns-then-rest-eq0 : goal.returns-then-rest-eq0
+returns-then-rest-eq0 c =
+    (omega (arith, c.requires), rise-none _ _)
+
+pub loop-k-init : goal.loop-k-init
+loop-k-init c =
+    (omega arith, omega (arith, c.requires, c.if-rest-eq0.false), rise_one _ _)
+
+pub is_raised-requires : goal.is_raised-requires
+is_raised-requires c =
+    omega (arith, c.loop-k-test.true, c.requires)
+
+pub returns-then-not-is_raised : goal.returns-then-not-is_raised
+returns-then-not-is_raised c =
+    (c.loop-k.invariant.1, c.loop-k.invariant.2)
+
+pub loop-k-preserved : goal.loop-k-preserved
+loop-k-preserved c =
+    let the-loop-test = c.loop-k-test in
+    let the-loop = c.loop-k in
+    (
+      omega arith,
+      omega (arith, the-loop-test.true, c.requires),
+      rise-next the-loop.invariant.0 the-loop.invariant.2
+          (sym c.is_raised.ensures ∙ not-false _ c.if-not-is_raised.false),
+    )
+
+pub returns : goal.returns
+returns c =
+    (c.loop-k.invariant.1, c.loop-k.invariant.2)

@@ -1,0 +1,32 @@
+use Prim.Native.Nat.{◌-◌}
+use mathlib.Core.Path.{sym, ◌∙◌}
+use mathlib.Core.Bool.{true}
+use borrow.Author.Tests.{not-true, not-false}
+use Rattle.laws.proofs.Every.{every-none, every-next, every-no, every-done}
+use native.Mathlib.Omega.{arith}
+use Rattle.partner_import.proofs.start_fine.Goals as goal
+
+pub loop-i-init : goal.loop-i-init
+loop-i-init c =
+    (every-none _, omega arith)
+
+pub returns-then-not-in_domain : goal.returns-then-not-in_domain
+returns-then-not-in_domain c =
+    let the-value-of = c.value_of_lem in
+    let the-loop-test = c.loop-i-test in
+    let the-loop = c.loop-i in
+    sym (every-no _ _ the-loop.i the-loop-test.true (sym (rw the-value-of.ensures at c.in_domain.ensures) ∙ not-true _ c.if-not-in_domain.true))
+
+pub loop-i-preserved : goal.loop-i-preserved
+loop-i-preserved c =
+    let the-value-of = c.value_of_lem in
+    let the-loop-test = c.loop-i-test in
+    let the-loop = c.loop-i in (
+      every-next _ _ the-loop.invariant.0 (sym (rw the-value-of.ensures at c.in_domain.ensures) ∙ not-false _ c.if-not-in_domain.false),
+      omega
+          (arith, the-loop-test.true),
+    )
+
+pub returns : goal.returns
+returns c =
+    every-done _ _ _ c.loop-i.invariant.0 c.loop-i.invariant.1 c.loop-i-test.false

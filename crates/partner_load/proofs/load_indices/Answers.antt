@@ -1,0 +1,24 @@
+use Prim.Native.Nat.{◌-◌}
+use Rattle.partner_load.specs.Loaded.{indices_loaded}
+use Rattle.partner.specs.Partner.{link_to}
+use Rattle.areas.proofs.Fetched.{fetches-start, fetches-next, fetches-done}
+use native.Mathlib.Omega.{arith}
+use Rattle.partner_load.proofs.load_indices.Goals as goal
+
+pub loop-p-init : goal.loop-p-init
+loop-p-init c =
+    fetches-start
+
+pub overflow_cast-indices : goal.overflow_cast-indices
+overflow_cast-indices c =
+    omega (arith, c.link_to.ensures.1)
+
+pub loop-p-preserved : goal.loop-p-preserved
+loop-p-preserved c =
+    let the-loop = c.loop-p in
+    rw c.link_to.ensures.0 (fetches-next c.requires c.loop-p-test.true the-loop.invariant)
+
+pub returns : goal.returns
+unfolding indices_loaded
+returns c =
+    fetches-done c.loop-p-test.false c.loop-p.invariant

@@ -1,0 +1,19 @@
+use Prim.Native.Nat.{◌-◌}
+use Rattle.partner_load.specs.Loaded.{weights_loaded}
+use Rattle.partner.specs.Partner.{link_weight}
+use Rattle.areas.proofs.Fetched.{fetches-start, fetches-next, fetches-done}
+use Rattle.partner_load.proofs.load_weights.Goals as goal
+
+pub loop-p-init : goal.loop-p-init
+loop-p-init c =
+    fetches-start
+
+pub loop-p-preserved : goal.loop-p-preserved
+loop-p-preserved c =
+    let the-loop = c.loop-p in
+    rw c.link_weight.ensures (fetches-next c.requires c.loop-p-test.true the-loop.invariant)
+
+pub returns : goal.returns
+unfolding weights_loaded
+returns c =
+    fetches-done c.loop-p-test.false c.loop-p.invariant

@@ -1,0 +1,21 @@
+-- `prepare_strip::strip_bars` meets its contract: by `bars-no-strip`, `bars-passed`, `bars-twelve`.
+use Rattle.prepare_strip.proofs.Laws.{bars-no-strip, bars-passed, bars-twelve}
+use mathlib.Core.Path.{sym, ◌∙◌}
+use Rattle.prepare_strip.proofs.strip_bars.Goals as goal
+
+pub returns-then-in_profile : goal.returns-then-in_profile
+returns-then-in_profile c =
+    sym (bars-no-strip _ _ (sym c.in_profile.ensures ∙ c.if-in_profile.true))
+
+pub returns-then-k-eq0 : goal.returns-then-k-eq0
+returns-then-k-eq0 c =
+    let the-if1 = c.if-in_profile in
+    let the-in-profile = c.in_profile in
+    sym (bars-passed _ _ (sym the-in-profile.ensures ∙ the-if1.false) (sym c.prepare_fault-k.ensures ∙ c.if-k-eq0.true))
+
+pub returns : goal.returns
+returns c =
+    let the-if1 = c.if-in_profile in
+    let the-in-profile = c.in_profile in
+    rw c.prepare_fault-k.ensures
+    (sym (bars-twelve _ _ (sym the-in-profile.ensures ∙ the-if1.false) (rw c.prepare_fault-k.ensures at c.if-k-eq0.false)))

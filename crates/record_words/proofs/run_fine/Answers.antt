@@ -1,0 +1,23 @@
+-- `record_words::run_fine` meets its contract: from what its calls promise.
+use mathlib.Core.Path.{sym, ◌∙◌}
+use borrow.Author.Tests.{le-leb, lt-leb, not-true, not-false}
+use Rattle.record_words.specs.RecordWords.{run_fine}
+use Rattle.record_words.proofs.run_fine.Goals as goal
+
+pub returns-then-words-lt14 : goal.returns-then-words-lt14
+unfolding run_fine
+returns-then-words-lt14 c =
+    rw (lt-leb _ _ c.if-words-lt14.true)
+
+pub returns-then-not-settings_fine : goal.returns-then-not-settings_fine
+unfolding run_fine
+returns-then-not-settings_fine c =
+    let the-if1 = c.if-words-lt14 in
+    rw (le-leb _ _ the-if1.false, sym c.settings_fine.ensures ∙ not-true _ c.if-not-settings_fine.true)
+
+pub returns : goal.returns
+unfolding run_fine
+returns c =
+    let the-settings-fine = c.settings_fine in
+    let the-if1 = c.if-words-lt14 in
+    rw (le-leb _ _ the-if1.false, sym the-settings-fine.ensures ∙ not-false _ c.if-not-settings_fine.false)

@@ -1,0 +1,24 @@
+use Rattle.laws.proofs.First.{seek-start, seek-next, seek_stop, seek-done}
+use Rattle.run_entry.specs.Entry.{index_fine}
+use Prim.Native.Nat.{◌-◌}
+use Rattle.run_entry.proofs.first_index.Goals as goal
+
+pub loop-i-init : goal.loop-i-init
+loop-i-init c =
+    seek-start _ _
+
+pub returns-then-not-index_fine : goal.returns-then-not-index_fine
+returns-then-not-index_fine c =
+    let the-loop-test = c.loop-i-test in
+    let the-loop = c.loop-i in
+    seek_stop the-loop.invariant the-loop-test.true (rw c.index_fine.ensures at c.if-not-index_fine.true)
+
+pub loop-i-preserved : goal.loop-i-preserved
+loop-i-preserved c =
+    let the-loop-test = c.loop-i-test in
+    let the-loop = c.loop-i in
+    seek-next the-loop.invariant the-loop-test.true (rw c.index_fine.ensures at c.if-not-index_fine.false)
+
+pub returns : goal.returns
+returns c =
+    seek-done c.loop-i.invariant c.loop-i-test.false

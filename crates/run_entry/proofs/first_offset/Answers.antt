@@ -1,0 +1,24 @@
+use Rattle.laws.proofs.First.{seek-start, seek-next, seek_stop, seek-done}
+use Rattle.run_entry.specs.Entry.{offset_fine}
+use Prim.Native.Nat.{◌-◌}
+use Rattle.run_entry.proofs.first_offset.Goals as goal
+
+pub loop-i-init : goal.loop-i-init
+loop-i-init c =
+    seek-start _ _
+
+pub returns-then-not-offset_fine : goal.returns-then-not-offset_fine
+returns-then-not-offset_fine c =
+    let the-loop-test = c.loop-i-test in
+    let the-loop = c.loop-i in
+    seek_stop the-loop.invariant the-loop-test.true (rw c.offset_fine.ensures at c.if-not-offset_fine.true)
+
+pub loop-i-preserved : goal.loop-i-preserved
+loop-i-preserved c =
+    let the-loop-test = c.loop-i-test in
+    let the-loop = c.loop-i in
+    seek-next the-loop.invariant the-loop-test.true (rw c.offset_fine.ensures at c.if-not-offset_fine.false)
+
+pub returns : goal.returns
+returns c =
+    seek-done c.loop-i.invariant c.loop-i-test.false

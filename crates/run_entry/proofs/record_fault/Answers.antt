@@ -1,0 +1,29 @@
+-- `run_entry::record_fault` meets its contract: by `settings-fine`.
+use Rattle.run_record.proofs.Laws.{settings-fine}
+use mathlib.Core.Path.{sym, ◌∙◌}
+use borrow.Author.Tests.{eq-eqb, ne_eqb, not-true, not-false}
+use Rattle.run_entry.specs.Entry.{record_fault}
+use Rattle.run_entry.proofs.record_fault.Goals as goal
+
+pub returns-then-k-ne0 : goal.returns-then-k-ne0
+unfolding record_fault
+returns-then-k-ne0 c =
+    rw (ne_eqb _ _ (rw c.settings_fault-k.ensures at c.if-k-ne0.true), c.settings_fault-k.ensures)
+
+pub counters_ok-requires : goal.counters_ok-requires
+counters_ok-requires c =
+    settings-fine _ (sym c.settings_fault-k.ensures ∙ c.if-k-ne0.false)
+
+pub returns-then-not-counters_ok : goal.returns-then-not-counters_ok
+unfolding record_fault
+returns-then-not-counters_ok c =
+    let the-if1 = c.if-k-ne0 in
+    let the-settings-fault = c.settings_fault-k in
+    rw (eq-eqb _ _ (sym the-settings-fault.ensures ∙ the-if1.false), sym c.counters_ok.ensures ∙ not-true _ c.if-not-counters_ok.true)
+
+pub returns : goal.returns
+unfolding record_fault
+returns c =
+    let the-if1 = c.if-k-ne0 in
+    let the-settings-fault = c.settings_fault-k in
+    rw (eq-eqb _ _ (sym the-settings-fault.ensures ∙ the-if1.false), sym c.counters_ok.ensures ∙ not-false _ c.if-not-counters_ok.false)

@@ -1,0 +1,50 @@
+-- `run_finish::finish_unit` meets its contract: by `finish-moved`, `finish-wild`.
+use native.Mathlib.Nat.{le_refl}
+use Rattle.run_finish.specs.Finish.{pace_of, finish_unit}
+use Rattle.run_finish.proofs.Finished.{finish-moved, finish-wild}
+use native.Mathlib.Omega.{arith}
+use Rattle.run_finish.proofs.finish_unit.Goals as goal
+
+pub pace-p-requires : goal.pace-p-requires
+pace-p-requires c =
+    (c.requires.c-most, c.requires.forces-in)
+
+pub finish-a-requires : goal.finish-a-requires
+finish-a-requires c =
+    (
+      c.requires.c-some,
+      c.requires.c-most,
+      c.requires.numbers.n-most,
+      c.requires.forces-in,
+      c.requires.positions-in,
+      c.requires.increments-in,
+      c.requires.gains-in,
+    )
+
+pub returns-in_default : goal.returns-in_default
+unfolding finish_unit pace_of
+returns-in_default c =
+    let the-finish = c.finish-a in
+    let the-pace = c.pace-p in
+    finish-wild _ _ _ _ _ _ _ _ (rw the-pace.ensures at the-finish.ensures) _ _ c.enum_told-in_default-1.given.1
+
+pub overflow_mul-s : goal.overflow_mul-s
+overflow_mul-s c =
+    omega (arith, c.requires.positions-in)
+
+pub norm-norm-requires : goal.norm-norm-requires
+norm-norm-requires c =
+    (c.requires.c-some, c.requires.c-most, le_refl _, c.requires.forces-in)
+
+pub closed-next-requires : goal.closed-next-requires
+closed-next-requires c =
+    (c.requires.done-small, c.requires.numbers.units_small)
+
+pub returns : goal.returns
+unfolding finish_unit pace_of
+returns c =
+    let the-enum-told = c.enum_told-1 in
+    let the-finish = c.finish-a in
+    let the-pace = c.pace-p in
+    finish-moved _ _ _ _ _ _ _ _ (rw the-pace.ensures at the-finish.ensures) the-enum-told.given.1
+    (rw the-pace.ensures at c.norm-norm.ensures) c.closed-next.ensures

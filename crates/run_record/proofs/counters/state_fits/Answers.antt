@@ -1,0 +1,19 @@
+-- `run_record::counters::state_fits` meets its contract: from what its calls promise.
+use Rattle.run_record.specs.Record.{state_fits}
+use mathlib.Core.Path.{refl}
+use Rattle.run_record.proofs.counters.state_fits.Goals as goal
+
+pub returns-in-Running : goal.returns-in-Running
+unfolding state_fits
+returns-in-Running c =
+    rw c.enum_told-1.given.1 refl
+
+pub returns-in-Stopped : goal.returns-in-Stopped
+unfolding state_fits
+returns-in-Stopped c =
+    rw (c.stopped_fits.ensures, c.enum_told-in-Stopped-1.given.1) refl
+
+pub returns-in-Finished : goal.returns-in-Finished
+unfolding state_fits
+returns-in-Finished c =
+    rw (c.finished_fits.ensures, c.enum_told-in-Finished-1.given.1) refl

@@ -1,0 +1,13 @@
+-- `run_record::faults::is_inside` meets its contract: each need follows from its own premises.
+use Rattle.run_record.specs.Record.{angle_fine}
+use Rattle.run_record.proofs.faults.is_inside.Goals as goal
+
+pub returns-then-a : goal.returns-then-a
+unfolding angle_fine
+returns-then-a c =
+    simp c.if-a.true
+
+pub returns : goal.returns
+unfolding angle_fine
+returns c =
+    simp c.if-a.false

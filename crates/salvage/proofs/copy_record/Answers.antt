@@ -1,0 +1,17 @@
+use Rattle.salvage.proofs.Foremost.{record-next, record-done}
+use Prim.Native.Nat.{◌-◌}
+use Rattle.laws.proofs.Parts.{spells-start}
+use Rattle.salvage.proofs.copy_record.Goals as goal
+
+pub loop-t-init : goal.loop-t-init
+loop-t-init c =
+    spells-start
+
+pub loop-t-preserved : goal.loop-t-preserved
+loop-t-preserved c =
+    let the-loop = c.loop-t in
+    record-next _ _ c.requires.1 the-loop.invariant c.requires.0 c.loop-t-test.true
+
+pub returns : goal.returns
+returns c =
+    record-done _ _ c.requires.1 c.loop-t.invariant c.loop-t-test.false

@@ -1,0 +1,18 @@
+use Rattle.std.proofs.Common.{◌-◌, ap, arith, rules}
+use Rattle.laws.proofs.Loops.{loop-start, loop-next, loop-done}
+use Rattle.scatter.specs.Scatter.{Spread}
+use Rattle.scatter.proofs.random_init.Goals as goal
+
+pub loop-k-init : goal.loop-k-init
+loop-k-init c =
+    (search rules, loop-start _ _ _)
+
+pub loop-k-preserved : goal.loop-k-preserved
+loop-k-preserved c =
+    let the-wrapping-add-u64 = c.wrapping_add_u64-state in
+    let the-loop = c.loop-k in
+    (search rules, rw (c.coordinate.ensures, c.mix.ensures, the-wrapping-add-u64.ensures) (loop-next the-loop.invariant.1 (omega arith)))
+
+pub returns : goal.returns
+returns c =
+    ap (λ (x : Spread). x.positions) (loop-done c.loop-k.invariant.1 (omega arith))

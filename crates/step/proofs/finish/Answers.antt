@@ -1,0 +1,37 @@
+-- `step::finish` meets its contract: by `finish-no-moves`, `finish-no-centred`, `finish-done`.
+use Prim.Native.Nat.{◌^◌}
+use lib.Dec.{le→leb}
+use lib.Ieee.{in_float}
+use borrow.Author.Tests.{not-true, not-false}
+use mathlib.Core.Path.{sym, ◌∙◌}
+use Rattle.step.proofs.Laws.{finish-no-moves, finish-no-centred, finish-done}
+use native.Mathlib.Omega.{arith}
+use Rattle.step.proofs.finish.Goals as goal
+
+pub returns-then-not-sum_moves : goal.returns-then-not-sum_moves
+returns-then-not-sum_moves c =
+    finish-no-moves _ _ _ (sym c.sum_moves.ensures.0 ∙ not-true _ c.if-not-sum_moves.true)
+
+pub int_to_float-n : goal.int_to_float-n
+unfolding in_float
+int_to_float-n c =
+    le→leb c.args.n (2 ^ 53) (omega arith)
+
+pub returns-then-not-calm_centred : goal.returns-then-not-calm_centred
+returns-then-not-calm_centred c =
+    let the-take-means = c.take_means in
+    let the-if1 = c.if-not-sum_moves in
+    let the-sum-moves = c.sum_moves in
+    finish-no-centred _ _ _ (rw the-sum-moves.ensures.1 at the-take-means.ensures) (sym the-sum-moves.ensures.0 ∙ (not-false _ the-if1.false))
+    (sym c.calm_centred.ensures ∙ not-true _ c.if-not-calm_centred.true)
+
+pub returns : goal.returns
+returns c =
+    let the-write-moves = c.write_moves in
+    let the-if2 = c.if-not-calm_centred in
+    let the-calm-centred = c.calm_centred in
+    let the-take-means = c.take_means in
+    let the-if1 = c.if-not-sum_moves in
+    let the-sum-moves = c.sum_moves in
+    finish-done _ _ _ (rw the-sum-moves.ensures.1 at the-take-means.ensures) (sym the-sum-moves.ensures.0 ∙ (not-false _ the-if1.false))
+    (sym the-calm-centred.ensures ∙ not-false _ the-if2.false) the-write-moves.ensures

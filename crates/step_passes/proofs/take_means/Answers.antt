@@ -1,0 +1,16 @@
+use Rattle.laws.proofs.Loops.{loop-start, loop-next, loop-done}
+use Prim.Native.Nat.{◌-◌}
+use native.Mathlib.Omega.{arith}
+use Rattle.step_passes.proofs.take_means.Goals as goal
+
+pub loop-d-init : goal.loop-d-init
+loop-d-init c =
+    loop-start _ _ _
+
+pub loop-d-preserved : goal.loop-d-preserved
+loop-d-preserved c =
+    loop-next c.loop-d.invariant (omega arith)
+
+pub returns : goal.returns
+returns c =
+    loop-done c.loop-d.invariant (omega arith)

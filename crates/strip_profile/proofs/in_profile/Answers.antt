@@ -1,0 +1,33 @@
+-- `strip_profile::in_profile` meets its contract: from what its calls promise.
+use Rattle.strip_profile.specs.Profile.{in_profile}
+use mathlib.Core.Path.{sym, ◌∙◌}
+use borrow.Author.Tests.{eq-eqb, ne_eqb, not-true, not-false}
+use Rattle.strip_profile.proofs.in_profile.Goals as goal
+
+pub returns-then-s-ne1 : goal.returns-then-s-ne1
+unfolding in_profile
+returns-then-s-ne1 c =
+    simp (ne_eqb _ _ c.if-s-ne1.true)
+
+pub returns-then-not-is_tree : goal.returns-then-not-is_tree
+unfolding in_profile
+returns-then-not-is_tree c =
+    let the-if1 = c.if-s-ne1 in
+    simp (eq-eqb _ _ the-if1.false, sym c.is_tree.ensures ∙ not-true _ c.if-not-is_tree.true)
+
+pub returns-then-not-is_half : goal.returns-then-not-is_half
+unfolding in_profile
+returns-then-not-is_half c =
+    let the-if2 = c.if-not-is_tree in
+    let the-is-tree = c.is_tree in
+    let the-if1 = c.if-s-ne1 in
+    simp (eq-eqb _ _ the-if1.false, sym the-is-tree.ensures ∙ not-false _ the-if2.false, sym c.is_half.ensures ∙ not-true _ c.if-not-is_half.true)
+
+pub returns : goal.returns
+unfolding in_profile
+returns c =
+    let the-is-half = c.is_half in
+    let the-if2 = c.if-not-is_tree in
+    let the-is-tree = c.is_tree in
+    let the-if1 = c.if-s-ne1 in
+    simp (eq-eqb _ _ the-if1.false, sym the-is-tree.ensures ∙ not-false _ the-if2.false, sym the-is-half.ensures ∙ not-false _ c.if-not-is_half.false)

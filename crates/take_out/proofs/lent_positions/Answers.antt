@@ -1,0 +1,43 @@
+-- `take_out::lent_positions` meets its contract: by `lent-no-table`, `lent-no-old`, `lent-all`, `settings-fine`.
+use Rattle.take_out.proofs.Rooms.{lent-no-table, lent-no-old, lent-all}
+use Rattle.take_out.specs.TakeOut.{lent_positions}
+use Rattle.run_record.proofs.Laws.{settings-fine}
+use borrow.Author.Tests.{ne_eqb}
+use mathlib.Core.Path.{sym, ◌∙◌}
+use native.Mathlib.Omega.{arith}
+use Rattle.take_out.proofs.lent_positions.Goals as goal
+
+pub returns-then-settings_fault-ne0 : goal.returns-then-settings_fault-ne0
+unfolding lent_positions
+returns-then-settings_fault-ne0 c =
+    rw (ne_eqb _ 0 (λ e. c.if-settings_fault-ne0.true (c.settings_fault.ensures ∙ e)))
+
+pub times-requires : goal.times-requires
+times-requires c =
+    let g = settings-fine c.args.s (sym c.settings_fault.ensures ∙ c.if-settings_fault-ne0.false) in
+    (omega (arith, g.n-most), omega (arith, g.f-most))
+
+pub returns-then-t-times : goal.returns-then-t-times
+returns-then-t-times c =
+    let the-if1 = c.if-settings_fault-ne0 in
+    let the-settings-fault = c.settings_fault in
+    lent-no-table c.args.s c.args.p c.args.t c.args.q (sym the-settings-fault.ensures ∙ the-if1.false)
+    (omega (arith, c.times.ensures, c.if-t-times.true))
+
+pub returns-then-q-s : goal.returns-then-q-s
+returns-then-q-s c =
+    let the-if2 = c.if-t-times in
+    let the-times = c.times in
+    let the-if1 = c.if-settings_fault-ne0 in
+    let the-settings-fault = c.settings_fault in
+    lent-no-old c.args.s c.args.p c.args.t c.args.q (sym the-settings-fault.ensures ∙ the-if1.false)
+    (omega (arith, the-times.ensures, the-if2.false)) c.if-q-s.true
+
+pub returns : goal.returns
+returns c =
+    let the-if2 = c.if-t-times in
+    let the-times = c.times in
+    let the-if1 = c.if-settings_fault-ne0 in
+    let the-settings-fault = c.settings_fault in
+    lent-all c.args.s c.args.p c.args.t c.args.q (sym the-settings-fault.ensures ∙ the-if1.false)
+    (omega (arith, the-times.ensures, the-if2.false)) c.if-q-s.false

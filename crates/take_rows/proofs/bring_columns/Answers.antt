@@ -1,0 +1,95 @@
+use Prim.Native.Nat.{ℕ}
+use Rattle.take_rows.proofs.Packing.{brings-start, brings-next, brings-at, brings-done}
+use Rattle.laws.specs.Area.{num}
+use mathlib.Core.Path.{ap, ◌∙◌}
+use Prim.Native.Nat.{◌+◌, ◌-◌}
+use native.Mathlib.Omega.{arith}
+use Rattle.take_rows.proofs.bring_columns.Goals as goal
+
+pub loop-j-init : goal.loop-j-init
+loop-j-init c =
+    brings-start (omega (arith, c.requires))
+
+pub overflow_add-area : goal.overflow_add-area
+overflow_add-area c =
+    let the-loop-test = c.loop-j-test in
+    let the-loop = c.loop-j in
+    omega (
+      arith,
+      c.requires,
+      c.requires.2.few,
+      c.requires.2.below the-loop.j the-loop-test.true,
+      the-loop-test.true,
+      the-loop.invariant.front.size,
+      c.wide.ensures,
+    )
+
+pub offset_bounds-area-from : goal.offset_bounds-area-from
+offset_bounds-area-from c =
+    let the-loop-test = c.loop-j-test in
+    let the-loop = c.loop-j in
+    omega (
+      arith,
+      c.requires,
+      c.requires.2.few,
+      c.requires.2.below the-loop.j the-loop-test.true,
+      the-loop-test.true,
+      the-loop.invariant.front.size,
+      c.wide.ensures,
+    )
+
+pub bounds-area-from : goal.bounds-area-from
+bounds-area-from c =
+    let the-loop-test = c.loop-j-test in
+    let the-loop = c.loop-j in
+    omega (
+      arith,
+      c.requires,
+      c.requires.2.few,
+      c.requires.2.below the-loop.j the-loop-test.true,
+      the-loop-test.true,
+      the-loop.invariant.front.size,
+      c.wide.ensures,
+    )
+
+pub overflow_add-area-in-loop-j : goal.overflow_add-area-in-loop-j
+overflow_add-area-in-loop-j c =
+    let the-loop-test = c.loop-j-test in
+    let the-loop = c.loop-j in
+    omega (arith, c.requires, c.requires.2.few, the-loop-test.true, the-loop.invariant.front.size)
+
+pub offset_bounds-area-to : goal.offset_bounds-area-to
+offset_bounds-area-to c =
+    let the-loop-test = c.loop-j-test in
+    let the-loop = c.loop-j in
+    omega (arith, c.requires, c.requires.2.few, the-loop-test.true, the-loop.invariant.front.size)
+
+pub bounds-area-to : goal.bounds-area-to
+bounds-area-to c =
+    let the-loop-test = c.loop-j-test in
+    let the-loop = c.loop-j in
+    omega (arith, c.requires, c.requires.2.few, the-loop-test.true, the-loop.invariant.front.size)
+
+pub overflow_add-j : goal.overflow_add-j
+overflow_add-j c =
+    let the-loop-test = c.loop-j-test in
+    let the-loop = c.loop-j in
+    omega (arith, c.requires, c.requires.2.few, the-loop-test.true, the-loop.invariant.front.size)
+
+pub loop-j-preserved : goal.loop-j-preserved
+loop-j-preserved c =
+    let the-loop-test = c.loop-j-test in
+    let the-loop = c.loop-j in
+    brings-next the-loop.invariant _
+    (ap (λ (x : ℕ). num the-loop.area (c.args.from + x)) c.wide.ensures ∙ brings-at the-loop.invariant 0
+    (c.args.from + num c.args.keep.now the-loop.j)
+    (omega (arith, c.requires, c.requires.2.no_lower the-loop.j the-loop-test.true))) (omega (arith, c.requires, c.requires.2.few))
+    the-loop-test.true
+
+pub shape_of-area : goal.shape_of-area
+shape_of-area c =
+    c.loop-j.invariant.front.size
+
+pub returns : goal.returns
+returns c =
+    brings-done c.loop-j.invariant c.loop-j-test.false

@@ -1,0 +1,54 @@
+use Rattle.take_rows.proofs.Packing.{brings-start, brings-next, brings-at, brings-done}
+use Prim.Native.Nat.{◌-◌}
+use native.Mathlib.Omega.{arith}
+use Rattle.take_rows.proofs.bring_row.Goals as goal
+
+pub loop-d-init : goal.loop-d-init
+loop-d-init c =
+    brings-start (omega (arith, c.requires))
+
+pub overflow_add-area : goal.overflow_add-area
+overflow_add-area c =
+    omega (arith, c.requires, c.loop-d-test.true, c.loop-d.invariant.front.size)
+
+pub offset_bounds-area-from : goal.offset_bounds-area-from
+offset_bounds-area-from c =
+    omega (arith, c.requires, c.loop-d-test.true, c.loop-d.invariant.front.size)
+
+pub bounds-area-from : goal.bounds-area-from
+bounds-area-from c =
+    let the-loop = c.loop-d in
+    omega (arith, c.requires, c.loop-d-test.true, the-loop.invariant.front.size)
+
+pub overflow_add-area-in-loop-d : goal.overflow_add-area-in-loop-d
+overflow_add-area-in-loop-d c =
+    let the-loop = c.loop-d in
+    omega (arith, c.requires, c.loop-d-test.true, the-loop.invariant.front.size)
+
+pub offset_bounds-area-to : goal.offset_bounds-area-to
+offset_bounds-area-to c =
+    let the-loop = c.loop-d in
+    omega (arith, c.requires, c.loop-d-test.true, the-loop.invariant.front.size)
+
+pub bounds-area-to : goal.bounds-area-to
+bounds-area-to c =
+    let the-loop = c.loop-d in
+    omega (arith, c.requires, c.loop-d-test.true, the-loop.invariant.front.size)
+
+pub overflow_add-d : goal.overflow_add-d
+overflow_add-d c =
+    let the-loop = c.loop-d in
+    omega (arith, c.requires, c.loop-d-test.true, the-loop.invariant.front.size)
+
+pub loop-d-preserved : goal.loop-d-preserved
+loop-d-preserved c =
+    let the-loop = c.loop-d in
+    brings-next the-loop.invariant _ (brings-at the-loop.invariant 0 _ (omega (arith, c.requires))) (omega (arith, c.requires)) c.loop-d-test.true
+
+pub shape_of-area : goal.shape_of-area
+shape_of-area c =
+    c.loop-d.invariant.front.size
+
+pub returns : goal.returns
+returns c =
+    brings-done c.loop-d.invariant c.loop-d-test.false

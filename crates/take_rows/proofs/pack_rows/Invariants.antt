@@ -1,0 +1,13 @@
+-- `take_rows::pack_rows` meets its contract: the loop keeps `Packs`; by `row_room`, `row-brought`, `row-long`, `packs-start`, `packs-next`, `packs-done` and others.
+use Rattle.take_rows.proofs.Packing.{Packs}
+use Rattle.laws.specs.Joined.{each}
+use Rattle.laws.specs.Area.{num}
+use lib.ListN.{length}
+use Prim.Native.Nat.{◌+◌, ◌-◌, ◌*◌}
+use Rattle.take_rows.proofs.pack_rows.Given as goal
+
+abbrev pub invariant-loop-i : goal.invariant-loop-i
+invariant-loop-i l = Packs (λ t. each (λ d. num l.initial.area (num l.keep t * l.w + d)) l.w) l.w (length l.keep) l.initial.area l.i l.area
+
+abbrev pub decreases-loop-i : goal.decreases-loop-i
+decreases-loop-i l = length l.keep - l.i
