@@ -5,5 +5,3 @@ pub mod Framed
 pub mod Theorems
 pub mod Longer
 pub mod Lent
-pub mod ByValue
-pub mod CallsWork

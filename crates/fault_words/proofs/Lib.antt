@@ -1,4 +1,1 @@
-pub mod CallsRunOf
 pub mod Fit
-pub mod CallsIsUnfit
-pub mod CallsPutUnfit

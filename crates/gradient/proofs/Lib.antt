@@ -1,5 +1,2 @@
 pub mod Spots
 pub mod Told
-pub mod CallsEyeOf
-pub mod CallsPlaceForces
-pub mod CallsPointForces

@@ -1,4 +1,4 @@
-// No code: how slices of structs, and structs, are lent on from one function to another, as rules that proofs by hand are put together from (proofs/).
+// No code: it held how slices of structs, and structs, are lent on from one function to another, as rules for proofs by hand.
+// The borrow checker of the kit follows such code by itself today.
 
 #![tactic(auto)]
-

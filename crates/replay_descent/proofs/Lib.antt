@@ -1,4 +1,2 @@
 mod Within
 pub mod Told
-pub mod Values
-pub mod ByValue

@@ -1,3 +1,2 @@
 mod Within
 pub mod Told
-pub mod ByValue

@@ -2,10 +2,3 @@ pub mod Turned
 pub mod Rooms
 pub mod One
 pub mod Lends
-pub mod Values
-pub mod ByValue
-pub mod CallsRowUnit
-pub mod CallsTreeUnit
-pub mod CallsForceUnit
-pub mod CallsFinishUnit
-pub mod CallsOneUnit

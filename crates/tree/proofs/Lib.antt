@@ -8,16 +8,3 @@ pub mod Longer
 pub mod Looks
 pub mod Descends
 pub mod Enters
-pub mod Values
-pub mod ByValue
-pub mod CallsBoundingBox
-pub mod CallsProbing
-pub mod CallsProbed
-pub mod CallsMet
-pub mod CallsEntering
-pub mod CallsSubdivide
-pub mod CallsLevel
-pub mod CallsNeeds
-pub mod CallsInsert
-pub mod CallsPlant
-pub mod CallsTreeOk

@@ -4,11 +4,3 @@ pub mod Fuel
 pub mod Longer
 pub mod Walked
 pub mod Pending
-pub mod Calls
-pub mod Values
-pub mod ByValue
-pub mod Lending
-pub mod Deepening
-pub mod Walking
-pub mod Going
-pub mod CallsRepulsiveForce

@@ -12,17 +12,17 @@ pub map_frames-requires : goal.map_frames-requires
 map_frames-requires c =
     let the-read-frames = c.read_frames in
     let the-if1 = c.if-file-gt-BENCH_BYTES in
-    frames-few _ _ (omega (arith, the-if1.false)) (sym the-read-frames.ensures ∙ c.n-1.given.1)
+    frames-few _ _ (omega (arith, the-if1.false)) (sym the-read-frames.ensures ∙ c.in-Good.is)
 
 pub returns-in-Bad : goal.returns-in-Bad
 returns-in-Bad c =
     let the-read-frames = c.read_frames in
     let the-if1 = c.if-file-gt-BENCH_BYTES in
-    bad-record _ (omega (arith, the-if1.false)) _ (sym the-read-frames.ensures ∙ c.p-1.given.1)
+    bad-record _ (omega (arith, the-if1.false)) _ (sym the-read-frames.ensures ∙ c.in-Bad.is)
 
 pub returns-in-Good : goal.returns-in-Good
 returns-in-Good c =
     let the-n = c.n-1 in
     let the-read-frames = c.read_frames in
     let the-if1 = c.if-file-gt-BENCH_BYTES in
-    all-mapped _ (omega (arith, the-if1.false)) _ _ (sym the-read-frames.ensures ∙ the-n.given.1) c.map_frames.ensures
+    all-mapped _ (omega (arith, the-if1.false)) _ _ (sym the-read-frames.ensures ∙ the-n.is) c.map_frames.ensures

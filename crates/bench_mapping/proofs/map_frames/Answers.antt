@@ -11,12 +11,12 @@ slice_bounds-descend-end c =
 
 pub slice_bounds-descend-end-2 : goal.slice_bounds-descend-end-2
 slice_bounds-descend-end-2 c =
-    sym (length-take-le _ _ (omega (arith, c.start_of_lem.ensures.0)))
+    sym (length-take-le _ _ (omega (arith, c.start_of-start.ensures.value)))
 
 pub returns : goal.returns
 unfolding mapped
 returns c =
     let the-settings = c.settings-s in
-    let the-start-of = c.start_of_lem in
+    let the-start-of = c.start_of-start in
     let the-table-of = c.table_of-table in
-    rw (sym the-table-of.ensures.value_2, sym the-start-of.ensures.1, sym the-settings.ensures) c.descend.ensures
+    rw (sym the-table-of.ensures.value_2, sym the-start-of.ensures.value_2, sym the-settings.ensures) c.descend.ensures

@@ -5,29 +5,29 @@ use Rattle.descent.proofs.number.Goals as goal
 pub returns-in-Running : goal.returns-in-Running
 unfolding work_number
 returns-in-Running c =
-    rw c.enum_told-1.given.1
+    rw c.in-Running.is
 
 pub returns-in-Stopped : goal.returns-in-Stopped
 unfolding work_number
 returns-in-Stopped c =
-    rw c.enum_told-in-Stopped-1.given.1
+    rw c.in-Stopped.is
 
 pub returns-in-Finished : goal.returns-in-Finished
 unfolding work_number
 returns-in-Finished c =
-    rw c.enum_told-in-Finished-1.given.1
+    rw c.in-Finished.is
 
 pub returns-in-Full : goal.returns-in-Full
 unfolding work_number
 returns-in-Full c =
-    rw c.enum_told-in-Full-1.given.1
+    rw c.in-Full.is
 
 pub returns-in-Wild : goal.returns-in-Wild
 unfolding work_number
 returns-in-Wild c =
-    rw c.enum_told-in-Wild-1.given.1
+    rw c.in-Wild.is
 
 pub returns-in-Bad : goal.returns-in-Bad
 unfolding work_number
 returns-in-Bad c =
-    rw c.a-1.given.1 c.fault_number.ensures
+    rw c.in-Bad.is c.fault_number.ensures

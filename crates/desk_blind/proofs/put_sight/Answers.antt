@@ -6,9 +6,9 @@ use Rattle.desk_blind.proofs.put_sight.Goals as goal
 pub returns-in-Refused : goal.returns-in-Refused
 unfolding sight_number sight_words
 returns-in-Refused c =
-    (rw c.r-1.given.1, rw c.r-1.given.1)
+    (rw c.in-Refused.is, rw c.in-Refused.is)
 
 pub returns-in-Seen : goal.returns-in-Seen
 unfolding sight_number sight_words
 returns-in-Seen c =
-    (rw c.r-in-Seen-1.given.1, rw c.r-in-Seen-1.given.1)
+    (rw c.in-Seen.is, rw c.in-Seen.is)

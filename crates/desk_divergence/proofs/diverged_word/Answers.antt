@@ -5,14 +5,14 @@ use Rattle.desk_divergence.proofs.diverged_word.Goals as goal
 pub returns-in-Figure : goal.returns-in-Figure
 unfolding diverged_word
 returns-in-Figure c =
-    rw c.d-1.given.1 c.bits_of.ensures
+    rw c.in-Figure.is c.bits_of.ensures
 
 pub returns-in-Early : goal.returns-in-Early
 unfolding diverged_word
 returns-in-Early c =
-    rw c.enum_told-1.given.1
+    rw c.in-Early.is
 
 pub returns-in-Bad : goal.returns-in-Bad
 unfolding diverged_word
 returns-in-Bad c =
-    rw c.d-in-Bad-1.given.1 c.fault_value.ensures
+    rw c.in-Bad.is c.fault_value.ensures

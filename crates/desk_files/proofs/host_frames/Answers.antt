@@ -14,11 +14,11 @@ unfolding host_frames
 returns-in-Good c =
     let the-read-frames = c.read_frames in
     let the-if1 = c.if-place-eq0 in
-    rw (ne_eqb _ _ the-if1.false, sym the-read-frames.ensures ∙ c.n-1.given.1)
+    rw (ne_eqb _ _ the-if1.false, sym the-read-frames.ensures ∙ c.in-Good.is)
 
 pub returns-in-Bad : goal.returns-in-Bad
 unfolding host_frames
 returns-in-Bad c =
     let the-read-frames = c.read_frames in
     let the-if1 = c.if-place-eq0 in
-    rw (ne_eqb _ _ the-if1.false, sym the-read-frames.ensures ∙ c.p-1.given.1)
+    rw (ne_eqb _ _ the-if1.false, sym the-read-frames.ensures ∙ c.in-Bad.is)

@@ -5,14 +5,14 @@ use Rattle.desk_import.proofs.import_told.Goals as goal
 pub returns-in-Refused : goal.returns-in-Refused
 unfolding import_told
 returns-in-Refused c =
-    rw c.enum_told-1.given.1
+    rw c.in-Refused.is
 
 pub returns-in-BadRecord : goal.returns-in-BadRecord
 unfolding import_told
 returns-in-BadRecord c =
-    rw c.a-1.given.1
+    rw c.in-BadRecord.is
 
 pub returns-in-Loaded : goal.returns-in-Loaded
 unfolding import_told
 returns-in-Loaded c =
-    rw c.enum_told-in-Loaded-1.given.1
+    rw c.in-Loaded.is

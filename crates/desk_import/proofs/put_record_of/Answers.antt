@@ -3,4 +3,4 @@ use Rattle.desk_import.proofs.put_record_of.Goals as goal
 
 pub returns-in-Loaded : goal.returns-in-Loaded
 returns-in-Loaded c =
-    rw c.a-1.given.1 c.put_run.ensures
+    rw c.in-Loaded.is c.put_run.ensures

@@ -5,14 +5,14 @@ use Rattle.desk_monitor.proofs.read_told.Goals as goal
 pub returns-in-Read : goal.returns-in-Read
 unfolding monitor_read_told
 returns-in-Read c =
-    rw c.a-1.given.1
+    rw c.in-Read.is
 
 pub returns-in-Bad : goal.returns-in-Bad
 unfolding monitor_read_told
 returns-in-Bad c =
-    rw c.a-in-Bad-1.given.1
+    rw c.in-Bad.is
 
 pub returns-in-Short : goal.returns-in-Short
 unfolding monitor_read_told
 returns-in-Short c =
-    rw c.enum_told-1.given.1
+    rw c.in-Short.is

@@ -5,24 +5,24 @@ use Rattle.desk_park.proofs.parked_told.Goals as goal
 pub returns-in-Written : goal.returns-in-Written
 unfolding parked_told
 returns-in-Written c =
-    rw c.p-1.given.1
+    rw c.in-Written.is
 
 pub returns-in-Inside : goal.returns-in-Inside
 unfolding parked_told
 returns-in-Inside c =
-    rw c.enum_told-1.given.1
+    rw c.in-Inside.is
 
 pub returns-in-Barred : goal.returns-in-Barred
 unfolding parked_told
 returns-in-Barred c =
-    rw c.enum_told-in-Barred-1.given.1
+    rw c.in-Barred.is
 
 pub returns-in-Short : goal.returns-in-Short
 unfolding parked_told
 returns-in-Short c =
-    rw c.enum_told-in-Short-1.given.1
+    rw c.in-Short.is
 
 pub returns-in-Bad : goal.returns-in-Bad
 unfolding parked_told
 returns-in-Bad c =
-    rw c.p-in-Bad-1.given.1 c.fault_value.ensures
+    rw c.in-Bad.is c.fault_value.ensures

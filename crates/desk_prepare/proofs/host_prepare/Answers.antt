@@ -2,24 +2,23 @@
 use Rattle.record_words.proofs.Laws.{settings-long}
 use Rattle.desk_prepare.proofs.Laws.{unread-begun, short-begun, begun-is}
 use Rattle.prepare.specs.Prepare.{prepare_number}
-use borrow.Author.Tests.{not-true, not-false}
 use mathlib.Core.Path.{sym, ◌∙◌}
 use Rattle.desk_prepare.proofs.host_prepare.Goals as goal
 
 pub returns-then-not-settings_fine : goal.returns-then-not-settings_fine
 returns-then-not-settings_fine c =
-    unread-begun _ _ _ _ _ _ (sym c.settings_fine.ensures ∙ not-true _ c.if-not-settings_fine.true)
+    unread-begun _ _ _ _ _ _ (sym c.settings_fine.ensures ∙ c.if-not-settings_fine.true)
 
 pub settings_of-s-requires : goal.settings_of-s-requires
 settings_of-s-requires c =
-    settings-long _ (sym c.settings_fine.ensures ∙ not-false _ c.if-not-settings_fine.false)
+    settings-long _ (sym c.settings_fine.ensures ∙ c.if-not-settings_fine.false)
 
 pub returns-then-record-lt14 : goal.returns-then-record-lt14
 returns-then-record-lt14 c =
     let the-settings-of = c.settings_of-s in
     let the-if1 = c.if-not-settings_fine in
     let the-settings-fine = c.settings_fine in
-    short-begun _ _ _ _ _ _ (sym the-settings-fine.ensures ∙ not-false _ the-if1.false) c.if-record-lt14.true the-settings-of.ensures
+    short-begun _ _ _ _ _ _ (sym the-settings-fine.ensures ∙ the-if1.false) c.if-record-lt14.true the-settings-of.ensures
     c.short_number.ensures
 
 pub put_run-requires : goal.put_run-requires
@@ -35,8 +34,8 @@ returns-in-Refused c =
     let the-settings-of = c.settings_of-s in
     let the-if1 = c.if-not-settings_fine in
     let the-settings-fine = c.settings_fine in
-    begun-is _ _ _ _ _ _ (sym the-settings-fine.ensures ∙ not-false _ the-if1.false) the-if2.false the-settings-of.ensures the-prepare.ensures
-    (rw c.p-1.given.1) (rw c.p-1.given.1)
+    begun-is _ _ _ _ _ _ (sym the-settings-fine.ensures ∙ the-if1.false) the-if2.false the-settings-of.ensures the-prepare.ensures
+    (rw c.in-Refused.is) (rw c.in-Refused.is)
 
 pub returns-in-Ready : goal.returns-in-Ready
 unfolding prepare_number
@@ -48,5 +47,5 @@ returns-in-Ready c =
     let the-settings-of = c.settings_of-s in
     let the-if1 = c.if-not-settings_fine in
     let the-settings-fine = c.settings_fine in
-    begun-is _ _ _ _ _ _ (sym the-settings-fine.ensures ∙ not-false _ the-if1.false) the-if2.false the-settings-of.ensures the-prepare.ensures
-    (rw the-p2.given.1) (rw the-p2.given.1 the-put-run.ensures)
+    begun-is _ _ _ _ _ _ (sym the-settings-fine.ensures ∙ the-if1.false) the-if2.false the-settings-of.ensures the-prepare.ensures
+    (rw the-p2.is) (rw the-p2.is the-put-run.ensures)

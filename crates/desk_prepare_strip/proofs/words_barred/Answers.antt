@@ -1,19 +1,18 @@
 -- `desk_prepare_strip::words_barred` meets its contract: by `settings-long`.
 use Rattle.record_words.proofs.Laws.{settings-long}
-use borrow.Author.Tests.{not-true, not-false}
 use mathlib.Core.Path.{sym, ◌∙◌}
 use Rattle.desk_prepare_strip.proofs.words_barred.Goals as goal
 
 pub returns-then-not-settings_fine : goal.returns-then-not-settings_fine
 returns-then-not-settings_fine c =
-    rw (sym c.settings_fine.ensures ∙ not-true _ c.if-not-settings_fine.true)
+    rw (sym c.settings_fine.ensures ∙ c.if-not-settings_fine.true)
 
 pub settings_of-s-requires : goal.settings_of-s-requires
 settings_of-s-requires c =
-    settings-long _ (sym c.settings_fine.ensures ∙ not-false _ c.if-not-settings_fine.false)
+    settings-long _ (sym c.settings_fine.ensures ∙ c.if-not-settings_fine.false)
 
 pub returns : goal.returns
 returns c =
     let the-if1 = c.if-not-settings_fine in
     let the-settings-fine = c.settings_fine in
-    rw (sym the-settings-fine.ensures ∙ not-false _ the-if1.false, sym c.settings_of-s.ensures) c.strip_bars.ensures
+    rw (sym the-settings-fine.ensures ∙ the-if1.false, sym c.settings_of-s.ensures) c.strip_bars.ensures

@@ -1,7 +1,6 @@
 -- `desk_record::said` meets its contract: by `run_long`.
 use Rattle.record_words.proofs.Laws.{run_long}
 use Rattle.desk_record.specs.Records.{said_of}
-use borrow.Author.Tests.{not-true, not-false}
 use mathlib.Core.Path.{sym, ◌∙◌}
 use native.Mathlib.Omega.{arith}
 use Rattle.desk_record.proofs.said.Goals as goal
@@ -9,14 +8,14 @@ use Rattle.desk_record.proofs.said.Goals as goal
 pub returns-then-not-run_fine : goal.returns-then-not-run_fine
 unfolding said_of
 returns-then-not-run_fine c =
-    rw (sym c.run_fine.ensures ∙ not-true _ c.if-not-run_fine.true)
+    rw (sym c.run_fine.ensures ∙ c.if-not-run_fine.true)
 
 pub bounds-record-i : goal.bounds-record-i
 bounds-record-i c =
     let the-run-fine = c.run_fine in
-    omega (arith, c.requires, run_long _ (sym the-run-fine.ensures ∙ not-false _ c.if-not-run_fine.false))
+    omega (arith, c.requires, run_long _ (sym the-run-fine.ensures ∙ c.if-not-run_fine.false))
 
 pub returns : goal.returns
 unfolding said_of
 returns c =
-    rw (sym c.run_fine.ensures ∙ not-false _ c.if-not-run_fine.false)
+    rw (sym c.run_fine.ensures ∙ c.if-not-run_fine.false)

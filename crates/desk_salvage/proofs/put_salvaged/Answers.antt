@@ -6,9 +6,9 @@ use Rattle.desk_salvage.proofs.put_salvaged.Goals as goal
 pub returns-in-Saved : goal.returns-in-Saved
 unfolding salvage_number salvaged_words
 returns-in-Saved c =
-    (rw c.s-1.given.1, rw c.s-1.given.1)
+    (rw c.in-Saved.is, rw c.in-Saved.is)
 
 pub returns-in-Short : goal.returns-in-Short
 unfolding salvage_number salvaged_words
 returns-in-Short c =
-    (rw c.enum_told-1.given.1, rw c.enum_told-1.given.1)
+    (rw c.in-Short.is, rw c.in-Short.is)

@@ -5,9 +5,9 @@ use Rattle.desk_take.proofs.taken_told.Goals as goal
 pub returns-in-Told : goal.returns-in-Told
 unfolding taken_told
 returns-in-Told c =
-    rw c.a-1.given.1 c.left_told.ensures
+    rw c.in-Told.is c.left_told.ensures
 
 pub returns-in-Bad : goal.returns-in-Bad
 unfolding taken_told
 returns-in-Bad c =
-    rw c.a-in-Bad-1.given.1 c.fault_value.ensures
+    rw c.in-Bad.is c.fault_value.ensures

@@ -5,14 +5,14 @@ use Rattle.desk_unpark.proofs.unparked_told.Goals as goal
 pub returns-in-Read : goal.returns-in-Read
 unfolding unparked_told
 returns-in-Read c =
-    rw c.u-1.given.1
+    rw c.in-Read.is
 
 pub returns-in-Bad : goal.returns-in-Bad
 unfolding unparked_told
 returns-in-Bad c =
-    rw c.u-in-Bad-1.given.1
+    rw c.in-Bad.is
 
 pub returns-in-Short : goal.returns-in-Short
 unfolding unparked_told
 returns-in-Short c =
-    rw c.enum_told-1.given.1
+    rw c.in-Short.is

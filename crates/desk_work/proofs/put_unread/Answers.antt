@@ -5,4 +5,4 @@ pub returns : goal.returns
 returns c =
     let the-put-answer = c.put_answer in
     let the-unread-fault = c.unread_fault-f in
-    (rw (c.number_of_lem.ensures, the-unread-fault.ensures), rw (the-put-answer.ensures, the-unread-fault.ensures))
+    (rw (c.number_of.ensures, the-unread-fault.ensures), rw (the-put-answer.ensures, the-unread-fault.ensures))

@@ -1,30 +1,29 @@
 -- `divergence::after_tests` meets its contract: from what its calls promise.
 use mathlib.Core.Path.{sym, ◌∙◌}
-use borrow.Author.Tests.{not-true, not-false}
 use Rattle.divergence.specs.Divergence.{after_tests}
 use Rattle.divergence.proofs.after_tests.Goals as goal
 
 pub returns-then-not-is_fine : goal.returns-then-not-is_fine
 unfolding after_tests
 returns-then-not-is_fine c =
-    rw (sym c.is_fine.ensures ∙ not-true _ c.if-not-is_fine.true)
+    rw (sym c.is_fine.ensures ∙ c.if-not-is_fine.true)
 
 pub too_early-requires : goal.too_early-requires
 too_early-requires c =
-    (c.requires (sym c.is_fine.ensures ∙ not-false _ c.if-not-is_fine.false)).total-room
+    (c.requires (sym c.is_fine.ensures ∙ c.if-not-is_fine.false)).total-room
 
 pub returns-then-too_early : goal.returns-then-too_early
 unfolding after_tests
 returns-then-too_early c =
     let the-if1 = c.if-not-is_fine in
     let the-is-fine = c.is_fine in
-    rw (sym the-is-fine.ensures ∙ not-false _ the-if1.false, sym c.too_early.ensures ∙ c.if-too_early.true)
+    rw (sym the-is-fine.ensures ∙ the-if1.false, sym c.too_early.ensures ∙ c.if-too_early.true)
 
 pub figure-requires : goal.figure-requires
 figure-requires c =
     let the-if1 = c.if-not-is_fine in
     let the-is-fine = c.is_fine in
-    c.requires (sym the-is-fine.ensures ∙ not-false _ the-if1.false)
+    c.requires (sym the-is-fine.ensures ∙ the-if1.false)
 
 pub returns : goal.returns
 unfolding after_tests
@@ -32,4 +31,4 @@ returns c =
     let the-too-early = c.too_early in
     let the-if1 = c.if-not-is_fine in
     let the-is-fine = c.is_fine in
-    rw (sym the-is-fine.ensures ∙ not-false _ the-if1.false, sym the-too-early.ensures ∙ c.if-too_early.false, c.figure.ensures)
+    rw (sym the-is-fine.ensures ∙ the-if1.false, sym the-too-early.ensures ∙ c.if-too_early.false, c.figure.ensures)

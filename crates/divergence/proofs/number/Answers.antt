@@ -5,14 +5,14 @@ use Rattle.divergence.proofs.number.Goals as goal
 pub returns-in-Figure : goal.returns-in-Figure
 unfolding divergence_number
 returns-in-Figure c =
-    rw c.enum_told-1.given.1
+    rw c.in-Figure.is
 
 pub returns-in-Early : goal.returns-in-Early
 unfolding divergence_number
 returns-in-Early c =
-    rw c.enum_told-in-Early-1.given.1
+    rw c.in-Early.is
 
 pub returns-in-Bad : goal.returns-in-Bad
 unfolding divergence_number
 returns-in-Bad c =
-    rw c.a-1.given.1 c.fault_number.ensures
+    rw c.in-Bad.is c.fault_number.ensures

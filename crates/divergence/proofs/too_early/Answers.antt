@@ -1,13 +1,12 @@
 -- `divergence::too_early` meets its contract: from what its calls promise.
 use mathlib.Core.Path.{sym, ◌∙◌}
-use borrow.Author.Tests.{not-true, not-false}
 use Rattle.divergence.specs.Divergence.{too_early}
 use Rattle.divergence.proofs.too_early.Goals as goal
 
 pub returns-then-not-just_ended : goal.returns-then-not-just_ended
 unfolding too_early
 returns-then-not-just_ended c =
-    rw (sym c.just_ended.ensures ∙ not-true _ c.if-not-just_ended.true)
+    rw (sym c.just_ended.ensures ∙ c.if-not-just_ended.true)
 
 pub total-requires : goal.total-requires
 total-requires c =
@@ -16,4 +15,4 @@ total-requires c =
 pub returns : goal.returns
 unfolding too_early
 returns c =
-    rw (sym c.just_ended.ensures ∙ not-false _ c.if-not-just_ended.false, c.total.ensures)
+    rw (sym c.just_ended.ensures ∙ c.if-not-just_ended.false, c.total.ensures)

@@ -1,6 +1,6 @@
 -- Each answer is the definition's, by the tests passed on the way to it: too few words, a method that there is not, settings with a number, else the state.
 -- past the second test, with the settings' number k
-use borrow.Author.Tests.{lt-ltb, le-ltb, eq-eqb, ne_eqb, not-true, not-false}
+use borrow.Author.Tests.{lt-ltb, le-ltb, eq-eqb, ne_eqb, not-false}
 use mathlib.Core.Path.{◌≡◌, sym, ◌∙◌}
 use mathlib.Core.List.{List}
 use mathlib.Core.Bool.{Bool, false, not}
@@ -24,7 +24,7 @@ returns-then-words-lt14 c =
 pub returns-then-not-settings_fine : goal.returns-then-not-settings_fine
 returns-then-not-settings_fine c =
     let the-if1 = c.if-words-lt14 in
-    rw (le-ltb _ _ the-if1.false, sym c.settings_fine.ensures ∙ not-true _ c.if-not-settings_fine.true)
+    rw (le-ltb _ _ the-if1.false, sym c.settings_fine.ensures ∙ c.if-not-settings_fine.true)
 
 pub settings_of-s-requires : goal.settings_of-s-requires
 settings_of-s-requires c =

@@ -3,7 +3,6 @@ use Rattle.laws.proofs.Every.{every-none, every-next, every-no, every-done}
 use mathlib.Core.Path.{sym, ◌∙◌}
 use mathlib.Core.Bool.{true}
 use Prim.Native.Nat.{◌-◌}
-use borrow.Author.Tests.{not-true, not-false}
 use native.Mathlib.Omega.{arith}
 use Rattle.hand_out.proofs.is_calm_along.Goals as goal
 
@@ -15,12 +14,12 @@ pub returns-then-not-is_calm : goal.returns-then-not-is_calm
 unfolding calm_along
 returns-then-not-is_calm c =
     let the-loop-test = c.loop-i-test in
-    sym (every-no _ _ _ the-loop-test.true (sym c.is_calm.ensures ∙ not-true _ c.if-not-is_calm.true))
+    sym (every-no _ _ _ the-loop-test.true (sym c.is_calm.ensures ∙ c.if-not-is_calm.true))
 
 pub loop-i-preserved : goal.loop-i-preserved
 loop-i-preserved c =
     let the-loop = c.loop-i in
-    (omega arith, every-next _ _ the-loop.invariant.1 (sym c.is_calm.ensures ∙ not-false _ c.if-not-is_calm.false))
+    (omega arith, every-next _ _ the-loop.invariant.1 (sym c.is_calm.ensures ∙ c.if-not-is_calm.false))
 
 pub returns : goal.returns
 unfolding calm_along

@@ -5,4 +5,4 @@ use Rattle.little.proofs.value.Goals as goal
 pub returns : goal.returns
 unfolding value_at
 returns c =
-    rw (c.value_of_lem.ensures, c.word.ensures)
+    rw (c.value_of.ensures, c.word.ensures)

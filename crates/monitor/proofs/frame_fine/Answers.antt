@@ -1,5 +1,4 @@
 -- A frame's own rules, one after the other, as the definition has them.
-use borrow.Author.Tests.{not-true, not-false}
 use mathlib.Core.Path.{sym, ◌∙◌}
 use Rattle.monitor.specs.Monitor.{frame_fine}
 use Rattle.monitor.proofs.frame_fine.Goals as goal
@@ -7,14 +6,14 @@ use Rattle.monitor.proofs.frame_fine.Goals as goal
 pub returns-then-not-picture_fine : goal.returns-then-not-picture_fine
 unfolding frame_fine
 returns-then-not-picture_fine c =
-    rw (sym c.picture_fine.ensures ∙ not-true _ c.if-not-picture_fine.true)
+    rw (sym c.picture_fine.ensures ∙ c.if-not-picture_fine.true)
 
 pub returns-then-not-side_fine : goal.returns-then-not-side_fine
 unfolding frame_fine
 returns-then-not-side_fine c =
     let the-if1 = c.if-not-picture_fine in
     let the-picture-fine = c.picture_fine in
-    rw (sym the-picture-fine.ensures ∙ not-false _ the-if1.false, sym c.side_fine.ensures ∙ not-true _ c.if-not-side_fine.true)
+    rw (sym the-picture-fine.ensures ∙ the-if1.false, sym c.side_fine.ensures ∙ c.if-not-side_fine.true)
 
 pub returns : goal.returns
 unfolding frame_fine
@@ -22,5 +21,5 @@ returns c =
     let the-side-fine = c.side_fine in
     let the-if1 = c.if-not-picture_fine in
     let the-picture-fine = c.picture_fine in
-    rw (sym the-picture-fine.ensures ∙ not-false _ the-if1.false, sym the-side-fine.ensures ∙ not-false _ c.if-not-side_fine.false)
+    rw (sym the-picture-fine.ensures ∙ the-if1.false, sym the-side-fine.ensures ∙ c.if-not-side_fine.false)
     c.field_fine.ensures

@@ -1,5 +1,4 @@
 -- Either coordinate: the first, then the second.
-use borrow.Author.Tests.{not-true, not-false}
 use mathlib.Core.Path.{sym, ◌∙◌}
 use Rattle.monitor_read.specs.MonitorRead.{coordinates_fine}
 use native.Mathlib.Omega.{arith}
@@ -13,7 +12,7 @@ pub returns-then-not-is_finite : goal.returns-then-not-is_finite
 unfolding coordinates_fine
 returns-then-not-is_finite c =
     let the-coordinate = c.coordinate in
-    rw (rw the-coordinate.ensures at (sym c.is_finite.ensures ∙ not-true _ c.if-not-is_finite.true))
+    rw (rw the-coordinate.ensures at (sym c.is_finite.ensures ∙ c.if-not-is_finite.true))
 
 pub coordinate-requires-2 : goal.coordinate-requires-2
 coordinate-requires-2 c =
@@ -25,5 +24,5 @@ returns c =
     let the-if1 = c.if-not-is_finite in
     let the-is-finite = c.is_finite in
     let the-coordinate = c.coordinate in
-    rw (rw the-coordinate.ensures at (sym the-is-finite.ensures ∙ not-false _ the-if1.false))
+    rw (rw the-coordinate.ensures at (sym the-is-finite.ensures ∙ the-if1.false))
     (rw c.coordinate-2.ensures at c.is_finite-2.ensures)

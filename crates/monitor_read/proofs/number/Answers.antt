@@ -5,14 +5,14 @@ use Rattle.monitor_read.proofs.number.Goals as goal
 pub returns-in-Read : goal.returns-in-Read
 unfolding monitor_read_number
 returns-in-Read c =
-    rw c.enum_told-1.given.1
+    rw c.in-Read.is
 
 pub returns-in-Bad : goal.returns-in-Bad
 unfolding monitor_read_number
 returns-in-Bad c =
-    rw c.enum_told-in-Bad-1.given.1
+    rw c.in-Bad.is
 
 pub returns-in-Short : goal.returns-in-Short
 unfolding monitor_read_number
 returns-in-Short c =
-    rw c.enum_told-in-Short-1.given.1
+    rw c.in-Short.is

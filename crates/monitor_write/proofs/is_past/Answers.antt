@@ -5,9 +5,9 @@ use Rattle.monitor_write.proofs.is_past.Goals as goal
 pub returns-in-Single : goal.returns-in-Single
 unfolding is_past
 returns-in-Single c =
-    rw c.enum_told-1.given.1
+    rw c.in-Single.is
 
 pub returns-in-Past : goal.returns-in-Past
 unfolding is_past
 returns-in-Past c =
-    rw c.enum_told-in-Past-1.given.1
+    rw c.in-Past.is

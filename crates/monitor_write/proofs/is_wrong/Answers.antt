@@ -1,5 +1,4 @@
 -- Picture, side, field and order: the frame's own rules, then the order.
-use borrow.Author.Tests.{not-true, not-false}
 use mathlib.Core.Path.{sym, ◌∙◌}
 use Rattle.monitor_write.specs.MonitorWrite.{wrong_at}
 use native.Mathlib.Omega.{arith}
@@ -13,10 +12,10 @@ overflow_cast-pictures c =
 pub returns-then-not-frame_fine : goal.returns-then-not-frame_fine
 unfolding wrong_at
 returns-then-not-frame_fine c =
-    rw (sym c.frame_fine.ensures ∙ not-true _ c.if-not-frame_fine.true)
+    rw (sym c.frame_fine.ensures ∙ c.if-not-frame_fine.true)
 
 pub returns : goal.returns
 unfolding wrong_at
 returns c =
     let the-frame-fine = c.frame_fine in
-    rw (sym the-frame-fine.ensures ∙ not-false _ c.if-not-frame_fine.false, c.follows.ensures)
+    rw (sym the-frame-fine.ensures ∙ c.if-not-frame_fine.false, c.follows.ensures)

@@ -5,19 +5,19 @@ use Rattle.monitor_write.proofs.number.Goals as goal
 pub returns-in-Written : goal.returns-in-Written
 unfolding monitored_number
 returns-in-Written c =
-    rw c.enum_told-1.given.1
+    rw c.in-Written.is
 
 pub returns-in-Short : goal.returns-in-Short
 unfolding monitored_number
 returns-in-Short c =
-    rw c.enum_told-in-Short-1.given.1
+    rw c.in-Short.is
 
 pub returns-in-Bad : goal.returns-in-Bad
 unfolding monitored_number
 returns-in-Bad c =
-    rw c.enum_told-in-Bad-1.given.1
+    rw c.in-Bad.is
 
 pub returns-in-Beyond : goal.returns-in-Beyond
 unfolding monitored_number
 returns-in-Beyond c =
-    rw c.enum_told-in-Beyond-1.given.1
+    rw c.in-Beyond.is

@@ -5,9 +5,9 @@ use Rattle.monitor_write.proofs.single_bits.Goals as goal
 pub returns-in-Single : goal.returns-in-Single
 unfolding single_bits
 returns-in-Single c =
-    rw c.a-1.given.1
+    rw c.in-Single.is
 
 pub returns-in-Past : goal.returns-in-Past
 unfolding single_bits
 returns-in-Past c =
-    rw c.enum_told-1.given.1
+    rw c.in-Past.is

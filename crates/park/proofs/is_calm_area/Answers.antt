@@ -3,7 +3,6 @@ use Rattle.laws.proofs.Every.{every-none, every-next, every-no, every-done}
 use mathlib.Core.Path.{sym, ◌∙◌}
 use mathlib.Core.Bool.{true}
 use Prim.Native.Nat.{◌-◌}
-use borrow.Author.Tests.{not-true, not-false}
 use native.Mathlib.Omega.{arith}
 use Rattle.park.proofs.is_calm_area.Goals as goal
 
@@ -14,15 +13,15 @@ loop-i-init c =
 pub returns-then-not-is_calm : goal.returns-then-not-is_calm
 unfolding calm_all
 returns-then-not-is_calm c =
-    let the-value-of = c.value_of_lem in
+    let the-value-of = c.value_of in
     let the-loop-test = c.loop-i-test in
-    sym (every-no _ _ _ the-loop-test.true (rw the-value-of.ensures at (sym c.is_calm.ensures ∙ not-true _ c.if-not-is_calm.true)))
+    sym (every-no _ _ _ the-loop-test.true (rw the-value-of.ensures at (sym c.is_calm.ensures ∙ c.if-not-is_calm.true)))
 
 pub loop-i-preserved : goal.loop-i-preserved
 loop-i-preserved c =
-    let the-value-of = c.value_of_lem in
+    let the-value-of = c.value_of in
     let the-loop = c.loop-i in
-    (omega arith, every-next _ _ the-loop.invariant.1 (rw the-value-of.ensures at (sym c.is_calm.ensures ∙ not-false _ c.if-not-is_calm.false)))
+    (omega arith, every-next _ _ the-loop.invariant.1 (rw the-value-of.ensures at (sym c.is_calm.ensures ∙ c.if-not-is_calm.false)))
 
 pub returns : goal.returns
 unfolding calm_all

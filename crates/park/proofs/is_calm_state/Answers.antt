@@ -1,20 +1,19 @@
 -- `park::is_calm_state` meets its contract: from what its calls promise.
 use Rattle.park.specs.Park.{calm_state}
 use mathlib.Core.Path.{sym, ◌∙◌}
-use borrow.Author.Tests.{not-true, not-false}
 use Rattle.park.proofs.is_calm_state.Goals as goal
 
 pub returns-then-not-is_calm_area : goal.returns-then-not-is_calm_area
 unfolding calm_state
 returns-then-not-is_calm_area c =
-    rw (sym c.is_calm_area.ensures ∙ not-true _ c.if-not-is_calm_area.true)
+    rw (sym c.is_calm_area.ensures ∙ c.if-not-is_calm_area.true)
 
 pub returns-then-not-is_calm_area-2 : goal.returns-then-not-is_calm_area-2
 unfolding calm_state
 returns-then-not-is_calm_area-2 c =
     let the-if1 = c.if-not-is_calm_area in
     let the-is-calm-area = c.is_calm_area in
-    rw (sym the-is-calm-area.ensures ∙ not-false _ the-if1.false, sym c.is_calm_area-2.ensures ∙ not-true _ c.if-not-is_calm_area-2.true)
+    rw (sym the-is-calm-area.ensures ∙ the-if1.false, sym c.is_calm_area-2.ensures ∙ c.if-not-is_calm_area-2.true)
 
 pub returns : goal.returns
 unfolding calm_state
@@ -22,5 +21,5 @@ returns c =
     let the-is-calm-area2 = c.is_calm_area-2 in
     let the-if1 = c.if-not-is_calm_area in
     let the-is-calm-area = c.is_calm_area in
-    rw (sym the-is-calm-area.ensures ∙ not-false _ the-if1.false, sym the-is-calm-area2.ensures ∙ not-false _ c.if-not-is_calm_area-2.false)
+    rw (sym the-is-calm-area.ensures ∙ the-if1.false, sym the-is-calm-area2.ensures ∙ c.if-not-is_calm_area-2.false)
     c.is_calm_area-3.ensures

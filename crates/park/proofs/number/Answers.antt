@@ -5,24 +5,24 @@ use Rattle.park.proofs.number.Goals as goal
 pub returns-in-Written : goal.returns-in-Written
 unfolding park_number
 returns-in-Written c =
-    rw c.enum_told-1.given.1
+    rw c.in-Written.is
 
 pub returns-in-Inside : goal.returns-in-Inside
 unfolding park_number
 returns-in-Inside c =
-    rw c.enum_told-in-Inside-1.given.1
+    rw c.in-Inside.is
 
 pub returns-in-Barred : goal.returns-in-Barred
 unfolding park_number
 returns-in-Barred c =
-    rw c.enum_told-in-Barred-1.given.1
+    rw c.in-Barred.is
 
 pub returns-in-Short : goal.returns-in-Short
 unfolding park_number
 returns-in-Short c =
-    rw c.enum_told-in-Short-1.given.1
+    rw c.in-Short.is
 
 pub returns-in-Bad : goal.returns-in-Bad
 unfolding park_number
 returns-in-Bad c =
-    rw c.a-1.given.1 c.fault_number.ensures
+    rw c.in-Bad.is c.fault_number.ensures

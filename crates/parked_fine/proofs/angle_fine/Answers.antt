@@ -4,7 +4,7 @@ use Rattle.parked_fine.proofs.angle_fine.Goals as goal
 
 pub returns-then-m-eq1 : goal.returns-then-m-eq1
 returns-then-m-eq1 c =
-    rw (c.is_inside.ensures, c.value_of_lem.ensures, eq-eqb _ _ c.if-m-eq1.true)
+    rw (c.is_inside.ensures, c.value_of-x.ensures, eq-eqb _ _ c.if-m-eq1.true)
 
 pub returns : goal.returns
 returns c =

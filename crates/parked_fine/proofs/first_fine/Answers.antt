@@ -1,7 +1,7 @@
 -- `parked_fine::first_fine` meets its contract: from what its calls promise.
 use Rattle.parked.specs.Fine.{first_fine}
 use mathlib.Core.Path.{sym, ◌∙◌}
-use borrow.Author.Tests.{le-leb, lt-leb, not-true, not-false}
+use borrow.Author.Tests.{le-leb, lt-leb, not-true}
 use Rattle.parked_fine.proofs.first_fine.Goals as goal
 
 pub returns-then-m-gt1 : goal.returns-then-m-gt1
@@ -13,7 +13,7 @@ pub returns-then-not-in_range : goal.returns-then-not-in_range
 unfolding first_fine
 returns-then-not-in_range c =
     let the-if1 = c.if-m-gt1 in
-    simp (le-leb _ _ the-if1.false, sym c.in_range.ensures ∙ not-true _ c.if-not-in_range.true)
+    simp (le-leb _ _ the-if1.false, sym c.in_range.ensures ∙ c.if-not-in_range.true)
 
 pub returns-then-not-in_range-2 : goal.returns-then-not-in_range-2
 unfolding first_fine
@@ -23,7 +23,7 @@ returns-then-not-in_range-2 c =
     let the-if1 = c.if-m-gt1 in
     simp (
       le-leb _ _ the-if1.false,
-      sym the-in-range.ensures ∙ not-false _ the-if2.false,
+      sym the-in-range.ensures ∙ the-if2.false,
       sym c.in_range-2.ensures ∙ not-true _
           c.if-not-in_range-2.true,
     )
@@ -37,4 +37,4 @@ returns c =
     let the-in-range = c.in_range in
     let the-if1 = c.if-m-gt1 in
     rw (c.in_range-3.ensures, c.most_components-most.ensures)
-    (simp (le-leb _ _ the-if1.false, sym the-in-range.ensures ∙ not-false _ the-if2.false, sym the-in-range2.ensures ∙ not-false _ the-if3.false))
+    (simp (le-leb _ _ the-if1.false, sym the-in-range.ensures ∙ the-if2.false, sym the-in-range2.ensures ∙ the-if3.false))

@@ -3,14 +3,13 @@ use lib.Ieee.{in_float}
 use lib.Dec.{le→leb}
 use Prim.Native.Nat.{◌^◌}
 use mathlib.Core.Path.{sym, ◌∙◌}
-use borrow.Author.Tests.{not-true, not-false}
 use native.Mathlib.Omega.{arith}
 use Rattle.parked_fine.proofs.perplexity_fine.Goals as goal
 
 pub returns-then-not-is_positive : goal.returns-then-not-is_positive
 returns-then-not-is_positive c =
-    let the-value-of = c.value_of_lem in
-    rw (rw the-value-of.ensures at (sym c.is_positive.ensures ∙ not-true _ c.if-not-is_positive.true))
+    let the-value-of = c.value_of-x in
+    rw (rw the-value-of.ensures at (sym c.is_positive.ensures ∙ c.if-not-is_positive.true))
 
 pub int_to_float-n : goal.int_to_float-n
 unfolding in_float
@@ -21,5 +20,5 @@ pub returns : goal.returns
 returns c =
     let the-if1 = c.if-not-is_positive in
     let the-is-positive = c.is_positive in
-    let the-value-of = c.value_of_lem in
-    rw (c.is_below.ensures, the-value-of.ensures, rw the-value-of.ensures at (sym the-is-positive.ensures ∙ not-false _ the-if1.false))
+    let the-value-of = c.value_of-x in
+    rw (c.is_below.ensures, the-value-of.ensures, rw the-value-of.ensures at (sym the-is-positive.ensures ∙ the-if1.false))

@@ -1,7 +1,7 @@
 -- `parked_fine::third_fine` meets its contract: from what its calls promise.
 use Rattle.parked.specs.Fine.{third_fine}
 use mathlib.Core.Path.{sym, ◌∙◌}
-use borrow.Author.Tests.{le-leb, lt-leb, not-true, not-false}
+use borrow.Author.Tests.{le-leb, lt-leb}
 use Rattle.parked_fine.proofs.third_fine.Goals as goal
 
 pub returns-then-state-gt2 : goal.returns-then-state-gt2
@@ -12,20 +12,20 @@ returns-then-state-gt2 c =
 pub returns-then-not-state_fits : goal.returns-then-not-state_fits
 unfolding third_fine
 returns-then-not-state_fits c =
-    let the-value-of = c.value_of_lem in
+    let the-value-of = c.value_of-x in
     let the-standing-of = c.standing_of-s in
     let the-if1 = c.if-state-gt2 in
-    rw (le-leb _ _ the-if1.false, rw (the-standing-of.ensures, the-value-of.ensures) at (sym c.state_fits.ensures ∙ not-true _ c.if-not-state_fits.true))
+    rw (le-leb _ _ the-if1.false, rw (the-standing-of.ensures, the-value-of.ensures) at (sym c.state_fits.ensures ∙ c.if-not-state_fits.true))
 
 pub returns : goal.returns
 unfolding third_fine
 returns c =
     let the-state-fits = c.state_fits in
-    let the-value-of = c.value_of_lem in
+    let the-value-of = c.value_of-x in
     let the-standing-of = c.standing_of-s in
     let the-if1 = c.if-state-gt2 in
     rw (
       c.links_fine.ensures,
       le-leb _ _ the-if1.false,
-      (rw (the-standing-of.ensures, the-value-of.ensures) at (sym the-state-fits.ensures ∙ not-false _ c.if-not-state_fits.false)),
+      (rw (the-standing-of.ensures, the-value-of.ensures) at (sym the-state-fits.ensures ∙ c.if-not-state_fits.false)),
     )

@@ -8,7 +8,7 @@ unfolding value_fits
 returns-then-w-b c =
     let the_word = c.word in
     let the-if1 = c.if-w-b in
-    rw (c.is_calm.ensures, c.value_of_lem.ensures, the_word.ensures, lt-ltb _ _ the-if1.true)
+    rw (c.is_calm.ensures, c.value_of-x.ensures, the_word.ensures, lt-ltb _ _ the-if1.true)
 
 pub returns : goal.returns
 unfolding value_fits

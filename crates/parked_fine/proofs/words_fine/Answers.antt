@@ -1,6 +1,5 @@
 use Rattle.parked.specs.Fine.{word_fine}
 use Rattle.laws.proofs.Every.{every-none, every-next, every-no, every-done}
-use borrow.Author.Tests.{not-true, not-false}
 use mathlib.Core.Path.{sym, ◌∙◌}
 use mathlib.Core.Bool.{true}
 use Prim.Native.Nat.{◌-◌}
@@ -14,12 +13,12 @@ loop-k-init c =
 pub returns-then-not-word_fine : goal.returns-then-not-word_fine
 returns-then-not-word_fine c =
     let the-loop-test = c.loop-k-test in
-    sym (every-no _ 4 _ the-loop-test.true (sym c.word_fine.ensures ∙ not-true _ c.if-not-word_fine.true))
+    sym (every-no _ 4 _ the-loop-test.true (sym c.word_fine.ensures ∙ c.if-not-word_fine.true))
 
 pub loop-k-preserved : goal.loop-k-preserved
 loop-k-preserved c =
     let the-loop = c.loop-k in
-    (omega arith, every-next _ _ the-loop.invariant.1 (sym c.word_fine.ensures ∙ not-false _ c.if-not-word_fine.false))
+    (omega arith, every-next _ _ the-loop.invariant.1 (sym c.word_fine.ensures ∙ c.if-not-word_fine.false))
 
 pub returns : goal.returns
 returns c =

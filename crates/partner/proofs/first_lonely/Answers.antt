@@ -1,4 +1,3 @@
-use borrow.Author.Tests.{not-true, not-false}
 use mathlib.Core.Path.{sym, ap, ◌∙◌}
 use mathlib.Core.Bool.{not}
 use Prim.Native.Nat.{◌-◌}
@@ -18,13 +17,13 @@ pub returns-then-not-is_mirrored : goal.returns-then-not-is_mirrored
 returns-then-not-is_mirrored c =
     let the-loop-test = c.loop-i-test in
     let the-loop = c.loop-i in
-    seek_stop the-loop.invariant the-loop-test.true (ap not (sym c.is_mirrored.ensures ∙ not-true _ c.if-not-is_mirrored.true))
+    seek_stop the-loop.invariant the-loop-test.true (ap not (sym c.is_mirrored.ensures ∙ c.if-not-is_mirrored.true))
 
 pub loop-i-preserved : goal.loop-i-preserved
 loop-i-preserved c =
     let the-loop-test = c.loop-i-test in
     let the-loop = c.loop-i in
-    seek-next the-loop.invariant the-loop-test.true (ap not (sym c.is_mirrored.ensures ∙ not-false _ c.if-not-is_mirrored.false))
+    seek-next the-loop.invariant the-loop-test.true (ap not (sym c.is_mirrored.ensures ∙ c.if-not-is_mirrored.false))
 
 pub returns : goal.returns
 returns c =

@@ -1,4 +1,3 @@
-use borrow.Author.Tests.{not-true, not-false}
 use mathlib.Core.Path.{sym, ap, ◌∙◌}
 use mathlib.Core.Bool.{not}
 use Prim.Native.Nat.{◌-◌}
@@ -14,13 +13,13 @@ pub returns-then-not-link_fine : goal.returns-then-not-link_fine
 returns-then-not-link_fine c =
     let the-loop-test = c.loop-i-test in
     let the-loop = c.loop-i in
-    seek_stop the-loop.invariant the-loop-test.true (ap not (sym c.link_fine.ensures ∙ not-true _ c.if-not-link_fine.true))
+    seek_stop the-loop.invariant the-loop-test.true (ap not (sym c.link_fine.ensures ∙ c.if-not-link_fine.true))
 
 pub loop-i-preserved : goal.loop-i-preserved
 loop-i-preserved c =
     let the-loop-test = c.loop-i-test in
     let the-loop = c.loop-i in
-    seek-next the-loop.invariant the-loop-test.true (ap not (sym c.link_fine.ensures ∙ not-false _ c.if-not-link_fine.false))
+    seek-next the-loop.invariant the-loop-test.true (ap not (sym c.link_fine.ensures ∙ c.if-not-link_fine.false))
 
 pub returns : goal.returns
 returns c =

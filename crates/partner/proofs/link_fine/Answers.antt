@@ -1,5 +1,4 @@
 -- `partner::link_fine` meets its contract: by `fine-many`, `fine-from`, `fine-to`, `fine-low`, `fine-same`, `fine-rest`.
-use borrow.Author.Tests.{not-true, not-false}
 use mathlib.Core.Path.{sym, ◌∙◌}
 use Rattle.partner.proofs.Fine.{fine-many, fine-from, fine-to, fine-low, fine-same, fine-rest}
 use native.Mathlib.Omega.{arith}
@@ -19,7 +18,7 @@ returns-then-n-to c =
 
 pub returns-then-not-is_raised : goal.returns-then-not-is_raised
 returns-then-not-is_raised c =
-    sym (fine-low _ _ _ _ (sym c.is_raised.ensures ∙ not-true _ c.if-not-is_raised.true))
+    sym (fine-low _ _ _ _ (sym c.is_raised.ensures ∙ c.if-not-is_raised.true))
 
 pub returns-then-from-to : goal.returns-then-from-to
 returns-then-from-to c =
@@ -38,7 +37,7 @@ returns c =
     let the-link-to = c.link_to-to in
     let the-link-from = c.link_from-from in
     let the-if1 = c.if-most-i in
-    c.is_positive.ensures ∙ rw (c.value_of_lem.ensures, the-link-weight.ensures)
+    c.is_positive.ensures ∙ rw (c.value_of.ensures, the-link-weight.ensures)
     (sym (fine-rest _ _ _ _ (omega (arith, the-if1.false)) (omega (arith, the-if2.false, the-link-from.ensures.0))
-    (omega (arith, the-if3.false, the-link-to.ensures.0)) (sym the-is-raised.ensures ∙ not-false _ the-if4.false)
+    (omega (arith, the-if3.false, the-link-to.ensures.0)) (sym the-is-raised.ensures ∙ the-if4.false)
     (λ q. the-if5.false (the-link-from.ensures.0 ∙ q ∙ sym the-link-to.ensures.0))))

@@ -1,4 +1,3 @@
-use borrow.Author.Tests.{not-false}
 use Prim.Native.Nat.{◌-◌}
 use mathlib.Core.Path.{sym, ◌∙◌}
 use Rattle.partner.proofs.Judged.{rise-none, rise_one, rise-next}
@@ -29,7 +28,7 @@ loop-k-preserved c =
       omega arith,
       omega (arith, the-loop-test.true, c.requires),
       rise-next the-loop.invariant.0 the-loop.invariant.2
-          (sym c.is_raised.ensures ∙ not-false _ c.if-not-is_raised.false),
+          (sym c.is_raised.ensures ∙ c.if-not-is_raised.false),
     )
 
 pub returns : goal.returns

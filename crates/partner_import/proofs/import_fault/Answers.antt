@@ -1,6 +1,6 @@
 -- `partner_import::import_fault` meets its contract: by `settings-fine`.
 use mathlib.Core.Path.{sym, ◌∙◌}
-use borrow.Author.Tests.{eq-eqb, ne_eqb, not-true, not-false}
+use borrow.Author.Tests.{eq-eqb, ne_eqb}
 use Rattle.run_record.proofs.Laws.{settings-fine}
 use Rattle.partner_import.specs.Import.{import_fault}
 use native.Mathlib.Omega.{arith}
@@ -38,7 +38,7 @@ returns-then-not-start_fine c =
       (sym the-settings-fault.ensures ∙ the-if1.false),
       (eq-eqb _ _ (rw the-times.ensures at the-if2.false)),
       sym
-          (rw the-times.ensures at c.start_Fine.ensures) ∙ not-true _ c.if-not-start_fine.true,
+          (rw the-times.ensures at c.start_Fine.ensures) ∙ c.if-not-start_fine.true,
     )
 
 pub areas_fit-requires : goal.areas_fit-requires
@@ -60,7 +60,7 @@ returns-then-areas_fit c =
       (sym the-settings-fault.ensures ∙ the-if1.false),
       (eq-eqb _ _ (rw the-times.ensures at the-if2.false)),
       sym
-          (rw the-times.ensures at the-start-fine.ensures) ∙ not-false _ the-if3.false,
+          (rw the-times.ensures at the-start-fine.ensures) ∙ the-if3.false,
       sym c.areas_fit.ensures ∙ c.if-areas_fit.true,
     )
 
@@ -77,6 +77,6 @@ returns c =
       (sym the-settings-fault.ensures ∙ the-if1.false),
       (eq-eqb _ _ (rw the-times.ensures at the-if2.false)),
       sym
-          (rw the-times.ensures at the-start-fine.ensures) ∙ not-false _ the-if3.false,
+          (rw the-times.ensures at the-start-fine.ensures) ∙ the-if3.false,
       sym c.areas_fit.ensures ∙ c.if-areas_fit.false,
     )

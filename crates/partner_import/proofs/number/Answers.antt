@@ -5,14 +5,14 @@ use Rattle.partner_import.proofs.number.Goals as goal
 pub returns-in-Refused : goal.returns-in-Refused
 unfolding import_number
 returns-in-Refused c =
-    rw c.a-1.given.1
+    rw c.in-Refused.is
 
 pub returns-in-BadRecord : goal.returns-in-BadRecord
 unfolding import_number
 returns-in-BadRecord c =
-    rw c.enum_told-1.given.1
+    rw c.in-BadRecord.is
 
 pub returns-in-Loaded : goal.returns-in-Loaded
 unfolding import_number
 returns-in-Loaded c =
-    rw c.enum_told-in-Loaded-1.given.1
+    rw c.in-Loaded.is

@@ -1,7 +1,6 @@
 use Prim.Native.Nat.{◌-◌}
 use mathlib.Core.Path.{sym, ◌∙◌}
 use mathlib.Core.Bool.{true}
-use borrow.Author.Tests.{not-true, not-false}
 use Rattle.laws.proofs.Every.{every-none, every-next, every-no, every-done}
 use native.Mathlib.Omega.{arith}
 use Rattle.partner_import.proofs.start_fine.Goals as goal
@@ -12,17 +11,17 @@ loop-i-init c =
 
 pub returns-then-not-in_domain : goal.returns-then-not-in_domain
 returns-then-not-in_domain c =
-    let the-value-of = c.value_of_lem in
+    let the-value-of = c.value_of in
     let the-loop-test = c.loop-i-test in
     let the-loop = c.loop-i in
-    sym (every-no _ _ the-loop.i the-loop-test.true (sym (rw the-value-of.ensures at c.in_domain.ensures) ∙ not-true _ c.if-not-in_domain.true))
+    sym (every-no _ _ the-loop.i the-loop-test.true (sym (rw the-value-of.ensures at c.in_domain.ensures) ∙ c.if-not-in_domain.true))
 
 pub loop-i-preserved : goal.loop-i-preserved
 loop-i-preserved c =
-    let the-value-of = c.value_of_lem in
+    let the-value-of = c.value_of in
     let the-loop-test = c.loop-i-test in
     let the-loop = c.loop-i in (
-      every-next _ _ the-loop.invariant.0 (sym (rw the-value-of.ensures at c.in_domain.ensures) ∙ not-false _ c.if-not-in_domain.false),
+      every-next _ _ the-loop.invariant.0 (sym (rw the-value-of.ensures at c.in_domain.ensures) ∙ c.if-not-in_domain.false),
       omega
           (arith, the-loop-test.true),
     )

@@ -1,6 +1,5 @@
 -- `partner_write::write_tested` meets its contract: by `lists-bad`, `lists-none`, `lists-short`, `lists-told`.
 use Rattle.laws.specs.Area.{num}
-use borrow.Author.Tests.{not-true, not-false}
 use mathlib.Core.Path.{sym, ◌∙◌}
 use Rattle.partner_write.proofs.Laws.{lists-bad, lists-none, lists-short, lists-told}
 use native.Mathlib.Omega.{arith}
@@ -8,37 +7,37 @@ use Rattle.partner_write.proofs.write_tested.Goals as goal
 
 pub returns-then-not-is_fine : goal.returns-then-not-is_fine
 returns-then-not-is_fine c =
-    lists-bad _ _ _ _ _ _ (sym c.is_fine.ensures ∙ not-true _ c.if-not-is_fine.true)
+    lists-bad _ _ _ _ _ _ (sym c.is_fine.ensures ∙ c.if-not-is_fine.true)
 
 pub bounds-words-3 : goal.bounds-words-3
 bounds-words-3 c =
     let the-is-fine = c.is_fine in
-    omega (arith, (c.requires (sym the-is-fine.ensures ∙ not-false _ c.if-not-is_fine.false)).words_long)
+    omega (arith, (c.requires (sym the-is-fine.ensures ∙ c.if-not-is_fine.false)).words_long)
 
 pub returns-then-words-ne1 : goal.returns-then-words-ne1
 returns-then-words-ne1 c =
     let the-if1 = c.if-not-is_fine in
     let the-is-fine = c.is_fine in
-    lists-none _ _ _ _ _ _ (sym the-is-fine.ensures ∙ not-false _ the-if1.false) c.if-words-ne1.true
+    lists-none _ _ _ _ _ _ (sym the-is-fine.ensures ∙ the-if1.false) c.if-words-ne1.true
 
 pub bounds-words-0 : goal.bounds-words-0
 bounds-words-0 c =
     let the-if1 = c.if-not-is_fine in
     let the-is-fine = c.is_fine in
-    omega (arith, (c.requires (sym the-is-fine.ensures ∙ not-false _ the-if1.false)).words_long)
+    omega (arith, (c.requires (sym the-is-fine.ensures ∙ the-if1.false)).words_long)
 
 pub offset_bounds-offsets-n : goal.offset_bounds-offsets-n
 offset_bounds-offsets-n c =
     let the-if1 = c.if-not-is_fine in
     let the-is-fine = c.is_fine in
-    omega (arith, ((c.requires (sym the-is-fine.ensures ∙ not-false _ the-if1.false)).lists c.if-words-ne1.false).offsets-long)
+    omega (arith, ((c.requires (sym the-is-fine.ensures ∙ the-if1.false)).lists c.if-words-ne1.false).offsets-long)
 
 pub bounds-offsets-n : goal.bounds-offsets-n
 bounds-offsets-n c =
     let the-if2 = c.if-words-ne1 in
     let the-if1 = c.if-not-is_fine in
     let the-is-fine = c.is_fine in
-    omega (arith, ((c.requires (sym the-is-fine.ensures ∙ not-false _ the-if1.false)).lists the-if2.false).offsets-long)
+    omega (arith, ((c.requires (sym the-is-fine.ensures ∙ the-if1.false)).lists the-if2.false).offsets-long)
 
 pub overflow_cast-links : goal.overflow_cast-links
 overflow_cast-links c =
@@ -53,14 +52,14 @@ returns-then-target-links c =
     let the-if2 = c.if-words-ne1 in
     let the-if1 = c.if-not-is_fine in
     let the-is-fine = c.is_fine in
-    lists-short _ _ _ _ _ _ (sym the-is-fine.ensures ∙ not-false _ the-if1.false) the-if2.false c.if-target-links.true
+    lists-short _ _ _ _ _ _ (sym the-is-fine.ensures ∙ the-if1.false) the-if2.false c.if-target-links.true
 
 pub put_lists-requires : goal.put_lists-requires
 put_lists-requires c =
     let the-if2 = c.if-words-ne1 in
     let the-if1 = c.if-not-is_fine in
     let the-is-fine = c.is_fine in
-    ((c.requires (sym the-is-fine.ensures ∙ not-false _ the-if1.false)).lists the-if2.false, c.if-target-links.false)
+    ((c.requires (sym the-is-fine.ensures ∙ the-if1.false)).lists the-if2.false, c.if-target-links.false)
 
 pub shape_of-target : goal.shape_of-target
 shape_of-target c =
@@ -73,4 +72,4 @@ returns c =
     let the-if2 = c.if-words-ne1 in
     let the-if1 = c.if-not-is_fine in
     let the-is-fine = c.is_fine in
-    lists-told _ _ _ _ _ _ (sym the-is-fine.ensures ∙ not-false _ the-if1.false) the-if2.false the-if3.false _ the-put-lists.ensures
+    lists-told _ _ _ _ _ _ (sym the-is-fine.ensures ∙ the-if1.false) the-if2.false the-if3.false _ the-put-lists.ensures

@@ -1,5 +1,5 @@
 -- `prepare::lengths_fit` meets its contract: from what its calls promise.
-use borrow.Author.Tests.{le-leb, lt-leb, not-true, not-false}
+use borrow.Author.Tests.{le-leb, lt-leb}
 use mathlib.Core.Path.{sym, ◌∙◌}
 use Rattle.prepare.specs.Prepare.{lengths_fit}
 use Rattle.prepare.proofs.lengths_fit.Goals as goal
@@ -7,14 +7,14 @@ use Rattle.prepare.proofs.lengths_fit.Goals as goal
 pub returns-then-not-areas_fit : goal.returns-then-not-areas_fit
 unfolding lengths_fit
 returns-then-not-areas_fit c =
-    rw (sym c.areas_fit.ensures ∙ not-true _ c.if-not-areas_fit.true)
+    rw (sym c.areas_fit.ensures ∙ c.if-not-areas_fit.true)
 
 pub returns-then-l-s : goal.returns-then-l-s
 unfolding lengths_fit
 returns-then-l-s c =
     let the-if1 = c.if-not-areas_fit in
     let the-areas-fit = c.areas_fit in
-    rw (sym the-areas-fit.ensures ∙ not-false _ the-if1.false, lt-leb _ _ c.if-l-s.true)
+    rw (sym the-areas-fit.ensures ∙ the-if1.false, lt-leb _ _ c.if-l-s.true)
 
 pub returns : goal.returns
 unfolding lengths_fit
@@ -22,4 +22,4 @@ returns c =
     let the-if2 = c.if-l-s in
     let the-if1 = c.if-not-areas_fit in
     let the-areas-fit = c.areas_fit in
-    rw (sym the-areas-fit.ensures ∙ not-false _ the-if1.false, le-leb _ _ the-if2.false)
+    rw (sym the-areas-fit.ensures ∙ the-if1.false, le-leb _ _ the-if2.false)

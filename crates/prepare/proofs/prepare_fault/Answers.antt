@@ -1,7 +1,7 @@
 -- `prepare::prepare_fault` meets its contract: by `early-most`, `early-late`.
 use Rattle.prepare.proofs.Laws.{early-most, early-late}
 use Rattle.prepare.specs.Prepare.{prepare_fault}
-use borrow.Author.Tests.{eq-eqb, ne_eqb, not-true, not-false}
+use borrow.Author.Tests.{eq-eqb, ne_eqb}
 use mathlib.Core.Path.{sym, ◌∙◌}
 use native.Mathlib.Omega.{arith}
 use Rattle.prepare.proofs.prepare_fault.Goals as goal
@@ -34,7 +34,7 @@ returns-then-not-all_in c =
       (sym the-early-fault.ensures ∙ the-if1.false),
       (eq-eqb _ _ (rw the-times.ensures at the-if2.false)),
       sym
-          (rw the-times.ensures at c.all_in.ensures) ∙ not-true _ c.if-not-all_in.true,
+          (rw the-times.ensures at c.all_in.ensures) ∙ c.if-not-all_in.true,
     )
 
 pub late_fault-t-requires : goal.late_fault-t-requires
@@ -55,7 +55,7 @@ returns-then-t-ne0 c =
     rw (
       (sym the-early-fault.ensures ∙ the-if1.false),
       (eq-eqb _ _ (rw the-times.ensures at the-if2.false)),
-      (sym (rw the-times.ensures at the-all-in.ensures) ∙ not-false _ the-if3.false),
+      (sym (rw the-times.ensures at the-all-in.ensures) ∙ the-if3.false),
       ne_eqb _ _ (rw c.late_fault-t.ensures at c.if-t-ne0.true),
     )
     c.late_fault-t.ensures
@@ -81,7 +81,7 @@ returns-then-start-nc c =
     rw (
       (sym the-early-fault.ensures ∙ the-if1.false),
       (eq-eqb _ _ (rw the-times.ensures at the-if2.false)),
-      (sym (rw the-times.ensures at the-all-in.ensures) ∙ not-false _ the-if3.false),
+      (sym (rw the-times.ensures at the-all-in.ensures) ∙ the-if3.false),
       (sym the-late-fault.ensures ∙ the-if4.false),
       ne_eqb _ _
           (rw c.times-nc.ensures at c.if-start-nc.true),
@@ -103,10 +103,10 @@ returns-then-not-all_in-2 c =
     rw (
       (sym the-early-fault.ensures ∙ the-if1.false),
       (eq-eqb _ _ (rw the-times.ensures at the-if2.false)),
-      (sym (rw the-times.ensures at the-all-in.ensures) ∙ not-false _ the-if3.false),
+      (sym (rw the-times.ensures at the-all-in.ensures) ∙ the-if3.false),
       (sym the-late-fault.ensures ∙ the-if4.false),
       (eq-eqb _ _ (rw the-times2.ensures at the-if5.false)),
-      sym (rw the-times2.ensures at c.all_in-2.ensures) ∙ not-true _ c.if-not-all_in-2.true,
+      sym (rw the-times2.ensures at c.all_in-2.ensures) ∙ c.if-not-all_in-2.true,
     )
 
 pub lengths_fit-requires : goal.lengths_fit-requires
@@ -135,10 +135,10 @@ returns-then-lengths_fit c =
     rw (
       (sym the-early-fault.ensures ∙ the-if1.false),
       (eq-eqb _ _ (rw the-times.ensures at the-if2.false)),
-      (sym (rw the-times.ensures at the-all-in.ensures) ∙ not-false _ the-if3.false),
+      (sym (rw the-times.ensures at the-all-in.ensures) ∙ the-if3.false),
       (sym the-late-fault.ensures ∙ the-if4.false),
       (eq-eqb _ _ (rw the-times2.ensures at the-if5.false)),
-      (sym (rw the-times2.ensures at the-all-in2.ensures) ∙ not-false _ the-if6.false),
+      (sym (rw the-times2.ensures at the-all-in2.ensures) ∙ the-if6.false),
       sym
           c.lengths_fit.ensures ∙ c.if-lengths_fit.true,
     )
@@ -161,10 +161,10 @@ returns c =
     rw (
       (sym the-early-fault.ensures ∙ the-if1.false),
       (eq-eqb _ _ (rw the-times.ensures at the-if2.false)),
-      (sym (rw the-times.ensures at the-all-in.ensures) ∙ not-false _ the-if3.false),
+      (sym (rw the-times.ensures at the-all-in.ensures) ∙ the-if3.false),
       (sym the-late-fault.ensures ∙ the-if4.false),
       (eq-eqb _ _ (rw the-times2.ensures at the-if5.false)),
-      (sym (rw the-times2.ensures at the-all-in2.ensures) ∙ not-false _ the-if6.false),
+      (sym (rw the-times2.ensures at the-all-in2.ensures) ∙ the-if6.false),
       sym
           c.lengths_fit.ensures ∙ c.if-lengths_fit.false,
     )

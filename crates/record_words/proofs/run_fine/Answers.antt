@@ -1,6 +1,6 @@
 -- `record_words::run_fine` meets its contract: from what its calls promise.
 use mathlib.Core.Path.{sym, ◌∙◌}
-use borrow.Author.Tests.{le-leb, lt-leb, not-true, not-false}
+use borrow.Author.Tests.{le-leb, lt-leb}
 use Rattle.record_words.specs.RecordWords.{run_fine}
 use Rattle.record_words.proofs.run_fine.Goals as goal
 
@@ -13,11 +13,11 @@ pub returns-then-not-settings_fine : goal.returns-then-not-settings_fine
 unfolding run_fine
 returns-then-not-settings_fine c =
     let the-if1 = c.if-words-lt14 in
-    rw (le-leb _ _ the-if1.false, sym c.settings_fine.ensures ∙ not-true _ c.if-not-settings_fine.true)
+    rw (le-leb _ _ the-if1.false, sym c.settings_fine.ensures ∙ c.if-not-settings_fine.true)
 
 pub returns : goal.returns
 unfolding run_fine
 returns c =
     let the-settings-fine = c.settings_fine in
     let the-if1 = c.if-words-lt14 in
-    rw (le-leb _ _ the-if1.false, sym the-settings-fine.ensures ∙ not-false _ c.if-not-settings_fine.false)
+    rw (le-leb _ _ the-if1.false, sym the-settings-fine.ensures ∙ c.if-not-settings_fine.false)

@@ -9,5 +9,5 @@ returns c =
     let the-value-of4 = c.value_of-minimum in
     let the-value-of3 = c.value_of-angle in
     let the-value-of2 = c.value_of-rate in
-    let the-value-of = c.value_of_lem in
+    let the-value-of = c.value_of-perplexity in
     rw (the-value-of.ensures, the-value-of2.ensures, the-value-of3.ensures, the-value-of4.ensures, the-method-of.ensures)

@@ -3,12 +3,12 @@ use Rattle.run_budget.proofs.stands.Goals as goal
 
 pub returns-in-Running : goal.returns-in-Running
 returns-in-Running c =
-    rw c.enum_told-1.given.1
+    rw c.in-Running.is
 
 pub returns-in-Stopped : goal.returns-in-Stopped
 returns-in-Stopped c =
-    rw c.enum_told-in-Stopped-1.given.1
+    rw c.in-Stopped.is
 
 pub returns-in-Finished : goal.returns-in-Finished
 returns-in-Finished c =
-    rw c.enum_told-in-Finished-1.given.1
+    rw c.in-Finished.is

@@ -1,20 +1,19 @@
 -- `run_entry::asks_tree` meets its contract: from what its calls promise.
 use Rattle.run_entry.specs.Entry.{asks_tree}
-use borrow.Author.Tests.{not-true, not-false}
 use mathlib.Core.Path.{sym, ◌∙◌}
 use Rattle.run_entry.proofs.asks_tree.Goals as goal
 
 pub returns-then-not-is_fine : goal.returns-then-not-is_fine
 unfolding asks_tree
 returns-then-not-is_fine c =
-    rw (sym c.is_fine.ensures ∙ not-true _ c.if-not-is_fine.true)
+    rw (sym c.is_fine.ensures ∙ c.if-not-is_fine.true)
 
 pub returns-then-not-is_tree : goal.returns-then-not-is_tree
 unfolding asks_tree
 returns-then-not-is_tree c =
     let the-if1 = c.if-not-is_fine in
     let the-is-fine = c.is_fine in
-    rw (sym the-is-fine.ensures ∙ not-false _ the-if1.false, sym c.is_tree.ensures ∙ not-true _ c.if-not-is_tree.true)
+    rw (sym the-is-fine.ensures ∙ the-if1.false, sym c.is_tree.ensures ∙ c.if-not-is_tree.true)
 
 pub returns : goal.returns
 unfolding asks_tree
@@ -22,4 +21,4 @@ returns c =
     let the-is-tree = c.is_tree in
     let the-if1 = c.if-not-is_fine in
     let the-is-fine = c.is_fine in
-    rw (sym the-is-fine.ensures ∙ not-false _ the-if1.false, sym the-is-tree.ensures ∙ not-false _ c.if-not-is_tree.false)
+    rw (sym the-is-fine.ensures ∙ the-if1.false, sym the-is-tree.ensures ∙ c.if-not-is_tree.false)

@@ -9,13 +9,13 @@ pub returns-then-not-is_fine : goal.returns-then-not-is_fine
 unfolding fault_before_tree
 returns-then-not-is_fine c =
     let the-record-fault = c.record_fault-t in
-    rw (sym (rw the-record-fault.ensures at c.is_fine.ensures) ∙ not-true _ c.if-not-is_fine.true) the-record-fault.ensures
+    rw (sym (rw the-record-fault.ensures at c.is_fine.ensures) ∙ c.if-not-is_fine.true) the-record-fault.ensures
 
 pub areas_fit-requires : goal.areas_fit-requires
 areas_fit-requires c =
     let the-is-fine = c.is_fine in
     let the-record-fault = c.record_fault-t in
-    (record-fine _ (sym (rw the-record-fault.ensures at the-is-fine.ensures) ∙ not-false _ c.if-not-is_fine.false)).0
+    (record-fine _ (sym (rw the-record-fault.ensures at the-is-fine.ensures) ∙ c.if-not-is_fine.false)).0
 
 pub returns-then-not-areas_fit : goal.returns-then-not-areas_fit
 unfolding fault_before_tree
@@ -24,7 +24,7 @@ returns-then-not-areas_fit c =
     let the-is-fine = c.is_fine in
     let the-record-fault = c.record_fault-t in
     rw (
-      sym (rw the-record-fault.ensures at the-is-fine.ensures) ∙ not-false _ the-if1.false,
+      sym (rw the-record-fault.ensures at the-is-fine.ensures) ∙ the-if1.false,
       sym c.areas_fit.ensures ∙ not-true _
           c.if-not-areas_fit.true,
     )
@@ -38,10 +38,10 @@ returns-then-not-is_tree c =
     let the-is-fine = c.is_fine in
     let the-record-fault = c.record_fault-t in
     rw (
-      sym (rw the-record-fault.ensures at the-is-fine.ensures) ∙ not-false _ the-if1.false,
+      sym (rw the-record-fault.ensures at the-is-fine.ensures) ∙ the-if1.false,
       sym the-areas-fit.ensures ∙ not-false _
           the-if2.false,
-      sym c.is_tree.ensures ∙ not-true _ c.if-not-is_tree.true,
+      sym c.is_tree.ensures ∙ c.if-not-is_tree.true,
     )
 
 pub lists_fault-requires : goal.lists_fault-requires
@@ -51,10 +51,10 @@ lists_fault-requires c =
     let the-if1 = c.if-not-is_fine in
     let the-is-fine = c.is_fine in
     let the-record-fault = c.record_fault-t in
-    let t = sym c.is_tree.ensures ∙ not-false _ c.if-not-is_tree.false in
-    let g = (areas-fine _ _ _ _ _ _ _ _ _ (sym the-areas-fit.ensures ∙ not-false _ the-if2.false)).tree-long t in
+    let t = sym c.is_tree.ensures ∙ c.if-not-is_tree.false in
+    let g = (areas-fine _ _ _ _ _ _ _ _ _ (sym the-areas-fit.ensures ∙ the-if2.false)).tree-long t in
     record {
-      settings-good = (record-fine _ (sym (rw the-record-fault.ensures at the-is-fine.ensures) ∙ not-false _ the-if1.false)).0;
+      settings-good = (record-fine _ (sym (rw the-record-fault.ensures at the-is-fine.ensures) ∙ the-if1.false)).0;
       barnes-hut = t;
       x-long = g.indices-most;
       o-long = g.offsets-most;
@@ -70,8 +70,8 @@ returns c =
     let the-is-fine = c.is_fine in
     let the-record-fault = c.record_fault-t in
     rw (
-      sym (rw the-record-fault.ensures at the-is-fine.ensures) ∙ not-false _ the-if1.false,
+      sym (rw the-record-fault.ensures at the-is-fine.ensures) ∙ the-if1.false,
       sym the-areas-fit.ensures ∙ not-false _
           the-if2.false,
-      sym the-is-tree.ensures ∙ not-false _ c.if-not-is_tree.false,
+      sym the-is-tree.ensures ∙ c.if-not-is_tree.false,
     ) c.lists_fault.ensures

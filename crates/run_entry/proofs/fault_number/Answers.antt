@@ -5,34 +5,34 @@ use Rattle.run_entry.proofs.fault_number.Goals as goal
 pub returns-in-Fine : goal.returns-in-Fine
 unfolding fault_number
 returns-in-Fine c =
-    rw c.enum_told-1.given.1
+    rw c.in-Fine.is
 
 pub returns-in-Settings : goal.returns-in-Settings
 unfolding fault_number
 returns-in-Settings c =
-    rw c.enum_told-in-Settings-1.given.1
+    rw c.in-Settings.is
 
 pub returns-in-Counters : goal.returns-in-Counters
 unfolding fault_number
 returns-in-Counters c =
-    rw c.enum_told-in-Counters-1.given.1
+    rw c.in-Counters.is
 
 pub returns-in-Areas : goal.returns-in-Areas
 unfolding fault_number
 returns-in-Areas c =
-    rw c.enum_told-in-Areas-1.given.1
+    rw c.in-Areas.is
 
 pub returns-in-Offsets : goal.returns-in-Offsets
 unfolding fault_number
 returns-in-Offsets c =
-    rw c.enum_told-in-Offsets-1.given.1
+    rw c.in-Offsets.is
 
 pub returns-in-Index : goal.returns-in-Index
 unfolding fault_number
 returns-in-Index c =
-    rw c.enum_told-in-Index-1.given.1
+    rw c.in-Index.is
 
 pub returns-in-Tree : goal.returns-in-Tree
 unfolding fault_number
 returns-in-Tree c =
-    rw c.enum_told-in-Tree-1.given.1
+    rw c.in-Tree.is

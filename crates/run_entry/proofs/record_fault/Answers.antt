@@ -1,7 +1,7 @@
 -- `run_entry::record_fault` meets its contract: by `settings-fine`.
 use Rattle.run_record.proofs.Laws.{settings-fine}
 use mathlib.Core.Path.{sym, ◌∙◌}
-use borrow.Author.Tests.{eq-eqb, ne_eqb, not-true, not-false}
+use borrow.Author.Tests.{eq-eqb, ne_eqb}
 use Rattle.run_entry.specs.Entry.{record_fault}
 use Rattle.run_entry.proofs.record_fault.Goals as goal
 
@@ -19,11 +19,11 @@ unfolding record_fault
 returns-then-not-counters_ok c =
     let the-if1 = c.if-k-ne0 in
     let the-settings-fault = c.settings_fault-k in
-    rw (eq-eqb _ _ (sym the-settings-fault.ensures ∙ the-if1.false), sym c.counters_ok.ensures ∙ not-true _ c.if-not-counters_ok.true)
+    rw (eq-eqb _ _ (sym the-settings-fault.ensures ∙ the-if1.false), sym c.counters_ok.ensures ∙ c.if-not-counters_ok.true)
 
 pub returns : goal.returns
 unfolding record_fault
 returns c =
     let the-if1 = c.if-k-ne0 in
     let the-settings-fault = c.settings_fault-k in
-    rw (eq-eqb _ _ (sym the-settings-fault.ensures ∙ the-if1.false), sym c.counters_ok.ensures ∙ not-false _ c.if-not-counters_ok.false)
+    rw (eq-eqb _ _ (sym the-settings-fault.ensures ∙ the-if1.false), sym c.counters_ok.ensures ∙ c.if-not-counters_ok.false)

@@ -26,7 +26,7 @@ unfolding finish_unit pace_of
 returns-in_default c =
     let the-finish = c.finish-a in
     let the-pace = c.pace-p in
-    finish-wild _ _ _ _ _ _ _ _ (rw the-pace.ensures at the-finish.ensures) _ _ c.enum_told-in_default-1.given.1
+    finish-wild _ _ _ _ _ _ _ _ (rw the-pace.ensures at the-finish.ensures) _ _ c.in_default.is
 
 pub overflow_mul-s : goal.overflow_mul-s
 overflow_mul-s c =
@@ -46,5 +46,5 @@ returns c =
     let the-enum-told = c.enum_told-1 in
     let the-finish = c.finish-a in
     let the-pace = c.pace-p in
-    finish-moved _ _ _ _ _ _ _ _ (rw the-pace.ensures at the-finish.ensures) the-enum-told.given.1
+    finish-moved _ _ _ _ _ _ _ _ (rw the-pace.ensures at the-finish.ensures) the-enum-told.is
     (rw the-pace.ensures at c.norm-norm.ensures) c.closed-next.ensures

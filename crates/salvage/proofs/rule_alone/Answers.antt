@@ -1,6 +1,6 @@
 -- `salvage::rule_alone` meets its contract: each return, by the tests that led there. Assumes nothing.
 use mathlib.Core.Path.{sym, ◌∙◌}
-use borrow.Author.Tests.{not-true, not-false}
+use borrow.Author.Tests.{not-true}
 use Rattle.salvage.specs.Salvage.{rule_alone}
 use Rattle.salvage.proofs.rule_alone.Goals as goal
 
@@ -8,7 +8,7 @@ pub returns-then-not-picture_fine : goal.returns-then-not-picture_fine
 unfolding rule_alone
 returns-then-not-picture_fine c =
     let the-half-word = c.half_word in
-    rw (rw the-half-word.ensures.0 at (sym c.picture_fine.ensures ∙ not-true _ c.if-not-picture_fine.true))
+    rw (rw the-half-word.ensures.0 at (sym c.picture_fine.ensures ∙ c.if-not-picture_fine.true))
 
 pub returns-then-not-side_fine : goal.returns-then-not-side_fine
 unfolding rule_alone
@@ -17,7 +17,7 @@ returns-then-not-side_fine c =
     let the-picture-fine = c.picture_fine in
     let the-half-word = c.half_word in
     rw (
-      (rw the-half-word.ensures.0 at (sym the-picture-fine.ensures ∙ not-false _ the-if1.false)),
+      (rw the-half-word.ensures.0 at (sym the-picture-fine.ensures ∙ the-if1.false)),
       sym c.side_fine.ensures ∙ not-true _
           c.if-not-side_fine.true,
     )
@@ -31,9 +31,9 @@ returns-then-not-field_fine c =
     let the-picture-fine = c.picture_fine in
     let the-half-word = c.half_word in
     rw (
-      (rw the-half-word.ensures.0 at (sym the-picture-fine.ensures ∙ not-false _ the-if1.false)),
-      (sym the-side-fine.ensures ∙ not-false _ the-if2.false),
-      sym c.field_fine.ensures ∙ not-true _ c.if-not-field_fine.true,
+      (rw the-half-word.ensures.0 at (sym the-picture-fine.ensures ∙ the-if1.false)),
+      (sym the-side-fine.ensures ∙ the-if2.false),
+      sym c.field_fine.ensures ∙ c.if-not-field_fine.true,
     )
 
 pub returns-then-not-spare_fine : goal.returns-then-not-spare_fine
@@ -47,11 +47,11 @@ returns-then-not-spare_fine c =
     let the-picture-fine = c.picture_fine in
     let the-half-word = c.half_word in
     rw (
-      (rw the-half-word.ensures.0 at (sym the-picture-fine.ensures ∙ not-false _ the-if1.false)),
-      (sym the-side-fine.ensures ∙ not-false _ the-if2.false),
-      (sym the-field-fine.ensures ∙ not-false _ the-if3.false),
+      (rw the-half-word.ensures.0 at (sym the-picture-fine.ensures ∙ the-if1.false)),
+      (sym the-side-fine.ensures ∙ the-if2.false),
+      (sym the-field-fine.ensures ∙ the-if3.false),
       sym
-          c.spare_fine.ensures ∙ not-true _ c.if-not-spare_fine.true,
+          c.spare_fine.ensures ∙ c.if-not-spare_fine.true,
     )
 
 pub returns-then-not-values_fine : goal.returns-then-not-values_fine
@@ -67,11 +67,11 @@ returns-then-not-values_fine c =
     let the-picture-fine = c.picture_fine in
     let the-half-word = c.half_word in
     rw (
-      (rw the-half-word.ensures.0 at (sym the-picture-fine.ensures ∙ not-false _ the-if1.false)),
-      (sym the-side-fine.ensures ∙ not-false _ the-if2.false),
-      (sym the-field-fine.ensures ∙ not-false _ the-if3.false),
-      (sym the-spare-fine.ensures ∙ not-false _ the-if4.false),
-      sym c.values_fine.ensures ∙ not-true _ c.if-not-values_fine.true,
+      (rw the-half-word.ensures.0 at (sym the-picture-fine.ensures ∙ the-if1.false)),
+      (sym the-side-fine.ensures ∙ the-if2.false),
+      (sym the-field-fine.ensures ∙ the-if3.false),
+      (sym the-spare-fine.ensures ∙ the-if4.false),
+      sym c.values_fine.ensures ∙ c.if-not-values_fine.true,
     )
 
 pub returns : goal.returns
@@ -87,9 +87,9 @@ returns c =
     let the-picture-fine = c.picture_fine in
     let the-half-word = c.half_word in
     rw (
-      (rw the-half-word.ensures.0 at (sym the-picture-fine.ensures ∙ not-false _ the-if1.false)),
-      (sym the-side-fine.ensures ∙ not-false _ the-if2.false),
-      (sym the-field-fine.ensures ∙ not-false _ the-if3.false),
-      (sym the-spare-fine.ensures ∙ not-false _ the-if4.false),
-      sym c.values_fine.ensures ∙ not-false _ c.if-not-values_fine.false,
+      (rw the-half-word.ensures.0 at (sym the-picture-fine.ensures ∙ the-if1.false)),
+      (sym the-side-fine.ensures ∙ the-if2.false),
+      (sym the-field-fine.ensures ∙ the-if3.false),
+      (sym the-spare-fine.ensures ∙ the-if4.false),
+      sym c.values_fine.ensures ∙ c.if-not-values_fine.false,
     )

@@ -7,29 +7,29 @@ use Rattle.scatter.proofs.scatter.Goals as goal
 pub returns-then-c-eq0 : goal.returns-then-c-eq0
 unfolding scatter_of
 returns-then-c-eq0 c =
-    simp (eq-eqb _ _ c.if-c-eq0.taken)
+    simp (eq-eqb _ _ c.if-c-eq0.true)
 
 pub returns-then-c-gt-MOST_COMPONENTS : goal.returns-then-c-gt-MOST_COMPONENTS
 unfolding scatter_of
 returns-then-c-gt-MOST_COMPONENTS c =
-    simp (ne_eqb _ _ c.if-c-eq0.left, lt-ltb _ _ c.if-c-gt-MOST_COMPONENTS.taken)
+    simp (ne_eqb _ _ c.if-c-eq0.false, lt-ltb _ _ c.if-c-gt-MOST_COMPONENTS.true)
 
 pub returns-then-n-eq0 : goal.returns-then-n-eq0
 unfolding scatter_of
 returns-then-n-eq0 c =
     let the-if1 = c.if-c-eq0 in
-    simp (ne_eqb _ _ the-if1.left, le-ltb _ _ c.if-c-gt-MOST_COMPONENTS.left, eq-eqb _ _ c.if-n-eq0.taken)
+    simp (ne_eqb _ _ the-if1.false, le-ltb _ _ c.if-c-gt-MOST_COMPONENTS.false, eq-eqb _ _ c.if-n-eq0.true)
 
 pub returns-then-n-gt-MOST_FRAMES : goal.returns-then-n-gt-MOST_FRAMES
 unfolding scatter_of
 returns-then-n-gt-MOST_FRAMES c =
     let the-if2 = c.if-c-gt-MOST_COMPONENTS in
     let the-if1 = c.if-c-eq0 in
-    simp (ne_eqb _ _ the-if1.left, le-ltb _ _ the-if2.left, ne_eqb _ _ c.if-n-eq0.left, lt-ltb _ _ c.if-n-gt-MOST_FRAMES.taken)
+    simp (ne_eqb _ _ the-if1.false, le-ltb _ _ the-if2.false, ne_eqb _ _ c.if-n-eq0.false, lt-ltb _ _ c.if-n-gt-MOST_FRAMES.true)
 
 pub overflow_mul-m : goal.overflow_mul-m
 overflow_mul-m c =
-    record { fits = lt_of_le_of_lt (mul-le-mul c.if-n-gt-MOST_FRAMES.left c.if-c-gt-MOST_COMPONENTS.left) (omega arith) }
+    record { fits = lt_of_le_of_lt (mul-le-mul c.if-n-gt-MOST_FRAMES.false c.if-c-gt-MOST_COMPONENTS.false) (omega arith) }
 
 pub overflow_cast-m : goal.overflow_cast-m
 overflow_cast-m c =
@@ -41,7 +41,7 @@ returns-then-positions-m c =
     let the-if3 = c.if-n-eq0 in
     let the-if2 = c.if-c-gt-MOST_COMPONENTS in
     let the-if1 = c.if-c-eq0 in
-    simp (ne_eqb _ _ the-if1.left, le-ltb _ _ the-if2.left, ne_eqb _ _ the-if3.left, le-ltb _ _ c.if-n-gt-MOST_FRAMES.left, lt-ltb _ _ c.if-positions-m.taken)
+    simp (ne_eqb _ _ the-if1.false, le-ltb _ _ the-if2.false, ne_eqb _ _ the-if3.false, le-ltb _ _ c.if-n-gt-MOST_FRAMES.false, lt-ltb _ _ c.if-positions-m.true)
 
 pub returns : goal.returns
 unfolding scatter_of
@@ -52,5 +52,5 @@ returns c =
     let the-if3 = c.if-n-eq0 in
     let the-if2 = c.if-c-gt-MOST_COMPONENTS in
     let the-if1 = c.if-c-eq0 in
-    simp (ne_eqb _ _ the-if1.left, le-ltb _ _ the-if2.left, ne_eqb _ _ the-if3.left, le-ltb _ _ the-if4.left, le-ltb _ _ the-if5.left)
+    simp (ne_eqb _ _ the-if1.false, le-ltb _ _ the-if2.false, ne_eqb _ _ the-if3.false, le-ltb _ _ the-if4.false, le-ltb _ _ the-if5.false)
     (rw the-random-init.ensures)

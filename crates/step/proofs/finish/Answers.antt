@@ -2,7 +2,6 @@
 use Prim.Native.Nat.{◌^◌}
 use lib.Dec.{le→leb}
 use lib.Ieee.{in_float}
-use borrow.Author.Tests.{not-true, not-false}
 use mathlib.Core.Path.{sym, ◌∙◌}
 use Rattle.step.proofs.Laws.{finish-no-moves, finish-no-centred, finish-done}
 use native.Mathlib.Omega.{arith}
@@ -10,7 +9,7 @@ use Rattle.step.proofs.finish.Goals as goal
 
 pub returns-then-not-sum_moves : goal.returns-then-not-sum_moves
 returns-then-not-sum_moves c =
-    finish-no-moves _ _ _ (sym c.sum_moves.ensures.0 ∙ not-true _ c.if-not-sum_moves.true)
+    finish-no-moves _ _ _ (sym c.sum_moves.ensures.0 ∙ c.if-not-sum_moves.true)
 
 pub int_to_float-n : goal.int_to_float-n
 unfolding in_float
@@ -22,8 +21,8 @@ returns-then-not-calm_centred c =
     let the-take-means = c.take_means in
     let the-if1 = c.if-not-sum_moves in
     let the-sum-moves = c.sum_moves in
-    finish-no-centred _ _ _ (rw the-sum-moves.ensures.1 at the-take-means.ensures) (sym the-sum-moves.ensures.0 ∙ (not-false _ the-if1.false))
-    (sym c.calm_centred.ensures ∙ not-true _ c.if-not-calm_centred.true)
+    finish-no-centred _ _ _ (rw the-sum-moves.ensures.1 at the-take-means.ensures) (sym the-sum-moves.ensures.0 ∙ the-if1.false)
+    (sym c.calm_centred.ensures ∙ c.if-not-calm_centred.true)
 
 pub returns : goal.returns
 returns c =
@@ -33,5 +32,5 @@ returns c =
     let the-take-means = c.take_means in
     let the-if1 = c.if-not-sum_moves in
     let the-sum-moves = c.sum_moves in
-    finish-done _ _ _ (rw the-sum-moves.ensures.1 at the-take-means.ensures) (sym the-sum-moves.ensures.0 ∙ (not-false _ the-if1.false))
-    (sym the-calm-centred.ensures ∙ not-false _ the-if2.false) the-write-moves.ensures
+    finish-done _ _ _ (rw the-sum-moves.ensures.1 at the-take-means.ensures) (sym the-sum-moves.ensures.0 ∙ the-if1.false)
+    (sym the-calm-centred.ensures ∙ the-if2.false) the-write-moves.ensures

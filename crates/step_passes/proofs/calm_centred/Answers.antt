@@ -1,4 +1,3 @@
-use borrow.Author.Tests.{not-true, not-false}
 use mathlib.Core.Path.{sym, ◌∙◌}
 use Rattle.step_passes.proofs.Laws.{component-in, tested-start, tested-next, tested-no, tested-done}
 use Prim.Native.Nat.{◌-◌}
@@ -24,14 +23,14 @@ returns-then-not-is_calm c =
     let the-element-at = c.element_at-x in
     let the-loop-test = c.loop-e-test in
     let the-loop = c.loop-e in
-    tested-no the-loop.invariant the-loop-test.true the-element-at.ensures (sym c.is_calm.ensures ∙ not-true _ c.if-not-is_calm.true)
+    tested-no the-loop.invariant the-loop-test.true the-element-at.ensures (sym c.is_calm.ensures ∙ c.if-not-is_calm.true)
 
 pub loop-e-preserved : goal.loop-e-preserved
 loop-e-preserved c =
     let the-element-at = c.element_at-x in
     let the-loop-test = c.loop-e-test in
     let the-loop = c.loop-e in
-    tested-next the-loop.invariant the-loop-test.true the-element-at.ensures (sym c.is_calm.ensures ∙ not-false _ c.if-not-is_calm.false)
+    tested-next the-loop.invariant the-loop-test.true the-element-at.ensures (sym c.is_calm.ensures ∙ c.if-not-is_calm.false)
 
 pub returns : goal.returns
 returns c =

@@ -1,19 +1,18 @@
 -- `step_passes::still_calm` meets its contract: by `and_no`.
-use borrow.Author.Tests.{not-true, not-false}
 use mathlib.Core.Path.{sym, ◌∙◌}
 use Rattle.laws.proofs.Bools.{and_no}
 use Rattle.step_passes.proofs.still_calm.Goals as goal
 
 pub returns-then-not-sofar : goal.returns-then-not-sofar
 returns-then-not-sofar c =
-    rw (not-true c.args.sofar c.if-not-sofar.true)
+    rw c.if-not-sofar.true
 
 pub returns-then-not-is_calm : goal.returns-then-not-is_calm
 returns-then-not-is_calm c =
-    rw (sym c.is_calm.ensures ∙ not-true _ c.if-not-is_calm.true) (sym (and_no c.args.sofar))
+    rw (sym c.is_calm.ensures ∙ c.if-not-is_calm.true) (sym (and_no c.args.sofar))
 
 pub returns : goal.returns
 returns c =
     let the-is-calm = c.is_calm in
     let the-if1 = c.if-not-sofar in
-    rw (not-false c.args.sofar the-if1.false, sym the-is-calm.ensures ∙ not-false _ c.if-not-is_calm.false, c.is_calm-2.ensures)
+    rw (the-if1.false, sym the-is-calm.ensures ∙ c.if-not-is_calm.false, c.is_calm-2.ensures)

@@ -1,7 +1,7 @@
 -- `strip_profile::in_profile` meets its contract: from what its calls promise.
 use Rattle.strip_profile.specs.Profile.{in_profile}
 use mathlib.Core.Path.{sym, ◌∙◌}
-use borrow.Author.Tests.{eq-eqb, ne_eqb, not-true, not-false}
+use borrow.Author.Tests.{eq-eqb, ne_eqb}
 use Rattle.strip_profile.proofs.in_profile.Goals as goal
 
 pub returns-then-s-ne1 : goal.returns-then-s-ne1
@@ -13,7 +13,7 @@ pub returns-then-not-is_tree : goal.returns-then-not-is_tree
 unfolding in_profile
 returns-then-not-is_tree c =
     let the-if1 = c.if-s-ne1 in
-    simp (eq-eqb _ _ the-if1.false, sym c.is_tree.ensures ∙ not-true _ c.if-not-is_tree.true)
+    simp (eq-eqb _ _ the-if1.false, sym c.is_tree.ensures ∙ c.if-not-is_tree.true)
 
 pub returns-then-not-is_half : goal.returns-then-not-is_half
 unfolding in_profile
@@ -21,7 +21,7 @@ returns-then-not-is_half c =
     let the-if2 = c.if-not-is_tree in
     let the-is-tree = c.is_tree in
     let the-if1 = c.if-s-ne1 in
-    simp (eq-eqb _ _ the-if1.false, sym the-is-tree.ensures ∙ not-false _ the-if2.false, sym c.is_half.ensures ∙ not-true _ c.if-not-is_half.true)
+    simp (eq-eqb _ _ the-if1.false, sym the-is-tree.ensures ∙ the-if2.false, sym c.is_half.ensures ∙ c.if-not-is_half.true)
 
 pub returns : goal.returns
 unfolding in_profile
@@ -30,4 +30,4 @@ returns c =
     let the-if2 = c.if-not-is_tree in
     let the-is-tree = c.is_tree in
     let the-if1 = c.if-s-ne1 in
-    simp (eq-eqb _ _ the-if1.false, sym the-is-tree.ensures ∙ not-false _ the-if2.false, sym the-is-half.ensures ∙ not-false _ c.if-not-is_half.false)
+    simp (eq-eqb _ _ the-if1.false, sym the-is-tree.ensures ∙ the-if2.false, sym the-is-half.ensures ∙ c.if-not-is_half.false)

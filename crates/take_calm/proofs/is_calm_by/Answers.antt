@@ -3,7 +3,6 @@ use Rattle.take_calm.proofs.Over.{tests-left-start, tests-left-pass, tests-left-
 use Rattle.take_calm.specs.CalmLeft.{calm_left}
 use Rattle.take_gone.specs.Gone.{survivors}
 use Rattle.laws.proofs.Numbers.{row_in}
-use borrow.Author.Tests.{not-true, not-false}
 use mathlib.Core.Path.{sym, ◌∙◌}
 use Prim.Native.Nat.{◌-◌}
 use native.Mathlib.Omega.{arith}
@@ -56,7 +55,7 @@ returns-then-not-is_calm_row c =
     let the-loop = c.loop-j in
     sym (tests-left-no the-loop.invariant.0 the-loop-test.true (sym the-is-next.ensures ∙ the-if1.false)
     (sym (c.is_calm_row.ensures ∙ calm-row-same (survivors c.args.gone.now c.args.n) c.args.c
-    c.args.positions.now c.args.means.now c.requires.4 the-loop.j) ∙ not-true _ c.if-not-is_calm_row.true))
+    c.args.positions.now c.args.means.now c.requires.4 the-loop.j) ∙ c.if-not-is_calm_row.true))
 
 pub loop-j-preserved : goal.loop-j-preserved
 loop-j-preserved c =
@@ -67,7 +66,7 @@ loop-j-preserved c =
     (
       tests-left-next the-loop.invariant.0 the-loop-test.true (sym the-is-next.ensures ∙ the-if1.false)
           (sym (c.is_calm_row.ensures ∙ calm-row-same (survivors c.args.gone.now c.args.n) c.args.c
-          c.args.positions.now c.args.means.now c.requires.4 the-loop.j) ∙ not-false _ c.if-not-is_calm_row.false),
+          c.args.positions.now c.args.means.now c.requires.4 the-loop.j) ∙ c.if-not-is_calm_row.false),
       abreast-next
           the-loop.invariant.1 (sym the-is-next.ensures ∙ the-if1.false),
     )

@@ -1,6 +1,5 @@
 use Rattle.take_gone.specs.Gone.{gone_fine_at}
 use Rattle.laws.proofs.Every.{every-none, every-next, every-no, every-done}
-use borrow.Author.Tests.{not-true, not-false}
 use mathlib.Core.Bool.{true}
 use mathlib.Core.Path.{sym, ◌∙◌}
 use Prim.Native.Nat.{◌-◌}
@@ -15,13 +14,13 @@ pub returns-then-not-gone_fine_at : goal.returns-then-not-gone_fine_at
 returns-then-not-gone_fine_at c =
     let the-loop-test = c.loop-t-test in
     let the-loop = c.loop-t in
-    sym (every-no _ _ the-loop.t the-loop-test.true (sym c.gone_fine_at.ensures ∙ not-true _ c.if-not-gone_fine_at.true))
+    sym (every-no _ _ the-loop.t the-loop-test.true (sym c.gone_fine_at.ensures ∙ c.if-not-gone_fine_at.true))
 
 pub loop-t-preserved : goal.loop-t-preserved
 loop-t-preserved c =
     let the-loop-test = c.loop-t-test in
     let the-loop = c.loop-t in
-    (every-next _ _ the-loop.invariant.0 (sym c.gone_fine_at.ensures ∙ not-false _ c.if-not-gone_fine_at.false), omega (arith, the-loop-test.true))
+    (every-next _ _ the-loop.invariant.0 (sym c.gone_fine_at.ensures ∙ c.if-not-gone_fine_at.false), omega (arith, the-loop-test.true))
 
 pub returns : goal.returns
 returns c =

@@ -1,13 +1,12 @@
 -- `take_left::is_crowded` meets its contract: by `exact-not-crowded`, `few-not-crowded`, `crowded-counted`.
 use Rattle.take_left.proofs.Judged.{exact-not-crowded, few-not-crowded, crowded-counted}
-use borrow.Author.Tests.{not-true, not-false}
 use mathlib.Core.Path.{sym, ◌∙◌}
 use native.Mathlib.Omega.{arith}
 use Rattle.take_left.proofs.is_crowded.Goals as goal
 
 pub returns-then-not-is_tree : goal.returns-then-not-is_tree
 returns-then-not-is_tree c =
-    exact-not-crowded _ _ _ _ (sym c.is_tree.ensures ∙ not-true _ c.if-not-is_tree.true)
+    exact-not-crowded _ _ _ _ (sym c.is_tree.ensures ∙ c.if-not-is_tree.true)
 
 pub sizes_of-most-requires : goal.sizes_of-most-requires
 sizes_of-most-requires c =
@@ -16,20 +15,20 @@ sizes_of-most-requires c =
 pub offset_bounds-offsets-n : goal.offset_bounds-offsets-n
 offset_bounds-offsets-n c =
     let the-is-tree = c.is_tree in
-    omega (arith, (c.requires.counted-lie (sym the-is-tree.ensures ∙ not-false _ c.if-not-is_tree.false)).offsets-long)
+    omega (arith, (c.requires.counted-lie (sym the-is-tree.ensures ∙ c.if-not-is_tree.false)).offsets-long)
 
 pub bounds-offsets-n : goal.bounds-offsets-n
 bounds-offsets-n c =
     let the-if1 = c.if-not-is_tree in
     let the-is-tree = c.is_tree in
-    omega (arith, (c.requires.counted-lie (sym the-is-tree.ensures ∙ not-false _ the-if1.false)).offsets-long)
+    omega (arith, (c.requires.counted-lie (sym the-is-tree.ensures ∙ the-if1.false)).offsets-long)
 
 pub returns-then-wide-most : goal.returns-then-wide-most
 returns-then-wide-most c =
     let the-sizes-of = c.sizes_of-most in
     let the-if1 = c.if-not-is_tree in
     let the-is-tree = c.is_tree in
-    few-not-crowded c.requires (sym the-is-tree.ensures ∙ not-false _ the-if1.false) the-sizes-of.result the-sizes-of.ensures
+    few-not-crowded c.requires (sym the-is-tree.ensures ∙ the-if1.false) the-sizes-of.result the-sizes-of.ensures
     c.wide.result c.wide.ensures c.if-wide-most.true
 
 pub links_left-requires : goal.links_left-requires
@@ -39,8 +38,8 @@ links_left-requires c =
     (
       c.requires.samples-most,
       c.requires.gone-rises,
-      c.requires.counted-lie (sym the-is-tree.ensures ∙ not-false _ the-if1.false),
-      c.requires.counted-name (sym the-is-tree.ensures ∙ not-false _ the-if1.false),
+      c.requires.counted-lie (sym the-is-tree.ensures ∙ the-if1.false),
+      c.requires.counted-name (sym the-is-tree.ensures ∙ the-if1.false),
     )
 
 pub returns : goal.returns
@@ -48,5 +47,5 @@ returns c =
     let the-sizes-of = c.sizes_of-most in
     let the-if1 = c.if-not-is_tree in
     let the-is-tree = c.is_tree in
-    crowded-counted c.requires (sym the-is-tree.ensures ∙ not-false _ the-if1.false) the-sizes-of.result the-sizes-of.ensures
+    crowded-counted c.requires (sym the-is-tree.ensures ∙ the-if1.false) the-sizes-of.result the-sizes-of.ensures
     c.links_left.result c.links_left.ensures

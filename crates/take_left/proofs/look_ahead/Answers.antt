@@ -12,7 +12,6 @@ use mathlib.Core.Bool.{true, false}
 use mathlib.Core.Path.{◌≡◌}
 use Rattle.take_left.proofs.Judged.{count_left, late-above, judged-inside, judged-unordered, judged-few, judged-perplexed}
 use Rattle.take_gone.proofs.Left.{gone-climbs}
-use borrow.Author.Tests.{not-true, not-false}
 use Prim.Native.Nat.{ℕ, ◌≤◌}
 use mathlib.Core.Path.{sym, ap, subst, ◌∙◌}
 use native.Mathlib.Omega.{arith}
@@ -27,12 +26,12 @@ pub returns-then-not-gone_fine : goal.returns-then-not-gone_fine
 returns-then-not-gone_fine c =
     let the-if1 = c.if-r-ne0 in
     judged-unordered c.args.r c.args.gone.now c.args.positions.now c.args.indices.now
-    c.args.offsets.now the-if1.false (sym c.gone_fine.ensures ∙ not-true _ c.if-not-gone_fine.true)
+    c.args.offsets.now the-if1.false (sym c.gone_fine.ensures ∙ c.if-not-gone_fine.true)
 
 pub overflow_sub-m : goal.overflow_sub-m
 overflow_sub-m c =
     let the-gone-fine = c.gone_fine in
-    omega (arith, count_left c.args.gone.now c.args.r.settings.n (sym the-gone-fine.ensures ∙ not-false _ c.if-not-gone_fine.false))
+    omega (arith, count_left c.args.gone.now c.args.r.settings.n (sym the-gone-fine.ensures ∙ c.if-not-gone_fine.false))
 
 pub returns-then-m-lt2 : goal.returns-then-m-lt2
 returns-then-m-lt2 c =
@@ -40,10 +39,10 @@ returns-then-m-lt2 c =
     let the-gone-fine = c.gone_fine in
     let the-if1 = c.if-r-ne0 in
     judged-few c.args.r c.args.gone.now c.args.positions.now c.args.indices.now
-    c.args.offsets.now the-if1.false (sym the-gone-fine.ensures ∙ not-false _ the-if2.false)
+    c.args.offsets.now the-if1.false (sym the-gone-fine.ensures ∙ the-if2.false)
     (omega (
       arith,
-      (count_left c.args.gone.now c.args.r.settings.n (sym the-gone-fine.ensures ∙ not-false _ the-if2.false)),
+      (count_left c.args.gone.now c.args.r.settings.n (sym the-gone-fine.ensures ∙ the-if2.false)),
       c.if-m-lt2.true,
     ))
 
@@ -64,13 +63,13 @@ returns-then-late_fault-ne0 c =
     let the-gone-fine = c.gone_fine in
     let the-if1 = c.if-r-ne0 in
     judged-perplexed c.args.r c.args.gone.now c.args.positions.now c.args.indices.now
-    c.args.offsets.now the-if1.false (sym the-gone-fine.ensures ∙ not-false _ the-if2.false)
+    c.args.offsets.now the-if1.false (sym the-gone-fine.ensures ∙ the-if2.false)
     (omega (
       arith,
-      (count_left c.args.gone.now c.args.r.settings.n (sym the-gone-fine.ensures ∙ not-false _ the-if2.false)),
+      (count_left c.args.gone.now c.args.r.settings.n (sym the-gone-fine.ensures ∙ the-if2.false)),
       the-if3.false,
     )) (subst (λ (x : ℕ). lt c.args.r.settings.perplexity (of_int binary64 (pos x)) ≡ false)
-    (count_left c.args.gone.now c.args.r.settings.n (sym the-gone-fine.ensures ∙ not-false _ the-if2.false)).1
+    (count_left c.args.gone.now c.args.r.settings.n (sym the-gone-fine.ensures ∙ the-if2.false)).1
     (late-above c.args.r.settings _ _ (omega (arith, the-if3.false))
     (c.late_fault.ensures ∙ ap late_fault the-thinned-settings.ensures) c.if-late_fault-ne0.true))
 
@@ -82,7 +81,7 @@ is_crowded-requires c =
     let the-gone-fine = c.gone_fine in
     let the-if1 = c.if-r-ne0 in
     judging-room c.requires
-    (judging c.args.r c.args.gone.now _ _ _ the-if1.false (sym the-gone-fine.ensures ∙ not-false _ the-if2.false) refl
+    (judging c.args.r c.args.gone.now _ _ _ the-if1.false (sym the-gone-fine.ensures ∙ the-if2.false) refl
     (omega (arith, the-if3.false)) the-thinned-settings.ensures c.late_fault.ensures c.if-late_fault-ne0.false)
 
 pub returns-then-is_crowded : goal.returns-then-is_crowded
@@ -95,7 +94,7 @@ returns-then-is_crowded c =
     let the-gone-fine = c.gone_fine in
     let the-if1 = c.if-r-ne0 in
     told-crowded _ _ _ (judging c.args.r c.args.gone.now _ _ _ the-if1.false
-    (sym the-gone-fine.ensures ∙ not-false _ the-if2.false) refl (omega (arith, the-if3.false)) the-thinned-settings.ensures the-late-fault.ensures
+    (sym the-gone-fine.ensures ∙ the-if2.false) refl (omega (arith, the-if3.false)) the-thinned-settings.ensures the-late-fault.ensures
     the-if4.false) (sym c.is_crowded.ensures ∙ c.if-is_crowded.true)
 
 pub is_calm_left-requires : goal.is_calm_left-requires
@@ -107,7 +106,7 @@ is_calm_left-requires c =
     let the-if2 = c.if-not-gone_fine in
     let the-gone-fine = c.gone_fine in
     let the-if1 = c.if-r-ne0 in
-    let j = (judging c.args.r c.args.gone.now _ _ _ the-if1.false (sym the-gone-fine.ensures ∙ not-false _ the-if2.false) refl
+    let j = (judging c.args.r c.args.gone.now _ _ _ the-if1.false (sym the-gone-fine.ensures ∙ the-if2.false) refl
     (omega (arith, the-if3.false)) the-thinned-settings.ensures the-late-fault.ensures the-if4.false) in (
       c.requires.settings-good.n-most,
       c.requires.settings-good.c-most,
@@ -129,7 +128,7 @@ returns-then-is_calm_left c =
     let the-gone-fine = c.gone_fine in
     let the-if1 = c.if-r-ne0 in
     told-left _ _ _ (judging c.args.r c.args.gone.now _ _ _ the-if1.false
-    (sym the-gone-fine.ensures ∙ not-false _ the-if2.false) refl (omega (arith, the-if3.false)) the-thinned-settings.ensures the-late-fault.ensures
+    (sym the-gone-fine.ensures ∙ the-if2.false) refl (omega (arith, the-if3.false)) the-thinned-settings.ensures the-late-fault.ensures
     the-if4.false) (sym the-is-crowded.ensures ∙ the-if5.false) (sym c.is_calm_left.ensures ∙ c.if-is_calm_left.true)
 
 pub returns : goal.returns
@@ -144,5 +143,5 @@ returns c =
     let the-gone-fine = c.gone_fine in
     let the-if1 = c.if-r-ne0 in
     told-barred _ _ _ (judging c.args.r c.args.gone.now _ _ _ the-if1.false
-    (sym the-gone-fine.ensures ∙ not-false _ the-if2.false) refl (omega (arith, the-if3.false)) the-thinned-settings.ensures the-late-fault.ensures
+    (sym the-gone-fine.ensures ∙ the-if2.false) refl (omega (arith, the-if3.false)) the-thinned-settings.ensures the-late-fault.ensures
     the-if4.false) (sym the-is-crowded.ensures ∙ the-if5.false) (sym c.is_calm_left.ensures ∙ c.if-is_calm_left.false)

@@ -6,9 +6,9 @@ use Rattle.take_out.proofs.number.Goals as goal
 pub returns-in-Told : goal.returns-in-Told
 unfolding take_number
 returns-in-Told c =
-    c.number.ensures ∙ ap take_number (sym c.a-1.given.1)
+    c.number.ensures ∙ ap take_number (sym c.in-Told.is)
 
 pub returns-in-Bad : goal.returns-in-Bad
 unfolding take_number
 returns-in-Bad c =
-    c.fault_number.ensures ∙ ap take_number (sym c.a-in-Bad-1.given.1)
+    c.fault_number.ensures ∙ ap take_number (sym c.in-Bad.is)

@@ -1,7 +1,6 @@
 -- `take_out::take_tested` meets its contract: by `tested-bad`, `tested-told`, `tested-done`, `tested-count`, `tested-room`, `survivors-few`.
 use Rattle.take_out.proofs.Tested.{tested-bad, tested-told, tested-done, tested-count, tested-room}
 use Rattle.take_out.specs.TakeOut.{holdings}
-use borrow.Author.Tests.{not-true, not-false}
 use mathlib.Core.Path.{refl, sym, ◌∙◌}
 use native.Mathlib.Omega.{arith}
 use Rattle.take_out.proofs.take_tested.Goals as goal
@@ -12,13 +11,13 @@ is_fine-requires c =
 
 pub returns-then-not-is_fine : goal.returns-then-not-is_fine
 returns-then-not-is_fine c =
-    tested-bad c.args.f c.args.r c.args.gone.now _ (sym c.is_fine.ensures ∙ not-true _ c.if-not-is_fine.true)
+    tested-bad c.args.f c.args.r c.args.gone.now _ (sym c.is_fine.ensures ∙ c.if-not-is_fine.true)
 
 pub look_ahead-v-requires : goal.look_ahead-v-requires
 look_ahead-v-requires c =
     let the-if1 = c.if-not-is_fine in
     let the-is-fine = c.is_fine in
-    (c.requires (sym the-is-fine.ensures ∙ not-false _ the-if1.false)).outlook-room
+    (c.requires (sym the-is-fine.ensures ∙ the-if1.false)).outlook-room
 
 pub is_accepted-requires : goal.is_accepted-requires
 is_accepted-requires c =
@@ -44,7 +43,7 @@ returns-then-not-is_accepted c =
     tested-told c.args.f c.args.r c.args.gone.now
     (holdings c.args.positions.now c.args.increments.now c.args.gains.now c.args.affinities.now
     c.args.indices.now c.args.offsets.now c.args.forces.now c.args.table.now c.args.old.now)
-    (sym the-is-fine.ensures ∙ not-false _ the-if1.false) _ the-look-ahead.ensures (sym c.is_accepted.ensures ∙ not-true _ c.if-not-is_accepted.true)
+    (sym the-is-fine.ensures ∙ the-if1.false) _ the-look-ahead.ensures (sym c.is_accepted.ensures ∙ c.if-not-is_accepted.true)
 
 pub overflow_sub-s : goal.overflow_sub-s
 overflow_sub-s c =
@@ -56,7 +55,7 @@ overflow_sub-s c =
       tested-count c.args.r c.args.gone.now
           (holdings c.args.positions.now c.args.increments.now c.args.gains.now c.args.affinities.now
           c.args.indices.now c.args.offsets.now c.args.forces.now c.args.table.now c.args.old.now)
-          the-look-ahead.ensures (sym the-is-accepted.ensures ∙ not-false _ the-if2.false),
+          the-look-ahead.ensures (sym the-is-accepted.ensures ∙ the-if2.false),
     )
 
 pub thinned_run-run-requires : goal.thinned_run-run-requires
@@ -64,8 +63,8 @@ thinned_run-run-requires c =
     let the-if1 = c.if-not-is_fine in
     let the-is-fine = c.is_fine in
     (
-      omega (arith, (c.requires (sym the-is-fine.ensures ∙ not-false _ the-if1.false)).outlook-room.settings-good.n-most),
-      (c.requires (sym the-is-fine.ensures ∙ not-false _ the-if1.false)).done-most,
+      omega (arith, (c.requires (sym the-is-fine.ensures ∙ the-if1.false)).outlook-room.settings-good.n-most),
+      (c.requires (sym the-is-fine.ensures ∙ the-if1.false)).done-most,
     )
 
 pub pack_run-requires : goal.pack_run-requires
@@ -78,8 +77,8 @@ pack_run-requires c =
     tested-room c.args.r c.args.gone.now
     (holdings c.args.positions.now c.args.increments.now c.args.gains.now c.args.affinities.now
     c.args.indices.now c.args.offsets.now c.args.forces.now c.args.table.now c.args.old.now)
-    the-look-ahead.ensures (sym the-is-accepted.ensures ∙ not-false _ the-if2.false)
-    (c.requires (sym the-is-fine.ensures ∙ not-false _ the-if1.false))
+    the-look-ahead.ensures (sym the-is-accepted.ensures ∙ the-if2.false)
+    (c.requires (sym the-is-fine.ensures ∙ the-if1.false))
 
 pub shape_of-positions : goal.shape_of-positions
 shape_of-positions c =
@@ -138,5 +137,5 @@ returns c =
     tested-done c.args.f c.args.r c.args.gone.now
     (holdings c.args.positions.now c.args.increments.now c.args.gains.now c.args.affinities.now
     c.args.indices.now c.args.offsets.now c.args.forces.now c.args.table.now c.args.old.now)
-    (sym the-is-fine.ensures ∙ not-false _ the-if1.false) _ the-look-ahead.ensures (sym the-is-accepted.ensures ∙ not-false _ the-if2.false) _ _
+    (sym the-is-fine.ensures ∙ the-if1.false) _ the-look-ahead.ensures (sym the-is-accepted.ensures ∙ the-if2.false) _ _
     the-thinned-run.ensures the-pack-run.ensures

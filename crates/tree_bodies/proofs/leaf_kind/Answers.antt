@@ -4,12 +4,12 @@ use Rattle.tree_bodies.proofs.leaf_kind.Goals as goal
 
 pub returns-then-o-q : goal.returns-then-o-q
 returns-then-o-q c =
-    rw (c.l-1.given.1, ne_eqb _ _ c.if-o-q.true)
+    rw (c.in-Occupied.is, ne_eqb _ _ c.if-o-q.true)
 
 pub returns-then-n-ne1 : goal.returns-then-n-ne1
 returns-then-n-ne1 c =
-    rw (c.l-1.given.1, eq-eqb _ _ c.if-o-q.false, ne_eqb _ _ c.if-n-ne1.true)
+    rw (c.in-Occupied.is, eq-eqb _ _ c.if-o-q.false, ne_eqb _ _ c.if-n-ne1.true)
 
 pub returns-in-Occupied : goal.returns-in-Occupied
 returns-in-Occupied c =
-    rw (c.l-1.given.1, eq-eqb _ _ c.if-o-q.false, eq-eqb _ _ c.if-n-ne1.false)
+    rw (c.in-Occupied.is, eq-eqb _ _ c.if-o-q.false, eq-eqb _ _ c.if-n-ne1.false)

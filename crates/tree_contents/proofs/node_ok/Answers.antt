@@ -1,6 +1,6 @@
 -- `tree_contents::node_ok` meets its contract: from what its calls promise.
 use mathlib.Core.Path.{sym, ◌∙◌}
-use borrow.Author.Tests.{le-leb, lt-leb, not-true, not-false}
+use borrow.Author.Tests.{le-leb, lt-leb}
 use Rattle.tree_contents.specs.Contents.{node_ok}
 use Rattle.tree_contents.proofs.node_ok.Goals as goal
 
@@ -13,11 +13,11 @@ pub returns-then-not-point_ok : goal.returns-then-not-point_ok
 unfolding node_ok
 returns-then-not-point_ok c =
     let the-if1 = c.if-v-n in
-    rw (le-leb _ _ the-if1.false, sym c.point_ok.ensures ∙ not-true _ c.if-not-point_ok.true)
+    rw (le-leb _ _ the-if1.false, sym c.point_ok.ensures ∙ c.if-not-point_ok.true)
 
 pub returns : goal.returns
 unfolding node_ok
 returns c =
     let the-point-ok = c.point_ok in
     let the-if1 = c.if-v-n in
-    rw (le-leb _ _ the-if1.false, sym the-point-ok.ensures ∙ not-false _ c.if-not-point_ok.false) c.block_ok.ensures
+    rw (le-leb _ _ the-if1.false, sym the-point-ok.ensures ∙ c.if-not-point_ok.false) c.block_ok.ensures

@@ -3,4 +3,4 @@ use Rattle.tree_contents.proofs.point_ok.Goals as goal
 
 pub returns-in-Occupied : goal.returns-in-Occupied
 returns-in-Occupied c =
-    rw c.l-1.given.1
+    rw c.in-Occupied.is

@@ -31,7 +31,7 @@ returns-in_default c =
     let the-enum-told = c.enum_told-1 in
     let the-if1 = c.if-v-ne0 in
     let the-absorb = c.absorb-a in
-    simp (c.settled.ensures, eq-eqb _ _ the-if1.false, the-enum-told.given.1, c.occupy-w.ensures, the-absorb.ensures)
+    simp (c.settled.ensures, eq-eqb _ _ the-if1.false, the-enum-told.is, c.occupy-w.ensures, the-absorb.ensures)
 
 pub returns-then-depth-ge-DEEPEST : goal.returns-then-depth-ge-DEEPEST
 unfolding turn_of
@@ -39,7 +39,7 @@ returns-then-depth-ge-DEEPEST c =
     let the-l = c.l-1 in
     let the-if1 = c.if-v-ne0 in
     let the-absorb = c.absorb-a in
-    simp (c.settled-then-depth-ge-DEEPEST.ensures, eq-eqb _ _ the-if1.false, the-l.given.1, le-leb _ _ c.if-depth-ge-DEEPEST.true, the-absorb.ensures)
+    simp (c.settled-then-depth-ge-DEEPEST.ensures, eq-eqb _ _ the-if1.false, the-l.is, le-leb _ _ c.if-depth-ge-DEEPEST.true, the-absorb.ensures)
 
 pub overflow_add-result-2 : goal.overflow_add-result-2
 overflow_add-result-2 c =
@@ -56,7 +56,7 @@ returns c =
     let the-absorb = c.absorb-a in
     simp (
       eq-eqb _ _ the-if1.false,
-      the-l.given.1,
+      the-l.is,
       lt-leb _ _ c.if-depth-ge-DEEPEST.false,
       c.split-w.ensures,
       the-absorb.ensures,

@@ -11,11 +11,11 @@ returns-then-not-v c =
     let the-judge = c.judge-v in
     out-bad _ ((stored_of c.args.words.now c.args.positions.now c.args.increments.now c.args.gains.now
     c.args.affinities.now c.args.indices.now c.args.offsets.now)) c.args.forces.now _ _ the-judge.ensures
-    (not-true _ c.if-not-v.true)
+    c.if-not-v.true
 
 pub has_room-requires : goal.has_room-requires
 has_room-requires c =
-    said _ _ c.judge-v.ensures true ((not-false _ c.if-not-v.false))
+    said _ _ c.judge-v.ensures true (c.if-not-v.false)
 
 pub returns-then-not-has_room : goal.returns-then-not-has_room
 returns-then-not-has_room c =
@@ -23,7 +23,7 @@ returns-then-not-has_room c =
     let the-judge = c.judge-v in
     out-short _ ((stored_of c.args.words.now c.args.positions.now c.args.increments.now c.args.gains.now
     c.args.affinities.now c.args.indices.now c.args.offsets.now)) c.args.forces.now _ _ the-judge.ensures
-    ((not-false _ the-if1.false))
+    (the-if1.false)
     (room-is _ ((stored_of c.args.words.now c.args.positions.now c.args.increments.now c.args.gains.now
     c.args.affinities.now c.args.indices.now c.args.offsets.now)) _ _ ∙ sym c.has_room.ensures ∙ not-true _
     c.if-not-has_room.true)
@@ -35,7 +35,7 @@ read_in-requires c =
     let the-if1 = c.if-not-v in
     let the-judge = c.judge-v in
     (
-      said _ _ the-judge.ensures true ((not-false _ the-if1.false)),
+      said _ _ the-judge.ensures true (the-if1.false),
       (room-is _ ((stored_of c.args.words.now c.args.positions.now c.args.increments.now c.args.gains.now
           c.args.affinities.now c.args.indices.now c.args.offsets.now)) _ _ ∙ sym the-has-room.ensures ∙ not-false _
           the-if2.false),
@@ -90,7 +90,7 @@ returns c =
     let the-judge = c.judge-v in
     out-read _ ((stored_of c.args.words.now c.args.positions.now c.args.increments.now c.args.gains.now
     c.args.affinities.now c.args.indices.now c.args.offsets.now)) c.args.forces.now _ _ the-judge.ensures
-    _ _ ((not-false _ the-if1.false))
+    _ _ (the-if1.false)
     ((room-is _ ((stored_of c.args.words.now c.args.positions.now c.args.increments.now c.args.gains.now
     c.args.affinities.now c.args.indices.now c.args.offsets.now)) _ _ ∙ sym the-has-room.ensures ∙ not-false _
     the-if2.false)) the-read-in.ensures.offsets_after the-read-in.ensures.forces_after

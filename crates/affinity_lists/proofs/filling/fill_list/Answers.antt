@@ -1,6 +1,6 @@
 use mathlib.Core.Path.{refl, ◌∙◌}
 use Prim.Native.Nat.{◌-◌, ◌<◌, ◌≤◌}
-use borrow.Author.Tests.{not-true, not-false}
+use borrow.Author.Tests.{not-false}
 use Rattle.affinity_lists.proofs.Listing.{writing_start, writing-mark, writing-sought, writing_pass, writing-room, writing-next, writing-below, writing-held, writing-done}
 use lib.ListN.{length, length-set}
 use native.Mathlib.Omega.{arith}
@@ -65,7 +65,7 @@ loop-j-preserved-then-not-link c =
     let the-if1 = c.if-j-i in
     let the-loop = c.loop-j in
     writing_pass c.requires (the-loop.j - 1) the-loop.j (omega arith) the-loop.invariant the-if1.false _ the-link-of.ensures.yes_value _
-    the-link-of.ensures.row_value (not-true _ c.if-not-link.true)
+    the-link-of.ensures.row_value c.if-not-link.true
 
 pub offset_bounds-row_indices-j-in-loop-j : goal.offset_bounds-row_indices-j-in-loop-j
 offset_bounds-row_indices-j-in-loop-j c =
@@ -106,7 +106,7 @@ loop-j-preserved c =
     let the-if1 = c.if-j-i in
     let the-loop = c.loop-j in
     writing-next c.requires (the-loop.j - 1) the-loop.j (omega arith) the-loop.invariant the-if1.false _ the-link-of.ensures.yes_value _
-    the-link-of.ensures.row_value (not-false _ c.if-not-link.false) _ _ _ refl the-link-of.ensures.weight_value the-link-of.ensures.cursor_value
+    the-link-of.ensures.row_value c.if-not-link.false _ _ _ refl the-link-of.ensures.weight_value the-link-of.ensures.cursor_value
 
 pub overflow_sub-m : goal.overflow_sub-m
 overflow_sub-m c =

@@ -1,7 +1,6 @@
 -- `sigma::entropies::add_block` meets its contract: the three passes, or single terms. Assumes nothing.
 use mathlib.Core.Path.{refl, sym, ◌∙◌}
 use Prim.Native.Nat.{◌+◌}
-use borrow.Author.Tests.{not-false}
 use lib.ListN.{replicate}
 use Rattle.laws.specs.Area.{zero64}
 use Rattle.affinity_sigma.proofs.Shares.{block-added}
@@ -15,7 +14,7 @@ pub all_parts-requires : goal.all_parts-requires
 all_parts-requires c =
     let the-if1 = c.if-not-all_shares in
     let the-all-shares = c.all_shares in
-    (c.requires.0, c.requires.1, sym the-all-shares.ensures ∙ not-false _ the-if1.false)
+    (c.requires.0, c.requires.1, sym the-all-shares.ensures ∙ the-if1.false)
 
 pub add_terms-requires : goal.add_terms-requires
 add_terms-requires c =
@@ -30,4 +29,4 @@ returns c =
     let the-shared-slice-known = c.shared_slice_known-1 in
     c.add_terms.ensures ∙ block-added c.args.shares.now c.args.j c.args.c (replicate 32 zero64) (replicate 32 zero64)
     (replicate 32 zero64) _ _ _ c.requires.1 refl refl refl the-all-parts.ensures.ms_after the-all-parts.ensures.ks_after the-all-logs.ensures
-    (sym the-all-shares.ensures ∙ not-false _ the-if1.false) (λ t. c.type_inv.shares (c.args.j + t)) _
+    (sym the-all-shares.ensures ∙ the-if1.false) (λ t. c.type_inv.shares (c.args.j + t)) _

@@ -1,6 +1,5 @@
 -- `sigma::weights::weigh_block` meets its contract: the four passes, or single weights. Assumes nothing.
 use mathlib.Core.Path.{refl, sym, ◌∙◌}
-use borrow.Author.Tests.{not-false}
 use lib.ListN.{replicate}
 use Rattle.laws.specs.Area.{zero64}
 use Rattle.affinity_sigma.proofs.Blocks.{block-few, block-weighed}
@@ -14,7 +13,7 @@ pub all_halvings-requires : goal.all_halvings-requires
 all_halvings-requires c =
     let the-if1 = c.if-not-all_in_reach in
     let the-all-in-reach = c.all_in_reach in
-    sym the-all-in-reach.ensures ∙ not-false _ the-if1.false
+    sym the-all-in-reach.ensures ∙ the-if1.false
 
 pub all_series-requires : goal.all_series-requires
 all_series-requires c =
@@ -23,7 +22,7 @@ all_series-requires c =
     let the-all-in-reach = c.all_in_reach in
     let the-exponents = c.exponents in
     block-few c.args.distances.now c.args.j c.args.c c.args.sigma (replicate 32 zero64) _ (replicate 32 0) _
-    c.requires.2 refl refl the-exponents.ensures the-all-halvings.ensures (sym the-all-in-reach.ensures ∙ not-false _ the-if1.false)
+    c.requires.2 refl refl the-exponents.ensures the-all-halvings.ensures (sym the-all-in-reach.ensures ∙ the-if1.false)
 
 pub lay_halved-requires : goal.lay_halved-requires
 lay_halved-requires c =
@@ -37,7 +36,7 @@ lay_halved-requires c =
       c.requires.2,
       block-few c.args.distances.now c.args.j c.args.c
           c.args.sigma (replicate 32 zero64) _ (replicate 32 0) _ c.requires.2 refl refl the-exponents.ensures the-all-halvings.ensures
-          (sym the-all-in-reach.ensures ∙ not-false _ the-if1.false),
+          (sym the-all-in-reach.ensures ∙ the-if1.false),
     )
 
 pub returns : goal.returns
@@ -50,4 +49,4 @@ returns c =
     let the-exponents = c.exponents in
     the-lay-halved.ensures ∙ block-weighed c.args.distances.now c.args.j c.args.c c.args.sigma
     (replicate 32 zero64) _ (replicate 32 0) _ c.requires.2 refl refl the-exponents.ensures the-all-halvings.ensures
-    (sym the-all-in-reach.ensures ∙ not-false _ the-if1.false) (replicate 32 zero64) _ refl the-all-series.ensures _
+    (sym the-all-in-reach.ensures ∙ the-if1.false) (replicate 32 zero64) _ refl the-all-series.ensures _

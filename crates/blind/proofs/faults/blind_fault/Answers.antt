@@ -2,7 +2,7 @@
 use Rattle.blind.proofs.Tests.{sizes-pass}
 use Rattle.blind.specs.Faults.{blind_fault}
 use mathlib.Core.Path.{sym, ◌∙◌}
-use borrow.Author.Tests.{eq-eqb, ne_eqb, not-true, not-false}
+use borrow.Author.Tests.{eq-eqb, ne_eqb}
 use native.Mathlib.Omega.{arith}
 use Rattle.blind.proofs.faults.blind_fault.Goals as goal
 
@@ -34,7 +34,7 @@ returns-then-not-table_fine c =
       (sym the-size-fault.ensures ∙ the-if1.false),
       (eq-eqb _ _ (rw the-times.ensures at the-if2.false)),
       sym
-          (rw the-times.ensures at c.table_fine.ensures) ∙ not-true _ c.if-not-table_fine.true,
+          (rw the-times.ensures at c.table_fine.ensures) ∙ c.if-not-table_fine.true,
     )
 
 pub late_fault-t-requires : goal.late_fault-t-requires
@@ -55,7 +55,7 @@ returns-then-t-ne0 c =
     rw (
       (sym the-size-fault.ensures ∙ the-if1.false),
       (eq-eqb _ _ (rw the-times.ensures at the-if2.false)),
-      (sym (rw the-times.ensures at the-table-fine.ensures) ∙ not-false _ the-if3.false),
+      (sym (rw the-times.ensures at the-table-fine.ensures) ∙ the-if3.false),
       ne_eqb _ _
           (rw c.late_fault-t.ensures at c.if-t-ne0.true),
     ) c.late_fault-t.ensures
@@ -74,7 +74,7 @@ returns-then-rows_fit c =
     rw (
       (sym the-size-fault.ensures ∙ the-if1.false),
       (eq-eqb _ _ (rw the-times.ensures at the-if2.false)),
-      (sym (rw the-times.ensures at the-table-fine.ensures) ∙ not-false _ the-if3.false),
+      (sym (rw the-times.ensures at the-table-fine.ensures) ∙ the-if3.false),
       (sym the-late-fault.ensures ∙ the-if4.false),
       sym
           c.rows_fit.ensures ∙ c.if-rows_fit.true,
@@ -94,7 +94,7 @@ returns c =
     rw (
       (sym the-size-fault.ensures ∙ the-if1.false),
       (eq-eqb _ _ (rw the-times.ensures at the-if2.false)),
-      (sym (rw the-times.ensures at the-table-fine.ensures) ∙ not-false _ the-if3.false),
+      (sym (rw the-times.ensures at the-table-fine.ensures) ∙ the-if3.false),
       (sym the-late-fault.ensures ∙ the-if4.false),
       sym
           c.rows_fit.ensures ∙ c.if-rows_fit.false,

@@ -1,20 +1,20 @@
 -- `blind::faults::size_fault` meets its contract: from what its calls promise.
 use Rattle.blind.specs.Faults.{size_fault}
 use mathlib.Core.Path.{sym, ◌∙◌}
-use borrow.Author.Tests.{eq-eqb, ne_eqb, lt-ltb, le-ltb, not-true, not-false}
+use borrow.Author.Tests.{eq-eqb, ne_eqb, lt-ltb, le-ltb}
 use Rattle.blind.proofs.faults.size_fault.Goals as goal
 
 pub returns-then-not-is_positive : goal.returns-then-not-is_positive
 unfolding size_fault
 returns-then-not-is_positive c =
-    simp (sym c.is_positive.ensures ∙ not-true _ c.if-not-is_positive.true)
+    simp (sym c.is_positive.ensures ∙ c.if-not-is_positive.true)
 
 pub returns-then-s-eq0 : goal.returns-then-s-eq0
 unfolding size_fault
 returns-then-s-eq0 c =
     let the-if1 = c.if-not-is_positive in
     let the-is-positive = c.is_positive in
-    simp ((sym the-is-positive.ensures ∙ not-false _ the-if1.false), eq-eqb _ _ c.if-s-eq0.true)
+    simp ((sym the-is-positive.ensures ∙ the-if1.false), eq-eqb _ _ c.if-s-eq0.true)
 
 pub returns-then-s-gt-MOST_FRAMES : goal.returns-then-s-gt-MOST_FRAMES
 unfolding size_fault
@@ -22,7 +22,7 @@ returns-then-s-gt-MOST_FRAMES c =
     let the-if2 = c.if-s-eq0 in
     let the-if1 = c.if-not-is_positive in
     let the-is-positive = c.is_positive in
-    simp ((sym the-is-positive.ensures ∙ not-false _ the-if1.false), ne_eqb _ _ the-if2.false, lt-ltb _ _ c.if-s-gt-MOST_FRAMES.true)
+    simp ((sym the-is-positive.ensures ∙ the-if1.false), ne_eqb _ _ the-if2.false, lt-ltb _ _ c.if-s-gt-MOST_FRAMES.true)
 
 pub returns-then-s-eq0-2 : goal.returns-then-s-eq0-2
 unfolding size_fault
@@ -31,7 +31,7 @@ returns-then-s-eq0-2 c =
     let the-if2 = c.if-s-eq0 in
     let the-if1 = c.if-not-is_positive in
     let the-is-positive = c.is_positive in
-    simp ((sym the-is-positive.ensures ∙ not-false _ the-if1.false), ne_eqb _ _ the-if2.false, le-ltb _ _ the-if3.false, eq-eqb _ _ c.if-s-eq0-2.true)
+    simp ((sym the-is-positive.ensures ∙ the-if1.false), ne_eqb _ _ the-if2.false, le-ltb _ _ the-if3.false, eq-eqb _ _ c.if-s-eq0-2.true)
 
 pub returns-then-s-gt-MOST_FEATURES : goal.returns-then-s-gt-MOST_FEATURES
 unfolding size_fault
@@ -42,7 +42,7 @@ returns-then-s-gt-MOST_FEATURES c =
     let the-if1 = c.if-not-is_positive in
     let the-is-positive = c.is_positive in
     simp (
-      (sym the-is-positive.ensures ∙ not-false _ the-if1.false),
+      (sym the-is-positive.ensures ∙ the-if1.false),
       ne_eqb _ _ the-if2.false,
       le-ltb _ _ the-if3.false,
       ne_eqb _ _ the-if4.false,
@@ -58,7 +58,7 @@ returns c =
     let the-if1 = c.if-not-is_positive in
     let the-is-positive = c.is_positive in
     simp (
-      (sym the-is-positive.ensures ∙ not-false _ the-if1.false),
+      (sym the-is-positive.ensures ∙ the-if1.false),
       ne_eqb _ _ the-if2.false,
       le-ltb _ _ the-if3.false,
       ne_eqb _ _ the-if4.false,

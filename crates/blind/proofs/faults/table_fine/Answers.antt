@@ -1,7 +1,6 @@
 use mathlib.Core.Path.{sym, ◌∙◌}
 use mathlib.Core.Bool.{true}
 use Prim.Native.Nat.{◌-◌}
-use borrow.Author.Tests.{not-true, not-false}
 use Rattle.laws.proofs.Every.{every-none, every-next, every-no, every-done}
 use Rattle.elementary.specs.Limits.{in_domain}
 use borrow.Author.Rules.{rules}
@@ -14,12 +13,12 @@ loop-i-init c =
 pub returns-then-not-in_domain : goal.returns-then-not-in_domain
 returns-then-not-in_domain c =
     let the-loop-test = c.loop-i-test in
-    sym (every-no _ _ _ the-loop-test.true (sym c.in_domain.ensures ∙ not-true _ c.if-not-in_domain.true))
+    sym (every-no _ _ _ the-loop-test.true (sym c.in_domain.ensures ∙ c.if-not-in_domain.true))
 
 pub loop-i-preserved : goal.loop-i-preserved
 loop-i-preserved c =
     let the-loop = c.loop-i in
-    (search rules, every-next _ _ the-loop.invariant.1 (sym c.in_domain.ensures ∙ not-false _ c.if-not-in_domain.false))
+    (search rules, every-next _ _ the-loop.invariant.1 (sym c.in_domain.ensures ∙ c.if-not-in_domain.false))
 
 pub returns : goal.returns
 returns c =

@@ -1,7 +1,6 @@
 use mathlib.Core.Path.{sym, ◌∙◌}
 use mathlib.Core.Bool.{true}
 use Prim.Native.Nat.{◌-◌}
-use borrow.Author.Tests.{not-true, not-false}
 use Rattle.laws.proofs.Every.{every-none, every-next, every-no, every-done}
 use borrow.Author.Rules.{rules}
 use Rattle.blind.proofs.looks.all_at_zero.Goals as goal
@@ -13,12 +12,12 @@ loop-j-init c =
 pub returns-then-not-is_zero : goal.returns-then-not-is_zero
 returns-then-not-is_zero c =
     let the-loop-test = c.loop-j-test in
-    sym (every-no _ _ _ the-loop-test.true (sym c.is_zero.ensures ∙ not-true _ c.if-not-is_zero.true))
+    sym (every-no _ _ _ the-loop-test.true (sym c.is_zero.ensures ∙ c.if-not-is_zero.true))
 
 pub loop-j-preserved : goal.loop-j-preserved
 loop-j-preserved c =
     let the-loop = c.loop-j in
-    (search rules, every-next _ _ the-loop.invariant.1 (sym c.is_zero.ensures ∙ not-false _ c.if-not-is_zero.false))
+    (search rules, every-next _ _ the-loop.invariant.1 (sym c.is_zero.ensures ∙ c.if-not-is_zero.false))
 
 pub returns : goal.returns
 returns c =

@@ -1,28 +1,27 @@
 -- `parked_file::head::head_bad` meets its contract: by `head_first`, `head-second`, `head-third`, `head-all`.
 use Rattle.parked_file.proofs.Stands.{head_first, head-second, head-third, head-all}
-use borrow.Author.Tests.{not-true, not-false}
 use mathlib.Core.Path.{sym, ◌∙◌}
 use Rattle.parked_file.proofs.head.head_bad.Goals as goal
 
 pub returns-then-not-first_stands : goal.returns-then-not-first_stands
 returns-then-not-first_stands c =
-    head_first _ (sym c.first_stands.ensures ∙ not-true _ c.if-not-first_stands.true)
+    head_first _ (sym c.first_stands.ensures ∙ c.if-not-first_stands.true)
 
 pub second_stands-requires : goal.second_stands-requires
 second_stands-requires c =
-    (sym c.first_stands.ensures ∙ not-false _ c.if-not-first_stands.false)
+    (sym c.first_stands.ensures ∙ c.if-not-first_stands.false)
 
 pub returns-then-not-second_stands : goal.returns-then-not-second_stands
 returns-then-not-second_stands c =
     let the-if1 = c.if-not-first_stands in
     let the-first-stands = c.first_stands in
-    head-second _ ((sym the-first-stands.ensures ∙ not-false _ the-if1.false)) (sym c.second_stands.ensures ∙ not-true _ c.if-not-second_stands.true)
+    head-second _ ((sym the-first-stands.ensures ∙ the-if1.false)) (sym c.second_stands.ensures ∙ c.if-not-second_stands.true)
 
 pub third_stands-requires : goal.third_stands-requires
 third_stands-requires c =
     let the-if1 = c.if-not-first_stands in
     let the-first-stands = c.first_stands in
-    ((sym the-first-stands.ensures ∙ not-false _ the-if1.false), (sym c.second_stands.ensures ∙ not-false _ c.if-not-second_stands.false))
+    ((sym the-first-stands.ensures ∙ the-if1.false), (sym c.second_stands.ensures ∙ c.if-not-second_stands.false))
 
 pub returns-then-not-third_stands : goal.returns-then-not-third_stands
 returns-then-not-third_stands c =
@@ -30,8 +29,8 @@ returns-then-not-third_stands c =
     let the-second-stands = c.second_stands in
     let the-if1 = c.if-not-first_stands in
     let the-first-stands = c.first_stands in
-    head-third _ ((sym the-first-stands.ensures ∙ not-false _ the-if1.false)) ((sym the-second-stands.ensures ∙ not-false _ the-if2.false))
-    (sym c.third_stands.ensures ∙ not-true _ c.if-not-third_stands.true)
+    head-third _ ((sym the-first-stands.ensures ∙ the-if1.false)) ((sym the-second-stands.ensures ∙ the-if2.false))
+    (sym c.third_stands.ensures ∙ c.if-not-third_stands.true)
 
 pub returns : goal.returns
 returns c =
@@ -39,5 +38,5 @@ returns c =
     let the-second-stands = c.second_stands in
     let the-if1 = c.if-not-first_stands in
     let the-first-stands = c.first_stands in
-    head-all _ ((sym the-first-stands.ensures ∙ not-false _ the-if1.false)) ((sym the-second-stands.ensures ∙ not-false _ the-if2.false))
-    ((sym c.third_stands.ensures ∙ not-false _ c.if-not-third_stands.false))
+    head-all _ ((sym the-first-stands.ensures ∙ the-if1.false)) ((sym the-second-stands.ensures ∙ the-if2.false))
+    ((sym c.third_stands.ensures ∙ c.if-not-third_stands.false))

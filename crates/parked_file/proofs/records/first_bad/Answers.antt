@@ -3,7 +3,6 @@ use Rattle.parked_file.specs.File.{first_bad}
 use Rattle.laws.proofs.First.{seek-next, seek_stop, seek-done}
 use Prim.Native.Nat.{◌-◌}
 use mathlib.Core.Bool.{not}
-use borrow.Author.Tests.{not-true, not-false}
 use mathlib.Core.Path.{ap, ◌∙◌}
 use native.Mathlib.Omega.{arith}
 use Rattle.parked_file.proofs.records.first_bad.Goals as goal
@@ -23,7 +22,7 @@ unfolding first_bad
 returns-then-not-words_fine c =
     let the-loop = c.loop-q in
     seek_stop the-loop.invariant.1 (omega (arith, (due-is _ _ c.requires.1)))
-    (ap not ((words-stand _ _ _ _ c.requires.1 the-loop.invariant.0 (omega arith) c.words_fine.ensures) ∙ not-true _ c.if-not-words_fine.true))
+    (ap not ((words-stand _ _ _ _ c.requires.1 the-loop.invariant.0 (omega arith) c.words_fine.ensures) ∙ c.if-not-words_fine.true))
 
 pub loop-q-smaller : goal.loop-q-smaller
 loop-q-smaller c =
@@ -35,7 +34,7 @@ loop-q-preserved c =
     (
       omega arith,
       seek-next the-loop.invariant.1 (omega (arith, (due-is _ _ c.requires.1)))
-          (ap not ((words-stand _ _ _ _ c.requires.1 the-loop.invariant.0 (omega arith) c.words_fine.ensures) ∙ not-false _ c.if-not-words_fine.false)),
+          (ap not ((words-stand _ _ _ _ c.requires.1 the-loop.invariant.0 (omega arith) c.words_fine.ensures) ∙ c.if-not-words_fine.false)),
     )
 
 pub returns : goal.returns

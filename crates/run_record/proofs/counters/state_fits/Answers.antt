@@ -6,14 +6,14 @@ use Rattle.run_record.proofs.counters.state_fits.Goals as goal
 pub returns-in-Running : goal.returns-in-Running
 unfolding state_fits
 returns-in-Running c =
-    rw c.enum_told-1.given.1 refl
+    rw c.in-Running.is refl
 
 pub returns-in-Stopped : goal.returns-in-Stopped
 unfolding state_fits
 returns-in-Stopped c =
-    rw (c.stopped_fits.ensures, c.enum_told-in-Stopped-1.given.1) refl
+    rw (c.stopped_fits.ensures, c.in-Stopped.is) refl
 
 pub returns-in-Finished : goal.returns-in-Finished
 unfolding state_fits
 returns-in-Finished c =
-    rw (c.finished_fits.ensures, c.enum_told-in-Finished-1.given.1) refl
+    rw (c.finished_fits.ensures, c.in-Finished.is) refl

@@ -4,7 +4,7 @@ use native.Mathlib.Omega.{arith}
 use Rattle.laws.specs.Domain.{early_iterations}
 use Rattle.run_record.specs.Record.{state_fits}
 use mathlib.Core.Path.{sym, ◌∙◌}
-use borrow.Author.Tests.{le-leb, lt-leb, not-true, not-false}
+use borrow.Author.Tests.{le-leb, lt-leb}
 use Rattle.run_record.proofs.counters.stopped_fits.Goals as goal
 
 pub returns-then-done-le-EARLY_ITERATIONS : goal.returns-then-done-le-EARLY_ITERATIONS
@@ -22,11 +22,11 @@ unfolding state_fits
 returns-then-not-is_above c =
     let the-if2 = c.if-set-done in
     let the-if1 = c.if-done-le-EARLY_ITERATIONS in
-    simp (le-leb _ _ the-if1.false, le-leb _ _ the-if2.false, sym c.is_above.ensures ∙ not-true _ c.if-not-is_above.true)
+    simp (le-leb _ _ the-if1.false, le-leb _ _ the-if2.false, sym c.is_above.ensures ∙ c.if-not-is_above.true)
 
 pub returns : goal.returns
 unfolding state_fits
 returns c =
     let the-if2 = c.if-set-done in
     let the-if1 = c.if-done-le-EARLY_ITERATIONS in
-    simp (le-leb _ _ the-if1.false, le-leb _ _ the-if2.false, sym c.is_above.ensures ∙ not-false _ c.if-not-is_above.false)
+    simp (le-leb _ _ the-if1.false, le-leb _ _ the-if2.false, sym c.is_above.ensures ∙ c.if-not-is_above.false)

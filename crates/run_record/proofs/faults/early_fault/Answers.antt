@@ -1,7 +1,7 @@
 -- `run_record::faults::early_fault` meets its contract: from what its calls promise.
 use Rattle.run_record.specs.Record.{early_fault}
 use mathlib.Core.Path.{sym, ◌∙◌}
-use borrow.Author.Tests.{eq-eqb, ne_eqb, lt-ltb, le-ltb, not-true, not-false}
+use borrow.Author.Tests.{eq-eqb, ne_eqb, lt-ltb, le-ltb}
 use Rattle.run_record.proofs.faults.early_fault.Goals as goal
 
 pub returns-then-s-eq0 : goal.returns-then-s-eq0
@@ -19,7 +19,7 @@ unfolding early_fault
 returns-then-not-is_positive c =
     let the-if2 = c.if-s-gt-MOST_COMPONENTS in
     let the-if1 = c.if-s-eq0 in
-    simp (ne_eqb _ _ the-if1.false, le-ltb _ _ the-if2.false, sym c.is_positive.ensures ∙ not-true _ c.if-not-is_positive.true)
+    simp (ne_eqb _ _ the-if1.false, le-ltb _ _ the-if2.false, sym c.is_positive.ensures ∙ c.if-not-is_positive.true)
 
 pub returns-then-not-is_positive-2 : goal.returns-then-not-is_positive-2
 unfolding early_fault
@@ -31,9 +31,9 @@ returns-then-not-is_positive-2 c =
     simp (
       ne_eqb _ _ the-if1.false,
       le-ltb _ _ the-if2.false,
-      sym the-is-positive.ensures ∙ not-false _ the-if3.false,
+      sym the-is-positive.ensures ∙ the-if3.false,
       sym
-          c.is_positive-2.ensures ∙ not-true _ c.if-not-is_positive-2.true,
+          c.is_positive-2.ensures ∙ c.if-not-is_positive-2.true,
     )
 
 pub returns-then-s-eq0-2 : goal.returns-then-s-eq0-2
@@ -48,9 +48,9 @@ returns-then-s-eq0-2 c =
     simp (
       ne_eqb _ _ the-if1.false,
       le-ltb _ _ the-if2.false,
-      sym the-is-positive.ensures ∙ not-false _ the-if3.false,
+      sym the-is-positive.ensures ∙ the-if3.false,
       sym the-is-positive2.ensures
-          ∙ not-false _ the-if4.false,
+          ∙ the-if4.false,
       eq-eqb _ _ c.if-s-eq0-2.true,
     )
 
@@ -67,9 +67,9 @@ returns-then-s-gt-MOST_ITERATIONS c =
     simp (
       ne_eqb _ _ the-if1.false,
       le-ltb _ _ the-if2.false,
-      sym the-is-positive.ensures ∙ not-false _ the-if3.false,
+      sym the-is-positive.ensures ∙ the-if3.false,
       sym the-is-positive2.ensures
-          ∙ not-false _ the-if4.false,
+          ∙ the-if4.false,
       ne_eqb _ _ the-if5.false,
       lt-ltb _ _ c.if-s-gt-MOST_ITERATIONS.true,
     )
@@ -88,9 +88,9 @@ returns-then-tree_fault-ne0 c =
     simp (
       ne_eqb _ _ the-if1.false,
       le-ltb _ _ the-if2.false,
-      sym the-is-positive.ensures ∙ not-false _ the-if3.false,
+      sym the-is-positive.ensures ∙ the-if3.false,
       sym the-is-positive2.ensures
-          ∙ not-false _ the-if4.false,
+          ∙ the-if4.false,
       ne_eqb _ _ the-if5.false,
       le-ltb _ _ the-if6.false,
       ne_eqb _ _ (rw c.tree_fault-tree_fault.ensures at c.if-tree_fault-ne0.true),
@@ -113,9 +113,9 @@ returns-then-s-eq0-3 c =
     simp (
       ne_eqb _ _ the-if1.false,
       le-ltb _ _ the-if2.false,
-      sym the-is-positive.ensures ∙ not-false _ the-if3.false,
+      sym the-is-positive.ensures ∙ the-if3.false,
       sym the-is-positive2.ensures
-          ∙ not-false _ the-if4.false,
+          ∙ the-if4.false,
       ne_eqb _ _ the-if5.false,
       le-ltb _ _ the-if6.false,
       eq-eqb _ _ (rw the-tree-fault.ensures at the-if7.false),
@@ -140,9 +140,9 @@ returns-then-s-gt-MOST_FRAMES c =
     simp (
       ne_eqb _ _ the-if1.false,
       le-ltb _ _ the-if2.false,
-      sym the-is-positive.ensures ∙ not-false _ the-if3.false,
+      sym the-is-positive.ensures ∙ the-if3.false,
       sym the-is-positive2.ensures
-          ∙ not-false _ the-if4.false,
+          ∙ the-if4.false,
       ne_eqb _ _ the-if5.false,
       le-ltb _ _ the-if6.false,
       eq-eqb _ _ (rw the-tree-fault.ensures at the-if7.false),
@@ -169,9 +169,9 @@ returns-then-s-eq0-4 c =
     simp (
       ne_eqb _ _ the-if1.false,
       le-ltb _ _ the-if2.false,
-      sym the-is-positive.ensures ∙ not-false _ the-if3.false,
+      sym the-is-positive.ensures ∙ the-if3.false,
       sym the-is-positive2.ensures
-          ∙ not-false _ the-if4.false,
+          ∙ the-if4.false,
       ne_eqb _ _ the-if5.false,
       le-ltb _ _ the-if6.false,
       eq-eqb _ _ (rw the-tree-fault.ensures at the-if7.false),
@@ -200,9 +200,9 @@ returns-then-s-gt-MOST_FEATURES c =
     simp (
       ne_eqb _ _ the-if1.false,
       le-ltb _ _ the-if2.false,
-      sym the-is-positive.ensures ∙ not-false _ the-if3.false,
+      sym the-is-positive.ensures ∙ the-if3.false,
       sym the-is-positive2.ensures
-          ∙ not-false _ the-if4.false,
+          ∙ the-if4.false,
       ne_eqb _ _ the-if5.false,
       le-ltb _ _ the-if6.false,
       eq-eqb _ _ (rw the-tree-fault.ensures at the-if7.false),
@@ -232,9 +232,9 @@ returns c =
     simp (
       ne_eqb _ _ the-if1.false,
       le-ltb _ _ the-if2.false,
-      sym the-is-positive.ensures ∙ not-false _ the-if3.false,
+      sym the-is-positive.ensures ∙ the-if3.false,
       sym the-is-positive2.ensures
-          ∙ not-false _ the-if4.false,
+          ∙ the-if4.false,
       ne_eqb _ _ the-if5.false,
       le-ltb _ _ the-if6.false,
       eq-eqb _ _ (rw the-tree-fault.ensures at the-if7.false),

@@ -1,20 +1,20 @@
 -- `run_record::faults::tree_fault` meets its contract: from what its calls promise.
 use Rattle.run_record.specs.Record.{angle_fault}
 use mathlib.Core.Path.{sym, ◌∙◌}
-use borrow.Author.Tests.{lt-ltb, le-ltb, not-true, not-false}
+use borrow.Author.Tests.{lt-ltb, le-ltb}
 use Rattle.run_record.proofs.faults.tree_fault.Goals as goal
 
 pub returns-then-not-is_tree : goal.returns-then-not-is_tree
 unfolding angle_fault
 returns-then-not-is_tree c =
-    simp (sym c.is_tree.ensures ∙ not-true _ c.if-not-is_tree.true)
+    simp (sym c.is_tree.ensures ∙ c.if-not-is_tree.true)
 
 pub returns-then-not-is_inside : goal.returns-then-not-is_inside
 unfolding angle_fault
 returns-then-not-is_inside c =
     let the-if1 = c.if-not-is_tree in
     let the-is-tree = c.is_tree in
-    simp (sym the-is-tree.ensures ∙ not-false _ the-if1.false, sym c.is_inside.ensures ∙ not-true _ c.if-not-is_inside.true)
+    simp (sym the-is-tree.ensures ∙ the-if1.false, sym c.is_inside.ensures ∙ c.if-not-is_inside.true)
 
 pub returns-then-c-gt-MOST_AXES : goal.returns-then-c-gt-MOST_AXES
 unfolding angle_fault
@@ -23,8 +23,8 @@ returns-then-c-gt-MOST_AXES c =
     let the-if1 = c.if-not-is_tree in
     let the-is-tree = c.is_tree in
     simp (
-      sym the-is-tree.ensures ∙ not-false _ the-if1.false,
-      sym the-is-inside.ensures ∙ not-false _ c.if-not-is_inside.false,
+      sym the-is-tree.ensures ∙ the-if1.false,
+      sym the-is-inside.ensures ∙ c.if-not-is_inside.false,
       lt-ltb _ _
           c.if-c-gt-MOST_AXES.true,
     )
@@ -36,8 +36,8 @@ returns c =
     let the-if1 = c.if-not-is_tree in
     let the-is-tree = c.is_tree in
     simp (
-      sym the-is-tree.ensures ∙ not-false _ the-if1.false,
-      sym the-is-inside.ensures ∙ not-false _ c.if-not-is_inside.false,
+      sym the-is-tree.ensures ∙ the-if1.false,
+      sym the-is-inside.ensures ∙ c.if-not-is_inside.false,
       le-ltb _ _
           c.if-c-gt-MOST_AXES.false,
     )

@@ -6,12 +6,12 @@ use Rattle.tree.proofs.ways.leaf_needs.Goals as goal
 
 pub returns-in_default : goal.returns-in_default
 returns-in_default c =
-    rw c.enum_told-1.given.1
+    rw c.in_default.is
 
 pub point-q-requires : goal.point-q-requires
 point-q-requires c =
     let the-l = c.l-1 in
-    (c.requires.0, c.requires.1 _ the-l.given.1)
+    (c.requires.0, c.requires.1 _ the-l.is)
 
 pub overflow_mul-result : goal.overflow_mul-result
 overflow_mul-result c =
@@ -22,4 +22,4 @@ pub returns : goal.returns
 returns c =
     let the-point = c.point-q in
     let the-l = c.l-1 in
-    rw (shl_one c.args.s.c (omega (arith, c.requires.0)), c.splits.ensures.0, the-point.ensures, the-l.given.1)
+    rw (shl_one c.args.s.c (omega (arith, c.requires.0)), c.splits.ensures.0, the-point.ensures, the-l.is)

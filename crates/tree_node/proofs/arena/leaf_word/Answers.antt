@@ -6,8 +6,8 @@ use Rattle.tree_node.proofs.arena.leaf_word.Goals as goal
 
 pub overflow_add-result : goal.overflow_add-result
 overflow_add-result c =
-    omega (arith, rw c.l-1.given.1 at c.requires)
+    omega (arith, rw c.in-Occupied.is at c.requires)
 
 pub returns : goal.returns
 returns c =
-    ap leaf_word (sym c.l-1.given.1)
+    ap leaf_word (sym c.in-Occupied.is)

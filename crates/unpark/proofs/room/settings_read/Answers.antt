@@ -16,7 +16,7 @@ returns c =
     let the-word3 = c.word-3 in
     let the-value-of2 = c.value_of-rate in
     let the-word2 = c.word-2 in
-    let the-value-of = c.value_of_lem in
+    let the-value-of = c.value_of-perplexity in
     let the_word = c.word in
     rw (
       the-value-of.ensures,
