@@ -124,6 +124,8 @@ zero_of (fin false m e) p w = ap pos (none (near_le (m * up e) (down e) 0 (down_
   where
     none : {n : ℕ} → n ≤ 0 → n ≡ 0
     none h = omega arith
+zero_of nan p w = elim p [ ]
+zero_of (inf _) p w = elim w [ ]
 
 zero-quotient : (m : ℕ) (e : ℤ) → m * up e ≤ 0 → exp_k (fin false m e) ≡ pos 0
 zero-quotient m e h = ap whole_near (quotient-plus m e) ∙ zero_of (quotient m e) (sign-quotient m e) (bounded (m * up e * 2 ^ 53) _ 0 (bottom e) (omega arith) (omega (arith, h)))

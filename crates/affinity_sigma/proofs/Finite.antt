@@ -38,10 +38,13 @@ times-some : (z : Float) (m : ℕ) (e : ℤ) → sign_plus z → sign_plus (mul 
 unfolding mul
 times-some (inf s) m e p = rw (p, ne_eqb (suc m) 0 (λ q. omega arith)) refl
 times-some (fin s k g) m e p = rw p (signed_round binary64 false (k * up g * (suc m * up e)) (down g * down e))
+times-some nan m e p = elim p [ ]
 
 times_none : (z : Float) (e : ℤ) → Sized false 0 1 z → sign_plus (mul binary64 z (fin false 0 e))
 unfolding mul
 times_none (fin s k g) e p = rw p.0 (signed_round binary64 false (k * up g * (0 * up e)) (down g * down e))
+times_none nan e p = elim p [ ]
+times_none (inf _) e p = elim p [ ]
 
 -- (2·sigma)·sigma: the zero and the infinite sigma never meet
 spread-of : (sigma : Float) → sign_plus sigma → sign_plus (mul binary64 (mul binary64 (fin false 1 (pos 1)) sigma) sigma)
@@ -51,6 +54,7 @@ spread-of (fin true m e) p = absurd (true≢false p)
 spread-of (fin false zero e) p = times_none (round binary64 false (1 * 2 ^ 1 * (0 * up e)) (1 * down e)) e
     (sized-round false (1 * 2 ^ 1 * (0 * up e)) (1 * down e) 0 1 (omega (arith, down_pos e)) (lit< tt) (held_whole 0 (lit≤ tt)) (rw (zero-mul (up e)) (omega arith)))
 spread-of (fin false (suc m) e) p = times-some (round binary64 false (1 * 2 ^ 1 * (suc m * up e)) (1 * down e)) m e (signed_round binary64 false (1 * 2 ^ 1 * (suc m * up e)) (1 * down e))
+spread-of nan p = elim p [ ]
 
 spread : (sigma : Float) → sign_plus sigma → sign_plus (mul binary64 (mul binary64 two64 sigma) sigma)
 spread sigma p = subst (λ (t : Float). sign_plus (mul binary64 (mul binary64 t sigma) sigma)) (sym two_is) (spread-of sigma p)
@@ -64,6 +68,7 @@ falls m e (fin s n g) p = rw (p, ne_eqb (suc m) 0 (λ q. omega arith)) (go (eqb 
     go : (b : Bool) → Signed true (cond b (inf true) (round binary64 true (suc m * up e * down g) (n * up g * down e)))
     go true = refl
     go false = signed_round binary64 true (suc m * up e * down g) (n * up g * down e)
+falls m e nan p = elim p [ ]
 
 zero-equal : (e : ℤ) → eq (fin false 0 e) zero64 ≡ true
 unfolding eq of_bits
@@ -78,6 +83,8 @@ weight-small sigma (fin false (suc m) e) p q = go (eq (fin false (suc m) e) zero
     go : (b : Bool) → up_to_whole (cond b zero64 (exp_of (div binary64 (fin true (suc m) e) (mul binary64 (mul binary64 two64 sigma) sigma)))) 14
     go true = zero-whole 14
     go false = exp-falling (div binary64 (fin true (suc m) e) (mul binary64 (mul binary64 two64 sigma) sigma)) (falls m e (mul binary64 (mul binary64 two64 sigma) sigma) (spread sigma p))
+weight-small sigma nan p q = elim q [ ]
+weight-small sigma (inf _) p q = elim q [ ]
 
 -- ---- the bounds of the search are never NaN and never negative
 
@@ -90,6 +97,7 @@ half_of : (z : Float) → sign_plus z → sign_plus (div binary64 z (fin false 1
 unfolding div
 half_of (inf s) p = rw p refl
 half_of (fin s m e) p = rw p (signed_round binary64 false (m * up e * 1) (1 * 2 ^ 1 * down e))
+half_of nan p = elim p [ ]
 
 middle : (x y : Float) → sign_plus x → sign_plus y → sign_plus (div binary64 (add binary64 x y) two64)
 middle x y p q = subst (λ (t : Float). sign_plus (div binary64 (add binary64 x y) t)) (sym two_is) (half_of (add binary64 x y) (plain-add x y p q))
@@ -134,6 +142,8 @@ enough-of : (s : Float) (k : ℕ) → Sized false k 1 s → lt s (fin false NS (
 unfolding lt
 enough-of (fin true m e) k p h = absurd (true≢false p.0)
 enough-of (fin false m e) k p h = ltb-false (m * up e * 2 ^ 78) (NS * 1 * down e) h
+enough-of nan k p h = elim p [ ]
+enough-of (inf _) k p h = elim p [ ]
 
 enough : (s : Float) (k : ℕ) → Sized false k 1 s → lt s smallest ≡ false → Least NS (2 ^ 78) s
 enough s k p h = enough-of s k p (ap (lt s) (sym small_is) ∙ h)

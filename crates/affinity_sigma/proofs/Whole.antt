@@ -46,6 +46,8 @@ no_fraction (fin false m (pos e)) n l h f p a b = record {
 no_fraction (fin false m (negsuc e)) n l h f p a b =
     let c : 2 ^ 52 * 2 ≤ n * 2 ^ suc e = mul-le-mul l (le_trans (le_of_eq (sym (mul-one 2))) (le_trans (mul-le-mul (lit≤ {m = 2} {n = 2} tt) (pow_pos e)) (le_of_eq (sym (pow-succ' 2 e))))) in
     absurd (lt_irrefl m (lt_of_lt_of_le (digits false m (negsuc e) f).0 (le_trans c (le_trans b (le_of_eq (mul-one (m * 1) ∙ mul-one m))))))
+no_fraction nan n l h f p a b = elim p [ ]
+no_fraction (inf _) n l h f p a b = elim a [ ]
 
 near-sum : (a d n : ℕ) → 0 < d → 2 ^ 52 ≤ n → n + 1 ≤ 2 ^ 53 → n * d ≤ a → a ≤ (n + 1) * d → Near (round binary64 false a d) n
 near-sum a d n p l h b t =
@@ -69,6 +71,8 @@ less-shift (fin false m e) n v =
     let q : a ≡ b + n * d = v.1 ∙ add-mul (2 ^ 52) n d ∙ ap (λ (z : ℕ). z * d + n * d) (sym (one-mul (2 ^ 52))) in
     let r : a - b ≡ n * d = omega (arith, q) in
     rw (le-ltb a b (omega (arith, q)), r) (round_same binary64 false (n * d) (d * 1) n 1 (mul-pos (down_pos e) (lit< tt)) (lit< tt) (mul-one (n * d) ∙ ap (λ (z : ℕ). n * z) (sym (mul-one d))))
+less-shift nan n v = elim v [ ]
+less-shift (inf _) n v = elim v [ ]
 
 -- w rounded to a whole number is its whole part or the next one, and the test tells which
 pub record Rounded (w : Float) : Type 0 where
@@ -84,6 +88,8 @@ more-than m e (fin true p g) n v h = absurd (true≢false v.0)
 more-than m e (fin false p g) n v h =
     lt_of_mul-lt-mul_right (down g) (lt_of_lt_of_le (ltb-true (m * up e * down g) (p * up g * down e) h)
     (le_of_eq (ap (λ (z : ℕ). z * down e) (sym (mul-one (p * up g)) ∙ v.1) ∙ mul_right_comm n (down g) (down e))))
+more-than m e nan n v h = elim v [ ]
+more-than m e (inf _) n v h = elim v [ ]
 
 at-most-of : (m : ℕ) (e : ℤ) (z : Float) (n : ℕ) → HasValue z false n 1 → lt (fin false m e) z ≡ false → n * down e ≤ m * up e
 unfolding lt
@@ -92,6 +98,8 @@ at-most-of m e (fin false p g) n v h =
     le_of_mul-le-mul_right {k = down g}
     (le_trans (le_of_eq (sym (ap (λ (z : ℕ). z * down e) (sym (mul-one (p * up g)) ∙ v.1) ∙ mul_right_comm n (down g) (down e))))
     (ltb-false (m * up e * down g) (p * up g * down e) h)) (down_pos g)
+at-most-of m e nan n v h = elim v [ ]
+at-most-of m e (inf _) n v h = elim v [ ]
 
 -- a / d, whose whole part is w, beside 2^52
 near-at : (a d w : ℕ) → 0 < d → w * d ≤ a → a < w * d + d → w ≤ 2150 → Near (round binary64 false (a * 1 + 1 * 2 ^ 52 * d) (d * 1)) (2 ^ 52 + w)
@@ -131,6 +139,8 @@ rounded (fin false m e) h =
           (lt_of_not-le (λ (g : n ≤ w). lt_irrefl a (lt_of_lt_of_le (more-than m e _ n value l) (le_trans (mul-le-mul_right d g) lo))))));
       under = λ l. le_antisymm (subst (λ (i : ℕ). n ≤ i) (sym is-w) (le_of_suc-le-suc (lt_of_mul-lt-mul_right d (lt_of_le_of_lt (at-most-of m e _ n value l) hi)))) (omega (arith, near.least, is-w));
     }
+rounded nan h = elim h [ ]
+rounded (inf _) h = elim h [ ]
 
 -- ---- as machine numbers
 
@@ -147,15 +157,20 @@ minus_plus : (z : Float) → Signed true z → sign_plus (neg z)
 unfolding neg
 minus_plus (inf s) p = ap not p
 minus_plus (fin s m e) p = ap not p
+minus_plus nan p = elim p [ ]
 
 twice-sign : (q : Float) → lt q (of_bits binary64 0) ≡ true → at_most q 1075 → sign_plus (neg (add binary64 q q))
 unfolding add sum lt of_bits
 twice-sign (fin true m e) h w = minus_plus (round binary64 true (m * up e * down e + m * up e * down e) (down e * down e))
     (signed_round binary64 true (m * up e * down e + m * up e * down e) (down e * down e))
 twice-sign (fin false m e) h w = absurd (not-suc-le-zero (le_trans (ltb-true (m * up e * 1) (0 * 2 ^ 0 * down e) h) (le_of_eq (zero-mul (down e)))))
+twice-sign nan h w = elim w [ ]
+twice-sign (inf _) h w = elim w [ ]
 
 sized-up : (z : Float) (n : ℕ) → sign_plus z → Most n 1 z → up_to_whole z n
 sized-up (fin s m e) n p w = (p, omega (arith, w))
+sized-up nan n p w = elim p [ ]
+sized-up (inf _) n p w = elim w [ ]
 
 pub twice-whole : (q : Float) → lt q (of_bits binary64 0) ≡ true → at_most q 1075 → up_to_whole (neg (add binary64 q q)) 2150
 twice-whole q h w = sized-up (neg (add binary64 q q)) 2150 (twice-sign q h w)

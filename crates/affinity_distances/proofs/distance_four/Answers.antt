@@ -20,14 +20,7 @@ bounds-row-j-4 c =
 
 pub returns : goal.returns
 returns c =
-    let the-distance-by3 = c.distance_by-3 in
-    let the-distance-by2 = c.distance_by-2 in
-    let the-distance-by = c.distance_by in
-    let the-dot-four = c.dot_four-z in
-    let dots = the-dot-four.ensures in
-    let pre = c.requires in
-    let j = c.args.j in
-    four-written _ _ _ _ _ _ _ _ _ (the-distance-by.ensures ∙ apart-is _ _ _ j _ _ _ pre.1.0 (pre.1.1 j (omega arith)) dots.0)
-    (the-distance-by2.ensures ∙ apart-is _ _ _ (j + 1) _ _ _ pre.1.0 (pre.1.1 (j + 1) (omega arith)) dots.1)
-    (the-distance-by3.ensures ∙ apart-is _ _ _ (j + 2) _ _ _ pre.1.0 (pre.1.1 (j + 2) (omega arith)) dots.2)
-    (c.distance_by-4.ensures ∙ apart-is _ _ _ (j + 3) _ _ _ pre.1.0 (pre.1.1 (j + 3) (omega arith)) dots.3)
+    four-written _ _ _ _ _ _ _ _ _ (c.distance_by.ensures ∙ apart-is _ _ _ c.args.j _ _ _ c.requires.i_value.0 (c.requires.i_value.1 c.args.j (omega arith)) c.dot_four-z.ensures.0)
+    (c.distance_by-2.ensures ∙ apart-is _ _ _ (c.args.j + 1) _ _ _ c.requires.i_value.0 (c.requires.i_value.1 (c.args.j + 1) (omega arith)) c.dot_four-z.ensures.1)
+    (c.distance_by-3.ensures ∙ apart-is _ _ _ (c.args.j + 2) _ _ _ c.requires.i_value.0 (c.requires.i_value.1 (c.args.j + 2) (omega arith)) c.dot_four-z.ensures.2)
+    (c.distance_by-4.ensures ∙ apart-is _ _ _ (c.args.j + 3) _ _ _ c.requires.i_value.0 (c.requires.i_value.1 (c.args.j + 3) (omega arith)) c.dot_four-z.ensures.3)

@@ -13,21 +13,18 @@ loop-j-init c =
 
 pub distance_four-requires : goal.distance_four-requires
 distance_four-requires c =
-    let the-loop = c.loop-j in
     record { f_in_bounds = (
         row_in _ _ _ _ c.requires.i_lt_n.0 c.requires.i_lt_n.1,
         rows_in _ c.args.n _ _ (omega arith) c.requires.i_lt_n.1,
         omega
             (arith, c.requires.i_lt_n),
         omega (arith, c.requires.i_lt_n),
-        omega (arith, c.requires.i_lt_n, the-loop.invariant.1),
+        omega (arith, c.requires.i_lt_n, c.loop-j.invariant.1),
       ); i_value = (c.requires.squared _ c.requires.i_lt_n.0, λ t h. c.requires.squared t (omega arith)); }
 
 pub loop-j-preserved : goal.loop-j-preserved
 loop-j-preserved c =
-    let the-distance-four = c.distance_four in
-    let the-loop = c.loop-j in
-    (omega arith, the-distance-four.auto.row ∙ the-loop.invariant.1, the-distance-four.ensures ∙ loop-many _ _ _ _ the-loop.invariant.2 4)
+    (omega arith, c.distance_four.auto.row ∙ c.loop-j.invariant.1, c.distance_four.ensures ∙ loop-many _ _ _ _ c.loop-j.invariant.2 4)
 
 pub shape_of-row : goal.shape_of-row
 shape_of-row c =

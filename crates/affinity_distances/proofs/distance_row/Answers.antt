@@ -26,27 +26,21 @@ distance-requires c =
 
 pub bounds-row-j : goal.bounds-row-j
 bounds-row-j c =
-    let the-loop = c.loop-j in
-    let the-distance-fours = c.distance_fours-j in
-    omega (arith, c.requires.i_lt_n, the-loop.invariant.0, the-distance-fours.auto.row)
+    omega (arith, c.requires.i_lt_n, c.loop-j.invariant.0, c.distance_fours-j.auto.row)
 
 pub loop-j-preserved : goal.loop-j-preserved
 loop-j-preserved c =
-    let the-loop = c.loop-j in
-    (simp length-set the-loop.invariant.0, λ y r. rw c.distance.ensures (loop-next (the-loop.invariant.1 y r) c.loop-j-test.true))
+    (simp length-set c.loop-j.invariant.0, λ y r. rw c.distance.ensures (loop-next (c.loop-j.invariant.1 y r) c.loop-j-test.true))
 
 pub bounds-row-i : goal.bounds-row-i
 bounds-row-i c =
-    let the-distance-fours = c.distance_fours-j in
-    omega (arith, c.requires.i_lt_n, c.loop-j.invariant.0, the-distance-fours.auto.row)
+    omega (arith, c.requires.i_lt_n, c.loop-j.invariant.0, c.distance_fours-j.auto.row)
 
 pub shape_of-row : goal.shape_of-row
 shape_of-row c =
-    let the-distance-fours = c.distance_fours-j in
-    simp length-set (c.loop-j.invariant.0 ∙ the-distance-fours.auto.row)
+    simp length-set (c.loop-j.invariant.0 ∙ c.distance_fours-j.auto.row)
 
 pub returns : goal.returns
 returns c =
-    let the-distance-fours = c.distance_fours-j in
     ap (λ (p : List Float). set p c.args.i zero64)
-    (loop-done (c.loop-j.invariant.1 _ (loop-from _ _ _ _ the-distance-fours.ensures.1 _ the-distance-fours.ensures.0)) c.loop-j-test.false)
+    (loop-done (c.loop-j.invariant.1 _ (loop-from _ _ _ _ c.distance_fours-j.ensures.1 _ c.distance_fours-j.ensures.0)) c.loop-j-test.false)

@@ -10,12 +10,12 @@ loop-k-init c =
 
 pub loop-k-preserved : goal.loop-k-preserved
 loop-k-preserved c =
-    let the-loop = c.loop-k in (
-      loop-next the-loop.invariant.0 (omega arith),
-      loop-next the-loop.invariant.1 (omega arith),
-      loop-next the-loop.invariant.2 (omega arith),
+    (
+      loop-next c.loop-k.invariant.0 (omega arith),
+      loop-next c.loop-k.invariant.1 (omega arith),
+      loop-next c.loop-k.invariant.2 (omega arith),
       loop-next
-          the-loop.invariant.3 (omega arith),
+          c.loop-k.invariant.3 (omega arith),
     )
 
 pub returns : goal.returns

@@ -61,11 +61,10 @@ overflow_cast-offsets-in-loop-i c =
 
 pub offset_bounds-offsets-i : goal.offset_bounds-offsets-i
 offset_bounds-offsets-i c =
-    let the-frames = c.requires.frames in
     omega (
       arith,
       c.loop-i.invariant.lists.within,
-      the-frames,
+      c.requires.frames,
     )
 
 pub bounds-offsets-i : goal.bounds-offsets-i
@@ -79,11 +78,8 @@ bounds-offsets-i c =
 
 pub loop-i-preserved : goal.loop-i-preserved
 loop-i-preserved c =
-    let the-fill-list = c.fill_list-q in
-    let the-loop-test = c.loop-i-test in
-    let the-loop = c.loop-i in
-    frames-next c.requires the-loop.invariant the-loop-test.true the-fill-list.ensures.value the-fill-list.ensures.weights_after
-    the-fill-list.ensures.indices_after the-fill-list.auto.row_indices the-fill-list.ensures.lowered
+    frames-next c.requires c.loop-i.invariant c.loop-i-test.true c.fill_list-q.ensures.value c.fill_list-q.ensures.weights_after
+    c.fill_list-q.ensures.indices_after c.fill_list-q.auto.row_indices c.fill_list-q.ensures.lowered
 
 pub fill-requires : goal.fill-requires
 fill-requires c =
@@ -103,8 +99,7 @@ shape_of-indices c =
 
 pub shape_of-offsets : goal.shape_of-offsets
 shape_of-offsets c =
-    let the-loop = c.loop-i in
-    the-loop.invariant.lists.size_o ∙ length-set c.args.offsets.now _ _
+    c.loop-i.invariant.lists.size_o ∙ length-set c.args.offsets.now _ _
 
 pub shape_of-row_values : goal.shape_of-row_values
 shape_of-row_values c =
@@ -118,9 +113,4 @@ shape_of-row_indices c =
 
 pub returns : goal.returns
 returns c =
-    let the-clear-indices = c.clear_indices in
-    let the-fill = c.fill in
-    let the-loop-test = c.loop-i-test in
-    let the-loop = c.loop-i in
-    let the-top-cursors = c.top_cursors in
-    frames-done c.requires _ (omega (arith, the-loop-test.false)) the-top-cursors.ensures the-loop.invariant the-fill.ensures the-clear-indices.ensures
+    frames-done c.requires _ (omega (arith, c.loop-i-test.false)) c.top_cursors.ensures c.loop-i.invariant c.fill.ensures c.clear_indices.ensures

@@ -5,10 +5,4 @@ use Rattle.affinity_sigma.proofs.row_for.Goals as goal
 pub returns : goal.returns
 unfolding row_of
 returns c =
-    let the-share-out = c.share_out in
-    let the-total = c.total-sum in
-    let the-weigh = c.weigh in
-    let the-share-out = the-share-out in
-    let the-total = the-total in
-    let the-weigh = the-weigh in
-    record { shares_after = rw (the-total.ensures, the-weigh.ensures) at the-share-out.ensures; value = rw the-weigh.ensures at the-total.ensures; }
+    record { shares_after = rw (c.total-sum.ensures, c.weigh.ensures) at c.share_out.ensures; value = rw c.weigh.ensures at c.total-sum.ensures; }

@@ -9,7 +9,4 @@ returns-then-is_bad c =
 
 pub returns : goal.returns
 returns c =
-    let the-put-progress = c.put_progress in
-    let the-if1 = c.if-is_bad in
-    let the-is-bad = c.is_bad in
-    fine-after _ _ _ (sym the-is-bad.ensures ∙ the-if1.false) the-put-progress.ensures
+    fine-after _ _ _ (sym c.is_bad.ensures ∙ c.if-is_bad.false) c.put_progress.ensures

@@ -23,8 +23,4 @@ bounds-words-4 c =
 pub returns : goal.returns
 unfolding answer_put
 returns c =
-    let the-units-word = c.units_word in
-    let the_number = c.number in
-    let the-kind-word = c.kind_word in
-    let the-fault-in = c.fault_in-f in
-    rw (the-kind-word.ensures, the_number.ensures, the-units-word.ensures, c.fault_word.ensures, c.fault_value.ensures, the-fault-in.ensures)
+    rw (c.kind_word.ensures, c.number.ensures, c.units_word.ensures, c.fault_word.ensures, c.fault_value.ensures, c.fault_in-f.ensures)

@@ -10,19 +10,12 @@ returns-then-file-gt-BENCH_BYTES c =
 
 pub map_frames-requires : goal.map_frames-requires
 map_frames-requires c =
-    let the-read-frames = c.read_frames in
-    let the-if1 = c.if-file-gt-BENCH_BYTES in
-    frames-few _ _ (omega (arith, the-if1.false)) (sym the-read-frames.ensures ∙ c.in-Good.is)
+    frames-few _ _ (omega (arith, c.if-file-gt-BENCH_BYTES.false)) (sym c.read_frames.ensures ∙ c.in-Good.is)
 
 pub returns-in-Bad : goal.returns-in-Bad
 returns-in-Bad c =
-    let the-read-frames = c.read_frames in
-    let the-if1 = c.if-file-gt-BENCH_BYTES in
-    bad-record _ (omega (arith, the-if1.false)) _ (sym the-read-frames.ensures ∙ c.in-Bad.is)
+    bad-record _ (omega (arith, c.if-file-gt-BENCH_BYTES.false)) _ (sym c.read_frames.ensures ∙ c.in-Bad.is)
 
 pub returns-in-Good : goal.returns-in-Good
 returns-in-Good c =
-    let the-n = c.n-1 in
-    let the-read-frames = c.read_frames in
-    let the-if1 = c.if-file-gt-BENCH_BYTES in
-    all-mapped _ (omega (arith, the-if1.false)) _ _ (sym the-read-frames.ensures ∙ the-n.is) c.map_frames.ensures
+    all-mapped _ (omega (arith, c.if-file-gt-BENCH_BYTES.false)) _ _ (sym c.read_frames.ensures ∙ c.in-Good.is) c.map_frames.ensures

@@ -16,7 +16,4 @@ slice_bounds-descend-end-2 c =
 pub returns : goal.returns
 unfolding mapped
 returns c =
-    let the-settings = c.settings-s in
-    let the-start-of = c.start_of-start in
-    let the-table-of = c.table_of-table in
-    rw (sym the-table-of.ensures.value_2, sym the-start-of.ensures.value_2, sym the-settings.ensures) c.descend.ensures
+    rw (sym c.table_of-table.ensures.value_2, sym c.start_of-start.ensures.value_2, sym c.settings-s.ensures) c.descend.ensures

@@ -11,8 +11,7 @@ loop-k-init c =
 
 pub loop-k-preserved : goal.loop-k-preserved
 loop-k-preserved c =
-    let the-loop = c.loop-k in
-    (search rules, rw c.frame_at-f.ensures (loop-next the-loop.invariant.1 (omega arith)))
+    (search rules, rw c.frame_at-f.ensures (loop-next c.loop-k.invariant.1 (omega arith)))
 
 pub returns : goal.returns
 unfolding bench_table

@@ -13,65 +13,44 @@ returns-then-k-ne0 c =
 
 pub square_frames-requires : goal.square_frames-requires
 square_frames-requires c =
-    let the-blind-fault = c.blind_fault-k in
-    let p = (sight-room _ _ _ _ _ _ (sight-pass _ _ _ _ _ _ (sym the-blind-fault.ensures ∙ c.if-k-ne0.false))) in
+    let p = (sight-room _ _ _ _ _ _ (sight-pass _ _ _ _ _ _ (sym c.blind_fault-k.ensures ∙ c.if-k-ne0.false))) in
     (p.table-in, p.squares-in)
 
 pub look_at_all-l-requires : goal.look_at_all-l-requires
 look_at_all-l-requires c =
-    let the-square-frames = c.square_frames in
-    let the-if1 = c.if-k-ne0 in
-    let the-blind-fault = c.blind_fault-k in
-    let p = (sight-room _ _ _ _ _ _ (sight-pass _ _ _ _ _ _ (sym the-blind-fault.ensures ∙ the-if1.false))) in
-    record { squared = rw the-square-frames.ensures
+    let p = (sight-room _ _ _ _ _ _ (sight-pass _ _ _ _ _ _ (sym c.blind_fault-k.ensures ∙ c.if-k-ne0.false))) in
+    record { squared = rw c.square_frames.ensures
           (squares-known c.args.table.now c.args.s.n c.args.s.f c.args.squares.now p.squares-in); sight_room = rw
-          the-square-frames.auto.squares p; }
+          c.square_frames.auto.squares p; }
 
 pub clear_rows-requires : goal.clear_rows-requires
 clear_rows-requires c =
-    let the-look-at-all = c.look_at_all-l in
-    let the-square-frames = c.square_frames in
-    let the-if1 = c.if-k-ne0 in
-    let the-blind-fault = c.blind_fault-k in
-    let p = (sight-room _ _ _ _ _ _ (sight-pass _ _ _ _ _ _ (sym the-blind-fault.ensures ∙ the-if1.false))) in (
-      rw the-square-frames.auto.squares p.squares-in,
-      rw the-look-at-all.auto.row_values p.values-in,
-      rw the-look-at-all.auto.row_shares
+    let p = (sight-room _ _ _ _ _ _ (sight-pass _ _ _ _ _ _ (sym c.blind_fault-k.ensures ∙ c.if-k-ne0.false))) in (
+      rw c.square_frames.auto.squares p.squares-in,
+      rw c.look_at_all-l.auto.row_values p.values-in,
+      rw c.look_at_all-l.auto.row_shares
           p.shares-in,
-      rw the-look-at-all.auto.row_indices p.places-in,
+      rw c.look_at_all-l.auto.row_indices p.places-in,
     )
 
 pub shape_of-squares : goal.shape_of-squares
 shape_of-squares c =
-    let the-clear-rows = c.clear_rows in
-    let the-square-frames = c.square_frames in
-    the-clear-rows.auto.squares ∙ the-square-frames.auto.squares
+    c.clear_rows.auto.squares ∙ c.square_frames.auto.squares
 
 pub shape_of-row_values : goal.shape_of-row_values
 shape_of-row_values c =
-    let the-clear-rows = c.clear_rows in
-    let the-look-at-all = c.look_at_all-l in
-    the-clear-rows.auto.row_values ∙ the-look-at-all.auto.row_values
+    c.clear_rows.auto.row_values ∙ c.look_at_all-l.auto.row_values
 
 pub shape_of-row_shares : goal.shape_of-row_shares
 shape_of-row_shares c =
-    let the-clear-rows = c.clear_rows in
-    let the-look-at-all = c.look_at_all-l in
-    the-clear-rows.auto.row_shares ∙ the-look-at-all.auto.row_shares
+    c.clear_rows.auto.row_shares ∙ c.look_at_all-l.auto.row_shares
 
 pub shape_of-row_indices : goal.shape_of-row_indices
 shape_of-row_indices c =
-    let the-clear-rows = c.clear_rows in
-    let the-look-at-all = c.look_at_all-l in
-    the-clear-rows.auto.row_indices ∙ the-look-at-all.auto.row_indices
+    c.clear_rows.auto.row_indices ∙ c.look_at_all-l.auto.row_indices
 
 pub returns : goal.returns
 returns c =
-    let the-clear-rows = c.clear_rows in
-    let the-look-at-all = c.look_at_all-l in
-    let the-square-frames = c.square_frames in
-    let the-if1 = c.if-k-ne0 in
-    let the-blind-fault = c.blind_fault-k in
     sight-seen _ _ (sight_rows c.args.squares.now c.args.row_values.now c.args.row_shares.now
-    c.args.row_indices.now) the-blind-fault.ensures the-if1.false the-square-frames.ensures the-look-at-all.ensures.kept_past
-    the-clear-rows.ensures the-look-at-all.ensures.blind_value
+    c.args.row_indices.now) c.blind_fault-k.ensures c.if-k-ne0.false c.square_frames.ensures c.look_at_all-l.ensures.kept_past
+    c.clear_rows.ensures c.look_at_all-l.ensures.blind_value

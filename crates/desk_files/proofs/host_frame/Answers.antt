@@ -11,7 +11,4 @@ returns-then-frame-lt11 c =
 pub returns : goal.returns
 unfolding host_frame
 returns c =
-    let the-put-frame = c.put_frame in
-    let the-frame-at = c.frame_at-f in
-    let the-if1 = c.if-frame-lt11 in
-    rw (le-ltb _ _ the-if1.false, the-put-frame.ensures, the-frame-at.ensures)
+    rw (le-ltb _ _ c.if-frame-lt11.false, c.put_frame.ensures, c.frame_at-f.ensures)

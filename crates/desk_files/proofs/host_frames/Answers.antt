@@ -12,13 +12,9 @@ returns-then-place-eq0 c =
 pub returns-in-Good : goal.returns-in-Good
 unfolding host_frames
 returns-in-Good c =
-    let the-read-frames = c.read_frames in
-    let the-if1 = c.if-place-eq0 in
-    rw (ne_eqb _ _ the-if1.false, sym the-read-frames.ensures ∙ c.in-Good.is)
+    rw (ne_eqb _ _ c.if-place-eq0.false, sym c.read_frames.ensures ∙ c.in-Good.is)
 
 pub returns-in-Bad : goal.returns-in-Bad
 unfolding host_frames
 returns-in-Bad c =
-    let the-read-frames = c.read_frames in
-    let the-if1 = c.if-place-eq0 in
-    rw (ne_eqb _ _ the-if1.false, sym the-read-frames.ensures ∙ c.in-Bad.is)
+    rw (ne_eqb _ _ c.if-place-eq0.false, sym c.read_frames.ensures ∙ c.in-Bad.is)

@@ -5,11 +5,9 @@ use Rattle.desk_import.proofs.short_import.Goals as goal
 
 pub returns-then-k-eq0 : goal.returns-then-k-eq0
 returns-then-k-eq0 c =
-    let the-tree-settings = c.tree_settings-t in
-    rw (eq-eqb _ _ (sym (rw the-tree-settings.ensures at c.import_fault-k.ensures) ∙ c.if-k-eq0.true))
+    rw (eq-eqb _ _ (sym (rw c.tree_settings-t.ensures at c.import_fault-k.ensures) ∙ c.if-k-eq0.true))
 
 pub returns : goal.returns
 returns c =
-    let the-tree-settings = c.tree_settings-t in
-    rw (ne_eqb _ _ (λ q. c.if-k-eq0.false ((rw the-tree-settings.ensures at c.import_fault-k.ensures) ∙ q)))
-    (rw the-tree-settings.ensures at c.import_fault-k.ensures)
+    rw (ne_eqb _ _ (λ q. c.if-k-eq0.false ((rw c.tree_settings-t.ensures at c.import_fault-k.ensures) ∙ q)))
+    (rw c.tree_settings-t.ensures at c.import_fault-k.ensures)

@@ -9,8 +9,6 @@ returns-then-answer-eq0 c =
 
 pub returns : goal.returns
 returns c =
-    let the-read-monitor = c.read_monitor-a in
-    let the-if1 = c.if-answer-eq0 in
     read-answered c.args.file.now c.args.pictures.now c.args.sides.now c.args.fields.now
-    c.args.positions.now c.args.answer.now the-if1.false the-read-monitor.ensures c.read_told.ensures
+    c.args.positions.now c.args.answer.now c.if-answer-eq0.false c.read_monitor-a.ensures c.read_told.ensures
     c.number.ensures

@@ -9,8 +9,6 @@ returns-then-answer-eq0 c =
 
 pub returns : goal.returns
 returns c =
-    let the-write-monitor = c.write_monitor-a in
-    let the-if1 = c.if-answer-eq0 in
     write-answered c.args.n c.args.pictures.now c.args.sides.now c.args.fields.now
-    c.args.positions.now c.args.target.now c.args.answer.now the-if1.false the-write-monitor.ensures
+    c.args.positions.now c.args.target.now c.args.answer.now c.if-answer-eq0.false c.write_monitor-a.ensures
     c.monitored_told.ensures c.number.ensures

@@ -15,37 +15,21 @@ settings_of-s-requires c =
 
 pub returns-then-record-lt14 : goal.returns-then-record-lt14
 returns-then-record-lt14 c =
-    let the-settings-of = c.settings_of-s in
-    let the-if1 = c.if-not-settings_fine in
-    let the-settings-fine = c.settings_fine in
-    short-begun _ _ _ _ _ _ (sym the-settings-fine.ensures ∙ the-if1.false) c.if-record-lt14.true the-settings-of.ensures
+    short-begun _ _ _ _ _ _ (sym c.settings_fine.ensures ∙ c.if-not-settings_fine.false) c.if-record-lt14.true c.settings_of-s.ensures
     c.short_number.ensures
 
 pub put_run-requires : goal.put_run-requires
 put_run-requires c =
-    let the-if2 = c.if-record-lt14 in
-    the-if2.false
+    c.if-record-lt14.false
 
 pub returns-in-Refused : goal.returns-in-Refused
 unfolding prepare_number
 returns-in-Refused c =
-    let the-prepare = c.prepare-p in
-    let the-if2 = c.if-record-lt14 in
-    let the-settings-of = c.settings_of-s in
-    let the-if1 = c.if-not-settings_fine in
-    let the-settings-fine = c.settings_fine in
-    begun-is _ _ _ _ _ _ (sym the-settings-fine.ensures ∙ the-if1.false) the-if2.false the-settings-of.ensures the-prepare.ensures
+    begun-is _ _ _ _ _ _ (sym c.settings_fine.ensures ∙ c.if-not-settings_fine.false) c.if-record-lt14.false c.settings_of-s.ensures c.prepare-p.ensures
     (rw c.in-Refused.is) (rw c.in-Refused.is)
 
 pub returns-in-Ready : goal.returns-in-Ready
 unfolding prepare_number
 returns-in-Ready c =
-    let the-put-run = c.put_run in
-    let the-p2 = c.p-in-Ready-1 in
-    let the-prepare = c.prepare-p in
-    let the-if2 = c.if-record-lt14 in
-    let the-settings-of = c.settings_of-s in
-    let the-if1 = c.if-not-settings_fine in
-    let the-settings-fine = c.settings_fine in
-    begun-is _ _ _ _ _ _ (sym the-settings-fine.ensures ∙ the-if1.false) the-if2.false the-settings-of.ensures the-prepare.ensures
-    (rw the-p2.is) (rw the-p2.is the-put-run.ensures)
+    begun-is _ _ _ _ _ _ (sym c.settings_fine.ensures ∙ c.if-not-settings_fine.false) c.if-record-lt14.false c.settings_of-s.ensures c.prepare-p.ensures
+    (rw c.in-Ready.is) (rw c.in-Ready.is c.put_run.ensures)

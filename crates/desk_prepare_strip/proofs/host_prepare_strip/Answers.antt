@@ -9,7 +9,4 @@ returns-then-words_barred c =
 
 pub returns : goal.returns
 returns c =
-    let the-host-prepare = c.host_prepare in
-    let the-if1 = c.if-words_barred in
-    let the-words-barred = c.words_barred in
-    the-host-prepare.ensures ∙ words-passed-on _ _ _ _ _ _ (sym the-words-barred.ensures ∙ the-if1.false)
+    c.host_prepare.ensures ∙ words-passed-on _ _ _ _ _ _ (sym c.words_barred.ensures ∙ c.if-words_barred.false)

@@ -13,6 +13,4 @@ settings_of-s-requires c =
 
 pub returns : goal.returns
 returns c =
-    let the-if1 = c.if-not-settings_fine in
-    let the-settings-fine = c.settings_fine in
-    rw (sym the-settings-fine.ensures ∙ the-if1.false, sym c.settings_of-s.ensures) c.strip_bars.ensures
+    rw (sym c.settings_fine.ensures ∙ c.if-not-settings_fine.false, sym c.settings_of-s.ensures) c.strip_bars.ensures

@@ -14,50 +14,35 @@ returns-then-not-settings_fine c =
 pub returns-then-sizes-lt7 : goal.returns-then-sizes-lt7
 unfolding host_sizes
 returns-then-sizes-lt7 c =
-    let the-settings-fine = c.settings_fine in
-    rw ((sym the-settings-fine.ensures ∙ c.if-not-settings_fine.false), lt-ltb _ _ c.if-sizes-lt7.true)
+    rw ((sym c.settings_fine.ensures ∙ c.if-not-settings_fine.false), lt-ltb _ _ c.if-sizes-lt7.true)
 
 pub settings_of-s-requires : goal.settings_of-s-requires
 settings_of-s-requires c =
-    let the-settings-fine = c.settings_fine in
-    settings-long _ (sym the-settings-fine.ensures ∙ c.if-not-settings_fine.false)
+    settings-long _ (sym c.settings_fine.ensures ∙ c.if-not-settings_fine.false)
 
 pub returns-then-k-ne0 : goal.returns-then-k-ne0
 unfolding host_sizes
 returns-then-k-ne0 c =
-    let the-settings-of = c.settings_of-s in
-    let the-if2 = c.if-sizes-lt7 in
-    let the-if1 = c.if-not-settings_fine in
-    let the-settings-fine = c.settings_fine in
     rw (
-      (sym the-settings-fine.ensures ∙ the-if1.false),
-      le-ltb _ _ the-if2.false,
+      (sym c.settings_fine.ensures ∙ c.if-not-settings_fine.false),
+      le-ltb _ _ c.if-sizes-lt7.false,
       ne_eqb _ _
-          (rw (rw the-settings-of.ensures at c.settings_fault-k.ensures) at c.if-k-ne0.true),
-      (rw the-settings-of.ensures at c.settings_fault-k.ensures),
+          (rw (rw c.settings_of-s.ensures at c.settings_fault-k.ensures) at c.if-k-ne0.true),
+      (rw c.settings_of-s.ensures at c.settings_fault-k.ensures),
     )
 
 pub put_sizes-requires : goal.put_sizes-requires
 put_sizes-requires c =
-    let the-settings-fault = c.settings_fault-k in
-    let the-if2 = c.if-sizes-lt7 in
-    (the-if2.false, settings-fine _ (sym the-settings-fault.ensures ∙ c.if-k-ne0.false))
+    (c.if-sizes-lt7.false, settings-fine _ (sym c.settings_fault-k.ensures ∙ c.if-k-ne0.false))
 
 pub returns : goal.returns
 unfolding host_sizes
 returns c =
-    let the-put-sizes = c.put_sizes in
-    let the-if3 = c.if-k-ne0 in
-    let the-settings-fault = c.settings_fault-k in
-    let the-settings-of = c.settings_of-s in
-    let the-if2 = c.if-sizes-lt7 in
-    let the-if1 = c.if-not-settings_fine in
-    let the-settings-fine = c.settings_fine in
     rw (
-      (sym the-settings-fine.ensures ∙ the-if1.false),
-      le-ltb _ _ the-if2.false,
+      (sym c.settings_fine.ensures ∙ c.if-not-settings_fine.false),
+      le-ltb _ _ c.if-sizes-lt7.false,
       eq-eqb _ _
-          (sym (rw the-settings-of.ensures at the-settings-fault.ensures) ∙ the-if3.false),
-      the-put-sizes.ensures,
-      the-settings-of.ensures,
+          (sym (rw c.settings_of-s.ensures at c.settings_fault-k.ensures) ∙ c.if-k-ne0.false),
+      c.put_sizes.ensures,
+      c.settings_of-s.ensures,
     )

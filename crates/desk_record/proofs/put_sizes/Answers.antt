@@ -37,14 +37,11 @@ bounds-words-3 c =
 
 pub corners-requires : goal.corners-requires
 corners-requires c =
-    let the-is-tree = c.is_tree in
-    axes _ c.requires.1 (sym the-is-tree.ensures ∙ c.if-is_tree.true)
+    axes _ c.requires.1 (sym c.is_tree.ensures ∙ c.if-is_tree.true)
 
 pub overflow_mul-words : goal.overflow_mul-words
 overflow_mul-words c =
-    let the-if1 = c.if-is_tree in
-    let the-is-tree = c.is_tree in
-    rw c.corners.ensures (omega (arith, (nodes-few _ c.requires.1 (sym the-is-tree.ensures ∙ the-if1.true)).0))
+    rw c.corners.ensures (omega (arith, (nodes-few _ c.requires.1 (sym c.is_tree.ensures ∙ c.if-is_tree.true)).0))
 
 pub overflow_sub-words : goal.overflow_sub-words
 overflow_sub-words c =
@@ -52,15 +49,11 @@ overflow_sub-words c =
 
 pub overflow_mul-words-then-is_tree : goal.overflow_mul-words-then-is_tree
 overflow_mul-words-then-is_tree c =
-    let the-if1 = c.if-is_tree in
-    let the-is-tree = c.is_tree in
-    rw c.corners.ensures (omega (arith, (nodes-few _ c.requires.1 (sym the-is-tree.ensures ∙ the-if1.true)).1))
+    rw c.corners.ensures (omega (arith, (nodes-few _ c.requires.1 (sym c.is_tree.ensures ∙ c.if-is_tree.true)).1))
 
 pub overflow_add-words-then-is_tree : goal.overflow_add-words-then-is_tree
 overflow_add-words-then-is_tree c =
-    let the-if1 = c.if-is_tree in
-    let the-is-tree = c.is_tree in
-    rw c.corners.ensures (omega (arith, (nodes-few _ c.requires.1 (sym the-is-tree.ensures ∙ the-if1.true)).1))
+    rw c.corners.ensures (omega (arith, (nodes-few _ c.requires.1 (sym c.is_tree.ensures ∙ c.if-is_tree.true)).1))
 
 pub bounds-words-6 : goal.bounds-words-6
 bounds-words-6 c =
@@ -73,10 +66,7 @@ shape_of-words-then-is_tree c =
 pub returns-then-is_tree : goal.returns-then-is_tree
 unfolding lengths_put
 returns-then-is_tree c =
-    let the-if1 = c.if-is_tree in
-    let the-is-tree = c.is_tree in
-    let the-sizes-of = c.sizes_of-z in
-    rw ((sym the-is-tree.ensures ∙ the-if1.true), c.corners.ensures, the-sizes-of.ensures)
+    rw ((sym c.is_tree.ensures ∙ c.if-is_tree.true), c.corners.ensures, c.sizes_of-z.ensures)
 
 pub bounds-words-1-2 : goal.bounds-words-1-2
 bounds-words-1-2 c =

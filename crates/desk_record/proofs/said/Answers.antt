@@ -12,8 +12,7 @@ returns-then-not-run_fine c =
 
 pub bounds-record-i : goal.bounds-record-i
 bounds-record-i c =
-    let the-run-fine = c.run_fine in
-    omega (arith, c.requires, run_long _ (sym the-run-fine.ensures ∙ c.if-not-run_fine.false))
+    omega (arith, c.requires, run_long _ (sym c.run_fine.ensures ∙ c.if-not-run_fine.false))
 
 pub returns : goal.returns
 unfolding said_of

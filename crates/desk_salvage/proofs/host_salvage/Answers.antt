@@ -8,7 +8,4 @@ returns-then-answer-lt2 c =
 
 pub returns : goal.returns
 returns c =
-    let the-put-salvaged = c.put_salvaged in
-    let the-salvage = c.salvage-s in
-    let the-if1 = c.if-answer-lt2 in
-    salvaged-left _ _ _ _ _ the-if1.false _ _ _ _ the-salvage.ensures _ _ the-put-salvaged.ensures
+    salvaged-left _ _ _ _ _ c.if-answer-lt2.false _ _ _ _ c.salvage-s.ensures _ _ c.put_salvaged.ensures

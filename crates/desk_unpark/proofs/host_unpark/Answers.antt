@@ -8,7 +8,4 @@ returns-then-answer-eq0 c =
 
 pub returns : goal.returns
 returns c =
-    let the-put-unparked = c.put_unparked in
-    let the-unpark = c.unpark-u in
-    let the-if1 = c.if-answer-eq0 in
-    unparked-left _ _ _ _ _ the-if1.false _ _ _ the-unpark.ensures _ _ the-put-unparked.ensures
+    unparked-left _ _ _ _ _ c.if-answer-eq0.false _ _ _ c.unpark-u.ensures _ _ c.put_unparked.ensures

@@ -3,6 +3,4 @@ use Rattle.desk_work.proofs.put_unread.Goals as goal
 
 pub returns : goal.returns
 returns c =
-    let the-put-answer = c.put_answer in
-    let the-unread-fault = c.unread_fault-f in
-    (rw (c.number_of.ensures, the-unread-fault.ensures), rw (the-put-answer.ensures, the-unread-fault.ensures))
+    (rw (c.number_of.ensures, c.unread_fault-f.ensures), rw (c.put_answer.ensures, c.unread_fault-f.ensures))

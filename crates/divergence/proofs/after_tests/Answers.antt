@@ -15,20 +15,13 @@ too_early-requires c =
 pub returns-then-too_early : goal.returns-then-too_early
 unfolding after_tests
 returns-then-too_early c =
-    let the-if1 = c.if-not-is_fine in
-    let the-is-fine = c.is_fine in
-    rw (sym the-is-fine.ensures ∙ the-if1.false, sym c.too_early.ensures ∙ c.if-too_early.true)
+    rw (sym c.is_fine.ensures ∙ c.if-not-is_fine.false, sym c.too_early.ensures ∙ c.if-too_early.true)
 
 pub figure-requires : goal.figure-requires
 figure-requires c =
-    let the-if1 = c.if-not-is_fine in
-    let the-is-fine = c.is_fine in
-    c.requires (sym the-is-fine.ensures ∙ the-if1.false)
+    c.requires (sym c.is_fine.ensures ∙ c.if-not-is_fine.false)
 
 pub returns : goal.returns
 unfolding after_tests
 returns c =
-    let the-too-early = c.too_early in
-    let the-if1 = c.if-not-is_fine in
-    let the-is-fine = c.is_fine in
-    rw (sym the-is-fine.ensures ∙ the-if1.false, sym the-too-early.ensures ∙ c.if-too_early.false, c.figure.ensures)
+    rw (sym c.is_fine.ensures ∙ c.if-not-is_fine.false, sym c.too_early.ensures ∙ c.if-too_early.false, c.figure.ensures)

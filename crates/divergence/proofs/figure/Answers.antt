@@ -9,16 +9,12 @@ normaliser-z-requires c =
 
 pub barnes_hut_kl-requires : goal.barnes_hut_kl-requires
 barnes_hut_kl-requires c =
-    let the-is-tree = c.is_tree in
-    record { c_in_bounds = c.requires.copy-long; all_linked = c.requires.lists-within (sym the-is-tree.ensures ∙ c.if-is_tree.true); }
+    record { c_in_bounds = c.requires.copy-long; all_linked = c.requires.lists-within (sym c.is_tree.ensures ∙ c.if-is_tree.true); }
 
 pub returns-then-is_tree : goal.returns-then-is_tree
 unfolding figure_of
 returns-then-is_tree c =
-    let the-if1 = c.if-is_tree in
-    let the-is-tree = c.is_tree in
-    let the-last-exaggeration = c.last_exaggeration-e in
-    rw (sym the-is-tree.ensures ∙ the-if1.true, c.barnes_hut_kl.ensures, c.normaliser-z.ensures, the-last-exaggeration.ensures)
+    rw (sym c.is_tree.ensures ∙ c.if-is_tree.true, c.barnes_hut_kl.ensures, c.normaliser-z.ensures, c.last_exaggeration-e.ensures)
 
 pub total-t-requires : goal.total-t-requires
 total-t-requires c =
@@ -26,13 +22,9 @@ total-t-requires c =
 
 pub kl_divergence-requires : goal.kl_divergence-requires
 kl_divergence-requires c =
-    let the-is-tree = c.is_tree in
-    (c.requires.copy-long, c.requires.exact-long (sym the-is-tree.ensures ∙ c.if-is_tree.false))
+    (c.requires.copy-long, c.requires.exact-long (sym c.is_tree.ensures ∙ c.if-is_tree.false))
 
 pub returns : goal.returns
 unfolding figure_of
 returns c =
-    let the-if1 = c.if-is_tree in
-    let the-is-tree = c.is_tree in
-    let the-last-exaggeration = c.last_exaggeration-e in
-    rw (sym the-is-tree.ensures ∙ the-if1.false, c.kl_divergence.ensures, c.total-t.ensures, the-last-exaggeration.ensures)
+    rw (sym c.is_tree.ensures ∙ c.if-is_tree.false, c.kl_divergence.ensures, c.total-t.ensures, c.last_exaggeration-e.ensures)

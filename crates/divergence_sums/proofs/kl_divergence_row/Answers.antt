@@ -10,8 +10,7 @@ loop-j-init c =
 
 pub loop-j-preserved : goal.loop-j-preserved
 loop-j-preserved c =
-    let the-loop = c.loop-j in
-    rw c.kl_together-s.ensures (loop-on _ the-loop.invariant c.together-m.ensures.2)
+    rw c.kl_together-s.ensures (loop-on _ c.loop-j.invariant c.together-m.ensures.2)
 
 pub returns : goal.returns
 unfolding kl_row

@@ -5,8 +5,7 @@ use Rattle.divergence_sums.proofs.kl_list.Goals as goal
 
 pub kl_links-requires : goal.kl_links-requires
 kl_links-requires c =
-    let the-wide = c.wide-a in
-    rw (c.wide-e.ensures, the-wide.ensures) record { i_lt_n = (
+    rw (c.wide-e.ensures, c.wide-a.ensures) record { i_lt_n = (
         c.requires.i_lt_n.0,
         c.requires.i_lt_n.1,
         omega (arith, c.requires.linked.rises, c.requires.linked.weights),

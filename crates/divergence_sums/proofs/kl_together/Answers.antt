@@ -8,20 +8,17 @@ use Rattle.divergence_sums.proofs.kl_together.Goals as goal
 
 pub kl_pairs-requires : goal.kl_pairs-requires
 kl_pairs-requires c =
-    let the-lay-shares = c.lay_shares in
-    let b = c in (
-      b.requires.0,
-      b.requires.1,
-      b.requires.4,
+    (
+      c.requires.0,
+      c.requires.1,
+      c.requires.4,
       rw
-          (the-lay-shares.ensures, written-size (λ k. kl_share b.args.positions.now b.args.total b.args.c b.args.i (b.args.j + k)) b.args.m)
-          b.requires.2,
+          (c.lay_shares.ensures, written-size (λ k. kl_share c.args.positions.now c.args.total c.args.c c.args.i (c.args.j + k)) c.args.m)
+          c.requires.2,
     )
 
 pub returns : goal.returns
 returns c =
-    let the-lay-shares = c.lay_shares in
-    let b = c in
-    c.kl_pairs.ensures ∙ rw the-lay-shares.ensures
-    (in_parts b.args.positions.now b.args.affinities.now b.args.exaggeration b.args.total b.args.n b.args.c b.args.i b.args.j
-    b.args.m _ b.args.sum b.requires.2)
+    c.kl_pairs.ensures ∙ rw c.lay_shares.ensures
+    (in_parts c.args.positions.now c.args.affinities.now c.args.exaggeration c.args.total c.args.n c.args.c c.args.i c.args.j
+    c.args.m _ c.args.sum c.requires.2)

@@ -22,8 +22,7 @@ num-requires c =
 pub loop-k-preserved : goal.loop-k-preserved
 unfolding kl_share
 loop-k-preserved c =
-    let the-loop = c.loop-k in
-    (search rules, rw c.num.ensures (loop-next the-loop.invariant.1 c.loop-k-test.true))
+    (search rules, rw c.num.ensures (loop-next c.loop-k.invariant.1 c.loop-k-test.true))
 
 pub returns : goal.returns
 returns c =

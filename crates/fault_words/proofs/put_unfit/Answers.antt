@@ -11,6 +11,4 @@ returns-then-answer-eq0 c =
 pub returns : goal.returns
 unfolding unfit_told
 returns c =
-    let the-unread-fault = c.unread_fault-f in
-    let the-if1 = c.if-answer-eq0 in
-    rw (ne_eqb _ _ the-if1.false, c.fault_number.ensures, c.fault_value.ensures, the-unread-fault.ensures)
+    rw (ne_eqb _ _ c.if-answer-eq0.false, c.fault_number.ensures, c.fault_value.ensures, c.unread_fault-f.ensures)

@@ -23,8 +23,7 @@ returns-then-words-lt14 c =
 
 pub returns-then-not-settings_fine : goal.returns-then-not-settings_fine
 returns-then-not-settings_fine c =
-    let the-if1 = c.if-words-lt14 in
-    rw (le-ltb _ _ the-if1.false, sym c.settings_fine.ensures ∙ c.if-not-settings_fine.true)
+    rw (le-ltb _ _ c.if-words-lt14.false, sym c.settings_fine.ensures ∙ c.if-not-settings_fine.true)
 
 pub settings_of-s-requires : goal.settings_of-s-requires
 settings_of-s-requires c =
@@ -32,18 +31,10 @@ settings_of-s-requires c =
 
 pub returns-then-k-ne0 : goal.returns-then-k-ne0
 returns-then-k-ne0 c =
-    let the-settings-of = c.settings_of-s in
-    let the-if2 = c.if-not-settings_fine in
-    let the-settings-fine = c.settings_fine in
-    let the-if1 = c.if-words-lt14 in
     rw (ne_eqb _ 0 c.if-k-ne0.true) at
-    (read-so-far _ the-if1.false the-settings-fine.ensures the-if2.false the-settings-of.ensures c.settings_fault-k.ensures)
+    (read-so-far _ c.if-words-lt14.false c.settings_fine.ensures c.if-not-settings_fine.false c.settings_of-s.ensures c.settings_fault-k.ensures)
 
 pub returns : goal.returns
 returns c =
-    let the-settings-of = c.settings_of-s in
-    let the-if2 = c.if-not-settings_fine in
-    let the-settings-fine = c.settings_fine in
-    let the-if1 = c.if-words-lt14 in
     rw (eq-eqb _ 0 c.if-k-ne0.false) at
-    (read-so-far _ the-if1.false the-settings-fine.ensures the-if2.false the-settings-of.ensures c.settings_fault-k.ensures)
+    (read-so-far _ c.if-words-lt14.false c.settings_fine.ensures c.if-not-settings_fine.false c.settings_of-s.ensures c.settings_fault-k.ensures)

@@ -19,18 +19,13 @@ put_features-requires c =
 
 pub put_starts-requires : goal.put_starts-requires
 put_starts-requires c =
-    let the-put-features = c.put_features in
-    rw the-put-features.auto.words (simp length-set c.requires)
+    rw c.put_features.auto.words (simp length-set c.requires)
 
 pub shape_of-words : goal.shape_of-words
 shape_of-words c =
-    let the-put-starts = c.put_starts in
-    let the-put-features = c.put_features in
-    the-put-starts.auto.words ∙ (the-put-features.auto.words ∙ simp length-set)
+    c.put_starts.auto.words ∙ (c.put_features.auto.words ∙ simp length-set)
 
 pub returns : goal.returns
 unfolding frame_put
 returns c =
-    let the-put-starts = c.put_starts in
-    let the-put-features = c.put_features in
-    rw (the-put-starts.ensures, the-put-features.ensures)
+    rw (c.put_starts.ensures, c.put_features.ensures)

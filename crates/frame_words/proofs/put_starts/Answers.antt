@@ -10,9 +10,7 @@ loop-k-init c =
 
 pub loop-k-preserved : goal.loop-k-preserved
 loop-k-preserved c =
-    let the-loop-test = c.loop-k-test in
-    let the-loop = c.loop-k in
-    (simp length-set the-loop.invariant.0, rw c.bits_of.ensures (loop-next the-loop.invariant.1 the-loop-test.true))
+    (simp length-set c.loop-k.invariant.0, rw c.bits_of.ensures (loop-next c.loop-k.invariant.1 c.loop-k-test.true))
 
 pub returns : goal.returns
 returns c =

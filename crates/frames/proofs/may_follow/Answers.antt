@@ -16,11 +16,9 @@ returns-then-p-q-2 c =
 pub returns-then-e-eq0 : goal.returns-then-e-eq0
 unfolding may_follow
 returns-then-e-eq0 c =
-    let the-if1 = c.if-p-q in
-    rw (le-ltb _ _ the-if1.false, eq-eqb _ _ c.if-p-q-2.false, eq-eqb _ _ c.if-e-eq0.true)
+    rw (le-ltb _ _ c.if-p-q.false, eq-eqb _ _ c.if-p-q-2.false, eq-eqb _ _ c.if-e-eq0.true)
 
 pub returns : goal.returns
 unfolding may_follow
 returns c =
-    let the-if1 = c.if-p-q in
-    rw (le-ltb _ _ the-if1.false, eq-eqb _ _ c.if-p-q-2.false, ne_eqb _ _ c.if-e-eq0.false)
+    rw (le-ltb _ _ c.if-p-q.false, eq-eqb _ _ c.if-p-q-2.false, ne_eqb _ _ c.if-e-eq0.false)

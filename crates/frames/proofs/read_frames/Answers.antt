@@ -10,15 +10,11 @@ loop-i-init c =
 
 pub returns-then-is_bad : goal.returns-then-is_bad
 returns-then-is_bad c =
-    let the-loop-test = c.loop-i-test in
-    let the-loop = c.loop-i in
-    bad-one _ _ the-loop.invariant the-loop-test.true (sym c.is_bad.ensures ∙ c.if-is_bad.true)
+    bad-one _ _ c.loop-i.invariant c.loop-i-test.true (sym c.is_bad.ensures ∙ c.if-is_bad.true)
 
 pub loop-i-preserved : goal.loop-i-preserved
 loop-i-preserved c =
-    let the-loop-test = c.loop-i-test in
-    let the-loop = c.loop-i in
-    seek-next the-loop.invariant the-loop-test.true (sym c.is_bad.ensures ∙ c.if-is_bad.false)
+    seek-next c.loop-i.invariant c.loop-i-test.true (sym c.is_bad.ensures ∙ c.if-is_bad.false)
 
 pub returns-then-file-eq0 : goal.returns-then-file-eq0
 returns-then-file-eq0 c =

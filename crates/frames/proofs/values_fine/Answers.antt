@@ -14,15 +14,11 @@ loop-k-init c =
 pub returns-then-not-in_domain : goal.returns-then-not-in_domain
 unfolding values_fine
 returns-then-not-in_domain c =
-    let the_value = c.value-v in
-    let the-loop-test = c.loop-k-test in
-    sym (every-no _ 8 _ the-loop-test.true (rw the_value.ensures at (sym c.in_domain.ensures ∙ c.if-not-in_domain.true)))
+    sym (every-no _ 8 _ c.loop-k-test.true (rw c.value-v.ensures at (sym c.in_domain.ensures ∙ c.if-not-in_domain.true)))
 
 pub loop-k-preserved : goal.loop-k-preserved
 loop-k-preserved c =
-    let the_value = c.value-v in
-    let the-loop = c.loop-k in
-    (omega arith, every-next _ _ the-loop.invariant.1 (rw the_value.ensures at (sym c.in_domain.ensures ∙ c.if-not-in_domain.false)))
+    (omega arith, every-next _ _ c.loop-k.invariant.1 (rw c.value-v.ensures at (sym c.in_domain.ensures ∙ c.if-not-in_domain.false)))
 
 pub returns : goal.returns
 unfolding values_fine

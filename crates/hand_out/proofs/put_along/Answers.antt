@@ -5,17 +5,14 @@ use Rattle.hand_out.proofs.put_along.Goals as goal
 
 pub put_gaps-requires : goal.put_gaps-requires
 put_gaps-requires c =
-    let the-put-order = c.put_order in
     (
       c.requires.1,
-      omega (arith, the-put-order.auto.order, c.requires.2),
+      omega (arith, c.put_order.auto.order, c.requires.2),
       c.requires.3,
       order-fine _ _ _ c.requires.4
-          c.requires.2 the-put-order.ensures,
+          c.requires.2 c.put_order.ensures,
     )
 
 pub returns : goal.returns
 returns c =
-    let the-put-gaps = c.put_gaps in
-    let the-put-order = c.put_order in
-    along-told _ _ _ _ the-put-order.ensures the-put-gaps.ensures
+    along-told _ _ _ _ c.put_order.ensures c.put_gaps.ensures

@@ -11,15 +11,10 @@ returns-then-not-picture_fine c =
 pub returns-then-not-side_fine : goal.returns-then-not-side_fine
 unfolding frame_fine
 returns-then-not-side_fine c =
-    let the-if1 = c.if-not-picture_fine in
-    let the-picture-fine = c.picture_fine in
-    rw (sym the-picture-fine.ensures ∙ the-if1.false, sym c.side_fine.ensures ∙ c.if-not-side_fine.true)
+    rw (sym c.picture_fine.ensures ∙ c.if-not-picture_fine.false, sym c.side_fine.ensures ∙ c.if-not-side_fine.true)
 
 pub returns : goal.returns
 unfolding frame_fine
 returns c =
-    let the-side-fine = c.side_fine in
-    let the-if1 = c.if-not-picture_fine in
-    let the-picture-fine = c.picture_fine in
-    rw (sym the-picture-fine.ensures ∙ the-if1.false, sym the-side-fine.ensures ∙ c.if-not-side_fine.false)
+    rw (sym c.picture_fine.ensures ∙ c.if-not-picture_fine.false, sym c.side_fine.ensures ∙ c.if-not-side_fine.false)
     c.field_fine.ensures

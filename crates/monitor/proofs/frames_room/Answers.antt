@@ -17,9 +17,8 @@ returns-then-s-n c =
 pub returns-then-b-n : goal.returns-then-b-n
 unfolding frames_room
 returns-then-b-n c =
-    let the-if1 = c.if-p-n in
     rw (
-      le-leb c.args.n c.args.p the-if1.false,
+      le-leb c.args.n c.args.p c.if-p-n.false,
       le-leb c.args.n c.args.s c.if-s-n.false,
       lt-leb
           c.args.n c.args.b c.if-b-n.true,
@@ -28,9 +27,8 @@ returns-then-b-n c =
 pub returns : goal.returns
 unfolding frames_room
 returns c =
-    let the-if1 = c.if-p-n in
     rw (
-      le-leb c.args.n c.args.p the-if1.false,
+      le-leb c.args.n c.args.p c.if-p-n.false,
       le-leb c.args.n c.args.s c.if-s-n.false,
       le-leb
           c.args.n c.args.b c.if-b-n.false,

@@ -10,8 +10,7 @@ loop-i-init c =
 
 pub loop-i-preserved : goal.loop-i-preserved
 loop-i-preserved c =
-    let the-record-bytes = c.record_bytes-bytes in
-    rw the-record-bytes.ensures
+    rw c.record_bytes-bytes.ensures
     (spells-next 0 (omega
     (arith, (record-size c.args.picture c.args.side c.args.field c.args.x c.args.y)))
     (omega (arith, (record-size c.args.picture c.args.side c.args.field c.args.x c.args.y)))

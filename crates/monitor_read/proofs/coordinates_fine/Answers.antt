@@ -11,8 +11,7 @@ coordinate-requires c =
 pub returns-then-not-is_finite : goal.returns-then-not-is_finite
 unfolding coordinates_fine
 returns-then-not-is_finite c =
-    let the-coordinate = c.coordinate in
-    rw (rw the-coordinate.ensures at (sym c.is_finite.ensures ∙ c.if-not-is_finite.true))
+    rw (rw c.coordinate.ensures at (sym c.is_finite.ensures ∙ c.if-not-is_finite.true))
 
 pub coordinate-requires-2 : goal.coordinate-requires-2
 coordinate-requires-2 c =
@@ -21,8 +20,5 @@ coordinate-requires-2 c =
 pub returns : goal.returns
 unfolding coordinates_fine
 returns c =
-    let the-if1 = c.if-not-is_finite in
-    let the-is-finite = c.is_finite in
-    let the-coordinate = c.coordinate in
-    rw (rw the-coordinate.ensures at (sym the-is-finite.ensures ∙ the-if1.false))
+    rw (rw c.coordinate.ensures at (sym c.is_finite.ensures ∙ c.if-not-is_finite.false))
     (rw c.coordinate-2.ensures at c.is_finite-2.ensures)

@@ -8,8 +8,7 @@ loop-i-init c =
 
 pub loop-i-preserved : goal.loop-i-preserved
 loop-i-preserved c =
-    let the-loop = c.loop-i in
-    fetches-next c.requires.0 c.loop-i-test.true the-loop.invariant
+    fetches-next c.requires.0 c.loop-i-test.true c.loop-i.invariant
 
 pub shape_of-area : goal.shape_of-area
 shape_of-area c =

@@ -13,8 +13,7 @@ overflow_cast-area c =
 
 pub loop-i-preserved : goal.loop-i-preserved
 loop-i-preserved c =
-    let the-loop = c.loop-i in
-    rw c.half_word-p.ensures.0 (fetches-next c.requires.0 c.loop-i-test.true the-loop.invariant)
+    rw c.half_word-p.ensures.0 (fetches-next c.requires.0 c.loop-i-test.true c.loop-i.invariant)
 
 pub shape_of-area : goal.shape_of-area
 shape_of-area c =

@@ -8,9 +8,7 @@ loop-j-init c =
 
 pub loop-j-preserved : goal.loop-j-preserved
 loop-j-preserved c =
-    let the-loop-test = c.loop-j-test in
-    let the-loop = c.loop-j in
-    rw (c.widen.ensures, c.coordinate.ensures) (fetches-next c.requires.0 the-loop-test.true the-loop.invariant)
+    rw (c.widen.ensures, c.coordinate.ensures) (fetches-next c.requires.0 c.loop-j-test.true c.loop-j.invariant)
 
 pub shape_of-area : goal.shape_of-area
 shape_of-area c =

@@ -9,15 +9,11 @@ loop-i-init c =
 
 pub returns-then-is_broken : goal.returns-then-is_broken
 returns-then-is_broken c =
-    let the-loop-test = c.loop-i-test in
-    let the-loop = c.loop-i in
-    seek_stop the-loop.invariant the-loop-test.true (sym c.is_broken.ensures ∙ c.if-is_broken.true)
+    seek_stop c.loop-i.invariant c.loop-i-test.true (sym c.is_broken.ensures ∙ c.if-is_broken.true)
 
 pub loop-i-preserved : goal.loop-i-preserved
 loop-i-preserved c =
-    let the-loop-test = c.loop-i-test in
-    let the-loop = c.loop-i in
-    seek-next the-loop.invariant the-loop-test.true (sym c.is_broken.ensures ∙ c.if-is_broken.false)
+    seek-next c.loop-i.invariant c.loop-i-test.true (sym c.is_broken.ensures ∙ c.if-is_broken.false)
 
 pub returns : goal.returns
 returns c =

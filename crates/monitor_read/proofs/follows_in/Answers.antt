@@ -11,7 +11,4 @@ returns-then-i-eq0 c =
 pub returns : goal.returns
 unfolding follows_at
 returns c =
-    let the-half-word2 = c.half_word-2 in
-    let the-half-word = c.half_word in
-    let the-if1 = c.if-i-eq0 in
-    rw (ne_eqb _ _ the-if1.false, c.may_follow.ensures, the-half-word2.ensures.0, the-half-word.ensures.0)
+    rw (ne_eqb _ _ c.if-i-eq0.false, c.may_follow.ensures, c.half_word-2.ensures.0, c.half_word.ensures.0)

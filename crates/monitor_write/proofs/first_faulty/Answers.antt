@@ -9,15 +9,11 @@ loop-i-init c =
 
 pub returns-then-is_faulty : goal.returns-then-is_faulty
 returns-then-is_faulty c =
-    let the-loop-test = c.loop-i-test in
-    let the-loop = c.loop-i in
-    seek_stop the-loop.invariant the-loop-test.true (sym c.is_faulty.ensures ∙ c.if-is_faulty.true)
+    seek_stop c.loop-i.invariant c.loop-i-test.true (sym c.is_faulty.ensures ∙ c.if-is_faulty.true)
 
 pub loop-i-preserved : goal.loop-i-preserved
 loop-i-preserved c =
-    let the-loop-test = c.loop-i-test in
-    let the-loop = c.loop-i in
-    seek-next the-loop.invariant the-loop-test.true (sym c.is_faulty.ensures ∙ c.if-is_faulty.false)
+    seek-next c.loop-i.invariant c.loop-i-test.true (sym c.is_faulty.ensures ∙ c.if-is_faulty.false)
 
 pub returns : goal.returns
 returns c =

@@ -12,12 +12,10 @@ returns-then-i-eq0 c =
 
 pub overflow_cast-pictures : goal.overflow_cast-pictures
 overflow_cast-pictures c =
-    let the-shared-slice-known = c.shared_slice_known-1 in
     omega (arith, c.type_inv.pictures (c.args.i - 1))
 
 pub overflow_cast-pictures-2 : goal.overflow_cast-pictures-2
 overflow_cast-pictures-2 c =
-    let the-shared-slice-known = c.shared_slice_known-1 in
     omega (arith, c.type_inv.pictures c.args.i)
 
 pub returns : goal.returns

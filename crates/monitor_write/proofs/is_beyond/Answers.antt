@@ -11,7 +11,4 @@ returns-then-is_past c =
 pub returns : goal.returns
 unfolding past_at
 returns c =
-    let the-if1 = c.if-is_past in
-    let the-is-past = c.is_past in
-    let the-narrow = c.narrow in
-    rw (rw the-narrow.ensures at (sym the-is-past.ensures ∙ the-if1.false)) (rw c.narrow-2.ensures at c.is_past-2.ensures)
+    rw (rw c.narrow.ensures at (sym c.is_past.ensures ∙ c.if-is_past.false)) (rw c.narrow-2.ensures at c.is_past-2.ensures)

@@ -6,7 +6,6 @@ use Rattle.monitor_write.proofs.is_wrong.Goals as goal
 
 pub overflow_cast-pictures : goal.overflow_cast-pictures
 overflow_cast-pictures c =
-    let the-shared-slice-known = c.shared_slice_known-1 in
     omega (arith, c.type_inv.pictures c.args.i)
 
 pub returns-then-not-frame_fine : goal.returns-then-not-frame_fine
@@ -17,5 +16,4 @@ returns-then-not-frame_fine c =
 pub returns : goal.returns
 unfolding wrong_at
 returns c =
-    let the-frame-fine = c.frame_fine in
-    rw (sym the-frame-fine.ensures ∙ c.if-not-frame_fine.false, c.follows.ensures)
+    rw (sym c.frame_fine.ensures ∙ c.if-not-frame_fine.false, c.follows.ensures)

@@ -11,16 +11,9 @@ loop-i-init c =
 pub loop-i-preserved : goal.loop-i-preserved
 unfolding monitor_row
 loop-i-preserved c =
-    let the-put-record = c.put_record in
-    let the-single-bits2 = c.single_bits-y in
-    let the-narrow2 = c.narrow-in-loop-i in
-    let the-single-bits = c.single_bits-x in
-    let the-narrow = c.narrow in
-    let the-loop-test = c.loop-i-test in
-    let the-loop = c.loop-i in
-    records-next the-loop.invariant the-loop-test.true c.requires.target-long
-    (row-size c.args.pictures.now c.args.sides.now c.args.fields.now c.args.positions.now the-loop.i)
-    the-put-record.auto.target (rw (the-single-bits.ensures, the-narrow.ensures, the-single-bits2.ensures, the-narrow2.ensures) at the-put-record.ensures)
+    records-next c.loop-i.invariant c.loop-i-test.true c.requires.target-long
+    (row-size c.args.pictures.now c.args.sides.now c.args.fields.now c.args.positions.now c.loop-i.i)
+    c.put_record.auto.target (rw (c.single_bits-x.ensures, c.narrow.ensures, c.single_bits-y.ensures, c.narrow-in-loop-i.ensures) at c.put_record.ensures)
 
 pub shape_of-target : goal.shape_of-target
 shape_of-target c =

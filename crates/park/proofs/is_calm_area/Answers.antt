@@ -13,15 +13,11 @@ loop-i-init c =
 pub returns-then-not-is_calm : goal.returns-then-not-is_calm
 unfolding calm_all
 returns-then-not-is_calm c =
-    let the-value-of = c.value_of in
-    let the-loop-test = c.loop-i-test in
-    sym (every-no _ _ _ the-loop-test.true (rw the-value-of.ensures at (sym c.is_calm.ensures ∙ c.if-not-is_calm.true)))
+    sym (every-no _ _ _ c.loop-i-test.true (rw c.value_of.ensures at (sym c.is_calm.ensures ∙ c.if-not-is_calm.true)))
 
 pub loop-i-preserved : goal.loop-i-preserved
 loop-i-preserved c =
-    let the-value-of = c.value_of in
-    let the-loop = c.loop-i in
-    (omega arith, every-next _ _ the-loop.invariant.1 (rw the-value-of.ensures at (sym c.is_calm.ensures ∙ c.if-not-is_calm.false)))
+    (omega arith, every-next _ _ c.loop-i.invariant.1 (rw c.value_of.ensures at (sym c.is_calm.ensures ∙ c.if-not-is_calm.false)))
 
 pub returns : goal.returns
 unfolding calm_all

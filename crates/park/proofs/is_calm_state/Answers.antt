@@ -11,15 +11,10 @@ returns-then-not-is_calm_area c =
 pub returns-then-not-is_calm_area-2 : goal.returns-then-not-is_calm_area-2
 unfolding calm_state
 returns-then-not-is_calm_area-2 c =
-    let the-if1 = c.if-not-is_calm_area in
-    let the-is-calm-area = c.is_calm_area in
-    rw (sym the-is-calm-area.ensures ∙ the-if1.false, sym c.is_calm_area-2.ensures ∙ c.if-not-is_calm_area-2.true)
+    rw (sym c.is_calm_area.ensures ∙ c.if-not-is_calm_area.false, sym c.is_calm_area-2.ensures ∙ c.if-not-is_calm_area-2.true)
 
 pub returns : goal.returns
 unfolding calm_state
 returns c =
-    let the-is-calm-area2 = c.is_calm_area-2 in
-    let the-if1 = c.if-not-is_calm_area in
-    let the-is-calm-area = c.is_calm_area in
-    rw (sym the-is-calm-area.ensures ∙ the-if1.false, sym the-is-calm-area2.ensures ∙ c.if-not-is_calm_area-2.false)
+    rw (sym c.is_calm_area.ensures ∙ c.if-not-is_calm_area.false, sym c.is_calm_area-2.ensures ∙ c.if-not-is_calm_area-2.false)
     c.is_calm_area-3.ensures

@@ -16,23 +16,16 @@ parked_word-v-requires c =
 
 pub overflow_mul-w : goal.overflow_mul-w
 overflow_mul-w c =
-    let the-if1 = c.loop-w-test in
-    omega (arith, the-if1.true, c.requires.1, c.well_formed.1.1.1.1.1.1.1.1.0)
+    omega (arith, c.loop-w-test.true, c.requires.1, c.well_formed.1.1.1.1.1.1.1.1.0)
 
 pub put_word-requires : goal.put_word-requires
 put_word-requires c =
-    let the-if1 = c.loop-w-test in
-    let the-loop = c.loop-w in
-    omega (arith, the-if1.true, c.requires.1, the-loop.invariant.size)
+    omega (arith, c.loop-w-test.true, c.requires.1, c.loop-w.invariant.size)
 
 pub loop-w-preserved : goal.loop-w-preserved
 loop-w-preserved c =
-    let the-put-word = c.put_word in
-    let the-parked-word = c.parked_word-v in
-    let the-if1 = c.loop-w-test in
-    let the-loop = c.loop-w in
-    words-next the-loop.invariant the-if1.true c.requires.1 (length-bytes 8 _) the-put-word.auto.bytes
-    (rw the-parked-word.ensures at the-put-word.ensures)
+    words-next c.loop-w.invariant c.loop-w-test.true c.requires.1 (length-bytes 8 _) c.put_word.auto.bytes
+    (rw c.parked_word-v.ensures at c.put_word.ensures)
 
 pub shape_of-target : goal.shape_of-target
 shape_of-target c =

@@ -4,5 +4,4 @@ use Rattle.parked.proofs.head_word.Goals as goal
 
 pub returns : goal.returns
 returns c =
-    let the-angle-word = c.angle_word-angle in
-    head-told _ _ _ _ the-angle-word.ensures
+    head-told _ _ _ _ c.angle_word-angle.ensures

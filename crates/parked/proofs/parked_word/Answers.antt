@@ -14,14 +14,12 @@ returns-then-w-lt12 c =
 
 pub state_word-requires : goal.state_word-requires
 state_word-requires c =
-    let the-if1 = c.if-w-lt12 in
-    (the-if1.false, c.requires.positions-long, c.requires.increments-long, c.requires.gains-long)
+    (c.if-w-lt12.false, c.requires.positions-long, c.requires.increments-long, c.requires.gains-long)
 
 pub returns-then-w-l : goal.returns-then-w-l
 unfolding parked_word
 returns-then-w-l c =
-    let the-if1 = c.if-w-lt12 in
-    rw (c.state_word.ensures, le-ltb _ _ the-if1.false, lt-ltb _ _ c.if-w-l.true)
+    rw (c.state_word.ensures, le-ltb _ _ c.if-w-lt12.false, lt-ltb _ _ c.if-w-l.true)
 
 pub affinity_word-requires : goal.affinity_word-requires
 affinity_word-requires c =
@@ -30,5 +28,4 @@ affinity_word-requires c =
 pub returns : goal.returns
 unfolding parked_word
 returns c =
-    let the-if1 = c.if-w-lt12 in
-    rw (c.affinity_word.ensures, le-ltb _ _ the-if1.false, le-ltb _ _ c.if-w-l.false)
+    rw (c.affinity_word.ensures, le-ltb _ _ c.if-w-lt12.false, le-ltb _ _ c.if-w-l.false)

@@ -11,11 +11,9 @@ returns-then-w-l c =
 pub returns-then-w-l-2 : goal.returns-then-w-l-2
 unfolding state_word
 returns-then-w-l-2 c =
-    let the-if1 = c.if-w-l in
-    rw (c.area_word-then-w-l-2.ensures, le-ltb _ _ the-if1.false, lt-ltb _ _ c.if-w-l-2.true)
+    rw (c.area_word-then-w-l-2.ensures, le-ltb _ _ c.if-w-l.false, lt-ltb _ _ c.if-w-l-2.true)
 
 pub returns : goal.returns
 unfolding state_word
 returns c =
-    let the-if1 = c.if-w-l in
-    rw (c.area_word-2.ensures, le-ltb _ _ the-if1.false, le-ltb _ _ c.if-w-l-2.false)
+    rw (c.area_word-2.ensures, le-ltb _ _ c.if-w-l.false, le-ltb _ _ c.if-w-l-2.false)

@@ -8,8 +8,7 @@ use Rattle.parked_fine.proofs.perplexity_fine.Goals as goal
 
 pub returns-then-not-is_positive : goal.returns-then-not-is_positive
 returns-then-not-is_positive c =
-    let the-value-of = c.value_of-x in
-    rw (rw the-value-of.ensures at (sym c.is_positive.ensures ∙ c.if-not-is_positive.true))
+    rw (rw c.value_of-x.ensures at (sym c.is_positive.ensures ∙ c.if-not-is_positive.true))
 
 pub int_to_float-n : goal.int_to_float-n
 unfolding in_float
@@ -18,7 +17,4 @@ int_to_float-n c =
 
 pub returns : goal.returns
 returns c =
-    let the-if1 = c.if-not-is_positive in
-    let the-is-positive = c.is_positive in
-    let the-value-of = c.value_of-x in
-    rw (c.is_below.ensures, the-value-of.ensures, rw the-value-of.ensures at (sym the-is-positive.ensures ∙ the-if1.false))
+    rw (c.is_below.ensures, c.value_of-x.ensures, rw c.value_of-x.ensures at (sym c.is_positive.ensures ∙ c.if-not-is_positive.false))

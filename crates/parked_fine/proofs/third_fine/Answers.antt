@@ -12,20 +12,13 @@ returns-then-state-gt2 c =
 pub returns-then-not-state_fits : goal.returns-then-not-state_fits
 unfolding third_fine
 returns-then-not-state_fits c =
-    let the-value-of = c.value_of-x in
-    let the-standing-of = c.standing_of-s in
-    let the-if1 = c.if-state-gt2 in
-    rw (le-leb _ _ the-if1.false, rw (the-standing-of.ensures, the-value-of.ensures) at (sym c.state_fits.ensures ∙ c.if-not-state_fits.true))
+    rw (le-leb _ _ c.if-state-gt2.false, rw (c.standing_of-s.ensures, c.value_of-x.ensures) at (sym c.state_fits.ensures ∙ c.if-not-state_fits.true))
 
 pub returns : goal.returns
 unfolding third_fine
 returns c =
-    let the-state-fits = c.state_fits in
-    let the-value-of = c.value_of-x in
-    let the-standing-of = c.standing_of-s in
-    let the-if1 = c.if-state-gt2 in
     rw (
       c.links_fine.ensures,
-      le-leb _ _ the-if1.false,
-      (rw (the-standing-of.ensures, the-value-of.ensures) at (sym the-state-fits.ensures ∙ c.if-not-state_fits.false)),
+      le-leb _ _ c.if-state-gt2.false,
+      (rw (c.standing_of-s.ensures, c.value_of-x.ensures) at (sym c.state_fits.ensures ∙ c.if-not-state_fits.false)),
     )

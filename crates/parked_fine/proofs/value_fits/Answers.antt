@@ -6,9 +6,7 @@ use Rattle.parked_fine.proofs.value_fits.Goals as goal
 pub returns-then-w-b : goal.returns-then-w-b
 unfolding value_fits
 returns-then-w-b c =
-    let the_word = c.word in
-    let the-if1 = c.if-w-b in
-    rw (c.is_calm.ensures, c.value_of-x.ensures, the_word.ensures, lt-ltb _ _ the-if1.true)
+    rw (c.is_calm.ensures, c.value_of-x.ensures, c.word.ensures, lt-ltb _ _ c.if-w-b.true)
 
 pub returns : goal.returns
 unfolding value_fits

@@ -12,13 +12,11 @@ loop-k-init c =
 
 pub returns-then-not-word_fine : goal.returns-then-not-word_fine
 returns-then-not-word_fine c =
-    let the-loop-test = c.loop-k-test in
-    sym (every-no _ 4 _ the-loop-test.true (sym c.word_fine.ensures ∙ c.if-not-word_fine.true))
+    sym (every-no _ 4 _ c.loop-k-test.true (sym c.word_fine.ensures ∙ c.if-not-word_fine.true))
 
 pub loop-k-preserved : goal.loop-k-preserved
 loop-k-preserved c =
-    let the-loop = c.loop-k in
-    (omega arith, every-next _ _ the-loop.invariant.1 (sym c.word_fine.ensures ∙ c.if-not-word_fine.false))
+    (omega arith, every-next _ _ c.loop-k.invariant.1 (sym c.word_fine.ensures ∙ c.if-not-word_fine.false))
 
 pub returns : goal.returns
 returns c =

@@ -14,8 +14,7 @@ rising_from-k-requires c =
 
 pub first_lonely-requires : goal.first_lonely-requires
 first_lonely-requires c =
-    let the-first-unfit = c.first_unfit-d in
-    (rw the-first-unfit.ensures (unfit-within _ _ _), c.rising_from-k.ensures.0, c.rising_from-e.ensures.1, c.rising_from-k.ensures.1)
+    (rw c.first_unfit-d.ensures (unfit-within _ _ _), c.rising_from-k.ensures.0, c.rising_from-e.ensures.1, c.rising_from-k.ensures.1)
 
 pub returns : goal.returns
 returns c =

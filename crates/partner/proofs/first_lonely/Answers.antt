@@ -15,15 +15,11 @@ is_mirrored-requires c =
 
 pub returns-then-not-is_mirrored : goal.returns-then-not-is_mirrored
 returns-then-not-is_mirrored c =
-    let the-loop-test = c.loop-i-test in
-    let the-loop = c.loop-i in
-    seek_stop the-loop.invariant the-loop-test.true (ap not (sym c.is_mirrored.ensures ∙ c.if-not-is_mirrored.true))
+    seek_stop c.loop-i.invariant c.loop-i-test.true (ap not (sym c.is_mirrored.ensures ∙ c.if-not-is_mirrored.true))
 
 pub loop-i-preserved : goal.loop-i-preserved
 loop-i-preserved c =
-    let the-loop-test = c.loop-i-test in
-    let the-loop = c.loop-i in
-    seek-next the-loop.invariant the-loop-test.true (ap not (sym c.is_mirrored.ensures ∙ c.if-not-is_mirrored.false))
+    seek-next c.loop-i.invariant c.loop-i-test.true (ap not (sym c.is_mirrored.ensures ∙ c.if-not-is_mirrored.false))
 
 pub returns : goal.returns
 returns c =

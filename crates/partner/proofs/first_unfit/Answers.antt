@@ -11,15 +11,11 @@ loop-i-init c =
 
 pub returns-then-not-link_fine : goal.returns-then-not-link_fine
 returns-then-not-link_fine c =
-    let the-loop-test = c.loop-i-test in
-    let the-loop = c.loop-i in
-    seek_stop the-loop.invariant the-loop-test.true (ap not (sym c.link_fine.ensures ∙ c.if-not-link_fine.true))
+    seek_stop c.loop-i.invariant c.loop-i-test.true (ap not (sym c.link_fine.ensures ∙ c.if-not-link_fine.true))
 
 pub loop-i-preserved : goal.loop-i-preserved
 loop-i-preserved c =
-    let the-loop-test = c.loop-i-test in
-    let the-loop = c.loop-i in
-    seek-next the-loop.invariant the-loop-test.true (ap not (sym c.link_fine.ensures ∙ c.if-not-link_fine.false))
+    seek-next c.loop-i.invariant c.loop-i-test.true (ap not (sym c.link_fine.ensures ∙ c.if-not-link_fine.false))
 
 pub returns : goal.returns
 returns c =

@@ -18,9 +18,7 @@ raised_pair-low-requires c =
 
 pub loop-left-preserved : goal.loop-left-preserved
 loop-left-preserved c =
-    let the-loop = c.loop-left in
-    let the-turned-pair = c.Turned_pair in
-    bisects-next c.requires.2.rises the-loop.invariant _ c.loop-left-test.true (rw the-turned-pair.ensures at c.raised_pair-low.ensures)
+    bisects-next c.requires.2.rises c.loop-left.invariant _ c.loop-left-test.true (rw c.turned_pair-pair.ensures at c.raised_pair-low.ensures)
 
 pub is_mirror-requires : goal.is_mirror-requires
 is_mirror-requires c =
@@ -28,5 +26,4 @@ is_mirror-requires c =
 
 pub returns : goal.returns
 returns c =
-    let the-loop = c.loop-left in
-    c.is_mirror.ensures ∙ met-done _ _ _ _ c.requires.2 the-loop.invariant (omega (arith, c.loop-left-test.false))
+    c.is_mirror.ensures ∙ met-done _ _ _ _ c.requires.2 c.loop-left.invariant (omega (arith, c.loop-left-test.false))

@@ -17,14 +17,11 @@ is_mirror-requires c =
 
 pub returns-then-is_mirror : goal.returns-then-is_mirror
 returns-then-is_mirror c =
-    let the-loop-test = c.loop-t-test in
-    sym (met_some _ _ _ _ _ the-loop-test.true (sym c.is_mirror.ensures ∙ c.if-is_mirror.true))
+    sym (met_some _ _ _ _ _ c.loop-t-test.true (sym c.is_mirror.ensures ∙ c.if-is_mirror.true))
 
 pub loop-t-preserved : goal.loop-t-preserved
 loop-t-preserved c =
-    let the-loop-test = c.loop-t-test in
-    let the-loop = c.loop-t in
-    (omega (arith, the-loop-test.true), met_next _ _ _ 0 _ the-loop.invariant.1 (sym c.is_mirror.ensures ∙ c.if-is_mirror.false))
+    (omega (arith, c.loop-t-test.true), met_next _ _ _ 0 _ c.loop-t.invariant.1 (sym c.is_mirror.ensures ∙ c.if-is_mirror.false))
 
 pub returns : goal.returns
 returns c =

@@ -22,22 +22,11 @@ returns-then-not-is_raised c =
 
 pub returns-then-from-to : goal.returns-then-from-to
 returns-then-from-to c =
-    let the-link-to = c.link_to-to in
-    let the-link-from = c.link_from-from in
-    sym (fine-same _ _ _ _ (sym the-link-from.ensures.0 ∙ c.if-from-to.true ∙ the-link-to.ensures.0))
+    sym (fine-same _ _ _ _ (sym c.link_from-from.ensures.0 ∙ c.if-from-to.true ∙ c.link_to-to.ensures.0))
 
 pub returns : goal.returns
 returns c =
-    let the-link-weight = c.link_weight in
-    let the-if5 = c.if-from-to in
-    let the-if4 = c.if-not-is_raised in
-    let the-is-raised = c.is_raised in
-    let the-if3 = c.if-n-to in
-    let the-if2 = c.if-n-from in
-    let the-link-to = c.link_to-to in
-    let the-link-from = c.link_from-from in
-    let the-if1 = c.if-most-i in
-    c.is_positive.ensures ∙ rw (c.value_of.ensures, the-link-weight.ensures)
-    (sym (fine-rest _ _ _ _ (omega (arith, the-if1.false)) (omega (arith, the-if2.false, the-link-from.ensures.0))
-    (omega (arith, the-if3.false, the-link-to.ensures.0)) (sym the-is-raised.ensures ∙ the-if4.false)
-    (λ q. the-if5.false (the-link-from.ensures.0 ∙ q ∙ sym the-link-to.ensures.0))))
+    c.is_positive.ensures ∙ rw (c.value_of.ensures, c.link_weight.ensures)
+    (sym (fine-rest _ _ _ _ (omega (arith, c.if-most-i.false)) (omega (arith, c.if-n-from.false, c.link_from-from.ensures.0))
+    (omega (arith, c.if-n-to.false, c.link_to-to.ensures.0)) (sym c.is_raised.ensures ∙ c.if-not-is_raised.false)
+    (λ q. c.if-from-to.false (c.link_from-from.ensures.0 ∙ q ∙ sym c.link_to-to.ensures.0))))

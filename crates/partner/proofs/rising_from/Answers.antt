@@ -22,12 +22,10 @@ returns-then-not-is_raised c =
 
 pub loop-k-preserved : goal.loop-k-preserved
 loop-k-preserved c =
-    let the-loop-test = c.loop-k-test in
-    let the-loop = c.loop-k in
     (
       omega arith,
-      omega (arith, the-loop-test.true, c.requires),
-      rise-next the-loop.invariant.0 the-loop.invariant.2
+      omega (arith, c.loop-k-test.true, c.requires),
+      rise-next c.loop-k.invariant.0 c.loop-k.invariant.2
           (sym c.is_raised.ensures ∙ c.if-not-is_raised.false),
     )
 

@@ -9,10 +9,9 @@ use Rattle.partner_import.proofs.import.Goals as goal
 
 pub returns-then-k-ne0 : goal.returns-then-k-ne0
 returns-then-k-ne0 c =
-    let the-tree-settings = c.tree_settings-t in
     import-refused _ _ _ _
     (loading c.args.positions.now c.args.increments.now c.args.gains.now c.args.affinities.now
-    c.args.indices.now c.args.offsets.now c.args.forces.now) the-tree-settings.ensures
+    c.args.indices.now c.args.offsets.now c.args.forces.now) c.tree_settings-t.ensures
     c.import_fault-k.ensures c.if-k-ne0.true
 
 pub sizes_of-z-requires : goal.sizes_of-z-requires
@@ -21,29 +20,17 @@ sizes_of-z-requires c =
 
 pub returns-then-b-given_links : goal.returns-then-b-given_links
 returns-then-b-given_links c =
-    let the-first-bad-link = c.first_bad_link-b in
-    let the-sizes-of = c.sizes_of-z in
-    let the-if1 = c.if-k-ne0 in
-    let the-import-fault = c.import_fault-k in
-    let the-tree-settings = c.tree_settings-t in
     import-bad _ _ _ _ (loading c.args.positions.now c.args.increments.now c.args.gains.now
     c.args.affinities.now c.args.indices.now c.args.offsets.now c.args.forces.now)
-    the-tree-settings.ensures (sym the-import-fault.ensures ∙ the-if1.false) (rw the-sizes-of.ensures at the-first-bad-link.ensures)
+    c.tree_settings-t.ensures (sym c.import_fault-k.ensures ∙ c.if-k-ne0.false) (rw c.sizes_of-z.ensures at c.first_bad_link-b.ensures)
     (λ q. c.if-b-given_links.true (q ∙ sym c.given_links.ensures))
 
 pub load_lists-requires : goal.load_lists-requires
 load_lists-requires c =
-    let the-if2 = c.if-b-given_links in
-    let the-given-links = c.given_links in
-    let the-first-bad-link = c.first_bad_link-b in
-    let the-sizes-of = c.sizes_of-z in
-    let the-if1 = c.if-k-ne0 in
-    let the-import-fault = c.import_fault-k in
-    let the-tree-settings = c.tree_settings-t in
-    let z = list-room (let-in _ _ _ (sym the-import-fault.ensures ∙ the-if1.false)) c.args.s the-tree-settings.ensures in (
-      (let-in _ _ _ (sym the-import-fault.ensures ∙ the-if1.false)).good,
+    let z = list-room (let-in _ _ _ (sym c.import_fault-k.ensures ∙ c.if-k-ne0.false)) c.args.s c.tree_settings-t.ensures in (
+      (let-in _ _ _ (sym c.import_fault-k.ensures ∙ c.if-k-ne0.false)).good,
       eq-eqb _ _
-          (sym (rw the-sizes-of.ensures at the-first-bad-link.ensures) ∙ the-if2.false ∙ the-given-links.ensures),
+          (sym (rw c.sizes_of-z.ensures at c.first_bad_link-b.ensures) ∙ c.if-b-given_links.false ∙ c.given_links.ensures),
       z.0,
       z.1,
       z.2,
@@ -51,28 +38,16 @@ load_lists-requires c =
 
 pub set_out_words-requires : goal.set_out_words-requires
 set_out_words-requires c =
-    let the-sizes-of = c.sizes_of-z in
-    let the-if1 = c.if-k-ne0 in
-    let the-import-fault = c.import_fault-k in
-    rw the-sizes-of.ensures (begin-room (let-in _ _ _ (sym the-import-fault.ensures ∙ the-if1.false)))
+    rw c.sizes_of-z.ensures (begin-room (let-in _ _ _ (sym c.import_fault-k.ensures ∙ c.if-k-ne0.false)))
 
 pub returns : goal.returns
 unfolding sizes_of
 returns c =
-    let the-set-out-words = c.set_out_words in
-    let the-load-lists = c.load_lists in
-    let the-if2 = c.if-b-given_links in
-    let the-given-links = c.given_links in
-    let the-first-bad-link = c.first_bad_link-b in
-    let the-sizes-of = c.sizes_of-z in
-    let the-if1 = c.if-k-ne0 in
-    let the-import-fault = c.import_fault-k in
-    let the-tree-settings = c.tree_settings-t in
     import-loaded _ _ _ _
     (loading c.args.positions.now c.args.increments.now c.args.gains.now c.args.affinities.now
-    c.args.indices.now c.args.offsets.now c.args.forces.now) the-tree-settings.ensures
-    (sym the-import-fault.ensures ∙ the-if1.false)
-    (sym (rw the-sizes-of.ensures at the-first-bad-link.ensures) ∙ the-if2.false ∙ the-given-links.ensures) c.fresh_run-r.ensures
-    (rw the-sizes-of.ensures at the-set-out-words.ensures).0 (rw the-sizes-of.ensures at the-set-out-words.ensures).1
-    (rw the-sizes-of.ensures at the-set-out-words.ensures).2 the-load-lists.ensures.0 the-load-lists.ensures.1 the-load-lists.ensures.2
-    (rw the-sizes-of.ensures at the-set-out-words.ensures).3
+    c.args.indices.now c.args.offsets.now c.args.forces.now) c.tree_settings-t.ensures
+    (sym c.import_fault-k.ensures ∙ c.if-k-ne0.false)
+    (sym (rw c.sizes_of-z.ensures at c.first_bad_link-b.ensures) ∙ c.if-b-given_links.false ∙ c.given_links.ensures) c.fresh_run-r.ensures
+    (rw c.sizes_of-z.ensures at c.set_out_words.ensures).0 (rw c.sizes_of-z.ensures at c.set_out_words.ensures).1
+    (rw c.sizes_of-z.ensures at c.set_out_words.ensures).2 c.load_lists.ensures.0 c.load_lists.ensures.1 c.load_lists.ensures.2
+    (rw c.sizes_of-z.ensures at c.set_out_words.ensures).3

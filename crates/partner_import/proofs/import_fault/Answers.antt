@@ -19,9 +19,7 @@ times-m-requires c =
 pub returns-then-start-m : goal.returns-then-start-m
 unfolding import_fault
 returns-then-start-m c =
-    let the-if1 = c.if-k-ne0 in
-    let the-settings-fault = c.settings_fault-k in
-    rw ((sym the-settings-fault.ensures ∙ the-if1.false), ne_eqb _ _ (rw c.times-m.ensures at c.if-start-m.true))
+    rw ((sym c.settings_fault-k.ensures ∙ c.if-k-ne0.false), ne_eqb _ _ (rw c.times-m.ensures at c.if-start-m.true))
 
 pub start_fine-requires : goal.start_fine-requires
 start_fine-requires c =
@@ -30,53 +28,35 @@ start_fine-requires c =
 pub returns-then-not-start_fine : goal.returns-then-not-start_fine
 unfolding import_fault
 returns-then-not-start_fine c =
-    let the-if2 = c.if-start-m in
-    let the-times = c.times-m in
-    let the-if1 = c.if-k-ne0 in
-    let the-settings-fault = c.settings_fault-k in
     rw (
-      (sym the-settings-fault.ensures ∙ the-if1.false),
-      (eq-eqb _ _ (rw the-times.ensures at the-if2.false)),
+      (sym c.settings_fault-k.ensures ∙ c.if-k-ne0.false),
+      (eq-eqb _ _ (rw c.times-m.ensures at c.if-start-m.false)),
       sym
-          (rw the-times.ensures at c.start_Fine.ensures) ∙ c.if-not-start_fine.true,
+          (rw c.times-m.ensures at c.start_Fine.ensures) ∙ c.if-not-start_fine.true,
     )
 
 pub areas_fit-requires : goal.areas_fit-requires
 areas_fit-requires c =
-    let the-if1 = c.if-k-ne0 in
-    let the-settings-fault = c.settings_fault-k in
-    settings-fine _ (sym the-settings-fault.ensures ∙ the-if1.false)
+    settings-fine _ (sym c.settings_fault-k.ensures ∙ c.if-k-ne0.false)
 
 pub returns-then-areas_fit : goal.returns-then-areas_fit
 unfolding import_fault
 returns-then-areas_fit c =
-    let the-if3 = c.if-not-start_fine in
-    let the-start-fine = c.start_Fine in
-    let the-if2 = c.if-start-m in
-    let the-times = c.times-m in
-    let the-if1 = c.if-k-ne0 in
-    let the-settings-fault = c.settings_fault-k in
     rw (
-      (sym the-settings-fault.ensures ∙ the-if1.false),
-      (eq-eqb _ _ (rw the-times.ensures at the-if2.false)),
+      (sym c.settings_fault-k.ensures ∙ c.if-k-ne0.false),
+      (eq-eqb _ _ (rw c.times-m.ensures at c.if-start-m.false)),
       sym
-          (rw the-times.ensures at the-start-fine.ensures) ∙ the-if3.false,
+          (rw c.times-m.ensures at c.start_Fine.ensures) ∙ c.if-not-start_fine.false,
       sym c.areas_fit.ensures ∙ c.if-areas_fit.true,
     )
 
 pub returns : goal.returns
 unfolding import_fault
 returns c =
-    let the-if3 = c.if-not-start_fine in
-    let the-start-fine = c.start_Fine in
-    let the-if2 = c.if-start-m in
-    let the-times = c.times-m in
-    let the-if1 = c.if-k-ne0 in
-    let the-settings-fault = c.settings_fault-k in
     rw (
-      (sym the-settings-fault.ensures ∙ the-if1.false),
-      (eq-eqb _ _ (rw the-times.ensures at the-if2.false)),
+      (sym c.settings_fault-k.ensures ∙ c.if-k-ne0.false),
+      (eq-eqb _ _ (rw c.times-m.ensures at c.if-start-m.false)),
       sym
-          (rw the-times.ensures at the-start-fine.ensures) ∙ the-if3.false,
+          (rw c.times-m.ensures at c.start_Fine.ensures) ∙ c.if-not-start_fine.false,
       sym c.areas_fit.ensures ∙ c.if-areas_fit.false,
     )

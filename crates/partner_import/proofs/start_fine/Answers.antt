@@ -11,19 +11,14 @@ loop-i-init c =
 
 pub returns-then-not-in_domain : goal.returns-then-not-in_domain
 returns-then-not-in_domain c =
-    let the-value-of = c.value_of in
-    let the-loop-test = c.loop-i-test in
-    let the-loop = c.loop-i in
-    sym (every-no _ _ the-loop.i the-loop-test.true (sym (rw the-value-of.ensures at c.in_domain.ensures) ∙ c.if-not-in_domain.true))
+    sym (every-no _ _ c.loop-i.i c.loop-i-test.true (sym (rw c.value_of.ensures at c.in_domain.ensures) ∙ c.if-not-in_domain.true))
 
 pub loop-i-preserved : goal.loop-i-preserved
 loop-i-preserved c =
-    let the-value-of = c.value_of in
-    let the-loop-test = c.loop-i-test in
-    let the-loop = c.loop-i in (
-      every-next _ _ the-loop.invariant.0 (sym (rw the-value-of.ensures at c.in_domain.ensures) ∙ c.if-not-in_domain.false),
+    (
+      every-next _ _ c.loop-i.invariant.0 (sym (rw c.value_of.ensures at c.in_domain.ensures) ∙ c.if-not-in_domain.false),
       omega
-          (arith, the-loop-test.true),
+          (arith, c.loop-i-test.true),
     )
 
 pub returns : goal.returns

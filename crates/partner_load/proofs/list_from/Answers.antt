@@ -10,16 +10,14 @@ loop-p-init c =
 
 pub returns-then-j-link_from : goal.returns-then-j-link_from
 returns-then-j-link_from c =
-    let the-loop = c.loop-p in
-    (the-loop.invariant.0, the-loop.invariant.1, the-loop.invariant.2, λ l. omega (arith, c.if-j-link_from.true, c.link_from.ensures.0))
+    (c.loop-p.invariant.0, c.loop-p.invariant.1, c.loop-p.invariant.2, λ l. omega (arith, c.if-j-link_from.true, c.link_from.ensures.0))
 
 pub loop-p-preserved : goal.loop-p-preserved
 loop-p-preserved c =
-    let the-loop-test = c.loop-p-test in
-    let the-loop = c.loop-p in (
-      omega (arith, the-loop.invariant.0),
-      omega (arith, the-loop-test.true),
-      starts-below-next _ the-loop.invariant.2
+    (
+      omega (arith, c.loop-p.invariant.0),
+      omega (arith, c.loop-p-test.true),
+      starts-below-next _ c.loop-p.invariant.2
           (omega (arith, c.if-j-link_from.false, c.link_from.ensures.0)),
     )
 

@@ -15,8 +15,7 @@ overflow_cast-indices c =
 
 pub loop-p-preserved : goal.loop-p-preserved
 loop-p-preserved c =
-    let the-loop = c.loop-p in
-    rw c.link_to.ensures.0 (fetches-next c.requires c.loop-p-test.true the-loop.invariant)
+    rw c.link_to.ensures.0 (fetches-next c.requires c.loop-p-test.true c.loop-p.invariant)
 
 pub returns : goal.returns
 unfolding indices_loaded

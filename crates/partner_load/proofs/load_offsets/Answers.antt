@@ -20,17 +20,15 @@ overflow_cast-offsets c =
 
 pub bounds-offsets-j : goal.bounds-offsets-j
 bounds-offsets-j c =
-    let the-loop = c.loop-j in
-    omega (arith, c.requires.1, the-loop.invariant.0.size, c.loop-j-test.true)
+    omega (arith, c.requires.1, c.loop-j.invariant.0.size, c.loop-j-test.true)
 
 pub loop-j-preserved : goal.loop-j-preserved
 loop-j-preserved c =
-    let the-loop = c.loop-j in
     (
-      rw (sym (lists-counted c.requires.3 (lists-over the-loop.invariant.1 c.list_from-p.ensures.0 c.list_from-p.ensures.1 c.list_from-p.ensures.2)
-          c.list_from-p.ensures.3)) (fetches-next c.requires.1 (omega (arith, c.loop-j-test.true)) the-loop.invariant.0),
+      rw (sym (lists-counted c.requires.3 (lists-over c.loop-j.invariant.1 c.list_from-p.ensures.0 c.list_from-p.ensures.1 c.list_from-p.ensures.2)
+          c.list_from-p.ensures.3)) (fetches-next c.requires.1 (omega (arith, c.loop-j-test.true)) c.loop-j.invariant.0),
       lists-next
-          (lists-over the-loop.invariant.1 c.list_from-p.ensures.0 c.list_from-p.ensures.1 c.list_from-p.ensures.2),
+          (lists-over c.loop-j.invariant.1 c.list_from-p.ensures.0 c.list_from-p.ensures.1 c.list_from-p.ensures.2),
     )
 
 pub returns : goal.returns

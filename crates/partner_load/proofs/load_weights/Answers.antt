@@ -10,8 +10,7 @@ loop-p-init c =
 
 pub loop-p-preserved : goal.loop-p-preserved
 loop-p-preserved c =
-    let the-loop = c.loop-p in
-    rw c.link_weight.ensures (fetches-next c.requires c.loop-p-test.true the-loop.invariant)
+    rw c.link_weight.ensures (fetches-next c.requires c.loop-p-test.true c.loop-p.invariant)
 
 pub returns : goal.returns
 unfolding weights_loaded

@@ -21,37 +21,28 @@ bounds-indices-p c =
 
 pub overflow_cast-to : goal.overflow_cast-to
 overflow_cast-to c =
-    let the-loop = c.loop-t in
-    omega (arith, c.type_inv.indices (c.args.a + the-loop.t))
+    omega (arith, c.type_inv.indices (c.args.a + c.loop-t.t))
 
 pub overflow_mul-p : goal.overflow_mul-p
 overflow_mul-p c =
-    let the-loop-test = c.loop-t-test in
-    omega (arith, the-loop-test.true, c.requires, c.well_formed)
+    omega (arith, c.loop-t-test.true, c.requires, c.well_formed)
 
 pub offset_bounds-weights-p : goal.offset_bounds-weights-p
 offset_bounds-weights-p c =
-    let the-loop-test = c.loop-t-test in
-    omega (arith, the-loop-test.true, c.requires)
+    omega (arith, c.loop-t-test.true, c.requires)
 
 pub bounds-weights-p : goal.bounds-weights-p
 bounds-weights-p c =
-    let the-loop-test = c.loop-t-test in
-    omega (arith, the-loop-test.true, c.requires)
+    omega (arith, c.loop-t-test.true, c.requires)
 
 pub put_link-requires : goal.put_link-requires
 put_link-requires c =
-    let the-loop-test = c.loop-t-test in
-    let the-loop = c.loop-t in
-    omega (arith, the-loop-test.true, c.requires, the-loop.invariant.size)
+    omega (arith, c.loop-t-test.true, c.requires, c.loop-t.invariant.size)
 
 pub loop-t-preserved : goal.loop-t-preserved
 loop-t-preserved c =
-    let the-put-link = c.put_link in
-    let the-loop-test = c.loop-t-test in
-    let the-loop = c.loop-t in
-    link-next c.args.a the-loop.invariant the-loop-test.true c.requires.2 (λ j. link-size _ _ _) the-put-link.auto.target
-    the-put-link.ensures
+    link-next c.args.a c.loop-t.invariant c.loop-t-test.true c.requires.2 (λ j. link-size _ _ _) c.put_link.auto.target
+    c.put_link.ensures
 
 pub shape_of-target : goal.shape_of-target
 shape_of-target c =

@@ -25,8 +25,7 @@ offset_bounds-offsets-i-in-loop-i c =
 
 pub bounds-offsets-i-in-loop-i : goal.bounds-offsets-i-in-loop-i
 bounds-offsets-i-in-loop-i c =
-    let the-loop-test = c.loop-i-test in
-    omega (arith, the-loop-test.true, c.requires.0.offsets-long)
+    omega (arith, c.loop-i-test.true, c.requires.0.offsets-long)
 
 pub overflow_cast-e : goal.overflow_cast-e
 overflow_cast-e c =
@@ -34,27 +33,20 @@ overflow_cast-e c =
 
 pub overflow_sub-e : goal.overflow_sub-e
 overflow_sub-e c =
-    let the-loop-test = c.loop-i-test in
-    let the-loop = c.loop-i in
-    omega (arith, (list-within c.requires.0 the-loop.i the-loop-test.true).0)
+    omega (arith, (list-within c.requires.0 c.loop-i.i c.loop-i-test.true).0)
 
 pub put_list-requires : goal.put_list-requires
 put_list-requires c =
-    let the-loop-test = c.loop-i-test in
-    let the-loop = c.loop-i in
-    let w = list-within c.requires.0 the-loop.i the-loop-test.true in (
+    let w = list-within c.requires.0 c.loop-i.i c.loop-i-test.true in (
       omega (arith, w.0, w.1, c.requires.0.weights-long),
       omega (arith, w.0, w.1, c.requires.0.indices-long),
       omega
-          (arith, w.0, w.1, c.requires.1, the-loop.invariant.size),
+          (arith, w.0, w.1, c.requires.1, c.loop-i.invariant.size),
     )
 
 pub loop-i-preserved : goal.loop-i-preserved
 loop-i-preserved c =
-    let the-put-list = c.put_list in
-    let the-loop-test = c.loop-i-test in
-    let the-loop = c.loop-i in
-    list-next c.requires.0 the-loop.invariant the-loop-test.true the-put-list.auto.target the-put-list.ensures
+    list-next c.requires.0 c.loop-i.invariant c.loop-i-test.true c.put_list.auto.target c.put_list.ensures
 
 pub shape_of-target : goal.shape_of-target
 shape_of-target c =

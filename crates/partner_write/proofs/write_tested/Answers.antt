@@ -11,33 +11,23 @@ returns-then-not-is_fine c =
 
 pub bounds-words-3 : goal.bounds-words-3
 bounds-words-3 c =
-    let the-is-fine = c.is_fine in
-    omega (arith, (c.requires (sym the-is-fine.ensures ∙ c.if-not-is_fine.false)).words_long)
+    omega (arith, (c.requires (sym c.is_fine.ensures ∙ c.if-not-is_fine.false)).words_long)
 
 pub returns-then-words-ne1 : goal.returns-then-words-ne1
 returns-then-words-ne1 c =
-    let the-if1 = c.if-not-is_fine in
-    let the-is-fine = c.is_fine in
-    lists-none _ _ _ _ _ _ (sym the-is-fine.ensures ∙ the-if1.false) c.if-words-ne1.true
+    lists-none _ _ _ _ _ _ (sym c.is_fine.ensures ∙ c.if-not-is_fine.false) c.if-words-ne1.true
 
 pub bounds-words-0 : goal.bounds-words-0
 bounds-words-0 c =
-    let the-if1 = c.if-not-is_fine in
-    let the-is-fine = c.is_fine in
-    omega (arith, (c.requires (sym the-is-fine.ensures ∙ the-if1.false)).words_long)
+    omega (arith, (c.requires (sym c.is_fine.ensures ∙ c.if-not-is_fine.false)).words_long)
 
 pub offset_bounds-offsets-n : goal.offset_bounds-offsets-n
 offset_bounds-offsets-n c =
-    let the-if1 = c.if-not-is_fine in
-    let the-is-fine = c.is_fine in
-    omega (arith, ((c.requires (sym the-is-fine.ensures ∙ the-if1.false)).lists c.if-words-ne1.false).offsets-long)
+    omega (arith, ((c.requires (sym c.is_fine.ensures ∙ c.if-not-is_fine.false)).lists c.if-words-ne1.false).offsets-long)
 
 pub bounds-offsets-n : goal.bounds-offsets-n
 bounds-offsets-n c =
-    let the-if2 = c.if-words-ne1 in
-    let the-if1 = c.if-not-is_fine in
-    let the-is-fine = c.is_fine in
-    omega (arith, ((c.requires (sym the-is-fine.ensures ∙ the-if1.false)).lists the-if2.false).offsets-long)
+    omega (arith, ((c.requires (sym c.is_fine.ensures ∙ c.if-not-is_fine.false)).lists c.if-words-ne1.false).offsets-long)
 
 pub overflow_cast-links : goal.overflow_cast-links
 overflow_cast-links c =
@@ -49,17 +39,11 @@ overflow_mul-links c =
 
 pub returns-then-target-links : goal.returns-then-target-links
 returns-then-target-links c =
-    let the-if2 = c.if-words-ne1 in
-    let the-if1 = c.if-not-is_fine in
-    let the-is-fine = c.is_fine in
-    lists-short _ _ _ _ _ _ (sym the-is-fine.ensures ∙ the-if1.false) the-if2.false c.if-target-links.true
+    lists-short _ _ _ _ _ _ (sym c.is_fine.ensures ∙ c.if-not-is_fine.false) c.if-words-ne1.false c.if-target-links.true
 
 pub put_lists-requires : goal.put_lists-requires
 put_lists-requires c =
-    let the-if2 = c.if-words-ne1 in
-    let the-if1 = c.if-not-is_fine in
-    let the-is-fine = c.is_fine in
-    ((c.requires (sym the-is-fine.ensures ∙ the-if1.false)).lists the-if2.false, c.if-target-links.false)
+    ((c.requires (sym c.is_fine.ensures ∙ c.if-not-is_fine.false)).lists c.if-words-ne1.false, c.if-target-links.false)
 
 pub shape_of-target : goal.shape_of-target
 shape_of-target c =
@@ -67,9 +51,4 @@ shape_of-target c =
 
 pub returns : goal.returns
 returns c =
-    let the-put-lists = c.put_lists in
-    let the-if3 = c.if-target-links in
-    let the-if2 = c.if-words-ne1 in
-    let the-if1 = c.if-not-is_fine in
-    let the-is-fine = c.is_fine in
-    lists-told _ _ _ _ _ _ (sym the-is-fine.ensures ∙ the-if1.false) the-if2.false the-if3.false _ the-put-lists.ensures
+    lists-told _ _ _ _ _ _ (sym c.is_fine.ensures ∙ c.if-not-is_fine.false) c.if-words-ne1.false c.if-target-links.false _ c.put_lists.ensures

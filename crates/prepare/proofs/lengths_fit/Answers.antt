@@ -12,14 +12,9 @@ returns-then-not-areas_fit c =
 pub returns-then-l-s : goal.returns-then-l-s
 unfolding lengths_fit
 returns-then-l-s c =
-    let the-if1 = c.if-not-areas_fit in
-    let the-areas-fit = c.areas_fit in
-    rw (sym the-areas-fit.ensures ∙ the-if1.false, lt-leb _ _ c.if-l-s.true)
+    rw (sym c.areas_fit.ensures ∙ c.if-not-areas_fit.false, lt-leb _ _ c.if-l-s.true)
 
 pub returns : goal.returns
 unfolding lengths_fit
 returns c =
-    let the-if2 = c.if-l-s in
-    let the-if1 = c.if-not-areas_fit in
-    let the-areas-fit = c.areas_fit in
-    rw (sym the-areas-fit.ensures ∙ the-if1.false, le-leb _ _ the-if2.false)
+    rw (sym c.areas_fit.ensures ∙ c.if-not-areas_fit.false, le-leb _ _ c.if-l-s.false)

@@ -19,25 +19,19 @@ sizes_of-z-requires c =
 
 pub route-requires : goal.route-requires
 route-requires c =
-    let the-if1 = c.if-k-ne0 in
-    let the-prepare-fault = c.prepare_fault-k in
-    route-room _ _ _ _ (passed _ _ _ _ (sym the-prepare-fault.ensures ∙ the-if1.false))
+    route-room _ _ _ _ (passed _ _ _ _ (sym c.prepare_fault-k.ensures ∙ c.if-k-ne0.false))
 
 pub set_out-requires : goal.set_out-requires
 unfolding sizes_of
 set_out-requires c =
-    let the-route = c.route in
-    let the-sizes-of = c.sizes_of-z in
-    let the-if1 = c.if-k-ne0 in
-    let the-prepare-fault = c.prepare_fault-k in
-    let f = (passed _ _ _ _ (sym the-prepare-fault.ensures ∙ the-if1.false)) in
-    rw the-sizes-of.ensures (
+    let f = (passed _ _ _ _ (sym c.prepare_fault-k.ensures ∙ c.if-k-ne0.false)) in
+    rw c.sizes_of-z.ensures (
       omega (arith, f.start_is),
       f.areas.positions-long,
       f.areas.increments-long,
       f.areas.gains-long,
       omega
-          (arith, f.areas.forces-long, the-route.auto.squares),
+          (arith, f.areas.forces-long, c.route.auto.squares),
     )
 
 pub shape_of-positions : goal.shape_of-positions
@@ -50,50 +44,37 @@ shape_of-increments c =
 
 pub shape_of-gains : goal.shape_of-gains
 shape_of-gains c =
-    let the-set-out = c.set_out in
-    the-set-out.auto.gains
+    c.set_out.auto.gains
 
 pub shape_of-affinities : goal.shape_of-affinities
 shape_of-affinities c =
-    let the-route = c.route in
-    the-route.auto.affinities
+    c.route.auto.affinities
 
 pub shape_of-indices : goal.shape_of-indices
 shape_of-indices c =
-    let the-route = c.route in
-    the-route.auto.indices
+    c.route.auto.indices
 
 pub shape_of-offsets : goal.shape_of-offsets
 shape_of-offsets c =
-    let the-route = c.route in
-    the-route.auto.offsets
+    c.route.auto.offsets
 
 pub shape_of-forces : goal.shape_of-forces
 shape_of-forces c =
-    let the-set-out = c.set_out in
-    let the-route = c.route in
-    the-set-out.auto.forces ∙ the-route.auto.squares
+    c.set_out.auto.forces ∙ c.route.auto.squares
 
 pub shape_of-row_values : goal.shape_of-row_values
 shape_of-row_values c =
-    let the-route = c.route in
-    the-route.auto.row_values
+    c.route.auto.row_values
 
 pub shape_of-row_indices : goal.shape_of-row_indices
 shape_of-row_indices c =
-    let the-route = c.route in
-    the-route.auto.row_indices
+    c.route.auto.row_indices
 
 pub returns : goal.returns
 unfolding sizes_of
 returns c =
-    let the-set-out = c.set_out in
-    let the-route = c.route in
-    let the-sizes-of = c.sizes_of-z in
-    let the-if1 = c.if-k-ne0 in
-    let the-prepare-fault = c.prepare_fault-k in
     ready-is _ _ _ _ (lent c.args.positions.now c.args.increments.now c.args.gains.now c.args.affinities.now
     c.args.indices.now c.args.offsets.now c.args.forces.now c.args.row_values.now
-    c.args.row_indices.now) the-prepare-fault.ensures the-if1.false c.fresh_run-r.ensures the-route.ensures.row_indices_after
-    (rw the-sizes-of.ensures at the-set-out.ensures).0 (rw the-sizes-of.ensures at the-set-out.ensures).1
-    (rw the-sizes-of.ensures at the-set-out.ensures).2 the-route.ensures.squares_after (rw the-sizes-of.ensures at the-set-out.ensures).3
+    c.args.row_indices.now) c.prepare_fault-k.ensures c.if-k-ne0.false c.fresh_run-r.ensures c.route.ensures.row_indices_after
+    (rw c.sizes_of-z.ensures at c.set_out.ensures).0 (rw c.sizes_of-z.ensures at c.set_out.ensures).1
+    (rw c.sizes_of-z.ensures at c.set_out.ensures).2 c.route.ensures.squares_after (rw c.sizes_of-z.ensures at c.set_out.ensures).3

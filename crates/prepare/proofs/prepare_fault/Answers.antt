@@ -19,70 +19,46 @@ times-nf-requires c =
 pub returns-then-table-nf : goal.returns-then-table-nf
 unfolding prepare_fault
 returns-then-table-nf c =
-    let the-if1 = c.if-e-ne0 in
-    let the-early-fault = c.early_fault-e in
-    rw ((sym the-early-fault.ensures ∙ the-if1.false), ne_eqb _ _ (rw c.times-nf.ensures at c.if-table-nf.true))
+    rw ((sym c.early_fault-e.ensures ∙ c.if-e-ne0.false), ne_eqb _ _ (rw c.times-nf.ensures at c.if-table-nf.true))
 
 pub returns-then-not-all_in : goal.returns-then-not-all_in
 unfolding prepare_fault
 returns-then-not-all_in c =
-    let the-if2 = c.if-table-nf in
-    let the-times = c.times-nf in
-    let the-if1 = c.if-e-ne0 in
-    let the-early-fault = c.early_fault-e in
     rw (
-      (sym the-early-fault.ensures ∙ the-if1.false),
-      (eq-eqb _ _ (rw the-times.ensures at the-if2.false)),
+      (sym c.early_fault-e.ensures ∙ c.if-e-ne0.false),
+      (eq-eqb _ _ (rw c.times-nf.ensures at c.if-table-nf.false)),
       sym
-          (rw the-times.ensures at c.all_in.ensures) ∙ c.if-not-all_in.true,
+          (rw c.times-nf.ensures at c.all_in.ensures) ∙ c.if-not-all_in.true,
     )
 
 pub late_fault-t-requires : goal.late_fault-t-requires
 late_fault-t-requires c =
-    let the-if1 = c.if-e-ne0 in
-    let the-early-fault = c.early_fault-e in
-    (early-most _ (sym the-early-fault.ensures ∙ the-if1.false)).0
+    (early-most _ (sym c.early_fault-e.ensures ∙ c.if-e-ne0.false)).0
 
 pub returns-then-t-ne0 : goal.returns-then-t-ne0
 unfolding prepare_fault
 returns-then-t-ne0 c =
-    let the-if3 = c.if-not-all_in in
-    let the-all-in = c.all_in in
-    let the-if2 = c.if-table-nf in
-    let the-times = c.times-nf in
-    let the-if1 = c.if-e-ne0 in
-    let the-early-fault = c.early_fault-e in
     rw (
-      (sym the-early-fault.ensures ∙ the-if1.false),
-      (eq-eqb _ _ (rw the-times.ensures at the-if2.false)),
-      (sym (rw the-times.ensures at the-all-in.ensures) ∙ the-if3.false),
+      (sym c.early_fault-e.ensures ∙ c.if-e-ne0.false),
+      (eq-eqb _ _ (rw c.times-nf.ensures at c.if-table-nf.false)),
+      (sym (rw c.times-nf.ensures at c.all_in.ensures) ∙ c.if-not-all_in.false),
       ne_eqb _ _ (rw c.late_fault-t.ensures at c.if-t-ne0.true),
     )
     c.late_fault-t.ensures
 
 pub times-nc-requires : goal.times-nc-requires
 times-nc-requires c =
-    let the-if1 = c.if-e-ne0 in
-    let the-early-fault = c.early_fault-e in
-    let z = early-most _ (sym the-early-fault.ensures ∙ the-if1.false) in
+    let z = early-most _ (sym c.early_fault-e.ensures ∙ c.if-e-ne0.false) in
     (omega arith, omega arith)
 
 pub returns-then-start-nc : goal.returns-then-start-nc
 unfolding prepare_fault
 returns-then-start-nc c =
-    let the-if4 = c.if-t-ne0 in
-    let the-late-fault = c.late_fault-t in
-    let the-if3 = c.if-not-all_in in
-    let the-all-in = c.all_in in
-    let the-if2 = c.if-table-nf in
-    let the-times = c.times-nf in
-    let the-if1 = c.if-e-ne0 in
-    let the-early-fault = c.early_fault-e in
     rw (
-      (sym the-early-fault.ensures ∙ the-if1.false),
-      (eq-eqb _ _ (rw the-times.ensures at the-if2.false)),
-      (sym (rw the-times.ensures at the-all-in.ensures) ∙ the-if3.false),
-      (sym the-late-fault.ensures ∙ the-if4.false),
+      (sym c.early_fault-e.ensures ∙ c.if-e-ne0.false),
+      (eq-eqb _ _ (rw c.times-nf.ensures at c.if-table-nf.false)),
+      (sym (rw c.times-nf.ensures at c.all_in.ensures) ∙ c.if-not-all_in.false),
+      (sym c.late_fault-t.ensures ∙ c.if-t-ne0.false),
       ne_eqb _ _
           (rw c.times-nc.ensures at c.if-start-nc.true),
     )
@@ -90,55 +66,29 @@ returns-then-start-nc c =
 pub returns-then-not-all_in-2 : goal.returns-then-not-all_in-2
 unfolding prepare_fault
 returns-then-not-all_in-2 c =
-    let the-if5 = c.if-start-nc in
-    let the-times2 = c.times-nc in
-    let the-if4 = c.if-t-ne0 in
-    let the-late-fault = c.late_fault-t in
-    let the-if3 = c.if-not-all_in in
-    let the-all-in = c.all_in in
-    let the-if2 = c.if-table-nf in
-    let the-times = c.times-nf in
-    let the-if1 = c.if-e-ne0 in
-    let the-early-fault = c.early_fault-e in
     rw (
-      (sym the-early-fault.ensures ∙ the-if1.false),
-      (eq-eqb _ _ (rw the-times.ensures at the-if2.false)),
-      (sym (rw the-times.ensures at the-all-in.ensures) ∙ the-if3.false),
-      (sym the-late-fault.ensures ∙ the-if4.false),
-      (eq-eqb _ _ (rw the-times2.ensures at the-if5.false)),
-      sym (rw the-times2.ensures at c.all_in-2.ensures) ∙ c.if-not-all_in-2.true,
+      (sym c.early_fault-e.ensures ∙ c.if-e-ne0.false),
+      (eq-eqb _ _ (rw c.times-nf.ensures at c.if-table-nf.false)),
+      (sym (rw c.times-nf.ensures at c.all_in.ensures) ∙ c.if-not-all_in.false),
+      (sym c.late_fault-t.ensures ∙ c.if-t-ne0.false),
+      (eq-eqb _ _ (rw c.times-nc.ensures at c.if-start-nc.false)),
+      sym (rw c.times-nc.ensures at c.all_in-2.ensures) ∙ c.if-not-all_in-2.true,
     )
 
 pub lengths_fit-requires : goal.lengths_fit-requires
 lengths_fit-requires c =
-    let the-if4 = c.if-t-ne0 in
-    let the-late-fault = c.late_fault-t in
-    let the-if1 = c.if-e-ne0 in
-    let the-early-fault = c.early_fault-e in
-    early-late _ (sym the-early-fault.ensures ∙ the-if1.false) (sym the-late-fault.ensures ∙ the-if4.false)
+    early-late _ (sym c.early_fault-e.ensures ∙ c.if-e-ne0.false) (sym c.late_fault-t.ensures ∙ c.if-t-ne0.false)
 
 pub returns-then-lengths_fit : goal.returns-then-lengths_fit
 unfolding prepare_fault
 returns-then-lengths_fit c =
-    let the-if6 = c.if-not-all_in-2 in
-    let the-all-in2 = c.all_in-2 in
-    let the-if5 = c.if-start-nc in
-    let the-times2 = c.times-nc in
-    let the-if4 = c.if-t-ne0 in
-    let the-late-fault = c.late_fault-t in
-    let the-if3 = c.if-not-all_in in
-    let the-all-in = c.all_in in
-    let the-if2 = c.if-table-nf in
-    let the-times = c.times-nf in
-    let the-if1 = c.if-e-ne0 in
-    let the-early-fault = c.early_fault-e in
     rw (
-      (sym the-early-fault.ensures ∙ the-if1.false),
-      (eq-eqb _ _ (rw the-times.ensures at the-if2.false)),
-      (sym (rw the-times.ensures at the-all-in.ensures) ∙ the-if3.false),
-      (sym the-late-fault.ensures ∙ the-if4.false),
-      (eq-eqb _ _ (rw the-times2.ensures at the-if5.false)),
-      (sym (rw the-times2.ensures at the-all-in2.ensures) ∙ the-if6.false),
+      (sym c.early_fault-e.ensures ∙ c.if-e-ne0.false),
+      (eq-eqb _ _ (rw c.times-nf.ensures at c.if-table-nf.false)),
+      (sym (rw c.times-nf.ensures at c.all_in.ensures) ∙ c.if-not-all_in.false),
+      (sym c.late_fault-t.ensures ∙ c.if-t-ne0.false),
+      (eq-eqb _ _ (rw c.times-nc.ensures at c.if-start-nc.false)),
+      (sym (rw c.times-nc.ensures at c.all_in-2.ensures) ∙ c.if-not-all_in-2.false),
       sym
           c.lengths_fit.ensures ∙ c.if-lengths_fit.true,
     )
@@ -146,25 +96,13 @@ returns-then-lengths_fit c =
 pub returns : goal.returns
 unfolding prepare_fault
 returns c =
-    let the-if6 = c.if-not-all_in-2 in
-    let the-all-in2 = c.all_in-2 in
-    let the-if5 = c.if-start-nc in
-    let the-times2 = c.times-nc in
-    let the-if4 = c.if-t-ne0 in
-    let the-late-fault = c.late_fault-t in
-    let the-if3 = c.if-not-all_in in
-    let the-all-in = c.all_in in
-    let the-if2 = c.if-table-nf in
-    let the-times = c.times-nf in
-    let the-if1 = c.if-e-ne0 in
-    let the-early-fault = c.early_fault-e in
     rw (
-      (sym the-early-fault.ensures ∙ the-if1.false),
-      (eq-eqb _ _ (rw the-times.ensures at the-if2.false)),
-      (sym (rw the-times.ensures at the-all-in.ensures) ∙ the-if3.false),
-      (sym the-late-fault.ensures ∙ the-if4.false),
-      (eq-eqb _ _ (rw the-times2.ensures at the-if5.false)),
-      (sym (rw the-times2.ensures at the-all-in2.ensures) ∙ the-if6.false),
+      (sym c.early_fault-e.ensures ∙ c.if-e-ne0.false),
+      (eq-eqb _ _ (rw c.times-nf.ensures at c.if-table-nf.false)),
+      (sym (rw c.times-nf.ensures at c.all_in.ensures) ∙ c.if-not-all_in.false),
+      (sym c.late_fault-t.ensures ∙ c.if-t-ne0.false),
+      (eq-eqb _ _ (rw c.times-nc.ensures at c.if-start-nc.false)),
+      (sym (rw c.times-nc.ensures at c.all_in-2.ensures) ∙ c.if-not-all_in-2.false),
       sym
           c.lengths_fit.ensures ∙ c.if-lengths_fit.false,
     )

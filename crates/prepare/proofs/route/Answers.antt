@@ -6,8 +6,6 @@ use Rattle.prepare.proofs.route.Goals as goal
 
 pub neighbor_probabilities-requires : goal.neighbor_probabilities-requires
 neighbor_probabilities-requires c =
-    let the-if1 = c.if-is_tree in
-    let the-is-tree = c.is_tree in
     record { le_n = (
         c.requires.settings-good.n-some,
         c.requires.settings-good.n-most,
@@ -15,10 +13,10 @@ neighbor_probabilities-requires c =
         c.requires.settings-good.perplexity-below,
       ); f_in_bounds = (
         c.requires.table-in,
-        c.requires.weights-in (sym the-is-tree.ensures ∙ the-if1.true),
+        c.requires.weights-in (sym c.is_tree.ensures ∙ c.if-is_tree.true),
         c.requires.indices-in
-            (sym the-is-tree.ensures ∙ the-if1.true),
-        c.requires.offsets-in (sym the-is-tree.ensures ∙ the-if1.true),
+            (sym c.is_tree.ensures ∙ c.if-is_tree.true),
+        c.requires.offsets-in (sym c.is_tree.ensures ∙ c.if-is_tree.true),
         c.requires.squares-in,
         c.requires.values-in,
         c.requires.places-in,
@@ -26,19 +24,14 @@ neighbor_probabilities-requires c =
 
 pub returns-then-is_tree : goal.returns-then-is_tree
 returns-then-is_tree c =
-    let the-neighbor-probabilities = c.neighbor_probabilities in
-    let the-if1 = c.if-is_tree in
-    let the-is-tree = c.is_tree in
-    record { row_indices_after = the-neighbor-probabilities.ensures.row_indices_after ∙ routed-tree _ _ _ (sym the-is-tree.ensures ∙ the-if1.true); squares_after = the-neighbor-probabilities.ensures.squares_after; }
+    record { row_indices_after = c.neighbor_probabilities.ensures.row_indices_after ∙ routed-tree _ _ _ (sym c.is_tree.ensures ∙ c.if-is_tree.true); squares_after = c.neighbor_probabilities.ensures.squares_after; }
 
 pub exact_affinities-requires : goal.exact_affinities-requires
 exact_affinities-requires c =
-    let the-if1 = c.if-is_tree in
-    let the-is-tree = c.is_tree in
     (
       c.requires.settings-good.n-most,
       c.requires.table-in,
-      c.requires.square-in (sym the-is-tree.ensures ∙ the-if1.false),
+      c.requires.square-in (sym c.is_tree.ensures ∙ c.if-is_tree.false),
       c.requires.squares-in,
       c.requires.values-in,
     )
@@ -49,9 +42,5 @@ clear_indices-requires c =
 
 pub returns : goal.returns
 returns c =
-    let the-clear-indices = c.clear_indices in
-    let the-exact-affinities = c.exact_affinities in
-    let the-if1 = c.if-is_tree in
-    let the-is-tree = c.is_tree in
-    record { row_indices_after = routed-exact _ _ _ (sym the-is-tree.ensures ∙ the-if1.false) the-exact-affinities.ensures.affinities_after the-exact-affinities.ensures.row_after
-          the-clear-indices.ensures; squares_after = the-exact-affinities.ensures.squares_after; }
+    record { row_indices_after = routed-exact _ _ _ (sym c.is_tree.ensures ∙ c.if-is_tree.false) c.exact_affinities.ensures.affinities_after c.exact_affinities.ensures.row_after
+          c.clear_indices.ensures; squares_after = c.exact_affinities.ensures.squares_after; }

@@ -9,7 +9,4 @@ returns-then-strip_bars c =
 
 pub returns : goal.returns
 returns c =
-    let the-prepare = c.prepare in
-    let the-if1 = c.if-strip_bars in
-    let the-strip-bars = c.strip_bars in
-    the-prepare.ensures ∙ passed_on _ _ _ _ _ (sym the-strip-bars.ensures ∙ the-if1.false)
+    c.prepare.ensures ∙ passed_on _ _ _ _ _ (sym c.strip_bars.ensures ∙ c.if-strip_bars.false)

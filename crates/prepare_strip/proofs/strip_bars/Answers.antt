@@ -9,13 +9,9 @@ returns-then-in_profile c =
 
 pub returns-then-k-eq0 : goal.returns-then-k-eq0
 returns-then-k-eq0 c =
-    let the-if1 = c.if-in_profile in
-    let the-in-profile = c.in_profile in
-    sym (bars-passed _ _ (sym the-in-profile.ensures ∙ the-if1.false) (sym c.prepare_fault-k.ensures ∙ c.if-k-eq0.true))
+    sym (bars-passed _ _ (sym c.in_profile.ensures ∙ c.if-in_profile.false) (sym c.prepare_fault-k.ensures ∙ c.if-k-eq0.true))
 
 pub returns : goal.returns
 returns c =
-    let the-if1 = c.if-in_profile in
-    let the-in-profile = c.in_profile in
     rw c.prepare_fault-k.ensures
-    (sym (bars-twelve _ _ (sym the-in-profile.ensures ∙ the-if1.false) (rw c.prepare_fault-k.ensures at c.if-k-eq0.false)))
+    (sym (bars-twelve _ _ (sym c.in_profile.ensures ∙ c.if-in_profile.false) (rw c.prepare_fault-k.ensures at c.if-k-eq0.false)))

@@ -5,6 +5,4 @@ use Rattle.record_words.proofs.put_run.Goals as goal
 pub returns : goal.returns
 unfolding run_put
 returns c =
-    let the-put-progress = c.put_progress in
-    let the-put-settings = c.put_settings in
-    rw (the-put-progress.ensures, the-put-settings.ensures)
+    rw (c.put_progress.ensures, c.put_settings.ensures)

@@ -39,7 +39,4 @@ bounds-words-8 c =
 pub returns : goal.returns
 unfolding settings_put
 returns c =
-    let the-bits-of2 = c.bits_of-2 in
-    let the-bits-of = c.bits_of in
-    let the-method-word = c.method_word in
-    rw (the-method-word.ensures, the-bits-of.ensures, the-bits-of2.ensures, c.bits_of-3.ensures, c.bits_of-4.ensures)
+    rw (c.method_word.ensures, c.bits_of.ensures, c.bits_of-2.ensures, c.bits_of-3.ensures, c.bits_of-4.ensures)

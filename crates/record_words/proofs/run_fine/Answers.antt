@@ -12,12 +12,9 @@ returns-then-words-lt14 c =
 pub returns-then-not-settings_fine : goal.returns-then-not-settings_fine
 unfolding run_fine
 returns-then-not-settings_fine c =
-    let the-if1 = c.if-words-lt14 in
-    rw (le-leb _ _ the-if1.false, sym c.settings_fine.ensures ∙ c.if-not-settings_fine.true)
+    rw (le-leb _ _ c.if-words-lt14.false, sym c.settings_fine.ensures ∙ c.if-not-settings_fine.true)
 
 pub returns : goal.returns
 unfolding run_fine
 returns c =
-    let the-settings-fine = c.settings_fine in
-    let the-if1 = c.if-words-lt14 in
-    rw (le-leb _ _ the-if1.false, sym the-settings-fine.ensures ∙ c.if-not-settings_fine.false)
+    rw (le-leb _ _ c.if-words-lt14.false, sym c.settings_fine.ensures ∙ c.if-not-settings_fine.false)

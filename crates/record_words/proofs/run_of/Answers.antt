@@ -5,6 +5,4 @@ use Rattle.record_words.proofs.run_of.Goals as goal
 pub returns : goal.returns
 unfolding run_of
 returns c =
-    let the-standing-of = c.standing_of-standing in
-    let the-settings-of = c.settings_of-settings in
-    rw (the-settings-of.ensures, the-standing-of.ensures)
+    rw (c.settings_of-settings.ensures, c.standing_of-standing.ensures)

@@ -5,9 +5,4 @@ use Rattle.record_words.proofs.settings_of.Goals as goal
 pub returns : goal.returns
 unfolding settings_of
 returns c =
-    let the-method-of = c.method_of-method in
-    let the-value-of4 = c.value_of-minimum in
-    let the-value-of3 = c.value_of-angle in
-    let the-value-of2 = c.value_of-rate in
-    let the-value-of = c.value_of-perplexity in
-    rw (the-value-of.ensures, the-value-of2.ensures, the-value-of3.ensures, the-value-of4.ensures, the-method-of.ensures)
+    rw (c.value_of-perplexity.ensures, c.value_of-rate.ensures, c.value_of-angle.ensures, c.value_of-minimum.ensures, c.method_of-method.ensures)

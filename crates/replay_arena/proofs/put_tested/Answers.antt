@@ -12,5 +12,4 @@ put_in-requires c =
 
 pub returns : goal.returns
 returns c =
-    let the-fine-in = c.fine_in in
-    (λ _. c.put_in.ensures.0, λ e. absurd (true≢false (sym c.if-not-fine_in.false ∙ the-fine-in.ensures ∙ e)), c.put_in.ensures.1)
+    (λ _. c.put_in.ensures.0, λ e. absurd (true≢false (sym c.if-not-fine_in.false ∙ c.fine_in.ensures ∙ e)), c.put_in.ensures.1)

@@ -11,4 +11,4 @@ returns-then-is_ended c =
 pub returns : goal.returns
 unfolding halted_of
 returns c =
-    rw c.Turned_down.ensures (rw (sym c.is_ended.ensures ∙ c.if-is_ended.false))
+    rw c.turned_down.ensures (rw (sym c.is_ended.ensures ∙ c.if-is_ended.false))

@@ -11,14 +11,9 @@ returns-then-not-is_fine c =
 pub returns-then-not-is_tree : goal.returns-then-not-is_tree
 unfolding asks_tree
 returns-then-not-is_tree c =
-    let the-if1 = c.if-not-is_fine in
-    let the-is-fine = c.is_fine in
-    rw (sym the-is-fine.ensures ∙ the-if1.false, sym c.is_tree.ensures ∙ c.if-not-is_tree.true)
+    rw (sym c.is_fine.ensures ∙ c.if-not-is_fine.false, sym c.is_tree.ensures ∙ c.if-not-is_tree.true)
 
 pub returns : goal.returns
 unfolding asks_tree
 returns c =
-    let the-is-tree = c.is_tree in
-    let the-if1 = c.if-not-is_fine in
-    let the-is-fine = c.is_fine in
-    rw (sym the-is-fine.ensures ∙ the-if1.false, sym the-is-tree.ensures ∙ c.if-not-is_tree.false)
+    rw (sym c.is_fine.ensures ∙ c.if-not-is_fine.false, sym c.is_tree.ensures ∙ c.if-not-is_tree.false)

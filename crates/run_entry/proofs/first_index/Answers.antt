@@ -9,15 +9,11 @@ loop-i-init c =
 
 pub returns-then-not-index_fine : goal.returns-then-not-index_fine
 returns-then-not-index_fine c =
-    let the-loop-test = c.loop-i-test in
-    let the-loop = c.loop-i in
-    seek_stop the-loop.invariant the-loop-test.true (rw c.index_fine.ensures at c.if-not-index_fine.true)
+    seek_stop c.loop-i.invariant c.loop-i-test.true (rw c.index_fine.ensures at c.if-not-index_fine.true)
 
 pub loop-i-preserved : goal.loop-i-preserved
 loop-i-preserved c =
-    let the-loop-test = c.loop-i-test in
-    let the-loop = c.loop-i in
-    seek-next the-loop.invariant the-loop-test.true (rw c.index_fine.ensures at c.if-not-index_fine.false)
+    seek-next c.loop-i.invariant c.loop-i-test.true (rw c.index_fine.ensures at c.if-not-index_fine.false)
 
 pub returns : goal.returns
 returns c =

@@ -9,15 +9,11 @@ loop-i-init c =
 
 pub returns-then-not-offset_fine : goal.returns-then-not-offset_fine
 returns-then-not-offset_fine c =
-    let the-loop-test = c.loop-i-test in
-    let the-loop = c.loop-i in
-    seek_stop the-loop.invariant the-loop-test.true (rw c.offset_fine.ensures at c.if-not-offset_fine.true)
+    seek_stop c.loop-i.invariant c.loop-i-test.true (rw c.offset_fine.ensures at c.if-not-offset_fine.true)
 
 pub loop-i-preserved : goal.loop-i-preserved
 loop-i-preserved c =
-    let the-loop-test = c.loop-i-test in
-    let the-loop = c.loop-i in
-    seek-next the-loop.invariant the-loop-test.true (rw c.offset_fine.ensures at c.if-not-offset_fine.false)
+    seek-next c.loop-i.invariant c.loop-i-test.true (rw c.offset_fine.ensures at c.if-not-offset_fine.false)
 
 pub returns : goal.returns
 returns c =

@@ -8,23 +8,18 @@ use Rattle.run_entry.proofs.lists_fault.Goals as goal
 pub returns-then-o-n : goal.returns-then-o-n
 unfolding lists_fault
 returns-then-o-n c =
-    let the-first-offset = c.first_offset-o in
-    let the-sizes-of = c.sizes_of-z in
     rw (
-      lt-ltb _ _ (rw (rw the-sizes-of.ensures at the-first-offset.ensures) at c.if-o-n.true),
+      lt-ltb _ _ (rw (rw c.sizes_of-z.ensures at c.first_offset-o.ensures) at c.if-o-n.true),
       c.before-then-o-n.ensures,
-      (rw the-sizes-of.ensures at the-first-offset.ensures),
+      (rw c.sizes_of-z.ensures at c.first_offset-o.ensures),
     )
 
 pub first_index-x-requires : goal.first_index-x-requires
 first_index-x-requires c =
-    let the-if1 = c.if-o-n in
-    let the-first-offset = c.first_offset-o in
-    let the-sizes-of = c.sizes_of-z in
     omega (
       arith,
       listed-most c.args.r.settings c.args.offsets.now (omega (arith, c.requires.settings-good.n-some))
-          (rw (rw the-sizes-of.ensures at the-first-offset.ensures) at the-if1.false),
+          (rw (rw c.sizes_of-z.ensures at c.first_offset-o.ensures) at c.if-o-n.false),
       links-is c.args.r.settings,
       c.wide-count.ensures,
       c.requires.x-long,
@@ -33,26 +28,18 @@ first_index-x-requires c =
 pub returns-then-x-count : goal.returns-then-x-count
 unfolding lists_fault
 returns-then-x-count c =
-    let the-wide = c.wide-count in
-    let the-if1 = c.if-o-n in
-    let the-first-offset = c.first_offset-o in
-    let the-sizes-of = c.sizes_of-z in
     rw (
-      le-ltb _ _ (rw (rw the-sizes-of.ensures at the-first-offset.ensures) at the-if1.false),
+      le-ltb _ _ (rw (rw c.sizes_of-z.ensures at c.first_offset-o.ensures) at c.if-o-n.false),
       lt-ltb _ _
-          (rw ((rw the-wide.ensures at c.first_index-x.ensures), the-wide.ensures) at c.if-x-count.true),
-      (rw the-wide.ensures at c.first_index-x.ensures),
+          (rw ((rw c.wide-count.ensures at c.first_index-x.ensures), c.wide-count.ensures) at c.if-x-count.true),
+      (rw c.wide-count.ensures at c.first_index-x.ensures),
     )
 
 pub returns : goal.returns
 unfolding lists_fault
 returns c =
-    let the-wide = c.wide-count in
-    let the-if1 = c.if-o-n in
-    let the-first-offset = c.first_offset-o in
-    let the-sizes-of = c.sizes_of-z in
     rw (
-      le-ltb _ _ (rw (rw the-sizes-of.ensures at the-first-offset.ensures) at the-if1.false),
+      le-ltb _ _ (rw (rw c.sizes_of-z.ensures at c.first_offset-o.ensures) at c.if-o-n.false),
       le-ltb _ _
-          (rw ((rw the-wide.ensures at c.first_index-x.ensures), the-wide.ensures) at c.if-x-count.false),
+          (rw ((rw c.wide-count.ensures at c.first_index-x.ensures), c.wide-count.ensures) at c.if-x-count.false),
     )

@@ -11,13 +11,9 @@ returns-then-i-eq0 c =
 pub returns-then-b-a : goal.returns-then-b-a
 unfolding offset_fine
 returns-then-b-a c =
-    let the-wide2 = c.wide-a in
-    let the-if1 = c.if-i-eq0 in
-    rw (ne_eqb _ _ the-if1.false, lt-leb _ _ (rw (c.wide-b.ensures, the-wide2.ensures) at c.if-b-a.true))
+    rw (ne_eqb _ _ c.if-i-eq0.false, lt-leb _ _ (rw (c.wide-b.ensures, c.wide-a.ensures) at c.if-b-a.true))
 
 pub returns : goal.returns
 unfolding offset_fine
 returns c =
-    let the-wide2 = c.wide-a in
-    let the-if1 = c.if-i-eq0 in
-    rw (ne_eqb _ _ the-if1.false, le-leb _ _ (rw (c.wide-b.ensures, the-wide2.ensures) at c.if-b-a.false), c.wide-b.ensures)
+    rw (ne_eqb _ _ c.if-i-eq0.false, le-leb _ _ (rw (c.wide-b.ensures, c.wide-a.ensures) at c.if-b-a.false), c.wide-b.ensures)

@@ -17,13 +17,9 @@ counters_ok-requires c =
 pub returns-then-not-counters_ok : goal.returns-then-not-counters_ok
 unfolding record_fault
 returns-then-not-counters_ok c =
-    let the-if1 = c.if-k-ne0 in
-    let the-settings-fault = c.settings_fault-k in
-    rw (eq-eqb _ _ (sym the-settings-fault.ensures ∙ the-if1.false), sym c.counters_ok.ensures ∙ c.if-not-counters_ok.true)
+    rw (eq-eqb _ _ (sym c.settings_fault-k.ensures ∙ c.if-k-ne0.false), sym c.counters_ok.ensures ∙ c.if-not-counters_ok.true)
 
 pub returns : goal.returns
 unfolding record_fault
 returns c =
-    let the-if1 = c.if-k-ne0 in
-    let the-settings-fault = c.settings_fault-k in
-    rw (eq-eqb _ _ (sym the-settings-fault.ensures ∙ the-if1.false), sym c.counters_ok.ensures ∙ c.if-not-counters_ok.false)
+    rw (eq-eqb _ _ (sym c.settings_fault-k.ensures ∙ c.if-k-ne0.false), sym c.counters_ok.ensures ∙ c.if-not-counters_ok.false)

@@ -16,11 +16,9 @@ returns-then-x-links c =
 pub returns-then-o-n : goal.returns-then-o-n
 unfolding tree_fits
 returns-then-o-n c =
-    let the-if1 = c.if-a-links in
-    rw (le-leb _ _ the-if1.false, le-leb _ _ c.if-x-links.false, lt-leb _ _ c.if-o-n.true)
+    rw (le-leb _ _ c.if-a-links.false, le-leb _ _ c.if-x-links.false, lt-leb _ _ c.if-o-n.true)
 
 pub returns : goal.returns
 unfolding tree_fits
 returns c =
-    let the-if1 = c.if-a-links in
-    rw (le-leb _ _ the-if1.false, le-leb _ _ c.if-x-links.false, le-leb _ _ c.if-o-n.false)
+    rw (le-leb _ _ c.if-a-links.false, le-leb _ _ c.if-x-links.false, le-leb _ _ c.if-o-n.false)

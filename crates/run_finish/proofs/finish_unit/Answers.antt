@@ -24,9 +24,7 @@ finish-a-requires c =
 pub returns-in_default : goal.returns-in_default
 unfolding finish_unit pace_of
 returns-in_default c =
-    let the-finish = c.finish-a in
-    let the-pace = c.pace-p in
-    finish-wild _ _ _ _ _ _ _ _ (rw the-pace.ensures at the-finish.ensures) _ _ c.in_default.is
+    finish-wild _ _ _ _ _ _ _ _ (rw c.pace-p.ensures at c.finish-a.ensures) _ _ c.in_default.is
 
 pub overflow_mul-s : goal.overflow_mul-s
 overflow_mul-s c =
@@ -43,8 +41,5 @@ closed-next-requires c =
 pub returns : goal.returns
 unfolding finish_unit pace_of
 returns c =
-    let the-enum-told = c.enum_told-1 in
-    let the-finish = c.finish-a in
-    let the-pace = c.pace-p in
-    finish-moved _ _ _ _ _ _ _ _ (rw the-pace.ensures at the-finish.ensures) the-enum-told.is
-    (rw the-pace.ensures at c.norm-norm.ensures) c.closed-next.ensures
+    finish-moved _ _ _ _ _ _ _ _ (rw c.pace-p.ensures at c.finish-a.ensures) c.in-Moved.is
+    (rw c.pace-p.ensures at c.norm-norm.ensures) c.closed-next.ensures

@@ -6,9 +6,7 @@ use Rattle.run_finish.proofs.pace.Goals as goal
 pub returns-then-is_tree : goal.returns-then-is_tree
 unfolding pace_of
 returns-then-is_tree c =
-    let the-if1 = c.if-is_tree in
-    let the-is-tree = c.is_tree in
-    rw ((sym the-is-tree.ensures ∙ the-if1.true), c.normaliser-z.ensures, c.momentum.ensures)
+    rw ((sym c.is_tree.ensures ∙ c.if-is_tree.true), c.normaliser-z.ensures, c.momentum.ensures)
 
 pub returns : goal.returns
 unfolding pace_of

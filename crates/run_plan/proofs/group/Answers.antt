@@ -7,36 +7,24 @@ use Rattle.run_plan.proofs.group.Goals as goal
 pub returns-then-r-s : goal.returns-then-r-s
 unfolding group_of
 returns-then-r-s c =
-    let the-if1 = c.if-is_tree in
-    let the-is-tree = c.is_tree in
-    rw ((sym the-is-tree.ensures ∙ the-if1.true), le-leb _ _ c.if-r-s.true)
+    rw ((sym c.is_tree.ensures ∙ c.if-is_tree.true), le-leb _ _ c.if-r-s.true)
 
 pub returns-then-r-s-2 : goal.returns-then-r-s-2
 unfolding group_of
 returns-then-r-s-2 c =
-    let the-if2 = c.if-r-s in
-    let the-if1 = c.if-is_tree in
-    let the-is-tree = c.is_tree in
-    rw ((sym the-is-tree.ensures ∙ the-if1.true), lt-leb _ _ the-if2.false, le-leb _ _ c.if-r-s-2.true)
+    rw ((sym c.is_tree.ensures ∙ c.if-is_tree.true), lt-leb _ _ c.if-r-s.false, le-leb _ _ c.if-r-s-2.true)
 
 pub returns-then-is_tree : goal.returns-then-is_tree
 unfolding group_of
 returns-then-is_tree c =
-    let the-if2 = c.if-r-s in
-    let the-if1 = c.if-is_tree in
-    let the-is-tree = c.is_tree in
-    rw ((sym the-is-tree.ensures ∙ the-if1.true), lt-leb _ _ the-if2.false, lt-leb _ _ c.if-r-s-2.false)
+    rw ((sym c.is_tree.ensures ∙ c.if-is_tree.true), lt-leb _ _ c.if-r-s.false, lt-leb _ _ c.if-r-s-2.false)
 
 pub returns-then-r-s-3 : goal.returns-then-r-s-3
 unfolding group_of
 returns-then-r-s-3 c =
-    let the-if1 = c.if-is_tree in
-    let the-is-tree = c.is_tree in
-    rw ((sym the-is-tree.ensures ∙ the-if1.false), lt-ltb _ _ c.if-r-s-3.true)
+    rw ((sym c.is_tree.ensures ∙ c.if-is_tree.false), lt-ltb _ _ c.if-r-s-3.true)
 
 pub returns : goal.returns
 unfolding group_of
 returns c =
-    let the-if1 = c.if-is_tree in
-    let the-is-tree = c.is_tree in
-    rw ((sym the-is-tree.ensures ∙ the-if1.false), le-ltb _ _ c.if-r-s-3.false)
+    rw ((sym c.is_tree.ensures ∙ c.if-is_tree.false), le-ltb _ _ c.if-r-s-3.false)

@@ -11,7 +11,4 @@ returns-then-r-s c =
 pub returns : goal.returns
 unfolding row_unit
 returns c =
-    let the-gradient-row = c.gradient_row in
-    let the-exaggeration = c.exaggeration in
-    let the-if1 = c.if-r-s in
-    rw (le-ltb _ _ the-if1.false) (rw the-exaggeration.ensures at the-gradient-row.ensures)
+    rw (le-ltb _ _ c.if-r-s.false) (rw c.exaggeration.ensures at c.gradient_row.ensures)

@@ -9,8 +9,7 @@ loop-t-init c =
 
 pub loop-t-preserved : goal.loop-t-preserved
 loop-t-preserved c =
-    let the-loop = c.loop-t in
-    record-next _ _ c.requires.1 the-loop.invariant c.requires.0 c.loop-t-test.true
+    record-next _ _ c.requires.1 c.loop-t.invariant c.requires.0 c.loop-t-test.true
 
 pub returns : goal.returns
 returns c =

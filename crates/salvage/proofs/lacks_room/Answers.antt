@@ -11,11 +11,9 @@ returns-then-good-file c =
 pub returns-then-places-n : goal.returns-then-places-n
 unfolding lacks_room
 returns-then-places-n c =
-    let the-if1 = c.if-good-file in
-    rw (le-ltb _ _ the-if1.false, lt-ltb _ _ (rw c.records_read-n.ensures at c.if-places-n.true))
+    rw (le-ltb _ _ c.if-good-file.false, lt-ltb _ _ (rw c.records_read-n.ensures at c.if-places-n.true))
 
 pub returns : goal.returns
 unfolding lacks_room
 returns c =
-    let the-if1 = c.if-good-file in
-    rw (le-ltb _ _ the-if1.false, le-ltb _ _ (rw c.records_read-n.ensures at c.if-places-n.false), c.records_read-n.ensures)
+    rw (le-ltb _ _ c.if-good-file.false, le-ltb _ _ (rw c.records_read-n.ensures at c.if-places-n.false), c.records_read-n.ensures)

@@ -12,13 +12,9 @@ returns-then-k-ne0 c =
 pub returns-then-follows_last : goal.returns-then-follows_last
 unfolding rule_after
 returns-then-follows_last c =
-    let the-if1 = c.if-k-ne0 in
-    let the-rule-alone = c.rule_alone-k in
-    rw (eq-eqb _ _ (sym the-rule-alone.ensures ∙ the-if1.false), sym c.follows_last.ensures ∙ c.if-follows_last.true)
+    rw (eq-eqb _ _ (sym c.rule_alone-k.ensures ∙ c.if-k-ne0.false), sym c.follows_last.ensures ∙ c.if-follows_last.true)
 
 pub returns : goal.returns
 unfolding rule_after
 returns c =
-    let the-if1 = c.if-k-ne0 in
-    let the-rule-alone = c.rule_alone-k in
-    rw (eq-eqb _ _ (sym the-rule-alone.ensures ∙ the-if1.false), sym c.follows_last.ensures ∙ c.if-follows_last.false)
+    rw (eq-eqb _ _ (sym c.rule_alone-k.ensures ∙ c.if-k-ne0.false), sym c.follows_last.ensures ∙ c.if-follows_last.false)

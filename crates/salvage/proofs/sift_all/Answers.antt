@@ -15,10 +15,7 @@ sift_one-s-requires c =
 
 pub loop-i-preserved : goal.loop-i-preserved
 loop-i-preserved c =
-    let the-sift-one = c.sift_one-s in
-    let the-loop-test = c.loop-i-test in
-    let the-loop = c.loop-i in
-    sifted-next c.requires the-loop.invariant the-loop-test.true _ the-sift-one.ensures
+    sifted-next c.requires c.loop-i.invariant c.loop-i-test.true _ c.sift_one-s.ensures
 
 pub shape_of-good : goal.shape_of-good
 shape_of-good c =

@@ -7,10 +7,7 @@ use Rattle.salvage.proofs.sift_one.Goals as goal
 pub returns-then-k-eq0 : goal.returns-then-k-eq0
 unfolding sift_step
 returns-then-k-eq0 c =
-    let the-copy-record = c.copy_record in
-    let the-if1 = c.if-k-eq0 in
-    let the-rule-after = c.rule_after-k in
-    rw (eq-eqb _ _ (sym the-rule-after.ensures ∙ the-if1.true), the-copy-record.ensures)
+    rw (eq-eqb _ _ (sym c.rule_after-k.ensures ∙ c.if-k-eq0.true), c.copy_record.ensures)
 
 pub returns : goal.returns
 unfolding sift_step

@@ -5,7 +5,4 @@ use Rattle.scatter.proofs.mix.Goals as goal
 pub returns : goal.returns
 unfolding mix_of
 returns c =
-    let the-fold2 = c.fold-2 in
-    let the-wrapping-mul = c.wrapping_mul-a in
-    let the_fold = c.fold in
-    rw (c.fold-3.ensures, c.wrapping_mul-b.ensures, the-fold2.ensures, the-wrapping-mul.ensures, the_fold.ensures)
+    rw (c.fold-3.ensures, c.wrapping_mul-b.ensures, c.fold-2.ensures, c.wrapping_mul-a.ensures, c.fold.ensures)

@@ -9,9 +9,7 @@ loop-k-init c =
 
 pub loop-k-preserved : goal.loop-k-preserved
 loop-k-preserved c =
-    let the-wrapping-add-u64 = c.wrapping_add_u64-state in
-    let the-loop = c.loop-k in
-    (search rules, rw (c.coordinate.ensures, c.mix.ensures, the-wrapping-add-u64.ensures) (loop-next the-loop.invariant.1 (omega arith)))
+    (search rules, rw (c.coordinate.ensures, c.mix.ensures, c.wrapping_add_u64-state.ensures) (loop-next c.loop-k.invariant.1 (omega arith)))
 
 pub returns : goal.returns
 returns c =

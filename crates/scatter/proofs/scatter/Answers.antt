@@ -17,15 +17,12 @@ returns-then-c-gt-MOST_COMPONENTS c =
 pub returns-then-n-eq0 : goal.returns-then-n-eq0
 unfolding scatter_of
 returns-then-n-eq0 c =
-    let the-if1 = c.if-c-eq0 in
-    simp (ne_eqb _ _ the-if1.false, le-ltb _ _ c.if-c-gt-MOST_COMPONENTS.false, eq-eqb _ _ c.if-n-eq0.true)
+    simp (ne_eqb _ _ c.if-c-eq0.false, le-ltb _ _ c.if-c-gt-MOST_COMPONENTS.false, eq-eqb _ _ c.if-n-eq0.true)
 
 pub returns-then-n-gt-MOST_FRAMES : goal.returns-then-n-gt-MOST_FRAMES
 unfolding scatter_of
 returns-then-n-gt-MOST_FRAMES c =
-    let the-if2 = c.if-c-gt-MOST_COMPONENTS in
-    let the-if1 = c.if-c-eq0 in
-    simp (ne_eqb _ _ the-if1.false, le-ltb _ _ the-if2.false, ne_eqb _ _ c.if-n-eq0.false, lt-ltb _ _ c.if-n-gt-MOST_FRAMES.true)
+    simp (ne_eqb _ _ c.if-c-eq0.false, le-ltb _ _ c.if-c-gt-MOST_COMPONENTS.false, ne_eqb _ _ c.if-n-eq0.false, lt-ltb _ _ c.if-n-gt-MOST_FRAMES.true)
 
 pub overflow_mul-m : goal.overflow_mul-m
 overflow_mul-m c =
@@ -38,19 +35,10 @@ overflow_cast-m c =
 pub returns-then-positions-m : goal.returns-then-positions-m
 unfolding scatter_of
 returns-then-positions-m c =
-    let the-if3 = c.if-n-eq0 in
-    let the-if2 = c.if-c-gt-MOST_COMPONENTS in
-    let the-if1 = c.if-c-eq0 in
-    simp (ne_eqb _ _ the-if1.false, le-ltb _ _ the-if2.false, ne_eqb _ _ the-if3.false, le-ltb _ _ c.if-n-gt-MOST_FRAMES.false, lt-ltb _ _ c.if-positions-m.true)
+    simp (ne_eqb _ _ c.if-c-eq0.false, le-ltb _ _ c.if-c-gt-MOST_COMPONENTS.false, ne_eqb _ _ c.if-n-eq0.false, le-ltb _ _ c.if-n-gt-MOST_FRAMES.false, lt-ltb _ _ c.if-positions-m.true)
 
 pub returns : goal.returns
 unfolding scatter_of
 returns c =
-    let the-random-init = c.random_init in
-    let the-if5 = c.if-positions-m in
-    let the-if4 = c.if-n-gt-MOST_FRAMES in
-    let the-if3 = c.if-n-eq0 in
-    let the-if2 = c.if-c-gt-MOST_COMPONENTS in
-    let the-if1 = c.if-c-eq0 in
-    simp (ne_eqb _ _ the-if1.false, le-ltb _ _ the-if2.false, ne_eqb _ _ the-if3.false, le-ltb _ _ the-if4.false, le-ltb _ _ the-if5.false)
-    (rw the-random-init.ensures)
+    simp (ne_eqb _ _ c.if-c-eq0.false, le-ltb _ _ c.if-c-gt-MOST_COMPONENTS.false, ne_eqb _ _ c.if-n-eq0.false, le-ltb _ _ c.if-n-gt-MOST_FRAMES.false, le-ltb _ _ c.if-positions-m.false)
+    (rw c.random_init.ensures)

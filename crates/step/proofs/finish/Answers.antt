@@ -18,19 +18,10 @@ int_to_float-n c =
 
 pub returns-then-not-calm_centred : goal.returns-then-not-calm_centred
 returns-then-not-calm_centred c =
-    let the-take-means = c.take_means in
-    let the-if1 = c.if-not-sum_moves in
-    let the-sum-moves = c.sum_moves in
-    finish-no-centred _ _ _ (rw the-sum-moves.ensures.1 at the-take-means.ensures) (sym the-sum-moves.ensures.0 ∙ the-if1.false)
+    finish-no-centred _ _ _ (rw c.sum_moves.ensures.1 at c.take_means.ensures) (sym c.sum_moves.ensures.0 ∙ c.if-not-sum_moves.false)
     (sym c.calm_centred.ensures ∙ c.if-not-calm_centred.true)
 
 pub returns : goal.returns
 returns c =
-    let the-write-moves = c.write_moves in
-    let the-if2 = c.if-not-calm_centred in
-    let the-calm-centred = c.calm_centred in
-    let the-take-means = c.take_means in
-    let the-if1 = c.if-not-sum_moves in
-    let the-sum-moves = c.sum_moves in
-    finish-done _ _ _ (rw the-sum-moves.ensures.1 at the-take-means.ensures) (sym the-sum-moves.ensures.0 ∙ the-if1.false)
-    (sym the-calm-centred.ensures ∙ the-if2.false) the-write-moves.ensures
+    finish-done _ _ _ (rw c.sum_moves.ensures.1 at c.take_means.ensures) (sym c.sum_moves.ensures.0 ∙ c.if-not-sum_moves.false)
+    (sym c.calm_centred.ensures ∙ c.if-not-calm_centred.false) c.write_moves.ensures

@@ -13,6 +13,4 @@ returns-then-not-is_calm c =
 
 pub returns : goal.returns
 returns c =
-    let the-is-calm = c.is_calm in
-    let the-if1 = c.if-not-sofar in
-    rw (the-if1.false, sym the-is-calm.ensures ∙ c.if-not-is_calm.false, c.is_calm-2.ensures)
+    rw (c.if-not-sofar.false, sym c.is_calm.ensures ∙ c.if-not-is_calm.false, c.is_calm-2.ensures)

@@ -10,20 +10,15 @@ loop-e-init c =
 
 pub offset_bounds-means-d : goal.offset_bounds-means-d
 offset_bounds-means-d c =
-    let the-loop = c.loop-e in
-    record { fits = omega (arith, (component-in the-loop.e c.args.c c.requires.0 c.requires.1)) }
+    record { fits = omega (arith, (component-in c.loop-e.e c.args.c c.requires.0 c.requires.1)) }
 
 pub bounds-means-d : goal.bounds-means-d
 bounds-means-d c =
-    let the-loop = c.loop-e in
-    (component-in the-loop.e c.args.c c.requires.0 c.requires.1)
+    (component-in c.loop-e.e c.args.c c.requires.0 c.requires.1)
 
 pub loop-e-preserved : goal.loop-e-preserved
 loop-e-preserved c =
-    let the-element-at = c.element_at-x in
-    let the-loop-test = c.loop-e-test in
-    let the-loop = c.loop-e in
-    let w = written_next the-loop.invariant.3 the-loop-test.true the-element-at.ensures in
+    let w = written_next c.loop-e.invariant.3 c.loop-e-test.true c.element_at-x.ensures in
     (w.ahead-y.size, w.ahead-v.size, w.ahead-g.size, w)
 
 pub returns : goal.returns

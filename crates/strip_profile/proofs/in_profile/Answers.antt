@@ -12,22 +12,14 @@ returns-then-s-ne1 c =
 pub returns-then-not-is_tree : goal.returns-then-not-is_tree
 unfolding in_profile
 returns-then-not-is_tree c =
-    let the-if1 = c.if-s-ne1 in
-    simp (eq-eqb _ _ the-if1.false, sym c.is_tree.ensures ∙ c.if-not-is_tree.true)
+    simp (eq-eqb _ _ c.if-s-ne1.false, sym c.is_tree.ensures ∙ c.if-not-is_tree.true)
 
 pub returns-then-not-is_half : goal.returns-then-not-is_half
 unfolding in_profile
 returns-then-not-is_half c =
-    let the-if2 = c.if-not-is_tree in
-    let the-is-tree = c.is_tree in
-    let the-if1 = c.if-s-ne1 in
-    simp (eq-eqb _ _ the-if1.false, sym the-is-tree.ensures ∙ the-if2.false, sym c.is_half.ensures ∙ c.if-not-is_half.true)
+    simp (eq-eqb _ _ c.if-s-ne1.false, sym c.is_tree.ensures ∙ c.if-not-is_tree.false, sym c.is_half.ensures ∙ c.if-not-is_half.true)
 
 pub returns : goal.returns
 unfolding in_profile
 returns c =
-    let the-is-half = c.is_half in
-    let the-if2 = c.if-not-is_tree in
-    let the-is-tree = c.is_tree in
-    let the-if1 = c.if-s-ne1 in
-    simp (eq-eqb _ _ the-if1.false, sym the-is-tree.ensures ∙ the-if2.false, sym the-is-half.ensures ∙ c.if-not-is_half.false)
+    simp (eq-eqb _ _ c.if-s-ne1.false, sym c.is_tree.ensures ∙ c.if-not-is_tree.false, sym c.is_half.ensures ∙ c.if-not-is_half.false)

@@ -22,53 +22,39 @@ is_next-requires c =
 
 pub overflow_add-g : goal.overflow_add-g
 overflow_add-g c =
-    let the-loop = c.loop-j in
-    omega (arith, abreast-room the-loop.invariant.1 (sym c.is_next.ensures ∙ c.if-is_next.true))
+    omega (arith, abreast-room c.loop-j.invariant.1 (sym c.is_next.ensures ∙ c.if-is_next.true))
 
 pub loop-j-preserved-then-is_next : goal.loop-j-preserved-then-is_next
 loop-j-preserved-then-is_next c =
-    let the-loop-test = c.loop-j-test in
-    let the-loop = c.loop-j in (
-      tests-left-pass the-loop.invariant.0 the-loop-test.true (sym c.is_next.ensures ∙ c.if-is_next.true),
-      abreast-pass the-loop.invariant.1
+    (
+      tests-left-pass c.loop-j.invariant.0 c.loop-j-test.true (sym c.is_next.ensures ∙ c.if-is_next.true),
+      abreast-pass c.loop-j.invariant.1
           (sym c.is_next.ensures ∙ c.if-is_next.true),
     )
 
 pub overflow_mul-j : goal.overflow_mul-j
 overflow_mul-j c =
-    let the-loop-test = c.loop-j-test in
-    let the-loop = c.loop-j in
-    omega (arith, row_in the-loop.j c.args.n c.args.c _ the-loop-test.true c.requires.2)
+    omega (arith, row_in c.loop-j.j c.args.n c.args.c _ c.loop-j-test.true c.requires.2)
 
 pub is_calm_row-requires : goal.is_calm_row-requires
 is_calm_row-requires c =
-    let the-loop-test = c.loop-j-test in
-    let the-loop = c.loop-j in
-    (c.requires.1, row_in the-loop.j c.args.n c.args.c _ the-loop-test.true c.requires.2)
+    (c.requires.1, row_in c.loop-j.j c.args.n c.args.c _ c.loop-j-test.true c.requires.2)
 
 pub returns-then-not-is_calm_row : goal.returns-then-not-is_calm_row
 unfolding calm_left
 returns-then-not-is_calm_row c =
-    let the-if1 = c.if-is_next in
-    let the-is-next = c.is_next in
-    let the-loop-test = c.loop-j-test in
-    let the-loop = c.loop-j in
-    sym (tests-left-no the-loop.invariant.0 the-loop-test.true (sym the-is-next.ensures ∙ the-if1.false)
+    sym (tests-left-no c.loop-j.invariant.0 c.loop-j-test.true (sym c.is_next.ensures ∙ c.if-is_next.false)
     (sym (c.is_calm_row.ensures ∙ calm-row-same (survivors c.args.gone.now c.args.n) c.args.c
-    c.args.positions.now c.args.means.now c.requires.4 the-loop.j) ∙ c.if-not-is_calm_row.true))
+    c.args.positions.now c.args.means.now c.requires.4 c.loop-j.j) ∙ c.if-not-is_calm_row.true))
 
 pub loop-j-preserved : goal.loop-j-preserved
 loop-j-preserved c =
-    let the-if1 = c.if-is_next in
-    let the-is-next = c.is_next in
-    let the-loop-test = c.loop-j-test in
-    let the-loop = c.loop-j in
     (
-      tests-left-next the-loop.invariant.0 the-loop-test.true (sym the-is-next.ensures ∙ the-if1.false)
+      tests-left-next c.loop-j.invariant.0 c.loop-j-test.true (sym c.is_next.ensures ∙ c.if-is_next.false)
           (sym (c.is_calm_row.ensures ∙ calm-row-same (survivors c.args.gone.now c.args.n) c.args.c
-          c.args.positions.now c.args.means.now c.requires.4 the-loop.j) ∙ c.if-not-is_calm_row.false),
+          c.args.positions.now c.args.means.now c.requires.4 c.loop-j.j) ∙ c.if-not-is_calm_row.false),
       abreast-next
-          the-loop.invariant.1 (sym the-is-next.ensures ∙ the-if1.false),
+          c.loop-j.invariant.1 (sym c.is_next.ensures ∙ c.if-is_next.false),
     )
 
 pub returns : goal.returns

@@ -11,15 +11,11 @@ loop-d-init c =
 
 pub returns-then-not-is_calm : goal.returns-then-not-is_calm
 returns-then-not-is_calm c =
-    let the-loop-test = c.loop-d-test in
-    let the-loop = c.loop-d in
-    sym (every-no _ _ the-loop.d the-loop-test.true (sym c.is_calm.ensures ∙ c.if-not-is_calm.true))
+    sym (every-no _ _ c.loop-d.d c.loop-d-test.true (sym c.is_calm.ensures ∙ c.if-not-is_calm.true))
 
 pub loop-d-preserved : goal.loop-d-preserved
 loop-d-preserved c =
-    let the-loop-test = c.loop-d-test in
-    let the-loop = c.loop-d in
-    (every-next _ _ the-loop.invariant.0 (sym c.is_calm.ensures ∙ c.if-not-is_calm.false), omega (arith, the-loop-test.true))
+    (every-next _ _ c.loop-d.invariant.0 (sym c.is_calm.ensures ∙ c.if-not-is_calm.false), omega (arith, c.loop-d-test.true))
 
 pub returns : goal.returns
 returns c =

@@ -26,50 +26,38 @@ is_next-requires c =
 
 pub overflow_add-g : goal.overflow_add-g
 overflow_add-g c =
-    let the-loop = c.loop-j in
-    omega (arith, abreast-room the-loop.invariant.1 (sym c.is_next.ensures ∙ c.if-is_next.true))
+    omega (arith, abreast-room c.loop-j.invariant.1 (sym c.is_next.ensures ∙ c.if-is_next.true))
 
 pub loop-j-preserved-then-is_next : goal.loop-j-preserved-then-is_next
 loop-j-preserved-then-is_next c =
-    let the-loop-test = c.loop-j-test in
-    let the-loop = c.loop-j in (
-      sums-left-pass the-loop.invariant.0 the-loop-test.true (sym c.is_next.ensures ∙ c.if-is_next.true),
-      abreast-pass the-loop.invariant.1
+    (
+      sums-left-pass c.loop-j.invariant.0 c.loop-j-test.true (sym c.is_next.ensures ∙ c.if-is_next.true),
+      abreast-pass c.loop-j.invariant.1
           (sym c.is_next.ensures ∙ c.if-is_next.true),
     )
 
 pub overflow_mul-s : goal.overflow_mul-s
 overflow_mul-s c =
-    let the-loop-test = c.loop-j-test in
-    let the-loop = c.loop-j in
-    omega (arith, row_in the-loop.j c.args.n c.args.c _ the-loop-test.true c.requires.2, c.requires.1)
+    omega (arith, row_in c.loop-j.j c.args.n c.args.c _ c.loop-j-test.true c.requires.2, c.requires.1)
 
 pub overflow_add-s : goal.overflow_add-s
 overflow_add-s c =
-    let the-loop-test = c.loop-j-test in
-    let the-loop = c.loop-j in
-    omega (arith, row_in the-loop.j c.args.n c.args.c _ the-loop-test.true c.requires.2, c.requires.1)
+    omega (arith, row_in c.loop-j.j c.args.n c.args.c _ c.loop-j-test.true c.requires.2, c.requires.1)
 
 pub offset_bounds-positions-j : goal.offset_bounds-positions-j
 offset_bounds-positions-j c =
-    let the-loop-test = c.loop-j-test in
-    let the-loop = c.loop-j in
-    omega (arith, row_in the-loop.j c.args.n c.args.c _ the-loop-test.true c.requires.2, c.requires.1)
+    omega (arith, row_in c.loop-j.j c.args.n c.args.c _ c.loop-j-test.true c.requires.2, c.requires.1)
 
 pub bounds-positions-j : goal.bounds-positions-j
 bounds-positions-j c =
-    let the-loop-test = c.loop-j-test in
-    let the-loop = c.loop-j in
-    omega (arith, row_in the-loop.j c.args.n c.args.c _ the-loop-test.true c.requires.2, c.requires.1)
+    omega (arith, row_in c.loop-j.j c.args.n c.args.c _ c.loop-j-test.true c.requires.2, c.requires.1)
 
 pub loop-j-preserved : goal.loop-j-preserved
 loop-j-preserved c =
-    let the-is-next = c.is_next in
-    let the-loop-test = c.loop-j-test in
-    let the-loop = c.loop-j in (
-      sums-left-next the-loop.invariant.0 the-loop-test.true (sym the-is-next.ensures ∙ c.if-is_next.false),
-      abreast-next the-loop.invariant.1
-          (sym the-is-next.ensures ∙ c.if-is_next.false),
+    (
+      sums-left-next c.loop-j.invariant.0 c.loop-j-test.true (sym c.is_next.ensures ∙ c.if-is_next.false),
+      abreast-next c.loop-j.invariant.1
+          (sym c.is_next.ensures ∙ c.if-is_next.false),
     )
 
 pub int_to_float-result : goal.int_to_float-result
@@ -79,8 +67,7 @@ int_to_float-result c =
 
 pub returns : goal.returns
 returns c =
-    let the-loop = c.loop-j in
-    ap (λ (x : Float). div binary64 x (of_int binary64 (pos c.args.m))) (sums-left-done the-loop.invariant.0 c.loop-j-test.false) ∙ ap
+    ap (λ (x : Float). div binary64 x (of_int binary64 (pos c.args.m))) (sums-left-done c.loop-j.invariant.0 c.loop-j-test.false) ∙ ap
     (λ (k : ℕ). div binary64
     (sum_over (λ i. at c.args.positions.now (i * c.args.c + c.args.d))
     (survivors c.args.gone.now c.args.n)) (of_int binary64 (pos k))) c.requires.4

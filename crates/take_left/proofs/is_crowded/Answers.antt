@@ -14,38 +14,27 @@ sizes_of-most-requires c =
 
 pub offset_bounds-offsets-n : goal.offset_bounds-offsets-n
 offset_bounds-offsets-n c =
-    let the-is-tree = c.is_tree in
-    omega (arith, (c.requires.counted-lie (sym the-is-tree.ensures ∙ c.if-not-is_tree.false)).offsets-long)
+    omega (arith, (c.requires.counted-lie (sym c.is_tree.ensures ∙ c.if-not-is_tree.false)).offsets-long)
 
 pub bounds-offsets-n : goal.bounds-offsets-n
 bounds-offsets-n c =
-    let the-if1 = c.if-not-is_tree in
-    let the-is-tree = c.is_tree in
-    omega (arith, (c.requires.counted-lie (sym the-is-tree.ensures ∙ the-if1.false)).offsets-long)
+    omega (arith, (c.requires.counted-lie (sym c.is_tree.ensures ∙ c.if-not-is_tree.false)).offsets-long)
 
 pub returns-then-wide-most : goal.returns-then-wide-most
 returns-then-wide-most c =
-    let the-sizes-of = c.sizes_of-most in
-    let the-if1 = c.if-not-is_tree in
-    let the-is-tree = c.is_tree in
-    few-not-crowded c.requires (sym the-is-tree.ensures ∙ the-if1.false) the-sizes-of.result the-sizes-of.ensures
+    few-not-crowded c.requires (sym c.is_tree.ensures ∙ c.if-not-is_tree.false) c.sizes_of-most.result c.sizes_of-most.ensures
     c.wide.result c.wide.ensures c.if-wide-most.true
 
 pub links_left-requires : goal.links_left-requires
 links_left-requires c =
-    let the-if1 = c.if-not-is_tree in
-    let the-is-tree = c.is_tree in
     (
       c.requires.samples-most,
       c.requires.gone-rises,
-      c.requires.counted-lie (sym the-is-tree.ensures ∙ the-if1.false),
-      c.requires.counted-name (sym the-is-tree.ensures ∙ the-if1.false),
+      c.requires.counted-lie (sym c.is_tree.ensures ∙ c.if-not-is_tree.false),
+      c.requires.counted-name (sym c.is_tree.ensures ∙ c.if-not-is_tree.false),
     )
 
 pub returns : goal.returns
 returns c =
-    let the-sizes-of = c.sizes_of-most in
-    let the-if1 = c.if-not-is_tree in
-    let the-is-tree = c.is_tree in
-    crowded-counted c.requires (sym the-is-tree.ensures ∙ the-if1.false) the-sizes-of.result the-sizes-of.ensures
+    crowded-counted c.requires (sym c.is_tree.ensures ∙ c.if-not-is_tree.false) c.sizes_of-most.result c.sizes_of-most.ensures
     c.links_left.result c.links_left.ensures

@@ -24,25 +24,20 @@ returns-then-r-ne0 c =
 
 pub returns-then-not-gone_fine : goal.returns-then-not-gone_fine
 returns-then-not-gone_fine c =
-    let the-if1 = c.if-r-ne0 in
     judged-unordered c.args.r c.args.gone.now c.args.positions.now c.args.indices.now
-    c.args.offsets.now the-if1.false (sym c.gone_fine.ensures ∙ c.if-not-gone_fine.true)
+    c.args.offsets.now c.if-r-ne0.false (sym c.gone_fine.ensures ∙ c.if-not-gone_fine.true)
 
 pub overflow_sub-m : goal.overflow_sub-m
 overflow_sub-m c =
-    let the-gone-fine = c.gone_fine in
-    omega (arith, count_left c.args.gone.now c.args.r.settings.n (sym the-gone-fine.ensures ∙ c.if-not-gone_fine.false))
+    omega (arith, count_left c.args.gone.now c.args.r.settings.n (sym c.gone_fine.ensures ∙ c.if-not-gone_fine.false))
 
 pub returns-then-m-lt2 : goal.returns-then-m-lt2
 returns-then-m-lt2 c =
-    let the-if2 = c.if-not-gone_fine in
-    let the-gone-fine = c.gone_fine in
-    let the-if1 = c.if-r-ne0 in
     judged-few c.args.r c.args.gone.now c.args.positions.now c.args.indices.now
-    c.args.offsets.now the-if1.false (sym the-gone-fine.ensures ∙ the-if2.false)
+    c.args.offsets.now c.if-r-ne0.false (sym c.gone_fine.ensures ∙ c.if-not-gone_fine.false)
     (omega (
       arith,
-      (count_left c.args.gone.now c.args.r.settings.n (sym the-gone-fine.ensures ∙ the-if2.false)),
+      (count_left c.args.gone.now c.args.r.settings.n (sym c.gone_fine.ensures ∙ c.if-not-gone_fine.false)),
       c.if-m-lt2.true,
     ))
 
@@ -57,57 +52,33 @@ late_fault-requires c =
 
 pub returns-then-late_fault-ne0 : goal.returns-then-late_fault-ne0
 returns-then-late_fault-ne0 c =
-    let the-thinned-settings = c.thinned_settings-t in
-    let the-if3 = c.if-m-lt2 in
-    let the-if2 = c.if-not-gone_fine in
-    let the-gone-fine = c.gone_fine in
-    let the-if1 = c.if-r-ne0 in
     judged-perplexed c.args.r c.args.gone.now c.args.positions.now c.args.indices.now
-    c.args.offsets.now the-if1.false (sym the-gone-fine.ensures ∙ the-if2.false)
+    c.args.offsets.now c.if-r-ne0.false (sym c.gone_fine.ensures ∙ c.if-not-gone_fine.false)
     (omega (
       arith,
-      (count_left c.args.gone.now c.args.r.settings.n (sym the-gone-fine.ensures ∙ the-if2.false)),
-      the-if3.false,
+      (count_left c.args.gone.now c.args.r.settings.n (sym c.gone_fine.ensures ∙ c.if-not-gone_fine.false)),
+      c.if-m-lt2.false,
     )) (subst (λ (x : ℕ). lt c.args.r.settings.perplexity (of_int binary64 (pos x)) ≡ false)
-    (count_left c.args.gone.now c.args.r.settings.n (sym the-gone-fine.ensures ∙ the-if2.false)).1
-    (late-above c.args.r.settings _ _ (omega (arith, the-if3.false))
-    (c.late_fault.ensures ∙ ap late_fault the-thinned-settings.ensures) c.if-late_fault-ne0.true))
+    (count_left c.args.gone.now c.args.r.settings.n (sym c.gone_fine.ensures ∙ c.if-not-gone_fine.false)).1
+    (late-above c.args.r.settings _ _ (omega (arith, c.if-m-lt2.false))
+    (c.late_fault.ensures ∙ ap late_fault c.thinned_settings-t.ensures) c.if-late_fault-ne0.true))
 
 pub is_crowded-requires : goal.is_crowded-requires
 is_crowded-requires c =
-    let the-thinned-settings = c.thinned_settings-t in
-    let the-if3 = c.if-m-lt2 in
-    let the-if2 = c.if-not-gone_fine in
-    let the-gone-fine = c.gone_fine in
-    let the-if1 = c.if-r-ne0 in
     judging-room c.requires
-    (judging c.args.r c.args.gone.now _ _ _ the-if1.false (sym the-gone-fine.ensures ∙ the-if2.false) refl
-    (omega (arith, the-if3.false)) the-thinned-settings.ensures c.late_fault.ensures c.if-late_fault-ne0.false)
+    (judging c.args.r c.args.gone.now _ _ _ c.if-r-ne0.false (sym c.gone_fine.ensures ∙ c.if-not-gone_fine.false) refl
+    (omega (arith, c.if-m-lt2.false)) c.thinned_settings-t.ensures c.late_fault.ensures c.if-late_fault-ne0.false)
 
 pub returns-then-is_crowded : goal.returns-then-is_crowded
 returns-then-is_crowded c =
-    let the-if4 = c.if-late_fault-ne0 in
-    let the-late-fault = c.late_fault in
-    let the-thinned-settings = c.thinned_settings-t in
-    let the-if3 = c.if-m-lt2 in
-    let the-if2 = c.if-not-gone_fine in
-    let the-gone-fine = c.gone_fine in
-    let the-if1 = c.if-r-ne0 in
-    told-crowded _ _ _ (judging c.args.r c.args.gone.now _ _ _ the-if1.false
-    (sym the-gone-fine.ensures ∙ the-if2.false) refl (omega (arith, the-if3.false)) the-thinned-settings.ensures the-late-fault.ensures
-    the-if4.false) (sym c.is_crowded.ensures ∙ c.if-is_crowded.true)
+    told-crowded _ _ _ (judging c.args.r c.args.gone.now _ _ _ c.if-r-ne0.false
+    (sym c.gone_fine.ensures ∙ c.if-not-gone_fine.false) refl (omega (arith, c.if-m-lt2.false)) c.thinned_settings-t.ensures c.late_fault.ensures
+    c.if-late_fault-ne0.false) (sym c.is_crowded.ensures ∙ c.if-is_crowded.true)
 
 pub is_calm_left-requires : goal.is_calm_left-requires
 is_calm_left-requires c =
-    let the-if4 = c.if-late_fault-ne0 in
-    let the-late-fault = c.late_fault in
-    let the-thinned-settings = c.thinned_settings-t in
-    let the-if3 = c.if-m-lt2 in
-    let the-if2 = c.if-not-gone_fine in
-    let the-gone-fine = c.gone_fine in
-    let the-if1 = c.if-r-ne0 in
-    let j = (judging c.args.r c.args.gone.now _ _ _ the-if1.false (sym the-gone-fine.ensures ∙ the-if2.false) refl
-    (omega (arith, the-if3.false)) the-thinned-settings.ensures the-late-fault.ensures the-if4.false) in (
+    let j = (judging c.args.r c.args.gone.now _ _ _ c.if-r-ne0.false (sym c.gone_fine.ensures ∙ c.if-not-gone_fine.false) refl
+    (omega (arith, c.if-m-lt2.false)) c.thinned_settings-t.ensures c.late_fault.ensures c.if-late_fault-ne0.false) in (
       c.requires.settings-good.n-most,
       c.requires.settings-good.c-most,
       c.requires.positions-long,
@@ -118,30 +89,12 @@ is_calm_left-requires c =
 
 pub returns-then-is_calm_left : goal.returns-then-is_calm_left
 returns-then-is_calm_left c =
-    let the-if5 = c.if-is_crowded in
-    let the-is-crowded = c.is_crowded in
-    let the-if4 = c.if-late_fault-ne0 in
-    let the-late-fault = c.late_fault in
-    let the-thinned-settings = c.thinned_settings-t in
-    let the-if3 = c.if-m-lt2 in
-    let the-if2 = c.if-not-gone_fine in
-    let the-gone-fine = c.gone_fine in
-    let the-if1 = c.if-r-ne0 in
-    told-left _ _ _ (judging c.args.r c.args.gone.now _ _ _ the-if1.false
-    (sym the-gone-fine.ensures ∙ the-if2.false) refl (omega (arith, the-if3.false)) the-thinned-settings.ensures the-late-fault.ensures
-    the-if4.false) (sym the-is-crowded.ensures ∙ the-if5.false) (sym c.is_calm_left.ensures ∙ c.if-is_calm_left.true)
+    told-left _ _ _ (judging c.args.r c.args.gone.now _ _ _ c.if-r-ne0.false
+    (sym c.gone_fine.ensures ∙ c.if-not-gone_fine.false) refl (omega (arith, c.if-m-lt2.false)) c.thinned_settings-t.ensures c.late_fault.ensures
+    c.if-late_fault-ne0.false) (sym c.is_crowded.ensures ∙ c.if-is_crowded.false) (sym c.is_calm_left.ensures ∙ c.if-is_calm_left.true)
 
 pub returns : goal.returns
 returns c =
-    let the-if5 = c.if-is_crowded in
-    let the-is-crowded = c.is_crowded in
-    let the-if4 = c.if-late_fault-ne0 in
-    let the-late-fault = c.late_fault in
-    let the-thinned-settings = c.thinned_settings-t in
-    let the-if3 = c.if-m-lt2 in
-    let the-if2 = c.if-not-gone_fine in
-    let the-gone-fine = c.gone_fine in
-    let the-if1 = c.if-r-ne0 in
-    told-barred _ _ _ (judging c.args.r c.args.gone.now _ _ _ the-if1.false
-    (sym the-gone-fine.ensures ∙ the-if2.false) refl (omega (arith, the-if3.false)) the-thinned-settings.ensures the-late-fault.ensures
-    the-if4.false) (sym the-is-crowded.ensures ∙ the-if5.false) (sym c.is_calm_left.ensures ∙ c.if-is_calm_left.false)
+    told-barred _ _ _ (judging c.args.r c.args.gone.now _ _ _ c.if-r-ne0.false
+    (sym c.gone_fine.ensures ∙ c.if-not-gone_fine.false) refl (omega (arith, c.if-m-lt2.false)) c.thinned_settings-t.ensures c.late_fault.ensures
+    c.if-late_fault-ne0.false) (sym c.is_crowded.ensures ∙ c.if-is_crowded.false) (sym c.is_calm_left.ensures ∙ c.if-is_calm_left.false)

@@ -10,10 +10,9 @@ use Rattle.take_left.proofs.thinned_run.Goals as goal
 
 pub overflow_mul-units : goal.overflow_mul-units
 overflow_mul-units c =
-    let the-thinned-settings = c.thinned_settings-t in
     omega (
       arith,
-      product-fits c.args.r.done 65535 the-thinned-settings.result.method c.args.m c.requires.1 (le_refl 65535)
+      product-fits c.args.r.done 65535 c.thinned_settings-t.result.method c.args.m c.requires.1 (le_refl 65535)
           c.requires.0,
       ap (λ (k : ℕ). c.args.r.done * k) c.per.ensures,
     )

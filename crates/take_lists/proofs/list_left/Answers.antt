@@ -9,15 +9,11 @@ loop-t-init c =
 
 pub loop-t-preserved-then-is_among : goal.loop-t-preserved-then-is_among
 loop-t-preserved-then-is_among c =
-    let the-loop-test = c.loop-t-test in
-    let the-loop = c.loop-t in
-    sees-pass the-loop-test.true the-loop.invariant (sym c.if-is_among.true ∙ c.is_among.ensures)
+    sees-pass c.loop-t-test.true c.loop-t.invariant (sym c.if-is_among.true ∙ c.is_among.ensures)
 
 pub loop-t-preserved : goal.loop-t-preserved
 loop-t-preserved c =
-    let the-loop-test = c.loop-t-test in
-    let the-loop = c.loop-t in
-    sees-next the-loop-test.true the-loop.invariant (sym c.if-is_among.false ∙ c.is_among.ensures)
+    sees-next c.loop-t-test.true c.loop-t.invariant (sym c.if-is_among.false ∙ c.is_among.ensures)
 
 pub returns : goal.returns
 returns c =

@@ -11,110 +11,56 @@ loop-i-init c =
 
 pub offset_bounds-offsets-j : goal.offset_bounds-offsets-j
 offset_bounds-offsets-j c =
-    let turn = c.loop-i in
-    let test = c.loop-i-test in
-    omega (arith, closes-frame c.requires.1 c.requires.2 c.requires.3 turn.invariant test.true c.wide-j.ensures)
+    omega (arith, closes-frame c.requires.1 c.requires.2 c.requires.3 c.loop-i.invariant c.loop-i-test.true c.wide-j.ensures)
 
 pub bounds-offsets-j : goal.bounds-offsets-j
 bounds-offsets-j c =
-    let turn = c.loop-i in
-    let test = c.loop-i-test in
-    omega (arith, closes-frame c.requires.1 c.requires.2 c.requires.3 turn.invariant test.true c.wide-j.ensures)
+    omega (arith, closes-frame c.requires.1 c.requires.2 c.requires.3 c.loop-i.invariant c.loop-i-test.true c.wide-j.ensures)
 
 pub overflow_add-j : goal.overflow_add-j
 overflow_add-j c =
-    let turn = c.loop-i in
-    let test = c.loop-i-test in
-    let first = c.wide-j in
-    omega (arith, closes-frame c.requires.1 c.requires.2 c.requires.3 turn.invariant test.true first.ensures)
+    omega (arith, closes-frame c.requires.1 c.requires.2 c.requires.3 c.loop-i.invariant c.loop-i-test.true c.wide-j.ensures)
 
 pub offset_bounds-offsets-j-in-loop-i : goal.offset_bounds-offsets-j-in-loop-i
 offset_bounds-offsets-j-in-loop-i c =
-    let turn = c.loop-i in
-    let test = c.loop-i-test in
-    let first = c.wide-j in
-    omega (arith, closes-frame c.requires.1 c.requires.2 c.requires.3 turn.invariant test.true first.ensures)
+    omega (arith, closes-frame c.requires.1 c.requires.2 c.requires.3 c.loop-i.invariant c.loop-i-test.true c.wide-j.ensures)
 
 pub bounds-offsets-j-in-loop-i : goal.bounds-offsets-j-in-loop-i
 bounds-offsets-j-in-loop-i c =
-    let turn = c.loop-i in
-    let test = c.loop-i-test in
-    let first = c.wide-j in
-    omega (arith, closes-frame c.requires.1 c.requires.2 c.requires.3 turn.invariant test.true first.ensures)
+    omega (arith, closes-frame c.requires.1 c.requires.2 c.requires.3 c.loop-i.invariant c.loop-i-test.true c.wide-j.ensures)
 
 pub overflow_sub-k : goal.overflow_sub-k
 overflow_sub-k c =
-    let the-wide2 = c.wide-a in
-    let the-wide = c.wide-j in
-    let the-loop-test = c.loop-i-test in
-    let the-loop = c.loop-i in
-    let r = c in
-    let turn = the-loop in
-    let test = the-loop-test in
-    let first = the-wide in
-    let second = the-wide2 in
-    omega (arith, closes-room r.requires.1 r.requires.2 r.requires.3 turn.invariant test.true first.ensures second.ensures c.wide.ensures)
+    omega (arith, closes-room c.requires.1 c.requires.2 c.requires.3 c.loop-i.invariant c.loop-i-test.true c.wide-j.ensures c.wide-a.ensures c.wide.ensures)
 
 pub overflow_cast-offsets : goal.overflow_cast-offsets
 overflow_cast-offsets c =
-    let known = c.slice_known-3-1 in
-    let turn = c.loop-i in
-    omega (arith, closes-offset c.requires.1 c.requires.2 c.requires.3 turn.invariant, c.type_inv.offsets c.args.n)
+    omega (arith, closes-offset c.requires.1 c.requires.2 c.requires.3 c.loop-i.invariant, c.type_inv.offsets c.args.n)
 
 pub offset_bounds-offsets-i : goal.offset_bounds-offsets-i
 offset_bounds-offsets-i c =
-    let turn = c.loop-i in
-    omega (arith, closes-offset c.requires.1 c.requires.2 c.requires.3 turn.invariant)
+    omega (arith, closes-offset c.requires.1 c.requires.2 c.requires.3 c.loop-i.invariant)
 
 pub bounds-offsets-i : goal.bounds-offsets-i
 bounds-offsets-i c =
-    let turn = c.loop-i in
-    omega (arith, closes-offset c.requires.1 c.requires.2 c.requires.3 turn.invariant)
+    omega (arith, closes-offset c.requires.1 c.requires.2 c.requires.3 c.loop-i.invariant)
 
 pub pack_list-q-requires : goal.pack_list-q-requires
 pack_list-q-requires c =
-    let the-wide3 = c.wide in
-    let the-wide2 = c.wide-a in
-    let the-wide = c.wide-j in
-    let the-loop-test = c.loop-i-test in
-    let the-loop = c.loop-i in
-    let r = c in
-    let turn = the-loop in
-    let test = the-loop-test in
-    let first = the-wide in
-    let second = the-wide2 in
-    let third = the-wide3 in
-    let room = closes-room r.requires.1 r.requires.2 r.requires.3 turn.invariant test.true first.ensures second.ensures third.ensures in
-    (r.requires.1, omega (arith, r.requires.0, r.requires.2.few), omega (arith, room), omega (arith, room), omega (arith, room))
+    let room = closes-room c.requires.1 c.requires.2 c.requires.3 c.loop-i.invariant c.loop-i-test.true c.wide-j.ensures c.wide-a.ensures c.wide.ensures in
+    (c.requires.1, omega (arith, c.requires.0, c.requires.2.few), omega (arith, room), omega (arith, room), omega (arith, room))
 
 pub overflow_add-i : goal.overflow_add-i
 overflow_add-i c =
-    let the-loop-test = c.loop-i-test in
-    let r = c in
-    let test = the-loop-test in
-    omega (arith, test.true, r.requires.0, r.requires.2.few)
+    omega (arith, c.loop-i-test.true, c.requires.0, c.requires.2.few)
 
 pub loop-i-preserved : goal.loop-i-preserved
 loop-i-preserved c =
-    let the-pack-list = c.pack_list-q in
-    let the-wide3 = c.wide in
-    let the-wide2 = c.wide-a in
-    let the-wide = c.wide-j in
-    let the-loop-test = c.loop-i-test in
-    let the-loop = c.loop-i in
-    let r = c in
-    let turn = the-loop in
-    let test = the-loop-test in
-    let first = the-wide in
-    let second = the-wide2 in
-    let third = the-wide3 in
-    let packed = the-pack-list in
-    closes-next r.requires.1 r.requires.2 r.requires.3 turn.invariant test.true first.ensures second.ensures third.ensures packed.ensures.0
-    packed.ensures.1.0 packed.ensures.1.1 packed.auto.0 packed.auto.1.0
+    closes-next c.requires.1 c.requires.2 c.requires.3 c.loop-i.invariant c.loop-i-test.true c.wide-j.ensures c.wide-a.ensures c.wide.ensures c.pack_list-q.ensures.value
+    c.pack_list-q.ensures.weights_after c.pack_list-q.ensures.indices_after c.pack_list-q.auto.weights c.pack_list-q.auto.indices
 
 pub overflow_cast-offsets-2 : goal.overflow_cast-offsets-2
 overflow_cast-offsets-2 c =
-    let known = c.slice_known-3-1 in
     omega (arith, closes-offset c.requires.1 c.requires.2 c.requires.3 c.loop-i.invariant, c.type_inv.offsets c.args.n)
 
 pub offset_bounds-offsets-i-2 : goal.offset_bounds-offsets-i-2
@@ -139,6 +85,5 @@ shape_of-offsets c =
 
 pub returns : goal.returns
 returns c =
-    let r = c in
-    let d = closes-done r.requires.1 r.requires.2 r.requires.3 c.loop-i.invariant c.loop-i-test.false in
+    let d = closes-done c.requires.1 c.requires.2 c.requires.3 c.loop-i.invariant c.loop-i-test.false in
     record { value = d.0; weights_after = d.1; indices_after = d.2; offsets_after = d.3; }

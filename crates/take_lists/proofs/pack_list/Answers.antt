@@ -17,8 +17,7 @@ offset_bounds-indices-a c =
 
 pub bounds-indices-a : goal.bounds-indices-a
 bounds-indices-a c =
-    let the-loop = c.loop-t in
-    omega (arith, c.requires.4, c.loop-t-test.true, the-loop.invariant.indices.front.size)
+    omega (arith, c.requires.4, c.loop-t-test.true, c.loop-t.invariant.indices.front.size)
 
 pub place_of-x-requires : goal.place_of-x-requires
 place_of-x-requires c =
@@ -26,46 +25,31 @@ place_of-x-requires c =
 
 pub overflow_add-t : goal.overflow_add-t
 overflow_add-t c =
-    let the-loop-test = c.loop-t-test in
-    omega (arith, c.requires.4, the-loop-test.true)
+    omega (arith, c.requires.4, c.loop-t-test.true)
 
 pub loop-t-preserved-then-x-keep : goal.loop-t-preserved-then-x-keep
 loop-t-preserved-then-x-keep c =
-    let the-loop-test = c.loop-t-test in
-    let the-loop = c.loop-t in
-    let r = c in
-    let turn = the-loop in
-    let test = the-loop-test in
-    sifts-pass r.requires.2 r.requires.3 r.requires.4 test.true turn.invariant c.place_of-x.ensures (omega (arith, c.if-x-keep.true))
+    sifts-pass c.requires.2 c.requires.3 c.requires.4 c.loop-t-test.true c.loop-t.invariant c.place_of-x.ensures (omega (arith, c.if-x-keep.true))
 
 pub overflow_add-weights : goal.overflow_add-weights
 overflow_add-weights c =
-    let the-loop-test = c.loop-t-test in
-    omega (arith, c.requires.4, the-loop-test.true)
+    omega (arith, c.requires.4, c.loop-t-test.true)
 
 pub offset_bounds-weights-a : goal.offset_bounds-weights-a
 offset_bounds-weights-a c =
-    let turn = c.loop-t in
-    let test = c.loop-t-test in
-    omega (arith, c.requires.3, test.true, turn.invariant.weights.front.size)
+    omega (arith, c.requires.3, c.loop-t-test.true, c.loop-t.invariant.weights.front.size)
 
 pub bounds-weights-a : goal.bounds-weights-a
 bounds-weights-a c =
-    let turn = c.loop-t in
-    let test = c.loop-t-test in
-    omega (arith, c.requires.3, test.true, turn.invariant.weights.front.size)
+    omega (arith, c.requires.3, c.loop-t-test.true, c.loop-t.invariant.weights.front.size)
 
 pub offset_bounds-weights-e : goal.offset_bounds-weights-e
 offset_bounds-weights-e c =
-    let turn = c.loop-t in
-    let test = c.loop-t-test in
-    omega (arith, sifts-room c.requires.2 c.requires.3 c.requires.4 test.true turn.invariant)
+    omega (arith, sifts-room c.requires.2 c.requires.3 c.requires.4 c.loop-t-test.true c.loop-t.invariant)
 
 pub bounds-weights-e : goal.bounds-weights-e
 bounds-weights-e c =
-    let turn = c.loop-t in
-    let test = c.loop-t-test in
-    omega (arith, sifts-room c.requires.2 c.requires.3 c.requires.4 test.true turn.invariant)
+    omega (arith, sifts-room c.requires.2 c.requires.3 c.requires.4 c.loop-t-test.true c.loop-t.invariant)
 
 pub overflow_cast-indices : goal.overflow_cast-indices
 overflow_cast-indices c =
@@ -73,33 +57,23 @@ overflow_cast-indices c =
 
 pub offset_bounds-indices-e : goal.offset_bounds-indices-e
 offset_bounds-indices-e c =
-    let turn = c.loop-t in
-    let test = c.loop-t-test in
-    omega (arith, sifts-room c.requires.2 c.requires.3 c.requires.4 test.true turn.invariant)
+    omega (arith, sifts-room c.requires.2 c.requires.3 c.requires.4 c.loop-t-test.true c.loop-t.invariant)
 
 pub bounds-indices-e : goal.bounds-indices-e
 bounds-indices-e c =
-    let turn = c.loop-t in
-    let test = c.loop-t-test in
-    omega (arith, sifts-room c.requires.2 c.requires.3 c.requires.4 test.true turn.invariant)
+    omega (arith, sifts-room c.requires.2 c.requires.3 c.requires.4 c.loop-t-test.true c.loop-t.invariant)
 
 pub overflow_add-e : goal.overflow_add-e
 overflow_add-e c =
-    let turn = c.loop-t in
-    let test = c.loop-t-test in
-    omega (arith, sifts-room c.requires.2 c.requires.3 c.requires.4 test.true turn.invariant)
+    omega (arith, sifts-room c.requires.2 c.requires.3 c.requires.4 c.loop-t-test.true c.loop-t.invariant)
 
 pub overflow_add-t-in-loop-t : goal.overflow_add-t-in-loop-t
 overflow_add-t-in-loop-t c =
-    let the-loop-test = c.loop-t-test in
-    omega (arith, c.requires.4, the-loop-test.true)
+    omega (arith, c.requires.4, c.loop-t-test.true)
 
 pub loop-t-preserved : goal.loop-t-preserved
 loop-t-preserved c =
-    let turn = c.loop-t in
-    let test = c.loop-t-test in
-    let found = c.place_of-x in
-    sifts-next c.requires.2 c.requires.3 c.requires.4 test.true turn.invariant found.ensures c.if-x-keep.false
+    sifts-next c.requires.2 c.requires.3 c.requires.4 c.loop-t-test.true c.loop-t.invariant c.place_of-x.ensures c.if-x-keep.false
 
 pub shape_of-weights : goal.shape_of-weights
 shape_of-weights c =
@@ -111,6 +85,5 @@ shape_of-indices c =
 
 pub returns : goal.returns
 returns c =
-    let r = c in
-    let d = sifts-done r.requires.2 r.requires.3 r.requires.4 c.loop-t-test.false c.loop-t.invariant in
+    let d = sifts-done c.requires.2 c.requires.3 c.requires.4 c.loop-t-test.false c.loop-t.invariant in
     record { value = d.0; weights_after = d.1; indices_after = d.2; }

@@ -19,25 +19,15 @@ times-requires c =
 
 pub returns-then-t-times : goal.returns-then-t-times
 returns-then-t-times c =
-    let the-if1 = c.if-settings_fault-ne0 in
-    let the-settings-fault = c.settings_fault in
-    lent-no-table c.args.s c.args.p c.args.t c.args.q (sym the-settings-fault.ensures ∙ the-if1.false)
+    lent-no-table c.args.s c.args.p c.args.t c.args.q (sym c.settings_fault.ensures ∙ c.if-settings_fault-ne0.false)
     (omega (arith, c.times.ensures, c.if-t-times.true))
 
 pub returns-then-q-s : goal.returns-then-q-s
 returns-then-q-s c =
-    let the-if2 = c.if-t-times in
-    let the-times = c.times in
-    let the-if1 = c.if-settings_fault-ne0 in
-    let the-settings-fault = c.settings_fault in
-    lent-no-old c.args.s c.args.p c.args.t c.args.q (sym the-settings-fault.ensures ∙ the-if1.false)
-    (omega (arith, the-times.ensures, the-if2.false)) c.if-q-s.true
+    lent-no-old c.args.s c.args.p c.args.t c.args.q (sym c.settings_fault.ensures ∙ c.if-settings_fault-ne0.false)
+    (omega (arith, c.times.ensures, c.if-t-times.false)) c.if-q-s.true
 
 pub returns : goal.returns
 returns c =
-    let the-if2 = c.if-t-times in
-    let the-times = c.times in
-    let the-if1 = c.if-settings_fault-ne0 in
-    let the-settings-fault = c.settings_fault in
-    lent-all c.args.s c.args.p c.args.t c.args.q (sym the-settings-fault.ensures ∙ the-if1.false)
-    (omega (arith, the-times.ensures, the-if2.false)) c.if-q-s.false
+    lent-all c.args.s c.args.p c.args.t c.args.q (sym c.settings_fault.ensures ∙ c.if-settings_fault-ne0.false)
+    (omega (arith, c.times.ensures, c.if-t-times.false)) c.if-q-s.false

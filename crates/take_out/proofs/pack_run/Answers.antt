@@ -15,45 +15,39 @@ put_survivors-m-requires c =
 
 pub slice_bounds-pack_values-end : goal.slice_bounds-pack_values-end
 slice_bounds-pack_values-end c =
-    let the-put-survivors = c.put_survivors-m in
     omega (
       arith,
-      the-put-survivors.ensures.value,
-      the-put-survivors.auto.old,
+      c.put_survivors-m.ensures.value,
+      c.put_survivors-m.auto.old,
       survivors-few c.args.gone.now c.args.s.n,
       c.requires.pack-old,
     )
 
 pub slice_bounds-pack_values-end-2 : goal.slice_bounds-pack_values-end-2
 slice_bounds-pack_values-end-2 c =
-    let the-put-survivors = c.put_survivors-m in
-    the-put-survivors.ensures.value ∙ ap length (sym (front-survives c.requires _ _ the-put-survivors.ensures.value the-put-survivors.ensures.after))
+    c.put_survivors-m.ensures.value ∙ ap length (sym (front-survives c.requires _ _ c.put_survivors-m.ensures.value c.put_survivors-m.ensures.after))
 
 pub pack_values-requires : goal.pack_values-requires
 pack_values-requires c =
-    let the-put-survivors = c.put_survivors-m in
-    pack-values-room c.requires _ (front-survives c.requires _ _ the-put-survivors.ensures.value the-put-survivors.ensures.after)
+    pack-values-room c.requires _ (front-survives c.requires _ _ c.put_survivors-m.ensures.value c.put_survivors-m.ensures.after)
 
 pub slice_bounds-pack_affinities-end : goal.slice_bounds-pack_affinities-end
 slice_bounds-pack_affinities-end c =
-    let the-put-survivors = c.put_survivors-m in
     omega (
       arith,
-      the-put-survivors.ensures.value,
-      the-put-survivors.auto.old,
+      c.put_survivors-m.ensures.value,
+      c.put_survivors-m.auto.old,
       survivors-few c.args.gone.now c.args.s.n,
       c.requires.pack-old,
     )
 
 pub slice_bounds-pack_affinities-end-2 : goal.slice_bounds-pack_affinities-end-2
 slice_bounds-pack_affinities-end-2 c =
-    let the-put-survivors = c.put_survivors-m in
-    the-put-survivors.ensures.value ∙ ap length (sym (front-survives c.requires _ _ the-put-survivors.ensures.value the-put-survivors.ensures.after))
+    c.put_survivors-m.ensures.value ∙ ap length (sym (front-survives c.requires _ _ c.put_survivors-m.ensures.value c.put_survivors-m.ensures.after))
 
 pub pack_affinities-requires : goal.pack_affinities-requires
 pack_affinities-requires c =
-    let the-put-survivors = c.put_survivors-m in
-    pack-links-room c.requires _ (front-survives c.requires _ _ the-put-survivors.ensures.value the-put-survivors.ensures.after)
+    pack-links-room c.requires _ (front-survives c.requires _ _ c.put_survivors-m.ensures.value c.put_survivors-m.ensures.after)
 
 pub overflow_mul-s : goal.overflow_mul-s
 overflow_mul-s c =
@@ -73,33 +67,27 @@ fill-requires c =
 
 pub shape_of-positions : goal.shape_of-positions
 shape_of-positions c =
-    let the-pack-values = c.pack_values in
-    the-pack-values.auto.positions
+    c.pack_values.auto.positions
 
 pub shape_of-increments : goal.shape_of-increments
 shape_of-increments c =
-    let the-pack-values = c.pack_values in
-    the-pack-values.auto.increments
+    c.pack_values.auto.increments
 
 pub shape_of-gains : goal.shape_of-gains
 shape_of-gains c =
-    let the-pack-values = c.pack_values in
-    the-pack-values.auto.gains
+    c.pack_values.auto.gains
 
 pub shape_of-affinities : goal.shape_of-affinities
 shape_of-affinities c =
-    let the-pack-affinities = c.pack_affinities in
-    the-pack-affinities.auto.affinities
+    c.pack_affinities.auto.affinities
 
 pub shape_of-indices : goal.shape_of-indices
 shape_of-indices c =
-    let the-pack-affinities = c.pack_affinities in
-    the-pack-affinities.auto.indices
+    c.pack_affinities.auto.indices
 
 pub shape_of-offsets : goal.shape_of-offsets
 shape_of-offsets c =
-    let the-pack-affinities = c.pack_affinities in
-    the-pack-affinities.auto.offsets
+    c.pack_affinities.auto.offsets
 
 pub shape_of-forces : goal.shape_of-forces
 shape_of-forces c =
@@ -107,21 +95,14 @@ shape_of-forces c =
 
 pub shape_of-table : goal.shape_of-table
 shape_of-table c =
-    let the-pack-values = c.pack_values in
-    the-pack-values.auto.table
+    c.pack_values.auto.table
 
 pub shape_of-old : goal.shape_of-old
 shape_of-old c =
-    let the-put-survivors = c.put_survivors-m in
-    the-put-survivors.auto.old
+    c.put_survivors-m.auto.old
 
 pub returns : goal.returns
 returns c =
-    let the-fill = c.fill in
-    let the-times = c.times in
-    let the-pack-affinities = c.pack_affinities in
-    let the-pack-values = c.pack_values in
-    let the-put-survivors = c.put_survivors-m in
-    packed-told c.requires _ _ (front-survives c.requires _ _ the-put-survivors.ensures.value the-put-survivors.ensures.after)
-    the-put-survivors.ensures.after _ _ _ _ _ _ _ _ the-pack-values.ensures the-pack-affinities.ensures
-    (the-fill.ensures ∙ ap (λ (k : ℕ). filled zero64 k c.args.forces.now) the-times.ensures)
+    packed-told c.requires _ _ (front-survives c.requires _ _ c.put_survivors-m.ensures.value c.put_survivors-m.ensures.after)
+    c.put_survivors-m.ensures.after _ _ _ _ _ _ _ _ c.pack_values.ensures c.pack_affinities.ensures
+    (c.fill.ensures ∙ ap (λ (k : ℕ). filled zero64 k c.args.forces.now) c.times.ensures)

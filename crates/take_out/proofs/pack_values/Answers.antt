@@ -18,14 +18,13 @@ means_left-requires c =
 
 pub pack_centred-requires : goal.pack_centred-requires
 pack_centred-requires c =
-    let the-means-left = c.means_left in
     (
       c.requires.values-good.n-most,
       c.requires.values-good.c-most,
       c.requires.p-long,
       values-kept c.requires,
       values-means
-          c.requires _ _ the-means-left.ensures,
+          c.requires _ _ c.means_left.ensures,
     )
 
 pub pack_rows-requires : goal.pack_rows-requires
@@ -42,8 +41,7 @@ pack_rows-requires-3 c =
 
 pub shape_of-positions : goal.shape_of-positions
 shape_of-positions c =
-    let the-pack-centred = c.pack_centred in
-    the-pack-centred.auto.positions
+    c.pack_centred.auto.positions
 
 pub shape_of-increments : goal.shape_of-increments
 shape_of-increments c =
@@ -59,8 +57,4 @@ shape_of-table c =
 
 pub returns : goal.returns
 returns c =
-    let the-pack-rows3 = c.pack_rows-3 in
-    let the-pack-rows2 = c.pack_rows-2 in
-    let the-pack-rows = c.pack_rows in
-    let the-pack-centred = c.pack_centred in
-    (the-pack-centred.ensures, the-pack-rows.ensures, the-pack-rows2.ensures, the-pack-rows3.ensures)
+    (c.pack_centred.ensures, c.pack_rows.ensures, c.pack_rows-2.ensures, c.pack_rows-3.ensures)

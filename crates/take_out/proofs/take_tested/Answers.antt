@@ -15,9 +15,7 @@ returns-then-not-is_fine c =
 
 pub look_ahead-v-requires : goal.look_ahead-v-requires
 look_ahead-v-requires c =
-    let the-if1 = c.if-not-is_fine in
-    let the-is-fine = c.is_fine in
-    (c.requires (sym the-is-fine.ensures ∙ the-if1.false)).outlook-room
+    (c.requires (sym c.is_fine.ensures ∙ c.if-not-is_fine.false)).outlook-room
 
 pub is_accepted-requires : goal.is_accepted-requires
 is_accepted-requires c =
@@ -37,105 +35,76 @@ shape_of-offsets-then-not-is_accepted c =
 
 pub returns-then-not-is_accepted : goal.returns-then-not-is_accepted
 returns-then-not-is_accepted c =
-    let the-look-ahead = c.look_ahead-v in
-    let the-if1 = c.if-not-is_fine in
-    let the-is-fine = c.is_fine in
     tested-told c.args.f c.args.r c.args.gone.now
     (holdings c.args.positions.now c.args.increments.now c.args.gains.now c.args.affinities.now
     c.args.indices.now c.args.offsets.now c.args.forces.now c.args.table.now c.args.old.now)
-    (sym the-is-fine.ensures ∙ the-if1.false) _ the-look-ahead.ensures (sym c.is_accepted.ensures ∙ c.if-not-is_accepted.true)
+    (sym c.is_fine.ensures ∙ c.if-not-is_fine.false) _ c.look_ahead-v.ensures (sym c.is_accepted.ensures ∙ c.if-not-is_accepted.true)
 
 pub overflow_sub-s : goal.overflow_sub-s
 overflow_sub-s c =
-    let the-if2 = c.if-not-is_accepted in
-    let the-is-accepted = c.is_accepted in
-    let the-look-ahead = c.look_ahead-v in
     omega (
       arith,
       tested-count c.args.r c.args.gone.now
           (holdings c.args.positions.now c.args.increments.now c.args.gains.now c.args.affinities.now
           c.args.indices.now c.args.offsets.now c.args.forces.now c.args.table.now c.args.old.now)
-          the-look-ahead.ensures (sym the-is-accepted.ensures ∙ the-if2.false),
+          c.look_ahead-v.ensures (sym c.is_accepted.ensures ∙ c.if-not-is_accepted.false),
     )
 
 pub thinned_run-run-requires : goal.thinned_run-run-requires
 thinned_run-run-requires c =
-    let the-if1 = c.if-not-is_fine in
-    let the-is-fine = c.is_fine in
     (
-      omega (arith, (c.requires (sym the-is-fine.ensures ∙ the-if1.false)).outlook-room.settings-good.n-most),
-      (c.requires (sym the-is-fine.ensures ∙ the-if1.false)).done-most,
+      omega (arith, (c.requires (sym c.is_fine.ensures ∙ c.if-not-is_fine.false)).outlook-room.settings-good.n-most),
+      (c.requires (sym c.is_fine.ensures ∙ c.if-not-is_fine.false)).done-most,
     )
 
 pub pack_run-requires : goal.pack_run-requires
 pack_run-requires c =
-    let the-if2 = c.if-not-is_accepted in
-    let the-is-accepted = c.is_accepted in
-    let the-look-ahead = c.look_ahead-v in
-    let the-if1 = c.if-not-is_fine in
-    let the-is-fine = c.is_fine in
     tested-room c.args.r c.args.gone.now
     (holdings c.args.positions.now c.args.increments.now c.args.gains.now c.args.affinities.now
     c.args.indices.now c.args.offsets.now c.args.forces.now c.args.table.now c.args.old.now)
-    the-look-ahead.ensures (sym the-is-accepted.ensures ∙ the-if2.false)
-    (c.requires (sym the-is-fine.ensures ∙ the-if1.false))
+    c.look_ahead-v.ensures (sym c.is_accepted.ensures ∙ c.if-not-is_accepted.false)
+    (c.requires (sym c.is_fine.ensures ∙ c.if-not-is_fine.false))
 
 pub shape_of-positions : goal.shape_of-positions
 shape_of-positions c =
-    let the-pack-run = c.pack_run in
-    the-pack-run.auto.positions
+    c.pack_run.auto.positions
 
 pub shape_of-increments : goal.shape_of-increments
 shape_of-increments c =
-    let the-pack-run = c.pack_run in
-    the-pack-run.auto.increments
+    c.pack_run.auto.increments
 
 pub shape_of-gains : goal.shape_of-gains
 shape_of-gains c =
-    let the-pack-run = c.pack_run in
-    the-pack-run.auto.gains
+    c.pack_run.auto.gains
 
 pub shape_of-affinities : goal.shape_of-affinities
 shape_of-affinities c =
-    let the-pack-run = c.pack_run in
-    the-pack-run.auto.affinities
+    c.pack_run.auto.affinities
 
 pub shape_of-indices : goal.shape_of-indices
 shape_of-indices c =
-    let the-pack-run = c.pack_run in
-    the-pack-run.auto.indices
+    c.pack_run.auto.indices
 
 pub shape_of-offsets : goal.shape_of-offsets
 shape_of-offsets c =
-    let the-pack-run = c.pack_run in
-    the-pack-run.auto.offsets
+    c.pack_run.auto.offsets
 
 pub shape_of-forces : goal.shape_of-forces
 shape_of-forces c =
-    let the-pack-run = c.pack_run in
-    the-pack-run.auto.forces
+    c.pack_run.auto.forces
 
 pub shape_of-table : goal.shape_of-table
 shape_of-table c =
-    let the-pack-run = c.pack_run in
-    the-pack-run.auto.table
+    c.pack_run.auto.table
 
 pub shape_of-old : goal.shape_of-old
 shape_of-old c =
-    let the-pack-run = c.pack_run in
-    the-pack-run.auto.old
+    c.pack_run.auto.old
 
 pub returns : goal.returns
 returns c =
-    let the-pack-run = c.pack_run in
-    let the-thinned-run = c.thinned_run-run in
-    let the-if2 = c.if-not-is_accepted in
-    let the-is-accepted = c.is_accepted in
-    let the-look-ahead = c.look_ahead-v in
-    let the-if1 = c.if-not-is_fine in
-    let the-is-fine = c.is_fine in
     tested-done c.args.f c.args.r c.args.gone.now
     (holdings c.args.positions.now c.args.increments.now c.args.gains.now c.args.affinities.now
     c.args.indices.now c.args.offsets.now c.args.forces.now c.args.table.now c.args.old.now)
-    (sym the-is-fine.ensures ∙ the-if1.false) _ the-look-ahead.ensures (sym the-is-accepted.ensures ∙ the-if2.false) _ _
-    the-thinned-run.ensures the-pack-run.ensures
+    (sym c.is_fine.ensures ∙ c.if-not-is_fine.false) _ c.look_ahead-v.ensures (sym c.is_accepted.ensures ∙ c.if-not-is_accepted.false) _ _
+    c.thinned_run-run.ensures c.pack_run.ensures

@@ -20,41 +20,30 @@ offset_bounds-area-from c =
 
 pub bounds-area-from : goal.bounds-area-from
 bounds-area-from c =
-    let the-loop = c.loop-d in
-    omega (arith, c.requires, c.loop-d-test.true, the-loop.invariant.front.size)
+    omega (arith, c.requires, c.loop-d-test.true, c.loop-d.invariant.front.size)
 
 pub overflow_add-area-in-loop-d : goal.overflow_add-area-in-loop-d
 overflow_add-area-in-loop-d c =
-    let the-loop-test = c.loop-d-test in
-    let the-loop = c.loop-d in
-    omega (arith, c.requires, the-loop-test.true, the-loop.invariant.front.size)
+    omega (arith, c.requires, c.loop-d-test.true, c.loop-d.invariant.front.size)
 
 pub offset_bounds-area-to : goal.offset_bounds-area-to
 offset_bounds-area-to c =
-    let the-loop-test = c.loop-d-test in
-    let the-loop = c.loop-d in
-    omega (arith, c.requires, the-loop-test.true, the-loop.invariant.front.size)
+    omega (arith, c.requires, c.loop-d-test.true, c.loop-d.invariant.front.size)
 
 pub bounds-area-to : goal.bounds-area-to
 bounds-area-to c =
-    let the-loop-test = c.loop-d-test in
-    let the-loop = c.loop-d in
-    omega (arith, c.requires, the-loop-test.true, the-loop.invariant.front.size)
+    omega (arith, c.requires, c.loop-d-test.true, c.loop-d.invariant.front.size)
 
 pub overflow_add-d : goal.overflow_add-d
 overflow_add-d c =
-    let the-loop-test = c.loop-d-test in
-    let the-loop = c.loop-d in
-    omega (arith, c.requires, the-loop-test.true, the-loop.invariant.front.size)
+    omega (arith, c.requires, c.loop-d-test.true, c.loop-d.invariant.front.size)
 
 pub loop-d-preserved : goal.loop-d-preserved
 loop-d-preserved c =
-    let the-loop-test = c.loop-d-test in
-    let the-loop = c.loop-d in
-    brings-next the-loop.invariant _
-    (ap (λ (x : Float). sub binary64 x (at c.args.means.now the-loop.d))
-    (brings-at the-loop.invariant nan (c.args.from + the-loop.d) (omega (arith, c.requires)))) (omega (arith, c.requires))
-    the-loop-test.true
+    brings-next c.loop-d.invariant _
+    (ap (λ (x : Float). sub binary64 x (at c.args.means.now c.loop-d.d))
+    (brings-at c.loop-d.invariant nan (c.args.from + c.loop-d.d) (omega (arith, c.requires)))) (omega (arith, c.requires))
+    c.loop-d-test.true
 
 pub shape_of-area : goal.shape_of-area
 shape_of-area c =

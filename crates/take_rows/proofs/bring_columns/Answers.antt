@@ -12,79 +12,63 @@ loop-j-init c =
 
 pub overflow_add-area : goal.overflow_add-area
 overflow_add-area c =
-    let the-loop-test = c.loop-j-test in
-    let the-loop = c.loop-j in
     omega (
       arith,
       c.requires,
       c.requires.2.few,
-      c.requires.2.below the-loop.j the-loop-test.true,
-      the-loop-test.true,
-      the-loop.invariant.front.size,
+      c.requires.2.below c.loop-j.j c.loop-j-test.true,
+      c.loop-j-test.true,
+      c.loop-j.invariant.front.size,
       c.wide.ensures,
     )
 
 pub offset_bounds-area-from : goal.offset_bounds-area-from
 offset_bounds-area-from c =
-    let the-loop-test = c.loop-j-test in
-    let the-loop = c.loop-j in
     omega (
       arith,
       c.requires,
       c.requires.2.few,
-      c.requires.2.below the-loop.j the-loop-test.true,
-      the-loop-test.true,
-      the-loop.invariant.front.size,
+      c.requires.2.below c.loop-j.j c.loop-j-test.true,
+      c.loop-j-test.true,
+      c.loop-j.invariant.front.size,
       c.wide.ensures,
     )
 
 pub bounds-area-from : goal.bounds-area-from
 bounds-area-from c =
-    let the-loop-test = c.loop-j-test in
-    let the-loop = c.loop-j in
     omega (
       arith,
       c.requires,
       c.requires.2.few,
-      c.requires.2.below the-loop.j the-loop-test.true,
-      the-loop-test.true,
-      the-loop.invariant.front.size,
+      c.requires.2.below c.loop-j.j c.loop-j-test.true,
+      c.loop-j-test.true,
+      c.loop-j.invariant.front.size,
       c.wide.ensures,
     )
 
 pub overflow_add-area-in-loop-j : goal.overflow_add-area-in-loop-j
 overflow_add-area-in-loop-j c =
-    let the-loop-test = c.loop-j-test in
-    let the-loop = c.loop-j in
-    omega (arith, c.requires, c.requires.2.few, the-loop-test.true, the-loop.invariant.front.size)
+    omega (arith, c.requires, c.requires.2.few, c.loop-j-test.true, c.loop-j.invariant.front.size)
 
 pub offset_bounds-area-to : goal.offset_bounds-area-to
 offset_bounds-area-to c =
-    let the-loop-test = c.loop-j-test in
-    let the-loop = c.loop-j in
-    omega (arith, c.requires, c.requires.2.few, the-loop-test.true, the-loop.invariant.front.size)
+    omega (arith, c.requires, c.requires.2.few, c.loop-j-test.true, c.loop-j.invariant.front.size)
 
 pub bounds-area-to : goal.bounds-area-to
 bounds-area-to c =
-    let the-loop-test = c.loop-j-test in
-    let the-loop = c.loop-j in
-    omega (arith, c.requires, c.requires.2.few, the-loop-test.true, the-loop.invariant.front.size)
+    omega (arith, c.requires, c.requires.2.few, c.loop-j-test.true, c.loop-j.invariant.front.size)
 
 pub overflow_add-j : goal.overflow_add-j
 overflow_add-j c =
-    let the-loop-test = c.loop-j-test in
-    let the-loop = c.loop-j in
-    omega (arith, c.requires, c.requires.2.few, the-loop-test.true, the-loop.invariant.front.size)
+    omega (arith, c.requires, c.requires.2.few, c.loop-j-test.true, c.loop-j.invariant.front.size)
 
 pub loop-j-preserved : goal.loop-j-preserved
 loop-j-preserved c =
-    let the-loop-test = c.loop-j-test in
-    let the-loop = c.loop-j in
-    brings-next the-loop.invariant _
-    (ap (λ (x : ℕ). num the-loop.area (c.args.from + x)) c.wide.ensures ∙ brings-at the-loop.invariant 0
-    (c.args.from + num c.args.keep.now the-loop.j)
-    (omega (arith, c.requires, c.requires.2.no_lower the-loop.j the-loop-test.true))) (omega (arith, c.requires, c.requires.2.few))
-    the-loop-test.true
+    brings-next c.loop-j.invariant _
+    (ap (λ (x : ℕ). num c.loop-j.area (c.args.from + x)) c.wide.ensures ∙ brings-at c.loop-j.invariant 0
+    (c.args.from + num c.args.keep.now c.loop-j.j)
+    (omega (arith, c.requires, c.requires.2.no_lower c.loop-j.j c.loop-j-test.true))) (omega (arith, c.requires, c.requires.2.few))
+    c.loop-j-test.true
 
 pub shape_of-area : goal.shape_of-area
 shape_of-area c =

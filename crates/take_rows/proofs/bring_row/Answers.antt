@@ -17,33 +17,27 @@ offset_bounds-area-from c =
 
 pub bounds-area-from : goal.bounds-area-from
 bounds-area-from c =
-    let the-loop = c.loop-d in
-    omega (arith, c.requires, c.loop-d-test.true, the-loop.invariant.front.size)
+    omega (arith, c.requires, c.loop-d-test.true, c.loop-d.invariant.front.size)
 
 pub overflow_add-area-in-loop-d : goal.overflow_add-area-in-loop-d
 overflow_add-area-in-loop-d c =
-    let the-loop = c.loop-d in
-    omega (arith, c.requires, c.loop-d-test.true, the-loop.invariant.front.size)
+    omega (arith, c.requires, c.loop-d-test.true, c.loop-d.invariant.front.size)
 
 pub offset_bounds-area-to : goal.offset_bounds-area-to
 offset_bounds-area-to c =
-    let the-loop = c.loop-d in
-    omega (arith, c.requires, c.loop-d-test.true, the-loop.invariant.front.size)
+    omega (arith, c.requires, c.loop-d-test.true, c.loop-d.invariant.front.size)
 
 pub bounds-area-to : goal.bounds-area-to
 bounds-area-to c =
-    let the-loop = c.loop-d in
-    omega (arith, c.requires, c.loop-d-test.true, the-loop.invariant.front.size)
+    omega (arith, c.requires, c.loop-d-test.true, c.loop-d.invariant.front.size)
 
 pub overflow_add-d : goal.overflow_add-d
 overflow_add-d c =
-    let the-loop = c.loop-d in
-    omega (arith, c.requires, c.loop-d-test.true, the-loop.invariant.front.size)
+    omega (arith, c.requires, c.loop-d-test.true, c.loop-d.invariant.front.size)
 
 pub loop-d-preserved : goal.loop-d-preserved
 loop-d-preserved c =
-    let the-loop = c.loop-d in
-    brings-next the-loop.invariant _ (brings-at the-loop.invariant 0 _ (omega (arith, c.requires))) (omega (arith, c.requires)) c.loop-d-test.true
+    brings-next c.loop-d.invariant _ (brings-at c.loop-d.invariant 0 _ (omega (arith, c.requires))) (omega (arith, c.requires)) c.loop-d-test.true
 
 pub shape_of-area : goal.shape_of-area
 shape_of-area c =

@@ -12,40 +12,30 @@ loop-i-init c =
 
 pub overflow_mul-wide : goal.overflow_mul-wide
 overflow_mul-wide c =
-    let the-loop-test = c.loop-i-test in
-    let the-loop = c.loop-i in
     omega (
       arith,
-      row_room c.requires.3 c.args.c the-loop.invariant the-loop-test.true c.wide.ensures c.requires.2,
-      the-loop.invariant.front.size,
+      row_room c.requires.3 c.args.c c.loop-i.invariant c.loop-i-test.true c.wide.ensures c.requires.2,
+      c.loop-i.invariant.front.size,
     )
 
 pub overflow_mul-i : goal.overflow_mul-i
 overflow_mul-i c =
-    let the-loop-test = c.loop-i-test in
-    let the-loop = c.loop-i in
     omega (
       arith,
-      row_room c.requires.3 c.args.c the-loop.invariant the-loop-test.true c.wide.ensures c.requires.2,
-      the-loop.invariant.front.size,
+      row_room c.requires.3 c.args.c c.loop-i.invariant c.loop-i-test.true c.wide.ensures c.requires.2,
+      c.loop-i.invariant.front.size,
     )
 
 pub bring_centred-requires : goal.bring_centred-requires
 bring_centred-requires c =
-    let the-loop-test = c.loop-i-test in
-    let the-loop = c.loop-i in
-    let r = row_room c.requires.3 c.args.c the-loop.invariant the-loop-test.true c.wide.ensures c.requires.2 in
+    let r = row_room c.requires.3 c.args.c c.loop-i.invariant c.loop-i-test.true c.wide.ensures c.requires.2 in
     (c.requires.1, r.0, r.1)
 
 pub loop-i-preserved : goal.loop-i-preserved
 loop-i-preserved c =
-    let the-bring-centred = c.bring_centred in
-    let the-wide = c.wide in
-    let the-loop-test = c.loop-i-test in
-    let the-loop = c.loop-i in
-    packs-next the-loop.invariant the-loop-test.true
-    (centred-brought c.requires.3 c.args.c c.requires.4 the-loop.invariant the-loop-test.true the-wide.ensures)
-    (row-long _ c.args.c) the-bring-centred.auto.area the-bring-centred.ensures
+    packs-next c.loop-i.invariant c.loop-i-test.true
+    (centred-brought c.requires.3 c.args.c c.requires.4 c.loop-i.invariant c.loop-i-test.true c.wide.ensures)
+    (row-long _ c.args.c) c.bring_centred.auto.area c.bring_centred.ensures
 
 pub overflow_mul-keep : goal.overflow_mul-keep
 overflow_mul-keep c =
@@ -57,18 +47,12 @@ overflow_mul-n c =
 
 pub clear_between-requires : goal.clear_between-requires
 clear_between-requires c =
-    let the-loop = c.loop-i in
-    (kept-all c.requires.3 c.args.c, omega (arith, c.requires.2, the-loop.invariant.front.size))
+    (kept-all c.requires.3 c.args.c, omega (arith, c.requires.2, c.loop-i.invariant.front.size))
 
 pub shape_of-positions : goal.shape_of-positions
 shape_of-positions c =
-    let the-clear-between = c.clear_between in
-    let the-loop = c.loop-i in
-    the-clear-between.auto.area ∙ the-loop.invariant.front.size
+    c.clear_between.auto.area ∙ c.loop-i.invariant.front.size
 
 pub returns : goal.returns
 returns c =
-    let the-clear-between = c.clear_between in
-    let the-loop-test = c.loop-i-test in
-    let the-loop = c.loop-i in
-    packs-done the-loop.invariant zero64 _ the-loop-test.false (kept-all c.requires.3 c.args.c) the-clear-between.ensures
+    packs-done c.loop-i.invariant zero64 _ c.loop-i-test.false (kept-all c.requires.3 c.args.c) c.clear_between.ensures

@@ -11,39 +11,29 @@ loop-i-init c =
 
 pub overflow_mul-wide : goal.overflow_mul-wide
 overflow_mul-wide c =
-    let the-loop-test = c.loop-i-test in
-    let the-loop = c.loop-i in
     omega (
       arith,
-      row_room c.requires.3 c.args.w the-loop.invariant the-loop-test.true c.wide.ensures c.requires.2,
-      the-loop.invariant.front.size,
+      row_room c.requires.3 c.args.w c.loop-i.invariant c.loop-i-test.true c.wide.ensures c.requires.2,
+      c.loop-i.invariant.front.size,
     )
 
 pub overflow_mul-i : goal.overflow_mul-i
 overflow_mul-i c =
-    let the-loop-test = c.loop-i-test in
-    let the-loop = c.loop-i in
     omega (
       arith,
-      row_room c.requires.3 c.args.w the-loop.invariant the-loop-test.true c.wide.ensures c.requires.2,
-      the-loop.invariant.front.size,
+      row_room c.requires.3 c.args.w c.loop-i.invariant c.loop-i-test.true c.wide.ensures c.requires.2,
+      c.loop-i.invariant.front.size,
     )
 
 pub bring_row-requires : goal.bring_row-requires
 bring_row-requires c =
-    let the-loop-test = c.loop-i-test in
-    let the-loop = c.loop-i in
-    row_room c.requires.3 c.args.w the-loop.invariant the-loop-test.true c.wide.ensures c.requires.2
+    row_room c.requires.3 c.args.w c.loop-i.invariant c.loop-i-test.true c.wide.ensures c.requires.2
 
 pub loop-i-preserved : goal.loop-i-preserved
 loop-i-preserved c =
-    let the-bring-row = c.bring_row in
-    let the-wide = c.wide in
-    let the-loop-test = c.loop-i-test in
-    let the-loop = c.loop-i in
-    packs-next the-loop.invariant the-loop-test.true
-    (row-brought c.requires.3 c.args.w the-loop.invariant the-loop-test.true the-wide.ensures) (row-long _ c.args.w)
-    the-bring-row.auto.area the-bring-row.ensures
+    packs-next c.loop-i.invariant c.loop-i-test.true
+    (row-brought c.requires.3 c.args.w c.loop-i.invariant c.loop-i-test.true c.wide.ensures) (row-long _ c.args.w)
+    c.bring_row.auto.area c.bring_row.ensures
 
 pub overflow_mul-keep : goal.overflow_mul-keep
 overflow_mul-keep c =
@@ -55,18 +45,12 @@ overflow_mul-n c =
 
 pub clear_bits-requires : goal.clear_bits-requires
 clear_bits-requires c =
-    let the-loop = c.loop-i in
-    (kept-all c.requires.3 c.args.w, omega (arith, c.requires.2, the-loop.invariant.front.size))
+    (kept-all c.requires.3 c.args.w, omega (arith, c.requires.2, c.loop-i.invariant.front.size))
 
 pub shape_of-area : goal.shape_of-area
 shape_of-area c =
-    let the-clear-bits = c.clear_bits in
-    let the-loop = c.loop-i in
-    the-clear-bits.auto.area ∙ the-loop.invariant.front.size
+    c.clear_bits.auto.area ∙ c.loop-i.invariant.front.size
 
 pub returns : goal.returns
 returns c =
-    let the-clear-bits = c.clear_bits in
-    let the-loop-test = c.loop-i-test in
-    let the-loop = c.loop-i in
-    packs-done the-loop.invariant 0 _ the-loop-test.false (kept-all c.requires.3 c.args.w) the-clear-bits.ensures
+    packs-done c.loop-i.invariant 0 _ c.loop-i-test.false (kept-all c.requires.3 c.args.w) c.clear_bits.ensures

@@ -17,7 +17,4 @@ returns-then-c-eq2 c =
 pub returns : goal.returns
 unfolding width_of loop
 returns c =
-    let the-larger2 = c.larger-y in
-    let the-if1 = c.if-c-eq1 in
-    let the_larger = c.larger-x in
-    rw ((third _ c.requires the-if1.false c.if-c-eq2.false), c.larger.ensures, the-larger2.ensures, the_larger.ensures)
+    rw ((third _ c.requires c.if-c-eq1.false c.if-c-eq2.false), c.larger.ensures, c.larger-y.ensures, c.larger-x.ensures)

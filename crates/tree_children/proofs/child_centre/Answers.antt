@@ -17,7 +17,4 @@ returns-then-c-eq2 c =
 pub returns : goal.returns
 unfolding child_centre loop
 returns c =
-    let the-moved2 = c.moved-y in
-    let the-if1 = c.if-c-eq1 in
-    let the-moved = c.moved-x in
-    rw ((third _ c.requires the-if1.false c.if-c-eq2.false), c.moved.ensures, the-moved2.ensures, the-moved.ensures)
+    rw ((third _ c.requires c.if-c-eq1.false c.if-c-eq2.false), c.moved.ensures, c.moved-y.ensures, c.moved-x.ensures)

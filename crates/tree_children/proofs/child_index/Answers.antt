@@ -18,7 +18,4 @@ returns-then-c-eq2 c =
 pub returns : goal.returns
 unfolding child_index loop
 returns c =
-    let the-bit2 = c.bit in
-    let the-if1 = c.if-c-eq1 in
-    let the-bit = c.bit-x in
-    rw ((third _ c.requires the-if1.false c.if-c-eq2.false), c.bit-2.ensures.0, the-bit2.ensures.0, the-bit.ensures.0) (omega arith)
+    rw ((third _ c.requires c.if-c-eq1.false c.if-c-eq2.false), c.bit-2.ensures.0, c.bit.ensures.0, c.bit-x.ensures.0) (omega arith)

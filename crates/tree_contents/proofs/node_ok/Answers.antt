@@ -12,12 +12,9 @@ returns-then-v-n c =
 pub returns-then-not-point_ok : goal.returns-then-not-point_ok
 unfolding node_ok
 returns-then-not-point_ok c =
-    let the-if1 = c.if-v-n in
-    rw (le-leb _ _ the-if1.false, sym c.point_ok.ensures ∙ c.if-not-point_ok.true)
+    rw (le-leb _ _ c.if-v-n.false, sym c.point_ok.ensures ∙ c.if-not-point_ok.true)
 
 pub returns : goal.returns
 unfolding node_ok
 returns c =
-    let the-point-ok = c.point_ok in
-    let the-if1 = c.if-v-n in
-    rw (le-leb _ _ the-if1.false, sym the-point-ok.ensures ∙ c.if-not-point_ok.false) c.block_ok.ensures
+    rw (le-leb _ _ c.if-v-n.false, sym c.point_ok.ensures ∙ c.if-not-point_ok.false) c.block_ok.ensures

@@ -8,8 +8,7 @@ use Rattle.tree_turns.proofs.child.Goals as goal
 pub returns-then-b-k : goal.returns-then-b-k
 unfolding child_of
 returns-then-b-k c =
-    let the-cell = c.cell-w in
-    rw (ne_eqb _ _ (rw c.child_index-k.ensures at c.if-b-k.true)) the-cell.ensures
+    rw (ne_eqb _ _ (rw c.child_index-k.ensures at c.if-b-k.true)) c.cell-w.ensures
 
 pub absorb-a-requires : goal.absorb-a-requires
 absorb-a-requires c =
@@ -18,7 +17,4 @@ absorb-a-requires c =
 pub returns : goal.returns
 unfolding child_of
 returns c =
-    let the-if1 = c.if-b-k in
-    let the-child-index = c.child_index-k in
-    let the-cell = c.cell-w in
-    rw (eq-eqb _ _ (rw the-child-index.ensures at the-if1.false)) (c.occupy.ensures ∙ rw (c.absorb-a.ensures, the-cell.ensures))
+    rw (eq-eqb _ _ (rw c.child_index-k.ensures at c.if-b-k.false)) (c.occupy.ensures ∙ rw (c.absorb-a.ensures, c.cell-w.ensures))

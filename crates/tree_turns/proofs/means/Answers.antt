@@ -16,7 +16,4 @@ returns-then-c-eq2 c =
 pub returns : goal.returns
 unfolding loop
 returns c =
-    let the-mean2 = c.mean-2 in
-    let the-if1 = c.if-c-eq1 in
-    let the-mean = c.mean in
-    rw ((third _ c.requires the-if1.false c.if-c-eq2.false), c.mean-3.ensures, the-mean2.ensures, the-mean.ensures)
+    rw ((third _ c.requires c.if-c-eq1.false c.if-c-eq2.false), c.mean-3.ensures, c.mean-2.ensures, c.mean.ensures)

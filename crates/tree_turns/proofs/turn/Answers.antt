@@ -9,8 +9,7 @@ use Rattle.tree_turns.proofs.turn.Goals as goal
 
 pub overflow_add-result : goal.overflow_add-result
 overflow_add-result c =
-    let the-child-index = c.child_index-k in
-    rw the-child-index.ensures
+    rw c.child_index-k.ensures
     (omega (
       arith,
       child-below c.args.c c.args.v.centre c.args.p,
@@ -21,45 +20,32 @@ overflow_add-result c =
 pub returns-then-v-ne0 : goal.returns-then-v-ne0
 unfolding turn_of
 returns-then-v-ne0 c =
-    let the-child-index = c.child_index-k in
-    let the-absorb = c.absorb-a in
-    simp (ne_eqb _ _ c.if-v-ne0.true, the-absorb.ensures, the-child-index.ensures)
+    simp (ne_eqb _ _ c.if-v-ne0.true, c.absorb-a.ensures, c.child_index-k.ensures)
 
 pub returns-in_default : goal.returns-in_default
 unfolding turn_of
 returns-in_default c =
-    let the-enum-told = c.enum_told-1 in
-    let the-if1 = c.if-v-ne0 in
-    let the-absorb = c.absorb-a in
-    simp (c.settled.ensures, eq-eqb _ _ the-if1.false, the-enum-told.is, c.occupy-w.ensures, the-absorb.ensures)
+    simp (c.settled.ensures, eq-eqb _ _ c.if-v-ne0.false, c.in_default.is, c.occupy-w.ensures, c.absorb-a.ensures)
 
 pub returns-then-depth-ge-DEEPEST : goal.returns-then-depth-ge-DEEPEST
 unfolding turn_of
 returns-then-depth-ge-DEEPEST c =
-    let the-l = c.l-1 in
-    let the-if1 = c.if-v-ne0 in
-    let the-absorb = c.absorb-a in
-    simp (c.settled-then-depth-ge-DEEPEST.ensures, eq-eqb _ _ the-if1.false, the-l.is, le-leb _ _ c.if-depth-ge-DEEPEST.true, the-absorb.ensures)
+    simp (c.settled-then-depth-ge-DEEPEST.ensures, eq-eqb _ _ c.if-v-ne0.false, c.in-Occupied.is, le-leb _ _ c.if-depth-ge-DEEPEST.true, c.absorb-a.ensures)
 
 pub overflow_add-result-2 : goal.overflow_add-result-2
 overflow_add-result-2 c =
-    let the-child-index = c.child_index-k in
-    rw the-child-index.ensures
+    rw c.child_index-k.ensures
     (omega (arith, child-below c.args.c c.args.v.centre c.args.p, pow_mono {i = c.args.c} {j = 3} (omega arith)))
 
 pub returns : goal.returns
 unfolding turn_of
 returns c =
-    let the-l = c.l-1 in
-    let the-if1 = c.if-v-ne0 in
-    let the-child-index = c.child_index-k in
-    let the-absorb = c.absorb-a in
     simp (
-      eq-eqb _ _ the-if1.false,
-      the-l.is,
+      eq-eqb _ _ c.if-v-ne0.false,
+      c.in-Occupied.is,
       lt-leb _ _ c.if-depth-ge-DEEPEST.false,
       c.split-w.ensures,
-      the-absorb.ensures,
-      the-child-index.ensures,
+      c.absorb-a.ensures,
+      c.child_index-k.ensures,
       shl_one c.args.c (omega arith),
     )

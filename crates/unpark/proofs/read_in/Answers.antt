@@ -30,8 +30,7 @@ put_record-requires c =
 
 pub fetch_state-requires : goal.fetch_state-requires
 fetch_state-requires c =
-    let the-layout-read = c.layout_read-l in
-    rw the-layout-read.ensures (
+    rw c.layout_read-l.ensures (
       c.requires.0,
       refl,
       (cells-room _ c.requires.0
@@ -47,8 +46,7 @@ fetch_state-requires c =
 
 pub fetch_lists-requires : goal.fetch_lists-requires
 fetch_lists-requires c =
-    let the-layout-read = c.layout_read-l in
-    rw the-layout-read.ensures (
+    rw c.layout_read-l.ensures (
       c.requires.0,
       refl,
       lists-room _ c.requires.0
@@ -59,46 +57,37 @@ fetch_lists-requires c =
 pub fill-requires : goal.fill-requires
 unfolding sizes_of
 fill-requires c =
-    let the-sizes-of = c.sizes_of-z in
-    let the-settings-read = c.settings_read-s in
-    rw (the-sizes-of.ensures, the-settings-read.ensures)
+    rw (c.sizes_of-z.ensures, c.settings_read-s.ensures)
     (areas-long _ ((stored_of c.args.words.now c.args.positions.now c.args.increments.now c.args.gains.now
     c.args.affinities.now c.args.indices.now c.args.offsets.now)) _ _ c.requires.1).forces-long
 
 pub shape_of-words : goal.shape_of-words
 shape_of-words c =
-    let the-put-record = c.put_record in
-    the-put-record.auto.words
+    c.put_record.auto.words
 
 pub shape_of-positions : goal.shape_of-positions
 shape_of-positions c =
-    let the-fetch-state = c.fetch_state in
-    the-fetch-state.auto.positions
+    c.fetch_state.auto.positions
 
 pub shape_of-increments : goal.shape_of-increments
 shape_of-increments c =
-    let the-fetch-state = c.fetch_state in
-    the-fetch-state.auto.increments
+    c.fetch_state.auto.increments
 
 pub shape_of-gains : goal.shape_of-gains
 shape_of-gains c =
-    let the-fetch-state = c.fetch_state in
-    the-fetch-state.auto.gains
+    c.fetch_state.auto.gains
 
 pub shape_of-affinities : goal.shape_of-affinities
 shape_of-affinities c =
-    let the-fetch-lists = c.fetch_lists in
-    the-fetch-lists.auto.affinities
+    c.fetch_lists.auto.affinities
 
 pub shape_of-indices : goal.shape_of-indices
 shape_of-indices c =
-    let the-fetch-lists = c.fetch_lists in
-    the-fetch-lists.auto.indices
+    c.fetch_lists.auto.indices
 
 pub shape_of-offsets : goal.shape_of-offsets
 shape_of-offsets c =
-    let the-fetch-lists = c.fetch_lists in
-    the-fetch-lists.auto.offsets
+    c.fetch_lists.auto.offsets
 
 pub shape_of-forces : goal.shape_of-forces
 shape_of-forces c =
@@ -106,14 +95,7 @@ shape_of-forces c =
 
 pub returns : goal.returns
 returns c =
-    let the-fill = c.fill in
-    let the-fetch-lists = c.fetch_lists in
-    let the-fetch-state = c.fetch_state in
-    let the-put-record = c.put_record in
-    let the-sizes-of = c.sizes_of-z in
-    let the-settings-read = c.settings_read-s in
-    let the-layout-read = c.layout_read-l in
     record { offsets_after = stored_is _ ((stored_of c.args.words.now c.args.positions.now c.args.increments.now c.args.gains.now
-          c.args.affinities.now c.args.indices.now c.args.offsets.now)) _ _ the-layout-read.ensures
-          the-put-record.ensures the-fetch-state.ensures.positions_after the-fetch-state.ensures.increments_after the-fetch-state.ensures.gains_after the-fetch-lists.ensures.affinities_after
-          the-fetch-lists.ensures.indices_after the-fetch-lists.ensures.offsets_after; forces_after = rw (the-sizes-of.ensures, the-settings-read.ensures) at the-fill.ensures; }
+          c.args.affinities.now c.args.indices.now c.args.offsets.now)) _ _ c.layout_read-l.ensures
+          c.put_record.ensures c.fetch_state.ensures.positions_after c.fetch_state.ensures.increments_after c.fetch_state.ensures.gains_after c.fetch_lists.ensures.affinities_after
+          c.fetch_lists.ensures.indices_after c.fetch_lists.ensures.offsets_after; forces_after = rw (c.sizes_of-z.ensures, c.settings_read-s.ensures) at c.fill.ensures; }

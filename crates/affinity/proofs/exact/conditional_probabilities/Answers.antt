@@ -11,29 +11,24 @@ loop-i-init c =
 
 pub conditional_row-requires : goal.conditional_row-requires
 conditional_row-requires c =
-    let the-loop-test = c.loop-i-test in
-    let the-loop = c.loop-i in
     record { i_lt_n = (
-        the-loop-test.true,
+        c.loop-i-test.true,
         c.requires.n_le_most_frames.0,
         c.requires.n_le_most_frames.1,
         c.requires.n_le_most_frames.2,
-        rw the-loop.invariant.2.size
-            (row_in _ _ _ _ the-loop-test.true c.requires.n_le_most_frames.3),
-        rw the-loop.invariant.0 c.requires.n_le_most_frames.4,
+        rw c.loop-i.invariant.2.size
+            (row_in _ _ _ _ c.loop-i-test.true c.requires.n_le_most_frames.3),
+        rw c.loop-i.invariant.0 c.requires.n_le_most_frames.4,
       ); squared = c.requires.squared; }
 
 pub loop-i-preserved : goal.loop-i-preserved
 loop-i-preserved c =
-    let the-conditional-row = c.conditional_row in
-    let the-loop-test = c.loop-i-test in
-    let the-loop = c.loop-i in
     (
-      the-conditional-row.auto.row ∙ the-loop.invariant.0,
-      rw the-conditional-row.ensures.row_after
-          (loop-next the-loop.invariant.1 the-loop-test.true),
-      lays-next _ _ the-loop.invariant.2 the-loop-test.true c.requires.n_le_most_frames.3
-          the-conditional-row.auto.affinities the-conditional-row.ensures.affinities_after,
+      c.conditional_row.auto.row ∙ c.loop-i.invariant.0,
+      rw c.conditional_row.ensures.row_after
+          (loop-next c.loop-i.invariant.1 c.loop-i-test.true),
+      lays-next _ _ c.loop-i.invariant.2 c.loop-i-test.true c.requires.n_le_most_frames.3
+          c.conditional_row.auto.affinities c.conditional_row.ensures.affinities_after,
     )
 
 pub shape_of-affinities : goal.shape_of-affinities

@@ -9,16 +9,13 @@ distance_row-requires c =
 
 pub nearest-requires : goal.nearest-requires
 nearest-requires c =
-    let the-distance-row = c.distance_row in
-    let the-distance-row = the-distance-row in
-    let c = c in
     record { n_le_most_frames = (
         c.requires.i_lt_n.1,
-        rw the-distance-row.auto.row c.requires.k_in_bounds.1,
+        rw c.distance_row.auto.row c.requires.k_in_bounds.1,
         c.requires.k_in_bounds.0,
         c.requires.k_in_bounds.2,
         c.requires.i_lt_n.2,
-      ); plains = rw the-distance-row.ensures
+      ); plains = rw c.distance_row.ensures
           (row_plain c.args.table.now c.args.n c.args.f c.args.i c.args.row_values.now
           c.requires.k_in_bounds.1); }
 
@@ -28,8 +25,7 @@ shape_of-weights c =
 
 pub shape_of-row_values : goal.shape_of-row_values
 shape_of-row_values c =
-    let the-distance-row = c.distance_row in
-    the-distance-row.auto.row
+    c.distance_row.auto.row
 
 pub shape_of-row_indices : goal.shape_of-row_indices
 shape_of-row_indices c =
@@ -37,13 +33,7 @@ shape_of-row_indices c =
 
 pub returns : goal.returns
 returns c =
-    let the-nearest = c.nearest in
-    let the-distance-row = c.distance_row in
-    let the-nearest = the-nearest in
-    let the-distance-row = the-distance-row in
-    let far-1 = c in
-    let c = far-1.before.before.before.before.before in
-    let a = c.args in
-    let told = nearest-done a.table.now a.n a.f a.k a.i a.row-values.now a.weights.now a.row-indices.now c.requires.k_in_bounds.1
-    the-distance-row.ensures the-nearest.ensures.row_values_after the-nearest.ensures.row_indices_after in
+    let c = c in
+    let told = nearest-done c.args.table.now c.args.n c.args.f c.args.k c.args.i c.args.row_values.now c.args.weights.now c.args.row_indices.now c.requires.k_in_bounds.1
+    c.distance_row.ensures c.nearest.ensures.row_values_after c.nearest.ensures.row_indices_after in
     record { weights_after = told.0; row_values_after = told.1.0; row_indices_after = told.1.1; }

@@ -10,17 +10,13 @@ use Rattle.affinity.proofs.neighbours.neighbor_row.Goals as goal
 
 pub nearest_row-requires : goal.nearest_row-requires
 nearest_row-requires c =
-    let c = c in
     record { i_lt_n = (c.requires.i_lt_n.0, c.requires.i_lt_n.1, c.requires.i_lt_n.2, c.requires.i_lt_n.4, c.requires.i_lt_n.5); k_in_bounds = (c.requires.k_in_bounds.0, c.requires.k_in_bounds.2, le_trans (le_of_lt c.requires.i_lt_n.3) c.requires.k_in_bounds.3); squared = c.requires.squared; }
 
 pub binary_search_sigma-requires : goal.binary_search_sigma-requires
 binary_search_sigma-requires c =
-    let the-nearest-row = c.nearest_row in
-    let the-nearest-row = the-nearest-row in
-    let far-1 = c in
-    let c = far-1.before.before.before.before.before.before in (
-      rw the-nearest-row.auto.weights c.requires.k_in_bounds.0,
-      rw the-nearest-row.auto.row_values
+    let c = c in (
+      rw c.nearest_row.auto.weights c.requires.k_in_bounds.0,
+      rw c.nearest_row.auto.row_values
           (le_trans (le_of_lt c.requires.i_lt_n.3) c.requires.k_in_bounds.2),
       le_trans (le_of_lt c.requires.i_lt_n.3) c.requires.i_lt_n.1,
     )
@@ -32,34 +28,23 @@ int_to_float-n c =
 
 pub divide-requires : goal.divide-requires
 divide-requires c =
-    let the-binary-search-sigma = c.binary_search_sigma in
-    let the-nearest-row = c.nearest_row in
-    rw (the-binary-search-sigma.auto.shares, the-nearest-row.auto.row_values)
+    rw (c.binary_search_sigma.auto.shares, c.nearest_row.auto.row_values)
     (le_trans (le_of_lt c.requires.i_lt_n.3) c.requires.k_in_bounds.2)
 
 pub by_index-requires : goal.by_index-requires
 by_index-requires c =
-    let the-divide = c.divide in
-    let the-binary-search-sigma = c.binary_search_sigma in
-    let the-divide = the-divide in
-    let the-binary-search-sigma = the-binary-search-sigma in
-    let far-1 = c in
-    let the-nearest-row = far-1.before.before.before.before.before.before.before.before.nearest-row in
-    let far-2 = far-1.before.before.before.before.before.before.before.before.before.before.before.before in
-    let c = far-2.before.before.before.before.before.before in (
-      rw (the-divide.auto.shares, the-binary-search-sigma.auto.shares, the-nearest-row.auto.1.1.1.1.1.1.1.0)
+    let c = c in (
+      rw (c.divide.auto.shares, c.binary_search_sigma.auto.shares, c.nearest_row.auto.row_values)
           (le_trans (le_of_lt c.requires.i_lt_n.3) c.requires.k_in_bounds.2),
-      rw the-nearest-row.auto.1.1.1.1.1.1.1.1.0
+      rw c.nearest_row.auto.row_indices
           (le_trans (le_of_lt c.requires.i_lt_n.3) c.requires.k_in_bounds.3),
-      rw the-nearest-row.auto.1.1.1.1.1.1.0 c.requires.k_in_bounds.0,
+      rw c.nearest_row.auto.weights c.requires.k_in_bounds.0,
       c.requires.k_in_bounds.1,
     )
 
 pub shape_of-weights : goal.shape_of-weights
 shape_of-weights c =
-    let the-by-index = c.by_index in
-    let the-nearest-row = c.nearest_row in
-    the-by-index.auto.weights ∙ the-nearest-row.auto.weights
+    c.by_index.auto.weights ∙ c.nearest_row.auto.weights
 
 pub shape_of-indices : goal.shape_of-indices
 shape_of-indices c =
@@ -67,13 +52,7 @@ shape_of-indices c =
 
 pub shape_of-row_values : goal.shape_of-row_values
 shape_of-row_values c =
-    let the-divide = c.divide in
-    let the-divide = the-divide in
-    let far-1 = c in
-    let the-binary-search-sigma = far-1.before.before.before.before.binary-search-sigma in
-    let far-2 = far-1.before.before.before.before.before.before.before.before.before.before.before.before in
-    let the-nearest-row = far-2.before.nearest-row in
-    the-divide.auto.shares ∙ the-binary-search-sigma.auto.1.1.1.0 ∙ the-nearest-row.auto.1.1.1.1.1.1.1.0
+    c.divide.auto.shares ∙ c.binary_search_sigma.auto.shares ∙ c.nearest_row.auto.row_values
 
 pub shape_of-row_indices : goal.shape_of-row_indices
 shape_of-row_indices c =
@@ -81,16 +60,8 @@ shape_of-row_indices c =
 
 pub returns : goal.returns
 returns c =
-    let the-by-index = c.by_index in
-    let the-divide = c.divide in
-    let the-by-index = the-by-index in
-    let the-divide = the-divide in
-    let far-1 = c in
-    let the-binary-search-sigma = far-1.before.before.before.before.binary-search-sigma in
-    let far-2 = far-1.before.before.before.before.before.before.before.before.before.before.before.before in
-    let the-nearest-row = far-2.before.nearest-row in
-    let c = far-2.before.before.before.before.before.before.before.before.before.before.before in
-    let told = row_done _ _ _ _ _ _ c.requires.i_lt_n.0 c.requires.i_lt_n.3 _ _ _ _ c.requires.k_in_bounds.2 the-nearest-row.ensures.1.0
-    the-nearest-row.auto.1.1.1.1.1.1.1.0 the-nearest-row.ensures.0 the-nearest-row.ensures.1.1 the-binary-search-sigma.ensures
-    the-binary-search-sigma.auto.1.1.1.0 the-divide.ensures the-divide.auto.shares the-by-index.ensures.weights_after the-by-index.ensures.indices_after in
+    let c = c in
+    let told = row_done _ _ _ _ _ _ c.requires.i_lt_n.0 c.requires.i_lt_n.3 _ _ _ _ c.requires.k_in_bounds.2 c.nearest_row.ensures.row_values_after
+    c.nearest_row.auto.row_values c.nearest_row.ensures.weights_after c.nearest_row.ensures.row_indices_after c.binary_search_sigma.ensures
+    c.binary_search_sigma.auto.shares c.divide.ensures c.divide.auto.shares c.by_index.ensures.weights_after c.by_index.ensures.indices_after in
     record { weights_after = told.0; indices_after = told.1.0; row_values_after = told.1.1.0; row_indices_after = told.1.1.1; }

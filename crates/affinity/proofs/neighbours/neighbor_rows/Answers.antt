@@ -41,8 +41,7 @@ slice_bounds-neighbor_row-count c =
 
 pub offset_bounds-indices-a : goal.offset_bounds-indices-a
 offset_bounds-indices-a c =
-    let the-loop = c.loop-i in
-    omega (arith, (row_in the-loop.i c.args.n c.args.k _ c.loop-i-test.true c.requires.k_in_bounds.0))
+    omega (arith, (row_in c.loop-i.i c.args.n c.args.k _ c.loop-i-test.true c.requires.k_in_bounds.0))
 
 pub slice_bounds-neighbor_row-count-in-loop-i : goal.slice_bounds-neighbor_row-count-in-loop-i
 slice_bounds-neighbor_row-count-in-loop-i c =
@@ -61,47 +60,40 @@ slice_bounds-neighbor_row-count-in-loop-i c =
 
 pub neighbor_row-requires : goal.neighbor_row-requires
 neighbor_row-requires c =
-    let the-loop-test = c.loop-i-test in
-    let the-loop = c.loop-i in
-    record { i_lt_n = (the-loop-test.true, c.requires.n_le_most_frames.0, c.requires.n_le_most_frames.1, c.requires.n_le_most_frames.2, c.requires.n_le_most_frames.3, c.requires.n_le_most_frames.4); k_in_bounds = (
-          rw (mid_len (the-loop.i * c.args.k) (the-loop.i * c.args.k + c.args.k) the-loop.weights
-              (rw the-loop.invariant.0.size (row_in the-loop.i c.args.n c.args.k _ the-loop-test.true c.requires.k_in_bounds.0)))
+    record { i_lt_n = (c.loop-i-test.true, c.requires.n_le_most_frames.0, c.requires.n_le_most_frames.1, c.requires.n_le_most_frames.2, c.requires.n_le_most_frames.3, c.requires.n_le_most_frames.4); k_in_bounds = (
+          rw (mid_len (c.loop-i.i * c.args.k) (c.loop-i.i * c.args.k + c.args.k) c.loop-i.weights
+              (rw c.loop-i.invariant.0.size (row_in c.loop-i.i c.args.n c.args.k _ c.loop-i-test.true c.requires.k_in_bounds.0)))
               (omega arith),
-          rw (mid_len (the-loop.i * c.args.k) (the-loop.i * c.args.k + c.args.k) the-loop.indices
-              (rw the-loop.invariant.1.size (row_in the-loop.i c.args.n c.args.k _ the-loop-test.true c.requires.k_in_bounds.1)))
+          rw (mid_len (c.loop-i.i * c.args.k) (c.loop-i.i * c.args.k + c.args.k) c.loop-i.indices
+              (rw c.loop-i.invariant.1.size (row_in c.loop-i.i c.args.n c.args.k _ c.loop-i-test.true c.requires.k_in_bounds.1)))
               (omega arith),
-          rw the-loop.invariant.2 c.requires.k_in_bounds.2,
-          rw the-loop.invariant.4 c.requires.k_in_bounds.3,
+          rw c.loop-i.invariant.2 c.requires.k_in_bounds.2,
+          rw c.loop-i.invariant.4 c.requires.k_in_bounds.3,
         ); squared = c.requires.squared; }
 
 pub overflow_add-i : goal.overflow_add-i
 overflow_add-i c =
-    let the-loop-test = c.loop-i-test in
-    omega (arith, the-loop-test.true, c.requires.n_le_most_frames.0)
+    omega (arith, c.loop-i-test.true, c.requires.n_le_most_frames.0)
 
 pub loop-i-smaller : goal.loop-i-smaller
 loop-i-smaller c =
-    let the-loop-test = c.loop-i-test in
-    omega (arith, the-loop-test.true)
+    omega (arith, c.loop-i-test.true)
 
 pub loop-i-preserved : goal.loop-i-preserved
 loop-i-preserved c =
-    let the-neighbor-row = c.neighbor_row in
-    let the-loop-test = c.loop-i-test in
-    let the-loop = c.loop-i in
     (
       lays-row (λ (x : Pair). x.value) _ _ _ _ _ c.requires.n_le_most_frames.2
-          (the-loop.i * c.args.k + c.args.k - the-loop.i * c.args.k) (omega arith) the-loop-test.true c.requires.k_in_bounds.0
-          the-neighbor-row.auto.weights the-neighbor-row.ensures.weights_after the-loop.invariant.0,
+          (c.loop-i.i * c.args.k + c.args.k - c.loop-i.i * c.args.k) (omega arith) c.loop-i-test.true c.requires.k_in_bounds.0
+          c.neighbor_row.auto.weights c.neighbor_row.ensures.weights_after c.loop-i.invariant.0,
       lays-row (λ (x : Pair). x.index) _ _ _ _ _
-          c.requires.n_le_most_frames.2 (the-loop.i * c.args.k + c.args.k - the-loop.i * c.args.k) (omega arith) the-loop-test.true
-          c.requires.k_in_bounds.1 the-neighbor-row.auto.indices the-neighbor-row.ensures.indices_after the-loop.invariant.1,
-      the-neighbor-row.auto.row_values ∙ the-loop.invariant.2,
-      rw the-neighbor-row.ensures.row_values_after
-          (loop-next the-loop.invariant.3 the-loop-test.true),
-      the-neighbor-row.auto.row_indices ∙ the-loop.invariant.4,
+          c.requires.n_le_most_frames.2 (c.loop-i.i * c.args.k + c.args.k - c.loop-i.i * c.args.k) (omega arith) c.loop-i-test.true
+          c.requires.k_in_bounds.1 c.neighbor_row.auto.indices c.neighbor_row.ensures.indices_after c.loop-i.invariant.1,
+      c.neighbor_row.auto.row_values ∙ c.loop-i.invariant.2,
+      rw c.neighbor_row.ensures.row_values_after
+          (loop-next c.loop-i.invariant.3 c.loop-i-test.true),
+      c.neighbor_row.auto.row_indices ∙ c.loop-i.invariant.4,
       rw
-          the-neighbor-row.ensures.row_indices_after (loop-next the-loop.invariant.5 the-loop-test.true),
+          c.neighbor_row.ensures.row_indices_after (loop-next c.loop-i.invariant.5 c.loop-i-test.true),
     )
 
 pub shape_of-weights : goal.shape_of-weights

@@ -40,32 +40,24 @@ loop-j-init c =
 
 pub loop-j-preserved-then-j-i : goal.loop-j-preserved-then-j-i
 loop-j-preserved-then-j-i c =
-    let the-loop = c.loop-j in
-    writing-mark c.requires (the-loop.j - 1) the-loop.j (omega arith) the-loop.invariant c.if-j-i.true
+    writing-mark c.requires (c.loop-j.j - 1) c.loop-j.j (omega arith) c.loop-j.invariant c.if-j-i.true
 
 pub offset_bounds-row_indices-j : goal.offset_bounds-row_indices-j
 offset_bounds-row_indices-j c =
-    let the-loop = c.loop-j in
-    omega (arith, c.requires.sizes, the-loop.invariant.within, the-loop.invariant.size)
+    omega (arith, c.requires.sizes, c.loop-j.invariant.within, c.loop-j.invariant.size)
 
 pub bounds-row_indices-j : goal.bounds-row_indices-j
 bounds-row_indices-j c =
-    let the-loop = c.loop-j in
-    omega (arith, c.requires.sizes, the-loop.invariant.within, the-loop.invariant.size)
+    omega (arith, c.requires.sizes, c.loop-j.invariant.within, c.loop-j.invariant.size)
 
 pub link_of-link-requires : goal.link_of-link-requires
 link_of-link-requires c =
-    let the-if1 = c.if-j-i in
-    let the-loop = c.loop-j in
-    writing-sought c.requires (the-loop.j - 1) the-loop.j (omega arith) the-loop.invariant the-if1.false
+    writing-sought c.requires (c.loop-j.j - 1) c.loop-j.j (omega arith) c.loop-j.invariant c.if-j-i.false
 
 pub loop-j-preserved-then-not-link : goal.loop-j-preserved-then-not-link
 loop-j-preserved-then-not-link c =
-    let the-link-of = c.link_of-link in
-    let the-if1 = c.if-j-i in
-    let the-loop = c.loop-j in
-    writing_pass c.requires (the-loop.j - 1) the-loop.j (omega arith) the-loop.invariant the-if1.false _ the-link-of.ensures.yes_value _
-    the-link-of.ensures.row_value c.if-not-link.true
+    writing_pass c.requires (c.loop-j.j - 1) c.loop-j.j (omega arith) c.loop-j.invariant c.if-j-i.false _ c.link_of-link.ensures.yes_value _
+    c.link_of-link.ensures.row_value c.if-not-link.true
 
 pub offset_bounds-row_indices-j-in-loop-j : goal.offset_bounds-row_indices-j-in-loop-j
 offset_bounds-row_indices-j-in-loop-j c =
@@ -89,8 +81,7 @@ bounds-weights-q c =
 
 pub overflow_cast-indices : goal.overflow_cast-indices
 overflow_cast-indices c =
-    let the-loop = c.loop-j in
-    omega (arith, c.requires.frame, the-loop.invariant.within)
+    omega (arith, c.requires.frame, c.loop-j.invariant.within)
 
 pub offset_bounds-indices-q : goal.offset_bounds-indices-q
 offset_bounds-indices-q c =
@@ -102,31 +93,24 @@ bounds-indices-q c =
 
 pub loop-j-preserved : goal.loop-j-preserved
 loop-j-preserved c =
-    let the-link-of = c.link_of-link in
-    let the-if1 = c.if-j-i in
-    let the-loop = c.loop-j in
-    writing-next c.requires (the-loop.j - 1) the-loop.j (omega arith) the-loop.invariant the-if1.false _ the-link-of.ensures.yes_value _
-    the-link-of.ensures.row_value c.if-not-link.false _ _ _ refl the-link-of.ensures.weight_value the-link-of.ensures.cursor_value
+    writing-next c.requires (c.loop-j.j - 1) c.loop-j.j (omega arith) c.loop-j.invariant c.if-j-i.false _ c.link_of-link.ensures.yes_value _
+    c.link_of-link.ensures.row_value c.if-not-link.false _ _ _ refl c.link_of-link.ensures.weight_value c.link_of-link.ensures.cursor_value
 
 pub overflow_sub-m : goal.overflow_sub-m
 overflow_sub-m c =
-    let the-loop = c.loop-j in
-    omega (arith, writing-below c.requires (omega arith) the-loop.invariant)
+    omega (arith, writing-below c.requires (omega arith) c.loop-j.invariant)
 
 pub held-requires : goal.held-requires
 held-requires c =
-    let the-loop = c.loop-j in
-    writing-held c.requires (omega arith) the-loop.invariant
+    writing-held c.requires (omega arith) c.loop-j.invariant
 
 pub offset_bounds-row_indices-i-2 : goal.offset_bounds-row_indices-i-2
 offset_bounds-row_indices-i-2 c =
-    let the-loop = c.loop-j in
-    omega (arith, c.requires.frame, c.requires.sizes, the-loop.invariant.size)
+    omega (arith, c.requires.frame, c.requires.sizes, c.loop-j.invariant.size)
 
 pub bounds-row_indices-i-2 : goal.bounds-row_indices-i-2
 bounds-row_indices-i-2 c =
-    let the-loop = c.loop-j in
-    omega (arith, c.requires.frame, c.requires.sizes, the-loop.invariant.size)
+    omega (arith, c.requires.frame, c.requires.sizes, c.loop-j.invariant.size)
 
 pub shape_of-weights : goal.shape_of-weights
 shape_of-weights c =
@@ -138,11 +122,9 @@ shape_of-indices c =
 
 pub shape_of-row_indices : goal.shape_of-row_indices
 shape_of-row_indices c =
-    let the-loop = c.loop-j in
-    length-set the-loop.row_indices _ _ ∙ the-loop.invariant.size
+    length-set c.loop-j.row_indices _ _ ∙ c.loop-j.invariant.size
 
 pub returns : goal.returns
 returns c =
-    let the-loop = c.loop-j in
-    let d = writing-done c.requires (omega arith) the-loop.invariant _ c.held.ensures in
+    let d = writing-done c.requires (omega arith) c.loop-j.invariant _ c.held.ensures in
     record { value = d.0; weights_after = d.1; indices_after = d.2; lowered = d.3; }

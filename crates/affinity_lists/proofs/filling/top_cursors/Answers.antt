@@ -38,8 +38,7 @@ offset_bounds-row_indices-j c =
 
 pub bounds-row_indices-j : goal.bounds-row_indices-j
 bounds-row_indices-j c =
-    let the-loop = c.loop-j in
-    omega (arith, c.requires.3, the-loop.invariant.size)
+    omega (arith, c.requires.3, c.loop-j.invariant.size)
 
 pub overflow_add-j : goal.overflow_add-j
 overflow_add-j c =
@@ -47,8 +46,7 @@ overflow_add-j c =
 
 pub loop-j-preserved : goal.loop-j-preserved
 loop-j-preserved c =
-    let the-loop = c.loop-j in
-    topping-next _ c.requires.3 c.loop-j-test.true c.held.ensures the-loop.invariant
+    topping-next _ c.requires.3 c.loop-j-test.true c.held.ensures c.loop-j.invariant
 
 pub shape_of-row_indices : goal.shape_of-row_indices
 shape_of-row_indices c =

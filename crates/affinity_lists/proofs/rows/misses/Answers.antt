@@ -14,13 +14,11 @@ miss-c-requires c =
 
 pub overflow_add-c : goal.overflow_add-c
 overflow_add-c c =
-    let the-loop = c.loop-t in
-    omega (arith, c.miss-c.ensures, adds-room (miss-le _ _ _ _) c.loop-t-test.true the-loop.invariant)
+    omega (arith, c.miss-c.ensures, adds-room (miss-le _ _ _ _) c.loop-t-test.true c.loop-t.invariant)
 
 pub loop-t-preserved : goal.loop-t-preserved
 loop-t-preserved c =
-    let the-loop = c.loop-t in
-    adds-next c.miss-c.ensures (miss-le _ _ _ _) c.loop-t-test.true the-loop.invariant
+    adds-next c.miss-c.ensures (miss-le _ _ _ _) c.loop-t-test.true c.loop-t.invariant
 
 pub returns : goal.returns
 returns c =

@@ -14,13 +14,11 @@ misses-c-requires c =
 
 pub overflow_add-c : goal.overflow_add-c
 overflow_add-c c =
-    let the-loop = c.loop-j in
-    omega (arith, c.misses-c.ensures, c.requires.1, adds-room (misses-le _ _ _) c.loop-j-test.true the-loop.invariant)
+    omega (arith, c.misses-c.ensures, c.requires.1, adds-room (misses-le _ _ _) c.loop-j-test.true c.loop-j.invariant)
 
 pub loop-j-preserved : goal.loop-j-preserved
 loop-j-preserved c =
-    let the-loop = c.loop-j in
-    adds-next c.misses-c.ensures (misses-le _ _ _) c.loop-j-test.true the-loop.invariant
+    adds-next c.misses-c.ensures (misses-le _ _ _) c.loop-j-test.true c.loop-j.invariant
 
 pub overflow_mul-result : goal.overflow_mul-result
 overflow_mul-result c =

@@ -12,9 +12,7 @@ returns-then-not-all_shares c =
 
 pub all_parts-requires : goal.all_parts-requires
 all_parts-requires c =
-    let the-if1 = c.if-not-all_shares in
-    let the-all-shares = c.all_shares in
-    (c.requires.0, c.requires.1, sym the-all-shares.ensures ∙ the-if1.false)
+    (c.requires.0, c.requires.1, sym c.all_shares.ensures ∙ c.if-not-all_shares.false)
 
 pub add_terms-requires : goal.add_terms-requires
 add_terms-requires c =
@@ -22,11 +20,6 @@ add_terms-requires c =
 
 pub returns : goal.returns
 returns c =
-    let the-all-logs = c.all_logs in
-    let the-all-parts = c.all_parts in
-    let the-if1 = c.if-not-all_shares in
-    let the-all-shares = c.all_shares in
-    let the-shared-slice-known = c.shared_slice_known-1 in
     c.add_terms.ensures ∙ block-added c.args.shares.now c.args.j c.args.c (replicate 32 zero64) (replicate 32 zero64)
-    (replicate 32 zero64) _ _ _ c.requires.1 refl refl refl the-all-parts.ensures.ms_after the-all-parts.ensures.ks_after the-all-logs.ensures
-    (sym the-all-shares.ensures ∙ the-if1.false) (λ t. c.type_inv.shares (c.args.j + t)) _
+    (replicate 32 zero64) _ _ _ c.requires.1 refl refl refl c.all_parts.ensures.ms_after c.all_parts.ensures.ks_after c.all_logs.ensures
+    (sym c.all_shares.ensures ∙ c.if-not-all_shares.false) (λ t. c.type_inv.shares (c.args.j + t)) _

@@ -22,11 +22,10 @@ power_of-requires c =
 
 pub loop-t-preserved : goal.loop-t-preserved
 loop-t-preserved c =
-    let the-held = c.held-v in
-    let the-loop = c.loop-t in (
-      rw (c.digits_of.ensures, the-held.ensures.0) (loop-next the-loop.invariant.0 (omega arith)),
-      rw (c.power_of.ensures, the-held.ensures.0)
-          (loop-next the-loop.invariant.1 (omega arith)),
+    (
+      rw (c.digits_of.ensures, c.held-v.ensures.0) (loop-next c.loop-t.invariant.0 (omega arith)),
+      rw (c.power_of.ensures, c.held-v.ensures.0)
+          (loop-next c.loop-t.invariant.1 (omega arith)),
     )
 
 pub returns : goal.returns

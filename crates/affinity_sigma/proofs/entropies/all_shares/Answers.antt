@@ -11,9 +11,7 @@ loop-t-init c =
 
 pub loop-t-preserved : goal.loop-t-preserved
 loop-t-preserved c =
-    let the-loop-test = c.loop-t-test in
-    let the-loop = c.loop-t in
-    (every-joined _ _ c.and_also-all.ensures the-loop.invariant.0 refl, omega (arith, the-loop-test.true))
+    (every-joined _ _ c.and_also-all.ensures c.loop-t.invariant.0 refl, omega (arith, c.loop-t-test.true))
 
 pub returns : goal.returns
 returns c =

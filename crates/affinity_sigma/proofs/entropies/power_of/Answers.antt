@@ -25,21 +25,18 @@ overflow_cast-result c =
 
 pub overflow_sub-result : goal.overflow_sub-result
 overflow_sub-result c =
-    let the-field-of = c.field_of-x in
-    rw (to_z-of_z w32 (pos (the-field-of.result + 1)) (field-signed _ (omega (arith, the-field-of.ensures.1))))
-    (power-fits (the-field-of.result + 1) (omega (arith, the-field-of.ensures.1)))
+    rw (to_z-of_z w32 (pos (c.field_of-x.result + 1)) (field-signed _ (omega (arith, c.field_of-x.ensures.1))))
+    (power-fits (c.field_of-x.result + 1) (omega (arith, c.field_of-x.ensures.1)))
 
 pub returns-then-m : goal.returns-then-m
 returns-then-m c =
-    let the-unit-of = c.unit_of-m in
-    let the-field-of = c.field_of-x in
     rw (
-      to_z-of_z w32 (pos (the-field-of.result + 1)) (field-signed _ (omega (arith, the-field-of.ensures.1))),
+      to_z-of_z w32 (pos (c.field_of-x.result + 1)) (field-signed _ (omega (arith, c.field_of-x.ensures.1))),
       to_z-of_z w32
-          (pos (the-field-of.result + 1) -ℤ pos 1023) (power-fits (the-field-of.result + 1) (omega (arith, the-field-of.ensures.1))),
-      the-field-of.ensures.0,
+          (pos (c.field_of-x.result + 1) -ℤ pos 1023) (power-fits (c.field_of-x.result + 1) (omega (arith, c.field_of-x.ensures.1))),
+      c.field_of-x.ensures.0,
       rw
-          the-unit-of.ensures at c.if-m.true,
+          c.unit_of-m.ensures at c.if-m.true,
     )
 
 pub overflow_cast-result-2 : goal.overflow_cast-result-2
@@ -48,19 +45,16 @@ overflow_cast-result-2 c =
 
 pub overflow_sub-result-2 : goal.overflow_sub-result-2
 overflow_sub-result-2 c =
-    let the-field-of = c.field_of-x in
-    rw (to_z-of_z w32 (pos the-field-of.result) (field-signed _ (omega (arith, the-field-of.ensures.1))))
-    (power-fits the-field-of.result (omega (arith, the-field-of.ensures.1)))
+    rw (to_z-of_z w32 (pos c.field_of-x.result) (field-signed _ (omega (arith, c.field_of-x.ensures.1))))
+    (power-fits c.field_of-x.result (omega (arith, c.field_of-x.ensures.1)))
 
 pub returns : goal.returns
 returns c =
-    let the-unit-of = c.unit_of-m in
-    let the-field-of = c.field_of-x in
     rw (
-      to_z-of_z w32 (pos the-field-of.result) (field-signed _ (omega (arith, the-field-of.ensures.1))),
+      to_z-of_z w32 (pos c.field_of-x.result) (field-signed _ (omega (arith, c.field_of-x.ensures.1))),
       to_z-of_z w32
-          (pos the-field-of.result -ℤ pos 1023) (power-fits the-field-of.result (omega (arith, the-field-of.ensures.1))),
-      the-field-of.ensures.0,
+          (pos c.field_of-x.result -ℤ pos 1023) (power-fits c.field_of-x.result (omega (arith, c.field_of-x.ensures.1))),
+      c.field_of-x.ensures.0,
       rw
-          the-unit-of.ensures at c.if-m.false,
+          c.unit_of-m.ensures at c.if-m.false,
     )

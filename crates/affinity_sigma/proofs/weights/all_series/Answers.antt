@@ -13,8 +13,7 @@ rest-requires c =
 
 pub loop-t-preserved : goal.loop-t-preserved
 loop-t-preserved c =
-    let the-loop = c.loop-t in
-    rw (c.series_at.ensures, c.rest.ensures) (loop-next the-loop.invariant (omega arith))
+    rw (c.series_at.ensures, c.rest.ensures) (loop-next c.loop-t.invariant (omega arith))
 
 pub returns : goal.returns
 returns c =

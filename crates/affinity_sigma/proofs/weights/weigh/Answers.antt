@@ -14,35 +14,29 @@ overflow_sub-n c =
 
 pub weigh_block-requires : goal.weigh_block-requires
 weigh_block-requires c =
-    let the-loop = c.loop-j in
     (
       omega (arith, c.requires.0, c.loop-j-test.true),
-      omega (arith, c.requires.1, the-loop.invariant.0, c.loop-j-test.true),
+      omega (arith, c.requires.1, c.loop-j.invariant.0, c.loop-j-test.true),
       omega
           arith,
     )
 
 pub loop-j-preserved : goal.loop-j-preserved
 loop-j-preserved c =
-    let the-weigh-block = c.weigh_block in
-    let the-loop = c.loop-j in
-    (the-weigh-block.auto.shares ∙ the-loop.invariant.0, rw the-weigh-block.ensures (loop-on 32 the-loop.invariant.1 (omega arith)))
+    (c.weigh_block.auto.shares ∙ c.loop-j.invariant.0, rw c.weigh_block.ensures (loop-on 32 c.loop-j.invariant.1 (omega arith)))
 
 pub weigh_block-requires-2 : goal.weigh_block-requires-2
 weigh_block-requires-2 c =
-    let the-loop = c.loop-j in
     (
-      omega (arith, c.requires.0, the-loop.invariant.1.within),
-      omega (arith, c.requires.1, the-loop.invariant.0, the-loop.invariant.1.within),
+      omega (arith, c.requires.0, c.loop-j.invariant.1.within),
+      omega (arith, c.requires.1, c.loop-j.invariant.0, c.loop-j.invariant.1.within),
       omega
           (arith, c.loop-j-test.false),
     )
 
 pub shape_of-shares : goal.shape_of-shares
 shape_of-shares c =
-    let the-weigh-block2 = c.weigh_block-2 in
-    let the-loop = c.loop-j in
-    the-weigh-block2.auto.shares ∙ the-loop.invariant.0
+    c.weigh_block-2.auto.shares ∙ c.loop-j.invariant.0
 
 pub returns : goal.returns
 returns c =

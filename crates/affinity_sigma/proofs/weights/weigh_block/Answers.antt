@@ -11,42 +11,26 @@ returns-then-not-all_in_reach c =
 
 pub all_halvings-requires : goal.all_halvings-requires
 all_halvings-requires c =
-    let the-if1 = c.if-not-all_in_reach in
-    let the-all-in-reach = c.all_in_reach in
-    sym the-all-in-reach.ensures ∙ the-if1.false
+    sym c.all_in_reach.ensures ∙ c.if-not-all_in_reach.false
 
 pub all_series-requires : goal.all_series-requires
 all_series-requires c =
-    let the-all-halvings = c.all_halvings in
-    let the-if1 = c.if-not-all_in_reach in
-    let the-all-in-reach = c.all_in_reach in
-    let the-exponents = c.exponents in
     block-few c.args.distances.now c.args.j c.args.c c.args.sigma (replicate 32 zero64) _ (replicate 32 0) _
-    c.requires.2 refl refl the-exponents.ensures the-all-halvings.ensures (sym the-all-in-reach.ensures ∙ the-if1.false)
+    c.requires.2 refl refl c.exponents.ensures c.all_halvings.ensures (sym c.all_in_reach.ensures ∙ c.if-not-all_in_reach.false)
 
 pub lay_halved-requires : goal.lay_halved-requires
 lay_halved-requires c =
-    let the-all-halvings = c.all_halvings in
-    let the-if1 = c.if-not-all_in_reach in
-    let the-all-in-reach = c.all_in_reach in
-    let the-exponents = c.exponents in
     (
       c.requires.0,
       c.requires.1,
       c.requires.2,
       block-few c.args.distances.now c.args.j c.args.c
-          c.args.sigma (replicate 32 zero64) _ (replicate 32 0) _ c.requires.2 refl refl the-exponents.ensures the-all-halvings.ensures
-          (sym the-all-in-reach.ensures ∙ the-if1.false),
+          c.args.sigma (replicate 32 zero64) _ (replicate 32 0) _ c.requires.2 refl refl c.exponents.ensures c.all_halvings.ensures
+          (sym c.all_in_reach.ensures ∙ c.if-not-all_in_reach.false),
     )
 
 pub returns : goal.returns
 returns c =
-    let the-lay-halved = c.lay_halved in
-    let the-all-series = c.all_series in
-    let the-all-halvings = c.all_halvings in
-    let the-if1 = c.if-not-all_in_reach in
-    let the-all-in-reach = c.all_in_reach in
-    let the-exponents = c.exponents in
-    the-lay-halved.ensures ∙ block-weighed c.args.distances.now c.args.j c.args.c c.args.sigma
-    (replicate 32 zero64) _ (replicate 32 0) _ c.requires.2 refl refl the-exponents.ensures the-all-halvings.ensures
-    (sym the-all-in-reach.ensures ∙ the-if1.false) (replicate 32 zero64) _ refl the-all-series.ensures _
+    c.lay_halved.ensures ∙ block-weighed c.args.distances.now c.args.j c.args.c c.args.sigma
+    (replicate 32 zero64) _ (replicate 32 0) _ c.requires.2 refl refl c.exponents.ensures c.all_halvings.ensures
+    (sym c.all_in_reach.ensures ∙ c.if-not-all_in_reach.false) (replicate 32 zero64) _ refl c.all_series.ensures _

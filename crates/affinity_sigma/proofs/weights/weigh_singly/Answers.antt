@@ -13,8 +13,7 @@ loop-t-init c =
 
 pub loop-t-preserved : goal.loop-t-preserved
 loop-t-preserved c =
-    let the-loop = c.loop-t in
-    (search rules, rw c.weight.ensures (loop-next the-loop.invariant.1 (omega arith)))
+    (search rules, rw c.weight.ensures (loop-next c.loop-t.invariant.1 (omega arith)))
 
 pub returns : goal.returns
 returns c =

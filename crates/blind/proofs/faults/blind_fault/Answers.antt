@@ -19,43 +19,29 @@ times-nf-requires c =
 pub returns-then-table-nf : goal.returns-then-table-nf
 unfolding blind_fault
 returns-then-table-nf c =
-    let the-if1 = c.if-e-ne0 in
-    let the-size-fault = c.size_fault-e in
-    rw ((sym the-size-fault.ensures ∙ the-if1.false), ne_eqb _ _ (rw c.times-nf.ensures at c.if-table-nf.true))
+    rw ((sym c.size_fault-e.ensures ∙ c.if-e-ne0.false), ne_eqb _ _ (rw c.times-nf.ensures at c.if-table-nf.true))
 
 pub returns-then-not-table_fine : goal.returns-then-not-table_fine
 unfolding blind_fault
 returns-then-not-table_fine c =
-    let the-if2 = c.if-table-nf in
-    let the-times = c.times-nf in
-    let the-if1 = c.if-e-ne0 in
-    let the-size-fault = c.size_fault-e in
     rw (
-      (sym the-size-fault.ensures ∙ the-if1.false),
-      (eq-eqb _ _ (rw the-times.ensures at the-if2.false)),
+      (sym c.size_fault-e.ensures ∙ c.if-e-ne0.false),
+      (eq-eqb _ _ (rw c.times-nf.ensures at c.if-table-nf.false)),
       sym
-          (rw the-times.ensures at c.table_fine.ensures) ∙ c.if-not-table_fine.true,
+          (rw c.times-nf.ensures at c.table_fine.ensures) ∙ c.if-not-table_fine.true,
     )
 
 pub late_fault-t-requires : goal.late_fault-t-requires
 late_fault-t-requires c =
-    let the-if1 = c.if-e-ne0 in
-    let the-size-fault = c.size_fault-e in
-    (sizes-pass _ (sym the-size-fault.ensures ∙ the-if1.false)).n-in.1
+    (sizes-pass _ (sym c.size_fault-e.ensures ∙ c.if-e-ne0.false)).n-in.1
 
 pub returns-then-t-ne0 : goal.returns-then-t-ne0
 unfolding blind_fault
 returns-then-t-ne0 c =
-    let the-if3 = c.if-not-table_fine in
-    let the-table-fine = c.table_fine in
-    let the-if2 = c.if-table-nf in
-    let the-times = c.times-nf in
-    let the-if1 = c.if-e-ne0 in
-    let the-size-fault = c.size_fault-e in
     rw (
-      (sym the-size-fault.ensures ∙ the-if1.false),
-      (eq-eqb _ _ (rw the-times.ensures at the-if2.false)),
-      (sym (rw the-times.ensures at the-table-fine.ensures) ∙ the-if3.false),
+      (sym c.size_fault-e.ensures ∙ c.if-e-ne0.false),
+      (eq-eqb _ _ (rw c.times-nf.ensures at c.if-table-nf.false)),
+      (sym (rw c.times-nf.ensures at c.table_fine.ensures) ∙ c.if-not-table_fine.false),
       ne_eqb _ _
           (rw c.late_fault-t.ensures at c.if-t-ne0.true),
     ) c.late_fault-t.ensures
@@ -63,19 +49,11 @@ returns-then-t-ne0 c =
 pub returns-then-rows_fit : goal.returns-then-rows_fit
 unfolding blind_fault
 returns-then-rows_fit c =
-    let the-if4 = c.if-t-ne0 in
-    let the-late-fault = c.late_fault-t in
-    let the-if3 = c.if-not-table_fine in
-    let the-table-fine = c.table_fine in
-    let the-if2 = c.if-table-nf in
-    let the-times = c.times-nf in
-    let the-if1 = c.if-e-ne0 in
-    let the-size-fault = c.size_fault-e in
     rw (
-      (sym the-size-fault.ensures ∙ the-if1.false),
-      (eq-eqb _ _ (rw the-times.ensures at the-if2.false)),
-      (sym (rw the-times.ensures at the-table-fine.ensures) ∙ the-if3.false),
-      (sym the-late-fault.ensures ∙ the-if4.false),
+      (sym c.size_fault-e.ensures ∙ c.if-e-ne0.false),
+      (eq-eqb _ _ (rw c.times-nf.ensures at c.if-table-nf.false)),
+      (sym (rw c.times-nf.ensures at c.table_fine.ensures) ∙ c.if-not-table_fine.false),
+      (sym c.late_fault-t.ensures ∙ c.if-t-ne0.false),
       sym
           c.rows_fit.ensures ∙ c.if-rows_fit.true,
     )
@@ -83,19 +61,11 @@ returns-then-rows_fit c =
 pub returns : goal.returns
 unfolding blind_fault
 returns c =
-    let the-if4 = c.if-t-ne0 in
-    let the-late-fault = c.late_fault-t in
-    let the-if3 = c.if-not-table_fine in
-    let the-table-fine = c.table_fine in
-    let the-if2 = c.if-table-nf in
-    let the-times = c.times-nf in
-    let the-if1 = c.if-e-ne0 in
-    let the-size-fault = c.size_fault-e in
     rw (
-      (sym the-size-fault.ensures ∙ the-if1.false),
-      (eq-eqb _ _ (rw the-times.ensures at the-if2.false)),
-      (sym (rw the-times.ensures at the-table-fine.ensures) ∙ the-if3.false),
-      (sym the-late-fault.ensures ∙ the-if4.false),
+      (sym c.size_fault-e.ensures ∙ c.if-e-ne0.false),
+      (eq-eqb _ _ (rw c.times-nf.ensures at c.if-table-nf.false)),
+      (sym (rw c.times-nf.ensures at c.table_fine.ensures) ∙ c.if-not-table_fine.false),
+      (sym c.late_fault-t.ensures ∙ c.if-t-ne0.false),
       sym
           c.rows_fit.ensures ∙ c.if-rows_fit.false,
     )

@@ -16,11 +16,9 @@ returns-then-values-n c =
 pub returns-then-shares-n : goal.returns-then-shares-n
 unfolding rows_fit
 returns-then-shares-n c =
-    let the-if1 = c.if-squares-n in
-    simp (le-leb _ _ the-if1.false, le-leb _ _ c.if-values-n.false, lt-leb _ _ c.if-shares-n.true)
+    simp (le-leb _ _ c.if-squares-n.false, le-leb _ _ c.if-values-n.false, lt-leb _ _ c.if-shares-n.true)
 
 pub returns : goal.returns
 unfolding rows_fit
 returns c =
-    let the-if1 = c.if-squares-n in
-    simp (le-leb _ _ the-if1.false, le-leb _ _ c.if-values-n.false, le-leb _ _ c.if-shares-n.false)
+    simp (le-leb _ _ c.if-squares-n.false, le-leb _ _ c.if-values-n.false, le-leb _ _ c.if-shares-n.false)

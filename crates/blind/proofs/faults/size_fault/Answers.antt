@@ -12,55 +12,36 @@ returns-then-not-is_positive c =
 pub returns-then-s-eq0 : goal.returns-then-s-eq0
 unfolding size_fault
 returns-then-s-eq0 c =
-    let the-if1 = c.if-not-is_positive in
-    let the-is-positive = c.is_positive in
-    simp ((sym the-is-positive.ensures ∙ the-if1.false), eq-eqb _ _ c.if-s-eq0.true)
+    simp ((sym c.is_positive.ensures ∙ c.if-not-is_positive.false), eq-eqb _ _ c.if-s-eq0.true)
 
 pub returns-then-s-gt-MOST_FRAMES : goal.returns-then-s-gt-MOST_FRAMES
 unfolding size_fault
 returns-then-s-gt-MOST_FRAMES c =
-    let the-if2 = c.if-s-eq0 in
-    let the-if1 = c.if-not-is_positive in
-    let the-is-positive = c.is_positive in
-    simp ((sym the-is-positive.ensures ∙ the-if1.false), ne_eqb _ _ the-if2.false, lt-ltb _ _ c.if-s-gt-MOST_FRAMES.true)
+    simp ((sym c.is_positive.ensures ∙ c.if-not-is_positive.false), ne_eqb _ _ c.if-s-eq0.false, lt-ltb _ _ c.if-s-gt-MOST_FRAMES.true)
 
 pub returns-then-s-eq0-2 : goal.returns-then-s-eq0-2
 unfolding size_fault
 returns-then-s-eq0-2 c =
-    let the-if3 = c.if-s-gt-MOST_FRAMES in
-    let the-if2 = c.if-s-eq0 in
-    let the-if1 = c.if-not-is_positive in
-    let the-is-positive = c.is_positive in
-    simp ((sym the-is-positive.ensures ∙ the-if1.false), ne_eqb _ _ the-if2.false, le-ltb _ _ the-if3.false, eq-eqb _ _ c.if-s-eq0-2.true)
+    simp ((sym c.is_positive.ensures ∙ c.if-not-is_positive.false), ne_eqb _ _ c.if-s-eq0.false, le-ltb _ _ c.if-s-gt-MOST_FRAMES.false, eq-eqb _ _ c.if-s-eq0-2.true)
 
 pub returns-then-s-gt-MOST_FEATURES : goal.returns-then-s-gt-MOST_FEATURES
 unfolding size_fault
 returns-then-s-gt-MOST_FEATURES c =
-    let the-if4 = c.if-s-eq0-2 in
-    let the-if3 = c.if-s-gt-MOST_FRAMES in
-    let the-if2 = c.if-s-eq0 in
-    let the-if1 = c.if-not-is_positive in
-    let the-is-positive = c.is_positive in
     simp (
-      (sym the-is-positive.ensures ∙ the-if1.false),
-      ne_eqb _ _ the-if2.false,
-      le-ltb _ _ the-if3.false,
-      ne_eqb _ _ the-if4.false,
+      (sym c.is_positive.ensures ∙ c.if-not-is_positive.false),
+      ne_eqb _ _ c.if-s-eq0.false,
+      le-ltb _ _ c.if-s-gt-MOST_FRAMES.false,
+      ne_eqb _ _ c.if-s-eq0-2.false,
       lt-ltb _ _ c.if-s-gt-MOST_FEATURES.true,
     )
 
 pub returns : goal.returns
 unfolding size_fault
 returns c =
-    let the-if4 = c.if-s-eq0-2 in
-    let the-if3 = c.if-s-gt-MOST_FRAMES in
-    let the-if2 = c.if-s-eq0 in
-    let the-if1 = c.if-not-is_positive in
-    let the-is-positive = c.is_positive in
     simp (
-      (sym the-is-positive.ensures ∙ the-if1.false),
-      ne_eqb _ _ the-if2.false,
-      le-ltb _ _ the-if3.false,
-      ne_eqb _ _ the-if4.false,
+      (sym c.is_positive.ensures ∙ c.if-not-is_positive.false),
+      ne_eqb _ _ c.if-s-eq0.false,
+      le-ltb _ _ c.if-s-gt-MOST_FRAMES.false,
+      ne_eqb _ _ c.if-s-eq0-2.false,
       le-ltb _ _ c.if-s-gt-MOST_FEATURES.false,
     )

@@ -12,13 +12,11 @@ loop-i-init c =
 
 pub returns-then-not-in_domain : goal.returns-then-not-in_domain
 returns-then-not-in_domain c =
-    let the-loop-test = c.loop-i-test in
-    sym (every-no _ _ _ the-loop-test.true (sym c.in_domain.ensures ∙ c.if-not-in_domain.true))
+    sym (every-no _ _ _ c.loop-i-test.true (sym c.in_domain.ensures ∙ c.if-not-in_domain.true))
 
 pub loop-i-preserved : goal.loop-i-preserved
 loop-i-preserved c =
-    let the-loop = c.loop-i in
-    (search rules, every-next _ _ the-loop.invariant.1 (sym c.in_domain.ensures ∙ c.if-not-in_domain.false))
+    (search rules, every-next _ _ c.loop-i.invariant.1 (sym c.in_domain.ensures ∙ c.if-not-in_domain.false))
 
 pub returns : goal.returns
 returns c =

@@ -11,13 +11,11 @@ loop-j-init c =
 
 pub returns-then-not-is_zero : goal.returns-then-not-is_zero
 returns-then-not-is_zero c =
-    let the-loop-test = c.loop-j-test in
-    sym (every-no _ _ _ the-loop-test.true (sym c.is_zero.ensures ∙ c.if-not-is_zero.true))
+    sym (every-no _ _ _ c.loop-j-test.true (sym c.is_zero.ensures ∙ c.if-not-is_zero.true))
 
 pub loop-j-preserved : goal.loop-j-preserved
 loop-j-preserved c =
-    let the-loop = c.loop-j in
-    (search rules, every-next _ _ the-loop.invariant.1 (sym c.is_zero.ensures ∙ c.if-not-is_zero.false))
+    (search rules, every-next _ _ c.loop-j.invariant.1 (sym c.is_zero.ensures ∙ c.if-not-is_zero.false))
 
 pub returns : goal.returns
 returns c =

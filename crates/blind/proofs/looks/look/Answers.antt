@@ -10,12 +10,11 @@ neighbours-k-requires c =
 
 pub look_near-requires : goal.look_near-requires
 look_near-requires c =
-    let the-neighbours = c.neighbours-k in
     record { i_lt_n = (
         c.requires.i_lt_n.0,
         c.requires.sight_room.n-most,
-        k-some _ _ _ the-neighbours.ensures,
-        k-below _ _ _ the-neighbours.ensures
+        k-some _ _ _ c.neighbours-k.ensures,
+        k-below _ _ _ c.neighbours-k.ensures
             c.requires.sight_room.n-some,
         c.requires.sight_room.table-in,
         c.requires.sight_room.squares-in,
@@ -23,11 +22,7 @@ look_near-requires c =
 
 pub returns-then-is_tree : goal.returns-then-is_tree
 returns-then-is_tree c =
-    let the-look-near = c.look_near in
-    let the-neighbours = c.neighbours-k in
-    let the-if1 = c.if-is_tree in
-    let the-is-tree = c.is_tree in
-    record { blind_value = sees-tree _ _ _ the-neighbours.ensures (sym the-is-tree.ensures ∙ the-if1.true) the-look-near.ensures.blind_value; kept_past = the-look-near.ensures.kept_past; }
+    record { blind_value = sees-tree _ _ _ c.neighbours-k.ensures (sym c.is_tree.ensures ∙ c.if-is_tree.true) c.look_near.ensures.blind_value; kept_past = c.look_near.ensures.kept_past; }
 
 pub look_all-requires : goal.look_all-requires
 look_all-requires c =
@@ -35,7 +30,4 @@ look_all-requires c =
 
 pub returns : goal.returns
 returns c =
-    let the-look-all = c.look_all in
-    let the-if1 = c.if-is_tree in
-    let the-is-tree = c.is_tree in
-    record { blind_value = sees-exact _ _ _ (sym the-is-tree.ensures ∙ the-if1.false) the-look-all.ensures.blind_value; kept_past = (the-look-all.ensures.kept_past.0, the-look-all.ensures.kept_past.1, kept-untouched); }
+    record { blind_value = sees-exact _ _ _ (sym c.is_tree.ensures ∙ c.if-is_tree.false) c.look_all.ensures.blind_value; kept_past = (c.look_all.ensures.kept_past.0, c.look_all.ensures.kept_past.1, kept-untouched); }

@@ -8,18 +8,15 @@ distance_row-requires c =
 
 pub all_at_zero-alone-requires : goal.all_at_zero-alone-requires
 all_at_zero-alone-requires c =
-    let the-distance-row = c.distance_row in
-    rw the-distance-row.auto.row c.requires.n_in_bounds.0
+    rw c.distance_row.auto.row c.requires.n_in_bounds.0
 
 pub search_sigma-sum-requires : goal.search_sigma-sum-requires
 search_sigma-sum-requires c =
-    let the-distance-row = c.distance_row in
-    (rw the-distance-row.auto.row c.requires.n_in_bounds.0, c.requires.n_in_bounds.1, c.requires.i_lt_n.1)
+    (rw c.distance_row.auto.row c.requires.n_in_bounds.0, c.requires.n_in_bounds.1, c.requires.i_lt_n.1)
 
 pub shape_of-row_values : goal.shape_of-row_values
 shape_of-row_values c =
-    let the-distance-row = c.distance_row in
-    the-distance-row.auto.row
+    c.distance_row.auto.row
 
 pub shape_of-row_shares : goal.shape_of-row_shares
 shape_of-row_shares c =
@@ -27,9 +24,6 @@ shape_of-row_shares c =
 
 pub returns : goal.returns
 returns c =
-    let the-search-sigma = c.search_sigma-sum in
-    let the-all-at-zero = c.all_at_zero-alone in
-    let the-distance-row = c.distance_row in
-    record { blind_value = all_seen _ _ _ _ c.requires.i_lt_n.0 _ _ _ c.requires.n_in_bounds.0 c.requires.n_in_bounds.1 the-distance-row.ensures
-          the-search-sigma.ensures.value c.too_small-blind.ensures the-all-at-zero.ensures; kept_past = all-tails _ _ _ _ c.requires.i_lt_n.0 _ _ _ c.requires.n_in_bounds.0
-          c.requires.n_in_bounds.1 the-distance-row.ensures the-search-sigma.auto.shares the-search-sigma.ensures.shares_after; }
+    record { blind_value = all_seen _ _ _ _ c.requires.i_lt_n.0 _ _ _ c.requires.n_in_bounds.0 c.requires.n_in_bounds.1 c.distance_row.ensures
+          c.search_sigma-sum.ensures.value c.too_small-blind.ensures c.all_at_zero-alone.ensures; kept_past = all-tails _ _ _ _ c.requires.i_lt_n.0 _ _ _ c.requires.n_in_bounds.0
+          c.requires.n_in_bounds.1 c.distance_row.ensures c.search_sigma-sum.auto.shares c.search_sigma-sum.ensures.shares_after; }

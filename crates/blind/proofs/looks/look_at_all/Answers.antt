@@ -14,41 +14,31 @@ loop-i-init c =
 
 pub look-l-requires : goal.look-l-requires
 look-l-requires c =
-    let the-loop-test = c.loop-i-test in
-    let the-loop = c.loop-i in
-    record { i_lt_n = (the-loop-test.true, c.requires.squared); sight_room = room-kept c.requires.sight_room the-loop.invariant.2.size the-loop.invariant.3.size the-loop.invariant.4.size; }
+    record { i_lt_n = (c.loop-i-test.true, c.requires.squared); sight_room = room-kept c.requires.sight_room c.loop-i.invariant.2.size c.loop-i.invariant.3.size c.loop-i.invariant.4.size; }
 
 pub overflow_add-blind : goal.overflow_add-blind
 overflow_add-blind c =
-    let the-look = c.look-l in
-    let the-loop-test = c.loop-i-test in
-    let the-loop = c.loop-i in
-    let e = c.one_if-blind.ensures ∙ ap bit the-look.ensures.blind_value.0 in
-    let m = adds-room (bit_le _) the-loop-test.true the-loop.invariant.0 in
+    let e = c.one_if-blind.ensures ∙ ap bit c.look-l.ensures.blind_value.0 in
+    let m = adds-room (bit_le _) c.loop-i-test.true c.loop-i.invariant.0 in
     omega (arith, e, m, c.requires.sight_room.n-most)
 
 pub overflow_add-alone : goal.overflow_add-alone
 overflow_add-alone c =
-    let the-look = c.look-l in
-    let the-loop-test = c.loop-i-test in
-    let the-loop = c.loop-i in
-    let e = c.one_if-alone.ensures ∙ ap bit the-look.ensures.blind_value.1 in
-    let m = adds-room (bit_le _) the-loop-test.true the-loop.invariant.1 in
+    let e = c.one_if-alone.ensures ∙ ap bit c.look-l.ensures.blind_value.1 in
+    let m = adds-room (bit_le _) c.loop-i-test.true c.loop-i.invariant.1 in
     omega (arith, e, m, c.requires.sight_room.n-most)
 
 pub loop-i-preserved : goal.loop-i-preserved
 loop-i-preserved c =
-    let the-look = c.look-l in
-    let the-loop-test = c.loop-i-test in
-    let the-loop = c.loop-i in (
-      adds-next (c.one_if-blind.ensures ∙ ap bit the-look.ensures.blind_value.0) (bit_le _) the-loop-test.true the-loop.invariant.0,
+    (
+      adds-next (c.one_if-blind.ensures ∙ ap bit c.look-l.ensures.blind_value.0) (bit_le _) c.loop-i-test.true c.loop-i.invariant.0,
       adds-next
-          (c.one_if-alone.ensures ∙ ap bit the-look.ensures.blind_value.1) (bit_le _) the-loop-test.true the-loop.invariant.1,
-      scratch-kept the-look.auto.row_values
-          the-look.ensures.kept_past.0 the-loop.invariant.2,
-      scratch-kept the-look.auto.row_shares the-look.ensures.kept_past.1 the-loop.invariant.3,
+          (c.one_if-alone.ensures ∙ ap bit c.look-l.ensures.blind_value.1) (bit_le _) c.loop-i-test.true c.loop-i.invariant.1,
+      scratch-kept c.look-l.auto.row_values
+          c.look-l.ensures.kept_past.0 c.loop-i.invariant.2,
+      scratch-kept c.look-l.auto.row_shares c.look-l.ensures.kept_past.1 c.loop-i.invariant.3,
       scratch-kept
-          the-look.auto.row_indices the-look.ensures.kept_past.2 the-loop.invariant.4,
+          c.look-l.auto.row_indices c.look-l.ensures.kept_past.2 c.loop-i.invariant.4,
     )
 
 pub shape_of-row_values : goal.shape_of-row_values

@@ -10,9 +10,7 @@ loop-e-init c =
 
 pub loop-e-preserved : goal.loop-e-preserved
 loop-e-preserved c =
-    let the-gradient-at = c.gradient_at-g in
-    let the-loop = c.loop-e in
-    rw (c.unless_above-w.ensures, c.absolute.ensures, the-gradient-at.ensures) (loop-next the-loop.invariant (omega arith))
+    rw (c.unless_above-w.ensures, c.absolute.ensures, c.gradient_at-g.ensures) (loop-next c.loop-e.invariant (omega arith))
 
 pub returns : goal.returns
 unfolding norm_of

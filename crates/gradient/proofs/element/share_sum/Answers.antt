@@ -35,10 +35,9 @@ offset_bounds-forces-i c =
 
 pub bounds-forces-i : goal.bounds-forces-i
 bounds-forces-i c =
-    let the-loop = c.loop-i in
     omega (
       arith,
-      (row_in the-loop.i c.args.n (2 * c.args.c + 1) (length c.args.forces.now) c.loop-i-test.true
+      (row_in c.loop-i.i c.args.n (2 * c.args.c + 1) (length c.args.forces.now) c.loop-i-test.true
           c.requires.1),
     )
 

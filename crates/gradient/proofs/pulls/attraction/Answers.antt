@@ -10,8 +10,7 @@ point-p-requires c =
 
 pub follow_all-requires : goal.follow_all-requires
 follow_all-requires c =
-    let the-wide = c.wide-a in
-    rw (c.wide-e.ensures, the-wide.ensures) record { axes = (
+    rw (c.wide-e.ensures, c.wide-a.ensures) record { axes = (
         c.requires.axes.0,
         c.requires.axes.2,
         omega (arith, c.requires.linked.rises, c.requires.linked.weights),
@@ -22,6 +21,4 @@ follow_all-requires c =
 pub returns : goal.returns
 unfolding attraction_of
 returns c =
-    let the-wide = c.wide-a in
-    let the-point = c.point-p in
-    rw (c.follow_all.ensures, c.wide-e.ensures, the-wide.ensures, the-point.ensures)
+    rw (c.follow_all.ensures, c.wide-e.ensures, c.wide-a.ensures, c.point-p.ensures)

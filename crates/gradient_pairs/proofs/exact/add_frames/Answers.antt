@@ -10,8 +10,7 @@ loop-k-init c =
 
 pub add_frame-y-requires : goal.add_frame-y-requires
 add_frame-y-requires c =
-    let b = c in
-    (b.requires.0, row_in _ b.args.n b.args.c _ (omega (arith, b.requires.1, c.loop-k-test.true)) b.requires.2)
+    (c.requires.0, row_in _ c.args.n c.args.c _ (omega (arith, c.requires.1, c.loop-k-test.true)) c.requires.2)
 
 pub loop-k-preserved : goal.loop-k-preserved
 loop-k-preserved c =

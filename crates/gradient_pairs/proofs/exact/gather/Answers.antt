@@ -10,8 +10,7 @@ loop-j-init c =
 
 pub loop-j-preserved : goal.loop-j-preserved
 loop-j-preserved c =
-    let the-loop = c.loop-j in
-    rw c.gather_some-y.ensures (loop-on _ the-loop.invariant c.together-m.ensures.2)
+    rw c.gather_some-y.ensures (loop-on _ c.loop-j.invariant c.together-m.ensures.2)
 
 pub returns : goal.returns
 unfolding pulls_of

@@ -13,10 +13,6 @@ add_frames-requires c =
 
 pub returns : goal.returns
 returns c =
-    let the-lay-weights = c.lay_weights in
-    let the-lay-nums = c.lay_nums in
-    let b = c in
-    let a = b.args in
-    c.add_frames.ensures ∙ rw (the-lay-weights.ensures, the-lay-nums.ensures)
-    (gathered-in-parts a.positions.now a.affinities.now a.exaggeration a.total a.n a.c a.i a.j a.m _ _ a.x b.requires.3
-    b.requires.3)
+    c.add_frames.ensures ∙ rw (c.lay_weights.ensures, c.lay_nums.ensures)
+    (gathered-in-parts c.args.positions.now c.args.affinities.now c.args.exaggeration c.args.total c.args.n c.args.c c.args.i c.args.j c.args.m _ _ c.args.x c.requires.3
+    c.requires.3)

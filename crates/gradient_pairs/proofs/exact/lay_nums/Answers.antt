@@ -12,13 +12,11 @@ loop-k-init c =
 
 pub num-requires : goal.num-requires
 num-requires c =
-    let b = c in
-    (row_in _ b.args.n _ _ b.requires.0 b.requires.2, row_in _ b.args.n _ _ (omega (arith, b.requires.1, c.loop-k-test.true)) b.requires.2)
+    (row_in _ c.args.n _ _ c.requires.0 c.requires.2, row_in _ c.args.n _ _ (omega (arith, c.requires.1, c.loop-k-test.true)) c.requires.2)
 
 pub loop-k-preserved : goal.loop-k-preserved
 loop-k-preserved c =
-    let the-loop = c.loop-k in
-    (search rules, rw c.num.ensures (loop-next the-loop.invariant.1 c.loop-k-test.true))
+    (search rules, rw c.num.ensures (loop-next c.loop-k.invariant.1 c.loop-k-test.true))
 
 pub returns : goal.returns
 returns c =

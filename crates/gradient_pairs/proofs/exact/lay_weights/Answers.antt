@@ -13,39 +13,32 @@ loop-k-init c =
 
 pub overflow_mul-i : goal.overflow_mul-i
 overflow_mul-i c =
-    let b = c in
-    omega (arith, row_in b.args.i b.args.n b.args.n (length b.args.affinities.now) b.requires.0 b.requires.2, b.requires.1, c.loop-k-test.true)
+    omega (arith, row_in c.args.i c.args.n c.args.n (length c.args.affinities.now) c.requires.0 c.requires.2, c.requires.1, c.loop-k-test.true)
 
 pub overflow_add-j : goal.overflow_add-j
 overflow_add-j c =
-    let b = c in
-    omega (arith, row_in b.args.i b.args.n b.args.n (length b.args.affinities.now) b.requires.0 b.requires.2, b.requires.1, c.loop-k-test.true)
+    omega (arith, row_in c.args.i c.args.n c.args.n (length c.args.affinities.now) c.requires.0 c.requires.2, c.requires.1, c.loop-k-test.true)
 
 pub overflow_add-i : goal.overflow_add-i
 overflow_add-i c =
-    let b = c in
-    omega (arith, row_in b.args.i b.args.n b.args.n (length b.args.affinities.now) b.requires.0 b.requires.2, b.requires.1, c.loop-k-test.true)
+    omega (arith, row_in c.args.i c.args.n c.args.n (length c.args.affinities.now) c.requires.0 c.requires.2, c.requires.1, c.loop-k-test.true)
 
 pub offset_bounds-affinities-i : goal.offset_bounds-affinities-i
 offset_bounds-affinities-i c =
-    let b = c in
-    omega (arith, row_in b.args.i b.args.n b.args.n (length b.args.affinities.now) b.requires.0 b.requires.2, b.requires.1, c.loop-k-test.true)
+    omega (arith, row_in c.args.i c.args.n c.args.n (length c.args.affinities.now) c.requires.0 c.requires.2, c.requires.1, c.loop-k-test.true)
 
 pub bounds-affinities-i : goal.bounds-affinities-i
 bounds-affinities-i c =
-    let b = c in
     omega (
       arith,
-      row_in b.args.i b.args.n b.args.n (length b.args.affinities.now) b.requires.0 b.requires.2,
-      b.requires.1,
+      row_in c.args.i c.args.n c.args.n (length c.args.affinities.now) c.requires.0 c.requires.2,
+      c.requires.1,
       c.loop-k-test.true,
     )
 
 pub loop-k-preserved : goal.loop-k-preserved
 loop-k-preserved c =
-    let the-loop-test = c.loop-k-test in
-    let the-loop = c.loop-k in
-    (search rules, rw c.push.ensures (loop-next the-loop.invariant.1 the-loop-test.true))
+    (search rules, rw c.push.ensures (loop-next c.loop-k.invariant.1 c.loop-k-test.true))
 
 pub returns : goal.returns
 returns c =

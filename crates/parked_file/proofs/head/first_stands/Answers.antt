@@ -9,9 +9,5 @@ returns-then-file-lt32 c =
 
 pub returns : goal.returns
 returns c =
-    let the-word3 = c.word-3 in
-    let the-word2 = c.word-2 in
-    let the_word = c.word in
-    let the-if1 = c.if-file-lt32 in
-    rw (c.first_fine.ensures, the_word.ensures, the-word2.ensures, the-word3.ensures, c.word-4.ensures)
-    (sym (there _ 0 the-if1.false ∙ first-is _))
+    rw (c.first_fine.ensures, c.word.ensures, c.word-2.ensures, c.word-3.ensures, c.word-4.ensures)
+    (sym (there _ 0 c.if-file-lt32.false ∙ first-is _))

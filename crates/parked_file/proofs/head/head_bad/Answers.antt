@@ -13,30 +13,18 @@ second_stands-requires c =
 
 pub returns-then-not-second_stands : goal.returns-then-not-second_stands
 returns-then-not-second_stands c =
-    let the-if1 = c.if-not-first_stands in
-    let the-first-stands = c.first_stands in
-    head-second _ ((sym the-first-stands.ensures ∙ the-if1.false)) (sym c.second_stands.ensures ∙ c.if-not-second_stands.true)
+    head-second _ ((sym c.first_stands.ensures ∙ c.if-not-first_stands.false)) (sym c.second_stands.ensures ∙ c.if-not-second_stands.true)
 
 pub third_stands-requires : goal.third_stands-requires
 third_stands-requires c =
-    let the-if1 = c.if-not-first_stands in
-    let the-first-stands = c.first_stands in
-    ((sym the-first-stands.ensures ∙ the-if1.false), (sym c.second_stands.ensures ∙ c.if-not-second_stands.false))
+    ((sym c.first_stands.ensures ∙ c.if-not-first_stands.false), (sym c.second_stands.ensures ∙ c.if-not-second_stands.false))
 
 pub returns-then-not-third_stands : goal.returns-then-not-third_stands
 returns-then-not-third_stands c =
-    let the-if2 = c.if-not-second_stands in
-    let the-second-stands = c.second_stands in
-    let the-if1 = c.if-not-first_stands in
-    let the-first-stands = c.first_stands in
-    head-third _ ((sym the-first-stands.ensures ∙ the-if1.false)) ((sym the-second-stands.ensures ∙ the-if2.false))
+    head-third _ ((sym c.first_stands.ensures ∙ c.if-not-first_stands.false)) ((sym c.second_stands.ensures ∙ c.if-not-second_stands.false))
     (sym c.third_stands.ensures ∙ c.if-not-third_stands.true)
 
 pub returns : goal.returns
 returns c =
-    let the-if2 = c.if-not-second_stands in
-    let the-second-stands = c.second_stands in
-    let the-if1 = c.if-not-first_stands in
-    let the-first-stands = c.first_stands in
-    head-all _ ((sym the-first-stands.ensures ∙ the-if1.false)) ((sym the-second-stands.ensures ∙ the-if2.false))
+    head-all _ ((sym c.first_stands.ensures ∙ c.if-not-first_stands.false)) ((sym c.second_stands.ensures ∙ c.if-not-second_stands.false))
     ((sym c.third_stands.ensures ∙ c.if-not-third_stands.false))

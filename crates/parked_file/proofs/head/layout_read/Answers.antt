@@ -23,14 +23,10 @@ word-links-requires c =
 
 pub layout_of-requires : goal.layout_of-requires
 layout_of-requires c =
-    let the-word2 = c.word-n in
-    rw (the-word2.ensures, c.word-c.ensures, c.word-links.ensures)
+    rw (c.word-n.ensures, c.word-c.ensures, c.word-links.ensures)
     ((head-good _ c.requires).first.n-most, components-most _ ((head-good _ c.requires)), links-few _ ((head-good _ c.requires)))
 
 pub returns : goal.returns
 unfolding layout_by
 returns c =
-    let the-word3 = c.word-c in
-    let the-word2 = c.word-n in
-    let the_word = c.word-m in
-    rw (c.layout_of.ensures, the_word.ensures, the-word2.ensures, the-word3.ensures, c.word-links.ensures)
+    rw (c.layout_of.ensures, c.word-m.ensures, c.word-n.ensures, c.word-c.ensures, c.word-links.ensures)

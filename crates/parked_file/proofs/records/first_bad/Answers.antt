@@ -14,15 +14,13 @@ loop-q-init c =
 pub returns-then-whole-q : goal.returns-then-whole-q
 unfolding first_bad
 returns-then-whole-q c =
-    let the-loop = c.loop-q in
-    seek_stop the-loop.invariant.1 (omega (arith, (due-is _ _ c.requires.1))) (ap not (missing _ _ (omega arith)))
+    seek_stop c.loop-q.invariant.1 (omega (arith, (due-is _ _ c.requires.1))) (ap not (missing _ _ (omega arith)))
 
 pub returns-then-not-words_fine : goal.returns-then-not-words_fine
 unfolding first_bad
 returns-then-not-words_fine c =
-    let the-loop = c.loop-q in
-    seek_stop the-loop.invariant.1 (omega (arith, (due-is _ _ c.requires.1)))
-    (ap not ((words-stand _ _ _ _ c.requires.1 the-loop.invariant.0 (omega arith) c.words_fine.ensures) ∙ c.if-not-words_fine.true))
+    seek_stop c.loop-q.invariant.1 (omega (arith, (due-is _ _ c.requires.1)))
+    (ap not ((words-stand _ _ _ _ c.requires.1 c.loop-q.invariant.0 (omega arith) c.words_fine.ensures) ∙ c.if-not-words_fine.true))
 
 pub loop-q-smaller : goal.loop-q-smaller
 loop-q-smaller c =
@@ -30,11 +28,10 @@ loop-q-smaller c =
 
 pub loop-q-preserved : goal.loop-q-preserved
 loop-q-preserved c =
-    let the-loop = c.loop-q in
     (
       omega arith,
-      seek-next the-loop.invariant.1 (omega (arith, (due-is _ _ c.requires.1)))
-          (ap not ((words-stand _ _ _ _ c.requires.1 the-loop.invariant.0 (omega arith) c.words_fine.ensures) ∙ c.if-not-words_fine.false)),
+      seek-next c.loop-q.invariant.1 (omega (arith, (due-is _ _ c.requires.1)))
+          (ap not ((words-stand _ _ _ _ c.requires.1 c.loop-q.invariant.0 (omega arith) c.words_fine.ensures) ∙ c.if-not-words_fine.false)),
     )
 
 pub returns : goal.returns

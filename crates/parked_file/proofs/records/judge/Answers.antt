@@ -18,24 +18,18 @@ first_bad-q-requires c =
 
 pub returns-then-q-due : goal.returns-then-q-due
 returns-then-q-due c =
-    let the-first-bad = c.first_bad-q in
-    let the-layout-read = c.layout_read-l in
-    rw (the-first-bad.ensures) (verdict-bad _ (λ e. c.if-q-due.true (the-first-bad.ensures ∙ e ∙ sym ((due-is _ _ the-layout-read.ensures)))))
+    rw (c.first_bad-q.ensures) (verdict-bad _ (λ e. c.if-q-due.true (c.first_bad-q.ensures ∙ e ∙ sym ((due-is _ _ c.layout_read-l.ensures)))))
 
 pub overflow_mul-result : goal.overflow_mul-result
 overflow_mul-result c =
-    let the-first-bad = c.first_bad-q in
-    let the-layout-read = c.layout_read-l in
     omega (
       arith,
-      (due-is _ _ the-layout-read.ensures),
+      (due-is _ _ c.layout_read-l.ensures),
       due-long _
-          ((sym (the-first-bad.ensures) ∙ c.if-q-due.false ∙ (due-is _ _ the-layout-read.ensures))),
+          ((sym (c.first_bad-q.ensures) ∙ c.if-q-due.false ∙ (due-is _ _ c.layout_read-l.ensures))),
     )
 
 pub returns : goal.returns
 returns c =
-    let the-first-bad = c.first_bad-q in
-    let the-layout-read = c.layout_read-l in
-    rw ((due-is _ _ the-layout-read.ensures), the-first-bad.ensures)
-    (verdict-all _ ((sym (the-first-bad.ensures) ∙ c.if-q-due.false ∙ (due-is _ _ the-layout-read.ensures))))
+    rw ((due-is _ _ c.layout_read-l.ensures), c.first_bad-q.ensures)
+    (verdict-all _ ((sym (c.first_bad-q.ensures) ∙ c.if-q-due.false ∙ (due-is _ _ c.layout_read-l.ensures))))

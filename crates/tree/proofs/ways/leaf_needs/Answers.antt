@@ -10,8 +10,7 @@ returns-in_default c =
 
 pub point-q-requires : goal.point-q-requires
 point-q-requires c =
-    let the-l = c.l-1 in
-    (c.requires.0, c.requires.1 _ the-l.is)
+    (c.requires.0, c.requires.1 _ c.in-Occupied.is)
 
 pub overflow_mul-result : goal.overflow_mul-result
 overflow_mul-result c =
@@ -20,6 +19,4 @@ overflow_mul-result c =
 
 pub returns : goal.returns
 returns c =
-    let the-point = c.point-q in
-    let the-l = c.l-1 in
-    rw (shl_one c.args.s.c (omega (arith, c.requires.0)), c.splits.ensures.0, the-point.ensures, the-l.is)
+    rw (shl_one c.args.s.c (omega (arith, c.requires.0)), c.splits.ensures.0, c.point-q.ensures, c.in-Occupied.is)

@@ -15,25 +15,15 @@ overflow_add-n c =
 
 pub returns-then-o-k : goal.returns-then-o-k
 returns-then-o-k c =
-    let the-child-index = c.child_index-k in
-    let the-loop-test = c.loop-d-test in
-    let the-loop = c.loop-d in
-    let a = c.args in
-    let e = splits_last the-loop.invariant the-loop-test.true (rw (c.child_index-o.ensures, the-child-index.ensures) at c.if-o-k.true) in
-    (e, omega (arith, e, splits-le (deepest - a.depth) a.c a.z0 a.h0 a.q a.p))
+    let e = splits_last c.loop-d.invariant c.loop-d-test.true (rw (c.child_index-o.ensures, c.child_index-k.ensures) at c.if-o-k.true) in
+    (e, omega (arith, e, splits-le (deepest - c.args.depth) c.args.c c.args.z0 c.args.h0 c.args.q c.args.p))
 
 pub loop-d-preserved : goal.loop-d-preserved
 loop-d-preserved c =
-    let the-if1 = c.if-o-k in
-    let the-child-index2 = c.child_index-o in
-    let the-child-index = c.child_index-k in
-    let the-loop-test = c.loop-d-test in
-    let the-loop = c.loop-d in
-    rw (c.child_half-g.ensures, c.child_centre-y.ensures, the-child-index.ensures)
-    (splits-go the-loop.invariant the-loop-test.true (rw (the-child-index2.ensures, the-child-index.ensures) at the-if1.false))
+    rw (c.child_half-g.ensures, c.child_centre-y.ensures, c.child_index-k.ensures)
+    (splits-go c.loop-d.invariant c.loop-d-test.true (rw (c.child_index-o.ensures, c.child_index-k.ensures) at c.if-o-k.false))
 
 pub returns : goal.returns
 returns c =
-    let a = c.args in
     let e = splits-end c.loop-d.invariant c.loop-d-test.false in
-    (e, omega (arith, e, splits-le (deepest - a.depth) a.c a.z0 a.h0 a.q a.p))
+    (e, omega (arith, e, splits-le (deepest - c.args.depth) c.args.c c.args.z0 c.args.h0 c.args.q c.args.p))

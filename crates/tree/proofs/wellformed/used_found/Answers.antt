@@ -11,11 +11,9 @@ returns-then-used-eq0 c =
 pub returns-then-nameable_of-used : goal.returns-then-nameable_of-used
 unfolding used_found
 returns-then-nameable_of-used c =
-    let the-if1 = c.if-used-eq0 in
-    rw (ne_eqb _ _ the-if1.false, lt-ltb _ _ (rw c.nameable_of.ensures at c.if-nameable_of-used.true))
+    rw (ne_eqb _ _ c.if-used-eq0.false, lt-ltb _ _ (rw c.nameable_of.ensures at c.if-nameable_of-used.true))
 
 pub returns : goal.returns
 unfolding used_found
 returns c =
-    let the-if1 = c.if-used-eq0 in
-    rw (ne_eqb _ _ the-if1.false, le-ltb _ _ (rw c.nameable_of.ensures at c.if-nameable_of-used.false))
+    rw (ne_eqb _ _ c.if-used-eq0.false, le-ltb _ _ (rw c.nameable_of.ensures at c.if-nameable_of-used.false))

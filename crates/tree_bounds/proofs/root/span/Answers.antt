@@ -38,10 +38,9 @@ offset_bounds-positions-i c =
 
 pub bounds-positions-i : goal.bounds-positions-i
 bounds-positions-i c =
-    let the-loop = c.loop-i in
     omega (
       arith,
-      (row_in the-loop.i c.args.n c.args.c (length c.args.positions.now) c.loop-i-test.true
+      (row_in c.loop-i.i c.args.n c.args.c (length c.args.positions.now) c.loop-i-test.true
           c.requires.1),
       c.requires.0,
     )

@@ -6,30 +6,15 @@ use Rattle.tree_walk.proofs.turns.flat_turn.Goals as goal
 
 pub returns-then-k-eq0 : goal.returns-then-k-eq0
 returns-then-k-eq0 c =
-    let the-if1 = c.if-k-eq0 in
-    let the-kind = c.kind-k in
-    let the-read-node = c.read_node-n in
-    let z = c in
-    let k : seen_as z.args.eye z.args.v ≡ 0 = rw z.requires.0 (sym (rw the-read-node.ensures at the-kind.ensures) ∙ the-if1.true) in
+    let k : seen_as c.args.eye c.args.v ≡ 0 = rw c.requires.0 (sym (rw c.read_node-n.ensures at c.kind-k.ensures) ∙ c.if-k-eq0.true) in
     turned-past 32 _ _ _ _ _ k c.onward.ensures
 
 pub returns-then-k-eq1 : goal.returns-then-k-eq1
 returns-then-k-eq1 c =
-    let the-body = c.body-b in
-    let the-if2 = c.if-k-eq1 in
-    let the-kind = c.kind-k in
-    let the-read-node = c.read_node-n in
-    let z = c in
-    let n = the-read-node.ensures in
-    let k : seen_as z.args.eye z.args.v ≡ 1 = rw z.requires.0 (sym (rw n at the-kind.ensures) ∙ the-if2.true) in
-    turned-body 32 _ _ _ _ _ k (rw z.requires.0 (c.onward-then-k-eq1.ensures ∙ rw (the-body.ensures, n)))
+    let k : seen_as c.args.eye c.args.v ≡ 1 = rw c.requires.0 (sym (rw c.read_node-n.ensures at c.kind-k.ensures) ∙ c.if-k-eq1.true) in
+    turned-body 32 _ _ _ _ _ k (rw c.requires.0 (c.onward-then-k-eq1.ensures ∙ rw (c.body-b.ensures, c.read_node-n.ensures)))
 
 pub returns : goal.returns
 returns c =
-    let the-if2 = c.if-k-eq1 in
-    let the-if1 = c.if-k-eq0 in
-    let the-kind = c.kind-k in
-    let the-read-node = c.read_node-n in
-    let z = c in
-    let k : the-kind.result ≡ seen_as z.args.eye z.args.v = rw z.requires.0 (rw the-read-node.ensures at the-kind.ensures) in
-    turned-open 32 _ _ _ _ _ _ (λ e. the-if1.false (k ∙ e)) (λ e. the-if2.false (k ∙ e)) (rw z.requires.0 c.opened.ensures.0) c.opened.ensures.1
+    let k : c.kind-k.result ≡ seen_as c.args.eye c.args.v = rw c.requires.0 (rw c.read_node-n.ensures at c.kind-k.ensures) in
+    turned-open 32 _ _ _ _ _ _ (λ e. c.if-k-eq0.false (k ∙ e)) (λ e. c.if-k-eq1.false (k ∙ e)) (rw c.requires.0 c.opened.ensures.0) c.opened.ensures.1

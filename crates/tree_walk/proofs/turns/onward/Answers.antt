@@ -11,12 +11,9 @@ returns-then-next-s c =
 pub returns-then-s-eq0 : goal.returns-then-s-eq0
 unfolding past_cell
 returns-then-s-eq0 c =
-    let the-if1 = c.if-next-s in
-    rw (le-ltb _ _ the-if1.false, eq-eqb _ _ c.if-s-eq0.true) c.standing-then-s-eq0.ensures
+    rw (le-ltb _ _ c.if-next-s.false, eq-eqb _ _ c.if-s-eq0.true) c.standing-then-s-eq0.ensures
 
 pub returns : goal.returns
 unfolding past_cell
 returns c =
-    let the-if2 = c.if-s-eq0 in
-    let the-if1 = c.if-next-s in
-    rw (le-ltb _ _ the-if1.false, ne_eqb _ _ the-if2.false) c.standing-2.ensures
+    rw (le-ltb _ _ c.if-next-s.false, ne_eqb _ _ c.if-s-eq0.false) c.standing-2.ensures

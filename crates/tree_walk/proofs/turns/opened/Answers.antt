@@ -12,10 +12,10 @@ bounds-stack-l-then-l-levels c =
 pub returns-then-l-levels : goal.returns-then-l-levels
 unfolding opened_of pushed_of
 returns-then-l-levels c =
-    let the-if1 = c.if-next-s in (
-      rw (lt-ltb _ _ the-if1.true, lt-ltb _ _ c.if-l-levels.true) c.standing.ensures,
+    (
+      rw (lt-ltb _ _ c.if-next-s.true, lt-ltb _ _ c.if-l-levels.true) c.standing.ensures,
       rw
-          (lt-ltb _ _ the-if1.true, lt-ltb _ _ c.if-l-levels.true),
+          (lt-ltb _ _ c.if-next-s.true, lt-ltb _ _ c.if-l-levels.true),
     )
 
 pub returns-then-next-s : goal.returns-then-next-s

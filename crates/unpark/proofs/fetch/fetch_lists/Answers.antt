@@ -14,22 +14,17 @@ fetch_words-requires c =
 
 pub fetch_numbers-requires-then-l : goal.fetch_numbers-requires-then-l
 fetch_numbers-requires-then-l c =
-    let the-if1 = c.if-l in
     (
-      c.requires.2.offsets-long the-if1.true,
+      c.requires.2.offsets-long c.if-l.true,
       (spans _ c.requires.0 _ c.requires.1).held,
       narrow-offsets _ c.requires.0 _
-          c.requires.1 the-if1.true,
+          c.requires.1 c.if-l.true,
     )
 
 pub returns-then-l : goal.returns-then-l
 unfolding weights_read offsets_read
 returns-then-l c =
-    let the-fetch-numbers2 = c.fetch_numbers-then-l in
-    let the-fetch-words = c.fetch_words in
-    let the-if1 = c.if-l in
-    let the-fetch-numbers = c.fetch_numbers in
-    rw the-if1.true record { affinities_after = the-fetch-words.ensures; indices_after = the-fetch-numbers.ensures; offsets_after = the-fetch-numbers2.ensures; }
+    rw c.if-l.true record { affinities_after = c.fetch_words.ensures; indices_after = c.fetch_numbers.ensures; offsets_after = c.fetch_numbers-then-l.ensures; }
 
 pub fetch_words-requires-2 : goal.fetch_words-requires-2
 fetch_words-requires-2 c =
@@ -38,7 +33,4 @@ fetch_words-requires-2 c =
 pub returns : goal.returns
 unfolding weights_read offsets_read
 returns c =
-    let the-fetch-words2 = c.fetch_words-2 in
-    let the-if1 = c.if-l in
-    let the-fetch-numbers = c.fetch_numbers in
-    rw the-if1.false record { affinities_after = the-fetch-words2.ensures; indices_after = the-fetch-numbers.ensures; offsets_after = refl; }
+    rw c.if-l.false record { affinities_after = c.fetch_words-2.ensures; indices_after = c.fetch_numbers.ensures; offsets_after = refl; }

@@ -14,8 +14,7 @@ overflow_cast-area c =
 
 pub loop-i-preserved : goal.loop-i-preserved
 loop-i-preserved c =
-    let the-loop = c.loop-i in
-    rw c.word-v.ensures (fetches-next c.requires.0 c.loop-i-test.true the-loop.invariant)
+    rw c.word-v.ensures (fetches-next c.requires.0 c.loop-i-test.true c.loop-i.invariant)
 
 pub returns : goal.returns
 unfolding fetched

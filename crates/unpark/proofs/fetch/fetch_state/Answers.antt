@@ -16,7 +16,4 @@ fetch_words-requires-3 c =
 
 pub returns : goal.returns
 returns c =
-    let the-fetch-words3 = c.fetch_words-3 in
-    let the-fetch-words2 = c.fetch_words-2 in
-    let the-fetch-words = c.fetch_words in
-    record { positions_after = the-fetch-words.ensures; increments_after = the-fetch-words2.ensures; gains_after = the-fetch-words3.ensures; }
+    record { positions_after = c.fetch_words.ensures; increments_after = c.fetch_words-2.ensures; gains_after = c.fetch_words-3.ensures; }

@@ -9,8 +9,7 @@ loop-i-init c =
 
 pub loop-i-preserved : goal.loop-i-preserved
 loop-i-preserved c =
-    let the-loop = c.loop-i in
-    rw c.word.ensures (fetches-next c.requires.0 c.loop-i-test.true the-loop.invariant)
+    rw c.word.ensures (fetches-next c.requires.0 c.loop-i-test.true c.loop-i.invariant)
 
 pub returns : goal.returns
 unfolding fetched

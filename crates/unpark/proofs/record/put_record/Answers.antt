@@ -14,6 +14,4 @@ put_counters-requires c =
 
 pub returns : goal.returns
 returns c =
-    let the-put-counters = c.put_counters in
-    let the-put-settings = c.put_settings in
-    rw (the-put-counters.ensures, the-put-settings.ensures) (record-told c.args.words.now _ c.requires.0)
+    rw (c.put_counters.ensures, c.put_settings.ensures) (record-told c.args.words.now _ c.requires.0)

@@ -37,21 +37,14 @@ bounds-words-8 c =
 
 pub returns : goal.returns
 returns c =
-    let the-word7 = c.word-7 in
-    let the-word6 = c.word-6 in
-    let the-word5 = c.word-5 in
-    let the-word4 = c.word-4 in
-    let the-word3 = c.word-3 in
-    let the-word2 = c.word-2 in
-    let the_word = c.word in
     rw (
-      the_word.ensures,
-      the-word2.ensures,
-      the-word3.ensures,
-      the-word4.ensures,
-      the-word5.ensures,
-      the-word6.ensures,
-      the-word7.ensures,
+      c.word.ensures,
+      c.word-2.ensures,
+      c.word-3.ensures,
+      c.word-4.ensures,
+      c.word-5.ensures,
+      c.word-6.ensures,
+      c.word-7.ensures,
       c.word-8.ensures,
       c.word-9.ensures,
     )

@@ -22,15 +22,9 @@ word-requires-2 c =
 
 pub overflow_mul-result : goal.overflow_mul-result
 overflow_mul-result c =
-    let the-word2 = c.word-n in
-    let the-method-of = c.method_of-m in
-    let the_word = c.word in
-    rw (c.per-p.ensures, the-method-of.ensures, the_word.ensures, the-word2.ensures, c.word-2.ensures)
+    rw (c.per-p.ensures, c.method_of-m.ensures, c.word.ensures, c.word-n.ensures, c.word-2.ensures)
     (omega (arith, units-fit _ ((head-good _ (parked-head _ c.requires)))))
 
 pub returns : goal.returns
 returns c =
-    let the-word2 = c.word-n in
-    let the-method-of = c.method_of-m in
-    let the_word = c.word in
-    rw (c.per-p.ensures, the-method-of.ensures, the_word.ensures, the-word2.ensures, c.word-2.ensures)
+    rw (c.per-p.ensures, c.method_of-m.ensures, c.word.ensures, c.word-n.ensures, c.word-2.ensures)
