@@ -1,6 +1,5 @@
 use Rattle.laws.proofs.Loops.{loop-start, loop-next, loop-done}
 use mathlib.Core.Path.{refl, ◌∙◌}
-use Prim.Native.Nat.{◌-◌}
 use Rattle.laws.proofs.Numbers.{row_in}
 use Rattle.laws.proofs.Laid.{lays-start, lays-next, lays-done}
 use Rattle.affinity.proofs.exact.conditional_probabilities.Goals as goal

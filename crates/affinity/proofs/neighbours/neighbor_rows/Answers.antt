@@ -29,16 +29,6 @@ pub slice_bounds-neighbor_row-count : goal.slice_bounds-neighbor_row-count
 slice_bounds-neighbor_row-count c =
     omega arith
 
--- no goal: slice-bounds-neighbor-row-start
--- part-neighbor-row-start : tie.Need-slice-bounds-neighbor-row-start invariant-loop decreases-loop
--- part-neighbor-row-start c = omega arith
-
--- no goal: slice-bounds-neighbor-row-end
--- part-neighbor-row-end : tie.Need-slice-bounds-neighbor-row-end invariant-loop decreases-loop
--- part-neighbor-row-end c =
---     let the-start = c.before.before.before.before.before.before.before.before in
---     rw c.before.loop.invariant.0.size (row_in c.before.loop.i the-start.args.n the-start.args.k _ c.loop-test.true the-start.requires.1.0.0)
-
 pub offset_bounds-indices-a : goal.offset_bounds-indices-a
 offset_bounds-indices-a c =
     omega (arith, (row_in c.loop-i.i c.args.n c.args.k _ c.loop-i-test.true c.requires.k_in_bounds.0))
@@ -46,17 +36,6 @@ offset_bounds-indices-a c =
 pub slice_bounds-neighbor_row-count-in-loop-i : goal.slice_bounds-neighbor_row-count-in-loop-i
 slice_bounds-neighbor_row-count-in-loop-i c =
     omega arith
-
--- no goal: slice-bounds-neighbor-row-start-2
--- part-neighbor-row-start-2 : tie.Need-slice-bounds-neighbor-row-start-2 invariant-loop decreases-loop
--- part-neighbor-row-start-2 c = omega arith
-
--- no goal: slice-bounds-neighbor-row-end-2
--- part-neighbor-row-end-2 : tie.Need-slice-bounds-neighbor-row-end-2 invariant-loop decreases-loop
--- part-neighbor-row-end-2 c =
---     let the-loop = c.before.before.loop in
---     let the-start = c.before.before.before.before.before.before.before.before.before in
---     rw the-loop.invariant.1.size (row_in the-loop.i the-start.args.n the-start.args.k _ c.before.loop-test.true the-start.requires.1.0.1)
 
 pub neighbor_row-requires : goal.neighbor_row-requires
 neighbor_row-requires c =
