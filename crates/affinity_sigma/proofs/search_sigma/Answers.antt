@@ -1,4 +1,3 @@
-use Prim.Native.Nat.{◌-◌}
 use mathlib.Core.Path.{refl}
 use Rattle.affinity_sigma.proofs.Rounds.{unbounded, narrows-start, narrows-next, narrows-met, narrows-done}
 use borrow.Author.Rules.{rules}

@@ -1,4 +1,3 @@
-use Prim.Native.Nat.{◌-◌}
 use Rattle.take_lists.proofs.OneList.{sifts-start, sifts-pass, sifts-room, sifts-next, sifts-done}
 use native.Mathlib.Omega.{arith}
 use Rattle.take_lists.proofs.pack_list.Goals as goal
