@@ -1,12 +1,11 @@
--- What the walk of the entry tests cites: the tests before those of the nodes, and these, are all of them. Assumes nothing.
+-- What `fault_at` cites: the tests before those of the nodes, and these, are all of them. Assumes nothing.
 use mathlib.Core.List.{List}
 use mathlib.Core.Path.{◌≡◌, refl, sym, ap, subst, ◌∙◌}
 use mathlib.Core.Bool.{Bool, true, false, cond, not, ◌&&◌, true≢false}
 use Prim.Native.Nat.{ℕ, ◌+◌, ◌-◌}
-use lib.Dec.{T, eqb, ltb}
+use lib.Dec.{eqb, ltb}
 use lib.ListN.{length}
 use borrow.Author.Tests.{not-true, not-false}
-use Rattle.lent.proofs.Holds.{holds_as, fails-as}
 use Rattle.laws.proofs.Bools.{by_bool, and_left, and_right}
 use Rattle.run_record.specs.declared.Run.{Run}
 use Rattle.run_record.specs.Record.{is_tree}
@@ -91,17 +90,17 @@ module _ (r : Run) (p i g a f : ℕ) (xs off : List ℕ) (ns : List Node) where
       fine-one (Index k) e = absurd (true≢false (sym e))
       fine-one (Tree k) e = absurd (true≢false (sym e))
 
--- ---- with the machine's count m of the cells
+-- ---- what the code finds: t before the nodes, b that they are to be tested
 
-module _ (r : Run) (p i g a f : ℕ) (xs off : List ℕ) (cs : List Cell) (m : ℕ) (em : length cs ≡ m) (t : Fault) (et : t ≡ fault_before_tree r p i g a f xs off m) (b : Bool) (eb : b ≡ asks_tree r t) where
+module _ (r : Run) (p i g a f : ℕ) (xs off : List ℕ) (cs : List Cell) (t : Fault) (et : t ≡ fault_before_tree r p i g a f xs off (length cs)) (b : Bool) (eb : b ≡ asks_tree r t) where
   early-is : t ≡ fault_before_tree r p i g a f xs off (length (nodes_of cs))
-  early-is = et ∙ ap (fault_before_tree r p i g a f xs off) (sym em ∙ sym (nodes-length cs))
+  early-is = et ∙ ap (fault_before_tree r p i g a f xs off) (sym (nodes-length cs))
 
-  pub early-axes : T b → Axes r.settings.c
-  early-axes y = asked-axes r p i g a f xs off (nodes_of cs) (subst (λ (x : Fault). asks_tree r x ≡ true) early-is (holds_as b (asks_tree r t) eb y))
+  pub early-axes : b ≡ true → Axes r.settings.c
+  early-axes y = asked-axes r p i g a f xs off (nodes_of cs) (subst (λ (x : Fault). asks_tree r x ≡ true) early-is (sym eb ∙ y))
 
-  pub early-asked : T b → (k : Contents) → k ≡ contents_of r.settings.n r.settings.c (tree r.used (nodes_of cs)) → (w : Fault) → w ≡ tree_fault k → w ≡ fault_at r p i g a f xs off (nodes_of cs)
-  early-asked y k ek w ew = ew ∙ ap tree_fault ek ∙ asked r p i g a f xs off (nodes_of cs) (subst (λ (x : Fault). asks_tree r x ≡ true) early-is (holds_as b (asks_tree r t) eb y))
+  pub early-asked : b ≡ true → (k : Contents) → k ≡ contents_of r.settings.n r.settings.c (tree r.used (nodes_of cs)) → (w : Fault) → w ≡ tree_fault k → w ≡ fault_at r p i g a f xs off (nodes_of cs)
+  early-asked y k ek w ew = ew ∙ ap tree_fault ek ∙ asked r p i g a f xs off (nodes_of cs) (subst (λ (x : Fault). asks_tree r x ≡ true) early-is (sym eb ∙ y))
 
-  pub early-unasked : T (not b) → t ≡ fault_at r p i g a f xs off (nodes_of cs)
-  early-unasked y = early-is ∙ unasked r p i g a f xs off (nodes_of cs) (subst (λ (x : Fault). asks_tree r x ≡ false) early-is (fails-as b (asks_tree r t) eb y))
+  pub early-unasked : b ≡ false → t ≡ fault_at r p i g a f xs off (nodes_of cs)
+  early-unasked y = early-is ∙ unasked r p i g a f xs off (nodes_of cs) (subst (λ (x : Fault). asks_tree r x ≡ false) early-is (sym eb ∙ y))

@@ -1,3 +1,5 @@
+use mathlib.Core.Path.{ap}
+use mathlib.Core.Bool.{not}
 use Rattle.laws.proofs.First.{seek-start, seek-next, seek_stop, seek-done}
 use Rattle.run_entry.specs.Entry.{index_fine}
 use Prim.Native.Nat.{◌-◌}
@@ -9,11 +11,11 @@ loop-i-init c =
 
 pub returns-then-not-index_fine : goal.returns-then-not-index_fine
 returns-then-not-index_fine c =
-    seek_stop c.loop-i.invariant c.loop-i-test.true (rw c.index_fine.ensures at c.if-not-index_fine.true)
+    seek_stop c.loop-i.invariant c.loop-i-test.true (ap not (rw c.index_fine.ensures at c.if-not-index_fine.true))
 
 pub loop-i-preserved : goal.loop-i-preserved
 loop-i-preserved c =
-    seek-next c.loop-i.invariant c.loop-i-test.true (rw c.index_fine.ensures at c.if-not-index_fine.false)
+    seek-next c.loop-i.invariant c.loop-i-test.true (ap not (rw c.index_fine.ensures at c.if-not-index_fine.false))
 
 pub returns : goal.returns
 returns c =

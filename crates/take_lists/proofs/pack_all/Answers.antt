@@ -54,9 +54,11 @@ overflow_add-i c =
     omega (arith, c.loop-i-test.true, c.requires.0, c.requires.2.few)
 
 pub loop-i-preserved : goal.loop-i-preserved
-loop-i-preserved c =
-    (closes-next c.requires.1 c.requires.2 c.requires.3 c.loop-i.invariant.0 c.loop-i-test.true c.wide-j.ensures c.wide-a.ensures c.wide.ensures c.pack_list-q.ensures.value
-    c.pack_list-q.ensures.weights_after c.pack_list-q.ensures.indices_after c.pack_list-q.auto.weights c.pack_list-q.auto.indices, c.loop-i.invariant.1)
+loop-i-preserved c = (
+  closes-next c.requires.1 c.requires.2 c.requires.3 c.loop-i.invariant.0 c.loop-i-test.true c.wide-j.ensures c.wide-a.ensures c.wide.ensures c.pack_list-q.ensures.value
+      c.pack_list-q.ensures.weights_after c.pack_list-q.ensures.indices_after c.pack_list-q.auto.weights c.pack_list-q.auto.indices,
+  c.loop-i.invariant.1,
+)
 
 pub overflow_cast-offsets-2 : goal.overflow_cast-offsets-2
 overflow_cast-offsets-2 c =
@@ -85,4 +87,4 @@ shape_of-offsets c =
 pub returns : goal.returns
 returns c =
     let d = closes-done c.requires.1 c.requires.2 c.requires.3 c.loop-i.invariant.0 c.loop-i-test.false in
-    record { value = d.0; weights_after = d.1; indices_after = d.2; offsets_after = d.3; }
+    record { value = d.0; weights_after = d.1; indices_after = d.2; offsets_after = d.3 }

@@ -41,28 +41,43 @@ loop-j-preserved-then-not-link c =
 
 pub offset_bounds-row_indices-j-in-loop-j : goal.offset_bounds-row_indices-j-in-loop-j
 offset_bounds-row_indices-j-in-loop-j c =
-    omega (arith, writing-room c.requires (c.loop-j.j - 1) c.loop-j.j (omega arith) c.loop-j.invariant c.if-j-i.false _ c.link_of-link.ensures.yes_value _
-    c.link_of-link.ensures.row_value (not-false _ c.if-not-link.false))
+    omega (
+      arith,
+      writing-room c.requires (c.loop-j.j - 1) c.loop-j.j (omega arith) c.loop-j.invariant c.if-j-i.false _ c.link_of-link.ensures.yes_value _
+          c.link_of-link.ensures.row_value (not-false _ c.if-not-link.false),
+    )
 
 pub bounds-row_indices-j-in-loop-j : goal.bounds-row_indices-j-in-loop-j
 bounds-row_indices-j-in-loop-j c =
-    omega (arith, writing-room c.requires (c.loop-j.j - 1) c.loop-j.j (omega arith) c.loop-j.invariant c.if-j-i.false _ c.link_of-link.ensures.yes_value _
-    c.link_of-link.ensures.row_value (not-false _ c.if-not-link.false))
+    omega (
+      arith,
+      writing-room c.requires (c.loop-j.j - 1) c.loop-j.j (omega arith) c.loop-j.invariant c.if-j-i.false _ c.link_of-link.ensures.yes_value _
+          c.link_of-link.ensures.row_value (not-false _ c.if-not-link.false),
+    )
 
 pub overflow_sub-q : goal.overflow_sub-q
 overflow_sub-q c =
-    omega (arith, writing-room c.requires (c.loop-j.j - 1) c.loop-j.j (omega arith) c.loop-j.invariant c.if-j-i.false _ c.link_of-link.ensures.yes_value _
-    c.link_of-link.ensures.row_value (not-false _ c.if-not-link.false))
+    omega (
+      arith,
+      writing-room c.requires (c.loop-j.j - 1) c.loop-j.j (omega arith) c.loop-j.invariant c.if-j-i.false _ c.link_of-link.ensures.yes_value _
+          c.link_of-link.ensures.row_value (not-false _ c.if-not-link.false),
+    )
 
 pub offset_bounds-weights-q : goal.offset_bounds-weights-q
 offset_bounds-weights-q c =
-    omega (arith, writing-room c.requires (c.loop-j.j - 1) c.loop-j.j (omega arith) c.loop-j.invariant c.if-j-i.false _ c.link_of-link.ensures.yes_value _
-    c.link_of-link.ensures.row_value (not-false _ c.if-not-link.false))
+    omega (
+      arith,
+      writing-room c.requires (c.loop-j.j - 1) c.loop-j.j (omega arith) c.loop-j.invariant c.if-j-i.false _ c.link_of-link.ensures.yes_value _
+          c.link_of-link.ensures.row_value (not-false _ c.if-not-link.false),
+    )
 
 pub bounds-weights-q : goal.bounds-weights-q
 bounds-weights-q c =
-    omega (arith, writing-room c.requires (c.loop-j.j - 1) c.loop-j.j (omega arith) c.loop-j.invariant c.if-j-i.false _ c.link_of-link.ensures.yes_value _
-    c.link_of-link.ensures.row_value (not-false _ c.if-not-link.false))
+    omega (
+      arith,
+      writing-room c.requires (c.loop-j.j - 1) c.loop-j.j (omega arith) c.loop-j.invariant c.if-j-i.false _ c.link_of-link.ensures.yes_value _
+          c.link_of-link.ensures.row_value (not-false _ c.if-not-link.false),
+    )
 
 pub overflow_cast-indices : goal.overflow_cast-indices
 overflow_cast-indices c =
@@ -70,13 +85,19 @@ overflow_cast-indices c =
 
 pub offset_bounds-indices-q : goal.offset_bounds-indices-q
 offset_bounds-indices-q c =
-    omega (arith, writing-room c.requires (c.loop-j.j - 1) c.loop-j.j (omega arith) c.loop-j.invariant c.if-j-i.false _ c.link_of-link.ensures.yes_value _
-    c.link_of-link.ensures.row_value (not-false _ c.if-not-link.false))
+    omega (
+      arith,
+      writing-room c.requires (c.loop-j.j - 1) c.loop-j.j (omega arith) c.loop-j.invariant c.if-j-i.false _ c.link_of-link.ensures.yes_value _
+          c.link_of-link.ensures.row_value (not-false _ c.if-not-link.false),
+    )
 
 pub bounds-indices-q : goal.bounds-indices-q
 bounds-indices-q c =
-    omega (arith, writing-room c.requires (c.loop-j.j - 1) c.loop-j.j (omega arith) c.loop-j.invariant c.if-j-i.false _ c.link_of-link.ensures.yes_value _
-    c.link_of-link.ensures.row_value (not-false _ c.if-not-link.false))
+    omega (
+      arith,
+      writing-room c.requires (c.loop-j.j - 1) c.loop-j.j (omega arith) c.loop-j.invariant c.if-j-i.false _ c.link_of-link.ensures.yes_value _
+          c.link_of-link.ensures.row_value (not-false _ c.if-not-link.false),
+    )
 
 pub loop-j-preserved : goal.loop-j-preserved
 loop-j-preserved c =
@@ -114,4 +135,4 @@ shape_of-row_indices c =
 pub returns : goal.returns
 returns c =
     let d = writing-done c.requires (omega arith) c.loop-j.invariant _ c.held.ensures in
-    record { value = d.0; weights_after = d.1; indices_after = d.2; lowered = d.3; }
+    record { value = d.0; weights_after = d.1; indices_after = d.2; lowered = d.3 }

@@ -9,12 +9,11 @@ loop-j-init c =
     loop-start _ _ _
 
 pub num-s-requires : goal.num-s-requires
-num-s-requires c =
-    (
-      row_in _ c.args.n c.args.c _ c.requires.0 c.requires.1,
-      row_in _ c.args.n c.args.c _
-          c.loop-j-test.true c.requires.1,
-    )
+num-s-requires c = (
+  row_in _ c.args.n c.args.c _ c.requires.0 c.requires.1,
+  row_in _ c.args.n c.args.c _
+      c.loop-j-test.true c.requires.1,
+)
 
 pub loop-j-preserved : goal.loop-j-preserved
 loop-j-preserved c =
