@@ -11,7 +11,6 @@ use lib.Seq.{ext_get_or}
 use borrow.Author.Tests.{eq-eqb, ne_eqb, eqb-true, eqb-false, ltb-true, ltb-false}
 use Rattle.laws.specs.Area.{num}
 use Rattle.laws.specs.Loops.{first}
-use Rattle.laws.specs.Joined.{those}
 use Rattle.laws.proofs.Bools.{by_bool, and_left, and_right}
 use Rattle.laws.proofs.First.{first_holds, first-before, first-all}
 use Rattle.laws.proofs.Joined.{those-below, those-holds, joined_at}

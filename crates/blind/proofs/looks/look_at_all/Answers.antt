@@ -1,6 +1,5 @@
 use Rattle.laws.proofs.Sums.{adds-room}
 use mathlib.Core.Path.{ap, ◌∙◌}
-use Prim.Native.Nat.{◌-◌}
 use Rattle.laws.specs.Sums.{bit}
 use Rattle.laws.proofs.Sums.{adds-start, adds-next, adds-done, bit_le}
 use Rattle.laws.proofs.Parts.{scratch-start}
