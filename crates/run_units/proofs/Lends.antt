@@ -1,14 +1,13 @@
--- What the walks of the units cite: what a state in order gives each callee, and that what the callees leave is the unit. Assumes nothing.
+-- What the units' answers cite: what a state in order gives each callee, and that what the callees leave is the unit. Assumes nothing.
 use mathlib.Core.Path.{◌≡◌, refl, sym, ap, subst, ◌∙◌}
 use mathlib.Core.List.{List}
 use mathlib.Core.Bool.{Bool, true, false, not}
 use Prim.Native.Nat.{ℕ, ◌+◌, ◌-◌, ◌*◌, ◌<◌, ◌≤◌}
 use native.Mathlib.Omega.{arith}
-use lib.Dec.{T, eqb}
+use lib.Dec.{eqb}
 use lib.ListN.{length, set}
 use lib.Ieee.{Float}
 use borrow.Author.Tests.{eqb-true, eqb-false}
-use Rattle.lent.proofs.Holds.{holds_as, fails-as}
 use Rattle.laws.specs.Domain.{most_frames, most_word}
 use Rattle.laws.proofs.Bools.{by_bool}
 use Rattle.run_record.specs.declared.Run.{Run}
@@ -40,14 +39,14 @@ module _ (r : Run) (y : List Float) (cs : List Cell) (k : TreeRoom r (length y) 
   pub box-asks : (Axes r.settings.c) × (r.settings.n * r.settings.c ≤ length y) × (0 < length cs)
   box-asks = (k.axes, k.positions-in, omega (arith, k.nodes-some, nodes-length cs))
 
-  pub box-told : T b → (ds : List Cell) → nodes_of ds ≡ set (nodes_of cs) 0 (box_of y r.settings.n r.settings.c) → (t : Turn) →
+  pub box-told : b ≡ true → (ds : List Cell) → nodes_of ds ≡ set (nodes_of cs) 0 (box_of y r.settings.n r.settings.c) → (t : Turn) →
       t ≡ turn_as (advanced_of r 1) Done → tree_turn t.run (nodes_of ds) t.why ≡ tree_unit r y (nodes_of cs)
   box-told yes-b ds ed t et =
-      ap (λ (x : Turn). tree_turn x.run (nodes_of ds) x.why) et ∙ box-is r y (nodes_of cs) (nodes_of ds) (eqb-true r.phase 0 (holds_as b (eqb r.phase 0) eb yes-b)) refl ed
+      ap (λ (x : Turn). tree_turn x.run (nodes_of ds) x.why) et ∙ box-is r y (nodes_of cs) (nodes_of ds) (eqb-true r.phase 0 (sym eb ∙ yes-b)) refl ed
 
-  module _ (no-b : T (not b)) where
+  module _ (no-b : b ≡ false) where
     later : r.phase ≡ 0 → ⊥
-    later = eqb-false r.phase 0 (fails-as b (eqb r.phase 0) eb no-b)
+    later = eqb-false r.phase 0 (sym eb ∙ no-b)
 
     pub next-asks : Small r × (0 < r.phase)
     next-asks = (k.numbers, omega (arith, later))
@@ -83,9 +82,9 @@ module _ (r : Run) (y P : List Float) (xs off : List ℕ) (cs : List Cell) (F : 
   pub run_small : (r.phase < 10000) × (r.units < 1000000000)
   run_small = (k.numbers.phase-small, k.numbers.units_small)
 
-  module _ (yes-b : T b) where
+  module _ (yes-b : b ≡ true) where
     abbrev tree-run : is_tree r.settings.method ≡ true
-    tree-run = holds_as b (is_tree r.settings.method) eb yes-b
+    tree-run = sym eb ∙ yes-b
 
     pub seen-asks : r.settings.n < r.phase
     seen-asks = k.phase-tree tree-run
@@ -113,9 +112,9 @@ module _ (r : Run) (y P : List Float) (xs off : List ℕ) (cs : List Cell) (F : 
       unfolding force_unit
       point-told x ex F' e_f t et = (et, e_f ∙ rw (tree-run, ex, ei))
 
-  module _ (no-b : T (not b)) where
+  module _ (no-b : b ≡ false) where
     abbrev exact-run : is_tree r.settings.method ≡ false
-    exact-run = fails-as b (is_tree r.settings.method) eb no-b
+    exact-run = sym eb ∙ no-b
 
     pub row-asks : RowRoom r (length y) (length P) (length F)
     row-asks = record { c-most = k.c-most; phase-in = k.phase-exact exact-run; positions-in = k.positions-in; square-in = k.square-in exact-run; total-in = k.total-in }
@@ -131,17 +130,17 @@ module _ (r : Run) (y v g P : List Float) (xs off : List ℕ) (F : List Float) (
   few-frames = k.settings.n-most
 
   module _ (b₁ : Bool) (e₁ : b₁ ≡ is_ended r.standing) where
-    pub over-told : T b₁ → (t : Turn) → t ≡ turn_as r Over → turned (state t.run (memory y v g P xs off F cs)) t.why ≡ unit (state r (memory y v g P xs off F cs))
+    pub over-told : b₁ ≡ true → (t : Turn) → t ≡ turn_as r Over → turned (state t.run (memory y v g P xs off F cs)) t.why ≡ unit (state r (memory y v g P xs off F cs))
     over-told yes₁ t et = ap (λ (x : Turn). turned (state x.run (memory y v g P xs off F cs)) x.why) et ∙
-        unit-over (state r (memory y v g P xs off F cs)) (holds_as b₁ (is_ended r.standing) e₁ yes₁)
+        unit-over (state r (memory y v g P xs off F cs)) (sym e₁ ∙ yes₁)
 
-    module _ (no₁ : T (not b₁)) (b₂ : Bool) (e₂ : b₂ ≡ eqb (group_of r) 0) where
+    module _ (no₁ : b₁ ≡ false) (b₂ : Bool) (e₂ : b₂ ≡ eqb (group_of r) 0) where
       live : is_ended r.standing ≡ false
-      live = fails-as b₁ (is_ended r.standing) e₁ no₁
+      live = sym e₁ ∙ no₁
 
-      module _ (yes₂ : T b₂) where
+      module _ (yes₂ : b₂ ≡ true) where
         group-0 : group_of r ≡ 0
-        group-0 = eqb-true (group_of r) 0 (holds_as b₂ (eqb (group_of r) 0) e₂ yes₂)
+        group-0 = eqb-true (group_of r) 0 (sym e₂ ∙ yes₂)
 
         pub tree-asks : TreeRoom r (length y) (nodes_of cs)
         tree-asks = tree-room (state r (memory y v g P xs off F cs)) k group-0
@@ -150,10 +149,10 @@ module _ (r : Run) (y v g P : List Float) (xs off : List ℕ) (F : List Float) (
             turned (state t.run (memory y v g P xs off F ds)) t.why ≡ unit (state r (memory y v g P xs off F cs))
         tree-told t ds e = tree_is (state r (memory y v g P xs off F cs)) live t.run (nodes_of ds) t.why group-0 e
 
-      module _ (no₂ : T (not b₂)) (b₃ : Bool) (e₃ : b₃ ≡ eqb (group_of r) 1) where
-        module _ (yes₃ : T b₃) where
+      module _ (no₂ : b₂ ≡ false) (b₃ : Bool) (e₃ : b₃ ≡ eqb (group_of r) 1) where
+        module _ (yes₃ : b₃ ≡ true) where
           group-1 : group_of r ≡ 1
-          group-1 = eqb-true (group_of r) 1 (holds_as b₃ (eqb (group_of r) 1) e₃ yes₃)
+          group-1 = eqb-true (group_of r) 1 (sym e₃ ∙ yes₃)
 
           pub force-asks : ForceRoom r (length y) (length P) (length F) P xs off (nodes_of cs)
           force-asks = force-room (state r (memory y v g P xs off F cs)) k group-1
@@ -162,7 +161,7 @@ module _ (r : Run) (y v g P : List Float) (xs off : List ℕ) (F : List Float) (
               → turned (state t.run (memory y v g P xs off F' cs)) t.why ≡ unit (state r (memory y v g P xs off F cs))
           force-told u F' e t et = ap (λ (x : Turn). turned (state x.run (memory y v g P xs off F' cs)) x.why) et ∙ force-is (state r (memory y v g P xs off F cs)) live u F' group-1 e
 
-        module _ (no₃ : T (not b₃)) where
+        module _ (no₃ : b₃ ≡ false) where
           pub finish-asks : FinishRoom r (length y) (length v) (length g) (length F)
           finish-asks = finish-room (state r (memory y v g P xs off F cs)) k
 
@@ -170,4 +169,4 @@ module _ (r : Run) (y v g P : List Float) (xs off : List ℕ) (F : List Float) (
               turned (state t.run (memory y' v' g' P xs off F cs)) t.why ≡ unit (state r (memory y v g P xs off F cs))
           finish-told t y' v' g' e =
               finish-is (state r (memory y v g P xs off F cs)) live t.run y' v' g' t.why
-              (eqb-false (group_of r) 0 (fails-as b₂ (eqb (group_of r) 0) e₂ no₂)) (eqb-false (group_of r) 1 (fails-as b₃ (eqb (group_of r) 1) e₃ no₃)) e
+              (eqb-false (group_of r) 0 (sym e₂ ∙ no₂)) (eqb-false (group_of r) 1 (sym e₃ ∙ no₃)) e
