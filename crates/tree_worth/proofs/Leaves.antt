@@ -120,7 +120,8 @@ module _ (c : ℕ) (t : Tree) (h : Tallied c 0 0 t) (some : 0 < t.used) where
         | no z ↦
             leaves-inner c ns g i z
             ∙ joined-nothing (λ b. leaves_of g c ns ((node_at ns i).first + b)) (2 ^ c)
-            (λ b lb. none_below g ((node_at ns i).first + b) (child-in i l z b lb) (sum-nothing (λ b. (node_at ns ((node_at ns i).first + b)).count) (2 ^ c) (sym (tally-whole c t h some i l z) ∙ e) b lb))
+            (λ b lb. none_below g ((node_at ns i).first + b) (child-in i l z b lb)
+            (sum-nothing (λ b. (node_at ns ((node_at ns i).first + b)).count) (2 ^ c) (sym (tally-whole c t h some i l z) ∙ e) b lb))
       ]
 
   -- any number of levels that reaches the last used node gives the same

@@ -10,7 +10,7 @@ loop-i-init c =
 
 pub kl_list-s-requires : goal.kl_list-s-requires
 kl_list-s-requires c =
-    record { i_lt_n = (c.loop-i-test.true, c.requires.c_in_bounds); linked = c.requires.all_linked _ c.loop-i-test.true; }
+    record { i_lt_n = (c.loop-i-test.true, c.requires.c_in_bounds); linked = c.requires.all_linked _ c.loop-i-test.true }
 
 pub loop-i-preserved : goal.loop-i-preserved
 loop-i-preserved c =

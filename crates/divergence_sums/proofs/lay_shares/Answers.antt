@@ -12,12 +12,11 @@ loop-k-init c =
     (refl, loop-start _ _ _)
 
 pub num-requires : goal.num-requires
-num-requires c =
-    (
-      row_in _ c.args.n _ _ c.requires.0 c.requires.2,
-      row_in _ c.args.n _ _
-          (omega (arith, c.requires.1, c.loop-k-test.true)) c.requires.2,
-    )
+num-requires c = (
+  row_in _ c.args.n _ _ c.requires.0 c.requires.2,
+  row_in _ c.args.n _ _
+      (omega (arith, c.requires.1, c.loop-k-test.true)) c.requires.2,
+)
 
 pub loop-k-preserved : goal.loop-k-preserved
 unfolding kl_share
