@@ -2,7 +2,6 @@ use mathlib.Core.Path.{refl}
 use Rattle.laws.proofs.Numbers.{row_in}
 use Rattle.laws.proofs.Loops.{loop-start, loop-next, loop-done}
 use Rattle.divergence_sums.specs.Sums.{kl_share}
-use Prim.Native.Nat.{◌-◌}
 use borrow.Author.Rules.{rules}
 use native.Mathlib.Omega.{arith}
 use Rattle.divergence_sums.proofs.lay_shares.Goals as goal
