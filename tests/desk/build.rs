@@ -1,4 +1,4 @@
-//! Links libdesk.a: from the folder that BROTHANCHOR_LIBRARY names, else from where `rt staticlib desk` writes it.
+//! Links libdesk.a: from the folder that BROTHANCHOR_LIBRARY names, else from where tools/staticlib writes it.
 
 use std::env;
 use std::path::PathBuf;

@@ -1,15 +1,16 @@
 -- From the rows of all frames to their lists: what the symmetrising asks holds, and what it gives is the definition. Assumes nothing.
 use mathlib.Core.Path.{◌≡◌, ap, ◌∙◌, sym, subst}
-use mathlib.Core.List.{List}
+use mathlib.Core.List.{List, ◌++◌}
 use Prim.Native.Nat.{ℕ, ◌+◌, ◌-◌, ◌*◌, ◌<◌, ◌≤◌, min, max}
 use native.Mathlib.Omega.{arith}
 use native.Mathlib.Nat.{le-max_left, max-le, min-le_right}
-use lib.ListN.{length, drop}
+use lib.ListN.{length, drop, replicate}
 use lib.Ieee.{Float, binary64, mul}
 use Rattle.laws.specs.Domain.{most_frames}
 use Rattle.laws.specs.Loops.{loop}
 use Rattle.elementary.specs.Limits.{ceil_of, three64, neighbours_of}
-use Rattle.affinity_lists.specs.Lists.{Rows, areas, lists_made, Prepared}
+use Rattle.affinity_lists.specs.Lists.{Rows, areas, lists_made, Prepared, weights_all, indices_of, offsets_of}
+use Rattle.laws.specs.Area.{zero64}
 use Rattle.laws.specs.Joined.{laid}
 use Rattle.affinity.specs.Steps.{shares_left, frames_left}
 use Rattle.affinity.specs.Neighbours.{values_in, frames_in, neighbour_row, neighbours_listed}
@@ -67,4 +68,10 @@ module _ (n : ℕ) (perplexity : Float) (k : ℕ) (e : k ≡ neighbours_of perpl
     pub lists-done : 2 ≤ n → n ≤ length X → n ≤ length R → X₁ ≡ loop (shares_left t n f k perplexity) n 0 X → R₁ ≡ loop (frames_left t n f k) n 0 R →
         lists_made n k (areas W₁ I₁ O X₁ R₁) ≡ neighbours_listed t n f perplexity (areas W I O X R)
     unfolding neighbours_listed
-    lists-done two h_x h_r x r = rw (w, j, ap (drop n) x ∙ (shares-scratch t n f k (k-below two) perplexity X h_x).tail, ap (drop n) r ∙ (frames-scratch t n f k (k-below two) R h_r).tail, e)
+    lists-done two h_x h_r x r =
+        let q = neighbours_of perplexity n in
+        let w' : W₁ ≡ laid (λ i. values_in (neighbour_row t n f q perplexity i)) q n W = w ∙ (λ h. laid (λ i. values_in (neighbour_row t n f (e h) perplexity i)) (e h) n W) in
+        let j' : I₁ ≡ laid (λ i. frames_in (neighbour_row t n f q perplexity i)) q n I = j ∙ (λ h. laid (λ i. frames_in (neighbour_row t n f (e h) perplexity i)) (e h) n I) in
+        let x' : drop n X₁ ≡ drop n X = ap (drop n) x ∙ (shares-scratch t n f k (k-below two) perplexity X h_x).tail in
+        let r' : drop n R₁ ≡ drop n R = ap (drop n) r ∙ (frames-scratch t n f k (k-below two) R h_r).tail in
+        λ h. areas (weights_all n (e h) (j' h) (w' h)) (indices_of n (e h) (j' h)) (offsets_of n (e h) (j' h) O) (replicate n zero64 ++ x' h) (replicate n 0 ++ r' h)

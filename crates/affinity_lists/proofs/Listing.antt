@@ -12,7 +12,7 @@ use lib.ListN.{length, set, take, drop, length-append, length-set, get_or-append
 use lib.Seq.{get_or-drop, get_or-set_same, get_or-set_other, drop-set-lt}
 use borrow.Author.Tests.{eq-eqb, ne_eqb, lt-ltb, le-ltb}
 use Rattle.laws.specs.Domain.{most_frames}
-use Rattle.laws.specs.Area.{at, num, zero64}
+use Rattle.laws.specs.Area.{num, zero64}
 use Rattle.laws.specs.Joined.{those, ending}
 use Rattle.laws.proofs.Numbers.{row_in}
 use Rattle.laws.proofs.Bools.{or_right}

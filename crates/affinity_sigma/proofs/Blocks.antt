@@ -5,11 +5,11 @@ use mathlib.Core.List.{List}
 use mathlib.Core.Bool.{Bool, true, false, not, cond, ◌&&◌, ◌||◌, true≢false}
 use Prim.Native.Nat.{ℕ, zero, suc, ◌+◌, ◌-◌, ◌*◌, ◌^◌, ◌<◌, ◌≤◌}
 use native.Mathlib.Omega.{arith}
-use native.Mathlib.Nat.{add-zero, le_of_lt, le_of_eq, le_antisymm}
+use native.Mathlib.Nat.{le_of_lt, le_of_eq, le_antisymm}
 use lib.IntN.{ℤ, pos, negsuc, neg_ℤ, nat_abs, pos-ne-negsuc}
-use lib.ListN.{length, get_or, set}
-use lib.Dec.{T, ltb, eqb}
-use lib.Ieee.{Float, nan, inf, fin, binary64, up, down, neg, mul, div, lt, le, eq, ne, of_bits}
+use lib.ListN.{length, set}
+use lib.Dec.{ltb, eqb}
+use lib.Ieee.{Float, nan, inf, fin, binary64, up, down, neg, div, lt, le, eq, ne, of_bits}
 use lib.Ieee.Fits.{down_pos}
 use borrow.Author.Tests.{ltb-true, ltb-false, le-ltb, eqb-true}
 use denote.Floats.{passes}
@@ -17,12 +17,12 @@ use mir.Syntax.{w32}
 use mir.Val.{SFits}
 use lib.Ieee.Compare.{differs_from_itself}
 use Rattle.laws.specs.Loops.{loop, every}
-use Rattle.laws.specs.Area.{at, num, zero64, one64}
+use Rattle.laws.specs.Area.{at, num, zero64}
 use Rattle.laws.proofs.Bools.{two, not-true-is, and_left, and_right}
 use Rattle.laws.proofs.Loops.{loop-moved}
 use Rattle.laws.proofs.Every.{every-at, every-step}
 use Rattle.laws.proofs.Written.{written_at}
-use Rattle.elementary.specs.Exp.{ln2, low745, low708, high709, whole_near, signed, near_up, exp_k, exp_t, exp_in, exp_of, at_most, from_minus, power}
+use Rattle.elementary.specs.Exp.{ln2, low745, low708, high709, whole_near, signed, near_up, exp_k, exp_in, at_most, from_minus, power}
 use Rattle.elementary.proofs.Range.{quotient, quotient-plus, quotient-minus, bottom, near_le, exp-quotient, exp-range, exp-in}
 use Rattle.elementary.proofs.Powers.{raised}
 use Rattle.elementary.proofs.Sizes.{sign_plus, signed_round, bounded}

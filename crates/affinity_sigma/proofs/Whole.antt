@@ -1,15 +1,15 @@
 -- A value's whole part, by rounding beside 2^52: what the proof of `half_up` cites. Assumes nothing.
 use mathlib.Core.Path.{◌≡◌, refl, sym, ap, subst, ◌∙◌}
-use mathlib.Core.Bool.{Bool, true, false, not, true≢false}
-use Prim.Native.Nat.{ℕ, zero, suc, ◌+◌, ◌-◌, ◌*◌, ◌/◌, ◌^◌, ◌<◌, ◌≤◌, min}
+use mathlib.Core.Bool.{true, false, not, true≢false}
+use Prim.Native.Nat.{ℕ, suc, ◌+◌, ◌-◌, ◌*◌, ◌/◌, ◌^◌, ◌<◌, ◌≤◌, min}
 use native.Mathlib.Omega.{arith}
-use native.Mathlib.Nat.{le_trans, le_of_eq, le_of_lt, lt_irrefl, lt_of_lt_of_le, lt_of_not-le, not-le_of_lt, mul-one, one-mul, mul_comm, mul_assoc}
+use native.Mathlib.Nat.{le_trans, le_of_eq, lt_irrefl, lt_of_lt_of_le, lt_of_not-le, mul-one, one-mul, mul_comm}
 use native.Mathlib.Nat.{mul_right_comm, mul-pos, mul-le-mul_right, mul-le-mul, add-mul, le-div_iff_mul-le, div-lt_iff_lt-mul, lt_of_mul-lt-mul_right}
 use native.Mathlib.Nat.{le_of_mul-le-mul_right, pow-succ', div-le_of_le-mul, le_refl, le_antisymm, suc-mul, le_of_suc-le-suc, lt_of_le_of_lt, not-suc-le-zero}
 use native.Mathlib.Nat.{zero-mul}
 use lib.Pow.{pow_pos}
 use lib.IntN.{ℤ, pos, negsuc}
-use lib.Dec.{T, ltb, lit<, lit≤, le→leb}
+use lib.Dec.{T, lit<, lit≤, le→leb}
 use lib.Ieee.{Float, nan, inf, fin, binary64, up, down, round, sum, add, sub, neg, lt, fits, of_int, of_bits, in_float, in_signed, to_signed, to_unsigned}
 use lib.Ieee.Exact.{HasValue}
 use lib.Ieee.Fits.{down_pos, round-fits, of_int-fits}

@@ -1,4 +1,4 @@
--- What the entry tests show of a run that is handed out, what is answered in each case, and what the walk of the call cites. Assumes nothing.
+-- What the entry tests show of a run that is handed out, what is answered in each case, and what the call cites. Assumes nothing.
 use mathlib.Core.List.{List}
 use mathlib.Core.Path.{◌≡◌, sym, ap, subst, ◌∙◌}
 use mathlib.Core.Bool.{true, false}
@@ -96,7 +96,7 @@ hand-room w m e =
       positions-long = frames-within (num w 0) (num w 2) (length m.positions) s.settings.c-some s.areas.positions-long;
     }
 
--- ---- what the walk of the call cites, with the machine's counts of the areas
+-- ---- what the call cites, with the machine's counts of the areas
 
 module _ (w : List ℕ) (P I G A : List Float) (xs off : List ℕ) (F : List Float) (cs : List Cell) (p i g a f : ℕ) (lp : length P ≡ p) (li : length I ≡ i)
     (lg : length G ≡ g) (la : length A ≡ a) (lf : length F ≡ f)

@@ -1,4 +1,4 @@
--- What the entry tests on words show of a run that is parked, what the loop that writes its words keeps, and what the walk of the call cites. Assumes nothing.
+-- What the entry tests on words show of a run that is parked, what the loop that writes its words keeps, and what the call cites. Assumes nothing.
 use mathlib.Core.List.{List, ◌++◌, append_assoc}
 use mathlib.Core.Path.{◌≡◌, refl, sym, ap, subst, ◌∙◌}
 use mathlib.Core.Bool.{Bool, true, false, ◌&&◌}
@@ -184,7 +184,7 @@ module _ (f : Fault) (d : Stored) (t : List ℕ) where
         unfolding park_tested
         written-said h t' q = rw (e, eq-eqb (num d.run 11) 0 z, sym el, c, le-ltb (length t) (8 * l.end) h, q)
 
--- ---- what the walk of the call cites, with the machine's counts of the areas
+-- ---- what the call cites, with the machine's counts of the areas
 
 module _ (w P I G A xs off : List ℕ) (f : ℕ) (cs : List Cell) (p i g a : ℕ) (lp : length P ≡ p) (li : length I ≡ i) (lg : length G ≡ g) (la : length A ≡ a)
     (t : Fault) (et : t ≡ words_fault w p i g a f xs off (nodes_of cs)) where

@@ -1,20 +1,19 @@
 -- A list is accepted exactly when the rules hold. The premise is that frames are numbered by 32 bits; nothing else is assumed.
 use mathlib.Core.Path.{◌≡◌, refl, sym, ap, subst, ◌∙◌}
 use mathlib.Core.List.{List}
-use mathlib.Core.Logic.{◌⊎◌, inl, inr, ⊎_elim}
-use mathlib.Core.Bool.{Bool, true, false, not, ◌&&◌, ◌||◌, true≢false}
-use Prim.Native.Nat.{ℕ, zero, suc, ◌+◌, ◌-◌, ◌*◌, ◌/◌, ◌%◌, ◌<◌, ◌≤◌}
+use mathlib.Core.Logic.{inl, inr, ⊎_elim}
+use mathlib.Core.Bool.{Bool, true, false, not, ◌&&◌, true≢false}
+use Prim.Native.Nat.{ℕ, zero, suc, ◌+◌, ◌-◌, ◌<◌, ◌≤◌}
 use native.Mathlib.Omega.{arith}
 use native.Mathlib.Decide.{dec_lt}
 use lib.Dec.{eqb, ltb}
-use lib.ListN.{length}
 use borrow.Author.Tests.{eq-eqb, ne_eqb, eqb-true, lt-ltb, ltb-true}
 use Rattle.laws.specs.Area.{bits}
 use Rattle.laws.specs.Loops.{first}
 use Rattle.laws.proofs.First.{first-none, first-all}
 use Rattle.laws.proofs.Bools.{and_left, and_right}
 use Rattle.run_record.specs.Record.{positive}
-use Rattle.partner.specs.Partner.{link_bytes, whole_links, given_links, link_from, link_to, link_weight, link_pair, link_fine, is_mirror, mirrored, partner_fine, first_bad_link, is_partner}
+use Rattle.partner.specs.Partner.{whole_links, given_links, link_from, link_to, link_weight, link_pair, link_fine, is_mirror, mirrored, partner_fine, first_bad_link, is_partner}
 use Rattle.partner.specs.Rules.{PairBefore, Mirrors, PartnerRules}
 use Rattle.partner.proofs.Fine.{is_raised, fine-rest}
 use Rattle.partner.proofs.Mirrors.{met_at, met_some, mirror-weight}

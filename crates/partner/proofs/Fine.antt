@@ -1,14 +1,14 @@
 -- A record by itself: each rule that fails refuses it, and the weight's is the last. Assumes nothing.
-use mathlib.Core.Path.{◌≡◌, refl, sym, ◌∙◌}
+use mathlib.Core.Path.{◌≡◌}
 use mathlib.Core.List.{List}
-use mathlib.Core.Bool.{Bool, true, false, not, ◌&&◌, ◌||◌}
+use mathlib.Core.Bool.{Bool, true, false, ◌&&◌, ◌||◌}
 use Prim.Native.Nat.{ℕ, ◌-◌, ◌<◌, ◌≤◌}
 use lib.Dec.{eqb, ltb}
 use borrow.Author.Tests.{eq-eqb, ne_eqb, lt-ltb, le-ltb}
 use Rattle.laws.specs.Area.{bits}
 use Rattle.laws.proofs.Bools.{and_no}
 use Rattle.run_record.specs.Record.{positive}
-use Rattle.partner.specs.Partner.{link_from, link_to, link_weight, link_pair, link_fine, is_mirror}
+use Rattle.partner.specs.Partner.{link_from, link_to, link_weight, link_pair, link_fine}
 
 module _ (n most : ℕ) (f : List ℕ) (i : ℕ) where
   abbrev pub is_raised : Bool

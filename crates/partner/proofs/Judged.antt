@@ -1,17 +1,14 @@
 -- Which records rise, and the first at which a rule fails. Assumes nothing.
 use mathlib.Core.Path.{◌≡◌, refl, sym, ap, subst, ◌∙◌}
 use mathlib.Core.List.{List}
-use mathlib.Core.Logic.{⊎_elim}
 use mathlib.Core.Bool.{Bool, true, false, not, ◌&&◌, ◌||◌, true≢false}
-use Prim.Native.Nat.{ℕ, zero, suc, ◌+◌, ◌-◌, ◌/◌, ◌<◌, ◌≤◌}
+use Prim.Native.Nat.{ℕ, zero, suc, ◌+◌, ◌-◌, ◌<◌, ◌≤◌}
 use native.Mathlib.Omega.{arith}
 use native.Mathlib.Decide.{dec_lt}
 use lib.Dec.{eqb, ltb}
-use lib.ListN.{length}
-use borrow.Author.Tests.{eqb-true, ne_eqb, lt-ltb, le-ltb, ltb-true}
+use borrow.Author.Tests.{ne_eqb, lt-ltb, le-ltb, ltb-true}
 use Rattle.laws.specs.Loops.{first}
-use Rattle.laws.proofs.First.{first_some, first_holds, first-none, first-le, first-before, first-all, first-at}
-use Rattle.laws.proofs.Bools.{two, and_left, and_right, not-true-is}
+use Rattle.laws.proofs.First.{first_holds, first-none, first-le, first-before, first-at}
 use Rattle.partner.specs.Partner.{whole_links, given_links, link_pair, link_fine, mirrored, partner_fine, first_bad_link, PairsRise}
 
 -- ---- pairs that rise one after the other

@@ -1,17 +1,17 @@
 -- The mirror of a record: where it can stand, and the file searched in parts. Assumes nothing.
-use mathlib.Core.Path.{◌≡◌, refl, sym, ap, subst, ◌∙◌}
+use mathlib.Core.Path.{◌≡◌, sym, subst, ◌∙◌}
 use mathlib.Core.List.{List}
 use mathlib.Core.Logic.{⊎_elim}
-use mathlib.Core.Bool.{Bool, true, false, not, ◌&&◌, ◌||◌, true≢false}
+use mathlib.Core.Bool.{Bool, true, false, ◌&&◌, true≢false}
 use Prim.Native.Nat.{ℕ, ◌+◌, ◌-◌, ◌<◌, ◌≤◌}
 use native.Mathlib.Omega.{arith}
 use native.Mathlib.Decide.{dec_lt}
-use lib.Dec.{eqb, ltb}
+use lib.Dec.{eqb}
 use borrow.Author.Tests.{eq-eqb, ne_eqb, eqb-true, lt-ltb, le-ltb, ltb-true}
 use Rattle.laws.specs.Loops.{first}
-use Rattle.laws.proofs.First.{first_some, first_holds, first-none, first-le, first-before, first-all, first-at}
+use Rattle.laws.proofs.First.{first_some, first_holds, first-none}
 use Rattle.laws.proofs.Bools.{two, and_left, and_right, and_no, not-true-is}
-use Rattle.partner.specs.Partner.{whole_links, link_from, link_to, link_weight, link_pair, turned_pair, pair_of, link_fine, is_mirror, mirrored_in, mirrored, PairsRise}
+use Rattle.partner.specs.Partner.{link_from, link_to, link_weight, link_pair, turned_pair, is_mirror, mirrored_in, PairsRise}
 use Rattle.laws.proofs.Bisects.{Bisects, bisects-done}
 
 module _ (f : List ℕ) (i : ℕ) where

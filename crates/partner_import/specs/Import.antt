@@ -7,7 +7,6 @@ use Rattle.elementary.specs.Limits.{in_domain}
 use Rattle.areas.specs.Filled.{filled}
 use Rattle.run_record.specs.declared.Method.TheVariants.{BarnesHut}
 use Rattle.run_record.specs.declared.Settings.{Settings}
-use Rattle.run_record.specs.declared.Run.{Run}
 use Rattle.run_record.specs.Record.{settings_fault, sizes_of, fresh_run}
 use Rattle.run_entry.specs.Entry.{areas_fit}
 use Rattle.partner.specs.Partner.{first_bad_link, is_partner}

@@ -1,4 +1,4 @@
--- Lists of records written one after the other, what the entry tests on words show of a run whose lists are written, and what the walk of the call cites. Assumes nothing.
+-- Lists of records written one after the other, what the entry tests on words show of a run whose lists are written, and what the call cites. Assumes nothing.
 use mathlib.Core.List.{List, [], ◌++◌, append_assoc, append-nil}
 use mathlib.Core.Path.{◌≡◌, refl, sym, ap, subst, ◌∙◌}
 use mathlib.Core.Bool.{true, false, ◌&&◌}
@@ -208,7 +208,7 @@ module _ (f : Fault) (w W I O t : List ℕ) where
       unfolding lists_tested
       lists-told h t' q = rw (e, eq-eqb (num w 3) 1 m, le-ltb (length t) (16 * num O (num w 0)) h, q)
 
--- ---- what the walk of the call cites, with the machine's counts of the areas
+-- ---- what the call cites, with the machine's counts of the areas
 
 module _ (w P I G A xs off : List ℕ) (f : ℕ) (cs : List Cell) (p i g a : ℕ) (lp : length P ≡ p) (li : length I ≡ i) (lg : length G ≡ g) (la : length A ≡ a)
     (t : Fault) (et : t ≡ words_fault w p i g a f xs off (nodes_of cs)) where

@@ -1,5 +1,5 @@
 -- A replay list is a row of little-endian words; a tally counts what was compared. Definitions only.
-use Rattle.std.specs.Prelude.{◌≡◌, ℕ, ◌+◌, ◌*◌, ◌/◌, ◌%◌, ◌^◌, Bool, cond, List, length, ℤ, negsuc, ◌==◌, nat_lt}
+use Rattle.std.specs.Prelude.{◌≡◌, ℕ, ◌+◌, ◌*◌, ◌/◌, ◌%◌, ◌^◌, Bool, cond, List, length, ◌==◌, nat_lt, OnErr, Result}
 use Rattle.little.specs.Little.{little_of}
 use Rattle.replay.specs.declared.Tally.{Tally}
 
@@ -17,6 +17,6 @@ tallied t right =
     (cond (t.wrong == 0) (record { cases = (t.cases + 1) % 2 ^ 64; wrong = 1; first = t.cases })
     (record { cases = (t.cases + 1) % 2 ^ 64; wrong = (t.wrong + 1) % 2 ^ 64; first = t.first }))
 
--- a descriptor below 0 is of no file: nothing is read from it into l
-abbrev pub Unread : ℤ → ℕ → List ℕ → List ℕ → Type 0
-Unread fd r l m = (k : ℕ) → fd ≡ negsuc k → (r ≡ 0) × (m ≡ l)
+-- where opening failed there is no file: nothing is read from it into l
+abbrev pub Unread : {F E : Type 0} → Result F E → ℕ → List ℕ → List ℕ → Type 0
+Unread opened r l m = OnErr opened ((r ≡ 0) × (m ≡ l))

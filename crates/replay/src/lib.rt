@@ -4,14 +4,16 @@
 
 pub mod areas;
 
-ghost use Rattle.std.specs.Prelude.{◌≡◌, ◌+◌, ◌≤◌, length, take};
+ghost use Rattle.std.specs.Prelude.{◌≡◌, ◌+◌, ◌≤◌, length, take, IfOk};
 ghost use Rattle.io.specs.Counts.{IsPrefixLen};
 ghost use Rattle.laws.specs.Joined.{written};
 ghost use Rattle.text.specs.Text.{Puts};
 ghost use Rattle.replay.specs.Replay.{word_of, tallied, no_tally, Unread};
 ghost use Rattle.replay.specs.Line.{counts_text, first_text, tallied_text};
 
-use libc::STDOUT_FILENO;
+use std::fs::File;
+use std::io::{Read, Write};
+use std::rt::Files;
 use text::{put, put_decimal};
 
 // How a replay went so far.
@@ -73,24 +75,37 @@ pub fn word_at(list: &[u8], i: usize) -> u64
     0
 }
 
-// Reads into the list what is open as fd, and closes it. Where fd is below 0 nothing is open: 0, and the list is as it was.
-fn read_open(fd: i32, list: &mut [u8]) -> usize
+// Reads into the list what is open, and closes it. Where nothing could be opened: 0, and the list is as it was.
+fn read_open<F: Read + Drop>(opened: std::io::Result<F>, list: &mut [u8]) -> usize
     ensures prefix_len { IsPrefixLen result list.new }
-    ensures unread { Unread fd result list.old list.new }
+    ensures unread { Unread opened result list.old list.new }
 {
-    if fd < 0 {
-        return 0;
+    match opened {
+        Err(_) => 0,
+        Ok(mut file) => read_full(&mut file, list),
     }
-    let n = io::read_full(fd, list);
-    libc::close(fd);
-    n
+}
+
+// Reads until the list is full, the file ends or a read fails; answers how many bytes it put at the start of the list.
+fn read_full(file: &mut impl Read, list: &mut [u8]) -> usize
+    ensures { IsPrefixLen result list.new }
+{
+    let mut done = 0;
+    while done < list.len() {
+        match file.read(&mut list[done..]) {
+            Ok(0) => break,
+            Ok(n) => done += n,
+            Err(_) => break,
+        }
+    }
+    done
 }
 
 // Reads the file into the list, and answers how many bytes it has; 0 where it cannot be read.
-pub fn load(path: &[u8], list: &mut [u8]) -> usize
+pub fn load(rt: &impl Files, path: &str, list: &mut [u8]) -> usize
     ensures { IsPrefixLen result list.new }
 {
-    read_open(os::open_read(path), list)
+    read_open(File::open(rt, path), list)
 }
 
 // ---- the line of a tally
@@ -150,12 +165,12 @@ pub fn tally_text(name: &[u8], t: Tally, out: &mut [u8; 200]) -> usize
     put_tally(out, name, t)
 }
 
-// Prints that line, and answers how many bytes it has.
-pub fn print(name: &[u8], t: Tally) -> usize
-    ensures { result ≡ length (tallied_text name.now t) }
+// Prints that line, and answers how many bytes it has, or why it could not be written whole.
+pub fn print(rt: &impl Print, name: &[u8], t: Tally) -> std::io::Result<usize>
+    ensures { IfOk result (λ n. n ≡ length (tallied_text name.now t)) }
 {
     let mut out = [0u8; 200];
     let n = tally_text(name, t, &mut out);
-    io::write_all(STDOUT_FILENO, &out[..n]);
-    n
+    std::io::writer(rt).write_all(&out[..n])?;
+    Ok(n)
 }

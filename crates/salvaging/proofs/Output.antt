@@ -11,7 +11,6 @@ use lib.Seq.{ext_get_or}
 use borrow.Author.Tests.{eq-eqb, ne_eqb, eqb-true, eqb-false, ltb-true, ltb-false}
 use Rattle.laws.specs.Area.{num}
 use Rattle.laws.specs.Loops.{first}
-use Rattle.laws.specs.Joined.{those}
 use Rattle.laws.proofs.Bools.{by_bool, and_left, and_right}
 use Rattle.laws.proofs.First.{first_holds, first-before, first-all}
 use Rattle.laws.proofs.Joined.{those-below, those-holds, joined_at}
@@ -100,7 +99,8 @@ module _ (f : List ℕ) where
     good-and-follows = sym (kept-by-tests f from from-below) ∙ from-kept
 
     out-good : good_alone (bytes_kept f whole) (j * record_bytes) ≡ true
-    out-good = alone-alike (bytes_kept f whole) f (j * record_bytes) (from * record_bytes) byte_of ∙ and_left (good_alone f (from * record_bytes)) (follows_last f (last_kept f from) from) good-and-follows
+    out-good = alone-alike (bytes_kept f whole) f (j * record_bytes) (from * record_bytes) byte_of ∙ and_left (good_alone f (from * record_bytes))
+        (follows_last f (last_kept f from) from) good-and-follows
 
     out-follows : follows_last f (last_kept f from) from ≡ true
     out-follows = and_right (good_alone f (from * record_bytes)) (follows_last f (last_kept f from) from) good-and-follows

@@ -11,7 +11,6 @@ use lib.ListN.{get_or-append, length, take, drop}
 use lib.Seq.{take_at, drop_at, take_all, take-append-le}
 use borrow.Author.Tests.{lt-ltb, ltb-true, eqb-true, eqb-false, not-true}
 use Rattle.laws.specs.Area.{num}
-use Rattle.laws.specs.Joined.{those}
 use Rattle.laws.proofs.Bools.{two, by_bool, or_yes}
 use Rattle.laws.proofs.Joined.{those-at, those-below, those-holds, those-rise, length-map, get_or-map-in, joined-mono}
 use Rattle.frames.specs.declared.Frames.{Frames}

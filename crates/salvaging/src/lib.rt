@@ -1,4 +1,3 @@
 // No code: what holds of every frame file that is salvaged (specs/, proofs/).
 
 #![tactic(auto)]
-

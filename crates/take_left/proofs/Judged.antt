@@ -1,28 +1,26 @@
 -- The tests of what would be left, one after the other: what each has shown, and what is told where it fails. Assumes nothing.
 use mathlib.Core.Path.{◌≡◌, refl, sym, ap, subst, ◌∙◌}
 use mathlib.Core.List.{List}
-use mathlib.Core.Bool.{Bool, true, false, cond, not, true≢false}
-use Prim.Native.Nat.{ℕ, ◌+◌, ◌-◌, ◌*◌, ◌<◌, ◌≤◌}
+use mathlib.Core.Bool.{Bool, true, false, cond}
+use Prim.Native.Nat.{ℕ, ◌-◌, ◌<◌, ◌≤◌}
 use native.Mathlib.Omega.{arith}
 use native.Mathlib.Nat.{le_refl}
-use lib.Dec.{eqb, ltb}
+use lib.Dec.{ltb}
 use lib.IntN.{pos}
 use lib.ListN.{length}
 use lib.Ieee.{Float, binary64, of_int, lt}
 use borrow.Author.Tests.{eq-eqb, ne_eqb, lt-ltb, le-ltb}
 use Rattle.laws.specs.Area.{num}
-use Rattle.laws.proofs.Bools.{and_no}
 use Rattle.run_record.specs.declared.Settings.{Settings}
 use Rattle.run_record.specs.declared.Sizes.{Sizes}
 use Rattle.run_record.specs.declared.Run.{Run}
 use Rattle.run_record.specs.Record.{is_tree, sizes_of, late_fault, GoodSettings}
-use Rattle.take_gone.specs.Gone.{gone_fine, survivors, Climbs}
+use Rattle.take_gone.specs.Gone.{gone_fine, survivors}
 use Rattle.take_gone.proofs.Left.{survivors-count, survivors-few, survivors-climb, gone-climbs}
 use Rattle.take_rows.proofs.Survive.{survivors-kept}
 use Rattle.take_calm.specs.CalmLeft.{calm_left}
-use Rattle.take_lists.specs.Packed.{links_left, Listed}
+use Rattle.take_lists.specs.Packed.{links_left}
 use Rattle.take_lists.proofs.Bounds.{before-all}
-use Rattle.take_left.specs.declared.Outlook.{Outlook}
 use Rattle.take_left.specs.declared.Outlook.TheVariants.{Left, Inside, Unordered, Few, Perplexed, Crowded, Barred}
 use Rattle.take_left.specs.Outlook.{thinned, crowded, outlook_of, OutlookRoom, CountRoom}
 

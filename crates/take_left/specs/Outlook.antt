@@ -1,5 +1,5 @@
 -- What the tests say once those of a work call have passed, of what would be left. Definitions only.
-use Rattle.std.specs.Prelude.{List, ◌≡◌, Bool, true, cond, not, ◌&&◌, ℕ, ◌+◌, ◌*◌, ◌<◌, ◌≤◌, eqb, ltb, pos, length, Float}
+use Rattle.std.specs.Prelude.{List, ◌≡◌, Bool, true, cond, not, ◌&&◌, ℕ, ◌*◌, ◌<◌, ◌≤◌, eqb, ltb, pos, length, Float}
 use Rattle.std.specs.Float.{binary64}
 use Rattle.std.specs.Float.Ieee.{of_int, lt}
 use Rattle.laws.specs.Area.{num}

@@ -1,5 +1,5 @@
 -- Neighbour lists from which frames are taken out. W, I and O are weights, indices and offsets; keep the old places of the frames that are left. Definitions only.
-use Rattle.std.specs.Prelude.{List, map, ◌≡◌, Bool, ℕ, ◌+◌, ◌-◌, ◌<◌, ◌≤◌, length}
+use Rattle.std.specs.Prelude.{List, map, ◌≡◌, ℕ, ◌+◌, ◌-◌, ◌<◌, ◌≤◌, length}
 use Rattle.laws.specs.Sums.{sum}
 use Rattle.laws.specs.Area.{num}
 use Rattle.laws.specs.Joined.{those, joined, each}

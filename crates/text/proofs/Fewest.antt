@@ -1,6 +1,6 @@
 -- What the digits that `io` spells are: the fewest of a number in decimal, and 16 in hex. Assumes nothing.
 use mathlib.Core.Path.{◌≡◌, sym, ap, subst, ◌∙◌}
-use Prim.Native.Nat.{ℕ, ◌+◌, ◌-◌, ◌*◌, ◌^◌, ◌<◌, ◌≤◌}
+use Prim.Native.Nat.{ℕ, ◌+◌, ◌-◌, ◌^◌, ◌<◌, ◌≤◌}
 use native.Mathlib.Omega.{arith}
 use native.Mathlib.Decide.{dec_lt}
 use native.Mathlib.Nat.{le_antisymm, le_trans, pow-le-pow_right}
@@ -9,7 +9,6 @@ use lib.Dec.{ltb}
 use lib.ListN.{length}
 use borrow.Author.Tests.{lt-ltb, le-ltb}
 use Rattle.io.specs.Digits.{last_digits, IsDigitCount}
-use Rattle.laws.specs.Loops.{first}
 use Rattle.laws.proofs.First.{first-at}
 use Rattle.text.specs.Text.{decimals, decimal_of, hex_of, Puts}
 

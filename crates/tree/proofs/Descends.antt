@@ -1,16 +1,14 @@
--- What the walks of the root, of a level and of the dry descent cite, over the nodes. Assumes nothing.
+-- What the proofs of the root, of a level and of the dry descent cite, over the nodes. Assumes nothing.
 use mathlib.Core.Path.{◌≡◌, refl, sym, ap, subst, ◌∙◌}
 use mathlib.Core.List.{List}
-use mathlib.Core.Bool.{Bool, true, false, not, cond, true≢false}
+use mathlib.Core.Bool.{Bool, true, false, cond, true≢false}
 use Prim.Native.Nat.{ℕ, suc, ◌+◌, ◌-◌, ◌*◌, ◌<◌, ◌≤◌, ◌^◌}
 use native.Mathlib.Omega.{arith}
-use lib.Dec.{T}
 use lib.ListN.{length, set, length-set}
 use lib.Ieee.{Float}
 use lib.Pow.{pow_mono}
 use borrow.Author.Tests.{eq-eqb, ne_eqb, ltb-true, ltb-false, not-true, not-false}
 use native.Mathlib.Decide.{ℕ_discrete}
-use Rattle.lent.proofs.Holds.{holds_as, fails-as}
 use Rattle.laws.specs.Domain.{deepest, most_word}
 use Rattle.laws.proofs.Numbers.{row_in}
 use Rattle.laws.proofs.Loops.{Loops, loop-start, loop-next, loop-done}
@@ -64,9 +62,9 @@ module _ (s₀ : Split) (ns₀ : List Node) (s : Split) (cs : List Cell) (k : Ma
   abbrev fresh-same : s.out.fresh ≡ s₀.out.fresh
   fresh-same = ap (λ (x : Out). x.fresh) k.out-same
 
-  module _ (y : T b) where
+  module _ (y : b ≡ true) where
     pub making-less : s.made < s₀.out.fresh
-    making-less = subst (λ (x : ℕ). s.made < x) fresh-same (ltb-true s.made s.out.fresh (holds_as b (splits_on s) eb y))
+    making-less = subst (λ (x : ℕ). s.made < x) fresh-same (ltb-true s.made s.out.fresh (sym eb ∙ y))
 
     place_same : child_place s ≡ s₀.out.node.first + s.made
     place_same = ap (λ (x : Out). x.node.first + s.made) k.out-same
@@ -102,9 +100,9 @@ module _ (s₀ : Split) (ns₀ : List Node) (s : Split) (cs : List Cell) (k : Ma
     pub making-nearer : (z : Split) → z ≡ made_of s → s₀.out.fresh - z.made < s₀.out.fresh - s.made
     making-nearer z ez = let e : z.made ≡ s.made + 1 = ap (λ (u : Split). u.made) ez in omega (arith, e, making-less)
 
-  pub making-end : T (not b) → nodes_of cs ≡ subdivided s₀.c s₀.out.node s₀.out.old s₀.q s₀.out.fresh ns₀
+  pub making-end : b ≡ false → nodes_of cs ≡ subdivided s₀.c s₀.out.node s₀.out.old s₀.q s₀.out.fresh ns₀
   unfolding subdivided
-  making-end y = loop-done k.made_so (subst (λ (x : ℕ). x ≤ s.made) fresh-same (ltb-false s.made s.out.fresh (fails-as b (splits_on s) eb y)))
+  making-end y = loop-done k.made_so (subst (λ (x : ℕ). x ≤ s.made) fresh-same (ltb-false s.made s.out.fresh (sym eb ∙ y)))
 
 -- ---- a level
 
@@ -175,9 +173,9 @@ module _ (y : List Float) (n used j c : ℕ) (cs : List Cell) (inside : used ≤
   abbrev p : List Float
   p = point_of y c j
 
-  module _ (t : T b) where
+  module _ (t : b ≡ true) where
     going : s.ended ≡ false
-    going = not-true s.ended (holds_as b (probes_on s) eb t)
+    going = not-true s.ended (sym eb ∙ t)
 
     abbrev here : s.node < used
     here = (k.on going).0
@@ -238,5 +236,5 @@ module _ (y : List Float) (n used j c : ℕ) (cs : List Cell) (inside : used ≤
                 )
           ])
 
-  pub probes-end : T (not b) → s.more ≡ dry_needs y c j (tree used ns)
-  probes-end t = k.off (not-false s.ended (fails-as b (probes_on s) eb t))
+  pub probes-end : b ≡ false → s.more ≡ dry_needs y c j (tree used ns)
+  probes-end t = k.off (not-false s.ended (sym eb ∙ t))

@@ -1,14 +1,13 @@
--- What the walk of an insertion cites: what its loop holds on to, over the nodes. Assumes nothing.
+-- What the proof of an insertion cites: what its loop holds on to, over the nodes. Assumes nothing.
 use mathlib.Core.Path.{◌≡◌, refl, sym, ap, subst, ◌∙◌}
 use mathlib.Core.List.{List}
-use mathlib.Core.Bool.{Bool, true, false, not, cond, true≢false}
+use mathlib.Core.Bool.{Bool, true, false, cond, true≢false}
 use Prim.Native.Nat.{ℕ, suc, ◌+◌, ◌-◌, ◌*◌, ◌<◌, ◌≤◌, ◌^◌}
 use native.Mathlib.Omega.{arith}
-use lib.Dec.{T, ltb}
+use lib.Dec.{ltb}
 use lib.ListN.{length}
 use lib.Ieee.{Float}
 use borrow.Author.Tests.{ltb-true, ltb-false, le-ltb, leb-true, not-true, not-false}
-use Rattle.lent.proofs.Holds.{holds_as, fails-as}
 use Rattle.laws.specs.Domain.{deepest, most_word}
 use Rattle.laws.proofs.Bools.{by_bool}
 use Rattle.tree_node.specs.declared.Node.{Node}
@@ -99,9 +98,9 @@ module _ (y : List Float) (n used j c : ℕ) (cs₀ : List Cell) where
     abbrev t : Tree
     t = tree w.used (nodes_of cs)
 
-    module _ (on : T b) (hj : j < n) where
+    module _ (on : b ≡ true) (hj : j < n) where
       going : w.ended ≡ false
-      going = not-true w.ended (holds_as b (not_ended w) eb on)
+      going = not-true w.ended (sym eb ∙ on)
 
       abbrev named : whole y n used j c ns₀ ≤ nameable (length ns₀)
       named = (k.on going).1
@@ -165,5 +164,5 @@ module _ (y : List Float) (n used j c : ℕ) (cs₀ : List Cell) where
         enters-nearer = rw (eu, going) (by_bool (cond s.last 0 (suc (length ns₀ - (w.depth + 1))) < suc (length ns₀ - w.depth)) s.last (λ e. rw e
             (omega arith)) (λ e. rw e (omega (arith, sinks-up goes hj (omega arith) fit))))
 
-    pub enters-end : T (not b) → (a : Inserted) → a ≡ answered w → insertion a.full (tree a.used (nodes_of cs)) ≡ insert_of y c j (tree used ns₀)
-    enters-end over a ea = rw ea (k.off (not-false w.ended (fails-as b (not_ended w) eb over)))
+    pub enters-end : b ≡ false → (a : Inserted) → a ≡ answered w → insertion a.full (tree a.used (nodes_of cs)) ≡ insert_of y c j (tree used ns₀)
+    enters-end over a ea = rw ea (k.off (not-false w.ended (sym eb ∙ over)))

@@ -5,10 +5,9 @@ use mathlib.Core.Bool.{Bool, true, false, not, cond, ◌||◌, true≢false}
 use Prim.Native.Nat.{ℕ, ◌+◌, ◌-◌, ◌<◌, ◌≤◌, ◌^◌}
 use native.Mathlib.Omega.{arith}
 use native.Mathlib.Decide.{dec_lt, ℕ_discrete}
-use lib.Dec.{T, eqb, ltb}
+use lib.Dec.{eqb, ltb}
 use lib.ListN.{length}
 use borrow.Author.Tests.{eq-eqb, ne_eqb, lt-ltb, le-ltb, ltb-true, ltb-false}
-use Rattle.lent.proofs.Holds.{holds_as, fails-as}
 use Rattle.laws.proofs.Bools.{by_bool}
 use Rattle.laws.proofs.First.{Seeks, seek-start, seek-next}
 use Rattle.tree_node.specs.declared.Node.{Node}
@@ -65,14 +64,14 @@ module _ (n c used : ℕ) (cs : List Cell) where
 
   -- the test goes on: nothing was found, and there is a next node
   module _ (s : Look) (k : Looks n c used ns s) (b : Bool) (eb : b ≡ looks_on s) where
-    module _ (y : T b) where
+    module _ (y : b ≡ true) where
       fine : contents_fine s.found ≡ true
       unfolding looks_on
-      fine = by_bool (contents_fine s.found ≡ true) (contents_fine s.found) (λ e. e) (λ e. absurd (true≢false (sym (holds_as b (looks_on s) eb y) ∙ rw e)))
+      fine = by_bool (contents_fine s.found ≡ true) (contents_fine s.found) (λ e. e) (λ e. absurd (true≢false (sym (sym eb ∙ y) ∙ rw e)))
 
       next : s.i < used
       unfolding looks_on
-      next = let l : ltb s.i s.used ≡ true = rw fine at (holds_as b (looks_on s) eb y) in subst (λ (x : ℕ). s.i < x) k.used-same (ltb-true s.i s.used l)
+      next = let l : ltb s.i s.used ≡ true = rw fine at (sym eb ∙ y) in subst (λ (x : ℕ). s.i < x) k.used-same (ltb-true s.i s.used l)
 
       abbrev inside : (used ≡ 0 → ⊥) × (used ≤ nameable (length ns)) × Seeks (faulty n c (tree used ns)) used s.i
       inside = k.below fine
@@ -120,11 +119,11 @@ module _ (n c used : ℕ) (cs : List Cell) where
       looks-nearer v z ez = let e : z.i ≡ s.i + 1 = ap (λ (x : Look). x.i) ez in omega (arith, e, next)
 
     -- it ends: a fault was found, or all nodes are looked at
-    pub looks-end : T (not b) → s.found ≡ contents_of n c (tree used ns)
+    pub looks-end : b ≡ false → s.found ≡ contents_of n c (tree used ns)
     unfolding looks_on
     looks-end y = by_bool (s.found ≡ contents_of n c (tree used ns)) (contents_fine s.found)
         (λ f.
-        let l : ltb s.i s.used ≡ false = rw f at (fails-as b (looks_on s) eb y) in
+        let l : ltb s.i s.used ≡ false = rw f at (sym eb ∙ y) in
         let q = k.below f in
         fine-is s.found f ∙ no-fault n c (tree used ns) q.0 q.1 s.i q.2 (subst (λ (x : ℕ). x ≤ s.i) k.used-same (ltb-false s.i s.used l)))
         k.found

@@ -11,7 +11,7 @@ use native.Mathlib.Decide.{dec_lt}
 use lib.ListN.{length}
 use lib.Ieee.{Float}
 use borrow.Author.Tests.{lt-ltb, le-ltb, ltb-true}
-use Rattle.laws.specs.Domain.{deepest, most_frames, most_word}
+use Rattle.laws.specs.Domain.{deepest, most_frames}
 use Rattle.tree_node.specs.declared.Node.{Node}
 use Rattle.tree_node.specs.declared.Leaf.{Leaf}
 use Rattle.tree_node.specs.declared.Leaf.TheVariants.{Empty, Occupied}

@@ -4,3 +4,4 @@ pub mod Fuel
 pub mod Longer
 pub mod Walked
 pub mod Pending
+pub mod Going

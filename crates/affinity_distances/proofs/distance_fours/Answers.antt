@@ -13,14 +13,17 @@ loop-j-init c =
 
 pub distance_four-requires : goal.distance_four-requires
 distance_four-requires c =
-    record { f_in_bounds = (
+    record {
+      f_in_bounds = (
         row_in _ _ _ _ c.requires.i_lt_n.0 c.requires.i_lt_n.1,
         rows_in _ c.args.n _ _ (omega arith) c.requires.i_lt_n.1,
         omega
             (arith, c.requires.i_lt_n),
         omega (arith, c.requires.i_lt_n),
         omega (arith, c.requires.i_lt_n, c.loop-j.invariant.1),
-      ); i_value = (c.requires.squared _ c.requires.i_lt_n.0, λ t h. c.requires.squared t (omega arith)); }
+      );
+      i_value = (c.requires.squared _ c.requires.i_lt_n.0, λ t h. c.requires.squared t (omega arith));
+    }
 
 pub loop-j-preserved : goal.loop-j-preserved
 loop-j-preserved c =

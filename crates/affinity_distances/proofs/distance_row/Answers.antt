@@ -16,13 +16,16 @@ loop-j-init c =
 
 pub distance-requires : goal.distance-requires
 distance-requires c =
-    record { f_in_bounds = (
+    record {
+      f_in_bounds = (
         row_in _ _ _ _ c.requires.i_lt_n.0 c.requires.i_lt_n.1,
         row_in _ _ _ _ c.loop-j-test.true c.requires.i_lt_n.1,
         omega
             (arith, c.requires.i_lt_n),
         omega (arith, c.requires.i_lt_n),
-      ); i_value = (c.requires.squared _ c.requires.i_lt_n.0, c.requires.squared _ c.loop-j-test.true); }
+      );
+      i_value = (c.requires.squared _ c.requires.i_lt_n.0, c.requires.squared _ c.loop-j-test.true);
+    }
 
 pub bounds-row-j : goal.bounds-row-j
 bounds-row-j c =

@@ -9,23 +9,21 @@ loop-k-init c =
     (loop-start _ _ _, loop-start _ _ _, loop-start _ _ _, loop-start _ _ _)
 
 pub loop-k-preserved : goal.loop-k-preserved
-loop-k-preserved c =
-    (
-      loop-next c.loop-k.invariant.0 (omega arith),
-      loop-next c.loop-k.invariant.1 (omega arith),
-      loop-next c.loop-k.invariant.2 (omega arith),
-      loop-next
-          c.loop-k.invariant.3 (omega arith),
-    )
+loop-k-preserved c = (
+  loop-next c.loop-k.invariant.0 (omega arith),
+  loop-next c.loop-k.invariant.1 (omega arith),
+  loop-next c.loop-k.invariant.2 (omega arith),
+  loop-next
+      c.loop-k.invariant.3 (omega arith),
+)
 
 pub returns : goal.returns
-returns c =
-    (
-      loop-done c.loop-k.invariant.0 (omega arith),
-      rw (one_on c.args.j c.args.f)
-          (loop-done c.loop-k.invariant.1 (omega arith)),
-      rw (two-on c.args.j c.args.f)
-          (loop-done c.loop-k.invariant.2 (omega arith)),
-      rw (three-on c.args.j c.args.f)
-          (loop-done c.loop-k.invariant.3 (omega arith)),
-    )
+returns c = (
+  loop-done c.loop-k.invariant.0 (omega arith),
+  rw (one_on c.args.j c.args.f)
+      (loop-done c.loop-k.invariant.1 (omega arith)),
+  rw (two-on c.args.j c.args.f)
+      (loop-done c.loop-k.invariant.2 (omega arith)),
+  rw (three-on c.args.j c.args.f)
+      (loop-done c.loop-k.invariant.3 (omega arith)),
+)

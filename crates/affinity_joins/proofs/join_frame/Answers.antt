@@ -15,8 +15,7 @@ loop-j-init c =
 
 pub join_pair-requires : goal.join_pair-requires
 join_pair-requires c =
-    let the-loop = c.loop-j in
-    (
+    let the-loop = c.loop-j in (
       rw the-loop.invariant.0 (place_in _ _ _ _ (omega (arith, c.loop-j-test.true, c.requires.0)) c.requires.0 c.requires.1),
       rw
           the-loop.invariant.0 (place_in _ _ _ _ c.requires.0 (omega (arith, c.loop-j-test.true, c.requires.0)) c.requires.1),

@@ -40,21 +40,31 @@ overflow_mul-i-2 c =
     omega (arith, c.requires.2.0.inside)
 
 pub joint-weight-requires : goal.joint-weight-requires
-joint-weight-requires c =
-    (
-      λ l. omega (arith, c.requires.3.1, within_low c.args.i c.requires.3.0 c.fallen-p.ensures l),
-      λ l. omega
-          (arith, c.requires.2.1, within_low c.args.j c.requires.2.0 c.fallen-r.ensures l),
-    )
+joint-weight-requires c = (
+  λ l. omega (arith, c.requires.3.1, within_low c.args.i c.requires.3.0 c.fallen-p.ensures l),
+  λ l. omega
+      (arith, c.requires.2.1, within_low c.args.j c.requires.2.0 c.fallen-r.ensures l),
+)
 
 pub returns-then-r-c : goal.returns-then-r-c
 returns-then-r-c c =
     let the-fallen2 = c.fallen-p in
     let the-fallen = c.fallen-r in
-    record { yes_value = rw (lt-ltb _ _ (rw the-fallen.ensures at c.if-r-c.true)); weight_value = rw (c.joint-weight.ensures, the-fallen.ensures, the-fallen2.ensures); row_value = the-fallen.ensures; cursor_value = the-fallen2.ensures; }
+    record {
+      yes_value = rw (lt-ltb _ _ (rw the-fallen.ensures at c.if-r-c.true));
+      weight_value = rw (c.joint-weight.ensures, the-fallen.ensures, the-fallen2.ensures);
+      row_value = the-fallen.ensures;
+      cursor_value = the-fallen2.ensures;
+    }
 
 pub returns : goal.returns
 returns c =
     let the-fallen2 = c.fallen-p in
     let the-fallen = c.fallen-r in
-    record { yes_value = rw (le-ltb _ _ (rw the-fallen.ensures at c.if-r-c.false)) (ap (λ (x : ℕ). ltb x c.args.w) the-fallen2.ensures); weight_value = rw (c.joint-weight.ensures, the-fallen.ensures, the-fallen2.ensures); row_value = the-fallen.ensures; cursor_value = the-fallen2.ensures; }
+    record {
+      yes_value = rw (le-ltb _ _ (rw the-fallen.ensures at c.if-r-c.false)) (ap (λ (x : ℕ). ltb x c.args.w) the-fallen2.ensures);
+      weight_value =
+          rw (c.joint-weight.ensures, the-fallen.ensures, the-fallen2.ensures);
+      row_value = the-fallen.ensures;
+      cursor_value = the-fallen2.ensures;
+    }

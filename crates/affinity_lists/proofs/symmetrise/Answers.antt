@@ -6,8 +6,7 @@ use native.Mathlib.Omega.{arith}
 use Rattle.affinity_lists.proofs.symmetrise.Goals as goal
 
 pub total-links-requires : goal.total-links-requires
-total-links-requires c =
-    (
+total-links-requires c = (
   c.requires.frames.0,
   c.requires.indices,
   c.requires.rows,
@@ -16,11 +15,11 @@ total-links-requires c =
 pub overflow_cast-offsets : goal.overflow_cast-offsets
 overflow_cast-offsets c =
     omega (
-  arith,
-  c.total-links.ensures,
-  links-small _ _ _ c.requires.rows
-      c.requires.frames.0 c.requires.frames.1,
-)
+      arith,
+      c.total-links.ensures,
+      links-small _ _ _ c.requires.rows
+          c.requires.frames.0 c.requires.frames.1,
+    )
 
 pub offset_bounds-offsets-n : goal.offset_bounds-offsets-n
 offset_bounds-offsets-n c =
@@ -31,8 +30,7 @@ bounds-offsets-n c =
     omega (arith, c.requires.offsets)
 
 pub top_cursors-requires : goal.top_cursors-requires
-top_cursors-requires c =
-    (
+top_cursors-requires c = (
   c.requires.frames.0,
   c.requires.frames.1,
   omega (arith, c.requires.indices),
@@ -70,11 +68,11 @@ offset_bounds-offsets-i c =
 pub bounds-offsets-i : goal.bounds-offsets-i
 bounds-offsets-i c =
     omega (
-  arith,
-  c.loop-i.invariant.lists.within,
-  c.loop-i.invariant.lists.size_o,
-  c.loop-i.invariant.lists.room_o,
-)
+      arith,
+      c.loop-i.invariant.lists.within,
+      c.loop-i.invariant.lists.size_o,
+      c.loop-i.invariant.lists.room_o,
+    )
 
 pub loop-i-preserved : goal.loop-i-preserved
 loop-i-preserved c =

@@ -1,6 +1,5 @@
 use borrow.Author.Rules.{rules}
 use native.Mathlib.Omega.{arith}
-use Prim.Native.Nat.{◌-◌}
 use Rattle.laws.proofs.Loops.{loop-start, loop-next, loop-done}
 use Rattle.affinity_sigma.proofs.divide.Goals as goal
 

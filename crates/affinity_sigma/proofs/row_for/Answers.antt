@@ -5,4 +5,4 @@ use Rattle.affinity_sigma.proofs.row_for.Goals as goal
 pub returns : goal.returns
 unfolding row_of
 returns c =
-    record { shares_after = rw (c.total-sum.ensures, c.weigh.ensures) at c.share_out.ensures; value = rw c.weigh.ensures at c.total-sum.ensures; }
+    record { shares_after = rw (c.total-sum.ensures, c.weigh.ensures) at c.share_out.ensures; value = rw c.weigh.ensures at c.total-sum.ensures }

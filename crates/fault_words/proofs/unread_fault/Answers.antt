@@ -1,9 +1,9 @@
 -- Each answer is the definition's, by the tests passed on the way to it: too few words, a method that there is not, settings with a number, else the state.
 -- past the second test, with the settings' number k
-use borrow.Author.Tests.{lt-ltb, le-ltb, eq-eqb, ne_eqb, not-false}
+use borrow.Author.Tests.{lt-ltb, le-ltb, eq-eqb, ne_eqb}
 use mathlib.Core.Path.{◌≡◌, sym, ◌∙◌}
 use mathlib.Core.List.{List}
-use mathlib.Core.Bool.{Bool, false, not}
+use mathlib.Core.Bool.{Bool, true}
 use Prim.Native.Nat.{ℕ, ◌≤◌}
 use lib.ListN.{length}
 use native.Mathlib.Omega.{arith}
@@ -14,8 +14,8 @@ use Rattle.fault_words.specs.FaultWords.{settings_first, unread_fault}
 use Rattle.fault_words.proofs.Fit.{unread-state}
 use Rattle.fault_words.proofs.unread_fault.Goals as goal
 
-read-so-far : (w : List ℕ) {b : Bool} {s : Settings} {k : ℕ} → 14 ≤ length w → b ≡ settings_fine w → not b ≡ false → s ≡ settings_of w → k ≡ settings_fault s → settings_first k ≡ unread_fault w
-read-so-far w l f n es ek = unread-state w l (sym f ∙ not-false _ n) es ek
+read-so-far : (w : List ℕ) {b : Bool} {s : Settings} {k : ℕ} → 14 ≤ length w → b ≡ settings_fine w → b ≡ true → s ≡ settings_of w → k ≡ settings_fault s → settings_first k ≡ unread_fault w
+read-so-far w l f n es ek = unread-state w l (sym f ∙ n) es ek
 
 pub returns-then-words-lt14 : goal.returns-then-words-lt14
 returns-then-words-lt14 c =

@@ -1,4 +1,3 @@
-use Prim.Native.Nat.{◌-◌}
 use mathlib.Core.Path.{sym, ◌∙◌}
 use Rattle.frames.proofs.Reader.{bad-one, all-good, stray}
 use Rattle.laws.proofs.First.{seek-start, seek-next}

@@ -1,8 +1,5 @@
-use Prim.Native.Nat.{◌-◌}
-use mathlib.Core.Bool.{true}
 use mathlib.Core.Path.{sym, ◌∙◌}
 use Rattle.laws.proofs.Every.{every-none, every-next, every-no, every-done}
-use Rattle.elementary.specs.Limits.{in_domain}
 use Rattle.frames.specs.Frames.{values_fine}
 use native.Mathlib.Omega.{arith}
 use Rattle.frames.proofs.values_fine.Goals as goal

@@ -9,14 +9,13 @@ loop-i-init c =
     (spells-start, remains-start _ _)
 
 pub loop-i-preserved : goal.loop-i-preserved
-loop-i-preserved c =
-    (
-      rw (remains-byte c.loop-i-test.true c.loop-i.invariant.1)
-          (spells-next 0 (omega (arith, length-bytes c.args.k c.args.v, c.requires))
-          (omega (arith, length-bytes c.args.k c.args.v, c.loop-i-test.true)) c.loop-i.invariant.0),
-      remains-next c.loop-i-test.true
-          c.loop-i.invariant.1,
-    )
+loop-i-preserved c = (
+  rw (remains-byte c.loop-i-test.true c.loop-i.invariant.1)
+      (spells-next 0 (omega (arith, length-bytes c.args.k c.args.v, c.requires))
+      (omega (arith, length-bytes c.args.k c.args.v, c.loop-i-test.true)) c.loop-i.invariant.0),
+  remains-next c.loop-i-test.true
+      c.loop-i.invariant.1,
+)
 
 pub shape_of-bytes : goal.shape_of-bytes
 shape_of-bytes c =

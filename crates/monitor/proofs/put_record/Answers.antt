@@ -1,4 +1,3 @@
-use Prim.Native.Nat.{◌-◌}
 use Rattle.laws.proofs.Parts.{spells-start, spells-next, spells-done}
 use Rattle.monitor.proofs.Laws.{record-size}
 use native.Mathlib.Omega.{arith}

@@ -1,4 +1,3 @@
-use Prim.Native.Nat.{◌-◌}
 use Rattle.areas.proofs.Fetched.{fetches-start, fetches-next, fetches-done}
 use Rattle.monitor_read.proofs.fetch_positions.Goals as goal
 

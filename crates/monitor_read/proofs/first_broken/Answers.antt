@@ -1,4 +1,3 @@
-use Prim.Native.Nat.{◌-◌}
 use mathlib.Core.Path.{sym, ◌∙◌}
 use Rattle.laws.proofs.First.{seek-start, seek-next, seek_stop, seek-done}
 use Rattle.monitor_read.proofs.first_broken.Goals as goal

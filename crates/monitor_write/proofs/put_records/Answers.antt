@@ -1,4 +1,3 @@
-use Prim.Native.Nat.{◌-◌}
 use Rattle.laws.proofs.Laid.{lays-start, lays-done}
 use Rattle.monitor_write.proofs.Laws.{records-next, row-size}
 use Rattle.monitor_write.specs.MonitorWrite.{monitor_row}

@@ -14,14 +14,13 @@ first_faulty-k-requires c =
     (write-lies _ _ _ _ _ _ (sym c.room.ensures ∙ c.if-not-room.false)).frames
 
 pub fault_told-requires : goal.fault_told-requires
-fault_told-requires c =
-    (
-      omega (arith, c.if-k-n.true, (write-lies _ _ _ _ _ _ (sym c.room.ensures ∙ c.if-not-room.false)).frames.pictures-long),
-      omega
-          (arith, c.if-k-n.true, (write-lies _ _ _ _ _ _ (sym c.room.ensures ∙ c.if-not-room.false)).frames.sides-long),
-      omega
-          (arith, c.if-k-n.true, (write-lies _ _ _ _ _ _ (sym c.room.ensures ∙ c.if-not-room.false)).frames.fields-long),
-    )
+fault_told-requires c = (
+  omega (arith, c.if-k-n.true, (write-lies _ _ _ _ _ _ (sym c.room.ensures ∙ c.if-not-room.false)).frames.pictures-long),
+  omega
+      (arith, c.if-k-n.true, (write-lies _ _ _ _ _ _ (sym c.room.ensures ∙ c.if-not-room.false)).frames.sides-long),
+  omega
+      (arith, c.if-k-n.true, (write-lies _ _ _ _ _ _ (sym c.room.ensures ∙ c.if-not-room.false)).frames.fields-long),
+)
 
 pub returns-then-k-n : goal.returns-then-k-n
 returns-then-k-n c =

@@ -1,6 +1,5 @@
 use mathlib.Core.Path.{sym, ap, ◌∙◌}
 use mathlib.Core.Bool.{not}
-use Prim.Native.Nat.{◌-◌}
 use Rattle.laws.proofs.First.{seek-start, seek-next, seek_stop, seek-done}
 use native.Mathlib.Omega.{arith}
 use Rattle.partner.proofs.first_lonely.Goals as goal

@@ -6,7 +6,7 @@ use Rattle.partner.specs.Partner.{mirrored}
 use Rattle.partner.proofs.first_lonely.Given as goal
 
 abbrev pub invariant-loop-i : goal.invariant-loop-i
-invariant-loop-i l = Seeks (λ l.i. not (mirrored l.file l.i)) l.d l.i
+invariant-loop-i l = Seeks (λ i. not (mirrored l.file i)) l.d l.i
 
 abbrev pub decreases-loop-i : goal.decreases-loop-i
 decreases-loop-i l = l.d - l.i

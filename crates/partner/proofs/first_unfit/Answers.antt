@@ -1,8 +1,6 @@
 use mathlib.Core.Path.{sym, ap, ◌∙◌}
 use mathlib.Core.Bool.{not}
-use Prim.Native.Nat.{◌-◌}
 use Rattle.laws.proofs.First.{seek-start, seek-next, seek_stop, seek-done}
-use Rattle.partner.specs.Partner.{link_fine}
 use Rattle.partner.proofs.first_unfit.Goals as goal
 
 pub loop-i-init : goal.loop-i-init

@@ -1,9 +1,6 @@
 use Rattle.partner.proofs.Mirrors.{met_next}
 use mathlib.Core.Path.{sym, ◌∙◌}
-use mathlib.Core.Bool.{false}
-use Prim.Native.Nat.{◌-◌}
 use Rattle.partner.proofs.Mirrors.{met_some, met-none}
-use Rattle.partner.specs.Partner.{is_mirror}
 use native.Mathlib.Omega.{arith}
 use Rattle.partner.proofs.is_met_anywhere.Goals as goal
 

@@ -1,6 +1,5 @@
 -- `partner::is_mirror` meets its contract: by `mirror-not-from`, `mirror-not-to`, `mirror-weight`, `and_no`.
 use Rattle.partner.proofs.Mirrors.{mirror-not-from, mirror-not-to, mirror-weight}
-use mathlib.Core.Bool.{true, false}
 use mathlib.Core.Path.{sym, ◌∙◌}
 use Rattle.partner.proofs.is_mirror.Goals as goal
 

@@ -1,6 +1,5 @@
 -- `partner::is_raised` meets its contract: from what its calls promise.
 use borrow.Author.Tests.{eq-eqb, ne_eqb}
-use mathlib.Core.Bool.{true}
 use Rattle.partner.proofs.is_raised.Goals as goal
 
 pub returns-then-i-eq0 : goal.returns-then-i-eq0

@@ -1,4 +1,3 @@
-use Prim.Native.Nat.{◌-◌}
 use mathlib.Core.Path.{sym, ◌∙◌}
 use Rattle.partner.proofs.Judged.{rise-none, rise_one, rise-next}
 use native.Mathlib.Omega.{arith}

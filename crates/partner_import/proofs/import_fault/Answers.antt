@@ -32,7 +32,7 @@ returns-then-not-start_fine c =
       (sym c.settings_fault-k.ensures ∙ c.if-k-ne0.false),
       (eq-eqb _ _ (rw c.times-m.ensures at c.if-start-m.false)),
       sym
-          (rw c.times-m.ensures at c.start_Fine.ensures) ∙ c.if-not-start_fine.true,
+          (rw c.times-m.ensures at c.start_fine.ensures) ∙ c.if-not-start_fine.true,
     )
 
 pub areas_fit-requires : goal.areas_fit-requires
@@ -46,7 +46,7 @@ returns-then-areas_fit c =
       (sym c.settings_fault-k.ensures ∙ c.if-k-ne0.false),
       (eq-eqb _ _ (rw c.times-m.ensures at c.if-start-m.false)),
       sym
-          (rw c.times-m.ensures at c.start_Fine.ensures) ∙ c.if-not-start_fine.false,
+          (rw c.times-m.ensures at c.start_fine.ensures) ∙ c.if-not-start_fine.false,
       sym c.areas_fit.ensures ∙ c.if-areas_fit.true,
     )
 
@@ -57,6 +57,6 @@ returns c =
       (sym c.settings_fault-k.ensures ∙ c.if-k-ne0.false),
       (eq-eqb _ _ (rw c.times-m.ensures at c.if-start-m.false)),
       sym
-          (rw c.times-m.ensures at c.start_Fine.ensures) ∙ c.if-not-start_fine.false,
+          (rw c.times-m.ensures at c.start_fine.ensures) ∙ c.if-not-start_fine.false,
       sym c.areas_fit.ensures ∙ c.if-areas_fit.false,
     )

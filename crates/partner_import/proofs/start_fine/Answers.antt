@@ -1,6 +1,4 @@
-use Prim.Native.Nat.{◌-◌}
 use mathlib.Core.Path.{sym, ◌∙◌}
-use mathlib.Core.Bool.{true}
 use Rattle.laws.proofs.Every.{every-none, every-next, every-no, every-done}
 use native.Mathlib.Omega.{arith}
 use Rattle.partner_import.proofs.start_fine.Goals as goal

@@ -1,6 +1,4 @@
 use Rattle.partner_load.proofs.Counted.{starts-below-next}
-use Prim.Native.Nat.{◌-◌}
-use Rattle.partner.specs.Partner.{link_from}
 use native.Mathlib.Omega.{arith}
 use Rattle.partner_load.proofs.list_from.Goals as goal
 

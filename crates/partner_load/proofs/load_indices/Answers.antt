@@ -1,6 +1,4 @@
-use Prim.Native.Nat.{◌-◌}
 use Rattle.partner_load.specs.Loaded.{indices_loaded}
-use Rattle.partner.specs.Partner.{link_to}
 use Rattle.areas.proofs.Fetched.{fetches-start, fetches-next, fetches-done}
 use native.Mathlib.Omega.{arith}
 use Rattle.partner_load.proofs.load_indices.Goals as goal

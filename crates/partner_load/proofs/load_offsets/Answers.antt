@@ -1,5 +1,4 @@
 use mathlib.Core.Path.{sym}
-use Prim.Native.Nat.{◌-◌}
 use Rattle.partner_load.proofs.Counted.{lists-start, lists-over, lists-next, lists-counted}
 use Rattle.partner_load.specs.Loaded.{offsets_loaded}
 use Rattle.areas.proofs.Fetched.{fetches-start, fetches-next, fetches-done}

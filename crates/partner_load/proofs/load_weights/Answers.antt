@@ -1,6 +1,4 @@
-use Prim.Native.Nat.{◌-◌}
 use Rattle.partner_load.specs.Loaded.{weights_loaded}
-use Rattle.partner.specs.Partner.{link_weight}
 use Rattle.areas.proofs.Fetched.{fetches-start, fetches-next, fetches-done}
 use Rattle.partner_load.proofs.load_weights.Goals as goal
 

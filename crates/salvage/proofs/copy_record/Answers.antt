@@ -1,5 +1,4 @@
 use Rattle.salvage.proofs.Foremost.{record-next, record-done}
-use Prim.Native.Nat.{◌-◌}
 use Rattle.laws.proofs.Parts.{spells-start}
 use Rattle.salvage.proofs.copy_record.Goals as goal
 

@@ -1,5 +1,4 @@
 use Rattle.salvage.proofs.Sifted.{sifted-start, sifted-can, sifted-next, sifted-done}
-use Prim.Native.Nat.{◌-◌}
 use Rattle.salvage.proofs.sift_all.Goals as goal
 
 pub loop-i-init : goal.loop-i-init

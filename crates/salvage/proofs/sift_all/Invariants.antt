@@ -2,7 +2,6 @@
 use Rattle.salvage.proofs.Sifted.{Sifted}
 use Prim.Native.Nat.{◌-◌}
 use Rattle.salvage.specs.Steps.{sifting}
-use borrow.Author.Rules.{rules}
 use Rattle.salvage.proofs.sift_all.Given as goal
 
 abbrev pub invariant-loop-i : goal.invariant-loop-i

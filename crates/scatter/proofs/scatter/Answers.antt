@@ -30,7 +30,7 @@ overflow_mul-m c =
 
 pub overflow_cast-m : goal.overflow_cast-m
 overflow_cast-m c =
-    Fits-32_64 (mul-m c)
+    Fits-32_64 (overflow_mul-m c)
 
 pub returns-then-positions-m : goal.returns-then-positions-m
 unfolding scatter_of

@@ -18,4 +18,4 @@ overflow_mul-a0-2 c =
 
 pub returns : goal.returns
 returns c =
-    rw (c.wrapping_add_u64.ensures, c.wrapping_add_u64-cross.ensures) (wrapped _ _)
+    rw (c.wrapping_add_u64.ensures.value, c.wrapping_add_u64-cross.ensures.value) (wrapped _ _)

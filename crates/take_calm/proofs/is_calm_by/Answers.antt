@@ -25,12 +25,11 @@ overflow_add-g c =
     omega (arith, abreast-room c.loop-j.invariant.1 (sym c.is_next.ensures ∙ c.if-is_next.true))
 
 pub loop-j-preserved-then-is_next : goal.loop-j-preserved-then-is_next
-loop-j-preserved-then-is_next c =
-    (
-      tests-left-pass c.loop-j.invariant.0 c.loop-j-test.true (sym c.is_next.ensures ∙ c.if-is_next.true),
-      abreast-pass c.loop-j.invariant.1
-          (sym c.is_next.ensures ∙ c.if-is_next.true),
-    )
+loop-j-preserved-then-is_next c = (
+  tests-left-pass c.loop-j.invariant.0 c.loop-j-test.true (sym c.is_next.ensures ∙ c.if-is_next.true),
+  abreast-pass c.loop-j.invariant.1
+      (sym c.is_next.ensures ∙ c.if-is_next.true),
+)
 
 pub overflow_mul-j : goal.overflow_mul-j
 overflow_mul-j c =
@@ -48,14 +47,13 @@ returns-then-not-is_calm_row c =
     c.args.positions.now c.args.means.now c.requires.4 c.loop-j.j) ∙ c.if-not-is_calm_row.true))
 
 pub loop-j-preserved : goal.loop-j-preserved
-loop-j-preserved c =
-    (
-      tests-left-next c.loop-j.invariant.0 c.loop-j-test.true (sym c.is_next.ensures ∙ c.if-is_next.false)
-          (sym (c.is_calm_row.ensures ∙ calm-row-same (survivors c.args.gone.now c.args.n) c.args.c
-          c.args.positions.now c.args.means.now c.requires.4 c.loop-j.j) ∙ c.if-not-is_calm_row.false),
-      abreast-next
-          c.loop-j.invariant.1 (sym c.is_next.ensures ∙ c.if-is_next.false),
-    )
+loop-j-preserved c = (
+  tests-left-next c.loop-j.invariant.0 c.loop-j-test.true (sym c.is_next.ensures ∙ c.if-is_next.false)
+      (sym (c.is_calm_row.ensures ∙ calm-row-same (survivors c.args.gone.now c.args.n) c.args.c
+      c.args.positions.now c.args.means.now c.requires.4 c.loop-j.j) ∙ c.if-not-is_calm_row.false),
+  abreast-next
+      c.loop-j.invariant.1 (sym c.is_next.ensures ∙ c.if-is_next.false),
+)
 
 pub returns : goal.returns
 unfolding calm_left

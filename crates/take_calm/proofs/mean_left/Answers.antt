@@ -29,12 +29,11 @@ overflow_add-g c =
     omega (arith, abreast-room c.loop-j.invariant.1 (sym c.is_next.ensures ∙ c.if-is_next.true))
 
 pub loop-j-preserved-then-is_next : goal.loop-j-preserved-then-is_next
-loop-j-preserved-then-is_next c =
-    (
-      sums-left-pass c.loop-j.invariant.0 c.loop-j-test.true (sym c.is_next.ensures ∙ c.if-is_next.true),
-      abreast-pass c.loop-j.invariant.1
-          (sym c.is_next.ensures ∙ c.if-is_next.true),
-    )
+loop-j-preserved-then-is_next c = (
+  sums-left-pass c.loop-j.invariant.0 c.loop-j-test.true (sym c.is_next.ensures ∙ c.if-is_next.true),
+  abreast-pass c.loop-j.invariant.1
+      (sym c.is_next.ensures ∙ c.if-is_next.true),
+)
 
 pub overflow_mul-s : goal.overflow_mul-s
 overflow_mul-s c =
@@ -53,12 +52,11 @@ bounds-positions-j c =
     omega (arith, row_in c.loop-j.j c.args.n c.args.c _ c.loop-j-test.true c.requires.2, c.requires.1)
 
 pub loop-j-preserved : goal.loop-j-preserved
-loop-j-preserved c =
-    (
-      sums-left-next c.loop-j.invariant.0 c.loop-j-test.true (sym c.is_next.ensures ∙ c.if-is_next.false),
-      abreast-next c.loop-j.invariant.1
-          (sym c.is_next.ensures ∙ c.if-is_next.false),
-    )
+loop-j-preserved c = (
+  sums-left-next c.loop-j.invariant.0 c.loop-j-test.true (sym c.is_next.ensures ∙ c.if-is_next.false),
+  abreast-next c.loop-j.invariant.1
+      (sym c.is_next.ensures ∙ c.if-is_next.false),
+)
 
 pub int_to_float-result : goal.int_to_float-result
 unfolding in_float

@@ -57,8 +57,7 @@ overflow_add-q c =
 pub loop-j-preserved : goal.loop-j-preserved
 loop-j-preserved c =
     let the-loop-test = c.loop-j-test in
-    let the-loop = c.loop-j in
-    (
+    let the-loop = c.loop-j in (
       surviving-next the-loop.invariant.0 the-loop-test.true c.requires.1 (sym c.is_next.ensures ∙ c.if-is_next.false),
       abreast-next
           the-loop.invariant.1 (sym c.is_next.ensures ∙ c.if-is_next.false),
@@ -71,4 +70,4 @@ shape_of-old c =
 pub returns : goal.returns
 returns c =
     let told = surviving-done c.loop-j.invariant.0 c.loop-j-test.false in
-    record { value = told.0; after = told.1; }
+    record { value = told.0; after = told.1 }

@@ -8,7 +8,7 @@ use lib.Ieee.{binary64, of_int, lt}
 use lib.ListN.{length}
 use lib.IntN.{pos}
 use Prim.Native.Nat.{◌-◌}
-use mathlib.Core.Bool.{true, false}
+use mathlib.Core.Bool.{false}
 use mathlib.Core.Path.{◌≡◌}
 use Rattle.take_left.proofs.Judged.{count_left, late-above, judged-inside, judged-unordered, judged-few, judged-perplexed}
 use Rattle.take_gone.proofs.Left.{gone-climbs}

@@ -1,4 +1,3 @@
-use Prim.Native.Nat.{◌-◌}
 use Rattle.take_lists.proofs.Fronting.{blanks-start, blanks-next, blanks-done}
 use Rattle.take_lists.proofs.clear_words.Goals as goal
 

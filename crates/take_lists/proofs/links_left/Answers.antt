@@ -1,7 +1,7 @@
 use Rattle.take_gone.proofs.Next.{abreast-start, abreast-room, abreast-pass, abreast-next}
 use Rattle.take_lists.proofs.Counting.{tallies-start, tallies-pass, tallies-inside, tallies-room, tallies-next, tallies-done}
 use mathlib.Core.Path.{sym, ◌∙◌}
-use Prim.Native.Nat.{◌+◌, ◌-◌}
+use Prim.Native.Nat.{◌+◌}
 use native.Mathlib.Omega.{arith}
 use Rattle.take_lists.proofs.links_left.Goals as goal
 

@@ -1,5 +1,4 @@
 use mathlib.Core.Path.{sym, ◌∙◌}
-use Prim.Native.Nat.{◌-◌}
 use Rattle.take_lists.proofs.Counting.{sees-start, sees-pass, sees-next, sees-done}
 use Rattle.take_lists.proofs.list_left.Goals as goal
 

@@ -1,53 +1,52 @@
 use lib.ListN.{length-set}
 use Rattle.take_lists.proofs.AllLists.{closes-start, closes-offset, closes-frame, closes-room, closes-next, closes-done}
 use mathlib.Core.Path.{◌∙◌}
-use Prim.Native.Nat.{◌-◌}
 use native.Mathlib.Omega.{arith}
 use Rattle.take_lists.proofs.pack_all.Goals as goal
 
 pub loop-i-init : goal.loop-i-init
 loop-i-init c =
-    closes-start c.requires.1 c.requires.2 c.requires.3
+    (closes-start c.requires.1 c.requires.2 c.requires.3, λ k. (c.type_inv.offsets k).fits)
 
 pub offset_bounds-offsets-j : goal.offset_bounds-offsets-j
 offset_bounds-offsets-j c =
-    omega (arith, closes-frame c.requires.1 c.requires.2 c.requires.3 c.loop-i.invariant c.loop-i-test.true c.wide-j.ensures)
+    omega (arith, closes-frame c.requires.1 c.requires.2 c.requires.3 c.loop-i.invariant.0 c.loop-i-test.true c.wide-j.ensures)
 
 pub bounds-offsets-j : goal.bounds-offsets-j
 bounds-offsets-j c =
-    omega (arith, closes-frame c.requires.1 c.requires.2 c.requires.3 c.loop-i.invariant c.loop-i-test.true c.wide-j.ensures)
+    omega (arith, closes-frame c.requires.1 c.requires.2 c.requires.3 c.loop-i.invariant.0 c.loop-i-test.true c.wide-j.ensures)
 
 pub overflow_add-j : goal.overflow_add-j
 overflow_add-j c =
-    omega (arith, closes-frame c.requires.1 c.requires.2 c.requires.3 c.loop-i.invariant c.loop-i-test.true c.wide-j.ensures)
+    omega (arith, closes-frame c.requires.1 c.requires.2 c.requires.3 c.loop-i.invariant.0 c.loop-i-test.true c.wide-j.ensures)
 
 pub offset_bounds-offsets-j-in-loop-i : goal.offset_bounds-offsets-j-in-loop-i
 offset_bounds-offsets-j-in-loop-i c =
-    omega (arith, closes-frame c.requires.1 c.requires.2 c.requires.3 c.loop-i.invariant c.loop-i-test.true c.wide-j.ensures)
+    omega (arith, closes-frame c.requires.1 c.requires.2 c.requires.3 c.loop-i.invariant.0 c.loop-i-test.true c.wide-j.ensures)
 
 pub bounds-offsets-j-in-loop-i : goal.bounds-offsets-j-in-loop-i
 bounds-offsets-j-in-loop-i c =
-    omega (arith, closes-frame c.requires.1 c.requires.2 c.requires.3 c.loop-i.invariant c.loop-i-test.true c.wide-j.ensures)
+    omega (arith, closes-frame c.requires.1 c.requires.2 c.requires.3 c.loop-i.invariant.0 c.loop-i-test.true c.wide-j.ensures)
 
 pub overflow_sub-k : goal.overflow_sub-k
 overflow_sub-k c =
-    omega (arith, closes-room c.requires.1 c.requires.2 c.requires.3 c.loop-i.invariant c.loop-i-test.true c.wide-j.ensures c.wide-a.ensures c.wide.ensures)
+    omega (arith, closes-room c.requires.1 c.requires.2 c.requires.3 c.loop-i.invariant.0 c.loop-i-test.true c.wide-j.ensures c.wide-a.ensures c.wide.ensures)
 
 pub overflow_cast-offsets : goal.overflow_cast-offsets
 overflow_cast-offsets c =
-    omega (arith, closes-offset c.requires.1 c.requires.2 c.requires.3 c.loop-i.invariant, c.type_inv.offsets c.args.n)
+    omega (arith, closes-offset c.requires.1 c.requires.2 c.requires.3 c.loop-i.invariant.0, c.loop-i.invariant.1 c.args.n)
 
 pub offset_bounds-offsets-i : goal.offset_bounds-offsets-i
 offset_bounds-offsets-i c =
-    omega (arith, closes-offset c.requires.1 c.requires.2 c.requires.3 c.loop-i.invariant)
+    omega (arith, closes-offset c.requires.1 c.requires.2 c.requires.3 c.loop-i.invariant.0)
 
 pub bounds-offsets-i : goal.bounds-offsets-i
 bounds-offsets-i c =
-    omega (arith, closes-offset c.requires.1 c.requires.2 c.requires.3 c.loop-i.invariant)
+    omega (arith, closes-offset c.requires.1 c.requires.2 c.requires.3 c.loop-i.invariant.0)
 
 pub pack_list-q-requires : goal.pack_list-q-requires
 pack_list-q-requires c =
-    let room = closes-room c.requires.1 c.requires.2 c.requires.3 c.loop-i.invariant c.loop-i-test.true c.wide-j.ensures c.wide-a.ensures c.wide.ensures in
+    let room = closes-room c.requires.1 c.requires.2 c.requires.3 c.loop-i.invariant.0 c.loop-i-test.true c.wide-j.ensures c.wide-a.ensures c.wide.ensures in
     (c.requires.1, omega (arith, c.requires.0, c.requires.2.few), omega (arith, room), omega (arith, room), omega (arith, room))
 
 pub overflow_add-i : goal.overflow_add-i
@@ -55,35 +54,37 @@ overflow_add-i c =
     omega (arith, c.loop-i-test.true, c.requires.0, c.requires.2.few)
 
 pub loop-i-preserved : goal.loop-i-preserved
-loop-i-preserved c =
-    closes-next c.requires.1 c.requires.2 c.requires.3 c.loop-i.invariant c.loop-i-test.true c.wide-j.ensures c.wide-a.ensures c.wide.ensures c.pack_list-q.ensures.value
-    c.pack_list-q.ensures.weights_after c.pack_list-q.ensures.indices_after c.pack_list-q.auto.weights c.pack_list-q.auto.indices
+loop-i-preserved c = (
+  closes-next c.requires.1 c.requires.2 c.requires.3 c.loop-i.invariant.0 c.loop-i-test.true c.wide-j.ensures c.wide-a.ensures c.wide.ensures c.pack_list-q.ensures.value
+      c.pack_list-q.ensures.weights_after c.pack_list-q.ensures.indices_after c.pack_list-q.auto.weights c.pack_list-q.auto.indices,
+  c.loop-i.invariant.1,
+)
 
 pub overflow_cast-offsets-2 : goal.overflow_cast-offsets-2
 overflow_cast-offsets-2 c =
-    omega (arith, closes-offset c.requires.1 c.requires.2 c.requires.3 c.loop-i.invariant, c.type_inv.offsets c.args.n)
+    omega (arith, closes-offset c.requires.1 c.requires.2 c.requires.3 c.loop-i.invariant.0, c.loop-i.invariant.1 c.args.n)
 
 pub offset_bounds-offsets-i-2 : goal.offset_bounds-offsets-i-2
 offset_bounds-offsets-i-2 c =
-    omega (arith, closes-offset c.requires.1 c.requires.2 c.requires.3 c.loop-i.invariant)
+    omega (arith, closes-offset c.requires.1 c.requires.2 c.requires.3 c.loop-i.invariant.0)
 
 pub bounds-offsets-i-2 : goal.bounds-offsets-i-2
 bounds-offsets-i-2 c =
-    omega (arith, closes-offset c.requires.1 c.requires.2 c.requires.3 c.loop-i.invariant)
+    omega (arith, closes-offset c.requires.1 c.requires.2 c.requires.3 c.loop-i.invariant.0)
 
 pub shape_of-weights : goal.shape_of-weights
 shape_of-weights c =
-    c.loop-i.invariant.weights.size
+    c.loop-i.invariant.0.weights.size
 
 pub shape_of-indices : goal.shape_of-indices
 shape_of-indices c =
-    c.loop-i.invariant.indices.size
+    c.loop-i.invariant.0.indices.size
 
 pub shape_of-offsets : goal.shape_of-offsets
 shape_of-offsets c =
-    length-set c.loop-i.offsets _ _ ∙ c.loop-i.invariant.offsets.size
+    length-set c.loop-i.offsets _ _ ∙ c.loop-i.invariant.0.offsets.size
 
 pub returns : goal.returns
 returns c =
-    let d = closes-done c.requires.1 c.requires.2 c.requires.3 c.loop-i.invariant c.loop-i-test.false in
-    record { value = d.0; weights_after = d.1; indices_after = d.2; offsets_after = d.3; }
+    let d = closes-done c.requires.1 c.requires.2 c.requires.3 c.loop-i.invariant.0 c.loop-i-test.false in
+    record { value = d.0; weights_after = d.1; indices_after = d.2; offsets_after = d.3 }

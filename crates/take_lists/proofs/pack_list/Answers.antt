@@ -1,4 +1,3 @@
-use Prim.Native.Nat.{◌-◌}
 use Rattle.take_lists.proofs.OneList.{sifts-start, sifts-pass, sifts-room, sifts-next, sifts-done}
 use native.Mathlib.Omega.{arith}
 use Rattle.take_lists.proofs.pack_list.Goals as goal
@@ -86,4 +85,4 @@ shape_of-indices c =
 pub returns : goal.returns
 returns c =
     let d = sifts-done c.requires.2 c.requires.3 c.requires.4 c.loop-t-test.false c.loop-t.invariant in
-    record { value = d.0; weights_after = d.1; indices_after = d.2; }
+    record { value = d.0; weights_after = d.1; indices_after = d.2 }

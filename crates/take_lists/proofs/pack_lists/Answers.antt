@@ -53,13 +53,12 @@ shape_of-offsets c =
     c.clear_words-2.auto.area ∙ c.pack_all-q.auto.offsets
 
 pub returns : goal.returns
-returns c =
-    (
-      weights-shrunk c.args.keep.now c.args.weights.now c.args.indices.now c.args.offsets.now c.requires.1 c.requires.2 c.requires.3
-          c.pack_all-q.ensures.value c.wide-links.ensures c.pack_all-q.ensures.weights_after c.clear_bits.ensures,
-      indices-shrunk c.args.keep.now c.args.weights.now c.args.indices.now
-          c.args.offsets.now c.requires.1 c.requires.2 c.requires.3 c.pack_all-q.ensures.value c.wide-links.ensures c.pack_all-q.ensures.indices_after c.clear_words.ensures,
-      offsets-shrunk
-          c.args.keep.now c.args.weights.now c.args.indices.now c.args.offsets.now c.requires.1 c.requires.2 c.requires.3 c.pack_all-q.ensures.offsets_after
-          c.clear_words-2.ensures,
-    )
+returns c = (
+  weights-shrunk c.args.keep.now c.args.weights.now c.args.indices.now c.args.offsets.now c.requires.1 c.requires.2 c.requires.3
+      c.pack_all-q.ensures.value c.wide-links.ensures c.pack_all-q.ensures.weights_after c.clear_bits.ensures,
+  indices-shrunk c.args.keep.now c.args.weights.now c.args.indices.now
+      c.args.offsets.now c.requires.1 c.requires.2 c.requires.3 c.pack_all-q.ensures.value c.wide-links.ensures c.pack_all-q.ensures.indices_after c.clear_words.ensures,
+  offsets-shrunk
+      c.args.keep.now c.args.weights.now c.args.indices.now c.args.offsets.now c.requires.1 c.requires.2 c.requires.3 c.pack_all-q.ensures.offsets_after
+      c.clear_words-2.ensures,
+)

@@ -1,5 +1,6 @@
 -- `unpark::unpark` meets its contract: by `room-is`, `out-bad`, `out-short`, `out-read`.
 use Rattle.unpark.proofs.Outcomes.{said, room-is, out-bad, out-short, out-read}
+use borrow.Author.Tests.{not-true, not-false}
 use mathlib.Core.Bool.{true}
 use mathlib.Core.Path.{sym, ◌∙◌}
 use Rattle.parked.specs.Parked.{stored_of}
@@ -9,24 +10,24 @@ pub returns-then-not-v : goal.returns-then-not-v
 returns-then-not-v c =
     out-bad _ ((stored_of c.args.words.now c.args.positions.now c.args.increments.now c.args.gains.now
     c.args.affinities.now c.args.indices.now c.args.offsets.now)) c.args.forces.now _ _ c.judge-v.ensures
-    c.if-not-v.true
+    (not-true _ c.if-not-v.true)
 
 pub has_room-requires : goal.has_room-requires
 has_room-requires c =
-    said _ _ c.judge-v.ensures true (c.if-not-v.false)
+    said _ _ c.judge-v.ensures true (not-false _ c.if-not-v.false)
 
 pub returns-then-not-has_room : goal.returns-then-not-has_room
 returns-then-not-has_room c =
     out-short _ ((stored_of c.args.words.now c.args.positions.now c.args.increments.now c.args.gains.now
     c.args.affinities.now c.args.indices.now c.args.offsets.now)) c.args.forces.now _ _ c.judge-v.ensures
-    (c.if-not-v.false)
+    (not-false _ c.if-not-v.false)
     (room-is _ ((stored_of c.args.words.now c.args.positions.now c.args.increments.now c.args.gains.now
     c.args.affinities.now c.args.indices.now c.args.offsets.now)) _ _ ∙ sym c.has_room.ensures ∙ c.if-not-has_room.true)
 
 pub read_in-requires : goal.read_in-requires
 read_in-requires c =
     (
-      said _ _ c.judge-v.ensures true (c.if-not-v.false),
+      said _ _ c.judge-v.ensures true (not-false _ c.if-not-v.false),
       (room-is _ ((stored_of c.args.words.now c.args.positions.now c.args.increments.now c.args.gains.now
           c.args.affinities.now c.args.indices.now c.args.offsets.now)) _ _ ∙ sym c.has_room.ensures ∙ c.if-not-has_room.false),
     )
@@ -67,6 +68,6 @@ pub returns : goal.returns
 returns c =
     out-read _ ((stored_of c.args.words.now c.args.positions.now c.args.increments.now c.args.gains.now
     c.args.affinities.now c.args.indices.now c.args.offsets.now)) c.args.forces.now _ _ c.judge-v.ensures
-    _ _ (c.if-not-v.false)
+    _ _ (not-false _ c.if-not-v.false)
     ((room-is _ ((stored_of c.args.words.now c.args.positions.now c.args.increments.now c.args.gains.now
     c.args.affinities.now c.args.indices.now c.args.offsets.now)) _ _ ∙ sym c.has_room.ensures ∙ c.if-not-has_room.false)) c.read_in.ensures.offsets_after c.read_in.ensures.forces_after

@@ -6,6 +6,9 @@ use Rattle.affinity.proofs.exact.conditional_row.Goals as goal
 
 pub returns : goal.returns
 returns c =
-    record { affinities_after = conditionals-put _ _ _ _ c.requires.i_lt_n.0 _ _ _ _ _
+    record {
+      affinities_after = conditionals-put _ _ _ _ c.requires.i_lt_n.0 _ _ _ _ _
           (c.args.i * c.args.n + c.args.n - c.args.i * c.args.n) (omega arith) c.requires.i_lt_n.5
-          c.requires.i_lt_n.4 c.distance_row.ensures c.binary_search_sigma.auto.shares c.binary_search_sigma.ensures; row_after = c.distance_row.ensures; }
+          c.requires.i_lt_n.4 c.distance_row.ensures c.binary_search_sigma.auto.shares c.binary_search_sigma.ensures;
+      row_after = c.distance_row.ensures;
+    }

@@ -18,9 +18,12 @@ square_frames-requires c =
 
 pub conditional_probabilities-requires : goal.conditional_probabilities-requires
 conditional_probabilities-requires c =
-    record { n_le_most_frames = (c.requires.0, c.requires.1, rw c.square_frames.auto.squares c.requires.3, c.requires.2, c.requires.4); squared = rw
+    record {
+      n_le_most_frames = (c.requires.0, c.requires.1, rw c.square_frames.auto.squares c.requires.3, c.requires.2, c.requires.4);
+      squared = rw
           c.square_frames.ensures
-          (squares-known c.args.table.now c.args.n c.args.f c.args.squares.now c.requires.3); }
+          (squares-known c.args.table.now c.args.n c.args.f c.args.squares.now c.requires.3);
+    }
 
 pub symmetrize_probabilities-requires : goal.symmetrize_probabilities-requires
 symmetrize_probabilities-requires c =
@@ -40,8 +43,12 @@ shape_of-row c =
 
 pub returns : goal.returns
 returns c =
-    record { affinities_after = c.symmetrize_probabilities.ensures ∙ ap (symmetrized _) c.conditional_probabilities.ensures.affinities_after ∙ exact-after _ _ _ _ _
+    record {
+      affinities_after = c.symmetrize_probabilities.ensures ∙ ap (symmetrized _) c.conditional_probabilities.ensures.affinities_after ∙ exact-after _ _ _ _ _
           (subst (λ (l : List Float). c.args.n * c.args.n ≤ length l) c.conditional_probabilities.ensures.affinities_after
-          (rw c.conditional_probabilities.auto.affinities c.requires.2)); squares_after = c.square_frames.ensures; row_after = c.fill.ensures ∙ ap (λ (l : List Float). replicate c.args.n zero64 ++ l)
-            (ap (drop c.args.n) c.conditional_probabilities.ensures.row_after ∙ (scratch-all c.args.table.now c.args.n
-            c.args.f c.args.row.now c.requires.4).tail); }
+          (rw c.conditional_probabilities.auto.affinities c.requires.2));
+      squares_after = c.square_frames.ensures;
+      row_after = c.fill.ensures ∙ ap (λ (l : List Float). replicate c.args.n zero64 ++ l)
+          (ap (drop c.args.n) c.conditional_probabilities.ensures.row_after ∙ (scratch-all c.args.table.now c.args.n
+          c.args.f c.args.row.now c.requires.4).tail);
+    }

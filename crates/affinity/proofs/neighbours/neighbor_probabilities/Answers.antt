@@ -14,7 +14,8 @@ square_frames-requires c =
 
 pub neighbor_rows-requires : goal.neighbor_rows-requires
 neighbor_rows-requires c =
-    record { n_le_most_frames = (
+    record {
+      n_le_most_frames = (
         c.requires.le_n.1,
         k-some c.args.n c.args.perplexity _ c.neighbours-k.ensures,
         k-below c.args.n
@@ -22,15 +23,18 @@ neighbor_rows-requires c =
         c.requires.f_in_bounds.0,
         rw c.square_frames.auto.squares
             c.requires.f_in_bounds.4,
-      ); k_in_bounds = (
-          k-room c.args.n c.args.perplexity _ c.neighbours-k.ensures _ c.requires.f_in_bounds.1,
-          k-room c.args.n
-              c.args.perplexity _ c.neighbours-k.ensures _ c.requires.f_in_bounds.2,
-          c.requires.f_in_bounds.5,
-          c.requires.f_in_bounds.6,
-        ); squared = rw
-            c.square_frames.ensures
-            (squares-known c.args.table.now c.args.n c.args.f c.args.squares.now c.requires.f_in_bounds.4); }
+      );
+      k_in_bounds = (
+        k-room c.args.n c.args.perplexity _ c.neighbours-k.ensures _ c.requires.f_in_bounds.1,
+        k-room c.args.n
+            c.args.perplexity _ c.neighbours-k.ensures _ c.requires.f_in_bounds.2,
+        c.requires.f_in_bounds.5,
+        c.requires.f_in_bounds.6,
+      );
+      squared = rw
+          c.square_frames.ensures
+          (squares-known c.args.table.now c.args.n c.args.f c.args.squares.now c.requires.f_in_bounds.4);
+    }
 
 pub symmetrise-requires : goal.symmetrise-requires
 symmetrise-requires c =
@@ -67,7 +71,10 @@ shape_of-row_indices c =
 
 pub returns : goal.returns
 returns c =
-    record { row_indices_after = c.symmetrise.ensures ∙ lists-done c.args.n c.args.perplexity _ c.neighbours-k.ensures c.args.table.now
+    record {
+      row_indices_after = c.symmetrise.ensures ∙ lists-done c.args.n c.args.perplexity _ c.neighbours-k.ensures c.args.table.now
           c.args.f c.args.weights.now c.args.indices.now c.args.offsets.now c.args.row_values.now
           c.args.row_indices.now c.neighbor_rows.ensures.weights_after c.neighbor_rows.ensures.indices_after c.requires.le_n.0 c.requires.f_in_bounds.5
-          c.requires.f_in_bounds.6 c.neighbor_rows.ensures.row_values_after c.neighbor_rows.ensures.row_indices_after; squares_after = c.square_frames.ensures; }
+          c.requires.f_in_bounds.6 c.neighbor_rows.ensures.row_values_after c.neighbor_rows.ensures.row_indices_after;
+      squares_after = c.square_frames.ensures;
+    }

@@ -10,7 +10,12 @@ use Rattle.affinity.proofs.neighbours.neighbor_row.Goals as goal
 
 pub nearest_row-requires : goal.nearest_row-requires
 nearest_row-requires c =
-    record { i_lt_n = (c.requires.i_lt_n.0, c.requires.i_lt_n.1, c.requires.i_lt_n.2, c.requires.i_lt_n.4, c.requires.i_lt_n.5); k_in_bounds = (c.requires.k_in_bounds.0, c.requires.k_in_bounds.2, le_trans (le_of_lt c.requires.i_lt_n.3) c.requires.k_in_bounds.3); squared = c.requires.squared; }
+    record {
+      i_lt_n = (c.requires.i_lt_n.0, c.requires.i_lt_n.1, c.requires.i_lt_n.2, c.requires.i_lt_n.4, c.requires.i_lt_n.5);
+      k_in_bounds =
+          (c.requires.k_in_bounds.0, c.requires.k_in_bounds.2, le_trans (le_of_lt c.requires.i_lt_n.3) c.requires.k_in_bounds.3);
+      squared = c.requires.squared;
+    }
 
 pub binary_search_sigma-requires : goal.binary_search_sigma-requires
 binary_search_sigma-requires c =
@@ -64,4 +69,4 @@ returns c =
     let told = row_done _ _ _ _ _ _ c.requires.i_lt_n.0 c.requires.i_lt_n.3 _ _ _ _ c.requires.k_in_bounds.2 c.nearest_row.ensures.row_values_after
     c.nearest_row.auto.row_values c.nearest_row.ensures.weights_after c.nearest_row.ensures.row_indices_after c.binary_search_sigma.ensures
     c.binary_search_sigma.auto.shares c.divide.ensures c.divide.auto.shares c.by_index.ensures.weights_after c.by_index.ensures.indices_after in
-    record { weights_after = told.0; indices_after = told.1.0; row_values_after = told.1.1.0; row_indices_after = told.1.1.1; }
+    record { weights_after = told.0; indices_after = told.1.0; row_values_after = told.1.1.0; row_indices_after = told.1.1.1 }

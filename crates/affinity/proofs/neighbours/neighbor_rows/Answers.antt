@@ -29,16 +29,6 @@ pub slice_bounds-neighbor_row-count : goal.slice_bounds-neighbor_row-count
 slice_bounds-neighbor_row-count c =
     omega arith
 
--- no goal: slice-bounds-neighbor-row-start
--- part-neighbor-row-start : tie.Need-slice-bounds-neighbor-row-start invariant-loop decreases-loop
--- part-neighbor-row-start c = omega arith
-
--- no goal: slice-bounds-neighbor-row-end
--- part-neighbor-row-end : tie.Need-slice-bounds-neighbor-row-end invariant-loop decreases-loop
--- part-neighbor-row-end c =
---     let the-start = c.before.before.before.before.before.before.before.before in
---     rw c.before.loop.invariant.0.size (row_in c.before.loop.i the-start.args.n the-start.args.k _ c.loop-test.true the-start.requires.1.0.0)
-
 pub offset_bounds-indices-a : goal.offset_bounds-indices-a
 offset_bounds-indices-a c =
     omega (arith, (row_in c.loop-i.i c.args.n c.args.k _ c.loop-i-test.true c.requires.k_in_bounds.0))
@@ -47,29 +37,22 @@ pub slice_bounds-neighbor_row-count-in-loop-i : goal.slice_bounds-neighbor_row-c
 slice_bounds-neighbor_row-count-in-loop-i c =
     omega arith
 
--- no goal: slice-bounds-neighbor-row-start-2
--- part-neighbor-row-start-2 : tie.Need-slice-bounds-neighbor-row-start-2 invariant-loop decreases-loop
--- part-neighbor-row-start-2 c = omega arith
-
--- no goal: slice-bounds-neighbor-row-end-2
--- part-neighbor-row-end-2 : tie.Need-slice-bounds-neighbor-row-end-2 invariant-loop decreases-loop
--- part-neighbor-row-end-2 c =
---     let the-loop = c.before.before.loop in
---     let the-start = c.before.before.before.before.before.before.before.before.before in
---     rw the-loop.invariant.1.size (row_in the-loop.i the-start.args.n the-start.args.k _ c.before.loop-test.true the-start.requires.1.0.1)
-
 pub neighbor_row-requires : goal.neighbor_row-requires
 neighbor_row-requires c =
-    record { i_lt_n = (c.loop-i-test.true, c.requires.n_le_most_frames.0, c.requires.n_le_most_frames.1, c.requires.n_le_most_frames.2, c.requires.n_le_most_frames.3, c.requires.n_le_most_frames.4); k_in_bounds = (
-          rw (mid_len (c.loop-i.i * c.args.k) (c.loop-i.i * c.args.k + c.args.k) c.loop-i.weights
-              (rw c.loop-i.invariant.0.size (row_in c.loop-i.i c.args.n c.args.k _ c.loop-i-test.true c.requires.k_in_bounds.0)))
-              (omega arith),
-          rw (mid_len (c.loop-i.i * c.args.k) (c.loop-i.i * c.args.k + c.args.k) c.loop-i.indices
-              (rw c.loop-i.invariant.1.size (row_in c.loop-i.i c.args.n c.args.k _ c.loop-i-test.true c.requires.k_in_bounds.1)))
-              (omega arith),
-          rw c.loop-i.invariant.2 c.requires.k_in_bounds.2,
-          rw c.loop-i.invariant.4 c.requires.k_in_bounds.3,
-        ); squared = c.requires.squared; }
+    record {
+      i_lt_n = (c.loop-i-test.true, c.requires.n_le_most_frames.0, c.requires.n_le_most_frames.1, c.requires.n_le_most_frames.2, c.requires.n_le_most_frames.3, c.requires.n_le_most_frames.4);
+      k_in_bounds = (
+        rw (mid_len (c.loop-i.i * c.args.k) (c.loop-i.i * c.args.k + c.args.k) c.loop-i.weights
+            (rw c.loop-i.invariant.0.size (row_in c.loop-i.i c.args.n c.args.k _ c.loop-i-test.true c.requires.k_in_bounds.0)))
+            (omega arith),
+        rw (mid_len (c.loop-i.i * c.args.k) (c.loop-i.i * c.args.k + c.args.k) c.loop-i.indices
+            (rw c.loop-i.invariant.1.size (row_in c.loop-i.i c.args.n c.args.k _ c.loop-i-test.true c.requires.k_in_bounds.1)))
+            (omega arith),
+        rw c.loop-i.invariant.2 c.requires.k_in_bounds.2,
+        rw c.loop-i.invariant.4 c.requires.k_in_bounds.3,
+      );
+      squared = c.requires.squared;
+    }
 
 pub overflow_add-i : goal.overflow_add-i
 overflow_add-i c =
@@ -80,21 +63,20 @@ loop-i-smaller c =
     omega (arith, c.loop-i-test.true)
 
 pub loop-i-preserved : goal.loop-i-preserved
-loop-i-preserved c =
-    (
-      lays-row (λ (x : Pair). x.value) _ _ _ _ _ c.requires.n_le_most_frames.2
-          (c.loop-i.i * c.args.k + c.args.k - c.loop-i.i * c.args.k) (omega arith) c.loop-i-test.true c.requires.k_in_bounds.0
-          c.neighbor_row.auto.weights c.neighbor_row.ensures.weights_after c.loop-i.invariant.0,
-      lays-row (λ (x : Pair). x.index) _ _ _ _ _
-          c.requires.n_le_most_frames.2 (c.loop-i.i * c.args.k + c.args.k - c.loop-i.i * c.args.k) (omega arith) c.loop-i-test.true
-          c.requires.k_in_bounds.1 c.neighbor_row.auto.indices c.neighbor_row.ensures.indices_after c.loop-i.invariant.1,
-      c.neighbor_row.auto.row_values ∙ c.loop-i.invariant.2,
-      rw c.neighbor_row.ensures.row_values_after
-          (loop-next c.loop-i.invariant.3 c.loop-i-test.true),
-      c.neighbor_row.auto.row_indices ∙ c.loop-i.invariant.4,
-      rw
-          c.neighbor_row.ensures.row_indices_after (loop-next c.loop-i.invariant.5 c.loop-i-test.true),
-    )
+loop-i-preserved c = (
+  lays-row (λ (x : Pair). x.value) _ _ _ _ _ c.requires.n_le_most_frames.2
+      (c.loop-i.i * c.args.k + c.args.k - c.loop-i.i * c.args.k) (omega arith) c.loop-i-test.true c.requires.k_in_bounds.0
+      c.neighbor_row.auto.weights c.neighbor_row.ensures.weights_after c.loop-i.invariant.0,
+  lays-row (λ (x : Pair). x.index) _ _ _ _ _
+      c.requires.n_le_most_frames.2 (c.loop-i.i * c.args.k + c.args.k - c.loop-i.i * c.args.k) (omega arith) c.loop-i-test.true
+      c.requires.k_in_bounds.1 c.neighbor_row.auto.indices c.neighbor_row.ensures.indices_after c.loop-i.invariant.1,
+  c.neighbor_row.auto.row_values ∙ c.loop-i.invariant.2,
+  rw c.neighbor_row.ensures.row_values_after
+      (loop-next c.loop-i.invariant.3 c.loop-i-test.true),
+  c.neighbor_row.auto.row_indices ∙ c.loop-i.invariant.4,
+  rw
+      c.neighbor_row.ensures.row_indices_after (loop-next c.loop-i.invariant.5 c.loop-i-test.true),
+)
 
 pub shape_of-weights : goal.shape_of-weights
 shape_of-weights c =
@@ -114,4 +96,9 @@ shape_of-row_indices c =
 
 pub returns : goal.returns
 returns c =
-    record { weights_after = lays-done _ _ c.loop-i.invariant.0 c.loop-i-test.false; indices_after = lays-done _ _ c.loop-i.invariant.1 c.loop-i-test.false; row_values_after = loop-done c.loop-i.invariant.3 c.loop-i-test.false; row_indices_after = loop-done c.loop-i.invariant.5 c.loop-i-test.false; }
+    record {
+      weights_after = lays-done _ _ c.loop-i.invariant.0 c.loop-i-test.false;
+      indices_after = lays-done _ _ c.loop-i.invariant.1 c.loop-i-test.false;
+      row_values_after = loop-done c.loop-i.invariant.3 c.loop-i-test.false;
+      row_indices_after = loop-done c.loop-i.invariant.5 c.loop-i-test.false;
+    }

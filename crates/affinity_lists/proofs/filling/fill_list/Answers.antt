@@ -1,30 +1,10 @@
 use mathlib.Core.Path.{refl, ◌∙◌}
-use Prim.Native.Nat.{◌-◌, ◌<◌, ◌≤◌}
-use borrow.Author.Tests.{not-false}
+use Prim.Native.Nat.{◌-◌}
+use borrow.Author.Tests.{not-true, not-false}
 use Rattle.affinity_lists.proofs.Listing.{writing_start, writing-mark, writing-sought, writing_pass, writing-room, writing-next, writing-below, writing-held, writing-done}
-use lib.ListN.{length, length-set}
+use lib.ListN.{length-set}
 use native.Mathlib.Omega.{arith}
-use Rattle.affinity_lists.proofs.filling.fill_list.Reads as reads
-use Rattle.affinity_lists.proofs.filling.fill_list.Lts as lts
-use Rattle.affinity_links.proofs.held.Reads as held_reads
-use Rattle.affinity_links.proofs.link_of.Reads as link-of-reads
 use Rattle.affinity_lists.proofs.filling.fill_list.Goals as goal
-
-room : (c : lts.Else2 (link-of-reads.Asked, link-of-reads.Learnt, held_reads.Asked, held_reads.Learnt) reads.Pre reads.Post invariant-loop decreases-loop) →
-    (0 < c.before.before.before.before.before.before.before.before.loop.q) ×
-    (c.before.before.before.before.before.before.before.before.loop.q ≤ length
-    c.before.before.before.before.before.before.before.before.loop.indices) ×
-    (c.before.before.before.before.before.before.before.before.loop.q ≤ length
-    c.before.before.before.before.before.before.before.before.loop.weights) ×
-    (c.before.before.before.before.before.before.before.before.loop.j - 1 < length
-    c.before.before.before.before.before.before.before.before.loop.row-indices)
-room c =
-    let the-link-of = c.before.before.link-of in
-    let the-if1 = c.before.before.before.before.before.before.if1 in
-    let the-loop = c.before.before.before.before.before.before.before.before.loop in
-    let the-start = c.before.before.before.before.before.before.before.before.before.before.before.before.before.before in
-    writing-room the-start.requires (the-loop.j - 1) the-loop.j (omega arith) the-loop.invariant the-if1.false _ the-link-of.ensures.0 _
-    the-link-of.ensures.1.1.0 (not-false _ c.if2.false)
 
 pub offset_bounds-row_indices-i : goal.offset_bounds-row_indices-i
 offset_bounds-row_indices-i c =
@@ -57,27 +37,47 @@ link_of-link-requires c =
 pub loop-j-preserved-then-not-link : goal.loop-j-preserved-then-not-link
 loop-j-preserved-then-not-link c =
     writing_pass c.requires (c.loop-j.j - 1) c.loop-j.j (omega arith) c.loop-j.invariant c.if-j-i.false _ c.link_of-link.ensures.yes_value _
-    c.link_of-link.ensures.row_value c.if-not-link.true
+    c.link_of-link.ensures.row_value (not-true _ c.if-not-link.true)
 
 pub offset_bounds-row_indices-j-in-loop-j : goal.offset_bounds-row_indices-j-in-loop-j
 offset_bounds-row_indices-j-in-loop-j c =
-    omega (arith, room c)
+    omega (
+      arith,
+      writing-room c.requires (c.loop-j.j - 1) c.loop-j.j (omega arith) c.loop-j.invariant c.if-j-i.false _ c.link_of-link.ensures.yes_value _
+          c.link_of-link.ensures.row_value (not-false _ c.if-not-link.false),
+    )
 
 pub bounds-row_indices-j-in-loop-j : goal.bounds-row_indices-j-in-loop-j
 bounds-row_indices-j-in-loop-j c =
-    omega (arith, room c)
+    omega (
+      arith,
+      writing-room c.requires (c.loop-j.j - 1) c.loop-j.j (omega arith) c.loop-j.invariant c.if-j-i.false _ c.link_of-link.ensures.yes_value _
+          c.link_of-link.ensures.row_value (not-false _ c.if-not-link.false),
+    )
 
 pub overflow_sub-q : goal.overflow_sub-q
 overflow_sub-q c =
-    omega (arith, room c)
+    omega (
+      arith,
+      writing-room c.requires (c.loop-j.j - 1) c.loop-j.j (omega arith) c.loop-j.invariant c.if-j-i.false _ c.link_of-link.ensures.yes_value _
+          c.link_of-link.ensures.row_value (not-false _ c.if-not-link.false),
+    )
 
 pub offset_bounds-weights-q : goal.offset_bounds-weights-q
 offset_bounds-weights-q c =
-    omega (arith, room c)
+    omega (
+      arith,
+      writing-room c.requires (c.loop-j.j - 1) c.loop-j.j (omega arith) c.loop-j.invariant c.if-j-i.false _ c.link_of-link.ensures.yes_value _
+          c.link_of-link.ensures.row_value (not-false _ c.if-not-link.false),
+    )
 
 pub bounds-weights-q : goal.bounds-weights-q
 bounds-weights-q c =
-    omega (arith, room c)
+    omega (
+      arith,
+      writing-room c.requires (c.loop-j.j - 1) c.loop-j.j (omega arith) c.loop-j.invariant c.if-j-i.false _ c.link_of-link.ensures.yes_value _
+          c.link_of-link.ensures.row_value (not-false _ c.if-not-link.false),
+    )
 
 pub overflow_cast-indices : goal.overflow_cast-indices
 overflow_cast-indices c =
@@ -85,16 +85,24 @@ overflow_cast-indices c =
 
 pub offset_bounds-indices-q : goal.offset_bounds-indices-q
 offset_bounds-indices-q c =
-    omega (arith, room c)
+    omega (
+      arith,
+      writing-room c.requires (c.loop-j.j - 1) c.loop-j.j (omega arith) c.loop-j.invariant c.if-j-i.false _ c.link_of-link.ensures.yes_value _
+          c.link_of-link.ensures.row_value (not-false _ c.if-not-link.false),
+    )
 
 pub bounds-indices-q : goal.bounds-indices-q
 bounds-indices-q c =
-    omega (arith, room c)
+    omega (
+      arith,
+      writing-room c.requires (c.loop-j.j - 1) c.loop-j.j (omega arith) c.loop-j.invariant c.if-j-i.false _ c.link_of-link.ensures.yes_value _
+          c.link_of-link.ensures.row_value (not-false _ c.if-not-link.false),
+    )
 
 pub loop-j-preserved : goal.loop-j-preserved
 loop-j-preserved c =
     writing-next c.requires (c.loop-j.j - 1) c.loop-j.j (omega arith) c.loop-j.invariant c.if-j-i.false _ c.link_of-link.ensures.yes_value _
-    c.link_of-link.ensures.row_value c.if-not-link.false _ _ _ refl c.link_of-link.ensures.weight_value c.link_of-link.ensures.cursor_value
+    c.link_of-link.ensures.row_value (not-false _ c.if-not-link.false) _ _ _ refl c.link_of-link.ensures.weight_value c.link_of-link.ensures.cursor_value
 
 pub overflow_sub-m : goal.overflow_sub-m
 overflow_sub-m c =
@@ -127,4 +135,4 @@ shape_of-row_indices c =
 pub returns : goal.returns
 returns c =
     let d = writing-done c.requires (omega arith) c.loop-j.invariant _ c.held.ensures in
-    record { value = d.0; weights_after = d.1; indices_after = d.2; lowered = d.3; }
+    record { value = d.0; weights_after = d.1; indices_after = d.2; lowered = d.3 }

@@ -1,6 +1,5 @@
 -- `affinity_lists::filling::fill_list` meets its contract: from j on list i is written, the part that is left gives the whole, and the cursors from j on have fallen (`Listing`). Assumes nothing.
 -- where a link is found there is room for it
-use Prim.Native.Nat.{◌-◌}
 use Rattle.affinity_lists.proofs.Listing.{Writing}
 use Rattle.affinity_lists.proofs.filling.fill_list.Given as goal
 

@@ -19,18 +19,17 @@ overflow_mul-j c =
     )
 
 pub held-requires : goal.held-requires
-held-requires c =
-    (
-      omega (arith, c.requires.0, c.requires.1),
-      omega (
-        arith,
-        (row_in c.loop-j.j c.args.n c.args.k (c.args.n * c.args.k) c.loop-j-test.true
-            (le_refl (c.args.n * c.args.k))),
-        c.requires.2,
-      ),
-      λ l. omega
-          (arith, c.requires.0, c.requires.4.inside c.loop-j.j (c.args.k - 1) c.loop-j-test.true (omega arith)),
-    )
+held-requires c = (
+  omega (arith, c.requires.0, c.requires.1),
+  omega (
+    arith,
+    (row_in c.loop-j.j c.args.n c.args.k (c.args.n * c.args.k) c.loop-j-test.true
+        (le_refl (c.args.n * c.args.k))),
+    c.requires.2,
+  ),
+  λ l. omega
+      (arith, c.requires.0, c.requires.4.inside c.loop-j.j (c.args.k - 1) c.loop-j-test.true (omega arith)),
+)
 
 pub offset_bounds-row_indices-j : goal.offset_bounds-row_indices-j
 offset_bounds-row_indices-j c =

@@ -34,11 +34,10 @@ overflow_mul-i-2 c =
     )
 
 pub find-requires : goal.find-requires
-find-requires c =
-    (
-      row_in _ c.args.n c.args.k _ (c.requires.4.inside _ _ c.requires.0 c.requires.1) c.requires.3,
-      c.requires.4.rising _ (c.requires.4.inside _ _ c.requires.0 c.requires.1),
-    )
+find-requires c = (
+  row_in _ c.args.n c.args.k _ (c.requires.4.inside _ _ c.requires.0 c.requires.1) c.requires.3,
+  c.requires.4.rising _ (c.requires.4.inside _ _ c.requires.0 c.requires.1),
+)
 
 pub returns-then-find-k : goal.returns-then-find-k
 unfolding miss_of

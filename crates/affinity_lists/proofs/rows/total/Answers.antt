@@ -1,6 +1,5 @@
 use Rattle.laws.proofs.Sums.{adds-room, adds-start, adds-next, adds-done}
 use Rattle.affinity_lists.proofs.Linked.{misses-le, links-count}
-use Prim.Native.Nat.{◌-◌}
 use native.Mathlib.Omega.{arith}
 use Rattle.affinity_lists.proofs.rows.total.Goals as goal
 

@@ -1,4 +1,3 @@
-use Prim.Native.Nat.{◌-◌}
 use Rattle.laws.proofs.Loops.{loop-start, loop-next, loop-done}
 use native.Mathlib.Omega.{arith}
 use Rattle.affinity_sigma.proofs.entropies.add_terms.Goals as goal

@@ -1,4 +1,3 @@
-use Prim.Native.Nat.{◌-◌}
 use Rattle.laws.proofs.Every.{every-at}
 use Rattle.laws.proofs.Loops.{loop-start, loop-next, loop-done}
 use native.Mathlib.Omega.{arith}
@@ -21,13 +20,12 @@ power_of-requires c =
     (c.held-v.ensures.1, c.held-v.ensures.2)
 
 pub loop-t-preserved : goal.loop-t-preserved
-loop-t-preserved c =
-    (
-      rw (c.digits_of.ensures, c.held-v.ensures.0) (loop-next c.loop-t.invariant.0 (omega arith)),
-      rw (c.power_of.ensures, c.held-v.ensures.0)
-          (loop-next c.loop-t.invariant.1 (omega arith)),
-    )
+loop-t-preserved c = (
+  rw (c.digits_of.ensures, c.held-v.ensures.0) (loop-next c.loop-t.invariant.0 (omega arith)),
+  rw (c.power_of.ensures, c.held-v.ensures.0)
+      (loop-next c.loop-t.invariant.1 (omega arith)),
+)
 
 pub returns : goal.returns
 returns c =
-    record { ms_after = loop-done c.loop-t.invariant.0 (omega arith); ks_after = loop-done c.loop-t.invariant.1 (omega arith); }
+    record { ms_after = loop-done c.loop-t.invariant.0 (omega arith); ks_after = loop-done c.loop-t.invariant.1 (omega arith) }

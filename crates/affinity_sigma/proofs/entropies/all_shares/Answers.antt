@@ -1,5 +1,4 @@
 use mathlib.Core.Path.{refl, sym}
-use Prim.Native.Nat.{◌-◌}
 use Rattle.laws.proofs.Every.{every-none}
 use Rattle.affinity_sigma.proofs.Blocks.{every-joined, every-whole}
 use native.Mathlib.Omega.{arith}

@@ -1,5 +1,4 @@
 use mathlib.Core.Path.{◌∙◌}
-use Prim.Native.Nat.{◌-◌}
 use Rattle.laws.proofs.Loops.{loop-start, loop-on}
 use native.Mathlib.Omega.{arith}
 use Rattle.affinity_sigma.proofs.entropies.entropy.Goals as goal

@@ -1,7 +1,5 @@
-use Prim.Native.Nat.{◌-◌}
 use mathlib.Core.Path.{sym}
 use Rattle.laws.proofs.Every.{every-none}
-use Rattle.affinity_sigma.specs.Blocks.{in_reach}
 use Rattle.affinity_sigma.proofs.Blocks.{every-joined, every-whole}
 use native.Mathlib.Omega.{arith}
 use Rattle.affinity_sigma.proofs.weights.all_in_reach.Goals as goal

@@ -1,4 +1,3 @@
-use Prim.Native.Nat.{◌-◌}
 use Rattle.laws.proofs.Loops.{loop-start, loop-next, loop-done}
 use borrow.Author.Rules.{rules}
 use native.Mathlib.Omega.{arith}

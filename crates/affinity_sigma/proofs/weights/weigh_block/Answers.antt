@@ -19,15 +19,14 @@ all_series-requires c =
     c.requires.2 refl refl c.exponents.ensures c.all_halvings.ensures (sym c.all_in_reach.ensures ∙ c.if-not-all_in_reach.false)
 
 pub lay_halved-requires : goal.lay_halved-requires
-lay_halved-requires c =
-    (
-      c.requires.0,
-      c.requires.1,
-      c.requires.2,
-      block-few c.args.distances.now c.args.j c.args.c
-          c.args.sigma (replicate 32 zero64) _ (replicate 32 0) _ c.requires.2 refl refl c.exponents.ensures c.all_halvings.ensures
-          (sym c.all_in_reach.ensures ∙ c.if-not-all_in_reach.false),
-    )
+lay_halved-requires c = (
+  c.requires.0,
+  c.requires.1,
+  c.requires.2,
+  block-few c.args.distances.now c.args.j c.args.c
+      c.args.sigma (replicate 32 zero64) _ (replicate 32 0) _ c.requires.2 refl refl c.exponents.ensures c.all_halvings.ensures
+      (sym c.all_in_reach.ensures ∙ c.if-not-all_in_reach.false),
+)
 
 pub returns : goal.returns
 returns c =

@@ -1,5 +1,4 @@
 use mathlib.Core.Path.{◌∙◌}
-use Prim.Native.Nat.{◌-◌}
 use Rattle.laws.proofs.Loops.{loop-start, loop-next, loop-done}
 use Rattle.laws.proofs.Loops.{loop-moved}
 use mathlib.Core.Path.{refl}

@@ -1,8 +1,5 @@
 use mathlib.Core.Path.{sym, ◌∙◌}
-use mathlib.Core.Bool.{true}
-use Prim.Native.Nat.{◌-◌}
 use Rattle.laws.proofs.Every.{every-none, every-next, every-no, every-done}
-use Rattle.elementary.specs.Limits.{in_domain}
 use borrow.Author.Rules.{rules}
 use Rattle.blind.proofs.faults.table_fine.Goals as goal
 

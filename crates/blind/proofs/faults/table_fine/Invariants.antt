@@ -8,7 +8,7 @@ use Rattle.elementary.specs.Limits.{in_domain}
 use Rattle.blind.proofs.faults.table_fine.Given as goal
 
 abbrev pub invariant-loop-i : goal.invariant-loop-i
-invariant-loop-i l = (l.i ≤ l.m) × (every (λ l.i. in_domain (at l.table l.i)) l.i ≡ true)
+invariant-loop-i l = (l.i ≤ l.m) × (every (λ i. in_domain (at l.table i)) l.i ≡ true)
 
 abbrev pub decreases-loop-i : goal.decreases-loop-i
 decreases-loop-i l = l.m - l.i

@@ -1,6 +1,4 @@
 use mathlib.Core.Path.{sym, ◌∙◌}
-use mathlib.Core.Bool.{true}
-use Prim.Native.Nat.{◌-◌}
 use Rattle.laws.proofs.Every.{every-none, every-next, every-no, every-done}
 use borrow.Author.Rules.{rules}
 use Rattle.blind.proofs.looks.all_at_zero.Goals as goal

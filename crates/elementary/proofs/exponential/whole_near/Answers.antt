@@ -10,7 +10,7 @@ use Rattle.elementary.proofs.exponential.whole_near.Goals as goal
 pub truncating_f64_to_u64-u-requires : goal.truncating_f64_to_u64-u-requires
 truncating_f64_to_u64-u-requires c =
     let r = near-neg c.args.q (passes _ c.well_formed.0.1) c.requires c.if-q.true in
-    record { lower_bound = r.2.above; upper_bound = r.2.below; }
+    record { lower_bound = r.2.above; upper_bound = r.2.below }
 
 pub overflow_add-result : goal.overflow_add-result
 overflow_add-result c =
@@ -40,7 +40,7 @@ returns-then-q c =
 pub truncating_f64_to_u64-v-requires : goal.truncating_f64_to_u64-v-requires
 truncating_f64_to_u64-v-requires c =
     let r = near-pos c.args.q (passes _ c.well_formed.0.1) c.requires c.if-q.false in
-    record { lower_bound = r.2.above; upper_bound = r.2.below; }
+    record { lower_bound = r.2.above; upper_bound = r.2.below }
 
 pub overflow_add-result-2 : goal.overflow_add-result-2
 overflow_add-result-2 c =

@@ -6,7 +6,7 @@ use Rattle.elementary.proofs.limits.ceil_of.Goals as goal
 pub truncating_f64_to_u64-w-requires : goal.truncating_f64_to_u64-w-requires
 truncating_f64_to_u64-w-requires c =
     let k = cut c.args.q c.requires in
-    record { lower_bound = k.above; upper_bound = k.below; }
+    record { lower_bound = k.above; upper_bound = k.below }
 
 pub overflow_add-result : goal.overflow_add-result
 overflow_add-result c =

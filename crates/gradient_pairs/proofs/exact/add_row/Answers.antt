@@ -1,6 +1,5 @@
 use Rattle.laws.proofs.Numbers.{row_in}
 use Rattle.laws.proofs.Loops.{loop-start, loop-next, loop-done}
-use Prim.Native.Nat.{◌-◌}
 use native.Mathlib.Omega.{arith}
 use Rattle.gradient_pairs.proofs.exact.add_row.Goals as goal
 
@@ -9,12 +8,11 @@ loop-j-init c =
     loop-start _ _ _
 
 pub num-s-requires : goal.num-s-requires
-num-s-requires c =
-    (
-      row_in _ c.args.n c.args.c _ c.requires.0 c.requires.1,
-      row_in _ c.args.n c.args.c _
-          c.loop-j-test.true c.requires.1,
-    )
+num-s-requires c = (
+  row_in _ c.args.n c.args.c _ c.requires.0 c.requires.1,
+  row_in _ c.args.n c.args.c _
+      c.loop-j-test.true c.requires.1,
+)
 
 pub loop-j-preserved : goal.loop-j-preserved
 loop-j-preserved c =

@@ -27,12 +27,11 @@ loop-q-smaller c =
     omega (arith, (due-is _ _ c.requires.1))
 
 pub loop-q-preserved : goal.loop-q-preserved
-loop-q-preserved c =
-    (
-      omega arith,
-      seek-next c.loop-q.invariant.1 (omega (arith, (due-is _ _ c.requires.1)))
-          (ap not ((words-stand _ _ _ _ c.requires.1 c.loop-q.invariant.0 (omega arith) c.words_fine.ensures) ∙ c.if-not-words_fine.false)),
-    )
+loop-q-preserved c = (
+  omega arith,
+  seek-next c.loop-q.invariant.1 (omega (arith, (due-is _ _ c.requires.1)))
+      (ap not ((words-stand _ _ _ _ c.requires.1 c.loop-q.invariant.0 (omega arith) c.words_fine.ensures) ∙ c.if-not-words_fine.false)),
+)
 
 pub returns : goal.returns
 unfolding first_bad

@@ -23,8 +23,7 @@ pub total_fits-requires : goal.total_fits-requires
 total_fits-requires c =
     let the-per = c.per-p in
     let the-if1 = c.if-not-state_fits in
-    let the-state-fits = c.state_fits in
-    (
+    let the-state-fits = c.state_fits in (
       le_trans (done-most _ _ _ _ _ (sym the-state-fits.ensures ∙ the-if1.false)) c.requires.iterations-most,
       rw the-per.ensures
           (per-most _ _ c.requires.n-most),

@@ -23,7 +23,6 @@ overflow_add-node c =
       child-below c.args.s.c c.args.v.centre c.args.s.p,
       pow_mono {i = c.args.s.c} {j = 3}
           c.requires.0.1,
-      c.struct_known-2-1.given,
     ))
 
 pub returns : goal.returns

@@ -1,0 +1,18 @@
+use Rattle.laws.proofs.Loops.{loop-start, loop-next, loop-done}
+use Rattle.std.proofs.Common.{refl, arith, rules}
+use Rattle.replay.proofs.areas.mark.Goals as goal
+
+pub loop-i-init : goal.loop-i-init
+loop-i-init c =
+    (refl, loop-start _ _ _)
+
+pub loop-i-preserved : goal.loop-i-preserved
+loop-i-preserved c = (
+  search rules,
+  rw (c.value_of.ensures, c.wrapping_add_u64.ensures.value)
+      (loop-next c.loop-i.invariant.1 (omega (arith, c.loop-i-test.true, c.loop-i.invariant.0))),
+)
+
+pub returns : goal.returns
+returns c =
+    loop-done c.loop-i.invariant.1 (omega (arith, c.loop-i-test.false, c.loop-i.invariant.0))

@@ -1,0 +1,9 @@
+-- `replay::read_full` ends, since each turn leaves less to fill.
+use Rattle.std.proofs.Common.{◌≡◌, ◌-◌, ◌≤◌, length}
+use Rattle.replay.proofs.read_full.Given as goal
+
+abbrev pub invariant-loop-done : goal.invariant-loop-done
+invariant-loop-done g l = (length l.list ≡ length l.initial.list) × (l.done ≤ length l.list)
+
+abbrev pub decreases-loop-done : goal.decreases-loop-done
+decreases-loop-done g l = length l.list - l.done

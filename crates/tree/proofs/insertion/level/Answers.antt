@@ -1,0 +1,29 @@
+-- `tree::insertion::level` meets its contract: the laws of a level, over what its calls promise.
+use mathlib.Core.Path.{refl}
+use native.Mathlib.Omega.{arith}
+use lib.ListN.{length}
+use Rattle.tree.proofs.Descends.{level_in, level-stores, level-splits, level-steps, level-told}
+use Rattle.tree.proofs.insertion.level.Goals as goal
+
+pub load-v-requires : goal.load-v-requires
+load-v-requires c = level_in c.args.w c.args.positions.now c.args.cells.now c.requires _ refl
+
+pub store-requires : goal.store-requires
+store-requires c =
+    level-stores c.args.w c.args.positions.now c.args.cells.now c.requires c.load-v.result c.load-v.ensures c.met-s.result c.met-s.ensures
+    c.node_met-x.result c.node_met-x.ensures
+
+pub subdivide-requires : goal.subdivide-requires
+subdivide-requires c =
+    level-splits c.args.w c.args.positions.now c.args.cells.now c.requires c.load-v.result c.load-v.ensures c.met-s.result c.met-s.ensures
+    c.store.new.cells c.node_met-x.result c.store.ensures
+
+pub stepped-r-requires : goal.stepped-r-requires
+stepped-r-requires c =
+    level-steps c.args.w c.args.positions.now c.args.cells.now c.requires c.load-v.result c.load-v.ensures c.met-s.result c.met-s.ensures
+    (length c.args.cells.now) refl (omega arith)
+
+pub returns : goal.returns
+returns c =
+    level-told c.args.w c.args.positions.now c.args.cells.now c.requires c.load-v.result c.load-v.ensures c.met-s.result c.met-s.ensures
+    c.node_met-x.result c.node_met-x.ensures c.store.new.cells c.store.ensures c.subdivide.new.cells c.subdivide.ensures c.stepped-r.result c.stepped-r.ensures
