@@ -98,5 +98,5 @@ pub zero-forces : (r : Run) (y v g P : List Float) (xs off : List ℕ) (F : List
 unfolding divergence_of after_tests divergence_fault
 zero-forces r y v g P xs off F cs z e h =
     let f = divergence_fault r (memory y v g P xs off F cs) z in
-    let room = divergence-asks r y v g P xs off F cs z (length y) (length v) (length g) (length P) (length F) (length z) refl refl refl refl refl refl (min (length y) (length z)) refl f refl e in
+    let room = divergence-asks r y v g P xs off F cs z (min (length y) (length z)) refl f refl e in
     rw (e, early-zero r F room.total-room.settings-good.n-some h)
