@@ -96,7 +96,8 @@ module _ (t : List Float) (n f k : ℕ) (perplexity : Float) (i : ℕ) (hi : i <
 
   row_by : (X : List Float) (R : List ℕ) → ((s : ℕ) → s < k → at X s ≡ at (nearest_shares t n f k perplexity i) s) → by_index_of X (indices_over frames R) k ≡ row
   unfolding neighbour_row
-  row_by X R h = by-index-alike X (nearest_shares t n f k perplexity i) (indices_over frames R) (frames_in frames) k h (λ s l. over-at (λ (x : Pair). x.index) frames R 0 s (omega (arith, frames-count)))
+  row_by X R h = by-index-alike X (nearest_shares t n f k perplexity i) (indices_over frames R) (frames_in frames) k h
+      (λ s l. over-at (λ (x : Pair). x.index) frames R 0 s (omega (arith, frames-count)))
 
   row_near : (X : List Float) (R : List ℕ) (p : List Float) → n ≤ length p → ((s : ℕ) → s < k → at X s ≡ at (nearest_shares t n f k perplexity i) s) →
       by_index_of X (indices_over (nearest_of (distance_row t n f i p) n k i) R) k ≡ row

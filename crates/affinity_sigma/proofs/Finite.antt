@@ -188,7 +188,8 @@ module _ (ds : List Float) (n : ℕ) (some : 0 < n) (few : n ≤ most_frames) (f
     unfolding row_of shared_by
     row_small j h = go (lt (weight_sum w n) smallest) refl
       where
-        go : (b : Bool) → lt (weight_sum w n) smallest ≡ b → up_to_whole (at (cond b (filled (div binary64 one64 (of_int binary64 (pos n))) n w) (loop (divide_step (weight_sum w n)) n 0 w)) j) most_share
+        go : (b : Bool) → lt (weight_sum w n) smallest ≡ b → up_to_whole
+            (at (cond b (filled (div binary64 one64 (of_int binary64 (pos n))) n w) (loop (divide_step (weight_sum w n)) n 0 w)) j) most_share
         go true e = subst (λ (v : Float). up_to_whole v most_share)
             (sym (ap (λ (m : List Float). at m j) (filled-loop (div binary64 one64 (of_int binary64 (pos n))) n w roomy) ∙
             written_at (λ j. div binary64 one64 (of_int binary64 (pos n))) nan n w roomy j h)) equal-small

@@ -56,7 +56,8 @@ single-9 = refl
 
 -- one record and a tail
 pub tail-16 : (map_of (first101 ++ none 1)).told ≡ Record 1
-unfolding map_of of_bits add sub mul div lt le eq neg of_int is_nan size frames_of seek bad_at good_alone picture_fine little_of side_fine field_fine spare_fine values_fine every up_to value_at in_order may_follow
+unfolding map_of of_bits add sub mul div lt le eq neg of_int is_nan size frames_of seek bad_at good_alone picture_fine little_of side_fine field_fine spare_fine values_fine every
+    up_to value_at in_order may_follow
 tail-16 = refl
 
 -- the whole outcome of the example

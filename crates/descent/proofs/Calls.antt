@@ -1,12 +1,10 @@
--- The call: what the entry tests found, or the units; and what its walk cites. Assumes nothing.
-use mathlib.Core.Path.{◌≡◌, refl, sym, ap, subst, ◌∙◌}
+-- The call: what the entry tests found, or the units; and what its answers cite. Assumes nothing.
+use mathlib.Core.Path.{◌≡◌, sym, ap, subst, ◌∙◌}
 use mathlib.Core.List.{List}
-use mathlib.Core.Bool.{Bool, true, false, not}
+use mathlib.Core.Bool.{Bool, true, false}
 use Prim.Native.Nat.{ℕ}
-use lib.Dec.{T}
 use lib.ListN.{length}
 use lib.Ieee.{Float}
-use Rattle.lent.proofs.Holds.{holds_as, fails-as}
 use Rattle.run_calls.specs.Machine.{go, call}
 use Rattle.run_record.specs.declared.Run.{Run}
 use Rattle.tree_node.specs.declared.Cell.{Cell}
@@ -29,24 +27,23 @@ pub work-fine : (b : ℕ) (s : State) → is_fine (fault_of s) ≡ true → told
 unfolding work call
 work-fine b s e = rw e
 
--- ---- with the machine's counts of the areas
+-- ---- f: what the entry tests found; t: they found nothing
 
-module _ (r : Run) (y v g P : List Float) (xs off : List ℕ) (F : List Float) (cs : List Cell) (a b c d e : ℕ) (la : length y ≡ a) (lb : length v ≡ b)
-    (lc : length g ≡ c) (ld : length P ≡ d) (le : length F ≡ e)
-    (f : Fault) (ef : f ≡ fault_at r a b c d e xs off (nodes_of cs)) (t : Bool) (et : t ≡ is_fine f) where
+module _ (r : Run) (y v g P : List Float) (xs off : List ℕ) (F : List Float) (cs : List Cell)
+    (f : Fault) (ef : f ≡ fault_at r (length y) (length v) (length g) (length P) (length F) xs off (nodes_of cs)) (t : Bool) (et : t ≡ is_fine f) where
   fault-is : f ≡ fault_of (state r (memory y v g P xs off F cs))
   unfolding fault_of
-  fault-is = ef ∙ rw (la, lb, lc, ld, le)
+  fault-is = ef
 
-  pub call_asks : T t → Good (state r (memory y v g P xs off F cs))
-  call_asks yes-t = fault-fine (state r (memory y v g P xs off F cs)) (subst (λ (x : Fault). is_fine x ≡ true) fault-is (holds_as t (is_fine f) et yes-t))
+  pub call_asks : t ≡ true → Good (state r (memory y v g P xs off F cs))
+  call_asks yes-t = fault-fine (state r (memory y v g P xs off F cs)) (subst (λ (x : Fault). is_fine x ≡ true) fault-is (sym et ∙ yes-t))
 
-  pub call-done : T t → (n : ℕ) (w : Left) (y' v' g' F' : List Float) (ds : List Cell) →
+  pub call-done : t ≡ true → (n : ℕ) (w : Left) (y' v' g' F' : List Float) (ds : List Cell) →
       worked w.answer (state w.run (memory y' v' g' P xs off F' ds)) ≡ told (go machine n (state r (memory y v g P xs off F cs)))
       → worked w.answer (state w.run (memory y' v' g' P xs off F' ds)) ≡ work n (state r (memory y v g P xs off F cs))
-  call-done yes-t n w y' v' g' F' ds ew = ew ∙ work-fine n (state r (memory y v g P xs off F cs)) (subst (λ (x : Fault). is_fine x ≡ true) fault-is (holds_as t (is_fine f) et yes-t))
+  call-done yes-t n w y' v' g' F' ds ew = ew ∙ work-fine n (state r (memory y v g P xs off F cs)) (subst (λ (x : Fault). is_fine x ≡ true) fault-is (sym et ∙ yes-t))
 
-  pub call-bad : T (not t) → (n : ℕ) (k : Answer) → k ≡ Bad f → worked k (state r (memory y v g P xs off F cs)) ≡ work n (state r (memory y v g P xs off F cs))
+  pub call-bad : t ≡ false → (n : ℕ) (k : Answer) → k ≡ Bad f → worked k (state r (memory y v g P xs off F cs)) ≡ work n (state r (memory y v g P xs off F cs))
   call-bad no-t n k ek =
       ap (λ (x : Answer). worked x (state r (memory y v g P xs off F cs))) (ek ∙ ap Bad fault-is) ∙
-      work-bad n (state r (memory y v g P xs off F cs)) (subst (λ (x : Fault). is_fine x ≡ false) fault-is (fails-as t (is_fine f) et no-t))
+      work-bad n (state r (memory y v g P xs off F cs)) (subst (λ (x : Fault). is_fine x ≡ false) fault-is (sym et ∙ no-t))

@@ -201,7 +201,8 @@ pub host-after-each : (h : HostWorked) → Readable h → (bs : List ℕ) → ho
 host-after-each h g bs = rw (told_is bs h g) (works-state bs h g ∙ (after-each bs (host_state h)).left)
 
 -- whatever was lent, where the entry tests pass: a call that answers a number leaves record and memory as after the units that it tells, and there the next unit is refused
-pub host-refusal : (h : HostWorked) → Readable h → Good (host_state h) → (b : ℕ) → ((host_next b h).number ≡ 0 → ⊥) → (host_state (host_next b h) ≡ (work b (host_state h)).left) × Refused b (host_state h)
+pub host-refusal : (h : HostWorked) → Readable h → Good (host_state h) → (b : ℕ) → ((host_next b h).number ≡ 0 → ⊥) → (host_state (host_next b h) ≡ (work b (host_state h)).left)
+    × Refused b (host_state h)
 host-refusal h g good b n = (next-state b h g, refusal b (host_state h) good (λ e. n (next-number b h g ∙ e)))
 
 -- calls with the budgets bs, then one with b, against one call with the sum, or 2^32 − 1
@@ -256,7 +257,8 @@ module _ (h : HostWorked) (g : Readable h) (honest : Honest (host_state h)) wher
       let first = next-state c (in_cells (ds ++ more) (host_next b h)) (record { fine = there.fine; room = there.room }) in
       let second = next-state (u + c) (in_cells (cs ++ more) h) (record { fine = g.fine; room = g.room }) in
       let on = goes-on-lent more b c (host_state h) honest cs ds e (subst (Holds ds) n e') in
-      first ∙ ap (λ (s : State). (work c (lent_arena (ds ++ more) s)).left) n ∙ on.left ∙ sym second ∙ ap (λ (k : ℕ). host_state (host_next (k + c) (in_cells (cs ++ more) h))) (sym (next-answer b h g).2)
+      first ∙ ap (λ (s : State). (work c (lent_arena (ds ++ more) s)).left) n ∙ on.left ∙ sym second ∙ ap (λ (k : ℕ). host_state (host_next (k + c) (in_cells (cs ++ more) h)))
+      (sym (next-answer b h g).2)
 
 -- ---- from preparation on
 

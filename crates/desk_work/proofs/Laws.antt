@@ -21,7 +21,8 @@ module _ (b : ℕ) (w a : List ℕ) (m : Memory) where
   unfolding host_work
   short-told h = rw (lt-ltb (length a) 5 h)
 
-  pub unread-told : {k : ℕ} {a' : List ℕ} → 5 ≤ length a → run_fine w ≡ false → k ≡ work_number (Bad (unread_fault w)) → a' ≡ answer_put (Bad (unread_fault w)) a → host_worked k a' w m ≡ host_work b w a m
+  pub unread-told : {k : ℕ} {a' : List ℕ} → 5 ≤ length a → run_fine w ≡ false → k ≡ work_number (Bad (unread_fault w)) → a' ≡ answer_put (Bad (unread_fault w)) a
+      → host_worked k a' w m ≡ host_work b w a m
   unfolding host_work
   unread-told h e ek q = rw (le-ltb (length a) 5 h, e, ek, q)
 

@@ -58,7 +58,8 @@ kl_dense y P exaggeration total n c = loop (kl_row_step y P exaggeration total n
 -- frame i's link at a place: p = weight·exaggeration, rounded first, q = (1 / (1 + d²)) / z
 unfoldable pub kl_link : List Float → List Float → List ℕ → Float → Float → ℕ → ℕ → ℕ → Float → Float
 unfolding kl_term gap_of
-kl_link y W I exaggeration z c i place s = kl_term (mul binary64 (at W place) exaggeration) (div binary64 (div binary64 one64 (add binary64 one64 (gap_of c (on_map y c i) (on_map y c (num I place))))) z) s
+kl_link y W I exaggeration z c i place s = kl_term (mul binary64 (at W place) exaggeration)
+    (div binary64 (div binary64 one64 (add binary64 one64 (gap_of c (on_map y c i) (on_map y c (num I place))))) z) s
 
 -- the link at a place counted from a
 abbrev pub kl_link_step : List Float → List Float → List ℕ → Float → Float → ℕ → ℕ → ℕ → ℕ → Float → Float

@@ -1,5 +1,7 @@
 -- The next whole number up, and how large three perplexities are: what the proofs of `ceil_of` and `neighbours` cite. Assumes nothing.
-use Rattle.std.proofs.Common.{◌≡◌, ℕ, zero, suc, ◌+◌, ◌-◌, ◌*◌, ◌/◌, ◌%◌, ◌^◌, ◌<◌, ◌≤◌, min, max, Bool, true, false, cond, T, eqb, ltb, ℤ, pos, sym, refl, ap, ◌∙◌, ⊎_elim, true≢false, le_trans, le_of_eq, lt_of_lt_of_le, le_of_lt, lt_irrefl, mul-le-mul_right, mul_comm, mul-lt-mul_of_pos_right, div-add-mod', mul-one, mul_right_comm, le_of_mul-le-mul_right, arith, lit≤, lt→ltb, ltb-false, ltb-true, le-ltb, lt-ltb}
+use Rattle.std.proofs.Common.{◌≡◌, ℕ, zero, suc, ◌+◌, ◌-◌, ◌*◌, ◌/◌, ◌%◌, ◌^◌, ◌<◌, ◌≤◌, min, max, Bool, true, false, cond, T, eqb, ltb, ℤ, pos, sym}
+use Rattle.std.proofs.Common.{refl, ap, ◌∙◌, ⊎_elim, true≢false, le_trans, le_of_eq, lt_of_lt_of_le, le_of_lt, lt_irrefl, mul-le-mul_right, mul_comm}
+use Rattle.std.proofs.Common.{mul-lt-mul_of_pos_right, div-add-mod', mul-one, mul_right_comm, le_of_mul-le-mul_right, arith, lit≤, lt→ltb, ltb-false, ltb-true, le-ltb, lt-ltb}
 use native.Mathlib.Nat.{div-le_of_le-mul}
 use lib.Dec.{eqb-suc-zero}
 use lib.Ieee.{Float, nan, inf, fin, binary64, up, down, round, mul, lt, of_int, of_bits, to_unsigned}

@@ -1,5 +1,7 @@
 -- A number's leading digit: what the proof of `ln` cites. Assumes nothing.
-use Rattle.std.proofs.Common.{◌≡◌, ℕ, zero, suc, ◌+◌, ◌-◌, ◌*◌, ◌/◌, ◌%◌, ◌^◌, ◌<◌, ◌≤◌, sym, refl, ap, ◌∙◌, le_trans, le_of_eq, lt_of_lt_of_le, le_of_suc-le-suc, lt_of_le_of_lt, lt_irrefl, mul-le-mul_right, le_antisymm, lt_of_mul-lt-mul_right, mul-pos, one-mul, lt_of_not-le, zero-mul, mul-one, not-le_of_lt, le_of_mul-le-mul_right, div-one, mul_left_comm, arith, pow_pos, pow_mono, pow-add}
+use Rattle.std.proofs.Common.{◌≡◌, ℕ, zero, suc, ◌+◌, ◌-◌, ◌*◌, ◌/◌, ◌%◌, ◌^◌, ◌<◌, ◌≤◌, sym, refl, ap, ◌∙◌, le_trans, le_of_eq, lt_of_lt_of_le}
+use Rattle.std.proofs.Common.{le_of_suc-le-suc, lt_of_le_of_lt, lt_irrefl, mul-le-mul_right, le_antisymm, lt_of_mul-lt-mul_right, mul-pos, one-mul, lt_of_not-le, zero-mul}
+use Rattle.std.proofs.Common.{mul-one, not-le_of_lt, le_of_mul-le-mul_right, div-one, mul_left_comm, arith, pow_pos, pow_mono, pow-add}
 use native.Mathlib.Nat.{pow-succ'}
 use native.Mathlib.Nat.{div-div-eq-div-mul}
 use lib.Count.{count_trailing_zeros, under}
@@ -38,7 +40,8 @@ unfolding count_trailing_zeros
 tz_div zero n = mul-one (n / 1) ∙ div-one n
 tz_div (suc d) n = go (n % 2) refl (tz_div d (n / 2))
   where
-    go : (r : ℕ) → n % 2 ≡ r → n / 2 / 2 ^ count_trailing_zeros d (n / 2) * 2 ^ count_trailing_zeros d (n / 2) ≡ n / 2 → n / 2 ^ under r (count_trailing_zeros d (n / 2)) * 2 ^ under r (count_trailing_zeros d (n / 2)) ≡ n
+    go : (r : ℕ) → n % 2 ≡ r → n / 2 / 2 ^ count_trailing_zeros d (n / 2) * 2 ^ count_trailing_zeros d (n / 2) ≡ n / 2 → n / 2 ^ under r
+        (count_trailing_zeros d (n / 2)) * 2 ^ under r (count_trailing_zeros d (n / 2)) ≡ n
     go zero e ih =
         let t = count_trailing_zeros d (n / 2) in
         ap (λ (x : ℕ). n / x * x) (pow-succ' 2 t)
@@ -60,7 +63,8 @@ unfolding count_trailing_zeros
 tz-more zero a p h = absurd (lt_irrefl 0 (lt_of_lt_of_le p (le_of_suc-le-suc h)))
 tz-more (suc d) a p h = go (a % 2) refl (tz-more d (a / 2))
   where
-    go : (r : ℕ) → a % 2 ≡ r → (0 < a / 2 → a / 2 < 2 ^ d → count_trailing_zeros (suc d) (a / 2) ≡ count_trailing_zeros d (a / 2)) → under r (count_trailing_zeros (suc d) (a / 2)) ≡ under r (count_trailing_zeros d (a / 2))
+    go : (r : ℕ) → a % 2 ≡ r → (0 < a / 2 → a / 2 < 2 ^ d → count_trailing_zeros (suc d) (a / 2) ≡ count_trailing_zeros d (a / 2)) → under r
+        (count_trailing_zeros (suc d) (a / 2)) ≡ under r (count_trailing_zeros d (a / 2))
     go zero e ih = ap suc (ih (half_pos a p e) (half-under a (2 ^ d) (lt_of_lt_of_le h (le_of_eq (pow-succ' 2 d)))))
     go (suc r) e ih = refl
 

@@ -1,6 +1,8 @@
 -- From -745 to 709 exp is t·2^k, rounded once. And exp of a value with the sign -: finite, with the sign +, and at most 14. The bound is coarse; it is enough
 -- for what the weights need. Assumes nothing.
-use Rattle.std.proofs.Common.{◌≡◌, ℕ, zero, suc, ◌+◌, ◌-◌, ◌*◌, ◌^◌, ◌<◌, ◌≤◌, Bool, true, false, cond, T, ltb, ℤ, pos, negsuc, ◌+ℤ◌, neg_ℤ, sym, refl, ap, ◌∙◌, subst, ⊎_elim, true≢false, le_trans, le_of_eq, lt_of_lt_of_le, not-suc-le-zero, le_of_lt, mul-le-mul_right, mul_assoc, suc-mul, mul_comm, add-mul, add_comm, mul-lt-mul_of_pos_right, mul-pos, one-mul, zero-mul, mul-one, mul_right_comm, mul_left_comm, arith, lit<, lit≤, pow_pos, ltb-false, le-ltb}
+use Rattle.std.proofs.Common.{◌≡◌, ℕ, zero, suc, ◌+◌, ◌-◌, ◌*◌, ◌^◌, ◌<◌, ◌≤◌, Bool, true, false, cond, T, ltb, ℤ, pos, negsuc, ◌+ℤ◌, neg_ℤ, sym, refl, ap, ◌∙◌, subst}
+use Rattle.std.proofs.Common.{⊎_elim, true≢false, le_trans, le_of_eq, lt_of_lt_of_le, not-suc-le-zero, le_of_lt, mul-le-mul_right, mul_assoc, suc-mul, mul_comm, add-mul, add_comm}
+use Rattle.std.proofs.Common.{mul-lt-mul_of_pos_right, mul-pos, one-mul, zero-mul, mul-one, mul_right_comm, mul_left_comm, arith, lit<, lit≤, pow_pos, ltb-false, le-ltb}
 use lib.Ieee.{Float, inf, fin, binary64, up, down, unlike, round, sum, neg, add, sub, mul, div, lt, ne, fits, of_int, of_bits, is_nan, nan}
 use lib.Ieee.Fits.{down_pos, add-fits}
 use lib.Ieee.Exact.{HasValue, round_exact}

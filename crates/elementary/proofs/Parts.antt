@@ -1,5 +1,9 @@
 -- A value's significand and exponent, from its bits: what the proof of `ln` cites. Assumes nothing.
-use Rattle.std.proofs.Common.{◌≡◌, ℕ, zero, suc, ◌+◌, ◌-◌, ◌*◌, ◌/◌, ◌%◌, ◌^◌, ◌<◌, ◌≤◌, Bool, true, false, cond, ◌&&◌, ◌||◌, T, eqb, ltb, leb, ◌⊎◌, ℤ, pos, negsuc, ◌+ℤ◌, ◌-ℤ◌, neg_ℤ, sym, refl, ap, ◌∙◌, subst, ap₂, inl, inr, ⊎_elim, true≢false, le_trans, le_of_eq, lt_of_lt_of_le, le_of_suc-le-suc, not-suc-le-zero, lt_of_le_of_lt, lt_irrefl, mul-le-mul_right, mod-eq_of_lt, zero-lt-suc, mul_assoc, mul-pos, zero-mul, mul-one, mul-div_cancel, arith, lit<, pow_pos, pow-add, shl_lt, w64, SFits, to_z, le-ltb, lt-ltb, eq-eqb, ne_eqb, le-leb, leb-false}
+use Rattle.std.proofs.Common.{◌≡◌, ℕ, zero, suc, ◌+◌, ◌-◌, ◌*◌, ◌/◌, ◌%◌, ◌^◌, ◌<◌, ◌≤◌, Bool, true, false, cond, ◌&&◌}
+use Rattle.std.proofs.Common.{◌||◌, T, eqb, ltb, leb, ◌⊎◌, ℤ, pos, negsuc, ◌+ℤ◌, ◌-ℤ◌, neg_ℤ, sym, refl, ap, ◌∙◌, subst}
+use Rattle.std.proofs.Common.{ap₂, inl, inr, ⊎_elim, true≢false, le_trans, le_of_eq, lt_of_lt_of_le, le_of_suc-le-suc}
+use Rattle.std.proofs.Common.{not-suc-le-zero, lt_of_le_of_lt, lt_irrefl, mul-le-mul_right, mod-eq_of_lt, zero-lt-suc, mul_assoc, mul-pos}
+use Rattle.std.proofs.Common.{zero-mul, mul-one, mul-div_cancel, arith, lit<, pow_pos, pow-add, shl_lt, w64, SFits, to_z, le-ltb, lt-ltb, eq-eqb, ne_eqb, le-leb, leb-false}
 use native.Mathlib.Nat.{pow-succ'}
 use lib.Ieee.Fits.{up_pos}
 use lib.IntN.{sub_ℕ, +ℤ_comm, +ℤ_assoc, +ℤ_invl, +ℤ_idl}

@@ -1,5 +1,6 @@
 -- What the proofs of exp's pieces cite. Assumes nothing.
-use Rattle.std.proofs.Common.{◌≡◌, ℕ, zero, suc, ◌+◌, ◌-◌, ◌*◌, ◌/◌, ◌%◌, ◌^◌, ◌<◌, ◌≤◌, Bool, false, leb, ℤ, pos, negsuc, ◌+ℤ◌, refl, ap, ◌∙◌, not-suc-le-zero, mod-eq_of_lt, mul-div_cancel, arith, pow_pos, le-ltb, ne_eqb, le-leb}
+use Rattle.std.proofs.Common.{◌≡◌, ℕ, zero, suc, ◌+◌, ◌-◌, ◌*◌, ◌/◌, ◌%◌, ◌^◌, ◌<◌, ◌≤◌, Bool, false, leb}
+use Rattle.std.proofs.Common.{ℤ, pos, negsuc, ◌+ℤ◌, refl, ap, ◌∙◌, not-suc-le-zero, mod-eq_of_lt, mul-div_cancel, arith, pow_pos, le-ltb, ne_eqb, le-leb}
 use native.Mathlib.Nat.{mul-mod_left}
 use lib.Count.{count_trailing_zeros}
 use borrow.Author.Tests.{lt-leb}

@@ -1,5 +1,7 @@
 -- The range of k, with its signs: from -1021 to 1023 between -708 and 709, from -1075 to -1021 between -745 and -708. Assumes nothing.
-use Rattle.std.proofs.Common.{◌≡◌, ℕ, zero, suc, ◌+◌, ◌*◌, ◌^◌, ◌<◌, ◌≤◌, true, false, ℤ, pos, negsuc, ◌+ℤ◌, neg_ℤ, sym, refl, ap, ◌∙◌, true≢false, le_trans, le_of_eq, le_of_suc-le-suc, not-suc-le-zero, mul-le-mul_right, mul_assoc, suc-mul, div-lt_iff_lt-mul, mul-pos, le-div_iff_mul-le, mul-one, mul_right_comm, mul_left_comm, arith, lit<, lit≤, w64, SFits, ltb-false, ltb-true, lt-ltb}
+use Rattle.std.proofs.Common.{◌≡◌, ℕ, zero, suc, ◌+◌, ◌*◌, ◌^◌, ◌<◌, ◌≤◌, true, false, ℤ, pos, negsuc, ◌+ℤ◌, neg_ℤ, sym, refl, ap, ◌∙◌, true≢false}
+use Rattle.std.proofs.Common.{le_trans, le_of_eq, le_of_suc-le-suc, not-suc-le-zero, mul-le-mul_right, mul_assoc, suc-mul, div-lt_iff_lt-mul, mul-pos, le-div_iff_mul-le, mul-one}
+use Rattle.std.proofs.Common.{mul_right_comm, mul_left_comm, arith, lit<, lit≤, w64, SFits, ltb-false, ltb-true, lt-ltb}
 use lib.Ieee.{Float, nan, inf, fin, binary64, up, down, round, neg, div, lt, ne, eq, of_bits, is_nan}
 use lib.Ieee.Fits.{down_pos}
 use Rattle.elementary.proofs.Nans.{is-nan, not-nan}

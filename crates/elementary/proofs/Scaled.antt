@@ -1,5 +1,7 @@
 -- A value of no less than 1 / 8 times 2^-n, for n up to 1011, is exact and a normal number. So times 2^-64 it is rounded once. Assumes nothing.
-use Rattle.std.proofs.Common.{◌≡◌, ℕ, zero, suc, ◌+◌, ◌-◌, ◌*◌, ◌^◌, ◌<◌, ◌≤◌, true, false, T, ℤ, pos, negsuc, ◌+ℤ◌, sym, ap, ◌∙◌, true≢false, le_trans, le_of_eq, le_of_suc-le-suc, lt_of_le_of_lt, lt_irrefl, mul-le-mul_right, mul_assoc, mul-le-mul, lt_of_mul-lt-mul_right, mul-le-mul_left, mul-lt-mul_of_pos_right, mul-pos, one-mul, lt_of_not-le, mul-one, mul-suc, mul_right_comm, arith, lit<, lit≤, pow_pos, pow_mono, pow-add, lt-ltb}
+use Rattle.std.proofs.Common.{◌≡◌, ℕ, zero, suc, ◌+◌, ◌-◌, ◌*◌, ◌^◌, ◌<◌, ◌≤◌, true, false, T, ℤ, pos, negsuc, ◌+ℤ◌, sym, ap, ◌∙◌, true≢false, le_trans, le_of_eq}
+use Rattle.std.proofs.Common.{le_of_suc-le-suc, lt_of_le_of_lt, lt_irrefl, mul-le-mul_right, mul_assoc, mul-le-mul, lt_of_mul-lt-mul_right, mul-le-mul_left, mul-lt-mul_of_pos_right, mul-pos, one-mul}
+use Rattle.std.proofs.Common.{lt_of_not-le, mul-one, mul-suc, mul_right_comm, arith, lit<, lit≤, pow_pos, pow_mono, pow-add, lt-ltb}
 use native.Mathlib.Nat.{mul-mul-mul_comm}
 use lib.Ieee.{Float, nan, inf, fin, binary64, up, down, round, mul, fits}
 use lib.Ieee.Fits.{down_pos}

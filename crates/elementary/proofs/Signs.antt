@@ -1,5 +1,7 @@
 -- A value without its sign, by the tests that the code makes. Assumes nothing.
-use Rattle.std.proofs.Common.{◌≡◌, ℕ, zero, suc, ◌+◌, ◌*◌, ◌^◌, ◌<◌, ◌≤◌, Bool, true, false, T, eqb, ℤ, pos, negsuc, sym, refl, ap, ◌∙◌, subst, true≢false, le_of_eq, lt_of_lt_of_le, not-suc-le-zero, lt_irrefl, zero-lt-suc, mul-pos, one-mul, zero-mul, mul-one, arith, eqb→eq, pow_pos, ltb-false, ltb-true, eqb-true}
+use Rattle.std.proofs.Common.{◌≡◌, ℕ, zero, suc, ◌+◌, ◌*◌, ◌^◌, ◌<◌, ◌≤◌, Bool, true, false, T, eqb, ℤ, pos, negsuc, sym, refl}
+use Rattle.std.proofs.Common.{ap, ◌∙◌, subst, true≢false, le_of_eq, lt_of_lt_of_le, not-suc-le-zero, lt_irrefl, zero-lt-suc, mul-pos}
+use Rattle.std.proofs.Common.{one-mul, zero-mul, mul-one, arith, eqb→eq, pow_pos, ltb-false, ltb-true, eqb-true}
 use native.Mathlib.Nat.{pow-succ'}
 use lib.Ieee.{Float, nan, inf, fin, binary64, up, down, lt, eq, neg, fits, level, of_bits}
 use lib.Ieee.Fits.{up_pos}

@@ -27,4 +27,11 @@ base_frames_of f = frames_by (base_bad_at f) f
 
 -- what it read in record i, as a whole frame
 abbrev pub base_frame_of : List ℕ → ℕ → Frame
-base_frame_of f i = record { picture = picture_at f (i * record_bytes); side = side_at f (i * record_bytes); field = 0; features = features_at f (i * record_bytes); starts = starts_at f (i * record_bytes) }
+base_frame_of f i = record {
+  picture = picture_at f (i * record_bytes);
+  side = side_at f (i * record_bytes);
+  field = 0;
+  features = features_at f
+      (i * record_bytes);
+  starts = starts_at f (i * record_bytes);
+}

@@ -1,4 +1,4 @@
--- What the walk of `point_forces` cites: that its calls may be made, and what they come to. Assumes nothing.
+-- What the proof of `point_forces` cites: that its calls may be made, and what they come to. Assumes nothing.
 use mathlib.Core.Path.{◌≡◌, sym, subst, ap, ◌∙◌}
 use mathlib.Core.List.{List}
 use mathlib.Core.Bool.{true}

@@ -1,5 +1,5 @@
 -- The exact gradient by pairs of frames: the Student-t numerators, and the sums of a row's weights. Definitions only.
-use Rattle.std.specs.Prelude.{List, [], ◌∷◌, cond, ℕ, ◌+◌, ◌*◌, set, eqb, Float}
+use Rattle.std.specs.Prelude.{List, cond, ℕ, ◌+◌, ◌*◌, set, eqb, Float}
 use Rattle.std.specs.Float.{binary64}
 use Rattle.std.specs.Float.Ieee.{add, sub, mul, div}
 use Rattle.laws.specs.Loops.{loop}

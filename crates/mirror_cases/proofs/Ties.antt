@@ -8,7 +8,8 @@ use Rattle.laws.specs.Area.{at, bits}
 use Rattle.tree_node.specs.Arena.{leaf_of, node_of, nodes_of}
 use Rattle.elementary.specs.Limits.{up_to, neighbours_of, ceil_of, abs_of, unless_above}
 use Rattle.affinity.specs.Neighbours.{neighbours_listed}
-use Rattle.run_record.specs.Record.{fresh_run, early_fault, late_fault, settings_fault, counters_ok, state_fits, per_of, advanced_of, closed_of, stops_now, sizes_of, positive, above_zero, angle_fine, angle_fault}
+use Rattle.run_record.specs.Record.{fresh_run, early_fault, late_fault, settings_fault, counters_ok, state_fits, per_of, advanced_of}
+use Rattle.run_record.specs.Record.{closed_of, stops_now, sizes_of, positive, above_zero, angle_fine, angle_fault}
 use Rattle.run_entry.specs.Entry.{tree_fits, areas_fit, fault_of, fault_at, record_fault, contents_fault, offset_fine, index_fine, tree_fault_at}
 use Rattle.tree_bounds.specs.Bounds.{box_of}
 use Rattle.tree.specs.Insert.{built, insert_of}

@@ -335,7 +335,8 @@ module _ (b w : ℕ) (e : narrow_of b ≡ Single w) where
     narrow-nearest = rw (taken_is, other-is) (by-signs s (leb (2 ^ 31) v) (A b h) D (p * 2 ^ j * 2 ^ 925) (nearer b h p j p-most).0 beside-zero.0)
 
     -- where another lies as near, it is the same number, or the one told is even
-    pub narrow-ties-even : apart_of (of_bits binary64 b) (of_bits binary32 w) ≡ apart_of (of_bits binary64 b) (of_bits binary32 v) → (apart_of (of_bits binary32 w) (of_bits binary32 v) ≡ 0) ⊎ (w % 2 ≡ 0)
+    pub narrow-ties-even : apart_of (of_bits binary64 b) (of_bits binary32 w) ≡ apart_of (of_bits binary64 b) (of_bits binary32 v) →
+        (apart_of (of_bits binary32 w) (of_bits binary32 v) ≡ 0) ⊎ (w % 2 ≡ 0)
     narrow-ties-even t =
         ⊎_elim (λ y. inl (apart-is (of_bits binary32 w) (of_bits binary32 v) s (leb (2 ^ 31) v) D (p * 2 ^ j * 2 ^ 925) kept-grains other-grains ∙ y))
         (λ y. inr (rw pattern-is.1 (even-pattern s (K b h) (Q b h) y)))

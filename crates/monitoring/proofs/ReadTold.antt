@@ -14,7 +14,8 @@ use Rattle.laws.proofs.First.{first-le, first_holds, first-before, first-all, fi
 use Rattle.monitor.specs.Monitor.{frames_room}
 use Rattle.monitor_read.specs.declared.MonitorRead.{MonitorRead}
 use Rattle.monitor_read.specs.declared.MonitorRead.TheVariants.{Read, Bad, Short}
-use Rattle.monitor_read.specs.MonitorRead.{byte_at, monitor_picture, broken_at, whole_monitor, first_broken, is_monitor, MonitorReading, monitor_reading, fronted, widened_at, read_monitor, monitor_read_number}
+use Rattle.monitor_read.specs.MonitorRead.{byte_at, monitor_picture, broken_at, whole_monitor, first_broken, is_monitor}
+use Rattle.monitor_read.specs.MonitorRead.{MonitorReading, monitor_reading, fronted, widened_at, read_monitor, monitor_read_number}
 use Rattle.monitor_read.proofs.Laws.{broken-found, stray-tail, all_fit, reading-bad, reading-short, reading-done}
 use Rattle.monitoring.specs.MonitorReasons.{GoodBefore, AllGood, ReadReason}
 

@@ -47,7 +47,8 @@ module _ (n c : ℕ) (y y' : List Float) (same : SameTo (n * c) y y') where
 
   gap_same : (i j : ℕ) → i < n → j < n → gap_of c (on_map y c i) (on_map y c j) ≡ gap_of c (on_map y' c i) (on_map y' c j)
   unfolding gap_of
-  gap_same i j h l = loop-same (gap_step (on_map y c i) (on_map y c j)) (gap_step (on_map y' c i) (on_map y' c j)) c 0 zero64 (λ d s a b. rw (coordinate i d h (omega arith), coordinate j d l (omega arith)))
+  gap_same i j h l = loop-same (gap_step (on_map y c i) (on_map y c j)) (gap_step (on_map y' c i) (on_map y' c j)) c 0 zero64
+      (λ d s a b. rw (coordinate i d h (omega arith), coordinate j d l (omega arith)))
 
   numerator-same : (i j : ℕ) → i < n → j < n → num_of y c i j ≡ num_of y' c i j
   unfolding num_of

@@ -169,7 +169,8 @@ module _ (n c : ℕ) (y y' : List Float) (same : SameTo (n * c) y y') where
 
   -- ---- an insertion
 
-  pub insert-same : (m j : ℕ) (t t' : Tree) → j < n → 1 ≤ m → Fits n c m t → Twin t t' → ((insert_of y c j t).full ≡ (insert_of y' c j t').full) × Twin (insert_of y c j t).tree (insert_of y' c j t').tree
+  pub insert-same : (m j : ℕ) (t t' : Tree) → j < n → 1 ≤ m → Fits n c m t → Twin t t' → ((insert_of y c j t).full ≡ (insert_of y' c j t').full) × Twin
+      (insert_of y c j t).tree (insert_of y' c j t').tree
   insert-same m j t t' hj hm f w =
       let p = point_of y c j in
       let ps : p ≡ point_of y' c j = point-same n c y y' same j hj in

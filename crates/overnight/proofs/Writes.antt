@@ -33,7 +33,8 @@ module _ (p : ℕ → ℕ) (v : ℕ → Float) where
   abbrev pub put_at : ℕ → List Float → List Float
   put_at e l = set l (p e) (v e)
 
-  pub puts-alike : (n k : ℕ) (l l' : List Float) → ((e : ℕ) → k ≤ e → e < k + n → p e < length l) → ((e : ℕ) → k ≤ e → e < k + n → p e < length l') → SameAs l l' (loop put_at n k l) (loop put_at n k l')
+  pub puts-alike : (n k : ℕ) (l l' : List Float) → ((e : ℕ) → k ≤ e → e < k + n → p e < length l) → ((e : ℕ) → k ≤ e → e < k + n → p e < length l')
+      → SameAs l l' (loop put_at n k l) (loop put_at n k l')
   unfolding loop
   puts-alike zero k l l' h h' x e = e
   puts-alike (suc n) k l l' h h' x e =

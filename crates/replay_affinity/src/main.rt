@@ -6,28 +6,34 @@ mod choices;
 mod joins;
 mod sigmas;
 
-fn replay_sigma(list: &mut [u8]) {
-    let n = replay::load(b"sigma.words", list);
-    replay::print(b"sigma", sigmas::cases(&list[..n]));
+use std::io;
+use std::rt::Files;
+
+fn replay_sigma(rt: &(impl Files + Print), list: &mut [u8]) -> io::Result<()> {
+    let n = replay::load(rt, "sigma.words", list);
+    replay::print(rt, b"sigma", sigmas::cases(&list[..n]))?;
+    Ok(())
 }
 
-fn replay_near(list: &mut [u8]) {
-    let n = replay::load(b"near.words", list);
-    replay::print(b"near", choices::cases(&list[..n]));
+fn replay_near(rt: &(impl Files + Print), list: &mut [u8]) -> io::Result<()> {
+    let n = replay::load(rt, "near.words", list);
+    replay::print(rt, b"near", choices::cases(&list[..n]))?;
+    Ok(())
 }
 
-fn replay_joins(list: &mut [u8]) {
-    let n = replay::load(b"lists.words", list);
-    replay::print(b"lists", joins::cases(&list[..n]));
+fn replay_joins(rt: &(impl Files + Print), list: &mut [u8]) -> io::Result<()> {
+    let n = replay::load(rt, "lists.words", list);
+    replay::print(rt, b"lists", joins::cases(&list[..n]))?;
+    Ok(())
 }
 
-fn replay_lists(list: &mut [u8]) {
-    replay_sigma(list);
-    replay_near(list);
-    replay_joins(list);
+fn replay_lists(rt: &(impl Files + Print), list: &mut [u8]) -> io::Result<()> {
+    replay_sigma(rt, list)?;
+    replay_near(rt, list)?;
+    replay_joins(rt, list)
 }
 
-fn main() {
-    let mut list = [0u8; 196608];
-    replay_lists(&mut list);
+fn main(rt: HostRuntime) -> io::Result<()> {
+    let mut list = vec![in rt.alloc(); 0u8; 196608]?;
+    replay_lists(&rt, &mut list)
 }

@@ -1,5 +1,5 @@
--- What the walks of the adaptors cite, and their callers: laws of lists and of definitions, without memory. Assumes nothing.
-use Rattle.std.proofs.Common.{◌≡◌, ℕ, suc, ◌-◌, ◌*◌, ◌<◌, ◌≤◌, Bool, true, List, ◌++◌, length, take, drop, set, sym, refl, ap, ◌∙◌, subst, arith, take-append-drop, take_at, drop_at}
+-- What the proofs of the adaptors cite, and their callers: laws of lists and of definitions, without memory. Assumes nothing.
+use Rattle.std.proofs.Common.{◌≡◌, ℕ, suc, ◌-◌, ◌*◌, ◌<◌, ◌≤◌, true, List, ◌++◌, length, take, drop, set, sym, ap, ◌∙◌, arith, take-append-drop, take_at, drop_at}
 use lib.Seq.{set-append_left}
 use lib.Ieee.{Float}
 use Rattle.laws.specs.Domain.{most_word}
@@ -12,7 +12,7 @@ use Rattle.tree_bounds.specs.Bounds.{box_of}
 use Rattle.tree_walk.specs.declared.Eye.{Eye}
 use Rattle.tree_walk.specs.Repel.{Blocks}
 use Rattle.tree.specs.declared.Inserted.{Inserted}
-use Rattle.tree.specs.Insert.{tree, insertion, insert_of, growable, shaped}
+use Rattle.tree.specs.Insert.{tree, insertion, insert_of, growable}
 use Rattle.tree.proofs.Tested.{Sound, fine-sound}
 use Rattle.tree.proofs.Whole.{looser}
 use Rattle.tree.proofs.Opens.{blocks-of}

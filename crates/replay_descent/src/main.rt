@@ -16,6 +16,8 @@ use preparation::{answer_place, begin};
 use replay::areas::plus;
 use replay::word_at;
 use run_record::Run;
+use std::io;
+use std::rt::Files;
 use tree_node::Cell;
 use working::all_calls;
 
@@ -54,13 +56,14 @@ fn cases(list: &[u8]) -> replay::Tally {
 }
 
 // One list, with a line for it.
-fn replay_list(path: &[u8], name: &[u8], list: &mut [u8]) {
-    let n = replay::load(path, list);
-    replay::print(name, cases(&list[..n]));
+fn replay_list(rt: &(impl Files + Print), path: &str, name: &[u8], list: &mut [u8]) -> io::Result<()> {
+    let n = replay::load(rt, path, list);
+    replay::print(rt, name, cases(&list[..n]))?;
+    Ok(())
 }
 
-fn main() {
-    let mut list = [0u8; 278528];
-    replay_list(b"runs.words", b"runs", &mut list);
-    replay_list(b"faults.words", b"faults", &mut list);
+fn main(rt: HostRuntime) -> io::Result<()> {
+    let mut list = vec![in rt.alloc(); 0u8; 278528]?;
+    replay_list(&rt, "runs.words", b"runs", &mut list)?;
+    replay_list(&rt, "faults.words", b"faults", &mut list)
 }

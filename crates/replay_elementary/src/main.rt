@@ -3,6 +3,8 @@
 #![tactic(auto)]
 
 use replay::word_at;
+use std::io;
+use std::rt::Files;
 
 fn exp_cases(list: &[u8]) -> replay::Tally {
     let n = list.len() / 16;
@@ -89,36 +91,41 @@ fn neighbours_cases(list: &[u8]) -> replay::Tally {
     t
 }
 
-fn replay_exp(list: &mut [u8]) {
-    let n = replay::load(b"exp.words", list);
-    replay::print(b"exp", exp_cases(&list[..n]));
+fn replay_exp(rt: &(impl Files + Print), list: &mut [u8]) -> io::Result<()> {
+    let n = replay::load(rt, "exp.words", list);
+    replay::print(rt, b"exp", exp_cases(&list[..n]))?;
+    Ok(())
 }
 
-fn replay_far(list: &mut [u8]) {
-    let n = replay::load(b"far.words", list);
-    replay::print(b"exp of far frames", exp_cases(&list[..n]));
+fn replay_far(rt: &(impl Files + Print), list: &mut [u8]) -> io::Result<()> {
+    let n = replay::load(rt, "far.words", list);
+    replay::print(rt, b"exp of far frames", exp_cases(&list[..n]))?;
+    Ok(())
 }
 
-fn replay_ln(list: &mut [u8]) {
-    let n = replay::load(b"ln.words", list);
-    replay::print(b"ln", ln_cases(&list[..n]));
+fn replay_ln(rt: &(impl Files + Print), list: &mut [u8]) -> io::Result<()> {
+    let n = replay::load(rt, "ln.words", list);
+    replay::print(rt, b"ln", ln_cases(&list[..n]))?;
+    Ok(())
 }
 
-fn replay_bounds(list: &mut [u8]) {
-    let n = replay::load(b"bounds.words", list);
-    replay::print(b"bounds", bounds_cases(&list[..n]));
+fn replay_bounds(rt: &(impl Files + Print), list: &mut [u8]) -> io::Result<()> {
+    let n = replay::load(rt, "bounds.words", list);
+    replay::print(rt, b"bounds", bounds_cases(&list[..n]))?;
+    Ok(())
 }
 
-fn replay_neighbours(list: &mut [u8]) {
-    let n = replay::load(b"neighbours.words", list);
-    replay::print(b"neighbours", neighbours_cases(&list[..n]));
+fn replay_neighbours(rt: &(impl Files + Print), list: &mut [u8]) -> io::Result<()> {
+    let n = replay::load(rt, "neighbours.words", list);
+    replay::print(rt, b"neighbours", neighbours_cases(&list[..n]))?;
+    Ok(())
 }
 
-fn main() {
-    let mut list = [0u8; 524288];
-    replay_exp(&mut list);
-    replay_far(&mut list);
-    replay_ln(&mut list);
-    replay_bounds(&mut list);
-    replay_neighbours(&mut list);
+fn main(rt: HostRuntime) -> io::Result<()> {
+    let mut list = vec![in rt.alloc(); 0u8; 524288]?;
+    replay_exp(&rt, &mut list)?;
+    replay_far(&rt, &mut list)?;
+    replay_ln(&rt, &mut list)?;
+    replay_bounds(&rt, &mut list)?;
+    replay_neighbours(&rt, &mut list)
 }

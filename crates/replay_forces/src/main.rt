@@ -13,25 +13,30 @@ mod pulls;
 use figures::figures_cases;
 use moves::moves_cases;
 use pulls::pulls_cases;
+use std::io;
+use std::rt::Files;
 
-fn replay_pulls(list: &mut [u8]) {
-    let n = replay::load(b"pulls.words", list);
-    replay::print(b"Barnes-Hut gradients", pulls_cases(&list[..n]));
+fn replay_pulls(rt: &(impl Files + Print), list: &mut [u8]) -> io::Result<()> {
+    let n = replay::load(rt, "pulls.words", list);
+    replay::print(rt, b"Barnes-Hut gradients", pulls_cases(&list[..n]))?;
+    Ok(())
 }
 
-fn replay_moves(list: &mut [u8]) {
-    let n = replay::load(b"moves.words", list);
-    replay::print(b"steps before centring", moves_cases(&list[..n]));
+fn replay_moves(rt: &(impl Files + Print), list: &mut [u8]) -> io::Result<()> {
+    let n = replay::load(rt, "moves.words", list);
+    replay::print(rt, b"steps before centring", moves_cases(&list[..n]))?;
+    Ok(())
 }
 
-fn replay_links(list: &mut [u8]) {
-    let n = replay::load(b"links.words", list);
-    replay::print(b"divergence over links", figures_cases(&list[..n]));
+fn replay_links(rt: &(impl Files + Print), list: &mut [u8]) -> io::Result<()> {
+    let n = replay::load(rt, "links.words", list);
+    replay::print(rt, b"divergence over links", figures_cases(&list[..n]))?;
+    Ok(())
 }
 
-fn main() {
-    let mut list = [0u8; 278528];
-    replay_pulls(&mut list);
-    replay_moves(&mut list);
-    replay_links(&mut list);
+fn main(rt: HostRuntime) -> io::Result<()> {
+    let mut list = vec![in rt.alloc(); 0u8; 278528]?;
+    replay_pulls(&rt, &mut list)?;
+    replay_moves(&rt, &mut list)?;
+    replay_links(&rt, &mut list)
 }

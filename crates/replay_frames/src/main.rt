@@ -5,6 +5,8 @@
 ghost use Rattle.std.specs.Prelude.{◌+◌, ◌≤◌};
 
 use replay::word_at;
+use std::io;
+use std::rt::Files;
 
 // The k values of an array are those that the list has from word a on.
 fn same_features(v: [f64; 6], list: &[u8], a: usize) -> bool
@@ -142,12 +144,13 @@ fn frames_cases(list: &[u8]) -> replay::Tally {
     t
 }
 
-fn replay_frames(list: &mut [u8]) {
-    let n = replay::load(b"frames.words", list);
-    replay::print(b"frames", frames_cases(&list[..n]));
+fn replay_frames(rt: &(impl Files + Print), list: &mut [u8]) -> io::Result<()> {
+    let n = replay::load(rt, "frames.words", list);
+    replay::print(rt, b"frames", frames_cases(&list[..n]))?;
+    Ok(())
 }
 
-fn main() {
-    let mut list = [0u8; 524288];
-    replay_frames(&mut list);
+fn main(rt: HostRuntime) -> io::Result<()> {
+    let mut list = vec![in rt.alloc(); 0u8; 524288]?;
+    replay_frames(&rt, &mut list)
 }

@@ -7,6 +7,8 @@ ghost use Rattle.std.specs.Prelude.{◌≡◌, ◌+◌, ◌*◌, ◌<◌, ◌≤
 use divergence_sums::kl_divergence;
 use replay::areas::{copy_words, mark, plus, same_area, same_value, value_at};
 use replay::word_at;
+use std::io;
+use std::rt::Files;
 use step::{Pace, Stepped};
 
 fn times(a: usize, b: usize) -> usize
@@ -251,24 +253,27 @@ fn pairs_cases(list: &[u8]) -> replay::Tally {
     t
 }
 
-fn replay_exact(list: &mut [u8]) {
-    let n = replay::load(b"exact.words", list);
-    replay::print(b"exact", exact_cases(&list[..n]));
+fn replay_exact(rt: &(impl Files + Print), list: &mut [u8]) -> io::Result<()> {
+    let n = replay::load(rt, "exact.words", list);
+    replay::print(rt, b"exact", exact_cases(&list[..n]))?;
+    Ok(())
 }
 
-fn replay_step(list: &mut [u8]) {
-    let n = replay::load(b"step.words", list);
-    replay::print(b"step", step_cases(&list[..n]));
+fn replay_step(rt: &(impl Files + Print), list: &mut [u8]) -> io::Result<()> {
+    let n = replay::load(rt, "step.words", list);
+    replay::print(rt, b"step", step_cases(&list[..n]))?;
+    Ok(())
 }
 
-fn replay_pairs(list: &mut [u8]) {
-    let n = replay::load(b"pairs.words", list);
-    replay::print(b"divergence over pairs", pairs_cases(&list[..n]));
+fn replay_pairs(rt: &(impl Files + Print), list: &mut [u8]) -> io::Result<()> {
+    let n = replay::load(rt, "pairs.words", list);
+    replay::print(rt, b"divergence over pairs", pairs_cases(&list[..n]))?;
+    Ok(())
 }
 
-fn main() {
-    let mut list = [0u8; 524288];
-    replay_exact(&mut list);
-    replay_step(&mut list);
-    replay_pairs(&mut list);
+fn main(rt: HostRuntime) -> io::Result<()> {
+    let mut list = vec![in rt.alloc(); 0u8; 524288]?;
+    replay_exact(&rt, &mut list)?;
+    replay_step(&rt, &mut list)?;
+    replay_pairs(&rt, &mut list)
 }

@@ -9,6 +9,8 @@ mod writing;
 use loading::loaded_right;
 use replay::areas::plus;
 use replay::word_at;
+use std::io;
+use std::rt::Files;
 use writing::written_right;
 
 // The case from word a on, of loading or of writing.
@@ -36,13 +38,14 @@ fn cases(list: &[u8], loads: bool) -> replay::Tally {
 }
 
 // One list, with a line for it.
-fn replay_list(path: &[u8], name: &[u8], loads: bool, list: &mut [u8]) {
-    let n = replay::load(path, list);
-    replay::print(name, cases(&list[..n], loads));
+fn replay_list(rt: &(impl Files + Print), path: &str, name: &[u8], loads: bool, list: &mut [u8]) -> io::Result<()> {
+    let n = replay::load(rt, path, list);
+    replay::print(rt, name, cases(&list[..n], loads))?;
+    Ok(())
 }
 
-fn main() {
-    let mut list = [0u8; 278528];
-    replay_list(b"partner.words", b"partner", true, &mut list);
-    replay_list(b"lists.words", b"lists", false, &mut list);
+fn main(rt: HostRuntime) -> io::Result<()> {
+    let mut list = vec![in rt.alloc(); 0u8; 278528]?;
+    replay_list(&rt, "partner.words", b"partner", true, &mut list)?;
+    replay_list(&rt, "lists.words", b"lists", false, &mut list)
 }

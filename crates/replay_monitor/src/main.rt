@@ -12,6 +12,8 @@ use narrowing::narrowed_right;
 use reading::read_right;
 use replay::areas::plus;
 use replay::word_at;
+use std::io;
+use std::rt::Files;
 use writing::written_right;
 
 // Which list it is.
@@ -57,14 +59,15 @@ fn cases(list: &[u8], of: List) -> replay::Tally {
 }
 
 // One list, with a line for it.
-fn replay_list(path: &[u8], name: &[u8], of: List, list: &mut [u8]) {
-    let n = replay::load(path, list);
-    replay::print(name, cases(&list[..n], of));
+fn replay_list(rt: &(impl Files + Print), path: &str, name: &[u8], of: List, list: &mut [u8]) -> io::Result<()> {
+    let n = replay::load(rt, path, list);
+    replay::print(rt, name, cases(&list[..n], of))?;
+    Ok(())
 }
 
-fn main() {
-    let mut list = [0u8; 278528];
-    replay_list(b"narrow.words", b"narrow", List::Narrow, &mut list);
-    replay_list(b"writes.words", b"writes", List::Writes, &mut list);
-    replay_list(b"reads.words", b"reads", List::Reads, &mut list);
+fn main(rt: HostRuntime) -> io::Result<()> {
+    let mut list = vec![in rt.alloc(); 0u8; 278528]?;
+    replay_list(&rt, "narrow.words", b"narrow", List::Narrow, &mut list)?;
+    replay_list(&rt, "writes.words", b"writes", List::Writes, &mut list)?;
+    replay_list(&rt, "reads.words", b"reads", List::Reads, &mut list)
 }

@@ -10,6 +10,8 @@ mod writing;
 use reading::read_right;
 use replay::areas::plus;
 use replay::word_at;
+use std::io;
+use std::rt::Files;
 use writing::written_right;
 
 // The case from word a on, of writing or of reading.
@@ -37,13 +39,14 @@ fn cases(list: &[u8], writes: bool) -> replay::Tally {
 }
 
 // One list, with a line for it.
-fn replay_list(path: &[u8], name: &[u8], writes: bool, list: &mut [u8]) {
-    let n = replay::load(path, list);
-    replay::print(name, cases(&list[..n], writes));
+fn replay_list(rt: &(impl Files + Print), path: &str, name: &[u8], writes: bool, list: &mut [u8]) -> io::Result<()> {
+    let n = replay::load(rt, path, list);
+    replay::print(rt, name, cases(&list[..n], writes))?;
+    Ok(())
 }
 
-fn main() {
-    let mut list = [0u8; 278528];
-    replay_list(b"parks.words", b"parks", true, &mut list);
-    replay_list(b"unparks.words", b"unparks", false, &mut list);
+fn main(rt: HostRuntime) -> io::Result<()> {
+    let mut list = vec![in rt.alloc(); 0u8; 278528]?;
+    replay_list(&rt, "parks.words", b"parks", true, &mut list)?;
+    replay_list(&rt, "unparks.words", b"unparks", false, &mut list)
 }

@@ -10,6 +10,8 @@ ghost use Rattle.elementary.specs.Limits.{neighbours_of};
 
 use replay::areas::{copy_words, mark, mark_words, plus, same_area, same_numbers, value_at};
 use replay::word_at;
+use std::io;
+use std::rt::Files;
 
 fn times(a: usize, b: usize) -> usize
     requires { (a ≤ 64) × (b ≤ 64) }
@@ -226,14 +228,15 @@ fn preparation_cases(list: &[u8]) -> replay::Tally {
 }
 
 // One list, with a line for it.
-fn replay_list(path: &[u8], name: &[u8], list: &mut [u8]) {
-    let n = replay::load(path, list);
-    replay::print(name, preparation_cases(&list[..n]));
+fn replay_list(rt: &(impl Files + Print), path: &str, name: &[u8], list: &mut [u8]) -> io::Result<()> {
+    let n = replay::load(rt, path, list);
+    replay::print(rt, name, preparation_cases(&list[..n]))?;
+    Ok(())
 }
 
-fn main() {
-    let mut list = [0u8; 278528];
-    replay_list(b"preparation.words", b"preparation", &mut list);
-    replay_list(b"larger.words", b"larger preparations", &mut list);
-    replay_list(b"far.words", b"preparations of far frames", &mut list);
+fn main(rt: HostRuntime) -> io::Result<()> {
+    let mut list = vec![in rt.alloc(); 0u8; 278528]?;
+    replay_list(&rt, "preparation.words", b"preparation", &mut list)?;
+    replay_list(&rt, "larger.words", b"larger preparations", &mut list)?;
+    replay_list(&rt, "far.words", b"preparations of far frames", &mut list)
 }

@@ -7,6 +7,8 @@ mod saving;
 use replay::areas::plus;
 use replay::word_at;
 use saving::salvaged_right;
+use std::io;
+use std::rt::Files;
 
 // A case that does not lead on ends the replay, and counts as wrong.
 fn cases(list: &[u8]) -> replay::Tally {
@@ -25,19 +27,20 @@ fn cases(list: &[u8]) -> replay::Tally {
 }
 
 // One list, with a line for it. One that takes up all the room may go on: it is wrong and not run.
-fn replay_list(path: &[u8], name: &[u8], list: &mut [u8]) {
-    let n = replay::load(path, list);
+fn replay_list(rt: &(impl Files + Print), path: &str, name: &[u8], list: &mut [u8]) -> io::Result<()> {
+    let n = replay::load(rt, path, list);
     if n == list.len() {
         let t = replay::Tally::new();
-        replay::print(name, t.with(false));
-        return;
+        replay::print(rt, name, t.with(false))?;
+        return Ok(());
     }
-    replay::print(name, cases(&list[..n]));
+    replay::print(rt, name, cases(&list[..n]))?;
+    Ok(())
 }
 
-fn main() {
-    let mut list = [0u8; 278528];
-    replay_list(b"bytes.words", b"bytes", &mut list);
-    replay_list(b"orders.words", b"orders", &mut list);
-    replay_list(b"scuffed.words", b"scuffed", &mut list);
+fn main(rt: HostRuntime) -> io::Result<()> {
+    let mut list = vec![in rt.alloc(); 0u8; 278528]?;
+    replay_list(&rt, "bytes.words", b"bytes", &mut list)?;
+    replay_list(&rt, "orders.words", b"orders", &mut list)?;
+    replay_list(&rt, "scuffed.words", b"scuffed", &mut list)
 }

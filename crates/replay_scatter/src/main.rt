@@ -5,6 +5,8 @@
 ghost use Rattle.std.specs.Prelude.{◌+◌, ◌≤◌};
 
 use replay::word_at;
+use std::io;
+use std::rt::Files;
 
 // Place i holds the value with the bits 4000000000000000 + i.
 fn mark(area: &mut [f64]) {
@@ -86,13 +88,14 @@ fn scatter_cases(list: &[u8], space: &mut [f64]) -> replay::Tally {
     t
 }
 
-fn replay_scatter(list: &mut [u8], space: &mut [f64]) {
-    let n = replay::load(b"scatter.words", list);
-    replay::print(b"scatter", scatter_cases(&list[..n], space));
+fn replay_scatter(rt: &(impl Files + Print), list: &mut [u8], space: &mut [f64]) -> io::Result<()> {
+    let n = replay::load(rt, "scatter.words", list);
+    replay::print(rt, b"scatter", scatter_cases(&list[..n], space))?;
+    Ok(())
 }
 
-fn main() {
-    let mut list = [0u8; 524288];
+fn main(rt: HostRuntime) -> io::Result<()> {
+    let mut list = vec![in rt.alloc(); 0u8; 524288]?;
     let mut space = [0.0; 8192];
-    replay_scatter(&mut list, &mut space);
+    replay_scatter(&rt, &mut list, &mut space)
 }

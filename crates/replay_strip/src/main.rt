@@ -8,6 +8,7 @@ mod lending;
 use handing::handed_right;
 use replay::areas::plus;
 use replay::word_at;
+use std::io;
 
 // A case that does not lead on ends the replay, and counts as wrong.
 fn cases(list: &[u8]) -> replay::Tally {
@@ -25,8 +26,9 @@ fn cases(list: &[u8]) -> replay::Tally {
     t
 }
 
-fn main() {
-    let mut list = [0u8; 278528];
-    let n = replay::load(b"strip.words", &mut list);
-    replay::print(b"strip", cases(&list[..n]));
+fn main(rt: HostRuntime) -> io::Result<()> {
+    let mut list = vec![in rt.alloc(); 0u8; 278528]?;
+    let n = replay::load(&rt, "strip.words", &mut list);
+    replay::print(&rt, b"strip", cases(&list[..n]))?;
+    Ok(())
 }

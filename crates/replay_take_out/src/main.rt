@@ -9,6 +9,7 @@ mod taking;
 
 use replay::areas::plus;
 use replay::word_at;
+use std::io;
 use taking::case_right;
 
 // A case that does not lead on ends the replay, and counts as wrong.
@@ -27,8 +28,9 @@ fn cases(list: &[u8]) -> replay::Tally {
     t
 }
 
-fn main() {
-    let mut list = [0u8; 278528];
-    let n = replay::load(b"takes.words", &mut list);
-    replay::print(b"takes", cases(&list[..n]));
+fn main(rt: HostRuntime) -> io::Result<()> {
+    let mut list = vec![in rt.alloc(); 0u8; 278528]?;
+    let n = replay::load(&rt, "takes.words", &mut list);
+    replay::print(&rt, b"takes", cases(&list[..n]))?;
+    Ok(())
 }

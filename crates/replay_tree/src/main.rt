@@ -17,6 +17,8 @@ use order::same_tree;
 use replay::areas::copy_words;
 use replay::word_at;
 use replay_arena::marks::marked;
+use std::io;
+use std::rt::Files;
 
 // Where the parts of a case begin in the list, and how large they are.
 #[derive(Clone, Copy)]
@@ -187,18 +189,19 @@ fn tree_cases(list: &[u8]) -> replay::Tally {
 }
 
 // One list, with a line for it.
-fn replay_list(path: &[u8], name: &[u8], list: &mut [u8]) {
-    let n = replay::load(path, list);
-    replay::print(name, tree_cases(&list[..n]));
+fn replay_list(rt: &(impl Files + Print), path: &str, name: &[u8], list: &mut [u8]) -> io::Result<()> {
+    let n = replay::load(rt, path, list);
+    replay::print(rt, name, tree_cases(&list[..n]))?;
+    Ok(())
 }
 
-fn replay_lists(list: &mut [u8]) {
-    replay_list(b"tree_1.words", b"trees in 1 component", list);
-    replay_list(b"tree_2.words", b"trees in 2 components", list);
-    replay_list(b"tree_3.words", b"trees in 3 components", list);
+fn replay_lists(rt: &(impl Files + Print), list: &mut [u8]) -> io::Result<()> {
+    replay_list(rt, "tree_1.words", b"trees in 1 component", list)?;
+    replay_list(rt, "tree_2.words", b"trees in 2 components", list)?;
+    replay_list(rt, "tree_3.words", b"trees in 3 components", list)
 }
 
-fn main() {
-    let mut list = [0u8; 278528];
-    replay_lists(&mut list);
+fn main(rt: HostRuntime) -> io::Result<()> {
+    let mut list = vec![in rt.alloc(); 0u8; 278528]?;
+    replay_lists(&rt, &mut list)
 }

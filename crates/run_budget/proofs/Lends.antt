@@ -1,11 +1,10 @@
--- What the walk of a budget of units cites: what its loop holds on to. Assumes nothing.
+-- What `go_on` cites: what its loop holds on to. Assumes nothing.
 use mathlib.Core.Path.{◌≡◌, refl, sym, ap, subst, ◌∙◌}
 use mathlib.Core.Bool.{Bool, true, false, not, cond, true≢false}
 use Prim.Native.Nat.{ℕ, suc, ◌+◌, ◌-◌, ◌<◌, ◌≤◌, ◌^◌}
 use native.Mathlib.Omega.{arith}
-use lib.Dec.{T, ltb}
+use lib.Dec.{ltb}
 use borrow.Author.Tests.{ltb-true, ltb-false}
-use Rattle.lent.proofs.Holds.{holds_as, fails-as}
 use Rattle.laws.proofs.Bools.{by_bool}
 use Rattle.run_calls.specs.Machine.{go}
 use Rattle.run_record.specs.declared.Run.{Run}
@@ -31,14 +30,14 @@ pub calls-start : (b : ℕ) (r : Run) (m : Memory) → Good (state r m) → (g :
 calls-start b r m k g eg = subst (λ (x : Going). Leads b (state r m) x m) (sym eg) (record { on = λ _. spends-start b (state r m) k; off = λ e. absurd (true≢false e) })
 
 module _ (b : ℕ) (y : State) (g : Going) (m : Memory) (k : Leads b y g m) (t : Bool) (et : t ≡ spends_on g b) where
-  module _ (yes-t : T t) where
+  module _ (yes-t : t ≡ true) where
     done : is_done g.why ≡ true
     unfolding spends_on
-    done = by_bool (is_done g.why ≡ true) (is_done g.why) (λ e. e) (λ e. absurd (true≢false (sym (holds_as t (spends_on g b) et yes-t) ∙ rw e)))
+    done = by_bool (is_done g.why ≡ true) (is_done g.why) (λ e. e) (λ e. absurd (true≢false (sym (sym et ∙ yes-t) ∙ rw e)))
 
     less : g.k < b
     unfolding spends_on
-    less = let l : ltb g.k b ≡ true = rw done at (holds_as t (spends_on g b) et yes-t) in ltb-true g.k b l
+    less = let l : ltb g.k b ≡ true = rw done at (sym et ∙ yes-t) in ltb-true g.k b l
 
     pub calls-workable : Workable (state g.run m)
     calls-workable = spends-good (k.on done)
@@ -63,10 +62,10 @@ module _ (b : ℕ) (y : State) (g : Going) (m : Memory) (k : Leads b y g m) (t :
       calls-nearer = rw (eh, done) (by_bool (cond (is_done u.why) (suc (b - cond (is_done u.why) (g.k + 1) g.k)) 0 < suc (b - g.k)) (is_done u.why)
           (λ e. rw e (omega (arith, less))) (λ e. rw e (omega arith)))
 
-  pub calls-end : T (not t) → (w : Left) → w ≡ ended_of g → worked w.answer (state w.run m) ≡ told (go machine b y)
+  pub calls-end : t ≡ false → (w : Left) → w ≡ ended_of g → worked w.answer (state w.run m) ≡ told (go machine b y)
   unfolding spends_on ended_of
   calls-end no-t w ew =
       ap (λ (x : Left). worked x.answer (state x.run m)) ew
       ∙ by_bool (worked (cond (is_done g.why) (stands_of g.run.standing g.k) (halted_of g.run.standing g.why g.k)) (state g.run m) ≡ told (go machine b y)) (is_done g.why)
-      (λ e. let l : ltb g.k b ≡ false = rw e at (fails-as t (spends_on g b) et no-t) in rw e (spends-done (k.on e) (ltb-false g.k b l)))
+      (λ e. let l : ltb g.k b ≡ false = rw e at (sym et ∙ no-t) in rw e (spends-done (k.on e) (ltb-false g.k b l)))
       (λ e. rw e (k.off e))

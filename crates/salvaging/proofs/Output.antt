@@ -99,7 +99,8 @@ module _ (f : List ℕ) where
     good-and-follows = sym (kept-by-tests f from from-below) ∙ from-kept
 
     out-good : good_alone (bytes_kept f whole) (j * record_bytes) ≡ true
-    out-good = alone-alike (bytes_kept f whole) f (j * record_bytes) (from * record_bytes) byte_of ∙ and_left (good_alone f (from * record_bytes)) (follows_last f (last_kept f from) from) good-and-follows
+    out-good = alone-alike (bytes_kept f whole) f (j * record_bytes) (from * record_bytes) byte_of ∙ and_left (good_alone f (from * record_bytes))
+        (follows_last f (last_kept f from) from) good-and-follows
 
     out-follows : follows_last f (last_kept f from) from ≡ true
     out-follows = and_right (good_alone f (from * record_bytes)) (follows_last f (last_kept f from) from) good-and-follows

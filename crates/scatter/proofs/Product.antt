@@ -1,5 +1,6 @@
 -- The product of two numbers modulo 2^64 from their halves of 32 bits, as the program computes it. Assumes nothing.
-use Rattle.std.proofs.Common.{◌≡◌, ℕ, ◌+◌, ◌*◌, ◌/◌, ◌%◌, ◌^◌, ◌<◌, sym, refl, ap, ◌∙◌, lt_of_le_of_lt, le_of_lt, add_assoc, mul_assoc, mul_comm, add-mul, add_comm, mul-le-mul_left, div-add-mod', mul-add, mul_right_comm, mul_left_comm, shl_lt, w64, Fits}
+use Rattle.std.proofs.Common.{◌≡◌, ℕ, ◌+◌, ◌*◌, ◌/◌, ◌%◌, ◌^◌, ◌<◌, sym, refl, ap, ◌∙◌, lt_of_le_of_lt, le_of_lt}
+use Rattle.std.proofs.Common.{add_assoc, mul_assoc, mul_comm, add-mul, add_comm, mul-le-mul_left, div-add-mod', mul-add, mul_right_comm, mul_left_comm, shl_lt, w64, Fits}
 use native.Mathlib.Nat.{add_left_comm}
 use native.Mathlib.Nat.{add-mod-mod, mul-add-mod_self_right}
 use lib.Pow.{split}

@@ -30,7 +30,8 @@ splits-le (suc g) c z h q p =
       | no n ↦ rw (ne_eqb _ _ n, splits_of) (omega arith)
     ]
 
-pub splits-same : (g c : ℕ) (z h q p : List Float) → child_index c z q ≡ child_index c z p → splits_of (suc g) c z h q p ≡ suc (splits_of g c (child_centre c z h (child_index c z p)) (child_half c h) q p)
+pub splits-same : (g c : ℕ) (z h q p : List Float) → child_index c z q ≡ child_index c z p → splits_of (suc g) c z h q p ≡ suc
+    (splits_of g c (child_centre c z h (child_index c z p)) (child_half c h) q p)
 unfolding splits_of
 splits-same g c z h q p e = rw (eq-eqb _ _ e, splits_of)
 
@@ -49,7 +50,8 @@ module _ {c : ℕ} {q p : List Float} {depth : ℕ} {y g z h : List Float} {n d 
   pub splits-few : Splits c q p depth y g z h n d → n ≤ deepest
   splits-few s = omega (arith, s.same, splits-le (deepest - depth) c y g q p)
 
-  pub splits-go : Splits c q p depth y g z h n d → d < deepest → child_index c z q ≡ child_index c z p → Splits c q p depth y g (child_centre c z h (child_index c z p)) (child_half c h) (n + 1) (d + 1)
+  pub splits-go : Splits c q p depth y g z h n d → d < deepest → child_index c z q ≡ child_index c z p → Splits c q p depth y g (child_centre c z h (child_index c z p))
+      (child_half c h) (n + 1) (d + 1)
   splits-go s l e = record { same = omega (arith, s.same, ap (λ (k : ℕ). splits_of k c z h q p) (left deepest d l) ∙ splits-same (deepest - (d + 1)) c z h q p e) }
 
   pub splits_last : Splits c q p depth y g z h n d → d < deepest → (child_index c z q ≡ child_index c z p → ⊥) → n + 1 ≡ splits_of (deepest - depth) c y g q p

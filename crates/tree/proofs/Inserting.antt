@@ -152,7 +152,8 @@ stored-sound n c m i k t v li lk f s x lx =
 -- ---- the dry count, step by step
 
 module _ (y : List Float) (c : ℕ) (p : List Float) where
-  pub needs-inner : (g d i : ℕ) (ns : List Node) → ((node_at ns i).first ≡ 0 → ⊥) → needs_of (suc g) y c p d i ns ≡ needs_of g y c p (d + 1) ((node_at ns i).first + child_index c (node_at ns i).centre p) ns
+  pub needs-inner : (g d i : ℕ) (ns : List Node) → ((node_at ns i).first ≡ 0 → ⊥) → needs_of (suc g) y c p d i ns ≡ needs_of g y c p (d + 1)
+      ((node_at ns i).first + child_index c (node_at ns i).centre p) ns
   unfolding needs_of
   needs-inner g d i ns z = rw (ne_eqb _ _ z, needs_of)
 

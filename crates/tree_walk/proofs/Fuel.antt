@@ -3,7 +3,7 @@
 use mathlib.Core.Path.{◌≡◌, refl, sym, ◌∙◌}
 use mathlib.Core.List.{List}
 use mathlib.Core.Bool.{Bool, true, false, cond, ◌&&◌}
-use Prim.Native.Nat.{ℕ, zero, suc, ◌+◌, ◌-◌, ◌^◌, ◌<◌, ◌≤◌}
+use Prim.Native.Nat.{ℕ, zero, suc, ◌+◌, ◌^◌, ◌<◌, ◌≤◌}
 use native.Mathlib.Omega.{arith}
 use native.Mathlib.Decide.{ℕ_discrete}
 use lib.Dec.{eqb}
@@ -54,7 +54,8 @@ module _ (c q : ℕ) (p : List Float) (theta2 : Float) (ns : List Node) where
   unfolding walk_of
   bodies g i a k = rw (k, walk_of) (rw k)
 
-  pub opens : (g i : ℕ) (a : Acc) → (turn_kind i ≡ 0 → ⊥) → (turn_kind i ≡ 1 → ⊥) → walk_of (suc g) c q p theta2 ns i a ≡ loop (λ b a. walk_of g c q p theta2 ns ((node_at ns i).first + b) a) (2 ^ c) 0 a
+  pub opens : (g i : ℕ) (a : Acc) → (turn_kind i ≡ 0 → ⊥) → (turn_kind i ≡ 1 → ⊥) → walk_of (suc g) c q p theta2 ns i a ≡ loop
+      (λ b a. walk_of g c q p theta2 ns ((node_at ns i).first + b) a) (2 ^ c) 0 a
   unfolding walk_of
   opens g i a h₀ h₁ = rw (ne_eqb (turn_kind i) 0 h₀, walk_of) (rw (ne_eqb (turn_kind i) 1 h₁))
 

@@ -1,11 +1,10 @@
 -- With an angle of zero the walk is the sum over the leaves that count a point, in the order of their list. Assumes nothing.
-use mathlib.Core.Path.{◌≡◌, refl, sym, ap, subst, ◌∙◌}
+use mathlib.Core.Path.{◌≡◌, refl, sym, ap, ◌∙◌}
 use mathlib.Core.List.{List, [], ◌∷◌, ◌++◌}
-use mathlib.Core.Bool.{Bool, true, false, cond, ◌&&◌}
-use Prim.Native.Nat.{ℕ, zero, suc, ◌+◌, ◌^◌, ◌<◌, ◌≤◌}
+use mathlib.Core.Bool.{Bool, cond}
+use Prim.Native.Nat.{ℕ, zero, suc, ◌+◌, ◌^◌, ◌<◌}
 use native.Mathlib.Omega.{arith}
 use native.Mathlib.Decide.{ℕ_discrete}
-use lib.Dec.{eqb}
 use lib.Ieee.{Float, binary64, mul}
 use borrow.Author.Tests.{eq-eqb, ne_eqb}
 use Rattle.laws.specs.Loops.{loop}
@@ -23,7 +22,7 @@ use Rattle.tree_walk.proofs.Fuel.{skips, bodies, opens}
 use Rattle.tree.specs.Insert.{Tree}
 use Rattle.tree_worth.specs.Worth.{leaves_of, holds_alone, leaf_adds, leaves_add, NoAngle}
 use Rattle.tree_worth.proofs.Tallies.{Tallied}
-use Rattle.tree_worth.proofs.Leaves.{leaves-inner, leaves_empty, leaves-here, none_below}
+use Rattle.tree_worth.proofs.Leaves.{leaves-inner, leaves-here, none_below}
 use Rattle.tree_worth.proofs.Zero.{cell_opens}
 
 module _ (c q : ℕ) (p : List Float) (ns : List Node) where

@@ -1,13 +1,13 @@
 -- The whole insertion, and all of them from the box on: what they keep of counts, depths and parents. Assumes nothing.
 use mathlib.Core.Path.{◌≡◌, refl, sym, ap, subst, ◌∙◌}
 use mathlib.Core.List.{List, [], ◌∷◌}
-use mathlib.Core.Bool.{Bool, true, false, cond, true≢false}
+use mathlib.Core.Bool.{true, false, true≢false}
 use Prim.Native.Nat.{ℕ, zero, suc, ◌+◌, ◌-◌, ◌^◌, ◌<◌, ◌≤◌}
 use native.Mathlib.Omega.{arith}
 use native.Mathlib.Numerals.{add-one}
 use native.Mathlib.Decide.{ℕ_discrete}
 use native.Mathlib.Nat.{not-suc-le-zero}
-use lib.ListN.{length, set, length-set}
+use lib.ListN.{length, set}
 use lib.Seq.{get_or-set_same}
 use lib.Ieee.{Float}
 use Rattle.laws.specs.Domain.{deepest}
@@ -16,22 +16,22 @@ use Rattle.laws.proofs.Bools.{by_bool}
 use Rattle.tree_node.specs.declared.Node.{Node}
 use Rattle.tree_node.specs.declared.Leaf.{Leaf}
 use Rattle.tree_node.specs.declared.Leaf.TheVariants.{Empty, Occupied}
-use Rattle.tree_node.specs.Node.{point_of, fresh_of}
+use Rattle.tree_node.specs.Node.{point_of}
 use Rattle.tree_node.specs.Arena.{node_at, blank, nameable}
 use Rattle.tree_node.proofs.Told.{nameable-most}
 use Rattle.tree_children.specs.Children.{child_index}
 use Rattle.tree_children.proofs.Below.{child-below}
 use Rattle.tree_bounds.specs.Bounds.{box_of}
 use Rattle.tree_turns.specs.declared.Out.{Out}
-use Rattle.tree_turns.specs.Turns.{absorbed, occupied, parent, out, turn_of}
+use Rattle.tree_turns.specs.Turns.{absorbed, occupied, parent, out}
 use Rattle.tree_contents.specs.Contents.{node_ok}
-use Rattle.tree.specs.Insert.{Tree, tree, subdivided, turn_at, levelled, level_at, inserted, Insertion, insertion, insert_of, tree_ok, built}
+use Rattle.tree.specs.Insert.{Tree, tree, turn_at, levelled, level_at, inserted, insert_of, tree_ok, built}
 use Rattle.tree.specs.Box.{boxed}
 use Rattle.tree.proofs.Grow.{filled-out}
 use Rattle.tree.proofs.Inserting.{turn-cases, inserted-last, inserted-next, level-plain, Ok, ok-next, ok-start}
 use Rattle.tree.proofs.Whole.{needed, taken, taken-fits, taken-ends, built-next, built-full}
 use Rattle.tree_worth.specs.Worth.{LeafCounts}
-use Rattle.tree_worth.proofs.Tallies.{stored_other, owed-out, Tallied, inner-tallied, last-tallied, split-tallied}
+use Rattle.tree_worth.proofs.Tallies.{stored_other, Tallied, inner-tallied, last-tallied, split-tallied}
 
 -- ---- one descent: the point has come to node i at depth d, and the root will count r
 

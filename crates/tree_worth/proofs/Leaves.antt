@@ -1,13 +1,11 @@
 -- The list of the leaves that count a point: each stands in it once, and none is missing. Assumes nothing.
 use mathlib.Core.Path.{◌≡◌, refl, sym, ap, subst, ◌∙◌}
 use mathlib.Core.List.{List, [], ◌∷◌, ◌++◌}
-use mathlib.Core.Bool.{Bool, true, false, cond}
 use Prim.Native.Nat.{ℕ, zero, suc, ◌+◌, ◌-◌, ◌^◌, ◌<◌, ◌≤◌}
 use native.Mathlib.Omega.{arith}
 use native.Mathlib.Decide.{ℕ_discrete}
 use native.Mathlib.Nat.{not-suc-le-zero, add-zero}
-use lib.Dec.{eqb}
-use borrow.Author.Tests.{eq-eqb, ne_eqb, eqb-true}
+use borrow.Author.Tests.{eq-eqb, ne_eqb}
 use Rattle.laws.specs.Sums.{sum}
 use Rattle.laws.specs.Joined.{joined}
 use Rattle.laws.proofs.Sums.{sum_same}
@@ -15,7 +13,7 @@ use Rattle.tree_node.specs.declared.Node.{Node}
 use Rattle.tree_node.specs.Arena.{node_at}
 use Rattle.tree_walk.proofs.Fuel.{nowhere}
 use Rattle.tree.specs.Insert.{Tree}
-use Rattle.tree_worth.specs.Worth.{leaves_of, times_in, counts_of, child_counts}
+use Rattle.tree_worth.specs.Worth.{leaves_of, times_in, counts_of}
 use Rattle.tree_worth.proofs.Sums.{sum-nothing, term-le, sum-some, sum-one-only}
 use Rattle.tree_worth.proofs.Tallies.{Tallied}
 use Rattle.tree_worth.proofs.Ways.{tally-whole}
@@ -122,7 +120,8 @@ module _ (c : ℕ) (t : Tree) (h : Tallied c 0 0 t) (some : 0 < t.used) where
         | no z ↦
             leaves-inner c ns g i z
             ∙ joined-nothing (λ b. leaves_of g c ns ((node_at ns i).first + b)) (2 ^ c)
-            (λ b lb. none_below g ((node_at ns i).first + b) (child-in i l z b lb) (sum-nothing (λ b. (node_at ns ((node_at ns i).first + b)).count) (2 ^ c) (sym (tally-whole c t h some i l z) ∙ e) b lb))
+            (λ b lb. none_below g ((node_at ns i).first + b) (child-in i l z b lb)
+            (sum-nothing (λ b. (node_at ns ((node_at ns i).first + b)).count) (2 ^ c) (sym (tally-whole c t h some i l z) ∙ e) b lb))
       ]
 
   -- any number of levels that reaches the last used node gives the same

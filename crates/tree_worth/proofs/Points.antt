@@ -1,7 +1,7 @@
 -- Each leaf counts the points that lie in its cell, and holds one of them: what a level of an insertion, an insertion and all of them keep of it. Assumes nothing.
 use mathlib.Core.Path.{◌≡◌, refl, sym, ap, subst, ◌∙◌}
 use mathlib.Core.List.{List, [], ◌∷◌}
-use mathlib.Core.Bool.{Bool, true, false, true≢false}
+use mathlib.Core.Bool.{true, false, true≢false}
 use Prim.Native.Nat.{ℕ, zero, suc, ◌+◌, ◌-◌, ◌^◌, ◌<◌, ◌≤◌}
 use native.Mathlib.Omega.{arith}
 use native.Mathlib.Decide.{ℕ_discrete, dec_lt}
@@ -16,7 +16,6 @@ use Rattle.laws.specs.Sums.{sum, bit}
 use Rattle.laws.proofs.Bools.{by_bool}
 use Rattle.laws.proofs.Sums.{sum_same, sum-next, sum-none}
 use Rattle.tree_node.specs.declared.Node.{Node}
-use Rattle.tree_node.specs.declared.Leaf.{Leaf}
 use Rattle.tree_node.specs.declared.Leaf.TheVariants.{Empty, Occupied}
 use Rattle.tree_node.specs.Node.{point_of}
 use Rattle.tree_node.specs.Arena.{leaf_word, node_at, blank, nameable}
@@ -32,9 +31,9 @@ use Rattle.tree.proofs.Inserting.{turn-cases, inserted-last, inserted-next, leve
 use Rattle.tree.proofs.Whole.{needed, taken, taken-fits}
 use Rattle.tree_worth.specs.Worth.{LeafCounts, leaf_for, leaf_in, points_of}
 use Rattle.tree_worth.proofs.Sums.{sum-at, sum-two}
-use Rattle.tree_worth.proofs.Tallies.{stored_other, stored_same, Tallied, split-tallied, new-here, new-old, new-child, child-first, child-count, child-empty, first-i, first-new}
-use Rattle.tree_worth.proofs.Counts.{Comes, comes, one-held, Settled, Accounted, built-keeps, built-stands}
-use Rattle.tree_worth.proofs.Routes.{next_of, route_of, route-same, route-leaf, route-inner, route-ends, split-route}
+use Rattle.tree_worth.proofs.Tallies.{stored_other, stored_same, Tallied, split-tallied, new-here, new-old, new-child, child-count, child-empty, first-i, first-new}
+use Rattle.tree_worth.proofs.Counts.{Comes, comes, one-held, Settled, built-keeps, built-stands}
+use Rattle.tree_worth.proofs.Routes.{route-same, route-leaf, route-inner, route-ends, split-route}
 
 -- of the first j points
 pub record Lodged (y : List Float) (c j : ℕ) (t : Tree) : Type 0 where

@@ -1,28 +1,25 @@
 -- What each level of an insertion keeps of counts, depths and parents: node i, and what is below it, is yet to count the point that the nodes above it have counted. Assumes nothing.
 use mathlib.Core.Path.{◌≡◌, refl, sym, ap, subst, ◌∙◌}
 use mathlib.Core.List.{List}
-use mathlib.Core.Bool.{Bool, true, false, cond, true≢false}
-use Prim.Native.Nat.{ℕ, zero, suc, ◌+◌, ◌-◌, ◌^◌, ◌<◌, ◌≤◌}
+use mathlib.Core.Bool.{cond}
+use Prim.Native.Nat.{ℕ, ◌+◌, ◌-◌, ◌^◌, ◌<◌, ◌≤◌}
 use native.Mathlib.Omega.{arith}
 use native.Mathlib.Decide.{ℕ_discrete, dec_lt}
-use native.Mathlib.Nat.{not-suc-le-zero, mul-zero, add-zero}
-use lib.Dec.{eqb, ltb, leb}
+use native.Mathlib.Nat.{mul-zero, add-zero}
+use lib.Dec.{ltb, leb}
 use lib.ListN.{length, set, length-set}
 use lib.Seq.{get_or-set_same, get_or-set_other}
 use lib.Ieee.{Float}
 use borrow.Author.Tests.{eq-eqb, ne_eqb, lt-ltb, le-ltb, le-leb, lt-leb}
-use Rattle.laws.specs.Domain.{deepest}
 use Rattle.laws.specs.Sums.{sum}
 use Rattle.laws.proofs.Sums.{sum_same, sum-const}
 use Rattle.tree_node.specs.declared.Node.{Node}
-use Rattle.tree_node.specs.declared.Leaf.{Leaf}
-use Rattle.tree_node.specs.declared.Leaf.TheVariants.{Empty, Occupied}
 use Rattle.tree_node.specs.Arena.{node_at, blank}
-use Rattle.tree_children.specs.Children.{child_index, cell_of}
+use Rattle.tree_children.specs.Children.{child_index}
 use Rattle.tree_children.proofs.Below.{child-below}
-use Rattle.tree_turns.specs.Turns.{absorbed, occupied, parent, child_of}
+use Rattle.tree_turns.specs.Turns.{absorbed, parent, child_of}
 use Rattle.tree.specs.Insert.{Tree, tree, subdivided}
-use Rattle.tree.proofs.Grow.{filled-out, filled_in, length-filled}
+use Rattle.tree.proofs.Grow.{filled-out, filled_in}
 use Rattle.tree_worth.specs.Worth.{block_counts, child_counts, LeafCounts}
 use Rattle.tree_worth.proofs.Sums.{sum-bumped}
 

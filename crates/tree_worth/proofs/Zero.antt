@@ -1,18 +1,17 @@
 -- With an angle of zero no cell is far enough: every cell that has children and counts a point opens. Assumes nothing.
-use mathlib.Core.Path.{◌≡◌, refl, sym, ap, subst, ◌∙◌}
+use mathlib.Core.Path.{◌≡◌, refl}
 use mathlib.Core.Logic.{◌⊎◌, inl, inr}
 use mathlib.Core.List.{List}
-use mathlib.Core.Bool.{Bool, true, false, cond, true≢false}
-use Prim.Native.Nat.{ℕ, zero, suc, ◌+◌, ◌*◌, ◌<◌, ◌≤◌}
+use mathlib.Core.Bool.{true, false, true≢false}
+use Prim.Native.Nat.{ℕ, ◌*◌, ◌≤◌}
 use native.Mathlib.Omega.{arith}
 use native.Mathlib.Nat.{zero-mul, mul-one}
-use lib.Dec.{eqb, ltb, lit<, lit≤}
-use lib.IntN.{ℤ, pos}
+use lib.Dec.{lit≤}
 use lib.Ieee.{Float, nan, inf, fin, binary64, up, down, unlike, odd, units, round, size, mul, lt, of_bits}
 use lib.Ieee.Fits.{down_pos}
 use borrow.Author.Tests.{ne_eqb, le-ltb}
-use Rattle.laws.specs.Area.{at, bits, zero64}
-use Rattle.elementary.proofs.Sizes.{Signed, sign_plus, signed_round, Most, most-round, held_whole}
+use Rattle.laws.specs.Area.{at, zero64}
+use Rattle.elementary.proofs.Sizes.{sign_plus, signed_round, Most, most-round, held_whole}
 use Rattle.tree_node.specs.declared.Node.{Node}
 use Rattle.tree_bodies.specs.Bodies.{width_of, gap_of, kind_of}
 use Rattle.tree_worth.specs.Worth.{NoAngle}
@@ -50,6 +49,13 @@ nan-below x = refl
 
 plus-not-below : (x z : Float) → sign_plus x → Most 0 1 z → lt x z ≡ false
 unfolding lt
+plus-not-below nan z p q = elim p [ ]
+plus-not-below (inf s) nan p q = elim q [ ]
+plus-not-below (inf s) (inf _) p q = elim q [ ]
+plus-not-below (fin false m e) nan p q = elim q [ ]
+plus-not-below (fin false m e) (inf _) p q = elim q [ ]
+plus-not-below (fin true m e) nan p q = elim q [ ]
+plus-not-below (fin true m e) (inf _) p q = elim q [ ]
 plus-not-below (inf s) (fin t n d) p q = p
 plus-not-below (fin true m e) (fin t n d) p q = absurd (true≢false p)
 plus-not-below (fin false m e) (fin true n d) p q = refl

@@ -41,8 +41,18 @@ bounds-weights-o c =
 pub returns-then-p-w : goal.returns-then-p-w
 returns-then-p-w c =
     let the-fallen = c.fallen-p in
-    record { yes_value = rw (lt-ltb _ _ (rw the-fallen.ensures at c.if-p-w.true)); weight_value = rw ((lt-ltb _ _ (rw the-fallen.ensures at c.if-p-w.true)), the-fallen.ensures); row_value = refl; cursor_value = the-fallen.ensures }
+    record {
+      yes_value = rw (lt-ltb _ _ (rw the-fallen.ensures at c.if-p-w.true));
+      weight_value = rw ((lt-ltb _ _ (rw the-fallen.ensures at c.if-p-w.true)), the-fallen.ensures);
+      row_value = refl;
+      cursor_value = the-fallen.ensures;
+    }
 
 pub returns : goal.returns
 returns c =
-    record { yes_value = rw (le-ltb _ _ (rw c.fallen-p.ensures at c.if-p-w.false)); weight_value = rw (le-ltb _ _ (rw c.fallen-p.ensures at c.if-p-w.false)); row_value = refl; cursor_value = c.fallen-p.ensures }
+    record {
+      yes_value = rw (le-ltb _ _ (rw c.fallen-p.ensures at c.if-p-w.false));
+      weight_value = rw (le-ltb _ _ (rw c.fallen-p.ensures at c.if-p-w.false));
+      row_value = refl;
+      cursor_value = c.fallen-p.ensures;
+    }

@@ -50,10 +50,21 @@ pub returns-then-r-c : goal.returns-then-r-c
 returns-then-r-c c =
     let the-fallen2 = c.fallen-p in
     let the-fallen = c.fallen-r in
-    record { yes_value = rw (lt-ltb _ _ (rw the-fallen.ensures at c.if-r-c.true)); weight_value = rw (c.joint-weight.ensures, the-fallen.ensures, the-fallen2.ensures); row_value = the-fallen.ensures; cursor_value = the-fallen2.ensures }
+    record {
+      yes_value = rw (lt-ltb _ _ (rw the-fallen.ensures at c.if-r-c.true));
+      weight_value = rw (c.joint-weight.ensures, the-fallen.ensures, the-fallen2.ensures);
+      row_value = the-fallen.ensures;
+      cursor_value = the-fallen2.ensures;
+    }
 
 pub returns : goal.returns
 returns c =
     let the-fallen2 = c.fallen-p in
     let the-fallen = c.fallen-r in
-    record { yes_value = rw (le-ltb _ _ (rw the-fallen.ensures at c.if-r-c.false)) (ap (λ (x : ℕ). ltb x c.args.w) the-fallen2.ensures); weight_value = rw (c.joint-weight.ensures, the-fallen.ensures, the-fallen2.ensures); row_value = the-fallen.ensures; cursor_value = the-fallen2.ensures }
+    record {
+      yes_value = rw (le-ltb _ _ (rw the-fallen.ensures at c.if-r-c.false)) (ap (λ (x : ℕ). ltb x c.args.w) the-fallen2.ensures);
+      weight_value =
+          rw (c.joint-weight.ensures, the-fallen.ensures, the-fallen2.ensures);
+      row_value = the-fallen.ensures;
+      cursor_value = the-fallen2.ensures;
+    }

@@ -11,7 +11,12 @@ link_below-requires c =
 pub returns-then-j-i : goal.returns-then-j-i
 unfolding sought_yes sought_weight sought_row sought_cursor
 returns-then-j-i c =
-    record { yes_value = rw (lt-ltb _ _ c.if-j-i.true) c.link_below.ensures.yes_value; weight_value = rw (lt-ltb _ _ c.if-j-i.true) c.link_below.ensures.weight_value; row_value = rw (lt-ltb _ _ c.if-j-i.true) c.link_below.ensures.row_value; cursor_value = rw (lt-ltb _ _ c.if-j-i.true) c.link_below.ensures.cursor_value }
+    record {
+      yes_value = rw (lt-ltb _ _ c.if-j-i.true) c.link_below.ensures.yes_value;
+      weight_value = rw (lt-ltb _ _ c.if-j-i.true) c.link_below.ensures.weight_value;
+      row_value = rw (lt-ltb _ _ c.if-j-i.true) c.link_below.ensures.row_value;
+      cursor_value = rw (lt-ltb _ _ c.if-j-i.true) c.link_below.ensures.cursor_value;
+    }
 
 pub link_above-requires : goal.link_above-requires
 link_above-requires c =
@@ -20,4 +25,9 @@ link_above-requires c =
 pub returns : goal.returns
 unfolding sought_yes sought_weight sought_row sought_cursor
 returns c =
-    record { yes_value = rw (le-ltb _ _ c.if-j-i.false) c.link_above.ensures.yes_value; weight_value = rw (le-ltb _ _ c.if-j-i.false) c.link_above.ensures.weight_value; row_value = rw (le-ltb _ _ c.if-j-i.false) c.link_above.ensures.row_value; cursor_value = rw (le-ltb _ _ c.if-j-i.false) c.link_above.ensures.cursor_value }
+    record {
+      yes_value = rw (le-ltb _ _ c.if-j-i.false) c.link_above.ensures.yes_value;
+      weight_value = rw (le-ltb _ _ c.if-j-i.false) c.link_above.ensures.weight_value;
+      row_value = rw (le-ltb _ _ c.if-j-i.false) c.link_above.ensures.row_value;
+      cursor_value = rw (le-ltb _ _ c.if-j-i.false) c.link_above.ensures.cursor_value;
+    }

@@ -16,4 +16,4 @@ loop-k-preserved c =
 pub returns : goal.returns
 unfolding bench_start
 returns c =
-    record { value = c.loop-k.invariant.0; value_2 = loop-done c.loop-k.invariant.1 (omega arith); }
+    record { value = c.loop-k.invariant.0; value_2 = loop-done c.loop-k.invariant.1 (omega arith) }

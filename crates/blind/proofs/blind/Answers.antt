@@ -19,9 +19,12 @@ square_frames-requires c =
 pub look_at_all-l-requires : goal.look_at_all-l-requires
 look_at_all-l-requires c =
     let p = (sight-room _ _ _ _ _ _ (sight-pass _ _ _ _ _ _ (sym c.blind_fault-k.ensures ∙ c.if-k-ne0.false))) in
-    record { squared = rw c.square_frames.ensures
-          (squares-known c.args.table.now c.args.s.n c.args.s.f c.args.squares.now p.squares-in); sight_room = rw
-          c.square_frames.auto.squares p; }
+    record {
+      squared = rw c.square_frames.ensures
+          (squares-known c.args.table.now c.args.s.n c.args.s.f c.args.squares.now p.squares-in);
+      sight_room = rw
+          c.square_frames.auto.squares p;
+    }
 
 pub clear_rows-requires : goal.clear_rows-requires
 clear_rows-requires c =

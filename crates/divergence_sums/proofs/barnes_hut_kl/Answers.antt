@@ -1,6 +1,5 @@
 use Rattle.divergence_sums.specs.Sums.{kl_lists}
 use Rattle.laws.proofs.Loops.{loop-start, loop-next, loop-done}
-use Prim.Native.Nat.{◌-◌}
 use native.Mathlib.Omega.{arith}
 use Rattle.divergence_sums.proofs.barnes_hut_kl.Goals as goal
 
@@ -10,7 +9,7 @@ loop-i-init c =
 
 pub kl_list-s-requires : goal.kl_list-s-requires
 kl_list-s-requires c =
-    record { i_lt_n = (c.loop-i-test.true, c.requires.c_in_bounds); linked = c.requires.all_linked _ c.loop-i-test.true; }
+    record { i_lt_n = (c.loop-i-test.true, c.requires.c_in_bounds); linked = c.requires.all_linked _ c.loop-i-test.true }
 
 pub loop-i-preserved : goal.loop-i-preserved
 loop-i-preserved c =

@@ -1,6 +1,5 @@
 use Rattle.divergence_sums.specs.Sums.{kl_row}
 use Rattle.laws.proofs.Loops.{loop-start, loop-on, loop-done}
-use Prim.Native.Nat.{◌-◌}
 use native.Mathlib.Omega.{arith}
 use Rattle.divergence_sums.proofs.kl_divergence_row.Goals as goal
 

@@ -4,12 +4,11 @@ use Rattle.divergence_sums.specs.Sums.{kl_link}
 use Rattle.divergence_sums.proofs.kl_link.Goals as goal
 
 pub apart-requires : goal.apart-requires
-apart-requires c =
-    (
-      row_in _ c.args.n c.args.c _ c.requires.0 c.requires.1,
-      rw c.wide-j.ensures
-          (row_in _ c.args.n c.args.c _ c.requires.4 c.requires.1),
-    )
+apart-requires c = (
+  row_in _ c.args.n c.args.c _ c.requires.0 c.requires.1,
+  rw c.wide-j.ensures
+      (row_in _ c.args.n c.args.c _ c.requires.4 c.requires.1),
+)
 
 pub returns : goal.returns
 unfolding kl_link

@@ -7,15 +7,14 @@ use Rattle.divergence_sums.proofs.Parts.{in_parts}
 use Rattle.divergence_sums.proofs.kl_together.Goals as goal
 
 pub kl_pairs-requires : goal.kl_pairs-requires
-kl_pairs-requires c =
-    (
-      c.requires.0,
-      c.requires.1,
-      c.requires.4,
-      rw
-          (c.lay_shares.ensures, written-size (λ k. kl_share c.args.positions.now c.args.total c.args.c c.args.i (c.args.j + k)) c.args.m)
-          c.requires.2,
-    )
+kl_pairs-requires c = (
+  c.requires.0,
+  c.requires.1,
+  c.requires.4,
+  rw
+      (c.lay_shares.ensures, written-size (λ k. kl_share c.args.positions.now c.args.total c.args.c c.args.i (c.args.j + k)) c.args.m)
+      c.requires.2,
+)
 
 pub returns : goal.returns
 returns c =

@@ -2,7 +2,6 @@ use mathlib.Core.Path.{refl}
 use Rattle.laws.proofs.Numbers.{row_in}
 use Rattle.laws.proofs.Loops.{loop-start, loop-next, loop-done}
 use Rattle.divergence_sums.specs.Sums.{kl_share}
-use Prim.Native.Nat.{◌-◌}
 use borrow.Author.Rules.{rules}
 use native.Mathlib.Omega.{arith}
 use Rattle.divergence_sums.proofs.lay_shares.Goals as goal
@@ -12,12 +11,11 @@ loop-k-init c =
     (refl, loop-start _ _ _)
 
 pub num-requires : goal.num-requires
-num-requires c =
-    (
-      row_in _ c.args.n _ _ c.requires.0 c.requires.2,
-      row_in _ c.args.n _ _
-          (omega (arith, c.requires.1, c.loop-k-test.true)) c.requires.2,
-    )
+num-requires c = (
+  row_in _ c.args.n _ _ c.requires.0 c.requires.2,
+  row_in _ c.args.n _ _
+      (omega (arith, c.requires.1, c.loop-k-test.true)) c.requires.2,
+)
 
 pub loop-k-preserved : goal.loop-k-preserved
 unfolding kl_share

@@ -6,12 +6,14 @@ use Rattle.prepare.proofs.route.Goals as goal
 
 pub neighbor_probabilities-requires : goal.neighbor_probabilities-requires
 neighbor_probabilities-requires c =
-    record { le_n = (
+    record {
+      le_n = (
         c.requires.settings-good.n-some,
         c.requires.settings-good.n-most,
         above-zero _ c.requires.settings-good.perplexity-positive,
         c.requires.settings-good.perplexity-below,
-      ); f_in_bounds = (
+      );
+      f_in_bounds = (
         c.requires.table-in,
         c.requires.weights-in (sym c.is_tree.ensures ∙ c.if-is_tree.true),
         c.requires.indices-in
@@ -20,21 +22,24 @@ neighbor_probabilities-requires c =
         c.requires.squares-in,
         c.requires.values-in,
         c.requires.places-in,
-      ); }
+      );
+    }
 
 pub returns-then-is_tree : goal.returns-then-is_tree
 returns-then-is_tree c =
-    record { row_indices_after = c.neighbor_probabilities.ensures.row_indices_after ∙ routed-tree _ _ _ (sym c.is_tree.ensures ∙ c.if-is_tree.true); squares_after = c.neighbor_probabilities.ensures.squares_after; }
+    record {
+      row_indices_after = c.neighbor_probabilities.ensures.row_indices_after ∙ routed-tree _ _ _ (sym c.is_tree.ensures ∙ c.if-is_tree.true);
+      squares_after = c.neighbor_probabilities.ensures.squares_after;
+    }
 
 pub exact_affinities-requires : goal.exact_affinities-requires
-exact_affinities-requires c =
-    (
-      c.requires.settings-good.n-most,
-      c.requires.table-in,
-      c.requires.square-in (sym c.is_tree.ensures ∙ c.if-is_tree.false),
-      c.requires.squares-in,
-      c.requires.values-in,
-    )
+exact_affinities-requires c = (
+  c.requires.settings-good.n-most,
+  c.requires.table-in,
+  c.requires.square-in (sym c.is_tree.ensures ∙ c.if-is_tree.false),
+  c.requires.squares-in,
+  c.requires.values-in,
+)
 
 pub clear_indices-requires : goal.clear_indices-requires
 clear_indices-requires c =
@@ -42,5 +47,8 @@ clear_indices-requires c =
 
 pub returns : goal.returns
 returns c =
-    record { row_indices_after = routed-exact _ _ _ (sym c.is_tree.ensures ∙ c.if-is_tree.false) c.exact_affinities.ensures.affinities_after c.exact_affinities.ensures.row_after
-          c.clear_indices.ensures; squares_after = c.exact_affinities.ensures.squares_after; }
+    record {
+      row_indices_after = routed-exact _ _ _ (sym c.is_tree.ensures ∙ c.if-is_tree.false) c.exact_affinities.ensures.affinities_after c.exact_affinities.ensures.row_after
+          c.clear_indices.ensures;
+      squares_after = c.exact_affinities.ensures.squares_after;
+    }

@@ -10,34 +10,35 @@ loop-s-init t c = starts 256 c.args.used c.args.eye c.args.cells.now c.args.from
 pub long_turn-t-requires : goal.long_turn-t-requires
 long_turn-t-requires t c =
     asks 256 c.args.used c.args.eye c.args.cells.now c.args.from c.args.to c.args.acc c.requires c.loop-s.stack c.loop-s.s c.loop-s.invariant c.loop-s-test.true
-        c.wide-i.result c.wide-i.ensures c.cell_at-v.result c.cell_at-v.ensures
+    c.wide-i.result c.wide-i.ensures c.cell_at-v.result c.cell_at-v.ensures
 
 pub deeper-a-requires : goal.deeper-a-requires
 deeper-a-requires t c = (
-    subst (λ (m : ℕ). c.args.used - c.long_turn-t.result.deep < m) c.decreases (smaller 256 c.args.used c.args.eye c.args.cells.now c.args.from c.args.to c.args.acc c.requires c.loop-s.stack c.loop-s.s c.loop-s.invariant c.loop-s-test.true
-        c.wide-i.result c.wide-i.ensures c.cell_at-v.result c.cell_at-v.ensures c.long_turn-t.result c.long_turn-t.new.stack c.long_turn-t.ensures c.if-t.true),
-    again 256 c.args.used c.args.eye c.args.cells.now c.args.from c.args.to c.args.acc c.requires c.loop-s.stack c.loop-s.s c.loop-s.invariant c.loop-s-test.true
-        c.wide-i.result c.wide-i.ensures c.cell_at-v.result c.cell_at-v.ensures c.long_turn-t.result c.long_turn-t.new.stack c.long_turn-t.ensures c.if-t.true,
+  subst (λ (m : ℕ). c.args.used - c.long_turn-t.result.deep < m) c.decreases
+      (smaller 256 c.args.used c.args.eye c.args.cells.now c.args.from c.args.to c.args.acc c.requires c.loop-s.stack c.loop-s.s c.loop-s.invariant c.loop-s-test.true
+      c.wide-i.result c.wide-i.ensures c.cell_at-v.result c.cell_at-v.ensures c.long_turn-t.result c.long_turn-t.new.stack c.long_turn-t.ensures c.if-t.true),
+  again 256 c.args.used c.args.eye c.args.cells.now c.args.from c.args.to c.args.acc c.requires c.loop-s.stack c.loop-s.s c.loop-s.invariant c.loop-s-test.true
+      c.wide-i.result c.wide-i.ensures c.cell_at-v.result c.cell_at-v.ensures c.long_turn-t.result c.long_turn-t.new.stack c.long_turn-t.ensures c.if-t.true,
 )
 
 pub loop-s-smaller-then-t : goal.loop-s-smaller-then-t
 loop-s-smaller-then-t t c =
     (resumes 256 c.args.used c.args.eye c.args.cells.now c.args.from c.args.to c.args.acc c.requires c.loop-s.stack c.loop-s.s c.loop-s.invariant c.loop-s-test.true
-        c.wide-i.result c.wide-i.ensures c.cell_at-v.result c.cell_at-v.ensures c.long_turn-t.result c.long_turn-t.new.stack c.long_turn-t.ensures c.if-t.true
-        c.deeper-a.result c.deeper-a.ensures c.resumed-u.result c.resumed-u.ensures).1
+    c.wide-i.result c.wide-i.ensures c.cell_at-v.result c.cell_at-v.ensures c.long_turn-t.result c.long_turn-t.new.stack c.long_turn-t.ensures c.if-t.true
+    c.deeper-a.result c.deeper-a.ensures c.resumed-u.result c.resumed-u.ensures).1
 
 pub loop-s-smaller : goal.loop-s-smaller
 loop-s-smaller t c =
     (onward 256 c.args.used c.args.eye c.args.cells.now c.args.from c.args.to c.args.acc c.requires c.loop-s.stack c.loop-s.s c.loop-s.invariant c.loop-s-test.true
-        c.wide-i.result c.wide-i.ensures c.cell_at-v.result c.cell_at-v.ensures c.long_turn-t.result c.long_turn-t.new.stack c.long_turn-t.ensures c.if-t.false).1
+    c.wide-i.result c.wide-i.ensures c.cell_at-v.result c.cell_at-v.ensures c.long_turn-t.result c.long_turn-t.new.stack c.long_turn-t.ensures c.if-t.false).1
 
 pub loop-s-preserved-then-t : goal.loop-s-preserved-then-t
 loop-s-preserved-then-t t c =
     (resumes 256 c.args.used c.args.eye c.args.cells.now c.args.from c.args.to c.args.acc c.requires c.loop-s.stack c.loop-s.s c.loop-s.invariant c.loop-s-test.true
-        c.wide-i.result c.wide-i.ensures c.cell_at-v.result c.cell_at-v.ensures c.long_turn-t.result c.long_turn-t.new.stack c.long_turn-t.ensures c.if-t.true
-        c.deeper-a.result c.deeper-a.ensures c.resumed-u.result c.resumed-u.ensures).0
+    c.wide-i.result c.wide-i.ensures c.cell_at-v.result c.cell_at-v.ensures c.long_turn-t.result c.long_turn-t.new.stack c.long_turn-t.ensures c.if-t.true
+    c.deeper-a.result c.deeper-a.ensures c.resumed-u.result c.resumed-u.ensures).0
 
 pub loop-s-preserved : goal.loop-s-preserved
 loop-s-preserved t c =
     (onward 256 c.args.used c.args.eye c.args.cells.now c.args.from c.args.to c.args.acc c.requires c.loop-s.stack c.loop-s.s c.loop-s.invariant c.loop-s-test.true
-        c.wide-i.result c.wide-i.ensures c.cell_at-v.result c.cell_at-v.ensures c.long_turn-t.result c.long_turn-t.new.stack c.long_turn-t.ensures c.if-t.false).0
+    c.wide-i.result c.wide-i.ensures c.cell_at-v.result c.cell_at-v.ensures c.long_turn-t.result c.long_turn-t.new.stack c.long_turn-t.ensures c.if-t.false).0

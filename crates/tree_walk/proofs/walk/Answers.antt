@@ -9,31 +9,31 @@ loop-s-init c = starts 32 c.args.used c.args.eye c.args.cells.now c.args.from c.
 pub short_turn-t-requires : goal.short_turn-t-requires
 short_turn-t-requires c =
     asks 32 c.args.used c.args.eye c.args.cells.now c.args.from c.args.to c.args.acc c.requires c.loop-s.stack c.loop-s.s c.loop-s.invariant c.loop-s-test.true
-        c.wide-i.result c.wide-i.ensures c.cell_at-v.result c.cell_at-v.ensures
+    c.wide-i.result c.wide-i.ensures c.cell_at-v.result c.cell_at-v.ensures
 
 pub deeper-a-requires : goal.deeper-a-requires
 deeper-a-requires c =
     again 32 c.args.used c.args.eye c.args.cells.now c.args.from c.args.to c.args.acc c.requires c.loop-s.stack c.loop-s.s c.loop-s.invariant c.loop-s-test.true
-        c.wide-i.result c.wide-i.ensures c.cell_at-v.result c.cell_at-v.ensures c.short_turn-t.result c.short_turn-t.new.stack c.short_turn-t.ensures c.if-t.true
+    c.wide-i.result c.wide-i.ensures c.cell_at-v.result c.cell_at-v.ensures c.short_turn-t.result c.short_turn-t.new.stack c.short_turn-t.ensures c.if-t.true
 
 pub loop-s-smaller-then-t : goal.loop-s-smaller-then-t
 loop-s-smaller-then-t c =
     (resumes 32 c.args.used c.args.eye c.args.cells.now c.args.from c.args.to c.args.acc c.requires c.loop-s.stack c.loop-s.s c.loop-s.invariant c.loop-s-test.true
-        c.wide-i.result c.wide-i.ensures c.cell_at-v.result c.cell_at-v.ensures c.short_turn-t.result c.short_turn-t.new.stack c.short_turn-t.ensures c.if-t.true
-        c.deeper-a.result c.deeper-a.ensures c.resumed-u.result c.resumed-u.ensures).1
+    c.wide-i.result c.wide-i.ensures c.cell_at-v.result c.cell_at-v.ensures c.short_turn-t.result c.short_turn-t.new.stack c.short_turn-t.ensures c.if-t.true
+    c.deeper-a.result c.deeper-a.ensures c.resumed-u.result c.resumed-u.ensures).1
 
 pub loop-s-smaller : goal.loop-s-smaller
 loop-s-smaller c =
     (onward 32 c.args.used c.args.eye c.args.cells.now c.args.from c.args.to c.args.acc c.requires c.loop-s.stack c.loop-s.s c.loop-s.invariant c.loop-s-test.true
-        c.wide-i.result c.wide-i.ensures c.cell_at-v.result c.cell_at-v.ensures c.short_turn-t.result c.short_turn-t.new.stack c.short_turn-t.ensures c.if-t.false).1
+    c.wide-i.result c.wide-i.ensures c.cell_at-v.result c.cell_at-v.ensures c.short_turn-t.result c.short_turn-t.new.stack c.short_turn-t.ensures c.if-t.false).1
 
 pub loop-s-preserved-then-t : goal.loop-s-preserved-then-t
 loop-s-preserved-then-t c =
     (resumes 32 c.args.used c.args.eye c.args.cells.now c.args.from c.args.to c.args.acc c.requires c.loop-s.stack c.loop-s.s c.loop-s.invariant c.loop-s-test.true
-        c.wide-i.result c.wide-i.ensures c.cell_at-v.result c.cell_at-v.ensures c.short_turn-t.result c.short_turn-t.new.stack c.short_turn-t.ensures c.if-t.true
-        c.deeper-a.result c.deeper-a.ensures c.resumed-u.result c.resumed-u.ensures).0
+    c.wide-i.result c.wide-i.ensures c.cell_at-v.result c.cell_at-v.ensures c.short_turn-t.result c.short_turn-t.new.stack c.short_turn-t.ensures c.if-t.true
+    c.deeper-a.result c.deeper-a.ensures c.resumed-u.result c.resumed-u.ensures).0
 
 pub loop-s-preserved : goal.loop-s-preserved
 loop-s-preserved c =
     (onward 32 c.args.used c.args.eye c.args.cells.now c.args.from c.args.to c.args.acc c.requires c.loop-s.stack c.loop-s.s c.loop-s.invariant c.loop-s-test.true
-        c.wide-i.result c.wide-i.ensures c.cell_at-v.result c.cell_at-v.ensures c.short_turn-t.result c.short_turn-t.new.stack c.short_turn-t.ensures c.if-t.false).0
+    c.wide-i.result c.wide-i.ensures c.cell_at-v.result c.cell_at-v.ensures c.short_turn-t.result c.short_turn-t.new.stack c.short_turn-t.ensures c.if-t.false).0

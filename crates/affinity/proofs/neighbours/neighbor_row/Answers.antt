@@ -10,7 +10,12 @@ use Rattle.affinity.proofs.neighbours.neighbor_row.Goals as goal
 
 pub nearest_row-requires : goal.nearest_row-requires
 nearest_row-requires c =
-    record { i_lt_n = (c.requires.i_lt_n.0, c.requires.i_lt_n.1, c.requires.i_lt_n.2, c.requires.i_lt_n.4, c.requires.i_lt_n.5); k_in_bounds = (c.requires.k_in_bounds.0, c.requires.k_in_bounds.2, le_trans (le_of_lt c.requires.i_lt_n.3) c.requires.k_in_bounds.3); squared = c.requires.squared }
+    record {
+      i_lt_n = (c.requires.i_lt_n.0, c.requires.i_lt_n.1, c.requires.i_lt_n.2, c.requires.i_lt_n.4, c.requires.i_lt_n.5);
+      k_in_bounds =
+          (c.requires.k_in_bounds.0, c.requires.k_in_bounds.2, le_trans (le_of_lt c.requires.i_lt_n.3) c.requires.k_in_bounds.3);
+      squared = c.requires.squared;
+    }
 
 pub binary_search_sigma-requires : goal.binary_search_sigma-requires
 binary_search_sigma-requires c =

@@ -96,4 +96,9 @@ shape_of-row_indices c =
 
 pub returns : goal.returns
 returns c =
-    record { weights_after = lays-done _ _ c.loop-i.invariant.0 c.loop-i-test.false; indices_after = lays-done _ _ c.loop-i.invariant.1 c.loop-i-test.false; row_values_after = loop-done c.loop-i.invariant.3 c.loop-i-test.false; row_indices_after = loop-done c.loop-i.invariant.5 c.loop-i-test.false }
+    record {
+      weights_after = lays-done _ _ c.loop-i.invariant.0 c.loop-i-test.false;
+      indices_after = lays-done _ _ c.loop-i.invariant.1 c.loop-i-test.false;
+      row_values_after = loop-done c.loop-i.invariant.3 c.loop-i-test.false;
+      row_indices_after = loop-done c.loop-i.invariant.5 c.loop-i-test.false;
+    }

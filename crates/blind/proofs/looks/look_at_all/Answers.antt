@@ -13,7 +13,7 @@ loop-i-init c =
 
 pub look-l-requires : goal.look-l-requires
 look-l-requires c =
-    record { i_lt_n = (c.loop-i-test.true, c.requires.squared); sight_room = room-kept c.requires.sight_room c.loop-i.invariant.2.size c.loop-i.invariant.3.size c.loop-i.invariant.4.size; }
+    record { i_lt_n = (c.loop-i-test.true, c.requires.squared); sight_room = room-kept c.requires.sight_room c.loop-i.invariant.2.size c.loop-i.invariant.3.size c.loop-i.invariant.4.size }
 
 pub overflow_add-blind : goal.overflow_add-blind
 overflow_add-blind c =
@@ -28,17 +28,16 @@ overflow_add-alone c =
     omega (arith, e, m, c.requires.sight_room.n-most)
 
 pub loop-i-preserved : goal.loop-i-preserved
-loop-i-preserved c =
-    (
-      adds-next (c.one_if-blind.ensures ∙ ap bit c.look-l.ensures.blind_value.0) (bit_le _) c.loop-i-test.true c.loop-i.invariant.0,
-      adds-next
-          (c.one_if-alone.ensures ∙ ap bit c.look-l.ensures.blind_value.1) (bit_le _) c.loop-i-test.true c.loop-i.invariant.1,
-      scratch-kept c.look-l.auto.row_values
-          c.look-l.ensures.kept_past.0 c.loop-i.invariant.2,
-      scratch-kept c.look-l.auto.row_shares c.look-l.ensures.kept_past.1 c.loop-i.invariant.3,
-      scratch-kept
-          c.look-l.auto.row_indices c.look-l.ensures.kept_past.2 c.loop-i.invariant.4,
-    )
+loop-i-preserved c = (
+  adds-next (c.one_if-blind.ensures ∙ ap bit c.look-l.ensures.blind_value.0) (bit_le _) c.loop-i-test.true c.loop-i.invariant.0,
+  adds-next
+      (c.one_if-alone.ensures ∙ ap bit c.look-l.ensures.blind_value.1) (bit_le _) c.loop-i-test.true c.loop-i.invariant.1,
+  scratch-kept c.look-l.auto.row_values
+      c.look-l.ensures.kept_past.0 c.loop-i.invariant.2,
+  scratch-kept c.look-l.auto.row_shares c.look-l.ensures.kept_past.1 c.loop-i.invariant.3,
+  scratch-kept
+      c.look-l.auto.row_indices c.look-l.ensures.kept_past.2 c.loop-i.invariant.4,
+)
 
 pub shape_of-row_values : goal.shape_of-row_values
 shape_of-row_values c =
@@ -54,4 +53,8 @@ shape_of-row_indices c =
 
 pub returns : goal.returns
 returns c =
-    record { blind_value = ((adds-done c.loop-i-test.false c.loop-i.invariant.0).0, (adds-done c.loop-i-test.false c.loop-i.invariant.1).0); kept_past = (kept_by c.loop-i.invariant.2, kept_by c.loop-i.invariant.3, kept_by c.loop-i.invariant.4); }
+    record {
+      blind_value = ((adds-done c.loop-i-test.false c.loop-i.invariant.0).0, (adds-done c.loop-i-test.false c.loop-i.invariant.1).0);
+      kept_past =
+          (kept_by c.loop-i.invariant.2, kept_by c.loop-i.invariant.3, kept_by c.loop-i.invariant.4);
+    }

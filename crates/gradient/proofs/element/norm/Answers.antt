@@ -1,6 +1,5 @@
 use Rattle.gradient.specs.Element.{norm_of}
 use Rattle.laws.proofs.Loops.{loop-start, loop-next, loop-done}
-use Prim.Native.Nat.{◌-◌}
 use native.Mathlib.Omega.{arith}
 use Rattle.gradient.proofs.element.norm.Goals as goal
 

@@ -1,7 +1,7 @@
 use Rattle.laws.proofs.Numbers.{row_in}
 use Rattle.laws.proofs.Loops.{loop-start, loop-next, loop-done}
 use lib.ListN.{length}
-use Prim.Native.Nat.{◌-◌, ◌+◌, ◌*◌}
+use Prim.Native.Nat.{◌+◌, ◌*◌}
 use native.Mathlib.Omega.{arith}
 use Rattle.gradient.proofs.element.share_sum.Goals as goal
 

@@ -1,5 +1,4 @@
 use Rattle.laws.proofs.Loops.{loop-start, loop-next, loop-done}
-use Prim.Native.Nat.{◌-◌}
 use borrow.Author.Rules.{rules}
 use native.Mathlib.Omega.{arith}
 use Rattle.gradient.proofs.rows.slopes.Goals as goal

@@ -1,6 +1,5 @@
 use Rattle.laws.proofs.Loops.{loop-start, loop-next, loop-done}
 use Rattle.laws.proofs.Numbers.{row_in}
-use Prim.Native.Nat.{◌-◌}
 use native.Mathlib.Omega.{arith}
 use Rattle.gradient_pairs.proofs.exact.add_frames.Goals as goal
 

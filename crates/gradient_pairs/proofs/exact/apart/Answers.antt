@@ -1,6 +1,5 @@
 use Rattle.tree_bodies.specs.Bodies.{gap_of}
 use Rattle.laws.proofs.Loops.{loop-start, loop-next, loop-done}
-use Prim.Native.Nat.{◌-◌}
 use native.Mathlib.Omega.{arith}
 use Rattle.gradient_pairs.proofs.exact.apart.Goals as goal
 

@@ -1,6 +1,5 @@
 use Rattle.gradient_pairs.specs.Exact.{pulls_of}
 use Rattle.laws.proofs.Loops.{loop-start, loop-on, loop-done}
-use Prim.Native.Nat.{◌-◌}
 use native.Mathlib.Omega.{arith}
 use Rattle.gradient_pairs.proofs.exact.gather.Goals as goal
 

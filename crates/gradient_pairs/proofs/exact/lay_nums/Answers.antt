@@ -1,7 +1,6 @@
 use mathlib.Core.Path.{refl}
 use Rattle.laws.proofs.Loops.{loop-start, loop-next, loop-done}
 use Rattle.laws.proofs.Numbers.{row_in}
-use Prim.Native.Nat.{◌-◌}
 use borrow.Author.Rules.{rules}
 use native.Mathlib.Omega.{arith}
 use Rattle.gradient_pairs.proofs.exact.lay_nums.Goals as goal

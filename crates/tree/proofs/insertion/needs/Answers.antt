@@ -11,17 +11,17 @@ loop-v-init c = probes-start c.args.positions.now c.args.used c.args.j c.args.c 
 pub probed-x-requires : goal.probed-x-requires
 probed-x-requires c =
     probes-asks c.args.positions.now c.args.n c.args.used c.args.j c.args.c c.args.cells.now c.requires.2 c.requires.3 c.requires.5
-        c.loop-v.p c.loop-v.invariant c.probes_on.result c.probes_on.ensures c.loop-v-test.true c.load-v.result c.load-v.ensures
-        c.requires.0 (length c.args.cells.now) refl (omega arith)
+    c.loop-v.p c.loop-v.invariant c.probes_on.result c.probes_on.ensures c.loop-v-test.true c.load-v.result c.load-v.ensures
+    c.requires.0 (length c.args.cells.now) refl (omega arith)
 
 pub loop-v-smaller : goal.loop-v-smaller
 loop-v-smaller c =
     (probes-next c.args.positions.now c.args.n c.args.used c.args.j c.args.c c.args.cells.now c.requires.2 c.requires.3 c.requires.5
-        c.loop-v.p c.loop-v.invariant c.probes_on.result c.probes_on.ensures c.loop-v-test.true c.load-v.result c.load-v.ensures
-        c.probed-x.result c.probed-x.ensures).1
+    c.loop-v.p c.loop-v.invariant c.probes_on.result c.probes_on.ensures c.loop-v-test.true c.load-v.result c.load-v.ensures
+    c.probed-x.result c.probed-x.ensures).1
 
 pub loop-v-preserved : goal.loop-v-preserved
 loop-v-preserved c =
     (probes-next c.args.positions.now c.args.n c.args.used c.args.j c.args.c c.args.cells.now c.requires.2 c.requires.3 c.requires.5
-        c.loop-v.p c.loop-v.invariant c.probes_on.result c.probes_on.ensures c.loop-v-test.true c.load-v.result c.load-v.ensures
-        c.probed-x.result c.probed-x.ensures).0
+    c.loop-v.p c.loop-v.invariant c.probes_on.result c.probes_on.ensures c.loop-v-test.true c.load-v.result c.load-v.ensures
+    c.probed-x.result c.probed-x.ensures).0

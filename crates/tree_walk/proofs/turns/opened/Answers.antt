@@ -11,12 +11,11 @@ bounds-stack-l-then-l-levels c =
 
 pub returns-then-l-levels : goal.returns-then-l-levels
 unfolding opened_of pushed_of
-returns-then-l-levels c =
-    (
-      rw (lt-ltb _ _ c.if-next-s.true, lt-ltb _ _ c.if-l-levels.true) c.standing.ensures,
-      rw
-          (lt-ltb _ _ c.if-next-s.true, lt-ltb _ _ c.if-l-levels.true),
-    )
+returns-then-l-levels c = (
+  rw (lt-ltb _ _ c.if-next-s.true, lt-ltb _ _ c.if-l-levels.true) c.standing.ensures,
+  rw
+      (lt-ltb _ _ c.if-next-s.true, lt-ltb _ _ c.if-l-levels.true),
+)
 
 pub returns-then-next-s : goal.returns-then-next-s
 unfolding opened_of pushed_of

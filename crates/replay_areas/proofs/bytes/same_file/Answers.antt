@@ -1,0 +1,19 @@
+use Rattle.std.proofs.Common.{◌-◌, true, sym, ◌∙◌, arith, eq-eqb, ne_eqb}
+use Rattle.laws.proofs.Every.{every-none, every-next, every-no, every-done}
+use Rattle.replay_areas.proofs.bytes.same_file.Goals as goal
+
+pub loop-i-init : goal.loop-i-init
+loop-i-init c =
+    (every-none _, omega arith)
+
+pub returns-then-file-i : goal.returns-then-file-i
+returns-then-file-i c =
+    sym (every-no _ _ c.loop-i.i c.loop-i-test.true (ne_eqb _ _ (λ q. c.if-file-i.true (q ∙ sym c.listed.ensures))))
+
+pub loop-i-preserved : goal.loop-i-preserved
+loop-i-preserved c =
+    (every-next _ _ c.loop-i.invariant.0 (eq-eqb _ _ (c.if-file-i.false ∙ c.listed.ensures)), omega (arith, c.loop-i-test.true))
+
+pub returns : goal.returns
+returns c =
+    every-done _ _ _ c.loop-i.invariant.0 c.loop-i.invariant.1 c.loop-i-test.false

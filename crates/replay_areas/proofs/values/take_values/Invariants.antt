@@ -1,0 +1,9 @@
+-- `replay_areas::values::take_values` meets its contract: the loop keeps what has been done equal to its part of the whole.
+use Rattle.std.proofs.Common.{◌≡◌, ◌-◌, length}
+use Rattle.replay_areas.proofs.values.take_values.Given as goal
+
+abbrev pub invariant-loop-i : goal.invariant-loop-i
+invariant-loop-i l = length l.area ≡ length l.initial.area
+
+abbrev pub decreases-loop-i : goal.decreases-loop-i
+decreases-loop-i l = length l.initial.area - l.i

@@ -1,0 +1,10 @@
+-- `replay_forces::figures::all_linked` meets its contract: the loop keeps `Linked`; by `each_next`.
+use Prim.Native.Nat.{ℕ, ◌<◌, ◌≤◌, ◌-◌}
+use Rattle.gradient.specs.Forces.{Linked}
+use Rattle.replay_forces.proofs.figures.all_linked.Given as goal
+
+abbrev pub invariant-loop-i : goal.invariant-loop-i
+invariant-loop-i l = (l.i ≤ l.n) × ((j : ℕ) → j < l.i → Linked l.n l.weights l.indices l.offsets j)
+
+abbrev pub decreases-loop-i : goal.decreases-loop-i
+decreases-loop-i l = l.n - l.i

@@ -1,0 +1,25 @@
+-- `written` is safe: each area that is lent is the front of one that is long enough.
+use mathlib.Core.Path.{sym}
+use lib.Seq.{length-take-le}
+use borrow.Author.Rules.{rules}
+use Rattle.replay_monitor.proofs.writing.written.Goals as goal
+
+pub slice_bounds-host_monitor_write-end : goal.slice_bounds-host_monitor_write-end
+slice_bounds-host_monitor_write-end c =
+    sym (length-take-le _ _ (search rules))
+
+pub slice_bounds-host_monitor_write-end-2 : goal.slice_bounds-host_monitor_write-end-2
+slice_bounds-host_monitor_write-end-2 c =
+    sym (length-take-le _ _ (search rules))
+
+pub slice_bounds-host_monitor_write-end-3 : goal.slice_bounds-host_monitor_write-end-3
+slice_bounds-host_monitor_write-end-3 c =
+    sym (length-take-le _ _ (search rules))
+
+pub slice_bounds-host_monitor_write-end-4 : goal.slice_bounds-host_monitor_write-end-4
+slice_bounds-host_monitor_write-end-4 c =
+    sym (length-take-le _ _ (search rules))
+
+pub slice_bounds-host_monitor_write-end-5 : goal.slice_bounds-host_monitor_write-end-5
+slice_bounds-host_monitor_write-end-5 c =
+    sym (length-take-le _ _ (search rules))

@@ -1,0 +1,11 @@
+-- `replay_tree::compare::product` meets its contract: each need follows from its own premises.
+use Rattle.std.proofs.Common.{refl, mul-le-mul, arith}
+use Rattle.replay_tree.proofs.compare.product.Goals as goal
+
+pub overflow_mul-result : goal.overflow_mul-result
+overflow_mul-result c =
+    omega (arith, mul-le-mul c.requires.0 c.requires.1)
+
+pub returns : goal.returns
+returns c =
+    (refl, mul-le-mul c.requires.0 c.requires.1)
