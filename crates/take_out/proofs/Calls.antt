@@ -1,4 +1,4 @@
--- The call: what the entry tests have shown of record and areas, and what its walk cites. Assumes nothing.
+-- The call: what the entry tests have shown of record and areas, and what its proof cites. Assumes nothing.
 use mathlib.Core.Path.{◌≡◌, refl, sym, ap, subst, ◌∙◌}
 use mathlib.Core.Logic.{⊎_elim}
 use mathlib.Core.List.{List}
@@ -141,14 +141,13 @@ room-shown r h ns e = go (fault-fine (state_held r (cut p h) ns) (ap is_fine (sy
               indices-long = k.indices-long;
             }
 
--- ---- with the machine's counts of the areas
+-- ---- the fault that was found is the definition's
 
 module _ (r : Run) (y : List Float) (v g P xs off : List ℕ) (F : List Float) (cs : List Cell) (t gone q : List ℕ)
-    (a b c d e k m : ℕ) (la : length y ≡ a) (lb : length v ≡ b) (lc : length g ≡ c) (ld : length P ≡ d) (le : length F ≡ e) (lk : length t ≡ k) (lm : length q ≡ m)
-    (p : ℕ) (ep : p ≡ lent_positions r.settings a k m) (f : Fault) (ef : f ≡ fault_at r p b c d e xs off (nodes_of cs)) where
+    (p : ℕ) (ep : p ≡ lent_positions r.settings (length y) (length t) (length q)) (f : Fault) (ef : f ≡ fault_at r p (length v) (length g) (length P) (length F) xs off (nodes_of cs)) where
   fault-is : f ≡ take_fault r (holdings y v g P xs off F t q) (nodes_of cs)
   unfolding take_fault
-  fault-is = ef ∙ rw (ep, la, lb, lc, ld, le, lk, lm)
+  fault-is = ef ∙ rw ep
 
   pub taking-asks : is_fine f ≡ true → TakeRoom r (holdings y v g P xs off F t q)
   taking-asks h = room-shown r (holdings y v g P xs off F t q) (nodes_of cs) (ap is_fine (sym fault-is) ∙ h)
