@@ -11,8 +11,11 @@ loop-s-init t c = starts 256 c.args.used c.args.eye c.args.cells.now c.args.from
 
 pub cell_at-v-requires : goal.cell_at-v-requires
 cell_at-v-requires t c =
-    omega (arith, inside 256 c.args.used c.args.eye c.args.cells.now c.args.from c.args.to c.args.acc c.requires c.loop-s.stack c.loop-s.s c.loop-s.invariant
-        c.loop-s-test.true c.wide-i.result c.wide-i.ensures)
+    omega (
+      arith,
+      inside 256 c.args.used c.args.eye c.args.cells.now c.args.from c.args.to c.args.acc c.requires c.loop-s.stack c.loop-s.s c.loop-s.invariant
+          c.loop-s-test.true c.wide-i.result c.wide-i.ensures,
+    )
 
 pub long_turn-t-requires : goal.long_turn-t-requires
 long_turn-t-requires t c =
@@ -21,19 +24,11 @@ long_turn-t-requires t c =
 
 pub deeper-a-requires : goal.deeper-a-requires
 deeper-a-requires t c = (
-<<<<<<< HEAD
   subst (λ (m : ℕ). c.args.used - c.long_turn-t.result.deep < m) c.decreases
       (smaller 256 c.args.used c.args.eye c.args.cells.now c.args.from c.args.to c.args.acc c.requires c.loop-s.stack c.loop-s.s c.loop-s.invariant c.loop-s-test.true
       c.wide-i.result c.wide-i.ensures c.cell_at-v.result c.cell_at-v.ensures c.long_turn-t.result c.long_turn-t.new.stack c.long_turn-t.ensures c.if-t.true),
   again 256 c.args.used c.args.eye c.args.cells.now c.args.from c.args.to c.args.acc c.requires c.loop-s.stack c.loop-s.s c.loop-s.invariant c.loop-s-test.true
       c.wide-i.result c.wide-i.ensures c.cell_at-v.result c.cell_at-v.ensures c.long_turn-t.result c.long_turn-t.new.stack c.long_turn-t.ensures c.if-t.true,
-=======
-    subst (λ (m : ℕ). c.args.used - c.long_turn-t.result.deep < m) c.decreases
-        (smaller 256 c.args.used c.args.eye c.args.cells.now c.args.from c.args.to c.args.acc c.requires c.loop-s.stack c.loop-s.s c.loop-s.invariant c.loop-s-test.true
-        c.wide-i.result c.wide-i.ensures c.cell_at-v.result c.cell_at-v.ensures c.long_turn-t.result c.long_turn-t.new.stack c.long_turn-t.ensures c.if-t.true),
-    again 256 c.args.used c.args.eye c.args.cells.now c.args.from c.args.to c.args.acc c.requires c.loop-s.stack c.loop-s.s c.loop-s.invariant c.loop-s-test.true
-        c.wide-i.result c.wide-i.ensures c.cell_at-v.result c.cell_at-v.ensures c.long_turn-t.result c.long_turn-t.new.stack c.long_turn-t.ensures c.if-t.true,
->>>>>>> 59169d4e03669844278510fbfb490f81270d616e
 )
 
 pub loop-s-smaller-then-t : goal.loop-s-smaller-then-t
@@ -42,14 +37,6 @@ loop-s-smaller-then-t t c =
     c.wide-i.result c.wide-i.ensures c.cell_at-v.result c.cell_at-v.ensures c.long_turn-t.result c.long_turn-t.new.stack c.long_turn-t.ensures c.if-t.true
     c.deeper-a.result c.deeper-a.ensures c.resumed-u.result c.resumed-u.ensures).1
 
-<<<<<<< HEAD
-pub loop-s-smaller : goal.loop-s-smaller
-loop-s-smaller t c =
-    (onward 256 c.args.used c.args.eye c.args.cells.now c.args.from c.args.to c.args.acc c.requires c.loop-s.stack c.loop-s.s c.loop-s.invariant c.loop-s-test.true
-    c.wide-i.result c.wide-i.ensures c.cell_at-v.result c.cell_at-v.ensures c.long_turn-t.result c.long_turn-t.new.stack c.long_turn-t.ensures c.if-t.false).1
-
-=======
->>>>>>> 59169d4e03669844278510fbfb490f81270d616e
 pub loop-s-preserved-then-t : goal.loop-s-preserved-then-t
 loop-s-preserved-then-t t c =
     (resumes 256 c.args.used c.args.eye c.args.cells.now c.args.from c.args.to c.args.acc c.requires c.loop-s.stack c.loop-s.s c.loop-s.invariant c.loop-s-test.true
@@ -59,16 +46,12 @@ loop-s-preserved-then-t t c =
 pub loop-s-smaller : goal.loop-s-smaller
 loop-s-smaller t c =
     (onward 256 c.args.used c.args.eye c.args.cells.now c.args.from c.args.to c.args.acc c.requires c.loop-s.stack c.loop-s.s c.loop-s.invariant c.loop-s-test.true
-        c.wide-i.result c.wide-i.ensures c.cell_at-v.result c.cell_at-v.ensures c.long_turn-t.result c.long_turn-t.new.stack c.long_turn-t.ensures c.if-t.false).1
+    c.wide-i.result c.wide-i.ensures c.cell_at-v.result c.cell_at-v.ensures c.long_turn-t.result c.long_turn-t.new.stack c.long_turn-t.ensures c.if-t.false).1
 
 pub loop-s-preserved : goal.loop-s-preserved
 loop-s-preserved t c =
     (onward 256 c.args.used c.args.eye c.args.cells.now c.args.from c.args.to c.args.acc c.requires c.loop-s.stack c.loop-s.s c.loop-s.invariant c.loop-s-test.true
-<<<<<<< HEAD
     c.wide-i.result c.wide-i.ensures c.cell_at-v.result c.cell_at-v.ensures c.long_turn-t.result c.long_turn-t.new.stack c.long_turn-t.ensures c.if-t.false).0
-=======
-        c.wide-i.result c.wide-i.ensures c.cell_at-v.result c.cell_at-v.ensures c.long_turn-t.result c.long_turn-t.new.stack c.long_turn-t.ensures c.if-t.false).0
 
 pub returns : goal.returns
 returns t c = going_done 256 c.args.used c.args.eye c.args.cells.now c.loop-s.invariant c.loop-s-test.false
->>>>>>> 59169d4e03669844278510fbfb490f81270d616e

@@ -8,9 +8,9 @@ use Rattle.tree.proofs.insertion.needs.Goals as goal
 
 pub probing-p-requires : goal.probing-p-requires
 probing-p-requires c = (
-    c.requires.0,
-    row_in c.args.j c.args.n c.args.c (length c.args.positions.now) c.requires.4 c.requires.3,
-    probing-asks c.args.positions.now c.args.used c.args.j c.args.c c.args.cells.now _ refl c.requires.0 (omega arith) c.requires.2,
+  c.requires.0,
+  row_in c.args.j c.args.n c.args.c (length c.args.positions.now) c.requires.4 c.requires.3,
+  probing-asks c.args.positions.now c.args.used c.args.j c.args.c c.args.cells.now _ refl c.requires.0 (omega arith) c.requires.2,
 )
 
 pub loop-v-init : goal.loop-v-init
@@ -19,27 +19,27 @@ loop-v-init c = probes-start c.args.positions.now c.args.used c.args.j c.args.c 
 pub load-v-requires : goal.load-v-requires
 load-v-requires c =
     probes-in c.args.positions.now c.args.n c.args.used c.args.j c.args.c c.args.cells.now c.requires.2 c.requires.3 c.requires.5
-        c.loop-v.p c.loop-v.invariant c.probes_on.result c.probes_on.ensures c.loop-v-test.true
+    c.loop-v.p c.loop-v.invariant c.probes_on.result c.probes_on.ensures c.loop-v-test.true
 
 pub probed-x-requires : goal.probed-x-requires
 probed-x-requires c =
     probes-asks c.args.positions.now c.args.n c.args.used c.args.j c.args.c c.args.cells.now c.requires.2 c.requires.3 c.requires.5
-        c.loop-v.p c.loop-v.invariant c.probes_on.result c.probes_on.ensures c.loop-v-test.true c.load-v.result c.load-v.ensures
-        c.requires.0 (length c.args.cells.now) refl (omega arith)
+    c.loop-v.p c.loop-v.invariant c.probes_on.result c.probes_on.ensures c.loop-v-test.true c.load-v.result c.load-v.ensures
+    c.requires.0 (length c.args.cells.now) refl (omega arith)
 
 pub loop-v-smaller : goal.loop-v-smaller
 loop-v-smaller c =
     (probes-next c.args.positions.now c.args.n c.args.used c.args.j c.args.c c.args.cells.now c.requires.2 c.requires.3 c.requires.5
-        c.loop-v.p c.loop-v.invariant c.probes_on.result c.probes_on.ensures c.loop-v-test.true c.load-v.result c.load-v.ensures
-        c.probed-x.result c.probed-x.ensures).1
+    c.loop-v.p c.loop-v.invariant c.probes_on.result c.probes_on.ensures c.loop-v-test.true c.load-v.result c.load-v.ensures
+    c.probed-x.result c.probed-x.ensures).1
 
 pub loop-v-preserved : goal.loop-v-preserved
 loop-v-preserved c =
     (probes-next c.args.positions.now c.args.n c.args.used c.args.j c.args.c c.args.cells.now c.requires.2 c.requires.3 c.requires.5
-        c.loop-v.p c.loop-v.invariant c.probes_on.result c.probes_on.ensures c.loop-v-test.true c.load-v.result c.load-v.ensures
-        c.probed-x.result c.probed-x.ensures).0
+    c.loop-v.p c.loop-v.invariant c.probes_on.result c.probes_on.ensures c.loop-v-test.true c.load-v.result c.load-v.ensures
+    c.probed-x.result c.probed-x.ensures).0
 
 pub returns : goal.returns
 returns c =
     probes-end c.args.positions.now c.args.n c.args.used c.args.j c.args.c c.args.cells.now c.requires.2 c.requires.3 c.requires.5
-        c.loop-v.p c.loop-v.invariant c.probes_on.result c.probes_on.ensures c.loop-v-test.false
+    c.loop-v.p c.loop-v.invariant c.probes_on.result c.probes_on.ensures c.loop-v-test.false

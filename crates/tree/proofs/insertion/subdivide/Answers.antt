@@ -15,7 +15,7 @@ child_on-x-requires c =
 pub child_place-i-requires : goal.child_place-i-requires
 child_place-i-requires c =
     making-place c.args.s (nodes_of c.args.cells.now) c.loop-t.t c.loop-t.cells c.loop-t.invariant c.splits_on.result c.splits_on.ensures c.loop-t-test.true
-        (length c.args.cells.now) (omega arith) c.requires.2
+    (length c.args.cells.now) (omega arith) c.requires.2
 
 pub store-requires : goal.store-requires
 store-requires c =
