@@ -1,15 +1,14 @@
 -- The call: what the entry tests have shown of record and areas, and what its proof cites. Assumes nothing.
-use mathlib.Core.Path.{◌≡◌, refl, sym, ap, subst, ◌∙◌}
-use mathlib.Core.Logic.{⊎_elim}
+use mathlib.Core.Path.{◌≡◌, sym, ap, subst, ◌∙◌}
 use mathlib.Core.List.{List}
 use mathlib.Core.Bool.{Bool, true, false, cond, not, ◌&&◌, ◌||◌}
-use Prim.Native.Nat.{ℕ, zero, suc, ◌+◌, ◌-◌, ◌*◌, ◌<◌, ◌≤◌}
+use Prim.Native.Nat.{ℕ, zero, suc, ◌+◌, ◌*◌, ◌<◌, ◌≤◌}
 use native.Mathlib.Omega.{arith}
 use native.Mathlib.Decide.{dec_lt}
 use native.Mathlib.Nat.{mul-le-mul, le_refl}
 use lib.Dec.{eqb, leb}
 use lib.ListN.{length, take}
-use lib.Seq.{take-length, length-take-le}
+use lib.Seq.{length-take-le}
 use lib.Ieee.{Float}
 use borrow.Author.Tests.{eqb-true}
 use Rattle.laws.specs.Area.{num, bits}
@@ -23,11 +22,10 @@ use Rattle.tree_node.specs.declared.Node.{Node}
 use Rattle.tree_node.specs.Arena.{nodes_of}
 use Rattle.run_entry.specs.State.{State}
 use Rattle.run_entry.specs.declared.Fault.{Fault}
-use Rattle.run_entry.specs.Entry.{offset_fine, fault_at, fault_of, is_fine, Good, TreeAreas}
+use Rattle.run_entry.specs.Entry.{offset_fine, fault_at, fault_of, is_fine, Good}
 use Rattle.run_entry.proofs.Laws.{fault-fine, links-is}
 use Rattle.run_rooms.proofs.Lists.{offset-rises, index_below}
 use Rattle.take_lists.specs.Packed.{Listed}
-use Rattle.take_left.specs.Outlook.{OutlookRoom}
 use Rattle.take_out.specs.declared.Took.{Took}
 use Rattle.take_out.specs.TakeOut.{Holdings, holdings, state_held, lent_positions, take_fault, took_out, take_tested, take_out, TakeRoom}
 use Rattle.take_out.proofs.Rooms.{lent-no-table, lent-no-old, lent-all}
