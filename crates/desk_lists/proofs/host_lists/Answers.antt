@@ -11,10 +11,12 @@ returns-then-mute c =
 
 pub put_listing-k-requires : goal.put_listing-k-requires
 put_listing-k-requires c =
-    listing-room (stored_of c.args.words.now c.args.positions.now c.args.increments.now c.args.gains.now c.args.affinities.now c.args.indices.now c.args.offsets.now) (length c.args.forces.now) (nodes_of c.args.cells.now)
+    listing-room (stored_of c.args.words.now c.args.positions.now c.args.increments.now c.args.gains.now c.args.affinities.now c.args.indices.now
+    c.args.offsets.now) (length c.args.forces.now) (nodes_of c.args.cells.now)
     c.args.target.now c.args.answer.now _ c.is_mute-mute.ensures c.if-mute.false
 
 pub returns : goal.returns
 returns c =
-    listing-said (stored_of c.args.words.now c.args.positions.now c.args.increments.now c.args.gains.now c.args.affinities.now c.args.indices.now c.args.offsets.now) (length c.args.forces.now) (nodes_of c.args.cells.now)
+    listing-said (stored_of c.args.words.now c.args.positions.now c.args.increments.now c.args.gains.now c.args.affinities.now c.args.indices.now
+    c.args.offsets.now) (length c.args.forces.now) (nodes_of c.args.cells.now)
     c.args.target.now c.args.answer.now _ c.is_mute-mute.ensures c.if-mute.false _ _ c.write_lists-p.ensures _ _ c.put_listing-k.ensures

@@ -11,10 +11,12 @@ returns-then-mute c =
 
 pub put_parked-k-requires : goal.put_parked-k-requires
 put_parked-k-requires c =
-    parked-room (stored_of c.args.words.now c.args.positions.now c.args.increments.now c.args.gains.now c.args.affinities.now c.args.indices.now c.args.offsets.now) (length c.args.forces.now) (nodes_of c.args.cells.now)
+    parked-room (stored_of c.args.words.now c.args.positions.now c.args.increments.now c.args.gains.now c.args.affinities.now c.args.indices.now
+    c.args.offsets.now) (length c.args.forces.now) (nodes_of c.args.cells.now)
     c.args.target.now c.args.answer.now _ c.is_mute-mute.ensures c.if-mute.false
 
 pub returns : goal.returns
 returns c =
-    parked-said (stored_of c.args.words.now c.args.positions.now c.args.increments.now c.args.gains.now c.args.affinities.now c.args.indices.now c.args.offsets.now) (length c.args.forces.now) (nodes_of c.args.cells.now)
+    parked-said (stored_of c.args.words.now c.args.positions.now c.args.increments.now c.args.gains.now c.args.affinities.now c.args.indices.now
+    c.args.offsets.now) (length c.args.forces.now) (nodes_of c.args.cells.now)
     c.args.target.now c.args.answer.now _ c.is_mute-mute.ensures c.if-mute.false _ _ c.park-p.ensures _ _ c.put_parked-k.ensures
