@@ -27,7 +27,12 @@ fn cases(list: &[u8]) -> replay::Tally {
 }
 
 // One list, with a line for it. One that takes up all the room may go on: it is wrong and not run.
-fn replay_list(rt: &(impl Files + Print), path: &str, name: &[u8], list: &mut [u8]) -> io::Result<()> {
+fn replay_list(
+    rt: &(impl Files + Print),
+    path: &str,
+    name: &[u8],
+    list: &mut [u8],
+) -> io::Result<()> {
     let n = replay::load(rt, path, list);
     if n == list.len() {
         let t = replay::Tally::new();

@@ -9,4 +9,4 @@ insert-a-requires c = put-asks c.args.n c.args.used c.args.j c.args.c c.args.k c
 pub returns : goal.returns
 returns c =
     put-told c.args.n c.args.used c.args.j c.args.c c.args.k c.args.cells c.args.positions.now c.requires c.insert-a.result c.insert-a.new.cells c.insert-a.ensures
-        (omega (arith, length-take c.args.k c.args.cells)) c.put_of-p.result c.put_of-p.ensures
+    (omega (arith, length-take c.args.k c.args.cells)) c.put_of-p.result c.put_of-p.ensures

@@ -3,15 +3,14 @@ use native.Mathlib.Omega.{arith}
 use Rattle.replay_gradient.proofs.step_case.Goals as goal
 
 pub finish-answer-requires : goal.finish-answer-requires
-finish-answer-requires c =
-    (
-      c.requires.1,
-      c.requires.2,
-      omega (arith, c.requires.0),
-      omega (arith, c.times.ensures.0, c.if-times-gt210.false, c.ready-forces.type_inv.1.0.1),
-      omega
-          (arith, c.times-m.ensures.0, c.if-m-gt210.false, c.ready-positions.type_inv.1.0.1),
-      omega (arith, c.times-m.ensures.0, c.if-m-gt210.false, c.ready-increments.type_inv.1.0.1),
-      omega
-          (arith, c.times-m.ensures.0, c.if-m-gt210.false, c.ready-gains.type_inv.1.0.1),
-    )
+finish-answer-requires c = (
+  c.requires.1,
+  c.requires.2,
+  omega (arith, c.requires.0),
+  omega (arith, c.times.ensures.0, c.if-times-gt210.false, c.ready-forces.type_inv.1.0.1),
+  omega
+      (arith, c.times-m.ensures.0, c.if-m-gt210.false, c.ready-positions.type_inv.1.0.1),
+  omega (arith, c.times-m.ensures.0, c.if-m-gt210.false, c.ready-increments.type_inv.1.0.1),
+  omega
+      (arith, c.times-m.ensures.0, c.if-m-gt210.false, c.ready-gains.type_inv.1.0.1),
+)

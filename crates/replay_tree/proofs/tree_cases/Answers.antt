@@ -1,4 +1,4 @@
-use Rattle.std.proofs.Common.{◌-◌, arith}
+use Rattle.std.proofs.Common.{arith}
 use Rattle.replay_tree.proofs.tree_cases.Goals as goal
 
 pub overflow_cast-n : goal.overflow_cast-n

@@ -1,4 +1,3 @@
-use Rattle.std.proofs.Common.{◌-◌}
 use Rattle.replay_affinity.proofs.joins.cases.Goals as goal
 
 pub case_at-next-requires : goal.case_at-next-requires

@@ -23,11 +23,10 @@ same_offsets-requires c =
     (omega (arith, c.symmetrise.auto.offsets, c.requires.k_in_bounds.2), omega (arith, c.requires.a_bound.1), omega (arith, c.requires.a_bound.0))
 
 pub same_links-requires : goal.same_links-requires
-same_links-requires c =
-    (
-      omega (arith, c.requires.a_bound.0, c.requires.a_bound.1),
-      c.requires.a_bound.3,
-      omega (arith, c.symmetrise.auto.weights, c.requires.a_bound.4),
-      omega
-          (arith, c.symmetrise.auto.indices, c.requires.a_bound.5),
-    )
+same_links-requires c = (
+  omega (arith, c.requires.a_bound.0, c.requires.a_bound.1),
+  c.requires.a_bound.3,
+  omega (arith, c.symmetrise.auto.weights, c.requires.a_bound.4),
+  omega
+      (arith, c.symmetrise.auto.indices, c.requires.a_bound.5),
+)

@@ -1,4 +1,4 @@
-use Rattle.std.proofs.Common.{◌-◌, arith, rules}
+use Rattle.std.proofs.Common.{arith, rules}
 use Rattle.replay_affinity.proofs.joins.read_links.Goals as goal
 
 pub loop-p-preserved : goal.loop-p-preserved

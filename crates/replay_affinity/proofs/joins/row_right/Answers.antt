@@ -1,4 +1,4 @@
-use Rattle.std.proofs.Common.{ℕ, ◌+◌, ◌-◌, ◌*◌, sym, subst, true≢false, arith, rules}
+use Rattle.std.proofs.Common.{ℕ, ◌+◌, ◌*◌, sym, subst, true≢false, arith, rules}
 use Rattle.laws.specs.Area.{num}
 use Rattle.laws.proofs.Numbers.{row_in}
 use Rattle.replay_affinity.proofs.Rowing.{Risen, risen-none, risen-next, row-there, all_done}
@@ -37,13 +37,12 @@ returns-then-v-i c =
     λ e. absurd (true≢false (sym e))
 
 pub loop-t-preserved : goal.loop-t-preserved
-loop-t-preserved c =
-    (
-      omega arith,
-      rw c.wide-v.ensures
-          (risen-next (rw c.wide-v.ensures at c.if-v-low.false) (rw c.wide-v.ensures at c.if-v-n.false) (rw c.wide-v.ensures at c.if-v-i.false)
-          c.loop-t.invariant.1),
-    )
+loop-t-preserved c = (
+  omega arith,
+  rw c.wide-v.ensures
+      (risen-next (rw c.wide-v.ensures at c.if-v-low.false) (rw c.wide-v.ensures at c.if-v-n.false) (rw c.wide-v.ensures at c.if-v-i.false)
+      c.loop-t.invariant.1),
+)
 
 pub returns : goal.returns
 returns c =

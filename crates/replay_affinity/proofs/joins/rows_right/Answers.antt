@@ -1,4 +1,4 @@
-use Rattle.std.proofs.Common.{ℕ, ◌-◌, sym, subst, true≢false, arith, rules}
+use Rattle.std.proofs.Common.{ℕ, sym, subst, true≢false, arith, rules}
 use Rattle.affinity_lists.specs.Lists.{Rowed}
 use Rattle.affinity_lists.proofs.Made.{rows_none}
 use Rattle.replay_affinity.proofs.Rowing.{all_done}

@@ -1,4 +1,4 @@
-use Rattle.std.proofs.Common.{◌-◌, refl, arith}
+use Rattle.std.proofs.Common.{refl, arith}
 use Rattle.replay_areas.proofs.Whole.{fetches-whole}
 use Rattle.areas.proofs.Fetched.{fetches-start, fetches-next}
 use Rattle.replay_areas.proofs.bytes.bytes_at.Goals as goal

@@ -1,4 +1,4 @@
-use Rattle.std.proofs.Common.{◌-◌, true, sym, ◌∙◌, arith, eq-eqb, ne_eqb}
+use Rattle.std.proofs.Common.{sym, ◌∙◌, arith, eq-eqb, ne_eqb}
 use Rattle.laws.proofs.Every.{every-none, every-next, every-no, every-done}
 use Rattle.replay_areas.proofs.bytes.same_file.Goals as goal
 

@@ -1,4 +1,4 @@
-use Rattle.std.proofs.Common.{◌-◌, true, sym, ◌∙◌, arith, eq-eqb, ne_eqb}
+use Rattle.std.proofs.Common.{sym, ◌∙◌, arith, eq-eqb, ne_eqb}
 use Rattle.laws.proofs.Every.{every-none, every-next, every-no, every-done}
 use Rattle.replay_areas.proofs.bytes.same_target.Goals as goal
 
@@ -11,12 +11,11 @@ returns-then-listed-byte_at c =
     sym (every-no _ _ c.loop-i.i c.loop-i-test.true (ne_eqb _ _ (λ q. c.if-listed-byte_at.true (c.listed.ensures ∙ q ∙ sym c.byte_at.ensures))))
 
 pub loop-i-preserved : goal.loop-i-preserved
-loop-i-preserved c =
-    (
-      every-next _ _ c.loop-i.invariant.0 (eq-eqb _ _ (sym c.listed.ensures ∙ c.if-listed-byte_at.false ∙ c.byte_at.ensures)),
-      omega
-          (arith, c.loop-i-test.true),
-    )
+loop-i-preserved c = (
+  every-next _ _ c.loop-i.invariant.0 (eq-eqb _ _ (sym c.listed.ensures ∙ c.if-listed-byte_at.false ∙ c.byte_at.ensures)),
+  omega
+      (arith, c.loop-i-test.true),
+)
 
 pub returns : goal.returns
 returns c =

@@ -1,4 +1,4 @@
-use Rattle.std.proofs.Common.{◌-◌, true, sym, ◌∙◌, arith}
+use Rattle.std.proofs.Common.{sym, ◌∙◌, arith}
 use Rattle.laws.proofs.Every.{every-none, every-next, every-no, every-done}
 use Rattle.replay_areas.proofs.bytes.still_marked.Goals as goal
 

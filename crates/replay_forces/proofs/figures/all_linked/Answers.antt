@@ -19,13 +19,12 @@ returns-then-not-linked c =
     λ e. absurd (true≢false (sym e))
 
 pub loop-i-preserved : goal.loop-i-preserved
-loop-i-preserved c =
-    (
-      omega (arith, c.loop-i-test.true),
-      each_next
-          (λ (j : ℕ). Linked c.args.n c.args.weights.now c.args.indices.now c.args.offsets.now j) c.loop-i.i
-          c.loop-i.invariant.1 (c.linked.ensures c.if-not-linked.false),
-    )
+loop-i-preserved c = (
+  omega (arith, c.loop-i-test.true),
+  each_next
+      (λ (j : ℕ). Linked c.args.n c.args.weights.now c.args.indices.now c.args.offsets.now j) c.loop-i.i
+      c.loop-i.invariant.1 (c.linked.ensures c.if-not-linked.false),
+)
 
 pub returns : goal.returns
 returns c =

@@ -1,4 +1,4 @@
-use Rattle.std.proofs.Common.{ℕ, ◌-◌, ◌≤◌, sym, ◌∙◌, subst, arith, rules}
+use Rattle.std.proofs.Common.{ℕ, ◌≤◌, sym, ◌∙◌, subst, arith, rules}
 use Rattle.tree_node.specs.Node.{Axes}
 use Rattle.replay_arena.specs.Fronts.{Walkable}
 use Rattle.replay_arena.proofs.Told.{fine-walks}
