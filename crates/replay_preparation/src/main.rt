@@ -228,7 +228,12 @@ fn preparation_cases(list: &[u8]) -> replay::Tally {
 }
 
 // One list, with a line for it.
-fn replay_list(rt: &(impl Files + Print), path: &str, name: &[u8], list: &mut [u8]) -> io::Result<()> {
+fn replay_list(
+    rt: &(impl Files + Print),
+    path: &str,
+    name: &[u8],
+    list: &mut [u8],
+) -> io::Result<()> {
     let n = replay::load(rt, path, list);
     replay::print(rt, name, preparation_cases(&list[..n]))?;
     Ok(())
