@@ -7,16 +7,16 @@ pub neighbor_probabilities-requires : goal.neighbor_probabilities-requires
 neighbor_probabilities-requires c =
     record {
       le_n = (
-        (c.fits2.ensures c.if-not-fits.false).0,
+        (c.fits.ensures c.if-not-fits.false).0,
         search rules,
-        (c.fits2.ensures c.if-not-fits.false).1,
-        (c.fits2.ensures
+        (c.fits.ensures c.if-not-fits.false).1,
+        (c.fits.ensures
             c.if-not-fits.false).2,
       );
       f_in_bounds = (
         search rules,
-        omega (arith, (c.fits2.ensures c.if-not-fits.false).3),
-        omega (arith, (c.fits2.ensures c.if-not-fits.false).3),
+        omega (arith, (c.fits.ensures c.if-not-fits.false).3),
+        omega (arith, (c.fits.ensures c.if-not-fits.false).3),
         search rules,
         search rules,
         search rules,
