@@ -38,7 +38,13 @@ fn cases(list: &[u8], loads: bool) -> replay::Tally {
 }
 
 // One list, with a line for it.
-fn replay_list(rt: &(impl Files + Print), path: &str, name: &[u8], loads: bool, list: &mut [u8]) -> io::Result<()> {
+fn replay_list(
+    rt: &(impl Files + Print),
+    path: &str,
+    name: &[u8],
+    loads: bool,
+    list: &mut [u8],
+) -> io::Result<()> {
     let n = replay::load(rt, path, list);
     replay::print(rt, name, cases(&list[..n], loads))?;
     Ok(())

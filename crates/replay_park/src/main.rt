@@ -39,7 +39,13 @@ fn cases(list: &[u8], writes: bool) -> replay::Tally {
 }
 
 // One list, with a line for it.
-fn replay_list(rt: &(impl Files + Print), path: &str, name: &[u8], writes: bool, list: &mut [u8]) -> io::Result<()> {
+fn replay_list(
+    rt: &(impl Files + Print),
+    path: &str,
+    name: &[u8],
+    writes: bool,
+    list: &mut [u8],
+) -> io::Result<()> {
     let n = replay::load(rt, path, list);
     replay::print(rt, name, cases(&list[..n], writes))?;
     Ok(())

@@ -1,6 +1,6 @@
 use mathlib.Core.Bool.{true≢false}
 use mathlib.Core.Path.{sym}
-use Prim.Native.Nat.{ℕ, ◌-◌}
+use Prim.Native.Nat.{ℕ}
 use Rattle.gradient.specs.Forces.{Linked}
 use Rattle.replay_forces.proofs.Below.{each_next}
 use native.Mathlib.Omega.{arith}
@@ -19,13 +19,12 @@ returns-then-not-linked c =
     λ e. absurd (true≢false (sym e))
 
 pub loop-i-preserved : goal.loop-i-preserved
-loop-i-preserved c =
-    (
-      omega (arith, c.loop-i-test.true),
-      each_next
-          (λ (j : ℕ). Linked c.args.n c.args.weights.now c.args.indices.now c.args.offsets.now j) c.loop-i.i
-          c.loop-i.invariant.1 (c.linked.ensures c.if-not-linked.false),
-    )
+loop-i-preserved c = (
+  omega (arith, c.loop-i-test.true),
+  each_next
+      (λ (j : ℕ). Linked c.args.n c.args.weights.now c.args.indices.now c.args.offsets.now j) c.loop-i.i
+      c.loop-i.invariant.1 (c.linked.ensures c.if-not-linked.false),
+)
 
 pub returns : goal.returns
 returns c =

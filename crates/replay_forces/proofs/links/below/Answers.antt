@@ -1,4 +1,3 @@
-use Prim.Native.Nat.{◌-◌}
 use Rattle.replay_forces.proofs.Below.{below_next}
 use mathlib.Core.Bool.{true≢false}
 use mathlib.Core.Path.{sym}
@@ -11,12 +10,11 @@ returns-then-wide-n c =
     λ e. absurd (true≢false (sym e))
 
 pub loop-k-preserved : goal.loop-k-preserved
-loop-k-preserved c =
-    (
-      search rules,
-      below_next c.args.n c.loop-k.k c.args.indices.now c.loop-k.invariant.1
-          (rw c.wide.ensures at c.if-wide-n.false),
-    )
+loop-k-preserved c = (
+  search rules,
+  below_next c.args.n c.loop-k.k c.args.indices.now c.loop-k.invariant.1
+      (rw c.wide.ensures at c.if-wide-n.false),
+)
 
 pub returns : goal.returns
 returns c =
