@@ -11,12 +11,11 @@ use Rattle.run_record.specs.declared.Settings.{Settings}
 use Rattle.tree_node.specs.declared.Cell.{Cell}
 use Rattle.tree_node.specs.Arena.{void}
 use Rattle.run_entry.specs.State.{state}
-use Rattle.run_budget.specs.declared.Answer.{Answer}
 use Rattle.run_budget.specs.Budget.{Worked}
 use Rattle.descent.specs.Descent.{work, work_number}
 use Rattle.prepare.specs.declared.Prepared.{Prepared}
 use Rattle.prepare.specs.declared.Prepared.TheVariants.{Refused as Turned, Ready}
-use Rattle.prepare.specs.Prepare.{Lent, lent, PrepareOutcome, prepared, memory_of}
+use Rattle.prepare.specs.Prepare.{Lent, lent, prepared, memory_of}
 use Rattle.bench_mapping.specs.declared.Told.{Told}
 use Rattle.bench_mapping.specs.declared.Told.TheVariants.{Long, Record, Refused, Worked as Answered}
 use Rattle.bench_mapping.specs.declared.Mapped.{Mapped}

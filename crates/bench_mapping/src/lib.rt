@@ -107,7 +107,7 @@ fn zero_cells() -> [Cell; 256]
     [v; 256]
 }
 
-// The work call, with the record and the arena by value; neither is looked at afterwards. Proved by a walk, since it lends both.
+// The work call, with the record and the arena by value; neither is looked at afterwards.
 fn work_on(
     r: Run,
     positions: &mut [f64],

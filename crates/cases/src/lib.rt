@@ -1,4 +1,3 @@
 // No code: the scope paper's table of cases a) to k), proved together (specs/).
 
 #![tactic(auto)]
-

@@ -10,9 +10,8 @@ use borrow.Author.Tests.{lt-ltb}
 use lib.ListN.{length}
 use Rattle.laws.specs.Domain.{most_word}
 use Rattle.laws.proofs.Bools.{by_bool}
-use Rattle.run_calls.specs.Machine.{Kind, faulty, over, refused, running, times, stops, after, units_done, kind_at, go, call, left_by, told-by, together, capped}
+use Rattle.run_calls.specs.Machine.{Kind, faulty, over, refused, running, times, after, units_done, kind_at, go, call, left_by, told-by, together, capped}
 use Rattle.run_calls.proofs.Demand.{calls-so-many, calls_count, not-ok-of, calls-follow, demand-3, good-after, call-goes, call-state, call-units, ends-within, done-rest, refusal-leaves}
-use Rattle.run_record.specs.declared.Settings.{Settings}
 use Rattle.run_record.specs.declared.Standing.{Standing}
 use Rattle.run_record.specs.declared.Standing.TheVariants.{Running as Runs, Stopped as Stops, Finished as Ends}
 use Rattle.run_record.specs.Record.{is_ended}

@@ -50,7 +50,15 @@ pub extern "C" fn brothanchor_blind(
         (sight_rows squares.old row_values.old row_shares.old row_indices.old)
         answer.old }
 {
-    desk::brothanchor_blind(settings, table, squares, row_values, row_shares, row_indices, answer)
+    desk::brothanchor_blind(
+        settings,
+        table,
+        squares,
+        row_values,
+        row_shares,
+        row_indices,
+        answer,
+    )
 }
 
 // Prepares a run. Answers 0, or the number of the refusal; then nothing is changed.
@@ -101,8 +109,20 @@ pub extern "C" fn brothanchor_prepare(
         «record».old }
 {
     desk::brothanchor_prepare(
-        settings, table, start, positions, increments, gains, affinities, indices, offsets, forces,
-        row_values, row_indices, nodes, record,
+        settings,
+        table,
+        start,
+        positions,
+        increments,
+        gains,
+        affinities,
+        indices,
+        offsets,
+        forces,
+        row_values,
+        row_indices,
+        nodes,
+        record,
     )
 }
 
@@ -154,8 +174,20 @@ pub extern "C" fn brothanchor_prepare_strip(
         «record».old }
 {
     desk::brothanchor_prepare_strip(
-        settings, table, start, positions, increments, gains, affinities, indices, offsets, forces,
-        row_values, row_indices, nodes, record,
+        settings,
+        table,
+        start,
+        positions,
+        increments,
+        gains,
+        affinities,
+        indices,
+        offsets,
+        forces,
+        row_values,
+        row_indices,
+        nodes,
+        record,
     )
 }
 

@@ -1,12 +1,9 @@
--- What the walk of the call cites: what its test has shown, and what it tells in each case. Assumes nothing.
+-- What the call cites: what its test has shown, and what it tells in each case. Assumes nothing.
 use mathlib.Core.Path.{◌≡◌, sym, ap, ◌∙◌}
 use mathlib.Core.List.{List}
-use mathlib.Core.Bool.{Bool, true, false, not}
+use mathlib.Core.Bool.{Bool, true, false}
 use Prim.Native.Nat.{ℕ, ◌≤◌}
-use native.Mathlib.Omega.{arith}
-use lib.Dec.{T}
 use lib.ListN.{length, set}
-use Rattle.lent.proofs.Holds.{holds_as, fails-as}
 use Rattle.run_record.specs.declared.Run.{Run}
 use Rattle.tree_node.specs.declared.Node.{Node}
 use Rattle.record_words.specs.RecordWords.{run_of, Worded, worded}
@@ -16,23 +13,21 @@ use Rattle.take_out.specs.declared.Taken.{Taken}
 use Rattle.take_out.specs.TakeOut.{Holdings, TookOut, took_out, take_out, take_number}
 use Rattle.desk_take.specs.HostTake.{taken_told, size_put, HostTook, host_took, taken_in, unfit_in, host_take}
 
-module _ (g w : List ℕ) (h : Holdings) (ns : List Node) (a : List ℕ) (n : ℕ) (ln : length a ≡ n) (x1 : Bool) (e1 : x1 ≡ unfit w n) where
-  pub unfit-told : T x1 → (k : ℕ) (a' : List ℕ) → worded k a' ≡ unfit_told w a → host_took k a' w h ≡ host_take g w h ns a
+module _ (g w : List ℕ) (h : Holdings) (ns : List Node) (a : List ℕ) (b : Bool) (q : b ≡ unfit w (length a)) where
+  pub unfit-told : b ≡ true → (k : ℕ) (a' : List ℕ) → worded k a' ≡ unfit_told w a → host_took k a' w h ≡ host_take g w h ns a
   unfolding host_take
-  unfit-told y k a' e =
-      let u : unfit w (length a) ≡ true = ap (unfit w) ln ∙ holds_as x1 (unfit w n) e1 y in
-      rw u (ap (λ (x : Worded). unfit_in x w h) e)
+  unfit-told y k a' e = rw (sym q ∙ y) (ap (λ (x : Worded). unfit_in x w h) e)
 
-  pub told-room : T (not x1) → 1 ≤ length a
-  told-room y = omega (arith, ln, fit-room w n (fails-as x1 (unfit w n) e1 y))
+  pub told-room : b ≡ false → 1 ≤ length a
+  told-room y = fit-room w (length a) (sym q ∙ y)
 
-  pub record-long : T (not x1) → 14 ≤ length w
-  record-long y = fit-long w n (fails-as x1 (unfit w n) e1 y)
+  pub record-long : b ≡ false → 14 ≤ length w
+  record-long y = fit-long w (length a) (sym q ∙ y)
 
-  pub taken-said : T (not x1) → (r : Run) → r ≡ run_of w → (o : Taken) (r' : Run) (h' : Holdings) → took_out o r' h' ≡ take_out g r h ns
+  pub taken-said : b ≡ false → (r : Run) → r ≡ run_of w → (o : Taken) (r' : Run) (h' : Holdings) → took_out o r' h' ≡ take_out g r h ns
       → (w' : List ℕ) → w' ≡ size_put r' w → (k : ℕ) (a' : List ℕ) → worded k a' ≡ worded (take_number o) (set a 0 (taken_told o)) → host_took k a' w' h' ≡ host_take g w h ns a
   unfolding host_take
   taken-said y r er o r' h' eo w' ew k a' e =
-      let u : unfit w (length a) ≡ false = ap (unfit w) ln ∙ fails-as x1 (unfit w n) e1 y in
       let o' : took_out o r' h' ≡ take_out g (run_of w) h ns = eo ∙ ap (λ (x : Run). take_out g x h ns) er in
-      rw u (ap (λ (x : Worded). host_took x.number x.words w' h') e ∙ ap (λ (x : List ℕ). host_took (take_number o) (set a 0 (taken_told o)) x h') ew ∙ ap (λ (x : TookOut). taken_in x a w) o')
+      rw (sym q ∙ y)
+      (ap (λ (x : Worded). host_took x.number x.words w' h') e ∙ ap (λ (x : List ℕ). host_took (take_number o) (set a 0 (taken_told o)) x h') ew ∙ ap (λ (x : TookOut). taken_in x a w) o')

@@ -1,12 +1,12 @@
 -- What the entry tests show of a state that is asked for its figure, and what the exaggeration of a finished iteration was. Assumes nothing.
 use mathlib.Core.List.{List}
-use mathlib.Core.Path.{◌≡◌, sym, ap, subst, ◌∙◌}
-use mathlib.Core.Bool.{true, false}
+use mathlib.Core.Path.{◌≡◌, ap, subst, ◌∙◌}
+use mathlib.Core.Bool.{true}
 use mathlib.Core.Logic.{◌⊎◌, inl, inr}
-use Prim.Native.Nat.{ℕ, ◌+◌, ◌*◌, ◌<◌, ◌≤◌, min}
+use Prim.Native.Nat.{ℕ, ◌+◌, ◌<◌, ◌≤◌, min}
 use native.Mathlib.Omega.{arith}
 use native.Mathlib.Nat.{le_trans}
-use lib.Dec.{ltb, leb}
+use lib.Dec.{ltb}
 use lib.ListN.{length}
 use lib.Ieee.{Float}
 use borrow.Author.Tests.{ltb-true, ltb-false, le-leb, lt-leb}
@@ -35,7 +35,7 @@ exaggeration-kept r norm =
     (λ t. rw (t, le-leb (d + 1) early_iterations (omega (arith, ltb-true d early_iterations t))))
     (λ t. rw (t, lt-leb (d + 1) early_iterations (omega (arith, ltb-false d early_iterations t))))
 
--- ---- the areas, with the machine's counts of them
+-- ---- the areas, by their lengths
 
 module _ (r : Run) (y v g P : List Float) (xs off : List ℕ) (F : List Float) (cs : List Cell) (z : List Float) where
   -- a state whose positions are no longer than the copy, and that passes the tests, has room for the figure
@@ -49,23 +49,22 @@ module _ (r : Run) (y v g P : List Float) (xs off : List ℕ) (F : List Float) (
         lists-within = λ t i b. linked-at r xs off (nodes_of cs) (h.contents t) P (h.areas.tree-long t) i b;
       }
 
-  module _ (a b c d e k : ℕ) (la : length y ≡ a) (lb : length v ≡ b) (lc : length g ≡ c) (ld : length P ≡ d) (le : length F ≡ e) (lk : length z ≡ k)
-      (q : ℕ) (eq : q ≡ min a k) (f : Fault) (ef : f ≡ fault_at r q b c d e xs off (nodes_of cs)) where
+  module _ (q : ℕ) (eq : q ≡ min (length y) (length z)) (f : Fault) (ef : f ≡ fault_at r q (length v) (length g) (length P) (length F) xs off (nodes_of cs)) where
     -- the fault of a state whose positions have the tested length
     fault-as : (p : List Float) → length p ≡ q → f ≡ fault_of (state r (memory p v g P xs off F cs))
     unfolding fault_of
-    fault-as p lp = ef ∙ rw (lb, lc, ld, le, lp)
+    fault-as p lp = ef ∙ rw lp
 
     by_order : (length z ≤ length y) ⊎ (length y < length z) → is_fine f ≡ true → FigureRoom r P xs off F z
-    by_order (inl l) t = room_of z (omega arith) (subst (λ (x : Fault). is_fine x ≡ true) (fault-as z (omega (arith, eq, la, lk, l))) t)
-    by_order (inr l) t = room_of y (omega arith) (subst (λ (x : Fault). is_fine x ≡ true) (fault-as y (omega (arith, eq, la, lk, l))) t)
+    by_order (inl l) t = room_of z (omega arith) (subst (λ (x : Fault). is_fine x ≡ true) (fault-as z (omega (arith, eq, l))) t)
+    by_order (inr l) t = room_of y (omega arith) (subst (λ (x : Fault). is_fine x ≡ true) (fault-as y (omega (arith, eq, l))) t)
 
     pub divergence-asks : is_fine f ≡ true → FigureRoom r P xs off F z
     divergence-asks t = by_order (order (length y) (length z)) t
 
     fault-is : f ≡ divergence_fault r (memory y v g P xs off F cs) z
     unfolding divergence_fault
-    fault-is = ef ∙ rw (la, lb, lc, ld, le, lk, eq)
+    fault-is = ef ∙ rw eq
 
     pub divergence-told : (t : Diverged) → t ≡ after_tests f r P xs off F z → t ≡ divergence_of r (memory y v g P xs off F cs) z
     unfolding divergence_of

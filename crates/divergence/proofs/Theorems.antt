@@ -1,6 +1,6 @@
 -- What holds of every record and every memory that is asked for its figure. Assumes nothing.
 use mathlib.Core.List.{List}
-use mathlib.Core.Path.{◌≡◌, refl, sym, ◌∙◌}
+use mathlib.Core.Path.{◌≡◌, refl, sym}
 use mathlib.Core.Bool.{Bool, true, false, not, ◌&&◌, ◌||◌, true≢false}
 use Prim.Native.Nat.{ℕ, ◌+◌, ◌*◌, ◌<◌, ◌≤◌, min}
 use native.Mathlib.Omega.{arith}
@@ -15,7 +15,6 @@ use Rattle.laws.proofs.Numbers.{row_in}
 use Rattle.gradient.specs.Forces.{place_of}
 use Rattle.gradient.specs.Element.{share_step, share_sum_of}
 use Rattle.tree_node.specs.declared.Cell.{Cell}
-use Rattle.tree_node.specs.Arena.{nodes_of}
 use Rattle.run_record.specs.declared.Run.{Run}
 use Rattle.run_record.specs.declared.Standing.{Standing}
 use Rattle.run_record.specs.declared.Standing.TheVariants.{Running, Stopped, Finished}
@@ -24,7 +23,6 @@ use Rattle.run_entry.specs.State.{Memory, memory}
 use Rattle.run_entry.specs.declared.Fault.TheVariants.{Areas}
 use Rattle.run_entry.specs.Entry.{is_fine, record_fault, areas_fit, fault_at, GoodCounters}
 use Rattle.run_rooms.proofs.Places.{cells-forces}
-use Rattle.divergence.specs.declared.Diverged.{Diverged}
 use Rattle.divergence.specs.declared.Diverged.TheVariants.{Early, Bad}
 use Rattle.divergence.specs.Divergence.{total_of, is_zero, just_ended, too_early, divergence_fault, after_tests, divergence_of}
 use Rattle.divergence.proofs.Laws.{divergence-asks}
@@ -98,5 +96,5 @@ pub zero-forces : (r : Run) (y v g P : List Float) (xs off : List ℕ) (F : List
 unfolding divergence_of after_tests divergence_fault
 zero-forces r y v g P xs off F cs z e h =
     let f = divergence_fault r (memory y v g P xs off F cs) z in
-    let room = divergence-asks r y v g P xs off F cs z (length y) (length v) (length g) (length P) (length F) (length z) refl refl refl refl refl refl (min (length y) (length z)) refl f refl e in
+    let room = divergence-asks r y v g P xs off F cs z (min (length y) (length z)) refl f refl e in
     rw (e, early-zero r F room.total-room.settings-good.n-some h)

@@ -1,4 +1,4 @@
-// Worked examples: functions that lend a local array of structs, or a local struct of their own, to a callee. Their proofs are walks; no other crate uses them.
+// Worked examples: functions that lend a local array of structs, or a local struct of their own, to a callee. The borrow checker follows them; no other crate uses them.
 // The arena's two functions are called with what is lent, and `put_from` with slices of numbers beside it.
 
 #![tactic(auto)]

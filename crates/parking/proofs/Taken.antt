@@ -74,7 +74,7 @@ module _ (g : ℕ → ℕ) (A : FileFine g) where
   y = lying-by g
 
   abbrev pub record-one : FirstIn (g 0) (g 1) (g 2) (g 3)
-  record-one = first-told (g 0) (g 1) (g 2) (g 3) A.first_Fine
+  record-one = first-told (g 0) (g 1) (g 2) (g 3) A.first-fine
 
   abbrev pub record-two : SecondIn (g 0) (g 1) (g 4) (g 5) (g 6) (g 7)
   record-two = second-told (g 0) (g 1) (g 4) (g 5) (g 6) (g 7) A.second-fine

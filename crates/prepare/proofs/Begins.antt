@@ -25,7 +25,6 @@ use Rattle.affinity.specs.Neighbours.{rows_of, neighbours_listed}
 use Rattle.affinity.proofs.Kept.{weights-kept, indices-kept}
 use Rattle.affinity.proofs.Listed.{not-all-neighbours}
 use Rattle.affinity.proofs.Named.{rows_named}
-use Rattle.run_calls.specs.Machine.{together}
 use Rattle.tree_node.specs.declared.Cell.{Cell}
 use Rattle.tree_node.specs.Arena.{nodes_of}
 use Rattle.tree_node.proofs.Told.{nodes-length}

@@ -9,7 +9,6 @@ use Rattle.affinity_lists.specs.Lists.{Areas, areas}
 use Rattle.affinity.specs.Exact.{exact_of}
 use Rattle.affinity.specs.Neighbours.{neighbours_listed}
 use Rattle.run_record.specs.declared.Settings.{Settings}
-use Rattle.run_record.specs.declared.Run.{Run}
 use Rattle.run_record.specs.Record.{is_tree, early_fault, late_fault, fresh_run}
 use Rattle.tree_node.specs.declared.Cell.{Cell}
 use Rattle.run_entry.specs.State.{Memory, memory}

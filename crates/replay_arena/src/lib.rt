@@ -1,5 +1,5 @@
 // An arena by value, for the programs that replay lists: 512 cells, of which the first k are lent to a function of the tree.
-// A function that lends is proved by a walk; one that calls it passes the arena by value, and the borrow checker covers it.
+// A function that lends takes the arena by value too, so that its callers lend nothing.
 
 #![tactic(auto)]
 

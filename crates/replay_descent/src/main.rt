@@ -56,7 +56,12 @@ fn cases(list: &[u8]) -> replay::Tally {
 }
 
 // One list, with a line for it.
-fn replay_list(rt: &(impl Files + Print), path: &str, name: &[u8], list: &mut [u8]) -> io::Result<()> {
+fn replay_list(
+    rt: &(impl Files + Print),
+    path: &str,
+    name: &[u8],
+    list: &mut [u8],
+) -> io::Result<()> {
     let n = replay::load(rt, path, list);
     replay::print(rt, name, cases(&list[..n]))?;
     Ok(())

@@ -147,7 +147,7 @@ module _ (d : Stored) (F : List Float) (ns : List Node) (t : List ℕ) (k : ℕ)
   W = (parks-writes d F ns t k N.written).0
 
   all_read : morning d F ns t k e F' ns' ≡ unparking (Read k) (stored_again d e) (filled zero64 (sizes_of (settings_of d.run)).forces F')
-  all_read = reading-what-was-written d (length F) ns t k N.in_words_lem N.written e F' (length ns') N.words_long N.areas-long
+  all_read = reading-what-was-written d (length F) ns t k N.in_words N.written e F' (length ns') N.words_long N.areas-long
 
   -- What is read is the run that was parked, as `ReadBack` says it.
   pub read_back : ReadBack (state_in d F ns) (morning_state d F ns t k e F' ns')

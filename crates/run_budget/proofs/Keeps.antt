@@ -8,7 +8,7 @@ use native.Mathlib.Nat.{le_refl, not-suc-le-zero}
 use lib.ListN.{length, set, length-set}
 use lib.Ieee.{Float}
 use borrow.Author.Tests.{le-leb}
-use Rattle.laws.specs.Loops.{loop, every}
+use Rattle.laws.specs.Loops.{every}
 use Rattle.laws.proofs.Bools.{by_bool}
 use Rattle.run_record.specs.declared.Run.{Run}
 use Rattle.run_record.specs.Record.{is_tree, is_ended, per_of, advanced_of, closed_of}

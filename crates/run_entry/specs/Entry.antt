@@ -1,5 +1,5 @@
 -- The entry tests of a work call: the record, the areas, the contents; and a state in good order. Definitions only.
-use Rattle.std.specs.Prelude.{List, ◌≡◌, Bool, true, false, cond, not, ◌&&◌, ℕ, ◌+◌, ◌-◌, ◌*◌, ◌<◌, ◌≤◌, eqb, ltb, leb, length, Float}
+use Rattle.std.specs.Prelude.{List, ◌≡◌, Bool, true, false, cond, not, ◌&&◌, ℕ, ◌+◌, ◌-◌, ◌*◌, ◌<◌, ◌≤◌, eqb, ltb, leb, length}
 use Rattle.laws.specs.Loops.{first}
 use Rattle.laws.specs.Area.{num}
 use Rattle.run_record.specs.declared.Settings.{Settings}

@@ -1,5 +1,5 @@
 -- The finish of an iteration: Z, gradient, step and stop test. Definitions only.
-use Rattle.std.specs.Prelude.{List, Bool, cond, not, ℕ, ◌*◌, Float}
+use Rattle.std.specs.Prelude.{List, Bool, not, ◌*◌, Float}
 use Rattle.run_record.specs.declared.Run.{Run}
 use Rattle.run_record.specs.Record.{is_tree, closed_of}
 use Rattle.run_plan.specs.Plan.{momentum_of}

@@ -1,4 +1,3 @@
 // No code: what the entry tests have shown of lists and forces, as the functions that read them ask it (proofs/).
 
 #![tactic(auto)]
-

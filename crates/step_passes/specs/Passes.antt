@@ -1,9 +1,9 @@
 -- The areas before a step, each element's new values, and the three passes over them. Definitions only.
-use Rattle.std.specs.Prelude.{List, [], ◌∷◌, Bool, ◌&&◌, ℕ, ◌*◌, ◌%◌, pos, set, Float}
+use Rattle.std.specs.Prelude.{List, Bool, ◌&&◌, ℕ, ◌*◌, ◌%◌, pos, set, Float}
 use Rattle.std.specs.Float.{binary64}
 use Rattle.std.specs.Float.Ieee.{of_int, add, sub, div}
 use Rattle.laws.specs.Loops.{loop, every}
-use Rattle.laws.specs.Area.{at, zero64, zeros8}
+use Rattle.laws.specs.Area.{at, zeros8}
 use Rattle.elementary.specs.Limits.{calm}
 use Rattle.gradient.specs.Element.{gradient_of}
 use Rattle.step_gains.specs.declared.Element.{Element}

@@ -1,15 +1,14 @@
--- The call: what the entry tests have shown of record and areas, and what its walk cites. Assumes nothing.
-use mathlib.Core.Path.{◌≡◌, refl, sym, ap, subst, ◌∙◌}
-use mathlib.Core.Logic.{⊎_elim}
+-- The call: what the entry tests have shown of record and areas, and what its proof cites. Assumes nothing.
+use mathlib.Core.Path.{◌≡◌, sym, ap, subst, ◌∙◌}
 use mathlib.Core.List.{List}
 use mathlib.Core.Bool.{Bool, true, false, cond, not, ◌&&◌, ◌||◌}
-use Prim.Native.Nat.{ℕ, zero, suc, ◌+◌, ◌-◌, ◌*◌, ◌<◌, ◌≤◌}
+use Prim.Native.Nat.{ℕ, zero, suc, ◌+◌, ◌*◌, ◌<◌, ◌≤◌}
 use native.Mathlib.Omega.{arith}
 use native.Mathlib.Decide.{dec_lt}
 use native.Mathlib.Nat.{mul-le-mul, le_refl}
 use lib.Dec.{eqb, leb}
 use lib.ListN.{length, take}
-use lib.Seq.{take-length, length-take-le}
+use lib.Seq.{length-take-le}
 use lib.Ieee.{Float}
 use borrow.Author.Tests.{eqb-true}
 use Rattle.laws.specs.Area.{num, bits}
@@ -23,11 +22,10 @@ use Rattle.tree_node.specs.declared.Node.{Node}
 use Rattle.tree_node.specs.Arena.{nodes_of}
 use Rattle.run_entry.specs.State.{State}
 use Rattle.run_entry.specs.declared.Fault.{Fault}
-use Rattle.run_entry.specs.Entry.{offset_fine, fault_at, fault_of, is_fine, Good, TreeAreas}
+use Rattle.run_entry.specs.Entry.{offset_fine, fault_at, fault_of, is_fine, Good}
 use Rattle.run_entry.proofs.Laws.{fault-fine, links-is}
 use Rattle.run_rooms.proofs.Lists.{offset-rises, index_below}
 use Rattle.take_lists.specs.Packed.{Listed}
-use Rattle.take_left.specs.Outlook.{OutlookRoom}
 use Rattle.take_out.specs.declared.Took.{Took}
 use Rattle.take_out.specs.TakeOut.{Holdings, holdings, state_held, lent_positions, take_fault, took_out, take_tested, take_out, TakeRoom}
 use Rattle.take_out.proofs.Rooms.{lent-no-table, lent-no-old, lent-all}
@@ -141,14 +139,13 @@ room-shown r h ns e = go (fault-fine (state_held r (cut p h) ns) (ap is_fine (sy
               indices-long = k.indices-long;
             }
 
--- ---- with the machine's counts of the areas
+-- ---- the fault that was found is the definition's
 
 module _ (r : Run) (y : List Float) (v g P xs off : List ℕ) (F : List Float) (cs : List Cell) (t gone q : List ℕ)
-    (a b c d e k m : ℕ) (la : length y ≡ a) (lb : length v ≡ b) (lc : length g ≡ c) (ld : length P ≡ d) (le : length F ≡ e) (lk : length t ≡ k) (lm : length q ≡ m)
-    (p : ℕ) (ep : p ≡ lent_positions r.settings a k m) (f : Fault) (ef : f ≡ fault_at r p b c d e xs off (nodes_of cs)) where
+    (p : ℕ) (ep : p ≡ lent_positions r.settings (length y) (length t) (length q)) (f : Fault) (ef : f ≡ fault_at r p (length v) (length g) (length P) (length F) xs off (nodes_of cs)) where
   fault-is : f ≡ take_fault r (holdings y v g P xs off F t q) (nodes_of cs)
   unfolding take_fault
-  fault-is = ef ∙ rw (ep, la, lb, lc, ld, le, lk, lm)
+  fault-is = ef ∙ rw ep
 
   pub taking-asks : is_fine f ≡ true → TakeRoom r (holdings y v g P xs off F t q)
   taking-asks h = room-shown r (holdings y v g P xs off F t q) (nodes_of cs) (ap is_fine (sym fault-is) ∙ h)

@@ -1,29 +1,23 @@
 -- What the tests have shown, as the functions that pack ask for it. Assumes nothing.
 use mathlib.Core.Path.{◌≡◌, refl, sym, ap, subst, ◌∙◌}
 use mathlib.Core.List.{List, ◌++◌}
-use mathlib.Core.Bool.{Bool, true, false, cond, not, ◌&&◌, ◌||◌}
-use Prim.Native.Nat.{ℕ, ◌+◌, ◌-◌, ◌*◌, ◌<◌, ◌≤◌}
-use native.Mathlib.Omega.{arith}
-use lib.Dec.{eqb, leb}
+use Prim.Native.Nat.{ℕ, ◌+◌, ◌*◌, ◌<◌, ◌≤◌}
 use lib.ListN.{length, take, drop}
 use lib.Seq.{take_at}
 use lib.Ieee.{Float}
 use borrow.Author.Tests.{eq-eqb, lt-leb, le-leb}
-use Rattle.laws.specs.Area.{num, zero64, zeros8}
+use Rattle.laws.specs.Area.{zero64, zeros8}
 use Rattle.laws.specs.Loops.{loop}
-use Rattle.laws.proofs.Bools.{and_no}
 use Rattle.run_record.specs.declared.Settings.{Settings}
-use Rattle.run_record.specs.declared.Run.{Run}
-use Rattle.run_record.specs.Record.{is_tree, settings_fault, GoodSettings}
-use Rattle.take_gone.specs.Gone.{survivors, Climbs, gone_fine}
-use Rattle.take_gone.proofs.Left.{survivors-climb, survivors-few}
+use Rattle.run_record.specs.Record.{settings_fault}
+use Rattle.take_gone.specs.Gone.{survivors, Climbs}
+use Rattle.take_gone.proofs.Left.{survivors-climb}
 use Rattle.areas.specs.Filled.{filled}
 use Rattle.take_rows.specs.Rows.{shrunk, kept_rows, centred_rows, Staying, Means}
 use Rattle.take_rows.proofs.Survive.{survivors-kept}
 use Rattle.take_calm.specs.CalmLeft.{mean_at}
 use Rattle.take_calm.proofs.Over.{means-written}
-use Rattle.take_lists.specs.Packed.{Listed}
-use Rattle.take_out.specs.TakeOut.{Holdings, holdings, lent_positions, affinities_after, indices_after, offsets_after, packed_areas, TakeRoom, ValuesRoom, LinksRoom, PackRoom}
+use Rattle.take_out.specs.TakeOut.{Holdings, holdings, lent_positions, affinities_after, indices_after, offsets_after, packed_areas, ValuesRoom, LinksRoom, PackRoom}
 
 -- ---- the positions that count as lent
 

@@ -1,25 +1,21 @@
 -- Once the entry tests have been made: what each way leaves, and what an outlook that lets the call go on has shown. Assumes nothing.
-use mathlib.Core.Path.{◌≡◌, refl, sym, ap, subst, ◌∙◌}
+use mathlib.Core.Path.{◌≡◌, sym, ap, ◌∙◌}
 use mathlib.Core.Logic.{⊎_elim}
 use mathlib.Core.List.{List}
-use mathlib.Core.Bool.{Bool, true, false, cond, true≢false}
-use Prim.Native.Nat.{ℕ, ◌+◌, ◌-◌, ◌*◌, ◌<◌, ◌≤◌}
-use native.Mathlib.Omega.{arith}
+use mathlib.Core.Bool.{true, false, true≢false}
+use Prim.Native.Nat.{ℕ, ◌-◌, ◌≤◌}
 use native.Mathlib.Decide.{ℕ_discrete}
 use lib.ListN.{length}
 use lib.Ieee.{Float}
-use Rattle.laws.specs.Area.{num}
 use Rattle.laws.proofs.Bools.{two}
 use Rattle.run_record.specs.declared.Run.{Run}
-use Rattle.run_record.specs.Record.{is_tree}
 use Rattle.run_entry.specs.declared.Fault.{Fault}
 use Rattle.run_entry.specs.Entry.{is_fine}
-use Rattle.take_gone.specs.Gone.{gone_fine, survivors, Climbs}
+use Rattle.take_gone.specs.Gone.{gone_fine, survivors}
 use Rattle.take_gone.proofs.Left.{gone-climbs}
 use Rattle.take_left.specs.declared.Outlook.{Outlook}
 use Rattle.take_left.specs.Outlook.{outlook_of, thinned_run}
 use Rattle.take_left.proofs.Judged.{count_left, judged-inside, judged-unordered}
-use Rattle.take_out.specs.declared.Taken.{Taken}
 use Rattle.take_out.specs.declared.Taken.TheVariants.{Told, Bad}
 use Rattle.take_out.specs.TakeOut.{Holdings, is_accepted, packed_areas, took_out, take_tested, TakeRoom, PackRoom}
 

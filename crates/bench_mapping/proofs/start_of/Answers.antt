@@ -1,6 +1,5 @@
 use Rattle.bench_mapping.specs.Mapping.{bench_start}
 use Rattle.laws.proofs.Loops.{loop-start as begin, loop-next, loop-done}
-use Prim.Native.Nat.{◌-◌}
 use borrow.Author.Rules.{rules}
 use native.Mathlib.Omega.{arith}
 use Rattle.bench_mapping.proofs.start_of.Goals as goal

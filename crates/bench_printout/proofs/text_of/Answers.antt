@@ -7,4 +7,4 @@ pub returns : goal.returns
 unfolding printed
 returns c =
     let told = puts-front (rw c.map_file-m.ensures at c.put_told.ensures) in
-    record { prefix_len = told.0; value = told.1.0; out_after = told.1.1; }
+    record { prefix_len = told.0; value = told.1.0; out_after = told.1.1 }

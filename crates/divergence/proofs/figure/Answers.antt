@@ -9,7 +9,7 @@ normaliser-z-requires c =
 
 pub barnes_hut_kl-requires : goal.barnes_hut_kl-requires
 barnes_hut_kl-requires c =
-    record { c_in_bounds = c.requires.copy-long; all_linked = c.requires.lists-within (sym c.is_tree.ensures ∙ c.if-is_tree.true); }
+    record { c_in_bounds = c.requires.copy-long; all_linked = c.requires.lists-within (sym c.is_tree.ensures ∙ c.if-is_tree.true) }
 
 pub returns-then-is_tree : goal.returns-then-is_tree
 unfolding figure_of

@@ -58,15 +58,14 @@ returns-then-gaps-n c =
     (sym c.is_calm_along.ensures ∙ c.if-not-is_calm_along.false) c.if-gaps-n.true
 
 pub put_along-requires : goal.put_along-requires
-put_along-requires c =
-    (
-      (c.requires (sym c.is_fine.ensures ∙ c.if-not-is_fine.false)).frames-most,
-      (c.requires
-          (sym c.is_fine.ensures ∙ c.if-not-is_fine.false)).positions-long,
-      c.if-order-n.false,
-      c.if-gaps-n.false,
-      sym c.is_calm_along.ensures ∙ c.if-not-is_calm_along.false,
-    )
+put_along-requires c = (
+  (c.requires (sym c.is_fine.ensures ∙ c.if-not-is_fine.false)).frames-most,
+  (c.requires
+      (sym c.is_fine.ensures ∙ c.if-not-is_fine.false)).positions-long,
+  c.if-order-n.false,
+  c.if-gaps-n.false,
+  sym c.is_calm_along.ensures ∙ c.if-not-is_calm_along.false,
+)
 
 pub shape_of-order : goal.shape_of-order
 shape_of-order c =

@@ -20,13 +20,12 @@ returns-then-not-is_raised c =
     (c.loop-k.invariant.1, c.loop-k.invariant.2)
 
 pub loop-k-preserved : goal.loop-k-preserved
-loop-k-preserved c =
-    (
-      omega arith,
-      omega (arith, c.loop-k-test.true, c.requires),
-      rise-next c.loop-k.invariant.0 c.loop-k.invariant.2
-          (sym c.is_raised.ensures ∙ c.if-not-is_raised.false),
-    )
+loop-k-preserved c = (
+  omega arith,
+  omega (arith, c.loop-k-test.true, c.requires),
+  rise-next c.loop-k.invariant.0 c.loop-k.invariant.2
+      (sym c.is_raised.ensures ∙ c.if-not-is_raised.false),
+)
 
 pub returns : goal.returns
 returns c =

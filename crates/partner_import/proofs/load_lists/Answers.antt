@@ -12,11 +12,10 @@ load_indices-requires c =
     omega (arith, links-in-number _ c.requires.0 _ c.requires.1, c.requires.3)
 
 pub load_offsets-requires : goal.load_offsets-requires
-load_offsets-requires c =
-    (
-      c.requires.0.n-most,
-      c.requires.4,
-      links-in-words _ c.requires.0 _ c.requires.1,
-      frames-rise _ c.requires.0 _
-          c.requires.1,
-    )
+load_offsets-requires c = (
+  c.requires.0.n-most,
+  c.requires.4,
+  links-in-words _ c.requires.0 _ c.requires.1,
+  frames-rise _ c.requires.0 _
+      c.requires.1,
+)

@@ -12,12 +12,11 @@ returns-then-not-in_domain c =
     sym (every-no _ _ c.loop-i.i c.loop-i-test.true (sym (rw c.value_of.ensures at c.in_domain.ensures) ∙ c.if-not-in_domain.true))
 
 pub loop-i-preserved : goal.loop-i-preserved
-loop-i-preserved c =
-    (
-      every-next _ _ c.loop-i.invariant.0 (sym (rw c.value_of.ensures at c.in_domain.ensures) ∙ c.if-not-in_domain.false),
-      omega
-          (arith, c.loop-i-test.true),
-    )
+loop-i-preserved c = (
+  every-next _ _ c.loop-i.invariant.0 (sym (rw c.value_of.ensures at c.in_domain.ensures) ∙ c.if-not-in_domain.false),
+  omega
+      (arith, c.loop-i-test.true),
+)
 
 pub returns : goal.returns
 returns c =

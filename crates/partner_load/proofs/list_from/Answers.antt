@@ -11,13 +11,12 @@ returns-then-j-link_from c =
     (c.loop-p.invariant.0, c.loop-p.invariant.1, c.loop-p.invariant.2, λ l. omega (arith, c.if-j-link_from.true, c.link_from.ensures.0))
 
 pub loop-p-preserved : goal.loop-p-preserved
-loop-p-preserved c =
-    (
-      omega (arith, c.loop-p.invariant.0),
-      omega (arith, c.loop-p-test.true),
-      starts-below-next _ c.loop-p.invariant.2
-          (omega (arith, c.if-j-link_from.false, c.link_from.ensures.0)),
-    )
+loop-p-preserved c = (
+  omega (arith, c.loop-p.invariant.0),
+  omega (arith, c.loop-p-test.true),
+  starts-below-next _ c.loop-p.invariant.2
+      (omega (arith, c.if-j-link_from.false, c.link_from.ensures.0)),
+)
 
 pub returns : goal.returns
 returns c =

@@ -22,13 +22,12 @@ bounds-offsets-j c =
     omega (arith, c.requires.1, c.loop-j.invariant.0.size, c.loop-j-test.true)
 
 pub loop-j-preserved : goal.loop-j-preserved
-loop-j-preserved c =
-    (
-      rw (sym (lists-counted c.requires.3 (lists-over c.loop-j.invariant.1 c.list_from-p.ensures.0 c.list_from-p.ensures.1 c.list_from-p.ensures.2)
-          c.list_from-p.ensures.3)) (fetches-next c.requires.1 (omega (arith, c.loop-j-test.true)) c.loop-j.invariant.0),
-      lists-next
-          (lists-over c.loop-j.invariant.1 c.list_from-p.ensures.0 c.list_from-p.ensures.1 c.list_from-p.ensures.2),
-    )
+loop-j-preserved c = (
+  rw (sym (lists-counted c.requires.3 (lists-over c.loop-j.invariant.1 c.list_from-p.ensures.0 c.list_from-p.ensures.1 c.list_from-p.ensures.2)
+      c.list_from-p.ensures.3)) (fetches-next c.requires.1 (omega (arith, c.loop-j-test.true)) c.loop-j.invariant.0),
+  lists-next
+      (lists-over c.loop-j.invariant.1 c.list_from-p.ensures.0 c.list_from-p.ensures.1 c.list_from-p.ensures.2),
+)
 
 pub returns : goal.returns
 unfolding offsets_loaded

@@ -1,7 +1,4 @@
-use Rattle.elementary.specs.Limits.{in_domain}
 use Rattle.laws.proofs.Every.{every-none, every-next, every-no, every-done}
-use Prim.Native.Nat.{◌-◌}
-use mathlib.Core.Bool.{true}
 use mathlib.Core.Path.{sym, ◌∙◌}
 use borrow.Author.Rules.{rules}
 use Rattle.prepare.proofs.all_in.Goals as goal

@@ -8,7 +8,7 @@ use mathlib.Core.Path.{◌≡◌}
 use Rattle.prepare.proofs.all_in.Given as goal
 
 abbrev pub invariant-loop-i : goal.invariant-loop-i
-invariant-loop-i l = (l.i ≤ l.m) × (every (λ l.i. in_domain (at l.t l.i)) l.i ≡ true)
+invariant-loop-i l = (l.i ≤ l.m) × (every (λ k. in_domain (at l.t k)) l.i ≡ true)
 
 abbrev pub decreases-loop-i : goal.decreases-loop-i
 decreases-loop-i l = l.m - l.i

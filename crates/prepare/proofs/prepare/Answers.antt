@@ -34,42 +34,6 @@ set_out-requires c =
           (arith, f.areas.forces-long, c.route.auto.squares),
     )
 
-pub shape_of-positions : goal.shape_of-positions
-shape_of-positions c =
-    c.set_out.auto.positions
-
-pub shape_of-increments : goal.shape_of-increments
-shape_of-increments c =
-    c.set_out.auto.increments
-
-pub shape_of-gains : goal.shape_of-gains
-shape_of-gains c =
-    c.set_out.auto.gains
-
-pub shape_of-affinities : goal.shape_of-affinities
-shape_of-affinities c =
-    c.route.auto.affinities
-
-pub shape_of-indices : goal.shape_of-indices
-shape_of-indices c =
-    c.route.auto.indices
-
-pub shape_of-offsets : goal.shape_of-offsets
-shape_of-offsets c =
-    c.route.auto.offsets
-
-pub shape_of-forces : goal.shape_of-forces
-shape_of-forces c =
-    c.set_out.auto.forces ∙ c.route.auto.squares
-
-pub shape_of-row_values : goal.shape_of-row_values
-shape_of-row_values c =
-    c.route.auto.row_values
-
-pub shape_of-row_indices : goal.shape_of-row_indices
-shape_of-row_indices c =
-    c.route.auto.row_indices
-
 pub returns : goal.returns
 unfolding sizes_of
 returns c =

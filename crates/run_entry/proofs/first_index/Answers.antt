@@ -1,8 +1,6 @@
 use mathlib.Core.Path.{ap}
 use mathlib.Core.Bool.{not}
 use Rattle.laws.proofs.First.{seek-start, seek-next, seek_stop, seek-done}
-use Rattle.run_entry.specs.Entry.{index_fine}
-use Prim.Native.Nat.{◌-◌}
 use Rattle.run_entry.proofs.first_index.Goals as goal
 
 pub loop-i-init : goal.loop-i-init

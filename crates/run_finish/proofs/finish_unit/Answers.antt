@@ -10,16 +10,15 @@ pace-p-requires c =
     (c.requires.c-most, c.requires.forces-in)
 
 pub finish-a-requires : goal.finish-a-requires
-finish-a-requires c =
-    (
-      c.requires.c-some,
-      c.requires.c-most,
-      c.requires.numbers.n-most,
-      c.requires.forces-in,
-      c.requires.positions-in,
-      c.requires.increments-in,
-      c.requires.gains-in,
-    )
+finish-a-requires c = (
+  c.requires.c-some,
+  c.requires.c-most,
+  c.requires.numbers.n-most,
+  c.requires.forces-in,
+  c.requires.positions-in,
+  c.requires.increments-in,
+  c.requires.gains-in,
+)
 
 pub returns-in_default : goal.returns-in_default
 unfolding finish_unit pace_of

@@ -1,5 +1,5 @@
 -- `run_units::tree_unit` meets its contract: by `box-asks`, `box-told`, `insert-asks`, `insert-told`.
-use Rattle.run_units.proofs.Lends.{box-asks, box-told, next-asks, insert-asks, insert-told}
+use Rattle.run_units.proofs.Lends.{box-asks, box-told, insert-asks, insert-told}
 use Rattle.run_units.proofs.tree_unit.Goals as goal
 
 pub plant-requires : goal.plant-requires

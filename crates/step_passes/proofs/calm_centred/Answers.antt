@@ -1,6 +1,5 @@
 use mathlib.Core.Path.{sym, ◌∙◌}
 use Rattle.step_passes.proofs.Laws.{component-in, tested-start, tested-next, tested-no, tested-done}
-use Prim.Native.Nat.{◌-◌}
 use native.Mathlib.Omega.{arith}
 use Rattle.step_passes.proofs.calm_centred.Goals as goal
 

@@ -1,5 +1,4 @@
 use Rattle.step_passes.proofs.Laws.{component-in, summed-start, summed-next, summed-done}
-use Prim.Native.Nat.{◌-◌}
 use native.Mathlib.Omega.{arith}
 use Rattle.step_passes.proofs.sum_moves.Goals as goal
 

@@ -1,5 +1,4 @@
 use Rattle.laws.proofs.Loops.{loop-start, loop-next, loop-done}
-use Prim.Native.Nat.{◌-◌}
 use native.Mathlib.Omega.{arith}
 use Rattle.step_passes.proofs.take_means.Goals as goal
 

@@ -1,6 +1,5 @@
 use mathlib.Core.Path.{refl}
 use Rattle.step_passes.proofs.Laws.{component-in, written_start, written_next, written-done}
-use Prim.Native.Nat.{◌-◌}
 use native.Mathlib.Omega.{arith}
 use Rattle.step_passes.proofs.write_moves.Goals as goal
 

@@ -26,13 +26,12 @@ returns-then-wide-most c =
     c.wide.result c.wide.ensures c.if-wide-most.true
 
 pub links_left-requires : goal.links_left-requires
-links_left-requires c =
-    (
-      c.requires.samples-most,
-      c.requires.gone-rises,
-      c.requires.counted-lie (sym c.is_tree.ensures ∙ c.if-not-is_tree.false),
-      c.requires.counted-name (sym c.is_tree.ensures ∙ c.if-not-is_tree.false),
-    )
+links_left-requires c = (
+  c.requires.samples-most,
+  c.requires.gone-rises,
+  c.requires.counted-lie (sym c.is_tree.ensures ∙ c.if-not-is_tree.false),
+  c.requires.counted-name (sym c.is_tree.ensures ∙ c.if-not-is_tree.false),
+)
 
 pub returns : goal.returns
 returns c =

@@ -4,14 +4,13 @@ use mathlib.Core.Path.{refl, sym, ◌∙◌}
 use Rattle.take_out.proofs.pack_affinities.Goals as goal
 
 pub pack_lists-requires : goal.pack_lists-requires
-pack_lists-requires c =
-    (
-      c.requires.links-most-frames,
-      c.requires.links-climb,
-      c.requires.links-kept,
-      c.requires.links-lie
-          (sym c.is_tree.ensures ∙ c.if-is_tree.true),
-    )
+pack_lists-requires c = (
+  c.requires.links-most-frames,
+  c.requires.links-climb,
+  c.requires.links-kept,
+  c.requires.links-lie
+      (sym c.is_tree.ensures ∙ c.if-is_tree.true),
+)
 
 pub shape_of-affinities-then-is_tree : goal.shape_of-affinities-then-is_tree
 shape_of-affinities-then-is_tree c =

@@ -6,26 +6,24 @@ use native.Mathlib.Omega.{arith}
 use Rattle.take_out.proofs.pack_values.Goals as goal
 
 pub means_left-requires : goal.means_left-requires
-means_left-requires c =
-    (
-      c.requires.values-good.n-most,
-      c.requires.values-good.c-most,
-      c.requires.p-long,
-      c.requires.values-gone,
-      ap length
-          c.requires.values-keep,
-    )
+means_left-requires c = (
+  c.requires.values-good.n-most,
+  c.requires.values-good.c-most,
+  c.requires.p-long,
+  c.requires.values-gone,
+  ap length
+      c.requires.values-keep,
+)
 
 pub pack_centred-requires : goal.pack_centred-requires
-pack_centred-requires c =
-    (
-      c.requires.values-good.n-most,
-      c.requires.values-good.c-most,
-      c.requires.p-long,
-      values-kept c.requires,
-      values-means
-          c.requires _ _ c.means_left.ensures,
-    )
+pack_centred-requires c = (
+  c.requires.values-good.n-most,
+  c.requires.values-good.c-most,
+  c.requires.p-long,
+  values-kept c.requires,
+  values-means
+      c.requires _ _ c.means_left.ensures,
+)
 
 pub pack_rows-requires : goal.pack_rows-requires
 pack_rows-requires c =

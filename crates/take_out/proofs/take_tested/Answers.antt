@@ -51,11 +51,10 @@ overflow_sub-s c =
     )
 
 pub thinned_run-run-requires : goal.thinned_run-run-requires
-thinned_run-run-requires c =
-    (
-      omega (arith, (c.requires (sym c.is_fine.ensures ∙ c.if-not-is_fine.false)).outlook-room.settings-good.n-most),
-      (c.requires (sym c.is_fine.ensures ∙ c.if-not-is_fine.false)).done-most,
-    )
+thinned_run-run-requires c = (
+  omega (arith, (c.requires (sym c.is_fine.ensures ∙ c.if-not-is_fine.false)).outlook-room.settings-good.n-most),
+  (c.requires (sym c.is_fine.ensures ∙ c.if-not-is_fine.false)).done-most,
+)
 
 pub pack_run-requires : goal.pack_run-requires
 pack_run-requires c =

@@ -1,11 +1,21 @@
 -- `tree_walk::deeper` meets its contract: the laws of its loop, with 256 levels.
 use mathlib.Core.Path.{refl, subst}
 use Prim.Native.Nat.{ℕ, ◌-◌, ◌<◌}
-use Rattle.tree_walk.proofs.Going.{starts, asks, onward, resumes, again, smaller}
+use Rattle.tree_walk.proofs.Pending.{going_done}
+use native.Mathlib.Omega.{arith}
+use Rattle.tree_walk.proofs.Going.{starts, asks, onward, resumes, again, smaller, inside}
 use Rattle.tree_walk.proofs.+deeper.Goals as goal
 
 pub loop-s-init : goal.loop-s-init
 loop-s-init t c = starts 256 c.args.used c.args.eye c.args.cells.now c.args.from c.args.to c.args.acc c.requires _ refl c.standing-s.result c.standing-s.ensures
+
+pub cell_at-v-requires : goal.cell_at-v-requires
+cell_at-v-requires t c =
+    omega (
+      arith,
+      inside 256 c.args.used c.args.eye c.args.cells.now c.args.from c.args.to c.args.acc c.requires c.loop-s.stack c.loop-s.s c.loop-s.invariant
+          c.loop-s-test.true c.wide-i.result c.wide-i.ensures,
+    )
 
 pub long_turn-t-requires : goal.long_turn-t-requires
 long_turn-t-requires t c =
@@ -27,18 +37,21 @@ loop-s-smaller-then-t t c =
     c.wide-i.result c.wide-i.ensures c.cell_at-v.result c.cell_at-v.ensures c.long_turn-t.result c.long_turn-t.new.stack c.long_turn-t.ensures c.if-t.true
     c.deeper-a.result c.deeper-a.ensures c.resumed-u.result c.resumed-u.ensures).1
 
-pub loop-s-smaller : goal.loop-s-smaller
-loop-s-smaller t c =
-    (onward 256 c.args.used c.args.eye c.args.cells.now c.args.from c.args.to c.args.acc c.requires c.loop-s.stack c.loop-s.s c.loop-s.invariant c.loop-s-test.true
-    c.wide-i.result c.wide-i.ensures c.cell_at-v.result c.cell_at-v.ensures c.long_turn-t.result c.long_turn-t.new.stack c.long_turn-t.ensures c.if-t.false).1
-
 pub loop-s-preserved-then-t : goal.loop-s-preserved-then-t
 loop-s-preserved-then-t t c =
     (resumes 256 c.args.used c.args.eye c.args.cells.now c.args.from c.args.to c.args.acc c.requires c.loop-s.stack c.loop-s.s c.loop-s.invariant c.loop-s-test.true
     c.wide-i.result c.wide-i.ensures c.cell_at-v.result c.cell_at-v.ensures c.long_turn-t.result c.long_turn-t.new.stack c.long_turn-t.ensures c.if-t.true
     c.deeper-a.result c.deeper-a.ensures c.resumed-u.result c.resumed-u.ensures).0
 
+pub loop-s-smaller : goal.loop-s-smaller
+loop-s-smaller t c =
+    (onward 256 c.args.used c.args.eye c.args.cells.now c.args.from c.args.to c.args.acc c.requires c.loop-s.stack c.loop-s.s c.loop-s.invariant c.loop-s-test.true
+    c.wide-i.result c.wide-i.ensures c.cell_at-v.result c.cell_at-v.ensures c.long_turn-t.result c.long_turn-t.new.stack c.long_turn-t.ensures c.if-t.false).1
+
 pub loop-s-preserved : goal.loop-s-preserved
 loop-s-preserved t c =
     (onward 256 c.args.used c.args.eye c.args.cells.now c.args.from c.args.to c.args.acc c.requires c.loop-s.stack c.loop-s.s c.loop-s.invariant c.loop-s-test.true
     c.wide-i.result c.wide-i.ensures c.cell_at-v.result c.cell_at-v.ensures c.long_turn-t.result c.long_turn-t.new.stack c.long_turn-t.ensures c.if-t.false).0
+
+pub returns : goal.returns
+returns t c = going_done 256 c.args.used c.args.eye c.args.cells.now c.loop-s.invariant c.loop-s-test.false

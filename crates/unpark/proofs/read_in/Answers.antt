@@ -21,12 +21,11 @@ sizes_of-z-requires c =
     rw c.settings_read-s.ensures (read-settings-good _ (head-good _ (parked-head _ c.requires.0)))
 
 pub put_record-requires : goal.put_record-requires
-put_record-requires c =
-    (
-      run-words-long _ ((stored_of c.args.words.now c.args.positions.now c.args.increments.now
-          c.args.gains.now c.args.affinities.now c.args.indices.now c.args.offsets.now)) _ _ c.requires.1,
-      c.requires.0,
-    )
+put_record-requires c = (
+  run-words-long _ ((stored_of c.args.words.now c.args.positions.now c.args.increments.now
+      c.args.gains.now c.args.affinities.now c.args.indices.now c.args.offsets.now)) _ _ c.requires.1,
+  c.requires.0,
+)
 
 pub fetch_state-requires : goal.fetch_state-requires
 fetch_state-requires c =
@@ -95,7 +94,10 @@ shape_of-forces c =
 
 pub returns : goal.returns
 returns c =
-    record { offsets_after = stored_is _ ((stored_of c.args.words.now c.args.positions.now c.args.increments.now c.args.gains.now
+    record {
+      offsets_after = stored_is _ ((stored_of c.args.words.now c.args.positions.now c.args.increments.now c.args.gains.now
           c.args.affinities.now c.args.indices.now c.args.offsets.now)) _ _ c.layout_read-l.ensures
           c.put_record.ensures c.fetch_state.ensures.positions_after c.fetch_state.ensures.increments_after c.fetch_state.ensures.gains_after c.fetch_lists.ensures.affinities_after
-          c.fetch_lists.ensures.indices_after c.fetch_lists.ensures.offsets_after; forces_after = rw (c.sizes_of-z.ensures, c.settings_read-s.ensures) at c.fill.ensures; }
+          c.fetch_lists.ensures.indices_after c.fetch_lists.ensures.offsets_after;
+      forces_after = rw (c.sizes_of-z.ensures, c.settings_read-s.ensures) at c.fill.ensures;
+    }

@@ -25,12 +25,11 @@ returns-then-not-has_room c =
     c.args.affinities.now c.args.indices.now c.args.offsets.now)) _ _ ∙ sym c.has_room.ensures ∙ c.if-not-has_room.true)
 
 pub read_in-requires : goal.read_in-requires
-read_in-requires c =
-    (
-      said _ _ c.judge-v.ensures true (not-false _ c.if-not-v.false),
-      (room-is _ ((stored_of c.args.words.now c.args.positions.now c.args.increments.now c.args.gains.now
-          c.args.affinities.now c.args.indices.now c.args.offsets.now)) _ _ ∙ sym c.has_room.ensures ∙ c.if-not-has_room.false),
-    )
+read_in-requires c = (
+  said _ _ c.judge-v.ensures true (not-false _ c.if-not-v.false),
+  (room-is _ ((stored_of c.args.words.now c.args.positions.now c.args.increments.now c.args.gains.now
+      c.args.affinities.now c.args.indices.now c.args.offsets.now)) _ _ ∙ sym c.has_room.ensures ∙ c.if-not-has_room.false),
+)
 
 pub shape_of-words : goal.shape_of-words
 shape_of-words c =

@@ -10,13 +10,16 @@ point-p-requires c =
 
 pub follow_all-requires : goal.follow_all-requires
 follow_all-requires c =
-    rw (c.wide-e.ensures, c.wide-a.ensures) record { axes = (
+    rw (c.wide-e.ensures, c.wide-a.ensures) record {
+      axes = (
         c.requires.axes.0,
         c.requires.axes.2,
         omega (arith, c.requires.linked.rises, c.requires.linked.weights),
         omega
             (arith, c.requires.linked.rises, c.requires.linked.indices),
-      ); below = λ k l. c.requires.linked.frames k (omega (arith, l, c.requires.linked.rises)); }
+      );
+      below = λ k l. c.requires.linked.frames k (omega (arith, l, c.requires.linked.rises));
+    }
 
 pub returns : goal.returns
 unfolding attraction_of

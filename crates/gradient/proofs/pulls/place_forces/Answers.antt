@@ -5,7 +5,7 @@ use Rattle.gradient.proofs.pulls.place_forces.Goals as goal
 
 pub attraction-t-requires : goal.attraction-t-requires
 attraction-t-requires c =
-    record { axes = (c.requires.0, c.requires.1, c.requires.2); linked = c.requires.4; }
+    record { axes = (c.requires.0, c.requires.1, c.requires.2); linked = c.requires.4 }
 
 pub store-requires : goal.store-requires
 store-requires c =

@@ -14,14 +14,13 @@ overflow_mul-i c =
     )
 
 pub slopes-requires : goal.slopes-requires
-slopes-requires c =
-    (
-      c.requires.0,
-      (row_in c.args.i c.args.n c.args.c (length c.args.positions.now) c.requires.1
-          c.requires.2),
-      (row_in c.args.i c.args.n c.args.c (length c.args.forces.now) c.requires.1
-          (omega (arith, c.requires.4))),
-    )
+slopes-requires c = (
+  c.requires.0,
+  (row_in c.args.i c.args.n c.args.c (length c.args.positions.now) c.requires.1
+      c.requires.2),
+  (row_in c.args.i c.args.n c.args.c (length c.args.forces.now) c.requires.1
+      (omega (arith, c.requires.4))),
+)
 
 pub returns : goal.returns
 unfolding gradient_row

@@ -2,11 +2,14 @@
 use mathlib.Core.Path.{refl}
 use native.Mathlib.Omega.{arith}
 use lib.ListN.{length}
-use Rattle.tree.proofs.Descends.{level_in, level-stores, level-splits, level-steps, level-told}
+use Rattle.tree.proofs.Descends.{level_in, level-stores, level-splits, level-steps, level-told, level-met}
 use Rattle.tree.proofs.insertion.level.Goals as goal
 
 pub load-v-requires : goal.load-v-requires
 load-v-requires c = level_in c.args.w c.args.positions.now c.args.cells.now c.requires _ refl
+
+pub met-s-requires : goal.met-s-requires
+met-s-requires c = level-met c.args.w c.args.positions.now c.args.cells.now c.requires c.load-v.result c.load-v.ensures
 
 pub store-requires : goal.store-requires
 store-requires c =

@@ -13,18 +13,17 @@ fetch_words-requires c =
     (c.requires.2.weights-long c.if-l.true, (spans _ c.requires.0 _ c.requires.1).weights)
 
 pub fetch_numbers-requires-then-l : goal.fetch_numbers-requires-then-l
-fetch_numbers-requires-then-l c =
-    (
-      c.requires.2.offsets-long c.if-l.true,
-      (spans _ c.requires.0 _ c.requires.1).held,
-      narrow-offsets _ c.requires.0 _
-          c.requires.1 c.if-l.true,
-    )
+fetch_numbers-requires-then-l c = (
+  c.requires.2.offsets-long c.if-l.true,
+  (spans _ c.requires.0 _ c.requires.1).held,
+  narrow-offsets _ c.requires.0 _
+      c.requires.1 c.if-l.true,
+)
 
 pub returns-then-l : goal.returns-then-l
 unfolding weights_read offsets_read
 returns-then-l c =
-    rw c.if-l.true record { affinities_after = c.fetch_words.ensures; indices_after = c.fetch_numbers.ensures; offsets_after = c.fetch_numbers-then-l.ensures; }
+    rw c.if-l.true record { affinities_after = c.fetch_words.ensures; indices_after = c.fetch_numbers.ensures; offsets_after = c.fetch_numbers-then-l.ensures }
 
 pub fetch_words-requires-2 : goal.fetch_words-requires-2
 fetch_words-requires-2 c =
@@ -33,4 +32,4 @@ fetch_words-requires-2 c =
 pub returns : goal.returns
 unfolding weights_read offsets_read
 returns c =
-    rw c.if-l.false record { affinities_after = c.fetch_words-2.ensures; indices_after = c.fetch_numbers.ensures; offsets_after = refl; }
+    rw c.if-l.false record { affinities_after = c.fetch_words-2.ensures; indices_after = c.fetch_numbers.ensures; offsets_after = refl }

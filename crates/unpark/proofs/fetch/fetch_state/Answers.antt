@@ -16,4 +16,4 @@ fetch_words-requires-3 c =
 
 pub returns : goal.returns
 returns c =
-    record { positions_after = c.fetch_words.ensures; increments_after = c.fetch_words-2.ensures; gains_after = c.fetch_words-3.ensures; }
+    record { positions_after = c.fetch_words.ensures; increments_after = c.fetch_words-2.ensures; gains_after = c.fetch_words-3.ensures }
