@@ -1,7 +1,7 @@
 // The preparation of a case: marked areas, lent as far as the case says, and held against their digests.
 ghost use Rattle.std.specs.Prelude.{◌≤◌, length};
 
-use crate::areas::{Areas, both, least, marked, same, same_areas, same_words};
+use crate::run_areas::{Areas, both, least, marked, same, same_areas, same_words};
 use crate::fields::settings_at;
 use crate::lengths::{length_at, lent_at};
 use prepare::Prepared;

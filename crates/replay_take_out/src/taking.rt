@@ -1,7 +1,7 @@
 // A case: the run of a list, frames taken out of it, and what comes of it.
 ghost use Rattle.std.specs.Prelude.{◌≤◌};
 
-use crate::areas::{bits_at, both, numbers_at, same_bits, same_numbers, same_values, values_at};
+use crate::run_areas::{bits_at, both, numbers_at, same_bits, same_numbers, same_values, values_at};
 use crate::lending::{empty_cells, take_lent};
 use crate::lengths::{Lengths, Places, lengths_at, places_from};
 use fault_words::{fault_value, unread_fault};

@@ -1,6 +1,6 @@
 -- `same_values`: how long each area is. Assumes nothing.
 use Rattle.replay_descent.proofs.Within.{count}
-use Rattle.replay_descent.proofs.areas.same_values.Goals as goal
+use Rattle.replay_descent.proofs.run_areas.same_values.Goals as goal
 
 pub slice_bounds-same-end : goal.slice_bounds-same-end
 slice_bounds-same-end c =

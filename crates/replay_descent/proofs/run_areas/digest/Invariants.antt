@@ -1,6 +1,6 @@
--- `replay_descent::areas::digest_words` meets its contract: the loop keeps what has been done equal to its part of the whole.
+-- `replay_descent::run_areas::digest` meets its contract: the loop keeps what has been done equal to its part of the whole.
 use Rattle.std.proofs.Common.{◌-◌, ◌≤◌}
-use Rattle.replay_descent.proofs.areas.digest_words.Given as goal
+use Rattle.replay_descent.proofs.run_areas.digest.Given as goal
 
 abbrev pub invariant-loop-i : goal.invariant-loop-i
 invariant-loop-i l = l.i ≤ l.m

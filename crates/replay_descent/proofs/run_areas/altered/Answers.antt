@@ -1,6 +1,6 @@
 -- `altered`: how long each area is. Assumes nothing.
 use Rattle.replay_descent.proofs.Within.{count}
-use Rattle.replay_descent.proofs.areas.altered.Goals as goal
+use Rattle.replay_descent.proofs.run_areas.altered.Goals as goal
 
 pub slice_bounds-alter-end : goal.slice_bounds-alter-end
 slice_bounds-alter-end c =
