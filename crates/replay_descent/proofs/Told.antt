@@ -1,4 +1,4 @@
--- What the walk of `work_lent` cites: what a call says of the first k cells, said of the arena. Assumes nothing.
+-- What a call says of the first k cells, said of the arena. Assumes nothing.
 use Rattle.std.proofs.Common.{◌≡◌, ℕ, List, ◌++◌, length, take, drop, sym, ap, ◌∙◌, subst, take_at, drop_at}
 use lib.Ieee.{Float}
 use Rattle.run_record.specs.declared.Run.{Run}

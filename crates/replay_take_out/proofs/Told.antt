@@ -1,4 +1,4 @@
--- What the walk of `take_lent` cites: what the call says of its answer and of the record, said of the two together. Assumes nothing.
+-- What the call says of its answer and of the record, said of the two together. Assumes nothing.
 use Rattle.std.proofs.Common.{◌≡◌, sym, subst}
 use Rattle.run_record.specs.declared.Run.{Run}
 use Rattle.take_out.specs.declared.Taken.{Taken}
