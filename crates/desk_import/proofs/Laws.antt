@@ -1,17 +1,15 @@
 -- The answer of an import in words, case by case. Assumes nothing.
-use mathlib.Core.Path.{◌≡◌, refl, sym, ap, ◌∙◌}
+use mathlib.Core.Path.{◌≡◌, sym}
 use mathlib.Core.List.{List}
-use mathlib.Core.Bool.{true, false}
 use Prim.Native.Nat.{ℕ, ◌<◌, ◌≤◌}
-use lib.Dec.{eqb, ltb}
 use lib.ListN.{length, set}
 use borrow.Author.Tests.{eq-eqb, ne_eqb, lt-ltb, le-ltb}
 use Rattle.run_record.specs.declared.Settings.{Settings}
 use Rattle.record_words.specs.RecordWords.{settings_of, short_number}
 use Rattle.partner.specs.Partner.{whole_links}
 use Rattle.partner_import.specs.declared.Imported.{Imported}
-use Rattle.partner_import.specs.Import.{Loading, lent_lengths, tree_settings, import_fault, ImportOutcome, import_outcome, import_of, import_number}
-use Rattle.desk_import.specs.HostImport.{import_told, record_imported, host_imported, imported_in, host_import, HostImported}
+use Rattle.partner_import.specs.Import.{Loading, lent_lengths, tree_settings, import_fault, import_outcome, import_of, import_number}
+use Rattle.desk_import.specs.HostImport.{import_told, record_imported, host_imported, host_import}
 
 module _ (s start file w : List ℕ) (l : Loading) (nodes : ℕ) (a : List ℕ) where
   pub import-mute : length a ≡ 0 → host_imported 12 w l a ≡ host_import s start file w l nodes a

@@ -1,7 +1,6 @@
 -- A run begun from a partner's list, with settings, record and answer as plain words. Definitions only.
 -- a are the answer's words: word 0 tells the links, or, refused by 19, the first record at which a rule fails, else 0.
-use Rattle.std.specs.Prelude.{List, cond, not, ℕ, eqb, ltb, length, set}
-use Rattle.run_record.specs.declared.Settings.{Settings}
+use Rattle.std.specs.Prelude.{List, cond, ℕ, eqb, ltb, length, set}
 use Rattle.record_words.specs.RecordWords.{settings_of, run_put, short_number}
 use Rattle.partner.specs.Partner.{whole_links}
 use Rattle.partner_import.specs.declared.Imported.{Imported}

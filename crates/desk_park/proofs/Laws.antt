@@ -12,7 +12,7 @@ use Rattle.record_words.specs.RecordWords.{Worded, worded}
 use Rattle.parked.specs.Parked.{Stored}
 use Rattle.park.specs.declared.Parked.{Parked}
 use Rattle.park.specs.Park.{Parking, parking, park_of, park_number}
-use Rattle.desk_park.specs.HostPark.{parked_told, HostParked, host_parked, parking_told, host_park}
+use Rattle.desk_park.specs.HostPark.{parked_told, host_parked, parking_told, host_park}
 
 module _ (d : Stored) (forces : ℕ) (ns : List Node) (t a : List ℕ) (b : Bool) (q : b ≡ eqb (length a) 0) where
   pub mute-said : b ≡ true → host_parked 12 t a ≡ host_park d forces ns t a

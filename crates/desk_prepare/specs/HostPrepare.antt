@@ -1,5 +1,5 @@
 -- What preparation leaves and answers, with settings and record as plain words. Definitions only.
-use Rattle.std.specs.Prelude.{List, cond, ℕ, eqb, ltb, length, Float}
+use Rattle.std.specs.Prelude.{List, cond, ℕ, ltb, length, Float}
 use Rattle.prepare.specs.declared.Prepared.{Prepared}
 use Rattle.prepare.specs.declared.Prepared.TheVariants.{Refused, Ready}
 use Rattle.prepare.specs.Prepare.{Lent, lengths_of, prepare_fault, PrepareOutcome, prepared, prepare_number}

@@ -11,7 +11,7 @@ use Rattle.fault_words.specs.FaultWords.{unfit, unfit_told}
 use Rattle.fault_words.proofs.Fit.{fit-room, fit-long}
 use Rattle.take_out.specs.declared.Taken.{Taken}
 use Rattle.take_out.specs.TakeOut.{Holdings, TookOut, took_out, take_out, take_number}
-use Rattle.desk_take.specs.HostTake.{taken_told, size_put, HostTook, host_took, taken_in, unfit_in, host_take}
+use Rattle.desk_take.specs.HostTake.{taken_told, size_put, host_took, taken_in, unfit_in, host_take}
 
 module _ (g w : List ℕ) (h : Holdings) (ns : List Node) (a : List ℕ) (b : Bool) (q : b ≡ unfit w (length a)) where
   pub unfit-told : b ≡ true → (k : ℕ) (a' : List ℕ) → worded k a' ≡ unfit_told w a → host_took k a' w h ≡ host_take g w h ns a
