@@ -4,7 +4,7 @@ use mathlib.Core.Path.{◌≡◌, sym, ap, subst, ◌∙◌}
 use mathlib.Core.Bool.{true, false}
 use Prim.Native.Nat.{ℕ, ◌*◌, ◌<◌, ◌≤◌}
 use native.Mathlib.Omega.{arith}
-use native.Mathlib.Nat.{mul-le-mul, mul-one, le_refl, le_trans}
+use native.Mathlib.Nat.{mul-le-mul, mul-one, le_refl}
 use lib.Dec.{ltb}
 use lib.ListN.{length}
 use lib.Ieee.{Float}
@@ -15,7 +15,7 @@ use Rattle.laws.proofs.Every.{every-at}
 use Rattle.elementary.specs.Limits.{calm}
 use Rattle.tree_node.specs.declared.Cell.{Cell}
 use Rattle.tree_node.specs.Arena.{nodes_of}
-use Rattle.run_record.specs.Record.{is_ended, GoodSettings}
+use Rattle.run_record.specs.Record.{is_ended}
 use Rattle.run_entry.specs.declared.Fault.{Fault}
 use Rattle.run_entry.specs.State.{Memory, memory, state}
 use Rattle.run_entry.specs.Entry.{is_fine, fault_of}

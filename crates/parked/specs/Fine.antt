@@ -1,5 +1,5 @@
 -- Which words a parked run can have: g w is word w of the file. A record is bad where no run can hold it after the records before it. Definitions only.
-use Rattle.std.specs.Prelude.{List, Bool, true, cond, not, ◌&&◌, ◌||◌, ℕ, ◌+◌, ◌-◌, ◌*◌, eqb, ltb, leb, pos, Float}
+use Rattle.std.specs.Prelude.{Bool, true, cond, not, ◌&&◌, ◌||◌, ℕ, ◌+◌, ◌-◌, ◌*◌, eqb, ltb, leb, pos}
 use Rattle.std.specs.Float.{binary64}
 use Rattle.std.specs.Float.Ieee.{of_int, lt}
 use Rattle.laws.specs.Domain.{most_axes, most_components, most_features, most_frames, most_iterations}

@@ -1,5 +1,5 @@
 -- How a parked run lies in its file: records of four little-endian 8-byte words; three records of settings and counters, then the areas, each from a record of its own on. Definitions only.
-use Rattle.std.specs.Prelude.{List, Bool, cond, ℕ, ◌+◌, ◌*◌, ◌/◌}
+use Rattle.std.specs.Prelude.{Bool, cond, ℕ, ◌+◌, ◌*◌, ◌/◌}
 use Rattle.parked.specs.declared.Layout.{Layout}
 
 -- m words, filled up to whole records

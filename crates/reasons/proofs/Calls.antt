@@ -1,5 +1,5 @@
 -- What each call tells of a run that it refuses at its entry has its reason in what the call is lent. Assumes nothing.
-use mathlib.Core.Path.{◌≡◌, refl, sym, ap, subst, ◌∙◌}
+use mathlib.Core.Path.{◌≡◌, refl, sym, subst, ◌∙◌}
 use mathlib.Core.List.{List}
 use mathlib.Core.Bool.{true, false}
 use Prim.Native.Nat.{ℕ}
@@ -9,7 +9,7 @@ use Rattle.run_record.specs.declared.Run.{Run}
 use Rattle.run_entry.specs.State.{Memory, State}
 use Rattle.run_entry.specs.declared.Fault.{Fault}
 use Rattle.run_entry.specs.Entry.{fault_of}
-use Rattle.record_words.specs.RecordWords.{run_fine, run_of}
+use Rattle.record_words.specs.RecordWords.{run_fine}
 use Rattle.fault_words.specs.FaultWords.{unread_fault}
 use Rattle.words_entry.specs.WordsEntry.{words_fault}
 use Rattle.divergence.specs.Divergence.{divergence_fault}

@@ -14,12 +14,12 @@ use Rattle.tree_node.specs.declared.Node.{Node}
 use Rattle.tree_node.specs.Arena.{node_at}
 use Rattle.tree_contents.specs.Contents.{node_fault, point_ok}
 use Rattle.tree.specs.Contents.{contents_of}
-use Rattle.run_record.specs.Record.{is_tree, settings_fault, counters_ok, sizes_of}
+use Rattle.run_record.specs.Record.{is_tree, settings_fault, counters_ok}
 use Rattle.run_entry.specs.declared.Fault.{Fault}
 use Rattle.run_entry.specs.declared.Fault.TheVariants.{Fine, Settings as BadSettings, Counters, Areas, Offsets, Index, Tree as BadTree}
-use Rattle.run_entry.specs.Entry.{offset_fine, index_fine, first_offset, first_index, tree_fault, tree_fault_at, contents_fault, is_fine, record_fault, fault_at}
+use Rattle.run_entry.specs.Entry.{first_offset, first_index, tree_fault, tree_fault_at, contents_fault, record_fault, fault_at}
 use Rattle.reasons.specs.Reasons.{Shown, found_in, RecordPasses, areas_long, AreasPass, offset_at, OffsetsPass, links_listed, index_at, IndicesPass, used_bad}
-use Rattle.reasons.specs.Reasons.{node_bad, SettingsFail, CountersFail, AreasFail, EndFails, OffsetsFail, IndexFail, NodeFails, TreeFail, AllPass, Reason}
+use Rattle.reasons.specs.Reasons.{node_bad, EndFails, OffsetsFail, IndexFail, NodeFails, TreeFail, AllPass, Reason}
 
 -- ---- what the tests answer, step by step
 

@@ -1,18 +1,18 @@
 -- A position less one that is not above it is not below zero: it may be −0.0. Assumes nothing.
-use mathlib.Core.Path.{◌≡◌, refl, sym, ap, subst, ◌∙◌}
+use mathlib.Core.Path.{◌≡◌, sym}
 use mathlib.Core.Bool.{Bool, true, false, not, ◌&&◌, ◌||◌, true≢false}
-use Prim.Native.Nat.{ℕ, ◌+◌, ◌-◌, ◌*◌, ◌^◌, ◌<◌, ◌≤◌}
+use Prim.Native.Nat.{ℕ, ◌+◌, ◌-◌, ◌*◌, ◌<◌, ◌≤◌}
 use native.Mathlib.Omega.{arith}
 use native.Mathlib.Decide.{dec_lt}
 use native.Mathlib.Nat.{mul-pos, zero-mul}
-use lib.Dec.{eqb, ltb, lit≤}
+use lib.Dec.{eqb, lit≤}
 use lib.Ieee.{Float, nan, inf, fin, binary64, up, down, below, level, lt, le, eq, neg, add, sub, sum, round, of_bits}
 use lib.Ieee.Bits.{is_true}
-use lib.Ieee.Fits.{up_pos, down_pos}
+use lib.Ieee.Fits.{down_pos}
 use lib.Ieee.Order.{round_mono}
-use borrow.Author.Tests.{eqb-true, eq-eqb, ltb-true, le-ltb, lt-ltb}
+use borrow.Author.Tests.{eqb-true, eq-eqb, le-ltb, lt-ltb}
 use Rattle.laws.specs.Area.{zero64}
-use Rattle.laws.proofs.Bools.{by_bool, and_left, and_right}
+use Rattle.laws.proofs.Bools.{and_left, and_right}
 use Rattle.elementary.proofs.Sizes.{Sized, held_whole, sized-round}
 use Rattle.strip_order.proofs.Signed.{Finite}
 

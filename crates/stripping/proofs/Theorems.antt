@@ -1,16 +1,14 @@
 -- What holds of every call that hands out frames: of one that is done, of one that is refused, and when it is done. Assumes nothing.
 use mathlib.Core.Path.{◌≡◌, refl, sym, ap, subst, ◌∙◌}
-use mathlib.Core.List.{List, ◌++◌}
+use mathlib.Core.List.{List}
 use mathlib.Core.Bool.{Bool, true, false, ◌||◌, true≢false}
-use Prim.Native.Nat.{ℕ, zero, suc, ◌+◌, ◌-◌, ◌<◌, ◌≤◌}
+use Prim.Native.Nat.{ℕ, ◌-◌, ◌<◌, ◌≤◌}
 use native.Mathlib.Omega.{arith}
-use native.Mathlib.Nat.{zero-add}
-use lib.Dec.{eqb, ltb}
+use lib.Dec.{ltb}
 use lib.ListN.{length, set, drop, length-append, length-drop}
 use lib.Seq.{drop-set-lt, drop_at}
 use lib.Ieee.{Float, binary64, sub, to_bits}
-use borrow.Author.Tests.{ltb-false, le-ltb, ne_eqb}
-use Rattle.laws.specs.Loops.{loop}
+use borrow.Author.Tests.{ltb-false, ne_eqb}
 use Rattle.laws.specs.Area.{at, num}
 use Rattle.laws.specs.Joined.{each}
 use Rattle.laws.proofs.Bools.{by_bool, or_left, or_right}
@@ -21,14 +19,14 @@ use Rattle.run_entry.specs.declared.Fault.{Fault}
 use Rattle.run_entry.specs.State.{Memory}
 use Rattle.run_entry.specs.Entry.{is_fine}
 use Rattle.record_words.specs.RecordWords.{settings_of, standing_of}
-use Rattle.strip_order.specs.Strip.{strip_place, strip_order, strip_gap, strip_gaps, AllCalm}
+use Rattle.strip_order.specs.Strip.{strip_place, strip_order, strip_gap, strip_gaps}
 use Rattle.strip_order.proofs.Places.{place-below, order-size}
 use Rattle.strip_profile.specs.Profile.{in_profile}
 use Rattle.hand_out.specs.declared.Handed.{Handed}
 use Rattle.hand_out.specs.declared.Handed.TheVariants.{Done, Outside, Early, Barred, Short, Bad}
 use Rattle.hand_out.specs.HandOut.{calm_along, Handing, handing, along_line, hand_tested, hand_fault, handed_out}
 use Rattle.hand_out.proofs.Laws.{all-calm, handed-along}
-use Rattle.stripping.specs.Along.{ByRule, HandedAlong}
+use Rattle.stripping.specs.Along.{HandedAlong}
 use Rattle.stripping.proofs.Rule.{order-by-rule, gap-not-below}
 
 -- ---- the tails

@@ -1,6 +1,5 @@
 use Rattle.laws.proofs.Loops.{loop-start, loop-next, loop-done}
 use lib.ListN.{length-set}
-use Prim.Native.Nat.{◌-◌}
 use borrow.Author.Rules.{rules}
 use Rattle.frame_words.proofs.put_features.Goals as goal
 

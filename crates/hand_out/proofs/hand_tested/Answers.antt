@@ -1,6 +1,5 @@
 -- `hand_out::hand_tested` meets its contract: by `hand-bad`, `hand-outside`, `hand-early`, `hand-barred`, `order-short`, `gaps-short` and others.
 use Rattle.hand_out.proofs.Laws.{hand-bad, hand-outside, hand-early, hand-barred, order-short, gaps-short, handed-along}
-use mathlib.Core.Bool.{true}
 use mathlib.Core.Path.{sym, ◌∙◌}
 use native.Mathlib.Omega.{arith}
 use Rattle.hand_out.proofs.hand_tested.Goals as goal

@@ -1,8 +1,6 @@
 use Rattle.hand_out.specs.HandOut.{calm_along}
 use Rattle.laws.proofs.Every.{every-none, every-next, every-no, every-done}
 use mathlib.Core.Path.{sym, ◌∙◌}
-use mathlib.Core.Bool.{true}
-use Prim.Native.Nat.{◌-◌}
 use native.Mathlib.Omega.{arith}
 use Rattle.hand_out.proofs.is_calm_along.Goals as goal
 

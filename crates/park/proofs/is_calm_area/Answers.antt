@@ -1,8 +1,6 @@
 use Rattle.park.specs.Park.{calm_all}
 use Rattle.laws.proofs.Every.{every-none, every-next, every-no, every-done}
 use mathlib.Core.Path.{sym, ◌∙◌}
-use mathlib.Core.Bool.{true}
-use Prim.Native.Nat.{◌-◌}
 use native.Mathlib.Omega.{arith}
 use Rattle.park.proofs.is_calm_area.Goals as goal
 

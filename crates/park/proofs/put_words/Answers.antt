@@ -2,7 +2,6 @@ use Rattle.little.proofs.Bytes.{length-bytes}
 use Rattle.park.proofs.Laws.{words-next}
 use Rattle.park.specs.Park.{parked_into}
 use Rattle.laws.proofs.Laid.{lays-start, lays-done}
-use Prim.Native.Nat.{◌-◌}
 use native.Mathlib.Omega.{arith}
 use Rattle.park.proofs.put_words.Goals as goal
 

@@ -1,8 +1,5 @@
-use Rattle.parked.specs.Fine.{word_fine}
 use Rattle.laws.proofs.Every.{every-none, every-next, every-no, every-done}
 use mathlib.Core.Path.{sym, ◌∙◌}
-use mathlib.Core.Bool.{true}
-use Prim.Native.Nat.{◌-◌}
 use native.Mathlib.Omega.{arith}
 use Rattle.parked_fine.proofs.words_fine.Goals as goal
 

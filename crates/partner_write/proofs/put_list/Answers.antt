@@ -1,4 +1,4 @@
-use Prim.Native.Nat.{◌+◌, ◌-◌}
+use Prim.Native.Nat.{◌+◌}
 use Rattle.partner_write.proofs.Laws.{rows-put-start, rows-put-done, link-next, link-size}
 use native.Mathlib.Omega.{arith}
 use Rattle.partner_write.proofs.put_list.Goals as goal

@@ -1,4 +1,4 @@
-use Prim.Native.Nat.{◌+◌, ◌-◌}
+use Prim.Native.Nat.{◌+◌}
 use Rattle.partner_write.proofs.Laws.{rows-put-start, list-within, list-next, lists-end}
 use native.Mathlib.Omega.{arith}
 use Rattle.partner_write.proofs.put_lists.Goals as goal

@@ -1,7 +1,6 @@
 use Rattle.parked_file.proofs.Stands.{missing, words-stand, due-is, seeks-three}
 use Rattle.parked_file.specs.File.{first_bad}
 use Rattle.laws.proofs.First.{seek-next, seek_stop, seek-done}
-use Prim.Native.Nat.{◌-◌}
 use mathlib.Core.Bool.{not}
 use mathlib.Core.Path.{ap, ◌∙◌}
 use native.Mathlib.Omega.{arith}

@@ -1,6 +1,5 @@
 use Rattle.areas.proofs.Fetched.{fetches-start, fetches-next, fetches-done}
 use Rattle.unpark.specs.Unpark.{fetched}
-use Prim.Native.Nat.{◌-◌}
 use native.Mathlib.Omega.{arith}
 use Rattle.unpark.proofs.fetch.fetch_numbers.Goals as goal
 

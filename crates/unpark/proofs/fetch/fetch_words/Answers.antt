@@ -1,6 +1,5 @@
 use Rattle.areas.proofs.Fetched.{fetches-start, fetches-next, fetches-done}
 use Rattle.unpark.specs.Unpark.{fetched}
-use Prim.Native.Nat.{◌-◌}
 use Rattle.unpark.proofs.fetch.fetch_words.Goals as goal
 
 pub loop-i-init : goal.loop-i-init
