@@ -1,6 +1,6 @@
 /* Brothanchor: the map-maker of a laserdisc transfer desk, for C.
  *
- * Link libdesk.a (rt staticlib desk), for x86-64 Linux. All memory is lent by the caller; nothing is kept between calls.
+ * Link libdesk.a (tools/staticlib desk OUT), for x86-64 Linux. All memory is lent by the caller; nothing is kept between calls.
  * An area is a pointer and its number of elements; an empty area may have any pointer. Areas of one call must not overlap.
  * A call that is refused at its entry changes nothing, but for the answer of a work call, of a divergence, of a parking, of a
  * reading, of a removal, of an import, of a writing of lists, of a strip, of a file for the monitor or of a salvage. Longer areas keep
