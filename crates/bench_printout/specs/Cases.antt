@@ -6,7 +6,7 @@ use Rattle.laws.specs.Loops.{seek}
 use Rattle.laws.specs.Joined.{joined}
 use Rattle.little.specs.Little.{little_of}
 use Rattle.text.specs.Text.{decimals, decimal_of, hex_of}
-use Rattle.frames.specs.Frames.{frame_of, features_at, starts_at}
+use Rattle.frames.specs.Frames.{frame_of}
 use Rattle.bench_mapping.specs.declared.Mapped.{Mapped}
 use Rattle.bench_mapping.specs.Cases.{example}
 use Rattle.bench_lines.specs.BenchLines.{label_text, position_text}

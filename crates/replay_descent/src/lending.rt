@@ -1,4 +1,4 @@
-// The work call with the record and the arena by value: proved by a walk, since it lends both.
+// The work call with the record and the arena by value: it lends both from locals.
 ghost use Rattle.std.specs.Prelude.{◌≡◌, ◌≤◌, take};
 ghost use Rattle.run_entry.specs.State.{memory, state};
 ghost use Rattle.run_budget.specs.Budget.{worked};

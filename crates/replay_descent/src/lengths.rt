@@ -1,7 +1,7 @@
 // How much of each area a call is lent.
 ghost use Rattle.std.specs.Prelude.{◌≤◌};
 
-use crate::areas::least;
+use crate::run_areas::least;
 use replay::areas::plus;
 use replay::word_at;
 

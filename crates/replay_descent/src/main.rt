@@ -2,19 +2,19 @@
 
 #![tactic(auto)]
 
-mod areas;
 mod fields;
 mod lending;
 mod lengths;
 mod nodes;
 mod preparation;
+mod run_areas;
 mod working;
 
-use areas::both;
 use descent::Answer;
 use preparation::{answer_place, begin};
 use replay::areas::plus;
 use replay::word_at;
+use run_areas::both;
 use run_record::Run;
 use std::io;
 use std::rt::Files;

@@ -1,7 +1,7 @@
 // The nodes of an arena as a list has them: a node is twelve words, fields 0 to 8 values and 9 to 11 numbers.
 ghost use Rattle.std.specs.Prelude.{◌≤◌};
 
-use crate::areas::{more, narrow, wide};
+use crate::run_areas::{more, narrow, wide};
 use replay::areas::plus;
 use replay::word_at;
 use tree_node::Cell;

@@ -1,9 +1,9 @@
 // The preparation of a case: marked areas, lent as far as the case says, and held against their digests.
 ghost use Rattle.std.specs.Prelude.{◌≤◌, length};
 
-use crate::areas::{Areas, both, least, marked, same, same_areas, same_words};
 use crate::fields::settings_at;
 use crate::lengths::{length_at, lent_at};
+use crate::run_areas::{Areas, both, least, marked, same, same_areas, same_words};
 use prepare::Prepared;
 use replay::areas::{copy_words, mark, mark_words, plus};
 use replay::word_at;

@@ -1,8 +1,8 @@
 // The work calls of a case: an alteration, the areas lent as far as the call says, and what comes of it.
-use crate::areas::{Areas, altered, both, narrow, same_areas};
 use crate::fields::{change_at, changed, same_answer, same_run};
 use crate::lending::work_lent;
 use crate::lengths::lent_at;
+use crate::run_areas::{Areas, altered, both, narrow, same_areas};
 use descent::Worked;
 use replay::areas::plus;
 use replay::word_at;

@@ -1,4 +1,4 @@
--- What the walk of `forces_in` cites: that the forces unit may be asked for. Assumes nothing.
+-- That the forces unit may be asked for. Assumes nothing.
 use mathlib.Core.Path.{◌≡◌, sym, subst}
 use mathlib.Core.List.{List}
 use mathlib.Core.Bool.{true}

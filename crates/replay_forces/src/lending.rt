@@ -1,4 +1,4 @@
-// The forces unit of a point, with an arena by value: proved by a walk, since it lends cells.
+// The forces unit of a point, with an arena by value: the cells are lent from a local.
 ghost use Rattle.std.specs.Prelude.{◌≡◌, ◌+◌, ◌*◌, ◌<◌, ◌≤◌, length};
 ghost use Rattle.laws.specs.Domain.{most_frames};
 ghost use Rattle.tree_node.specs.Node.{Axes};

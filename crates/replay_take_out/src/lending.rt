@@ -1,4 +1,4 @@
-// The call with the record and the arena by value: proved by a walk, since it lends both.
+// The call with the record and the arena by value: it lends both from locals.
 ghost use Rattle.std.specs.Prelude.{◌≡◌, ◌≤◌, take};
 ghost use Rattle.tree_node.specs.Arena.{nodes_of};
 ghost use Rattle.take_out.specs.TakeOut.{holdings, took_out, take_out};

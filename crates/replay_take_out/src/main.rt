@@ -2,9 +2,9 @@
 
 #![tactic(auto)]
 
-mod areas;
 mod lending;
 mod lengths;
+mod run_areas;
 mod taking;
 
 use replay::areas::plus;

@@ -1,9 +1,9 @@
--- `bench_cases::map_cases` meets its contract: the loop keeps what has been done equal to its part of the whole.
+-- `bench_cases::map_cases` ends, since each case leads on.
 use Rattle.std.proofs.Common.{◌-◌, ◌≤◌}
 use Rattle.bench_cases.proofs.map_cases.Given as goal
 
--- abbrev invariant-loop : tie.invariant-loop
--- invariant-loop list words k₀ a₀ k a = 0 ≤ a
+abbrev pub invariant-loop-a : goal.invariant-loop-a
+invariant-loop-a g l = 0 ≤ l.a
 
--- abbrev decreases-loop : tie.decreases-loop
--- decreases-loop list words k₀ a₀ k a = words - a
+abbrev pub decreases-loop-a : goal.decreases-loop-a
+decreases-loop-a g l = l.words - l.a

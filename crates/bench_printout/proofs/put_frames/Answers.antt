@@ -1,4 +1,3 @@
-use Prim.Native.Nat.{◌-◌}
 use Rattle.bench_printout.proofs.Lines.{lines_start, lines_next, lines-done}
 use Rattle.text.proofs.Puts.{puts_then}
 use native.Mathlib.Omega.{arith}

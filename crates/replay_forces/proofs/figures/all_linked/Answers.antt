@@ -1,6 +1,6 @@
 use mathlib.Core.Bool.{true≢false}
 use mathlib.Core.Path.{sym}
-use Prim.Native.Nat.{ℕ, ◌-◌}
+use Prim.Native.Nat.{ℕ}
 use Rattle.gradient.specs.Forces.{Linked}
 use Rattle.replay_forces.proofs.Below.{each_next}
 use native.Mathlib.Omega.{arith}

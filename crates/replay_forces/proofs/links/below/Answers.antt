@@ -1,4 +1,3 @@
-use Prim.Native.Nat.{◌-◌}
 use Rattle.replay_forces.proofs.Below.{below_next}
 use mathlib.Core.Bool.{true≢false}
 use mathlib.Core.Path.{sym}

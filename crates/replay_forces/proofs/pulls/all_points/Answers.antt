@@ -1,6 +1,5 @@
 use borrow.Author.Rules.{rules}
 use mathlib.Core.Path.{sym, ◌∙◌}
-use Prim.Native.Nat.{◌-◌}
 use Rattle.replay_arena.proofs.Told.{fine-walks}
 use Rattle.replay_forces.proofs.pulls.all_points.Goals as goal
 

@@ -1,2 +1,0 @@
-mod Within
-pub mod Told

@@ -1,0 +1,8 @@
+-- `replay_forces::lending::forces_in` meets its contract: by `forces-asks`.
+use Rattle.replay_forces.proofs.Told.{forces-asks}
+use Rattle.replay_forces.proofs.lending.forces_in.Goals as goal
+
+pub point_forces-requires : goal.point_forces-requires
+point_forces-requires c =
+    forces-asks c.args.cells c.args.k c.args.used c.args.positions.now c.args.weights.now c.args.indices.now c.args.offsets.now c.args.n c.args.c c.args.i
+    c.args.forces.now c.requires
