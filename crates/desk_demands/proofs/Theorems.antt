@@ -1,8 +1,8 @@
 -- What is so of every run, with its record as words: the theorems on records as values (descent, Theorems; prepare, Begins) over the two calls that a host makes. Assumes nothing.
 use mathlib.Core.List.{List, [], ◌∷◌, ◌++◌}
 use mathlib.Core.Path.{◌≡◌, refl, sym, ap, subst, ◌∙◌}
-use mathlib.Core.Bool.{Bool, true, false, true≢false}
-use Prim.Native.Nat.{ℕ, zero, suc, ◌+◌, ◌<◌, ◌≤◌}
+use mathlib.Core.Bool.{true, false, true≢false}
+use Prim.Native.Nat.{ℕ, zero, suc, ◌+◌, ◌≤◌}
 use native.Mathlib.Omega.{arith}
 use lib.Dec.{eqb, ltb}
 use lib.ListN.{length, length-set}
@@ -17,16 +17,15 @@ use Rattle.run_calls.specs.Machine.{stops, after, units_done, kind_at, go, call,
 use Rattle.run_record.specs.declared.Standing.{Standing}
 use Rattle.run_record.specs.declared.Standing.TheVariants.{Running as Runs, Stopped as Stops, Finished as Ends}
 use Rattle.run_record.specs.declared.Run.{Run}
-use Rattle.run_record.specs.declared.Settings.{Settings}
 use Rattle.run_record.specs.Record.{is_ended, fresh_run}
-use Rattle.run_entry.specs.State.{Memory, State, state}
+use Rattle.run_entry.specs.State.{State, state}
 use Rattle.run_entry.specs.Entry.{fault_of, is_fine, Good}
 use Rattle.run_finish.specs.declared.Why.{Why}
 use Rattle.run_finish.specs.declared.Why.TheVariants.{Done, Full as NoNodes, Wild as TooLarge, Over}
 use Rattle.run_units.specs.Units.{unit}
 use Rattle.run_budget.specs.declared.Answer.{Answer}
 use Rattle.run_budget.specs.declared.Answer.TheVariants.{Running, Stopped, Finished, Full, Wild, Bad}
-use Rattle.run_budget.specs.Budget.{machine, Worked, answer_of, stands_of, refused_of}
+use Rattle.run_budget.specs.Budget.{machine, answer_of, stands_of, refused_of}
 use Rattle.run_budget.proofs.Keeps.{unit-settings}
 use Rattle.run_budget.proofs.Spends.{due}
 use Rattle.descent.specs.Descent.{work, work_number, units_of, answer_kind, is_last, whole_units, works, told_all}
@@ -38,7 +37,7 @@ use Rattle.prepare.specs.declared.Prepared.{Prepared}
 use Rattle.prepare.specs.declared.Prepared.TheVariants.{Ready}
 use Rattle.prepare.specs.Prepare.{Lent, lengths_of, prepare_fault, prepared, memory_of, prepare_number}
 use Rattle.prepare.proofs.Begins.{preparation-honest}
-use Rattle.record_words.specs.RecordWords.{settings_fine, settings_of, run_fine, run_of, progress_put, run_put, short_number}
+use Rattle.record_words.specs.RecordWords.{settings_fine, settings_of, run_fine, run_of, progress_put, run_put}
 use Rattle.answer_words.specs.AnswerWords.{kind_word, is_bad, run_after, answer_put}
 use Rattle.record_words.proofs.Laws.{run_long}
 use Rattle.answer_words.proofs.Laws.{answer_back}

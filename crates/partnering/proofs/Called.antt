@@ -1,8 +1,8 @@
 -- The two calls as the desk sees them: an import accepts exactly the lists that meet the rules, a run in good order gets its lists written, and a refusal changes nothing. Assumes nothing.
-use mathlib.Core.Path.{◌≡◌, refl, sym, ap, subst, ◌∙◌}
-use mathlib.Core.List.{List, map}
-use mathlib.Core.Bool.{Bool, true, false, not}
-use Prim.Native.Nat.{ℕ, ◌+◌, ◌*◌, ◌<◌, ◌≤◌}
+use mathlib.Core.Path.{◌≡◌, refl}
+use mathlib.Core.List.{List}
+use mathlib.Core.Bool.{true}
+use Prim.Native.Nat.{ℕ, ◌*◌, ◌≤◌}
 use native.Mathlib.Omega.{arith}
 use lib.Dec.{eqb, ltb}
 use lib.ListN.{length}
@@ -14,14 +14,13 @@ use Rattle.tree_node.specs.declared.Node.{Node}
 use Rattle.run_record.specs.declared.Settings.{Settings}
 use Rattle.run_record.specs.declared.Run.{Run}
 use Rattle.run_record.specs.Record.{sizes_of, fresh_run}
-use Rattle.run_entry.specs.Entry.{is_fine, fault_of, fault_number, Good}
+use Rattle.run_entry.specs.Entry.{is_fine, fault_of, Good}
 use Rattle.run_entry.specs.declared.Fault.{Fault}
 use Rattle.run_entry.specs.declared.Fault.TheVariants.{Fine}
 use Rattle.run_entry.proofs.Laws.{fault-good}
 use Rattle.record_words.specs.RecordWords.{run_fine, run_of}
 use Rattle.words_entry.specs.WordsEntry.{words_fault}
 use Rattle.parked.specs.Parked.{Stored, stored_of}
-use Rattle.partner.specs.Partner.{is_partner}
 use Rattle.partner.specs.Rules.{PartnerRules}
 use Rattle.partner.proofs.Accepted.{accepted-rules, rules-accepted}
 use Rattle.partner_import.specs.declared.Imported.TheVariants.{Loaded}

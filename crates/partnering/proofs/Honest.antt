@@ -1,8 +1,8 @@
 -- A run begun from a partner's list is honest: so demand 3 and its kin hold from there on, the import in preparation's place. Assumes nothing.
-use mathlib.Core.Path.{◌≡◌, refl, sym, ap, subst, ◌∙◌}
+use mathlib.Core.Path.{◌≡◌, refl}
 use mathlib.Core.List.{List, map}
 use mathlib.Core.Bool.{true, false}
-use Prim.Native.Nat.{ℕ, ◌+◌, ◌*◌, ◌<◌, ◌≤◌}
+use Prim.Native.Nat.{ℕ, ◌+◌, ◌*◌, ◌≤◌}
 use native.Mathlib.Omega.{arith}
 use lib.Dec.{eqb}
 use lib.ListN.{length}
@@ -19,10 +19,9 @@ use Rattle.run_record.specs.Record.{state_fits, sizes_of, fresh_run}
 use Rattle.run_record.proofs.Laws.{per-some}
 use Rattle.run_entry.specs.State.{State}
 use Rattle.run_entry.specs.Entry.{GoodAreas, Good}
-use Rattle.partner.specs.Partner.{whole_links, first_bad_link, is_partner}
-use Rattle.partner_import.specs.declared.Imported.{Imported}
+use Rattle.partner.specs.Partner.{first_bad_link, is_partner}
 use Rattle.partner_import.specs.declared.Imported.TheVariants.{Refused, BadRecord, Loaded}
-use Rattle.partner_import.specs.Import.{Loading, lent_lengths, tree_settings, import_fault, one_bits, loaded_areas, import_outcome, judged_list, import_of, import_number}
+use Rattle.partner_import.specs.Import.{Loading, lent_lengths, tree_settings, import_fault, one_bits, loaded_areas, judged_list, import_of, import_number}
 use Rattle.partner_import.proofs.Laws.{LetIn, let-in, list-room, links-in-number}
 use Rattle.descent.specs.Descent.{work, work_number, is_last, whole_units, works}
 use Rattle.descent.specs.Honest.{Honest, Roomy}

@@ -1,8 +1,8 @@
 -- An accepted list in the areas: its offsets and indices are in good order, and no area changes its length. The premise is that the list is accepted; nothing else is assumed.
-use mathlib.Core.Path.{◌≡◌, refl, sym, ap, subst, ◌∙◌}
+use mathlib.Core.Path.{◌≡◌, ap, ◌∙◌}
 use mathlib.Core.List.{List, ◌++◌}
 use mathlib.Core.Bool.{Bool, true, false}
-use Prim.Native.Nat.{ℕ, zero, suc, ◌+◌, ◌-◌, ◌*◌, ◌<◌, ◌≤◌}
+use Prim.Native.Nat.{ℕ, ◌+◌, ◌-◌, ◌<◌, ◌≤◌}
 use native.Mathlib.Omega.{arith}
 use native.Mathlib.Decide.{ℕ_discrete, dec_lt}
 use lib.Dec.{ltb}
@@ -10,7 +10,7 @@ use lib.ListN.{length, drop, length-append, length-drop}
 use borrow.Author.Tests.{eq-eqb, ne_eqb, lt-ltb, le-ltb, le-leb}
 use Rattle.laws.specs.Area.{num}
 use Rattle.laws.specs.Sums.{sum, bit}
-use Rattle.laws.specs.Joined.{joined, each}
+use Rattle.laws.specs.Joined.{each}
 use Rattle.laws.proofs.Sums.{sum_same, sum-le, sum-const}
 use Rattle.laws.proofs.Joined.{length-singles, singles-at}
 use Rattle.run_entry.specs.Entry.{offset_fine, index_fine}

@@ -1,18 +1,18 @@
 -- Our own lists, written, meet the rules; and loading what was written gives the same lists. The premise is that the lists are as preparation leaves them; nothing else is assumed.
-use mathlib.Core.Path.{◌≡◌, refl, sym, ap, subst, ◌∙◌}
+use mathlib.Core.Path.{◌≡◌, sym, ap, subst, ◌∙◌}
 use mathlib.Core.List.{List, ◌++◌}
 use mathlib.Core.Logic.{inl, inr}
 use mathlib.Core.Bool.{true}
-use Prim.Native.Nat.{ℕ, ◌+◌, ◌-◌, ◌*◌, ◌%◌, ◌<◌, ◌≤◌}
+use Prim.Native.Nat.{ℕ, ◌+◌, ◌-◌, ◌<◌, ◌≤◌}
 use native.Mathlib.Omega.{arith}
 use native.Mathlib.Decide.{dec_lt}
-use lib.ListN.{length, take, drop}
+use lib.ListN.{length, drop}
 use Rattle.laws.specs.Area.{num, bits}
 use Rattle.laws.specs.Joined.{each, pasted}
 use Rattle.laws.proofs.Laid.{singles-taken}
 use Rattle.run_record.specs.Record.{positive}
 use Rattle.affinity_lists.specs.Lists.{InList}
-use Rattle.partner.specs.Partner.{link_bytes, whole_links, link_from, link_to, link_weight, is_partner}
+use Rattle.partner.specs.Partner.{whole_links, link_from, link_to, link_weight, is_partner}
 use Rattle.partner.specs.Rules.{PairBefore, Mirrors, PartnerRules}
 use Rattle.partner.proofs.Accepted.{rules-accepted, accepted-frames}
 use Rattle.partner_load.specs.Loaded.{indices_loaded, weights_loaded, links_below, offsets_loaded, FramesRise}

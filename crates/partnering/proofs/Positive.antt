@@ -11,9 +11,8 @@ use lib.Pow.{pow-add, pow_pos, pow_mono}
 use lib.Ieee.{Float, nan, inf, fin, binary64, up, down, lt, le, eq, fits, of_bits}
 use lib.Ieee.Fits.{and_r}
 use lib.Ieee.Order.{le_of_values}
-use borrow.Author.Tests.{eq-eqb, lt-ltb}
-use Rattle.laws.specs.Area.{bits, zero64}
-use Rattle.laws.proofs.Bools.{by_bool}
+use borrow.Author.Tests.{lt-ltb}
+use Rattle.laws.specs.Area.{zero64}
 use Rattle.elementary.specs.Limits.{not_negative}
 use Rattle.elementary.proofs.Near.{digits}
 use Rattle.run_record.specs.Record.{largest, positive}

@@ -1,16 +1,15 @@
 -- Preparation's lists, written, are accepted whenever no weight is zero, and loading them gives preparation's lists again. Assumes nothing.
-use mathlib.Core.Path.{◌≡◌, refl, sym, ap, subst, ◌∙◌}
+use mathlib.Core.Path.{◌≡◌, sym, ap, subst, ◌∙◌}
 use mathlib.Core.List.{List, map}
-use mathlib.Core.Bool.{Bool, true, false, not}
+use mathlib.Core.Bool.{true, false, not}
 use Prim.Native.Nat.{ℕ, ◌+◌, ◌-◌, ◌*◌, ◌<◌, ◌≤◌}
 use native.Mathlib.Omega.{arith}
 use native.Mathlib.Nat.{mul_assoc}
 use lib.Dec.{T, eqb}
 use lib.ListN.{length}
-use lib.Ieee.{Float, nan, inf, fin, binary64, eq, is_nan, to_bits, fits}
+use lib.Ieee.{Float, nan, inf, fin, binary64, eq, is_nan, to_bits}
 use lib.Ieee.Bits.{of_bits-fits, to_bits-of_bits}
 use borrow.Author.Tests.{eq-eqb, eqb-true}
-use Rattle.laws.specs.Domain.{most_frames}
 use Rattle.laws.specs.Area.{num, at, bits, zero64}
 use Rattle.laws.specs.Joined.{pasted}
 use Rattle.laws.proofs.Bools.{by_bool}

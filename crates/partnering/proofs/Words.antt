@@ -1,23 +1,22 @@
 -- A run begun from a partner's list through the words of the C function: where the answer is 0, the words say an honest run. Assumes nothing.
-use mathlib.Core.Path.{◌≡◌, refl, sym, ap, subst, ◌∙◌}
+use mathlib.Core.Path.{◌≡◌, refl, ap, ◌∙◌}
 use mathlib.Core.List.{List}
 use mathlib.Core.Bool.{Bool, true, false}
-use Prim.Native.Nat.{ℕ, ◌+◌, ◌*◌, ◌<◌, ◌≤◌}
+use Prim.Native.Nat.{ℕ, ◌≤◌}
 use native.Mathlib.Omega.{arith}
 use lib.Dec.{eqb, ltb}
-use lib.ListN.{length, set}
-use borrow.Author.Tests.{eqb-true, eqb-false, eq-eqb, ltb-false, le-ltb}
+use lib.ListN.{length}
+use borrow.Author.Tests.{eqb-false, ltb-false}
 use Rattle.laws.proofs.Bools.{by_bool}
 use Rattle.tree_node.specs.declared.Node.{Node}
 use Rattle.run_record.specs.declared.Settings.{Settings}
-use Rattle.run_record.specs.declared.Run.{Run}
 use Rattle.run_record.specs.Record.{sizes_of, fresh_run}
-use Rattle.record_words.specs.RecordWords.{settings_of, run_of, run_put, short_number}
+use Rattle.record_words.specs.RecordWords.{settings_of, run_of, run_put}
 use Rattle.record_words.proofs.Roundtrip.{Sayable, run-back, read-sayable}
 use Rattle.partner.specs.Partner.{whole_links, is_partner}
 use Rattle.partner_import.specs.declared.Imported.{Imported}
-use Rattle.partner_import.specs.declared.Imported.TheVariants.{Refused, BadRecord, Loaded}
-use Rattle.partner_import.specs.Import.{Loading, lent_lengths, tree_settings, import_fault, judged_list, loaded_areas, import_of, import_number}
+use Rattle.partner_import.specs.declared.Imported.TheVariants.{Loaded}
+use Rattle.partner_import.specs.Import.{Loading, lent_lengths, tree_settings, import_fault, judged_list, import_of, import_number}
 use Rattle.desk_import.specs.HostImport.{HostImported, record_imported, imported_in, host_import}
 use Rattle.descent.specs.Honest.{Honest}
 use Rattle.partnering.specs.Begun.{state_loaded}

@@ -1,21 +1,21 @@
 -- Lists as they are written: which record stands where, and what is read from it. The premise is that the lists lie one after the other; nothing else is assumed.
-use mathlib.Core.Path.{◌≡◌, refl, sym, ap, subst, ◌∙◌}
-use mathlib.Core.List.{List, [], ◌∷◌, ◌++◌, append-nil}
-use Prim.Native.Nat.{ℕ, zero, suc, ◌+◌, ◌-◌, ◌*◌, ◌/◌, ◌%◌, ◌^◌, ◌<◌, ◌≤◌}
+use mathlib.Core.Path.{◌≡◌, sym, ap, ◌∙◌}
+use mathlib.Core.List.{List, [], ◌++◌, append-nil}
+use Prim.Native.Nat.{ℕ, zero, suc, ◌+◌, ◌-◌, ◌*◌, ◌<◌, ◌≤◌}
 use native.Mathlib.Omega.{arith}
 use native.Mathlib.Decide.{dec_lt}
 use native.Mathlib.Numerals.{add-one}
-use lib.ListN.{length, get_or, length-append}
+use lib.ListN.{length, length-append}
 use lib.Seq.{get_or-append-add}
 use Rattle.laws.specs.Area.{num}
 use Rattle.laws.specs.Joined.{joined}
 use Rattle.laws.proofs.Joined.{joined-none, joined-grow, joined_at}
 use Rattle.laws.proofs.Laid.{laid-size, laid-at}
-use Rattle.little.specs.Little.{little_of, little_bytes}
+use Rattle.little.specs.Little.{little_bytes}
 use Rattle.little.proofs.Bytes.{length-bytes}
 use Rattle.little.proofs.Roundtrip.{little-same, little-back}
 use Rattle.affinity_lists.specs.Lists.{InList}
-use Rattle.partner.specs.Partner.{link_bytes, whole_links, given_links, link_from, link_to, link_weight}
+use Rattle.partner.specs.Partner.{whole_links, given_links, link_from, link_to, link_weight}
 use Rattle.partner_write.specs.Write.{link_record, link_at, list_records, lists_bytes, ListsLie}
 
 -- ---- one record

@@ -4,15 +4,15 @@
 --     demand-three-overnight       budgets before and after it, beside one call with their sum
 use mathlib.Core.Path.{◌≡◌, refl, sym, ap, subst, ◌∙◌}
 use mathlib.Core.List.{List, map}
-use mathlib.Core.Bool.{Bool, true, false, cond}
+use mathlib.Core.Bool.{Bool, true, false}
 use Prim.Native.Nat.{ℕ, ◌+◌, ◌*◌, ◌<◌, ◌≤◌}
 use native.Mathlib.Omega.{arith}
 use native.Mathlib.Nat.{zero-add}
 use lib.Dec.{eqb, leb}
-use lib.ListN.{length, take, drop, get_or, length-append}
+use lib.ListN.{length, take, drop, length-append}
 use lib.Seq.{length-take-le}
 use lib.Ieee.{Float, nan}
-use Rattle.laws.specs.Area.{at, num, bits, zero64}
+use Rattle.laws.specs.Area.{num, bits, zero64}
 use Rattle.laws.specs.Joined.{pasted}
 use Rattle.laws.proofs.Bools.{and_right}
 use Rattle.laws.proofs.Joined.{length-map, get_or-map-in}
@@ -22,7 +22,7 @@ use Rattle.little.specs.Little.{word_in}
 use Rattle.tree_node.specs.declared.Node.{Node}
 use Rattle.run_record.specs.Record.{is_tree, k_of, sizes_of}
 use Rattle.run_entry.specs.State.{State}
-use Rattle.run_entry.specs.Entry.{areas_fit, Good}
+use Rattle.run_entry.specs.Entry.{areas_fit}
 use Rattle.run_entry.proofs.Laws.{areas-fine}
 use Rattle.record_words.specs.RecordWords.{run_of, settings_of, method_of}
 use Rattle.record_words.proofs.Laws.{method-tree}

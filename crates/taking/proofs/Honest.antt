@@ -8,7 +8,7 @@ use native.Mathlib.Decide.{ℕ_discrete}
 use native.Mathlib.Nat.{le_refl, mul-le-mul}
 use lib.ListN.{length, drop, replicate, get_or-append}
 use lib.Ieee.{Float, binary64, mul}
-use borrow.Author.Tests.{eq-eqb, ne_eqb, lt-ltb, le-leb, ltb-false, eqb-true}
+use borrow.Author.Tests.{eq-eqb, ne_eqb, lt-ltb, le-leb, ltb-false}
 use Rattle.laws.specs.Area.{num, bits}
 use Rattle.laws.proofs.Joined.{length-map}
 use Rattle.elementary.specs.Limits.{ceil_of, three64, neighbours_of}

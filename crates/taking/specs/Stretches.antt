@@ -1,5 +1,5 @@
 -- The states that calls and removals lead to, in any order. Definition only.
-use Rattle.std.specs.Prelude.{List, ◌≡◌, ℕ}
+use Rattle.std.specs.Prelude.{List, ℕ}
 use Rattle.run_record.specs.declared.Run.{Run}
 use Rattle.tree_node.specs.declared.Node.{Node}
 use Rattle.run_entry.specs.State.{State}

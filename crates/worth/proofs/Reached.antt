@@ -5,26 +5,25 @@
 --     flat-forces         with an angle of zero the forces unit of a point stores the sum over those leaves
 use mathlib.Core.Path.{◌≡◌, refl, sym, ap, subst, ◌∙◌}
 use mathlib.Core.List.{List, [], ◌∷◌}
-use mathlib.Core.Bool.{Bool, true, false, cond}
-use Prim.Native.Nat.{ℕ, zero, suc, ◌+◌, ◌-◌, ◌*◌, ◌%◌, ◌<◌, ◌≤◌, min}
+use mathlib.Core.Bool.{true}
+use Prim.Native.Nat.{ℕ, ◌+◌, ◌-◌, ◌*◌, ◌%◌, ◌<◌, min}
 use native.Mathlib.Omega.{arith}
 use native.Mathlib.Nat.{mod-eq_of_lt, mul-add-mod_self_right, min-le_right, zero-add}
 use lib.Dec.{eqb}
 use lib.ListN.{length}
 use lib.Ieee.{Float}
 use Rattle.laws.proofs.Bools.{by_bool}
-use Rattle.tree_node.specs.declared.Node.{Node}
 use Rattle.tree_node.specs.declared.Cell.{Cell}
 use Rattle.tree_node.specs.Node.{point_of}
 use Rattle.tree_walk.specs.Repel.{nothing}
 use Rattle.gradient.specs.Forces.{attraction_of, stored, forces_of}
 use Rattle.run_record.specs.declared.Settings.{Settings}
 use Rattle.run_record.specs.declared.Run.{Run}
-use Rattle.run_record.specs.Record.{is_tree, per_of, sizes_of, fresh_run}
-use Rattle.run_entry.specs.State.{State, state}
+use Rattle.run_record.specs.Record.{is_tree, per_of, fresh_run}
+use Rattle.run_entry.specs.State.{State}
 use Rattle.run_entry.specs.Entry.{Good}
 use Rattle.descent.specs.Descent.{work, works, told_all}
-use Rattle.descent.specs.Honest.{points_in, Built, Honest}
+use Rattle.descent.specs.Honest.{points_in, Honest}
 use Rattle.descent.proofs.Theorems.{call-keeps, stays-honest, after-each}
 use Rattle.descent.proofs.Framed.{work-frames}
 use Rattle.prepare.specs.declared.Prepared.TheVariants.{Ready, Refused}

@@ -2,7 +2,7 @@
 --     host-worth            from words that say an honest state
 --     host-begun-worth      from what preparation left: the insertions are taken from the units that the answers told
 --     read-worth            of a run that was read from a file
-use mathlib.Core.Path.{◌≡◌, refl, sym, ap, subst, ◌∙◌}
+use mathlib.Core.Path.{◌≡◌, sym, ap, subst, ◌∙◌}
 use mathlib.Core.List.{List}
 use mathlib.Core.Bool.{true}
 use Prim.Native.Nat.{ℕ, ◌+◌, ◌≤◌}
