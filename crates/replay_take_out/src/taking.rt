@@ -1,9 +1,11 @@
 // A case: the run of a list, frames taken out of it, and what comes of it.
 ghost use Rattle.std.specs.Prelude.{◌≤◌};
 
-use crate::run_areas::{bits_at, both, numbers_at, same_bits, same_numbers, same_values, values_at};
 use crate::lending::{empty_cells, take_lent};
 use crate::lengths::{Lengths, Places, lengths_at, places_from};
+use crate::run_areas::{
+    bits_at, both, numbers_at, same_bits, same_numbers, same_values, values_at,
+};
 use fault_words::{fault_value, unread_fault};
 use record_words::{put_run, run_fine, run_of};
 use replay::areas::plus;
