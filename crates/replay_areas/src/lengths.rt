@@ -31,7 +31,14 @@ pub fn length_at(list: &[u8], i: usize, most: usize) -> usize
 
 // The eight lengths from word i on.
 pub fn lengths_at(list: &[u8], i: usize) -> Lengths
-    ensures { (result.positions ≤ 48) × (result.increments ≤ 48) × (result.gains ≤ 48) × (result.affinities ≤ 48) × (result.indices ≤ 48) × (result.offsets ≤ 48) × (result.forces ≤ 96) × (result.nodes ≤ 4) }
+    ensures { (result.positions ≤ 48)
+        × (result.increments ≤ 48)
+        × (result.gains ≤ 48)
+        × (result.affinities ≤ 48)
+        × (result.indices ≤ 48)
+        × (result.offsets ≤ 48)
+        × (result.forces ≤ 96)
+        × (result.nodes ≤ 4) }
 {
     Lengths {
         positions: length_at(list, i, 48),

@@ -27,7 +27,14 @@ pub(crate) fn length_at(list: &[u8], i: usize, k: usize, most: usize) -> usize
 
 // The eight lengths from word i on, but no more than each area has.
 pub(crate) fn lent_at(list: &[u8], i: usize) -> Lent
-    ensures { (result.positions ≤ 132) × (result.increments ≤ 132) × (result.gains ≤ 132) × (result.affinities ≤ 4100) × (result.indices ≤ 2052) × (result.offsets ≤ 70) × (result.forces ≤ 324) × (result.nodes ≤ 512) }
+    ensures { (result.positions ≤ 132)
+        × (result.increments ≤ 132)
+        × (result.gains ≤ 132)
+        × (result.affinities ≤ 4100)
+        × (result.indices ≤ 2052)
+        × (result.offsets ≤ 70)
+        × (result.forces ≤ 324)
+        × (result.nodes ≤ 512) }
 {
     Lent {
         positions: length_at(list, i, 0, 132),

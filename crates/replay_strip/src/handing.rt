@@ -64,7 +64,16 @@ struct Left {
 
 // The run whose record stands from word a on, and its areas at their places: its frames handed out to order and gaps so long.
 fn handed(list: &[u8], a: usize, l: Lengths, at: Places, m: Rooms) -> Left
-    requires { (l.positions ≤ 48) × (l.increments ≤ 48) × (l.gains ≤ 48) × (l.affinities ≤ 48) × (l.indices ≤ 48) × (l.offsets ≤ 48) × (l.forces ≤ 96) × (l.nodes ≤ 4) × (m.order ≤ 48) × (m.gaps ≤ 48) }
+    requires { (l.positions ≤ 48)
+        × (l.increments ≤ 48)
+        × (l.gains ≤ 48)
+        × (l.affinities ≤ 48)
+        × (l.indices ≤ 48)
+        × (l.offsets ≤ 48)
+        × (l.forces ≤ 96)
+        × (l.nodes ≤ 4)
+        × (m.order ≤ 48)
+        × (m.gaps ≤ 48) }
 {
     let words = record_at(list, a);
     let positions = floats_at(list, at.positions);

@@ -33,7 +33,17 @@ fn length_at(list: &[u8], i: usize, most: usize) -> usize
 
 // The eleven lengths from word i on.
 pub(crate) fn lengths_at(list: &[u8], i: usize) -> Lengths
-    ensures { (result.positions ≤ 96) × (result.increments ≤ 96) × (result.gains ≤ 96) × (result.affinities ≤ 96) × (result.indices ≤ 64) × (result.offsets ≤ 64) × (result.forces ≤ 96) × (result.nodes ≤ 4) × (result.table ≤ 96) × (result.gone ≤ 64) × (result.old ≤ 64) }
+    ensures { (result.positions ≤ 96)
+        × (result.increments ≤ 96)
+        × (result.gains ≤ 96)
+        × (result.affinities ≤ 96)
+        × (result.indices ≤ 64)
+        × (result.offsets ≤ 64)
+        × (result.forces ≤ 96)
+        × (result.nodes ≤ 4)
+        × (result.table ≤ 96)
+        × (result.gone ≤ 64)
+        × (result.old ≤ 64) }
 {
     Lengths {
         positions: length_at(list, i, 96),

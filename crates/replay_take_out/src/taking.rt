@@ -164,7 +164,17 @@ fn same_rest(list: &[u8], l: Lengths, j: usize, forces: [f64; 96], table: [u64; 
 
 // The call on the run whose areas stand at their places: what is told, the record, and every place of all areas.
 fn run_right(list: &[u8], l: Lengths, at: Places, words: [u64; 14]) -> bool
-    requires { (l.positions ≤ 96) × (l.increments ≤ 96) × (l.gains ≤ 96) × (l.affinities ≤ 96) × (l.indices ≤ 64) × (l.offsets ≤ 64) × (l.forces ≤ 96) × (l.nodes ≤ 4) × (l.table ≤ 96) × (l.gone ≤ 64) × (l.old ≤ 64) }
+    requires { (l.positions ≤ 96)
+        × (l.increments ≤ 96)
+        × (l.gains ≤ 96)
+        × (l.affinities ≤ 96)
+        × (l.indices ≤ 64)
+        × (l.offsets ≤ 64)
+        × (l.forces ≤ 96)
+        × (l.nodes ≤ 4)
+        × (l.table ≤ 96)
+        × (l.gone ≤ 64)
+        × (l.old ≤ 64) }
 {
     let mut positions = values_at(list, at.positions, l.positions);
     let mut increments = bits_at(list, at.increments, l.increments);
