@@ -34,6 +34,6 @@ fn replay_lists(rt: &(impl Files + Print), list: &mut [u8]) -> io::Result<()> {
 }
 
 fn main(rt: HostRuntime) -> io::Result<()> {
-    let mut list = vec![in rt.alloc(); 0u8; 196608]?;
+    let mut list = [0u8; 196608];
     replay_lists(&rt, &mut list)
 }

@@ -68,7 +68,7 @@ fn replay_list(
 }
 
 fn main(rt: HostRuntime) -> io::Result<()> {
-    let mut list = vec![in rt.alloc(); 0u8; 278528]?;
+    let mut list = [0u8; 278528];
     replay_list(&rt, "runs.words", b"runs", &mut list)?;
     replay_list(&rt, "faults.words", b"faults", &mut list)
 }

@@ -35,7 +35,7 @@ fn replay_links(rt: &(impl Files + Print), list: &mut [u8]) -> io::Result<()> {
 }
 
 fn main(rt: HostRuntime) -> io::Result<()> {
-    let mut list = vec![in rt.alloc(); 0u8; 278528]?;
+    let mut list = [0u8; 278528];
     replay_pulls(&rt, &mut list)?;
     replay_moves(&rt, &mut list)?;
     replay_links(&rt, &mut list)

@@ -51,7 +51,7 @@ fn replay_list(
 }
 
 fn main(rt: HostRuntime) -> io::Result<()> {
-    let mut list = vec![in rt.alloc(); 0u8; 278528]?;
+    let mut list = [0u8; 278528];
     replay_list(&rt, "partner.words", b"partner", true, &mut list)?;
     replay_list(&rt, "lists.words", b"lists", false, &mut list)
 }

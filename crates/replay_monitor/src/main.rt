@@ -72,7 +72,7 @@ fn replay_list(
 }
 
 fn main(rt: HostRuntime) -> io::Result<()> {
-    let mut list = vec![in rt.alloc(); 0u8; 278528]?;
+    let mut list = [0u8; 278528];
     replay_list(&rt, "narrow.words", b"narrow", List::Narrow, &mut list)?;
     replay_list(&rt, "writes.words", b"writes", List::Writes, &mut list)?;
     replay_list(&rt, "reads.words", b"reads", List::Reads, &mut list)

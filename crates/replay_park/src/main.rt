@@ -52,7 +52,7 @@ fn replay_list(
 }
 
 fn main(rt: HostRuntime) -> io::Result<()> {
-    let mut list = vec![in rt.alloc(); 0u8; 278528]?;
+    let mut list = [0u8; 278528];
     replay_list(&rt, "parks.words", b"parks", true, &mut list)?;
     replay_list(&rt, "unparks.words", b"unparks", false, &mut list)
 }

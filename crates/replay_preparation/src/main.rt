@@ -240,7 +240,7 @@ fn replay_list(
 }
 
 fn main(rt: HostRuntime) -> io::Result<()> {
-    let mut list = vec![in rt.alloc(); 0u8; 278528]?;
+    let mut list = [0u8; 278528];
     replay_list(&rt, "preparation.words", b"preparation", &mut list)?;
     replay_list(&rt, "larger.words", b"larger preparations", &mut list)?;
     replay_list(&rt, "far.words", b"preparations of far frames", &mut list)

@@ -44,7 +44,7 @@ fn replay_list(
 }
 
 fn main(rt: HostRuntime) -> io::Result<()> {
-    let mut list = vec![in rt.alloc(); 0u8; 278528]?;
+    let mut list = [0u8; 278528];
     replay_list(&rt, "bytes.words", b"bytes", &mut list)?;
     replay_list(&rt, "orders.words", b"orders", &mut list)?;
     replay_list(&rt, "scuffed.words", b"scuffed", &mut list)

@@ -27,7 +27,7 @@ fn cases(list: &[u8]) -> replay::Tally {
 }
 
 fn main(rt: HostRuntime) -> io::Result<()> {
-    let mut list = vec![in rt.alloc(); 0u8; 278528]?;
+    let mut list = [0u8; 278528];
     let n = replay::load(&rt, "strip.words", &mut list);
     replay::print(&rt, b"strip", cases(&list[..n]))?;
     Ok(())
