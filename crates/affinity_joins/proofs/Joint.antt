@@ -33,8 +33,8 @@ place_is n x y u v h m e = elim (dec_lt x u) [
     same : x ≡ u → (x ≡ u) × (y ≡ v)
     same q = (q, let e' : x * n + y ≡ x * n + v = e ∙ ap (λ (z : ℕ). z * n + v) (sym q) in omega arith)
 
-pub place_in : (n x y l : ℕ) → x < n → y < n → n * n ≤ l → x * n + y < l
-place_in n x y l h m e = omega (arith, row_in x n n l h e)
+pub place-in : (n x y l : ℕ) → x < n → y < n → n * n ≤ l → x * n + y < l
+place-in n x y l h m e = omega (arith, row_in x n n l h e)
 
 module _ (n : ℕ) (d : Float) (l₀ : List Float) (room : n * n ≤ length l₀) where
   -- ---- the frames below i are joined with each other, and i with those below j; all other places are as they were
@@ -73,10 +73,10 @@ module _ (n : ℕ) (d : Float) (l₀ : List Float) (room : n * n ≤ length l₀
 
     at_low : at (pair_step n d i j l) low ≡ v
     at_low = get_or-set_other (set l low v) high low v nan (λ e. absurd (omega (arith, (place_is n j i i j hi (omega arith) e).0))) ∙
-        get_or-set_same l low v nan (rw r.size (place_in n j i (length l₀) (omega arith) hi room))
+        get_or-set_same l low v nan (rw r.size (place-in n j i (length l₀) (omega arith) hi room))
 
     at_high : at (pair_step n d i j l) high ≡ v
-    at_high = get_or-set_same (set l low v) high v nan (rw (length-set l low v, r.size) (place_in n i j (length l₀) hi (omega arith) room))
+    at_high = get_or-set_same (set l low v) high v nan (rw (length-set l low v, r.size) (place-in n i j (length l₀) hi (omega arith) room))
 
     -- both places of any other pair
     others : (a b : ℕ) → a < b → b < n → (b ≡ i → a ≡ j → ⊥) → (at (pair_step n d i j l) (a * n + b) ≡ at l (a * n + b)) × (at (pair_step n d i j l) (b * n + a) ≡ at l (b * n + a))
@@ -88,8 +88,8 @@ module _ (n : ℕ) (d : Float) (l₀ : List Float) (room : n * n ≤ length l₀
     joins_pair : Joins i (j + 1) (pair_step n d i j l)
     joins_pair = record {
       size = length-set (set l low v) high v ∙ length-set l low v ∙ r.size;
-      tail = drop-set-lt (n * n) (set l low v) high v (place_in n i j (n * n) hi (omega arith) (le_refl (n * n))) ∙
-          drop-set-lt (n * n) l low v (place_in n j i (n * n) (omega arith) hi (le_refl (n * n))) ∙ r.tail;
+      tail = drop-set-lt (n * n) (set l low v) high v (place-in n i j (n * n) hi (omega arith) (le_refl (n * n))) ∙
+          drop-set-lt (n * n) l low v (place-in n j i (n * n) (omega arith) hi (le_refl (n * n))) ∙ r.tail;
       own = λ a h m. other (a * n + a) (λ e. let q = place_is n a a j i m hi e in omega (arith, q)) (λ e. let q = place_is n a a i j m (omega arith) e in omega (arith, q)) ∙ r.own a h m;
       joint = λ a b h m o g. elim (ℕ_discrete a j) [
         | yes q ↦ elim (ℕ_discrete b i) [
@@ -121,9 +121,9 @@ module _ (n : ℕ) (d : Float) (l₀ : List Float) (room : n * n ≤ length l₀
     joins-own : Joins (i + 1) 0 (set l mine zero64)
     joins-own = record {
       size = length-set l mine zero64 ∙ r.size;
-      tail = drop-set-lt (n * n) l mine zero64 (place_in n i i (n * n) hi hi (le_refl (n * n))) ∙ r.tail;
+      tail = drop-set-lt (n * n) l mine zero64 (place-in n i i (n * n) hi hi (le_refl (n * n))) ∙ r.tail;
       own = λ a h m. elim (ℕ_discrete a i) [
-        | yes q ↦ rw q (get_or-set_same l mine zero64 nan (rw r.size (place_in n i i (length l₀) hi hi room)))
+        | yes q ↦ rw q (get_or-set_same l mine zero64 nan (rw r.size (place-in n i i (length l₀) hi hi room)))
         | no q ↦ beside a a m m (λ e x. q e) ∙ r.own a (omega arith) m
       ];
       joint = λ a b h m o g.

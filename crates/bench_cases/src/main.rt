@@ -41,7 +41,7 @@ fn map_cases(rt: &impl Print, list: &[u8]) -> io::Result<()> {
 }
 
 fn map_list(rt: &(impl Files + Print), list: &mut [u8]) -> io::Result<()> {
-    let n = replay::load(rt, "files.words", list);
+    let n = replay::load(rt, b"files.words", list);
     map_cases(rt, &list[..n])
 }
 

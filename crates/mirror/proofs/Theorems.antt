@@ -29,7 +29,7 @@ use Rattle.run_rooms.proofs.Places.{cells-forces}
 use Rattle.descent.specs.Descent.{work, work_number, units_of, works}
 use Rattle.prepare.specs.declared.Lengths.{Lengths}
 use Rattle.prepare.specs.declared.Prepared.TheVariants.{Refused, Ready}
-use Rattle.prepare.specs.Prepare.{Lent, lengths_of, all_in, prepare_fault, begun_areas, prepared, memory_of}
+use Rattle.prepare.specs.Prepare.{Lent, lengths_of, all_inside, prepare_fault, begun_areas, prepared, memory_of}
 use Rattle.prepare.proofs.Laws.{Passed, passed}
 use Rattle.prepare.proofs.Begins.{begun_state}
 use Rattle.mirror_values.specs.Values.{Shows}
@@ -52,7 +52,7 @@ module _ (turns : ℕ → Bool) (c : ℕ) (start : List Float) where
   fault-same : (s : Settings) (table : List Float) (l : Lengths) → prepare_fault s table start l ≡ prepare_fault s table (turned_start turns c start) l
   unfolding prepare_fault
   fault-same s table l =
-      let e : all_in start (s.n * s.c) ≡ all_in (turned_start turns c start) (s.n * s.c) = every-same (λ i. in_domain (at start i)) (λ i. in_domain
+      let e : all_inside start (s.n * s.c) ≡ all_inside (turned_start turns c start) (s.n * s.c) = every-same (λ i. in_domain (at start i)) (λ i. in_domain
       (at (turned_start turns c start) i)) (s.n * s.c) (λ i _. domain-same i) in
       rw (e, turned-long turns c start)
 

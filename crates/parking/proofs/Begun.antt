@@ -35,7 +35,7 @@ use Rattle.parked_file.specs.File.{record_stands, records_due, first_bad, is_par
 use Rattle.parked_file.proofs.Heads.{first-told, second-told}
 use Rattle.parking.specs.Held.{bytes_most, words_most, first_records, Begins}
 use Rattle.parking.proofs.Regions.{filled-most, less_one, Stacked, end_whole, head-before-end, by-region}
-use Rattle.parking.proofs.Words.{word-alone, word_bytes, rows_long, Lows, nil-low, cons-low, either-below}
+use Rattle.parking.proofs.Words.{word-alone, word-bytes, rows_long, Lows, nil-low, cons-low, either-below}
 use Rattle.parking.proofs.Files.{else-true, when_true, tested, held_test, index_test, value_test, at-positions, at-increments, at-gains, at-affinities}
 use Rattle.parking.proofs.Files.{at-indices, at-weights, by-stacked, at_head, at_words, record-word, head-0, head-1, head-2, records-fine, fine-records}
 use Rattle.parking.proofs.Files.{parked-long, parked-fine, fine-parked}
@@ -346,8 +346,8 @@ fronts : (f f' : List ℕ) (n : ℕ) → AllBelow bytes_most f → AllBelow byte
 fronts f f' n b b' m m' e =
     let row : ℕ → List ℕ = λ w. little_bytes 8 (word_in f w) in
     ap (λ (x : ℕ). take x f') (times n)
-    ∙ laid-front 8 row (4 * n) f' (λ i a. word_bytes f' i b' (omega arith) ∙ ap (little_bytes 8) (e i a))
-    ∙ sym (laid-front 8 row (4 * n) f (λ i a. word_bytes f i b (omega arith)))
+    ∙ laid-front 8 row (4 * n) f' (λ i a. word-bytes f' i b' (omega arith) ∙ ap (little_bytes 8) (e i a))
+    ∙ sym (laid-front 8 row (4 * n) f (λ i a. word-bytes f i b (omega arith)))
     ∙ ap (λ (x : ℕ). take x f) (sym (times n))
   where
     times : (n : ℕ) → 32 * n ≡ 4 * n * 8

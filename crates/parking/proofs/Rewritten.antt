@@ -28,7 +28,7 @@ use Rattle.parked_file.specs.File.{records_due, first_bad, is_parked}
 use Rattle.unpark.specs.Unpark.{record_read, settings_read, stored_read, has_room, Unparking, unparking, unpark_of}
 use Rattle.parking.specs.Held.{bytes_most}
 use Rattle.parking.proofs.Regions.{end_whole}
-use Rattle.parking.proofs.Words.{word_bytes}
+use Rattle.parking.proofs.Words.{word-bytes}
 use Rattle.parking.proofs.Files.{by-stacked, parked-long, parked-fine}
 use Rattle.parking.proofs.Entries.{Writes, writes-parks}
 use Rattle.parking.proofs.Taken.{layout-read, word_read, read-fine, read_between, read-calm, read-good}
@@ -90,7 +90,7 @@ module _ (f : List ℕ) (small : AllBelow bytes_most f) (P : is_parked f ≡ tru
       times x e = omega arith
 
   bytes_read : (i : ℕ) → i < l.end → take 8 (drop (i * 8) f) ≡ little_bytes 8 (parked_word l e i)
-  bytes_read i h = word_bytes f i small (omega (arith, words_long)) ∙ ap (little_bytes 8) (sym (word_read g (parked-fine f P) d i h))
+  bytes_read i h = word-bytes f i small (omega (arith, words_long)) ∙ ap (little_bytes 8) (sym (word_read g (parked-fine f P) d i h))
 
   pub into-read : (t : List ℕ) → parked_into l e t ≡ f ++ drop (length f) t
   unfolding parked_into

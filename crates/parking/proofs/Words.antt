@@ -42,8 +42,8 @@ pub word-alone : (v : ℕ → ℕ) (n w : ℕ) → w < n → v w < words_most �
 word-alone v n w h b = ap (λ (f : List ℕ). word_in f w) (sym (append-nil (joined (λ w. little_bytes 8 (v w)) n))) ∙ row_word v n w [] h b
 
 -- the bytes of word w
-pub word_bytes : (f : List ℕ) (w : ℕ) → AllBelow bytes_most f → 8 * w + 8 ≤ length f → take 8 (drop (w * 8) f) ≡ little_bytes 8 (word_in f w)
-word_bytes f w b h = ap (λ (x : ℕ). take 8 (drop x f)) (turn w) ∙ sym (bytes_back 8 f (8 * w) b h)
+pub word-bytes : (f : List ℕ) (w : ℕ) → AllBelow bytes_most f → 8 * w + 8 ≤ length f → take 8 (drop (w * 8) f) ≡ little_bytes 8 (word_in f w)
+word-bytes f w b h = ap (λ (x : ℕ). take 8 (drop x f)) (turn w) ∙ sym (bytes_back 8 f (8 * w) b h)
   where
     turn : (w : ℕ) → w * 8 ≡ 8 * w
     turn w = omega arith

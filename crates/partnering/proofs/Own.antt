@@ -19,7 +19,7 @@ use Rattle.partner_load.specs.Loaded.{indices_loaded, weights_loaded, links_belo
 use Rattle.partner_load.proofs.Counted.{ListsBegin, lists-counted}
 use Rattle.partner_write.specs.Write.{lists_bytes}
 use Rattle.partnering.specs.Own.{OwnLists}
-use Rattle.partnering.proofs.Written.{lists-long, lists-whole, from-written, to-written, weight-written, row_of, later-list}
+use Rattle.partnering.proofs.Written.{lists-long, lists-whole, from-written, to-written, weight-written, row-of, later-list}
 
 module _ (n most : ℕ) (W I O : List ℕ) (own : OwnLists n most W I O) (w : n ≤ 4294967296) where
   abbrev B : List ℕ
@@ -54,17 +54,17 @@ module _ (n most : ℕ) (W I O : List ℕ) (own : OwnLists n most W I O) (w : n 
 
   -- the frame whose link p is
   abbrev row_at : (p : ℕ) → p < whole_links B → ℕ
-  row_at p l = (row_of n W I O own.lie p (in-links p l)).0
+  row_at p l = (row-of n W I O own.lie p (in-links p l)).0
 
   module _ (p : ℕ) (l : p < whole_links B) where
     abbrev i : ℕ
     i = row_at p l
 
     row_in : i < n
-    row_in = (row_of n W I O own.lie p (in-links p l)).1.0
+    row_in = (row-of n W I O own.lie p (in-links p l)).1.0
 
     row-holds : InList O i p
-    row-holds = (row_of n W I O own.lie p (in-links p l)).1.1
+    row-holds = (row-of n W I O own.lie p (in-links p l)).1.1
 
     from_is : link_from B p ≡ i
     from_is = own-from i p row_in row-holds

@@ -142,8 +142,8 @@ module _ (n : ℕ) (W I O : List ℕ) (lie : ListsLie n W I O) where
     | no q ↦ (m, (omega arith, (omega arith, omega (arith, ap (num O) (add-one m)))))
   ]
 
-  pub row_of : (p : ℕ) → p < num O n → (i : ℕ) × ((i < n) × InList O i p)
-  row_of p l = row_below n (omega arith) p l
+  pub row-of : (p : ℕ) → p < num O n → (i : ℕ) × ((i < n) × InList O i p)
+  row-of p l = row_below n (omega arith) p l
 
   -- a later list begins no earlier
   pub later-list : (d i : ℕ) → i + d ≤ n → num O i ≤ num O (i + d)

@@ -28,7 +28,7 @@ use Rattle.run_entry.proofs.Laws.{areas-fine}
 use Rattle.run_rooms.proofs.Places.{cells-forces}
 use Rattle.prepare.specs.declared.Lengths.{Lengths}
 use Rattle.prepare.specs.declared.Prepared.TheVariants.{Refused, Ready}
-use Rattle.prepare.specs.Prepare.{Lent, lent, lengths_of, all_in, lengths_fit, prepare_fault, routed, routed_in, prepare_outcome, prepared}
+use Rattle.prepare.specs.Prepare.{Lent, lent, lengths_of, all_inside, lengths_fit, prepare_fault, routed, routed_in, prepare_outcome, prepared}
 use Rattle.run_record.specs.declared.Run.{Run}
 use Rattle.prepare.specs.Room.{RouteRoom}
 
@@ -49,7 +49,7 @@ early-late s a b = settings-fine s (rw a b)
 pub record Passed (s : Settings) (table start : List Float) (l : Lengths) : Type 0 where
   pub good : GoodSettings s
   pub table_is : length table ≡ s.n * s.f
-  pub table-in : all_in table (s.n * s.f) ≡ true
+  pub table-in : all_inside table (s.n * s.f) ≡ true
   pub start_is : length start ≡ s.n * s.c
   pub areas : GoodAreas s l.positions l.increments l.gains l.affinities l.indices l.offsets l.forces l.nodes
   pub values : s.n ≤ l.values
@@ -58,8 +58,8 @@ pub record Passed (s : Settings) (table start : List Float) (l : Lengths) : Type
 pub passed : (s : Settings) (table start : List Float) (l : Lengths) → prepare_fault s table start l ≡ 0 → Passed s table start l
 unfolding prepare_fault lengths_fit
 passed s table start l e =
-    let T = all_in table (s.n * s.f) in
-    let S = all_in start (s.n * s.c) in
+    let T = all_inside table (s.n * s.f) in
+    let S = all_inside start (s.n * s.c) in
     let F = lengths_fit s l in
     let r6 : ℕ = cond F 0 12 in
     let r5 : ℕ = cond (not S) 11 r6 in

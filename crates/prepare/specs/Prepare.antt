@@ -53,8 +53,8 @@ lengths_of l nodes = record {
 -- ---- the tests
 
 -- the first m values are in the domain
-abbrev pub all_in : List Float → ℕ → Bool
-all_in t m = every (λ i. in_domain (at t i)) m
+abbrev pub all_inside : List Float → ℕ → Bool
+all_inside t m = every (λ i. in_domain (at t i)) m
 
 -- no area is too short; preparation rows have n values and n indices
 unfoldable pub lengths_fit : Settings → Lengths → Bool
@@ -65,10 +65,10 @@ unfoldable pub prepare_fault : Settings → List Float → List Float → Length
 prepare_fault s table start l =
     cond (not (eqb (early_fault s) 0)) (early_fault s)
     (cond (not (eqb (length table) (s.n * s.f))) 7
-    (cond (not (all_in table (s.n * s.f))) 8
+    (cond (not (all_inside table (s.n * s.f))) 8
     (cond (not (eqb (late_fault s) 0)) (late_fault s)
     (cond (not (eqb (length start) (s.n * s.c))) 11
-    (cond (not (all_in start (s.n * s.c))) 11
+    (cond (not (all_inside start (s.n * s.c))) 11
     (cond (lengths_fit s l) 0 12))))))
 
 -- ---- what a run begins with

@@ -11,7 +11,7 @@ ghost use Rattle.affinity_distances.specs.Distances.{squares_of};
 ghost use Rattle.affinity.specs.Exact.{exact_of};
 ghost use Rattle.run_record.specs.Record.{GoodSettings};
 ghost use Rattle.prepare.specs.Room.{RouteRoom};
-ghost use Rattle.prepare.specs.Prepare.{all_in, lengths_fit, prepare_fault, routed, lent, prepare_outcome, prepared};
+ghost use Rattle.prepare.specs.Prepare.{all_inside, lengths_fit, prepare_fault, routed, lent, prepare_outcome, prepared};
 
 use areas::{clear_indices, copy_values, fill};
 use elementary::in_domain;
@@ -47,7 +47,7 @@ pub struct Lengths {
 
 fn all_in(t: &[f64], m: usize) -> bool
     requires { m ≤ length t.now }
-    ensures { result ≡ all_in t.now m }
+    ensures { result ≡ all_inside t.now m }
 {
     let mut i = 0;
     while i < m {

@@ -17,7 +17,7 @@ use Rattle.run_record.specs.Record.{is_tree, positive, angle_fine, angle_fault, 
 use Rattle.strip_profile.specs.Profile.{in_profile}
 use Rattle.prepare.specs.declared.Lengths.{Lengths}
 use Rattle.prepare.specs.declared.Prepared.TheVariants.{Refused, Ready}
-use Rattle.prepare.specs.Prepare.{Lent, lengths_of, all_in, lengths_fit, prepare_fault, PrepareOutcome, prepared, prepare_number}
+use Rattle.prepare.specs.Prepare.{Lent, lengths_of, all_inside, lengths_fit, prepare_fault, PrepareOutcome, prepared, prepare_number}
 use Rattle.prepare_strip.specs.PrepareStrip.{strip_bars, strip_fault, prepared_strip}
 use Rattle.prepare_strip.proofs.Laws.{bars-no-strip, bars-no-refused, bars-passed, bars-twelve, barred-outcome, passed_on}
 
@@ -56,10 +56,10 @@ module _ (s : Settings) (table start : List Float) (l : Lengths) where
   prepare-number =
       either-most (not (eqb (early_fault s) 0)) _ _ (early-number s)
       (either-most (not (eqb (length table) (s.n * s.f))) 7 _ (omega arith)
-      (either-most (not (all_in table (s.n * s.f))) 8 _ (omega arith)
+      (either-most (not (all_inside table (s.n * s.f))) 8 _ (omega arith)
       (either-most (not (eqb (late_fault s) 0)) _ _ (late-number s)
       (either-most (not (eqb (length start) (s.n * s.c))) 11 _ (omega arith)
-      (either-most (not (all_in start (s.n * s.c))) 11 _ (omega arith)
+      (either-most (not (all_inside start (s.n * s.c))) 11 _ (omega arith)
       (either-most (lengths_fit s l) 0 12 (omega arith) (omega arith)))))))
 
   barred-number : strip_bars s first_fault ≡ true → strip_fault s table start l ≡ 20

@@ -102,10 +102,13 @@ fn read_full(file: &mut impl Read, list: &mut [u8]) -> usize
 }
 
 // Reads the file into the list, and answers how many bytes it has; 0 where it cannot be read.
-pub fn load(rt: &impl Files, path: &str, list: &mut [u8]) -> usize
+pub fn load(rt: &impl Files, path: &[u8], list: &mut [u8]) -> usize
     ensures { IsPrefixLen result list.new }
 {
-    read_open(File::open(rt, path), list)
+    match std::str::from_utf8(path) {
+        Ok(name) => read_open(File::open(rt, name), list),
+        Err(_) => 0,
+    }
 }
 
 // ---- the line of a tally

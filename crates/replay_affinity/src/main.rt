@@ -10,19 +10,19 @@ use std::io;
 use std::rt::Files;
 
 fn replay_sigma(rt: &(impl Files + Print), list: &mut [u8]) -> io::Result<()> {
-    let n = replay::load(rt, "sigma.words", list);
+    let n = replay::load(rt, b"sigma.words", list);
     replay::print(rt, b"sigma", sigmas::cases(&list[..n]))?;
     Ok(())
 }
 
 fn replay_near(rt: &(impl Files + Print), list: &mut [u8]) -> io::Result<()> {
-    let n = replay::load(rt, "near.words", list);
+    let n = replay::load(rt, b"near.words", list);
     replay::print(rt, b"near", choices::cases(&list[..n]))?;
     Ok(())
 }
 
 fn replay_joins(rt: &(impl Files + Print), list: &mut [u8]) -> io::Result<()> {
-    let n = replay::load(rt, "lists.words", list);
+    let n = replay::load(rt, b"lists.words", list);
     replay::print(rt, b"lists", joins::cases(&list[..n]))?;
     Ok(())
 }

@@ -29,7 +29,7 @@ fn cases(list: &[u8]) -> replay::Tally {
 // One list, with a line for it. One that takes up all the room may go on: it is wrong and not run.
 fn replay_list(
     rt: &(impl Files + Print),
-    path: &str,
+    path: &[u8],
     name: &[u8],
     list: &mut [u8],
 ) -> io::Result<()> {
@@ -45,6 +45,6 @@ fn replay_list(
 
 fn main(rt: HostRuntime) -> io::Result<()> {
     let mut list = [0u8; 278528];
-    replay_list(&rt, "searches.words", b"searches", &mut list)?;
-    replay_list(&rt, "refusals.words", b"refusals", &mut list)
+    replay_list(&rt, b"searches.words", b"searches", &mut list)?;
+    replay_list(&rt, b"refusals.words", b"refusals", &mut list)
 }

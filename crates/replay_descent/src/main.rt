@@ -58,7 +58,7 @@ fn cases(list: &[u8]) -> replay::Tally {
 // One list, with a line for it.
 fn replay_list(
     rt: &(impl Files + Print),
-    path: &str,
+    path: &[u8],
     name: &[u8],
     list: &mut [u8],
 ) -> io::Result<()> {
@@ -69,6 +69,6 @@ fn replay_list(
 
 fn main(rt: HostRuntime) -> io::Result<()> {
     let mut list = [0u8; 278528];
-    replay_list(&rt, "runs.words", b"runs", &mut list)?;
-    replay_list(&rt, "faults.words", b"faults", &mut list)
+    replay_list(&rt, b"runs.words", b"runs", &mut list)?;
+    replay_list(&rt, b"faults.words", b"faults", &mut list)
 }

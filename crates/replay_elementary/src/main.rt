@@ -92,31 +92,31 @@ fn neighbours_cases(list: &[u8]) -> replay::Tally {
 }
 
 fn replay_exp(rt: &(impl Files + Print), list: &mut [u8]) -> io::Result<()> {
-    let n = replay::load(rt, "exp.words", list);
+    let n = replay::load(rt, b"exp.words", list);
     replay::print(rt, b"exp", exp_cases(&list[..n]))?;
     Ok(())
 }
 
 fn replay_far(rt: &(impl Files + Print), list: &mut [u8]) -> io::Result<()> {
-    let n = replay::load(rt, "far.words", list);
+    let n = replay::load(rt, b"far.words", list);
     replay::print(rt, b"exp of far frames", exp_cases(&list[..n]))?;
     Ok(())
 }
 
 fn replay_ln(rt: &(impl Files + Print), list: &mut [u8]) -> io::Result<()> {
-    let n = replay::load(rt, "ln.words", list);
+    let n = replay::load(rt, b"ln.words", list);
     replay::print(rt, b"ln", ln_cases(&list[..n]))?;
     Ok(())
 }
 
 fn replay_bounds(rt: &(impl Files + Print), list: &mut [u8]) -> io::Result<()> {
-    let n = replay::load(rt, "bounds.words", list);
+    let n = replay::load(rt, b"bounds.words", list);
     replay::print(rt, b"bounds", bounds_cases(&list[..n]))?;
     Ok(())
 }
 
 fn replay_neighbours(rt: &(impl Files + Print), list: &mut [u8]) -> io::Result<()> {
-    let n = replay::load(rt, "neighbours.words", list);
+    let n = replay::load(rt, b"neighbours.words", list);
     replay::print(rt, b"neighbours", neighbours_cases(&list[..n]))?;
     Ok(())
 }

@@ -17,19 +17,19 @@ use std::io;
 use std::rt::Files;
 
 fn replay_pulls(rt: &(impl Files + Print), list: &mut [u8]) -> io::Result<()> {
-    let n = replay::load(rt, "pulls.words", list);
+    let n = replay::load(rt, b"pulls.words", list);
     replay::print(rt, b"Barnes-Hut gradients", pulls_cases(&list[..n]))?;
     Ok(())
 }
 
 fn replay_moves(rt: &(impl Files + Print), list: &mut [u8]) -> io::Result<()> {
-    let n = replay::load(rt, "moves.words", list);
+    let n = replay::load(rt, b"moves.words", list);
     replay::print(rt, b"steps before centring", moves_cases(&list[..n]))?;
     Ok(())
 }
 
 fn replay_links(rt: &(impl Files + Print), list: &mut [u8]) -> io::Result<()> {
-    let n = replay::load(rt, "links.words", list);
+    let n = replay::load(rt, b"links.words", list);
     replay::print(rt, b"divergence over links", figures_cases(&list[..n]))?;
     Ok(())
 }

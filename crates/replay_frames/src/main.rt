@@ -145,7 +145,7 @@ fn frames_cases(list: &[u8]) -> replay::Tally {
 }
 
 fn replay_frames(rt: &(impl Files + Print), list: &mut [u8]) -> io::Result<()> {
-    let n = replay::load(rt, "frames.words", list);
+    let n = replay::load(rt, b"frames.words", list);
     replay::print(rt, b"frames", frames_cases(&list[..n]))?;
     Ok(())
 }

@@ -254,19 +254,19 @@ fn pairs_cases(list: &[u8]) -> replay::Tally {
 }
 
 fn replay_exact(rt: &(impl Files + Print), list: &mut [u8]) -> io::Result<()> {
-    let n = replay::load(rt, "exact.words", list);
+    let n = replay::load(rt, b"exact.words", list);
     replay::print(rt, b"exact", exact_cases(&list[..n]))?;
     Ok(())
 }
 
 fn replay_step(rt: &(impl Files + Print), list: &mut [u8]) -> io::Result<()> {
-    let n = replay::load(rt, "step.words", list);
+    let n = replay::load(rt, b"step.words", list);
     replay::print(rt, b"step", step_cases(&list[..n]))?;
     Ok(())
 }
 
 fn replay_pairs(rt: &(impl Files + Print), list: &mut [u8]) -> io::Result<()> {
-    let n = replay::load(rt, "pairs.words", list);
+    let n = replay::load(rt, b"pairs.words", list);
     replay::print(rt, b"divergence over pairs", pairs_cases(&list[..n]))?;
     Ok(())
 }

@@ -40,7 +40,7 @@ fn cases(list: &[u8], loads: bool) -> replay::Tally {
 // One list, with a line for it.
 fn replay_list(
     rt: &(impl Files + Print),
-    path: &str,
+    path: &[u8],
     name: &[u8],
     loads: bool,
     list: &mut [u8],
@@ -52,6 +52,6 @@ fn replay_list(
 
 fn main(rt: HostRuntime) -> io::Result<()> {
     let mut list = [0u8; 278528];
-    replay_list(&rt, "partner.words", b"partner", true, &mut list)?;
-    replay_list(&rt, "lists.words", b"lists", false, &mut list)
+    replay_list(&rt, b"partner.words", b"partner", true, &mut list)?;
+    replay_list(&rt, b"lists.words", b"lists", false, &mut list)
 }

@@ -61,7 +61,7 @@ fn cases(list: &[u8], of: List) -> replay::Tally {
 // One list, with a line for it.
 fn replay_list(
     rt: &(impl Files + Print),
-    path: &str,
+    path: &[u8],
     name: &[u8],
     of: List,
     list: &mut [u8],
@@ -73,7 +73,7 @@ fn replay_list(
 
 fn main(rt: HostRuntime) -> io::Result<()> {
     let mut list = [0u8; 278528];
-    replay_list(&rt, "narrow.words", b"narrow", List::Narrow, &mut list)?;
-    replay_list(&rt, "writes.words", b"writes", List::Writes, &mut list)?;
-    replay_list(&rt, "reads.words", b"reads", List::Reads, &mut list)
+    replay_list(&rt, b"narrow.words", b"narrow", List::Narrow, &mut list)?;
+    replay_list(&rt, b"writes.words", b"writes", List::Writes, &mut list)?;
+    replay_list(&rt, b"reads.words", b"reads", List::Reads, &mut list)
 }

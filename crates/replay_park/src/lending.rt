@@ -1,4 +1,4 @@
-// Parking with the arena by value: proved by a walk, since it lends it.
+// Parking with the arena by value: it lends it from a local.
 ghost use Rattle.std.specs.Prelude.{◌≡◌, ◌≤◌, take};
 ghost use Rattle.tree_node.specs.Arena.{nodes_of};
 ghost use Rattle.parked.specs.Parked.{stored_of};

@@ -41,7 +41,7 @@ fn cases(list: &[u8], writes: bool) -> replay::Tally {
 // One list, with a line for it.
 fn replay_list(
     rt: &(impl Files + Print),
-    path: &str,
+    path: &[u8],
     name: &[u8],
     writes: bool,
     list: &mut [u8],
@@ -53,6 +53,6 @@ fn replay_list(
 
 fn main(rt: HostRuntime) -> io::Result<()> {
     let mut list = [0u8; 278528];
-    replay_list(&rt, "parks.words", b"parks", true, &mut list)?;
-    replay_list(&rt, "unparks.words", b"unparks", false, &mut list)
+    replay_list(&rt, b"parks.words", b"parks", true, &mut list)?;
+    replay_list(&rt, b"unparks.words", b"unparks", false, &mut list)
 }

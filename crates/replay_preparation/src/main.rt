@@ -230,7 +230,7 @@ fn preparation_cases(list: &[u8]) -> replay::Tally {
 // One list, with a line for it.
 fn replay_list(
     rt: &(impl Files + Print),
-    path: &str,
+    path: &[u8],
     name: &[u8],
     list: &mut [u8],
 ) -> io::Result<()> {
@@ -241,7 +241,7 @@ fn replay_list(
 
 fn main(rt: HostRuntime) -> io::Result<()> {
     let mut list = [0u8; 278528];
-    replay_list(&rt, "preparation.words", b"preparation", &mut list)?;
-    replay_list(&rt, "larger.words", b"larger preparations", &mut list)?;
-    replay_list(&rt, "far.words", b"preparations of far frames", &mut list)
+    replay_list(&rt, b"preparation.words", b"preparation", &mut list)?;
+    replay_list(&rt, b"larger.words", b"larger preparations", &mut list)?;
+    replay_list(&rt, b"far.words", b"preparations of far frames", &mut list)
 }

@@ -29,7 +29,7 @@ fn cases(list: &[u8]) -> replay::Tally {
 // One list, with a line for it. One that takes up all the room may go on: it is wrong and not run.
 fn replay_list(
     rt: &(impl Files + Print),
-    path: &str,
+    path: &[u8],
     name: &[u8],
     list: &mut [u8],
 ) -> io::Result<()> {
@@ -45,7 +45,7 @@ fn replay_list(
 
 fn main(rt: HostRuntime) -> io::Result<()> {
     let mut list = [0u8; 278528];
-    replay_list(&rt, "bytes.words", b"bytes", &mut list)?;
-    replay_list(&rt, "orders.words", b"orders", &mut list)?;
-    replay_list(&rt, "scuffed.words", b"scuffed", &mut list)
+    replay_list(&rt, b"bytes.words", b"bytes", &mut list)?;
+    replay_list(&rt, b"orders.words", b"orders", &mut list)?;
+    replay_list(&rt, b"scuffed.words", b"scuffed", &mut list)
 }

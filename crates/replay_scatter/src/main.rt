@@ -89,7 +89,7 @@ fn scatter_cases(list: &[u8], space: &mut [f64]) -> replay::Tally {
 }
 
 fn replay_scatter(rt: &(impl Files + Print), list: &mut [u8], space: &mut [f64]) -> io::Result<()> {
-    let n = replay::load(rt, "scatter.words", list);
+    let n = replay::load(rt, b"scatter.words", list);
     replay::print(rt, b"scatter", scatter_cases(&list[..n], space))?;
     Ok(())
 }

@@ -1,4 +1,4 @@
-// Handing out with the arena by value: proved by a walk, since it lends it.
+// Handing out with the arena by value: it lends it from a local.
 ghost use Rattle.std.specs.Prelude.{◌≡◌, ◌≤◌, take};
 ghost use Rattle.run_entry.specs.State.{memory};
 ghost use Rattle.hand_out.specs.HandOut.{handing, handed_out};

@@ -28,7 +28,7 @@ fn cases(list: &[u8]) -> replay::Tally {
 
 fn main(rt: HostRuntime) -> io::Result<()> {
     let mut list = [0u8; 278528];
-    let n = replay::load(&rt, "strip.words", &mut list);
+    let n = replay::load(&rt, b"strip.words", &mut list);
     replay::print(&rt, b"strip", cases(&list[..n]))?;
     Ok(())
 }

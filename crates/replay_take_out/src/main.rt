@@ -30,7 +30,7 @@ fn cases(list: &[u8]) -> replay::Tally {
 
 fn main(rt: HostRuntime) -> io::Result<()> {
     let mut list = [0u8; 278528];
-    let n = replay::load(&rt, "takes.words", &mut list);
+    let n = replay::load(&rt, b"takes.words", &mut list);
     replay::print(&rt, b"takes", cases(&list[..n]))?;
     Ok(())
 }

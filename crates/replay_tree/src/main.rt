@@ -191,7 +191,7 @@ fn tree_cases(list: &[u8]) -> replay::Tally {
 // One list, with a line for it.
 fn replay_list(
     rt: &(impl Files + Print),
-    path: &str,
+    path: &[u8],
     name: &[u8],
     list: &mut [u8],
 ) -> io::Result<()> {
@@ -201,9 +201,9 @@ fn replay_list(
 }
 
 fn replay_lists(rt: &(impl Files + Print), list: &mut [u8]) -> io::Result<()> {
-    replay_list(rt, "tree_1.words", b"trees in 1 component", list)?;
-    replay_list(rt, "tree_2.words", b"trees in 2 components", list)?;
-    replay_list(rt, "tree_3.words", b"trees in 3 components", list)
+    replay_list(rt, b"tree_1.words", b"trees in 1 component", list)?;
+    replay_list(rt, b"tree_2.words", b"trees in 2 components", list)?;
+    replay_list(rt, b"tree_3.words", b"trees in 3 components", list)
 }
 
 fn main(rt: HostRuntime) -> io::Result<()> {

@@ -123,8 +123,8 @@ unfoldable pub take_out : List ℕ → Run → Holdings → List Node → TookOu
 take_out g r h ns = take_tested (take_fault r h ns) r g h
 
 -- the state that is left, with these nodes
-abbrev pub left_by : TookOut → List Node → State
-left_by k ns = state_held k.run k.areas ns
+abbrev pub left_behind : TookOut → List Node → State
+left_behind k ns = state_held k.run k.areas ns
 
 -- the number of a refusal; 0 where there is none
 unfoldable pub take_number : Taken → ℕ

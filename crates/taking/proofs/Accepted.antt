@@ -28,7 +28,7 @@ use Rattle.take_left.specs.declared.Outlook.TheVariants.{Left, Inside, Unordered
 use Rattle.take_left.specs.Outlook.{thinned_run, crowded, outlook_of, outlook_number}
 use Rattle.take_left.proofs.Judged.{judged-left}
 use Rattle.take_out.specs.declared.Taken.TheVariants.{Told, Bad}
-use Rattle.take_out.specs.TakeOut.{Holdings, TookOut, took_out, state_held, left_by, lent_positions, take_fault, is_accepted, packed_areas, take_tested, take_out, take_number}
+use Rattle.take_out.specs.TakeOut.{Holdings, TookOut, took_out, state_held, left_behind, lent_positions, take_fault, is_accepted, packed_areas, take_tested, take_out, take_number}
 use Rattle.take_out.proofs.Calls.{words-told}
 
 -- ---- a refusal
@@ -109,7 +109,7 @@ module _ (g : List ℕ) (r : Run) (h : Holdings) (ns : List Node) where
       (λ f. record { run = rw (bad-is f); areas = rw (bad-is f) })
 
   -- so the state is as it was
-  pub refused-state : (take_number (take_out g r h ns).answer ≡ 0 → ⊥) → left_by (take_out g r h ns) ns ≡ state_held r h ns
+  pub refused-state : (take_number (take_out g r h ns).answer ≡ 0 → ⊥) → left_behind (take_out g r h ns) ns ≡ state_held r h ns
   refused-state n = let u = refused-changes-nothing n in rw (u.run, u.areas)
 
 -- ---- what the tests of a work call have shown, for any lengths

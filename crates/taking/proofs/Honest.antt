@@ -30,7 +30,7 @@ use Rattle.take_left.specs.declared.Outlook.TheVariants.{Left}
 use Rattle.take_left.specs.Outlook.{thinned, thinned_run, crowded}
 use Rattle.take_left.proofs.Judged.{thinned-fine}
 use Rattle.take_out.specs.declared.Taken.TheVariants.{Told}
-use Rattle.take_out.specs.TakeOut.{Holdings, TookOut, state_held, left_by, indices_after, offsets_after, packed_areas, take_out, take_number}
+use Rattle.take_out.specs.TakeOut.{Holdings, TookOut, state_held, left_behind, indices_after, offsets_after, packed_areas, take_out, take_number}
 use Rattle.take_out.proofs.Calls.{words-listed}
 use Rattle.descent.specs.Descent.{work, work_number, is_last, whole_units, works}
 use Rattle.descent.specs.Honest.{Honest, Roomy}
@@ -90,7 +90,7 @@ index-fine I n i h = lt-ltb (num I i) n h
 
 -- record and areas after a removal that is not refused
 abbrev pub left_state : List ℕ → Run → Holdings → List Node → State
-left_state g r h ns = left_by (took_from g r h) ns
+left_state g r h ns = left_behind (took_from g r h) ns
 
 module _ (g : List ℕ) (r : Run) (h : Holdings) (ns : List Node) (a : Accepted g r h ns) where
   abbrev keep : List ℕ
@@ -184,38 +184,38 @@ module _ (g : List ℕ) (r : Run) (h : Holdings) (ns : List Node) (a : Accepted 
 -- ---- THEOREM 1: a removal that is not refused leaves an honest state
 
 module _ (g : List ℕ) (r : Run) (h : Holdings) (ns : List Node) (m : ℕ) (left : (take_out g r h ns).answer ≡ Told (Left m)) where
-  pub what-is-left-is-honest : Honest (left_by (take_out g r h ns) ns)
-  what-is-left-is-honest = let a = accepted g r h ns m left in subst Honest (ap (λ (o : TookOut). left_by o ns) (sym a.outcome)) (honest-left g r h ns a)
+  pub what-is-left-is-honest : Honest (left_behind (take_out g r h ns) ns)
+  what-is-left-is-honest = let a = accepted g r h ns m left in subst Honest (ap (λ (o : TookOut). left_behind o ns) (sym a.outcome)) (honest-left g r h ns a)
 
   -- THEOREM 2, demand 3 from there on: calls one after the other, the last of at least 1, leave everything where one call with the sum leaves it
-  pub demand-three-after-taking : (bs : List ℕ) (b : ℕ) → 1 ≤ b → OneCall bs b (left_by (take_out g r h ns) ns)
-  demand-three-after-taking bs b k = demand-three bs b (left_by (take_out g r h ns) ns) what-is-left-is-honest k
+  pub demand-three-after-taking : (bs : List ℕ) (b : ℕ) → 1 ≤ b → OneCall bs b (left_behind (take_out g r h ns) ns)
+  demand-three-after-taking bs b k = demand-three bs b (left_behind (take_out g r h ns) ns) what-is-left-is-honest k
 
   -- after each call record and memory are those of so many units
-  pub after-each-taking : (bs : List ℕ) → SoMany bs (left_by (take_out g r h ns) ns)
-  after-each-taking bs = after-each bs (left_by (take_out g r h ns) ns)
+  pub after-each-taking : (bs : List ℕ) → SoMany bs (left_behind (take_out g r h ns) ns)
+  after-each-taking bs = after-each bs (left_behind (take_out g r h ns) ns)
 
   -- and the state is honest again
-  pub stays-honest-after-taking : (bs : List ℕ) → Honest (works bs (left_by (take_out g r h ns) ns))
-  stays-honest-after-taking bs = stays-honest bs (left_by (take_out g r h ns) ns) what-is-left-is-honest
+  pub stays-honest-after-taking : (bs : List ℕ) → Honest (works bs (left_behind (take_out g r h ns) ns))
+  stays-honest-after-taking bs = stays-honest bs (left_behind (take_out g r h ns) ns) what-is-left-is-honest
 
   -- one call with all units gives stopped, finished, 14 or 15
-  pub ends-in-time-after-taking : (b : ℕ) → whole_units (left_by (take_out g r h ns) ns) ≤ b → is_last (work b (left_by (take_out g r h ns) ns)).answer ≡ true
-  ends-in-time-after-taking b k = ends-in-time b (left_by (take_out g r h ns) ns) what-is-left-is-honest k
+  pub ends-in-time-after-taking : (b : ℕ) → whole_units (left_behind (take_out g r h ns) ns) ≤ b → is_last (work b (left_behind (take_out g r h ns) ns)).answer ≡ true
+  ends-in-time-after-taking b k = ends-in-time b (left_behind (take_out g r h ns) ns) what-is-left-is-honest k
 
   -- with room for all splits no call is refused by 14
   pub never-14-after-taking : Roomy (take_out g r h ns).run.settings (length ns)
-      → (bs : List ℕ) (b : ℕ) → work_number (work b (works bs (left_by (take_out g r h ns) ns))).answer ≡ 14 → ⊥
-  never-14-after-taking room bs b e = never-14 bs b (left_by (take_out g r h ns) ns) what-is-left-is-honest room e
+      → (bs : List ℕ) (b : ℕ) → work_number (work b (works bs (left_behind (take_out g r h ns) ns))).answer ≡ 14 → ⊥
+  never-14-after-taking room bs b e = never-14 bs b (left_behind (take_out g r h ns) ns) what-is-left-is-honest room e
 
   -- a call that is refused leaves the state of the units that it tells
-  pub refusal-after-taking : (bs : List ℕ) (b : ℕ) → (work_number (work b (works bs (left_by (take_out g r h ns) ns))).answer ≡ 0 → ⊥) → Refused b (works bs (left_by (take_out g r h ns) ns))
-  refusal-after-taking bs b n = refusal b (works bs (left_by (take_out g r h ns) ns)) (stays-honest-after-taking bs).good n
+  pub refusal-after-taking : (bs : List ℕ) (b : ℕ) → (work_number (work b (works bs (left_behind (take_out g r h ns) ns))).answer ≡ 0 → ⊥) → Refused b (works bs (left_behind (take_out g r h ns) ns))
+  refusal-after-taking bs b n = refusal b (works bs (left_behind (take_out g r h ns) ns)) (stays-honest-after-taking bs).good n
 
 -- ---- THEOREM 3: stretches follow one another
 
 -- a removal leaves an honest state honest, refused or not
-pub taking-keeps : (g : List ℕ) (r : Run) (h : Holdings) (ns : List Node) → Honest (state_held r h ns) → Honest (left_by (take_out g r h ns) ns)
+pub taking-keeps : (g : List ℕ) (r : Run) (h : Holdings) (ns : List Node) → Honest (state_held r h ns) → Honest (left_behind (take_out g r h ns) ns)
 taking-keeps g r h ns k = elim (ℕ_discrete (take_number (take_out g r h ns).answer) 0) [
   | yes z ↦ what-is-left-is-honest g r h ns (length (survivors g r.settings.n)) (no-number-left g r h ns z)
   | no n ↦ subst Honest (sym (refused-state g r h ns n)) k

@@ -10,14 +10,14 @@ use Rattle.run_entry.specs.State.{State}
 use Rattle.descent.specs.Descent.{works, told_all}
 use Rattle.take_left.specs.declared.Outlook.TheVariants.{Left}
 use Rattle.take_out.specs.declared.Taken.TheVariants.{Told}
-use Rattle.take_out.specs.TakeOut.{Holdings, take_out, left_by}
+use Rattle.take_out.specs.TakeOut.{Holdings, take_out, left_behind}
 use Rattle.taking.proofs.Honest.{what-is-left-is-honest}
 use Rattle.worth.specs.Insertions.{insertions_in, Midway, TreeWorth}
 use Rattle.worth.proofs.Reached.{works-worth}
 
 module _ (g : List ℕ) (r : Run) (h : Holdings) (ns : List Node) (m : ℕ) (answer : (take_out g r h ns).answer ≡ Told (Left m)) where
   abbrev thinned_state : State
-  thinned_state = left_by (take_out g r h ns) ns
+  thinned_state = left_behind (take_out g r h ns) ns
 
   pub thinned-worth : (bs : List ℕ) → is_tree thinned_state.run.settings.method ≡ true → Midway thinned_state.run.settings.n (thinned_state.run.units + told_all bs thinned_state)
       → TreeWorth thinned_state.run.settings.c (insertions_in thinned_state.run.settings.n (thinned_state.run.units + told_all bs thinned_state)) (works bs thinned_state)

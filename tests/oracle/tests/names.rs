@@ -8,13 +8,17 @@ fn crates() -> PathBuf {
     Path::new(env!("CARGO_MANIFEST_DIR")).join("../../crates")
 }
 
-/// The files of definitions and laws under a folder. `Proof.antt` proves one function and is named by none.
+/// The files of definitions and laws under a folder. `Invariants.antt` and `Answers.antt` prove one function and are named by none;
+/// `out` is what the checker keeps.
 fn files(folder: &Path, found: &mut Vec<PathBuf>) {
     for entry in fs::read_dir(folder).unwrap().map(|e| e.unwrap().path()) {
         let name = entry.file_name().unwrap().to_string_lossy().into_owned();
+        if name == "out" {
+            continue;
+        }
         if entry.is_dir() {
             files(&entry, found);
-        } else if name.ends_with(".antt") && name != "Proof.antt" && name != "Lib.antt" {
+        } else if name.ends_with(".antt") && !["Answers.antt", "Invariants.antt", "Lib.antt"].contains(&name.as_str()) {
             found.push(entry);
         }
     }

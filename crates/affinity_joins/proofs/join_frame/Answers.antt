@@ -3,7 +3,7 @@ use lib.Ieee.{Float}
 use lib.ListN.{set}
 use mathlib.Core.List.{List}
 use mathlib.Core.Path.{refl, ap, ◌∙◌}
-use Rattle.affinity_joins.proofs.Joint.{place_in}
+use Rattle.affinity_joins.proofs.Joint.{place-in}
 use Rattle.laws.proofs.Loops.{loop-start, loop-next, loop-done}
 use Prim.Native.Nat.{◌-◌, ◌+◌, ◌*◌}
 use native.Mathlib.Omega.{arith}
@@ -16,9 +16,9 @@ loop-j-init c =
 pub join_pair-requires : goal.join_pair-requires
 join_pair-requires c =
     let the-loop = c.loop-j in (
-      rw the-loop.invariant.0 (place_in _ _ _ _ (omega (arith, c.loop-j-test.true, c.requires.0)) c.requires.0 c.requires.1),
+      rw the-loop.invariant.0 (place-in _ _ _ _ (omega (arith, c.loop-j-test.true, c.requires.0)) c.requires.0 c.requires.1),
       rw
-          the-loop.invariant.0 (place_in _ _ _ _ c.requires.0 (omega (arith, c.loop-j-test.true, c.requires.0)) c.requires.1),
+          the-loop.invariant.0 (place-in _ _ _ _ c.requires.0 (omega (arith, c.loop-j-test.true, c.requires.0)) c.requires.1),
     )
 
 pub loop-j-preserved : goal.loop-j-preserved
@@ -30,19 +30,19 @@ loop-j-preserved c =
 
 pub overflow_mul-affinities : goal.overflow_mul-affinities
 overflow_mul-affinities c =
-    omega (arith, (place_in _ _ _ _ c.requires.0 c.requires.0 c.requires.1))
+    omega (arith, (place-in _ _ _ _ c.requires.0 c.requires.0 c.requires.1))
 
 pub overflow_add-affinities : goal.overflow_add-affinities
 overflow_add-affinities c =
-    omega (arith, (place_in _ _ _ _ c.requires.0 c.requires.0 c.requires.1))
+    omega (arith, (place-in _ _ _ _ c.requires.0 c.requires.0 c.requires.1))
 
 pub offset_bounds-affinities-i : goal.offset_bounds-affinities-i
 offset_bounds-affinities-i c =
-    omega (arith, (place_in _ _ _ _ c.requires.0 c.requires.0 c.requires.1))
+    omega (arith, (place-in _ _ _ _ c.requires.0 c.requires.0 c.requires.1))
 
 pub bounds-affinities-i : goal.bounds-affinities-i
 bounds-affinities-i c =
-    rw c.loop-j.invariant.0 (place_in _ _ _ _ c.requires.0 c.requires.0 c.requires.1)
+    rw c.loop-j.invariant.0 (place-in _ _ _ _ c.requires.0 c.requires.0 c.requires.1)
 
 pub returns : goal.returns
 returns c =

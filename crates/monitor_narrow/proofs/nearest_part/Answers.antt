@@ -5,14 +5,6 @@ use Rattle.monitor_narrow.proofs.Laws.{nearest-down, nearest-up, nearest-even, p
 use native.Mathlib.Omega.{arith}
 use Rattle.monitor_narrow.proofs.nearest_part.Goals as goal
 
--- no goal: nonzero-div-q
--- div-q : tie.Need-nonzero-div-q
--- div-q c = rw (shl_one c.args.d (omega arith)) (unit-pos c.args.d)
-
--- no goal: nonzero-rem-twice
--- rem-twice : tie.Need-nonzero-rem-twice
--- rem-twice c = rw (shl_one c.args.d (omega arith)) (unit-pos c.args.d)
-
 pub overflow_mul-twice : goal.overflow_mul-twice
 overflow_mul-twice c =
     rw (shl_one c.args.d (omega arith)) (omega (arith, remainder-most c.args.m c.args.d c.requires.1))
