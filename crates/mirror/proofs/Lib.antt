@@ -1,3 +1,4 @@
 pub mod Units
 pub mod Calls
 pub mod Theorems
+pub mod Runs

@@ -1,4 +1,4 @@
--- Two exact runs from the same settings, table and areas, the start of the second with components turned: both are refused alike, or each later state shows the other's. Assumes nothing.
+-- Two exact runs from the same settings, table and areas, the start of the second with components turned: both are refused alike, or begin with states of which one shows the other. Assumes nothing.
 use mathlib.Core.Path.{◌≡◌, refl, sym, ap, ◌∙◌}
 use mathlib.Core.Logic.{inl, inr}
 use mathlib.Core.List.{List}
@@ -10,7 +10,7 @@ use lib.Dec.{eqb}
 use lib.ListN.{length, replicate, take, drop, length-replicate, get_or-replicate, get_or-append, get_or-eq_default}
 use lib.Seq.{length-take-le}
 use lib.Ieee.{Float, nan}
-use borrow.Author.Tests.{eq-eqb, ne_eqb, eqb-true}
+use borrow.Author.Tests.{eqb-true}
 use Rattle.laws.specs.Area.{at, zero64}
 use Rattle.laws.specs.Joined.{pasted}
 use Rattle.laws.proofs.Bools.{by_bool}
@@ -26,18 +26,16 @@ use Rattle.run_record.specs.declared.Run.{Run}
 use Rattle.run_record.specs.Record.{is_tree, fresh_run}
 use Rattle.run_entry.specs.State.{State}
 use Rattle.run_rooms.proofs.Places.{cells-forces}
-use Rattle.descent.specs.Descent.{work, work_number, units_of, works}
 use Rattle.prepare.specs.declared.Lengths.{Lengths}
 use Rattle.prepare.specs.declared.Prepared.TheVariants.{Refused, Ready}
 use Rattle.prepare.specs.Prepare.{Lent, lengths_of, all_inside, prepare_fault, begun_areas, prepared, memory_of}
 use Rattle.prepare.proofs.Laws.{Passed, passed}
 use Rattle.prepare.proofs.Begins.{begun_state}
 use Rattle.mirror_values.specs.Values.{Shows}
-use Rattle.mirror_values.specs.Shown.{just_one, turned_start, ShowsAll}
+use Rattle.mirror_values.specs.Shown.{turned_start, ShowsAll}
 use Rattle.mirror_values.proofs.Shows.{shows-zero, shows-up-to}
 use Rattle.mirror_values.proofs.Starts.{turned-long, turned-shows}
-use Rattle.mirror.specs.Mirror.{ShowsMemory, ShowsState, ShowsCalls, TurnedIn, TurnedState, TurnedCalls}
-use Rattle.mirror.proofs.Calls.{works-mirrored}
+use Rattle.mirror.specs.Mirror.{ShowsMemory, ShowsState}
 
 -- ---- the tests of preparation
 
@@ -167,48 +165,3 @@ module _ (turns : ℕ → Bool) (s : Settings) (table start : List Float) (cs : 
           exact = rw e.1 exact;
           areas = rw (e.1, areas-ready s table cs l start e.0, areas-ready s table cs l facing e') begun-areas;
         }
-
-    -- THEOREM: any set of components. After any calls with the same budgets records, answers and unit counts agree;
-    -- positions, increments and gradients have those components turned, all else is equal to the bit
-    pub mirrored-runs : (bs : List ℕ) → ShowsCalls turns bs run_begun mirror_begun
-    mirrored-runs bs = works-mirrored turns bs run_begun mirror_begun preparation-mirrored
-
-    -- THEOREM: so 15 is met by both or by neither, at the same unit
-    pub numbers-agree : (bs : List ℕ) (b : ℕ) → (work_number (work b (works bs run_begun)).answer ≡ work_number (work b (works bs mirror_begun)).answer) ×
-        (units_of (work b (works bs run_begun)).answer ≡ units_of (work b (works bs mirror_begun)).answer)
-    numbers-agree bs b = let e = (mirrored-runs bs).answer b in (ap work_number e, ap units_of e)
-
--- ---- one component
-
-one-turned : (d c m : ℕ) (xs ys : List Float) → ShowsAll (just_one d) c m xs ys → TurnedIn d c m xs ys
-one-turned d c m xs ys r = record {
-  long = r.long;
-  here = λ i h e. (r.shown i h).turned (eq-eqb (i % c) d e);
-  elsewhere = λ i h e. (r.shown i h).straight (ne_eqb (i % c) d e);
-  past = r.past;
-}
-
-one-mirrored : (d : ℕ) (s t : State) → ShowsState (just_one d) s t → TurnedState d s t
-one-mirrored d s t w =
-    let c = s.run.settings.c in
-    let m = s.run.settings.n * c in
-    record {
-      same-record = w.same-record;
-      positions = one-turned d c m s.memory.positions t.memory.positions w.areas.positions;
-      increments = one-turned d c m s.memory.increments t.memory.increments w.areas.increments;
-      gradients = one-turned d c m s.memory.forces t.memory.forces w.areas.forces;
-      total = w.areas.total;
-      gains = w.areas.gains;
-      affinities = w.areas.affinities;
-    }
-
--- THEOREM: one component. With its sign turned in every starting position, records, answers and unit counts agree after any calls with the same budgets;
--- every later position, increment and gradient has it turned, and all else is equal
-module _ (d : ℕ) (s : Settings) (table start : List Float) (cs : List Cell) (l : Lent) (exact : is_tree s.method ≡ false) (run : Run)
-    (ready : (prepared s table start (length cs) l).answer ≡ Ready run) where
-  pub mirrored-in-one : (bs : List ℕ) → TurnedCalls d bs (run_begun (just_one d) s table start cs l exact run ready) (mirror_begun (just_one d) s table start cs l exact run ready)
-  mirrored-in-one bs =
-      let x = run_begun (just_one d) s table start cs l exact run ready in
-      let y = mirror_begun (just_one d) s table start cs l exact run ready in
-      let w = mirrored-runs (just_one d) s table start cs l exact run ready bs in
-      record { left = one-mirrored d (works bs x) (works bs y) w.left; units = w.units; answer = w.answer }

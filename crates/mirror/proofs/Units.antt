@@ -28,8 +28,8 @@ use Rattle.run_units.proofs.One.{unit-over, unit-force, unit-finish}
 use Rattle.mirror_values.specs.Values.{Shows}
 use Rattle.mirror_values.specs.Shown.{ShowsAll}
 use Rattle.mirror_rules.specs.Sides.{ShowsBefore, ShowsOutcome}
-use Rattle.mirror_rules.proofs.Rows.{total-shown, row-shown}
-use Rattle.mirror_rules.proofs.Steps.{step-shown, norm-same}
+use Rattle.mirror_rules.proofs.Gradients.{total-shown, row-shown}
+use Rattle.mirror_rules.proofs.Finish.{step-shown, norm-same}
 use Rattle.mirror.specs.Mirror.{ShowsMemory, ShowsState, ShowsUnit}
 
 -- ---- which unit is next

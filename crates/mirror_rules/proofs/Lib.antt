@@ -1,2 +1,4 @@
 pub mod Rows
+pub mod Gradients
 pub mod Steps
+pub mod Finish
