@@ -1,10 +1,10 @@
 -- What the replays' small functions say of bytes, places and tests. Definitions only.
-use Rattle.std.specs.Prelude.{ℕ, ◌+◌, ◌*◌, ◌/◌, ◌%◌, ◌^◌, Bool, cond, ◌&&◌, ◌||◌, List, [], ◌∷◌, length, ◌==◌, nat_eq, nat_lt}
+use Rattle.std.specs.Prelude.{ℕ, ◌+◌, ◌*◌, ◌/◌, ◌%◌, ◌^◌, Bool, cond, ◌&&◌, ◌||◌, List, [], ◌∷◌, length, min, ◌==◌, nat_eq, nat_lt}
 use Rattle.laws.specs.Loops.{every}
 use Rattle.laws.specs.Area.{num, zero64}
 use Rattle.tree_node.specs.declared.Cell.{Cell}
 use Rattle.replay.specs.Replay.{word_of}
-use Rattle.replay.specs.Areas.{onward}
+use Rattle.replay.specs.Areas.{onward, wanted_at}
 use Rattle.replay_areas.specs.declared.lengths.Lengths.{Lengths}
 use Rattle.replay_areas.specs.declared.lengths.Places.{Places}
 
@@ -31,6 +31,22 @@ marks_stay t m = every (λ i. nat_lt i m || num t i == byte_mark i) 1408
 -- the target's first bytes are the file
 abbrev pub file_stands : List ℕ → List ℕ → Bool
 file_stands f t = every (λ i. nat_eq (num f i) (listed_byte t (length f) i)) (length f)
+
+-- word i of an area that is listed from word a on
+abbrev pub listed_word : List ℕ → ℕ → ℕ → ℕ
+listed_word l a i = word_of l (onward a i)
+
+-- the same as a number of 32 bits: a word that does not fit is cut down to the largest
+abbrev pub listed_number : List ℕ → ℕ → ℕ → ℕ
+listed_number l a i = min (listed_word l a i) 4294967295
+
+-- the mark of place i of an area of values, by its bits
+abbrev pub value_mark : ℕ → ℕ
+value_mark i = (0x4000000000000000 + i) % 2 ^ 64
+
+-- the first m places have the words from a on, and the others their marks
+abbrev pub values_stand : List ℕ → ℕ → List ℕ → ℕ → Bool
+values_stand v m l a = every (λ i. nat_eq (num v i) (wanted_at l a m i 0x4000000000000000)) (length v)
 
 -- the areas follow each other from word a on
 abbrev pub places_of : Lengths → ℕ → Places
