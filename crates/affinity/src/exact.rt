@@ -49,10 +49,8 @@ fn conditional_probabilities(
     ensures affinities_after { affinities.new ≡ laid (conditionals table.now n f perplexity) n n affinities.old }
     ensures row_after { row.new ≡ distances_left table.now n f row.old }
 {
-    let mut i = 0;
-    while i < n {
+    for i in 0..n {
         conditional_row(table, n, f, perplexity, squares, i, affinities, row);
-        i += 1;
     }
 }
 

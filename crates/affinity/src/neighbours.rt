@@ -85,8 +85,7 @@ fn neighbor_rows(
     ensures row_values_after { row_values.new ≡ loop (shares_left table.now n f k perplexity) n 0 row_values.old }
     ensures row_indices_after { row_indices.new ≡ loop (frames_left table.now n f k) n 0 row_indices.old }
 {
-    let mut i = 0;
-    while i < n {
+    for i in 0..n {
         let a = i * k;
         let e = a + k;
         neighbor_row(
@@ -102,7 +101,6 @@ fn neighbor_rows(
             row_values,
             row_indices,
         );
-        i += 1;
     }
 }
 

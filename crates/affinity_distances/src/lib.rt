@@ -18,10 +18,8 @@ fn dot(table: &[f64], f: usize, i: usize, j: usize) -> f64
     let a = i * f;
     let b = j * f;
     let mut sum = 0.0;
-    let mut k = 0;
-    while k < f {
+    for k in 0..f {
         sum = sum + table[a + k] * table[b + k];
-        k += 1;
     }
     sum
 }
@@ -31,10 +29,8 @@ pub fn square_frames(table: &[f64], n: usize, f: usize, squares: &mut [f64])
     requires { (n * f ≤ length table.now) × (n ≤ length squares.old) }
     ensures { squares.new ≡ squares_of table.now n f squares.old }
 {
-    let mut i = 0;
-    while i < n {
+    for i in 0..n {
         squares[i] = dot(table, f, i, i);
-        i += 1;
     }
 }
 
@@ -77,14 +73,12 @@ fn dot_four(table: &[f64], f: usize, i: usize, j: usize) -> Dots
     let mut second = 0.0;
     let mut third = 0.0;
     let mut fourth = 0.0;
-    let mut k = 0;
-    while k < f {
+    for k in 0..f {
         let x = table[o + k];
         first = first + x * table[a + k];
         second = second + x * table[b + k];
         third = third + x * table[c + k];
         fourth = fourth + x * table[d + k];
-        k += 1;
     }
     Dots {
         first,
@@ -135,10 +129,8 @@ pub fn distance_row(table: &[f64], n: usize, f: usize, squares: &[f64], i: usize
     requires squared { Squared table.now n f squares.now }
     ensures { row.new ≡ distance_row table.now n f i row.old }
 {
-    let mut j = distance_fours(table, n, f, squares, i, row);
-    while j < n {
+    for j in distance_fours(table, n, f, squares, i, row)..n {
         row[j] = distance(table, f, squares, i, j);
-        j += 1;
     }
     row[i] = 0.0;
 }

@@ -23,10 +23,8 @@ fn join_frame(affinities: &mut [f64], n: usize, norm: f64, i: usize)
     requires { (i < n) × (n * n ≤ length affinities.old) }
     ensures { affinities.new ≡ frame_joined n norm i affinities.old }
 {
-    let mut j = 0;
-    while j < i {
+    for j in 0..i {
         join_pair(affinities, n, norm, i, j);
-        j += 1;
     }
     affinities[i * n + i] = 0.0;
 }
@@ -37,9 +35,7 @@ pub fn symmetrize_probabilities(affinities: &mut [f64], n: usize)
     ensures { affinities.new ≡ symmetrized n affinities.old }
 {
     let norm = 2.0 * n as f64;
-    let mut i = 0;
-    while i < n {
+    for i in 0..n {
         join_frame(affinities, n, norm, i);
-        i += 1;
     }
 }

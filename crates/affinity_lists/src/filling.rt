@@ -12,10 +12,8 @@ pub(crate) fn top_cursors(indices: &[u32], row_indices: &mut [u32], n: usize, k:
     requires { (n ≤ most_frames) × (k < n) × (n * k ≤ length indices.now) × (n ≤ length row_indices.old) × Rows n k indices.now }
     ensures { Topped indices.now row_indices.old n k row_indices.new }
 {
-    let mut j = 0;
-    while j < n {
+    for j in 0..n {
         row_indices[j] = held(indices, j * k, k);
-        j += 1;
     }
 }
 

@@ -24,10 +24,8 @@ fn misses(indices: &[u32], n: usize, k: usize, j: usize) -> usize
     ensures { result ≡ misses_of k indices.now j }
 {
     let mut c = 0;
-    let mut t = 0;
-    while t < k {
+    for t in 0..k {
         c += miss(indices, n, k, j, t);
-        t += 1;
     }
     c
 }
@@ -38,10 +36,8 @@ pub(crate) fn total(indices: &[u32], n: usize, k: usize) -> usize
     ensures { result ≡ links_of n k indices.now }
 {
     let mut c = 0;
-    let mut j = 0;
-    while j < n {
+    for j in 0..n {
         c += misses(indices, n, k, j);
-        j += 1;
     }
     n * k + c
 }

@@ -22,10 +22,8 @@ fn add_singly(shares: &[f64], j: usize, c: usize, from: f64) -> f64
     ensures { result ≡ loop (entropy_step shares.now) c j from }
 {
     let mut h = from;
-    let mut t = 0;
-    while t < c {
+    for t in 0..c {
         h = h + term(shares[j + t]);
-        t += 1;
     }
     h
 }
@@ -36,10 +34,8 @@ fn all_shares(shares: &[f64], j: usize, c: usize) -> bool
     ensures { result ≡ every (λ t. le (at shares.now (j + t)) one64) c }
 {
     let mut all = true;
-    let mut t = 0;
-    while t < c {
+    for t in 0..c {
         all = crate::weights::and_also(all, shares[j + t] <= 1.0);
-        t += 1;
     }
     all
 }
@@ -104,12 +100,10 @@ fn all_parts(shares: &[f64], j: usize, c: usize, ms: &mut [f64; 32], ks: &mut [f
     ensures ms_after { ms.new ≡ loop (digit_step shares.now j) c 0 ms.old }
     ensures ks_after { ks.new ≡ loop (power_step shares.now j) c 0 ks.old }
 {
-    let mut t = 0;
-    while t < c {
+    for t in 0..c {
         let v = held(shares[j + t]);
         ms[t] = digits_of(v);
         ks[t] = power_of(v);
-        t += 1;
     }
 }
 
@@ -136,10 +130,8 @@ fn log_by(m: f64, k: f64) -> f64
 fn all_logs(ms: &[f64; 32], ks: &[f64; 32], ls: &mut [f64; 32])
     ensures { ls.new ≡ loop (log_step ms.now ks.now) block_size 0 ls.old }
 {
-    let mut t = 0;
-    while t < 32 {
+    for t in 0..32 {
         ls[t] = log_by(ms[t], ks[t]);
-        t += 1;
     }
 }
 
@@ -159,10 +151,8 @@ fn add_terms(shares: &[f64], j: usize, c: usize, ls: &[f64; 32], from: f64) -> f
     ensures { result ≡ loop (term_step shares.now j ls.now) c 0 from }
 {
     let mut h = from;
-    let mut t = 0;
-    while t < c {
+    for t in 0..c {
         h = h + term_by(shares[j + t], ls[t]);
-        t += 1;
     }
     h
 }

@@ -27,10 +27,8 @@ fn total(shares: &[f64], n: usize) -> f64
     ensures { result ≡ weight_sum shares.now n }
 {
     let mut sum = 0.0;
-    let mut j = 0;
-    while j < n {
+    for j in 0..n {
         sum = sum + shares[j];
-        j += 1;
     }
     sum
 }
@@ -40,10 +38,8 @@ pub fn divide(shares: &mut [f64], n: usize, sum: f64)
     requires { n ≤ length shares.old }
     ensures { shares.new ≡ loop (divide_step sum) n 0 shares.old }
 {
-    let mut j = 0;
-    while j < n {
+    for j in 0..n {
         shares[j] = shares[j] / sum;
-        j += 1;
     }
 }
 
@@ -116,15 +112,13 @@ pub fn search_sigma(distances: &[f64], n: usize, perplexity: f64, shares: &mut [
         sigma: 1.0,
     };
     let mut sum = 0.0;
-    let mut round: u32 = 0;
-    while round < MOST_ROUNDS {
+    for round in 0..MOST_ROUNDS {
         sum = row_for(distances, n, b.sigma, shares);
         let diff = excess_of(shares, n, perplexity);
         if elementary::limits::absolute(diff) < 1e-5 {
             break;
         }
         b = next(b, diff);
-        round += 1;
     }
     sum
 }

@@ -23,10 +23,8 @@ fn weigh_singly(distances: &[f64], j: usize, c: usize, sigma: f64, shares: &mut 
     requires { (j + c ≤ length distances.now) × (j + c ≤ length shares.old) }
     ensures { shares.new ≡ loop (weigh_step distances.now sigma) c j shares.old }
 {
-    let mut t = 0;
-    while t < c {
+    for t in 0..c {
         shares[j + t] = weight(sigma, distances[j + t]);
-        t += 1;
     }
 }
 
@@ -36,10 +34,8 @@ fn exponents(distances: &[f64], j: usize, c: usize, sigma: f64, xs: &mut [f64; 3
     ensures { xs.new ≡ loop (exponent_step distances.now j sigma) c 0 xs.old }
 {
     let v = 2.0 * sigma * sigma;
-    let mut t = 0;
-    while t < c {
+    for t in 0..c {
         xs[t] = -distances[j + t] / v;
-        t += 1;
     }
 }
 
@@ -68,10 +64,8 @@ fn all_in_reach(xs: &[f64; 32]) -> bool
     ensures { result ≡ every (λ t. in_reach (at xs.now t)) block_size }
 {
     let mut all = true;
-    let mut t = 0;
-    while t < 32 {
+    for t in 0..32 {
         all = and_also(all, in_reach(xs[t]));
-        t += 1;
     }
     all
 }
@@ -106,10 +100,8 @@ fn all_halvings(xs: &[f64; 32], us: &mut [u32; 32])
     requires { every (λ t. in_reach (at xs.now t)) block_size ≡ true }
     ensures { us.new ≡ loop (halving_step xs.now) block_size 0 us.old }
 {
-    let mut t = 0;
-    while t < 32 {
+    for t in 0..32 {
         us[t] = halvings(xs[t]);
-        t += 1;
     }
 }
 
@@ -146,10 +138,8 @@ fn all_series(xs: &[f64; 32], us: &[u32; 32], ts: &mut [f64; 32])
     requires { FewHalvings us.now }
     ensures { ts.new ≡ loop (series_step xs.now us.now) block_size 0 ts.old }
 {
-    let mut t = 0;
-    while t < 32 {
+    for t in 0..32 {
         ts[t] = series_at(rest(xs[t], us[t]));
-        t += 1;
     }
 }
 
@@ -176,10 +166,8 @@ fn lay_halved(
     requires { (j + c ≤ length distances.now) × (j + c ≤ length shares.old) × (c ≤ block_size) × FewHalvings us.now }
     ensures { shares.new ≡ loop (halved_step distances.now j us.now ts.now) c 0 shares.old }
 {
-    let mut t = 0;
-    while t < c {
+    for t in 0..c {
         shares[j + t] = halved_by(distances[j + t], ts[t], us[t]);
-        t += 1;
     }
 }
 

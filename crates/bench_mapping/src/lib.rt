@@ -66,11 +66,9 @@ fn table_of(file: &[u8], m: usize) -> [f64; 384]
     ensures value_2 { result ≡ bench_table file.now m }
 {
     let mut table = [0.0; 384];
-    let mut k = 0;
-    while k < m {
+    for k in 0..m {
         let f = frame_at(file, k / 6);
         table[k] = f.features[k % 6];
-        k += 1;
     }
     table
 }
@@ -82,11 +80,9 @@ fn start_of(file: &[u8], m: usize) -> [f64; 128]
     ensures value_2 { result ≡ bench_start file.now m }
 {
     let mut start = [0.0; 128];
-    let mut k = 0;
-    while k < m {
+    for k in 0..m {
         let f = frame_at(file, k / 2);
         start[k] = f.starts[k % 2];
-        k += 1;
     }
     start
 }

@@ -36,12 +36,10 @@ fn put_frames(out: &mut [u8], from: usize, file: &[u8], positions: [f64; 128]) -
 {
     let n = count(file);
     let mut at = from;
-    let mut i = 0;
-    while i < n {
+    for i in 0..n {
         let f = frame_at(file, i);
         let a = put_label(out, at, f);
         at = put_position(out, a, positions[2 * i], positions[2 * i + 1]);
-        i += 1;
     }
     at
 }

@@ -33,12 +33,10 @@ fn table_fine(table: &[f64], m: usize) -> bool
     requires { m ≤ length table.now }
     ensures { result ≡ table_fine table.now m }
 {
-    let mut i = 0;
-    while i < m {
+    for i in 0..m {
         if !in_domain(table[i]) {
             return false;
         }
-        i += 1;
     }
     true
 }

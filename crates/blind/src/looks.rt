@@ -49,12 +49,10 @@ fn all_at_zero(distances: &[f64], m: usize) -> bool
     requires { m ≤ length distances.now }
     ensures { result ≡ all_at_zero distances.now m }
 {
-    let mut j = 0;
-    while j < m {
+    for j in 0..m {
         if !is_zero(distances[j]) {
             return false;
         }
-        j += 1;
     }
     true
 }
@@ -198,12 +196,10 @@ pub(crate) fn look_at_all(
     let n = s.n;
     let mut blind = 0;
     let mut alone = 0;
-    let mut i = 0;
-    while i < n {
+    for i in 0..n {
         let l = look(s, table, squares, i, row_values, row_shares, row_indices);
         blind += one_if(l.blind);
         alone += one_if(l.alone);
-        i += 1;
     }
     Glances { blind, alone }
 }

@@ -40,10 +40,8 @@ fn lay_shares(
     requires { (i < n) × (j + m ≤ n) × (n * c ≤ length positions.now) × (m ≤ length shares.old) }
     ensures { shares.new ≡ loop (kl_share_step positions.now total c i j) m 0 shares.old }
 {
-    let mut k = 0;
-    while k < m {
+    for k in 0..m {
         shares[k] = num(positions, c, i, j + k) / total;
-        k += 1;
     }
 }
 
@@ -82,10 +80,8 @@ fn kl_pairs(
     ensures { result ≡ loop (kl_shared_step shares.now affinities.now exaggeration n i j) m 0 sum }
 {
     let mut so_far = sum;
-    let mut k = 0;
-    while k < m {
+    for k in 0..m {
         so_far = kl_pair(affinities, exaggeration, n, i, j + k, shares[k], so_far);
-        k += 1;
     }
     so_far
 }
@@ -158,10 +154,8 @@ pub fn kl_divergence(
     ensures { result ≡ kl_dense positions.now affinities.now exaggeration total n c }
 {
     let mut s = 0.0;
-    let mut i = 0;
-    while i < n {
+    for i in 0..n {
         s = s + kl_divergence_row(positions, affinities, exaggeration, total, n, c, i);
-        i += 1;
     }
     s
 }
@@ -214,8 +208,7 @@ fn kl_links(
     ensures { result ≡ loop (kl_link_step positions.now weights.now indices.now exaggeration z c i a) links 0 sum }
 {
     let mut s = sum;
-    let mut k = 0;
-    while k < links {
+    for k in 0..links {
         s = kl_link(
             positions,
             weights,
@@ -228,7 +221,6 @@ fn kl_links(
             a + k,
             s,
         );
-        k += 1;
     }
     s
 }
@@ -283,8 +275,7 @@ pub fn barnes_hut_kl(
     ensures { result ≡ kl_lists positions.now weights.now indices.now offsets.now exaggeration z n c }
 {
     let mut s = 0.0;
-    let mut i = 0;
-    while i < n {
+    for i in 0..n {
         s = kl_list(
             positions,
             weights,
@@ -297,7 +288,6 @@ pub fn barnes_hut_kl(
             i,
             s,
         );
-        i += 1;
     }
     s
 }

@@ -9,10 +9,8 @@ fn odd_series(z: f64) -> f64
     ensures { result ≡ odd_series z }
 {
     let mut t = 1.0 / 21.0;
-    let mut i: u32 = 0;
-    while i < 10 {
+    for i in 0u32..10 {
         t = 1.0 / (19 - 2 * i) as f64 + z * t;
-        i += 1;
     }
     t
 }

@@ -12,10 +12,8 @@ fn put_features(words: &mut [u64], f: Frame)
     requires { 11 ≤ length words.old }
     ensures { words.new ≡ features_put f.features words.old }
 {
-    let mut k = 0;
-    while k < 6 {
+    for k in 0..6 {
         words[3 + k] = bits_of(f.features[k]);
-        k += 1;
     }
 }
 
@@ -23,10 +21,8 @@ fn put_starts(words: &mut [u64], f: Frame)
     requires { 11 ≤ length words.old }
     ensures { words.new ≡ starts_put f.starts words.old }
 {
-    let mut k = 0;
-    while k < 2 {
+    for k in 0..2 {
         words[9 + k] = bits_of(f.starts[k]);
-        k += 1;
     }
 }
 

@@ -76,13 +76,11 @@ pub fn values_fine(file: &[u8], a: usize) -> bool
     requires { a + record_bytes ≤ length file.now }
     ensures { result ≡ values_fine file.now a }
 {
-    let mut k = 0;
-    while k < 8 {
+    for k in 0..8 {
         let v = little::value(file, a + 8 + 8 * k);
         if !elementary::limits::in_domain(v) {
             return false;
         }
-        k += 1;
     }
     true
 }
@@ -157,12 +155,10 @@ pub fn read_frames(file: &[u8]) -> Frames
     ensures { result ≡ frames_of file.now }
 {
     let whole = file.len() / RECORD_BYTES;
-    let mut i = 0;
-    while i < whole {
+    for i in 0..whole {
         if is_bad(file, i) {
             return Frames::Bad(i);
         }
-        i += 1;
     }
     if file.len() % RECORD_BYTES == 0 {
         return Frames::Good(whole);

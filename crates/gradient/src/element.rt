@@ -8,10 +8,8 @@ pub fn share_sum(forces: &[f64], n: usize, c: usize) -> f64
     ensures { result ≡ share_sum_of forces.now n c }
 {
     let mut s = 0.0;
-    let mut i = 0;
-    while i < n {
+    for i in 0..n {
         s = s + forces[i * (2 * c + 1) + 2 * c];
-        i += 1;
     }
     s
 }
@@ -42,11 +40,9 @@ pub fn norm(exact: bool, forces: &[f64], z: f64, n: usize, c: usize, m: usize) -
     ensures { result ≡ norm_of (gradient_of exact forces.now z c) m }
 {
     let mut w = 0.0;
-    let mut e = 0;
-    while e < m {
+    for e in 0..m {
         let g = gradient_at(exact, forces, z, n, c, e);
         w = elementary::unless_above(w, elementary::absolute(g));
-        e += 1;
     }
     w
 }

@@ -52,11 +52,9 @@ fn follow_all(
     ensures { result ≡ loop (link_step exaggeration c positions.now weights.now indices.now p a) links 0 zeros3 }
 {
     let mut t = [0.0, 0.0, 0.0];
-    let mut k = 0;
-    while k < links {
+    for k in 0..links {
         let s = follow(positions, weights, indices, n, c, exaggeration, p, a + k, t);
         t = s;
-        k += 1;
     }
     t
 }

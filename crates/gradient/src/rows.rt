@@ -26,10 +26,8 @@ fn slopes(forces: &mut [f64], positions: &[f64], a: usize, c: usize, x: Pulls)
     ensures { forces.new ≡ loop (slope_step x positions.now a) c 0 forces.old }
 {
     let along = x.along;
-    let mut d = 0;
-    while d < c {
+    for d in 0..c {
         forces[a + d] = (positions[a + d] * x.sum - along[d]) * 4.0;
-        d += 1;
     }
 }
 

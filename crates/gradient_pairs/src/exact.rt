@@ -14,11 +14,9 @@ pub fn apart(positions: &[f64], c: usize, i: usize, j: usize) -> f64
     let a = i * c;
     let b = j * c;
     let mut s = 0.0;
-    let mut d = 0;
-    while d < c {
+    for d in 0..c {
         let g = positions[a + d] - positions[b + d];
         s = s + g * g;
-        d += 1;
     }
     s
 }
@@ -40,10 +38,8 @@ pub fn add_row(positions: &[f64], n: usize, c: usize, i: usize, sum: f64) -> f64
     ensures { result ≡ loop (num_step positions.now c i) n 0 sum }
 {
     let mut s = sum;
-    let mut j = 0;
-    while j < n {
+    for j in 0..n {
         s = s + num(positions, c, i, j);
-        j += 1;
     }
     s
 }
@@ -124,11 +120,9 @@ fn add_frames(
     ensures { result ≡ loop (weighed_step weights.now positions.now c j) m 0 x }
 {
     let mut so_far = x;
-    let mut k = 0;
-    while k < m {
+    for k in 0..m {
         let y = add_frame(so_far, positions, c, j + k, weights[k]);
         so_far = y;
-        k += 1;
     }
     so_far
 }
@@ -141,10 +135,8 @@ fn lay_nums(nums: &mut [f64], positions: &[f64], n: usize, c: usize, i: usize, j
     requires { (i < n) × (j + m ≤ n) × (n * c ≤ length positions.now) × (m ≤ length nums.old) }
     ensures { nums.new ≡ loop (num_laid positions.now c i j) m 0 nums.old }
 {
-    let mut k = 0;
-    while k < m {
+    for k in 0..m {
         nums[k] = num(positions, c, i, j + k);
-        k += 1;
     }
 }
 
@@ -163,10 +155,8 @@ fn lay_weights(
     requires { (i < n) × (j + m ≤ n) × (n * n ≤ length affinities.now) × (m ≤ length nums.now) × (m ≤ length weights.old) }
     ensures { weights.new ≡ loop (weight_laid nums.now affinities.now exaggeration total n i j) m 0 weights.old }
 {
-    let mut k = 0;
-    while k < m {
+    for k in 0..m {
         weights[k] = push(affinities[i * n + (j + k)], exaggeration, nums[k], total);
-        k += 1;
     }
 }
 

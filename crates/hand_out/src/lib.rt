@@ -39,12 +39,10 @@ fn is_calm_along(y: &[f64], n: usize) -> bool
     requires { n ≤ length y.now }
     ensures { result ≡ calm_along y.now n }
 {
-    let mut i = 0;
-    while i < n {
+    for i in 0..n {
         if !is_calm(y[i]) {
             return false;
         }
-        i += 1;
     }
     true
 }

@@ -43,11 +43,9 @@ fn put_bytes(bytes: &mut [u8], a: usize, k: usize, v: u64)
     ensures { bytes.new ≡ written (little_bytes k v) a bytes.old }
 {
     let mut left = v;
-    let mut i = 0;
-    while i < k {
+    for i in 0..k {
         bytes[a + i] = (left % 256) as u8;
         left = left / 256;
-        i += 1;
     }
 }
 

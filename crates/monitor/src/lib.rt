@@ -73,9 +73,7 @@ pub fn put_record(target: &mut [u8], a: usize, picture: u32, side: u8, field: u8
     ensures { target.new ≡ written (monitor_record picture side field x y) a target.old }
 {
     let bytes = record_bytes(picture, side, field, x, y);
-    let mut i = 0;
-    while i < MONITOR_BYTES {
+    for i in 0..MONITOR_BYTES {
         target[a + i] = bytes[i];
-        i += 1;
     }
 }

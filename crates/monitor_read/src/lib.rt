@@ -94,14 +94,12 @@ fn first_broken(file: &[u8]) -> usize
     ensures { result ≡ first_broken file.now }
 {
     let n = file.len() / MONITOR_BYTES;
-    let mut i = 0;
-    while i < n {
+    for i in 0..n {
         if is_broken(file, i) {
             return i;
         }
-        i += 1;
     }
-    i
+    n
 }
 
 // The pictures of n records.
@@ -109,11 +107,9 @@ fn fetch_pictures(area: &mut [u32], file: &[u8], n: usize)
     requires { (n ≤ length area.old) × (n * monitor_bytes ≤ length file.now) }
     ensures { area.new ≡ fronted (monitor_picture file.now) n area.old }
 {
-    let mut i = 0;
-    while i < n {
+    for i in 0..n {
         let p = half_word(file, i * MONITOR_BYTES);
         area[i] = p as u32;
-        i += 1;
     }
 }
 
@@ -122,10 +118,8 @@ fn fetch_bytes(area: &mut [u8], file: &[u8], d: usize, n: usize)
     requires { (n ≤ length area.old) × (n * monitor_bytes ≤ length file.now) × (d < monitor_bytes) }
     ensures { area.new ≡ fronted (byte_at file.now d) n area.old }
 {
-    let mut i = 0;
-    while i < n {
+    for i in 0..n {
         area[i] = file[i * MONITOR_BYTES + d];
-        i += 1;
     }
 }
 
@@ -135,10 +129,8 @@ fn fetch_positions(area: &mut [u64], file: &[u8], n: usize)
     ensures { area.new ≡ fronted (widened_at file.now) (2 * n) area.old }
 {
     let m = 2 * n;
-    let mut j = 0;
-    while j < m {
+    for j in 0..m {
         area[j] = widen(coordinate(file, j));
-        j += 1;
     }
 }
 

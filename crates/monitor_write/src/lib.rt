@@ -119,14 +119,12 @@ fn first_faulty(n: usize, pictures: &[u32], sides: &[u8], fields: &[u8], positio
     requires { FramesLie n (length pictures.now) (length sides.now) (length fields.now) (length positions.now) }
     ensures { result ≡ first (faulty_at pictures.now sides.now fields.now positions.now) n }
 {
-    let mut i = 0;
-    while i < n {
+    for i in 0..n {
         if is_faulty(pictures, sides, fields, positions, i) {
             return i;
         }
-        i += 1;
     }
-    i
+    n
 }
 
 // Writes the records of n frames at the target's front.
@@ -141,8 +139,7 @@ fn put_records(
     requires { WriteLies n (length pictures.now) (length sides.now) (length fields.now) (length positions.now) (length target.old) }
     ensures { target.new ≡ laid (monitor_row pictures.now sides.now fields.now positions.now) monitor_bytes n target.old }
 {
-    let mut i = 0;
-    while i < n {
+    for i in 0..n {
         let x = single_bits(narrow(positions[2 * i]));
         let y = single_bits(narrow(positions[2 * i + 1]));
         put_record(
@@ -154,7 +151,6 @@ fn put_records(
             x,
             y,
         );
-        i += 1;
     }
 }
 

@@ -37,12 +37,10 @@ fn is_calm_area(area: &[u64], m: usize) -> bool
     requires { m ≤ length area.now }
     ensures { result ≡ calm_all area.now m }
 {
-    let mut i = 0;
-    while i < m {
+    for i in 0..m {
         if !is_calm(value_of(area[i])) {
             return false;
         }
-        i += 1;
     }
     true
 }
@@ -98,13 +96,11 @@ fn put_words(
     requires { StoredRoom l (stored_of words.now positions.now increments.now gains.now affinities.now indices.now offsets.now) × (8 * l.end ≤ length target.old) }
     ensures { target.new ≡ parked_into l (stored_of words.now positions.now increments.now gains.now affinities.now indices.now offsets.now) target.old }
 {
-    let mut w = 0;
-    while w < l.end {
+    for w in 0..l.end {
         let v = parked_word(
             words, positions, increments, gains, affinities, indices, offsets, l, w,
         );
         put_word(target, 8 * w, v);
-        w += 1;
     }
 }
 

@@ -16,17 +16,15 @@ fn first_bad(file: &[u8], l: Layout) -> usize
 {
     let due = l.end / 4;
     let whole = file.len() / 32;
-    let mut q = 3;
-    while q < due {
+    for q in 3..due {
         if whole <= q {
             return q;
         }
         if !words_fine(file, l, q) {
             return q;
         }
-        q += 1;
     }
-    q
+    due
 }
 
 // Whether a file is a parked run, and its first bad record.

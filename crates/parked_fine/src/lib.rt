@@ -256,12 +256,10 @@ pub fn words_fine(file: &[u8], l: Layout, q: usize) -> bool
     requires { (32 * q + 32 ≤ length file.now) × (3 ≤ q) }
     ensures { result ≡ every (λ k. word_fine (word_in file.now) l (4 * q + k)) 4 }
 {
-    let mut k = 0;
-    while k < 4 {
+    for k in 0..4 {
         if !word_fine(file, l, 4 * q + k) {
             return false;
         }
-        k += 1;
     }
     true
 }

@@ -106,14 +106,12 @@ fn first_unfit(file: &[u8], n: usize, most: usize) -> usize
     ensures { result ≡ first (λ i. not (link_fine n most file.now i)) (whole_links file.now) }
 {
     let whole = file.len() / LINK_BYTES;
-    let mut i = 0;
-    while i < whole {
+    for i in 0..whole {
         if !link_fine(file, n, most, i) {
             return i;
         }
-        i += 1;
     }
-    i
+    whole
 }
 
 // Whether record j is the mirror of record i.
@@ -165,12 +163,10 @@ fn is_met_anywhere(file: &[u8], i: usize, a: usize, k: usize) -> bool
     requires { (i < whole_links file.now) × (a + k ≤ whole_links file.now) }
     ensures { result ≡ mirrored_in file.now i a k }
 {
-    let mut t = 0;
-    while t < k {
+    for t in 0..k {
         if is_mirror(file, i, a + t) {
             return true;
         }
-        t += 1;
     }
     false
 }
@@ -184,14 +180,12 @@ fn rising_from(file: &[u8], a: usize) -> usize
     if rest == 0 {
         return 0;
     }
-    let mut k = 1;
-    while k < rest {
+    for k in 1..rest {
         if !is_raised(file, a + k) {
             return k;
         }
-        k += 1;
     }
-    k
+    rest
 }
 
 // Whether record i has a mirror: the pairs of the first e records rise, and those of the k that follow.
@@ -213,14 +207,12 @@ fn first_lonely(file: &[u8], d: usize, e: usize, k: usize) -> usize
     requires { (d ≤ whole_links file.now) × (e + k ≤ whole_links file.now) × PairsRise file.now 0 e × PairsRise file.now e k }
     ensures { result ≡ first (λ i. not (mirrored file.now i)) d }
 {
-    let mut i = 0;
-    while i < d {
+    for i in 0..d {
         if !is_mirrored(file, i, e, k) {
             return i;
         }
-        i += 1;
     }
-    i
+    d
 }
 
 // The first record at which a rule fails; the number of records, a stray tail counted, where there is none.

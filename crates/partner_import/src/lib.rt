@@ -77,12 +77,10 @@ fn start_fine(start: &[u64], m: usize) -> bool
     requires { m ≤ length start.now }
     ensures { result ≡ start_fine start.now m }
 {
-    let mut i = 0;
-    while i < m {
+    for i in 0..m {
         if !in_domain(value_of(start[i])) {
             return false;
         }
-        i += 1;
     }
     true
 }

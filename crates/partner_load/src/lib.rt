@@ -15,10 +15,8 @@ pub fn load_indices(file: &[u8], indices: &mut [u32])
     ensures { indices.new ≡ indices_loaded file.now indices.old }
 {
     let links = file.len() / LINK_BYTES;
-    let mut p = 0;
-    while p < links {
+    for p in 0..links {
         indices[p] = link_to(file, p) as u32;
-        p += 1;
     }
 }
 
@@ -28,10 +26,8 @@ pub fn load_weights(file: &[u8], weights: &mut [u64])
     ensures { weights.new ≡ weights_loaded file.now weights.old }
 {
     let links = file.len() / LINK_BYTES;
-    let mut p = 0;
-    while p < links {
+    for p in 0..links {
         weights[p] = link_weight(file, p);
-        p += 1;
     }
 }
 
@@ -43,14 +39,12 @@ fn list_from(file: &[u8], a: usize, j: usize) -> usize
         × (result < whole_links file.now → j ≤ link_from file.now result) }
 {
     let links = file.len() / LINK_BYTES;
-    let mut p = a;
-    while p < links {
+    for p in a..links {
         if j as u64 <= link_from(file, p) {
             return p;
         }
-        p += 1;
     }
-    p
+    links
 }
 
 // Where the list of each of n frames begins, and where the last one ends.

@@ -43,12 +43,10 @@ fn put_list(target: &mut [u8], weights: &[u64], indices: &[u32], from: u64, a: u
     requires { (a + k ≤ length weights.now) × (a + k ≤ length indices.now) × (16 * (a + k) ≤ length target.old) }
     ensures { target.new ≡ written (joined (link_at weights.now indices.now from a) k) (16 * a) target.old }
 {
-    let mut t = 0;
-    while t < k {
+    for t in 0..k {
         let p = a + t;
         let to = indices[p] as u64;
         put_link(target, 16 * p, from, to, weights[p]);
-        t += 1;
     }
 }
 
@@ -57,12 +55,10 @@ fn put_lists(target: &mut [u8], weights: &[u64], indices: &[u32], offsets: &[u32
     requires { ListsLie n weights.now indices.now offsets.now × (16 * num offsets.now n ≤ length target.old) }
     ensures { target.new ≡ lists_into n weights.now indices.now offsets.now target.old }
 {
-    let mut i = 0;
-    while i < n {
+    for i in 0..n {
         let a = offsets[i] as usize;
         let e = offsets[i + 1] as usize;
         put_list(target, weights, indices, i as u64, a, e - a);
-        i += 1;
     }
 }
 

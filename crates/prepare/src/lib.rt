@@ -49,12 +49,10 @@ fn all_in(t: &[f64], m: usize) -> bool
     requires { m ≤ length t.now }
     ensures { result ≡ all_inside t.now m }
 {
-    let mut i = 0;
-    while i < m {
+    for i in 0..m {
         if !in_domain(t[i]) {
             return false;
         }
-        i += 1;
     }
     true
 }

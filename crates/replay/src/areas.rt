@@ -32,10 +32,8 @@ pub fn same_value(v: f64, list: &[u8], i: usize) -> bool
 pub fn mark(area: &mut [f64])
     ensures { area.new ≡ marked area.old }
 {
-    let mut i: usize = 0;
-    while i < area.len() {
+    for i in 0..area.len() {
         area[i] = elementary::value_of(std::num::wrapping_add_u64(0x4000000000000000, i as u64));
-        i += 1;
     }
 }
 
@@ -43,10 +41,8 @@ pub fn mark(area: &mut [f64])
 pub fn mark_words(area: &mut [u32])
     ensures { area.new ≡ marked_numbers area.old }
 {
-    let mut i: usize = 0;
-    while i < area.len() {
+    for i in 0..area.len() {
         area[i] = (0x40000000 + i % 0x40000000) as u32;
-        i += 1;
     }
 }
 
@@ -55,10 +51,8 @@ pub fn copy_words(area: &mut [f64], m: usize, list: &[u8], a: usize)
     requires { m ≤ length area.old }
     ensures { area.new ≡ words_copied list.now a m area.old }
 {
-    let mut i = 0;
-    while i < m {
+    for i in 0..m {
         area[i] = value_at(list, plus(a, i));
-        i += 1;
     }
 }
 
@@ -82,12 +76,10 @@ pub fn same_area(area: &[f64], from: usize, m: usize, list: &[u8], a: usize) -> 
     if m > area.len() {
         return false;
     }
-    let mut i = from;
-    while i < area.len() {
+    for i in from..area.len() {
         if elementary::bits_of(area[i]) != wanted(list, a, m, i, 0x4000000000000000) {
             return false;
         }
-        i += 1;
     }
     true
 }
@@ -105,12 +97,10 @@ pub fn same_numbers(area: &[u32], m: usize, list: &[u8], a: usize) -> bool
     if m > area.len() {
         return false;
     }
-    let mut i = 0;
-    while i < area.len() {
+    for i in 0..area.len() {
         if wide(area[i]) != wanted(list, a, m, i, 0x40000000) {
             return false;
         }
-        i += 1;
     }
     true
 }

@@ -11,11 +11,9 @@ fn read_distances(list: &[u8], a: usize, to: &mut [f64], m: usize)
     requires { m ≤ length to.old }
     ensures { Plains to.new m }
 {
-    let mut i = 0;
-    while i < m {
+    for i in 0..m {
         let d = elementary::value_of(word_at(list, std::num::wrapping_add_usize(a, i)));
         to[i] = elementary::limits::unless_above(0.0, d);
-        i += 1;
     }
 }
 
@@ -27,15 +25,13 @@ fn number(i: u32) -> u64 {
 fn same_pairs(values: &[f64], indices: &[u32], k: usize, list: &[u8], a: usize) -> bool
     requires { (a ≤ 200000) × (k ≤ 1000) × (k ≤ length values.now) × (k ≤ length indices.now) }
 {
-    let mut t = 0;
-    while t < k {
+    for t in 0..k {
         if number(indices[t]) != word_at(list, a + 2 * t) {
             return false;
         }
         if elementary::bits_of(values[t]) != word_at(list, a + 2 * t + 1) {
             return false;
         }
-        t += 1;
     }
     true
 }

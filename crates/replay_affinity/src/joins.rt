@@ -36,11 +36,9 @@ fn number(x: u32) -> u64 {
 fn read_links(list: &[u8], a: usize, weights: &mut [f64], indices: &mut [u32], m: usize, norm: f64)
     requires { (a ≤ 200000) × (m ≤ 10000) × (m ≤ length weights.old) × (m ≤ length indices.old) }
 {
-    let mut p = 0;
-    while p < m {
+    for p in 0..m {
         indices[p] = short(word_at(list, a + 2 * p));
         weights[p] = elementary::value_of(word_at(list, a + 2 * p + 1)) / norm;
-        p += 1;
     }
 }
 
@@ -51,8 +49,7 @@ fn row_right(indices: &[u32], n: usize, k: usize, i: usize) -> bool
 {
     let a = i * k;
     let mut low = 0;
-    let mut t = 0;
-    while t < k {
+    for t in 0..k {
         let v = wide(indices[a + t]);
         if v < low {
             return false;
@@ -64,7 +61,6 @@ fn row_right(indices: &[u32], n: usize, k: usize, i: usize) -> bool
             return false;
         }
         low = v + 1;
-        t += 1;
     }
     true
 }
@@ -74,12 +70,10 @@ fn rows_right(indices: &[u32], n: usize, k: usize) -> bool
     requires { n * k ≤ length indices.now }
     ensures { result ≡ true → Rows n k indices.now }
 {
-    let mut i = 0;
-    while i < n {
+    for i in 0..n {
         if !row_right(indices, n, k, i) {
             return false;
         }
-        i += 1;
     }
     true
 }
@@ -102,15 +96,13 @@ fn same_offsets(offsets: &[u32], n: usize, list: &[u8], a: usize) -> bool
 fn same_links(weights: &[f64], indices: &[u32], m: usize, list: &[u8], a: usize) -> bool
     requires { (a ≤ 400000) × (m ≤ 20000) × (m ≤ length weights.now) × (m ≤ length indices.now) }
 {
-    let mut p = 0;
-    while p < m {
+    for p in 0..m {
         if number(indices[p]) != word_at(list, a + 2 * p) {
             return false;
         }
         if elementary::bits_of(weights[p]) != word_at(list, a + 2 * p + 1) {
             return false;
         }
-        p += 1;
     }
     true
 }

@@ -28,10 +28,8 @@ pub fn bytes_at(list: &[u8], a: usize) -> [u8; 1408]
     ensures { result ≡ each (list_byte list.now a) 1408 }
 {
     let mut bytes = [0u8; 1408];
-    let mut i: usize = 0;
-    while i < 1408 {
+    for i in 0..1408 {
         bytes[i] = byte_at(list, a, i);
-        i += 1;
     }
     bytes
 }
@@ -41,10 +39,8 @@ pub fn marked_target() -> [u8; 1408]
     ensures { result ≡ each byte_mark 1408 }
 {
     let mut bytes = [0u8; 1408];
-    let mut i: usize = 0;
-    while i < 1408 {
+    for i in 0..1408 {
         bytes[i] = (i % 251 + 1) as u8;
-        i += 1;
     }
     bytes
 }
@@ -67,12 +63,10 @@ pub fn same_target(target: [u8; 1408], m: usize, list: &[u8], a: usize) -> bool
     ensures { result ≡ target_stands target m list.now a }
 {
     let end = 8 * ((m + 7) / 8);
-    let mut i: usize = 0;
-    while i < end {
+    for i in 0..end {
         if listed(target, m, i) != byte_at(list, a, i) {
             return false;
         }
-        i += 1;
     }
     true
 }
@@ -92,12 +86,10 @@ fn keeps_mark(target: [u8; 1408], m: usize, i: usize) -> bool
 pub fn still_marked(target: [u8; 1408], m: usize) -> bool
     ensures { result ≡ marks_stay target m }
 {
-    let mut i: usize = 0;
-    while i < 1408 {
+    for i in 0..1408 {
         if !keeps_mark(target, m, i) {
             return false;
         }
-        i += 1;
     }
     true
 }
@@ -107,12 +99,10 @@ pub fn same_file(file: &[u8], target: [u8; 1408]) -> bool
     ensures { result ≡ file_stands file.now target }
 {
     let m = file.len();
-    let mut i: usize = 0;
-    while i < m {
+    for i in 0..m {
         if file[i] != listed(target, m, i) {
             return false;
         }
-        i += 1;
     }
     true
 }

@@ -11,10 +11,8 @@ use replay::word_at;
 fn take_values(area: &mut [u64], list: &[u8], a: usize)
     ensures { area.new ≡ each (listed_word list.now a) (length area.old) }
 {
-    let mut i: usize = 0;
-    while i < area.len() {
+    for i in 0..area.len() {
         area[i] = word_at(list, plus(a, i));
-        i += 1;
     }
 }
 
@@ -32,10 +30,8 @@ fn narrow(w: u64) -> u32
 fn take_numbers(area: &mut [u32], list: &[u8], a: usize)
     ensures { area.new ≡ each (listed_number list.now a) (length area.old) }
 {
-    let mut i: usize = 0;
-    while i < area.len() {
+    for i in 0..area.len() {
         area[i] = narrow(word_at(list, plus(a, i)));
-        i += 1;
     }
 }
 
@@ -43,10 +39,8 @@ fn take_numbers(area: &mut [u32], list: &[u8], a: usize)
 pub fn mark_values(area: &mut [u64])
     ensures { area.new ≡ each value_mark (length area.old) }
 {
-    let mut i: usize = 0;
-    while i < area.len() {
+    for i in 0..area.len() {
         area[i] = std::num::wrapping_add_u64(0x4000000000000000, i as u64);
-        i += 1;
     }
 }
 
@@ -116,12 +110,10 @@ fn wanted_at(list: &[u8], a: usize, m: usize, i: usize) -> u64
 pub fn same_values(area: &[u64], m: usize, list: &[u8], a: usize) -> bool
     ensures { result ≡ values_stand area.now m list.now a }
 {
-    let mut i: usize = 0;
-    while i < area.len() {
+    for i in 0..area.len() {
         if area[i] != wanted_at(list, a, m, i) {
             return false;
         }
-        i += 1;
     }
     true
 }

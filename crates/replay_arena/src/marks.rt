@@ -45,11 +45,9 @@ fn marked_cell(i: usize) -> Cell
 pub fn marked() -> [Cell; 512] {
     let v = marked_cell(0);
     let mut cells = [v; 512];
-    let mut i: usize = 1;
-    while i < 512 {
+    for i in 1..512 {
         let w = marked_cell(i);
         cells[i] = w;
-        i += 1;
     }
     cells
 }
@@ -97,14 +95,12 @@ fn same_cell(a: Cell, b: Cell) -> bool {
 
 // Whether one arena is the other, in all its cells.
 pub fn same_cells(a: [Cell; 512], b: [Cell; 512]) -> bool {
-    let mut i: usize = 0;
-    while i < 512 {
+    for i in 0..512 {
         let x = a[i];
         let y = b[i];
         if !same_cell(x, y) {
             return false;
         }
-        i += 1;
     }
     true
 }

@@ -83,11 +83,9 @@ fn digest_cells(cells: [Cell; 512], m: usize) -> u64
     requires { m ≤ 512 }
 {
     let mut d = m as u64;
-    let mut i: usize = 0;
-    while i < m {
+    for i in 0..m {
         let v = cells[i];
         d = more_cell(d, v);
-        i += 1;
     }
     d
 }

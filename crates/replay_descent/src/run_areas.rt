@@ -129,10 +129,8 @@ fn digest(area: &[f64], m: usize) -> u64
     requires { m ≤ length area.now }
 {
     let mut d = m as u64;
-    let mut i = 0;
-    while i < m {
+    for i in 0..m {
         d = more(d, elementary::bits_of(area[i]));
-        i += 1;
     }
     d
 }
@@ -146,10 +144,8 @@ fn digest_words(area: &[u32], m: usize) -> u64
     requires { m ≤ length area.now }
 {
     let mut d = m as u64;
-    let mut i = 0;
-    while i < m {
+    for i in 0..m {
         d = more(d, wide(area[i]));
-        i += 1;
     }
     d
 }

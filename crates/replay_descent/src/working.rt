@@ -102,14 +102,12 @@ pub(crate) fn all_calls(
     let mut areas = s;
     let mut right = true;
     let mut b = first;
-    let mut k: usize = 0;
-    while k < calls {
+    for k in 0..calls {
         let t = one_call(list, a, b, run, areas);
         run = t.run;
         areas = t.areas;
         right = both(right, t.right);
         b = plus(b, 37);
-        k += 1;
     }
     both(right, b == plus(a, word_at(list, a) as usize))
 }

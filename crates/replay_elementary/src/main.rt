@@ -9,11 +9,9 @@ use std::rt::Files;
 fn exp_cases(list: &[u8]) -> replay::Tally {
     let n = list.len() / 16;
     let mut t = replay::Tally::new();
-    let mut i = 0;
-    while i < n {
+    for i in 0..n {
         let y = elementary::exp(elementary::value_of(word_at(list, 2 * i)));
         t = t.with(elementary::bits_of(y) == word_at(list, 2 * i + 1));
-        i += 1;
     }
     t
 }
@@ -21,11 +19,9 @@ fn exp_cases(list: &[u8]) -> replay::Tally {
 fn ln_cases(list: &[u8]) -> replay::Tally {
     let n = list.len() / 16;
     let mut t = replay::Tally::new();
-    let mut i = 0;
-    while i < n {
+    for i in 0..n {
         let y = elementary::ln(elementary::value_of(word_at(list, 2 * i)));
         t = t.with(elementary::bits_of(y) == word_at(list, 2 * i + 1));
-        i += 1;
     }
     t
 }
@@ -48,8 +44,7 @@ fn bounds_right(x: f64, magnitude: u64, domain: u64, calm: u64) -> bool {
 fn bounds_cases(list: &[u8]) -> replay::Tally {
     let n = list.len() / 32;
     let mut t = replay::Tally::new();
-    let mut i = 0;
-    while i < n {
+    for i in 0..n {
         let x = elementary::value_of(word_at(list, 4 * i));
         t = t.with(bounds_right(
             x,
@@ -57,7 +52,6 @@ fn bounds_cases(list: &[u8]) -> replay::Tally {
             word_at(list, 4 * i + 2),
             word_at(list, 4 * i + 3),
         ));
-        i += 1;
     }
     t
 }
@@ -78,15 +72,13 @@ fn neighbours_right(perplexity: f64, n: u64, k: u64) -> bool {
 fn neighbours_cases(list: &[u8]) -> replay::Tally {
     let n = list.len() / 24;
     let mut t = replay::Tally::new();
-    let mut i = 0;
-    while i < n {
+    for i in 0..n {
         let perplexity = elementary::value_of(word_at(list, 3 * i));
         t = t.with(neighbours_right(
             perplexity,
             word_at(list, 3 * i + 1),
             word_at(list, 3 * i + 2),
         ));
-        i += 1;
     }
     t
 }

@@ -35,10 +35,8 @@ pub(crate) fn numbers_at(list: &[u8], a: usize, m: usize) -> [u32; 401]
     requires { m ≤ 401 }
 {
     let mut numbers = [0u32; 401];
-    let mut i = 0;
-    while i < m {
+    for i in 0..m {
         numbers[i] = number_at(list, plus(a, i));
-        i += 1;
     }
     numbers
 }

@@ -14,12 +14,10 @@ fn all_linked(weights: &[f64], indices: &[u32], offsets: &[u32], n: usize) -> bo
     requires { n ≤ 64 }
     ensures { result ≡ true → AllLinked n weights.now indices.now offsets.now }
 {
-    let mut i = 0;
-    while i < n {
+    for i in 0..n {
         if !linked(weights, indices, offsets, n, i) {
             return false;
         }
-        i += 1;
     }
     true
 }

@@ -18,8 +18,7 @@ fn put_all(cells: [Cell; 512], positions: &[f64], n: u32, c: usize) -> Grown
 {
     let mut own = cells;
     let mut used = 1;
-    let mut j: u32 = 0;
-    while j < n {
+    for j in 0..n {
         let p = put_tested(own, 512, positions, n as usize, used, j, c);
         let new = p.cells;
         own = new;
@@ -30,7 +29,6 @@ fn put_all(cells: [Cell; 512], positions: &[f64], n: u32, c: usize) -> Grown
             };
         }
         used = p.used;
-        j += 1;
     }
     Grown { cells: own, used }
 }

@@ -13,12 +13,10 @@ fn below(indices: &[u32], m: usize, n: usize) -> bool
     requires { m ≤ length indices.now }
     ensures { result ≡ true → Below n m indices.now }
 {
-    let mut k = 0;
-    while k < m {
+    for k in 0..m {
         if wide(indices[k]) >= n {
             return false;
         }
-        k += 1;
     }
     true
 }

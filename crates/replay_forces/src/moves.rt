@@ -33,13 +33,11 @@ fn same_moves(
 ) -> bool
     requires { (0 < c) × (c ≤ 8) × (m ≡ n * c) × (n * (2 * c + 1) ≤ length forces.now) × (m ≤ length positions.now) × (m ≤ length increments.now) × (m ≤ length gains.now) }
 {
-    let mut e = 0;
-    while e < m {
+    for e in 0..m {
         let x = step::element_at(pace, n, c, forces, positions, increments, gains, e);
         if !same_element(x, list, a, m, e) {
             return false;
         }
-        e += 1;
     }
     true
 }

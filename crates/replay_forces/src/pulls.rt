@@ -83,14 +83,12 @@ fn all_points(
     if !fine_in(cells, 512, used, n, s.c) {
         return false;
     }
-    let mut i = 0;
-    while i < n {
+    for i in 0..n {
         if !one_point(
             s, used, i, positions, weights, indices, offsets, cells, forces,
         ) {
             return false;
         }
-        i += 1;
     }
     true
 }
@@ -104,12 +102,10 @@ fn same_gradient(forces: &[f64], n: usize, c: usize, m: usize, list: &[u8], a: u
         return false;
     }
     let b = plus(a, 1);
-    let mut e = 0;
-    while e < m {
+    for e in 0..m {
         if !same_value(gradient_at(false, forces, z, n, c, e), list, plus(b, e)) {
             return false;
         }
-        e += 1;
     }
     true
 }

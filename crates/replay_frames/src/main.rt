@@ -12,12 +12,10 @@ use std::rt::Files;
 fn same_features(v: [f64; 6], list: &[u8], a: usize) -> bool
     requires { a ≤ 1000000 }
 {
-    let mut i = 0;
-    while i < 6 {
+    for i in 0..6 {
         if elementary::bits_of(v[i]) != word_at(list, a + i) {
             return false;
         }
-        i += 1;
     }
     true
 }
@@ -50,12 +48,10 @@ fn same_frame(f: frames::Frame, list: &[u8], a: usize) -> bool
 fn same_frames(file: &[u8], count: usize, list: &[u8], a: usize) -> bool
     requires { (a ≤ 100000) × (count ≤ 1000) }
 {
-    let mut i = 0;
-    while i < count {
+    for i in 0..count {
         if !same_frame(frames::frame_at(file, i), list, a + 11 * i) {
             return false;
         }
-        i += 1;
     }
     true
 }

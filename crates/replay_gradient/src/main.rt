@@ -46,15 +46,11 @@ fn exact_rows(
 )
     requires { (c ≤ 8) × (n * c ≤ length positions.now) × (n * n ≤ length affinities.now) × (n * c < length forces.old) }
 {
-    let mut i = 0;
-    while i < n {
+    for i in 0..n {
         gradient::rows::total_row(positions, n, c, i, forces);
-        i += 1;
     }
-    let mut j = 0;
-    while j < n {
+    for j in 0..n {
         gradient::rows::gradient_row(positions, affinities, exaggeration, n, c, j, forces);
-        j += 1;
     }
 }
 

@@ -17,10 +17,8 @@ fn byte_of(w: u64) -> u8 {
 // A byte of each word from word a on: as many as there is room for, of which a case lends those that are its own.
 pub(crate) fn sides_at(list: &[u8], a: usize) -> [u8; 16] {
     let mut area = [0u8; 16];
-    let mut i: usize = 0;
-    while i < 16 {
+    for i in 0..16 {
         area[i] = byte_of(word_at(list, plus(a, i)));
-        i += 1;
     }
     area
 }
@@ -29,12 +27,10 @@ pub(crate) fn sides_at(list: &[u8], a: usize) -> [u8; 16] {
 fn same_first(area: [u8; 1408], m: usize, list: &[u8], a: usize) -> bool
     requires { m ≤ 1408 }
 {
-    let mut i: usize = 0;
-    while i < m {
+    for i in 0..m {
         if area[i] as u64 != word_at(list, plus(a, i)) {
             return false;
         }
-        i += 1;
     }
     true
 }

@@ -8,14 +8,12 @@ pub(crate) fn marked_forces() -> [f64; 96] {
 
 // The first m forces are +0.0, bit by bit, and the others their marks.
 pub(crate) fn same_forces(forces: &[f64], m: usize, list: &[u8]) -> bool {
-    let mut i: usize = 0;
-    while i < forces.len() {
+    for i in 0..forces.len() {
         if i < m {
             if elementary::bits_of(forces[i]) != 0 {
                 return false;
             }
         }
-        i += 1;
     }
     replay::areas::same_area(forces, m, 0, list, 0)
 }

@@ -96,12 +96,10 @@ fn same_told(number: u32, answer: [u64; 2], list: &[u8], i: usize) -> bool {
 fn same_rules(rules: [u8; 1408], m: usize, list: &[u8], a: usize) -> bool
     requires { m ≤ 1408 }
 {
-    let mut i: usize = 0;
-    while i < m {
+    for i in 0..m {
         if rules[i] as u64 != word_at(list, plus(a, i)) {
             return false;
         }
-        i += 1;
     }
     true
 }

@@ -10,10 +10,8 @@ use std::rt::Files;
 
 // Place i holds the value with the bits 4000000000000000 + i.
 fn mark(area: &mut [f64]) {
-    let mut i: usize = 0;
-    while i < area.len() {
+    for i in 0..area.len() {
         area[i] = elementary::value_of(std::num::wrapping_add_u64(0x4000000000000000, i as u64));
-        i += 1;
     }
 }
 
@@ -21,12 +19,10 @@ fn mark(area: &mut [f64]) {
 fn same_area(area: &[f64], list: &[u8], a: usize) -> bool
     requires { a ≤ 1000000 }
 {
-    let mut i = 0;
-    while i < area.len() {
+    for i in 0..area.len() {
         if elementary::bits_of(area[i]) != word_at(list, std::num::wrapping_add_usize(a, i)) {
             return false;
         }
-        i += 1;
     }
     true
 }

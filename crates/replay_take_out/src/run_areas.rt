@@ -23,10 +23,8 @@ fn narrow(w: u64) -> u32 {
 fn take_numbers(area: &mut [u32], m: usize, list: &[u8], a: usize)
     requires { m ≤ length area.old }
 {
-    let mut i: usize = 0;
-    while i < m {
+    for i in 0..m {
         area[i] = narrow(word_at(list, plus(a, i)));
-        i += 1;
     }
 }
 
@@ -61,10 +59,8 @@ fn bits_before(list: &[u8], a: usize, m: usize, i: usize) -> u64 {
 // The same of values that are lent as words.
 pub(crate) fn bits_at(list: &[u8], a: usize, m: usize) -> [u64; 96] {
     let mut area = [0u64; 96];
-    let mut i: usize = 0;
-    while i < 96 {
+    for i in 0..96 {
         area[i] = bits_before(list, a, m, i);
-        i += 1;
     }
     area
 }
@@ -79,10 +75,8 @@ fn digest(area: &[f64], m: usize) -> u64
     requires { m ≤ length area.now }
 {
     let mut d = m as u64;
-    let mut i = 0;
-    while i < m {
+    for i in 0..m {
         d = more(d, elementary::bits_of(area[i]));
-        i += 1;
     }
     d
 }
@@ -96,10 +90,8 @@ fn digest_words(area: &[u32], m: usize) -> u64
     requires { m ≤ length area.now }
 {
     let mut d = m as u64;
-    let mut i = 0;
-    while i < m {
+    for i in 0..m {
         d = more(d, wide(area[i]));
-        i += 1;
     }
     d
 }
@@ -109,38 +101,32 @@ fn digest_bits(area: &[u64], m: usize) -> u64
     requires { m ≤ length area.now }
 {
     let mut d = m as u64;
-    let mut i = 0;
-    while i < m {
+    for i in 0..m {
         d = more(d, area[i]);
-        i += 1;
     }
     d
 }
 
 // From place m on each word is its mark.
 fn bits_marked(area: &[u64], m: usize) -> bool {
-    let mut i: usize = 0;
-    while i < area.len() {
+    for i in 0..area.len() {
         if i >= m {
             if area[i] != std::num::wrapping_add_u64(0x4000000000000000, i as u64) {
                 return false;
             }
         }
-        i += 1;
     }
     true
 }
 
 // From place m on each number is its mark.
 fn still_marked(area: &[u32], m: usize) -> bool {
-    let mut i: usize = 0;
-    while i < area.len() {
+    for i in 0..area.len() {
         if i >= m {
             if wide(area[i]) != std::num::wrapping_add_u64(0x40000000, i as u64) {
                 return false;
             }
         }
-        i += 1;
     }
     true
 }

@@ -17,10 +17,8 @@ use take_out::Taken;
 // The record of fourteen words from word a on.
 fn record_at(list: &[u8], a: usize) -> [u64; 14] {
     let mut words = [0u64; 14];
-    let mut i: usize = 0;
-    while i < 14 {
+    for i in 0..14 {
         words[i] = word_at(list, plus(a, i));
-        i += 1;
     }
     words
 }
@@ -34,12 +32,10 @@ fn words_of(r: Run) -> [u64; 14] {
 
 // Whether they are the words from a on.
 fn same_record(words: [u64; 14], list: &[u8], a: usize) -> bool {
-    let mut i: usize = 0;
-    while i < 14 {
+    for i in 0..14 {
         if words[i] != word_at(list, plus(a, i)) {
             return false;
         }
-        i += 1;
     }
     true
 }

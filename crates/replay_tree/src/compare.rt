@@ -17,8 +17,7 @@ pub(crate) fn product(n: usize, c: usize) -> usize
 pub(crate) fn same_three(v: [f64; 3], list: &[u8], a: usize, c: usize) -> bool
     requires { a ≤ 400000 }
 {
-    let mut d = 0;
-    while d < 3 {
+    for d in 0..3 {
         let mut wanted = 0;
         if d < c {
             wanted = word_at(list, a + d);
@@ -26,7 +25,6 @@ pub(crate) fn same_three(v: [f64; 3], list: &[u8], a: usize, c: usize) -> bool
         if elementary::bits_of(v[d]) != wanted {
             return false;
         }
-        d += 1;
     }
     true
 }

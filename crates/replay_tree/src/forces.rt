@@ -60,15 +60,13 @@ pub(crate) fn same_forces(
     if !fine_in(cells, 512, used, n as usize, c) {
         return false;
     }
-    let mut k: u32 = 0;
-    while k < 4 * n {
+    for k in 0..4 * n {
         let w = angle((k % 4) as usize);
         let eye = eye_of(positions, n as usize, c, k / 4, w);
         let r = force_in(cells, 512, used, eye);
         if !same_force(r, list, a + product(k as usize, c + 1), c) {
             return false;
         }
-        k += 1;
     }
     true
 }

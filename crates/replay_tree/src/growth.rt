@@ -35,8 +35,7 @@ fn put_all(cells: [Cell; 512], k: usize, positions: &[f64], n: u32, c: usize) ->
     let mut old = cells;
     let mut used = 1;
     let mut last = 0;
-    let mut j: u32 = 0;
-    while j < n {
+    for j in 0..n {
         let p = put_tested(old, k, positions, n as usize, used, j, c);
         let new = p.cells;
         if p.full {
@@ -53,7 +52,6 @@ fn put_all(cells: [Cell; 512], k: usize, positions: &[f64], n: u32, c: usize) ->
         }
         used = p.used;
         old = new;
-        j += 1;
     }
     Grown {
         cells: old,

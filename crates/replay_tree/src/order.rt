@@ -36,8 +36,7 @@ fn same_nodes(
     requires { (Axes c) × (a ≤ 200000) × (count ≤ 1000) × (512 ≤ length stack.old) }
 {
     let mut top: usize = 1;
-    let mut k = 0;
-    while k < count {
+    for k in 0..count {
         if top == 0 {
             return false;
         }
@@ -54,7 +53,6 @@ fn same_nodes(
             return false;
         }
         top = push(stack, top - 1, v.first, children(v.first, c));
-        k += 1;
     }
     top == 0
 }

@@ -88,14 +88,12 @@ fn first_offset(offsets: &[u32], most: usize, n: usize) -> usize
     requires { n ≤ length offsets.now }
     ensures { result ≡ first (λ i. not (offset_fine offsets.now most i)) n }
 {
-    let mut i = 0;
-    while i < n {
+    for i in 0..n {
         if !offset_fine(offsets, most, i) {
             return i;
         }
-        i += 1;
     }
-    i
+    n
 }
 
 fn index_fine(indices: &[u32], n: usize, i: usize) -> bool
@@ -110,14 +108,12 @@ fn first_index(indices: &[u32], n: usize, count: usize) -> usize
     requires { count ≤ length indices.now }
     ensures { result ≡ first (λ i. not (index_fine indices.now n i)) count }
 {
-    let mut i = 0;
-    while i < count {
+    for i in 0..count {
         if !index_fine(indices, n, i) {
             return i;
         }
-        i += 1;
     }
-    i
+    count
 }
 
 fn tree_fits(n: usize, links: usize, a: usize, x: usize, o: usize, nodes: usize) -> bool

@@ -106,10 +106,8 @@ fn copy_record(good: &mut [u8], to: usize, file: &[u8], a: usize)
     requires { (to + record_bytes ≤ length good.old) × (a + record_bytes ≤ length file.now) }
     ensures { good.new ≡ written (record_at file.now a) to good.old }
 {
-    let mut t = 0;
-    while t < RECORD_BYTES {
+    for t in 0..RECORD_BYTES {
         good[to + t] = file[a + t];
-        t += 1;
     }
 }
 
@@ -159,10 +157,8 @@ fn sift_all(file: &[u8], good: &mut [u8], places: &mut [u64], rules: &mut [u8]) 
         kept: 0,
         told: 0,
     };
-    let mut i = 0;
-    while i < whole {
+    for i in 0..whole {
         s = sift_one(file, good, places, rules, s, i);
-        i += 1;
     }
     s
 }

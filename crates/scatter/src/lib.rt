@@ -56,11 +56,9 @@ fn random_init(positions: &mut [f64], m: usize, seed: u64)
     ensures { positions.new ≡ scattered m seed positions.old }
 {
     let mut state = seed;
-    let mut k = 0;
-    while k < m {
+    for k in 0..m {
         state = std::num::wrapping_add_u64(state, 0x9e3779b97f4a7c15);
         positions[k] = coordinate(mix(state));
-        k += 1;
     }
 }
 

@@ -75,13 +75,11 @@ pub fn sum_moves(
         × (sums.new ≡ loop (sum_step (paced pace c forces.now positions.now increments.now gains.now) c) m 0 sums.old) }
 {
     let mut calm = true;
-    let mut e = 0;
-    while e < m {
+    for e in 0..m {
         let x = element_at(pace, n, c, forces, positions, increments, gains, e);
         calm = still_calm(calm, x);
         let d = e % c;
         sums[d] = sums[d] + x.moved;
-        e += 1;
     }
     calm
 }
@@ -91,10 +89,8 @@ pub fn take_means(sums: &mut [f64; 8], c: usize, count: f64)
     requires { c ≤ 8 }
     ensures { sums.new ≡ loop (mean_step count) c 0 sums.old }
 {
-    let mut d = 0;
-    while d < c {
+    for d in 0..c {
         sums[d] = sums[d] / count;
-        d += 1;
     }
 }
 
@@ -113,14 +109,12 @@ pub fn calm_centred(
     requires { (0 < c) × (c ≤ 8) × (m ≡ n * c) × (n * (2 * c + 1) ≤ length forces.now) × (n * c ≤ length positions.now) × (n * c ≤ length increments.now) × (n * c ≤ length gains.now) }
     ensures { result ≡ calm_centred means.now (paced pace c forces.now positions.now increments.now gains.now) c m }
 {
-    let mut e = 0;
-    while e < m {
+    for e in 0..m {
         let x = element_at(pace, n, c, forces, positions, increments, gains, e);
         let d = e % c;
         if !elementary::is_calm(x.moved - means[d]) {
             return false;
         }
-        e += 1;
     }
     true
 }
@@ -153,13 +147,11 @@ pub fn write_moves(
         × (increments.new ≡ loop (increment_step (paced pace c forces.now positions.old increments.old gains.old)) m 0 increments.old)
         × (gains.new ≡ loop (gain_step (paced pace c forces.now positions.old increments.old gains.old)) m 0 gains.old) }
 {
-    let mut e = 0;
-    while e < m {
+    for e in 0..m {
         let x = element_at(pace, n, c, forces, positions, increments, gains, e);
         let d = e % c;
         positions[e] = x.moved - means[d];
         increments[e] = x.increment;
         gains[e] = x.gain;
-        e += 1;
     }
 }

@@ -23,15 +23,12 @@ fn mean_left(positions: &[f64], gone: &[u32], n: usize, c: usize, d: usize, m: u
 {
     let mut s = 0.0;
     let mut g = 0;
-    let mut j = 0;
-    while j < n {
+    for j in 0..n {
         if is_next(gone, g, j as u32) {
             g += 1;
-            j += 1;
             continue;
         }
         s = s + positions[j * c + d];
-        j += 1;
     }
     s / m as f64
 }
@@ -48,10 +45,8 @@ pub fn means_left(
     requires { (n ≤ most_frames) × (c ≤ 8) × (n * c ≤ length positions.now) × Climbs gone.now × (m ≡ length (survivors gone.now n)) }
     ensures { means.new ≡ loop (mean_at (survivors gone.now n) c positions.now) c 0 means.old }
 {
-    let mut d = 0;
-    while d < c {
+    for d in 0..c {
         means[d] = mean_left(positions, gone, n, c, d, m);
-        d += 1;
     }
 }
 
@@ -60,12 +55,10 @@ fn is_calm_row(positions: &[f64], a: usize, c: usize, means: &[f64; 8]) -> bool
     requires { (c ≤ 8) × (a + c ≤ length positions.now) }
     ensures { result ≡ every (λ d. calm (sub binary64 (at positions.now (a + d)) (at means.now d))) c }
 {
-    let mut d = 0;
-    while d < c {
+    for d in 0..c {
         if !is_calm(positions[a + d] - means[d]) {
             return false;
         }
-        d += 1;
     }
     true
 }
@@ -76,17 +69,14 @@ fn is_calm_by(positions: &[f64], gone: &[u32], n: usize, c: usize, means: &[f64;
     ensures { result ≡ calm_left (survivors gone.now n) c positions.now }
 {
     let mut g = 0;
-    let mut j = 0;
-    while j < n {
+    for j in 0..n {
         if is_next(gone, g, j as u32) {
             g += 1;
-            j += 1;
             continue;
         }
         if !is_calm_row(positions, j * c, c, means) {
             return false;
         }
-        j += 1;
     }
     true
 }

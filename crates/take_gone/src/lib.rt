@@ -31,12 +31,10 @@ fn gone_fine_at(gone: &[u32], n: usize, t: usize) -> bool
 pub fn gone_fine(gone: &[u32], n: usize) -> bool
     ensures { result ≡ gone_fine gone.now n }
 {
-    let mut t = 0;
-    while t < gone.len() {
+    for t in 0..gone.len() {
         if !gone_fine_at(gone, n, t) {
             return false;
         }
-        t += 1;
     }
     true
 }
@@ -100,16 +98,13 @@ pub fn put_survivors(gone: &[u32], n: usize, old: &mut [u32]) -> usize
 {
     let mut g = 0;
     let mut q = 0;
-    let mut j = 0;
-    while j < n {
+    for j in 0..n {
         if is_next(gone, g, j as u32) {
             g += 1;
-            j += 1;
             continue;
         }
         old[q] = j as u32;
         q += 1;
-        j += 1;
     }
     q
 }

@@ -27,14 +27,11 @@ fn list_left(gone: &[u32], indices: &[u32], a: usize, k: usize) -> usize
     ensures { result ≡ named_left gone.now indices.now a k }
 {
     let mut c = 0;
-    let mut t = 0;
-    while t < k {
+    for t in 0..k {
         if is_among(gone, indices[a + t]) {
-            t += 1;
             continue;
         }
         c += 1;
-        t += 1;
     }
     c
 }
@@ -46,16 +43,13 @@ pub fn links_left(gone: &[u32], n: usize, indices: &[u32], offsets: &[u32]) -> u
 {
     let mut c = 0;
     let mut g = 0;
-    let mut j = 0;
-    while j < n {
+    for j in 0..n {
         if is_next(gone, g, j as u32) {
             g += 1;
-            j += 1;
             continue;
         }
         let a = wide(offsets[j]);
         c += list_left(gone, indices, a, wide(offsets[j + 1]) - a);
-        j += 1;
     }
     c
 }
@@ -75,17 +69,14 @@ fn pack_list(
     ensures indices_after { indices.new ≡ written (indices_from keep.now indices.old a k) q indices.old }
 {
     let mut e = q;
-    let mut t = 0;
-    while t < k {
+    for t in 0..k {
         let x = place_of(keep, indices[a + t]);
         if x >= keep.len() {
-            t += 1;
             continue;
         }
         weights[e] = weights[a + t];
         indices[e] = x as u32;
         e += 1;
-        t += 1;
     }
     e
 }
@@ -95,10 +86,8 @@ fn clear_words(area: &mut [u32], a: usize, b: usize)
     requires { (a ≤ b) × (b ≤ length area.old) }
     ensures { area.new ≡ cleared_from 0 a b area.old }
 {
-    let mut p = a;
-    while p < b {
+    for p in a..b {
         area[p] = 0;
-        p += 1;
     }
 }
 
@@ -117,16 +106,14 @@ fn pack_all(
     ensures offsets_after { offsets.new ≡ closed_offsets keep.now indices.old offsets.old }
 {
     let mut q = 0;
-    let mut i = 0;
-    while i < keep.len() {
+    for i in 0..keep.len() {
         let j = wide(keep[i]);
         let a = wide(offsets[j]);
         let k = wide(offsets[j + 1]) - a;
         offsets[i] = q as u32;
         q = pack_list(weights, indices, keep, a, k, q);
-        i += 1;
     }
-    offsets[i] = q as u32;
+    offsets[keep.len()] = q as u32;
     q
 }
 

@@ -24,10 +24,8 @@ fn clear_between(area: &mut [f64], a: usize, b: usize)
     ensures { area.new ≡ cleared_from zero64 a b area.old }
 {
     let k = b - a;
-    let mut d = 0;
-    while d < k {
+    for d in 0..k {
         area[a + d] = 0.0;
-        d += 1;
     }
 }
 
@@ -37,10 +35,8 @@ pub fn clear_bits(area: &mut [u64], a: usize, b: usize)
     ensures { area.new ≡ cleared_from 0 a b area.old }
 {
     let w = b - a;
-    let mut d = 0;
-    while d < w {
+    for d in 0..w {
         area[a + d] = 0;
-        d += 1;
     }
 }
 
@@ -49,10 +45,8 @@ fn bring_row(area: &mut [u64], from: usize, to: usize, w: usize)
     requires { (to ≤ from) × (from + w ≤ length area.old) }
     ensures { area.new ≡ take to area.old ++ (each (λ d. num area.old (from + d)) w ++ drop (to + w) area.old) }
 {
-    let mut d = 0;
-    while d < w {
+    for d in 0..w {
         area[to + d] = area[from + d];
-        d += 1;
     }
 }
 
@@ -61,10 +55,8 @@ fn bring_columns(area: &mut [u64], from: usize, to: usize, n: usize, keep: &[u32
     requires { (to ≤ from) × (from + n ≤ length area.old) × Staying keep.now n }
     ensures { area.new ≡ take to area.old ++ (each (λ j. num area.old (from + num keep.now j)) (length keep.now) ++ drop (to + length keep.now) area.old) }
 {
-    let mut j = 0;
-    while j < keep.len() {
+    for j in 0..keep.len() {
         area[to + j] = area[from + wide(keep[j])];
-        j += 1;
     }
 }
 
@@ -73,10 +65,8 @@ fn bring_centred(area: &mut [f64], from: usize, to: usize, c: usize, means: &[f6
     requires { (c ≤ 8) × (to ≤ from) × (from + c ≤ length area.old) }
     ensures { area.new ≡ take to area.old ++ (each (λ d. sub binary64 (at area.old (from + d)) (at means.now d)) c ++ drop (to + c) area.old) }
 {
-    let mut d = 0;
-    while d < c {
+    for d in 0..c {
         area[to + d] = area[from + d] - means[d];
-        d += 1;
     }
 }
 
@@ -85,10 +75,8 @@ pub fn pack_rows(area: &mut [u64], n: usize, w: usize, keep: &[u32])
     requires { (n ≤ most_frames) × (w ≤ most_features) × (n * w ≤ length area.old) × Staying keep.now n }
     ensures { area.new ≡ shrunk 0 (n * w) (kept_rows keep.now w area.old) area.old }
 {
-    let mut i = 0;
-    while i < keep.len() {
+    for i in 0..keep.len() {
         bring_row(area, wide(keep[i]) * w, i * w, w);
-        i += 1;
     }
     clear_bits(area, keep.len() * w, n * w);
 }
@@ -99,10 +87,8 @@ pub fn pack_square(area: &mut [u64], n: usize, keep: &[u32])
     ensures { area.new ≡ shrunk 0 (n * n) (kept_square keep.now n area.old) area.old }
 {
     let m = keep.len();
-    let mut i = 0;
-    while i < m {
+    for i in 0..m {
         bring_columns(area, wide(keep[i]) * n, i * m, n, keep);
-        i += 1;
     }
     clear_bits(area, m * m, n * n);
 }
@@ -112,10 +98,8 @@ pub fn pack_centred(positions: &mut [f64], n: usize, c: usize, keep: &[u32], mea
     requires { (n ≤ most_frames) × (c ≤ 8) × (n * c ≤ length positions.old) × Staying keep.now n × Means keep.now c positions.old means.now }
     ensures { positions.new ≡ shrunk zero64 (n * c) (centred_rows keep.now c positions.old) positions.old }
 {
-    let mut i = 0;
-    while i < keep.len() {
+    for i in 0..keep.len() {
         bring_centred(positions, wide(keep[i]) * c, i * c, c, means);
-        i += 1;
     }
     clear_between(positions, keep.len() * c, n * c);
 }

@@ -21,8 +21,7 @@ fn splits(z0: [f64; 3], h0: [f64; 3], q: [f64; 3], p: [f64; 3], c: usize, depth:
     let mut z = z0;
     let mut h = h0;
     let mut n: usize = 0;
-    let mut d = depth;
-    while d < DEEPEST {
+    for d in depth..DEEPEST {
         let k = child_index(z, p, c);
         let o = child_index(z, q, c);
         n += 1;
@@ -33,7 +32,6 @@ fn splits(z0: [f64; 3], h0: [f64; 3], q: [f64; 3], p: [f64; 3], c: usize, depth:
         let g = child_half(h, c);
         z = y;
         h = g;
-        d += 1;
     }
     n
 }

@@ -44,10 +44,8 @@ fn span(positions: &[f64], n: usize, c: usize, d: usize) -> Span
         low: 1.0 / 0.0,
         high: -1.0 / 0.0,
     };
-    let mut i = 0;
-    while i < n {
+    for i in 0..n {
         s = widen(s, positions[i * c + d]);
-        i += 1;
     }
     s
 }

@@ -14,10 +14,8 @@ fn fetch_words(area: &mut [u64], file: &[u8], b: usize, m: usize)
     requires { (m ≤ length area.old) × (8 * (b + m) ≤ length file.now) }
     ensures { area.new ≡ fetched (word_in file.now) b m area.old }
 {
-    let mut i = 0;
-    while i < m {
+    for i in 0..m {
         area[i] = word(file, 8 * (b + i));
-        i += 1;
     }
 }
 
@@ -26,11 +24,9 @@ fn fetch_numbers(area: &mut [u32], file: &[u8], b: usize, m: usize)
     requires { (m ≤ length area.old) × (8 * (b + m) ≤ length file.now) × Narrow file.now b m }
     ensures { area.new ≡ fetched (word_in file.now) b m area.old }
 {
-    let mut i = 0;
-    while i < m {
+    for i in 0..m {
         let v = word(file, 8 * (b + i));
         area[i] = v as u32;
-        i += 1;
     }
 }
 

@@ -11,6 +11,3 @@ use Rattle.affinity_distances.proofs.distance_row.Given as goal
 abbrev pub invariant-loop-j : goal.invariant-loop-j
 invariant-loop-j l = (length l.row ≡ length l.initial.row) ×
     ((y : List Float) → Loops (distance_step l.table l.f l.i) l.n y l.initial.j l.initial.row → Loops (distance_step l.table l.f l.i) l.n y l.j l.row)
-
-abbrev pub decreases-loop-j : goal.decreases-loop-j
-decreases-loop-j l = l.n - l.j

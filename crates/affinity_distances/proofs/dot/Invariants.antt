@@ -6,6 +6,3 @@ use Rattle.affinity_distances.proofs.dot.Given as goal
 
 abbrev pub invariant-loop-k : goal.invariant-loop-k
 invariant-loop-k l = Loops (dot_step l.table l.a l.b) l.f l.initial.sum l.k l.sum
-
-abbrev pub decreases-loop-k : goal.decreases-loop-k
-decreases-loop-k l = l.f - l.k

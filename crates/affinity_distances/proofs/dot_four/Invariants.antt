@@ -8,6 +8,3 @@ abbrev pub invariant-loop-k : goal.invariant-loop-k
 invariant-loop-k l = Loops (dot_step l.table l.o l.a) l.f l.initial.first l.k l.first ×
     Loops (dot_step l.table l.o l.b) l.f l.initial.second l.k l.second × Loops (dot_step l.table l.o l.c) l.f l.initial.third l.k l.third × Loops
     (dot_step l.table l.o l.d) l.f l.initial.fourth l.k l.fourth
-
-abbrev pub decreases-loop-k : goal.decreases-loop-k
-decreases-loop-k l = l.f - l.k

@@ -8,6 +8,3 @@ use Rattle.affinity_distances.proofs.square_frames.Given as goal
 
 abbrev pub invariant-loop-i : goal.invariant-loop-i
 invariant-loop-i l = (length l.squares ≡ length l.initial.squares) × Loops (square_step l.table l.f) l.n l.initial.squares l.i l.squares
-
-abbrev pub decreases-loop-i : goal.decreases-loop-i
-decreases-loop-i l = l.n - l.i

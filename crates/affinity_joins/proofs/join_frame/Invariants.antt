@@ -8,6 +8,3 @@ use Rattle.affinity_joins.proofs.join_frame.Given as goal
 
 abbrev pub invariant-loop-j : goal.invariant-loop-j
 invariant-loop-j l = (length l.affinities ≡ length l.initial.affinities) × Loops (pair_step l.n l.norm l.i) l.i l.initial.affinities l.j l.affinities
-
-abbrev pub decreases-loop-j : goal.decreases-loop-j
-decreases-loop-j l = l.i - l.j

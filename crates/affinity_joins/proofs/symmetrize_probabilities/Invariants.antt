@@ -8,6 +8,3 @@ use Rattle.affinity_joins.proofs.symmetrize_probabilities.Given as goal
 
 abbrev pub invariant-loop-i : goal.invariant-loop-i
 invariant-loop-i l = (length l.affinities ≡ length l.initial.affinities) × Loops (frame_joined l.n l.norm) l.n l.initial.affinities l.i l.affinities
-
-abbrev pub decreases-loop-i : goal.decreases-loop-i
-decreases-loop-i l = l.n - l.i

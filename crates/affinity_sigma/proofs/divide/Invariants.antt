@@ -8,6 +8,3 @@ use Rattle.affinity_sigma.proofs.divide.Given as goal
 
 abbrev pub invariant-loop-j : goal.invariant-loop-j
 invariant-loop-j l = (length l.shares ≡ length l.initial.shares) × Loops (divide_step l.sum) l.n l.initial.shares l.j l.shares
-
-abbrev pub decreases-loop-j : goal.decreases-loop-j
-decreases-loop-j l = l.n - l.j

@@ -8,6 +8,3 @@ use Rattle.affinity_sigma.proofs.search_sigma.Given as goal
 
 abbrev pub invariant-loop-round : goal.invariant-loop-round
 invariant-loop-round l = (length l.shares ≡ length l.initial.shares) × Narrows l.distances l.n l.perplexity l.initial.shares l.round l.shares l.b l.sum
-
-abbrev pub decreases-loop-round : goal.decreases-loop-round
-decreases-loop-round l = most_rounds - l.round

@@ -6,6 +6,3 @@ use Rattle.affinity_sigma.proofs.total.Given as goal
 
 abbrev pub invariant-loop-j : goal.invariant-loop-j
 invariant-loop-j l = Loops (weight_step l.shares) l.n l.initial.sum l.j l.sum
-
-abbrev pub decreases-loop-j : goal.decreases-loop-j
-decreases-loop-j l = l.n - l.j

@@ -8,6 +8,3 @@ use Rattle.bench_mapping.proofs.start_of.Given as goal
 
 abbrev pub invariant-loop-k : goal.invariant-loop-k
 invariant-loop-k l = (128 ≡ length l.start) × Loops (start_step l.file) l.m (zeros 128) l.k l.start
-
-abbrev pub decreases-loop-k : goal.decreases-loop-k
-decreases-loop-k l = l.m - l.k

@@ -8,6 +8,3 @@ use Rattle.bench_mapping.proofs.table_of.Given as goal
 
 abbrev pub invariant-loop-k : goal.invariant-loop-k
 invariant-loop-k l = (384 ≡ length l.table) × Loops (feature_step l.file) l.m (zeros 384) l.k l.table
-
-abbrev pub decreases-loop-k : goal.decreases-loop-k
-decreases-loop-k l = l.m - l.k

@@ -6,6 +6,3 @@ use Rattle.divergence_sums.proofs.barnes_hut_kl.Given as goal
 
 abbrev pub invariant-loop-i : goal.invariant-loop-i
 invariant-loop-i l = Loops (kl_list l.positions l.weights l.indices l.offsets l.exaggeration l.z l.c) l.n l.initial.s l.i l.s
-
-abbrev pub decreases-loop-i : goal.decreases-loop-i
-decreases-loop-i l = l.n - l.i

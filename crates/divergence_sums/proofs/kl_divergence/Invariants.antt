@@ -6,6 +6,3 @@ use Rattle.divergence_sums.proofs.kl_divergence.Given as goal
 
 abbrev pub invariant-loop-i : goal.invariant-loop-i
 invariant-loop-i l = Loops (kl_row_step l.positions l.affinities l.exaggeration l.total l.n l.c) l.n l.initial.s l.i l.s
-
-abbrev pub decreases-loop-i : goal.decreases-loop-i
-decreases-loop-i l = l.n - l.i

@@ -6,6 +6,3 @@ use Rattle.divergence_sums.proofs.kl_links.Given as goal
 
 abbrev pub invariant-loop-k : goal.invariant-loop-k
 invariant-loop-k l = Loops (kl_link_step l.positions l.weights l.indices l.exaggeration l.z l.c l.i l.a) l.links l.initial.s l.k l.s
-
-abbrev pub decreases-loop-k : goal.decreases-loop-k
-decreases-loop-k l = l.links - l.k

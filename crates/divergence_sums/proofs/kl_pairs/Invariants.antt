@@ -6,6 +6,3 @@ use Rattle.divergence_sums.proofs.kl_pairs.Given as goal
 
 abbrev pub invariant-loop-k : goal.invariant-loop-k
 invariant-loop-k l = Loops (kl_shared_step l.shares l.affinities l.exaggeration l.n l.i l.j) l.m l.sum l.k l.so_far
-
-abbrev pub decreases-loop-k : goal.decreases-loop-k
-decreases-loop-k l = l.m - l.k

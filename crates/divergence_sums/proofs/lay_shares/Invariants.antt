@@ -8,6 +8,3 @@ use Rattle.divergence_sums.proofs.lay_shares.Given as goal
 
 abbrev pub invariant-loop-k : goal.invariant-loop-k
 invariant-loop-k l = (length l.shares ≡ length l.initial.shares) × Loops (kl_share_step l.positions l.total l.c l.i l.j) l.m l.initial.shares l.k l.shares
-
-abbrev pub decreases-loop-k : goal.decreases-loop-k
-decreases-loop-k l = l.m - l.k

@@ -9,6 +9,3 @@ use Rattle.frame_words.proofs.put_features.Given as goal
 
 abbrev pub invariant-loop-k : goal.invariant-loop-k
 invariant-loop-k l = (length l.words ≡ length l.initial.words) × Loops (λ k x. set x (3 + k) (to_bits binary64 (at l.f.features k))) 6 l.initial.words l.k l.words
-
-abbrev pub decreases-loop-k : goal.decreases-loop-k
-decreases-loop-k l = 6 - l.k

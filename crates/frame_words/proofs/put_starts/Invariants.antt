@@ -9,6 +9,3 @@ use Rattle.frame_words.proofs.put_starts.Given as goal
 
 abbrev pub invariant-loop-k : goal.invariant-loop-k
 invariant-loop-k l = (length l.words ≡ length l.initial.words) × Loops (λ k x. set x (9 + k) (to_bits binary64 (at l.f.starts k))) 2 l.initial.words l.k l.words
-
-abbrev pub decreases-loop-k : goal.decreases-loop-k
-decreases-loop-k l = 2 - l.k

@@ -6,6 +6,3 @@ use Rattle.frames.proofs.read_frames.Given as goal
 
 abbrev pub invariant-loop-i : goal.invariant-loop-i
 invariant-loop-i l = Seeks (bad_at l.file) (whole_records l.file) l.i
-
-abbrev pub decreases-loop-i : goal.decreases-loop-i
-decreases-loop-i l = whole_records l.file - l.i

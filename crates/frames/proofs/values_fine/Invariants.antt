@@ -9,6 +9,3 @@ use Rattle.frames.proofs.values_fine.Given as goal
 
 abbrev pub invariant-loop-k : goal.invariant-loop-k
 invariant-loop-k l = (l.k ≤ 8) × (every (λ j. in_domain (value_at l.file (l.a + 8 + 8 * j))) l.k ≡ true)
-
-abbrev pub decreases-loop-k : goal.decreases-loop-k
-decreases-loop-k l = 8 - l.k

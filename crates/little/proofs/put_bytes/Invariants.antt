@@ -7,6 +7,3 @@ use Rattle.little.proofs.put_bytes.Given as goal
 
 abbrev pub invariant-loop-i : goal.invariant-loop-i
 invariant-loop-i l = Spells (little_bytes l.k l.v) l.initial.bytes l.a l.i l.bytes × Remains l.k l.v l.i l.left
-
-abbrev pub decreases-loop-i : goal.decreases-loop-i
-decreases-loop-i l = l.k - l.i

@@ -6,6 +6,3 @@ use Rattle.monitor.proofs.put_record.Given as goal
 
 abbrev pub invariant-loop-i : goal.invariant-loop-i
 invariant-loop-i l = Spells (monitor_record l.picture l.side l.field l.x l.y) l.initial.target l.a l.i l.target
-
-abbrev pub decreases-loop-i : goal.decreases-loop-i
-decreases-loop-i l = 16 - l.i

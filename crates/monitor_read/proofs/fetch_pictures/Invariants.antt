@@ -6,6 +6,3 @@ use Rattle.monitor_read.proofs.fetch_pictures.Given as goal
 
 abbrev pub invariant-loop-i : goal.invariant-loop-i
 invariant-loop-i l = Fetches (monitor_picture l.file) l.n l.initial.area l.i l.area
-
-abbrev pub decreases-loop-i : goal.decreases-loop-i
-decreases-loop-i l = l.n - l.i

@@ -6,6 +6,3 @@ use Rattle.monitor_read.proofs.fetch_positions.Given as goal
 
 abbrev pub invariant-loop-j : goal.invariant-loop-j
 invariant-loop-j l = Fetches (widened_at l.file) (2 * l.n) l.initial.area l.j l.area
-
-abbrev pub decreases-loop-j : goal.decreases-loop-j
-decreases-loop-j l = 2 * l.n - l.j

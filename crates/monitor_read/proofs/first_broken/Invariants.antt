@@ -6,6 +6,3 @@ use Rattle.monitor_read.proofs.first_broken.Given as goal
 
 abbrev pub invariant-loop-i : goal.invariant-loop-i
 invariant-loop-i l = Seeks (broken_at l.file) (whole_monitor l.file) l.i
-
-abbrev pub decreases-loop-i : goal.decreases-loop-i
-decreases-loop-i l = whole_monitor l.file - l.i

@@ -6,6 +6,3 @@ use Rattle.monitor_write.proofs.first_faulty.Given as goal
 
 abbrev pub invariant-loop-i : goal.invariant-loop-i
 invariant-loop-i l = Seeks (faulty_at l.pictures l.sides l.fields l.positions) l.n l.i
-
-abbrev pub decreases-loop-i : goal.decreases-loop-i
-decreases-loop-i l = l.n - l.i

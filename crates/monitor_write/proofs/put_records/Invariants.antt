@@ -6,6 +6,3 @@ use Rattle.monitor_write.proofs.put_records.Given as goal
 
 abbrev pub invariant-loop-i : goal.invariant-loop-i
 invariant-loop-i l = Lays 16 (monitor_row l.pictures l.sides l.fields l.positions) l.n l.initial.target l.i l.target
-
-abbrev pub decreases-loop-i : goal.decreases-loop-i
-decreases-loop-i l = l.n - l.i

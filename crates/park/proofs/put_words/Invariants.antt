@@ -8,6 +8,3 @@ use Rattle.park.proofs.put_words.Given as goal
 abbrev pub invariant-loop-w : goal.invariant-loop-w
 invariant-loop-w l = Lays 8
     (word_bytes l.l (stored_of l.words l.positions l.increments l.gains l.affinities l.indices l.offsets)) l.l.end l.initial.target l.w l.target
-
-abbrev pub decreases-loop-w : goal.decreases-loop-w
-decreases-loop-w l = l.l.end - l.w

@@ -9,6 +9,3 @@ use Rattle.parked_fine.proofs.words_fine.Given as goal
 
 abbrev pub invariant-loop-k : goal.invariant-loop-k
 invariant-loop-k l = (l.k ≤ 4) × (every (λ j. word_fine (word_in l.file) l.l (4 * l.q + j)) l.k ≡ true)
-
-abbrev pub decreases-loop-k : goal.decreases-loop-k
-decreases-loop-k l = 4 - l.k

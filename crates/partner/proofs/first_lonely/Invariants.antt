@@ -7,6 +7,3 @@ use Rattle.partner.proofs.first_lonely.Given as goal
 
 abbrev pub invariant-loop-i : goal.invariant-loop-i
 invariant-loop-i l = Seeks (λ i. not (mirrored l.file i)) l.d l.i
-
-abbrev pub decreases-loop-i : goal.decreases-loop-i
-decreases-loop-i l = l.d - l.i

@@ -7,6 +7,3 @@ use Rattle.partner.proofs.first_unfit.Given as goal
 
 abbrev pub invariant-loop-i : goal.invariant-loop-i
 invariant-loop-i l = Seeks (λ i. not (link_fine l.n l.most l.file i)) (whole_links l.file) l.i
-
-abbrev pub decreases-loop-i : goal.decreases-loop-i
-decreases-loop-i l = l.whole - l.i

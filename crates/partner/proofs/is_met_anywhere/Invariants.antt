@@ -7,6 +7,3 @@ use Rattle.partner.proofs.is_met_anywhere.Given as goal
 
 abbrev pub invariant-loop-t : goal.invariant-loop-t
 invariant-loop-t l = (l.t ≤ l.k) × ((s : ℕ) → s < l.t → is_mirror l.file l.i (l.a + s) ≡ false)
-
-abbrev pub decreases-loop-t : goal.decreases-loop-t
-decreases-loop-t l = l.k - l.t

@@ -5,6 +5,3 @@ use Rattle.partner.proofs.rising_from.Given as goal
 
 abbrev pub invariant-loop-k : goal.invariant-loop-k
 invariant-loop-k l = (1 ≤ l.k) × (l.a + l.k ≤ whole_links l.file) × PairsRise l.file l.a l.k
-
-abbrev pub decreases-loop-k : goal.decreases-loop-k
-decreases-loop-k l = l.rest - l.k

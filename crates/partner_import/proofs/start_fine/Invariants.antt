@@ -7,6 +7,3 @@ use Rattle.partner_import.proofs.start_fine.Given as goal
 
 abbrev pub invariant-loop-i : goal.invariant-loop-i
 invariant-loop-i l = (start_fine l.start l.i ≡ true) × (l.i ≤ l.m)
-
-abbrev pub decreases-loop-i : goal.decreases-loop-i
-decreases-loop-i l = l.m - l.i

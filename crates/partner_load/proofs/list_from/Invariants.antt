@@ -5,6 +5,3 @@ use Rattle.partner_load.proofs.list_from.Given as goal
 
 abbrev pub invariant-loop-p : goal.invariant-loop-p
 invariant-loop-p l = (l.a ≤ l.p) × (l.p ≤ whole_links l.file) × ((t : ℕ) → l.a ≤ t → t < l.p → link_from l.file t < l.j)
-
-abbrev pub decreases-loop-p : goal.decreases-loop-p
-decreases-loop-p l = l.links - l.p

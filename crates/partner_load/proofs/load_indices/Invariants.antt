@@ -6,6 +6,3 @@ use Rattle.partner_load.proofs.load_indices.Given as goal
 
 abbrev pub invariant-loop-p : goal.invariant-loop-p
 invariant-loop-p l = Fetches (link_to l.file) (whole_links l.file) l.initial.indices l.p l.indices
-
-abbrev pub decreases-loop-p : goal.decreases-loop-p
-decreases-loop-p l = l.links - l.p

@@ -6,6 +6,3 @@ use Rattle.partner_load.proofs.load_weights.Given as goal
 
 abbrev pub invariant-loop-p : goal.invariant-loop-p
 invariant-loop-p l = Fetches (link_weight l.file) (whole_links l.file) l.initial.weights l.p l.weights
-
-abbrev pub decreases-loop-p : goal.decreases-loop-p
-decreases-loop-p l = l.links - l.p

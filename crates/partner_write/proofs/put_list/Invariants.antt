@@ -6,6 +6,3 @@ use Rattle.partner_write.proofs.put_list.Given as goal
 
 abbrev pub invariant-loop-t : goal.invariant-loop-t
 invariant-loop-t l = RowsPut (link_at l.weights l.indices l.from l.a) (16 * l.a) l.k l.initial.target l.t l.target
-
-abbrev pub decreases-loop-t : goal.decreases-loop-t
-decreases-loop-t l = l.k - l.t

@@ -6,6 +6,3 @@ use Rattle.partner_write.proofs.put_lists.Given as goal
 
 abbrev pub invariant-loop-i : goal.invariant-loop-i
 invariant-loop-i l = RowsPut (list_records l.weights l.indices l.offsets) 0 l.n l.initial.target l.i l.target
-
-abbrev pub decreases-loop-i : goal.decreases-loop-i
-decreases-loop-i l = l.n - l.i

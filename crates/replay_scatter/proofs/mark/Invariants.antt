@@ -4,6 +4,3 @@ use Rattle.replay_scatter.proofs.mark.Given as goal
 
 abbrev pub invariant-loop-i : goal.invariant-loop-i
 invariant-loop-i l = (length l.area ≡ length l.initial.area) × (l.i ≤ length l.initial.area)
-
-abbrev pub decreases-loop-i : goal.decreases-loop-i
-decreases-loop-i l = length l.initial.area - l.i

@@ -7,6 +7,3 @@ use Rattle.run_entry.proofs.first_index.Given as goal
 
 abbrev pub invariant-loop-i : goal.invariant-loop-i
 invariant-loop-i l = Seeks (λ j. not (index_fine l.indices l.n j)) l.count l.i
-
-abbrev pub decreases-loop-i : goal.decreases-loop-i
-decreases-loop-i l = l.count - l.i

@@ -7,6 +7,3 @@ use Rattle.run_entry.proofs.first_offset.Given as goal
 
 abbrev pub invariant-loop-i : goal.invariant-loop-i
 invariant-loop-i l = Seeks (λ j. not (offset_fine l.offsets l.most j)) l.n l.i
-
-abbrev pub decreases-loop-i : goal.decreases-loop-i
-decreases-loop-i l = l.n - l.i

@@ -7,6 +7,3 @@ use Rattle.salvage.proofs.copy_record.Given as goal
 
 abbrev pub invariant-loop-t : goal.invariant-loop-t
 invariant-loop-t l = Spells (record_at l.file l.a) l.initial.good l.to l.t l.good
-
-abbrev pub decreases-loop-t : goal.decreases-loop-t
-decreases-loop-t l = record_bytes - l.t

@@ -6,6 +6,3 @@ use Rattle.salvage.proofs.sift_all.Given as goal
 
 abbrev pub invariant-loop-i : goal.invariant-loop-i
 invariant-loop-i l = Sifted l.file l.initial.good l.initial.places l.initial.rules l.i (sifting l.s l.good l.places l.rules)
-
-abbrev pub decreases-loop-i : goal.decreases-loop-i
-decreases-loop-i l = l.whole - l.i

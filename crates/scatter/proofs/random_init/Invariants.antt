@@ -6,6 +6,3 @@ use Rattle.scatter.proofs.random_init.Given as goal
 
 abbrev pub invariant-loop-k : goal.invariant-loop-k
 invariant-loop-k l = (length l.positions ≡ length l.initial.positions) × Loops scatter_step l.m (spread l.seed l.initial.positions) l.k (spread l.state l.positions)
-
-abbrev pub decreases-loop-k : goal.decreases-loop-k
-decreases-loop-k l = l.m - l.k

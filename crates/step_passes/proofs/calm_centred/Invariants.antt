@@ -6,6 +6,3 @@ use Rattle.step_passes.proofs.calm_centred.Given as goal
 
 abbrev pub invariant-loop-e : goal.invariant-loop-e
 invariant-loop-e l = Tested l.means (paced l.pace l.c l.forces l.positions l.increments l.gains) l.c l.m l.e
-
-abbrev pub decreases-loop-e : goal.decreases-loop-e
-decreases-loop-e l = l.m - l.e

@@ -6,6 +6,3 @@ use Rattle.step_passes.proofs.sum_moves.Given as goal
 
 abbrev pub invariant-loop-e : goal.invariant-loop-e
 invariant-loop-e l = Summed (paced l.pace l.c l.forces l.positions l.increments l.gains) l.c l.m l.initial.sums l.e l.sums l.calm
-
-abbrev pub decreases-loop-e : goal.decreases-loop-e
-decreases-loop-e l = l.m - l.e

@@ -6,6 +6,3 @@ use Rattle.step_passes.proofs.take_means.Given as goal
 
 abbrev pub invariant-loop-d : goal.invariant-loop-d
 invariant-loop-d l = Loops (mean_step l.count) l.c l.initial.sums l.d l.sums
-
-abbrev pub decreases-loop-d : goal.decreases-loop-d
-decreases-loop-d l = l.c - l.d

@@ -10,6 +10,3 @@ abbrev pub invariant-loop-e : goal.invariant-loop-e
 invariant-loop-e l = (length l.positions ≡ length l.initial.positions) ×
     (length l.increments ≡ length l.initial.increments) × (length l.gains ≡ length l.initial.gains) ×
     Written l.means (paced l.pace l.c l.forces l.initial.positions l.initial.increments l.initial.gains) l.c l.m l.e l.positions l.increments l.gains
-
-abbrev pub decreases-loop-e : goal.decreases-loop-e
-decreases-loop-e l = l.m - l.e

@@ -11,6 +11,3 @@ use Rattle.take_calm.proofs.is_calm_by.Given as goal
 
 abbrev pub invariant-loop-j : goal.invariant-loop-j
 invariant-loop-j l = TestsLeft (λ i. every (λ d. calm (centred_left (survivors l.gone l.n) l.c l.positions i d)) l.c) l.gone l.n l.j × Abreast l.gone l.g l.j
-
-abbrev pub decreases-loop-j : goal.decreases-loop-j
-decreases-loop-j l = l.n - l.j

@@ -10,6 +10,3 @@ use Rattle.take_calm.proofs.is_calm_row.Given as goal
 
 abbrev pub invariant-loop-d : goal.invariant-loop-d
 invariant-loop-d l = (every (λ i. calm (sub binary64 (at l.positions (l.a + i)) (at l.means i))) l.d ≡ true) × (l.d ≤ l.c)
-
-abbrev pub decreases-loop-d : goal.decreases-loop-d
-decreases-loop-d l = l.c - l.d

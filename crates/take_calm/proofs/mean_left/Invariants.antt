@@ -8,6 +8,3 @@ use Rattle.take_calm.proofs.mean_left.Given as goal
 
 abbrev pub invariant-loop-j : goal.invariant-loop-j
 invariant-loop-j l = SumsLeft (λ i. at l.positions (i * l.c + l.d)) l.gone l.n l.j l.s × Abreast l.gone l.g l.j
-
-abbrev pub decreases-loop-j : goal.decreases-loop-j
-decreases-loop-j l = l.n - l.j

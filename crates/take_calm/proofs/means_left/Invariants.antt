@@ -7,6 +7,3 @@ use Rattle.take_calm.proofs.means_left.Given as goal
 
 abbrev pub invariant-loop-d : goal.invariant-loop-d
 invariant-loop-d l = Loops (mean_at (survivors l.gone l.n) l.c l.positions) l.c l.initial.means l.d l.means
-
-abbrev pub decreases-loop-d : goal.decreases-loop-d
-decreases-loop-d l = l.c - l.d

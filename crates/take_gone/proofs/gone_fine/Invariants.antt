@@ -9,6 +9,3 @@ use Rattle.take_gone.proofs.gone_fine.Given as goal
 
 abbrev pub invariant-loop-t : goal.invariant-loop-t
 invariant-loop-t l = (every (gone_fine_at l.gone l.n) l.t ≡ true) × (l.t ≤ length l.gone)
-
-abbrev pub decreases-loop-t : goal.decreases-loop-t
-decreases-loop-t l = length l.gone - l.t

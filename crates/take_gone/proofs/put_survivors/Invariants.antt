@@ -7,6 +7,3 @@ use Rattle.take_gone.proofs.put_survivors.Given as goal
 
 abbrev pub invariant-loop-j : goal.invariant-loop-j
 invariant-loop-j l = Surviving l.gone l.n l.initial.old l.q l.j l.old × Abreast l.gone l.g l.j
-
-abbrev pub decreases-loop-j : goal.decreases-loop-j
-decreases-loop-j l = l.n - l.j

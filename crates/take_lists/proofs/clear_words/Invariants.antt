@@ -5,6 +5,3 @@ use Rattle.take_lists.proofs.clear_words.Given as goal
 
 abbrev pub invariant-loop-p : goal.invariant-loop-p
 invariant-loop-p l = Blanks 0 l.initial.area l.a l.b l.p l.area
-
-abbrev pub decreases-loop-p : goal.decreases-loop-p
-decreases-loop-p l = l.b - l.p

@@ -21,10 +21,6 @@ pub overflow_add-g : goal.overflow_add-g
 overflow_add-g c =
     omega (arith, abreast-room c.loop-j.invariant.1 (sym c.is_next.ensures ∙ c.if-is_next.true))
 
-pub overflow_add-j : goal.overflow_add-j
-overflow_add-j c =
-    omega (arith, c.requires.0, c.loop-j-test.true)
-
 pub loop-j-preserved-then-is_next : goal.loop-j-preserved-then-is_next
 loop-j-preserved-then-is_next c =
     let found = sym c.is_next.ensures ∙ c.if-is_next.true in

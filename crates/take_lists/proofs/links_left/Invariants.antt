@@ -6,6 +6,3 @@ use Rattle.take_lists.proofs.links_left.Given as goal
 
 abbrev pub invariant-loop-j : goal.invariant-loop-j
 invariant-loop-j l = Tallies l.gone l.indices l.offsets l.n l.j l.c × Abreast l.gone l.g l.j
-
-abbrev pub decreases-loop-j : goal.decreases-loop-j
-decreases-loop-j l = l.n - l.j

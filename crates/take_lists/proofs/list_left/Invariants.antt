@@ -5,6 +5,3 @@ use Rattle.take_lists.proofs.list_left.Given as goal
 
 abbrev pub invariant-loop-t : goal.invariant-loop-t
 invariant-loop-t l = Sees l.gone l.indices l.a l.k l.t l.c
-
-abbrev pub decreases-loop-t : goal.decreases-loop-t
-decreases-loop-t l = l.k - l.t

@@ -49,10 +49,6 @@ pack_list-q-requires c =
     let room = closes-room c.requires.1 c.requires.2 c.requires.3 c.loop-i.invariant.0 c.loop-i-test.true c.wide-j.ensures c.wide-a.ensures c.wide.ensures in
     (c.requires.1, omega (arith, c.requires.0, c.requires.2.few), omega (arith, room), omega (arith, room), omega (arith, room))
 
-pub overflow_add-i : goal.overflow_add-i
-overflow_add-i c =
-    omega (arith, c.loop-i-test.true, c.requires.0, c.requires.2.few)
-
 pub loop-i-preserved : goal.loop-i-preserved
 loop-i-preserved c = (
   closes-next c.requires.1 c.requires.2 c.requires.3 c.loop-i.invariant.0 c.loop-i-test.true c.wide-j.ensures c.wide-a.ensures c.wide.ensures c.pack_list-q.ensures.value

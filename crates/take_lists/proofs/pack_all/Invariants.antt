@@ -6,6 +6,3 @@ use Rattle.take_lists.proofs.pack_all.Given as goal
 
 abbrev pub invariant-loop-i : goal.invariant-loop-i
 invariant-loop-i l = Closes l.keep l.initial.weights l.initial.indices l.initial.offsets l.i l.q l.weights l.indices l.offsets × ((k : ℕ) → get_or l.initial.offsets k 0 < 2 ^ 32)
-
-abbrev pub decreases-loop-i : goal.decreases-loop-i
-decreases-loop-i l = length l.keep - l.i

@@ -22,10 +22,6 @@ pub place_of-x-requires : goal.place_of-x-requires
 place_of-x-requires c =
     c.requires.0
 
-pub overflow_add-t : goal.overflow_add-t
-overflow_add-t c =
-    omega (arith, c.requires.4, c.loop-t-test.true)
-
 pub loop-t-preserved-then-x-keep : goal.loop-t-preserved-then-x-keep
 loop-t-preserved-then-x-keep c =
     sifts-pass c.requires.2 c.requires.3 c.requires.4 c.loop-t-test.true c.loop-t.invariant c.place_of-x.ensures (omega (arith, c.if-x-keep.true))

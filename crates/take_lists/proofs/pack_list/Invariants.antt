@@ -5,6 +5,3 @@ use Rattle.take_lists.proofs.pack_list.Given as goal
 
 abbrev pub invariant-loop-t : goal.invariant-loop-t
 invariant-loop-t l = Sifts l.keep l.initial.weights l.initial.indices l.a l.k l.q l.t l.e l.weights l.indices
-
-abbrev pub decreases-loop-t : goal.decreases-loop-t
-decreases-loop-t l = l.k - l.t

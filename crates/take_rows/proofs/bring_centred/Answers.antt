@@ -34,10 +34,6 @@ pub bounds-area-to : goal.bounds-area-to
 bounds-area-to c =
     omega (arith, c.requires, c.loop-d-test.true, c.loop-d.invariant.front.size)
 
-pub overflow_add-d : goal.overflow_add-d
-overflow_add-d c =
-    omega (arith, c.requires, c.loop-d-test.true, c.loop-d.invariant.front.size)
-
 pub loop-d-preserved : goal.loop-d-preserved
 loop-d-preserved c =
     brings-next c.loop-d.invariant _

@@ -7,6 +7,3 @@ use Rattle.take_rows.proofs.bring_centred.Given as goal
 
 abbrev pub invariant-loop-d : goal.invariant-loop-d
 invariant-loop-d l = Brings (λ j. sub binary64 (at l.initial.area (l.from + j)) (at l.means j)) l.to l.c l.initial.area l.d l.area
-
-abbrev pub decreases-loop-d : goal.decreases-loop-d
-decreases-loop-d l = l.c - l.d

@@ -58,10 +58,6 @@ pub bounds-area-to : goal.bounds-area-to
 bounds-area-to c =
     omega (arith, c.requires, c.requires.2.few, c.loop-j-test.true, c.loop-j.invariant.front.size)
 
-pub overflow_add-j : goal.overflow_add-j
-overflow_add-j c =
-    omega (arith, c.requires, c.requires.2.few, c.loop-j-test.true, c.loop-j.invariant.front.size)
-
 pub loop-j-preserved : goal.loop-j-preserved
 loop-j-preserved c =
     brings-next c.loop-j.invariant _

@@ -7,6 +7,3 @@ use Rattle.take_rows.proofs.bring_columns.Given as goal
 
 abbrev pub invariant-loop-j : goal.invariant-loop-j
 invariant-loop-j l = Brings (λ t. num l.initial.area (l.from + num l.keep t)) l.to (length l.keep) l.initial.area l.j l.area
-
-abbrev pub decreases-loop-j : goal.decreases-loop-j
-decreases-loop-j l = length l.keep - l.j

@@ -6,6 +6,3 @@ use Rattle.take_rows.proofs.bring_row.Given as goal
 
 abbrev pub invariant-loop-d : goal.invariant-loop-d
 invariant-loop-d l = Brings (λ j. num l.initial.area (l.from + j)) l.to l.w l.initial.area l.d l.area
-
-abbrev pub decreases-loop-d : goal.decreases-loop-d
-decreases-loop-d l = l.w - l.d

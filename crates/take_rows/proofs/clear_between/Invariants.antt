@@ -6,6 +6,3 @@ use Rattle.take_rows.proofs.clear_between.Given as goal
 
 abbrev pub invariant-loop-d : goal.invariant-loop-d
 invariant-loop-d l = Brings (λ j. zero64) l.a l.k l.initial.area l.d l.area
-
-abbrev pub decreases-loop-d : goal.decreases-loop-d
-decreases-loop-d l = l.k - l.d

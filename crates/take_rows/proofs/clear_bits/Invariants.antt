@@ -5,6 +5,3 @@ use Rattle.take_rows.proofs.clear_bits.Given as goal
 
 abbrev pub invariant-loop-d : goal.invariant-loop-d
 invariant-loop-d l = Brings (λ j. 0) l.a l.w l.initial.area l.d l.area
-
-abbrev pub decreases-loop-d : goal.decreases-loop-d
-decreases-loop-d l = l.w - l.d

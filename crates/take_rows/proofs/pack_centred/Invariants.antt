@@ -9,6 +9,3 @@ use Rattle.take_rows.proofs.pack_centred.Given as goal
 
 abbrev pub invariant-loop-i : goal.invariant-loop-i
 invariant-loop-i l = Packs (λ t. each (λ d. centred_left l.keep l.c l.initial.positions (num l.keep t) d) l.c) l.c (length l.keep) l.initial.positions l.i l.positions
-
-abbrev pub decreases-loop-i : goal.decreases-loop-i
-decreases-loop-i l = length l.keep - l.i

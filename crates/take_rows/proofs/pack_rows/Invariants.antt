@@ -8,6 +8,3 @@ use Rattle.take_rows.proofs.pack_rows.Given as goal
 
 abbrev pub invariant-loop-i : goal.invariant-loop-i
 invariant-loop-i l = Packs (λ t. each (λ d. num l.initial.area (num l.keep t * l.w + d)) l.w) l.w (length l.keep) l.initial.area l.i l.area
-
-abbrev pub decreases-loop-i : goal.decreases-loop-i
-decreases-loop-i l = length l.keep - l.i

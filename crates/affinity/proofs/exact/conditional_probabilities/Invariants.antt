@@ -12,6 +12,3 @@ use Rattle.affinity.proofs.exact.conditional_probabilities.Given as goal
 abbrev pub invariant-loop-i : goal.invariant-loop-i
 invariant-loop-i l = (length l.row ≡ length l.initial.row) × Loops (distance_row l.table l.n l.f) l.n l.initial.row l.i l.row ×
     Lays l.n (conditionals l.table l.n l.f l.perplexity) l.n l.initial.affinities l.i l.affinities
-
-abbrev pub decreases-loop-i : goal.decreases-loop-i
-decreases-loop-i l = l.n - l.i

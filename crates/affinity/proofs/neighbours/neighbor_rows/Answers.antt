@@ -54,10 +54,6 @@ neighbor_row-requires c =
       squared = c.requires.squared;
     }
 
-pub overflow_add-i : goal.overflow_add-i
-overflow_add-i c =
-    omega (arith, c.loop-i-test.true, c.requires.n_le_most_frames.0)
-
 pub loop-i-smaller : goal.loop-i-smaller
 loop-i-smaller c =
     omega (arith, c.loop-i-test.true)

@@ -15,6 +15,3 @@ invariant-loop-i l = Lays l.k (λ j. values_in
     (λ j. frames_in (neighbour_row l.table l.n l.f l.k l.perplexity j)) l.n l.initial.indices l.i l.indices ×
     (length l.row_values ≡ length l.initial.row_values) × Loops (shares_left l.table l.n l.f l.k l.perplexity) l.n l.initial.row_values l.i l.row_values ×
     (length l.row_indices ≡ length l.initial.row_indices) × Loops (frames_left l.table l.n l.f l.k) l.n l.initial.row_indices l.i l.row_indices
-
-abbrev pub decreases-loop-i : goal.decreases-loop-i
-decreases-loop-i l = l.n - l.i

@@ -39,10 +39,6 @@ pub bounds-row_indices-j : goal.bounds-row_indices-j
 bounds-row_indices-j c =
     omega (arith, c.requires.3, c.loop-j.invariant.size)
 
-pub overflow_add-j : goal.overflow_add-j
-overflow_add-j c =
-    omega (arith, c.requires.0)
-
 pub loop-j-preserved : goal.loop-j-preserved
 loop-j-preserved c =
     topping-next _ c.requires.3 c.loop-j-test.true c.held.ensures c.loop-j.invariant

@@ -5,6 +5,3 @@ use Rattle.affinity_lists.proofs.filling.top_cursors.Given as goal
 
 abbrev pub invariant-loop-j : goal.invariant-loop-j
 invariant-loop-j l = Topping l.indices l.initial.row_indices l.n l.k l.j l.row_indices
-
-abbrev pub decreases-loop-j : goal.decreases-loop-j
-decreases-loop-j l = l.n - l.j

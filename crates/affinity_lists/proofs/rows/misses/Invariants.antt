@@ -6,6 +6,3 @@ use Rattle.affinity_lists.proofs.rows.misses.Given as goal
 
 abbrev pub invariant-loop-t : goal.invariant-loop-t
 invariant-loop-t l = Adds (miss_of l.k l.indices l.j) 1 l.k l.t l.c
-
-abbrev pub decreases-loop-t : goal.decreases-loop-t
-decreases-loop-t l = l.k - l.t

@@ -6,6 +6,3 @@ use Rattle.affinity_lists.proofs.rows.total.Given as goal
 
 abbrev pub invariant-loop-j : goal.invariant-loop-j
 invariant-loop-j l = Adds (misses_of l.k l.indices) l.k l.n l.j l.c
-
-abbrev pub decreases-loop-j : goal.decreases-loop-j
-decreases-loop-j l = l.n - l.j

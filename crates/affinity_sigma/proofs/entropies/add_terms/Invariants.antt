@@ -6,6 +6,3 @@ use Rattle.affinity_sigma.proofs.entropies.add_terms.Given as goal
 
 abbrev pub invariant-loop-t : goal.invariant-loop-t
 invariant-loop-t l = Loops (term_step l.shares l.j l.ls) l.c l.initial.h l.t l.h
-
-abbrev pub decreases-loop-t : goal.decreases-loop-t
-decreases-loop-t l = l.c - l.t

@@ -6,6 +6,3 @@ use Rattle.affinity_sigma.proofs.entropies.all_logs.Given as goal
 
 abbrev pub invariant-loop-t : goal.invariant-loop-t
 invariant-loop-t l = Loops (log_step l.ms l.ks) 32 l.initial.ls l.t l.ls
-
-abbrev pub decreases-loop-t : goal.decreases-loop-t
-decreases-loop-t l = 32 - l.t

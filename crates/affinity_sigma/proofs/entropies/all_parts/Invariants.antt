@@ -6,6 +6,3 @@ use Rattle.affinity_sigma.proofs.entropies.all_parts.Given as goal
 
 abbrev pub invariant-loop-t : goal.invariant-loop-t
 invariant-loop-t l = Loops (digit_step l.shares l.j) l.c l.initial.ms l.t l.ms × Loops (power_step l.shares l.j) l.c l.initial.ks l.t l.ks
-
-abbrev pub decreases-loop-t : goal.decreases-loop-t
-decreases-loop-t l = l.c - l.t

@@ -8,6 +8,3 @@ use Rattle.affinity_sigma.proofs.entropies.all_shares.Given as goal
 
 abbrev pub invariant-loop-t : goal.invariant-loop-t
 invariant-loop-t l = (l.all ≡ every (λ i. le (at l.shares (l.j + i)) one64) l.t) × (l.t ≤ l.c)
-
-abbrev pub decreases-loop-t : goal.decreases-loop-t
-decreases-loop-t l = l.c - l.t

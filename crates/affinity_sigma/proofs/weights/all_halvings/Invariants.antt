@@ -6,6 +6,3 @@ use Rattle.affinity_sigma.proofs.weights.all_halvings.Given as goal
 
 abbrev pub invariant-loop-t : goal.invariant-loop-t
 invariant-loop-t l = Loops (halving_step l.xs) 32 l.initial.us l.t l.us
-
-abbrev pub decreases-loop-t : goal.decreases-loop-t
-decreases-loop-t l = 32 - l.t

@@ -8,6 +8,3 @@ use Rattle.affinity_sigma.proofs.weights.all_in_reach.Given as goal
 
 abbrev pub invariant-loop-t : goal.invariant-loop-t
 invariant-loop-t l = (l.all ≡ every (λ i. in_reach (at l.xs i)) l.t) × (l.t ≤ 32)
-
-abbrev pub decreases-loop-t : goal.decreases-loop-t
-decreases-loop-t l = 32 - l.t

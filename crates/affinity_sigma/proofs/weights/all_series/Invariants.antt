@@ -6,6 +6,3 @@ use Rattle.affinity_sigma.proofs.weights.all_series.Given as goal
 
 abbrev pub invariant-loop-t : goal.invariant-loop-t
 invariant-loop-t l = Loops (series_step l.xs l.us) 32 l.initial.ts l.t l.ts
-
-abbrev pub decreases-loop-t : goal.decreases-loop-t
-decreases-loop-t l = 32 - l.t

@@ -6,6 +6,3 @@ use Rattle.affinity_sigma.proofs.weights.exponents.Given as goal
 
 abbrev pub invariant-loop-t : goal.invariant-loop-t
 invariant-loop-t l = Loops (exponent_step l.distances l.j l.sigma) l.c l.initial.xs l.t l.xs
-
-abbrev pub decreases-loop-t : goal.decreases-loop-t
-decreases-loop-t l = l.c - l.t

@@ -8,6 +8,3 @@ use Rattle.affinity_sigma.proofs.weights.weigh_singly.Given as goal
 
 abbrev pub invariant-loop-t : goal.invariant-loop-t
 invariant-loop-t l = (length l.shares ≡ length l.initial.shares) × Loops (λ i. weigh_step l.distances l.sigma (l.j + i)) l.c l.initial.shares l.t l.shares
-
-abbrev pub decreases-loop-t : goal.decreases-loop-t
-decreases-loop-t l = l.c - l.t

@@ -9,6 +9,3 @@ use Rattle.blind.proofs.looks.all_at_zero.Given as goal
 
 abbrev pub invariant-loop-j : goal.invariant-loop-j
 invariant-loop-j l = (l.j ≤ l.m) × (every (λ i. eq (at l.distances i) zero64) l.j ≡ true)
-
-abbrev pub decreases-loop-j : goal.decreases-loop-j
-decreases-loop-j l = l.m - l.j

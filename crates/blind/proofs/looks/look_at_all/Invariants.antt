@@ -12,6 +12,3 @@ invariant-loop-i l = (Adds (λ j. bit (blind_at l.s l.table j)) 1 l.s.n l.i l.bl
     × (Scratch l.s.n l.initial.row_values l.row_values)
     × (Scratch l.s.n l.initial.row_shares l.row_shares)
     × (Scratch l.s.n l.initial.row_indices l.row_indices)
-
-abbrev pub decreases-loop-i : goal.decreases-loop-i
-decreases-loop-i l = l.s.n - l.i

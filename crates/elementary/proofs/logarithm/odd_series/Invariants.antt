@@ -6,6 +6,3 @@ use Rattle.elementary.proofs.logarithm.odd_series.Given as goal
 
 abbrev pub invariant-loop-i : goal.invariant-loop-i
 invariant-loop-i l = Loops (odd_step l.z) 10 l.initial.t l.i l.t
-
-abbrev pub decreases-loop-i : goal.decreases-loop-i
-decreases-loop-i l = 10 - l.i

@@ -6,6 +6,3 @@ use Rattle.gradient.proofs.element.norm.Given as goal
 
 abbrev pub invariant-loop-e : goal.invariant-loop-e
 invariant-loop-e l = Loops (norm_step (gradient_of l.exact l.forces l.z l.c)) l.m l.initial.w l.e l.w
-
-abbrev pub decreases-loop-e : goal.decreases-loop-e
-decreases-loop-e l = l.m - l.e

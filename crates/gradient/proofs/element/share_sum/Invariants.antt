@@ -6,6 +6,3 @@ use Rattle.gradient.proofs.element.share_sum.Given as goal
 
 abbrev pub invariant-loop-i : goal.invariant-loop-i
 invariant-loop-i l = Loops (share_step l.forces l.c) l.n l.initial.s l.i l.s
-
-abbrev pub decreases-loop-i : goal.decreases-loop-i
-decreases-loop-i l = l.n - l.i

@@ -6,6 +6,3 @@ use Rattle.gradient.proofs.pulls.follow_all.Given as goal
 
 abbrev pub invariant-loop-k : goal.invariant-loop-k
 invariant-loop-k l = Loops (link_step l.exaggeration l.c l.positions l.weights l.indices l.p l.a) l.links l.initial.t l.k l.t
-
-abbrev pub decreases-loop-k : goal.decreases-loop-k
-decreases-loop-k l = l.links - l.k

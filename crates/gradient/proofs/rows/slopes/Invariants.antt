@@ -8,6 +8,3 @@ use Rattle.gradient.proofs.rows.slopes.Given as goal
 
 abbrev pub invariant-loop-d : goal.invariant-loop-d
 invariant-loop-d l = (length l.forces ≡ length l.initial.forces) × Loops (slope_step l.x l.positions l.a) l.c l.initial.forces l.d l.forces
-
-abbrev pub decreases-loop-d : goal.decreases-loop-d
-decreases-loop-d l = l.c - l.d

@@ -6,6 +6,3 @@ use Rattle.gradient_pairs.proofs.exact.add_frames.Given as goal
 
 abbrev pub invariant-loop-k : goal.invariant-loop-k
 invariant-loop-k l = Loops (weighed_step l.weights l.positions l.c l.j) l.m l.initial.so_far l.k l.so_far
-
-abbrev pub decreases-loop-k : goal.decreases-loop-k
-decreases-loop-k l = l.m - l.k

@@ -6,6 +6,3 @@ use Rattle.gradient_pairs.proofs.exact.add_row.Given as goal
 
 abbrev pub invariant-loop-j : goal.invariant-loop-j
 invariant-loop-j l = Loops (num_step l.positions l.c l.i) l.n l.initial.s l.j l.s
-
-abbrev pub decreases-loop-j : goal.decreases-loop-j
-decreases-loop-j l = l.n - l.j

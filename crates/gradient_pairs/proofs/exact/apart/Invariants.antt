@@ -7,6 +7,3 @@ use Rattle.gradient_pairs.proofs.exact.apart.Given as goal
 
 abbrev pub invariant-loop-d : goal.invariant-loop-d
 invariant-loop-d l = Loops (gap_step (on_map l.positions l.c l.i) (on_map l.positions l.c l.j)) l.c l.initial.s l.d l.s
-
-abbrev pub decreases-loop-d : goal.decreases-loop-d
-decreases-loop-d l = l.c - l.d

@@ -8,6 +8,3 @@ use Rattle.gradient_pairs.proofs.exact.lay_nums.Given as goal
 
 abbrev pub invariant-loop-k : goal.invariant-loop-k
 invariant-loop-k l = (length l.nums ≡ length l.initial.nums) × Loops (num_laid l.positions l.c l.i l.j) l.m l.initial.nums l.k l.nums
-
-abbrev pub decreases-loop-k : goal.decreases-loop-k
-decreases-loop-k l = l.m - l.k

@@ -8,6 +8,3 @@ use Rattle.gradient_pairs.proofs.exact.lay_weights.Given as goal
 
 abbrev pub invariant-loop-k : goal.invariant-loop-k
 invariant-loop-k l = (length l.weights ≡ length l.initial.weights) × Loops (weight_laid l.nums l.affinities l.exaggeration l.total l.n l.i l.j) l.m l.initial.weights l.k l.weights
-
-abbrev pub decreases-loop-k : goal.decreases-loop-k
-decreases-loop-k l = l.m - l.k

@@ -7,6 +7,3 @@ use Rattle.parked_file.proofs.records.first_bad.Given as goal
 
 abbrev pub invariant-loop-q : goal.invariant-loop-q
 invariant-loop-q l = (3 ≤ l.q) × Seeks (λ k. not (record_stands l.file k)) (records_due l.file) l.q
-
-abbrev pub decreases-loop-q : goal.decreases-loop-q
-decreases-loop-q l = records_due l.file - l.q

@@ -8,6 +8,3 @@ use Rattle.replay.proofs.areas.copy_words.Given as goal
 
 abbrev pub invariant-loop-i : goal.invariant-loop-i
 invariant-loop-i l = (length l.area ≡ length l.initial.area) × Loops (λ i x. set x i (bits (word_of l.list (onward l.a i)))) l.m l.initial.area l.i l.area
-
-abbrev pub decreases-loop-i : goal.decreases-loop-i
-decreases-loop-i l = l.m - l.i

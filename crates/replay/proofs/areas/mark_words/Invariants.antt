@@ -5,6 +5,3 @@ use Rattle.replay.proofs.areas.mark_words.Given as goal
 
 abbrev pub invariant-loop-i : goal.invariant-loop-i
 invariant-loop-i l = (length l.area ≡ length l.initial.area) × Loops (λ i x. set x i (0x40000000 + i % 0x40000000)) (length l.initial.area) l.initial.area l.i l.area
-
-abbrev pub decreases-loop-i : goal.decreases-loop-i
-decreases-loop-i l = length l.initial.area - l.i

@@ -7,6 +7,3 @@ use Rattle.replay.proofs.areas.same_area.Given as goal
 
 abbrev pub invariant-loop-i : goal.invariant-loop-i
 invariant-loop-i l = (l.from ≤ l.i) × (l.i ≤ length l.area) × (every (right_value l.area l.from l.m l.list l.a) l.i ≡ true)
-
-abbrev pub decreases-loop-i : goal.decreases-loop-i
-decreases-loop-i l = length l.area - l.i

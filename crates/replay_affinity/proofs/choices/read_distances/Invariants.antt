@@ -5,6 +5,3 @@ use Rattle.replay_affinity.proofs.choices.read_distances.Given as goal
 
 abbrev pub invariant-loop-i : goal.invariant-loop-i
 invariant-loop-i l = (length l.to ≡ length l.initial.to) × (l.i ≤ l.m) × Plains l.to l.i
-
-abbrev pub decreases-loop-i : goal.decreases-loop-i
-decreases-loop-i l = l.m - l.i

@@ -4,6 +4,3 @@ use Rattle.replay_affinity.proofs.choices.same_pairs.Given as goal
 
 abbrev pub invariant-loop-t : goal.invariant-loop-t
 invariant-loop-t l = l.t ≤ l.k
-
-abbrev pub decreases-loop-t : goal.decreases-loop-t
-decreases-loop-t l = l.k - l.t

@@ -4,6 +4,3 @@ use Rattle.replay_affinity.proofs.joins.read_links.Given as goal
 
 abbrev pub invariant-loop-p : goal.invariant-loop-p
 invariant-loop-p l = (length l.weights ≡ length l.initial.weights) × (length l.indices ≡ length l.initial.indices) × (l.p ≤ l.m)
-
-abbrev pub decreases-loop-p : goal.decreases-loop-p
-decreases-loop-p l = l.m - l.p

@@ -6,6 +6,3 @@ use Rattle.replay_affinity.proofs.joins.row_right.Given as goal
 
 abbrev pub invariant-loop-t : goal.invariant-loop-t
 invariant-loop-t l = (l.t ≤ l.k) × Risen l.n l.t l.i l.low (λ s. num l.indices (l.i * l.k + s))
-
-abbrev pub decreases-loop-t : goal.decreases-loop-t
-decreases-loop-t l = l.k - l.t

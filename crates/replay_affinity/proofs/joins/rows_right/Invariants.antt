@@ -5,6 +5,3 @@ use Rattle.replay_affinity.proofs.joins.rows_right.Given as goal
 
 abbrev pub invariant-loop-i : goal.invariant-loop-i
 invariant-loop-i l = (l.i ≤ l.n) × Rowed l.i l.n l.k l.indices
-
-abbrev pub decreases-loop-i : goal.decreases-loop-i
-decreases-loop-i l = l.n - l.i

@@ -4,6 +4,3 @@ use Rattle.replay_affinity.proofs.joins.same_links.Given as goal
 
 abbrev pub invariant-loop-p : goal.invariant-loop-p
 invariant-loop-p l = l.p ≤ l.m
-
-abbrev pub decreases-loop-p : goal.decreases-loop-p
-decreases-loop-p l = l.m - l.p

@@ -6,6 +6,3 @@ use Rattle.replay_areas.proofs.bytes.bytes_at.Given as goal
 
 abbrev pub invariant-loop-i : goal.invariant-loop-i
 invariant-loop-i l = Fetches (list_byte l.list l.a) 1408 l.initial.bytes l.i l.bytes × (length l.initial.bytes ≡ 1408)
-
-abbrev pub decreases-loop-i : goal.decreases-loop-i
-decreases-loop-i l = 1408 - l.i

@@ -6,6 +6,3 @@ use Rattle.replay_areas.proofs.bytes.marked_target.Given as goal
 
 abbrev pub invariant-loop-i : goal.invariant-loop-i
 invariant-loop-i l = Fetches byte_mark 1408 l.initial.bytes l.i l.bytes × (length l.initial.bytes ≡ 1408)
-
-abbrev pub decreases-loop-i : goal.decreases-loop-i
-decreases-loop-i l = 1408 - l.i

@@ -7,6 +7,3 @@ use Rattle.replay_areas.proofs.bytes.same_file.Given as goal
 
 abbrev pub invariant-loop-i : goal.invariant-loop-i
 invariant-loop-i l = (every (λ t. eqb (num l.file t) (listed_byte l.target (length l.file) t)) l.i ≡ true) × (l.i ≤ l.m)
-
-abbrev pub decreases-loop-i : goal.decreases-loop-i
-decreases-loop-i l = l.m - l.i

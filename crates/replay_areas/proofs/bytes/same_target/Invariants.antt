@@ -6,6 +6,3 @@ use Rattle.replay_areas.proofs.bytes.same_target.Given as goal
 
 abbrev pub invariant-loop-i : goal.invariant-loop-i
 invariant-loop-i l = (every (λ t. eqb (listed_byte l.target l.m t) (list_byte l.list l.a t)) l.i ≡ true) × (l.i ≤ l.end)
-
-abbrev pub decreases-loop-i : goal.decreases-loop-i
-decreases-loop-i l = l.end - l.i

@@ -7,6 +7,3 @@ use Rattle.replay_areas.proofs.bytes.still_marked.Given as goal
 
 abbrev pub invariant-loop-i : goal.invariant-loop-i
 invariant-loop-i l = (every (λ t. ltb t l.m || eqb (num l.target t) (byte_mark t)) l.i ≡ true) × (l.i ≤ 1408)
-
-abbrev pub decreases-loop-i : goal.decreases-loop-i
-decreases-loop-i l = 1408 - l.i

@@ -7,6 +7,3 @@ use Rattle.replay_areas.proofs.values.same_values.Given as goal
 
 abbrev pub invariant-loop-i : goal.invariant-loop-i
 invariant-loop-i l = (every (λ t. eqb (num l.area t) (wanted_at l.list l.a l.m t 0x4000000000000000)) l.i ≡ true) × (l.i ≤ length l.area)
-
-abbrev pub decreases-loop-i : goal.decreases-loop-i
-decreases-loop-i l = length l.area - l.i

@@ -6,6 +6,3 @@ use Rattle.replay_areas.proofs.values.take_numbers.Given as goal
 
 abbrev pub invariant-loop-i : goal.invariant-loop-i
 invariant-loop-i l = Fetches (listed_number l.list l.a) (length l.initial.area) l.initial.area l.i l.area
-
-abbrev pub decreases-loop-i : goal.decreases-loop-i
-decreases-loop-i l = length l.initial.area - l.i

@@ -5,6 +5,3 @@ use Rattle.replay_forces.proofs.figures.all_linked.Given as goal
 
 abbrev pub invariant-loop-i : goal.invariant-loop-i
 invariant-loop-i l = (l.i ≤ l.n) × ((j : ℕ) → j < l.i → Linked l.n l.weights l.indices l.offsets j)
-
-abbrev pub decreases-loop-i : goal.decreases-loop-i
-decreases-loop-i l = l.n - l.i

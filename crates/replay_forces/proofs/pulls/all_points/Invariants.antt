@@ -7,6 +7,3 @@ use Rattle.replay_forces.proofs.pulls.all_points.Given as goal
 
 abbrev pub invariant-loop-i : goal.invariant-loop-i
 invariant-loop-i l = (length l.forces ≡ length l.initial.forces) × (l.i ≤ l.n) × Walkable 512 l.used l.s.c l.cells
-
-abbrev pub decreases-loop-i : goal.decreases-loop-i
-decreases-loop-i l = l.n - l.i

@@ -4,6 +4,3 @@ use Rattle.replay_forces.proofs.pulls.same_gradient.Given as goal
 
 abbrev pub invariant-loop-e : goal.invariant-loop-e
 invariant-loop-e l = l.e ≤ l.m
-
-abbrev pub decreases-loop-e : goal.decreases-loop-e
-decreases-loop-e l = l.m - l.e

@@ -5,6 +5,3 @@ use Rattle.replay_park.proofs.forces.same_forces.Given as goal
 
 abbrev pub invariant-loop-i : goal.invariant-loop-i
 invariant-loop-i l = l.i ≤ length l.forces
-
-abbrev pub decreases-loop-i : goal.decreases-loop-i
-decreases-loop-i l = length l.forces - l.i

@@ -4,6 +4,3 @@ use Rattle.replay_take_out.proofs.run_areas.bits_at.Given as goal
 
 abbrev pub invariant-loop-i : goal.invariant-loop-i
 invariant-loop-i l = length l.area ≡ 96
-
-abbrev pub decreases-loop-i : goal.decreases-loop-i
-decreases-loop-i l = 96 - l.i

@@ -4,6 +4,3 @@ use Rattle.replay_take_out.proofs.run_areas.take_numbers.Given as goal
 
 abbrev pub invariant-loop-i : goal.invariant-loop-i
 invariant-loop-i l = (length l.area ≡ length l.initial.area) × (l.i ≤ l.m)
-
-abbrev pub decreases-loop-i : goal.decreases-loop-i
-decreases-loop-i l = l.m - l.i

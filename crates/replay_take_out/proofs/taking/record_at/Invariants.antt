@@ -4,6 +4,3 @@ use Rattle.replay_take_out.proofs.taking.record_at.Given as goal
 
 abbrev pub invariant-loop-i : goal.invariant-loop-i
 invariant-loop-i l = length l.words ≡ 14
-
-abbrev pub decreases-loop-i : goal.decreases-loop-i
-decreases-loop-i l = 14 - l.i

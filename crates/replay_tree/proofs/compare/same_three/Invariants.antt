@@ -4,6 +4,3 @@ use Rattle.replay_tree.proofs.compare.same_three.Given as goal
 
 abbrev pub invariant-loop-d : goal.invariant-loop-d
 invariant-loop-d l = l.d ≤ 3
-
-abbrev pub decreases-loop-d : goal.decreases-loop-d
-decreases-loop-d l = 3 - l.d

@@ -5,6 +5,3 @@ use Rattle.replay_tree.proofs.forces.same_forces.Given as goal
 
 abbrev pub invariant-loop-k : goal.invariant-loop-k
 invariant-loop-k l = (l.k ≤ 4 * l.n) × Walkable 512 l.used l.c l.cells
-
-abbrev pub decreases-loop-k : goal.decreases-loop-k
-decreases-loop-k l = 4 * l.n - l.k

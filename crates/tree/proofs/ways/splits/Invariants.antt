@@ -6,6 +6,3 @@ use Rattle.tree.proofs.ways.splits.Given as goal
 
 abbrev pub invariant-loop-d : goal.invariant-loop-d
 invariant-loop-d l = Splits l.c l.q l.p l.depth l.initial.z l.initial.h l.z l.h l.n l.d
-
-abbrev pub decreases-loop-d : goal.decreases-loop-d
-decreases-loop-d l = deepest - l.d

@@ -19,15 +19,6 @@ overflow_mul-i c =
           c.requires.1),
     )
 
-pub overflow_add-i : goal.overflow_add-i
-overflow_add-i c =
-    omega (
-      arith,
-      (row_in c.loop-i.i c.args.n c.args.c (length c.args.positions.now) c.loop-i-test.true
-          c.requires.1),
-      c.requires.0,
-    )
-
 pub offset_bounds-positions-i : goal.offset_bounds-positions-i
 offset_bounds-positions-i c =
     omega (

@@ -6,6 +6,3 @@ use Rattle.tree_bounds.proofs.root.span.Given as goal
 
 abbrev pub invariant-loop-i : goal.invariant-loop-i
 invariant-loop-i l = Loops (span_step l.positions l.c l.d) l.n l.initial.s l.i l.s
-
-abbrev pub decreases-loop-i : goal.decreases-loop-i
-decreases-loop-i l = l.n - l.i

@@ -6,6 +6,3 @@ use Rattle.unpark.proofs.fetch.fetch_words.Given as goal
 
 abbrev pub invariant-loop-i : goal.invariant-loop-i
 invariant-loop-i l = Fetches (λ k. word_in l.file (l.b + k)) l.m l.initial.area l.i l.area
-
-abbrev pub decreases-loop-i : goal.decreases-loop-i
-decreases-loop-i l = l.m - l.i
