@@ -1,4 +1,4 @@
-// The desk's library: what a program calls, on numbers and slices. Each function is that of a crate below it; desk_c exports them for C and Rust.
+// The desk's library for C and Rust, libdesk.a: each function is that of a crate below it, exported under the name that the header has.
 
 #![tactic(auto)]
 
@@ -48,7 +48,8 @@ use desk_work::host_work;
 use tree_node::Cell;
 
 // Counts the frames whose sigma search ends blind, and those of them that have no neighbour at another place. Answers 0, or the number of the refusal; then nothing is changed.
-pub fn brothanchor_blind(
+#[unsafe(no_mangle)]
+pub extern "C" fn brothanchor_blind(
     settings: &[u64],
     table: &[f64],
     squares: &mut [f64],
@@ -76,7 +77,8 @@ pub fn brothanchor_blind(
 }
 
 // Prepares a run. Answers 0, or the number of the refusal; then nothing is changed.
-pub fn brothanchor_prepare(
+#[unsafe(no_mangle)]
+pub extern "C" fn brothanchor_prepare(
     settings: &[u64],
     table: &[f64],
     start: &[f64],
@@ -140,7 +142,8 @@ pub fn brothanchor_prepare(
 }
 
 // Prepares a run along one line. Answers 0, or the number of the refusal; then nothing is changed.
-pub fn brothanchor_prepare_strip(
+#[unsafe(no_mangle)]
+pub extern "C" fn brothanchor_prepare_strip(
     settings: &[u64],
     table: &[f64],
     start: &[f64],
@@ -204,7 +207,8 @@ pub fn brothanchor_prepare_strip(
 }
 
 // Does units of a run. Answers 0, or the number of the refusal, and writes the answer's words.
-pub fn brothanchor_work(
+#[unsafe(no_mangle)]
+pub extern "C" fn brothanchor_work(
     words: &mut [u64],
     positions: &mut [f64],
     increments: &mut [f64],
@@ -242,15 +246,15 @@ pub fn brothanchor_work(
         forces.old
         cells.old) }
 {
-    let k = host_work(
+    host_work(
         words, positions, increments, gains, affinities, indices, offsets, forces, cells, budget,
         answer,
-    );
-    k
+    )
 }
 
 // The figure of the iteration just finished. Answers 0, or the number of the refusal, and writes the answer's first word: the figure's bits, or the place that comes with the number. The copy holds the positions before that iteration's step.
-pub fn brothanchor_divergence(
+#[unsafe(no_mangle)]
+pub extern "C" fn brothanchor_divergence(
     words: &[u64],
     positions: &[f64],
     increments: &[f64],
@@ -278,31 +282,33 @@ pub fn brothanchor_divergence(
         copy.now
         answer.old }
 {
-    let k = host_divergence(
+    host_divergence(
         words, positions, increments, gains, affinities, indices, offsets, forces, cells, copy,
         answer,
-    );
-    k
+    )
 }
 
 // ---- what a record says
 
 // 0 running, 1 stopped, 2 finished; 3 where the words are no record.
-pub fn brothanchor_state(record: &[u64]) -> u64
+#[unsafe(no_mangle)]
+pub extern "C" fn brothanchor_state(record: &[u64]) -> u64
     ensures { result ≡ said_of 9 3 «record».now }
 {
     host_state(record)
 }
 
 // Iterations done; 0 where the words are no record.
-pub fn brothanchor_iterations(record: &[u64]) -> u64
+#[unsafe(no_mangle)]
+pub extern "C" fn brothanchor_iterations(record: &[u64]) -> u64
     ensures { result ≡ said_of 10 0 «record».now }
 {
     host_iterations(record)
 }
 
 // Units done in all; 0 where the words are no record.
-pub fn brothanchor_units(record: &[u64]) -> u64
+#[unsafe(no_mangle)]
+pub extern "C" fn brothanchor_units(record: &[u64]) -> u64
     ensures { result ≡ said_of 12 0 «record».now }
 {
     host_units(record)
@@ -311,21 +317,24 @@ pub fn brothanchor_units(record: &[u64]) -> u64
 // ---- starting positions and the frame file
 
 // Starting positions from a seed. Answers 0, or 1, 7 or 12; then nothing is changed.
-pub fn brothanchor_scatter(positions: &mut [f64], n: u32, c: u32, seed: u64) -> u32
+#[unsafe(no_mangle)]
+pub extern "C" fn brothanchor_scatter(positions: &mut [f64], n: u32, c: u32, seed: u64) -> u32
     ensures { (result ≡ or_zero (scatter_of n c seed positions.old).number) × (positions.new ≡ (scatter_of n c seed positions.old).positions) }
 {
     host_scatter(positions, n, c, seed)
 }
 
 // How many records a frame file has, or 16 and the place of the first bad one, in the first word of the area.
-pub fn brothanchor_frames(file: &[u8], place: &mut [u64]) -> u32
+#[unsafe(no_mangle)]
+pub extern "C" fn brothanchor_frames(file: &[u8], place: &mut [u64]) -> u32
     ensures { worded result place.new ≡ host_frames file.now place.old }
 {
     host_frames(file, place)
 }
 
 // Picture, side, field, six features and two starts of record i, in eleven words; zeros past the whole records. Answers 0, or 12.
-pub fn brothanchor_frame(file: &[u8], i: usize, frame: &mut [u64]) -> u32
+#[unsafe(no_mangle)]
+pub extern "C" fn brothanchor_frame(file: &[u8], i: usize, frame: &mut [u64]) -> u32
     ensures { worded result frame.new ≡ host_frame file.now i frame.old }
 {
     host_frame(file, i, frame)
@@ -334,14 +343,16 @@ pub fn brothanchor_frame(file: &[u8], i: usize, frame: &mut [u64]) -> u32
 // ---- sizes
 
 // How long the areas must be, in seven words. Answers 0, or 21, 12, or the number that 1 to 10 would give; then nothing is changed.
-pub fn brothanchor_sizes(settings: &[u64], sizes: &mut [u64]) -> u32
+#[unsafe(no_mangle)]
+pub extern "C" fn brothanchor_sizes(settings: &[u64], sizes: &mut [u64]) -> u32
     ensures { worded result sizes.new ≡ host_sizes settings.now sizes.old }
 {
     host_sizes(settings, sizes)
 }
 
 // Writes the run into records. Answers 0, or the number of the refusal; then the target is not changed. Areas of values are lent by their bits, so that a NaN keeps them.
-pub fn brothanchor_park(
+#[unsafe(no_mangle)]
+pub extern "C" fn brothanchor_park(
     words: &[u64],
     positions: &[u64],
     increments: &[u64],
@@ -369,15 +380,15 @@ pub fn brothanchor_park(
         target.old
         answer.old }
 {
-    let k = host_park(
+    host_park(
         words, positions, increments, gains, affinities, indices, offsets, forces, cells, target,
         answer,
-    );
-    k
+    )
 }
 
 // Writes the neighbour lists of a Barnes-Hut run into records of 16 bytes, at any moment of it. Answers 0, or the number of the refusal; then the target is not changed. Areas of values are lent by their bits, so that a NaN keeps them.
-pub fn brothanchor_lists(
+#[unsafe(no_mangle)]
+pub extern "C" fn brothanchor_lists(
     words: &[u64],
     positions: &[u64],
     increments: &[u64],
@@ -405,15 +416,15 @@ pub fn brothanchor_lists(
         target.old
         answer.old }
 {
-    let k = host_lists(
+    host_lists(
         words, positions, increments, gains, affinities, indices, offsets, forces, cells, target,
         answer,
-    );
-    k
+    )
 }
 
 // Hands out the frames of an ended strip run along the line, with the gaps between them. Answers 0, or the number of the refusal; then order and gaps are not changed. Gaps are lent by their bits.
-pub fn brothanchor_strip(
+#[unsafe(no_mangle)]
+pub extern "C" fn brothanchor_strip(
     words: &[u64],
     positions: &[f64],
     increments: &[f64],
@@ -443,15 +454,15 @@ pub fn brothanchor_strip(
         gaps.old
         answer.old }
 {
-    let k = host_strip(
+    host_strip(
         words, positions, increments, gains, affinities, indices, offsets, forces, cells, order,
         gaps, answer,
-    );
-    k
+    )
 }
 
 // Reads a parked run into record and areas. Answers 0, or the number of the refusal; then none of them is changed.
-pub fn brothanchor_unpark(
+#[unsafe(no_mangle)]
+pub extern "C" fn brothanchor_unpark(
     file: &[u8],
     words: &mut [u64],
     positions: &mut [u64],
@@ -496,7 +507,8 @@ pub fn brothanchor_unpark(
 }
 
 // Begins a run from a partner's list. Answers 0, or the number of the refusal; then none of record and areas is changed.
-pub fn brothanchor_import(
+#[unsafe(no_mangle)]
+pub extern "C" fn brothanchor_import(
     settings: &[u64],
     start: &[u64],
     file: &[u8],
@@ -545,7 +557,8 @@ pub fn brothanchor_import(
 }
 
 // Takes frames out of a run. Answers 0, or the number of the refusal; then nothing is changed but the answer's word. Values that are only moved are lent as words, by their bits.
-pub fn brothanchor_take_out(
+#[unsafe(no_mangle)]
+pub extern "C" fn brothanchor_take_out(
     words: &mut [u64],
     positions: &mut [f64],
     increments: &mut [u64],
@@ -566,17 +579,17 @@ pub fn brothanchor_take_out(
         (holdings positions.old increments.old gains.old affinities.old indices.old offsets.old forces.old table.old old.old)
         (nodes_of cells.now) answer.old }
 {
-    let k = host_take_out(
+    host_take_out(
         words, positions, increments, gains, affinities, indices, offsets, forces, cells, table,
         gone, old, answer,
-    );
-    k
+    )
 }
 
 // ---- the picture monitor
 
 // Writes n frames for the picture monitor. Answers 0, or 12, 16 or 26; then the target is not changed.
-pub fn brothanchor_monitor_write(
+#[unsafe(no_mangle)]
+pub extern "C" fn brothanchor_monitor_write(
     n: usize,
     pictures: &[u32],
     sides: &[u8],
@@ -598,7 +611,8 @@ pub fn brothanchor_monitor_write(
 }
 
 // Reads a file for the picture monitor. Answers 0, or 16 or 12; then no area is changed.
-pub fn brothanchor_monitor_read(
+#[unsafe(no_mangle)]
+pub extern "C" fn brothanchor_monitor_read(
     file: &[u8],
     pictures: &mut [u32],
     sides: &mut [u8],
@@ -626,7 +640,8 @@ pub fn brothanchor_monitor_read(
 // ---- a scuffed frame file
 
 // Copies the good records of a scuffed frame file, and tells the others. Answers 0, or 12; then no area is changed.
-pub fn brothanchor_salvage(
+#[unsafe(no_mangle)]
+pub extern "C" fn brothanchor_salvage(
     file: &[u8],
     target: &mut [u8],
     places: &mut [u64],

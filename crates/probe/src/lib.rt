@@ -6,13 +6,15 @@ ghost use Rattle.std.specs.Prelude.{◌≡◌};
 ghost use Rattle.elementary.specs.Exp.{exp_of};
 ghost use Rattle.elementary.specs.Ln.{ln_of};
 
-pub fn brothanchor_probe_exp(x: f64) -> f64
+#[unsafe(no_mangle)]
+pub extern "C" fn brothanchor_probe_exp(x: f64) -> f64
     ensures { result ≡ exp_of x }
 {
     elementary::exp(x)
 }
 
-pub fn brothanchor_probe_ln(v: f64) -> f64
+#[unsafe(no_mangle)]
+pub extern "C" fn brothanchor_probe_ln(v: f64) -> f64
     ensures { result ≡ ln_of v }
 {
     elementary::ln(v)
