@@ -1,22 +1,14 @@
--- Text put into an area: the loop that puts a string, and texts put one after the other. Assumes nothing.
+-- Texts put into an area one after the other. Assumes nothing.
 use mathlib.Core.Path.{◌≡◌, refl, sym, ap, ◌∙◌}
 use mathlib.Core.List.{List, [], ◌++◌, append_assoc}
 use Prim.Native.Nat.{ℕ, ◌+◌, ◌-◌, ◌≤◌}
 use native.Mathlib.Omega.{arith}
-use native.Mathlib.Nat.{le_antisymm, zero-add}
+use native.Mathlib.Nat.{zero-add}
 use lib.ListN.{length, take, drop, length-append, length-drop}
 use lib.Seq.{paste-zero, length-take-le, take_at, drop_at, drop-drop}
 use Rattle.io.specs.Counts.{IsPrefixLen}
 use Rattle.laws.specs.Joined.{written}
-use Rattle.laws.proofs.Parts.{Spells, spells-done}
 use Rattle.text.specs.Text.{Puts}
-
--- ---- the loop that puts a string has put it whole
-
-pub puts-done : {w l₀ l : List ℕ} {a i : ℕ} → a + length w ≤ length l₀ → length w ≤ i → Spells w l₀ a i l → Puts w a l₀ (a + i) l
-puts-done {w} {l₀} {l} {a} {i} m h r = record { place = ap (λ (x : ℕ). a + x) (le_antisymm r.within h); room = omega arith; area = spells-done h r }
-
--- ---- texts one after the other
 
 -- nothing
 pub puts_none : (a : ℕ) (l : List ℕ) → a ≤ length l → Puts [] a l a l

@@ -10,10 +10,9 @@ pub fn put(out: &mut [u8], at: usize, bytes: &[u8]) -> usize
     requires { at + length bytes.now ≤ length out.old }
     ensures { Puts bytes.now at out.old result out.new }
 {
-    for i in 0..bytes.len() {
-        out[at + i] = bytes[i];
-    }
-    at + bytes.len()
+    let end = at + bytes.len();
+    out[at..end].copy_from_slice(bytes);
+    end
 }
 
 // Puts n in decimal digits: at most 20.

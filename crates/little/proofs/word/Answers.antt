@@ -1,7 +1,9 @@
--- `little::word` meets its contract: from what its calls promise.
+-- `little::word` meets its contract: what `from_le_bytes` reads is `little_of`.
+use mathlib.Core.Path.{sym, ◌∙◌}
 use Rattle.little.proofs.Bytes.{eight}
+use native.Mathlib.Omega.{arith}
 use Rattle.little.proofs.word.Goals as goal
 
 pub returns : goal.returns
 returns c =
-    rw (c.half_word-2.ensures.0, c.half_word.ensures.0, eight)
+    c.from_le_bytes.ensures ∙ omega arith ∙ sym (eight _ _)
