@@ -8,10 +8,8 @@ fn taylor(r: f64) -> f64
     ensures { result ≡ series r 13 one64 }
 {
     let mut t = 1.0;
-    let mut m: u32 = 13;
-    while 0 < m {
+    for m in (1u32..=13).rev() {
         t = 1.0 + (r / m as f64) * t;
-        m -= 1;
     }
     t
 }
