@@ -54,11 +54,5 @@ pub fn neighbours(perplexity: f64, n: u64) -> u64
     ensures { result ≡ neighbours_of perplexity n }
 {
     let k = ceil_of(3.0 * perplexity) + 1;
-    if n < 3 {
-        return 1;
-    }
-    if n - 1 < k {
-        return n - 1;
-    }
-    k
+    k.min(n.saturating_sub(1)).max(1)
 }
