@@ -37,9 +37,7 @@ pub(crate) fn fill_list(
     let mut q = e;
     let mut m = e;
     let mut c = row_indices[i];
-    let mut j = n;
-    while j > 0 {
-        j -= 1;
+    for j in (0..n).rev() {
         if j == i {
             m = q;
             continue;

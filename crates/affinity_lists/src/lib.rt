@@ -8,7 +8,7 @@ mod rows;
 ghost use Rattle.std.specs.Prelude.{◌≡◌};
 ghost use Rattle.affinity_lists.specs.Lists.{Prepared, areas, lists_made};
 
-use areas::{clear_indices, fill};
+use areas::fill;
 use filling::{fill_list, top_cursors};
 use rows::total;
 
@@ -30,12 +30,10 @@ pub fn symmetrise(
     offsets[n] = links as u32;
     top_cursors(indices, row_indices, n, k);
     let mut q = links;
-    let mut i = n;
-    while i > 0 {
-        i -= 1;
+    for i in (0..n).rev() {
         q = fill_list(weights, indices, offsets, row_indices, n, k, i, q);
         offsets[i] = q as u32;
     }
     fill(row_values, n, 0.0);
-    clear_indices(row_indices, n);
+    fill(row_indices, n, 0);
 }

@@ -12,10 +12,7 @@ fn miss(indices: &[u32], n: usize, k: usize, j: usize, t: usize) -> usize
     ensures { result ≡ miss_of k indices.now j t }
 {
     let i = indices[j * k + t] as usize;
-    if find(indices, i * k, k, j as u32) < k {
-        return 0;
-    }
-    1
+    usize::from(find(indices, i * k, k, j as u32) == k)
 }
 
 // How many of the frames in row j do not name j back.

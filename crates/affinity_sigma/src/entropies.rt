@@ -35,7 +35,7 @@ fn all_shares(shares: &[f64], j: usize, c: usize) -> bool
 {
     let mut all = true;
     for t in 0..c {
-        all = crate::weights::and_also(all, shares[j + t] <= 1.0);
+        all &= shares[j + t] <= 1.0;
     }
     all
 }

@@ -1,5 +1,5 @@
 // The weights of a row by blocks of 32. Each pass does one thing to a whole block, in local arrays, so that the divisions of one value do not wait for those of another. A block with an exponent that the passes do not take is weighed singly.
-ghost use Rattle.std.specs.Prelude.{◌≡◌, true, ◌&&◌, ◌+◌, ◌/◌, ◌<◌, ◌≤◌, length, pos, neg_ℤ};
+ghost use Rattle.std.specs.Prelude.{◌≡◌, true, ◌+◌, ◌/◌, ◌<◌, ◌≤◌, length, pos, neg_ℤ};
 ghost use Rattle.std.specs.Float.Ieee.{to_unsigned};
 ghost use Rattle.laws.specs.Loops.{loop, every};
 ghost use Rattle.laws.specs.Area.{at, one64};
@@ -43,20 +43,7 @@ fn exponents(distances: &[f64], j: usize, c: usize, sigma: f64, xs: &mut [f64; 3
 fn in_reach(x: f64) -> bool
     ensures { result ≡ in_reach x }
 {
-    if x < -708.0 {
-        return false;
-    }
-    x <= 0.0
-}
-
-// Both of two tests.
-pub(crate) fn and_also(a: bool, b: bool) -> bool
-    ensures { result ≡ a && b }
-{
-    if !a {
-        return false;
-    }
-    b
+    !(x < -708.0) & (x <= 0.0)
 }
 
 // Whether the passes take all of a block.
@@ -65,7 +52,7 @@ fn all_in_reach(xs: &[f64; 32]) -> bool
 {
     let mut all = true;
     for t in 0..32 {
-        all = and_also(all, in_reach(xs[t]));
+        all &= in_reach(xs[t]);
     }
     all
 }

@@ -4,9 +4,10 @@ use lib.Ieee.{Float, nan, inf, fin, binary64, ne, eq, is_nan, of_bits, nan_bits,
 use lib.Ieee.Bits.{nan_bits_is, nan_bits_above}
 use lib.Ieee.Compare.{differs_from_itself}
 use denote.Floats.{passes}
-use Rattle.laws.specs.Area.{zero64}
+use mathlib.Core.Logic.{◌⊎◌, inl, inr}
+use Rattle.laws.proofs.Bools.{two}
 
-pub is-nan : (x : Float) → ne x x ≡ true → x ≡ nan
+is-nan : (x : Float) → ne x x ≡ true → x ≡ nan
 is-nan x e = differs_from_itself x (passes (ne x x) e)
 
 pub not-nan : (x : Float) → ne x x ≡ false → is_nan x ≡ false
@@ -15,15 +16,20 @@ not-nan nan e = e
 not-nan (inf s) e = refl
 not-nan (fin s m k) e = refl
 
-nan-only : (x : Float) → is_nan x ≡ true → x ≡ nan
+-- std's test and the test on the value itself
+pub differs : (x : Float) → ne x x ≡ is_nan x
+unfolding ne eq is_nan
+differs x = go (two (ne x x))
+  where
+    go : (ne x x ≡ true) ⊎ (ne x x ≡ false) → ne x x ≡ is_nan x
+    go (inl t) = rw (is-nan x t)
+    go (inr f) = f ∙ sym (not-nan x f)
+
+pub nan-only : (x : Float) → is_nan x ≡ true → x ≡ nan
 unfolding is_nan
 nan-only nan e = refl
 nan-only (inf s) e = absurd (true≢false (sym e))
 nan-only (fin s m k) e = absurd (true≢false (sym e))
-
-pub made-nan : div binary64 zero64 zero64 ≡ nan
-unfolding div of_bits
-made-nan = refl
 
 pub nan-bits : (b : ℕ) → 0x7ff0000000000000 < b % 0x8000000000000000 → of_bits binary64 b ≡ nan
 nan-bits b h = nan-only (of_bits binary64 b) (sym (nan_bits_is binary64 b) ∙ nan_bits_above binary64 b ∙ lt-ltb 0x7ff0000000000000 (b % 0x8000000000000000) h)

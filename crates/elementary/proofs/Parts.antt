@@ -15,7 +15,7 @@ use lib.Ieee.Bits.{of_bits-to_bits, to_bits-lt}
 use mir.ValLaws.{to_z-of_z}
 use Rattle.laws.specs.Area.{two64}
 use Rattle.laws.proofs.Numbers.{order}
-use Rattle.elementary.proofs.Nans.{is-nan}
+use Rattle.elementary.proofs.Nans.{nan-only}
 use Rattle.elementary.specs.Ln.{root2, significand, exponent, ln_at, ln_in, ln_of}
 use Rattle.elementary.proofs.Digits.{under_back, cut-size, tz_div, tz_shift}
 
@@ -214,9 +214,9 @@ ln-whole m k h = rw h
 abbrev zero64 : Float
 zero64 = fin false 0 (pos 0)
 
-pub ln-nan : (v : Float) → ne v v ≡ true → nan ≡ ln_of v
+pub ln-nan : (v : Float) → is_nan v ≡ true → nan ≡ ln_of v
 unfolding ln_of
-ln-nan v e = rw (is-nan v e)
+ln-nan v e = rw (nan-only v e)
 
 pub ln-none : (v : Float) → le v zero64 ≡ true → nan ≡ ln_of v
 unfolding ln_of le lt eq

@@ -4,7 +4,7 @@ use Rattle.std.proofs.Common.{le_trans, le_of_eq, le_of_suc-le-suc, not-suc-le-z
 use Rattle.std.proofs.Common.{mul_right_comm, mul_left_comm, arith, lit<, lit≤, w64, SFits, ltb-false, ltb-true, lt-ltb}
 use lib.Ieee.{Float, nan, inf, fin, binary64, up, down, round, neg, div, lt, ne, eq, of_bits, is_nan}
 use lib.Ieee.Fits.{down_pos}
-use Rattle.elementary.proofs.Nans.{is-nan, not-nan}
+use Rattle.elementary.proofs.Nans.{nan-only, not-nan}
 use Rattle.elementary.proofs.Sizes.{sign_plus, Most, Least, Held, neg-round, signed_round, held_whole, most-round, least-round, within-most, bounded}
 use Rattle.elementary.specs.Exp.{ln2, low745, low708, high709, near_up, signed, whole_near, exp_k, at_most, from_minus, between_minus, in_exp, exp_of, exp_in, exp_under}
 
@@ -187,9 +187,9 @@ exp-raised x b l = raised-normal (exp_k x +ℤ pos 64) (exp-range-under x b l).1
 
 -- ---- the cases of exp
 
-pub exp-nan : (x : Float) → ne x x ≡ true → nan ≡ exp_of x
+pub exp-nan : (x : Float) → is_nan x ≡ true → nan ≡ exp_of x
 unfolding exp_of is_nan
-exp-nan x e = rw (is-nan x e)
+exp-nan x e = rw (nan-only x e)
 
 pub exp-low : (x : Float) → ne x x ≡ false → lt x low745 ≡ true → exp_of x ≡ of_bits binary64 0
 unfolding exp_of

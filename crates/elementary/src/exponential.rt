@@ -8,10 +8,8 @@ fn taylor(r: f64) -> f64
     ensures { result ≡ series r 13 one64 }
 {
     let mut t = 1.0;
-    let mut m: u32 = 13;
-    while 0 < m {
+    for m in (1u32..=13).rev() {
         t = 1.0 + (r / m as f64) * t;
-        m -= 1;
     }
     t
 }
@@ -32,7 +30,7 @@ fn whole_near(q: f64) -> i64
     let w = q + q;
     if q < 0.0 {
         let u = std::num::truncating_f64_to_u64(-w);
-        return 0 - (((u + 1) / 2) as i64);
+        return -(((u + 1) / 2) as i64);
     }
     let v = std::num::truncating_f64_to_u64(w);
     ((v + 1) / 2) as i64
@@ -42,14 +40,14 @@ fn whole_near(q: f64) -> i64
 pub fn exp(x: f64) -> f64
     ensures { result ≡ exp_of x }
 {
-    if x != x {
-        return 0.0 / 0.0;
+    if x.is_nan() {
+        return f64::NAN;
     }
     if x < -745.0 {
         return 0.0;
     }
     if x > 709.0 {
-        return 1.0 / 0.0;
+        return f64::INFINITY;
     }
     let k = whole_near(x / 0.6931471805599453);
     let kf = std::num::nearest_i64_to_f64(k);

@@ -9,13 +9,7 @@ ghost use Rattle.elementary.specs.Limits.{abs_of, unless_above, in_domain, calm,
 pub fn absolute(x: f64) -> f64
     ensures { result ≡ abs_of x }
 {
-    if x < 0.0 {
-        return -x;
-    }
-    if x == 0.0 {
-        return 0.0;
-    }
-    x
+    x.abs()
 }
 
 // `max` with a constant: the constant unless x is above it.
@@ -32,20 +26,14 @@ pub fn unless_above(constant: f64, x: f64) -> f64
 pub fn in_domain(x: f64) -> bool
     ensures { result ≡ in_domain x }
 {
-    if -1048576.0 <= x {
-        return x <= 1048576.0;
-    }
-    false
+    -1048576.0 <= x && x <= 1048576.0
 }
 
 // No NaN, and at most 2^100 in magnitude.
 pub fn is_calm(x: f64) -> bool
     ensures { result ≡ calm x }
 {
-    if -1267650600228229401496703205376.0 <= x {
-        return x <= 1267650600228229401496703205376.0;
-    }
-    false
+    -1267650600228229401496703205376.0 <= x && x <= 1267650600228229401496703205376.0
 }
 
 // The smallest whole number that is not below q.
@@ -66,11 +54,5 @@ pub fn neighbours(perplexity: f64, n: u64) -> u64
     ensures { result ≡ neighbours_of perplexity n }
 {
     let k = ceil_of(3.0 * perplexity) + 1;
-    if n < 3 {
-        return 1;
-    }
-    if n - 1 < k {
-        return n - 1;
-    }
-    k
+    k.min(n.saturating_sub(1)).max(1)
 }

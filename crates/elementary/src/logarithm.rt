@@ -63,13 +63,10 @@ fn ln_bits(b: u64) -> f64
 pub fn ln(v: f64) -> f64
     ensures { result ≡ ln_of v }
 {
-    if v != v {
-        return 0.0 / 0.0;
+    if v.is_nan() || v <= 0.0 {
+        return f64::NAN;
     }
-    if v <= 0.0 {
-        return 0.0 / 0.0;
-    }
-    if v == 1.0 / 0.0 {
+    if v == f64::INFINITY {
         return v;
     }
     ln_bits(f64::to_bits(v))

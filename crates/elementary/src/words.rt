@@ -6,7 +6,7 @@ ghost use Rattle.std.specs.Float.{binary64};
 pub fn bits_of(x: f64) -> u64
     ensures { result ≡ to_bits binary64 x }
 {
-    if x != x {
+    if x.is_nan() {
         return 0x7ff8000000000000;
     }
     f64::to_bits(x)
@@ -17,7 +17,7 @@ pub fn value_of(b: u64) -> f64
     ensures { result ≡ from_bits binary64 b }
 {
     if b % 0x8000000000000000 > 0x7ff0000000000000 {
-        return 0.0 / 0.0;
+        return f64::NAN;
     }
     f64::from_bits(b)
 }

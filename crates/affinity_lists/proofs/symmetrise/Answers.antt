@@ -83,8 +83,8 @@ pub fill-requires : goal.fill-requires
 fill-requires c =
     omega (arith, c.requires.row_values)
 
-pub clear_indices-requires : goal.clear_indices-requires
-clear_indices-requires c =
+pub fill-requires-2 : goal.fill-requires-2
+fill-requires-2 c =
     omega (arith, c.loop-i.invariant.room)
 
 pub shape_of-weights : goal.shape_of-weights
@@ -105,10 +105,10 @@ shape_of-row_values c =
 
 pub shape_of-row_indices : goal.shape_of-row_indices
 shape_of-row_indices c =
-    c.clear_indices.auto.area ∙
+    c.fill-2.auto.area ∙
     c.loop-i.invariant.names.size ∙
     c.top_cursors.auto.row_indices
 
 pub returns : goal.returns
 returns c =
-    frames-done c.requires _ (omega (arith, c.loop-i-test.false)) c.top_cursors.ensures c.loop-i.invariant c.fill.ensures c.clear_indices.ensures
+    frames-done c.requires _ (omega (arith, c.loop-i-test.false)) c.top_cursors.ensures c.loop-i.invariant c.fill.ensures c.fill-2.ensures

@@ -6,6 +6,3 @@ use Rattle.affinity_lists.proofs.symmetrise.Given as goal
 abbrev pub invariant-loop-i : goal.invariant-loop-i
 invariant-loop-i l = Frames l.n l.k
     (areas l.initial.weights l.initial.indices l.initial.offsets l.row_values l.initial.row_indices) l.i l.q (areas l.weights l.indices l.offsets l.row_values l.row_indices)
-
-abbrev pub decreases-loop-i : goal.decreases-loop-i
-decreases-loop-i l = l.i

@@ -5,6 +5,3 @@ use Rattle.affinity_lists.proofs.filling.fill_list.Given as goal
 
 abbrev pub invariant-loop-j : goal.invariant-loop-j
 invariant-loop-j l = Writing l.initial.weights l.initial.indices l.offsets l.initial.row_indices l.n l.k l.i l.e l.j l.c l.q l.m l.weights l.indices l.row_indices
-
-abbrev pub decreases-loop-j : goal.decreases-loop-j
-decreases-loop-j l = l.j

@@ -1,6 +1,10 @@
 -- `lists::rows::miss` meets its contract: the frame that row j names has a row of its own, in which `find` looks for j. Assumes nothing.
-use borrow.Author.Tests.{lt-ltb, le-ltb}
+use Rattle.std.proofs.Common.{◌≡◌, ◌∙◌, ℕ, ◌<◌, ◌≤◌, cond, eqb, ltb}
+use native.Mathlib.Decide.{dec_lt}
+use mir.Val.{bool_byte}
+use borrow.Author.Tests.{lt-ltb, le-ltb, eq-eqb, ne_eqb}
 use Rattle.affinity_lists.specs.Steps.{miss_of}
+use Rattle.laws.proofs.First.{first-le}
 use Rattle.laws.proofs.Numbers.{row_in}
 use native.Mathlib.Omega.{arith}
 use Rattle.affinity_lists.proofs.rows.miss.Goals as goal
@@ -39,12 +43,13 @@ find-requires c = (
   c.requires.4.rising _ (c.requires.4.inside _ _ c.requires.0 c.requires.1),
 )
 
-pub returns-then-find-k : goal.returns-then-find-k
-unfolding miss_of
-returns-then-find-k c =
-    rw (lt-ltb _ _ (rw c.find.ensures at c.if-find-k.true))
+missed : (f k : ℕ) → f ≤ k → bool_byte (eqb f k) ≡ cond (ltb f k) 0 1
+missed f k h = elim (dec_lt f k) [
+  | yes l ↦ rw (lt-ltb f k l, ne_eqb f k (λ e. omega arith))
+  | no m ↦ rw (le-ltb f k (omega arith), eq-eqb f k (omega arith))
+]
 
 pub returns : goal.returns
 unfolding miss_of
 returns c =
-    rw (le-ltb _ _ (rw c.find.ensures at c.if-find-k.false))
+    c.from.ensures ∙ rw c.find.ensures (missed _ _ (first-le _ _))

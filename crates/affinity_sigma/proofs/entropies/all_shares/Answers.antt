@@ -10,7 +10,7 @@ loop-t-init c =
 
 pub loop-t-preserved : goal.loop-t-preserved
 loop-t-preserved c =
-    (every-joined _ _ c.and_also-all.ensures c.loop-t.invariant.0 refl, omega (arith, c.loop-t-test.true))
+    (every-joined _ _ refl c.loop-t.invariant.0 refl, omega (arith, c.loop-t-test.true))
 
 pub returns : goal.returns
 returns c =

@@ -1,4 +1,4 @@
-use mathlib.Core.Path.{sym}
+use mathlib.Core.Path.{refl, sym}
 use Rattle.laws.proofs.Every.{every-none}
 use Rattle.affinity_sigma.proofs.Blocks.{every-joined, every-whole}
 use native.Mathlib.Omega.{arith}
@@ -10,7 +10,7 @@ loop-t-init c =
 
 pub loop-t-preserved : goal.loop-t-preserved
 loop-t-preserved c =
-    (every-joined _ _ c.and_also-all.ensures c.loop-t.invariant.0 c.in_reach.ensures, omega (arith, c.loop-t-test.true))
+    (every-joined _ _ refl c.loop-t.invariant.0 c.in_reach-all.ensures, omega (arith, c.loop-t-test.true))
 
 pub returns : goal.returns
 returns c =

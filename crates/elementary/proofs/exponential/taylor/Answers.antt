@@ -1,5 +1,5 @@
 use Rattle.elementary.proofs.Powers.{series-step, series-end}
-use Rattle.std.proofs.Common.{sym, ◌∙◌, rules}
+use Rattle.std.proofs.Common.{sym, ◌∙◌, rules, arith}
 use Rattle.elementary.proofs.exponential.taylor.Goals as goal
 
 pub loop-m-preserved : goal.loop-m-preserved
@@ -8,4 +8,4 @@ loop-m-preserved c =
 
 pub returns : goal.returns
 returns c =
-    sym (series-end _ _ _ c.loop-m-test.false) ∙ c.loop-m.invariant.1
+    sym (series-end _ _ _ (omega arith)) ∙ c.loop-m.invariant.1

@@ -5,6 +5,3 @@ use Rattle.elementary.proofs.exponential.taylor.Given as goal
 
 abbrev pub invariant-loop-m : goal.invariant-loop-m
 invariant-loop-m l = (l.m ≤ 13) × (series l.r l.m l.t ≡ series l.r 13 l.initial.t)
-
-abbrev pub decreases-loop-m : goal.decreases-loop-m
-decreases-loop-m l = l.m

@@ -1,4 +1,4 @@
--- `elementary::limits::in_domain` meets its contract: each need follows from its own premises.
+-- `elementary::limits::in_domain` meets its contract: by the first test.
 use Rattle.elementary.specs.Limits.{up_to}
 use Rattle.elementary.proofs.limits.in_domain.Goals as goal
 
@@ -7,7 +7,7 @@ unfolding up_to
 returns-then-x c =
     rw c.if-x.true
 
-pub returns : goal.returns
+pub returns-else-x : goal.returns-else-x
 unfolding up_to
-returns c =
+returns-else-x c =
     rw c.if-x.false

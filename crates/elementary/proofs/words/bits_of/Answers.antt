@@ -1,13 +1,10 @@
--- `elementary::words::bits_of` meets its contract: by `is-nan`, `not-nan`.
+-- `elementary::words::bits_of` meets its contract: std tells NaN.
 use lib.Ieee.{to_bits}
-use Rattle.elementary.proofs.Nans.{is-nan, not-nan}
+use Rattle.std.proofs.Common.{sym, ◌∙◌}
+use Rattle.elementary.proofs.Nans.{nan-only}
 use Rattle.elementary.proofs.words.bits_of.Goals as goal
 
-pub returns-then-x : goal.returns-then-x
+pub returns-then-is_nan : goal.returns-then-is_nan
 unfolding to_bits
-returns-then-x c =
-    rw (is-nan _ c.if-x.true)
-
-pub float_to_bits-result : goal.float_to_bits-result
-float_to_bits-result c =
-    rw (not-nan _ c.if-x.false) tt
+returns-then-is_nan c =
+    rw (nan-only _ (sym c.is_nan.ensures.value ∙ c.if-is_nan.true))
