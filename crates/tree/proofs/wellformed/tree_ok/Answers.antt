@@ -14,8 +14,8 @@ returns-then-used-eq0 c =
     elim c.then-used-eq0.branch [
       | then-used-eq0-via-then-used-eq0 w ↦ none-used c.args.n c.args.c (tree c.args.used (nodes_of c.args.cells.now)) w.if-used-eq0.true
       | then-used-eq0-via-else-used-eq0+then-used-nameable_of w ↦
-        too_many c.args.n c.args.c (tree c.args.used (nodes_of c.args.cells.now)) w.if-used-eq0.false
-            (past-named c.args.cells.now c.args.used w.nameable_of.result w.nameable_of.ensures w.if-used-nameable_of.true)
+          too_many c.args.n c.args.c (tree c.args.used (nodes_of c.args.cells.now)) w.if-used-eq0.false
+          (past-named c.args.cells.now c.args.used w.nameable_of.result w.nameable_of.ensures w.if-used-nameable_of.true)
     ]
 
 pub load-v-requires : goal.load-v-requires
