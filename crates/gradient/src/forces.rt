@@ -7,21 +7,29 @@ ghost use Rattle.tree.specs.Insert.{tree, shaped};
 ghost use Rattle.gradient.specs.Forces.{Linked, eye_of, forces_of};
 
 use crate::pulls::place_forces;
+use gradient_pairs::exact::Map;
 use tree_node::Cell;
 use tree_node::cells::point;
 use tree_walk::{Eye, repulsive_force};
 
+// The links of a Barnes-Hut run: their weights and the frames that they name, and at which place each frame's list begins.
+#[derive(Clone, Copy)]
+pub struct Lists<'a> {
+    pub weights: &'a [f64],
+    pub indices: &'a [u32],
+    pub offsets: &'a [u32],
+}
+
 // With what eye point i looks at the tree.
-pub(crate) fn eye_of(positions: &[f64], n: usize, c: usize, i: usize, angle: f64) -> Eye
-    requires { (Axes c) × (i < n) × (n ≤ most_frames) × (n * c ≤ length positions.now) }
-    ensures { result ≡ eye_of angle c positions.now i }
+pub(crate) fn eye_of(map: Map, i: usize, angle: f64) -> Eye
+    requires { (Axes map.c) × (i < map.n) × (map.n ≤ most_frames) × (map.n * map.c ≤ length map.positions.now) }
+    ensures { result ≡ eye_of angle map.entry.c map.entry.positions.now i }
 {
-    let p = point(positions, i, c);
     Eye {
-        p,
+        p: point(map.positions, i, map.c),
         theta2: angle * angle,
         q: i as u32,
-        c,
+        c: map.c,
     }
 }
 
@@ -29,45 +37,30 @@ pub(crate) fn eye_of(positions: &[f64], n: usize, c: usize, i: usize, angle: f64
 pub fn point_forces(
     cells: &[Cell],
     used: usize,
-    positions: &[f64],
-    weights: &[f64],
-    indices: &[u32],
-    offsets: &[u32],
-    n: usize,
-    c: usize,
+    map: Map,
+    lists: Lists,
     i: usize,
     exaggeration: f64,
     angle: f64,
     forces: &mut [f64],
 )
-    requires { (Axes c) × (i < n) × (n ≤ most_frames)
-        × (n * c ≤ length positions.now) × (n * (2 * c + 1) ≤ length forces.old)
+    requires { (Axes map.c) × (i < map.n) × (map.n ≤ most_frames)
+        × (map.n * map.c ≤ length map.positions.now) × (map.n * (2 * map.c + 1) ≤ length forces.old)
         × (0 < used) × (used ≤ length (nodes_of cells.now)) × (used ≤ most_word)
-        × (shaped c (tree used (nodes_of cells.now)) ≡ true)
-        × Linked n weights.now indices.now offsets.now i }
+        × (shaped map.c (tree used (nodes_of cells.now)) ≡ true)
+        × Linked map.n lists.weights.now lists.indices.now lists.offsets.now i }
     ensures { forces.new
-        ≡ forces_of exaggeration angle c
-        positions.now
-        weights.now
-        indices.now
-        offsets.now
+        ≡ forces_of exaggeration angle map.entry.c
+        map.entry.positions.now
+        lists.entry.weights.now
+        lists.entry.indices.now
+        lists.entry.offsets.now
         used
         (nodes_of cells.now)
         i
         forces.old }
 {
-    let eye = eye_of(positions, n, c, i, angle);
+    let eye = eye_of(map, i, angle);
     let acc = repulsive_force(cells, used, eye);
-    place_forces(
-        positions,
-        weights,
-        indices,
-        offsets,
-        n,
-        c,
-        i,
-        exaggeration,
-        acc,
-        forces,
-    );
+    place_forces(map, lists, i, exaggeration, acc, forces);
 }

@@ -6,78 +6,59 @@ ghost use Rattle.tree_node.specs.Node.{Axes, zeros3, point_of};
 ghost use Rattle.gradient_pairs.specs.Links.{pulled};
 ghost use Rattle.gradient.specs.Forces.{link_step, attraction_of, Below, Linked, place_of, put_step, stored};
 
+use crate::forces::Lists;
+use gradient_pairs::exact::Map;
 use gradient_pairs::links::attract;
 use tree_bodies::Acc;
 use tree_node::cells::point;
 
-fn wide(x: u32) -> usize
-    ensures { result ≡ x }
-{
-    x as usize
-}
-
 // The attraction so far, with the link at a place of the lists more.
 fn follow(
-    positions: &[f64],
-    weights: &[f64],
-    indices: &[u32],
-    n: usize,
-    c: usize,
+    map: Map,
+    lists: Lists,
     exaggeration: f64,
     p: [f64; 3],
     place: usize,
     t: [f64; 3],
 ) -> [f64; 3]
-    requires { (Axes c) × (n * c ≤ length positions.now) × (place < length weights.now) × (place < length indices.now) × (num indices.now place < n) }
-    ensures { result ≡ pulled exaggeration c p (point_of positions.now c (num indices.now place)) (at weights.now place) t }
+    requires { (Axes map.c) × (map.n * map.c ≤ length map.positions.now) × (place < length lists.weights.now) × (place < length lists.indices.now) × (num lists.indices.now place < map.n) }
+    ensures { result ≡ pulled exaggeration map.entry.c p (point_of map.entry.positions.now map.entry.c (num lists.entry.indices.now place)) (at lists.entry.weights.now place) t }
 {
-    let q = point(positions, wide(indices[place]), c);
-    attract(exaggeration, c, p, q, weights[place], t)
+    let q = point(map.positions, lists.indices[place] as usize, map.c);
+    attract(exaggeration, map.c, p, q, lists.weights[place], t)
 }
 
 // What the links from place a on pull, by rising place.
 fn follow_all(
-    positions: &[f64],
-    weights: &[f64],
-    indices: &[u32],
-    n: usize,
-    c: usize,
+    map: Map,
+    lists: Lists,
     exaggeration: f64,
     p: [f64; 3],
     a: usize,
     links: usize,
 ) -> [f64; 3]
-    requires axes { (Axes c) × (n * c ≤ length positions.now) × (a + links ≤ length weights.now) × (a + links ≤ length indices.now) }
-    requires below { Below n (a + links) indices.now }
-    ensures { result ≡ loop (link_step exaggeration c positions.now weights.now indices.now p a) links 0 zeros3 }
+    requires axes { (Axes map.c) × (map.n * map.c ≤ length map.positions.now) × (a + links ≤ length lists.weights.now) × (a + links ≤ length lists.indices.now) }
+    requires below { Below map.n (a + links) lists.indices.now }
+    ensures { result ≡ loop (link_step exaggeration map.entry.c map.entry.positions.now lists.entry.weights.now lists.entry.indices.now p a) links 0 zeros3 }
 {
     let mut t = [0.0, 0.0, 0.0];
     for k in 0..links {
-        let s = follow(positions, weights, indices, n, c, exaggeration, p, a + k, t);
+        let s = follow(map, lists, exaggeration, p, a + k, t);
         t = s;
     }
     t
 }
 
 // Point i's attraction over its list.
-fn attraction(
-    positions: &[f64],
-    weights: &[f64],
-    indices: &[u32],
-    offsets: &[u32],
-    n: usize,
-    c: usize,
-    i: usize,
-    exaggeration: f64,
-) -> [f64; 3]
-    requires axes { (Axes c) × (i < n) × (n * c ≤ length positions.now) }
-    requires linked { Linked n weights.now indices.now offsets.now i }
-    ensures { result ≡ attraction_of exaggeration c positions.now weights.now indices.now offsets.now i }
+fn attraction(map: Map, lists: Lists, i: usize, exaggeration: f64) -> [f64; 3]
+    requires axes { (Axes map.c) × (i < map.n) × (map.n * map.c ≤ length map.positions.now) }
+    requires linked { Linked map.n lists.weights.now lists.indices.now lists.offsets.now i }
+    ensures { result ≡ attraction_of exaggeration map.entry.c map.entry.positions.now lists.entry.weights.now lists.entry.indices.now lists.entry.offsets.now i }
 {
-    let p = point(positions, i, c);
-    let a = wide(offsets[i]);
-    let e = wide(offsets[i + 1]);
-    follow_all(positions, weights, indices, n, c, exaggeration, p, a, e - a)
+    let p = point(map.positions, i, map.c);
+    let a = lists.offsets[i] as usize;
+    let e = lists.offsets[i + 1] as usize;
+    follow_all(map, lists, exaggeration, p, a, e - a)
 }
 
 // c values into the places from a on.
@@ -85,15 +66,9 @@ fn put(forces: &mut [f64], a: usize, x: [f64; 3], c: usize)
     requires { (Axes c) × (a + c ≤ length forces.old) }
     ensures { forces.new ≡ loop (put_step x a) c 0 forces.old }
 {
-    forces[a] = x[0];
-    if c == 1 {
-        return;
+    for d in 0..c {
+        forces[a + d] = x[d];
     }
-    forces[a + 1] = x[1];
-    if c == 2 {
-        return;
-    }
-    forces[a + 2] = x[2];
 }
 
 // Attraction, repulsion and share of point i take their places.
@@ -103,36 +78,31 @@ fn store(forces: &mut [f64], c: usize, i: usize, t: [f64; 3], acc: Acc)
 {
     let a = i * (2 * c + 1);
     put(forces, a, t, c);
-    let neg = acc.neg;
-    put(forces, a + c, neg, c);
+    put(forces, a + c, acc.neg, c);
     forces[a + 2 * c] = acc.sum;
 }
 
 // Point i's forces take their places, once it is known what the tree does to it.
 pub(crate) fn place_forces(
-    positions: &[f64],
-    weights: &[f64],
-    indices: &[u32],
-    offsets: &[u32],
-    n: usize,
-    c: usize,
+    map: Map,
+    lists: Lists,
     i: usize,
     exaggeration: f64,
     acc: Acc,
     forces: &mut [f64],
 )
-    requires { (Axes c) × (i < n) × (n * c ≤ length positions.now) × (n * (2 * c + 1) ≤ length forces.old) × Linked n weights.now indices.now offsets.now i }
+    requires { (Axes map.c) × (i < map.n) × (map.n * map.c ≤ length map.positions.now) × (map.n * (2 * map.c + 1) ≤ length forces.old) × Linked map.n lists.weights.now lists.indices.now lists.offsets.now i }
     ensures { forces.new
-        ≡ stored c i
-        (attraction_of exaggeration c
-        positions.now
-        weights.now
-        indices.now
-        offsets.now
+        ≡ stored map.entry.c i
+        (attraction_of exaggeration map.entry.c
+        map.entry.positions.now
+        lists.entry.weights.now
+        lists.entry.indices.now
+        lists.entry.offsets.now
         i)
         acc
         forces.old }
 {
-    let t = attraction(positions, weights, indices, offsets, n, c, i, exaggeration);
-    store(forces, c, i, t, acc);
+    let t = attraction(map, lists, i, exaggeration);
+    store(forces, map.c, i, t, acc);
 }

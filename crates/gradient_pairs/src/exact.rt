@@ -6,50 +6,24 @@ ghost use Rattle.gradient_pairs.specs.Exact.{on_map, num_of, num_step, push_of, 
 
 use crate::Pulls;
 
-// The squared distance of frames i and j on the map.
-pub fn apart(positions: &[f64], c: usize, i: usize, j: usize) -> f64
-    requires { (i * c + c ≤ length positions.now) × (j * c + c ≤ length positions.now) }
-    ensures { result ≡ gap_of c (on_map positions.now c i) (on_map positions.now c j) }
-{
-    let a = i * c;
-    let b = j * c;
-    let mut s = 0.0;
-    for d in 0..c {
-        let g = positions[a + d] - positions[b + d];
-        s = s + g * g;
-    }
-    s
+// How many frames of a row are taken together, which lets the machine divide for two at a time.
+pub const TOGETHER: usize = 16;
+
+// The map: c values for each of n frames, one frame after the other.
+#[derive(Clone, Copy)]
+pub struct Map<'a> {
+    pub positions: &'a [f64],
+    pub n: usize,
+    pub c: usize,
 }
 
-// The Student-t numerator of frames i and j; nothing for a frame and itself.
-pub fn num(positions: &[f64], c: usize, i: usize, j: usize) -> f64
-    requires { (i * c + c ≤ length positions.now) × (j * c + c ≤ length positions.now) }
-    ensures { result ≡ num_of positions.now c i j }
-{
-    if i == j {
-        return 0.0;
-    }
-    1.0 / (1.0 + apart(positions, c, i, j))
-}
-
-// The numerators of row i, by rising frame, onto a sum.
-pub fn add_row(positions: &[f64], n: usize, c: usize, i: usize, sum: f64) -> f64
-    requires { (i < n) × (n * c ≤ length positions.now) }
-    ensures { result ≡ loop (num_step positions.now c i) n 0 sum }
-{
-    let mut s = sum;
-    for j in 0..n {
-        s = s + num(positions, c, i, j);
-    }
-    s
-}
-
-// What frame j weighs in the gradient of frame i.
-fn push(p: f64, exaggeration: f64, num: f64, total: f64) -> f64
-    ensures { result ≡ push_of p exaggeration num total }
-{
-    let q = elementary::unless_above(2.220446049250313e-16, num / total);
-    (p * exaggeration - q) * num
+// What an exact run's gradient is made of: the map, the affinities and their exaggeration, and the total of the numerators.
+#[derive(Clone, Copy)]
+pub struct Pairs<'a> {
+    pub map: Map<'a>,
+    pub affinities: &'a [f64],
+    pub exaggeration: f64,
+    pub total: f64,
 }
 
 // The sums along each component, with c values from place b on, weighed by w, more.
@@ -93,138 +67,123 @@ fn add_along(along: [f64; 8], positions: &[f64], b: usize, c: usize, w: f64) -> 
     t
 }
 
-// The sums, with frame j of weight w more.
-fn add_frame(x: Pulls, positions: &[f64], c: usize, j: usize, w: f64) -> Pulls
-    requires { (c ≤ 8) × (j * c + c ≤ length positions.now) }
-    ensures { result ≡ pull_by w positions.now c j x }
-{
-    let old = x.along;
-    let along = add_along(old, positions, j * c, c, w);
-    Pulls {
-        sum: x.sum + w,
-        along,
+impl<'a> Map<'a> {
+    // The squared distance of frames i and j on the map.
+    pub fn apart(self, i: usize, j: usize) -> f64
+        requires { (i * self.c + self.c ≤ length self.positions.now) × (j * self.c + self.c ≤ length self.positions.now) }
+        ensures { result ≡ gap_of self.entry.c (on_map self.entry.positions.now self.entry.c i) (on_map self.entry.positions.now self.entry.c j) }
+    {
+        let a = i * self.c;
+        let b = j * self.c;
+        let mut s = 0.0;
+        for d in 0..self.c {
+            let g = self.positions[a + d] - self.positions[b + d];
+            s = s + g * g;
+        }
+        s
+    }
+
+    // The Student-t numerator of frames i and j; nothing for a frame and itself.
+    pub fn num(self, i: usize, j: usize) -> f64
+        requires { (i * self.c + self.c ≤ length self.positions.now) × (j * self.c + self.c ≤ length self.positions.now) }
+        ensures { result ≡ num_of self.entry.positions.now self.entry.c i j }
+    {
+        if i == j {
+            return 0.0;
+        }
+        1.0 / (1.0 + self.apart(i, j))
+    }
+
+    // The numerators of row i, by rising frame, onto a sum.
+    pub fn add_row(self, i: usize, sum: f64) -> f64
+        requires { (i < self.n) × (self.n * self.c ≤ length self.positions.now) }
+        ensures { result ≡ loop (num_step self.entry.positions.now self.entry.c i) self.entry.n 0 sum }
+    {
+        let mut s = sum;
+        for j in 0..self.n {
+            s = s + self.num(i, j);
+        }
+        s
+    }
+
+    // The numerators of frame i and the m frames from j on.
+    fn lay_nums(self, nums: &mut [f64], i: usize, j: usize, m: usize)
+        requires { (i < self.n) × (j + m ≤ self.n) × (self.n * self.c ≤ length self.positions.now) × (m ≤ length nums.old) }
+        ensures { nums.new ≡ loop (num_laid self.entry.positions.now self.entry.c i j) m 0 nums.old }
+    {
+        for k in 0..m {
+            nums[k] = self.num(i, j + k);
+        }
+    }
+
+    // The sums, with frame j of weight w more.
+    fn add_frame(self, x: Pulls, j: usize, w: f64) -> Pulls
+        requires { (self.c ≤ 8) × (j * self.c + self.c ≤ length self.positions.now) }
+        ensures { result ≡ pull_by w self.entry.positions.now self.entry.c j x }
+    {
+        Pulls {
+            sum: x.sum + w,
+            along: add_along(x.along, self.positions, j * self.c, self.c, w),
+        }
+    }
+
+    // The sums, with m frames from j on more, of the weights given.
+    fn add_frames(self, x: Pulls, weights: &[f64], j: usize, m: usize) -> Pulls
+        requires { (self.c ≤ 8) × (j + m ≤ self.n) × (self.n * self.c ≤ length self.positions.now) × (m ≤ length weights.now) }
+        ensures { result ≡ loop (weighed_step weights.now self.entry.positions.now self.entry.c j) m 0 x }
+    {
+        let mut so_far = x;
+        for k in 0..m {
+            so_far = self.add_frame(so_far, j + k, weights[k]);
+        }
+        so_far
     }
 }
 
-// The sums, with m frames from j on more, of the weights given.
-fn add_frames(
-    x: Pulls,
-    weights: &[f64],
-    positions: &[f64],
-    n: usize,
-    c: usize,
-    j: usize,
-    m: usize,
-) -> Pulls
-    requires { (c ≤ 8) × (j + m ≤ n) × (n * c ≤ length positions.now) × (m ≤ length weights.now) }
-    ensures { result ≡ loop (weighed_step weights.now positions.now c j) m 0 x }
-{
-    let mut so_far = x;
-    for k in 0..m {
-        let y = add_frame(so_far, positions, c, j + k, weights[k]);
-        so_far = y;
+impl<'a> Pairs<'a> {
+    // What a frame of affinity p and numerator num weighs in the gradient of another.
+    fn push(self, p: f64, num: f64) -> f64
+        ensures { result ≡ push_of p self.entry.exaggeration num self.entry.total }
+    {
+        let q = elementary::unless_above(2.220446049250313e-16, num / self.total);
+        (p * self.exaggeration - q) * num
     }
-    so_far
-}
 
-// How many frames of a row are weighed together, which lets the machine divide for two at a time.
-const TOGETHER: usize = 16;
-
-// The numerators of frame i and the m frames from j on.
-fn lay_nums(nums: &mut [f64], positions: &[f64], n: usize, c: usize, i: usize, j: usize, m: usize)
-    requires { (i < n) × (j + m ≤ n) × (n * c ≤ length positions.now) × (m ≤ length nums.old) }
-    ensures { nums.new ≡ loop (num_laid positions.now c i j) m 0 nums.old }
-{
-    for k in 0..m {
-        nums[k] = num(positions, c, i, j + k);
+    // What the m frames from j on weigh in the gradient of frame i.
+    fn lay_weights(self, weights: &mut [f64], nums: &[f64], i: usize, j: usize, m: usize)
+        requires { (i < self.map.n) × (j + m ≤ self.map.n) × (self.map.n * self.map.n ≤ length self.affinities.now) × (m ≤ length nums.now) × (m ≤ length weights.old) }
+        ensures { weights.new ≡ loop (weight_laid nums.now self.entry.affinities.now self.entry.exaggeration self.entry.total self.entry.map.n i j) m 0 weights.old }
+    {
+        for k in 0..m {
+            weights[k] = self.push(self.affinities[i * self.map.n + (j + k)], nums[k]);
+        }
     }
-}
 
-// What the m frames from j on weigh in the gradient of frame i.
-fn lay_weights(
-    weights: &mut [f64],
-    nums: &[f64],
-    affinities: &[f64],
-    exaggeration: f64,
-    total: f64,
-    n: usize,
-    i: usize,
-    j: usize,
-    m: usize,
-)
-    requires { (i < n) × (j + m ≤ n) × (n * n ≤ length affinities.now) × (m ≤ length nums.now) × (m ≤ length weights.old) }
-    ensures { weights.new ≡ loop (weight_laid nums.now affinities.now exaggeration total n i j) m 0 weights.old }
-{
-    for k in 0..m {
-        weights[k] = push(affinities[i * n + (j + k)], exaggeration, nums[k], total);
+    // The sums of gradient row i so far, with the m frames from j on more.
+    fn gather_some(self, x: Pulls, i: usize, j: usize, m: usize) -> Pulls
+        requires { (self.map.c ≤ 8) × (i < self.map.n) × (j + m ≤ self.map.n) × (m ≤ 16) × (self.map.n * self.map.c ≤ length self.map.positions.now) × (self.map.n * self.map.n ≤ length self.affinities.now) }
+        ensures { result ≡ loop (pull_step self.entry.map.positions.now self.entry.affinities.now self.entry.exaggeration self.entry.total self.entry.map.n self.entry.map.c i) m j x }
+    {
+        let mut nums = [0.0; TOGETHER];
+        self.map.lay_nums(&mut nums, i, j, m);
+        let mut weights = [0.0; TOGETHER];
+        self.lay_weights(&mut weights, &nums, i, j, m);
+        self.map.add_frames(x, &weights, j, m)
     }
-}
 
-// The sums of gradient row i so far, with the m frames from j on more.
-fn gather_some(
-    x: Pulls,
-    positions: &[f64],
-    affinities: &[f64],
-    exaggeration: f64,
-    total: f64,
-    n: usize,
-    c: usize,
-    i: usize,
-    j: usize,
-    m: usize,
-) -> Pulls
-    requires { (c ≤ 8) × (i < n) × (j + m ≤ n) × (m ≤ 16) × (n * c ≤ length positions.now) × (n * n ≤ length affinities.now) }
-    ensures { result ≡ loop (pull_step positions.now affinities.now exaggeration total n c i) m j x }
-{
-    let mut nums = [0.0; TOGETHER];
-    lay_nums(&mut nums, positions, n, c, i, j, m);
-    let mut weights = [0.0; TOGETHER];
-    lay_weights(
-        &mut weights,
-        &nums,
-        affinities,
-        exaggeration,
-        total,
-        n,
-        i,
-        j,
-        m,
-    );
-    add_frames(x, &weights, positions, n, c, j, m)
-}
-
-// How many of n frames are weighed together from frame j on.
-fn together(n: usize, j: usize) -> usize
-    requires { j < n }
-    ensures { (0 < result) × (result ≤ 16) × (j + result ≤ n) }
-{
-    if n - j < TOGETHER {
-        return n - j;
+    // The sums of gradient row i over all frames.
+    pub fn gather(self, i: usize) -> Pulls
+        requires { (self.map.c ≤ 8) × (i < self.map.n) × (self.map.n * self.map.c ≤ length self.map.positions.now) × (self.map.n * self.map.n ≤ length self.affinities.now) }
+        ensures { result ≡ pulls_of self.entry.map.positions.now self.entry.affinities.now self.entry.exaggeration self.entry.total self.entry.map.n self.entry.map.c i }
+    {
+        let mut x = Pulls {
+            sum: 0.0,
+            along: [0.0; 8],
+        };
+        for j in (0..self.map.n).step_by(TOGETHER) {
+            let m = (self.map.n - j).min(TOGETHER);
+            x = self.gather_some(x, i, j, m);
+        }
+        x
     }
-    TOGETHER
-}
-
-// The sums of gradient row i over all frames.
-pub fn gather(
-    positions: &[f64],
-    affinities: &[f64],
-    exaggeration: f64,
-    total: f64,
-    n: usize,
-    c: usize,
-    i: usize,
-) -> Pulls
-    requires { (c ≤ 8) × (i < n) × (n * c ≤ length positions.now) × (n * n ≤ length affinities.now) }
-    ensures { result ≡ pulls_of positions.now affinities.now exaggeration total n c i }
-{
-    let along = [0.0; 8];
-    let mut x = Pulls { sum: 0.0, along };
-    let mut j = 0;
-    while j < n {
-        let m = together(n, j);
-        let y = gather_some(x, positions, affinities, exaggeration, total, n, c, i, j, m);
-        x = y;
-        j += m;
-    }
-    x
 }

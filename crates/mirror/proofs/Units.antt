@@ -16,8 +16,7 @@ use Rattle.run_record.specs.Record.{is_tree, is_ended, advanced_of, closed_of}
 use Rattle.run_plan.specs.Plan.{exaggeration_of, group_of}
 use Rattle.gradient.specs.Exact.{total_row, gradient_row}
 use Rattle.gradient.specs.Element.{gradient_of, gradients_of, norm_of}
-use Rattle.step.specs.declared.Stepped.{Stepped}
-use Rattle.step.specs.declared.Stepped.TheVariants.{Moved, Refused}
+use Rattle.std.specs.Prelude.{Result, Ok, Err}
 use Rattle.step.specs.Step.{StepOutcome, finish_of}
 use Rattle.tree_node.specs.declared.Node.{Node}
 use Rattle.run_entry.specs.State.{Memory, State, state}
@@ -84,13 +83,13 @@ module _ (turns : ℕ → Bool) (r : Run) (x : is_tree r.settings.method ≡ fal
     increments : ShowsAll turns c (n * c) a.increments b.increments
     gains : a.gains ≡ b.gains
 
-  finish-as : (m m' : Float) (o o' : StepOutcome) (a : Stepped) → m ≡ m' → ShowsOutcome turns n c o o' → ShowsTurn (finish_as r m o a) (finish_as r m' o' a)
+  finish-as : (m m' : Float) (o o' : StepOutcome) (a : Result (Unit {0}) ℕ) → m ≡ m' → ShowsOutcome turns n c o o' → ShowsTurn (finish_as r m o a) (finish_as r m' o' a)
   unfolding closed_of
-  finish-as m m' o o' Moved e q = record { run = ap (closed_of r) e; settings = refl; why = refl; positions = q.positions; increments = q.increments; gains = q.gains }
-  finish-as m m' o o' (Refused k) e q = record { run = refl; settings = refl; why = refl; positions = q.positions; increments = q.increments; gains = q.gains }
+  finish-as m m' o o' (Ok tt) e q = record { run = ap (closed_of r) e; settings = refl; why = refl; positions = q.positions; increments = q.increments; gains = q.gains }
+  finish-as m m' o o' (Err k) e q = record { run = refl; settings = refl; why = refl; positions = q.positions; increments = q.increments; gains = q.gains }
 
   finish-told : (m m' : Float) (o o' : StepOutcome) → m ≡ m' → ShowsOutcome turns n c o o' → ShowsTurn (finish_as r m o o.answer) (finish_as r m' o' o'.answer)
-  finish-told m m' o o' e q = subst (λ (a : Stepped). ShowsTurn (finish_as r m o o.answer) (finish_as r m' o' a)) q.answer (finish-as m m' o o' o.answer e q)
+  finish-told m m' o o' e q = subst (λ (a : Result (Unit {0}) ℕ). ShowsTurn (finish_as r m o o.answer) (finish_as r m' o' a)) q.answer (finish-as m m' o o' o.answer e q)
 
   finish-shape : (y v g F : List Float) → finish_unit r y v g F ≡ finish_as r (norm_of (gradients_of (is_exact r) F n c) (n * c)) (finish_of (before_of r y v g F) n c)
       (finish_of (before_of r y v g F) n c).answer

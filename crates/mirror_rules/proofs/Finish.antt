@@ -18,7 +18,7 @@ use Rattle.elementary.specs.Limits.{unless_above, huge, calm}
 use Rattle.gradient.specs.Element.{norm_step, norm_of}
 use Rattle.step_gains.specs.Gains.{gain_of, increment_of, new_of}
 use Rattle.step_passes.specs.Passes.{Before, element_at, sum_step, sums_of, mean_step, means_of, centred_by, calm_at, calm_moves, calm_centred, position_step, increment_step, gain_step}
-use Rattle.step.specs.declared.Stepped.TheVariants.{Moved, Refused}
+use Rattle.std.specs.Prelude.{Ok, Err}
 use Rattle.step.specs.Step.{StepOutcome, step_outcome, finish_of}
 use Rattle.mirror_values.specs.Values.{Shows}
 use Rattle.mirror_values.specs.Shown.{ShowsAll}
@@ -38,10 +38,10 @@ increment-shown m r g p q = shows-sub (shows-scaled m q) (shows-scaled (mul bina
 
 -- what it leaves, done and refused
 abbrev went : ℕ → ℕ → Before → StepOutcome
-went n c b = step_outcome Moved (loop (position_step (means_of b n c) b c) (n * c) 0 b.positions) (loop (increment_step b) (n * c) 0 b.increments) (loop (gain_step b) (n * c) 0 b.gains)
+went n c b = step_outcome (Ok tt) (loop (position_step (means_of b n c) b c) (n * c) 0 b.positions) (loop (increment_step b) (n * c) 0 b.increments) (loop (gain_step b) (n * c) 0 b.gains)
 
 abbrev unmoved : Before → StepOutcome
-unmoved b = step_outcome (Refused 15) b.positions b.increments b.gains
+unmoved b = step_outcome (Err 15) b.positions b.increments b.gains
 
 module _ (turns : ℕ → Bool) (n c : ℕ) (b b' : Before) (r : ShowsBefore turns n c b b') where
   gain-is : (b : Before) (e : ℕ) → (element_at b e).gain ≡ gain_of (at b.gains e) (b.gradients e) (at b.increments e)

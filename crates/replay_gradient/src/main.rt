@@ -9,7 +9,7 @@ use replay::areas::{copy_words, mark, plus, same_area, same_value, value_at};
 use replay::word_at;
 use std::io;
 use std::rt::Files;
-use step::{Pace, Stepped};
+use step::Pace;
 
 fn times(a: usize, b: usize) -> usize
     requires { (a ≤ 4096) × (b ≤ 4096) }
@@ -114,13 +114,6 @@ fn exact_cases(list: &[u8]) -> replay::Tally {
     t
 }
 
-fn number(r: Stepped) -> u64 {
-    match r {
-        Stepped::Moved => 0,
-        Stepped::Refused(r) => r as u64,
-    }
-}
-
 // Positions, increments and gains hold m words each, from a on.
 fn same_step(
     list: &[u8],
@@ -173,7 +166,7 @@ fn step_case(list: &[u8], a: usize, n: usize, c: usize) -> bool
         &mut gains,
     );
     both(
-        number(answer) == word_at(list, e),
+        refusal::number(answer) as u64 == word_at(list, e),
         same_step(list, plus(e, 1), m, &positions, &increments, &gains),
     )
 }

@@ -1,11 +1,9 @@
 -- The finish of an iteration: Z, gradient, step and stop test. Definitions only.
-use Rattle.std.specs.Prelude.{List, Bool, not, ◌*◌, Float}
+use Rattle.std.specs.Prelude.{List, Bool, not, ℕ, ◌*◌, Float, Result, Ok, Err}
 use Rattle.run_record.specs.declared.Run.{Run}
 use Rattle.run_record.specs.Record.{is_tree, closed_of}
 use Rattle.run_plan.specs.Plan.{momentum_of}
 use Rattle.gradient.specs.Element.{normaliser_for, gradients_of, norm_of}
-use Rattle.step.specs.declared.Stepped.{Stepped}
-use Rattle.step.specs.declared.Stepped.TheVariants.{Moved, Refused}
 use Rattle.step_passes.specs.declared.Pace.{Pace}
 use Rattle.step_passes.specs.Passes.{Before, before}
 use Rattle.step.specs.Step.{StepOutcome, finish_of}
@@ -35,9 +33,9 @@ abbrev pub finish_turn : Run → List Float → List Float → List Float → Wh
 finish_turn r y v g w = record { run = r; positions = y; increments = v; gains = g; why = w }
 
 -- the step, then the stop test by the largest gradient; refused, nothing changes
-abbrev pub finish_as : Run → Float → StepOutcome → Stepped → FinishTurn
-finish_as r norm o Moved = finish_turn (closed_of r norm) o.positions o.increments o.gains Done
-finish_as r norm o (Refused k) = finish_turn r o.positions o.increments o.gains Wild
+abbrev pub finish_as : Run → Float → StepOutcome → Result (Unit {0}) ℕ → FinishTurn
+finish_as r norm o (Ok tt) = finish_turn (closed_of r norm) o.positions o.increments o.gains Done
+finish_as r norm o (Err k) = finish_turn r o.positions o.increments o.gains Wild
 
 unfoldable pub finish_unit : Run → List Float → List Float → List Float → List Float → FinishTurn
 finish_unit r y v g F =

@@ -10,7 +10,7 @@ use run_plan::momentum;
 use run_record::Run;
 use run_record::faults::is_tree;
 use run_record::progress::closed;
-use step::{Pace, Stepped};
+use step::Pace;
 
 // Whether a unit was done, and if not, why.
 #[derive(Clone, Copy)]
@@ -70,7 +70,7 @@ pub fn finish_unit(
     let s = r.settings;
     let p = pace(r, forces);
     let a = step::finish(p, s.n, s.c, forces, positions, increments, gains);
-    let Stepped::Moved = a else {
+    let Ok(()) = a else {
         return Turn {
             run: r,
             why: Why::Wild,

@@ -4,22 +4,16 @@
 
 ghost use Rattle.std.specs.Prelude.{◌≡◌, ◌+◌, ◌*◌, ◌<◌, ◌≤◌, length};
 ghost use Rattle.laws.specs.Domain.{most_frames};
+ghost use Rattle.refusal.specs.Refusal.{refusal_number, numbered};
 ghost use Rattle.step_passes.specs.Passes.{paced};
 ghost use Rattle.step.specs.Step.{step_outcome, finish_of};
 
+use refusal::Refusal;
 pub use step_gains::Element;
 pub use step_passes::{Pace, element_at};
 use step_passes::{calm_centred, sum_moves, take_means, write_moves};
 
-// What the finish answers.
-#[derive(Clone, Copy)]
-pub enum Stepped {
-    Moved,
-    // 15: a new value would be NaN or too large, and nothing has changed
-    Refused(u8),
-}
-
-// The step, centring included, or refusal 15 with nothing changed.
+// The step, centring included; 15 where a new value would be NaN or too large, and then nothing has changed.
 pub fn finish(
     pace: Pace,
     n: usize,
@@ -28,7 +22,7 @@ pub fn finish(
     positions: &mut [f64],
     increments: &mut [f64],
     gains: &mut [f64],
-) -> Stepped
+) -> Result<(), Refusal>
     requires { (0 < c)
         × (c ≤ 8)
         × (n ≤ most_frames)
@@ -36,7 +30,7 @@ pub fn finish(
         × (n * c ≤ length positions.old)
         × (n * c ≤ length increments.old)
         × (n * c ≤ length gains.old) }
-    ensures { step_outcome result positions.new increments.new gains.new
+    ensures { step_outcome (numbered refusal_number result) positions.new increments.new gains.new
         ≡ finish_of
         (paced pace c
         forces.now
@@ -50,12 +44,12 @@ pub fn finish(
     if !sum_moves(
         pace, n, c, forces, positions, increments, gains, m, &mut sums,
     ) {
-        return Stepped::Refused(15);
+        return Err(Refusal::Wild);
     }
     take_means(&mut sums, c, n as f64);
     if !calm_centred(pace, n, c, forces, positions, increments, gains, m, &sums) {
-        return Stepped::Refused(15);
+        return Err(Refusal::Wild);
     }
     write_moves(pace, n, c, forces, positions, increments, gains, m, &sums);
-    Stepped::Moved
+    Ok(())
 }

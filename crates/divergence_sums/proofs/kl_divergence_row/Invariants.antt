@@ -5,7 +5,7 @@ use Prim.Native.Nat.{◌-◌}
 use Rattle.divergence_sums.proofs.kl_divergence_row.Given as goal
 
 abbrev pub invariant-loop-j : goal.invariant-loop-j
-invariant-loop-j l = Loops (kl_step l.positions l.affinities l.exaggeration l.total l.n l.c l.i) l.n l.initial.s l.j l.s
+invariant-loop-j l = Loops (kl_step l.pairs.map.positions.now l.pairs.affinities.now l.pairs.exaggeration l.pairs.total l.pairs.map.n l.pairs.map.c l.i) l.pairs.map.n l.initial.s l.j l.s
 
 abbrev pub decreases-loop-j : goal.decreases-loop-j
-decreases-loop-j l = l.n - l.j
+decreases-loop-j l = l.pairs.map.n - l.j

@@ -5,7 +5,7 @@ use Rattle.divergence_sums.proofs.kl_list.Goals as goal
 
 pub kl_links-requires : goal.kl_links-requires
 kl_links-requires c =
-    rw (c.wide-e.ensures, c.wide-a.ensures) record {
+    record {
       i_lt_n = (
         c.requires.i_lt_n.0,
         c.requires.i_lt_n.1,
@@ -19,4 +19,4 @@ kl_links-requires c =
 pub returns : goal.returns
 unfolding kl_list
 returns c =
-    rw (c.kl_links.ensures, c.wide-e.ensures, c.wide-a.ensures)
+    rw c.kl_links.ensures

@@ -15,7 +15,7 @@ pub overflow_mul-p : goal.overflow_mul-p
 overflow_mul-p c =
     omega (
       arith,
-      row_in c.args.i c.args.n c.args.n (length c.args.affinities.now) c.requires.0
+      row_in c.args.i c.args.pairs.map.n c.args.pairs.map.n (length c.args.pairs.affinities.now) c.requires.0
           c.requires.2,
     )
 
@@ -23,25 +23,25 @@ pub overflow_add-p : goal.overflow_add-p
 overflow_add-p c =
     omega (
       arith,
-      row_in c.args.i c.args.n c.args.n (length c.args.affinities.now) c.requires.0
+      row_in c.args.i c.args.pairs.map.n c.args.pairs.map.n (length c.args.pairs.affinities.now) c.requires.0
           c.requires.2,
       c.requires.1,
     )
 
-pub offset_bounds-affinities-i : goal.offset_bounds-affinities-i
-offset_bounds-affinities-i c =
+pub offset_bounds-pairs-i : goal.offset_bounds-pairs-i
+offset_bounds-pairs-i c =
     omega (
       arith,
-      row_in c.args.i c.args.n c.args.n (length c.args.affinities.now) c.requires.0
+      row_in c.args.i c.args.pairs.map.n c.args.pairs.map.n (length c.args.pairs.affinities.now) c.requires.0
           c.requires.2,
       c.requires.1,
     )
 
-pub bounds-affinities-i : goal.bounds-affinities-i
-bounds-affinities-i c =
+pub bounds-pairs-i : goal.bounds-pairs-i
+bounds-pairs-i c =
     omega (
       arith,
-      row_in c.args.i c.args.n c.args.n (length c.args.affinities.now) c.requires.0
+      row_in c.args.i c.args.pairs.map.n c.args.pairs.map.n (length c.args.pairs.affinities.now) c.requires.0
           c.requires.2,
       c.requires.1,
     )

@@ -12,12 +12,12 @@ kl_pairs-requires c = (
   c.requires.1,
   c.requires.4,
   rw
-      (c.lay_shares.ensures, written-size (λ k. kl_share c.args.positions.now c.args.total c.args.c c.args.i (c.args.j + k)) c.args.m)
+      (c.lay_shares.ensures, written-size (λ k. kl_share c.args.pairs.map.positions.now c.args.pairs.total c.args.pairs.map.c c.args.i (c.args.j + k)) c.args.m)
       c.requires.2,
 )
 
 pub returns : goal.returns
 returns c =
     c.kl_pairs.ensures ∙ rw c.lay_shares.ensures
-    (in_parts c.args.positions.now c.args.affinities.now c.args.exaggeration c.args.total c.args.n c.args.c c.args.i c.args.j
+    (in_parts c.args.pairs.map.positions.now c.args.pairs.affinities.now c.args.pairs.exaggeration c.args.pairs.total c.args.pairs.map.n c.args.pairs.map.c c.args.i c.args.j
     c.args.m _ c.args.sum c.requires.2)

@@ -12,8 +12,8 @@ loop-k-init c =
 
 pub num-requires : goal.num-requires
 num-requires c = (
-  row_in _ c.args.n _ _ c.requires.0 c.requires.2,
-  row_in _ c.args.n _ _
+  row_in _ c.args.map.n _ _ c.requires.0 c.requires.2,
+  row_in _ c.args.map.n _ _
       (omega (arith, c.requires.1, c.loop-k-test.true)) c.requires.2,
 )
 

@@ -3,8 +3,7 @@ use mathlib.Core.Path.{◌≡◌}
 use lib.ListN.{length}
 use Rattle.laws.proofs.Loops.{Loops}
 use Rattle.divergence_sums.specs.Sums.{kl_share_step}
-use Prim.Native.Nat.{◌-◌}
 use Rattle.divergence_sums.proofs.lay_shares.Given as goal
 
 abbrev pub invariant-loop-k : goal.invariant-loop-k
-invariant-loop-k l = (length l.shares ≡ length l.initial.shares) × Loops (kl_share_step l.positions l.total l.c l.i l.j) l.m l.initial.shares l.k l.shares
+invariant-loop-k l = (length l.shares ≡ length l.initial.shares) × Loops (kl_share_step l.map.positions.now l.total l.map.c l.i l.j) l.m l.initial.shares l.k l.shares

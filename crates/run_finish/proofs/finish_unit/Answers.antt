@@ -40,5 +40,5 @@ closed-next-requires c =
 pub returns : goal.returns
 unfolding finish_unit pace_of
 returns c =
-    finish-moved _ _ _ _ _ _ _ _ (rw c.pace-p.ensures at c.finish-a.ensures) c.in-Moved.is
+    finish-moved _ _ _ _ _ _ _ _ (rw c.pace-p.ensures at c.finish-a.ensures) c.in-Ok.is
     (rw c.pace-p.ensures at c.norm-norm.ensures) c.closed-next.ensures

@@ -1,7 +1,6 @@
 -- `gradient::element::norm` meets its contract: the loop keeps `Loops`; by `loop-start`, `loop-next`, `loop-done`.
 use Rattle.gradient.specs.Element.{norm_step, gradient_of}
 use Rattle.laws.proofs.Loops.{Loops}
-use Prim.Native.Nat.{◌-◌}
 use Rattle.gradient.proofs.element.norm.Given as goal
 
 abbrev pub invariant-loop-e : goal.invariant-loop-e

@@ -1,7 +1,6 @@
 -- `gradient::element::share_sum` meets its contract: the loop keeps `Loops`; by `row_in`, `loop-start`, `loop-next`, `loop-done`.
 use Rattle.gradient.specs.Element.{share_step}
 use Rattle.laws.proofs.Loops.{Loops}
-use Prim.Native.Nat.{◌-◌}
 use Rattle.gradient.proofs.element.share_sum.Given as goal
 
 abbrev pub invariant-loop-i : goal.invariant-loop-i

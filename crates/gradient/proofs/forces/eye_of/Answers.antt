@@ -3,9 +3,9 @@ use Rattle.laws.proofs.Numbers.{row_in}
 use native.Mathlib.Omega.{arith}
 use Rattle.gradient.proofs.forces.eye_of.Goals as goal
 
-pub point-p-requires : goal.point-p-requires
-point-p-requires c =
-    (c.requires.0, row_in _ c.args.n c.args.c _ c.requires.1 c.requires.3)
+pub point-requires : goal.point-requires
+point-requires c =
+    (c.requires.0, row_in _ c.args.map.n c.args.map.c _ c.requires.1 c.requires.3)
 
 pub overflow_cast-result : goal.overflow_cast-result
 overflow_cast-result c =
@@ -13,4 +13,4 @@ overflow_cast-result c =
 
 pub returns : goal.returns
 returns c =
-    rw c.point-p.ensures
+    rw c.point.ensures

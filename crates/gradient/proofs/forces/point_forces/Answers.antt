@@ -4,11 +4,11 @@ use Rattle.gradient.proofs.forces.point_forces.Goals as goal
 
 pub repulsive_force-acc-requires : goal.repulsive_force-acc-requires
 repulsive_force-acc-requires c =
-    walk-asks c.args.cells.now c.args.used c.args.positions.now c.args.weights.now c.args.indices.now c.args.offsets.now c.args.n c.args.c c.args.i
+    walk-asks c.args.cells.now c.args.used c.args.map.positions.now c.args.lists.weights.now c.args.lists.indices.now c.args.lists.offsets.now c.args.map.n c.args.map.c c.args.i
     c.args.exaggeration c.args.angle c.args.forces.now c.requires c.eye_of-eye.result c.eye_of-eye.ensures
 
 pub returns : goal.returns
 returns c =
-    forces-told c.args.cells.now c.args.used c.args.positions.now c.args.weights.now c.args.indices.now c.args.offsets.now c.args.n c.args.c c.args.i
+    forces-told c.args.cells.now c.args.used c.args.map.positions.now c.args.lists.weights.now c.args.lists.indices.now c.args.lists.offsets.now c.args.map.n c.args.map.c c.args.i
     c.args.exaggeration c.args.angle c.args.forces.now c.requires c.eye_of-eye.result c.eye_of-eye.ensures
     c.repulsive_force-acc.result c.repulsive_force-acc.ensures c.place_forces.new.forces c.place_forces.ensures

@@ -6,11 +6,11 @@ use Rattle.gradient.proofs.pulls.attraction.Goals as goal
 
 pub point-p-requires : goal.point-p-requires
 point-p-requires c =
-    (c.requires.axes.0, row_in _ c.args.n c.args.c _ c.requires.axes.1 c.requires.axes.2)
+    (c.requires.axes.0, row_in _ c.args.map.n c.args.map.c _ c.requires.axes.1 c.requires.axes.2)
 
 pub follow_all-requires : goal.follow_all-requires
 follow_all-requires c =
-    rw (c.wide-e.ensures, c.wide-a.ensures) record {
+    record {
       axes = (
         c.requires.axes.0,
         c.requires.axes.2,
@@ -24,4 +24,4 @@ follow_all-requires c =
 pub returns : goal.returns
 unfolding attraction_of
 returns c =
-    rw (c.follow_all.ensures, c.wide-e.ensures, c.wide-a.ensures, c.point-p.ensures)
+    rw (c.follow_all.ensures, c.point-p.ensures)

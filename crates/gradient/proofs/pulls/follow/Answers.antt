@@ -4,8 +4,8 @@ use Rattle.gradient.proofs.pulls.follow.Goals as goal
 
 pub point-q-requires : goal.point-q-requires
 point-q-requires c =
-    (c.requires.0, rw c.wide.ensures (row_in _ c.args.n c.args.c _ c.requires.4 c.requires.1))
+    (c.requires.0, row_in _ c.args.map.n c.args.map.c _ c.requires.4 c.requires.1)
 
 pub returns : goal.returns
 returns c =
-    rw (c.attract.ensures, c.point-q.ensures, c.wide.ensures)
+    rw (c.attract.ensures, c.point-q.ensures)

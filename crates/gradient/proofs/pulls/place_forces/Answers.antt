@@ -9,7 +9,7 @@ attraction-t-requires c =
 
 pub store-requires : goal.store-requires
 store-requires c =
-    (c.requires.0, row_in _ c.args.n (2 * c.args.c + 1) _ c.requires.1 c.requires.3)
+    (c.requires.0, row_in _ c.args.map.n (2 * c.args.map.c + 1) _ c.requires.1 c.requires.3)
 
 pub returns : goal.returns
 returns c =

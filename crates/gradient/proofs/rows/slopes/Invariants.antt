@@ -3,7 +3,6 @@ use Rattle.gradient.specs.Exact.{slope_step}
 use Rattle.laws.proofs.Loops.{Loops}
 use mathlib.Core.Path.{◌≡◌}
 use lib.ListN.{length}
-use Prim.Native.Nat.{◌-◌}
 use Rattle.gradient.proofs.rows.slopes.Given as goal
 
 abbrev pub invariant-loop-d : goal.invariant-loop-d

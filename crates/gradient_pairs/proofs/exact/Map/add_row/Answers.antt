@@ -1,7 +1,7 @@
 use Rattle.laws.proofs.Numbers.{row_in}
 use Rattle.laws.proofs.Loops.{loop-start, loop-next, loop-done}
 use native.Mathlib.Omega.{arith}
-use Rattle.gradient_pairs.proofs.exact.add_row.Goals as goal
+use Rattle.gradient_pairs.proofs.exact.Map.add_row.Goals as goal
 
 pub loop-j-init : goal.loop-j-init
 loop-j-init c =
@@ -9,8 +9,8 @@ loop-j-init c =
 
 pub num-s-requires : goal.num-s-requires
 num-s-requires c = (
-  row_in _ c.args.n c.args.c _ c.requires.0 c.requires.1,
-  row_in _ c.args.n c.args.c _
+  row_in _ c.args.self.n c.args.self.c _ c.requires.0 c.requires.1,
+  row_in _ c.args.self.n c.args.self.c _
       c.loop-j-test.true c.requires.1,
 )
 

@@ -1,7 +1,7 @@
 use Rattle.tree_bodies.specs.Bodies.{gap_of}
 use Rattle.laws.proofs.Loops.{loop-start, loop-next, loop-done}
 use native.Mathlib.Omega.{arith}
-use Rattle.gradient_pairs.proofs.exact.apart.Goals as goal
+use Rattle.gradient_pairs.proofs.exact.Map.apart.Goals as goal
 
 pub loop-d-init : goal.loop-d-init
 loop-d-init c =

@@ -1,7 +1,7 @@
--- `gradient_pairs::exact::num` meets its contract: from what its calls promise.
+-- `gradient_pairs::exact::Map::num` meets its contract: from what its calls promise.
 use borrow.Author.Tests.{eq-eqb, ne_eqb}
 use Rattle.gradient_pairs.specs.Exact.{num_of}
-use Rattle.gradient_pairs.proofs.exact.num.Goals as goal
+use Rattle.gradient_pairs.proofs.exact.Map.num.Goals as goal
 
 pub returns-then-i-j : goal.returns-then-i-j
 unfolding num_of

@@ -3,7 +3,7 @@ use Rattle.laws.proofs.Loops.{loop-start, loop-next, loop-done}
 use Rattle.laws.proofs.Numbers.{row_in}
 use borrow.Author.Rules.{rules}
 use native.Mathlib.Omega.{arith}
-use Rattle.gradient_pairs.proofs.exact.lay_nums.Goals as goal
+use Rattle.gradient_pairs.proofs.exact.Map.lay_nums.Goals as goal
 
 pub loop-k-init : goal.loop-k-init
 loop-k-init c =
@@ -11,7 +11,7 @@ loop-k-init c =
 
 pub num-requires : goal.num-requires
 num-requires c =
-    (row_in _ c.args.n _ _ c.requires.0 c.requires.2, row_in _ c.args.n _ _ (omega (arith, c.requires.1, c.loop-k-test.true)) c.requires.2)
+    (row_in _ c.args.self.n _ _ c.requires.0 c.requires.2, row_in _ c.args.self.n _ _ (omega (arith, c.requires.1, c.loop-k-test.true)) c.requires.2)
 
 pub loop-k-preserved : goal.loop-k-preserved
 loop-k-preserved c =

@@ -1,8 +1,0 @@
--- `gradient_pairs::exact::add_frame` meets its contract: from what its calls promise.
-use Rattle.gradient_pairs.specs.Exact.{pull_by}
-use Rattle.gradient_pairs.proofs.exact.add_frame.Goals as goal
-
-pub returns : goal.returns
-unfolding pull_by
-returns c =
-    rw c.add_along-along.ensures
