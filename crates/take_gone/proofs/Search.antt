@@ -1,25 +1,16 @@
 -- Where a number stands in a list that rises: the search that halves, and what it says of those that are left. Assumes nothing.
-use mathlib.Core.Path.{◌≡◌, refl, sym, ap, subst, ◌∙◌}
-use mathlib.Core.Logic.{⊎_elim}
+use mathlib.Core.Path.{◌≡◌, sym, ap, subst, ◌∙◌}
 use mathlib.Core.List.{List}
-use mathlib.Core.Bool.{Bool, true, false, cond, not, ◌&&◌, true≢false}
-use Prim.Native.Nat.{ℕ, zero, suc, ◌+◌, ◌-◌, ◌/◌, ◌<◌, ◌≤◌}
+use mathlib.Core.Bool.{cond}
+use Prim.Native.Nat.{ℕ, ◌+◌, ◌-◌, ◌/◌, ◌<◌, ◌≤◌}
 use native.Mathlib.Omega.{arith}
-use native.Mathlib.Decide.{dec_lt, dec_le}
-use lib.Dec.{eqb, ltb, leb}
+use lib.Dec.{eqb, leb}
 use lib.ListN.{length}
-use borrow.Author.Tests.{eq-eqb, ne_eqb, eqb-true, lt-ltb, le-ltb, le-leb, lt-leb, ltb-true}
-use Rattle.laws.specs.Loops.{first, every}
+use borrow.Author.Tests.{eq-eqb, ne_eqb}
 use Rattle.laws.specs.Area.{num}
-use Rattle.laws.specs.Sums.{sum, bit}
-use Rattle.laws.specs.Joined.{those}
 use Rattle.laws.proofs.Bisects.{Bisects, bisects-start, bisects-within, bisects-next, bisects-done}
-use Rattle.laws.proofs.First.{first-at, first-none, first_holds, first-le}
-use Rattle.laws.proofs.Every.{every-at}
-use Rattle.laws.proofs.Bools.{two, and_left, and_right, not-true-is}
-use Rattle.laws.proofs.Joined.{length-those, those-below, those-rise, those-holds, spot_yes, spot_no}
-use Rattle.laws.proofs.Sums.{row-sum, sum_same, sum-add, sum-const, bit-and-true}
-use Rattle.take_gone.specs.Gone.{stands_at, is_among, gone_fine_at, gone_fine, survivors, Climbs}
+use Rattle.laws.proofs.First.{first-at, first-none}
+use Rattle.take_gone.specs.Gone.{stands_at, Climbs}
 
 -- ---- the loop: a search by halving over the whole list
 
