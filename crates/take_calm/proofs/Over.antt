@@ -1,14 +1,13 @@
 -- A sum and a test over the numbers of a list, and over those that are left: the loops that pass the others over. Assumes nothing.
-use mathlib.Core.Path.{◌≡◌, refl, sym, ap, ◌∙◌}
+use mathlib.Core.Path.{◌≡◌, sym, ap, ◌∙◌}
 use mathlib.Core.List.{List, [], ◌∷◌, ◌++◌}
 use mathlib.Core.Bool.{Bool, true, false, not, ◌&&◌}
-use Prim.Native.Nat.{ℕ, suc, ◌+◌, ◌*◌, ◌<◌, ◌≤◌}
+use Prim.Native.Nat.{ℕ, ◌+◌, ◌*◌, ◌<◌, ◌≤◌}
 use native.Mathlib.Omega.{arith}
 use native.Mathlib.Numerals.{add-one}
-use lib.IntN.{pos}
 use lib.ListN.{length, length-append, get_or-append}
 use lib.Seq.{get_or-append_seam}
-use lib.Ieee.{Float, nan, binary64, of_int, add, sub, div}
+use lib.Ieee.{Float, nan, binary64, add, sub}
 use Rattle.laws.specs.Area.{at, num, zero64}
 use Rattle.laws.specs.Loops.{loop, every}
 use Rattle.laws.proofs.Loops.{loop-last, loop-same}
@@ -16,10 +15,10 @@ use Rattle.laws.proofs.Every.{every-none, every-step, every-same, every-no}
 use Rattle.laws.proofs.Joined.{those-none, those-yes, those-no, those-at}
 use Rattle.laws.proofs.Written.{written_at}
 use Rattle.elementary.specs.Limits.{calm}
-use Rattle.centring.specs.Centring.{plus_next, sum_of, average_of}
+use Rattle.centring.specs.Centring.{plus_next, sum_of}
 use Rattle.take_gone.specs.Gone.{is_among, survivors}
 use Rattle.take_rows.specs.Rows.{average_left, centred_left, Means}
-use Rattle.take_calm.specs.CalmLeft.{calm_left, mean_at}
+use Rattle.take_calm.specs.CalmLeft.{mean_at}
 
 -- ---- over a list, and one number more
 

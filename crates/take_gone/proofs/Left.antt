@@ -1,22 +1,19 @@
 -- Those that are taken out and those that are left: how many there are, and that both lists rise. Assumes nothing.
 use mathlib.Core.Path.{◌≡◌, refl, sym, ap, subst, ◌∙◌}
-use mathlib.Core.Logic.{⊎_elim}
-use mathlib.Core.List.{List, [], ◌∷◌, ◌++◌, append-nil}
-use mathlib.Core.Bool.{Bool, true, false, cond, not, ◌&&◌, ◌||◌, true≢false}
-use Prim.Native.Nat.{ℕ, zero, suc, ◌+◌, ◌-◌, ◌*◌, ◌<◌, ◌≤◌}
+use mathlib.Core.List.{List, ◌++◌}
+use mathlib.Core.Bool.{Bool, true, false, not, ◌&&◌, ◌||◌}
+use Prim.Native.Nat.{ℕ, zero, suc, ◌+◌, ◌-◌, ◌<◌, ◌≤◌}
 use native.Mathlib.Omega.{arith}
-use native.Mathlib.Decide.{dec_lt, ℕ_discrete}
+use native.Mathlib.Decide.{dec_lt}
 use native.Mathlib.Nat.{mul-one, not-suc-le-zero}
 use lib.Dec.{eqb, ltb}
 use lib.ListN.{length, drop, set}
 use borrow.Author.Tests.{ne_eqb, ltb-true, lt-ltb, le-ltb}
-use Rattle.laws.specs.Loops.{first, every}
 use Rattle.laws.specs.Area.{num}
 use Rattle.laws.specs.Sums.{sum, bit}
-use Rattle.laws.specs.Joined.{those}
 use Rattle.laws.proofs.Every.{every-at}
-use Rattle.laws.proofs.Bools.{two, and_left, and_right}
-use Rattle.laws.proofs.Joined.{length-those, those-below, those-rise, those-yes, those-no, those-none, spot_yes, spot_no}
+use Rattle.laws.proofs.Bools.{and_left, and_right}
+use Rattle.laws.proofs.Joined.{length-those, those-rise, those-yes, those-no, those-none, spot_yes, spot_no}
 use Rattle.laws.proofs.Sums.{row-sum, sum_same, sum-add, sum-const, sum-le, bit_le, bit-and-true}
 use Rattle.take_gone.specs.Gone.{stands_at, is_among, gone_fine_at, gone_fine, survivors, Climbs}
 use Rattle.take_gone.proofs.Fronts.{Fronts, fronts-start, fronts-next, fronts-as}

@@ -1,67 +1,39 @@
--- Where a number stands in a list that rises: the search that halves, and what it says of those that are left. Assumes nothing.
-use mathlib.Core.Path.{◌≡◌, refl, sym, ap, subst, ◌∙◌}
-use mathlib.Core.Logic.{⊎_elim}
+-- Where a number stands in a list that rises: what the library's binary search answers is the place, or tells that it stands nowhere. Assumes nothing.
+use mathlib.Core.Path.{◌≡◌, sym, ap}
 use mathlib.Core.List.{List}
-use mathlib.Core.Bool.{Bool, true, false, cond, not, ◌&&◌, true≢false}
-use Prim.Native.Nat.{ℕ, zero, suc, ◌+◌, ◌-◌, ◌/◌, ◌<◌, ◌≤◌}
+use Prim.Native.Nat.{ℕ, ◌<◌, ◌≤◌}
 use native.Mathlib.Omega.{arith}
-use native.Mathlib.Decide.{dec_lt, dec_le}
-use lib.Dec.{eqb, ltb, leb}
-use lib.ListN.{length}
-use borrow.Author.Tests.{eq-eqb, ne_eqb, eqb-true, lt-ltb, le-ltb, le-leb, lt-leb, ltb-true}
-use Rattle.laws.specs.Loops.{first, every}
+use native.Mathlib.Decide.{dec_lt}
+use lib.Dec.{eqb}
+use lib.ListN.{length, get_or}
+use borrow.Author.Tests.{eq-eqb, ne_eqb, lt-ltb, le-ltb}
+use Rattle.std.specs.Prelude.{Result, Ok, Err}
+use Rattle.std.specs.Result.{is_ok, result_unwrap_or}
+use Rattle.std.specs.Ordering.{nat_cmp}
+use Rattle.std.specs.List.Sorted.{IsBinarySearchResult}
+use Rattle.std.proofs.lemmas.List.Sorted.{searched}
 use Rattle.laws.specs.Area.{num}
-use Rattle.laws.specs.Sums.{sum, bit}
-use Rattle.laws.specs.Joined.{those}
-use Rattle.laws.proofs.Bisects.{Bisects, bisects-start, bisects-within, bisects-next, bisects-done}
-use Rattle.laws.proofs.First.{first-at, first-none, first_holds, first-le}
-use Rattle.laws.proofs.Every.{every-at}
-use Rattle.laws.proofs.Bools.{two, and_left, and_right, not-true-is}
-use Rattle.laws.proofs.Joined.{length-those, those-below, those-rise, those-holds, spot_yes, spot_no}
-use Rattle.laws.proofs.Sums.{row-sum, sum_same, sum-add, sum-const, bit-and-true}
-use Rattle.take_gone.specs.Gone.{stands_at, is_among, gone_fine_at, gone_fine, survivors, Climbs}
+use Rattle.laws.proofs.First.{first-at, first-none}
+use Rattle.take_gone.specs.Gone.{stands_at, is_among, Climbs}
 
--- ---- the loop: a search by halving over the whole list
-
-pub record Halving (l : List ℕ) (j k low left : ℕ) : Type 0 where
-  pub whole : k ≡ length l
-  pub search : Bisects (num l) j 0 (length l) low left
-
-pub halving-start : {l : List ℕ} {j k : ℕ} → k ≡ length l → (k ≡ 0 → ⊥) → Halving l j k 0 k
-halving-start {l} {j} {k} e n = record { whole = e; search = subst (λ (x : ℕ). Bisects (num l) j 0 (length l) 0 x) (sym e) (bisects-start (λ q. n (e ∙ q))) }
-
-module _ {l : List ℕ} {j k low left : ℕ} (c : Climbs l) (h : Halving l j k low left) where
-  -- what is left lies within the list, and is not empty
-  pub halving-inside : (1 ≤ left) × (low + left ≤ length l)
-  halving-inside = (h.search.some, omega (arith, h.search.inside))
-
-  rises : (s t : ℕ) → s < t → t < length l → num l (0 + s) < num l (0 + t)
-  rises s t a b = omega (arith, c.climb s t a b, ap (num l) (zero-plus s), ap (num l) (zero-plus t))
+module _ {l : List ℕ} (c : Climbs l) where
+  no-lower : (s t : ℕ) → s ≤ t → t < length l → get_or l s 0 ≤ get_or l t 0
+  no-lower s t a b = elim (dec_lt s t) [ yes m ↦ omega (arith, c.climb s t m b) | no m ↦ omega (arith, ap (num l) (here s t a m)) ]
     where
-      zero-plus : (x : ℕ) → 0 + x ≡ x
-      zero-plus x = omega arith
+      here : (s t : ℕ) → s ≤ t → (s < t → ⊥) → s ≡ t
+      here s t a m = omega arith
 
-  -- the middle lies within the list
-  pub halving-within : 1 < left → low + left / 2 < length l
-  halving-within m = omega (arith, bisects-within rises h.search m)
-
-  pub halving-next : (r : ℕ) → 1 < left → r ≡ cond (leb (num l (low + left / 2)) j) (low + left / 2) low → Halving l j k r (left - left / 2)
-  halving-next r m e = record { whole = h.whole; search = bisects-next rises h.search r m e }
-
-  only_here : left ≤ 1 → (t : ℕ) → t < length l → num l t ≡ j → t ≡ low
-  only_here m t a q = omega (arith, bisects-done rises h.search m t a (ap (num l) (zero-plus t) ∙ q))
+  pub searched-place : (j : ℕ) (r : Result ℕ ℕ) → IsBinarySearchResult (λ y. nat_cmp y j) l r → result_unwrap_or r (length l) ≡ stands_at l j
+  searched-place j (Ok i) h = place (searched l j (Ok i) h no-lower)
     where
-      zero-plus : (x : ℕ) → 0 + x ≡ x
-      zero-plus x = omega arith
+      place : (i < length l) × (get_or l i 0 ≡ j) → i ≡ stands_at l j
+      place t = sym (first-at (λ t. eqb (num l t) j) (length l) i t.0 (eq-eqb (num l i) j t.1) (λ s a. ne_eqb (num l s) j (λ q. omega (arith, c.climb s i a t.0, q, t.1))))
+  searched-place j (Err i) h = place (searched l j (Err i) h no-lower)
+    where
+      place : (i ≤ length l) × ((k : ℕ) → k < i → get_or l k 0 < j) × ((k : ℕ) → i ≤ k → k < length l → j < get_or l k 0) → length l ≡ stands_at l j
+      place t = sym (first-none (λ t. eqb (num l t) j) (length l) (λ s a. ne_eqb (num l s) j
+          (λ q. elim (dec_lt s i) [ yes b ↦ omega (arith, t.1 s b, q) | no b ↦ omega (arith, t.2 s (omega arith) a, q) ])))
 
-  -- one place is left: j stands there, or nowhere
-  pub halving-found : left ≤ 1 → num l low ≡ j → low ≡ stands_at l j
-  halving-found m e = sym (first-at (λ t. eqb (num l t) j) (length l) low (omega (arith, halving-inside)) (eq-eqb (num l low) j e) (λ s a. ne_eqb (num l s) j
-      (λ q. omega (arith, a, only_here m s (omega (arith, halving-inside)) q))))
-
-  pub halving-none : left ≤ 1 → (num l low ≡ j → ⊥) → k ≡ stands_at l j
-  halving-none m n = h.whole ∙ sym (first-none (λ t. eqb (num l t) j) (length l) (λ t a. ne_eqb (num l t) j (λ q. n (ap (num l) (sym (only_here m t a q)) ∙ q))))
-
--- in a list of nothing
-pub empty-none : (l : List ℕ) (j : ℕ) → length l ≡ 0 → length l ≡ stands_at l j
-empty-none l j e = sym (first-none (λ t. eqb (num l t) j) (length l) (λ t a. absurd (omega (arith, e))))
+  pub searched-among : (j : ℕ) (r : Result ℕ ℕ) → IsBinarySearchResult (λ y. nat_cmp y j) l r → is_ok r ≡ is_among l j
+  searched-among j (Ok i) h = sym (lt-ltb (stands_at l j) (length l) (omega (arith, searched-place j (Ok i) h, (searched l j (Ok i) h no-lower).0)))
+  searched-among j (Err i) h = sym (le-ltb (stands_at l j) (length l) (omega (arith, searched-place j (Err i) h)))

@@ -1,5 +1,5 @@
 -- The samples that are taken out, and those that are left. Definitions only.
-use Rattle.std.specs.Prelude.{List, ◌≡◌, Bool, not, ◌&&◌, ◌||◌, ℕ, ◌-◌, ◌<◌, ◌≤◌, eqb, ltb, length}
+use Rattle.std.specs.Prelude.{List, Bool, not, ◌&&◌, ◌||◌, ℕ, ◌-◌, ◌<◌, ◌≤◌, eqb, ltb, length}
 use Rattle.laws.specs.Loops.{first, every}
 use Rattle.laws.specs.Area.{num}
 use Rattle.laws.specs.Joined.{those}

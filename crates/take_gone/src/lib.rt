@@ -7,24 +7,12 @@ ghost use Rattle.laws.specs.Area.{num};
 ghost use Rattle.laws.specs.Domain.{most_frames};
 ghost use Rattle.take_gone.specs.Gone.{stands_at, is_among, gone_fine_at, gone_fine, survivors, Climbs, Abreast};
 
-fn names(x: u32, n: usize) -> bool
-    ensures { result ≡ ltb x n }
-{
-    (x as usize) < n
-}
-
 // Whether number t of the list is above the one before it, and below n.
 fn gone_fine_at(gone: &[u32], n: usize, t: usize) -> bool
     requires { t < length gone.now }
     ensures { result ≡ gone_fine_at gone.now n t }
 {
-    if t == 0 {
-        return names(gone[t], n);
-    }
-    if gone[t - 1] < gone[t] {
-        return names(gone[t], n);
-    }
-    false
+    (t == 0 || gone[t - 1] < gone[t]) && (gone[t] as usize) < n
 }
 
 // Whether the list rises strictly and names samples below n.
@@ -39,44 +27,19 @@ pub fn gone_fine(gone: &[u32], n: usize) -> bool
     true
 }
 
-// The middle of the part that may hold j, or its start where j stands below the middle.
-fn raised(list: &[u32], low: usize, half: usize, j: u32) -> usize
-    requires { low + half < length list.now }
-    ensures { result ≡ cond (leb (num list.now (low + half)) j) (low + half) low }
-{
-    if list[low + half] <= j {
-        return low + half;
-    }
-    low
-}
-
-// Where j stands in a list that rises; its length where it does not. In each turn the part that may hold j is halved.
+// Where j stands in a list that rises; its length where it does not.
 pub fn place_of(list: &[u32], j: u32) -> usize
     requires { Climbs list.now }
     ensures { result ≡ stands_at list.now j }
 {
-    let k = list.len();
-    if k == 0 {
-        return k;
-    }
-    let mut low = 0;
-    let mut left = k;
-    while left > 1 {
-        let half = left / 2;
-        low = raised(list, low, half, j);
-        left -= half;
-    }
-    if list[low] == j {
-        return low;
-    }
-    k
+    list.binary_search(&j).unwrap_or(list.len())
 }
 
 pub fn is_among(list: &[u32], j: u32) -> bool
     requires { Climbs list.now }
     ensures { result ≡ is_among list.now j }
 {
-    place_of(list, j) < list.len()
+    list.binary_search(&j).is_ok()
 }
 
 // Whether j is in the list, where g keeps abreast of it: all before place g are below j, so only that place is looked at.
@@ -84,10 +47,7 @@ pub fn is_next(list: &[u32], g: usize, j: u32) -> bool
     requires { Abreast list.now g j }
     ensures { result ≡ is_among list.now j }
 {
-    if g < list.len() {
-        return list[g] == j;
-    }
-    false
+    g < list.len() && list[g] == j
 }
 
 // Writes the samples that are left, by their old places, to the front of `old`. Answers how many there are.

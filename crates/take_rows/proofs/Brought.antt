@@ -1,17 +1,16 @@
 -- Rows of frames that are kept, brought while the rows before them are packed: where they stand, and that they are as they were. Assumes nothing.
 use mathlib.Core.Path.{◌≡◌, sym, ap, subst, ◌∙◌}
-use mathlib.Core.List.{List, ◌∷◌, []}
+use mathlib.Core.List.{List}
 use Prim.Native.Nat.{ℕ, ◌+◌, ◌*◌, ◌<◌, ◌≤◌}
 use native.Mathlib.Omega.{arith}
-use native.Mathlib.Nat.{mul-le-mul, le_trans}
+use native.Mathlib.Nat.{mul-le-mul}
 use lib.ListN.{length}
 use lib.Ieee.{Float, nan, binary64, sub}
 use Rattle.laws.specs.Area.{at, num}
 use Rattle.laws.specs.Joined.{each}
-use Rattle.laws.proofs.Numbers.{row_in}
 use Rattle.laws.proofs.Laid.{singles-size}
 use Rattle.take_gone.proofs.Fronts.{fronts-at}
-use Rattle.take_rows.specs.Rows.{Staying, Means, centred_left, average_left}
+use Rattle.take_rows.specs.Rows.{Staying, Means, centred_left}
 use Rattle.take_rows.proofs.Packing.{Packs, each_same, kept-no-lower, kept-within}
 
 -- a row of a matrix gives as many values as frames are kept

@@ -4,15 +4,14 @@ use mathlib.Core.List.{List, [], ◌∷◌, ◌++◌, append_assoc, append-nil}
 use Prim.Native.Nat.{ℕ, zero, suc, ◌+◌, ◌-◌, ◌*◌, ◌<◌, ◌≤◌}
 use native.Mathlib.Omega.{arith}
 use native.Mathlib.Numerals.{add-one}
-use native.Mathlib.Nat.{add-zero, add_assoc, zero-mul, suc-mul, mul-le-mul_right, mul-le-mul, le_trans}
+use native.Mathlib.Nat.{add-zero, add_assoc, zero-mul, suc-mul, mul-le-mul_right}
 use lib.ListN.{length, get_or, set, take, drop, replicate, length-append, replicate-append-replicate, take-append-drop}
-use lib.Seq.{take_at, drop_at, drop-drop, length-take-le}
+use lib.Seq.{take_at, drop_at, length-take-le}
 use Rattle.laws.specs.Area.{num}
 use Rattle.laws.specs.Joined.{joined, each}
 use Rattle.laws.proofs.Numbers.{row_in}
 use Rattle.laws.proofs.Joined.{joined-next, joined-none}
 use Rattle.laws.proofs.Changed.{drop-later}
-use Rattle.laws.proofs.Laid.{singles-size}
 use Rattle.take_gone.proofs.Fronts.{Fronts, fronts-next, fronts-at, fronts-as}
 use Rattle.take_rows.specs.Rows.{shrunk, Staying}
 

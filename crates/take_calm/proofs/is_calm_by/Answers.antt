@@ -4,7 +4,6 @@ use Rattle.take_calm.specs.CalmLeft.{calm_left}
 use Rattle.take_gone.specs.Gone.{survivors}
 use Rattle.laws.proofs.Numbers.{row_in}
 use mathlib.Core.Path.{sym, ◌∙◌}
-use Prim.Native.Nat.{◌-◌}
 use native.Mathlib.Omega.{arith}
 use Rattle.take_calm.proofs.is_calm_by.Goals as goal
 

@@ -6,7 +6,6 @@ use Rattle.take_rows.specs.Rows.{centred_left}
 use Rattle.take_gone.specs.Gone.{survivors}
 use Rattle.elementary.specs.Limits.{calm}
 use Rattle.laws.specs.Loops.{every}
-use Prim.Native.Nat.{◌-◌}
 use Rattle.take_calm.proofs.is_calm_by.Given as goal
 
 abbrev pub invariant-loop-j : goal.invariant-loop-j

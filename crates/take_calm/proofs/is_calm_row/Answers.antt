@@ -1,7 +1,5 @@
 use Rattle.laws.proofs.Every.{every-none, every-next, every-no, every-done}
-use mathlib.Core.Bool.{true}
 use mathlib.Core.Path.{sym, ◌∙◌}
-use Prim.Native.Nat.{◌-◌}
 use native.Mathlib.Omega.{arith}
 use Rattle.take_calm.proofs.is_calm_row.Goals as goal
 

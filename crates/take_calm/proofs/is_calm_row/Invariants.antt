@@ -5,7 +5,7 @@ use Rattle.laws.specs.Area.{at}
 use lib.Ieee.{binary64, sub}
 use mathlib.Core.Bool.{true}
 use mathlib.Core.Path.{◌≡◌}
-use Prim.Native.Nat.{◌+◌, ◌-◌, ◌≤◌}
+use Prim.Native.Nat.{◌+◌, ◌≤◌}
 use Rattle.take_calm.proofs.is_calm_row.Given as goal
 
 abbrev pub invariant-loop-d : goal.invariant-loop-d

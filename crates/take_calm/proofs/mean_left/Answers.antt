@@ -8,7 +8,7 @@ use lib.Ieee.{Float, in_float, binary64, of_int, div}
 use lib.IntN.{pos}
 use lib.Dec.{le→leb}
 use mathlib.Core.Path.{sym, ap, ◌∙◌}
-use Prim.Native.Nat.{ℕ, ◌+◌, ◌*◌, ◌-◌, ◌^◌}
+use Prim.Native.Nat.{ℕ, ◌+◌, ◌*◌, ◌^◌}
 use native.Mathlib.Omega.{arith}
 use Rattle.take_calm.proofs.mean_left.Goals as goal
 

@@ -3,7 +3,7 @@
 use Rattle.take_gone.specs.Gone.{Abreast}
 use Rattle.take_calm.proofs.Over.{SumsLeft}
 use Rattle.laws.specs.Area.{at}
-use Prim.Native.Nat.{◌+◌, ◌*◌, ◌-◌}
+use Prim.Native.Nat.{◌+◌, ◌*◌}
 use Rattle.take_calm.proofs.mean_left.Given as goal
 
 abbrev pub invariant-loop-j : goal.invariant-loop-j

@@ -1,4 +1,3 @@
-use Prim.Native.Nat.{◌-◌}
 use Rattle.laws.proofs.Loops.{loop-start, loop-next, loop-done}
 use Rattle.take_calm.proofs.means_left.Goals as goal
 

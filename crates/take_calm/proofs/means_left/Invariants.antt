@@ -1,7 +1,6 @@
 -- `take_calm::means_left` meets its contract: the loop keeps `Loops`; by `loop-start`, `loop-next`, `loop-done`.
 use Rattle.take_calm.specs.CalmLeft.{mean_at}
 use Rattle.take_gone.specs.Gone.{survivors}
-use Prim.Native.Nat.{◌-◌}
 use Rattle.laws.proofs.Loops.{Loops}
 use Rattle.take_calm.proofs.means_left.Given as goal
 

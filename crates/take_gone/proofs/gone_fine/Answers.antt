@@ -1,8 +1,5 @@
-use Rattle.take_gone.specs.Gone.{gone_fine_at}
 use Rattle.laws.proofs.Every.{every-none, every-next, every-no, every-done}
-use mathlib.Core.Bool.{true}
 use mathlib.Core.Path.{sym, ◌∙◌}
-use Prim.Native.Nat.{◌-◌}
 use native.Mathlib.Omega.{arith}
 use Rattle.take_gone.proofs.gone_fine.Goals as goal
 

@@ -4,7 +4,7 @@ use Rattle.take_gone.specs.Gone.{gone_fine_at}
 use Rattle.laws.specs.Loops.{every}
 use mathlib.Core.Bool.{true}
 use mathlib.Core.Path.{◌≡◌}
-use Prim.Native.Nat.{◌-◌, ◌≤◌}
+use Prim.Native.Nat.{◌≤◌}
 use Rattle.take_gone.proofs.gone_fine.Given as goal
 
 abbrev pub invariant-loop-t : goal.invariant-loop-t

@@ -1,21 +1,21 @@
--- `take_gone::gone_fine_at` meets its contract: from what its calls promise.
+-- `take_gone::gone_fine_at` meets its contract: the tests are those of the definition. Assumes nothing.
+use mathlib.Core.Path.{refl, sym, ◌∙◌}
+use mathlib.Core.Bool.{true≢false}
+use borrow.Author.Tests.{eq-eqb, ne_eqb}
 use Rattle.take_gone.specs.Gone.{gone_fine_at}
-use borrow.Author.Tests.{eq-eqb, ne_eqb, lt-ltb, le-ltb}
 use Rattle.take_gone.proofs.gone_fine_at.Goals as goal
-
-pub returns-then-t-eq0 : goal.returns-then-t-eq0
-unfolding gone_fine_at
-returns-then-t-eq0 c =
-    rw (eq-eqb _ _ c.if-t-eq0.true) c.names.ensures
+use Rattle.take_gone.proofs.gone_fine_at.Goals.{then-t-eq0, else-t-eq0}
 
 pub returns-then-gone-t : goal.returns-then-gone-t
 unfolding gone_fine_at
-returns-then-gone-t c =
-    let the-if2 = c.if-gone-t in
-    let the-if1 = c.if-t-eq0 in
-    rw (ne_eqb _ _ the-if1.false, lt-ltb _ _ the-if2.true) c.names-then-gone-t.ensures
+returns-then-gone-t c = elim c.if-t-eq0.branch [
+  | then-t-eq0 w ↦ rw (eq-eqb c.args.t 0 w.if-t-eq0.true) refl
+  | else-t-eq0 w ↦ rw (ne_eqb c.args.t 0 w.if-t-eq0.false, sym w.value-is ∙ c.if-gone-t.true) refl
+]
 
-pub returns : goal.returns
+pub returns-else-gone-t : goal.returns-else-gone-t
 unfolding gone_fine_at
-returns c =
-    rw (ne_eqb _ _ c.if-t-eq0.false, le-ltb _ _ c.if-gone-t.false)
+returns-else-gone-t c = elim c.if-t-eq0.branch [
+  | then-t-eq0 w ↦ absurd (true≢false (sym (eq-eqb c.args.t 0 w.if-t-eq0.true) ∙ sym w.value-is ∙ c.if-gone-t.false))
+  | else-t-eq0 w ↦ rw (ne_eqb c.args.t 0 w.if-t-eq0.false, sym w.value-is ∙ c.if-gone-t.false) c.if-gone-t.false
+]

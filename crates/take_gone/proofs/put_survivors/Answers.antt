@@ -1,7 +1,6 @@
 use Rattle.take_gone.proofs.Next.{abreast-start, abreast-room, abreast-pass, abreast-next}
 use Rattle.take_gone.proofs.Left.{surviving-start, surviving-room, surviving-pass, surviving-next, surviving-done}
 use mathlib.Core.Path.{sym, ◌∙◌}
-use Prim.Native.Nat.{◌-◌}
 use native.Mathlib.Omega.{arith}
 use Rattle.take_gone.proofs.put_survivors.Goals as goal
 

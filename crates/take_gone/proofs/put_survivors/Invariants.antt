@@ -2,7 +2,6 @@
 -- `surviving-start`, `surviving-room` and others.
 use Rattle.take_gone.specs.Gone.{Abreast}
 use Rattle.take_gone.proofs.Left.{Surviving}
-use Prim.Native.Nat.{◌-◌}
 use Rattle.take_gone.proofs.put_survivors.Given as goal
 
 abbrev pub invariant-loop-j : goal.invariant-loop-j

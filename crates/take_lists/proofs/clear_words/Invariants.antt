@@ -1,5 +1,4 @@
 -- `take_lists::clear_words` meets its contract: the places from a up to p are cleared (`Blanks`). Assumes nothing.
-use Prim.Native.Nat.{◌-◌}
 use Rattle.take_lists.proofs.Fronting.{Blanks}
 use Rattle.take_lists.proofs.clear_words.Given as goal
 

@@ -34,8 +34,8 @@ pub bounds-offsets-j : goal.bounds-offsets-j
 bounds-offsets-j c =
     omega (arith, c.requires.2.offsets-long, c.loop-j-test.true)
 
-pub overflow_add-j-in-loop-j : goal.overflow_add-j-in-loop-j
-overflow_add-j-in-loop-j c =
+pub overflow_add-j : goal.overflow_add-j
+overflow_add-j c =
     omega (arith, c.requires.0, c.loop-j-test.true)
 
 pub offset_bounds-offsets-j-in-loop-j : goal.offset_bounds-offsets-j-in-loop-j
@@ -61,10 +61,6 @@ overflow_add-c c =
       tallies-room c.requires.2 c.loop-j-test.true c.loop-j.invariant.0 c.wide-a.ensures c.wide.ensures c.list_left-c.ensures,
       c.type_inv.offsets (c.loop-j.j + 1),
     )
-
-pub overflow_add-j-in-loop-j-2 : goal.overflow_add-j-in-loop-j-2
-overflow_add-j-in-loop-j-2 c =
-    omega (arith, c.requires.0, c.loop-j-test.true)
 
 pub loop-j-preserved : goal.loop-j-preserved
 loop-j-preserved c =

@@ -1,7 +1,6 @@
 -- `take_lists::links_left` meets its contract: the lists of j frames are looked at (`Tallies`). Assumes nothing.
 use Rattle.take_gone.specs.Gone.{Abreast}
 use Rattle.take_lists.proofs.Counting.{Tallies}
-use Prim.Native.Nat.{◌-◌}
 use Rattle.take_lists.proofs.links_left.Given as goal
 
 abbrev pub invariant-loop-j : goal.invariant-loop-j

@@ -1,5 +1,4 @@
 -- `take_lists::list_left` meets its contract: t links are looked at (`Sees`). Assumes nothing.
-use Prim.Native.Nat.{◌-◌}
 use Rattle.take_lists.proofs.Counting.{Sees}
 use Rattle.take_lists.proofs.list_left.Given as goal
 

@@ -1,6 +1,7 @@
-use lib.ListN.{length-set}
+use lib.ListN.{length, set, length-set}
 use Rattle.take_lists.proofs.AllLists.{closes-start, closes-offset, closes-frame, closes-room, closes-next, closes-done}
-use mathlib.Core.Path.{◌∙◌}
+use Prim.Native.Nat.{ℕ}
+use mathlib.Core.Path.{◌≡◌, ap, ◌∙◌}
 use native.Mathlib.Omega.{arith}
 use Rattle.take_lists.proofs.pack_all.Goals as goal
 
@@ -60,13 +61,13 @@ pub overflow_cast-offsets-2 : goal.overflow_cast-offsets-2
 overflow_cast-offsets-2 c =
     omega (arith, closes-offset c.requires.1 c.requires.2 c.requires.3 c.loop-i.invariant.0, c.loop-i.invariant.1 c.args.n)
 
-pub offset_bounds-offsets-i-2 : goal.offset_bounds-offsets-i-2
-offset_bounds-offsets-i-2 c =
-    omega (arith, closes-offset c.requires.1 c.requires.2 c.requires.3 c.loop-i.invariant.0)
+pub offset_bounds-offsets-keep : goal.offset_bounds-offsets-keep
+offset_bounds-offsets-keep c =
+    omega (arith, closes-offset c.requires.1 c.requires.2 c.requires.3 c.loop-i.invariant.0, c.loop-i-test.false)
 
-pub bounds-offsets-i-2 : goal.bounds-offsets-i-2
-bounds-offsets-i-2 c =
-    omega (arith, closes-offset c.requires.1 c.requires.2 c.requires.3 c.loop-i.invariant.0)
+pub bounds-offsets-keep : goal.bounds-offsets-keep
+bounds-offsets-keep c =
+    omega (arith, closes-offset c.requires.1 c.requires.2 c.requires.3 c.loop-i.invariant.0, c.loop-i-test.false)
 
 pub shape_of-weights : goal.shape_of-weights
 shape_of-weights c =
@@ -83,4 +84,5 @@ shape_of-offsets c =
 pub returns : goal.returns
 returns c =
     let d = closes-done c.requires.1 c.requires.2 c.requires.3 c.loop-i.invariant.0 c.loop-i-test.false in
-    record { value = d.0; weights_after = d.1; indices_after = d.2; offsets_after = d.3 }
+    let end : length c.args.keep.now ≡ c.loop-i.i = omega (arith, c.loop-i.auto.i-end, c.loop-i-test.false) in
+    record { value = d.0; weights_after = d.1; indices_after = d.2; offsets_after = ap (λ (x : ℕ). set c.loop-i.offsets x c.loop-i.q) end ∙ d.3 }

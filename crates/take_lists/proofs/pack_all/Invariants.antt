@@ -1,7 +1,7 @@
 -- `take_lists::pack_all` meets its contract: i lists stand at the front, one after the other, and their offsets (`Closes`); an offset fits its width. Assumes nothing.
-use lib.ListN.{length, get_or}
+use lib.ListN.{get_or}
 use Rattle.take_lists.proofs.AllLists.{Closes}
-use Prim.Native.Nat.{ℕ, ◌-◌, ◌^◌, ◌<◌}
+use Prim.Native.Nat.{ℕ, ◌^◌, ◌<◌}
 use Rattle.take_lists.proofs.pack_all.Given as goal
 
 abbrev pub invariant-loop-i : goal.invariant-loop-i

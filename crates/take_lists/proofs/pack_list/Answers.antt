@@ -62,10 +62,6 @@ pub overflow_add-e : goal.overflow_add-e
 overflow_add-e c =
     omega (arith, sifts-room c.requires.2 c.requires.3 c.requires.4 c.loop-t-test.true c.loop-t.invariant)
 
-pub overflow_add-t-in-loop-t : goal.overflow_add-t-in-loop-t
-overflow_add-t-in-loop-t c =
-    omega (arith, c.requires.4, c.loop-t-test.true)
-
 pub loop-t-preserved : goal.loop-t-preserved
 loop-t-preserved c =
     sifts-next c.requires.2 c.requires.3 c.requires.4 c.loop-t-test.true c.loop-t.invariant c.place_of-x.ensures c.if-x-keep.false

@@ -1,5 +1,4 @@
 -- `take_lists::pack_list` meets its contract: of t links those that are left stand from q on (`Sifts`). Assumes nothing.
-use Prim.Native.Nat.{◌-◌}
 use Rattle.take_lists.proofs.OneList.{Sifts}
 use Rattle.take_lists.proofs.pack_list.Given as goal
 

@@ -2,7 +2,7 @@ use Rattle.take_rows.proofs.Packing.{brings-start, brings-next, brings-at, bring
 use Rattle.laws.specs.Area.{at}
 use lib.Ieee.{Float, nan, binary64, sub}
 use mathlib.Core.Path.{ap}
-use Prim.Native.Nat.{◌+◌, ◌-◌}
+use Prim.Native.Nat.{◌+◌}
 use native.Mathlib.Omega.{arith}
 use Rattle.take_rows.proofs.bring_centred.Goals as goal
 

@@ -2,7 +2,7 @@
 use Rattle.take_rows.proofs.Packing.{Brings}
 use Rattle.laws.specs.Area.{at}
 use lib.Ieee.{binary64, sub}
-use Prim.Native.Nat.{◌+◌, ◌-◌}
+use Prim.Native.Nat.{◌+◌}
 use Rattle.take_rows.proofs.bring_centred.Given as goal
 
 abbrev pub invariant-loop-d : goal.invariant-loop-d

@@ -2,7 +2,7 @@ use Prim.Native.Nat.{ℕ}
 use Rattle.take_rows.proofs.Packing.{brings-start, brings-next, brings-at, brings-done}
 use Rattle.laws.specs.Area.{num}
 use mathlib.Core.Path.{ap, ◌∙◌}
-use Prim.Native.Nat.{◌+◌, ◌-◌}
+use Prim.Native.Nat.{◌+◌}
 use native.Mathlib.Omega.{arith}
 use Rattle.take_rows.proofs.bring_columns.Goals as goal
 

@@ -2,7 +2,7 @@
 use Rattle.take_rows.proofs.Packing.{Brings}
 use Rattle.laws.specs.Area.{num}
 use lib.ListN.{length}
-use Prim.Native.Nat.{◌+◌, ◌-◌}
+use Prim.Native.Nat.{◌+◌}
 use Rattle.take_rows.proofs.bring_columns.Given as goal
 
 abbrev pub invariant-loop-j : goal.invariant-loop-j

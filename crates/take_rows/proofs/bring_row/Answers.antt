@@ -1,5 +1,4 @@
 use Rattle.take_rows.proofs.Packing.{brings-start, brings-next, brings-at, brings-done}
-use Prim.Native.Nat.{◌-◌}
 use native.Mathlib.Omega.{arith}
 use Rattle.take_rows.proofs.bring_row.Goals as goal
 

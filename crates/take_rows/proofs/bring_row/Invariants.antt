@@ -1,7 +1,7 @@
 -- `take_rows::bring_row` meets its contract: the loop keeps `Brings`; by `brings-start`, `brings-next`, `brings-at`, `brings-done`.
 use Rattle.take_rows.proofs.Packing.{Brings}
 use Rattle.laws.specs.Area.{num}
-use Prim.Native.Nat.{◌+◌, ◌-◌}
+use Prim.Native.Nat.{◌+◌}
 use Rattle.take_rows.proofs.bring_row.Given as goal
 
 abbrev pub invariant-loop-d : goal.invariant-loop-d

@@ -2,7 +2,6 @@ use Rattle.take_rows.proofs.Packing.{brings-cleared}
 use Rattle.take_rows.proofs.Packing.{brings-start, brings-next}
 use Rattle.laws.specs.Area.{zero64}
 use mathlib.Core.Path.{refl}
-use Prim.Native.Nat.{◌-◌}
 use native.Mathlib.Omega.{arith}
 use Rattle.take_rows.proofs.clear_between.Goals as goal
 

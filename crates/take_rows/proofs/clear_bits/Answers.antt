@@ -1,7 +1,6 @@
 use Rattle.take_rows.proofs.Packing.{brings-cleared}
 use Rattle.take_rows.proofs.Packing.{brings-start, brings-next}
 use mathlib.Core.Path.{refl}
-use Prim.Native.Nat.{◌-◌}
 use native.Mathlib.Omega.{arith}
 use Rattle.take_rows.proofs.clear_bits.Goals as goal
 

@@ -2,7 +2,6 @@ use Rattle.take_rows.proofs.Brought.{row_room, centred-brought, row-long}
 use Rattle.take_rows.proofs.Packing.{packs-start, packs-next, packs-done, kept-all}
 use Rattle.laws.specs.Area.{zero64}
 use mathlib.Core.Path.{◌∙◌}
-use Prim.Native.Nat.{◌-◌}
 use native.Mathlib.Omega.{arith}
 use Rattle.take_rows.proofs.pack_centred.Goals as goal
 

@@ -4,7 +4,6 @@ use Rattle.take_rows.specs.Rows.{centred_left}
 use Rattle.laws.specs.Joined.{each}
 use Rattle.laws.specs.Area.{num}
 use lib.ListN.{length}
-use Prim.Native.Nat.{◌-◌}
 use Rattle.take_rows.proofs.pack_centred.Given as goal
 
 abbrev pub invariant-loop-i : goal.invariant-loop-i

@@ -1,7 +1,6 @@
 use Rattle.take_rows.proofs.Brought.{row_room, row-brought, row-long}
 use Rattle.take_rows.proofs.Packing.{packs-start, packs-next, packs-done, kept-all}
 use mathlib.Core.Path.{◌∙◌}
-use Prim.Native.Nat.{◌-◌}
 use native.Mathlib.Omega.{arith}
 use Rattle.take_rows.proofs.pack_rows.Goals as goal
 

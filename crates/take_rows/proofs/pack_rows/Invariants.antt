@@ -3,7 +3,7 @@ use Rattle.take_rows.proofs.Packing.{Packs}
 use Rattle.laws.specs.Joined.{each}
 use Rattle.laws.specs.Area.{num}
 use lib.ListN.{length}
-use Prim.Native.Nat.{◌+◌, ◌-◌, ◌*◌}
+use Prim.Native.Nat.{◌+◌, ◌*◌}
 use Rattle.take_rows.proofs.pack_rows.Given as goal
 
 abbrev pub invariant-loop-i : goal.invariant-loop-i

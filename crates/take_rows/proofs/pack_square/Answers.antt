@@ -2,7 +2,6 @@ use Rattle.take_rows.proofs.Brought.{square-room, square-brought, square-few, ro
 use Rattle.take_rows.proofs.Packing.{packs-start, packs-next, packs-done}
 use lib.ListN.{length}
 use mathlib.Core.Path.{◌∙◌}
-use Prim.Native.Nat.{◌-◌}
 use native.Mathlib.Omega.{arith}
 use Rattle.take_rows.proofs.pack_square.Goals as goal
 
