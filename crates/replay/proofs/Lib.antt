@@ -1,1 +1,2 @@
 mod Compared
+mod Cased

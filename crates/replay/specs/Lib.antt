@@ -1,3 +1,4 @@
 pub mod Replay
 pub mod Areas
 pub mod Line
+pub mod Cases

@@ -3,6 +3,7 @@
 #![tactic(auto)]
 
 pub mod areas;
+pub mod cases;
 
 ghost use Rattle.std.specs.Prelude.{◌≡◌, ◌+◌, ◌≤◌, length, take, IfOk};
 ghost use Rattle.io.specs.Counts.{IsPrefixLen};
