@@ -53,10 +53,8 @@ pub fn load_offsets(file: &[u8], n: usize, offsets: &mut [u32])
     ensures { offsets.new ≡ offsets_loaded file.now n offsets.old }
 {
     let mut p = 0;
-    let mut j = 0;
-    while j <= n {
+    for j in 0..n + 1 {
         p = list_from(file, p, j);
         offsets[j] = p as u32;
-        j += 1;
     }
 }

@@ -1,4 +1,4 @@
-use mathlib.Core.Path.{sym, ap, ◌∙◌}
+use mathlib.Core.Path.{◌≡◌, sym, ap, ◌∙◌}
 use mathlib.Core.Bool.{not}
 use Rattle.laws.proofs.First.{seek-start, seek-next, seek_stop, seek-done}
 use native.Mathlib.Omega.{arith}
@@ -22,4 +22,4 @@ loop-i-preserved c =
 
 pub returns : goal.returns
 returns c =
-    seek-done c.loop-i.invariant c.loop-i-test.false
+    let e : c.args.d ≡ c.loop-i.i = omega (arith, c.loop-i.invariant.within) in e ∙ seek-done c.loop-i.invariant c.loop-i-test.false

@@ -1,6 +1,5 @@
 -- `partner::first_lonely` meets its contract: the loop keeps `Seeks`; by `seek-start`, `seek-next`, `seek_stop`, `seek-done`.
 use mathlib.Core.Bool.{not}
-use Prim.Native.Nat.{◌-◌}
 use Rattle.laws.proofs.First.{Seeks}
 use Rattle.partner.specs.Partner.{mirrored}
 use Rattle.partner.proofs.first_lonely.Given as goal

@@ -1,6 +1,8 @@
-use mathlib.Core.Path.{sym, ap, ◌∙◌}
+use mathlib.Core.Path.{◌≡◌, sym, ap, ◌∙◌}
 use mathlib.Core.Bool.{not}
 use Rattle.laws.proofs.First.{seek-start, seek-next, seek_stop, seek-done}
+use native.Mathlib.Omega.{arith}
+use Rattle.partner.specs.Partner.{whole_links}
 use Rattle.partner.proofs.first_unfit.Goals as goal
 
 pub loop-i-init : goal.loop-i-init
@@ -17,4 +19,4 @@ loop-i-preserved c =
 
 pub returns : goal.returns
 returns c =
-    seek-done c.loop-i.invariant c.loop-i-test.false
+    let e : whole_links c.args.file.now ≡ c.loop-i.i = omega (arith, c.loop-i.invariant.within) in e ∙ seek-done c.loop-i.invariant c.loop-i-test.false

@@ -1,6 +1,5 @@
 -- `partner::first_unfit` meets its contract: the loop keeps `Seeks`; by `seek-start`, `seek-next`, `seek_stop`, `seek-done`.
 use mathlib.Core.Bool.{not}
-use Prim.Native.Nat.{◌-◌}
 use Rattle.laws.proofs.First.{Seeks}
 use Rattle.partner.specs.Partner.{link_fine, whole_links}
 use Rattle.partner.proofs.first_unfit.Given as goal

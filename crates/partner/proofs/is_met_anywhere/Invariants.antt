@@ -1,7 +1,7 @@
 -- `partner::is_met_anywhere` meets its contract: the loop keeps what has been done equal to its part of the whole; by `met_next`, `met_some`, `met-none`.
 use mathlib.Core.Path.{◌≡◌}
 use mathlib.Core.Bool.{false}
-use Prim.Native.Nat.{ℕ, ◌-◌, ◌+◌, ◌<◌, ◌≤◌}
+use Prim.Native.Nat.{ℕ, ◌+◌, ◌<◌, ◌≤◌}
 use Rattle.partner.specs.Partner.{is_mirror}
 use Rattle.partner.proofs.is_met_anywhere.Given as goal
 

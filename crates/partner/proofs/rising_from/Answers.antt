@@ -1,4 +1,6 @@
-use mathlib.Core.Path.{sym, ◌∙◌}
+use mathlib.Core.Path.{◌≡◌, sym, subst, ◌∙◌}
+use Prim.Native.Nat.{ℕ, ◌-◌}
+use Rattle.partner.specs.Partner.{PairsRise, whole_links}
 use Rattle.partner.proofs.Judged.{rise-none, rise_one, rise-next}
 use native.Mathlib.Omega.{arith}
 use Rattle.partner.proofs.rising_from.Goals as goal
@@ -29,4 +31,6 @@ loop-k-preserved c = (
 
 pub returns : goal.returns
 returns c =
-    (c.loop-k.invariant.1, c.loop-k.invariant.2)
+    let n = whole_links c.args.file.now - c.args.a in
+    let e : c.loop-k.k ≡ n = omega (arith, c.loop-k.auto.k-end) in
+    (omega (arith, c.requires), subst (λ (x : ℕ). PairsRise c.args.file.now c.args.a x) e c.loop-k.invariant.2)

@@ -1,5 +1,5 @@
 -- `partner::rising_from` meets its contract: the loop keeps `PairsRise`; by `rise-none`, `rise_one`, `rise-next`.
-use Prim.Native.Nat.{◌-◌, ◌+◌, ◌≤◌}
+use Prim.Native.Nat.{◌+◌, ◌≤◌}
 use Rattle.partner.specs.Partner.{PairsRise, whole_links}
 use Rattle.partner.proofs.rising_from.Given as goal
 

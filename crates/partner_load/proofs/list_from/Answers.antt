@@ -1,3 +1,6 @@
+use mathlib.Core.Path.{◌≡◌, subst}
+use Prim.Native.Nat.{ℕ, ◌<◌, ◌≤◌}
+use Rattle.partner.specs.Partner.{whole_links, link_from}
 use Rattle.partner_load.proofs.Counted.{starts-below-next}
 use native.Mathlib.Omega.{arith}
 use Rattle.partner_load.proofs.list_from.Goals as goal
@@ -20,4 +23,5 @@ loop-p-preserved c = (
 
 pub returns : goal.returns
 returns c =
-    (c.loop-p.invariant.0, c.loop-p.invariant.1, c.loop-p.invariant.2, λ l. absurd (omega (arith, c.loop-p-test.false)))
+    let e : c.loop-p.p ≡ whole_links c.args.file.now = omega (arith, c.loop-p.invariant.1) in
+    (c.requires, omega arith, subst (λ (x : ℕ). (t : ℕ) → c.args.a ≤ t → t < x → link_from c.args.file.now t < c.args.j) e c.loop-p.invariant.2, λ l. absurd (omega arith))

@@ -1,5 +1,5 @@
 -- `partner_load::list_from` meets its contract: the loop keeps what has been done equal to its part of the whole; by `starts-below-next`.
-use Prim.Native.Nat.{ℕ, ◌-◌, ◌<◌, ◌≤◌}
+use Prim.Native.Nat.{ℕ, ◌<◌, ◌≤◌}
 use Rattle.partner.specs.Partner.{whole_links, link_from}
 use Rattle.partner_load.proofs.list_from.Given as goal
 

@@ -1,5 +1,4 @@
 -- `partner_load::load_indices` meets its contract: the loop keeps `Fetches`; by `fetches-start`, `fetches-next`, `fetches-done`.
-use Prim.Native.Nat.{◌-◌}
 use Rattle.partner.specs.Partner.{whole_links, link_to}
 use Rattle.areas.proofs.Fetched.{Fetches}
 use Rattle.partner_load.proofs.load_indices.Given as goal

@@ -2,7 +2,8 @@ use Rattle.parked_file.proofs.Stands.{missing, words-stand, due-is, seeks-three}
 use Rattle.parked_file.specs.File.{first_bad}
 use Rattle.laws.proofs.First.{seek-next, seek_stop, seek-done}
 use mathlib.Core.Bool.{not}
-use mathlib.Core.Path.{ap, ◌∙◌}
+use mathlib.Core.Path.{◌≡◌, ap, ◌∙◌}
+use Prim.Native.Nat.{◌/◌}
 use native.Mathlib.Omega.{arith}
 use Rattle.parked_file.proofs.records.first_bad.Goals as goal
 
@@ -35,4 +36,5 @@ loop-q-preserved c = (
 pub returns : goal.returns
 unfolding first_bad
 returns c =
-    seek-done c.loop-q.invariant.1 (omega (arith, (due-is _ _ c.requires.1)))
+    let e : c.args.l.end / 4 ≡ c.loop-q.q = omega (arith, (due-is _ _ c.requires.1)) in
+    e ∙ seek-done c.loop-q.invariant.1 (omega (arith, (due-is _ _ c.requires.1)))

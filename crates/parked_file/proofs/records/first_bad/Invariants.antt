@@ -1,7 +1,7 @@
 -- `parked_file::records::first_bad` meets its contract: the loop keeps `Seeks`; by `words-stand`, `due-is`, `seeks-three`, `seek-next`, `seek_stop`, `seek-done`.
 use Rattle.parked_file.specs.File.{record_stands, records_due}
 use Rattle.laws.proofs.First.{Seeks}
-use Prim.Native.Nat.{◌≤◌, ◌-◌}
+use Prim.Native.Nat.{◌≤◌}
 use mathlib.Core.Bool.{not}
 use Rattle.parked_file.proofs.records.first_bad.Given as goal
 
