@@ -14,10 +14,7 @@ use frame_words::put_frame;
 pub fn host_scatter(positions: &mut [f64], n: u32, c: u32, seed: u64) -> u32
     ensures { (result ≡ or_zero (scatter_of n c seed positions.old).number) × (positions.new ≡ (scatter_of n c seed positions.old).positions) }
 {
-    match scatter::scatter(positions, n, c, seed) {
-        scatter::Scattered::Done => 0,
-        scatter::Scattered::Refused(k) => k as u32,
-    }
+    refusal::number(scatter::scatter(positions, n, c, seed)) as u32
 }
 
 // How many records a frame file has, or 16 and the place of the first bad one, in the first word of the area.
