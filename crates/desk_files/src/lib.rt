@@ -25,12 +25,12 @@ pub fn host_frames(file: &[u8], place: &mut [u64]) -> u32
         return 12;
     }
     match frames::read_frames(file) {
-        frames::Frames::Good(n) => {
+        Ok(n) => {
             place[0] = n as u64;
             0
         }
-        frames::Frames::Bad(p) => {
-            place[0] = p as u64;
+        Err(bad) => {
+            place[0] = bad.place as u64;
             16
         }
     }
