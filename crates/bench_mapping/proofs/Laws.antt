@@ -8,11 +8,11 @@ use lib.Dec.{eqb, ltb}
 use lib.ListN.{length}
 use borrow.Author.Tests.{lt-ltb, le-ltb}
 use lib.Ieee.{Float}
-use Rattle.frames.specs.declared.Frames.{Frames}
-use Rattle.frames.specs.declared.Frames.TheVariants.{Good, Bad}
+use Rattle.std.specs.Prelude.{Result, Ok, Err}
+use Rattle.frames.specs.declared.BadRecord.{BadRecord}
 use Rattle.laws.specs.Domain.{most_word}
 use Rattle.laws.specs.Loops.{first}
-use Rattle.frames.specs.Frames.{record_bytes, frames_of, bad_at, whole_records}
+use Rattle.frames.specs.Frames.{record_bytes, frames_of, bad_place, bad_at, whole_records}
 use Rattle.run_record.specs.declared.Settings.{Settings}
 use Rattle.run_record.specs.declared.Run.{Run}
 use Rattle.tree_node.specs.declared.Cell.{Cell}
@@ -44,9 +44,9 @@ module _ (s : Settings) (table start : List Float) (l : Lent) (p : Prepared) (e 
 
 -- ---- the records of a file
 
-count_of : Frames → ℕ
-count_of (Good n) = n
-count_of (Bad p) = 0
+count_of : Result ℕ BadRecord → ℕ
+count_of (Ok n) = n
+count_of (Err p) = 0
 
 least : (w : ℕ) → 0 ≤ w
 least w = omega arith
@@ -54,7 +54,7 @@ least w = omega arith
 itself : (w : ℕ) → w ≤ w
 itself w = omega arith
 
-count_most : (a b : Bool) (p w : ℕ) → count_of (cond a (Bad p) (cond b (Good w) (Bad w))) ≤ w
+count_most : (a b : Bool) (p w : ℕ) → count_of (cond a (Err (bad_place p)) (cond b (Ok w) (Err (bad_place w)))) ≤ w
 unfolding count_of
 count_most true b p w = least w
 count_most false true p w = itself w
@@ -65,9 +65,9 @@ unfolding frames_of
 count-in f = count_most (ltb (first (bad_at f) (whole_records f)) (whole_records f)) (eqb (length f % record_bytes) 0) (first (bad_at f) (whole_records f)) (whole_records f)
 
 -- a file of at most 4,608 bytes has at most 64 good records
-pub frames-few : (f : List ℕ) (n : ℕ) → length f ≤ bench_bytes → frames_of f ≡ Good n → n ≤ bench_frames
+pub frames-few : (f : List ℕ) (n : ℕ) → length f ≤ bench_bytes → frames_of f ≡ Ok n → n ≤ bench_frames
 unfolding count_of
-frames-few f n h e = omega (arith, subst (λ (r : Frames). count_of r ≤ length f / record_bytes) e (count-in f))
+frames-few f n h e = omega (arith, subst (λ (r : Result ℕ BadRecord). count_of r ≤ length f / record_bytes) e (count-in f))
 
 -- ---- the whole file
 
@@ -80,8 +80,8 @@ module _ (f : List ℕ) (h : length f ≤ bench_bytes) where
   unfolding map_of
   within = rw (le-ltb _ _ h)
 
-  pub bad-record : (p : ℕ) → frames_of f ≡ Bad p → mapped_as (Record p) (zeros 128) ≡ map_of f
+  pub bad-record : (p : ℕ) → frames_of f ≡ Err (bad_place p) → mapped_as (Record p) (zeros 128) ≡ map_of f
   bad-record p e = ap (records_of f) (sym e) ∙ within
 
-  pub all-mapped : (n : ℕ) (m : Mapped) → frames_of f ≡ Good n → m ≡ mapped f n → m ≡ map_of f
+  pub all-mapped : (n : ℕ) (m : Mapped) → frames_of f ≡ Ok n → m ≡ mapped f n → m ≡ map_of f
   all-mapped n m e q = q ∙ ap (records_of f) (sym e) ∙ within

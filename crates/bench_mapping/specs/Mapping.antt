@@ -1,11 +1,10 @@
 -- The bench's map, from the bytes of a frame file to an answer and positions. Definitions only.
-use Rattle.std.specs.Prelude.{List, cond, ℕ, ◌*◌, ◌/◌, ◌%◌, ltb, length, set, take, replicate, Float}
+use Rattle.std.specs.Prelude.{List, cond, ℕ, ◌*◌, ◌/◌, ◌%◌, ltb, length, set, take, replicate, Float, Result, Ok, Err}
 use Rattle.laws.specs.Domain.{most_word}
 use Rattle.laws.specs.Loops.{loop}
 use Rattle.laws.specs.Area.{at, bits, zero64, one64}
-use Rattle.frames.specs.declared.Frames.{Frames}
-use Rattle.frames.specs.declared.Frames.TheVariants.{Good, Bad}
-use Rattle.frames.specs.Frames.{record_bytes, frames_of, frame_of, frames_number, or_zero}
+use Rattle.frames.specs.declared.BadRecord.{BadRecord}
+use Rattle.frames.specs.Frames.{record_bytes, frames_of, frame_of, bad_place, frames_number, or_zero}
 use Rattle.run_record.specs.declared.Method.TheVariants.{BarnesHut}
 use Rattle.run_record.specs.declared.Settings.{Settings}
 use Rattle.tree_node.specs.declared.Cell.{Cell}
@@ -91,9 +90,9 @@ descended s table start =
 unfoldable pub mapped : List ℕ → ℕ → Mapped
 mapped file n = descended (bench_settings n) (take (n * 6) (bench_table file (n * 6))) (take (n * 2) (bench_start file (n * 2)))
 
-abbrev pub records_of : List ℕ → Frames → Mapped
-records_of file (Bad p) = mapped_as (Record p) (zeros 128)
-records_of file (Good n) = mapped file n
+abbrev pub records_of : List ℕ → Result ℕ BadRecord → Mapped
+records_of file (Err b) = mapped_as (Record b.place) (zeros 128)
+records_of file (Ok n) = mapped file n
 
 -- of a longer file no record is tested
 unfoldable pub map_of : List ℕ → Mapped
@@ -102,6 +101,6 @@ map_of file = cond (ltb bench_bytes (length file)) (mapped_as Long (zeros 128)) 
 -- the scope paper's number of an answer; 0 where it is no refusal
 unfoldable pub map_number : Told → ℕ
 map_number Long = 7
-map_number (Record p) = or_zero (frames_number (Bad p))
+map_number (Record p) = or_zero (frames_number (Err (bad_place p)))
 map_number (Refused k) = k
 map_number (Answered a) = work_number a

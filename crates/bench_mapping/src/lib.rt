@@ -10,7 +10,7 @@ ghost use Rattle.descent.specs.Descent.{work};
 ghost use Rattle.bench_mapping.specs.Mapping.{bench_frames, bench_settings, bench_table, bench_start, descended, mapped, map_of, map_number};
 
 use descent::Answer;
-use frames::{Frames, RECORD_BYTES, frame_at, read_frames};
+use frames::{RECORD_BYTES, frame_at, read_frames};
 use laws::MOST_BUDGET;
 use prepare::Prepared;
 use run_record::{Method, Run, Settings};
@@ -221,11 +221,11 @@ pub fn map_file(file: &[u8]) -> Mapped
         };
     }
     match read_frames(file) {
-        Frames::Bad(p) => Mapped {
-            told: Told::Record(p),
+        Err(bad) => Mapped {
+            told: Told::Record(bad.place),
             positions: [0.0; 128],
         },
-        Frames::Good(n) => map_frames(file, n),
+        Ok(n) => map_frames(file, n),
     }
 }
 

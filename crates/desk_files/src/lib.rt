@@ -14,10 +14,7 @@ use frame_words::put_frame;
 pub fn host_scatter(positions: &mut [f64], n: u32, c: u32, seed: u64) -> u32
     ensures { (result ≡ or_zero (scatter_of n c seed positions.old).number) × (positions.new ≡ (scatter_of n c seed positions.old).positions) }
 {
-    match scatter::scatter(positions, n, c, seed) {
-        scatter::Scattered::Done => 0,
-        scatter::Scattered::Refused(k) => k as u32,
-    }
+    refusal::number(scatter::scatter(positions, n, c, seed)) as u32
 }
 
 // How many records a frame file has, or 16 and the place of the first bad one, in the first word of the area.
@@ -28,12 +25,12 @@ pub fn host_frames(file: &[u8], place: &mut [u64]) -> u32
         return 12;
     }
     match frames::read_frames(file) {
-        frames::Frames::Good(n) => {
+        Ok(n) => {
             place[0] = n as u64;
             0
         }
-        frames::Frames::Bad(p) => {
-            place[0] = p as u64;
+        Err(bad) => {
+            place[0] = bad.place as u64;
             16
         }
     }

@@ -13,21 +13,21 @@ use Rattle.laws.specs.Area.{num}
 use Rattle.laws.specs.Loops.{first}
 use Rattle.laws.proofs.Bools.{by_bool, and_left, and_right}
 use Rattle.laws.proofs.First.{first-all, first-none}
-use Rattle.frames.specs.declared.Frames.{Frames}
-use Rattle.frames.specs.declared.Frames.TheVariants.{Good, Bad}
+use Rattle.std.specs.Prelude.{Result, Ok, Err}
+use Rattle.frames.specs.declared.BadRecord.{BadRecord}
 use Rattle.frames.specs.Frames.{record_bytes, picture_at, field_at, most_picture, picture_fine, side_fine, side_at, field_fine, spare_fine, values_fine, good_alone}
-use Rattle.frames.specs.Frames.{may_follow, in_order, bad_at, whole_records, frames_by, frames_of, frame_of}
+use Rattle.frames.specs.Frames.{bad_place, may_follow, in_order, bad_at, whole_records, frames_by, frames_of, frame_of}
 use Rattle.frames.specs.BaseReader.{base_good_alone, base_in_order, base_bad_at, base_frames_of, base_frame_of}
 
 -- ---- a file that is taken, by any test of its records
 
-abbrev is_good : Frames → Bool
-is_good (Good n) = true
-is_good (Bad p) = false
+abbrev is_good : Result ℕ BadRecord → Bool
+is_good (Ok n) = true
+is_good (Err p) = false
 
-abbrev count_of : Frames → ℕ
-count_of (Good n) = n
-count_of (Bad p) = p
+abbrev count_of : Result ℕ BadRecord → ℕ
+count_of (Ok n) = n
+count_of (Err p) = p.place
 
 pub record Taken (bad : ℕ → Bool) (f : List ℕ) (n : ℕ) : Type 0 where
   pub count : n ≡ whole_records f
@@ -38,10 +38,10 @@ module _ (bad : ℕ → Bool) (f : List ℕ) (n : ℕ) where
   abbrev first_bad : ℕ
   first_bad = first bad (whole_records f)
 
-  pub taken_is : frames_by bad f ≡ Good n → Taken bad f n
+  pub taken_is : frames_by bad f ≡ Ok n → Taken bad f n
   taken_is e = go (ltb first_bad (whole_records f)) refl (eqb (length f % record_bytes) 0) refl
     where
-      never : (p : ℕ) → frames_by bad f ≡ Bad p → ⊥
+      never : (p : ℕ) → frames_by bad f ≡ Err (bad_place p) → ⊥
       never p h = true≢false (ap is_good (sym e ∙ h))
 
       go : (a : Bool) → ltb first_bad (whole_records f) ≡ a → (b : Bool) → eqb (length f % record_bytes) 0 ≡ b → Taken bad f n
@@ -53,10 +53,10 @@ module _ (bad : ℕ → Bool) (f : List ℕ) (n : ℕ) where
         good = first-all bad (whole_records f) (ltb-false first_bad (whole_records f) p);
       }
         where
-          frames_is : ltb first_bad (whole_records f) ≡ false → eqb (length f % record_bytes) 0 ≡ true → frames_by bad f ≡ Good (whole_records f)
+          frames_is : ltb first_bad (whole_records f) ≡ false → eqb (length f % record_bytes) 0 ≡ true → frames_by bad f ≡ Ok (whole_records f)
           frames_is p q = rw (p, q)
 
-  pub taken-so : Taken bad f n → frames_by bad f ≡ Good n
+  pub taken-so : Taken bad f n → frames_by bad f ≡ Ok n
   taken-so t = rw (first-none bad (whole_records f) t.good, le-ltb (whole_records f) (whole_records f) (omega arith), eq-eqb (length f % record_bytes) 0 t.no_tail, t.count)
 
 -- ---- the order
@@ -91,7 +91,7 @@ follows_on p e q g r h a b = may-follow p e r h (⊎_elim
 
 -- ---- what holds of every file that is taken
 
-module _ (f : List ℕ) (n : ℕ) (e : frames_of f ≡ Good n) where
+module _ (f : List ℕ) (n : ℕ) (e : frames_of f ≡ Ok n) where
   abbrev picture_in : ℕ → ℕ
   picture_in i = picture_at f (i * record_bytes)
 
@@ -192,7 +192,7 @@ module _ (f : List ℕ) where
   base-good i h = rw ((good-now i h).alone, base-order i (was-good i h).1)
 
   -- a file that the reader of before took is taken, with as many records, and each is the frame that it was
-  pub old-files-read-as-before : (n : ℕ) → base_frames_of f ≡ Good n → (frames_of f ≡ Good n) × ((i : ℕ) → i < n → frame_of f i ≡ base_frame_of f i)
+  pub old-files-read-as-before : (n : ℕ) → base_frames_of f ≡ Ok n → (frames_of f ≡ Ok n) × ((i : ℕ) → i < n → frame_of f i ≡ base_frame_of f i)
   unfolding frames_of frame_of
   old-files-read-as-before n e =
       let t : Taken (base_bad_at f) f n = taken_is (base_bad_at f) f n e in

@@ -1,13 +1,12 @@
 -- The frame file, as the scope paper and request 2026-03 have it: 72-byte records, no header, little-endian. Definitions only.
-use Rattle.std.specs.Prelude.{List, [], ◌∷◌, Bool, cond, not, ◌&&◌, ◌||◌, ℕ, ◌+◌, ◌-◌, ◌*◌, ◌/◌, ◌%◌, eqb, ltb, leb, length, Float}
+use Rattle.std.specs.Prelude.{List, [], ◌∷◌, Bool, cond, not, ◌&&◌, ◌||◌, ℕ, ◌+◌, ◌-◌, ◌*◌, ◌/◌, ◌%◌, eqb, ltb, leb, length, Float, Result, Ok, Err}
 use Rattle.std.proofs.Math.Option.{Option, none, some}
 use Rattle.laws.specs.Loops.{every, first}
 use Rattle.laws.specs.Area.{num, zero64}
 use Rattle.little.specs.Little.{little_of, value_at}
 use Rattle.elementary.specs.Limits.{in_domain}
 use Rattle.frames.specs.declared.Frame.{Frame}
-use Rattle.frames.specs.declared.Frames.{Frames}
-use Rattle.frames.specs.declared.Frames.TheVariants.{Good, Bad}
+use Rattle.frames.specs.declared.BadRecord.{BadRecord}
 
 -- how long a record is
 abbrev pub record_bytes : ℕ
@@ -75,19 +74,23 @@ bad_at f i = not (good_alone f (i * record_bytes) && in_order f i)
 abbrev pub whole_records : List ℕ → ℕ
 whole_records f = length f / record_bytes
 
--- the count of the records, or the place of the first that a test calls bad; a stray tail counts as a record, and is bad
-abbrev pub frames_by : (ℕ → Bool) → List ℕ → Frames
-frames_by bad f =
-    cond (ltb (first bad (whole_records f)) (whole_records f)) (Bad (first bad (whole_records f)))
-    (cond (eqb (length f % record_bytes) 0) (Good (whole_records f)) (Bad (whole_records f)))
+-- the record at place p is the first bad one
+abbrev pub bad_place : ℕ → BadRecord
+bad_place p = record { place = p }
 
-unfoldable pub frames_of : List ℕ → Frames
+-- the count of the records, or the place of the first that a test calls bad; a stray tail counts as a record, and is bad
+abbrev pub frames_by : (ℕ → Bool) → List ℕ → Result ℕ BadRecord
+frames_by bad f =
+    cond (ltb (first bad (whole_records f)) (whole_records f)) (Err (bad_place (first bad (whole_records f))))
+    (cond (eqb (length f % record_bytes) 0) (Ok (whole_records f)) (Err (bad_place (whole_records f))))
+
+unfoldable pub frames_of : List ℕ → Result ℕ BadRecord
 frames_of f = frames_by (bad_at f) f
 
 -- the scope paper's number for what the reader says: a good file has none, a bad record is refused by 16
-abbrev pub frames_number : Frames → Option ℕ
-frames_number (Good n) = none
-frames_number (Bad p) = some 16
+abbrev pub frames_number : Result ℕ BadRecord → Option ℕ
+frames_number (Ok n) = none
+frames_number (Err p) = some 16
 
 -- a number as a call answers it: 0 where there is none
 abbrev pub or_zero : Option ℕ → ℕ

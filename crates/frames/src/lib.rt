@@ -4,7 +4,7 @@
 #![tactic(auto)]
 
 ghost use Rattle.std.specs.Prelude.{◌≡◌, ◌+◌, ◌*◌, ◌/◌, ◌<◌, ◌≤◌, length};
-ghost use Rattle.frames.specs.Frames.{record_bytes, picture_at, picture_fine, side_fine, field_fine, spare_fine, values_fine, good_alone, may_follow, in_order, bad_at, frames_of, features_at, starts_at, frame_of};
+ghost use Rattle.frames.specs.Frames.{record_bytes, picture_at, field_at, picture_fine, side_fine, field_fine, spare_fine, values_fine, good_alone, may_follow, in_order, bad_at, frames_of, features_at, starts_at, frame_of};
 
 // How long a record is.
 pub const RECORD_BYTES: usize = 72;
@@ -12,13 +12,11 @@ pub const RECORD_BYTES: usize = 72;
 // Pictures count from 1 to this.
 const MOST_PICTURE: u64 = 79999;
 
-// What the reader says of a file.
-#[derive(Clone, Copy)]
-pub enum Frames {
-    // so many records, all good
-    Good(usize),
+// Why the reader does not take a file.
+#[derive(Clone, Copy, Debug, PartialEq, Eq)]
+pub struct BadRecord {
     // the place of the first bad record, from 0; a stray tail is one
-    Bad(usize),
+    pub place: usize,
 }
 
 // One captured frame.
@@ -36,24 +34,21 @@ pub struct Frame {
     pub starts: [f64; 2],
 }
 
+#[tactic(auto, unfolding(crate::specs::Frames::picture_fine))]
 pub fn picture_fine(p: u64) -> bool
     ensures { result ≡ picture_fine p }
 {
-    if 1 <= p {
-        return p <= MOST_PICTURE;
-    }
-    false
+    1 <= p && p <= MOST_PICTURE
 }
 
+#[tactic(auto, unfolding(crate::specs::Frames::side_fine))]
 pub fn side_fine(s: u8) -> bool
     ensures { result ≡ side_fine s }
 {
-    if s == 1 {
-        return true;
-    }
-    s == 2
+    s == 1 || s == 2
 }
 
+#[tactic(auto, unfolding(crate::specs::Frames::field_fine))]
 pub fn field_fine(b: u8) -> bool
     ensures { result ≡ field_fine b }
 {
@@ -61,14 +56,12 @@ pub fn field_fine(b: u8) -> bool
 }
 
 // The two spare bytes of the record at a are zero.
+#[tactic(auto, unfolding(crate::specs::Frames::spare_fine))]
 pub fn spare_fine(file: &[u8], a: usize) -> bool
     requires { a + 8 ≤ length file.now }
     ensures { result ≡ spare_fine file.now a }
 {
-    if file[a + 6] != 0 {
-        return false;
-    }
-    file[a + 7] == 0
+    file[a + 6] == 0 && file[a + 7] == 0
 }
 
 // The eight values of the record at a are finite and at most 2^20 in magnitude.
@@ -86,51 +79,31 @@ pub fn values_fine(file: &[u8], a: usize) -> bool
 }
 
 // The record at a is good by itself.
+#[tactic(auto, unfolding(crate::specs::Frames::good_alone))]
 fn good_alone(file: &[u8], a: usize) -> bool
     requires { a + record_bytes ≤ length file.now }
     ensures { result ≡ good_alone file.now a }
 {
-    if !picture_fine(little::half_word(file, a)) {
-        return false;
-    }
-    if !side_fine(file[a + 4]) {
-        return false;
-    }
-    if !field_fine(file[a + 5]) {
-        return false;
-    }
-    if !spare_fine(file, a) {
-        return false;
-    }
-    values_fine(file, a)
+    picture_fine(little::half_word(file, a))
+        && side_fine(file[a + 4])
+        && field_fine(file[a + 5])
+        && spare_fine(file, a)
+        && values_fine(file, a)
 }
 
 // Picture q and field g may follow picture p and field e.
+#[tactic(auto, unfolding(crate::specs::Frames::may_follow))]
 pub fn may_follow(p: u64, e: u8, q: u64, g: u8) -> bool
     ensures { result ≡ may_follow p e q g }
 {
-    if p < q {
-        return true;
-    }
-    if p != q {
-        return false;
-    }
-    if e == 0 {
-        return false;
-    }
-    e < g
+    p < q || p == q && e != 0 && e < g
 }
 
-// Record i may follow the record before it.
-fn in_order(file: &[u8], i: usize) -> bool
-    requires { i * record_bytes + record_bytes ≤ length file.now }
-    ensures { result ≡ in_order file.now i }
+// The record at a may follow the record at b.
+pub fn record_follows(file: &[u8], b: usize, a: usize) -> bool
+    requires { (a + 6 ≤ length file.now) × (b + 6 ≤ length file.now) }
+    ensures { result ≡ may_follow (picture_at file.now b) (field_at file.now b) (picture_at file.now a) (field_at file.now a) }
 {
-    if i == 0 {
-        return true;
-    }
-    let b = (i - 1) * RECORD_BYTES;
-    let a = i * RECORD_BYTES;
     may_follow(
         little::half_word(file, b),
         file[b + 5],
@@ -139,33 +112,41 @@ fn in_order(file: &[u8], i: usize) -> bool
     )
 }
 
+// Record i may follow the record before it.
+#[tactic(auto, unfolding(crate::specs::Frames::in_order))]
+fn in_order(file: &[u8], i: usize) -> bool
+    requires { i * record_bytes + record_bytes ≤ length file.now }
+    ensures { result ≡ in_order file.now i }
+{
+    i == 0 || record_follows(file, (i - 1) * RECORD_BYTES, i * RECORD_BYTES)
+}
+
 // Record i is bad by itself or out of order.
+#[tactic(auto, unfolding(crate::specs::Frames::bad_at))]
 fn is_bad(file: &[u8], i: usize) -> bool
     requires { i * record_bytes + record_bytes ≤ length file.now }
     ensures { result ≡ bad_at file.now i }
 {
-    if good_alone(file, i * RECORD_BYTES) {
-        return !in_order(file, i);
-    }
-    true
+    !(good_alone(file, i * RECORD_BYTES) && in_order(file, i))
 }
 
 // How many records the file has, or the place of the first bad one.
-pub fn read_frames(file: &[u8]) -> Frames
+pub fn read_frames(file: &[u8]) -> Result<usize, BadRecord>
     ensures { result ≡ frames_of file.now }
 {
     let whole = file.len() / RECORD_BYTES;
     for i in 0..whole {
         if is_bad(file, i) {
-            return Frames::Bad(i);
+            return Err(BadRecord { place: i });
         }
     }
-    if file.len() % RECORD_BYTES == 0 {
-        return Frames::Good(whole);
+    if file.len() % RECORD_BYTES != 0 {
+        return Err(BadRecord { place: whole });
     }
-    Frames::Bad(whole)
+    Ok(whole)
 }
 
+#[tactic(auto, unfolding(crate::specs::Frames::features_at))]
 fn features_at(file: &[u8], a: usize) -> [f64; 6]
     requires { a + record_bytes ≤ length file.now }
     ensures { result ≡ features_at file.now a }
@@ -180,6 +161,7 @@ fn features_at(file: &[u8], a: usize) -> [f64; 6]
     ]
 }
 
+#[tactic(auto, unfolding(crate::specs::Frames::starts_at))]
 fn starts_at(file: &[u8], a: usize) -> [f64; 2]
     requires { a + record_bytes ≤ length file.now }
     ensures { result ≡ starts_at file.now a }
@@ -188,6 +170,7 @@ fn starts_at(file: &[u8], a: usize) -> [f64; 2]
 }
 
 // The frame in record i of the file; past the whole records a frame of zeros.
+#[tactic(auto, unfolding(crate::specs::Frames::frame_of))]
 pub fn frame_at(file: &[u8], i: usize) -> Frame
     ensures { result ≡ frame_of file.now i }
 {
@@ -199,8 +182,8 @@ pub fn frame_at(file: &[u8], i: usize) -> Frame
             picture: little::half_word(file, a) as u32,
             side: file[a + 4],
             field: file[a + 5],
-            features: features,
-            starts: starts,
+            features,
+            starts,
         };
     }
     Frame {

@@ -89,8 +89,8 @@ fn case_of(file: &[u8], kind: u64, value: u64, list: &[u8], a: usize) -> Next
     requires { a ≤ 100000 }
 {
     match frames::read_frames(file) {
-        frames::Frames::Good(count) => good_case(file, count, kind, value, list, a),
-        frames::Frames::Bad(place) => {
+        Ok(count) => good_case(file, count, kind, value, list, a),
+        Err(bad) => {
             if kind != 1 {
                 return Next {
                     right: false,
@@ -98,7 +98,7 @@ fn case_of(file: &[u8], kind: u64, value: u64, list: &[u8], a: usize) -> Next
                 };
             }
             Next {
-                right: place as u64 == value,
+                right: bad.place as u64 == value,
                 at: a,
             }
         }

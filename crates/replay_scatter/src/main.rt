@@ -27,13 +27,6 @@ fn same_area(area: &[f64], list: &[u8], a: usize) -> bool
     true
 }
 
-fn number(s: scatter::Scattered) -> u64 {
-    match s {
-        scatter::Scattered::Done => 0,
-        scatter::Scattered::Refused(r) => r as u64,
-    }
-}
-
 // The case from word a on: seed, n, c, length, answer, and then the area.
 fn case_right(list: &[u8], a: usize, area: &mut [f64]) -> bool
     requires { a ≤ 100000 }
@@ -48,7 +41,7 @@ fn case_right(list: &[u8], a: usize, area: &mut [f64]) -> bool
     }
     mark(area);
     let s = scatter::scatter(area, n as u32, c as u32, word_at(list, a));
-    if number(s) != word_at(list, a + 4) {
+    if refusal::number(s) as u64 != word_at(list, a + 4) {
         return false;
     }
     same_area(area, list, a + 5)

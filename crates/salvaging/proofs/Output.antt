@@ -15,9 +15,9 @@ use Rattle.laws.proofs.Bools.{by_bool, and_left, and_right}
 use Rattle.laws.proofs.First.{first_holds, first-before, first-all}
 use Rattle.laws.proofs.Joined.{those-below, those-holds, joined_at}
 use Rattle.laws.proofs.Laid.{laid-front}
-use Rattle.frames.specs.declared.Frames.{Frames}
-use Rattle.frames.specs.declared.Frames.TheVariants.{Good, Bad}
-use Rattle.frames.specs.Frames.{record_bytes, picture_at, field_at, good_alone, may_follow, in_order, bad_at, whole_records, frames_by, frames_of}
+use Rattle.std.specs.Prelude.{Result, Ok, Err}
+use Rattle.frames.specs.declared.BadRecord.{BadRecord}
+use Rattle.frames.specs.Frames.{bad_place, record_bytes, picture_at, field_at, good_alone, may_follow, in_order, bad_at, whole_records, frames_by, frames_of}
 use Rattle.frames.proofs.Fields.{taken-so}
 use Rattle.salvage.specs.Salvage.{follows_last, last_kept, is_kept, kept_in, told_in, record_at, bytes_of, bytes_kept, records_read}
 use Rattle.salvage.proofs.Foremost.{copied-size, record-byte}
@@ -142,7 +142,7 @@ module _ (f : List ℕ) where
   out-fine j l = rw (out-good j l, out-order j l)
 
   -- the reader takes what is kept
-  pub out-taken : frames_of (bytes_kept f whole) ≡ Good (length (kept_in f whole))
+  pub out-taken : frames_of (bytes_kept f whole) ≡ Ok (length (kept_in f whole))
   unfolding frames_of
   out-taken =
       let s : length (bytes_kept f whole) ≡ length (kept_in f whole) * record_bytes = bytes-size f whole (le_refl whole) in
@@ -168,15 +168,15 @@ module _ (f : List ℕ) where
     pub good-before : (i : ℕ) → i < q → bad_at f i ≡ false
     pub dropped : is_kept f q ≡ false
 
-  abbrev place_or : ℕ → Frames → ℕ
-  place_or z (Good n) = z
-  place_or z (Bad p) = p
+  abbrev place_or : ℕ → Result ℕ BadRecord → ℕ
+  place_or z (Ok n) = z
+  place_or z (Err p) = p.place
 
-  abbrev is_taken : Frames → Bool
-  is_taken (Good n) = true
-  is_taken (Bad p) = false
+  abbrev is_taken : Result ℕ BadRecord → Bool
+  is_taken (Ok n) = true
+  is_taken (Err p) = false
 
-  module _ (q : ℕ) (e : frames_of f ≡ Bad q) where
+  module _ (q : ℕ) (e : frames_of f ≡ Err (bad_place q)) where
     abbrev first_one : ℕ
     first_one = first (bad_at f) whole
 
@@ -204,13 +204,13 @@ module _ (f : List ℕ) where
     unfolding frames_of
     refused-at = go (ltb first_one whole) refl (eqb (length f % record_bytes) 0) refl
       where
-        place : (x : ℕ) → frames_by (bad_at f) f ≡ Bad x → q ≡ x
+        place : (x : ℕ) → frames_by (bad_at f) f ≡ Err (bad_place x) → q ≡ x
         place x h = ap (place_or 0) (sym e ∙ h)
 
         go : (a : Bool) → ltb first_one whole ≡ a → (b : Bool) → eqb (length f % record_bytes) 0 ≡ b → StopsAt q
         go true u b v = refused-in (ltb-true first_one whole u) (place first_one (rw u))
         go false u true v = absurd (true≢false (ap is_taken (sym (taken u v) ∙ e)))
           where
-            taken : ltb first_one whole ≡ false → eqb (length f % record_bytes) 0 ≡ true → frames_by (bad_at f) f ≡ Good whole
+            taken : ltb first_one whole ≡ false → eqb (length f % record_bytes) 0 ≡ true → frames_by (bad_at f) f ≡ Ok whole
             taken u v = rw (u, v)
         go false u false v = refused-tail (ltb-false first_one whole u) (eqb-false (length f % record_bytes) 0 v) (place whole (rw (u, v)))

@@ -13,9 +13,9 @@ use borrow.Author.Tests.{lt-ltb, ltb-true, eqb-true, eqb-false, not-true}
 use Rattle.laws.specs.Area.{num}
 use Rattle.laws.proofs.Bools.{two, by_bool, or_yes}
 use Rattle.laws.proofs.Joined.{those-at, those-below, those-holds, those-rise, length-map, get_or-map-in, joined-mono}
-use Rattle.frames.specs.declared.Frames.{Frames}
-use Rattle.frames.specs.declared.Frames.TheVariants.{Good, Bad}
-use Rattle.frames.specs.Frames.{record_bytes, bad_at, whole_records, frames_of}
+use Rattle.std.specs.Prelude.{Result, Ok, Err}
+use Rattle.frames.specs.declared.BadRecord.{BadRecord}
+use Rattle.frames.specs.Frames.{bad_place, record_bytes, bad_at, whole_records, frames_of}
 use Rattle.frames.proofs.Fields.{Taken, taken_is}
 use Rattle.salvage.specs.declared.Salvaged.{Salvaged}
 use Rattle.salvage.specs.declared.Salvaged.TheVariants.{Saved, Short}
@@ -140,8 +140,8 @@ module _ (f g p r : List ℕ) where
     output-is = ap (take (k * record_bytes)) good-is ∙ take_at (bytes_kept f read) (drop (length (bytes_kept f read)) g) (k * record_bytes) size ∙ all-bytes f
 
     -- it is a file that the reader takes
-    pub output-taken : frames_of output ≡ Good k
-    output-taken = ap frames_of output-is ∙ out-taken f ∙ ap Good (sym (k-is ∙ ap length (all-kept f)))
+    pub output-taken : frames_of output ≡ Ok k
+    output-taken = ap frames_of output-is ∙ out-taken f ∙ ap Ok (sym (k-is ∙ ap length (all-kept f)))
 
     -- ---- what lies past is kept
 
@@ -241,7 +241,7 @@ module _ (f g p r : List ℕ) where
 
     -- ---- what the reader refuses at q: the q records before it stand first, and q is told first
 
-    pub refused-told-first : (q : ℕ) → frames_of f ≡ Bad q → (q ≤ k) × (take (q * record_bytes) left.good ≡ take (q * record_bytes) f) × (0 < t) × (num left.places 0 ≡ q)
+    pub refused-told-first : (q : ℕ) → frames_of f ≡ Err (bad_place q) → (q ≤ k) × (take (q * record_bytes) left.good ≡ take (q * record_bytes) f) × (0 < t) × (num left.places 0 ≡ q)
     refused-told-first q d =
         let s : StopsAt f q = refused-at f q d in
         let bytes : bytes_kept f q ≡ take (q * record_bytes) f = straight-bytes f q s.upto s.good-before in
@@ -265,7 +265,7 @@ module _ (f g p r : List ℕ) where
 
   -- ---- a good file comes through unchanged, with nothing told
 
-  pub good-file-unchanged : (n : ℕ) → frames_of f ≡ Good n → is_short ≡ false → salvage_of f g p r ≡ salvage_outcome (Saved n 0) (foremost f g) p r
+  pub good-file-unchanged : (n : ℕ) → frames_of f ≡ Ok n → is_short ≡ false → salvage_of f g p r ≡ salvage_outcome (Saved n 0) (foremost f g) p r
   unfolding frames_of
   good-file-unchanged n d e =
       let s : Taken (bad_at f) f n = taken_is (bad_at f) f n d in
@@ -277,12 +277,12 @@ module _ (f g p r : List ℕ) where
       roomy-saves e ∙ rw (whole, none, bytes, count)
 
   -- and only a good file has nothing told
-  pub nothing-told-is-good : (k : ℕ) → (salvage_of f g p r).answer ≡ Saved k 0 → frames_of f ≡ Good k
+  pub nothing-told-is-good : (k : ℕ) → (salvage_of f g p r).answer ≡ Saved k 0 → frames_of f ≡ Ok k
   nothing-told-is-good k e = go (frames_of f) refl
     where
-      go : (x : Frames) → frames_of f ≡ x → frames_of f ≡ Good k
-      go (Good n) d = d ∙ ap (λ (a : Salvaged). Good (count_kept a)) (ap (λ (o : SalvageOutcome). o.answer) (sym (good-file-unchanged n d (roomy k 0 e))) ∙ e)
-      go (Bad q) d = absurd (omega (arith, (refused-told-first k 0 e q d).2))
+      go : (x : Result ℕ BadRecord) → frames_of f ≡ x → frames_of f ≡ Ok k
+      go (Ok n) d = d ∙ ap (λ (a : Salvaged). Ok (count_kept a)) (ap (λ (o : SalvageOutcome). o.answer) (sym (good-file-unchanged n d (roomy k 0 e))) ∙ e)
+      go (Err q) d = absurd (omega (arith, (refused-told-first k 0 e q.place d).2))
 
 -- salvaging the output again changes nothing: the same bytes, and nothing told
 pub output-unchanged :

@@ -1,3 +1,2 @@
 -- The laws that the proofs cite, and that the contract allows one outcome.
-pub mod Product
 pub mod Tight

@@ -1,13 +1,11 @@
 -- Scatter, as the scope paper has it: SplitMix64, the coordinate of an output, and the positions it starts from. Definitions only.
-use Rattle.std.specs.Prelude.{ℕ, ◌+◌, ◌*◌, ◌/◌, ◌%◌, ◌^◌, cond, ◌||◌, List, length, pos, ◌==◌, bit_xor, nat_lt, slice_set, Float}
+use Rattle.std.specs.Prelude.{ℕ, ◌+◌, ◌*◌, ◌/◌, ◌%◌, ◌^◌, cond, ◌||◌, List, length, pos, ◌==◌, bit_xor, nat_lt, slice_set, Float, Result, Ok, Err}
 use Rattle.std.proofs.Math.Option.{Option, none, some}
 use Rattle.std.specs.Float.{binary64}
 use Rattle.std.specs.Float.Ieee.{of_int, sub, mul, div}
 use Rattle.laws.specs.Domain.{most_components, most_frames}
 use Rattle.laws.specs.Loops.{loop}
 use Rattle.laws.specs.Area.{bits}
-use Rattle.scatter.specs.declared.Scattered.{Scattered}
-use Rattle.scatter.specs.declared.Scattered.TheVariants.{Done, Refused}
 
 -- the state after this one: plus a constant, wrapping
 abbrev pub next_state : ℕ → ℕ
@@ -58,9 +56,9 @@ abbrev pub scattered : ℕ → ℕ → List Float → List Float
 scattered m seed p = (loop scatter_step m 0 (spread seed p)).positions
 
 -- the number that the scope paper gives an answer; none when the positions are written
-abbrev pub scatter_number : Scattered → Option ℕ
-scatter_number Done = none
-scatter_number (Refused r) = some r
+abbrev pub scatter_number : Result Unit ℕ → Option ℕ
+scatter_number (Ok x) = none
+scatter_number (Err r) = some r
 
 -- the answer's number and the positions afterwards
 pub record ScatterOutcome : Type 0 where
@@ -68,13 +66,13 @@ pub record ScatterOutcome : Type 0 where
   pub positions : List Float
 
 -- an answer with the positions it leaves
-abbrev pub scatter_outcome : Scattered → List Float → ScatterOutcome
+abbrev pub scatter_outcome : Result Unit ℕ → List Float → ScatterOutcome
 scatter_outcome a p = record { number = scatter_number a; positions = p }
 
 -- the refusals in the scope paper's order, which write nothing; else n rows of c coordinates
 unfoldable pub scatter_of : ℕ → ℕ → ℕ → List Float → ScatterOutcome
 scatter_of n c seed p =
-    cond (c == 0 || nat_lt most_components c) (scatter_outcome (Refused 1) p)
-    (cond (n == 0 || nat_lt most_frames n) (scatter_outcome (Refused 7) p)
-    (cond (nat_lt (length p) (n * c)) (scatter_outcome (Refused 12) p)
-    (scatter_outcome Done (scattered (n * c) seed p))))
+    cond (c == 0 || nat_lt most_components c) (scatter_outcome (Err 1) p)
+    (cond (n == 0 || nat_lt most_frames n) (scatter_outcome (Err 7) p)
+    (cond (nat_lt (length p) (n * c)) (scatter_outcome (Err 12) p)
+    (scatter_outcome (Ok tt) (scattered (n * c) seed p))))

@@ -10,12 +10,12 @@ returns-then-file-gt-BENCH_BYTES c =
 
 pub map_frames-requires : goal.map_frames-requires
 map_frames-requires c =
-    frames-few _ _ (omega (arith, c.if-file-gt-BENCH_BYTES.false)) (sym c.read_frames.ensures ∙ c.in-Good.is)
+    frames-few _ _ (omega (arith, c.if-file-gt-BENCH_BYTES.false)) (sym c.read_frames.ensures ∙ c.in-Ok.is)
 
-pub returns-in-Bad : goal.returns-in-Bad
-returns-in-Bad c =
-    bad-record _ (omega (arith, c.if-file-gt-BENCH_BYTES.false)) _ (sym c.read_frames.ensures ∙ c.in-Bad.is)
+pub returns-in-Err : goal.returns-in-Err
+returns-in-Err c =
+    bad-record _ (omega (arith, c.if-file-gt-BENCH_BYTES.false)) _ (sym c.read_frames.ensures ∙ c.in-Err.is)
 
-pub returns-in-Good : goal.returns-in-Good
-returns-in-Good c =
-    all-mapped _ (omega (arith, c.if-file-gt-BENCH_BYTES.false)) _ _ (sym c.read_frames.ensures ∙ c.in-Good.is) c.map_frames.ensures
+pub returns-in-Ok : goal.returns-in-Ok
+returns-in-Ok c =
+    all-mapped _ (omega (arith, c.if-file-gt-BENCH_BYTES.false)) _ _ (sym c.read_frames.ensures ∙ c.in-Ok.is) c.map_frames.ensures

@@ -9,12 +9,12 @@ unfolding host_frames
 returns-then-place-eq0 c =
     rw (eq-eqb _ _ c.if-place-eq0.true)
 
-pub returns-in-Good : goal.returns-in-Good
+pub returns-in-Ok : goal.returns-in-Ok
 unfolding host_frames
-returns-in-Good c =
-    rw (ne_eqb _ _ c.if-place-eq0.false, sym c.read_frames.ensures ∙ c.in-Good.is)
+returns-in-Ok c =
+    rw (ne_eqb _ _ c.if-place-eq0.false, sym c.read_frames.ensures ∙ c.in-Ok.is)
 
-pub returns-in-Bad : goal.returns-in-Bad
+pub returns-in-Err : goal.returns-in-Err
 unfolding host_frames
-returns-in-Bad c =
-    rw (ne_eqb _ _ c.if-place-eq0.false, sym c.read_frames.ensures ∙ c.in-Bad.is)
+returns-in-Err c =
+    rw (ne_eqb _ _ c.if-place-eq0.false, sym c.read_frames.ensures ∙ c.in-Err.is)

@@ -15,10 +15,10 @@ pub loop-i-preserved : goal.loop-i-preserved
 loop-i-preserved c =
     seek-next c.loop-i.invariant c.loop-i-test.true (sym c.is_bad.ensures ∙ c.if-is_bad.false)
 
-pub returns-then-file-eq0 : goal.returns-then-file-eq0
-returns-then-file-eq0 c =
-    all-good _ _ c.loop-i.invariant c.loop-i-test.false c.if-file-eq0.true
+pub returns-then-file-ne0 : goal.returns-then-file-ne0
+returns-then-file-ne0 c =
+    stray _ _ c.loop-i.invariant c.loop-i-test.false c.if-file-ne0.true
 
 pub returns : goal.returns
 returns c =
-    stray _ _ c.loop-i.invariant c.loop-i-test.false c.if-file-eq0.false
+    all-good _ _ c.loop-i.invariant c.loop-i-test.false c.if-file-ne0.false

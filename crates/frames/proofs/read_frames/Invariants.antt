@@ -1,5 +1,4 @@
 -- `frames::read_frames` meets its contract: the loop keeps `Seeks`; by `bad-one`, `all-good`, `seek-start`, `seek-next`.
-use Prim.Native.Nat.{◌-◌}
 use Rattle.laws.proofs.First.{Seeks}
 use Rattle.frames.specs.Frames.{bad_at, whole_records}
 use Rattle.frames.proofs.read_frames.Given as goal

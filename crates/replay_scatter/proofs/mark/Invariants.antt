@@ -1,5 +1,5 @@
 -- `replay_scatter::mark` meets its contract: the loop keeps what has been done equal to its part of the whole.
-use Rattle.std.proofs.Common.{◌≡◌, ◌-◌, ◌≤◌, length}
+use Rattle.std.proofs.Common.{◌≡◌, ◌≤◌, length}
 use Rattle.replay_scatter.proofs.mark.Given as goal
 
 abbrev pub invariant-loop-i : goal.invariant-loop-i

@@ -5,4 +5,4 @@ use Rattle.scatter.proofs.mix.Goals as goal
 pub returns : goal.returns
 unfolding mix_of
 returns c =
-    rw (c.fold-3.ensures, c.wrapping_mul-b.ensures, c.fold-2.ensures, c.wrapping_mul-a.ensures, c.fold.ensures)
+    rw (c.fold.ensures, c.fold-b.ensures, c.fold-a.ensures)

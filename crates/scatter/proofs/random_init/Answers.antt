@@ -1,15 +1,11 @@
 use Rattle.std.proofs.Common.{ap, arith, rules}
-use Rattle.laws.proofs.Loops.{loop-start, loop-next, loop-done}
+use Rattle.laws.proofs.Loops.{loop-next, loop-done}
 use Rattle.scatter.specs.Scatter.{Spread}
 use Rattle.scatter.proofs.random_init.Goals as goal
 
-pub loop-k-init : goal.loop-k-init
-loop-k-init c =
-    (search rules, loop-start _ _ _)
-
 pub loop-k-preserved : goal.loop-k-preserved
 loop-k-preserved c =
-    (search rules, rw (c.coordinate.ensures, c.mix.ensures, c.wrapping_add_u64-state.ensures.value) (loop-next c.loop-k.invariant.1 (omega arith)))
+    (search rules, rw (c.coordinate.ensures, c.mix.ensures) (loop-next c.loop-k.invariant.1 (omega arith)))
 
 pub returns : goal.returns
 returns c =

@@ -1,5 +1,5 @@
 -- `scatter::random_init` meets its contract: k places are written, from the seed's next k states. Assumes nothing.
-use Rattle.std.proofs.Common.{◌≡◌, ◌-◌, length}
+use Rattle.std.proofs.Common.{◌≡◌, length}
 use Rattle.laws.proofs.Loops.{Loops}
 use Rattle.scatter.specs.Scatter.{spread, scatter_step}
 use Rattle.scatter.proofs.random_init.Given as goal
