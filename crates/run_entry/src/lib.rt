@@ -13,7 +13,7 @@ ghost use Rattle.run_entry.specs.Entry.{offset_fine, index_fine, tree_fits, area
 use run_record::counters::counters_ok;
 use run_record::faults::{is_tree, settings_fault, sizes_of};
 use run_record::{Run, Settings};
-use tree::Contents;
+use tree::Unsound;
 use tree::wellformed::tree_ok;
 use tree_node::Cell;
 
@@ -167,15 +167,13 @@ pub fn areas_fit(
     z.square <= a
 }
 
-fn tree_fault(t: Contents) -> Fault
+fn tree_fault(t: Result<(), Unsound>) -> Fault
     ensures { result ≡ tree_fault t }
 {
     match t {
-        Contents::Fine => Fault::Fine,
-        Contents::Used => Fault::Tree(0),
-        Contents::Count(i) => Fault::Tree(i),
-        Contents::Point(i) => Fault::Tree(i),
-        Contents::Block(i) => Fault::Tree(i),
+        Ok(()) => Fault::Fine,
+        Err(Unsound::Used) => Fault::Tree(0),
+        Err(Unsound::Count(i) | Unsound::Point(i) | Unsound::Block(i)) => Fault::Tree(i),
     }
 }
 
