@@ -3,7 +3,7 @@ use mathlib.Core.Path.{◌≡◌, refl, sym, ap, ◌∙◌}
 use mathlib.Core.List.{List, [], ◌++◌, append_assoc}
 use Prim.Native.Nat.{ℕ, ◌+◌, ◌-◌, ◌≤◌}
 use native.Mathlib.Omega.{arith}
-use native.Mathlib.Nat.{le_antisymm, zero-add}
+use native.Mathlib.Nat.{zero-add}
 use lib.ListN.{length, take, drop, length-append, length-drop}
 use lib.Seq.{paste-zero, length-take-le, take_at, drop_at, drop-drop}
 use Rattle.io.specs.Counts.{IsPrefixLen}
@@ -13,8 +13,8 @@ use Rattle.text.specs.Text.{Puts}
 
 -- ---- the loop that puts a string has put it whole
 
-pub puts-done : {w l₀ l : List ℕ} {a i : ℕ} → a + length w ≤ length l₀ → length w ≤ i → Spells w l₀ a i l → Puts w a l₀ (a + i) l
-puts-done {w} {l₀} {l} {a} {i} m h r = record { place = ap (λ (x : ℕ). a + x) (le_antisymm r.within h); room = omega arith; area = spells-done h r }
+pub puts-done : {w l₀ l : List ℕ} {a i : ℕ} → a + length w ≤ length l₀ → length w ≤ i → Spells w l₀ a i l → Puts w a l₀ (a + length w) l
+puts-done {w} {l₀} {l} {a} {i} m h r = record { place = refl; room = omega arith; area = spells-done h r }
 
 -- ---- texts one after the other
 

@@ -1,4 +1,5 @@
 use mathlib.Core.Path.{sym, ◌∙◌}
+use native.Mathlib.Omega.{arith}
 use Rattle.laws.proofs.First.{seek-start, seek-next, seek_stop, seek-done}
 use Rattle.monitor_read.proofs.first_broken.Goals as goal
 
@@ -16,4 +17,4 @@ loop-i-preserved c =
 
 pub returns : goal.returns
 returns c =
-    seek-done c.loop-i.invariant c.loop-i-test.false
+    omega (arith, seek-done c.loop-i.invariant c.loop-i-test.false, c.loop-i.invariant.within, c.loop-i-test.false)
