@@ -9,6 +9,8 @@ ghost use Rattle.divergence.specs.Divergence.{last_exaggeration, total_of, just_
 
 use divergence_sums::{barnes_hut_kl, kl_divergence};
 use gradient::element::{normaliser, share_sum};
+use gradient::forces::Lists;
+use gradient_pairs::exact::{Map, Pairs};
 use laws::EARLY_ITERATIONS;
 use run_entry::{Fault, fault_at, fault_number, is_fine};
 use run_record::Run;
@@ -83,12 +85,27 @@ fn figure(
     let s = r.settings;
     let m = s.method;
     let e = last_exaggeration(r);
+    let map = Map {
+        positions: copy,
+        n: s.n,
+        c: s.c,
+    };
     if is_tree(m) {
         let z = normaliser(forces, s.n, s.c);
-        return barnes_hut_kl(copy, affinities, indices, offsets, e, z, s.n, s.c);
+        let lists = Lists {
+            weights: affinities,
+            indices,
+            offsets,
+        };
+        return barnes_hut_kl(map, lists, e, z);
     }
     let t = total(r, forces);
-    kl_divergence(copy, affinities, e, t, s.n, s.c)
+    kl_divergence(Pairs {
+        map,
+        affinities,
+        exaggeration: e,
+        total: t,
+    })
 }
 
 // What is answered once the entry tests have found f.

@@ -5,7 +5,8 @@ ghost use Rattle.tree_node.specs.Node.{Axes};
 ghost use Rattle.gradient.specs.Forces.{Linked, forces_of};
 ghost use Rattle.replay_arena.specs.Fronts.{front, Walkable};
 
-use gradient::forces::point_forces;
+use gradient::forces::{Lists, point_forces};
+use gradient_pairs::exact::Map;
 use tree_node::Cell;
 
 // Point i, in the tree that lies in the first k cells.
@@ -13,31 +14,27 @@ pub(crate) fn forces_in(
     cells: [Cell; 512],
     k: usize,
     used: usize,
-    positions: &[f64],
-    weights: &[f64],
-    indices: &[u32],
-    offsets: &[u32],
-    n: usize,
-    c: usize,
+    map: Map,
+    lists: Lists,
     i: usize,
     exaggeration: f64,
     angle: f64,
     forces: &mut [f64],
 )
-    requires { (Axes c)
-        × (i < n)
-        × (n ≤ most_frames)
-        × (n * c ≤ length positions.now)
-        × (n * (2 * c + 1) ≤ length forces.old)
+    requires { (Axes map.c)
+        × (i < map.n)
+        × (map.n ≤ most_frames)
+        × (map.n * map.c ≤ length map.positions.now)
+        × (map.n * (2 * map.c + 1) ≤ length forces.old)
         × (k ≤ 512)
-        × (Walkable k used c cells)
-        × Linked n weights.now indices.now offsets.now i }
+        × (Walkable k used map.c cells)
+        × Linked map.n lists.weights.now lists.indices.now lists.offsets.now i }
     ensures { forces.new
-        ≡ forces_of exaggeration angle c
-        positions.now
-        weights.now
-        indices.now
-        offsets.now
+        ≡ forces_of exaggeration angle map.entry.c
+        map.entry.positions.now
+        lists.entry.weights.now
+        lists.entry.indices.now
+        lists.entry.offsets.now
         used
         (front k cells)
         i
@@ -47,12 +44,8 @@ pub(crate) fn forces_in(
     point_forces(
         &own[..k],
         used,
-        positions,
-        weights,
-        indices,
-        offsets,
-        n,
-        c,
+        map,
+        lists,
         i,
         exaggeration,
         angle,

@@ -2,11 +2,7 @@
 ghost use Rattle.std.specs.Prelude.{◌≡◌, true, ◌≤◌, length};
 ghost use Rattle.gradient.specs.Forces.{Below, Linked};
 
-fn wide(x: u32) -> usize
-    ensures { result ≡ x }
-{
-    x as usize
-}
+use gradient::forces::Lists;
 
 // Whether the first m indices name frames that there are.
 fn below(indices: &[u32], m: usize, n: usize) -> bool
@@ -14,7 +10,7 @@ fn below(indices: &[u32], m: usize, n: usize) -> bool
     ensures { result ≡ true → Below n m indices.now }
 {
     for k in 0..m {
-        if wide(indices[k]) >= n {
+        if indices[k] as usize >= n {
             return false;
         }
     }
@@ -22,23 +18,14 @@ fn below(indices: &[u32], m: usize, n: usize) -> bool
 }
 
 // Whether list i lies within both areas and names frames that there are.
-pub(crate) fn linked(weights: &[f64], indices: &[u32], offsets: &[u32], n: usize, i: usize) -> bool
+pub(crate) fn linked(lists: Lists, n: usize, i: usize) -> bool
     requires { i ≤ 64 }
-    ensures { result ≡ true → Linked n weights.now indices.now offsets.now i }
+    ensures { result ≡ true → Linked n lists.entry.weights.now lists.entry.indices.now lists.entry.offsets.now i }
 {
-    if i + 1 >= offsets.len() {
+    if i + 1 >= lists.offsets.len() {
         return false;
     }
-    let a = wide(offsets[i]);
-    let e = wide(offsets[i + 1]);
-    if e < a {
-        return false;
-    }
-    if e > weights.len() {
-        return false;
-    }
-    if e > indices.len() {
-        return false;
-    }
-    below(indices, e, n)
+    let a = lists.offsets[i] as usize;
+    let e = lists.offsets[i + 1] as usize;
+    a <= e && e <= lists.weights.len() && e <= lists.indices.len() && below(lists.indices, e, n)
 }

@@ -5,6 +5,7 @@
 ghost use Rattle.std.specs.Prelude.{◌≡◌, ◌+◌, ◌*◌, ◌<◌, ◌≤◌, length};
 
 use divergence_sums::kl_divergence;
+use gradient_pairs::exact::{Map, Pairs};
 use replay::areas::{copy_words, mark, plus, same_area, same_value, value_at};
 use replay::word_at;
 use std::io;
@@ -36,21 +37,14 @@ fn ready(list: &[u8], a: usize, m: usize) -> [f64; 210]
 }
 
 // The units of all rows: first those of the total, then those of the gradient.
-fn exact_rows(
-    positions: &[f64],
-    affinities: &[f64],
-    exaggeration: f64,
-    n: usize,
-    c: usize,
-    forces: &mut [f64],
-)
-    requires { (c ≤ 8) × (n * c ≤ length positions.now) × (n * n ≤ length affinities.now) × (n * c < length forces.old) }
+fn exact_rows(map: Map, affinities: &[f64], exaggeration: f64, forces: &mut [f64])
+    requires { (map.c ≤ 8) × (map.n * map.c ≤ length map.positions.now) × (map.n * map.n ≤ length affinities.now) × (map.n * map.c < length forces.old) }
 {
-    for i in 0..n {
-        gradient::rows::total_row(positions, n, c, i, forces);
+    for i in 0..map.n {
+        gradient::rows::total_row(map, i, forces);
     }
-    for j in 0..n {
-        gradient::rows::gradient_row(positions, affinities, exaggeration, n, c, j, forces);
+    for j in 0..map.n {
+        gradient::rows::gradient_row(map, affinities, exaggeration, j, forces);
     }
 }
 
@@ -85,7 +79,12 @@ fn exact_case(list: &[u8], a: usize, n: usize, c: usize) -> bool
     let positions = ready(list, b, m);
     let affinities = ready(list, d, p);
     let mut forces = ready(list, e, 0);
-    exact_rows(&positions, &affinities, exaggeration, n, c, &mut forces);
+    let map = Map {
+        positions: &positions,
+        n,
+        c,
+    };
+    exact_rows(map, &affinities, exaggeration, &mut forces);
     let right = same_forces(&forces, m, list, e);
     let kept = same_area(&positions, 0, m, list, b);
     both(both(right, kept), same_area(&affinities, 0, p, list, d))
@@ -215,7 +214,17 @@ fn pairs_case(list: &[u8], a: usize, n: usize, c: usize) -> bool
     let total = value_at(list, plus(a, 3));
     let positions = ready(list, b, m);
     let affinities = ready(list, d, p);
-    let figure = kl_divergence(&positions, &affinities, exaggeration, total, n, c);
+    let map = Map {
+        positions: &positions,
+        n,
+        c,
+    };
+    let figure = kl_divergence(Pairs {
+        map,
+        affinities: &affinities,
+        exaggeration,
+        total,
+    });
     same_value(figure, list, plus(d, p))
 }
 

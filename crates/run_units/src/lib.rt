@@ -14,7 +14,8 @@ ghost use Rattle.run_finish.specs.FinishRoom.{Small};
 ghost use Rattle.run_units.specs.Units.{is_done, turn_as, inserted_of, tree_turn, tree_unit, force_unit, row_unit, turned, unit};
 ghost use Rattle.run_units.specs.Room.{TreeRoom, ForceRoom, RowRoom};
 
-use gradient::forces::point_forces;
+use gradient::forces::{Lists, point_forces};
+use gradient_pairs::exact::Map;
 use run_finish::{Turn, Why, finish_unit};
 use run_plan::{exaggeration, group};
 use run_record::Run;
@@ -126,19 +127,16 @@ fn row_unit(r: Run, positions: &[f64], affinities: &[f64], forces: &mut [f64])
     ensures { forces.new ≡ row_unit r positions.now affinities.now forces.old }
 {
     let s = r.settings;
+    let map = Map {
+        positions,
+        n: s.n,
+        c: s.c,
+    };
     if r.phase < s.n {
-        gradient::rows::total_row(positions, s.n, s.c, r.phase, forces);
+        gradient::rows::total_row(map, r.phase, forces);
         return;
     }
-    gradient::rows::gradient_row(
-        positions,
-        affinities,
-        exaggeration(r),
-        s.n,
-        s.c,
-        r.phase - s.n,
-        forces,
-    );
+    gradient::rows::gradient_row(map, affinities, exaggeration(r), r.phase - s.n, forces);
 }
 
 // A point's forces, a row of the total or a row of the gradient.
@@ -167,9 +165,17 @@ pub(crate) fn force_unit(
         let s = r.settings;
         let i = point_seen(r);
         let e = exaggeration(r);
-        point_forces(
-            cells, r.used, positions, affinities, indices, offsets, s.n, s.c, i, e, s.angle, forces,
-        );
+        let map = Map {
+            positions,
+            n: s.n,
+            c: s.c,
+        };
+        let lists = Lists {
+            weights: affinities,
+            indices,
+            offsets,
+        };
+        point_forces(cells, r.used, map, lists, i, e, s.angle, forces);
         let t = advanced(r, r.used);
         return t;
     }
