@@ -13,13 +13,6 @@ ghost use Rattle.take_lists.specs.Packed.{links_left, packed_indices, packed_wei
 ghost use Rattle.take_lists.specs.Steps.{named_left, kept_from, indices_from, weights_from, closed_weights, closed_indices, closed_offsets};
 
 use take_gone::{is_among, is_next, place_of};
-use take_rows::clear_bits;
-
-fn wide(x: u32) -> usize
-    ensures { result ≡ x }
-{
-    x as usize
-}
 
 // Of the k frames named from place a on, how many are not in `gone`.
 fn list_left(gone: &[u32], indices: &[u32], a: usize, k: usize) -> usize
@@ -28,10 +21,9 @@ fn list_left(gone: &[u32], indices: &[u32], a: usize, k: usize) -> usize
 {
     let mut c = 0;
     for t in 0..k {
-        if is_among(gone, indices[a + t]) {
-            continue;
+        if !is_among(gone, indices[a + t]) {
+            c += 1;
         }
-        c += 1;
     }
     c
 }
@@ -48,8 +40,8 @@ pub fn links_left(gone: &[u32], n: usize, indices: &[u32], offsets: &[u32]) -> u
             g += 1;
             continue;
         }
-        let a = wide(offsets[j]);
-        c += list_left(gone, indices, a, wide(offsets[j + 1]) - a);
+        let a = offsets[j] as usize;
+        c += list_left(gone, indices, a, offsets[j + 1] as usize - a);
     }
     c
 }
@@ -81,13 +73,13 @@ fn pack_list(
     e
 }
 
-// The places from a up to b become 0.
-fn clear_words(area: &mut [u32], a: usize, b: usize)
+// The places from a up to b become z.
+fn clear_between<T: Copy>(area: &mut [T], a: usize, b: usize, z: T)
     requires { (a ≤ b) × (b ≤ length area.old) }
-    ensures { area.new ≡ cleared_from 0 a b area.old }
+    ensures { area.new ≡ cleared_from z a b area.old }
 {
     for p in a..b {
-        area[p] = 0;
+        area[p] = z;
     }
 }
 
@@ -107,9 +99,9 @@ fn pack_all(
 {
     let mut q = 0;
     for i in 0..keep.len() {
-        let j = wide(keep[i]);
-        let a = wide(offsets[j]);
-        let k = wide(offsets[j + 1]) - a;
+        let j = keep[i] as usize;
+        let a = offsets[j] as usize;
+        let k = offsets[j + 1] as usize - a;
         offsets[i] = q as u32;
         q = pack_list(weights, indices, keep, a, k, q);
     }
@@ -130,9 +122,9 @@ pub fn pack_lists(
         × (indices.new ≡ shrunk 0 (num offsets.old n) (packed_indices keep.now indices.old offsets.old) indices.old)
         × (offsets.new ≡ shrunk 0 (n + 1) (packed_offsets keep.now indices.old offsets.old) offsets.old) }
 {
-    let links = wide(offsets[n]);
+    let links = offsets[n] as usize;
     let q = pack_all(weights, indices, offsets, n, keep);
-    clear_bits(weights, q, links);
-    clear_words(indices, q, links);
-    clear_words(offsets, keep.len() + 1, n + 1);
+    clear_between(weights, q, links, 0);
+    clear_between(indices, q, links, 0);
+    clear_between(offsets, keep.len() + 1, n + 1, 0);
 }

@@ -1,14 +1,16 @@
 -- Rows of frames that are kept, brought while the rows before them are packed: where they stand, and that they are as they were. Assumes nothing.
-use mathlib.Core.Path.{◌≡◌, sym, ap, subst, ◌∙◌}
-use mathlib.Core.List.{List}
-use Prim.Native.Nat.{ℕ, ◌+◌, ◌*◌, ◌<◌, ◌≤◌}
+use mathlib.Core.Path.{◌≡◌, refl, sym, ap, subst, ◌∙◌}
+use mathlib.Core.List.{List, ◌++◌, append_assoc}
+use Prim.Native.Nat.{ℕ, ◌+◌, ◌-◌, ◌*◌, ◌<◌, ◌≤◌}
 use native.Mathlib.Omega.{arith}
 use native.Mathlib.Nat.{mul-le-mul}
-use lib.ListN.{length}
+use lib.ListN.{length, take, drop}
+use lib.Seq.{paste}
 use lib.Ieee.{Float, nan, binary64, sub}
+use Rattle.std.specs.List.{copy_within}
 use Rattle.laws.specs.Area.{at, num}
 use Rattle.laws.specs.Joined.{each}
-use Rattle.laws.proofs.Laid.{singles-size}
+use Rattle.laws.proofs.Laid.{singles-size, singles-taken}
 use Rattle.take_gone.proofs.Fronts.{fronts-at}
 use Rattle.take_rows.specs.Rows.{Staying, Means, centred_left}
 use Rattle.take_rows.proofs.Packing.{Packs, each_same, kept-no-lower, kept-within}
@@ -42,6 +44,17 @@ module _ {keep : List ℕ} {n : ℕ} (k : Staying keep n) {row : ℕ → List Fl
       (λ d m. ap (λ (y : ℕ). sub binary64 (at l (y * c + d)) (at means d)) e
       ∙ ap (λ (v : Float). sub binary64 v (at means d)) (fronts-at p.front nan (num keep i * c + d) (omega (arith, kept-no-lower k c i h)))
       ∙ ap (sub binary64 (at l₀ (num keep i * c + d))) (s.each-mean d m))
+
+-- a row that is copied from place a to place b
+pub row-copied : (l : List ℕ) {l' : List ℕ} (a b w : ℕ) → a + w ≤ length l → l' ≡ copy_within l a (a + w) b → l' ≡ take b l ++ (each (λ d. num l (a + d)) w ++ drop (b + w) l)
+row-copied l {l'} a b w h e =
+    e
+    ∙ ap (λ (x : ℕ). paste l b (drop a l) x) (left a w)
+    ∙ append_assoc (take b l) (take w (drop a l)) (drop (b + w) l)
+    ∙ ap (λ (x : List ℕ). take b l ++ (x ++ drop (b + w) l)) (singles-taken l 0 (λ d. num l (a + d)) a w h (λ j m. refl))
+  where
+    left : (a w : ℕ) → a + w - a ≡ w
+    left a w = omega arith
 
 -- so many values has a row
 pub row-long : {A : Type 0} (g : ℕ → A) (w : ℕ) → length (each g w) ≡ w

@@ -1,11 +1,11 @@
 -- Rows brought to the front of an area, one after the other, from places further on: the loop over a row, and the loop over rows. Assumes nothing.
 use mathlib.Core.Path.{◌≡◌, refl, sym, ap, ◌∙◌}
 use mathlib.Core.List.{List, [], ◌∷◌, ◌++◌, append_assoc, append-nil}
-use Prim.Native.Nat.{ℕ, zero, suc, ◌+◌, ◌-◌, ◌*◌, ◌<◌, ◌≤◌}
+use Prim.Native.Nat.{ℕ, zero, suc, ◌+◌, ◌*◌, ◌<◌, ◌≤◌}
 use native.Mathlib.Omega.{arith}
 use native.Mathlib.Numerals.{add-one}
 use native.Mathlib.Nat.{add-zero, add_assoc, zero-mul, suc-mul, mul-le-mul_right}
-use lib.ListN.{length, get_or, set, take, drop, replicate, length-append, replicate-append-replicate, take-append-drop}
+use lib.ListN.{length, get_or, set, take, drop, length-append, take-append-drop}
 use lib.Seq.{take_at, drop_at, length-take-le}
 use Rattle.laws.specs.Area.{num}
 use Rattle.laws.specs.Joined.{joined, each}
@@ -13,7 +13,7 @@ use Rattle.laws.proofs.Numbers.{row_in}
 use Rattle.laws.proofs.Joined.{joined-next, joined-none}
 use Rattle.laws.proofs.Changed.{drop-later}
 use Rattle.take_gone.proofs.Fronts.{Fronts, fronts-next, fronts-at, fronts-as}
-use Rattle.take_rows.specs.Rows.{shrunk, Staying}
+use Rattle.take_rows.specs.Rows.{Staying}
 
 module _ {A : Type 0} where
   pub joined_same : (f g : ℕ → List A) (n : ℕ) → ((i : ℕ) → i < n → f i ≡ g i) → joined f n ≡ joined g n
@@ -23,11 +23,6 @@ module _ {A : Type 0} where
 
   pub each_same : (f g : ℕ → A) (n : ℕ) → ((i : ℕ) → i < n → f i ≡ g i) → each f n ≡ each g n
   each_same f g n h = joined_same (λ j. f j ∷ []) (λ j. g j ∷ []) n (λ i l. ap (λ (x : A). x ∷ []) (h i l))
-
-  pub each-one : (z : A) (n : ℕ) → each (λ j. z) n ≡ replicate n z
-  unfolding joined
-  each-one z zero = refl
-  each-one z (suc n) = ap (λ (x : List A). x ++ (z ∷ [])) (each-one z n) ∙ replicate-append-replicate n 1 z ∙ ap (λ (x : ℕ). replicate x z) (add-one n)
 
   -- ---- a row: d of its w values are brought to place `to`
 
@@ -67,16 +62,6 @@ module _ {A : Type 0} where
         where
           here : d ≤ w → w ≤ d → d ≡ w
           here a b = omega arith
-
-  -- one value in all places
-  pub brings-cleared : {a b d : ℕ} {z : A} {l₀ l : List A} → Brings (λ j. z) a (b - a) l₀ d l → a ≤ b → b - a ≤ d → l ≡ take a l₀ ++ (replicate (b - a) z ++ drop b l₀)
-  brings-cleared {a} {b} {d} {z} {l₀} {l} r h m =
-      brings-done r m
-      ∙ ap (λ (x : List A). take a l₀ ++ (x ++ drop (a + (b - a)) l₀)) (each-one z (b - a))
-      ∙ ap (λ (x : ℕ). take a l₀ ++ (replicate (b - a) z ++ drop x l₀)) (whole h)
-    where
-      whole : a ≤ b → a + (b - a) ≡ b
-      whole h = omega arith
 
   -- ---- rows: i of m are brought
 
@@ -118,16 +103,6 @@ module _ {A : Type 0} where
         where
           next : (i : ℕ) → i * w + w ≡ (i + 1) * w
           next i = sym (ap (λ (x : ℕ). x * w) (add-one i) ∙ suc-mul i w)
-
-      -- all are brought, and zeros follow up to the old size
-      pub packs-done : {l' : List A} (z : A) (size : ℕ) → m ≤ i → m * w ≤ size → l' ≡ take (m * w) l ++ (replicate (size - m * w) z ++ drop size l) → l' ≡ shrunk z size (joined row m) l₀
-      packs-done {l'} z size h k u =
-          u ∙ ap (λ (x : ℕ). take (x * w) l ++ (replicate (size - m * w) z ++ drop size l)) (sym here)
-          ∙ rw (front-survives, behind size (omega (arith, ap (λ (x : ℕ). x * w) here))) (ap (λ (x : ℕ). joined row x ++ (replicate (size - m * w) z ++ drop size l₀)) here)
-          ∙ ap (λ (x : ℕ). joined row m ++ (replicate (size - x) z ++ drop size l₀)) (sym (ap (λ (x : ℕ). length (joined row x)) (sym here) ∙ p.front.long ∙ ap (λ (x : ℕ). x * w) here))
-        where
-          here : i ≡ m
-          here = omega (arith, p.within)
 
 -- ---- the frames that are kept: where their rows stand
 

@@ -10,45 +10,7 @@ ghost use Rattle.std.specs.Float.Ieee.{sub};
 ghost use Rattle.laws.specs.Area.{at, num, zero64};
 ghost use Rattle.laws.specs.Joined.{each};
 ghost use Rattle.laws.specs.Domain.{most_features, most_frames};
-ghost use Rattle.take_rows.specs.Rows.{shrunk, cleared_from, kept_rows, kept_square, centred_rows, Staying, Means};
-
-fn wide(x: u32) -> usize
-    ensures { result ≡ x }
-{
-    x as usize
-}
-
-// Zeros from place a up to place b, as values.
-fn clear_between(area: &mut [f64], a: usize, b: usize)
-    requires { (a ≤ b) × (b ≤ length area.old) }
-    ensures { area.new ≡ cleared_from zero64 a b area.old }
-{
-    let k = b - a;
-    for d in 0..k {
-        area[a + d] = 0.0;
-    }
-}
-
-// The same where values stand as words.
-pub fn clear_bits(area: &mut [u64], a: usize, b: usize)
-    requires { (a ≤ b) × (b ≤ length area.old) }
-    ensures { area.new ≡ cleared_from 0 a b area.old }
-{
-    let w = b - a;
-    for d in 0..w {
-        area[a + d] = 0;
-    }
-}
-
-// Puts w words from place `from` on at place `to`, no higher up.
-fn bring_row(area: &mut [u64], from: usize, to: usize, w: usize)
-    requires { (to ≤ from) × (from + w ≤ length area.old) }
-    ensures { area.new ≡ take to area.old ++ (each (λ d. num area.old (from + d)) w ++ drop (to + w) area.old) }
-{
-    for d in 0..w {
-        area[to + d] = area[from + d];
-    }
-}
+ghost use Rattle.take_rows.specs.Rows.{shrunk, kept_rows, kept_square, centred_rows, Staying, Means};
 
 // Puts the columns of the frames in `keep`, of the row from place `from` on, at place `to`, no higher up.
 fn bring_columns(area: &mut [u64], from: usize, to: usize, n: usize, keep: &[u32])
@@ -56,11 +18,11 @@ fn bring_columns(area: &mut [u64], from: usize, to: usize, n: usize, keep: &[u32
     ensures { area.new ≡ take to area.old ++ (each (λ j. num area.old (from + num keep.now j)) (length keep.now) ++ drop (to + length keep.now) area.old) }
 {
     for j in 0..keep.len() {
-        area[to + j] = area[from + wide(keep[j])];
+        area[to + j] = area[from + keep[j] as usize];
     }
 }
 
-// The same as `bring_row`, each component less its mean.
+// Puts the c components from place `from` on at place `to`, no higher up, each less its mean.
 fn bring_centred(area: &mut [f64], from: usize, to: usize, c: usize, means: &[f64; 8])
     requires { (c ≤ 8) × (to ≤ from) × (from + c ≤ length area.old) }
     ensures { area.new ≡ take to area.old ++ (each (λ d. sub binary64 (at area.old (from + d)) (at means.now d)) c ++ drop (to + c) area.old) }
@@ -76,9 +38,10 @@ pub fn pack_rows(area: &mut [u64], n: usize, w: usize, keep: &[u32])
     ensures { area.new ≡ shrunk 0 (n * w) (kept_rows keep.now w area.old) area.old }
 {
     for i in 0..keep.len() {
-        bring_row(area, wide(keep[i]) * w, i * w, w);
+        let from = keep[i] as usize * w;
+        area.copy_within(from..from + w, i * w);
     }
-    clear_bits(area, keep.len() * w, n * w);
+    area[keep.len() * w..n * w].fill(0);
 }
 
 // A matrix of n rows of n words: the rows and columns of the frames in `keep`, then zeros.
@@ -88,9 +51,9 @@ pub fn pack_square(area: &mut [u64], n: usize, keep: &[u32])
 {
     let m = keep.len();
     for i in 0..m {
-        bring_columns(area, wide(keep[i]) * n, i * m, n, keep);
+        bring_columns(area, keep[i] as usize * n, i * m, n, keep);
     }
-    clear_bits(area, m * m, n * n);
+    area[m * m..n * n].fill(0);
 }
 
 // Positions, n rows of c: the rows of the frames in `keep`, each component less its mean, then zeros.
@@ -99,7 +62,7 @@ pub fn pack_centred(positions: &mut [f64], n: usize, c: usize, keep: &[u32], mea
     ensures { positions.new ≡ shrunk zero64 (n * c) (centred_rows keep.now c positions.old) positions.old }
 {
     for i in 0..keep.len() {
-        bring_centred(positions, wide(keep[i]) * c, i * c, c, means);
+        bring_centred(positions, keep[i] as usize * c, i * c, c, means);
     }
-    clear_between(positions, keep.len() * c, n * c);
+    positions[keep.len() * c..n * c].fill(0.0);
 }

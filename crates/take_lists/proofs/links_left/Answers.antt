@@ -1,9 +1,13 @@
 use Rattle.take_gone.proofs.Next.{abreast-start, abreast-room, abreast-pass, abreast-next}
 use Rattle.take_lists.proofs.Counting.{tallies-start, tallies-pass, tallies-inside, tallies-room, tallies-next, tallies-done}
-use mathlib.Core.Path.{sym, ◌∙◌}
-use Prim.Native.Nat.{◌+◌}
+use mathlib.Core.Path.{◌≡◌, refl, sym, ◌∙◌}
+use Prim.Native.Nat.{ℕ, ◌+◌}
 use native.Mathlib.Omega.{arith}
+use Rattle.laws.specs.Area.{num}
 use Rattle.take_lists.proofs.links_left.Goals as goal
+
+same : (x : ℕ) → x ≡ x
+same x = refl
 
 pub loop-j-init : goal.loop-j-init
 loop-j-init c =
@@ -46,26 +50,26 @@ pub bounds-offsets-j-in-loop-j : goal.bounds-offsets-j-in-loop-j
 bounds-offsets-j-in-loop-j c =
     omega (arith, c.requires.2.offsets-long, c.loop-j-test.true)
 
-pub overflow_sub-wide : goal.overflow_sub-wide
-overflow_sub-wide c =
-    omega (arith, c.wide-a.ensures, c.wide.ensures, c.requires.2.offsets-rise c.loop-j.j c.loop-j-test.true)
+pub overflow_sub-offsets : goal.overflow_sub-offsets
+overflow_sub-offsets c =
+    omega (arith, (same (num c.args.offsets.now c.loop-j.j)), (same (num c.args.offsets.now (c.loop-j.j + 1))), c.requires.2.offsets-rise c.loop-j.j c.loop-j-test.true)
 
 pub list_left-c-requires : goal.list_left-c-requires
 list_left-c-requires c =
-    (c.requires.1, omega (arith, tallies-inside c.requires.2 c.loop-j-test.true c.loop-j.invariant.0 c.wide-a.ensures c.wide.ensures))
+    (c.requires.1, omega (arith, tallies-inside c.requires.2 c.loop-j-test.true c.loop-j.invariant.0 (same (num c.args.offsets.now c.loop-j.j)) (same (num c.args.offsets.now (c.loop-j.j + 1)))))
 
 pub overflow_add-c : goal.overflow_add-c
 overflow_add-c c =
     omega (
       arith,
-      tallies-room c.requires.2 c.loop-j-test.true c.loop-j.invariant.0 c.wide-a.ensures c.wide.ensures c.list_left-c.ensures,
+      tallies-room c.requires.2 c.loop-j-test.true c.loop-j.invariant.0 (same (num c.args.offsets.now c.loop-j.j)) (same (num c.args.offsets.now (c.loop-j.j + 1))) c.list_left-c.ensures,
       c.type_inv.offsets (c.loop-j.j + 1),
     )
 
 pub loop-j-preserved : goal.loop-j-preserved
 loop-j-preserved c =
     let no = sym c.is_next.ensures ∙ c.if-is_next.false in (
-      tallies-next c.requires.2 c.loop-j-test.true c.loop-j.invariant.0 c.wide-a.ensures c.wide.ensures c.list_left-c.ensures (sym no),
+      tallies-next c.requires.2 c.loop-j-test.true c.loop-j.invariant.0 (same (num c.args.offsets.now c.loop-j.j)) (same (num c.args.offsets.now (c.loop-j.j + 1))) c.list_left-c.ensures (sym no),
       abreast-next
           c.loop-j.invariant.1 no,
     )

@@ -1,9 +1,13 @@
 use lib.ListN.{length, set, length-set}
 use Rattle.take_lists.proofs.AllLists.{closes-start, closes-offset, closes-frame, closes-room, closes-next, closes-done}
-use Prim.Native.Nat.{ℕ}
-use mathlib.Core.Path.{◌≡◌, ap, ◌∙◌}
+use Prim.Native.Nat.{ℕ, ◌+◌}
+use mathlib.Core.Path.{◌≡◌, refl, ap, ◌∙◌}
 use native.Mathlib.Omega.{arith}
+use Rattle.laws.specs.Area.{num}
 use Rattle.take_lists.proofs.pack_all.Goals as goal
+
+same : (x : ℕ) → x ≡ x
+same x = refl
 
 pub loop-i-init : goal.loop-i-init
 loop-i-init c =
@@ -11,27 +15,23 @@ loop-i-init c =
 
 pub offset_bounds-offsets-j : goal.offset_bounds-offsets-j
 offset_bounds-offsets-j c =
-    omega (arith, closes-frame c.requires.1 c.requires.2 c.requires.3 c.loop-i.invariant.0 c.loop-i-test.true c.wide-j.ensures)
+    omega (arith, closes-frame c.requires.1 c.requires.2 c.requires.3 c.loop-i.invariant.0 c.loop-i-test.true (same (num c.args.keep.now c.loop-i.i)))
 
 pub bounds-offsets-j : goal.bounds-offsets-j
 bounds-offsets-j c =
-    omega (arith, closes-frame c.requires.1 c.requires.2 c.requires.3 c.loop-i.invariant.0 c.loop-i-test.true c.wide-j.ensures)
-
-pub overflow_add-j : goal.overflow_add-j
-overflow_add-j c =
-    omega (arith, closes-frame c.requires.1 c.requires.2 c.requires.3 c.loop-i.invariant.0 c.loop-i-test.true c.wide-j.ensures)
+    omega (arith, closes-frame c.requires.1 c.requires.2 c.requires.3 c.loop-i.invariant.0 c.loop-i-test.true (same (num c.args.keep.now c.loop-i.i)))
 
 pub offset_bounds-offsets-j-in-loop-i : goal.offset_bounds-offsets-j-in-loop-i
 offset_bounds-offsets-j-in-loop-i c =
-    omega (arith, closes-frame c.requires.1 c.requires.2 c.requires.3 c.loop-i.invariant.0 c.loop-i-test.true c.wide-j.ensures)
+    omega (arith, closes-frame c.requires.1 c.requires.2 c.requires.3 c.loop-i.invariant.0 c.loop-i-test.true (same (num c.args.keep.now c.loop-i.i)))
 
 pub bounds-offsets-j-in-loop-i : goal.bounds-offsets-j-in-loop-i
 bounds-offsets-j-in-loop-i c =
-    omega (arith, closes-frame c.requires.1 c.requires.2 c.requires.3 c.loop-i.invariant.0 c.loop-i-test.true c.wide-j.ensures)
+    omega (arith, closes-frame c.requires.1 c.requires.2 c.requires.3 c.loop-i.invariant.0 c.loop-i-test.true (same (num c.args.keep.now c.loop-i.i)))
 
 pub overflow_sub-k : goal.overflow_sub-k
 overflow_sub-k c =
-    omega (arith, closes-room c.requires.1 c.requires.2 c.requires.3 c.loop-i.invariant.0 c.loop-i-test.true c.wide-j.ensures c.wide-a.ensures c.wide.ensures)
+    omega (arith, closes-room c.requires.1 c.requires.2 c.requires.3 c.loop-i.invariant.0 c.loop-i-test.true (same (num c.args.keep.now c.loop-i.i)) (same (num c.loop-i.offsets (num c.args.keep.now c.loop-i.i))) (same (num c.loop-i.offsets (num c.args.keep.now c.loop-i.i + 1))))
 
 pub overflow_cast-offsets : goal.overflow_cast-offsets
 overflow_cast-offsets c =
@@ -47,12 +47,12 @@ bounds-offsets-i c =
 
 pub pack_list-q-requires : goal.pack_list-q-requires
 pack_list-q-requires c =
-    let room = closes-room c.requires.1 c.requires.2 c.requires.3 c.loop-i.invariant.0 c.loop-i-test.true c.wide-j.ensures c.wide-a.ensures c.wide.ensures in
+    let room = closes-room c.requires.1 c.requires.2 c.requires.3 c.loop-i.invariant.0 c.loop-i-test.true (same (num c.args.keep.now c.loop-i.i)) (same (num c.loop-i.offsets (num c.args.keep.now c.loop-i.i))) (same (num c.loop-i.offsets (num c.args.keep.now c.loop-i.i + 1))) in
     (c.requires.1, omega (arith, c.requires.0, c.requires.2.few), omega (arith, room), omega (arith, room), omega (arith, room))
 
 pub loop-i-preserved : goal.loop-i-preserved
 loop-i-preserved c = (
-  closes-next c.requires.1 c.requires.2 c.requires.3 c.loop-i.invariant.0 c.loop-i-test.true c.wide-j.ensures c.wide-a.ensures c.wide.ensures c.pack_list-q.ensures.value
+  closes-next c.requires.1 c.requires.2 c.requires.3 c.loop-i.invariant.0 c.loop-i-test.true (same (num c.args.keep.now c.loop-i.i)) (same (num c.loop-i.offsets (num c.args.keep.now c.loop-i.i))) (same (num c.loop-i.offsets (num c.args.keep.now c.loop-i.i + 1))) c.pack_list-q.ensures.value
       c.pack_list-q.ensures.weights_after c.pack_list-q.ensures.indices_after c.pack_list-q.auto.weights c.pack_list-q.auto.indices,
   c.loop-i.invariant.1,
 )

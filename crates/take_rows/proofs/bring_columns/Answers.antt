@@ -1,7 +1,5 @@
-use Prim.Native.Nat.{ℕ}
 use Rattle.take_rows.proofs.Packing.{brings-start, brings-next, brings-at, brings-done}
 use Rattle.laws.specs.Area.{num}
-use mathlib.Core.Path.{ap, ◌∙◌}
 use Prim.Native.Nat.{◌+◌}
 use native.Mathlib.Omega.{arith}
 use Rattle.take_rows.proofs.bring_columns.Goals as goal
@@ -19,7 +17,6 @@ overflow_add-area c =
       c.requires.2.below c.loop-j.j c.loop-j-test.true,
       c.loop-j-test.true,
       c.loop-j.invariant.front.size,
-      c.wide.ensures,
     )
 
 pub offset_bounds-area-from : goal.offset_bounds-area-from
@@ -31,7 +28,6 @@ offset_bounds-area-from c =
       c.requires.2.below c.loop-j.j c.loop-j-test.true,
       c.loop-j-test.true,
       c.loop-j.invariant.front.size,
-      c.wide.ensures,
     )
 
 pub bounds-area-from : goal.bounds-area-from
@@ -43,7 +39,6 @@ bounds-area-from c =
       c.requires.2.below c.loop-j.j c.loop-j-test.true,
       c.loop-j-test.true,
       c.loop-j.invariant.front.size,
-      c.wide.ensures,
     )
 
 pub overflow_add-area-in-loop-j : goal.overflow_add-area-in-loop-j
@@ -61,7 +56,7 @@ bounds-area-to c =
 pub loop-j-preserved : goal.loop-j-preserved
 loop-j-preserved c =
     brings-next c.loop-j.invariant _
-    (ap (λ (x : ℕ). num c.loop-j.area (c.args.from + x)) c.wide.ensures ∙ brings-at c.loop-j.invariant 0
+    (brings-at c.loop-j.invariant 0
     (c.args.from + num c.args.keep.now c.loop-j.j)
     (omega (arith, c.requires, c.requires.2.no_lower c.loop-j.j c.loop-j-test.true))) (omega (arith, c.requires, c.requires.2.few))
     c.loop-j-test.true

@@ -1,4 +1,4 @@
--- `take_rows::pack_rows` meets its contract: the loop keeps `Packs`; by `row_room`, `row-brought`, `row-long`, `packs-start`, `packs-next`, `packs-done` and others.
+-- `take_rows::pack_rows` meets its contract: i rows are packed (`Packs`); the library fills what follows. Assumes nothing.
 use Rattle.take_rows.proofs.Packing.{Packs}
 use Rattle.laws.specs.Joined.{each}
 use Rattle.laws.specs.Area.{num}

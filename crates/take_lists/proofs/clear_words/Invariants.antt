@@ -1,6 +1,0 @@
--- `take_lists::clear_words` meets its contract: the places from a up to p are cleared (`Blanks`). Assumes nothing.
-use Rattle.take_lists.proofs.Fronting.{Blanks}
-use Rattle.take_lists.proofs.clear_words.Given as goal
-
-abbrev pub invariant-loop-p : goal.invariant-loop-p
-invariant-loop-p l = Blanks 0 l.initial.area l.a l.b l.p l.area
