@@ -1,5 +1,5 @@
 // Areas of a replay: marked, taking the words of a list, and compared with them.
-ghost use Rattle.std.specs.Prelude.{◌≡◌, ◌≤◌, length, ◌==◌, to_bits};
+ghost use Rattle.std.specs.Prelude.{◌≡◌, ◌*◌, ◌≤◌, length, min, ◌==◌, to_bits};
 ghost use Rattle.std.specs.Float.{binary64};
 ghost use Rattle.laws.specs.Area.{bits};
 ghost use Rattle.replay.specs.Replay.{word_of};
@@ -14,6 +14,14 @@ pub fn plus(a: usize, b: usize) -> usize
     std::num::wrapping_add_usize(a, b)
 }
 
+// A product that is small.
+pub fn times(a: usize, b: usize) -> usize
+    requires { (a ≤ 4096) × (b ≤ 4096) }
+    ensures { (result ≡ a * b) × (result ≤ 16777216) }
+{
+    a * b
+}
+
 // The value with the bits of word i.
 pub fn value_at(list: &[u8], i: usize) -> f64
     ensures { result ≡ bits (word_of list.now i) }
@@ -26,6 +34,13 @@ pub fn same_value(v: f64, list: &[u8], i: usize) -> bool
     ensures { result ≡ (to_bits binary64 v == word_of list.now i) }
 {
     elementary::bits_of(v) == word_at(list, i)
+}
+
+// The word as a number of 32 bits; one that does not fit is cut down to the largest.
+pub fn narrow(w: u64) -> u32
+    ensures { result ≡ min w 4294967295 }
+{
+    u32::try_from(w).unwrap_or(u32::MAX)
 }
 
 // Place i holds the value with the bits 4000000000000000 + i.
@@ -57,7 +72,7 @@ pub fn copy_words(area: &mut [f64], m: usize, list: &[u8], a: usize)
 }
 
 // What place i holds where the first m have the words from a on, and the others their marks.
-fn wanted(list: &[u8], a: usize, m: usize, i: usize, mark: u64) -> u64
+pub fn wanted(list: &[u8], a: usize, m: usize, i: usize, mark: u64) -> u64
     ensures { result ≡ wanted_at list.now a m i mark }
 {
     if i < m {
@@ -84,12 +99,6 @@ pub fn same_area(area: &[f64], from: usize, m: usize, list: &[u8], a: usize) -> 
     true
 }
 
-fn wide(x: u32) -> u64
-    ensures { result ≡ x }
-{
-    x as u64
-}
-
 // The same of numbers, from the first place on.
 pub fn same_numbers(area: &[u32], m: usize, list: &[u8], a: usize) -> bool
     ensures { result ≡ same_numbers area.now m list.now a }
@@ -98,7 +107,7 @@ pub fn same_numbers(area: &[u32], m: usize, list: &[u8], a: usize) -> bool
         return false;
     }
     for i in 0..area.len() {
-        if wide(area[i]) != wanted(list, a, m, i, 0x40000000) {
+        if area[i] as u64 != wanted(list, a, m, i, 0x40000000) {
             return false;
         }
     }

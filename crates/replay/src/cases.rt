@@ -1,8 +1,7 @@
 // The cases of a list, one after the other, and the line of each list.
-ghost use Rattle.std.specs.Prelude.{◌≡◌, ◌/◌, ℕ, ◌<◌, ◌≤◌, length, take, IfOk, Option, Some};
+ghost use Rattle.std.specs.Prelude.{◌≡◌, ◌/◌, ℕ, ◌<◌, ◌≤◌, length, take, IfOk, Option, Some, false};
 ghost use Rattle.std.specs.Fn.{FnReturnsAt};
-ghost use Rattle.replay.specs.Replay.{no_tally, word_of};
-ghost use Rattle.replay.specs.Areas.{onward};
+ghost use Rattle.replay.specs.Replay.{no_tally, tallied};
 ghost use Rattle.replay.specs.Cases.{next_told, cases_tally};
 
 use crate::areas::plus;
@@ -61,6 +60,29 @@ pub fn replay_list<F: Fn(&[u8]) -> Tally>(
 {
     let n = load(rt, path, list);
     let t = cases(&list[..n]);
+    print(rt, name, t)?;
+    Ok(t)
+}
+
+// The same of a list that has to leave room: one that takes up all of it may go on, and is wrong and not run.
+pub fn replay_short_list<F: Fn(&[u8]) -> Tally>(
+    rt: &(impl Files + Print),
+    path: &[u8],
+    name: &[u8],
+    list: &mut [u8],
+    cases: F,
+) -> io::Result<Tally>
+    requires { F.IsAlwaysCallable cases }
+    ensures { IfOk result (λ t. (n : ℕ) × (n ≤ length list.new)
+        × ((n ≡ length list.new → t ≡ tallied no_tally false)
+        × (n < length list.new → FnReturnsAt F.Fn cases (take n list.new) t))) }
+{
+    let n = load(rt, path, list);
+    let t = if n == list.len() {
+        Tally::new().with(false)
+    } else {
+        cases(&list[..n])
+    };
     print(rt, name, t)?;
     Ok(t)
 }

@@ -18,7 +18,7 @@ use std::rt::Files;
 use text::{put, put_decimal};
 
 // How a replay went so far.
-#[derive(Clone, Copy)]
+#[derive(Debug, Clone, Copy, PartialEq, Eq)]
 pub struct Tally {
     // how many cases were compared
     pub cases: u64,

@@ -1,6 +1,0 @@
--- `replay_take_out::taking::same_record` meets its contract: the loop keeps what has been done equal to its part of the whole.
-use Rattle.std.proofs.Common.{◌-◌, ◌≤◌}
-use Rattle.replay_take_out.proofs.taking.same_record.Given as goal
-
-abbrev pub invariant-loop-i : goal.invariant-loop-i
-invariant-loop-i l = l.i ≤ 14

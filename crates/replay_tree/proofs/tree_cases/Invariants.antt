@@ -1,9 +1,0 @@
--- `replay_tree::tree_cases` meets its contract: the loop keeps what has been done equal to its part of the whole.
-use Rattle.std.proofs.Common.{◌-◌, ◌≤◌}
-use Rattle.replay_tree.proofs.tree_cases.Given as goal
-
-abbrev pub invariant-loop-a : goal.invariant-loop-a
-invariant-loop-a l = l.a ≤ 200000
-
-abbrev pub decreases-loop-a : goal.decreases-loop-a
-decreases-loop-a l = l.end - l.a
