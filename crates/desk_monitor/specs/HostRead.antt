@@ -1,15 +1,16 @@
 -- Reading for the picture monitor, with the answer as plain words. Definitions only.
 -- a are the answer's words: word 0 tells the records read, or, refused by 16, the first bad record, else 0.
 use Rattle.std.specs.Prelude.{List, cond, ℕ, eqb, length, set}
-use Rattle.monitor_read.specs.declared.MonitorRead.{MonitorRead}
-use Rattle.monitor_read.specs.declared.MonitorRead.TheVariants.{Read, Bad, Short}
+use Rattle.std.specs.Prelude.{Result, Ok, Err}
+use Rattle.refusal.specs.declared.Unreadable.{Unreadable}
+use Rattle.refusal.specs.declared.Unreadable.TheVariants.{Bad, Short}
 use Rattle.monitor_read.specs.MonitorRead.{MonitorReading, read_monitor, monitor_read_number}
 
 -- what word 0 tells
-unfoldable pub monitor_read_told : MonitorRead → ℕ
-monitor_read_told (Read n) = n
-monitor_read_told (Bad k) = k
-monitor_read_told Short = 0
+unfoldable pub monitor_read_told : Result ℕ Unreadable → ℕ
+monitor_read_told (Ok n) = n
+monitor_read_told (Err (Bad k)) = k
+monitor_read_told (Err Short) = 0
 
 -- the number, and areas and answer as they are left
 pub record HostMonitorReading : Type 0 where

@@ -1,16 +1,17 @@
 -- Writing for the picture monitor, with the answer as plain words. Definitions only.
 -- a are the answer's words: word 0 tells the records written, or, refused by 16 or 26, the first faulty frame, else 0.
 use Rattle.std.specs.Prelude.{List, cond, ℕ, eqb, length, set}
-use Rattle.monitor_write.specs.declared.Monitored.{Monitored}
-use Rattle.monitor_write.specs.declared.Monitored.TheVariants.{Written, Short, Bad, Beyond}
+use Rattle.std.specs.Prelude.{Result, Ok, Err}
+use Rattle.monitor_write.specs.declared.Unwritable.{Unwritable}
+use Rattle.monitor_write.specs.declared.Unwritable.TheVariants.{Short, Bad, Beyond}
 use Rattle.monitor_write.specs.MonitorWrite.{MonitorWriting, write_monitor, monitored_number}
 
 -- what word 0 tells
-unfoldable pub monitored_told : Monitored → ℕ
-monitored_told (Written n) = n
-monitored_told Short = 0
-monitored_told (Bad k) = k
-monitored_told (Beyond k) = k
+unfoldable pub monitored_told : Result ℕ Unwritable → ℕ
+monitored_told (Ok n) = n
+monitored_told (Err Short) = 0
+monitored_told (Err (Bad k)) = k
+monitored_told (Err (Beyond k)) = k
 
 -- the number, and target and answer as they are left
 pub record HostMonitored : Type 0 where

@@ -6,29 +6,32 @@ ghost use Rattle.std.specs.Prelude.{◌≡◌};
 ghost use Rattle.desk_monitor.specs.HostWrite.{monitored_told, host_monitored, host_monitor_write};
 ghost use Rattle.desk_monitor.specs.HostRead.{monitor_read_told, host_monitor_reading, host_monitor_read};
 
-use monitor_read::{MonitorRead, read_monitor};
-use monitor_write::{Monitored, write_monitor};
+use monitor_read::read_monitor;
+use monitor_write::{Unwritable, write_monitor};
+use refusal::{Unreadable, number};
 
 // What word 0 tells of a writing.
-fn monitored_told(a: Monitored) -> u64
+#[tactic(auto, unfolding(crate::specs::HostWrite::monitored_told))]
+fn monitored_told(a: Result<usize, Unwritable>) -> u64
     ensures { result ≡ monitored_told a }
 {
     match a {
-        Monitored::Written(n) => n as u64,
-        Monitored::Short => 0,
-        Monitored::Bad(k) => k as u64,
-        Monitored::Beyond(k) => k as u64,
+        Ok(n) => n as u64,
+        Err(Unwritable::Short) => 0,
+        Err(Unwritable::Bad(k)) => k as u64,
+        Err(Unwritable::Beyond(k)) => k as u64,
     }
 }
 
 // What word 0 tells of a reading.
-fn read_told(a: MonitorRead) -> u64
+#[tactic(auto, unfolding(crate::specs::HostRead::monitor_read_told))]
+fn read_told(a: Result<usize, Unreadable>) -> u64
     ensures { result ≡ monitor_read_told a }
 {
     match a {
-        MonitorRead::Read(n) => n as u64,
-        MonitorRead::Bad(k) => k as u64,
-        MonitorRead::Short => 0,
+        Ok(n) => n as u64,
+        Err(Unreadable::Bad(k)) => k as u64,
+        Err(Unreadable::Short) => 0,
     }
 }
 
@@ -50,7 +53,7 @@ pub fn host_monitor_write(
     }
     let a = write_monitor(n, pictures, sides, fields, positions, target);
     answer[0] = monitored_told(a);
-    monitor_write::number(a) as u32
+    number(a) as u32
 }
 
 // Reads a file for the monitor. Answers 0, or 16 or 12; then no area is changed.
@@ -70,5 +73,5 @@ pub fn host_monitor_read(
     }
     let a = read_monitor(file, pictures, sides, fields, positions);
     answer[0] = read_told(a);
-    monitor_read::number(a) as u32
+    number(a) as u32
 }

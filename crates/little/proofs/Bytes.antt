@@ -8,7 +8,7 @@ use lib.Seq.{drop-drop}
 use Rattle.laws.specs.Area.{num}
 use borrow.Rule.Slice.PartMut.{put_mid}
 use Rattle.laws.specs.Joined.{written}
-use Rattle.std.specs.Int.{w64, to_le_bytes}
+use Rattle.std.specs.Int.{w32, w64, to_le_bytes}
 use Rattle.little.specs.Little.{little_bytes, little_of}
 
 pub four : (f : List ℕ) (a : ℕ) → little_of f a 4 ≡ num f a + 256 * (num f (a + 1) + 256 * (num f (a + 2) + 256 * num f (a + 3)))
@@ -52,6 +52,9 @@ bytes_eight v =
 pub four_of_eight : (v : ℕ) → take 4 (little_bytes 8 v) ≡ little_bytes 4 v
 unfolding little_bytes
 four_of_eight v = refl
+
+pub bytes_four : (v : ℕ) → little_bytes 4 v ≡ to_le_bytes w32 v
+bytes_four v = sym (four_of_eight v) ∙ ap (take 4) (bytes_eight v)
 
 -- a part of an area written over
 pub mid-written : (l : List ℕ) (a : ℕ) {v w : List ℕ} {k : ℕ} → v ≡ w → k ≡ length w → put_mid a k l v ≡ written w a l

@@ -16,7 +16,7 @@ use lib.Ieee.Scale.{finite}
 use lib.Ieee.Order.{drop, kept}
 use borrow.Author.Tests.{eq-eqb, ne_eqb, lt-ltb, le-ltb, le-leb, lt-leb}
 use Rattle.elementary.proofs.Parts.{placed}
-use Rattle.monitor_narrow.specs.declared.Narrowed.TheVariants.{Single, Past}
+use Rattle.std.specs.Prelude.{Option, Some, None}
 use Rattle.monitor_narrow.specs.Narrow.{single_of, told_single, narrow_of, widen_of, finite_single}
 use Rattle.monitor_narrow.specs.Steps.{magnitude_of}
 use Rattle.monitor_narrow.proofs.Patterns.{value_as, pattern, lead_of, fields_value, fields-finite}
@@ -54,7 +54,7 @@ sign-narrowed b h = elim (dec_lt b (2 ^ 63)) [
 ]
 
 -- an infinity or a NaN
-pub not-finite-told : (v : Float) → finite v ≡ false → told_single (single_of v) ≡ Past
+pub not-finite-told : (v : Float) → finite v ≡ false → told_single (single_of v) ≡ None
 unfolding single_of told_single
 not-finite-told nan h = refl
 not-finite-told (inf s) h = refl
@@ -67,12 +67,12 @@ module _ (b : ℕ) where
   unfolding narrow_of
   narrow-told h = told-value (of_bits binary64 b) (leb (2 ^ 63) b) (lead64 b * 2 ^ (field64 b - 1)) (2 ^ 1074) (pow_pos 1074) (double-value b h)
 
-  pub narrow-tiny : b < 2 ^ 64 → field64 b < 873 → Single (b / 2 ^ 63 * 2 ^ 31) ≡ narrow_of b
+  pub narrow-tiny : b < 2 ^ 64 → field64 b < 873 → Some (b / 2 ^ 63 * 2 ^ 31) ≡ narrow_of b
   narrow-tiny w h =
       let x = field64 b - 1 in
       let n = lead64 b * 2 ^ x * 2 ^ 149 in
       let z : drop 24 n (2 ^ 1074) * 2 ^ 23 + kept 24 n (2 ^ 1074) ≡ 0 = rw (tiny-kept (lead64 b) x (lead-most b) (omega arith), tiny-drop (lead64 b) x (lead-most b) (omega arith)) in
-      ap Single (sign-narrowed b w ∙ sym (add-zero (cond (leb (2 ^ 63) b) (2 ^ 31) 0))) ∙ sym (narrow-told (omega arith) ∙ ap (telling (leb (2 ^ 63) b)) z)
+      ap Some (sign-narrowed b w ∙ sym (add-zero (cond (leb (2 ^ 63) b) (2 ^ 31) 0))) ∙ sym (narrow-told (omega arith) ∙ ap (telling (leb (2 ^ 63) b)) z)
 
   magnitude-is : 873 ≤ field64 b
       → drop 24 (lead64 b * 2 ^ (field64 b - 1) * 2 ^ 149) (2 ^ 1074) * 2 ^ 23 + kept 24 (lead64 b * 2 ^ (field64 b - 1) * 2 ^ 149) (2 ^ 1074) ≡ magnitude_of (field64 b)
@@ -106,10 +106,10 @@ module _ (b : ℕ) where
   ]
 
   module _ (w : ℕ) (h : 873 ≤ field64 b) (e : w ≡ magnitude_of (field64 b) (2 ^ 52 + digits64 b)) where
-    pub narrow-fits : b < 2 ^ 64 → w < 255 * 2 ^ 23 → Single (b / 2 ^ 63 * 2 ^ 31 + w) ≡ narrow_of b
+    pub narrow-fits : b < 2 ^ 64 → w < 255 * 2 ^ 23 → Some (b / 2 ^ 63 * 2 ^ 31 + w) ≡ narrow_of b
     narrow-fits l m = sym (narrow-is h ∙ rw (← e, lt-ltb w (255 * 2 ^ 23) m, sign-narrowed b l))
 
-    pub narrow-past : 255 * 2 ^ 23 ≤ w → Past ≡ narrow_of b
+    pub narrow-past : 255 * 2 ^ 23 ≤ w → None ≡ narrow_of b
     narrow-past m = sym (narrow-is h ∙ rw (← e, le-ltb w (255 * 2 ^ 23) m))
 
 -- ---- the exponent's bits and the digits of a single-precision value

@@ -19,16 +19,15 @@ use lib.Ieee.Order.{drop, kept}
 use lib.Ieee.Scale.{finite, round_same}
 use borrow.Author.Tests.{eq-eqb, ne_eqb, lt-ltb, le-ltb, le-leb, lt-leb}
 use Rattle.elementary.proofs.Digits.{under_back}
-use Rattle.monitor_narrow.specs.declared.Narrowed.{Narrowed}
-use Rattle.monitor_narrow.specs.declared.Narrowed.TheVariants.{Single, Past}
+use Rattle.std.specs.Prelude.{Option, Some, None}
 use Rattle.monitor_narrow.specs.Narrow.{single_of, told_single}
 use Rattle.monitor_narrow.proofs.Patterns.{pattern, lead_of, fields_value, fields-finite}
 
 -- ---- q · 2^k smallest single-precision values: the pattern, and where it is past the largest
 
 -- the pattern w with a sign, or none from the infinity's on
-abbrev pub telling : Bool → ℕ → Narrowed
-telling s w = cond (ltb w (255 * 2 ^ 23)) (Single (cond s (2 ^ 31) 0 + w)) Past
+abbrev pub telling : Bool → ℕ → Option ℕ
+telling s w = cond (ltb w (255 * 2 ^ 23)) (Some (cond s (2 ^ 31) 0 + w)) None
 
 module _ (q k : ℕ) (most : q ≤ 2 ^ 24) (lead : 0 < k → 2 ^ 23 ≤ q) where
   pub below-limit : q * 2 ^ k < 2 ^ 277 → k * 2 ^ 23 + q < 255 * 2 ^ 23
@@ -68,11 +67,11 @@ module _ (q k : ℕ) (most : q ≤ 2 ^ 24) (lead : 0 < k → 2 ^ 23 ≤ q) where
         pattern binary32 v s (2 ^ 23) (k + 1) (rw d at h) (lit< tt) (λ l. le_refl (2 ^ 23)) ∙ ap (λ (x : ℕ). cond s (2 ^ 31) 0 + x) (omega arith)
   ]
 
-  finite-told : (v : Float) (s : Bool) → HasValue v s (q * 2 ^ k) (2 ^ 149) → told_single v ≡ Single (cond s (2 ^ 31) 0 + (k * 2 ^ 23 + q))
+  finite-told : (v : Float) (s : Bool) → HasValue v s (q * 2 ^ k) (2 ^ 149) → told_single v ≡ Some (cond s (2 ^ 31) 0 + (k * 2 ^ 23 + q))
   unfolding told_single
   finite-told nan s h = absurd h
   finite-told (inf t) s h = absurd h
-  finite-told (fin t m e) s h = ap Single (whole-pattern (fin t m e) s h)
+  finite-told (fin t m e) s h = ap Some (whole-pattern (fin t m e) s h)
 
   pub told-units : (s : Bool) → told_single (units binary32 s q k) ≡ telling s (k * 2 ^ 23 + q)
   unfolding units told_single

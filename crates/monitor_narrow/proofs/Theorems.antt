@@ -20,7 +20,7 @@ use lib.Ieee.Order.{drop, kept}
 use lib.Ieee.Scale.{finite}
 use borrow.Author.Tests.{ltb-true, lt-ltb, le-ltb, lt-leb, le-leb}
 use Rattle.elementary.proofs.Digits.{under_back}
-use Rattle.monitor_narrow.specs.declared.Narrowed.TheVariants.{Single, Past}
+use Rattle.std.specs.Prelude.{Option, Some, None}
 use Rattle.monitor_narrow.specs.Narrow.{single_of, told_single, narrow_of, widen_of, finite_single}
 use Rattle.monitor_narrow.specs.Nearness.{grains_of, sign_of, differ, apart_of, halfway_past}
 use Rattle.monitor_narrow.proofs.Patterns.{value_as, lead_of, cut-is}
@@ -51,13 +51,13 @@ record Told (y : Float) (w : ℕ) : Type 0 where
   limited : finite y ≡ true
   bits : to_bits binary32 y ≡ w
 
-told : (y : Float) (w : ℕ) → told_single y ≡ Single w → Told y w
+told : (y : Float) (w : ℕ) → told_single y ≡ Some w → Told y w
 unfolding told_single
 told nan w e = let z : ◌≡◌ {A = ℕ} 0 1 = cc in absurd (omega arith)
 told (inf s) w e = let z : ◌≡◌ {A = ℕ} 0 1 = cc in absurd (omega arith)
 told (fin s m x) w e = record { limited = refl; bits = cc }
 
-module _ (b w : ℕ) (e : narrow_of b ≡ Single w) where
+module _ (b w : ℕ) (e : narrow_of b ≡ Some w) where
   told_of : Told (single_of (of_bits binary64 b)) w
   unfolding narrow_of
   told_of = told (single_of (of_bits binary64 b)) w e
@@ -115,7 +115,7 @@ module _ (v : ℕ) (below : v < 2 ^ 32) (fine : finite_single v ≡ true) where
   ]
 
   -- the bits of a finite single-precision value, widened and narrowed, are as they were: both zeros and subnormals too
-  pub narrow-widened : narrow_of (widen_of v) ≡ Single v
+  pub narrow-widened : narrow_of (widen_of v) ≡ Some v
   unfolding narrow_of
   narrow-widened =
       let p = lead_of binary32 (field32 v) (digits32 v) in
@@ -131,7 +131,7 @@ module _ (v : ℕ) (below : v < 2 ^ 32) (fine : finite_single v ≡ true) where
       ∙ rw (lt-ltb (v % 2 ^ 31) (255 * 2 ^ 23) (omega (arith, field-fine v fine)), both-parts)
 
 -- what was narrowed once is narrowed no further
-pub narrow-once : (b w : ℕ) → narrow_of b ≡ Single w → narrow_of (widen_of w) ≡ Single w
+pub narrow-once : (b w : ℕ) → narrow_of b ≡ Some w → narrow_of (widen_of w) ≡ Some w
 narrow-once b w e = narrow-widened w (narrowed-below b w e) (narrowed-finite b w e)
 
 -- ---- how far apart
@@ -222,7 +222,7 @@ grains-exact-single v f = subst (λ (x : Float). HasValue x (sign_of x) (grains_
 
 -- ---- narrowing is to nearest, and at a tie to the even one
 
-finite-from : (b w : ℕ) → narrow_of b ≡ Single w → field64 b < 2047
+finite-from : (b w : ℕ) → narrow_of b ≡ Some w → field64 b < 2047
 unfolding narrow_of
 finite-from b w e = elim (dec_lt (field64 b) 2047) [
   | yes l ↦ l
@@ -232,7 +232,7 @@ finite-from b w e = elim (dec_lt (field64 b) 2047) [
       absurd (omega arith)
 ]
 
-told-pattern : (s : Bool) (W w : ℕ) → telling s W ≡ Single w → (W < 255 * 2 ^ 23) × (w ≡ cond s (2 ^ 31) 0 + W)
+told-pattern : (s : Bool) (W w : ℕ) → telling s W ≡ Some w → (W < 255 * 2 ^ 23) × (w ≡ cond s (2 ^ 31) 0 + W)
 told-pattern s W w e = elim (dec_lt W (255 * 2 ^ 23)) [
   | yes l ↦ let f = rw (lt-ltb W (255 * 2 ^ 23) l) at e in (l, cc)
   | no n ↦
@@ -277,7 +277,7 @@ none_kept : (q k : ℕ) → 0 ≡ q * 2 ^ k → q % 2 ≡ 0
 none_kept zero k e = refl
 none_kept (suc q) k e = absurd (lt_irrefl 0 (subst (λ (y : ℕ). 0 < y) (sym e) (mul-pos (zero-lt-suc q) (pow_pos k))))
 
-module _ (b w : ℕ) (e : narrow_of b ≡ Single w) where
+module _ (b w : ℕ) (e : narrow_of b ≡ Some w) where
   abbrev h : field64 b < 2047
   h = finite-from b w e
 
@@ -429,26 +429,26 @@ module _ (b : ℕ) (h : field64 b < 2047) where
           subst (λ (y : ℕ). 2 ^ 24 ≤ y) (sym (kept-closest b h ∙ ap (λ (y : ℕ). closest a (2 ^ (925 + y))) e))
           (closest_mono halfway_past (2 ^ 1178) a (2 ^ 1178) (pow_pos 1178) (pow_pos 1178) (mul-le-mul_right (2 ^ 1178) l))
 
-told_below : (s : Bool) (W : ℕ) → W < 255 * 2 ^ 23 → telling s W ≡ Past → ⊥
+told_below : (s : Bool) (W : ℕ) → W < 255 * 2 ^ 23 → telling s W ≡ None → ⊥
 told_below s W l e =
     let f = rw (lt-ltb W (255 * 2 ^ 23) l) at e in
     let z : ◌≡◌ {A = ℕ} 0 1 = cc in
     omega arith
 
 -- there is no narrowed value exactly for a double that is not finite, or lies from halfway past the largest on
-pub past-only : (b : ℕ) → narrow_of b ≡ Past → (finite (of_bits binary64 b) ≡ false) ⊎ (halfway_past ≤ grains_of (of_bits binary64 b))
+pub past-only : (b : ℕ) → narrow_of b ≡ None → (finite (of_bits binary64 b) ≡ false) ⊎ (halfway_past ≤ grains_of (of_bits binary64 b))
 past-only b e = elim (dec_lt (field64 b) 2047) [
   | no n ↦ inl (double-finite b ∙ le-ltb (field64 b) 2047 (omega arith))
   | yes h ↦ inr (rw (own-grains b h).0 (le_of_suc-le-suc (lt_of_not-le (λ l. told_below (leb (2 ^ 63) b) (K b h * 2 ^ 23 + Q b h) (below-halfway b h l) (sym (narrow-told b h) ∙ e)))))
 ]
 
-pub past-told : (b : ℕ) → (finite (of_bits binary64 b) ≡ false) ⊎ (halfway_past ≤ grains_of (of_bits binary64 b)) → narrow_of b ≡ Past
+pub past-told : (b : ℕ) → (finite (of_bits binary64 b) ≡ false) ⊎ (halfway_past ≤ grains_of (of_bits binary64 b)) → narrow_of b ≡ None
 unfolding narrow_of
 past-told b (inl f) = not-finite-told (of_bits binary64 b) f
 past-told b (inr l) = elim (dec_lt (field64 b) 2047) [
   | no n ↦ not-finite-told (of_bits binary64 b) (double-finite b ∙ le-ltb (field64 b) 2047 (omega arith))
   | yes h ↦
       narrow-told b h
-      ∙ ap (λ (t : Bool). cond t (Single (cond (leb (2 ^ 63) b) (2 ^ 31) 0 + (K b h * 2 ^ 23 + Q b h))) Past)
+      ∙ ap (λ (t : Bool). cond t (Some (cond (leb (2 ^ 63) b) (2 ^ 31) 0 + (K b h * 2 ^ 23 + Q b h))) None)
       (le-ltb (K b h * 2 ^ 23 + Q b h) (255 * 2 ^ 23) (from-halfway b h (rw (own-grains b h).0 at l)))
 ]

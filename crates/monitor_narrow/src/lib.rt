@@ -19,15 +19,6 @@ const LEAD32: u64 = 0x800000;
 
 const INFINITE32: u64 = 0x7f800000;
 
-// What narrowing gives.
-#[derive(Clone, Copy)]
-pub enum Narrowed {
-    // the bits of the single-precision value
-    Single(u32),
-    // not finite, or rounds past the largest
-    Past,
-}
-
 // The whole number nearest to m / 2^d, at a tie the even one.
 fn nearest_part(m: u64, d: u64) -> u64
     requires { (m < 2 ^ 53) × (d < 54) }
@@ -56,20 +47,20 @@ fn magnitude(x: u64, m: u64) -> u64
     (x - 897) * LEAD32 + nearest_part(m, 29)
 }
 
-// The double with these bits, narrowed.
-pub fn narrow(bits: u64) -> Narrowed
+// The bits of the double with these bits, narrowed; none where it is not finite, or rounds past the largest.
+pub fn narrow(bits: u64) -> Option<u32>
     ensures { result ≡ narrow_of bits }
 {
     let sign = bits / TOP64 * TOP32;
     let x = bits % TOP64 / LEAD64;
     if x < 873 {
-        return Narrowed::Single(sign as u32);
+        return Some(sign as u32);
     }
     let w = magnitude(x, LEAD64 + bits % LEAD64);
     if w < INFINITE32 {
-        return Narrowed::Single((sign + w) as u32);
+        return Some((sign + w) as u32);
     }
-    Narrowed::Past
+    None
 }
 
 // Whether these are the bits of a finite single-precision value.
@@ -87,7 +78,7 @@ fn raised(t: u64) -> u64
     if t == 0 {
         return 0;
     }
-    let z = u64::leading_zeros(t) - 11;
+    let z = t.leading_zeros() - 11;
     (925 - z) as u64 * LEAD64 + (t << z)
 }
 

@@ -6,7 +6,8 @@ use Prim.Native.Nat.{ℕ, ◌*◌, ◌%◌, ◌<◌, ◌≤◌}
 use lib.ListN.{length}
 use borrow.Author.Tests.{lt-ltb, le-ltb, eq-eqb, ne_eqb}
 use Rattle.monitor.specs.Monitor.{frames_room}
-use Rattle.monitor_read.specs.declared.MonitorRead.TheVariants.{Read, Bad, Short}
+use Rattle.std.specs.Prelude.{Result, Ok, Err}
+use Rattle.refusal.specs.declared.Unreadable.TheVariants.{Bad, Short}
 use Rattle.monitor_read.specs.MonitorRead.{byte_at, monitor_picture, whole_monitor, first_broken, is_monitor, monitor_reading, fronted, widened_at, read_monitor}
 
 module _ (f : List ℕ) (k : ℕ) (found : k ≡ first_broken f) where
@@ -22,17 +23,17 @@ module _ (f : List ℕ) (k : ℕ) (found : k ≡ first_broken f) where
   unfolding is_monitor
   all_fit l m = rw (← found, le-ltb k (whole_monitor f) l, eq-eqb (length f % 16) 0 m)
 
-  pub reading-bad : (P S B X : List ℕ) → is_monitor f ≡ false → monitor_reading (Bad k) P S B X ≡ read_monitor f P S B X
+  pub reading-bad : (P S B X : List ℕ) → is_monitor f ≡ false → monitor_reading (Err (Bad k)) P S B X ≡ read_monitor f P S B X
   unfolding read_monitor
   reading-bad P S B X e = rw (e, found)
 
 module _ (f P S B X : List ℕ) (good : is_monitor f ≡ true) where
-  pub reading-short : frames_room (whole_monitor f) (length P) (length S) (length B) (length X) ≡ false → monitor_reading Short P S B X ≡ read_monitor f P S B X
+  pub reading-short : frames_room (whole_monitor f) (length P) (length S) (length B) (length X) ≡ false → monitor_reading (Err Short) P S B X ≡ read_monitor f P S B X
   unfolding read_monitor
   reading-short e = rw (good, e)
 
   pub reading-done : (P' S' B' X' : List ℕ) → frames_room (whole_monitor f) (length P) (length S) (length B) (length X) ≡ true → P' ≡ fronted (monitor_picture f) (whole_monitor f) P
       → S' ≡ fronted (byte_at f 4) (whole_monitor f) S → B' ≡ fronted (byte_at f 5) (whole_monitor f) B → X' ≡ fronted (widened_at f) (2 * whole_monitor f) X
-      → monitor_reading (Read (whole_monitor f)) P' S' B' X' ≡ read_monitor f P S B X
+      → monitor_reading (Ok (whole_monitor f)) P' S' B' X' ≡ read_monitor f P S B X
   unfolding read_monitor
   reading-done P' S' B' X' e p s b x = rw (good, e, p, s, b, x)

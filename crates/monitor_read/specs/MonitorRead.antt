@@ -8,8 +8,10 @@ use Rattle.little.specs.Little.{little_of}
 use Rattle.frames.specs.Frames.{spare_fine}
 use Rattle.monitor_narrow.specs.Narrow.{widen_of, finite_single}
 use Rattle.monitor.specs.Monitor.{monitor_bytes, frame_fine, follows_at, frames_room}
-use Rattle.monitor_read.specs.declared.MonitorRead.{MonitorRead}
-use Rattle.monitor_read.specs.declared.MonitorRead.TheVariants.{Read, Bad, Short}
+use Rattle.std.specs.Prelude.{Result, Ok, Err}
+use Rattle.refusal.specs.declared.Unreadable.{Unreadable}
+use Rattle.refusal.specs.Refusal.{unreadable_number, number_told}
+use Rattle.refusal.specs.declared.Unreadable.TheVariants.{Bad, Short}
 
 -- ---- a record
 
@@ -52,13 +54,13 @@ is_monitor f = not (ltb (first_broken f) (whole_monitor f)) && eqb (length f % m
 
 -- what is answered, and the areas afterwards
 pub record MonitorReading : Type 0 where
-  pub answer : MonitorRead
+  pub answer : Result ℕ Unreadable
   pub pictures : List ℕ
   pub sides : List ℕ
   pub fields : List ℕ
   pub positions : List ℕ
 
-abbrev pub monitor_reading : MonitorRead → List ℕ → List ℕ → List ℕ → List ℕ → MonitorReading
+abbrev pub monitor_reading : Result ℕ Unreadable → List ℕ → List ℕ → List ℕ → List ℕ → MonitorReading
 monitor_reading a P S B X = record { answer = a; pictures = P; sides = S; fields = B; positions = X }
 
 -- the first n places get g 0, g 1, ..; the tail is as it was
@@ -73,12 +75,10 @@ widened_at f j = widen_of (coordinate_at f j)
 unfoldable pub read_monitor : List ℕ → List ℕ → List ℕ → List ℕ → List ℕ → MonitorReading
 read_monitor f P S B X =
     let n = whole_monitor f in
-    cond (not (is_monitor f)) (monitor_reading (Bad (first_broken f)) P S B X)
-    (cond (not (frames_room n (length P) (length S) (length B) (length X))) (monitor_reading Short P S B X)
-    (monitor_reading (Read n) (fronted (monitor_picture f) n P) (fronted (byte_at f 4) n S) (fronted (byte_at f 5) n B) (fronted (widened_at f) (2 * n) X)))
+    cond (not (is_monitor f)) (monitor_reading (Err (Bad (first_broken f))) P S B X)
+    (cond (not (frames_room n (length P) (length S) (length B) (length X))) (monitor_reading (Err Short) P S B X)
+    (monitor_reading (Ok n) (fronted (monitor_picture f) n P) (fronted (byte_at f 4) n S) (fronted (byte_at f 5) n B) (fronted (widened_at f) (2 * n) X)))
 
 -- the number of a refusal; 0 where there is none
-unfoldable pub monitor_read_number : MonitorRead → ℕ
-monitor_read_number (Read n) = 0
-monitor_read_number (Bad k) = 16
-monitor_read_number Short = 12
+abbrev pub monitor_read_number : Result ℕ Unreadable → ℕ
+monitor_read_number a = number_told unreadable_number a

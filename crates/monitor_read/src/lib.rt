@@ -5,34 +5,13 @@
 ghost use Rattle.std.specs.Prelude.{◌≡◌, ◌+◌, ◌*◌, ◌/◌, ◌≤◌, ◌<◌, length};
 ghost use Rattle.monitor.specs.Monitor.{monitor_bytes, follows_at};
 ghost use Rattle.monitor_read.specs.MonitorRead.{byte_at, monitor_picture, coordinate_at, coordinates_fine, broken_at, first_broken};
-ghost use Rattle.monitor_read.specs.MonitorRead.{fronted, widened_at, monitor_reading, read_monitor, monitor_read_number};
+ghost use Rattle.monitor_read.specs.MonitorRead.{fronted, widened_at, monitor_reading, read_monitor};
 
-use frames::{may_follow, spare_fine};
+use frames::{record_follows, spare_fine};
 use little::half_word;
 use monitor::{MONITOR_BYTES, frame_fine, frames_room};
 use monitor_narrow::{is_finite, widen};
-
-// What is answered.
-#[derive(Clone, Copy)]
-pub enum MonitorRead {
-    // so many records, all good
-    Read(usize),
-    // 16: the place of the first bad record, from 0; a stray tail is one
-    Bad(usize),
-    // 12: an area is shorter than the frames need
-    Short,
-}
-
-// The number of a refusal; 0 where there is none.
-pub fn number(a: MonitorRead) -> u8
-    ensures { result ≡ monitor_read_number a }
-{
-    match a {
-        MonitorRead::Read(_) => 0,
-        MonitorRead::Bad(_) => 16,
-        MonitorRead::Short => 12,
-    }
-}
+use refusal::Unreadable;
 
 // The bits of coordinate j of the file.
 fn coordinate(file: &[u8], j: usize) -> u32
@@ -43,50 +22,34 @@ fn coordinate(file: &[u8], j: usize) -> u32
 }
 
 // Both coordinates of record i are finite.
+#[tactic(auto, unfolding(crate::specs::MonitorRead::coordinates_fine))]
 fn coordinates_fine(file: &[u8], i: usize) -> bool
     requires { i * monitor_bytes + monitor_bytes ≤ length file.now }
     ensures { result ≡ coordinates_fine file.now i }
 {
-    if !is_finite(coordinate(file, 2 * i)) {
-        return false;
-    }
-    is_finite(coordinate(file, 2 * i + 1))
+    is_finite(coordinate(file, 2 * i)) && is_finite(coordinate(file, 2 * i + 1))
 }
 
 // Record i may follow the one before it.
+#[tactic(auto, unfolding(monitor::specs::Monitor::follows_at))]
 fn follows_in(file: &[u8], i: usize) -> bool
     requires { i * monitor_bytes + monitor_bytes ≤ length file.now }
     ensures { result ≡ follows_at (monitor_picture file.now) (byte_at file.now 5) i }
 {
-    if i == 0 {
-        return true;
-    }
-    let b = (i - 1) * MONITOR_BYTES;
-    let a = i * MONITOR_BYTES;
-    may_follow(
-        half_word(file, b),
-        file[b + 5],
-        half_word(file, a),
-        file[a + 5],
-    )
+    i == 0 || record_follows(file, (i - 1) * MONITOR_BYTES, i * MONITOR_BYTES)
 }
 
 // Record i is bad by itself or out of order.
+#[tactic(auto, unfolding(crate::specs::MonitorRead::broken_at))]
 fn is_broken(file: &[u8], i: usize) -> bool
     requires { i * monitor_bytes + monitor_bytes ≤ length file.now }
     ensures { result ≡ broken_at file.now i }
 {
     let a = i * MONITOR_BYTES;
-    if !frame_fine(half_word(file, a), file[a + 4], file[a + 5]) {
-        return true;
-    }
-    if !spare_fine(file, a) {
-        return true;
-    }
-    if !coordinates_fine(file, i) {
-        return true;
-    }
-    !follows_in(file, i)
+    !(frame_fine(half_word(file, a), file[a + 4], file[a + 5])
+        && spare_fine(file, a)
+        && coordinates_fine(file, i)
+        && follows_in(file, i))
 }
 
 // The first bad one of the whole records; their number where none is.
@@ -141,17 +104,14 @@ pub fn read_monitor(
     sides: &mut [u8],
     fields: &mut [u8],
     positions: &mut [u64],
-) -> MonitorRead
+) -> Result<usize, Unreadable>
     ensures { monitor_reading result pictures.new sides.new fields.new positions.new
         ≡ read_monitor file.now pictures.old sides.old fields.old positions.old }
 {
     let n = file.len() / MONITOR_BYTES;
     let k = first_broken(file);
-    if k < n {
-        return MonitorRead::Bad(k);
-    }
-    if file.len() % MONITOR_BYTES != 0 {
-        return MonitorRead::Bad(k);
+    if k < n || file.len() % MONITOR_BYTES != 0 {
+        return Err(Unreadable::Bad(k));
     }
     if !frames_room(
         n,
@@ -160,11 +120,11 @@ pub fn read_monitor(
         fields.len(),
         positions.len(),
     ) {
-        return MonitorRead::Short;
+        return Err(Unreadable::Short);
     }
     fetch_pictures(pictures, file, n);
     fetch_bytes(sides, file, 4, n);
     fetch_bytes(fields, file, 5, n);
     fetch_positions(positions, file, n);
-    MonitorRead::Read(n)
+    Ok(n)
 }

@@ -1,6 +1,6 @@
 -- What the tests of the areas and of the frames show, and what the loop that writes the records keeps. Assumes nothing.
 use mathlib.Core.List.{List, ◌++◌, append_assoc}
-use mathlib.Core.Path.{◌≡◌, sym, ap, ◌∙◌}
+use mathlib.Core.Path.{◌≡◌, refl, sym, ap, ◌∙◌}
 use mathlib.Core.Bool.{true, false}
 use Prim.Native.Nat.{ℕ, ◌+◌, ◌*◌, ◌/◌, ◌<◌, ◌≤◌}
 use native.Mathlib.Omega.{arith}
@@ -17,8 +17,10 @@ use Rattle.laws.proofs.Laid.{Lays, lays-next}
 use Rattle.monitor.specs.Monitor.{frames_room}
 use Rattle.monitor.proofs.Laws.{record-size, frames-lie}
 use Rattle.monitor_narrow.specs.Narrow.{narrow_of}
-use Rattle.monitor_write.specs.declared.Monitored.{Monitored}
-use Rattle.monitor_write.specs.declared.Monitored.TheVariants.{Written, Short}
+use Rattle.std.specs.Prelude.{Option, Some, None, unwrap_or}
+use Rattle.std.specs.Prelude.{Result, Ok, Err}
+use Rattle.monitor_write.specs.declared.Unwritable.{Unwritable}
+use Rattle.monitor_write.specs.declared.Unwritable.TheVariants.{Short}
 use Rattle.monitor_write.specs.MonitorWrite.{faulty_at, single_bits, monitor_row, monitor_writing, room_to_write, fault_told, write_monitor, WriteLies}
 
 -- ---- the areas
@@ -48,6 +50,11 @@ records-next {row} {n} {i} {t₀} {t} {t'} r h m k s e = lays-next 16 row r h m 
         ∙ ap (λ (x : ℕ). take (i * 16) t ++ (row i ++ drop (i * 16 + x) t)) k
         ∙ ap (λ (x : List ℕ). take (i * 16) t ++ (row i ++ x)) (sym (drop-drop 16 (i * 16) t))
 
+pub single-or : (a : Option ℕ) → unwrap_or a 0 ≡ single_bits a
+unfolding single_bits
+single-or (Some w) = refl
+single-or None = refl
+
 pub row-size : (P S B X : List ℕ) (i : ℕ) → length (monitor_row P S B X i) ≡ 16
 unfolding monitor_row
 row-size P S B X i = record-size (num P i) (num S i) (num B i) (single_bits (narrow_of (num X (2 * i)))) (single_bits (narrow_of (num X (2 * i + 1))))
@@ -55,15 +62,15 @@ row-size P S B X i = record-size (num P i) (num S i) (num B i) (single_bits (nar
 -- ---- the outcomes
 
 module _ (n : ℕ) (P S B X t : List ℕ) where
-  pub writing-short : room_to_write n (length P) (length S) (length B) (length X) (length t) ≡ false → monitor_writing Short t ≡ write_monitor n P S B X t
+  pub writing-short : room_to_write n (length P) (length S) (length B) (length X) (length t) ≡ false → monitor_writing (Err Short) t ≡ write_monitor n P S B X t
   unfolding write_monitor
   writing-short e = rw e
 
   module _ (room : room_to_write n (length P) (length S) (length B) (length X) (length t) ≡ true) (k : ℕ) (found : k ≡ first (faulty_at P S B X) n) where
-    pub writing-fault : (a : Monitored) → k < n → a ≡ fault_told P S B k → monitor_writing a t ≡ write_monitor n P S B X t
+    pub writing-fault : (a : Unwritable) → k < n → a ≡ fault_told P S B k → monitor_writing (Err a) t ≡ write_monitor n P S B X t
     unfolding write_monitor
     writing-fault a l e = rw (room, ← found, lt-ltb k n l, e)
 
-    pub writing-whole : (t' : List ℕ) → n ≤ k → t' ≡ laid (monitor_row P S B X) 16 n t → monitor_writing (Written n) t' ≡ write_monitor n P S B X t
+    pub writing-whole : (t' : List ℕ) → n ≤ k → t' ≡ laid (monitor_row P S B X) 16 n t → monitor_writing (Ok n) t' ≡ write_monitor n P S B X t
     unfolding write_monitor
     writing-whole t' l e = rw (room, ← found, le-ltb k n l, e)

@@ -7,17 +7,16 @@ ghost use Rattle.laws.specs.Area.{num};
 ghost use Rattle.laws.specs.Loops.{first};
 ghost use Rattle.laws.specs.Joined.{laid};
 ghost use Rattle.monitor.specs.Monitor.{monitor_bytes, follows_at, FramesLie};
-ghost use Rattle.monitor_write.specs.MonitorWrite.{wrong_at, is_past, past_at, faulty_at, single_bits, monitor_row, monitor_writing, room_to_write, fault_told, write_monitor, monitored_number, WriteLies};
+ghost use Rattle.monitor_write.specs.MonitorWrite.{wrong_at, past_at, faulty_at, monitor_row, monitor_writing, room_to_write, fault_told, write_monitor, unwritable_number, WriteLies};
 
 use frames::may_follow;
 use monitor::{MONITOR_BYTES, frame_fine, frames_room, put_record};
-use monitor_narrow::{Narrowed, narrow};
+use monitor_narrow::narrow;
+use refusal::Numbered;
 
-// What is answered.
-#[derive(Clone, Copy)]
-pub enum Monitored {
-    // so many records
-    Written(usize),
+// Why no records are written.
+#[derive(Clone, Copy, Debug, PartialEq, Eq)]
+pub enum Unwritable {
     // 12: an area is shorter than the frames need
     Short,
     // 16: picture, side, field or order of this frame, the first faulty one
@@ -26,44 +25,24 @@ pub enum Monitored {
     Beyond(usize),
 }
 
-// The number of a refusal; 0 where there is none.
-pub fn number(a: Monitored) -> u8
-    ensures { result ≡ monitored_number a }
-{
-    match a {
-        Monitored::Written(_) => 0,
-        Monitored::Short => 12,
-        Monitored::Bad(_) => 16,
-        Monitored::Beyond(_) => 26,
-    }
-}
+impl Numbered for Unwritable {
+    ghost number_of = { unwritable_number };
 
-fn is_past(a: Narrowed) -> bool
-    ensures { result ≡ is_past a }
-{
-    match a {
-        Narrowed::Single(_) => false,
-        Narrowed::Past => true,
-    }
-}
-
-fn single_bits(a: Narrowed) -> u32
-    ensures { result ≡ single_bits a }
-{
-    match a {
-        Narrowed::Single(w) => w,
-        Narrowed::Past => 0,
+    fn number(self) -> u8 {
+        match self {
+            Unwritable::Short => 12,
+            Unwritable::Bad(_) => 16,
+            Unwritable::Beyond(_) => 26,
+        }
     }
 }
 
 // Areas of these lengths hold what n frames need, and a target of this length their records.
+#[tactic(auto, unfolding(crate::specs::MonitorWrite::room_to_write))]
 fn room(n: usize, p: usize, s: usize, b: usize, x: usize, t: usize) -> bool
     ensures { result ≡ room_to_write n p s b x t }
 {
-    if !frames_room(n, p, s, b, x) {
-        return false;
-    }
-    n <= t / MONITOR_BYTES
+    frames_room(n, p, s, b, x) && n <= t / MONITOR_BYTES
 }
 
 // Frame i may follow the one before it.
@@ -83,35 +62,29 @@ fn follows(pictures: &[u32], fields: &[u8], i: usize) -> bool
 }
 
 // Picture, side, field or order of frame i is wrong.
+#[tactic(auto, unfolding(crate::specs::MonitorWrite::wrong_at))]
 fn is_wrong(pictures: &[u32], sides: &[u8], fields: &[u8], i: usize) -> bool
     requires { (i < length pictures.now) × (i < length sides.now) × (i < length fields.now) }
     ensures { result ≡ wrong_at pictures.now sides.now fields.now i }
 {
-    if !frame_fine(pictures[i] as u64, sides[i], fields[i]) {
-        return true;
-    }
-    !follows(pictures, fields, i)
+    !(frame_fine(pictures[i] as u64, sides[i], fields[i]) && follows(pictures, fields, i))
 }
 
 // A coordinate of frame i has no single-precision value.
+#[tactic(auto, unfolding(crate::specs::MonitorWrite::past_at, crate::specs::MonitorWrite::is_past))]
 fn is_beyond(positions: &[u64], i: usize) -> bool
     requires { 2 * i + 1 < length positions.now }
     ensures { result ≡ past_at positions.now i }
 {
-    if is_past(narrow(positions[2 * i])) {
-        return true;
-    }
-    is_past(narrow(positions[2 * i + 1]))
+    narrow(positions[2 * i]).is_none() || narrow(positions[2 * i + 1]).is_none()
 }
 
+#[tactic(auto, unfolding(crate::specs::MonitorWrite::faulty_at))]
 fn is_faulty(pictures: &[u32], sides: &[u8], fields: &[u8], positions: &[u64], i: usize) -> bool
     requires { (i < length pictures.now) × (i < length sides.now) × (i < length fields.now) × (2 * i + 1 < length positions.now) }
     ensures { result ≡ faulty_at pictures.now sides.now fields.now positions.now i }
 {
-    if is_wrong(pictures, sides, fields, i) {
-        return true;
-    }
-    is_beyond(positions, i)
+    is_wrong(pictures, sides, fields, i) || is_beyond(positions, i)
 }
 
 // The first faulty frame; n where there is none.
@@ -140,8 +113,8 @@ fn put_records(
     ensures { target.new ≡ laid (monitor_row pictures.now sides.now fields.now positions.now) monitor_bytes n target.old }
 {
     for i in 0..n {
-        let x = single_bits(narrow(positions[2 * i]));
-        let y = single_bits(narrow(positions[2 * i + 1]));
+        let x = narrow(positions[2 * i]).unwrap_or(0);
+        let y = narrow(positions[2 * i + 1]).unwrap_or(0);
         put_record(
             target,
             i * MONITOR_BYTES,
@@ -155,14 +128,15 @@ fn put_records(
 }
 
 // What is answered where frame k is the first faulty one.
-fn fault_told(pictures: &[u32], sides: &[u8], fields: &[u8], k: usize) -> Monitored
+#[tactic(auto, unfolding(crate::specs::MonitorWrite::fault_told))]
+fn fault_told(pictures: &[u32], sides: &[u8], fields: &[u8], k: usize) -> Unwritable
     requires { (k < length pictures.now) × (k < length sides.now) × (k < length fields.now) }
     ensures { result ≡ fault_told pictures.now sides.now fields.now k }
 {
     if is_wrong(pictures, sides, fields, k) {
-        return Monitored::Bad(k);
+        return Unwritable::Bad(k);
     }
-    Monitored::Beyond(k)
+    Unwritable::Beyond(k)
 }
 
 // Writes n frames for the monitor: takes any n and any areas.
@@ -173,7 +147,7 @@ pub fn write_monitor(
     fields: &[u8],
     positions: &[u64],
     target: &mut [u8],
-) -> Monitored
+) -> Result<usize, Unwritable>
     ensures { monitor_writing result target.new ≡ write_monitor n pictures.now sides.now fields.now positions.now target.old }
 {
     if !room(
@@ -184,12 +158,12 @@ pub fn write_monitor(
         positions.len(),
         target.len(),
     ) {
-        return Monitored::Short;
+        return Err(Unwritable::Short);
     }
     let k = first_faulty(n, pictures, sides, fields, positions);
     if k < n {
-        return fault_told(pictures, sides, fields, k);
+        return Err(fault_told(pictures, sides, fields, k));
     }
     put_records(n, pictures, sides, fields, positions, target);
-    Monitored::Written(n)
+    Ok(n)
 }

@@ -19,16 +19,14 @@ use Rattle.take_rows.proofs.Packing.{joined_same}
 use Rattle.little.specs.Little.{AllBelow}
 use Rattle.little.proofs.Roundtrip.{little-below}
 use Rattle.frames.specs.Frames.{spare_fine}
-use Rattle.monitor_narrow.specs.declared.Narrowed.{Narrowed}
-use Rattle.monitor_narrow.specs.declared.Narrowed.TheVariants.{Single}
+use Rattle.std.specs.Prelude.{Option, Some, None}
 use Rattle.monitor_narrow.specs.Narrow.{narrow_of, widen_of, finite_single}
 use Rattle.monitor_narrow.proofs.Theorems.{narrow-widened, narrow-once}
 use Rattle.monitor.specs.Monitor.{monitor_record, frame_fine, follows_at, frames_room, FramesLie}
 use Rattle.monitor.proofs.Laws.{frames-lie}
-use Rattle.monitor_write.specs.declared.Monitored.TheVariants.{Written}
+use Rattle.std.specs.Prelude.{Result, Ok, Err}
 use Rattle.monitor_write.specs.MonitorWrite.{wrong_at, is_past, past_at, faulty_at, single_bits, monitor_row, monitor_writing, room_to_write, write_monitor}
 use Rattle.monitor_write.proofs.Laws.{writing-whole}
-use Rattle.monitor_read.specs.declared.MonitorRead.TheVariants.{Read}
 use Rattle.monitor_read.specs.MonitorRead.{byte_at, monitor_picture, coordinate_at, coordinates_fine, broken_at, whole_monitor, MonitorReading, fronted, widened_at, read_monitor}
 use Rattle.monitoring.specs.MonitorReasons.{AllGood}
 use Rattle.monitoring.proofs.Records.{record-back, by-halves, x-stands, y-stands}
@@ -58,7 +56,7 @@ unfolding faulty_at wrong_at past_at
 not-faulty P S B X i g = rw (g.fine, g.follows, g.x-told, g.y-told)
 
 good-written : (n : ℕ) (P S B X t : List ℕ) → frames_room n (length P) (length S) (length B) (length X) ≡ true → n * 16 ≤ length t → ((i : ℕ) → i < n → GoodFrame P S B X i)
-    → monitor_writing (Written n) (laid (monitor_row P S B X) 16 n t) ≡ write_monitor n P S B X t
+    → monitor_writing (Ok n) (laid (monitor_row P S B X) 16 n t) ≡ write_monitor n P S B X t
 good-written n P S B X t e h g =
     writing-whole n P S B X t (room-is n (length P) (length S) (length B) (length X) (length t) e h) n
     (sym (first-none (faulty_at P S B X) n (λ i l. not-faulty P S B X i (g i l)))) (laid (monitor_row P S B X) 16 n t) (le_refl n) refl
@@ -66,7 +64,7 @@ good-written n P S B X t e h g =
 -- ---- areas whose fronts hold frames p, s, b and coordinates that are widened from single precision
 
 module _ (n : ℕ) (p s b c : ℕ → ℕ) (P S B X : List ℕ) (room : frames_room n (length P) (length S) (length B) (length X) ≡ true)
-    (fine : (i : ℕ) → i < n → frame_fine (p i) (s i) (b i) ≡ true) (order : (i : ℕ) → i < n → follows_at p b i ≡ true) (back : (j : ℕ) → j < 2 * n → narrow_of (widen_of (c j)) ≡ Single (c j)) where
+    (fine : (i : ℕ) → i < n → frame_fine (p i) (s i) (b i) ≡ true) (order : (i : ℕ) → i < n → follows_at p b i ≡ true) (back : (j : ℕ) → j < 2 * n → narrow_of (widen_of (c j)) ≡ Some (c j)) where
   abbrev P' : List ℕ
   P' = fronted p n P
 
@@ -91,14 +89,14 @@ module _ (n : ℕ) (p s b c : ℕ → ℕ) (P S B X : List ℕ) (room : frames_r
         (2 * n) X lies.positions-long,
   ) room
 
-  narrow_at : (j : ℕ) → j < 2 * n → narrow_of (num X' j) ≡ Single (c j)
+  narrow_at : (j : ℕ) → j < 2 * n → narrow_of (num X' j) ≡ Some (c j)
   narrow_at j h = ap narrow_of (fronted-at (λ j. widen_of (c j)) (2 * n) X j h) ∙ back j h
 
-  single-told : (a : ℕ) (w : Narrowed) → w ≡ Single a → is_past w ≡ false
+  single-told : (a : ℕ) (w : Option ℕ) → w ≡ Some a → is_past w ≡ false
   unfolding is_past
   single-told a w e = rw e
 
-  single-bits : (a : ℕ) (w : Narrowed) → w ≡ Single a → single_bits w ≡ a
+  single-bits : (a : ℕ) (w : Option ℕ) → w ≡ Some a → single_bits w ≡ a
   unfolding single_bits
   single-bits a w e = rw e
 
@@ -122,20 +120,20 @@ module _ (n : ℕ) (p s b c : ℕ → ℕ) (P S B X : List ℕ) (room : frames_r
   )
 
   pub fronts-written : (t : List ℕ) → n * 16 ≤ length t
-      → write_monitor n (fronted p n P) (fronted s n S) (fronted b n B) (fronted (λ j. widen_of (c j)) (2 * n) X) t ≡ monitor_writing (Written n)
+      → write_monitor n (fronted p n P) (fronted s n S) (fronted b n B) (fronted (λ j. widen_of (c j)) (2 * n) X) t ≡ monitor_writing (Ok n)
       (joined (λ i. monitor_record (p i) (s i) (b i) (c (2 * i)) (c (2 * i + 1))) n ++ drop (n * 16) t)
   fronts-written t h = sym (good-written n P' S' B' X' t room-left h good_left)
-      ∙ ap (λ (l : List ℕ). monitor_writing (Written n) (l ++ drop (n * 16) t))
+      ∙ ap (λ (l : List ℕ). monitor_writing (Ok n) (l ++ drop (n * 16) t))
       (joined_same (monitor_row P' S' B' X') (λ i. monitor_record (p i) (s i) (b i) (c (2 * i)) (c (2 * i + 1))) n row-left)
 
 -- ---- written, read, and written again: the same bytes
 
-module _ (n : ℕ) (P S B X t : List ℕ) (done : (write_monitor n P S B X t).answer ≡ Written n) where
+module _ (n : ℕ) (P S B X t : List ℕ) (done : (write_monitor n P S B X t).answer ≡ Ok n) where
   frame : (i : ℕ) → i < n → GoodFrame P S B X i
   frame i h = good-frame P S B X i ((write-taken n P S B X t n done).2 i h)
 
-  once_more : (j : ℕ) → j < 2 * n → narrow_of (widen_of (single_bits (narrow_of (num X j)))) ≡ Single (single_bits (narrow_of (num X j)))
-  once_more = by-halves (λ j. narrow_of (widen_of (single_bits (narrow_of (num X j)))) ≡ Single (single_bits (narrow_of (num X j)))) n
+  once_more : (j : ℕ) → j < 2 * n → narrow_of (widen_of (single_bits (narrow_of (num X j)))) ≡ Some (single_bits (narrow_of (num X j)))
+  once_more = by-halves (λ j. narrow_of (widen_of (single_bits (narrow_of (num X j)))) ≡ Some (single_bits (narrow_of (num X j)))) n
       (λ i h. narrow-once (num X (2 * i)) (single_bits (narrow_of (num X (2 * i)))) (single-is (num X (2 * i)) (frame i h).x-told))
       (λ i h. narrow-once (num X (2 * i + 1)) (single_bits (narrow_of (num X (2 * i + 1)))) (single-is (num X (2 * i + 1)) (frame i h).y-told))
 
@@ -152,11 +150,11 @@ module _ (n : ℕ) (P S B X t : List ℕ) (done : (write_monitor n P S B X t).an
       (read_monitor (take (n * 16) (write_monitor n P S B X t).target) P' S' B' X').fields
       (read_monitor (take (n * 16) (write_monitor n P S B X t).target) P' S' B' X').positions
       t'
-      ≡ monitor_writing (Written n) (take (n * 16) (write_monitor n P S B X t).target ++ drop (n * 16) t')
+      ≡ monitor_writing (Ok n) (take (n * 16) (write_monitor n P S B X t).target ++ drop (n * 16) t')
   written-again P' S' B' X' t' e h =
       ap (λ (r : MonitorReading). write_monitor n r.pictures r.sides r.fields r.positions t') (written-then-read n P S B X t done P' S' B' X' e)
       ∙ fronts-written n (num P) (num S) (num B) (λ j. single_bits (narrow_of (num X j))) P' S' B' X' e (λ i l. (frame i l).fine) (λ i l. (frame i l).follows) once_more t' h
-      ∙ ap (λ (l : List ℕ). monitor_writing (Written n) (l ++ drop (n * 16) t')) (sym rows-file)
+      ∙ ap (λ (l : List ℕ). monitor_writing (Ok n) (l ++ drop (n * 16) t')) (sym rows-file)
 
 -- ---- read, and then written: the same bytes
 
@@ -204,8 +202,8 @@ module _ (f P S B X : List ℕ) (small : AllBelow 256 f) where
     whole-file : m * 16 ≡ length f
     whole-file = let e = good.1 in omega arith
 
-    back : (j : ℕ) → j < 2 * m → narrow_of (widen_of (coordinate_at f j)) ≡ Single (coordinate_at f j)
-    back = by-halves (λ j. narrow_of (widen_of (coordinate_at f j)) ≡ Single (coordinate_at f j)) m
+    back : (j : ℕ) → j < 2 * m → narrow_of (widen_of (coordinate_at f j)) ≡ Some (coordinate_at f j)
+    back = by-halves (λ j. narrow_of (widen_of (coordinate_at f j)) ≡ Some (coordinate_at f j)) m
         (λ i h. narrow-widened (coordinate_at f (2 * i)) (coordinate-below f (2 * i) small) (held i h).x-fine)
         (λ i h. narrow-widened (coordinate_at f (2 * i + 1)) (coordinate-below f (2 * i + 1) small) (held i h).y-fine)
 
@@ -217,18 +215,18 @@ module _ (f P S B X : List ℕ) (small : AllBelow 256 f) where
         ∙ take_all (m * 16) f (le_of_eq (sym whole-file))
 
     filled-written : frames_room m (length P) (length S) (length B) (length X) ≡ true → (t : List ℕ) → length f ≤ length t
-        → write_monitor m (fronted (monitor_picture f) m P) (fronted (byte_at f 4) m S) (fronted (byte_at f 5) m B) (fronted (widened_at f) (2 * m) X) t ≡ monitor_writing (Written m)
+        → write_monitor m (fronted (monitor_picture f) m P) (fronted (byte_at f 4) m S) (fronted (byte_at f 5) m B) (fronted (widened_at f) (2 * m) X) t ≡ monitor_writing (Ok m)
         (f ++ drop (length f) t)
     filled-written e t h =
         fronts-written m (monitor_picture f) (byte_at f 4) (byte_at f 5) (coordinate_at f) P S B X e (λ i l. (held i l).fine) (λ i l. (held i l).order) back t (omega (arith, whole-file))
-        ∙ ap₂ (λ (l : List ℕ) (k : ℕ). monitor_writing (Written m) (l ++ drop k t)) rows_are whole-file
+        ∙ ap₂ (λ (l : List ℕ) (k : ℕ). monitor_writing (Ok m) (l ++ drop k t)) rows_are whole-file
 
   -- a file that is read, and what was read written to any target that holds it: the file's bytes at its front, and its tail as it was
-  pub read-then-written : (n : ℕ) → (read_monitor f P S B X).answer ≡ Read n → (t : List ℕ) → length f ≤ length t
+  pub read-then-written : (n : ℕ) → (read_monitor f P S B X).answer ≡ Ok n → (t : List ℕ) → length f ≤ length t
       → write_monitor n (read_monitor f P S B X).pictures (read_monitor f P S B X).sides (read_monitor f P S B X).fields (read_monitor f P S B X).positions t ≡ monitor_writing
-      (Written n) (f ++ drop (length f) t)
+      (Ok n) (f ++ drop (length f) t)
   read-then-written n e t h =
       let w = read_taken f P S B X n e in
       ap (λ (r : MonitorReading). write_monitor n r.pictures r.sides r.fields r.positions t) w.3
       ∙ subst (λ (k : ℕ). write_monitor k (fronted (monitor_picture f) (whole_monitor f) P) (fronted (byte_at f 4) (whole_monitor f) S) (fronted (byte_at f 5) (whole_monitor f) B)
-      (fronted (widened_at f) (2 * whole_monitor f) X) t ≡ monitor_writing (Written k) (f ++ drop (length f) t)) (sym w.0) (filled-written w.1 w.2 t h)
+      (fronted (widened_at f) (2 * whole_monitor f) X) t ≡ monitor_writing (Ok k) (f ++ drop (length f) t)) (sym w.0) (filled-written w.1 w.2 t h)

@@ -12,8 +12,9 @@ use Rattle.laws.specs.Loops.{first}
 use Rattle.laws.specs.Joined.{laid}
 use Rattle.laws.proofs.Bools.{by_bool, or_yes}
 use Rattle.laws.proofs.First.{first_holds, first-before, first-all, first-none, first-at}
-use Rattle.monitor_write.specs.declared.Monitored.{Monitored}
-use Rattle.monitor_write.specs.declared.Monitored.TheVariants.{Written, Short, Bad, Beyond}
+use Rattle.std.specs.Prelude.{Result, Ok, Err}
+use Rattle.monitor_write.specs.declared.Unwritable.{Unwritable}
+use Rattle.monitor_write.specs.declared.Unwritable.TheVariants.{Short, Bad, Beyond}
 use Rattle.monitor_write.specs.MonitorWrite.{wrong_at, past_at, faulty_at, monitor_row, MonitorWriting, monitor_writing, room_to_write, fault_told, write_monitor, monitored_number}
 use Rattle.monitor_write.proofs.Laws.{writing-short, writing-fault, writing-whole}
 use Rattle.monitoring.specs.MonitorReasons.{HasRoom, FineBefore, WriteReason}
@@ -39,16 +40,20 @@ module _ (P S B X : List ℕ) (i : ℕ) where
   unfolding fault_told
   told-past e = rw e
 
+abbrev written_count : Result ℕ Unwritable → ℕ
+written_count (Ok n) = n
+written_count (Err e) = 0
+
 module _ (n : ℕ) (P S B X t : List ℕ) where
-  answered : (a : Monitored) (l : List ℕ) → monitor_writing a l ≡ write_monitor n P S B X t → a ≡ (write_monitor n P S B X t).answer
+  answered : (a : Result ℕ Unwritable) (l : List ℕ) → monitor_writing a l ≡ write_monitor n P S B X t → a ≡ (write_monitor n P S B X t).answer
   answered a l e = ap (λ (o : MonitorWriting). o.answer) e
 
   -- what holds of each outcome holds of the call's
   by-outcome : (G : MonitorWriting → Type 0)
-      → (room_to_write n (length P) (length S) (length B) (length X) (length t) ≡ false → G (monitor_writing Short t))
-      → (HasRoom n P S B X t → (k : ℕ) → k < n → FineBefore P S B X k → wrong_at P S B k ≡ true → G (monitor_writing (Bad k) t))
-      → (HasRoom n P S B X t → (k : ℕ) → k < n → FineBefore P S B X k → wrong_at P S B k ≡ false → past_at X k ≡ true → G (monitor_writing (Beyond k) t))
-      → (HasRoom n P S B X t → FineBefore P S B X n → G (monitor_writing (Written n) (laid (monitor_row P S B X) 16 n t)))
+      → (room_to_write n (length P) (length S) (length B) (length X) (length t) ≡ false → G (monitor_writing (Err Short) t))
+      → (HasRoom n P S B X t → (k : ℕ) → k < n → FineBefore P S B X k → wrong_at P S B k ≡ true → G (monitor_writing (Err (Bad k)) t))
+      → (HasRoom n P S B X t → (k : ℕ) → k < n → FineBefore P S B X k → wrong_at P S B k ≡ false → past_at X k ≡ true → G (monitor_writing (Err (Beyond k)) t))
+      → (HasRoom n P S B X t → FineBefore P S B X n → G (monitor_writing (Ok n) (laid (monitor_row P S B X) 16 n t)))
       → G (write_monitor n P S B X t)
   by-outcome G short bad beyond written =
       let p = faulty_at P S B X in
@@ -68,36 +73,35 @@ module _ (n : ℕ) (P S B X t : List ℕ) where
   write-reason = by-outcome (λ (o : MonitorWriting). WriteReason n P S B X t o.answer) (λ e. e) (λ e k l f w. (e, l, f, w)) (λ e k l f w p. (e, l, f, w, p)) (λ e f. (refl, e, f))
 
   -- where a condition holds, that is what is answered
-  pub write-reason-only : (a : Monitored) → WriteReason n P S B X t a → a ≡ (write_monitor n P S B X t).answer
-  write-reason-only (Written m) r = ap Written r.0 ∙ answered (Written n) (laid (monitor_row P S B X) 16 n t)
+  pub write-reason-only : (a : Result ℕ Unwritable) → WriteReason n P S B X t a → a ≡ (write_monitor n P S B X t).answer
+  write-reason-only (Ok m) r = ap Ok r.0 ∙ answered (Ok n) (laid (monitor_row P S B X) 16 n t)
       (writing-whole n P S B X t r.1 n (sym (first-none (faulty_at P S B X) n r.2)) (laid (monitor_row P S B X) 16 n t) (le_of_eq refl) refl)
-  write-reason-only Short r = answered Short t (writing-short n P S B X t r)
-  write-reason-only (Bad k) r = answered (Bad k) t
+  write-reason-only (Err Short) r = answered (Err Short) t (writing-short n P S B X t r)
+  write-reason-only (Err (Bad k)) r = answered (Err (Bad k)) t
       (writing-fault n P S B X t r.0 k (sym (first-at (faulty_at P S B X) n k r.1 (wrong-faulty P S B X k r.3) r.2)) (Bad k) r.1
       (told-wrong P S B X k r.3))
-  write-reason-only (Beyond k) r = answered (Beyond k) t
+  write-reason-only (Err (Beyond k)) r = answered (Err (Beyond k)) t
       (writing-fault n P S B X t r.0 k (sym (first-at (faulty_at P S B X) n k r.1 (past-faulty P S B X k r.4) r.2)) (Beyond k) r.1
       (told-past P S B X k r.3))
 
   -- a refusal changes nothing
   pub write-refused : (monitored_number (write_monitor n P S B X t).answer ≡ 0 → ⊥) → (write_monitor n P S B X t).target ≡ t
-  unfolding monitored_number
   write-refused = by-outcome (λ (o : MonitorWriting). (monitored_number o.answer ≡ 0 → ⊥) → o.target ≡ t) (λ e z. refl) (λ e k l f w z. refl) (λ e k l f w p z. refl) (λ e f z. absurd (z refl))
 
   -- what is written, where it is
-  pub write-taken : (m : ℕ) → (write_monitor n P S B X t).answer ≡ Written m → (m ≡ n) × HasRoom n P S B X t × FineBefore P S B X n ×
+  pub write-taken : (m : ℕ) → (write_monitor n P S B X t).answer ≡ Ok m → (m ≡ n) × HasRoom n P S B X t × FineBefore P S B X n ×
       ((write_monitor n P S B X t).target ≡ laid (monitor_row P S B X) 16 n t)
-  write-taken m e = by-outcome (λ (o : MonitorWriting). o.answer ≡ Written m → (m ≡ n) × HasRoom n P S B X t × FineBefore P S B X n × (o.target ≡ laid (monitor_row P S B X) 16 n t))
+  write-taken m e = by-outcome (λ (o : MonitorWriting). o.answer ≡ Ok m → (m ≡ n) × HasRoom n P S B X t × FineBefore P S B X n × (o.target ≡ laid (monitor_row P S B X) 16 n t))
       (λ r q. absurd (unlike-short q)) (λ r k l f w q. absurd (unlike-bad k q)) (λ r k l f w p q. absurd (unlike-beyond k q)) (λ r f q. (same q, r, f, refl)) e
     where
-      unlike-short : Short ≡ Written m → ⊥
+      unlike-short : Err Short ≡ Ok m → ⊥
       unlike-short q = let z : ◌≡◌ {A = ℕ} 0 1 = cc in omega arith
 
-      unlike-bad : (k : ℕ) → Bad k ≡ Written m → ⊥
+      unlike-bad : (k : ℕ) → Err (Bad k) ≡ Ok m → ⊥
       unlike-bad k q = let z : ◌≡◌ {A = ℕ} 0 1 = cc in omega arith
 
-      unlike-beyond : (k : ℕ) → Beyond k ≡ Written m → ⊥
+      unlike-beyond : (k : ℕ) → Err (Beyond k) ≡ Ok m → ⊥
       unlike-beyond k q = let z : ◌≡◌ {A = ℕ} 0 1 = cc in omega arith
 
-      same : Written n ≡ Written m → m ≡ n
-      same q = cc
+      same : ◌≡◌ {A = Result ℕ Unwritable} (Ok n) (Ok m) → m ≡ n
+      same q = sym (ap written_count q)

@@ -17,15 +17,13 @@ use Rattle.take_rows.proofs.Packing.{each_same}
 use Rattle.little.specs.Little.{little_of}
 use Rattle.little.proofs.Roundtrip.{little-same}
 use Rattle.frames.specs.Frames.{picture_fine, side_fine, field_fine, spare_fine}
-use Rattle.monitor_narrow.specs.declared.Narrowed.{Narrowed}
-use Rattle.monitor_narrow.specs.declared.Narrowed.TheVariants.{Single, Past}
+use Rattle.std.specs.Prelude.{Option, Some, None}
 use Rattle.monitor_narrow.specs.Narrow.{narrow_of, widen_of, finite_single}
 use Rattle.monitor_narrow.proofs.Theorems.{narrowed-below, narrowed-finite}
 use Rattle.monitor.specs.Monitor.{frame_fine, follows_at, frames_room}
-use Rattle.monitor_write.specs.declared.Monitored.TheVariants.{Written}
+use Rattle.std.specs.Prelude.{Result, Ok, Err}
 use Rattle.monitor_write.specs.MonitorWrite.{wrong_at, is_past, past_at, faulty_at, single_bits, monitor_row, write_monitor}
 use Rattle.monitor_write.proofs.Laws.{row-size}
-use Rattle.monitor_read.specs.declared.MonitorRead.TheVariants.{Read}
 use Rattle.monitor_read.specs.MonitorRead.{byte_at, monitor_picture, coordinate_at, coordinates_fine, broken_at, whole_monitor, is_monitor, monitor_reading, fronted, widened_at, read_monitor}
 use Rattle.monitoring.specs.MonitorReasons.{AllGood}
 use Rattle.monitoring.proofs.Records.{side-in, field_in, zeros-in, picture-in, x-in, y-in, by-halves, x-stands, y-stands}
@@ -34,13 +32,13 @@ use Rattle.monitoring.proofs.ReadTold.{good-file, out-filled}
 
 -- ---- a coordinate that is not past
 
-told-single : (a : Narrowed) → is_past a ≡ false → a ≡ Single (single_bits a)
+told-single : (a : Option ℕ) → is_past a ≡ false → a ≡ Some (single_bits a)
 unfolding is_past single_bits
-told-single (Single w) e = refl
-told-single Past e = absurd (true≢false e)
+told-single (Some w) e = refl
+told-single None e = absurd (true≢false e)
 
 module _ (b : ℕ) (e : is_past (narrow_of b) ≡ false) where
-  pub single-is : narrow_of b ≡ Single (single_bits (narrow_of b))
+  pub single-is : narrow_of b ≡ Some (single_bits (narrow_of b))
   single-is = told-single (narrow_of b) e
 
   single-below : single_bits (narrow_of b) < 2 ^ 32
@@ -167,7 +165,7 @@ module _ (n : ℕ) (P S B X : List ℕ) (good : (i : ℕ) → i < n → faulty_a
   file-good = (λ i l. record-read i (rw whole-read at l), let e = file-size in omega arith)
 
   pub file-taken : (P' S' B' X' : List ℕ) → frames_room n (length P') (length S') (length B') (length X') ≡ true
-      → read_monitor file P' S' B' X' ≡ monitor_reading (Read n) (fronted (num P) n P') (fronted (num S) n S') (fronted (num B) n B')
+      → read_monitor file P' S' B' X' ≡ monitor_reading (Ok n) (fronted (num P) n P') (fronted (num S) n S') (fronted (num B) n B')
       (fronted (λ j. widen_of (single_bits (narrow_of (num X j)))) (2 * n) X')
   file-taken P' S' B' X' e =
       sym (out-filled file P' S' B' X' file-good (rw whole-read e))
@@ -182,7 +180,7 @@ module _ (n : ℕ) (P S B X : List ℕ) (good : (i : ℕ) → i < n → faulty_a
 
 -- ---- the theorems
 
-module _ (n : ℕ) (P S B X t : List ℕ) (done : (write_monitor n P S B X t).answer ≡ Written n) where
+module _ (n : ℕ) (P S B X t : List ℕ) (done : (write_monitor n P S B X t).answer ≡ Ok n) where
   -- the bytes at the target's front are the records
   pub written-file : take (n * 16) (write_monitor n P S B X t).target ≡ joined (monitor_row P S B X) n
   written-file =
@@ -195,6 +193,6 @@ module _ (n : ℕ) (P S B X t : List ℕ) (done : (write_monitor n P S B X t).an
 
   -- into any areas that are long enough: pictures, sides, fields, and the coordinates narrowed and widened; the areas' tails are kept
   pub written-then-read : (P' S' B' X' : List ℕ) → frames_room n (length P') (length S') (length B') (length X') ≡ true
-      → read_monitor (take (n * 16) (write_monitor n P S B X t).target) P' S' B' X' ≡ monitor_reading (Read n) (fronted (num P) n P') (fronted (num S) n S')
+      → read_monitor (take (n * 16) (write_monitor n P S B X t).target) P' S' B' X' ≡ monitor_reading (Ok n) (fronted (num P) n P') (fronted (num S) n S')
       (fronted (num B) n B') (fronted (λ j. widen_of (single_bits (narrow_of (num X j)))) (2 * n) X')
   written-then-read P' S' B' X' e = rw written-file (file-taken n P S B X (write-taken n P S B X t n done).2 P' S' B' X' e)

@@ -1,11 +1,12 @@
 -- When each answer of writing and of reading for the picture monitor is given: a condition for each, with the place that is told. Definitions only.
 use Rattle.std.specs.Prelude.{◌≡◌, ◌⊎◌, List, true, false, ℕ, ◌%◌, ◌<◌, length}
 use Rattle.monitor.specs.Monitor.{monitor_bytes, frames_room}
-use Rattle.monitor_write.specs.declared.Monitored.{Monitored}
-use Rattle.monitor_write.specs.declared.Monitored.TheVariants.{Written, Short, Bad, Beyond}
+use Rattle.std.specs.Prelude.{Result, Ok, Err}
+use Rattle.monitor_write.specs.declared.Unwritable.{Unwritable}
+use Rattle.monitor_write.specs.declared.Unwritable.TheVariants.{Short, Bad, Beyond}
 use Rattle.monitor_write.specs.MonitorWrite.{wrong_at, past_at, faulty_at, room_to_write}
-use Rattle.monitor_read.specs.declared.MonitorRead.{MonitorRead}
-use Rattle.monitor_read.specs.declared.MonitorRead.TheVariants.{Read, Bad as Broken, Short as Scant}
+use Rattle.refusal.specs.declared.Unreadable.{Unreadable}
+use Rattle.refusal.specs.declared.Unreadable.TheVariants.{Bad as Broken, Short as Scant}
 use Rattle.monitor_read.specs.MonitorRead.{broken_at, whole_monitor}
 
 -- ---- writing
@@ -19,11 +20,11 @@ module _ (n : ℕ) (P S B X t : List ℕ) where
   abbrev pub HasRoom : Type 0
   HasRoom = room_to_write n (length P) (length S) (length B) (length X) (length t) ≡ true
 
-  abbrev pub WriteReason : Monitored → Type 0
-  WriteReason (Written m) = (m ≡ n) × HasRoom × FineBefore P S B X n
-  WriteReason Short = room_to_write n (length P) (length S) (length B) (length X) (length t) ≡ false
-  WriteReason (Bad k) = HasRoom × (k < n) × FineBefore P S B X k × (wrong_at P S B k ≡ true)
-  WriteReason (Beyond k) = HasRoom × (k < n) × FineBefore P S B X k × (wrong_at P S B k ≡ false) × (past_at X k ≡ true)
+  abbrev pub WriteReason : Result ℕ Unwritable → Type 0
+  WriteReason (Ok m) = (m ≡ n) × HasRoom × FineBefore P S B X n
+  WriteReason (Err Short) = room_to_write n (length P) (length S) (length B) (length X) (length t) ≡ false
+  WriteReason (Err (Bad k)) = HasRoom × (k < n) × FineBefore P S B X k × (wrong_at P S B k ≡ true)
+  WriteReason (Err (Beyond k)) = HasRoom × (k < n) × FineBefore P S B X k × (wrong_at P S B k ≡ false) × (past_at X k ≡ true)
 
 -- ---- reading
 
@@ -37,7 +38,7 @@ module _ (f : List ℕ) where
   AllGood = GoodBefore (whole_monitor f) × (length f % monitor_bytes ≡ 0)
 
 module _ (f P S B X : List ℕ) where
-  abbrev pub ReadReason : MonitorRead → Type 0
-  ReadReason (Read n) = (n ≡ whole_monitor f) × AllGood f × (frames_room (whole_monitor f) (length P) (length S) (length B) (length X) ≡ true)
-  ReadReason (Broken k) = GoodBefore f k × (((k < whole_monitor f) × (broken_at f k ≡ true)) ⊎ ((k ≡ whole_monitor f) × (length f % monitor_bytes ≡ 0 → ⊥)))
-  ReadReason Scant = AllGood f × (frames_room (whole_monitor f) (length P) (length S) (length B) (length X) ≡ false)
+  abbrev pub ReadReason : Result ℕ Unreadable → Type 0
+  ReadReason (Ok n) = (n ≡ whole_monitor f) × AllGood f × (frames_room (whole_monitor f) (length P) (length S) (length B) (length X) ≡ true)
+  ReadReason (Err (Broken k)) = GoodBefore f k × (((k < whole_monitor f) × (broken_at f k ≡ true)) ⊎ ((k ≡ whole_monitor f) × (length f % monitor_bytes ≡ 0 → ⊥)))
+  ReadReason (Err Scant) = AllGood f × (frames_room (whole_monitor f) (length P) (length S) (length B) (length X) ≡ false)

@@ -1,5 +1,5 @@
 // A case of narrowing: a value by its bits, and the bits that it is narrowed to, or none.
-use monitor_narrow::{Narrowed, narrow, widen};
+use monitor_narrow::{narrow, widen};
 use replay::areas::plus;
 use replay::word_at;
 use replay_areas::both;
@@ -8,18 +8,18 @@ use replay_areas::both;
 const NONE: u64 = 0x100000000;
 
 // What the list has for it.
-fn listed(a: Narrowed) -> u64 {
+fn listed(a: Option<u32>) -> u64 {
     match a {
-        Narrowed::Single(bits) => bits as u64,
-        Narrowed::Past => NONE,
+        Some(bits) => bits as u64,
+        None => NONE,
     }
 }
 
 // Whether it is none, or its bits are widened to a value that is narrowed to the same bits.
-fn comes_back(a: Narrowed) -> bool {
+fn comes_back(a: Option<u32>) -> bool {
     match a {
-        Narrowed::Single(bits) => listed(narrow(widen(bits))) == bits as u64,
-        Narrowed::Past => true,
+        Some(bits) => listed(narrow(widen(bits))) == bits as u64,
+        None => true,
     }
 }
 

@@ -1,9 +1,9 @@
 -- A record's sixteen bytes: the three numbers' bytes in their places, by computing.
 use Rattle.monitor.specs.Monitor.{monitor_record}
-use Rattle.little.specs.Little.{little_bytes}
+use Rattle.little.proofs.Bytes.{bytes_four}
 use Rattle.monitor.proofs.record_bytes.Goals as goal
 
 pub returns : goal.returns
-unfolding little_bytes monitor_record
+unfolding monitor_record
 returns c =
-    rw (c.four_bytes-p.ensures, c.four_bytes-a.ensures, c.four_bytes-b.ensures)
+    rw (c.to_le_bytes-p.ensures, c.to_le_bytes-a.ensures, c.to_le_bytes-b.ensures, bytes_four c.args.picture, bytes_four c.args.x, bytes_four c.args.y)

@@ -4,18 +4,16 @@ use Rattle.monitor.proofs.Laws.{frames-lie}
 use Rattle.monitor_read.proofs.Laws.{broken-found, stray-tail, all_fit, reading-bad, reading-short, reading-done}
 use native.Mathlib.Omega.{arith}
 use Rattle.monitor_read.proofs.read_monitor.Goals as goal
+use Rattle.monitor_read.proofs.read_monitor.Goals.{then-k-n-via-then-k-n, then-k-n-via-else-k-n+then-file-ne0}
 
 pub returns-then-k-n : goal.returns-then-k-n
 returns-then-k-n c =
     reading-bad c.args.file.now _ c.first_broken-k.ensures c.args.pictures.now c.args.sides.now
     c.args.fields.now c.args.positions.now
-    (broken-found c.args.file.now _ c.first_broken-k.ensures c.if-k-n.true)
-
-pub returns-then-file-ne0 : goal.returns-then-file-ne0
-returns-then-file-ne0 c =
-    reading-bad c.args.file.now _ c.first_broken-k.ensures c.args.pictures.now c.args.sides.now
-    c.args.fields.now c.args.positions.now
-    (stray-tail c.args.file.now _ c.first_broken-k.ensures c.if-k-n.false c.if-file-ne0.true)
+    (elim c.then-k-n.branch [
+      | then-k-n-via-then-k-n w ↦ broken-found c.args.file.now _ c.first_broken-k.ensures w.if-k-n.true
+      | then-k-n-via-else-k-n+then-file-ne0 w ↦ stray-tail c.args.file.now _ c.first_broken-k.ensures w.if-k-n.false w.if-file-ne0.true
+    ])
 
 pub returns-then-not-frames_room : goal.returns-then-not-frames_room
 returns-then-not-frames_room c =
