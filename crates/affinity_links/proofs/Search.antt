@@ -1,4 +1,4 @@
--- Finding a frame in a rising row: by halving, and by a cursor that falls with the frames. Assumes nothing.
+-- Finding a frame in a rising row: by std's search, and by a cursor that falls with the frames. Assumes nothing.
 use mathlib.Core.Path.{◌≡◌, refl, sym, ap, subst, ◌∙◌}
 use mathlib.Core.Logic.{⊎_elim, ◌⊎◌, inl, inr}
 use mathlib.Core.List.{List}
@@ -8,52 +8,58 @@ use native.Mathlib.Decide.{ℕ_discrete, dec_lt}
 use native.Mathlib.Nat.{le_refl, not-suc-le-zero}
 use mathlib.Core.Bool.{false, cond, true≢false}
 use lib.Dec.{eqb, ltb}
-use lib.ListN.{length}
+use lib.ListN.{length, get_or, take, drop, length-drop}
+use lib.Seq.{length-take-le, get_or-take}
+use Rattle.std.proofs.lemmas.List.{get_or-drop}
+use Rattle.std.proofs.lemmas.List.Sorted.{searched}
+use Rattle.std.specs.List.Sorted.{IsBinarySearchResult}
+use Rattle.std.specs.Ordering.{nat_cmp}
+use Rattle.std.specs.Result.{result_ok}
+use Rattle.std.specs.Prelude.{Result, Ok, Err}
 use lib.Ieee.{Float, binary64, add}
 use borrow.Author.Tests.{eq-eqb, ne_eqb, lt-ltb, le-ltb}
 use Rattle.laws.specs.Domain.{most_frames}
 use Rattle.laws.specs.Area.{at, num, zero64}
 use Rattle.laws.proofs.First.{first-at, first-none, first-same}
-use Rattle.affinity_links.specs.Links.{Rising, found, past, held_of, cursor_of, fallen_of, Cursor, plus_of, plus_fallen, Within, WithinBoth}
+use Rattle.affinity_links.specs.Links.{Rising, found, found_in, past, held_of, cursor_of, fallen_of, Cursor, plus_of, plus_fallen, Within, WithinBoth}
 
--- ---- halving: what is left to look at lies from low up to high
-
-pub record Halves (l : List ℕ) (a k j low high : ℕ) : Type 0 where
-  pub high-in : high ≤ k
-  pub under : (t : ℕ) → t < low → num l (a + t) < j
-  pub over : (t : ℕ) → high ≤ t → t < k → j < num l (a + t)
-
-module _ {l : List ℕ} {a k j : ℕ} where
-  pub halves-start : Halves l a k j 0 k
-  halves-start = record { high-in = le_refl k; under = λ t h. absurd (not-suc-le-zero h); over = λ t h m. omega arith }
-
-  pub halves-low : {low high : ℕ} → Rising l a k → Halves l a k j low high → (m : ℕ) → m < high → num l (a + m) < j → Halves l a k j (m + 1) high
-  halves-low r s m h e = record {
-    high-in = s.high-in;
-    under = λ t q. elim (dec_lt t m) [ yes w ↦ omega (arith, r t m w (omega (arith, s.high-in)), e) | no w ↦ subst (λ (x : ℕ). num l (a + x) < j) (eq_of t m q w) e ];
-    over = s.over;
-  }
-    where
-      eq_of : (t m : ℕ) → t < m + 1 → (t < m → ⊥) → m ≡ t
-      eq_of t m q w = omega arith
-
-  pub halves-high : {low high : ℕ} → Rising l a k → Halves l a k j low high → (m : ℕ) → m < high → j < num l (a + m) → Halves l a k j low m
-  halves-high r s m h e = record {
-    high-in = omega (arith, s.high-in);
-    under = s.under;
-    over = λ t q w. elim (dec_lt m t) [ yes v ↦ omega (arith, r m t v w, e) | no v ↦ subst (λ (x : ℕ). j < num l (a + x)) (eq_of t m q v) e ];
-  }
-    where
-      eq_of : (t m : ℕ) → m ≤ t → (m < t → ⊥) → m ≡ t
-      eq_of t m q w = omega arith
+-- ---- by its place
 
 module _ (l : List ℕ) (a k j : ℕ) where
   pub found_at : Rising l a k → (m : ℕ) → m < k → num l (a + m) ≡ j → m ≡ found l a k j
   found_at r m h e = sym (first-at (λ t. eqb (num l (a + t)) j) k m h (eq-eqb (num l (a + m)) j e) (λ s q. ne_eqb (num l (a + s)) j (λ x. omega (arith, r s m q h, x, e))))
 
-  pub found_none : {low high : ℕ} → Halves l a k j low high → high ≤ low → k ≡ found l a k j
-  found_none {low} {high} s h = sym (first-none (λ t. eqb (num l (a + t)) j) k (λ t q. ne_eqb (num l (a + t)) j (λ x. elim
-      (dec_lt t low) [ yes w ↦ omega (arith, s.under t w, x) | no w ↦ omega (arith, s.over t (omega arith) q, x) ])))
+  module _ (room : a + k ≤ length l) (rise : Rising l a k) where
+    part-at : (t : ℕ) → t < k → get_or (take k (drop a l)) t 0 ≡ num l (a + t)
+    part-at t q = get_or-take k (drop a l) t 0 q ∙ get_or-drop a l t 0
+
+    part-long : length (take k (drop a l)) ≡ k
+    part-long = length-take-le k (drop a l) (omega (arith, length-drop a l))
+
+    part-rises : (s t : ℕ) → s ≤ t → t < length (take k (drop a l)) → get_or (take k (drop a l)) s 0 ≤ get_or (take k (drop a l)) t 0
+    part-rises s t h q = elim (dec_lt s t) [
+      | yes w ↦ omega (arith, part-long, part-at s (omega (arith, part-long)), part-at t (omega (arith, part-long)), rise s t w (omega (arith, part-long)))
+      | no w ↦ subst (λ (x : ℕ). get_or (take k (drop a l)) s 0 ≤ get_or (take k (drop a l)) x 0) (same s t h w) (le_refl _)
+    ]
+      where
+        same : (s t : ℕ) → s ≤ t → (s < t → ⊥) → s ≡ t
+        same s t h w = omega arith
+
+    found-none : (m : ℕ) → ((t : ℕ) → t < m → t < k → num l (a + t) < j) → ((t : ℕ) → m ≤ t → t < k → j < num l (a + t)) → found l a k j ≡ k
+    found-none m under over = first-none (λ t. eqb (num l (a + t)) j) k (λ t q. ne_eqb (num l (a + t)) j (λ x. elim
+        (dec_lt t m) [ yes w ↦ omega (arith, under t w q, x) | no w ↦ omega (arith, over t (omega arith) q, x) ]))
+
+    -- what std's search finds among them
+    pub sought : (r : Result ℕ ℕ) → IsBinarySearchResult (λ y. nat_cmp y j) (take k (drop a l)) r → result_ok r ≡ found_in l a k j
+    sought (Ok i) h =
+        let f = searched (take k (drop a l)) j (Ok i) h part-rises in
+        let q : i < k = omega (arith, part-long, f.0) in
+        let e : i ≡ found l a k j = found_at rise i q (sym (part-at i q) ∙ f.1) in
+        rw (sym e, lt-ltb i k q)
+    sought (Err i) h =
+        let f = searched (take k (drop a l)) j (Err i) h part-rises in
+        let e : found l a k j ≡ k = found-none i (λ t w q. omega (arith, f.1 t w, part-at t q)) (λ t w q. omega (arith, f.2 t w (omega (arith, part-long, q)), part-at t q)) in
+        rw (e, le-ltb k k (le_refl k))
 
 pub found-same : (I L : List ℕ) (a b k j : ℕ) → ((t : ℕ) → t < k → num I (a + t) ≡ num L (b + t)) → found I a k j ≡ found L b k j
 found-same I L a b k j h = first-same (λ t. eqb (num I (a + t)) j) (λ t. eqb (num L (b + t)) j) k (λ t l. ap (λ (x : ℕ). eqb x j) (h t l))

@@ -1,5 +1,5 @@
 -- Where a frame stands in a row, and the link of one frame with another as the areas tell it while the lists are written. Definitions only.
-use Rattle.std.specs.Prelude.{◌≡◌, List, Bool, cond, ◌||◌, ℕ, ◌+◌, ◌-◌, ◌*◌, ◌/◌, ◌%◌, ◌<◌, ◌≤◌, eqb, ltb, length, Float}
+use Rattle.std.specs.Prelude.{◌≡◌, List, Bool, cond, ◌||◌, ℕ, ◌+◌, ◌-◌, ◌*◌, ◌/◌, ◌%◌, ◌<◌, ◌≤◌, eqb, ltb, length, Float, Option, Some, None}
 use Rattle.std.specs.Float.{binary64}
 use Rattle.std.specs.Float.Ieee.{add}
 use Rattle.laws.specs.Domain.{most_frames}
@@ -13,6 +13,10 @@ Rising l a k = (s t : ℕ) → s < t → t < k → num l (a + s) < num l (a + t)
 -- where j stands among the k numbers from place a on; k if it does not
 abbrev pub found : List ℕ → ℕ → ℕ → ℕ → ℕ
 found l a k j = first (λ t. eqb (num l (a + t)) j) k
+
+-- its place, and none if it does not
+abbrev pub found_in : List ℕ → ℕ → ℕ → ℕ → Option ℕ
+found_in l a k j = cond (ltb (found l a k j) k) (Some (found l a k j)) None
 
 -- w, and what stands p past place a if p is below k
 abbrev pub plus_of : List Float → ℕ → ℕ → ℕ → Float → Float

@@ -5,28 +5,14 @@
 ghost use Rattle.std.specs.Prelude.{◌≡◌, ◌+◌, ◌-◌, ◌*◌, ◌<◌, ◌≤◌, length};
 ghost use Rattle.laws.specs.Domain.{most_frames};
 ghost use Rattle.laws.specs.Area.{num, zero64};
-ghost use Rattle.affinity_links.specs.Links.{Rising, found, past, held_of, cursor_of, fallen_of, plus_fallen, below_yes, below_weight, above_yes, above_weight, sought_yes, sought_weight, sought_row, sought_cursor, Within, WithinBoth, Sought};
+ghost use Rattle.affinity_links.specs.Links.{Rising, found_in, past, held_of, cursor_of, fallen_of, plus_fallen, below_yes, below_weight, above_yes, above_weight, sought_yes, sought_weight, sought_row, sought_cursor, Within, WithinBoth, Sought};
 
-// The place of j among the k numbers from a on, which rise; k if it is not there.
-pub fn find(indices: &[u32], a: usize, k: usize, j: u32) -> usize
+// The place of j among the k numbers from a on, which rise.
+pub fn find(indices: &[u32], a: usize, k: usize, j: u32) -> Option<usize>
     requires { (a + k ≤ length indices.now) × Rising indices.now a k }
-    ensures { result ≡ found indices.now a k j }
+    ensures { result ≡ found_in indices.now a k j }
 {
-    let mut low = 0;
-    let mut high = k;
-    while low < high {
-        let middle = low + (high - low) / 2;
-        let v = indices[a + middle];
-        if v == j {
-            return middle;
-        }
-        if v < j {
-            low = middle + 1;
-            continue;
-        }
-        high = middle;
-    }
-    k
+    indices[a..a + k].binary_search(&j).ok()
 }
 
 // A cursor c in the numbers from a on as one word, with one more than the number just below it; 0 if nothing is below it. So a look at the word tells whether the cursor is to fall.

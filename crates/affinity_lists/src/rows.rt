@@ -12,7 +12,7 @@ fn miss(indices: &[u32], n: usize, k: usize, j: usize, t: usize) -> usize
     ensures { result ≡ miss_of k indices.now j t }
 {
     let i = indices[j * k + t] as usize;
-    usize::from(find(indices, i * k, k, j as u32) == k)
+    usize::from(find(indices, i * k, k, j as u32).is_none())
 }
 
 // How many of the frames in row j do not name j back.

@@ -26,7 +26,7 @@ use Rattle.affinity.proofs.Shares.{shares-tail}
 use Rattle.affinity.proofs.Named.{over-tail, frames-count}
 use Rattle.run_record.specs.declared.Settings.{Settings}
 use Rattle.run_record.specs.Record.{is_tree, k_of}
-use Rattle.blind.specs.declared.Sight.TheVariants.{Refused, Seen}
+use Rattle.std.specs.Prelude.{Ok, Err}
 use Rattle.blind.specs.Room.{SightRoom, KeptPast}
 use Rattle.blind.specs.Blind.{all_at_zero, blind_at, alone_at, how_many, SightRows, sight_rows, sight_fault, sight_outcome, sighted}
 use Rattle.blind.proofs.Watches.{last-sum-read}
@@ -129,14 +129,14 @@ cleared : {A : Type 0} (z : A) {n : ℕ} {l₀ l l' : List A} → l' ≡ filled 
 cleared z {n} e k = e ∙ ap (λ r. replicate n z ++ r) k.tail
 
 module _ (s : Settings) (table : List Float) (r : SightRows) {k : ℕ} (q : k ≡ sight_fault s table r) where
-  pub sight-refused : (k ≡ 0 → ⊥) → sight_outcome (Refused k) r ≡ sighted s table r
+  pub sight-refused : (k ≡ 0 → ⊥) → sight_outcome (Err k) r ≡ sighted s table r
   unfolding sighted
   sight-refused n = rw (ne_eqb (sight_fault s table r) 0 (λ e. n (q ∙ e)), q)
 
   pub sight-seen : {Q₁ X₁ H₁ Q₂ X₂ H₂ : List Float} {I₁ I₂ : List ℕ} {blind alone : ℕ} → k ≡ 0 → Q₁ ≡ squares_of table s.n s.f r.squares
       → (KeptPast s.n r.values X₁) × (KeptPast s.n r.shares H₁) × (KeptPast s.n r.places I₁)
       → (Q₂ ≡ filled zero64 s.n Q₁) × (X₂ ≡ filled zero64 s.n X₁) × (H₂ ≡ filled zero64 s.n H₁) × (I₂ ≡ filled 0 s.n I₁)
-      → (blind ≡ how_many (blind_at s table) s.n) × (alone ≡ how_many (alone_at s table) s.n) → sight_outcome (Seen blind alone) (sight_rows Q₂ X₂ H₂ I₂) ≡ sighted s table r
+      → (blind ≡ how_many (blind_at s table) s.n) × (alone ≡ how_many (alone_at s table) s.n) → sight_outcome (Ok (record { blind = blind; alone = alone })) (sight_rows Q₂ X₂ H₂ I₂) ≡ sighted s table r
   unfolding sighted
   sight-seen {Q₁} e q₁ tails zeros c =
       let n = s.n in

@@ -1,6 +1,6 @@
 -- For how many frames the sigma search ends blind: its last round's row was filled, because the sum of the weights was too small. Definitions only.
 -- Of the settings n, f, the method and the perplexity are looked at, and no other.
-use Rattle.std.specs.Prelude.{List, Bool, cond, ℕ, eqb, length, Float}
+use Rattle.std.specs.Prelude.{List, Bool, cond, ℕ, eqb, length, Float, Result, Ok, Err}
 use Rattle.std.specs.Float.Ieee.{eq}
 use Rattle.laws.specs.Loops.{every}
 use Rattle.laws.specs.Area.{at, zero64}
@@ -12,8 +12,7 @@ use Rattle.affinity.specs.Neighbours.{values_in, nearest_frames}
 use Rattle.run_record.specs.declared.Settings.{Settings}
 use Rattle.run_record.specs.Record.{is_tree, k_of}
 use Rattle.blind.specs.Faults.{blind_fault}
-use Rattle.blind.specs.declared.Sight.{Sight}
-use Rattle.blind.specs.declared.Sight.TheVariants.{Refused, Seen}
+use Rattle.blind.specs.declared.Seen.{Seen}
 
 -- ---- one frame
 
@@ -59,10 +58,10 @@ cleared_rows n r = sight_rows (filled zero64 n r.squares) (filled zero64 n r.val
 -- ---- the answer
 
 pub record SightOutcome : Type 0 where
-  pub answer : Sight
+  pub answer : Result Seen ℕ
   pub rows : SightRows
 
-abbrev pub sight_outcome : Sight → SightRows → SightOutcome
+abbrev pub sight_outcome : Result Seen ℕ → SightRows → SightOutcome
 sight_outcome a r = record { answer = a; rows = r }
 
 abbrev pub sight_fault : Settings → List Float → SightRows → ℕ
@@ -72,10 +71,10 @@ sight_fault s table r = blind_fault s table (length r.squares) (length r.values)
 unfoldable pub sighted : Settings → List Float → SightRows → SightOutcome
 sighted s table r =
     cond (eqb (sight_fault s table r) 0)
-    (sight_outcome (Seen (how_many (blind_at s table) s.n) (how_many (alone_at s table) s.n)) (cleared_rows s.n r))
-    (sight_outcome (Refused (sight_fault s table r)) r)
+    (sight_outcome (Ok (record { blind = how_many (blind_at s table) s.n; alone = how_many (alone_at s table) s.n })) (cleared_rows s.n r))
+    (sight_outcome (Err (sight_fault s table r)) r)
 
 -- the number of an answer; 0 where it is no refusal
-unfoldable pub sight_number : Sight → ℕ
-sight_number (Refused k) = k
-sight_number (Seen blind alone) = 0
+unfoldable pub sight_number : Result Seen ℕ → ℕ
+sight_number (Err k) = k
+sight_number (Ok seen) = 0

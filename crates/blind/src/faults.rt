@@ -1,33 +1,25 @@
 // The tests 2, 7, 8, 9, 10 and 12, in this order.
 ghost use Rattle.std.specs.Prelude.{◌≡◌, ◌≤◌, length};
+ghost use Rattle.refusal.specs.Refusal.{refusal_number, number_told};
 ghost use Rattle.blind.specs.Faults.{size_fault, table_fine, rows_fit, blind_fault};
 
 use elementary::in_domain;
 use laws::{MOST_FEATURES, MOST_FRAMES};
-use refusal::number;
+use refusal::Refusal;
 use run_record::Settings;
 use run_record::faults::{is_positive, late_fault, times};
 
-// 2, and 7 for n or f; 0: none
-fn size_fault(s: Settings) -> u8
-    ensures { result ≡ size_fault s }
+// 2, and 7 for n or f
+fn size_fault(s: Settings) -> Result<(), Refusal>
+    ensures { number_told refusal_number result ≡ size_fault s }
 {
     if !is_positive(s.perplexity) {
-        return 2;
+        return Err(Refusal::Perplexity);
     }
-    if s.n == 0 {
-        return 7;
+    if s.n == 0 || MOST_FRAMES < s.n || s.f == 0 || MOST_FEATURES < s.f {
+        return Err(Refusal::Size);
     }
-    if MOST_FRAMES < s.n {
-        return 7;
-    }
-    if s.f == 0 {
-        return 7;
-    }
-    if MOST_FEATURES < s.f {
-        return 7;
-    }
-    0
+    Ok(())
 }
 
 fn table_fine(table: &[f64], m: usize) -> bool
@@ -45,19 +37,10 @@ fn table_fine(table: &[f64], m: usize) -> bool
 fn rows_fit(n: usize, squares: usize, values: usize, shares: usize, places: usize) -> bool
     ensures { result ≡ rows_fit n squares values shares places }
 {
-    if squares < n {
-        return false;
-    }
-    if values < n {
-        return false;
-    }
-    if shares < n {
-        return false;
-    }
-    n <= places
+    n <= squares.min(values).min(shares).min(places)
 }
 
-// The number of the first test that fails, by the lengths of the four rows; 0: none.
+// The first test that fails, by the lengths of the four rows.
 pub fn blind_fault(
     s: Settings,
     table: &[f64],
@@ -65,26 +48,20 @@ pub fn blind_fault(
     values: usize,
     shares: usize,
     places: usize,
-) -> u8
-    ensures { result ≡ blind_fault s table.now squares values shares places }
+) -> Result<(), Refusal>
+    ensures { number_told refusal_number result ≡ blind_fault s table.now squares values shares places }
 {
-    let e = size_fault(s);
-    if e != 0 {
-        return e;
-    }
+    size_fault(s)?;
     let nf = times(s.n, s.f);
     if table.len() != nf {
-        return 7;
+        return Err(Refusal::Size);
     }
     if !table_fine(table, nf) {
-        return 8;
+        return Err(Refusal::Value);
     }
-    let t = number(late_fault(s));
-    if t != 0 {
-        return t;
-    }
+    late_fault(s)?;
     if rows_fit(s.n, squares, values, shares, places) {
-        return 0;
+        return Ok(());
     }
-    12
+    Err(Refusal::Short)
 }

@@ -8,20 +8,20 @@ mod looks;
 ghost use Rattle.std.specs.Prelude.{◌≡◌, ◌≤◌, length};
 ghost use Rattle.laws.specs.Area.{zero64};
 ghost use Rattle.areas.specs.Filled.{filled};
+ghost use Rattle.refusal.specs.Refusal.{refusal_number, numbered};
 ghost use Rattle.blind.specs.Blind.{sight_rows, sight_outcome, sighted};
 
-use areas::{clear_indices, fill};
+use areas::fill;
 pub use faults::blind_fault;
 use looks::look_at_all;
+use refusal::Refusal;
 use run_record::Settings;
 
-// What the count of blind frames answers.
-#[derive(Clone, Copy)]
-pub enum Sight {
-    // with the number of the first test that failed
-    Refused(u8),
-    // how many frames are blind, and of how many every distance that the search goes by comes out as 0
-    Seen { blind: usize, alone: usize },
+// How many frames are blind, and of how many every distance that the search goes by comes out as 0.
+#[derive(Clone, Copy, Debug, PartialEq, Eq)]
+pub struct Seen {
+    pub blind: usize,
+    pub alone: usize,
 }
 
 // The first n places of each row become zeros.
@@ -41,7 +41,7 @@ fn clear_rows(
     fill(squares, n, 0.0);
     fill(row_values, n, 0.0);
     fill(row_shares, n, 0.0);
-    clear_indices(row_indices, n);
+    fill(row_indices, n, 0);
 }
 
 // Counts the frames whose search ends blind, and those of them that are alone: takes any settings and any areas. Of the settings it looks at n, f, method and perplexity.
@@ -52,26 +52,20 @@ pub fn blind(
     row_values: &mut [f64],
     row_shares: &mut [f64],
     row_indices: &mut [u32],
-) -> Sight
-    ensures { sight_outcome result (sight_rows squares.new row_values.new row_shares.new row_indices.new)
+) -> Result<Seen, Refusal>
+    ensures { sight_outcome (numbered refusal_number result) (sight_rows squares.new row_values.new row_shares.new row_indices.new)
         ≡ sighted s table.now (sight_rows squares.old row_values.old row_shares.old row_indices.old) }
 {
-    let k = blind_fault(
+    blind_fault(
         s,
         table,
         squares.len(),
         row_values.len(),
         row_shares.len(),
         row_indices.len(),
-    );
-    if k != 0 {
-        return Sight::Refused(k);
-    }
+    )?;
     affinity_distances::square_frames(table, s.n, s.f, squares);
-    let l = look_at_all(s, table, squares, row_values, row_shares, row_indices);
+    let seen = look_at_all(s, table, squares, row_values, row_shares, row_indices);
     clear_rows(s.n, squares, row_values, row_shares, row_indices);
-    Sight::Seen {
-        blind: l.blind,
-        alone: l.alone,
-    }
+    Ok(seen)
 }

@@ -1,9 +1,7 @@
 // One frame after the other: its search is made, and its last sum looked at. The rows are scratch.
 ghost use Rattle.std.specs.Prelude.{◌≡◌, ◌*◌, ◌<◌, ◌≤◌, length};
-ghost use Rattle.std.specs.Float.Ieee.{lt, eq};
+ghost use Rattle.std.specs.Float.Ieee.{lt};
 ghost use Rattle.laws.specs.Domain.{most_frames};
-ghost use Rattle.laws.specs.Area.{zero64};
-ghost use Rattle.laws.specs.Sums.{bit};
 ghost use Rattle.affinity_distances.specs.Distances.{Squared};
 ghost use Rattle.affinity_sigma.specs.Sigma.{smallest, blind_search};
 ghost use Rattle.affinity.specs.Exact.{distances_of};
@@ -11,6 +9,7 @@ ghost use Rattle.affinity.specs.Neighbours.{values_in, nearest_frames};
 ghost use Rattle.blind.specs.Room.{SightRoom, KeptPast};
 ghost use Rattle.blind.specs.Blind.{all_at_zero, blind_at, alone_at, how_many};
 
+use crate::Seen;
 use run_record::Settings;
 use run_record::faults::is_tree;
 
@@ -23,25 +22,11 @@ struct Glance {
     alone: bool,
 }
 
-// Of how many frames it was seen.
-#[derive(Clone, Copy)]
-pub(crate) struct Glances {
-    pub(crate) blind: usize,
-    pub(crate) alone: usize,
-}
-
 // Whether the row of a round with this sum was filled.
 fn too_small(sum: f64) -> bool
     ensures { result ≡ lt sum smallest }
 {
     sum < 1e-8
-}
-
-// A distance of 0, of either sign.
-fn is_zero(d: f64) -> bool
-    ensures { result ≡ eq d zero64 }
-{
-    d == 0.0
 }
 
 // Whether the first m distances are 0.
@@ -50,7 +35,7 @@ fn all_at_zero(distances: &[f64], m: usize) -> bool
     ensures { result ≡ all_at_zero distances.now m }
 {
     for j in 0..m {
-        if !is_zero(distances[j]) {
+        if distances[j] != 0.0 {
             return false;
         }
     }
@@ -139,8 +124,7 @@ fn look(
         × (KeptPast s.n row_shares.old row_shares.new)
         × (KeptPast s.n row_indices.old row_indices.new) }
 {
-    let m = s.method;
-    if is_tree(m) {
+    if is_tree(s.method) {
         let k = elementary::neighbours(s.perplexity, s.n as u64) as usize;
         return look_near(
             table,
@@ -167,16 +151,6 @@ fn look(
     )
 }
 
-// A test counted.
-fn one_if(b: bool) -> usize
-    ensures { result ≡ bit b }
-{
-    if b {
-        return 1;
-    }
-    0
-}
-
 // Of all n frames.
 pub(crate) fn look_at_all(
     s: Settings,
@@ -185,7 +159,7 @@ pub(crate) fn look_at_all(
     row_values: &mut [f64],
     row_shares: &mut [f64],
     row_indices: &mut [u32],
-) -> Glances
+) -> Seen
     requires squared { Squared table.now s.n s.f squares.now }
     requires sight_room { SightRoom s (length table.now) (length squares.now) (length row_values.old) (length row_shares.old) (length row_indices.old) }
     ensures blind_value { (result.blind ≡ how_many (blind_at s table.now) s.n) × (result.alone ≡ how_many (alone_at s table.now) s.n) }
@@ -198,8 +172,8 @@ pub(crate) fn look_at_all(
     let mut alone = 0;
     for i in 0..n {
         let l = look(s, table, squares, i, row_values, row_shares, row_indices);
-        blind += one_if(l.blind);
-        alone += one_if(l.alone);
+        blind += usize::from(l.blind);
+        alone += usize::from(l.alone);
     }
-    Glances { blind, alone }
+    Seen { blind, alone }
 }

@@ -1,14 +1,13 @@
 -- The count of blind frames, with settings and answer as plain words. Definitions only.
 -- a are the answer's words: word 0 tells the blind frames and word 1 those of them that are alone. Refused, no word is changed.
-use Rattle.std.specs.Prelude.{List, cond, ℕ, ltb, length, set, Float}
-use Rattle.blind.specs.declared.Sight.{Sight}
-use Rattle.blind.specs.declared.Sight.TheVariants.{Refused, Seen}
+use Rattle.std.specs.Prelude.{List, cond, ℕ, ltb, length, set, Float, Result, Ok, Err}
+use Rattle.blind.specs.declared.Seen.{Seen}
 use Rattle.blind.specs.Blind.{SightRows, SightOutcome, sight_fault, sighted, sight_number}
 use Rattle.record_words.specs.RecordWords.{settings_fine, settings_of, short_number}
 
-unfoldable pub sight_words : Sight → List ℕ → List ℕ
-sight_words (Refused k) a = a
-sight_words (Seen blind alone) a = set (set a 0 blind) 1 alone
+unfoldable pub sight_words : Result Seen ℕ → List ℕ → List ℕ
+sight_words (Err k) a = a
+sight_words (Ok seen) a = set (set a 0 seen.blind) 1 seen.alone
 
 -- the number, the answer's words, the rows
 pub record HostSeen : Type 0 where

@@ -3,14 +3,16 @@
 #![tactic(auto)]
 
 ghost use Rattle.std.specs.Prelude.{◌≡◌, ◌≤◌, length};
+ghost use Rattle.refusal.specs.Refusal.{refusal_number, numbered};
 ghost use Rattle.blind.specs.Faults.{blind_fault};
 ghost use Rattle.blind.specs.Blind.{sight_rows, sight_number};
 ghost use Rattle.record_words.specs.RecordWords.{short_number};
 ghost use Rattle.desk_blind.specs.HostBlind.{sight_words, host_seen, host_blind};
 
 use blind::faults::blind_fault;
-use blind::{Sight, blind};
+use blind::{Seen, blind};
 use record_words::{settings_fine, settings_of};
+use refusal::{Numbered, Refusal};
 use run_record::Settings;
 
 // The number where the answer is too short: 12, unless one of the tests before it fails.
@@ -24,23 +26,22 @@ fn short_number(
 ) -> u32
     ensures { result ≡ short_number (blind_fault s table.now squares values shares places) }
 {
-    let k = blind_fault(s, table, squares, values, shares, places);
-    if k == 0 {
-        return 12;
+    match blind_fault(s, table, squares, values, shares, places) {
+        Ok(()) => 12,
+        Err(e) => e.number() as u32,
     }
-    k as u32
 }
 
 // Tells the blind frames and those of them that are alone, where nothing is refused. Answers the number.
-fn put_sight(answer: &mut [u64], r: Sight) -> u32
+fn put_sight(answer: &mut [u64], r: Result<Seen, Refusal>) -> u32
     requires { 2 ≤ length answer.old }
-    ensures { (result ≡ sight_number r) × (answer.new ≡ sight_words r answer.old) }
+    ensures { (result ≡ sight_number (numbered refusal_number r)) × (answer.new ≡ sight_words (numbered refusal_number r) answer.old) }
 {
     match r {
-        Sight::Refused(k) => k as u32,
-        Sight::Seen { blind, alone } => {
-            answer[0] = blind as u64;
-            answer[1] = alone as u64;
+        Err(e) => e.number() as u32,
+        Ok(seen) => {
+            answer[0] = seen.blind as u64;
+            answer[1] = seen.alone as u64;
             0
         }
     }

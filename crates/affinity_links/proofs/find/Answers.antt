@@ -1,28 +1,18 @@
-use Prim.Native.Nat.{◌-◌}
-use Rattle.affinity_links.proofs.Search.{halves-start, halves-low, halves-high, found_at, found_none}
+-- `affinity_links::find` meets its contract: what std's search finds in a rising part.
+use Prim.Native.Nat.{ℕ, ◌+◌, ◌-◌}
+use mathlib.Core.Path.{◌≡◌, ◌∙◌, subst}
 use native.Mathlib.Omega.{arith}
+use lib.ListN.{take, drop}
+use Rattle.std.specs.List.Sorted.{IsBinarySearchResult}
+use Rattle.std.specs.Ordering.{nat_cmp}
+use Rattle.affinity_links.proofs.Search.{sought}
 use Rattle.affinity_links.proofs.find.Goals as goal
 
-pub loop-low-init : goal.loop-low-init
-loop-low-init c =
-    halves-start
-
-pub returns-then-v-j : goal.returns-then-v-j
-returns-then-v-j c =
-    let the-loop = c.loop-low in
-    found_at c.args.indices.now c.args.a c.args.k c.args.j c.requires.1 _
-    (omega (arith, the-loop.invariant.high-in)) c.if-v-j.true
-
-pub loop-low-preserved-then-v-j-2 : goal.loop-low-preserved-then-v-j-2
-loop-low-preserved-then-v-j-2 c =
-    let the-loop = c.loop-low in
-    halves-low c.requires.1 the-loop.invariant _ (omega arith) c.if-v-j-2.true
-
-pub loop-low-preserved : goal.loop-low-preserved
-loop-low-preserved c =
-    let the-loop = c.loop-low in
-    halves-high c.requires.1 the-loop.invariant _ (omega arith) (omega (arith, c.if-v-j-2.false, c.if-v-j.false))
+all_of : (a k : ℕ) → a + k - a ≡ k
+all_of a k = omega arith
 
 pub returns : goal.returns
 returns c =
-    found_none c.args.indices.now c.args.a c.args.k c.args.j c.loop-low.invariant (omega arith)
+    c.ok.ensures.value ∙ sought _ _ c.args.k c.args.j c.requires.0 c.requires.1 _
+    (subst (λ (n : ℕ). IsBinarySearchResult (λ y. nat_cmp y c.args.j) (take n (drop c.args.a c.args.indices.now)) c.binary_search.result)
+    (all_of c.args.a c.args.k) c.binary_search.ensures.position)

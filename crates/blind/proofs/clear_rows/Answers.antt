@@ -3,4 +3,4 @@ use Rattle.blind.proofs.clear_rows.Goals as goal
 
 pub returns : goal.returns
 returns c =
-    (c.fill.ensures, c.fill-2.ensures, c.fill-3.ensures, c.clear_indices.ensures)
+    (c.fill.ensures, c.fill-2.ensures, c.fill-3.ensures, c.fill-4.ensures)

@@ -3,12 +3,12 @@ use Rattle.blind.specs.Blind.{sight_number}
 use Rattle.desk_blind.specs.HostBlind.{sight_words}
 use Rattle.desk_blind.proofs.put_sight.Goals as goal
 
-pub returns-in-Refused : goal.returns-in-Refused
+pub returns-in-Err : goal.returns-in-Err
 unfolding sight_number sight_words
-returns-in-Refused c =
-    (rw c.in-Refused.is, rw c.in-Refused.is)
+returns-in-Err c =
+    (rw c.in-Err.is c.number.ensures, rw c.in-Err.is)
 
-pub returns-in-Seen : goal.returns-in-Seen
+pub returns-in-Ok : goal.returns-in-Ok
 unfolding sight_number sight_words
-returns-in-Seen c =
-    (rw c.in-Seen.is, rw c.in-Seen.is)
+returns-in-Ok c =
+    (rw c.in-Ok.is, rw c.in-Ok.is)

@@ -1,12 +1,13 @@
 -- `desk_blind::short_number` meets its contract: from what its calls promise.
 use mathlib.Core.Path.{sym, ◌∙◌}
-use borrow.Author.Tests.{eq-eqb, ne_eqb}
+use borrow.Author.Tests.{ne_eqb}
+use Rattle.refusal.proofs.Numbers.{refusal-some}
 use Rattle.desk_blind.proofs.short_number.Goals as goal
 
-pub returns-then-k-eq0 : goal.returns-then-k-eq0
-returns-then-k-eq0 c =
-    rw (eq-eqb _ _ (sym c.blind_fault-k.ensures ∙ c.if-k-eq0.true))
+pub returns-in-Ok : goal.returns-in-Ok
+returns-in-Ok c =
+    rw (sym c.in-Ok.ensures)
 
-pub returns : goal.returns
-returns c =
-    rw (sym c.blind_fault-k.ensures, ne_eqb _ _ c.if-k-eq0.false)
+pub returns-in-Err : goal.returns-in-Err
+returns-in-Err c =
+    rw (sym c.in-Err.ensures, ne_eqb _ 0 (refusal-some c.in-Err.e)) c.number.ensures

@@ -1,10 +1,7 @@
 -- `lists::rows::miss` meets its contract: the frame that row j names has a row of its own, in which `find` looks for j. Assumes nothing.
-use Rattle.std.proofs.Common.{◌≡◌, ◌∙◌, ℕ, ◌<◌, ◌≤◌, cond, eqb, ltb}
-use native.Mathlib.Decide.{dec_lt}
+use Rattle.std.proofs.Common.{◌≡◌, ◌∙◌, refl, sym, ap, ℕ, Bool, true, false, not, cond, true≢false, Option, Some, None, is_some}
 use mir.Val.{bool_byte}
-use borrow.Author.Tests.{lt-ltb, le-ltb, eq-eqb, ne_eqb}
 use Rattle.affinity_lists.specs.Steps.{miss_of}
-use Rattle.laws.proofs.First.{first-le}
 use Rattle.laws.proofs.Numbers.{row_in}
 use native.Mathlib.Omega.{arith}
 use Rattle.affinity_lists.proofs.rows.miss.Goals as goal
@@ -43,13 +40,14 @@ find-requires c = (
   c.requires.4.rising _ (c.requires.4.inside _ _ c.requires.0 c.requires.1),
 )
 
-missed : (f k : ℕ) → f ≤ k → bool_byte (eqb f k) ≡ cond (ltb f k) 0 1
-missed f k h = elim (dec_lt f k) [
-  | yes l ↦ rw (lt-ltb f k l, ne_eqb f k (λ e. omega arith))
-  | no m ↦ rw (le-ltb f k (omega arith), eq-eqb f k (omega arith))
-]
+-- 1 where nothing was found
+missed : {o : Option ℕ} (f : ℕ) (b found : Bool) → o ≡ cond found (Some f) None → is_some o ≡ not b → bool_byte b ≡ cond found 0 1
+missed f true true e h = absurd (true≢false (sym (ap is_some e) ∙ h))
+missed f false true e h = refl
+missed f true false e h = refl
+missed f false false e h = absurd (true≢false (sym h ∙ ap is_some e))
 
 pub returns : goal.returns
 unfolding miss_of
 returns c =
-    c.from.ensures ∙ rw c.find.ensures (missed _ _ (first-le _ _))
+    c.from.ensures ∙ missed _ _ _ c.find.ensures c.is_none.ensures

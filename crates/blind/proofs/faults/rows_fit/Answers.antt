@@ -1,24 +1,25 @@
--- `blind::faults::rows_fit` meets its contract: each need follows from its own premises.
-use Rattle.blind.specs.Faults.{rows_fit}
+-- `blind::faults::rows_fit` meets its contract: n is no more than the least where it is no more than each.
+use mathlib.Core.Path.{◌≡◌, refl}
+use mathlib.Core.Bool.{◌&&◌}
+use Prim.Native.Nat.{ℕ, ◌≤◌}
+use Rattle.std.specs.Prelude.{min}
+use native.Mathlib.Decide.{dec_lt}
+use native.Mathlib.Omega.{arith}
+use lib.Dec.{leb}
 use borrow.Author.Tests.{le-leb, lt-leb}
+use Rattle.blind.specs.Faults.{rows_fit}
 use Rattle.blind.proofs.faults.rows_fit.Goals as goal
 
-pub returns-then-squares-n : goal.returns-then-squares-n
-unfolding rows_fit
-returns-then-squares-n c =
-    simp (lt-leb _ _ c.if-squares-n.true)
-
-pub returns-then-values-n : goal.returns-then-values-n
-unfolding rows_fit
-returns-then-values-n c =
-    simp (le-leb _ _ c.if-squares-n.false, lt-leb _ _ c.if-values-n.true)
-
-pub returns-then-shares-n : goal.returns-then-shares-n
-unfolding rows_fit
-returns-then-shares-n c =
-    simp (le-leb _ _ c.if-squares-n.false, le-leb _ _ c.if-values-n.false, lt-leb _ _ c.if-shares-n.true)
+leb_min : (n a b : ℕ) → leb n (min a b) ≡ leb n a && leb n b
+leb_min n a b = elim (dec_lt a n) [
+  | yes l ↦ rw (lt-leb n (min a b) (omega arith), lt-leb n a l)
+  | no m ↦ elim (dec_lt b n) [
+    | yes l ↦ rw (lt-leb n (min a b) (omega arith), lt-leb n b l, le-leb n a (omega arith))
+    | no k ↦ rw (le-leb n (min a b) (omega arith), le-leb n b (omega arith), le-leb n a (omega arith))
+  ]
+]
 
 pub returns : goal.returns
 unfolding rows_fit
 returns c =
-    simp (le-leb _ _ c.if-squares-n.false, le-leb _ _ c.if-values-n.false, le-leb _ _ c.if-shares-n.false)
+    rw (c.min-3.ensures, c.min-2.ensures, c.min.ensures, leb_min _ _ c.args.places, leb_min _ _ c.args.shares, leb_min _ _ c.args.values)

@@ -1,4 +1,6 @@
-use mathlib.Core.Path.{sym, ◌∙◌}
+use mathlib.Core.Path.{sym}
+use lib.Ieee.{ne}
+use borrow.Author.Tests.{not-true, not-false}
 use Rattle.laws.proofs.Every.{every-none, every-next, every-no, every-done}
 use borrow.Author.Rules.{rules}
 use Rattle.blind.proofs.looks.all_at_zero.Goals as goal
@@ -7,13 +9,15 @@ pub loop-j-init : goal.loop-j-init
 loop-j-init c =
     (search rules, every-none _)
 
-pub returns-then-not-is_zero : goal.returns-then-not-is_zero
-returns-then-not-is_zero c =
-    sym (every-no _ _ _ c.loop-j-test.true (sym c.is_zero.ensures ∙ c.if-not-is_zero.true))
+pub returns-then-distances-j : goal.returns-then-distances-j
+unfolding ne
+returns-then-distances-j c =
+    sym (every-no _ _ _ c.loop-j-test.true (not-true _ c.if-distances-j.true))
 
 pub loop-j-preserved : goal.loop-j-preserved
+unfolding ne
 loop-j-preserved c =
-    (search rules, every-next _ _ c.loop-j.invariant.1 (sym c.is_zero.ensures ∙ c.if-not-is_zero.false))
+    (search rules, every-next _ _ c.loop-j.invariant.1 (not-false _ c.if-distances-j.false))
 
 pub returns : goal.returns
 returns c =
