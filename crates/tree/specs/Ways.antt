@@ -1,9 +1,7 @@
 -- A point's way down the tree, by value: the states of an insertion's loops and what they do between one node and the next. Definitions only.
-use Rattle.std.specs.Prelude.{◌≡◌, List, Bool, true, false, cond, not, ℕ, ◌+◌, ◌*◌, ◌<◌, ◌≤◌, ◌^◌, length, eqb, ltb, leb, Float}
+use Rattle.std.specs.Prelude.{◌≡◌, List, Bool, true, false, cond, not, ℕ, ◌+◌, ◌*◌, ◌<◌, ◌≤◌, ◌^◌, length, eqb, ltb, leb, Float, Option, Some}
 use Rattle.laws.specs.Domain.{deepest, most_word}
 use Rattle.tree_node.specs.declared.Node.{Node}
-use Rattle.tree_node.specs.declared.Leaf.{Leaf}
-use Rattle.tree_node.specs.declared.Leaf.TheVariants.{Occupied}
 use Rattle.tree_node.specs.Node.{Axes, point_of}
 use Rattle.tree_node.specs.Arena.{leaf_word, node_at, nameable}
 use Rattle.tree_children.specs.Children.{child_index}
@@ -34,8 +32,8 @@ abbrev pub probes_on : Probe → Bool
 probes_on s = not s.ended
 
 -- the point that a leaf holds is one of those in an area of len floats
-abbrev pub LeafIn : ℕ → ℕ → Leaf → Type 0
-LeafIn len c l = (o : ℕ) → l ≡ Occupied o → o * c + c ≤ len
+abbrev pub LeafIn : ℕ → ℕ → Option ℕ → Type 0
+LeafIn len c l = (o : ℕ) → l ≡ Some o → o * c + c ≤ len
 
 -- a leaf ends it; else it goes on at the child that the point falls into
 unfoldable pub probed_of : List Float → Probe → Node → Probe

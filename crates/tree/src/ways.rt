@@ -8,9 +8,9 @@ ghost use Rattle.tree.specs.Ways.{LeafIn, MetAsks, ample, probing_of, probes_on,
 use crate::{Inserted, Probe, Split, Step, Way};
 use laws::DEEPEST;
 use tree_children::{child_centre, child_half, child_index};
+use tree_node::Node;
 use tree_node::arena::nameable_of;
 use tree_node::cells::point;
-use tree_node::{Leaf, Node};
 use tree_turns::{child, turn};
 
 // The splits of a leaf that holds a point q when p comes, at a depth.
@@ -75,7 +75,7 @@ fn leaf_needs(positions: &[f64], s: Probe, v: Node) -> usize
     ensures { result ≡ leaf_needs positions.now s.c s.p s.depth v v.leaf }
 {
     let l = v.leaf;
-    let Leaf::Occupied(o) = l else {
+    let Some(o) = l else {
         return 0;
     };
     let z = v.centre;
