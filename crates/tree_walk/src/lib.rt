@@ -9,7 +9,7 @@ ghost use Rattle.tree_node.specs.Node.{Axes};
 ghost use Rattle.tree_node.specs.Arena.{nodes_of};
 ghost use Rattle.tree_walk.specs.Repel.{Blocks, walked_over, repelled};
 
-use crate::turns::{long_turn, resumed, short_turn, standing};
+use crate::turns::{resumed, short_turn, standing, turn};
 use tree_bodies::Acc;
 use tree_node::Cell;
 
@@ -52,7 +52,7 @@ fn deeper(cells: &[Cell], used: usize, eye: Eye, from: u32, to: u32, acc: Acc) -
     let mut s = standing(acc, from, to, 0);
     while s.at < s.end {
         let v = cells[s.at as usize];
-        let t = long_turn(&mut stack, v, s, eye);
+        let t = turn(&mut stack, 256, v, s, eye, eye.c);
         if t.deep < t.stop {
             let a = deeper(cells, used, eye, t.deep, t.stop, t.acc);
             s = resumed(t, a);

@@ -67,44 +67,27 @@ fn opened(stack: &mut [u32], levels: usize, s: Spot, f: u32, e: u32) -> Spot
     standing(s.acc, f, e, l)
 }
 
-// A turn at the cell v, with 32 levels, in two components: their number stands in the code, so that nothing asks for it.
-fn flat_turn(stack: &mut [u32; 64], v: Cell, s: Spot, eye: Eye) -> Spot
-    requires { (eye.c ≡ 2) × (s.at < s.end) × (s.level ≤ 32) × (v.first + 4 ≤ most_word) }
-    ensures { (result ≡ turned_of 32 eye v stack.old s) × (stack.new ≡ stacked_of 32 eye v stack.old s) }
+// A turn at the cell v. It becomes part of each caller, with the levels and the components that stand there.
+#[inline(always)]
+pub(crate) fn turn(stack: &mut [u32], levels: usize, v: Cell, s: Spot, eye: Eye, c: usize) -> Spot
+    requires { (Axes eye.c) × (eye.c ≡ c) × (s.at < s.end) × (s.level ≤ levels) × (v.first + 2 ^ eye.c ≤ most_word) × (length stack.old ≡ 2 * levels) }
+    ensures { (result ≡ turned_of levels eye v stack.old s) × (stack.new ≡ stacked_of levels eye v stack.old s) }
 {
     let n = Node::from(v);
-    match kind(n, eye.q, eye.p, eye.theta2, 2) {
-        Role::Nothing => onward(stack, 32, s, s.acc),
-        Role::Body => onward(stack, 32, s, body(n, eye.p, 2, s.acc)),
-        Role::Open => opened(stack, 32, s, v.first, v.first + 4),
+    match kind(n, eye.q, eye.p, eye.theta2, c) {
+        Role::Nothing => onward(stack, levels, s, s.acc),
+        Role::Body => onward(stack, levels, s, body(n, eye.p, c, s.acc)),
+        Role::Open => opened(stack, levels, s, v.first, v.first + (1 << c)),
     }
 }
 
-// A turn at the cell v, with 32 levels. The three are apart, so that each has one caller and becomes part of it.
+// A turn with 32 levels. In two components their number stands in the code, so that nothing asks for it.
 pub(crate) fn short_turn(stack: &mut [u32; 64], v: Cell, s: Spot, eye: Eye) -> Spot
     requires { (Axes eye.c) × (s.at < s.end) × (s.level ≤ 32) × (v.first + 2 ^ eye.c ≤ most_word) }
     ensures { (result ≡ turned_of 32 eye v stack.old s) × (stack.new ≡ stacked_of 32 eye v stack.old s) }
 {
     if eye.c == 2 {
-        return flat_turn(stack, v, s, eye);
+        return turn(stack, 32, v, s, eye, 2);
     }
-    let n = Node::from(v);
-    match kind(n, eye.q, eye.p, eye.theta2, eye.c) {
-        Role::Nothing => onward(stack, 32, s, s.acc),
-        Role::Body => onward(stack, 32, s, body(n, eye.p, eye.c, s.acc)),
-        Role::Open => opened(stack, 32, s, v.first, v.first + (1 << eye.c)),
-    }
-}
-
-// The same with 256 levels.
-pub(crate) fn long_turn(stack: &mut [u32; 512], v: Cell, s: Spot, eye: Eye) -> Spot
-    requires { (Axes eye.c) × (s.at < s.end) × (s.level ≤ 256) × (v.first + 2 ^ eye.c ≤ most_word) }
-    ensures { (result ≡ turned_of 256 eye v stack.old s) × (stack.new ≡ stacked_of 256 eye v stack.old s) }
-{
-    let n = Node::from(v);
-    match kind(n, eye.q, eye.p, eye.theta2, eye.c) {
-        Role::Nothing => onward(stack, 256, s, s.acc),
-        Role::Body => onward(stack, 256, s, body(n, eye.p, eye.c, s.acc)),
-        Role::Open => opened(stack, 256, s, v.first, v.first + (1 << eye.c)),
-    }
+    turn(stack, 32, v, s, eye, eye.c)
 }
