@@ -1,4 +1,4 @@
--- What a turn leaves at a cell, by the kind of the cell, with any number of levels: cited by `flat_turn`, `short_turn` and `long_turn`.
+-- What a turn leaves at a cell, by the kind of the cell, with any number of levels: cited by `turn`.
 --     turned-past          a cell that gives nothing: past it
 --     turned-body          a cell that acts as one body: past it, with what it adds
 --     turned-open          a cell that opens: to its children, with what is left beside it on the stack
