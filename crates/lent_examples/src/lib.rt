@@ -1,5 +1,5 @@
 // Worked examples: functions that lend a local array of structs, or a local struct of their own, to a callee. The borrow checker follows them; no other crate uses them.
-// The arena's two functions are called with what is lent, and `put_from` with slices of numbers beside it.
+// `cell_at` and `put_cell` are called with what is lent, and `put_from` with slices of numbers beside it.
 
 #![tactic(auto)]
 
@@ -8,7 +8,20 @@ ghost use Rattle.tree_node.specs.Arena.{cell_at};
 ghost use Rattle.lent_examples.specs.Lending.{value_or, valued, CountFits, bumped_of, placed_of, noted_of};
 
 use tree_node::Cell;
-use tree_node::arena::{cell_at, put_cell};
+
+fn cell_at(cells: &[Cell], i: usize) -> Cell
+    requires { i < length cells.now }
+    ensures { result ≡ cell_at cells.now i }
+{
+    cells[i]
+}
+
+fn put_cell(cells: &mut [Cell], i: usize, v: Cell)
+    requires { i < length cells.old }
+    ensures { cells.new ≡ set cells.old i v }
+{
+    cells[i] = v;
+}
 
 // ---- A local array, lent whole as a `&mut [T]`.
 

@@ -13,8 +13,8 @@ use borrow.Author.Tests.{ltb-true}
 use Rattle.laws.specs.Domain.{deepest}
 use Rattle.laws.proofs.Bools.{by_bool}
 use Rattle.tree_node.specs.declared.Node.{Node}
-use Rattle.tree_node.specs.declared.Leaf.{Leaf}
-use Rattle.tree_node.specs.declared.Leaf.TheVariants.{Empty, Occupied}
+use Rattle.std.specs.declared.option.Option.{Option}
+use Rattle.std.specs.declared.option.Option.TheVariants.{None, Some}
 use Rattle.tree_node.specs.Node.{point_of}
 use Rattle.tree_node.specs.Arena.{node_at, blank, nameable}
 use Rattle.tree_node.proofs.Told.{nameable-most}
@@ -68,9 +68,9 @@ repelled-same n c m t t' w f q p theta2 =
 -- ---- insertion, by positions that hold the same n points
 
 module _ (n c : ℕ) (y y' : List Float) (same : SameTo (n * c) y y') where
-  leaf-needs-same : (p : List Float) (d : ℕ) (v : Node) (l : Leaf) → ((o : ℕ) → l ≡ Occupied o → o < n) → leaf_needs y c p d v l ≡ leaf_needs y' c p d v l
-  leaf-needs-same p d v Empty h = refl
-  leaf-needs-same p d v (Occupied o) h = ap (λ (q : List Float). splits_of (deepest - d) c v.centre v.half q p * 2 ^ c) (point-same n c y y' same o (h o refl))
+  leaf-needs-same : (p : List Float) (d : ℕ) (v : Node) (l : Option ℕ) → ((o : ℕ) → l ≡ Some o → o < n) → leaf_needs y c p d v l ≡ leaf_needs y' c p d v l
+  leaf-needs-same p d v None h = refl
+  leaf-needs-same p d v (Some o) h = ap (λ (q : List Float). splits_of (deepest - d) c v.centre v.half q p * 2 ^ c) (point-same n c y y' same o (h o refl))
 
   -- the dry count
   module _ (m : ℕ) (p : List Float) (t : Tree) (ms : List Node) (sound : tree_ok n m c t ≡ true) (each : (k : ℕ) → k < t.used → node_at t.nodes k ≡ node_at ms k) where
@@ -151,7 +151,7 @@ module _ (n c : ℕ) (y y' : List Float) (same : SameTo (n * c) y y') where
         (λ o z e l h. (point-is o e, (λ x. refl), h))
         room
       where
-        point-is : (o : ℕ) → (node_at t.nodes i).leaf ≡ Occupied o → o < n
+        point-is : (o : ℕ) → (node_at t.nodes i).leaf ≡ Some o → o < n
         point-is o e = ltb-true o n (rw e at (k.sound i k.node).0.point)
 
     inserted_same : (g d i : ℕ) (t t' : Tree) → Ok n c m cap N y p d i t → Twin t t' → Twin (inserted g y c p j d i t) (inserted g y' c p j d i t')

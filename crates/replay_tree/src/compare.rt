@@ -3,7 +3,7 @@ ghost use Rattle.std.specs.Prelude.{◌≡◌, ◌*◌, ◌≤◌};
 ghost use Rattle.tree_node.specs.Node.{Axes};
 
 use replay::word_at;
-use tree_node::{Leaf, Node};
+use tree_node::Node;
 
 // A product that is small.
 pub(crate) fn product(n: usize, c: usize) -> usize
@@ -30,10 +30,10 @@ pub(crate) fn same_three(v: [f64; 3], list: &[u8], a: usize, c: usize) -> bool
 }
 
 // A leaf as the list has it: 0, or its point and one.
-fn leaf_number(l: Leaf) -> u64 {
+fn leaf_number(l: Option<u32>) -> u64 {
     match l {
-        Leaf::Empty => 0,
-        Leaf::Occupied(p) => p as u64 + 1,
+        None => 0,
+        Some(p) => p as u64 + 1,
     }
 }
 

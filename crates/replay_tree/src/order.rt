@@ -3,8 +3,7 @@ ghost use Rattle.std.specs.Prelude.{◌+◌, ◌≤◌, length};
 ghost use Rattle.tree_node.specs.Node.{Axes};
 
 use crate::compare::{children, product, same_node};
-use tree_node::Cell;
-use tree_node::arena::read_node;
+use tree_node::{Cell, Node};
 
 fn number(i: u32) -> usize {
     i as usize
@@ -47,8 +46,7 @@ fn same_nodes(
         if i >= 512 {
             return false;
         }
-        let x = cells[i];
-        let v = read_node(x);
+        let v = Node::from(cells[i]);
         if !same_node(v, list, a + product(k, 3 * c + 3), c) {
             return false;
         }

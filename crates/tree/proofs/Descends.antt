@@ -1,17 +1,16 @@
 -- What the proofs of the root, of a level and of the dry descent cite, over the nodes. Assumes nothing.
 use mathlib.Core.Path.{◌≡◌, refl, sym, ap, subst, ◌∙◌}
 use mathlib.Core.List.{List}
-use mathlib.Core.Bool.{Bool, true, false, cond, true≢false}
+use mathlib.Core.Bool.{true, false, cond, true≢false}
 use Prim.Native.Nat.{ℕ, suc, ◌+◌, ◌-◌, ◌*◌, ◌<◌, ◌≤◌, ◌^◌}
 use native.Mathlib.Omega.{arith}
 use lib.ListN.{length, set, length-set}
 use lib.Ieee.{Float}
 use lib.Pow.{pow_mono}
-use borrow.Author.Tests.{eq-eqb, ne_eqb, ltb-true, ltb-false, not-true, not-false}
+use borrow.Author.Tests.{eq-eqb, ne_eqb}
 use native.Mathlib.Decide.{ℕ_discrete}
 use Rattle.laws.specs.Domain.{deepest, most_word}
 use Rattle.laws.proofs.Numbers.{row_in}
-use Rattle.laws.proofs.Loops.{Loops, loop-start, loop-next, loop-done}
 use Rattle.tree_node.specs.declared.Node.{Node}
 use Rattle.tree_node.specs.declared.Cell.{Cell}
 use Rattle.tree_node.specs.Node.{Axes, point_of}
@@ -20,13 +19,13 @@ use Rattle.tree_node.proofs.Told.{nodes-length}
 use Rattle.tree_children.specs.Children.{child_index}
 use Rattle.tree_bounds.specs.Bounds.{box_of}
 use Rattle.tree_turns.specs.declared.Out.{Out}
+use Rattle.tree_turns.specs.Turns.{child_of}
 use Rattle.tree_turns.proofs.Words.{child-word}
 use Rattle.tree.specs.declared.Probe.{Probe}
 use Rattle.tree.specs.declared.Way.{Way}
 use Rattle.tree.specs.declared.Split.{Split}
-use Rattle.tree.specs.declared.Step.{Step}
-use Rattle.tree.specs.Insert.{tree, child_step, subdivided, level_at, leaf_needs, growable}
-use Rattle.tree.specs.Ways.{ample, dry_needs, probing_of, probes_on, LeafIn, probed_of, way_turn, met_of, MetAsks, LevelAsks, splits_on, child_on, child_place, made_of, stepped_of}
+use Rattle.tree.specs.Insert.{tree, subdivided, level_at, leaf_needs, growable}
+use Rattle.tree.specs.Ways.{ample, dry_needs, probing_of, LeafIn, probed_of, way_turn, met_of, MetAsks, LevelAsks}
 use Rattle.tree.proofs.Inserting.{Dry, dry-start, dry-next, dry-leaf, tree-point, next-in}
 
 -- ---- the root
@@ -41,68 +40,9 @@ module _ (cs : List Cell) (y : List Float) (n c : ℕ) (v : Node) (ev : v ≡ bo
 
 -- ---- the children of a split node
 
--- of s₀, so many as s says are made
-pub record Making (s₀ : Split) (ns₀ : List Node) (s : Split) (ns : List Node) : Type 0 where
-  pub out-same : s.out ≡ s₀.out
-  pub q-same : s.q ≡ s₀.q
-  pub c-same : s.c ≡ s₀.c
-  pub made_so : Loops (child_step s₀.c s₀.out.node s₀.out.old s₀.q) s₀.out.fresh ns₀ s.made ns
-
-pub making-start : (s₀ : Split) (ns : List Node) → s₀.made ≡ 0 → Making s₀ ns s₀ ns
-making-start s₀ ns e =
-    record {
-      out-same = refl;
-      q-same = refl;
-      c-same = refl;
-      made_so = subst (λ (k : ℕ). Loops (child_step s₀.c s₀.out.node s₀.out.old s₀.q)
-          s₀.out.fresh ns k ns) (sym e) (loop-start (child_step s₀.c s₀.out.node s₀.out.old s₀.q) s₀.out.fresh ns);
-    }
-
-module _ (s₀ : Split) (ns₀ : List Node) (s : Split) (cs : List Cell) (k : Making s₀ ns₀ s (nodes_of cs)) (b : Bool) (eb : b ≡ splits_on s) where
-  abbrev fresh-same : s.out.fresh ≡ s₀.out.fresh
-  fresh-same = ap (λ (x : Out). x.fresh) k.out-same
-
-  module _ (y : b ≡ true) where
-    pub making-less : s.made < s₀.out.fresh
-    making-less = subst (λ (x : ℕ). s.made < x) fresh-same (ltb-true s.made s.out.fresh (sym eb ∙ y))
-
-    place_same : child_place s ≡ s₀.out.node.first + s.made
-    place_same = ap (λ (x : Out). x.node.first + s.made) k.out-same
-
-    pub making-axes : Axes s₀.c → Axes s.c
-    making-axes a = subst Axes (sym k.c-same) a
-
-    pub making-place : (m : ℕ) → m < 2 ^ 64 → s₀.out.node.first + s₀.out.fresh ≤ m → child_place s < 2 ^ 64
-    making-place m h l = omega (arith, place_same, making-less, h, l)
-
-    pub making-few : s₀.out.fresh < 2 ^ 64 → s.made + 1 < 2 ^ 64
-    making-few h = omega (arith, making-less, h)
-
-    module _ (x : Node) (ex : x ≡ child_on s) (i : ℕ) (ei : i ≡ child_place s) where
-      pub making-asks : s₀.out.old < most_word → (m : ℕ) → length cs ≡ m → s₀.out.node.first + s₀.out.fresh ≤ m → (i < length cs) × (leaf_word x.leaf ≤ most_word)
-      making-asks ho m e l = (
-        omega (arith, ei, place_same, making-less, e, l),
-        rw ex (omega (arith, child-word s.c s.out.node s.out.old s.q s.made (subst (λ (z : Out). z.old < most_word) (sym k.out-same) ho))),
-      )
-
-      pub making-next : (ds : List Cell) → nodes_of ds ≡ set (nodes_of cs) i x → (z : Split) → z ≡ made_of s → Making s₀ ns₀ z (nodes_of ds)
-      making-next ds ed z ez =
-          let step : nodes_of ds ≡ child_step s₀.c s₀.out.node s₀.out.old s₀.q s.made (nodes_of cs) = ed ∙ rw (ei, ex, k.out-same, k.q-same, k.c-same) in
-          subst (λ (u : Split). Making s₀ ns₀ u (nodes_of ds)) (sym ez)
-          (record {
-            out-same = k.out-same;
-            q-same = k.q-same;
-            c-same = k.c-same;
-            made_so = subst (λ (ms : List Node). Loops (child_step s₀.c s₀.out.node s₀.out.old s₀.q) s₀.out.fresh ns₀ (s.made + 1) ms)
-                (sym step) (loop-next k.made_so making-less);
-          })
-
-    pub making-nearer : (z : Split) → z ≡ made_of s → s₀.out.fresh - z.made < s₀.out.fresh - s.made
-    making-nearer z ez = let e : z.made ≡ s.made + 1 = ap (λ (u : Split). u.made) ez in omega (arith, e, making-less)
-
-  pub making-end : b ≡ false → nodes_of cs ≡ subdivided s₀.c s₀.out.node s₀.out.old s₀.q s₀.out.fresh ns₀
-  unfolding subdivided
-  making-end y = loop-done k.made_so (subst (λ (x : ℕ). x ≤ s.made) fresh-same (ltb-false s.made s.out.fresh (sym eb ∙ y)))
+-- a made child's leaf has a word
+pub child-asks : (s : Split) (b : ℕ) (x : Node) → x ≡ child_of s.c s.out.node s.out.old s.q b → s.out.old < most_word → leaf_word x.leaf ≤ most_word
+child-asks s b x ex h = rw ex (omega (arith, child-word s.c s.out.node s.out.old s.q b h))
 
 -- ---- a level
 
@@ -121,29 +61,25 @@ module _ (w : Way) (y : List Float) (cs : List Cell) (k : LevelAsks w (length y)
     unfolding met_of
     out-is = ap (λ (x : Split). x.out) met-is
 
-    pub level-stores : (x : Node) → x ≡ s.out.node → (w.node < length cs) × (leaf_word x.leaf ≤ most_word)
-    level-stores x ex = (level_in, rw (ex, out-is) k.leaf-named)
+    pub level-stores : (w.node < length cs) × (leaf_word s.out.node.leaf ≤ most_word)
+    level-stores = (level_in, rw out-is k.leaf-named)
 
-    pub level-splits : (ds : List Cell) → (x : Node) → nodes_of ds ≡ set (nodes_of cs) w.node x → (Axes s.c) × (s.out.old < most_word) ×
-        (s.out.node.first + s.out.fresh ≤ length ds) × (s.made ≡ 0)
+    pub level-splits : (ds : List Cell) → nodes_of ds ≡ set (nodes_of cs) w.node s.out.node → (Axes s.c) × (s.out.old < most_word) ×
+        (s.out.node.first + s.out.fresh ≤ length ds)
     unfolding met_of
-    level-splits ds x ed =
-        let l : length ds ≡ length (nodes_of cs) = sym (nodes-length ds) ∙ ap (λ (ns : List Node). length ns) ed ∙ length-set (nodes_of cs) w.node x in
-        (subst Axes (sym (ap (λ (z : Split). z.c) met-is)) k.meets.axes, rw out-is k.old-named, rw (out-is, l) k.room, ap (λ (z : Split). z.made) met-is)
+    level-splits ds ed =
+        let l : length ds ≡ length (nodes_of cs) = sym (nodes-length ds) ∙ ap (λ (ns : List Node). length ns) ed ∙ length-set (nodes_of cs) w.node s.out.node in
+        (subst Axes (sym (ap (λ (z : Split). z.c) met-is)) k.meets.axes, rw out-is k.old-named, rw (out-is, l) k.room)
 
     pub level-steps : (m : ℕ) → length cs ≡ m → m * 88 < 2 ^ 63 → w.used + s.out.fresh < 2 ^ 64
     level-steps m e h = rw out-is (omega (arith, k.room, k.meets.used-named, nodes-length cs, e, h))
 
-    pub level-told : (x : Node) → x ≡ s.out.node → (ds : List Cell) → nodes_of ds ≡ set (nodes_of cs) w.node x
-        → (es : List Cell) → nodes_of es ≡ subdivided s.c s.out.node s.out.old s.q s.out.fresh (nodes_of ds) → (r : Step) → r ≡ stepped_of w s
-        → (tree r.used (nodes_of es) ≡ level_at y w.c w.p w.j w.depth w.node (tree w.used (nodes_of cs))) ×
-        (r.next ≡ (way_turn w (node_at (nodes_of cs) w.node)).next) × (r.last ≡ (way_turn w (node_at (nodes_of cs) w.node)).last)
+    pub level-told : (ds : List Cell) → nodes_of ds ≡ set (nodes_of cs) w.node s.out.node
+        → (es : List Cell) → nodes_of es ≡ subdivided s.c s.out.node s.out.old s.q s.out.fresh (nodes_of ds)
+        → (tree (w.used + s.out.fresh) (nodes_of es) ≡ level_at y w.c w.p w.j w.depth w.node (tree w.used (nodes_of cs))) ×
+        (s.out.next ≡ (way_turn w (node_at (nodes_of cs) w.node)).next) × (s.out.last ≡ (way_turn w (node_at (nodes_of cs) w.node)).last)
     unfolding met_of
-    level-told x ex ds ed es' ee r er = (
-      rw (er, ee, ed, ex, met-is),
-      ap (λ (z : Step). z.next) er ∙ ap (λ (o : Out). o.next) out-is,
-      ap (λ (z : Step). z.last) er ∙ ap (λ (o : Out). o.last) out-is,
-    )
+    level-told ds ed es' ee = (rw (ee, ed, met-is), ap (λ (o : Out). o.next) out-is, ap (λ (o : Out). o.last) out-is)
 
 -- ---- the dry descent
 
@@ -166,17 +102,14 @@ module _ (y : List Float) (used j c : ℕ) (cs : List Cell) (m : ℕ) (em : leng
       (record { p-same = refl; c-same = refl; on = λ e. (h, dry-start y c (point_of y c j) (nodes_of cs), e); off = λ e. rw e })
 
 module _ (y : List Float) (n used j c : ℕ) (cs : List Cell) (inside : used ≤ length cs) (rows : n * c ≤ length y) (ok : growable n c (tree used (nodes_of cs)) ≡ true)
-    (s : Probe) (k : Probes y used j c (nodes_of cs) s) (b : Bool) (eb : b ≡ probes_on s) where
+    (s : Probe) (k : Probes y used j c (nodes_of cs) s) where
   abbrev ns : List Node
   ns = nodes_of cs
 
   abbrev p : List Float
   p = point_of y c j
 
-  module _ (t : b ≡ true) where
-    going : s.ended ≡ false
-    going = not-true s.ended (sym eb ∙ t)
-
+  module _ (going : s.ended ≡ false) where
     abbrev here : s.node < used
     here = (k.on going).0
 
@@ -236,5 +169,5 @@ module _ (y : List Float) (n used j c : ℕ) (cs : List Cell) (inside : used ≤
                 )
           ])
 
-  pub probes-end : b ≡ false → s.more ≡ dry_needs y c j (tree used ns)
-  probes-end t = k.off (not-false s.ended (sym eb ∙ t))
+  pub probes-end : s.ended ≡ true → s.more ≡ dry_needs y c j (tree used ns)
+  probes-end = k.off

@@ -1,13 +1,13 @@
 -- What the proof of an insertion cites: what its loop holds on to, over the nodes. Assumes nothing.
 use mathlib.Core.Path.{◌≡◌, refl, sym, ap, subst, ◌∙◌}
 use mathlib.Core.List.{List}
-use mathlib.Core.Bool.{Bool, true, false, cond, true≢false}
+use mathlib.Core.Bool.{true, false, cond, true≢false}
 use Prim.Native.Nat.{ℕ, suc, ◌+◌, ◌-◌, ◌*◌, ◌<◌, ◌≤◌, ◌^◌}
 use native.Mathlib.Omega.{arith}
 use lib.Dec.{ltb}
 use lib.ListN.{length}
 use lib.Ieee.{Float}
-use borrow.Author.Tests.{ltb-true, ltb-false, le-ltb, leb-true, not-true, not-false}
+use borrow.Author.Tests.{ltb-true, ltb-false, le-ltb, leb-true}
 use Rattle.laws.specs.Domain.{deepest, most_word}
 use Rattle.laws.proofs.Bools.{by_bool}
 use Rattle.tree_node.specs.declared.Node.{Node}
@@ -18,9 +18,8 @@ use Rattle.tree_node.proofs.Told.{nodes-length, nameable-most, nameable-word}
 use Rattle.tree_turns.specs.declared.Out.{Out}
 use Rattle.tree.specs.declared.Way.{Way}
 use Rattle.tree.specs.declared.Step.{Step}
-use Rattle.tree.specs.declared.Inserted.{Inserted}
 use Rattle.tree.specs.Insert.{Tree, tree, turn_at, level_at, insertion, insert_of, growable}
-use Rattle.tree.specs.Ways.{ample, dry_needs, way_turn, LevelAsks, entering_of, not_ended, sunk_of, answered}
+use Rattle.tree.specs.Ways.{ample, dry_needs, way_turn, LevelAsks, entering_of, sunk_of}
 use Rattle.tree.proofs.Descends.{probing-asks}
 use Rattle.tree.proofs.Inserting.{Sinks, sinks-start, sinks_on, sinks_in, sinks-asks, sinks-few, sinks-up}
 use Rattle.tree.proofs.Whole.{needed, needed-few, refused, taken}
@@ -91,17 +90,14 @@ module _ (y : List Float) (n used j c : ℕ) (cs₀ : List Cell) where
       (sym (ew ∙ ap (λ (x : ℕ). entering_of y x used more j c) (sym e ∙ sym (nodes-length cs₀)) ∙ ap (λ (x : ℕ). entering_of y (length ns₀) used x j c) em ∙ uncounted))
       (enters-first ok some inside)
 
-  module _ (w : Way) (cs : List Cell) (k : Entered y n used j c ns₀ w (nodes_of cs)) (b : Bool) (eb : b ≡ not_ended w) where
+  module _ (w : Way) (cs : List Cell) (k : Entered y n used j c ns₀ w (nodes_of cs)) where
     abbrev p : List Float
     p = point_of y c j
 
     abbrev t : Tree
     t = tree w.used (nodes_of cs)
 
-    module _ (on : b ≡ true) (hj : j < n) where
-      going : w.ended ≡ false
-      going = not-true w.ended (sym eb ∙ on)
-
+    module _ (going : w.ended ≡ false) (hj : j < n) where
       abbrev named : whole y n used j c ns₀ ≤ nameable (length ns₀)
       named = (k.on going).1
 
@@ -164,5 +160,5 @@ module _ (y : List Float) (n used j c : ℕ) (cs₀ : List Cell) where
         enters-nearer = rw (eu, going) (by_bool (cond s.last 0 (suc (length ns₀ - (w.depth + 1))) < suc (length ns₀ - w.depth)) s.last (λ e. rw e
             (omega arith)) (λ e. rw e (omega (arith, sinks-up goes hj (omega arith) fit))))
 
-    pub enters-end : b ≡ false → (a : Inserted) → a ≡ answered w → insertion a.full (tree a.used (nodes_of cs)) ≡ insert_of y c j (tree used ns₀)
-    enters-end over a ea = rw ea (k.off (not-false w.ended (sym eb ∙ over)))
+    pub enters-end : w.ended ≡ true → insertion w.full (tree w.used (nodes_of cs)) ≡ insert_of y c j (tree used ns₀)
+    enters-end = k.off

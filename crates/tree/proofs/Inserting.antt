@@ -18,8 +18,8 @@ use Rattle.laws.proofs.Numbers.{left, row_in}
 use Rattle.laws.proofs.Bools.{and_left, and_right}
 use Rattle.tree_node.specs.declared.Node.{Node}
 use Rattle.tree_turns.specs.declared.Out.{Out}
-use Rattle.tree_node.specs.declared.Leaf.{Leaf}
-use Rattle.tree_node.specs.declared.Leaf.TheVariants.{Empty, Occupied}
+use Rattle.std.specs.declared.option.Option.{Option}
+use Rattle.std.specs.declared.option.Option.TheVariants.{None, Some}
 use Rattle.tree_node.specs.Node.{point_of}
 use Rattle.tree_children.specs.Children.{child_index, cell_of}
 use Rattle.tree_turns.specs.Turns.{child_of, absorbed, occupied, parent, out, leaf_turn, turn_of}
@@ -60,7 +60,7 @@ pub node-ok : (n c m used k : ℕ) (v : Node) → NodeFacts n c m used k v → n
 unfolding node_ok
 node-ok n c m used k v f = rw (le-leb v.count m f.few, f.point, block-ok c used k v.first f.above)
 
-point-below : (n : ℕ) (l : Leaf) (o : ℕ) → point_ok n l ≡ true → l ≡ Occupied o → o < n
+point-below : (n : ℕ) (l : Option ℕ) (o : ℕ) → point_ok n l ≡ true → l ≡ Some o → o < n
 point-below n l o e q = ltb-true o n (rw q at e)
 
 -- ---- the four things that a turn may do
@@ -68,9 +68,9 @@ point-below n l o e q = ltb-true o n (rw q at e)
 module _ (c : ℕ) (p : List Float) (j depth u : ℕ) (v : Node) where
   pub turn-cases : (P : Out → Type 0)
       → ((v.first ≡ 0 → ⊥) → P (out (absorbed c p v) (v.first + child_index c v.centre p) 0 j false))
-      → (v.first ≡ 0 → v.leaf ≡ Empty → P (out (occupied j (absorbed c p v)) 0 0 j true))
-      → ((o : ℕ) → v.first ≡ 0 → v.leaf ≡ Occupied o → deepest ≤ depth → P (out (absorbed c p v) 0 0 j true))
-      → ((o : ℕ) → v.first ≡ 0 → v.leaf ≡ Occupied o → depth < deepest → P (out (parent u (absorbed c p v)) (u + child_index c v.centre p) (2 ^ c) o false))
+      → (v.first ≡ 0 → v.leaf ≡ None → P (out (occupied j (absorbed c p v)) 0 0 j true))
+      → ((o : ℕ) → v.first ≡ 0 → v.leaf ≡ Some o → deepest ≤ depth → P (out (absorbed c p v) 0 0 j true))
+      → ((o : ℕ) → v.first ≡ 0 → v.leaf ≡ Some o → depth < deepest → P (out (parent u (absorbed c p v)) (u + child_index c v.centre p) (2 ^ c) o false))
       → P (turn_of c p j depth u v)
   unfolding turn_of absorbed
   turn-cases P inner empty deep split =
@@ -79,9 +79,9 @@ module _ (c : ℕ) (p : List Float) (j depth u : ℕ) (v : Node) where
         | yes z ↦ rw (eq-eqb v.first 0 z) (go v.leaf refl z)
       ]
     where
-      go : (l : Leaf) → v.leaf ≡ l → v.first ≡ 0 → P (leaf_turn c p j depth u (absorbed c p v) l)
-      go Empty e z = empty z e
-      go (Occupied o) e z = elim (dec_lt depth deepest) [ yes l ↦ rw (lt-leb deepest depth l) (split o z e l) | no l ↦ rw (le-leb deepest depth (omega (arith, l))) (deep o z e (omega (arith, l))) ]
+      go : (l : Option ℕ) → v.leaf ≡ l → v.first ≡ 0 → P (leaf_turn c p j depth u (absorbed c p v) l)
+      go None e z = empty z e
+      go (Some o) e z = elim (dec_lt depth deepest) [ yes l ↦ rw (lt-leb deepest depth l) (split o z e l) | no l ↦ rw (le-leb deepest depth (omega (arith, l))) (deep o z e (omega (arith, l))) ]
 
 -- ---- the descent, step by step
 
@@ -157,7 +157,7 @@ module _ (y : List Float) (c : ℕ) (p : List Float) where
   unfolding needs_of
   needs-inner g d i ns z = rw (ne_eqb _ _ z, needs_of)
 
-  pub needs-leaf : (g d i : ℕ) (ns : List Node) (l : Leaf) → (node_at ns i).first ≡ 0 → (node_at ns i).leaf ≡ l → needs_of (suc g) y c p d i ns ≡ leaf_needs y c p d (node_at ns i) l
+  pub needs-leaf : (g d i : ℕ) (ns : List Node) (l : Option ℕ) → (node_at ns i).first ≡ 0 → (node_at ns i).leaf ≡ l → needs_of (suc g) y c p d i ns ≡ leaf_needs y c p d (node_at ns i) l
   unfolding needs_of
   needs-leaf g d i ns l z e = rw (eq-eqb _ _ z, needs_of) (rw e)
 
@@ -208,15 +208,15 @@ module _ (y : List Float) (c : ℕ) (p : List Float) where
         | yes x ↦
             let e' : node_at ns k ≡ occupied o (absorbed c q (cell_of c v b)) = rw (eq-eqb b (child_index c v.centre q) x) at e in
             rw (left deepest d l, splits-same (deepest - (d + 1)) c v.centre v.half q p (sym x), suc-mul)
-            (ap (λ (k : ℕ). k + 2 ^ c) (sym (needs-leaf g (d + 1) k ns (Occupied o) (ap (λ (x : Node). x.first) e') (ap (λ (x : Node). x.leaf) e') ∙
-            ap (λ (x : Node). leaf_needs y c p (d + 1) x (Occupied o)) e')) ∙ plus (needs_of (suc g) y c p (d + 1) k ns) (2 ^ c))
+            (ap (λ (k : ℕ). k + 2 ^ c) (sym (needs-leaf g (d + 1) k ns (Some o) (ap (λ (x : Node). x.first) e') (ap (λ (x : Node). x.leaf) e') ∙
+            ap (λ (x : Node). leaf_needs y c p (d + 1) x (Some o)) e')) ∙ plus (needs_of (suc g) y c p (d + 1) k ns) (2 ^ c))
         | no x ↦
             let e' : node_at ns k ≡ cell_of c v b = rw (ne_eqb b (child_index c v.centre q) x) at e in
             rw (
               left deepest d l,
               splits-apart (deepest - (d + 1)) c v.centre v.half q p (λ w. x (sym w)),
               one-mul,
-              needs-leaf g (d + 1) k ns Empty (ap (λ (x : Node). x.first) e') (ap (λ (x : Node). x.leaf) e'),
+              needs-leaf g (d + 1) k ns None (ap (λ (x : Node). x.first) e') (ap (λ (x : Node). x.leaf) e'),
             ) (sym (add-zero (2 ^ c)))
       ]
     where
@@ -250,9 +250,9 @@ split-sound n c m i o q t a li lc hc ho hm s k lk x lx =
 no-splits : (s d m : ℕ) → s ≤ deepest - d → deepest ≤ d → s * m ≡ 0
 no-splits s d m h l = let z : s ≡ 0 = omega (arith, h, l) in rw z (zero-mul m)
 
-word_small : (n : ℕ) (l : Leaf) → point_ok n l ≡ true → n ≤ most_word → leaf_word l < suc most_word
-word_small n Empty e h = omega arith
-word_small n (Occupied o) e h = omega (arith, ltb-true o n e, h)
+word_small : (n : ℕ) (l : Option ℕ) → point_ok n l ≡ true → n ≤ most_word → leaf_word l < suc most_word
+word_small n None e h = omega arith
+word_small n (Some o) e h = omega (arith, ltb-true o n e, h)
 
 -- the point is in: the nodes in use are those foreseen, and the tree is well formed, no count having grown by more than one
 pub record Ended (n c m cap N : ℕ) (t : Tree) : Type 0 where
@@ -287,10 +287,10 @@ module _ (n c m cap N : ℕ) (y p : List Float) (j : ℕ) (hj : j < n) (hm : 1 �
     few = (k.sound i k.node).1 (omega arith)
 
     -- the splits of an occupied leaf are there
-    split-total : (o : ℕ) → v.first ≡ 0 → v.leaf ≡ Occupied o → t.used + splits_of (deepest - d) c v.centre v.half (point_of y c o) p * 2 ^ c ≡ N
-    split-total o z e = ap (λ (x : ℕ). t.used + x) (sym (fuel ∙ needs-leaf y c p (cap - (d + 1)) d i t.nodes (Occupied o) z e)) ∙ k.total
+    split-total : (o : ℕ) → v.first ≡ 0 → v.leaf ≡ Some o → t.used + splits_of (deepest - d) c v.centre v.half (point_of y c o) p * 2 ^ c ≡ N
+    split-total o z e = ap (λ (x : ℕ). t.used + x) (sym (fuel ∙ needs-leaf y c p (cap - (d + 1)) d i t.nodes (Some o) z e)) ∙ k.total
 
-    split-fits : (o : ℕ) → v.first ≡ 0 → v.leaf ≡ Occupied o → d < deepest → t.used + 2 ^ c ≤ cap
+    split-fits : (o : ℕ) → v.first ≡ 0 → v.leaf ≡ Some o → d < deepest → t.used + 2 ^ c ≤ cap
     split-fits o z e l =
         let q = point_of y c o in
         elim (ℕ_discrete (child_index c v.centre q) (child_index c v.centre p)) [
@@ -298,7 +298,7 @@ module _ (n c m cap N : ℕ) (y p : List Float) (j : ℕ) (hj : j < n) (hm : 1 �
           | no x ↦ omega (arith, fit, rw (left deepest d l, splits-apart (deepest - (d + 1)) c v.centre v.half q p x, one-mul) at (split-total o z e))
         ]
 
-    below : (o : ℕ) → v.leaf ≡ Occupied o → o < n
+    below : (o : ℕ) → v.leaf ≡ Some o → o < n
     below o e = point-below n v.leaf o (k.sound i k.node).0.point e
 
     pub ok-next : (turn_at c p j d i t).last ≡ false → Ok n c m cap N y p (d + 1) (turn_at c p j d i t).next (level_at y c p j d i t)
@@ -356,7 +356,7 @@ module _ (n c m cap N : ℕ) (y p : List Float) (j : ℕ) (hj : j < n) (hm : 1 �
         (λ z x. absurd (true≢false (sym x)))
         (λ z e _.
         stored-ends (occupied j (absorbed c p v)) 0 j (occupied-facts n c (m + 1) t.used i j (absorbed c p v) hj (absorbed-facts n c m t.used i p v few (k.sound i k.node).0))
-        (sym (add-zero t.used) ∙ ap (λ (x : ℕ). t.used + x) (sym (fuel ∙ needs-leaf y c p (cap - (d + 1)) d i t.nodes Empty z e)) ∙ k.total))
+        (sym (add-zero t.used) ∙ ap (λ (x : ℕ). t.used + x) (sym (fuel ∙ needs-leaf y c p (cap - (d + 1)) d i t.nodes None z e)) ∙ k.total))
         (λ o z e l _.
         stored-ends (absorbed c p v) 0 j (absorbed-facts n c m t.used i p v few (k.sound i k.node).0)
         (sym (add-zero t.used) ∙ ap (λ (x : ℕ). t.used + x)
@@ -464,14 +464,14 @@ module _ {y : List Float} {c : ℕ} {p : List Float} {ns : List Node} {d i : ℕ
   pub dry-next : ((node_at ns i).first ≡ 0 → ⊥) → i < (node_at ns i).first → Dry y c p ns (d + 1) ((node_at ns i).first + child_index c (node_at ns i).centre p)
   dry-next z l = record { deep = omega (arith, k.deep, l); same = sym (needs-inner y c p (length ns - (d + 1)) d i ns z) ∙ sym dry-same }
 
-  pub dry-leaf : (l : Leaf) → (node_at ns i).first ≡ 0 → (node_at ns i).leaf ≡ l → leaf_needs y c p d (node_at ns i) l ≡ needs_of (length ns) y c p 0 0 ns
+  pub dry-leaf : (l : Option ℕ) → (node_at ns i).first ≡ 0 → (node_at ns i).leaf ≡ l → leaf_needs y c p d (node_at ns i) l ≡ needs_of (length ns) y c p 0 0 ns
   dry-leaf l z e = sym (dry-same ∙ needs-leaf y c p (length ns - (d + 1)) d i ns l z e)
 
 -- a used node's facts
 pub tree-facts : (n c m : ℕ) (t : Tree) → tree_ok n m c t ≡ true → (i : ℕ) → i < t.used → NodeFacts n c m t.used i (node_at t.nodes i)
 tree-facts n c m t e i l = node-facts n c m t.used i (node_at t.nodes i) (every-at (λ k. node_ok n m c t.used k (node_at t.nodes k)) t.used e i l)
 
-pub tree-point : (n c m : ℕ) (t : Tree) → tree_ok n m c t ≡ true → (i o : ℕ) → i < t.used → (node_at t.nodes i).leaf ≡ Occupied o → o < n
+pub tree-point : (n c m : ℕ) (t : Tree) → tree_ok n m c t ≡ true → (i o : ℕ) → i < t.used → (node_at t.nodes i).leaf ≡ Some o → o < n
 tree-point n c m t e i o l q = point-below n (node_at t.nodes i).leaf o (tree-facts n c m t e i l).point q
 
 -- a point needs at most `deepest` splits
@@ -484,9 +484,9 @@ needs-few (suc g) y c p d i ns =
       | yes z ↦ rw (needs-leaf y c p g d i ns (node_at ns i).leaf z refl) (leaf-few (node_at ns i).leaf)
     ]
   where
-    leaf-few : (l : Leaf) → leaf_needs y c p d (node_at ns i) l ≤ deepest * 2 ^ c
-    leaf-few Empty = omega arith
-    leaf-few (Occupied o) = mul-le-mul_right (2 ^ c) (le_trans (splits-le (deepest - d) c (node_at ns i).centre (node_at ns i).half (point_of y c o) p) (few-left d))
+    leaf-few : (l : Option ℕ) → leaf_needs y c p d (node_at ns i) l ≤ deepest * 2 ^ c
+    leaf-few None = omega arith
+    leaf-few (Some o) = mul-le-mul_right (2 ^ c) (le_trans (splits-le (deepest - d) c (node_at ns i).centre (node_at ns i).half (point_of y c o) p) (few-left d))
       where
         few-left : (d : ℕ) → deepest - d ≤ deepest
         few-left d = omega arith

@@ -13,8 +13,8 @@ use lib.Ieee.{Float}
 use borrow.Author.Tests.{lt-ltb, le-ltb, ltb-true}
 use Rattle.laws.specs.Domain.{deepest, most_frames}
 use Rattle.tree_node.specs.declared.Node.{Node}
-use Rattle.tree_node.specs.declared.Leaf.{Leaf}
-use Rattle.tree_node.specs.declared.Leaf.TheVariants.{Empty, Occupied}
+use Rattle.std.specs.declared.option.Option.{Option}
+use Rattle.std.specs.declared.option.Option.TheVariants.{None, Some}
 use Rattle.laws.specs.Loops.{loop, every}
 use Rattle.laws.proofs.Bools.{by_bool}
 use Rattle.laws.proofs.Loops.{loop-last}
@@ -30,9 +30,9 @@ use Rattle.tree.proofs.Inserting.{node-facts, node-ok, ok-start, Ended, inserted
 abbrev pub needed : List Float → ℕ → ℕ → Tree → ℕ
 needed y c j t = needs_of (length t.nodes) y c (point_of y c j) 0 0 t.nodes
 
-point-next : (n n' : ℕ) (l : Leaf) → n ≤ n' → point_ok n l ≡ true → point_ok n' l ≡ true
-point-next n n' Empty h e = refl
-point-next n n' (Occupied o) h e = lt-ltb o n' (omega (arith, h, ltb-true o n e))
+point-next : (n n' : ℕ) (l : Option ℕ) → n ≤ n' → point_ok n l ≡ true → point_ok n' l ≡ true
+point-next n n' None h e = refl
+point-next n n' (Some o) h e = lt-ltb o n' (omega (arith, h, ltb-true o n e))
 
 -- larger bounds on points and counts
 pub looser : (n n' c m m' : ℕ) (t : Tree) → n ≤ n' → m ≤ m' → tree_ok n m c t ≡ true → tree_ok n' m' c t ≡ true

@@ -1,11 +1,9 @@
 -- Insertion of a point into the tree, over a list of nodes: rule 3 of the scope paper. Definitions only.
-use Rattle.std.specs.Prelude.{List, ◌∷◌, Bool, true, false, cond, ℕ, zero, suc, ◌+◌, ◌-◌, ◌*◌, ◌^◌, set, length, eqb, ltb, Float}
+use Rattle.std.specs.Prelude.{List, ◌∷◌, Bool, true, false, cond, ℕ, zero, suc, ◌+◌, ◌-◌, ◌*◌, ◌^◌, set, length, eqb, ltb, Float, Option, None, Some}
 use Rattle.laws.specs.Domain.{deepest, most_word}
 use Rattle.laws.specs.Loops.{loop, every}
 use Rattle.tree_node.specs.declared.Node.{Node}
 use Rattle.tree_turns.specs.declared.Out.{Out}
-use Rattle.tree_node.specs.declared.Leaf.{Leaf}
-use Rattle.tree_node.specs.declared.Leaf.TheVariants.{Empty, Occupied}
 use Rattle.tree_node.specs.Node.{point_of, fresh_of}
 use Rattle.tree_children.specs.Children.{child_index, child_centre, child_half}
 use Rattle.tree_turns.specs.Turns.{child_of, turn_of}
@@ -64,9 +62,9 @@ splits_of (suc g) c z h q p =
       | false ↦ 1
     ]
 
-abbrev pub leaf_needs : List Float → ℕ → List Float → ℕ → Node → Leaf → ℕ
-leaf_needs y c p depth v Empty = 0
-leaf_needs y c p depth v (Occupied o) = splits_of (deepest - depth) c v.centre v.half (point_of y c o) p * 2 ^ c
+abbrev pub leaf_needs : List Float → ℕ → List Float → ℕ → Node → Option ℕ → ℕ
+leaf_needs y c p depth v None = 0
+leaf_needs y c p depth v (Some o) = splits_of (deepest - depth) c v.centre v.half (point_of y c o) p * 2 ^ c
 
 -- the descent that changes nothing
 unfoldable pub needs_of : ℕ → List Float → ℕ → List Float → ℕ → ℕ → List Node → ℕ

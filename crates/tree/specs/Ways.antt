@@ -1,19 +1,16 @@
 -- A point's way down the tree, by value: the states of an insertion's loops and what they do between one node and the next. Definitions only.
-use Rattle.std.specs.Prelude.{◌≡◌, List, Bool, true, false, cond, not, ℕ, ◌+◌, ◌*◌, ◌<◌, ◌≤◌, ◌^◌, length, eqb, ltb, leb, Float}
+use Rattle.std.specs.Prelude.{◌≡◌, List, Bool, true, false, cond, ℕ, ◌+◌, ◌*◌, ◌<◌, ◌≤◌, ◌^◌, length, eqb, ltb, leb, Float, Option, Some}
 use Rattle.laws.specs.Domain.{deepest, most_word}
 use Rattle.tree_node.specs.declared.Node.{Node}
-use Rattle.tree_node.specs.declared.Leaf.{Leaf}
-use Rattle.tree_node.specs.declared.Leaf.TheVariants.{Occupied}
 use Rattle.tree_node.specs.Node.{Axes, point_of}
 use Rattle.tree_node.specs.Arena.{leaf_word, node_at, nameable}
 use Rattle.tree_children.specs.Children.{child_index}
 use Rattle.tree_turns.specs.declared.Out.{Out}
-use Rattle.tree_turns.specs.Turns.{turn_of, child_of}
+use Rattle.tree_turns.specs.Turns.{turn_of}
 use Rattle.tree.specs.declared.Probe.{Probe}
 use Rattle.tree.specs.declared.Way.{Way}
 use Rattle.tree.specs.declared.Split.{Split}
 use Rattle.tree.specs.declared.Step.{Step}
-use Rattle.tree.specs.declared.Inserted.{Inserted}
 use Rattle.tree.specs.Insert.{Tree, leaf_needs, needs_of}
 
 -- ---- the dry descent
@@ -30,12 +27,9 @@ dry_needs y c j t = cond (ample (length t.nodes) t.used c) 0 (needs_of (length t
 abbrev pub probing_of : List Float → ℕ → ℕ → ℕ → ℕ → Probe
 probing_of y cells used j c = record { p = point_of y c j; c = c; depth = 0; node = 0; ended = ample cells used c; more = 0 }
 
-abbrev pub probes_on : Probe → Bool
-probes_on s = not s.ended
-
 -- the point that a leaf holds is one of those in an area of len floats
-abbrev pub LeafIn : ℕ → ℕ → Leaf → Type 0
-LeafIn len c l = (o : ℕ) → l ≡ Occupied o → o * c + c ≤ len
+abbrev pub LeafIn : ℕ → ℕ → Option ℕ → Type 0
+LeafIn len c l = (o : ℕ) → l ≡ Some o → o * c + c ≤ len
 
 -- a leaf ends it; else it goes on at the child that the point falls into
 unfoldable pub probed_of : List Float → Probe → Node → Probe
@@ -52,7 +46,7 @@ way_turn w v = turn_of w.c w.p w.j w.depth w.used v
 
 -- .. and the point that goes down into a child first
 unfoldable pub met_of : List Float → Way → Node → Split
-met_of y w v = record { out = way_turn w v; q = point_of y w.c (way_turn w v).old; c = w.c; made = 0 }
+met_of y w v = record { out = way_turn w v; q = point_of y w.c (way_turn w v).old; c = w.c }
 
 pub record MetAsks (len : ℕ) (w : Way) (v : Node) : Type 0 where
   pub axes : Axes w.c
@@ -68,33 +62,11 @@ pub record LevelAsks (w : Way) (len : ℕ) (ns : List Node) : Type 0 where
   pub leaf-named : leaf_word (way_turn w (node_at ns w.node)).node.leaf ≤ most_word
   pub old-named : (way_turn w (node_at ns w.node)).old < most_word
 
-abbrev pub splits_on : Split → Bool
-splits_on s = ltb s.made s.out.fresh
-
--- the next child, and its place
-abbrev pub child_on : Split → Node
-child_on s = child_of s.c s.out.node s.out.old s.q s.made
-
-abbrev pub child_place : Split → ℕ
-child_place s = s.out.node.first + s.made
-
-abbrev pub made_of : Split → Split
-made_of s = record { out = s.out; q = s.q; c = s.c; made = s.made + 1 }
-
-abbrev pub stepped_of : Way → Split → Step
-stepped_of w s = record { used = w.used + s.out.fresh; next = s.out.next; last = s.out.last }
-
 -- ---- the descent
 
 -- in an arena of so many cells, `used` of them in use, a point that needs `more`
 abbrev pub entering_of : List Float → ℕ → ℕ → ℕ → ℕ → ℕ → Way
 entering_of y cells used more j c = record { p = point_of y c j; c = c; j = j; depth = 0; node = 0; used = used; full = ltb (nameable cells) (used + more); ended = ltb (nameable cells) (used + more) }
 
-abbrev pub not_ended : Way → Bool
-not_ended w = not w.ended
-
 abbrev pub sunk_of : Way → Step → Way
 sunk_of w s = record { p = w.p; c = w.c; j = w.j; depth = w.depth + 1; node = s.next; used = s.used; full = w.full; ended = s.last }
-
-abbrev pub answered : Way → Inserted
-answered w = record { full = w.full; used = w.used }

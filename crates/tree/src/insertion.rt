@@ -6,26 +6,24 @@ ghost use Rattle.tree_node.specs.Arena.{nodes_of, node_at};
 ghost use Rattle.tree.specs.Insert.{tree, subdivided, level_at, insert_of, insertion, growable};
 ghost use Rattle.tree.specs.Ways.{LevelAsks, way_turn, dry_needs};
 
-use crate::ways::{
-    answer, child_on, child_place, entering, goes_on, lowered, made, met, node_met, probed,
-    probes_on, probing, splits_on, stepped,
-};
-use crate::{Inserted, Probe, Split, Step, Way};
+use crate::ways::{entering, lowered, met, probed, probing};
+use crate::{Inserted, Split, Step, Way};
 use tree_node::Cell;
 use tree_node::arena::{load, store};
+use tree_turns::child;
 
 // Makes the children of a split node.
 pub(crate) fn subdivide(cells: &mut [Cell], s: Split)
-    requires { (Axes s.c) × (s.out.old < most_word) × (s.out.node.first + s.out.fresh ≤ length cells.old) × (s.made ≡ 0) }
+    requires { (Axes s.c) × (s.out.old < most_word) × (s.out.node.first + s.out.fresh ≤ length cells.old) }
     ensures { nodes_of cells.new ≡ subdivided s.c s.out.node s.out.old s.q s.out.fresh (nodes_of cells.old) }
 {
-    let mut t = s;
-    while splits_on(t) {
-        let x = child_on(t);
-        let i = child_place(t);
-        store(cells, i, x);
-        let u = made(t);
-        t = u;
+    let v = s.out.node;
+    for b in 0..s.out.fresh {
+        store(
+            cells,
+            v.first as usize + b,
+            child(v, s.out.old, s.q, b, s.c),
+        );
     }
 }
 
@@ -46,11 +44,13 @@ pub(crate) fn level(cells: &mut [Cell], positions: &[f64], w: Way) -> Step
 {
     let v = load(cells, w.node);
     let s = met(positions, w, v);
-    let x = node_met(s);
-    store(cells, w.node, x);
+    store(cells, w.node, s.out.node);
     subdivide(cells, s);
-    let r = stepped(w, s);
-    r
+    Step {
+        used: w.used + s.out.fresh,
+        next: s.out.next,
+        last: s.out.last,
+    }
 }
 
 // How many nodes point j needs; in an ample arena they are not counted.
@@ -66,13 +66,11 @@ pub(crate) fn needs(
     ensures { result ≡ dry_needs positions.now c j (tree used (nodes_of cells.now)) }
 {
     let mut p = probing(positions, cells.len(), used, j, c);
-    while probes_on(p) {
+    while !p.ended {
         let v = load(cells, p.node);
-        let x = probed(positions, p, v);
-        p = x;
+        p = probed(positions, p, v);
     }
-    let more = p.more;
-    more
+    p.more
 }
 
 // Point j goes in, or the nodes that it needs are not there and nothing changes.
@@ -89,11 +87,12 @@ pub fn insert(
 {
     let more = needs(cells, positions, n, used, j, c);
     let mut w = entering(positions, cells.len(), used, more, j, c);
-    while goes_on(w) {
+    while !w.ended {
         let s = level(cells, positions, w);
-        let x = lowered(w, s);
-        w = x;
+        w = lowered(w, s);
     }
-    let a = answer(w);
-    a
+    Inserted {
+        full: w.full,
+        used: w.used,
+    }
 }

@@ -70,6 +70,4 @@ pub struct Split {
     // the coordinates of the point that goes down first, in c components
     pub q: [f64; 3],
     pub c: usize,
-    // how many children are made
-    pub made: usize,
 }

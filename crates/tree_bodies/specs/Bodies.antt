@@ -1,13 +1,13 @@
 -- A node as seen from a point: its distance, its width, whether it acts as one body, and what one body adds. Definitions only.
-use Rattle.std.specs.Prelude.{List, cond, ◌&&◌, ℕ, set, eqb, pos, Float}
+use Rattle.std.specs.Prelude.{List, cond, ◌&&◌, ℕ, set, eqb, pos, Float, Option, None, Some}
 use Rattle.std.specs.Float.{binary64}
 use Rattle.std.specs.Float.Ieee.{add, sub, mul, div, of_int, lt}
 use Rattle.laws.specs.Loops.{loop}
 use Rattle.laws.specs.Area.{at, zero64, one64, two64}
 use Rattle.tree_node.specs.declared.Node.{Node}
 use Rattle.tree_bodies.specs.declared.Acc.{Acc}
-use Rattle.tree_node.specs.declared.Leaf.{Leaf}
-use Rattle.tree_node.specs.declared.Leaf.TheVariants.{Empty, Occupied}
+use Rattle.tree_bodies.specs.declared.Role.{Role}
+use Rattle.tree_bodies.specs.declared.Role.TheVariants.{Nothing, Body, Open}
 
 -- ---- the squared distance of two points, and a node's largest side
 
@@ -45,10 +45,15 @@ body_of c p v acc =
 
 -- ---- what a node is to point q: 0 gives nothing, 1 acts as one body, 2 opens
 
+abbrev pub role_number : Role → ℕ
+role_number Nothing = 0
+role_number Body = 1
+role_number Open = 2
+
 -- the leaf that holds only the query gives nothing
-abbrev pub leaf_kind : ℕ → ℕ → Leaf → ℕ
-leaf_kind q n Empty = 1
-leaf_kind q n (Occupied o) = cond (eqb o q && eqb n 1) 0 1
+abbrev pub leaf_kind : ℕ → ℕ → Option ℕ → ℕ
+leaf_kind q n None = 1
+leaf_kind q n (Some o) = cond (eqb o q && eqb n 1) 0 1
 
 unfoldable pub kind_of : ℕ → ℕ → List Float → Float → Node → ℕ
 unfolding width_of gap_of lt mul

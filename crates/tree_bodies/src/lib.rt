@@ -6,15 +6,26 @@ ghost use Rattle.std.specs.Prelude.{◌≡◌};
 ghost use Rattle.laws.specs.Area.{at};
 ghost use Rattle.laws.specs.Loops.{loop};
 ghost use Rattle.tree_node.specs.Node.{Axes};
-ghost use Rattle.tree_bodies.specs.Bodies.{gap_of, wider, width_of, push_step, body_of, leaf_kind, kind_of};
+ghost use Rattle.tree_bodies.specs.Bodies.{gap_of, wider, width_of, push_step, body_of, role_number, leaf_kind, kind_of};
 
-use tree_node::{Leaf, Node};
+use tree_node::Node;
 
 // The repulsion gathered so far, and the normaliser's share.
 #[derive(Clone, Copy)]
 pub struct Acc {
     pub neg: [f64; 3],
     pub sum: f64,
+}
+
+// What a node is to a point.
+#[derive(Clone, Copy, Debug, PartialEq, Eq)]
+pub enum Role {
+    // it gives nothing
+    Nothing,
+    // it acts as one body
+    Body,
+    // its children are looked at
+    Open,
 }
 
 // The squared distance of p from m.
@@ -89,47 +100,39 @@ pub fn body(v: Node, p: [f64; 3], c: usize, acc: Acc) -> Acc
     let inv = 1.0 / (1.0 + gap(p, m, c));
     let mult = v.count as f64 * inv;
     let force = mult * inv;
-    let old = acc.neg;
-    let neg = pushed(old, p, m, force, c);
+    let neg = pushed(acc.neg, p, m, force, c);
     Acc {
         neg,
         sum: acc.sum + mult,
     }
 }
 
-// Whether the leaf is that of point q alone, then 0, else 1.
-fn leaf_kind(l: Leaf, n: u32, q: u32) -> usize
-    ensures { result ≡ leaf_kind q n l }
+// A leaf gives nothing where it holds point q alone.
+fn leaf_kind(l: Option<u32>, n: u32, q: u32) -> Role
+    ensures { role_number result ≡ leaf_kind q n l }
 {
-    if let Leaf::Occupied(o) = l {
-        if o != q {
-            return 1;
+    if let Some(o) = l {
+        if o == q && n == 1 {
+            return Role::Nothing;
         }
-        if n != 1 {
-            return 1;
-        }
-        return 0;
     }
-    1
+    Role::Body
 }
 
-// What a node is to point q: 0 gives nothing, 1 acts as one body, 2 opens.
-pub fn kind(v: Node, q: u32, p: [f64; 3], theta2: f64, c: usize) -> usize
+// What a node is to point q.
+pub fn kind(v: Node, q: u32, p: [f64; 3], theta2: f64, c: usize) -> Role
     requires { Axes c }
-    ensures { result ≡ kind_of c q p theta2 v }
+    ensures { role_number result ≡ kind_of c q p theta2 v }
 {
     if v.count == 0 {
-        return 0;
+        return Role::Nothing;
     }
     if v.first == 0 {
-        let l = v.leaf;
-        return leaf_kind(l, v.count, q);
+        return leaf_kind(v.leaf, v.count, q);
     }
-    let h = v.half;
-    let m = v.mass;
-    let w = max_width(h, c);
-    if w * w < theta2 * gap(p, m, c) {
-        return 1;
+    let w = max_width(v.half, c);
+    if w * w < theta2 * gap(p, v.mass, c) {
+        return Role::Body;
     }
-    2
+    Role::Open
 }

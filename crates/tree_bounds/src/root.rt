@@ -68,17 +68,12 @@ pub fn bounding_box(positions: &[f64], n: usize, c: usize) -> Node
     requires { (Axes c) × (n * c ≤ length positions.now) }
     ensures { result ≡ box_of positions.now n c }
 {
-    let r = span(positions, n, c, 0);
-    if c == 1 {
-        return fresh([middle(r), 0.0, 0.0], [reach(r), 0.0, 0.0]);
+    let mut centre = [0.0; 3];
+    let mut half = [0.0; 3];
+    for d in 0..c {
+        let s = span(positions, n, c, d);
+        centre[d] = middle(s);
+        half[d] = reach(s);
     }
-    let s = span(positions, n, c, 1);
-    if c == 2 {
-        return fresh([middle(r), middle(s), 0.0], [reach(r), reach(s), 0.0]);
-    }
-    let t = span(positions, n, c, 2);
-    fresh(
-        [middle(r), middle(s), middle(t)],
-        [reach(r), reach(s), reach(t)],
-    )
+    fresh(centre, half)
 }

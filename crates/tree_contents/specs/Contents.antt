@@ -1,14 +1,12 @@
 -- What the contents rule asks of one node: of n points, counts at most m, among `used` nodes. Definitions only.
-use Rattle.std.specs.Prelude.{Bool, true, cond, ◌&&◌, ◌||◌, ℕ, ◌+◌, ◌^◌, eqb, ltb, leb}
+use Rattle.std.specs.Prelude.{Bool, true, cond, ◌&&◌, ◌||◌, ℕ, ◌+◌, ◌^◌, eqb, ltb, leb, Option, None, Some}
 use Rattle.tree_node.specs.declared.Node.{Node}
-use Rattle.tree_node.specs.declared.Leaf.{Leaf}
-use Rattle.tree_node.specs.declared.Leaf.TheVariants.{Empty, Occupied}
 use Rattle.tree_contents.specs.declared.Unsound.{Unsound}
 use Rattle.tree_contents.specs.declared.Unsound.TheVariants.{Count, Point, Block}
 
-abbrev pub point_ok : ℕ → Leaf → Bool
-point_ok n Empty = true
-point_ok n (Occupied o) = ltb o n
+abbrev pub point_ok : ℕ → Option ℕ → Bool
+point_ok n None = true
+point_ok n (Some o) = ltb o n
 
 -- no children, or a block of them wholly above node i among the used ones
 abbrev pub block_ok : ℕ → ℕ → ℕ → ℕ → Bool

@@ -6,7 +6,7 @@ ghost use Rattle.std.specs.Prelude.{◌≡◌};
 ghost use Rattle.tree_node.specs.Node.{Axes};
 ghost use Rattle.tree_contents.specs.Contents.{point_ok, block_ok, node_ok, node_fault};
 
-use tree_node::{Leaf, Node};
+use tree_node::Node;
 
 // Why the nodes in use are not well formed.
 #[derive(Clone, Copy, Debug, PartialEq, Eq)]
@@ -21,13 +21,13 @@ pub enum Unsound {
     Block(usize),
 }
 
-fn point_ok(l: Leaf, n: usize) -> bool
+fn point_ok(l: Option<u32>, n: usize) -> bool
     ensures { result ≡ point_ok n l }
 {
-    if let Leaf::Occupied(o) = l {
-        return (o as usize) < n;
+    match l {
+        None => true,
+        Some(o) => (o as usize) < n,
     }
-    true
 }
 
 // No children, or a block of them wholly above node i and among the nodes in use.
@@ -35,14 +35,8 @@ fn block_ok(first: u32, c: usize, used: usize, i: usize) -> bool
     requires { Axes c }
     ensures { result ≡ block_ok c used i first }
 {
-    if first == 0 {
-        return true;
-    }
     let f = first as usize;
-    if f <= i {
-        return false;
-    }
-    f + (1 << c) <= used
+    f == 0 || f > i && f + (1 << c) <= used
 }
 
 // Whether node i is well formed for n points.
@@ -50,14 +44,7 @@ pub fn node_ok(v: Node, n: usize, c: usize, used: usize, i: usize) -> bool
     requires { Axes c }
     ensures { result ≡ node_ok n n c used i v }
 {
-    if v.count as usize > n {
-        return false;
-    }
-    let l = v.leaf;
-    if !point_ok(l, n) {
-        return false;
-    }
-    block_ok(v.first, c, used, i)
+    v.count as usize <= n && point_ok(v.leaf, n) && block_ok(v.first, c, used, i)
 }
 
 // Which part of the rule a faulty node breaks first.
@@ -67,8 +54,7 @@ pub fn fault(v: Node, n: usize, i: usize) -> Unsound
     if v.count as usize > n {
         return Unsound::Count(i);
     }
-    let l = v.leaf;
-    if point_ok(l, n) {
+    if point_ok(v.leaf, n) {
         return Unsound::Block(i);
     }
     Unsound::Point(i)

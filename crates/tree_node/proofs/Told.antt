@@ -4,23 +4,24 @@ use mathlib.Core.List.{List, [], ◌∷◌, map, ◌++◌}
 use Prim.Native.Nat.{ℕ, zero, suc, ◌+◌, ◌-◌, ◌≤◌}
 use native.Mathlib.Omega.{arith}
 use lib.ListN.{length, set, length-map}
-use borrow.Author.Tests.{ne_eqb}
+use borrow.Author.Tests.{eq-eqb, ne_eqb}
+use Rattle.std.specs.Option.{SomeIff}
 use Rattle.laws.specs.Domain.{most_word}
 use Rattle.tree_node.specs.declared.Node.{Node}
 use Rattle.tree_node.specs.declared.Cell.{Cell}
-use Rattle.tree_node.specs.declared.Leaf.{Leaf}
-use Rattle.tree_node.specs.declared.Leaf.TheVariants.{Empty, Occupied}
+use Rattle.std.specs.declared.option.Option.{Option}
+use Rattle.std.specs.declared.option.Option.TheVariants.{None, Some}
 use Rattle.tree_node.specs.Arena.{leaf_of, leaf_word, node_of, laid_of, nodes_of, cell_at, node_at, nameable}
 
 -- ---- a cell and its node
 
-less : (p : ℕ) → Occupied (p + 1 - 1) ≡ Occupied p
+less : (p : ℕ) → Some (p + 1 - 1) ≡ Some p
 less p = let e : p + 1 - 1 ≡ p = omega arith in rw e
 
-leaf-word : (l : Leaf) → leaf_of (leaf_word l) ≡ l
+leaf-word : (l : Option ℕ) → leaf_of (leaf_word l) ≡ l
 unfolding leaf_of
-leaf-word Empty = refl
-leaf-word (Occupied p) = rw (ne_eqb (p + 1) 0 (λ e. omega (arith, e))) (less p)
+leaf-word None = refl
+leaf-word (Some p) = rw (ne_eqb (p + 1) 0 (λ e. omega (arith, e))) (less p)
 
 word-leaf : (v : ℕ) → leaf_word (leaf_of v) ≡ v
 unfolding leaf_of
@@ -29,6 +30,12 @@ word-leaf (suc v) = rw (ne_eqb (suc v) 0 (λ e. omega (arith, e))) (back v)
   where
     back : (v : ℕ) → suc v - 1 + 1 ≡ suc v
     back v = omega arith
+
+-- what `checked_sub` answers
+pub leaf-checked : (v : ℕ) (l : Option ℕ) → SomeIff l (1 ≤ v) (v - 1) → l ≡ leaf_of v
+unfolding leaf_of
+leaf-checked v None h = rw (eq-eqb v 0 (omega (arith, h)))
+leaf-checked v (Some p) h = rw (ne_eqb v 0 (λ e. omega (arith, e, h.0)), h.1)
 
 -- a node that is laid down is read again
 pub laid-read : (v : Node) → node_of (laid_of v) ≡ v
@@ -90,10 +97,7 @@ nameable-both k n a b = omega (arith, a, b)
 pub nameable-longer : (n m : ℕ) → n ≤ m → nameable n ≤ nameable m
 nameable-longer n m h = nameable-both (nameable n) m (omega (arith, h, nameable-most n)) (nameable-word n)
 
--- ---- what `load` and `store` cite
+-- ---- what `store` cites
 
-pub load_told : (cs : List Cell) (i : ℕ) (x : Cell) → x ≡ cell_at cs i → (v : Node) → v ≡ node_of x → v ≡ node_at (nodes_of cs) i
-load_told cs i x ex v ev = ev ∙ ap node_of ex ∙ nodes-at cs i
-
-pub store_told : (cs : List Cell) (i : ℕ) (v : Node) (x : Cell) → x ≡ laid_of v → (ds : List Cell) → ds ≡ set cs i x → nodes_of ds ≡ set (nodes_of cs) i v
-store_told cs i v x ex ds ed = ap nodes_of ed ∙ nodes-set cs i x ∙ ap (λ (w : Node). set (nodes_of cs) i w) (ap node_of ex ∙ laid-read v)
+pub store_told : (cs : List Cell) (i : ℕ) (v : Node) (x : Cell) → x ≡ laid_of v → nodes_of (set cs i x) ≡ set (nodes_of cs) i v
+store_told cs i v x ex = nodes-set cs i x ∙ ap (λ (w : Node). set (nodes_of cs) i w) (ap node_of ex ∙ laid-read v)

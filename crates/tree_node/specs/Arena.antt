@@ -1,20 +1,18 @@
 -- The arena: a list of cells, each of which is a node. Definitions only.
 -- Reading loses nothing (`cells_told`): an equation between the nodes of two arenas is one between the arenas.
-use Rattle.std.specs.Prelude.{List, map, cond, ℕ, ◌+◌, ◌-◌, min, eqb, get_or}
+use Rattle.std.specs.Prelude.{List, map, cond, ℕ, ◌+◌, ◌-◌, min, eqb, get_or, Option, None, Some}
 use Rattle.laws.specs.Domain.{most_word}
 use Rattle.tree_node.specs.declared.Node.{Node}
 use Rattle.tree_node.specs.declared.Cell.{Cell}
-use Rattle.tree_node.specs.declared.Leaf.{Leaf}
-use Rattle.tree_node.specs.declared.Leaf.TheVariants.{Empty, Occupied}
 use Rattle.tree_node.specs.Node.{zeros3, fresh_of}
 
 -- a leaf's word: 0, or the point's number and one
-unfoldable pub leaf_of : ℕ → Leaf
-leaf_of v = cond (eqb v 0) Empty (Occupied (v - 1))
+unfoldable pub leaf_of : ℕ → Option ℕ
+leaf_of v = cond (eqb v 0) None (Some (v - 1))
 
-abbrev pub leaf_word : Leaf → ℕ
-leaf_word Empty = 0
-leaf_word (Occupied p) = p + 1
+abbrev pub leaf_word : Option ℕ → ℕ
+leaf_word None = 0
+leaf_word (Some p) = p + 1
 
 -- the node that lies in a cell, and the cell in which a node lies
 unfoldable pub node_of : Cell → Node

@@ -1,9 +1,8 @@
 -- A node by value: the components of a tree, a point's coordinates, an empty leaf. Definitions only.
-use Rattle.std.specs.Prelude.{List, [], ◌∷◌, ℕ, ◌+◌, ◌*◌, ◌<◌, ◌≤◌, set, Float}
+use Rattle.std.specs.Prelude.{List, [], ◌∷◌, ℕ, ◌+◌, ◌*◌, ◌<◌, ◌≤◌, set, Float, None}
 use Rattle.laws.specs.Loops.{loop}
 use Rattle.laws.specs.Area.{at, zero64}
 use Rattle.tree_node.specs.declared.Node.{Node}
-use Rattle.tree_node.specs.declared.Leaf.TheVariants.{Empty}
 
 -- a tree has 1, 2 or 3 components
 abbrev pub Axes : ℕ → Type 0
@@ -23,4 +22,4 @@ point_of y c j = loop (point_step y (j * c)) c 0 zeros3
 
 -- an empty leaf with that cell
 abbrev pub fresh_of : List Float → List Float → Node
-fresh_of z h = record { centre = z; half = h; mass = zeros3; count = 0; first = 0; leaf = Empty }
+fresh_of z h = record { centre = z; half = h; mass = zeros3; count = 0; first = 0; leaf = None }

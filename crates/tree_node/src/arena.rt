@@ -1,58 +1,38 @@
-// The arena, a lent slice of cells. Only `cell_at` and `put_cell` index it; `load` and `store` read and write a node.
+// The arena, a lent slice of cells; `load` and `store` read and write a node.
 ghost use Rattle.std.specs.Prelude.{◌≡◌, ◌<◌, ◌≤◌, min, length, set};
 ghost use Rattle.laws.specs.Domain.{most_word};
-ghost use Rattle.tree_node.specs.Arena.{leaf_of, leaf_word, node_of, laid_of, cell_at, nodes_of, node_at, nameable};
+ghost use Rattle.tree_node.specs.Arena.{leaf_word, node_of, laid_of, nodes_of, node_at, nameable};
 
-use crate::{Cell, Leaf, Node};
+use crate::{Cell, Node};
 use laws::MOST_WORD;
 
-fn read_leaf(v: u32) -> Leaf
-    ensures { result ≡ leaf_of v }
-{
-    if v == 0 {
-        return Leaf::Empty;
-    }
-    Leaf::Occupied(v - 1)
-}
-
-fn leaf_word(l: Leaf) -> u32
-    requires { leaf_word l ≤ most_word }
-    ensures { result ≡ leaf_word l }
-{
-    let Leaf::Occupied(p) = l else {
-        return 0;
-    };
-    p + 1
-}
-
 // The node that lies in a cell.
-pub fn read_node(x: Cell) -> Node
-    ensures { result ≡ node_of x }
-{
-    let centre = x.centre;
-    let half = x.half;
-    let mass = x.mass;
-    let leaf = read_leaf(x.leaf);
-    Node {
-        centre,
-        half,
-        mass,
-        count: x.count,
-        first: x.first,
-        leaf,
+impl From<Cell> for Node {
+    ghost from_gives = { λ x v. v ≡ node_of x };
+
+    fn from(x: Cell) -> Node {
+        let (centre, half, mass) = (x.centre, x.half, x.mass);
+        Node {
+            centre,
+            half,
+            mass,
+            count: x.count,
+            first: x.first,
+            leaf: x.leaf.checked_sub(1),
+        }
     }
 }
 
 // The cell in which a node lies.
-pub(crate) fn lay_node(v: Node) -> Cell
+fn lay_node(v: Node) -> Cell
     requires { leaf_word v.leaf ≤ most_word }
     ensures { result ≡ laid_of v }
 {
-    let centre = v.centre;
-    let half = v.half;
-    let mass = v.mass;
-    let l = v.leaf;
-    let leaf = leaf_word(l);
+    let (centre, half, mass) = (v.centre, v.half, v.mass);
+    let leaf = match v.leaf {
+        None => 0,
+        Some(p) => p + 1,
+    };
     Cell {
         centre,
         half,
@@ -67,24 +47,7 @@ pub(crate) fn lay_node(v: Node) -> Cell
 pub fn nameable_of(cells: usize) -> usize
     ensures { result ≡ nameable cells }
 {
-    if cells <= MOST_WORD {
-        return cells;
-    }
-    MOST_WORD
-}
-
-pub fn cell_at(cells: &[Cell], i: usize) -> Cell
-    requires { i < length cells.now }
-    ensures { result ≡ cell_at cells.now i }
-{
-    cells[i]
-}
-
-pub fn put_cell(cells: &mut [Cell], i: usize, v: Cell)
-    requires { i < length cells.old }
-    ensures { cells.new ≡ set cells.old i v }
-{
-    cells[i] = v;
+    cells.min(MOST_WORD)
 }
 
 // The node in cell i.
@@ -92,9 +55,7 @@ pub fn load(cells: &[Cell], i: usize) -> Node
     requires { i < length cells.now }
     ensures { result ≡ node_at (nodes_of cells.now) i }
 {
-    let x = cell_at(cells, i);
-    let v = read_node(x);
-    v
+    Node::from(cells[i])
 }
 
 // A node into cell i.
@@ -102,6 +63,5 @@ pub fn store(cells: &mut [Cell], i: usize, v: Node)
     requires { (i < length cells.old) × (leaf_word v.leaf ≤ most_word) }
     ensures { nodes_of cells.new ≡ set (nodes_of cells.old) i v }
 {
-    let x = lay_node(v);
-    put_cell(cells, i, x);
+    cells[i] = lay_node(v);
 }

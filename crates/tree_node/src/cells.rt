@@ -2,34 +2,30 @@
 ghost use Rattle.std.specs.Prelude.{◌≡◌, ◌+◌, ◌*◌, ◌≤◌, length};
 ghost use Rattle.tree_node.specs.Node.{Axes, point_of, fresh_of};
 
-use crate::{Leaf, Node};
+use crate::Node;
 
 // The coordinates of point j.
 pub fn point(positions: &[f64], j: usize, c: usize) -> [f64; 3]
     requires { (Axes c) × (j * c + c ≤ length positions.now) }
     ensures { result ≡ point_of positions.now c j }
 {
-    let a = j * c;
-    if c == 1 {
-        return [positions[a], 0.0, 0.0];
+    let mut p = [0.0; 3];
+    for d in 0..c {
+        p[d] = positions[j * c + d];
     }
-    if c == 2 {
-        return [positions[a], positions[a + 1], 0.0];
-    }
-    [positions[a], positions[a + 1], positions[a + 2]]
+    p
 }
 
 // An empty leaf with that cell.
 pub fn fresh(centre: [f64; 3], half: [f64; 3]) -> Node
     ensures { result ≡ fresh_of centre half }
 {
-    let mass = [0.0, 0.0, 0.0];
     Node {
         centre,
         half,
-        mass,
+        mass: [0.0; 3],
         count: 0,
         first: 0,
-        leaf: Leaf::Empty,
+        leaf: None,
     }
 }

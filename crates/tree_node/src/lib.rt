@@ -5,14 +5,6 @@
 pub mod arena;
 pub mod cells;
 
-// What a leaf holds.
-#[derive(Clone, Copy)]
-pub enum Leaf {
-    Empty,
-    // the number of its point, the first that came
-    Occupied(u32),
-}
-
 // A node of the tree, by value.
 #[derive(Clone, Copy)]
 pub struct Node {
@@ -26,8 +18,8 @@ pub struct Node {
     pub count: u32,
     // the number of its first child, or 0 where it has none
     pub first: u32,
-    // what it holds while it has no children
-    pub leaf: Leaf,
+    // what it holds while it has no children: the number of its point, the first that came
+    pub leaf: Option<u32>,
 }
 
 // A node as it lies in memory: plain numbers, in this order, 88 bytes; every bit pattern is one.

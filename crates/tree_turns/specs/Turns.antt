@@ -1,13 +1,11 @@
 -- A node takes a point in, and what becomes of a node when a point comes to it: rule 3 of the scope paper. Definitions only.
-use Rattle.std.specs.Prelude.{List, Bool, true, false, cond, ℕ, ◌+◌, ◌^◌, set, eqb, leb, pos, Float}
+use Rattle.std.specs.Prelude.{List, Bool, true, false, cond, ℕ, ◌+◌, ◌^◌, set, eqb, leb, pos, Float, Option, None, Some}
 use Rattle.std.specs.Float.{binary64}
 use Rattle.std.specs.Float.Ieee.{add, sub, mul, div, of_int}
 use Rattle.laws.specs.Loops.{loop}
 use Rattle.laws.specs.Area.{at, one64}
 use Rattle.laws.specs.Domain.{deepest}
 use Rattle.tree_node.specs.declared.Node.{Node}
-use Rattle.tree_node.specs.declared.Leaf.{Leaf}
-use Rattle.tree_node.specs.declared.Leaf.TheVariants.{Empty, Occupied}
 use Rattle.tree_children.specs.Children.{child_index, child_centre, child_half, cell_of}
 use Rattle.tree_turns.specs.declared.Out.{Out}
 
@@ -31,11 +29,11 @@ absorbed c p v = record { centre = v.centre; half = v.half; mass = mass_of c (v.
 
 -- a leaf holds point j
 abbrev pub occupied : ℕ → Node → Node
-occupied j v = record { centre = v.centre; half = v.half; mass = v.mass; count = v.count; first = v.first; leaf = Occupied j }
+occupied j v = record { centre = v.centre; half = v.half; mass = v.mass; count = v.count; first = v.first; leaf = Some j }
 
 -- a node whose children begin at u holds no point
 abbrev pub parent : ℕ → Node → Node
-parent u v = record { centre = v.centre; half = v.half; mass = v.mass; count = v.count; first = u; leaf = Empty }
+parent u v = record { centre = v.centre; half = v.half; mass = v.mass; count = v.count; first = u; leaf = None }
 
 -- child b of the split node v, of which point o with coordinates q has just gone down
 unfoldable pub child_of : ℕ → Node → ℕ → List Float → ℕ → Node
@@ -48,9 +46,9 @@ child_of c v o q b = cond (eqb b (child_index c v.centre q)) (occupied o (absorb
 abbrev pub out : Node → ℕ → ℕ → ℕ → Bool → Out
 out v k f o b = record { node = v; next = k; fresh = f; old = o; last = b }
 
-abbrev pub leaf_turn : ℕ → List Float → ℕ → ℕ → ℕ → Node → Leaf → Out
-leaf_turn c p j depth u v Empty = out (occupied j v) 0 0 j true
-leaf_turn c p j depth u v (Occupied o) = cond (leb deepest depth) (out v 0 0 j true) (out (parent u v) (u + child_index c v.centre p) (2 ^ c) o false)
+abbrev pub leaf_turn : ℕ → List Float → ℕ → ℕ → ℕ → Node → Option ℕ → Out
+leaf_turn c p j depth u v None = out (occupied j v) 0 0 j true
+leaf_turn c p j depth u v (Some o) = cond (leb deepest depth) (out v 0 0 j true) (out (parent u v) (u + child_index c v.centre p) (2 ^ c) o false)
 
 unfoldable pub turn_of : ℕ → List Float → ℕ → ℕ → ℕ → Node → Out
 unfolding absorbed child_index

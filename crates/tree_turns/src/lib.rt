@@ -10,7 +10,7 @@ ghost use Rattle.tree_turns.specs.Turns.{mean_of, mass_step, absorbed, occupied,
 
 use laws::DEEPEST;
 use tree_children::{cell, child_index};
-use tree_node::{Leaf, Node};
+use tree_node::Node;
 
 // What a level of an insertion does with its node.
 #[derive(Clone, Copy)]
@@ -39,15 +39,9 @@ fn means(cs: f64, m: [f64; 3], p: [f64; 3], c: usize) -> [f64; 3]
     ensures { result ≡ loop (mass_step cs p) c 0 m }
 {
     let mut t = m;
-    t[0] = mean(cs, t[0], p[0]);
-    if c == 1 {
-        return t;
+    for d in 0..c {
+        t[d] = mean(cs, t[d], p[d]);
     }
-    t[1] = mean(cs, t[1], p[1]);
-    if c == 2 {
-        return t;
-    }
-    t[2] = mean(cs, t[2], p[2]);
     t
 }
 
@@ -56,57 +50,30 @@ fn absorb(v: Node, p: [f64; 3], c: usize) -> Node
     requires { (Axes c) × (v.count < most_word) }
     ensures { result ≡ absorbed c p v }
 {
-    let k = v.count + 1;
-    let cs = k as f64;
-    let centre = v.centre;
-    let half = v.half;
-    let leaf = v.leaf;
-    let old = v.mass;
-    let mass = means(cs, old, p, c);
-    Node {
-        centre,
-        half,
-        mass,
-        count: k,
-        first: v.first,
-        leaf,
-    }
+    let mut w = v;
+    w.count += 1;
+    let mass = means(w.count as f64, v.mass, p, c);
+    w.mass = mass;
+    w
 }
 
 // A leaf that holds point j.
 fn occupy(v: Node, j: u32) -> Node
     ensures { result ≡ occupied j v }
 {
-    let centre = v.centre;
-    let half = v.half;
-    let mass = v.mass;
-    let leaf = Leaf::Occupied(j);
-    Node {
-        centre,
-        half,
-        mass,
-        count: v.count,
-        first: v.first,
-        leaf,
-    }
+    let mut w = v;
+    w.leaf = Some(j);
+    w
 }
 
 // A split node, whose children begin at u.
 fn split(v: Node, u: u32) -> Node
     ensures { result ≡ parent u v }
 {
-    let centre = v.centre;
-    let half = v.half;
-    let mass = v.mass;
-    let leaf = Leaf::Empty;
-    Node {
-        centre,
-        half,
-        mass,
-        count: v.count,
-        first: u,
-        leaf,
-    }
+    let mut w = v;
+    w.first = u;
+    w.leaf = None;
+    w
 }
 
 // Child b of the split node v; the old point o goes down into one of them.
@@ -115,13 +82,10 @@ pub fn child(v: Node, o: u32, q: [f64; 3], b: usize, c: usize) -> Node
     ensures { result ≡ child_of c v o q b }
 {
     let w = cell(v, b, c);
-    let z = v.centre;
-    let k = child_index(z, q, c);
-    if b != k {
+    if b != child_index(v.centre, q, c) {
         return w;
     }
-    let a = absorb(w, q, c);
-    occupy(a, o)
+    occupy(absorb(w, q, c), o)
 }
 
 // Point j goes no further than this node.
@@ -143,8 +107,7 @@ pub fn turn(v: Node, p: [f64; 3], j: u32, c: usize, depth: usize, used: u32) -> 
     ensures { result ≡ turn_of c p j depth used v }
 {
     let a = absorb(v, p, c);
-    let z = v.centre;
-    let k = child_index(z, p, c);
+    let k = child_index(v.centre, p, c);
     if v.first != 0 {
         return Out {
             node: a,
@@ -154,10 +117,8 @@ pub fn turn(v: Node, p: [f64; 3], j: u32, c: usize, depth: usize, used: u32) -> 
             last: false,
         };
     }
-    let l = v.leaf;
-    let Leaf::Occupied(o) = l else {
-        let w = occupy(a, j);
-        return settled(w, j);
+    let Some(o) = v.leaf else {
+        return settled(occupy(a, j), j);
     };
     if depth >= DEEPEST {
         return settled(a, j);

@@ -13,8 +13,8 @@ use Rattle.laws.specs.Loops.{loop}
 use Rattle.laws.proofs.Loops.{loop-same}
 use Rattle.tree_node.specs.declared.Node.{Node}
 use Rattle.tree_bodies.specs.declared.Acc.{Acc}
-use Rattle.tree_node.specs.declared.Leaf.{Leaf}
-use Rattle.tree_node.specs.declared.Leaf.TheVariants.{Empty, Occupied}
+use Rattle.std.specs.declared.option.Option.{Option}
+use Rattle.std.specs.declared.option.Option.TheVariants.{None, Some}
 use Rattle.tree_node.specs.Arena.{node_at}
 use Rattle.tree_bodies.specs.Bodies.{leaf_kind, kind_of, body_of}
 use Rattle.tree_walk.specs.Repel.{walk_of, walked_over, Blocks}
@@ -26,9 +26,9 @@ pick_small : (b : Bool) → (pick b ≡ 0 → ⊥) → (pick b ≡ 1 → ⊥) �
 pick_small true f g = f refl
 pick_small false f g = g refl
 
-leaf-small : (q n : ℕ) (l : Leaf) → (leaf_kind q n l ≡ 0 → ⊥) → (leaf_kind q n l ≡ 1 → ⊥) → ⊥
-leaf-small q n Empty f g = g refl
-leaf-small q n (Occupied o) f g = pick_small (eqb o q && eqb n 1) f g
+leaf-small : (q n : ℕ) (l : Option ℕ) → (leaf_kind q n l ≡ 0 → ⊥) → (leaf_kind q n l ≡ 1 → ⊥) → ⊥
+leaf-small q n None f g = g refl
+leaf-small q n (Some o) f g = pick_small (eqb o q && eqb n 1) f g
 
 -- an opened node has children
 pub opened : (c q : ℕ) (p : List Float) (theta2 : Float) (v : Node) (k : ℕ) → k ≡ kind_of c q p theta2 v → (k ≡ 0 → ⊥) → (k ≡ 1 → ⊥) → v.first ≡ 0 → ⊥

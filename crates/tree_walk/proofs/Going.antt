@@ -8,11 +8,12 @@ use mathlib.Core.Path.{◌≡◌, sym, subst}
 use mathlib.Core.List.{List}
 use Prim.Native.Nat.{ℕ, ◌+◌, ◌-◌, ◌*◌, ◌^◌, ◌<◌, ◌≤◌}
 use native.Mathlib.Omega.{arith}
-use lib.ListN.{length}
+use lib.ListN.{length, get_or}
+use Rattle.std.proofs.lemmas.List.{get_or_default}
 use Rattle.laws.specs.Domain.{most_word}
 use Rattle.tree_node.specs.declared.Cell.{Cell}
 use Rattle.tree_node.specs.Node.{Axes}
-use Rattle.tree_node.specs.Arena.{cell_at, nodes_of}
+use Rattle.tree_node.specs.Arena.{void, cell_at, nodes_of}
 use Rattle.tree_bodies.specs.declared.Acc.{Acc}
 use Rattle.tree_walk.specs.declared.Eye.{Eye}
 use Rattle.tree_walk.specs.declared.Spot.{Spot}
@@ -34,31 +35,35 @@ module _ (levels used : ℕ) (eye : Eye) (ys : List Cell) (low to : ℕ) (acc : 
   pub starts : (st : List ℕ) → length st ≡ 2 * levels → (s : Spot) → s ≡ fresh_spot acc low to 0 → Going levels used eye ys low aim st s
   starts st n s e = subst (Going levels used eye ys low aim st) (sym e) (going_start levels used eye ys low to acc st n req.1)
 
-  -- the cell at which the loop stands, whose number is i
-  module _ (st : List ℕ) (s : Spot) (g : Going levels used eye ys low aim st s) (less : s.at < s.end) (i : ℕ) (ei : i ≡ s.at) where
-    pub inside : i < used
-    inside = subst (λ (j : ℕ). j < used) (sym ei) (going-first levels used eye ys req.4 req.0 g less).1
+  -- the cell at which the loop stands is one of those in use; d is what stands past the arena's end
+  module _ (st : List ℕ) (s : Spot) (g : Going levels used eye ys low aim st s) (less : s.at < s.end) where
+    pub inside : s.at < used
+    inside = (going-first levels used eye ys req.4 req.0 g less).1
 
-    pub asks : (v : Cell) → v ≡ cell_at ys i → (Axes eye.c) × (s.at < s.end) × (s.level ≤ levels) × (v.first + 2 ^ eye.c ≤ most_word)
-    asks v ev = (req.0, less, g.sound.room, subst (λ (w : Cell). w.first + 2 ^ eye.c ≤ most_word) (sym ev) (first_fits used eye ys req.4 req.0 req.3 i inside))
+    module _ (d : Cell) where
+      there : get_or ys s.at d ≡ cell_at ys s.at
+      there = get_or_default ys s.at d void (omega (arith, inside, req.2))
 
-    -- a turn there gave r, and zs on the stack
-    module _ (v : Cell) (ev : v ≡ cell_at ys i) (r : Spot) (zs : List ℕ) (e : TurnLeaves levels eye v st s r zs) where
-      left-there : TurnLeaves levels eye (cell_at ys s.at) st s r zs
-      left-there = subst (λ (j : ℕ). TurnLeaves levels eye (cell_at ys j) st s r zs) ei (subst (λ (w : Cell). TurnLeaves levels eye w st s r zs) ev e)
+      pub asks : (Axes eye.c) × (s.at < s.end) × (s.level ≤ levels) × ((get_or ys s.at d).first + 2 ^ eye.c ≤ most_word)
+      asks = (req.0, less, g.sound.room, rw there (first_fits used eye ys req.4 req.0 req.3 s.at inside))
 
-      pub onward : r.stop ≤ r.deep → Goes levels used eye ys low aim st s r zs
-      onward m = going_next levels used eye ys req.4 req.0 g less left-there.0 left-there.1 (λ l. omega (arith, l, m))
+      -- a turn there gave r, and zs on the stack
+      module _ (r : Spot) (zs : List ℕ) (e : TurnLeaves levels eye (get_or ys s.at d) st s r zs) where
+        left-there : TurnLeaves levels eye (cell_at ys s.at) st s r zs
+        left-there = subst (λ (w : Cell). TurnLeaves levels eye w st s r zs) there e
 
-      deep : r.deep < r.stop → Deep levels used eye ys low aim st s r zs
-      deep l = going-deep levels used eye ys req.4 req.0 g less left-there.0 left-there.1 l
+        pub onward : r.stop ≤ r.deep → Goes levels used eye ys low aim st s r zs
+        onward m = going_next levels used eye ys req.4 req.0 g less left-there.0 left-there.1 (λ l. omega (arith, l, m))
 
-      pub resumes : r.deep < r.stop → (a : Acc) → a ≡ over-cells used eye ys r.deep (r.stop - r.deep) r.acc → (w : Spot)
-          → w ≡ fresh_spot a r.at r.end r.level → Goes levels used eye ys low aim st s w zs
-      resumes l a ea w ew = subst (λ (u : Spot). Goes levels used eye ys low aim st s u zs) (sym ew) ((deep l).onto a ea)
+        deep : r.deep < r.stop → Deep levels used eye ys low aim st s r zs
+        deep l = going-deep levels used eye ys req.4 req.0 g less left-there.0 left-there.1 l
 
-      pub smaller : r.deep < r.stop → used - r.deep < used - low
-      smaller l = omega (arith, (deep l).further, (deep l).within, l)
+        pub resumes : r.deep < r.stop → (a : Acc) → a ≡ over-cells used eye ys r.deep (r.stop - r.deep) r.acc → (w : Spot)
+            → w ≡ fresh_spot a r.at r.end r.level → Goes levels used eye ys low aim st s w zs
+        resumes l a ea w ew = subst (λ (u : Spot). Goes levels used eye ys low aim st s u zs) (sym ew) ((deep l).onto a ea)
 
-      pub again : r.deep < r.stop → WalkNeeds ys used eye r.stop
-      again l = (req.0, (deep l).within, req.2, req.3, req.4)
+        pub smaller : r.deep < r.stop → used - r.deep < used - low
+        smaller l = omega (arith, (deep l).further, (deep l).within, l)
+
+        pub again : r.deep < r.stop → WalkNeeds ys used eye r.stop
+        again l = (req.0, (deep l).within, req.2, req.3, req.4)

@@ -9,10 +9,9 @@ ghost use Rattle.tree_node.specs.Node.{Axes};
 ghost use Rattle.tree_node.specs.Arena.{nodes_of};
 ghost use Rattle.tree_walk.specs.Repel.{Blocks, walked_over, repelled};
 
-use crate::turns::{long_turn, nothing_yet, resumed, short_turn, standing, wide};
+use crate::turns::{resumed, short_turn, standing, turn};
 use tree_bodies::Acc;
 use tree_node::Cell;
-use tree_node::arena::cell_at;
 
 mod turns;
 
@@ -52,14 +51,11 @@ fn deeper(cells: &[Cell], used: usize, eye: Eye, from: u32, to: u32, acc: Acc) -
     let mut stack = [0; 512];
     let mut s = standing(acc, from, to, 0);
     while s.at < s.end {
-        let i = wide(s.at);
-        let v = cell_at(cells, i);
-        let t = long_turn(&mut stack, v, s, eye);
+        let v = cells[s.at as usize];
+        let t = turn(&mut stack, 256, v, s, eye, eye.c);
         if t.deep < t.stop {
-            let b = t.acc;
-            let a = deeper(cells, used, eye, t.deep, t.stop, b);
-            let u = resumed(t, a);
-            s = u;
+            let a = deeper(cells, used, eye, t.deep, t.stop, t.acc);
+            s = resumed(t, a);
         } else {
             s = t;
         }
@@ -75,14 +71,11 @@ fn walk(cells: &[Cell], used: usize, eye: Eye, from: u32, to: u32, acc: Acc) -> 
     let mut stack = [0; 64];
     let mut s = standing(acc, from, to, 0);
     while s.at < s.end {
-        let i = wide(s.at);
-        let v = cell_at(cells, i);
+        let v = cells[s.at as usize];
         let t = short_turn(&mut stack, v, s, eye);
         if t.deep < t.stop {
-            let b = t.acc;
-            let a = deeper(cells, used, eye, t.deep, t.stop, b);
-            let u = resumed(t, a);
-            s = u;
+            let a = deeper(cells, used, eye, t.deep, t.stop, t.acc);
+            s = resumed(t, a);
         } else {
             s = t;
         }
@@ -95,7 +88,6 @@ pub fn repulsive_force(cells: &[Cell], used: usize, eye: Eye) -> Acc
     requires { (Axes eye.c) × (0 < used) × (used ≤ length cells.now) × (used ≤ most_word) × Blocks used eye.c (nodes_of cells.now) }
     ensures { result ≡ repelled used eye.c eye.q eye.p eye.theta2 (nodes_of cells.now) }
 {
-    let acc = nothing_yet();
-    let r = walk(cells, used, eye, 0, 1, acc);
-    r
+    let neg = [0.0; 3];
+    walk(cells, used, eye, 0, 1, Acc { neg, sum: 0.0 })
 }

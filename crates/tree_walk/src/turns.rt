@@ -2,26 +2,11 @@
 ghost use Rattle.std.specs.Prelude.{◌≡◌, ◌+◌, ◌*◌, ◌^◌, ◌<◌, ◌≤◌, length};
 ghost use Rattle.laws.specs.Domain.{most_word};
 ghost use Rattle.tree_node.specs.Node.{Axes};
-ghost use Rattle.tree_walk.specs.Repel.{nothing};
 ghost use Rattle.tree_walk.specs.Turn.{fresh_spot, past_cell, opened_of, pushed_of, turned_of, stacked_of};
 
 use crate::{Eye, Spot};
-use tree_bodies::{Acc, body, kind};
-use tree_node::Cell;
-use tree_node::arena::read_node;
-
-pub(crate) fn wide(x: u32) -> usize
-    ensures { result ≡ x }
-{
-    x as usize
-}
-
-pub(crate) fn nothing_yet() -> Acc
-    ensures { result ≡ nothing }
-{
-    let neg = [0.0, 0.0, 0.0];
-    Acc { neg, sum: 0.0 }
-}
+use tree_bodies::{Acc, Role, body, kind};
+use tree_node::{Cell, Node};
 
 pub(crate) fn standing(acc: Acc, at: u32, end: u32, level: usize) -> Spot
     ensures { result ≡ fresh_spot acc at end level }
@@ -65,86 +50,44 @@ fn opened(stack: &mut [u32], levels: usize, s: Spot, f: u32, e: u32) -> Spot
     ensures { (result ≡ opened_of levels s f e) × (stack.new ≡ pushed_of levels stack.old s) }
 {
     let next = s.at + 1;
-    let a = s.acc;
     let l = s.level;
     if next < s.end {
         if l < levels {
             stack[l] = next;
             stack[l + levels] = s.end;
-            return standing(a, f, e, l + 1);
+            return standing(s.acc, f, e, l + 1);
         }
         return Spot {
-            acc: a,
             at: next,
-            end: s.end,
-            level: l,
             deep: f,
             stop: e,
+            ..s
         };
     }
-    standing(a, f, e, l)
+    standing(s.acc, f, e, l)
 }
 
-// A turn at the cell v, with 32 levels, in two components: their number stands in the code, so that nothing asks for it.
-fn flat_turn(stack: &mut [u32; 64], v: Cell, s: Spot, eye: Eye) -> Spot
-    requires { (eye.c ≡ 2) × (s.at < s.end) × (s.level ≤ 32) × (v.first + 4 ≤ most_word) }
-    ensures { (result ≡ turned_of 32 eye v stack.old s) × (stack.new ≡ stacked_of 32 eye v stack.old s) }
+// A turn at the cell v. It becomes part of each caller, with the levels and the components that stand there.
+#[inline(always)]
+pub(crate) fn turn(stack: &mut [u32], levels: usize, v: Cell, s: Spot, eye: Eye, c: usize) -> Spot
+    requires { (Axes eye.c) × (eye.c ≡ c) × (s.at < s.end) × (s.level ≤ levels) × (v.first + 2 ^ eye.c ≤ most_word) × (length stack.old ≡ 2 * levels) }
+    ensures { (result ≡ turned_of levels eye v stack.old s) × (stack.new ≡ stacked_of levels eye v stack.old s) }
 {
-    let n = read_node(v);
-    let p = eye.p;
-    let a = s.acc;
-    let k = kind(n, eye.q, p, eye.theta2, 2);
-    if k == 0 {
-        return onward(stack, 32, s, a);
+    let n = Node::from(v);
+    match kind(n, eye.q, eye.p, eye.theta2, c) {
+        Role::Nothing => onward(stack, levels, s, s.acc),
+        Role::Body => onward(stack, levels, s, body(n, eye.p, c, s.acc)),
+        Role::Open => opened(stack, levels, s, v.first, v.first + (1 << c)),
     }
-    if k == 1 {
-        let b = body(n, p, 2, a);
-        return onward(stack, 32, s, b);
-    }
-    opened(stack, 32, s, v.first, v.first + 4)
 }
 
-// A turn at the cell v, with 32 levels. The three are apart, so that each has one caller and becomes part of it.
+// A turn with 32 levels. In two components their number stands in the code, so that nothing asks for it.
 pub(crate) fn short_turn(stack: &mut [u32; 64], v: Cell, s: Spot, eye: Eye) -> Spot
     requires { (Axes eye.c) × (s.at < s.end) × (s.level ≤ 32) × (v.first + 2 ^ eye.c ≤ most_word) }
     ensures { (result ≡ turned_of 32 eye v stack.old s) × (stack.new ≡ stacked_of 32 eye v stack.old s) }
 {
     if eye.c == 2 {
-        return flat_turn(stack, v, s, eye);
+        return turn(stack, 32, v, s, eye, 2);
     }
-    let n = read_node(v);
-    let p = eye.p;
-    let a = s.acc;
-    let c = eye.c;
-    let k = kind(n, eye.q, p, eye.theta2, c);
-    if k == 0 {
-        return onward(stack, 32, s, a);
-    }
-    if k == 1 {
-        let b = body(n, p, c, a);
-        return onward(stack, 32, s, b);
-    }
-    let e: u32 = 1 << c;
-    opened(stack, 32, s, v.first, v.first + e)
-}
-
-// The same with 256 levels.
-pub(crate) fn long_turn(stack: &mut [u32; 512], v: Cell, s: Spot, eye: Eye) -> Spot
-    requires { (Axes eye.c) × (s.at < s.end) × (s.level ≤ 256) × (v.first + 2 ^ eye.c ≤ most_word) }
-    ensures { (result ≡ turned_of 256 eye v stack.old s) × (stack.new ≡ stacked_of 256 eye v stack.old s) }
-{
-    let n = read_node(v);
-    let p = eye.p;
-    let a = s.acc;
-    let c = eye.c;
-    let k = kind(n, eye.q, p, eye.theta2, c);
-    if k == 0 {
-        return onward(stack, 256, s, a);
-    }
-    if k == 1 {
-        let b = body(n, p, c, a);
-        return onward(stack, 256, s, b);
-    }
-    let e: u32 = 1 << c;
-    opened(stack, 256, s, v.first, v.first + e)
+    turn(stack, 32, v, s, eye, eye.c)
 }

@@ -12,8 +12,8 @@ use Rattle.laws.specs.Joined.{joined}
 use Rattle.laws.proofs.Bools.{by_bool}
 use Rattle.laws.proofs.Loops.{loop-last, loop-same}
 use Rattle.tree_node.specs.declared.Node.{Node}
-use Rattle.tree_node.specs.declared.Leaf.{Leaf}
-use Rattle.tree_node.specs.declared.Leaf.TheVariants.{Empty, Occupied}
+use Rattle.std.specs.declared.option.Option.{Option}
+use Rattle.std.specs.declared.option.Option.TheVariants.{None, Some}
 use Rattle.tree_node.specs.Arena.{node_at}
 use Rattle.tree_bodies.specs.declared.Acc.{Acc}
 use Rattle.tree_bodies.specs.Bodies.{leaf_kind, kind_of, body_of}
@@ -58,9 +58,9 @@ module _ (c q : ℕ) (p : List Float) (ns : List Node) where
     unfolding kind_of
     kind-leaf i n z = rw (ne_eqb _ _ n, eq-eqb _ _ z)
 
-    leaf-kind : (n : ℕ) (l : Leaf) → leaf_kind q n l ≡ cond (holds_alone q n l) 0 1
-    leaf-kind n Empty = refl
-    leaf-kind n (Occupied o) = refl
+    leaf-kind : (n : ℕ) (l : Option ℕ) → leaf_kind q n l ≡ cond (holds_alone q n l) 0 1
+    leaf-kind n None = refl
+    leaf-kind n (Some o) = refl
 
     leaf_walked : (g i : ℕ) (a : Acc) → ((node_at ns i).count ≡ 0 → ⊥) → (node_at ns i).first ≡ 0 → walk_of (suc g) c q p theta2 ns i a ≡ leaf_adds c q p (node_at ns i) a
     leaf_walked g i a n z =

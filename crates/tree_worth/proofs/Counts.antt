@@ -14,8 +14,8 @@ use Rattle.laws.specs.Domain.{deepest}
 use Rattle.laws.specs.Loops.{loop, every}
 use Rattle.laws.proofs.Bools.{by_bool}
 use Rattle.tree_node.specs.declared.Node.{Node}
-use Rattle.tree_node.specs.declared.Leaf.{Leaf}
-use Rattle.tree_node.specs.declared.Leaf.TheVariants.{Empty, Occupied}
+use Rattle.std.specs.declared.option.Option.{Option}
+use Rattle.std.specs.declared.option.Option.TheVariants.{None, Some}
 use Rattle.tree_node.specs.Node.{point_of}
 use Rattle.tree_node.specs.Arena.{node_at, blank, nameable}
 use Rattle.tree_node.proofs.Told.{nameable-most}
@@ -58,16 +58,16 @@ root-on i r w ns l e a b =
     ]
 
 -- an occupied leaf takes one more
-deep-says : (d n : ℕ) (l : Leaf) (o : ℕ) → l ≡ Occupied o → deepest ≤ d → LeafCounts d (n + 1) l
+deep-says : (d n : ℕ) (l : Option ℕ) (o : ℕ) → l ≡ Some o → deepest ≤ d → LeafCounts d (n + 1) l
 deep-says d n l o e h = rw e (omega arith, λ x. absurd (apart x h))
   where
     apart : d < deepest → deepest ≤ d → ⊥
     apart x h = omega (arith, x, h)
 
-empty-says : (d n : ℕ) (l : Leaf) (j : ℕ) → l ≡ Empty → LeafCounts d n l → LeafCounts d (n + 1) (Occupied j)
+empty-says : (d n : ℕ) (l : Option ℕ) (j : ℕ) → l ≡ None → LeafCounts d n l → LeafCounts d (n + 1) (Some j)
 empty-says d n l j e h = let z : n ≡ 0 = rw e at h in rw z (omega arith, λ _. refl)
 
-pub one-held : (d n : ℕ) (l : Leaf) (o : ℕ) → l ≡ Occupied o → d < deepest → LeafCounts d n l → n ≡ 1
+pub one-held : (d n : ℕ) (l : Option ℕ) (o : ℕ) → l ≡ Some o → d < deepest → LeafCounts d n l → n ≡ 1
 one-held d n l o e lt h = let k : (0 < n) × (d < deepest → n ≡ 1) = rw e at h in k.1 lt
 
 module _ (n c m cap N r : ℕ) (y p : List Float) (j : ℕ) (hj : j < n) (hm : 1 ≤ m) (fit : N ≤ cap) where
@@ -102,7 +102,7 @@ module _ (n c m cap N r : ℕ) (y p : List Float) (j : ℕ) (hj : j < n) (hm : 1
     ends : (w : Node) → w.first ≡ v.first → w.count ≡ v.count + 1 → v.first ≡ 0 → LeafCounts d w.count w.leaf → Settled c r (tree t.used (set t.nodes i w))
     ends w ef ec z s = record { tallied = last-tallied c d i t.used t.nodes k.tallied ok.node whole w ef ec z s; root = root-on i r w t.nodes inside ec k.early k.late }
 
-    split : (o : ℕ) → v.first ≡ 0 → v.leaf ≡ Occupied o → d < deepest → t.used + 2 ^ c ≤ length t.nodes
+    split : (o : ℕ) → v.first ≡ 0 → v.leaf ≡ Some o → d < deepest → t.used + 2 ^ c ≤ length t.nodes
         → Comes c (d + 1) (t.used + child_index c v.centre p) r (levelled y c i (out (parent t.used (absorbed c p v)) (t.used + child_index c v.centre p) (2 ^ c) o false) t)
     unfolding absorbed
     split o z e l space =

@@ -16,7 +16,7 @@ use Rattle.laws.specs.Sums.{sum, bit}
 use Rattle.laws.proofs.Bools.{by_bool}
 use Rattle.laws.proofs.Sums.{sum_same, sum-next, sum-none}
 use Rattle.tree_node.specs.declared.Node.{Node}
-use Rattle.tree_node.specs.declared.Leaf.TheVariants.{Empty, Occupied}
+use Rattle.std.specs.declared.option.Option.TheVariants.{None, Some}
 use Rattle.tree_node.specs.Node.{point_of}
 use Rattle.tree_node.specs.Arena.{leaf_word, node_at, blank, nameable}
 use Rattle.tree_node.proofs.Told.{nameable-most}
@@ -38,7 +38,7 @@ use Rattle.tree_worth.proofs.Routes.{route-same, route-leaf, route-inner, route-
 -- of the first j points
 pub record Lodged (y : List Float) (c j : ℕ) (t : Tree) : Type 0 where
   pub counts : (k : ℕ) → k < t.used → (node_at t.nodes k).first ≡ 0 → (node_at t.nodes k).count ≡ points_of y c t j k
-  pub named : (k o : ℕ) → k < t.used → (node_at t.nodes k).first ≡ 0 → (node_at t.nodes k).leaf ≡ Occupied o → (o < j) × (leaf_in y c t o ≡ k)
+  pub named : (k o : ℕ) → k < t.used → (node_at t.nodes k).first ≡ 0 → (node_at t.nodes k).leaf ≡ Some o → (o < j) × (leaf_in y c t o ≡ k)
 
 bit-yes : (x k : ℕ) → x ≡ k → bit (eqb x k) ≡ 1
 unfolding bit
@@ -82,7 +82,7 @@ module _ (y : List Float) (c j i u : ℕ) (ns : List Node) (h : Lodged y c j (tr
       not-i : (k : ℕ) → (node_at ms k).first ≡ 0 → k ≡ i → ⊥
       not-i k e x = z (ap (λ (y : ℕ). (node_at ns y).first) (sym x) ∙ (sym (first-same k) ∙ e))
 
-  pub last-placed : w.count ≡ (node_at ns i).count + 1 → (node_at ns i).first ≡ 0 → leaf_in y c (tree u ns) j ≡ i → ((o : ℕ) → w.leaf ≡ Occupied o → (o < j + 1) ×
+  pub last-placed : w.count ≡ (node_at ns i).count + 1 → (node_at ns i).first ≡ 0 → leaf_in y c (tree u ns) j ≡ i → ((o : ℕ) → w.leaf ≡ Some o → (o < j + 1) ×
       (leaf_in y c (tree u ns) o ≡ i)) → Lodged y c (j + 1) (tree u ms)
   last-placed ec z at wn = record {
     counts = λ k l e.
@@ -105,13 +105,13 @@ module _ (y : List Float) (c j i u : ℕ) (ns : List Node) (h : Lodged y c j (tr
 
 -- ---- a level that splits its node
 
-word-apart : (o : ℕ) → Empty ≡ Occupied o → ⊥
+word-apart : (o : ℕ) → None ≡ Some o → ⊥
 word-apart o e = let z : 0 ≡ o + 1 = ap leaf_word e in omega (arith, z)
 
-word_same : (o o' : ℕ) → Occupied o ≡ Occupied o' → o' ≡ o
+word_same : (o o' : ℕ) → Some o ≡ Some o' → o' ≡ o
 word_same o o' e = let z : o + 1 ≡ o' + 1 = ap leaf_word e in omega (arith, z)
 
-child-named : (c : ℕ) (v : Node) (o : ℕ) (q : List Float) (b o' : ℕ) → (child_of c v o q b).leaf ≡ Occupied o' → (b ≡ child_index c v.centre q) × (o' ≡ o)
+child-named : (c : ℕ) (v : Node) (o : ℕ) (q : List Float) (b o' : ℕ) → (child_of c v o q b).leaf ≡ Some o' → (b ≡ child_index c v.centre q) × (o' ≡ o)
 unfolding child_of
 child-named c v o q b o' = elim (ℕ_discrete b (child_index c v.centre q)) [
   | yes x ↦ rw (eq-eqb b (child_index c v.centre q) x) (λ e. (x, word_same o o' e))
@@ -119,7 +119,7 @@ child-named c v o q b o' = elim (ℕ_discrete b (child_index c v.centre q)) [
 ]
 
 module _ (y : List Float) (c j d i u : ℕ) (ns : List Node) (h : Lodged y c j (tree u ns)) (k : Tallied c d i (tree u ns)) (li : i < u) (room : u ≤ length ns)
-    (p : List Float) (o : ℕ) (z : (node_at ns i).first ≡ 0) (one : (node_at ns i).count ≡ 1) (space : u + 2 ^ c ≤ length ns) (occ : (node_at ns i).leaf ≡ Occupied o) where
+    (p : List Float) (o : ℕ) (z : (node_at ns i).first ≡ 0) (one : (node_at ns i).count ≡ 1) (space : u + 2 ^ c ≤ length ns) (occ : (node_at ns i).leaf ≡ Some o) where
   abbrev q : List Float
   q = point_of y c o
 
@@ -273,11 +273,11 @@ module _ (n c m cap N r : ℕ) (y : List Float) (j : ℕ) (hj : j < n) (hm : 1 �
         kept : (x : ℕ) → leaf_for u c p (set ns i (absorbed c p v)) x ≡ leaf_for u c p ns x
         kept x = routes-kept y c j i u ns e.placed ok.node whole (absorbed c p v) refl refl p x
 
-    ends : (w : Node) → w.first ≡ v.first → w.centre ≡ v.centre → w.count ≡ v.count + 1 → v.first ≡ 0 → ((o : ℕ) → w.leaf ≡ Occupied o → (o < j + 1) ×
+    ends : (w : Node) → w.first ≡ v.first → w.centre ≡ v.centre → w.count ≡ v.count + 1 → v.first ≡ 0 → ((o : ℕ) → w.leaf ≡ Some o → (o < j + 1) ×
         (leaf_in y c t o ≡ i)) → Lodged y c (j + 1) (tree u (set ns i w))
     ends w ef ez ec z wn = last-placed y c j i u ns e.placed ok.node whole w ef ez ec z (comes-here z) wn
 
-    splits : (o : ℕ) → v.first ≡ 0 → v.leaf ≡ Occupied o → d < deepest → u + 2 ^ c ≤ length ns →
+    splits : (o : ℕ) → v.first ≡ 0 → v.leaf ≡ Some o → d < deepest → u + 2 ^ c ≤ length ns →
         Enters (u + child_index c v.centre p) (levelled y c i (out (parent u (absorbed c p v)) (u + child_index c v.centre p) (2 ^ c) o false) t)
     splits o z q l space =
         let one : v.count ≡ 1 = one-held d v.count v.leaf o q l (says z) in
@@ -337,7 +337,7 @@ module _ (y : List Float) (n c : ℕ) where
       less : (g : ℕ) → g ≡ g - 0
       less g = omega arith
 
-  box-empty : (v : Node) (rest : List Node) → ((node_at (boxed y n c (v ∷ rest)).nodes 0).count ≡ 0) × ((node_at (boxed y n c (v ∷ rest)).nodes 0).leaf ≡ Empty)
+  box-empty : (v : Node) (rest : List Node) → ((node_at (boxed y n c (v ∷ rest)).nodes 0).count ≡ 0) × ((node_at (boxed y n c (v ∷ rest)).nodes 0).leaf ≡ None)
   unfolding box_of
   box-empty v rest = (refl, refl)
 
@@ -354,7 +354,7 @@ module _ (y : List Float) (n c : ℕ) where
       box-count : (k : ℕ) → k < 1 → (node_at (boxed y n c (v ∷ rest)).nodes k).count ≡ 0
       box-count k l = ap (λ (x : ℕ). (node_at (boxed y n c (v ∷ rest)).nodes x).count) (root k l) ∙ (box-empty v rest).0
 
-      box-leaf : (k : ℕ) → k < 1 → (node_at (boxed y n c (v ∷ rest)).nodes k).leaf ≡ Empty
+      box-leaf : (k : ℕ) → k < 1 → (node_at (boxed y n c (v ∷ rest)).nodes k).leaf ≡ None
       box-leaf k l = ap (λ (x : ℕ). (node_at (boxed y n c (v ∷ rest)).nodes x).leaf) (root k l) ∙ (box-empty v rest).1
 
   module _ (before : List Node) (h : 0 < length before) where

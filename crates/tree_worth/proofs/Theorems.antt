@@ -19,8 +19,8 @@ use lib.ListN.{length}
 use lib.Ieee.{Float, binary64, mul}
 use Rattle.laws.specs.Domain.{deepest}
 use Rattle.tree_node.specs.declared.Node.{Node}
-use Rattle.tree_node.specs.declared.Leaf.{Leaf}
-use Rattle.tree_node.specs.declared.Leaf.TheVariants.{Empty, Occupied}
+use Rattle.std.specs.declared.option.Option.{Option}
+use Rattle.std.specs.declared.option.Option.TheVariants.{None, Some}
 use Rattle.tree_node.specs.Node.{point_of}
 use Rattle.tree_node.specs.Arena.{node_at}
 use Rattle.tree_walk.specs.Repel.{repelled, nothing}
@@ -35,13 +35,13 @@ use Rattle.tree_worth.proofs.Angle.{walk-adds}
 use Rattle.tree_worth.proofs.Routes.{route-ends}
 use Rattle.tree_worth.proofs.Points.{Lodged, built-placed}
 
-holds-some : (d n : ℕ) (v : Node) (l : Leaf) → v.leaf ≡ l → v.count ≡ n → LeafCounts d n l → EmptyLeaf v ⊎ HoldsSome v
-holds-some d n v Empty e f h = inl (e, f ∙ h)
-holds-some d n v (Occupied o) e f h = inr (o, e, omega (arith, f, h.0))
+holds-some : (d n : ℕ) (v : Node) (l : Option ℕ) → v.leaf ≡ l → v.count ≡ n → LeafCounts d n l → EmptyLeaf v ⊎ HoldsSome v
+holds-some d n v None e f h = inl (e, f ∙ h)
+holds-some d n v (Some o) e f h = inr (o, e, omega (arith, f, h.0))
 
-holds-one : (d n : ℕ) (v : Node) (l : Leaf) → d < deepest → v.leaf ≡ l → v.count ≡ n → LeafCounts d n l → EmptyLeaf v ⊎ HoldsOne v
-holds-one d n v Empty s e f h = inl (e, f ∙ h)
-holds-one d n v (Occupied o) s e f h = inr (o, e, f ∙ h.1 s)
+holds-one : (d n : ℕ) (v : Node) (l : Option ℕ) → d < deepest → v.leaf ≡ l → v.count ≡ n → LeafCounts d n l → EmptyLeaf v ⊎ HoldsOne v
+holds-one d n v None s e f h = inl (e, f ∙ h)
+holds-one d n v (Some o) s e f h = inr (o, e, f ∙ h.1 s)
 
 -- ---- the theorems
 
@@ -102,7 +102,7 @@ module _ (y : List Float) (n c i : ℕ) (before : List Node) (nodes-some : 0 < l
   pub leaf-counts-points : (k : ℕ) → k < t.used → (node_at t.nodes k).first ≡ 0 → (node_at t.nodes k).count ≡ points_of y c t i k
   leaf-counts-points = worth-placed.counts
 
-  pub leaf-holds-its-point : (k o : ℕ) → k < t.used → (node_at t.nodes k).first ≡ 0 → (node_at t.nodes k).leaf ≡ Occupied o → (o < i) × (leaf_in y c t o ≡ k)
+  pub leaf-holds-its-point : (k o : ℕ) → k < t.used → (node_at t.nodes k).first ≡ 0 → (node_at t.nodes k).leaf ≡ Some o → (o < i) × (leaf_in y c t o ≡ k)
   leaf-holds-its-point = worth-placed.named
 
   pub tree-worth : Worth y c i t

@@ -1,5 +1,5 @@
 -- What the theorems on the tree speak of: a node's depth, its children's counts, the leaves that count a point, the sum over them. Definitions only.
-use Rattle.std.specs.Prelude.{◌≡◌, ◌⊎◌, List, [], ◌∷◌, Bool, true, false, cond, ◌&&◌, ℕ, zero, suc, ◌+◌, ◌^◌, ◌<◌, ◌≤◌, eqb, Float}
+use Rattle.std.specs.Prelude.{◌≡◌, ◌⊎◌, List, [], ◌∷◌, Bool, true, false, cond, ◌&&◌, ℕ, zero, suc, ◌+◌, ◌^◌, ◌<◌, ◌≤◌, eqb, Float, Option, None, Some}
 use Rattle.std.specs.Float.{binary64}
 use Rattle.std.specs.Float.Ieee.{mul}
 use Rattle.laws.specs.Area.{bits, zero64}
@@ -7,8 +7,6 @@ use Rattle.laws.specs.Domain.{deepest}
 use Rattle.laws.specs.Sums.{sum, bit}
 use Rattle.laws.specs.Joined.{joined}
 use Rattle.tree_node.specs.declared.Node.{Node}
-use Rattle.tree_node.specs.declared.Leaf.{Leaf}
-use Rattle.tree_node.specs.declared.Leaf.TheVariants.{Empty, Occupied}
 use Rattle.tree_node.specs.Node.{point_of}
 use Rattle.tree_node.specs.Arena.{node_at}
 use Rattle.tree_children.specs.Children.{child_index}
@@ -40,18 +38,18 @@ IsChild c ns p x = ((node_at ns p).first ≡ 0 → ⊥) × ((node_at ns p).first
 -- ---- what a leaf holds: nothing, and counts none; one point, and counts it; its first point, and counts some
 
 abbrev pub EmptyLeaf : Node → Type 0
-EmptyLeaf v = (v.leaf ≡ Empty) × (v.count ≡ 0)
+EmptyLeaf v = (v.leaf ≡ None) × (v.count ≡ 0)
 
 abbrev pub HoldsOne : Node → Type 0
-HoldsOne v = (o : ℕ) × (v.leaf ≡ Occupied o) × (v.count ≡ 1)
+HoldsOne v = (o : ℕ) × (v.leaf ≡ Some o) × (v.count ≡ 1)
 
 abbrev pub HoldsSome : Node → Type 0
-HoldsSome v = (o : ℕ) × (v.leaf ≡ Occupied o) × (0 < v.count)
+HoldsSome v = (o : ℕ) × (v.leaf ≡ Some o) × (0 < v.count)
 
 -- of a leaf at depth d that counts n, all this together
-abbrev pub LeafCounts : ℕ → ℕ → Leaf → Type 0
-LeafCounts d n Empty = n ≡ 0
-LeafCounts d n (Occupied o) = (0 < n) × (d < deepest → n ≡ 1)
+abbrev pub LeafCounts : ℕ → ℕ → Option ℕ → Type 0
+LeafCounts d n None = n ≡ 0
+LeafCounts d n (Some o) = (0 < n) × (d < deepest → n ≡ 1)
 
 -- ---- the leaves below node i that count a point, depth first, children rising; at most g levels
 
@@ -95,9 +93,9 @@ counts_of ns (x ∷ l) = (node_at ns x).count + counts_of ns l
 -- ---- the sum over leaves
 
 -- a leaf that holds point q and no other
-abbrev pub holds_alone : ℕ → ℕ → Leaf → Bool
-holds_alone q n Empty = false
-holds_alone q n (Occupied o) = eqb o q && eqb n 1
+abbrev pub holds_alone : ℕ → ℕ → Option ℕ → Bool
+holds_alone q n None = false
+holds_alone q n (Some o) = eqb o q && eqb n 1
 
 -- what a leaf adds to the repulsion on point q with coordinates p: itself as one body, unless it holds q alone
 abbrev pub leaf_adds : ℕ → ℕ → List Float → Node → Acc → Acc
@@ -139,7 +137,7 @@ pub record Worth (y : List Float) (c i : ℕ) (t : Tree) : Type 0 where
   -- every point lies in the cell of a used leaf; a leaf counts those of the first i that lie in its cell, and the one that it holds is one of them
   pub point : (j : ℕ) → (leaf_in y c t j < t.used) × ((node_at t.nodes (leaf_in y c t j)).first ≡ 0)
   pub points : (k : ℕ) → k < t.used → (node_at t.nodes k).first ≡ 0 → (node_at t.nodes k).count ≡ points_of y c t i k
-  pub held : (k o : ℕ) → k < t.used → (node_at t.nodes k).first ≡ 0 → (node_at t.nodes k).leaf ≡ Occupied o → (o < i) × (leaf_in y c t o ≡ k)
+  pub held : (k o : ℕ) → k < t.used → (node_at t.nodes k).first ≡ 0 → (node_at t.nodes k).leaf ≡ Some o → (o < i) × (leaf_in y c t o ≡ k)
   -- every used node but the root has one parent, and every used node one depth
   pub parent : (k : ℕ) → 0 < k → k < t.used → (p : ℕ) × (p < t.used) × IsChild c t.nodes p k × ((q : ℕ) → q < t.used → IsChild c t.nodes q k → q ≡ p)
   pub depth : (k : ℕ) → k < t.used → (d : ℕ) × Deep c t.nodes d k × ((e : ℕ) → Deep c t.nodes e k → e ≡ d)

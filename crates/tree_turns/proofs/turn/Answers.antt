@@ -25,12 +25,12 @@ returns-then-v-ne0 c =
 pub returns-in_default : goal.returns-in_default
 unfolding turn_of
 returns-in_default c =
-    simp (c.settled.ensures, eq-eqb _ _ c.if-v-ne0.false, c.in_default.is, c.occupy-w.ensures, c.absorb-a.ensures)
+    simp (c.settled.ensures, eq-eqb _ _ c.if-v-ne0.false, c.in_default.is, c.occupy.ensures, c.absorb-a.ensures)
 
 pub returns-then-depth-ge-DEEPEST : goal.returns-then-depth-ge-DEEPEST
 unfolding turn_of
 returns-then-depth-ge-DEEPEST c =
-    simp (c.settled-then-depth-ge-DEEPEST.ensures, eq-eqb _ _ c.if-v-ne0.false, c.in-Occupied.is, le-leb _ _ c.if-depth-ge-DEEPEST.true, c.absorb-a.ensures)
+    simp (c.settled-then-depth-ge-DEEPEST.ensures, eq-eqb _ _ c.if-v-ne0.false, c.in-Some.is, le-leb _ _ c.if-depth-ge-DEEPEST.true, c.absorb-a.ensures)
 
 pub overflow_add-result-2 : goal.overflow_add-result-2
 overflow_add-result-2 c =
@@ -42,7 +42,7 @@ unfolding turn_of
 returns c =
     simp (
       eq-eqb _ _ c.if-v-ne0.false,
-      c.in-Occupied.is,
+      c.in-Some.is,
       lt-leb _ _ c.if-depth-ge-DEEPEST.false,
       c.split-w.ensures,
       c.absorb-a.ensures,

@@ -9,49 +9,50 @@ use Rattle.tree_walk.proofs.+deeper.Goals as goal
 pub loop-s-init : goal.loop-s-init
 loop-s-init t c = starts 256 c.args.used c.args.eye c.args.cells.now c.args.from c.args.to c.args.acc c.requires _ refl c.standing-s.result c.standing-s.ensures
 
-pub cell_at-v-requires : goal.cell_at-v-requires
-cell_at-v-requires t c =
+pub bounds-cells-s : goal.bounds-cells-s
+bounds-cells-s t c =
     omega (
       arith,
       inside 256 c.args.used c.args.eye c.args.cells.now c.args.from c.args.to c.args.acc c.requires c.loop-s.stack c.loop-s.s c.loop-s.invariant
-          c.loop-s-test.true c.wide-i.result c.wide-i.ensures,
+          c.loop-s-test.true,
     )
 
-pub long_turn-t-requires : goal.long_turn-t-requires
-long_turn-t-requires t c =
-    asks 256 c.args.used c.args.eye c.args.cells.now c.args.from c.args.to c.args.acc c.requires c.loop-s.stack c.loop-s.s c.loop-s.invariant c.loop-s-test.true
-    c.wide-i.result c.wide-i.ensures c.cell_at-v.result c.cell_at-v.ensures
+pub turn-t-requires : goal.turn-t-requires
+turn-t-requires t c =
+    let a = asks 256 c.args.used c.args.eye c.args.cells.now c.args.from c.args.to c.args.acc c.requires c.loop-s.stack c.loop-s.s c.loop-s.invariant c.loop-s-test.true
+    _ in
+    (a.0, refl, a.1, a.2, a.3, omega arith)
 
 pub deeper-a-requires : goal.deeper-a-requires
 deeper-a-requires t c = (
-  subst (λ (m : ℕ). c.args.used - c.long_turn-t.result.deep < m) c.decreases
+  subst (λ (m : ℕ). c.args.used - c.turn-t.result.deep < m) c.decreases
       (smaller 256 c.args.used c.args.eye c.args.cells.now c.args.from c.args.to c.args.acc c.requires c.loop-s.stack c.loop-s.s c.loop-s.invariant c.loop-s-test.true
-      c.wide-i.result c.wide-i.ensures c.cell_at-v.result c.cell_at-v.ensures c.long_turn-t.result c.long_turn-t.new.stack c.long_turn-t.ensures c.if-t.true),
+      _ c.turn-t.result c.turn-t.new.stack c.turn-t.ensures c.if-t.true),
   again 256 c.args.used c.args.eye c.args.cells.now c.args.from c.args.to c.args.acc c.requires c.loop-s.stack c.loop-s.s c.loop-s.invariant c.loop-s-test.true
-      c.wide-i.result c.wide-i.ensures c.cell_at-v.result c.cell_at-v.ensures c.long_turn-t.result c.long_turn-t.new.stack c.long_turn-t.ensures c.if-t.true,
+      _ c.turn-t.result c.turn-t.new.stack c.turn-t.ensures c.if-t.true,
 )
 
 pub loop-s-smaller-then-t : goal.loop-s-smaller-then-t
 loop-s-smaller-then-t t c =
     (resumes 256 c.args.used c.args.eye c.args.cells.now c.args.from c.args.to c.args.acc c.requires c.loop-s.stack c.loop-s.s c.loop-s.invariant c.loop-s-test.true
-    c.wide-i.result c.wide-i.ensures c.cell_at-v.result c.cell_at-v.ensures c.long_turn-t.result c.long_turn-t.new.stack c.long_turn-t.ensures c.if-t.true
-    c.deeper-a.result c.deeper-a.ensures c.resumed-u.result c.resumed-u.ensures).1
+    _ c.turn-t.result c.turn-t.new.stack c.turn-t.ensures c.if-t.true
+    c.deeper-a.result c.deeper-a.ensures c.resumed-s.result c.resumed-s.ensures).1
 
 pub loop-s-preserved-then-t : goal.loop-s-preserved-then-t
 loop-s-preserved-then-t t c =
     (resumes 256 c.args.used c.args.eye c.args.cells.now c.args.from c.args.to c.args.acc c.requires c.loop-s.stack c.loop-s.s c.loop-s.invariant c.loop-s-test.true
-    c.wide-i.result c.wide-i.ensures c.cell_at-v.result c.cell_at-v.ensures c.long_turn-t.result c.long_turn-t.new.stack c.long_turn-t.ensures c.if-t.true
-    c.deeper-a.result c.deeper-a.ensures c.resumed-u.result c.resumed-u.ensures).0
+    _ c.turn-t.result c.turn-t.new.stack c.turn-t.ensures c.if-t.true
+    c.deeper-a.result c.deeper-a.ensures c.resumed-s.result c.resumed-s.ensures).0
 
 pub loop-s-smaller : goal.loop-s-smaller
 loop-s-smaller t c =
     (onward 256 c.args.used c.args.eye c.args.cells.now c.args.from c.args.to c.args.acc c.requires c.loop-s.stack c.loop-s.s c.loop-s.invariant c.loop-s-test.true
-    c.wide-i.result c.wide-i.ensures c.cell_at-v.result c.cell_at-v.ensures c.long_turn-t.result c.long_turn-t.new.stack c.long_turn-t.ensures c.if-t.false).1
+    _ c.turn-t.result c.turn-t.new.stack c.turn-t.ensures c.if-t.false).1
 
 pub loop-s-preserved : goal.loop-s-preserved
 loop-s-preserved t c =
     (onward 256 c.args.used c.args.eye c.args.cells.now c.args.from c.args.to c.args.acc c.requires c.loop-s.stack c.loop-s.s c.loop-s.invariant c.loop-s-test.true
-    c.wide-i.result c.wide-i.ensures c.cell_at-v.result c.cell_at-v.ensures c.long_turn-t.result c.long_turn-t.new.stack c.long_turn-t.ensures c.if-t.false).0
+    _ c.turn-t.result c.turn-t.new.stack c.turn-t.ensures c.if-t.false).0
 
 pub returns : goal.returns
 returns t c = going_done 256 c.args.used c.args.eye c.args.cells.now c.loop-s.invariant c.loop-s-test.false

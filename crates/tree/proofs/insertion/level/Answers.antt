@@ -14,19 +14,20 @@ met-s-requires c = level-met c.args.w c.args.positions.now c.args.cells.now c.re
 pub store-requires : goal.store-requires
 store-requires c =
     level-stores c.args.w c.args.positions.now c.args.cells.now c.requires c.load-v.result c.load-v.ensures c.met-s.result c.met-s.ensures
-    c.node_met-x.result c.node_met-x.ensures
 
 pub subdivide-requires : goal.subdivide-requires
 subdivide-requires c =
     level-splits c.args.w c.args.positions.now c.args.cells.now c.requires c.load-v.result c.load-v.ensures c.met-s.result c.met-s.ensures
-    c.store.new.cells c.node_met-x.result c.store.ensures
+    c.store.new.cells c.store.ensures
 
-pub stepped-r-requires : goal.stepped-r-requires
-stepped-r-requires c =
-    level-steps c.args.w c.args.positions.now c.args.cells.now c.requires c.load-v.result c.load-v.ensures c.met-s.result c.met-s.ensures
-    (length c.args.cells.now) refl (omega arith)
+pub overflow_add-result : goal.overflow_add-result
+overflow_add-result c = record {
+  fits =
+      level-steps c.args.w c.args.positions.now c.args.cells.now c.requires c.load-v.result c.load-v.ensures c.met-s.result c.met-s.ensures
+      (length c.args.cells.now) refl (omega arith);
+}
 
 pub returns : goal.returns
 returns c =
     level-told c.args.w c.args.positions.now c.args.cells.now c.requires c.load-v.result c.load-v.ensures c.met-s.result c.met-s.ensures
-    c.node_met-x.result c.node_met-x.ensures c.store.new.cells c.store.ensures c.subdivide.new.cells c.subdivide.ensures c.stepped-r.result c.stepped-r.ensures
+    c.store.new.cells c.store.ensures c.subdivide.new.cells c.subdivide.ensures

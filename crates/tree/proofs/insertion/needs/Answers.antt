@@ -2,6 +2,7 @@
 use Rattle.laws.proofs.Numbers.{row_in}
 use mathlib.Core.Path.{refl}
 use native.Mathlib.Omega.{arith}
+use borrow.Author.Tests.{not-true, not-false}
 use lib.ListN.{length}
 use Rattle.tree.proofs.Descends.{probes-start, probes-asks, probes-next, probing-asks, probes-in, probes-end}
 use Rattle.tree.proofs.insertion.needs.Goals as goal
@@ -13,33 +14,33 @@ probing-p-requires c = (
   probing-asks c.args.positions.now c.args.used c.args.j c.args.c c.args.cells.now _ refl c.requires.0 (omega arith) c.requires.2,
 )
 
-pub loop-v-init : goal.loop-v-init
-loop-v-init c = probes-start c.args.positions.now c.args.used c.args.j c.args.c c.args.cells.now _ refl c.requires.1 c.probing-p.result c.probing-p.ensures
+pub loop-p-init : goal.loop-p-init
+loop-p-init c = probes-start c.args.positions.now c.args.used c.args.j c.args.c c.args.cells.now _ refl c.requires.1 c.probing-p.result c.probing-p.ensures
 
 pub load-v-requires : goal.load-v-requires
 load-v-requires c =
     probes-in c.args.positions.now c.args.n c.args.used c.args.j c.args.c c.args.cells.now c.requires.2 c.requires.3 c.requires.5
-    c.loop-v.p c.loop-v.invariant c.probes_on.result c.probes_on.ensures c.loop-v-test.true
+    c.loop-p.p c.loop-p.invariant (not-true _ c.loop-p-test.true)
 
-pub probed-x-requires : goal.probed-x-requires
-probed-x-requires c =
+pub probed-p-requires : goal.probed-p-requires
+probed-p-requires c =
     probes-asks c.args.positions.now c.args.n c.args.used c.args.j c.args.c c.args.cells.now c.requires.2 c.requires.3 c.requires.5
-    c.loop-v.p c.loop-v.invariant c.probes_on.result c.probes_on.ensures c.loop-v-test.true c.load-v.result c.load-v.ensures
+    c.loop-p.p c.loop-p.invariant (not-true _ c.loop-p-test.true) c.load-v.result c.load-v.ensures
     c.requires.0 (length c.args.cells.now) refl (omega arith)
 
-pub loop-v-smaller : goal.loop-v-smaller
-loop-v-smaller c =
+pub loop-p-smaller : goal.loop-p-smaller
+loop-p-smaller c =
     (probes-next c.args.positions.now c.args.n c.args.used c.args.j c.args.c c.args.cells.now c.requires.2 c.requires.3 c.requires.5
-    c.loop-v.p c.loop-v.invariant c.probes_on.result c.probes_on.ensures c.loop-v-test.true c.load-v.result c.load-v.ensures
-    c.probed-x.result c.probed-x.ensures).1
+    c.loop-p.p c.loop-p.invariant (not-true _ c.loop-p-test.true) c.load-v.result c.load-v.ensures
+    c.probed-p.result c.probed-p.ensures).1
 
-pub loop-v-preserved : goal.loop-v-preserved
-loop-v-preserved c =
+pub loop-p-preserved : goal.loop-p-preserved
+loop-p-preserved c =
     (probes-next c.args.positions.now c.args.n c.args.used c.args.j c.args.c c.args.cells.now c.requires.2 c.requires.3 c.requires.5
-    c.loop-v.p c.loop-v.invariant c.probes_on.result c.probes_on.ensures c.loop-v-test.true c.load-v.result c.load-v.ensures
-    c.probed-x.result c.probed-x.ensures).0
+    c.loop-p.p c.loop-p.invariant (not-true _ c.loop-p-test.true) c.load-v.result c.load-v.ensures
+    c.probed-p.result c.probed-p.ensures).0
 
 pub returns : goal.returns
 returns c =
     probes-end c.args.positions.now c.args.n c.args.used c.args.j c.args.c c.args.cells.now c.requires.2 c.requires.3 c.requires.5
-    c.loop-v.p c.loop-v.invariant c.probes_on.result c.probes_on.ensures c.loop-v-test.false
+    c.loop-p.p c.loop-p.invariant (not-false _ c.loop-p-test.false)

@@ -3,8 +3,8 @@ use Rattle.tree_node.specs.Arena.{nodes_of}
 use Rattle.tree.proofs.Descends.{Probes, probes_left}
 use Rattle.tree.proofs.insertion.needs.Given as goal
 
-abbrev pub invariant-loop-v : goal.invariant-loop-v
-invariant-loop-v l = Probes l.positions l.used l.j l.c (nodes_of l.cells) l.p
+abbrev pub invariant-loop-p : goal.invariant-loop-p
+invariant-loop-p l = Probes l.positions l.used l.j l.c (nodes_of l.cells) l.p
 
-abbrev pub decreases-loop-v : goal.decreases-loop-v
-decreases-loop-v l = probes_left l.used l.p
+abbrev pub decreases-loop-p : goal.decreases-loop-p
+decreases-loop-p l = probes_left l.used l.p

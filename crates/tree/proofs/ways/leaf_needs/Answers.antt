@@ -10,7 +10,7 @@ returns-in_default c =
 
 pub point-q-requires : goal.point-q-requires
 point-q-requires c =
-    (c.requires.0, c.requires.1 _ c.in-Occupied.is)
+    (c.requires.0, c.requires.1 _ c.in-Some.is)
 
 pub overflow_mul-result : goal.overflow_mul-result
 overflow_mul-result c =
@@ -19,4 +19,4 @@ overflow_mul-result c =
 
 pub returns : goal.returns
 returns c =
-    rw (shl_one c.args.s.c (omega (arith, c.requires.0)), c.splits.ensures.0, c.point-q.ensures, c.in-Occupied.is)
+    rw (shl_one c.args.s.c (omega (arith, c.requires.0)), c.splits.ensures.0, c.point-q.ensures, c.in-Some.is)

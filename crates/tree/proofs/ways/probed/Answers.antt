@@ -6,24 +6,26 @@ use borrow.Author.Tests.{eq-eqb, ne_eqb}
 use native.Mathlib.Omega.{arith}
 use Rattle.tree.proofs.ways.probed.Goals as goal
 
-pub leaf_needs-more-requires : goal.leaf_needs-more-requires
-leaf_needs-more-requires c =
+pub leaf_needs-requires : goal.leaf_needs-requires
+leaf_needs-requires c =
     (c.requires.0, c.requires.2)
 
 pub returns-then-v-eq0 : goal.returns-then-v-eq0
 unfolding probed_of
 returns-then-v-eq0 c =
-    rw (eq-eqb _ _ c.if-v-eq0.true, c.leaf_needs-more.ensures)
+    rw (eq-eqb _ _ c.if-v-eq0.true, c.leaf_needs.ensures)
 
-pub overflow_add-node : goal.overflow_add-node
-overflow_add-node c =
-    rw c.child_index.ensures
-    (omega (
-      arith,
-      child-below c.args.s.c c.args.v.centre c.args.s.p,
-      pow_mono {i = c.args.s.c} {j = 3}
-          c.requires.0.1,
-    ))
+pub overflow_add-result-2 : goal.overflow_add-result-2
+overflow_add-result-2 c =
+    record {
+      fits = rw c.child_index.ensures
+          (omega (
+            arith,
+            child-below c.args.s.c c.args.v.centre c.args.s.p,
+            pow_mono {i = c.args.s.c} {j = 3}
+                c.requires.0.1,
+          ));
+    }
 
 pub returns : goal.returns
 unfolding probed_of

@@ -3,7 +3,6 @@ use Rattle.laws.proofs.Numbers.{row_in}
 use Rattle.laws.proofs.Loops.{loop-start, loop-next, loop-done}
 use Rattle.tree_bounds.specs.Bounds.{span_of}
 use lib.ListN.{length}
-use Prim.Native.Nat.{◌-◌}
 use native.Mathlib.Omega.{arith}
 use Rattle.tree_bounds.proofs.root.span.Goals as goal
 
