@@ -1,5 +1,5 @@
-use mathlib.Core.Path.{◌≡◌, ap, ◌∙◌}
 use native.Mathlib.Omega.{arith}
+use mathlib.Core.Path.{ap}
 use mathlib.Core.Bool.{not}
 use Rattle.laws.proofs.First.{seek-start, seek-next, seek_stop, seek-done}
 use Rattle.run_entry.proofs.first_index.Goals as goal
@@ -18,4 +18,4 @@ loop-i-preserved c =
 
 pub returns : goal.returns
 returns c =
-    let e : c.args.count ≡ c.loop-i.i = omega arith in e ∙ seek-done c.loop-i.invariant c.loop-i-test.false
+    omega (arith, c.loop-i.invariant.within, c.loop-i-test.false, seek-done c.loop-i.invariant c.loop-i-test.false)
