@@ -7,15 +7,17 @@ use crate::areas::{numbers_at, times, values_at};
 use crate::links::linked;
 use crate::pulls::{Case, Next, answer_at, case_at};
 use divergence_sums::barnes_hut_kl;
+use gradient::forces::Lists;
+use gradient_pairs::exact::Map;
 use replay::areas::{plus, same_value};
 
 // Whether all n lists may be followed.
-fn all_linked(weights: &[f64], indices: &[u32], offsets: &[u32], n: usize) -> bool
+fn all_linked(lists: Lists, n: usize) -> bool
     requires { n ≤ 64 }
-    ensures { result ≡ true → AllLinked n weights.now indices.now offsets.now }
+    ensures { result ≡ true → AllLinked n lists.entry.weights.now lists.entry.indices.now lists.entry.offsets.now }
 {
     for i in 0..n {
-        if !linked(weights, indices, offsets, n, i) {
+        if !linked(lists, n, i) {
             return false;
         }
     }
@@ -37,19 +39,20 @@ fn figures_case(list: &[u8], s: Case) -> bool
     let offsets = numbers_at(list, b, n + 1);
     let indices = numbers_at(list, d, s.links);
     let weights = values_at(list, plus(d, s.links), s.links);
-    if !all_linked(&weights, &indices, &offsets, n) {
+    let lists = Lists {
+        weights: &weights,
+        indices: &indices,
+        offsets: &offsets,
+    };
+    if !all_linked(lists, n) {
         return false;
     }
-    let figure = barnes_hut_kl(
-        &positions,
-        &weights,
-        &indices,
-        &offsets,
-        s.exaggeration,
-        s.angle,
+    let map = Map {
+        positions: &positions,
         n,
-        s.c,
-    );
+        c: s.c,
+    };
+    let figure = barnes_hut_kl(map, lists, s.exaggeration, s.angle);
     same_value(figure, list, answer_at(s, m))
 }
 

@@ -41,14 +41,5 @@ pub(crate) fn forces_in(
         forces.old }
 {
     let own = cells;
-    point_forces(
-        &own[..k],
-        used,
-        map,
-        lists,
-        i,
-        exaggeration,
-        angle,
-        forces,
-    );
+    point_forces(&own[..k], used, map, lists, i, exaggeration, angle, forces);
 }

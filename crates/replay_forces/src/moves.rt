@@ -1,10 +1,11 @@
 // Steps before centring: each element's gain, increment and moved position.
-ghost use Rattle.std.specs.Prelude.{◌≡◌, ◌+◌, ◌*◌, ◌<◌, ◌≤◌, length};
+ghost use Rattle.std.specs.Prelude.{◌<◌, ◌≤◌};
+ghost use Rattle.step_passes.specs.Passes.{Fits};
 
 use crate::areas::{times, values_at};
 use replay::areas::{plus, same_value, value_at};
 use replay::word_at;
-use step::{Element, Pace};
+use step::{Areas, Element, Pace};
 
 // Element e is what the list has: from word a on m moved positions, then m increments, then m gains.
 fn same_element(x: Element, list: &[u8], a: usize, m: usize, e: usize) -> bool {
@@ -19,23 +20,12 @@ fn same_element(x: Element, list: &[u8], a: usize, m: usize, e: usize) -> bool {
 }
 
 // Every element of a case whose areas are ready.
-fn same_moves(
-    list: &[u8],
-    a: usize,
-    n: usize,
-    c: usize,
-    m: usize,
-    pace: Pace,
-    forces: &[f64],
-    positions: &[f64],
-    increments: &[f64],
-    gains: &[f64],
-) -> bool
-    requires { (0 < c) × (c ≤ 8) × (m ≡ n * c) × (n * (2 * c + 1) ≤ length forces.now) × (m ≤ length positions.now) × (m ≤ length increments.now) × (m ≤ length gains.now) }
+fn same_moves(list: &[u8], a: usize, areas: Areas) -> bool
+    requires { Fits areas.n areas.c areas.forces.now areas.positions.now areas.increments.now areas.gains.now }
 {
+    let m = areas.n * areas.c;
     for e in 0..m {
-        let x = step::element_at(pace, n, c, forces, positions, increments, gains, e);
-        if !same_element(x, list, a, m, e) {
+        if !same_element(areas.element_at(e), list, a, m, e) {
             return false;
         }
     }
@@ -66,18 +56,16 @@ fn moves_case(list: &[u8], a: usize, n: usize, c: usize) -> bool
     let increments = values_at(list, d, m);
     let gains = values_at(list, plus(d, m), m);
     let e = plus(d, plus(m, m));
-    same_moves(
-        list,
-        e,
+    let areas = Areas {
+        pace,
         n,
         c,
-        m,
-        pace,
-        &forces,
-        &positions,
-        &increments,
-        &gains,
-    )
+        forces: &forces,
+        positions: &positions,
+        increments: &increments,
+        gains: &gains,
+    };
+    same_moves(list, e, areas)
 }
 
 // A size that no case has ends the replay, and counts as wrong.

@@ -8,6 +8,8 @@ use crate::growth::grow;
 use crate::lending::forces_in;
 use crate::links::linked;
 use gradient::element::{gradient_at, normaliser};
+use gradient::forces::Lists;
+use gradient_pairs::exact::Map;
 use replay::areas::{mark, plus, same_area, same_value, value_at};
 use replay::word_at;
 use replay_arena::fine_in;
@@ -36,28 +38,22 @@ fn one_point(
     s: Case,
     used: usize,
     i: usize,
-    positions: &[f64],
-    weights: &[f64],
-    indices: &[u32],
-    offsets: &[u32],
+    map: Map,
+    lists: Lists,
     cells: [Cell; 512],
     forces: &mut [f64],
 ) -> bool
-    requires { (Axes s.c) × (i < s.n) × (s.n ≤ 64) × (s.n * s.c ≤ length positions.now) × (s.n * (2 * s.c + 1) ≤ length forces.old) × Walkable 512 used s.c cells }
+    requires { (Axes map.c) × (i < map.n) × (map.n ≤ 64) × (map.n * map.c ≤ length map.positions.now) × (map.n * (2 * map.c + 1) ≤ length forces.old) × Walkable 512 used map.c cells }
 {
-    if !linked(weights, indices, offsets, s.n as usize, i) {
+    if !linked(lists, map.n, i) {
         return false;
     }
     forces_in(
         cells,
         512,
         used,
-        positions,
-        weights,
-        indices,
-        offsets,
-        s.n as usize,
-        s.c,
+        map,
+        lists,
         i,
         s.exaggeration,
         s.angle,
@@ -70,23 +66,18 @@ fn one_point(
 fn all_points(
     s: Case,
     used: usize,
-    positions: &[f64],
-    weights: &[f64],
-    indices: &[u32],
-    offsets: &[u32],
+    map: Map,
+    lists: Lists,
     cells: [Cell; 512],
     forces: &mut [f64],
 ) -> bool
-    requires { (Axes s.c) × (s.n ≤ 64) × (s.n * s.c ≤ length positions.now) × (s.n * (2 * s.c + 1) ≤ length forces.old) }
+    requires { (Axes map.c) × (map.n ≤ 64) × (map.n * map.c ≤ length map.positions.now) × (map.n * (2 * map.c + 1) ≤ length forces.old) }
 {
-    let n = s.n as usize;
-    if !fine_in(cells, 512, used, n, s.c) {
+    if !fine_in(cells, 512, used, map.n, map.c) {
         return false;
     }
-    for i in 0..n {
-        if !one_point(
-            s, used, i, positions, weights, indices, offsets, cells, forces,
-        ) {
+    for i in 0..map.n {
+        if !one_point(s, used, i, map, lists, cells, forces) {
             return false;
         }
     }
@@ -111,21 +102,17 @@ fn same_gradient(forces: &[f64], n: usize, c: usize, m: usize, list: &[u8], a: u
 }
 
 // The tree of a case, and in it the forces of every point.
-fn forces_of(
-    s: Case,
-    positions: &[f64],
-    weights: &[f64],
-    indices: &[u32],
-    offsets: &[u32],
-    forces: &mut [f64],
-) -> bool
+fn forces_of(s: Case, positions: &[f64], lists: Lists, forces: &mut [f64]) -> bool
     requires { (Axes s.c) × (s.n ≤ 64) × (s.n * s.c ≤ length positions.now) × (s.n * (2 * s.c + 1) ≤ length forces.old) }
 {
     let g = grow(marked(), positions, s.n, s.c);
     let cells = g.cells;
-    all_points(
-        s, g.used, positions, weights, indices, offsets, cells, forces,
-    )
+    let map = Map {
+        positions,
+        n: s.n as usize,
+        c: s.c,
+    };
+    all_points(s, g.used, map, lists, cells, forces)
 }
 
 // The normaliser, which stands at word a, the gradient, and what lies past the forces of n points.
@@ -168,7 +155,12 @@ fn pulls_case(list: &[u8], s: Case) -> bool
     let weights = values_at(list, plus(d, s.links), s.links);
     let mut forces = [0.0; 460];
     mark(&mut forces);
-    if !forces_of(s, &positions, &weights, &indices, &offsets, &mut forces) {
+    let lists = Lists {
+        weights: &weights,
+        indices: &indices,
+        offsets: &offsets,
+    };
+    if !forces_of(s, &positions, lists, &mut forces) {
         return false;
     }
     same_forces(&forces, n, s.c, m, list, answer_at(s, m))

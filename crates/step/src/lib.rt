@@ -10,8 +10,8 @@ ghost use Rattle.step.specs.Step.{step_outcome, finish_of};
 
 use refusal::Refusal;
 pub use step_gains::Element;
-pub use step_passes::{Pace, element_at};
-use step_passes::{calm_centred, sum_moves, take_means, write_moves};
+pub use step_passes::{Areas, Pace};
+use step_passes::{take_means, write_moves};
 
 // The step, centring included; 15 where a new value would be NaN or too large, and then nothing has changed.
 pub fn finish(
@@ -39,17 +39,23 @@ pub fn finish(
         gains.old)
         n c }
 {
-    let m = n * c;
+    let areas = Areas {
+        pace,
+        n,
+        c,
+        forces,
+        positions: &*positions,
+        increments: &*increments,
+        gains: &*gains,
+    };
     let mut sums = [0.0; 8];
-    if !sum_moves(
-        pace, n, c, forces, positions, increments, gains, m, &mut sums,
-    ) {
+    if !areas.sum_moves(&mut sums) {
         return Err(Refusal::Wild);
     }
     take_means(&mut sums, c, n as f64);
-    if !calm_centred(pace, n, c, forces, positions, increments, gains, m, &sums) {
+    if !areas.calm_centred(&sums) {
         return Err(Refusal::Wild);
     }
-    write_moves(pace, n, c, forces, positions, increments, gains, m, &sums);
+    write_moves(pace, n, c, forces, positions, increments, gains, &sums);
     Ok(())
 }

@@ -1,5 +1,5 @@
 -- The areas before a step, each element's new values, and the three passes over them. Definitions only.
-use Rattle.std.specs.Prelude.{List, Bool, ◌&&◌, ℕ, ◌*◌, ◌%◌, pos, set, Float}
+use Rattle.std.specs.Prelude.{List, Bool, ◌&&◌, ℕ, ◌+◌, ◌*◌, ◌%◌, ◌<◌, ◌≤◌, pos, set, length, Float}
 use Rattle.std.specs.Float.{binary64}
 use Rattle.std.specs.Float.Ieee.{of_int, add, sub, div}
 use Rattle.laws.specs.Loops.{loop, every}
@@ -8,6 +8,7 @@ use Rattle.elementary.specs.Limits.{calm}
 use Rattle.gradient.specs.Element.{gradient_of}
 use Rattle.step_gains.specs.declared.Element.{Element}
 use Rattle.step_gains.specs.Gains.{new_of}
+use Rattle.step_passes.specs.declared.Areas.{Areas}
 use Rattle.step_passes.specs.declared.Pace.{Pace}
 
 -- ---- the areas before the step, and an element's new values
@@ -26,6 +27,14 @@ before m r d y v g = record { momentum = m; rate = r; gradients = d; positions =
 -- the same, with the gradients that the forces area F gives
 abbrev pub paced : Pace → ℕ → List Float → List Float → List Float → List Float → Before
 paced p c F y v g = before p.momentum p.rate (gradient_of p.exact F p.z c) y v g
+
+-- the same, of the areas that a step is given
+abbrev pub areas_before : Areas → Before
+areas_before a = paced a.pace a.c a.forces.now a.positions.now a.increments.now a.gains.now
+
+-- there are one to eight components, and the areas are long enough for n frames
+abbrev pub Fits : ℕ → ℕ → List Float → List Float → List Float → List Float → Type 0
+Fits n c F y v g = (0 < c) × (c ≤ 8) × (n * (2 * c + 1) ≤ length F) × (n * c ≤ length y) × (n * c ≤ length v) × (n * c ≤ length g)
 
 unfoldable pub element_at : Before → ℕ → Element
 unfolding new_of

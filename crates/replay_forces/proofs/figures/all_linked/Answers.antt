@@ -22,7 +22,7 @@ pub loop-i-preserved : goal.loop-i-preserved
 loop-i-preserved c = (
   omega (arith, c.loop-i-test.true),
   each_next
-      (λ (j : ℕ). Linked c.args.n c.args.weights.now c.args.indices.now c.args.offsets.now j) c.loop-i.i
+      (λ (j : ℕ). Linked c.args.n c.args.lists.weights.now c.args.lists.indices.now c.args.lists.offsets.now j) c.loop-i.i
       c.loop-i.invariant.1 (c.linked.ensures c.if-not-linked.false),
 )
 

@@ -1,7 +1,7 @@
 use mathlib.Core.Path.{sym, ◌∙◌}
 use Rattle.step_passes.proofs.Laws.{component-in, tested-start, tested-next, tested-no, tested-done}
 use native.Mathlib.Omega.{arith}
-use Rattle.step_passes.proofs.calm_centred.Goals as goal
+use Rattle.step_passes.proofs.Areas.calm_centred.Goals as goal
 
 pub loop-e-init : goal.loop-e-init
 loop-e-init c =
@@ -9,11 +9,11 @@ loop-e-init c =
 
 pub offset_bounds-means-d : goal.offset_bounds-means-d
 offset_bounds-means-d c =
-    record { fits = omega (arith, (component-in c.loop-e.e c.args.c c.requires.0 c.requires.1)) }
+    record { fits = omega (arith, (component-in c.loop-e.e c.args.self.c c.requires.0 c.requires.1)) }
 
 pub bounds-means-d : goal.bounds-means-d
 bounds-means-d c =
-    (component-in c.loop-e.e c.args.c c.requires.0 c.requires.1)
+    (component-in c.loop-e.e c.args.self.c c.requires.0 c.requires.1)
 
 pub returns-then-not-is_calm : goal.returns-then-not-is_calm
 returns-then-not-is_calm c =

@@ -1,6 +1,6 @@
--- `step_passes::element_at` meets its contract: from what its calls promise.
+-- `step_passes::Areas::element_at` meets its contract: from what its calls promise.
 use Rattle.step_passes.specs.Passes.{element_at}
-use Rattle.step_passes.proofs.element_at.Goals as goal
+use Rattle.step_passes.proofs.Areas.element_at.Goals as goal
 
 pub returns : goal.returns
 unfolding element_at
