@@ -4,7 +4,7 @@
 
 ghost use Rattle.std.specs.Prelude.{◌≡◌, ◌≤◌};
 ghost use Rattle.laws.specs.Domain.{most_frames};
-ghost use Rattle.run_plan.specs.Plan.{exaggeration_of, momentum_of, group_of};
+ghost use Rattle.run_plan.specs.Plan.{exaggeration_of, momentum_of, group_of, group_number};
 
 use laws::EARLY_ITERATIONS;
 use run_record::Run;
@@ -28,24 +28,33 @@ pub fn momentum(r: Run) -> f64
     0.8
 }
 
-// Which unit is next: 0 of the tree, 1 of the forces, 2 the finish.
-pub fn group(r: Run) -> u8
+// The units of an iteration, by what they work on.
+#[derive(Clone, Copy, Debug, PartialEq, Eq)]
+pub enum Group {
+    // a point more in the tree, or its box
+    Tree,
+    // the forces on a point
+    Forces,
+    Finish,
+}
+
+// Which unit is next.
+pub fn next_group(r: Run) -> Group
     requires { r.settings.n ≤ most_frames }
-    ensures { result ≡ group_of r }
+    ensures { group_number result ≡ group_of r }
 {
     let s = r.settings;
-    let m = s.method;
-    if is_tree(m) {
+    if is_tree(s.method) {
         if r.phase <= s.n {
-            return 0;
+            return Group::Tree;
         }
         if r.phase <= 2 * s.n {
-            return 1;
+            return Group::Forces;
         }
-        return 2;
+        return Group::Finish;
     }
     if r.phase < 2 * s.n {
-        return 1;
+        return Group::Forces;
     }
-    2
+    Group::Finish
 }

@@ -6,7 +6,6 @@ ghost use Rattle.std.specs.Prelude.{◌≡◌, ◌+◌, ◌-◌, ◌*◌, ◌<�
 ghost use Rattle.laws.specs.Domain.{most_frames};
 ghost use Rattle.tree_node.specs.Arena.{nodes_of};
 ghost use Rattle.run_record.specs.Record.{is_tree, is_ended, advanced_of};
-ghost use Rattle.run_plan.specs.Plan.{group_of};
 ghost use Rattle.run_entry.specs.State.{memory, state};
 ghost use Rattle.run_entry.specs.Entry.{Workable};
 ghost use Rattle.run_finish.specs.declared.Why.TheVariants.{Done, Over};
@@ -17,7 +16,7 @@ ghost use Rattle.run_units.specs.Room.{TreeRoom, ForceRoom, RowRoom};
 use gradient::forces::{Lists, point_forces};
 use gradient_pairs::exact::Map;
 use run_finish::{Turn, Why, finish_unit};
-use run_plan::{exaggeration, group};
+use run_plan::{Group, exaggeration, next_group};
 use run_record::Run;
 use run_record::counters::is_ended;
 use run_record::faults::is_tree;
@@ -202,21 +201,6 @@ fn over(r: Run) -> Turn
     }
 }
 
-// Whether the next unit is one of the tree, or one of the forces.
-fn on_tree(r: Run) -> bool
-    requires { r.settings.n ≤ most_frames }
-    ensures { result ≡ eqb (group_of r) 0 }
-{
-    group(r) == 0
-}
-
-fn on_forces(r: Run) -> bool
-    requires { r.settings.n ≤ most_frames }
-    ensures { result ≡ eqb (group_of r) 1 }
-{
-    group(r) == 1
-}
-
 fn done(r: Run) -> Turn
     ensures { result ≡ turn_as r Done }
 {
@@ -260,22 +244,14 @@ pub fn one_unit(
         forces.old
         cells.old)) }
 {
-    let ended = is_over(r);
-    if ended {
-        let t = over(r);
-        return t;
+    if is_over(r) {
+        return over(r);
     }
-    let tree = on_tree(r);
-    if tree {
-        let t = tree_unit(r, positions, cells);
-        return t;
+    match next_group(r) {
+        Group::Tree => tree_unit(r, positions, cells),
+        Group::Forces => done(force_unit(
+            r, positions, affinities, indices, offsets, cells, forces,
+        )),
+        Group::Finish => finish_unit(r, positions, increments, gains, forces),
     }
-    let force = on_forces(r);
-    if force {
-        let next = force_unit(r, positions, affinities, indices, offsets, cells, forces);
-        let t = done(next);
-        return t;
-    }
-    let t = finish_unit(r, positions, increments, gains, forces);
-    t
 }

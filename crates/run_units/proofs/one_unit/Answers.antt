@@ -1,42 +1,49 @@
 -- `run_units::one_unit` meets its contract: by `over-told`, `tree-told`, `force-told`, `finish-told`.
+use mathlib.Core.Path.{refl, sym}
+use native.Mathlib.Omega.{arith}
+use borrow.Author.Tests.{eq-eqb, ne_eqb}
 use Rattle.run_units.proofs.Lends.{over-told, tree-asks, tree-told, force-asks, force-told, finish-asks, finish-told}
 use Rattle.run_units.proofs.one_unit.Goals as goal
 
-pub returns-then-ended : goal.returns-then-ended
-returns-then-ended c =
+pub returns-then-is_over : goal.returns-then-is_over
+returns-then-is_over c =
     over-told c.args.r c.args.positions.now c.args.increments.now c.args.gains.now c.args.affinities.now c.args.indices.now c.args.offsets.now c.args.forces.now c.args.cells.now
-    c.requires _ c.is_over-ended.ensures c.if-ended.true _ c.over-t.ensures
+    c.requires _ c.is_over.ensures c.if-is_over.true _ c.over.ensures
 
-pub tree_unit-t-requires : goal.tree_unit-t-requires
-tree_unit-t-requires c =
+pub tree_unit-requires : goal.tree_unit-requires
+tree_unit-requires c =
     tree-asks c.args.r c.args.positions.now c.args.increments.now c.args.gains.now c.args.affinities.now c.args.indices.now c.args.offsets.now c.args.forces.now c.args.cells.now
-    c.requires _ c.is_over-ended.ensures c.if-ended.false _ c.on_tree-tree.ensures c.if-tree.true
+    c.requires _ c.is_over.ensures c.if-is_over.false
+    _ (sym (eq-eqb _ 0 (sym c.in-Tree.ensures))) refl
 
-pub returns-then-tree : goal.returns-then-tree
-returns-then-tree c =
+pub returns-in-Tree : goal.returns-in-Tree
+returns-in-Tree c =
     tree-told c.args.r c.args.positions.now c.args.increments.now c.args.gains.now c.args.affinities.now c.args.indices.now c.args.offsets.now c.args.forces.now c.args.cells.now
-    c.requires _ c.is_over-ended.ensures c.if-ended.false _ c.on_tree-tree.ensures c.if-tree.true c.tree_unit-t.result c.tree_unit-t.new.cells c.tree_unit-t.ensures
+    c.requires _ c.is_over.ensures c.if-is_over.false
+    _ (sym (eq-eqb _ 0 (sym c.in-Tree.ensures))) refl c.tree_unit.result c.tree_unit.new.cells c.tree_unit.ensures
 
-pub force_unit-next-requires : goal.force_unit-next-requires
-force_unit-next-requires c =
+pub force_unit-requires : goal.force_unit-requires
+force_unit-requires c =
     force-asks c.args.r c.args.positions.now c.args.increments.now c.args.gains.now c.args.affinities.now c.args.indices.now c.args.offsets.now c.args.forces.now c.args.cells.now
-    c.requires _ c.is_over-ended.ensures c.if-ended.false _ c.on_tree-tree.ensures c.if-tree.false
-    _ c.on_forces-force.ensures c.if-force.true
+    c.requires _ c.is_over.ensures c.if-is_over.false
+    _ (sym (ne_eqb _ 0 (λ e. omega (arith, e, c.in-Forces.ensures)))) refl _ (sym (eq-eqb _ 1 (sym c.in-Forces.ensures))) refl
 
-pub returns-then-force : goal.returns-then-force
-returns-then-force c =
+pub returns-in-Forces : goal.returns-in-Forces
+returns-in-Forces c =
     force-told c.args.r c.args.positions.now c.args.increments.now c.args.gains.now c.args.affinities.now c.args.indices.now c.args.offsets.now c.args.forces.now c.args.cells.now
-    c.requires _ c.is_over-ended.ensures c.if-ended.false _ c.on_tree-tree.ensures c.if-tree.false
-    _ c.on_forces-force.ensures c.if-force.true _ _ c.force_unit-next.ensures _ c.done-t.ensures
+    c.requires _ c.is_over.ensures c.if-is_over.false
+    _ (sym (ne_eqb _ 0 (λ e. omega (arith, e, c.in-Forces.ensures)))) refl _ (sym (eq-eqb _ 1 (sym c.in-Forces.ensures))) refl
+    _ _ c.force_unit.ensures _ c.done.ensures
 
-pub finish_unit-t-requires : goal.finish_unit-t-requires
-finish_unit-t-requires c =
+pub finish_unit-requires : goal.finish_unit-requires
+finish_unit-requires c =
     finish-asks c.args.r c.args.positions.now c.args.increments.now c.args.gains.now c.args.affinities.now c.args.indices.now c.args.offsets.now c.args.forces.now c.args.cells.now
-    c.requires _ c.is_over-ended.ensures c.if-ended.false _ c.on_tree-tree.ensures c.if-tree.false
-    _ c.on_forces-force.ensures c.if-force.false
+    c.requires _ c.is_over.ensures c.if-is_over.false
+    _ (sym (ne_eqb _ 0 (λ e. omega (arith, e, c.in-Finish.ensures)))) refl _ (sym (ne_eqb _ 1 (λ e. omega (arith, e, c.in-Finish.ensures)))) refl
 
-pub returns : goal.returns
-returns c =
+pub returns-in-Finish : goal.returns-in-Finish
+returns-in-Finish c =
     finish-told c.args.r c.args.positions.now c.args.increments.now c.args.gains.now c.args.affinities.now c.args.indices.now c.args.offsets.now c.args.forces.now c.args.cells.now
-    c.requires _ c.is_over-ended.ensures c.if-ended.false _ c.on_tree-tree.ensures c.if-tree.false
-    _ c.on_forces-force.ensures c.if-force.false c.finish_unit-t.result _ _ _ c.finish_unit-t.ensures
+    c.requires _ c.is_over.ensures c.if-is_over.false
+    _ (sym (ne_eqb _ 0 (λ e. omega (arith, e, c.in-Finish.ensures)))) refl _ (sym (ne_eqb _ 1 (λ e. omega (arith, e, c.in-Finish.ensures)))) refl
+    c.finish_unit.result _ _ _ c.finish_unit.ensures

@@ -1,8 +1,8 @@
--- `run_plan::group` meets its contract: from what its calls promise.
+-- `run_plan::next_group` meets its contract: from what its calls promise.
 use mathlib.Core.Path.{sym, ◌∙◌}
 use borrow.Author.Tests.{lt-ltb, le-ltb, le-leb, lt-leb}
 use Rattle.run_plan.specs.Plan.{group_of}
-use Rattle.run_plan.proofs.group.Goals as goal
+use Rattle.run_plan.proofs.next_group.Goals as goal
 
 pub returns-then-r-s : goal.returns-then-r-s
 unfolding group_of
