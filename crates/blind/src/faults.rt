@@ -4,6 +4,7 @@ ghost use Rattle.blind.specs.Faults.{size_fault, table_fine, rows_fit, blind_fau
 
 use elementary::in_domain;
 use laws::{MOST_FEATURES, MOST_FRAMES};
+use refusal::number;
 use run_record::Settings;
 use run_record::faults::{is_positive, late_fault, times};
 
@@ -78,7 +79,7 @@ pub fn blind_fault(
     if !table_fine(table, nf) {
         return 8;
     }
-    let t = late_fault(s);
+    let t = number(late_fault(s));
     if t != 0 {
         return t;
     }

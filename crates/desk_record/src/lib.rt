@@ -10,6 +10,7 @@ ghost use Rattle.desk_record.specs.Records.{lengths_put, host_sizes, said_of};
 
 use laws::DEEPEST;
 use record_words::{run_fine, settings_fine, settings_of};
+use refusal::number;
 use run_record::Settings;
 use run_record::faults::{is_tree, settings_fault, sizes_of};
 
@@ -63,7 +64,7 @@ pub fn host_sizes(settings: &[u64], sizes: &mut [u64]) -> u32
         return 12;
     }
     let s = settings_of(settings);
-    let k = settings_fault(s);
+    let k = number(settings_fault(s));
     if k != 0 {
         return k as u32;
     }

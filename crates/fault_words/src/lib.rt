@@ -8,6 +8,7 @@ ghost use Rattle.fault_words.specs.FaultWords.{fault_word, fault_value, unread_f
 
 use record_words::{run_fine, settings_fine, settings_of};
 use run_entry::{Fault, fault_number};
+use refusal::number;
 use run_record::faults::settings_fault;
 
 pub fn fault_word(f: Fault) -> u64
@@ -49,7 +50,7 @@ pub fn unread_fault(words: &[u64]) -> Fault
         return Fault::Settings(21);
     }
     let s = settings_of(words);
-    let k = settings_fault(s);
+    let k = number(settings_fault(s));
     if k != 0 {
         return Fault::Settings(k);
     }

@@ -89,7 +89,7 @@ fn start_fine(start: &[u64], m: usize) -> bool
 pub fn import_fault(s: Settings, start: &[u64], l: LentLengths) -> u8
     ensures { result ≡ import_fault s start.now l }
 {
-    let k = settings_fault(s);
+    let k = refusal::number(settings_fault(s));
     if k != 0 {
         return k;
     }

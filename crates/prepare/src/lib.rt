@@ -16,6 +16,7 @@ ghost use Rattle.prepare.specs.Prepare.{all_inside, lengths_fit, prepare_fault, 
 use areas::{clear_indices, copy_values, fill};
 use elementary::in_domain;
 use run_entry::areas_fit;
+use refusal::number;
 use run_record::faults::{early_fault, is_tree, late_fault, sizes_of, times};
 use run_record::progress::fresh_run;
 use run_record::{Run, Settings, Sizes};
@@ -84,7 +85,7 @@ fn lengths_fit(s: Settings, l: Lengths) -> bool
 pub fn prepare_fault(s: Settings, table: &[f64], start: &[f64], l: Lengths) -> u8
     ensures { result ≡ prepare_fault s table.now start.now l }
 {
-    let e = early_fault(s);
+    let e = number(early_fault(s));
     if e != 0 {
         return e;
     }
@@ -95,7 +96,7 @@ pub fn prepare_fault(s: Settings, table: &[f64], start: &[f64], l: Lengths) -> u
     if !all_in(table, nf) {
         return 8;
     }
-    let t = late_fault(s);
+    let t = number(late_fault(s));
     if t != 0 {
         return t;
     }

@@ -10,6 +10,7 @@ ghost use Rattle.tree_node.specs.Arena.{nodes_of};
 ghost use Rattle.run_record.specs.Record.{GoodSettings, sizes_of};
 ghost use Rattle.run_entry.specs.Entry.{offset_fine, index_fine, tree_fits, areas_fit, is_fine, fault_number, tree_fault, record_fault, lists_fault, fault_before_tree, asks_tree, fault_at, ContentsRoom};
 
+use refusal::number;
 use run_record::counters::counters_ok;
 use run_record::faults::{is_tree, settings_fault, sizes_of};
 use run_record::{Run, Settings};
@@ -214,7 +215,7 @@ fn record_fault(r: Run) -> Fault
     ensures { result ≡ record_fault r }
 {
     let s = r.settings;
-    let k = settings_fault(s);
+    let k = number(settings_fault(s));
     if k != 0 {
         return Fault::Settings(k);
     }

@@ -1,11 +1,13 @@
-// The tests on settings, by the numbers 1 to 10, and the sizes that go with good ones.
+// The tests on settings, by the refusals 1 to 10, and the sizes that go with good ones.
 ghost use Rattle.std.specs.Prelude.{◌≡◌, ◌*◌, ◌≤◌};
 ghost use Rattle.std.specs.Float.Ieee.{lt};
 ghost use Rattle.laws.specs.Domain.{most_frames};
+ghost use Rattle.refusal.specs.Refusal.{refusal_number, number_told};
 ghost use Rattle.run_record.specs.Record.{positive, angle_fine, above_zero, is_tree, angle_fault, early_fault, late_fault, settings_fault, GoodSettings, k_of, sizes_of};
 
 use crate::{Method, Settings, Sizes};
 use laws::{MOST_AXES, MOST_COMPONENTS, MOST_FEATURES, MOST_FRAMES, MOST_ITERATIONS};
+use refusal::Refusal;
 
 // finite and above 0
 pub fn is_positive(x: f64) -> bool
@@ -47,86 +49,64 @@ pub fn is_tree(m: Method) -> bool
     }
 }
 
-// refusals 1 to 6, and 7 for n or f; 0: none
-pub fn early_fault(s: Settings) -> u8
-    ensures { result ≡ early_fault s }
+// refusals 1 to 6, and 7 for n or f
+pub fn early_fault(s: Settings) -> Result<(), Refusal>
+    ensures { number_told refusal_number result ≡ early_fault s }
 {
-    if s.c == 0 {
-        return 1;
-    }
-    if MOST_COMPONENTS < s.c {
-        return 1;
+    if s.c == 0 || MOST_COMPONENTS < s.c {
+        return Err(Refusal::Components);
     }
     if !is_positive(s.perplexity) {
-        return 2;
+        return Err(Refusal::Perplexity);
     }
     if !is_positive(s.rate) {
-        return 3;
+        return Err(Refusal::Rate);
     }
-    if s.iterations == 0 {
-        return 4;
+    if s.iterations == 0 || MOST_ITERATIONS < s.iterations {
+        return Err(Refusal::Iterations);
     }
-    if MOST_ITERATIONS < s.iterations {
-        return 4;
+    tree_fault(s.method, s.angle, s.c)?;
+    if s.n == 0 || MOST_FRAMES < s.n || s.f == 0 || MOST_FEATURES < s.f {
+        return Err(Refusal::Size);
     }
-    let m = s.method;
-    let tree_fault = tree_fault(m, s.angle, s.c);
-    if tree_fault != 0 {
-        return tree_fault;
-    }
-    if s.n == 0 {
-        return 7;
-    }
-    if MOST_FRAMES < s.n {
-        return 7;
-    }
-    if s.f == 0 {
-        return 7;
-    }
-    if MOST_FEATURES < s.f {
-        return 7;
-    }
-    0
+    Ok(())
 }
 
-// refusals 5 and 6; 0: none
-fn tree_fault(m: Method, a: f64, c: usize) -> u8
-    ensures { result ≡ angle_fault m a c }
+// refusals 5 and 6
+fn tree_fault(m: Method, a: f64, c: usize) -> Result<(), Refusal>
+    ensures { number_told refusal_number result ≡ angle_fault m a c }
 {
     if !is_tree(m) {
-        return 0;
+        return Ok(());
     }
     if !is_inside(a) {
-        return 5;
+        return Err(Refusal::Angle);
     }
     if MOST_AXES < c {
-        return 6;
+        return Err(Refusal::Axes);
     }
-    0
+    Ok(())
 }
 
-// refusals 9 and 10; 0: none
-pub fn late_fault(s: Settings) -> u8
+// refusals 9 and 10
+pub fn late_fault(s: Settings) -> Result<(), Refusal>
     requires { s.n ≤ most_frames }
-    ensures { result ≡ late_fault s }
+    ensures { number_told refusal_number result ≡ late_fault s }
 {
     if s.n == 1 {
-        return 9;
+        return Err(Refusal::Single);
     }
     if is_below(s.perplexity, s.n as f64) {
-        return 0;
+        return Ok(());
     }
-    10
+    Err(Refusal::Crowd)
 }
 
-// the number that 1 to 10 would give to the settings alone; 0: none
-pub fn settings_fault(s: Settings) -> u8
-    ensures { result ≡ settings_fault s }
+// what 1 to 10 would say of the settings alone
+pub fn settings_fault(s: Settings) -> Result<(), Refusal>
+    ensures { number_told refusal_number result ≡ settings_fault s }
 {
-    let e = early_fault(s);
-    if e != 0 {
-        return e;
-    }
+    early_fault(s)?;
     late_fault(s)
 }
 

@@ -99,7 +99,7 @@ pub fn look_ahead(
         return Outlook::Few;
     }
     let t = thinned_settings(s, m);
-    if late_fault(t) != 0 {
+    if refusal::number(late_fault(t)) != 0 {
         return Outlook::Perplexed;
     }
     if is_crowded(s, t, gone, indices, offsets) {

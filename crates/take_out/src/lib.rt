@@ -41,7 +41,7 @@ pub struct Took {
 fn lent_positions(s: Settings, p: usize, t: usize, q: usize) -> usize
     ensures { result ≡ lent_positions s p t q }
 {
-    if settings_fault(s) != 0 {
+    if refusal::number(settings_fault(s)) != 0 {
         return p;
     }
     if t < times(s.n, s.f) {

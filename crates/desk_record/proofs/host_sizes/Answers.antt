@@ -27,13 +27,13 @@ returns-then-k-ne0 c =
       (sym c.settings_fine.ensures ∙ c.if-not-settings_fine.false),
       le-ltb _ _ c.if-sizes-lt7.false,
       ne_eqb _ _
-          (rw (rw c.settings_of-s.ensures at c.settings_fault-k.ensures) at c.if-k-ne0.true),
-      (rw c.settings_of-s.ensures at c.settings_fault-k.ensures),
+          (rw (rw c.settings_of-s.ensures at (c.number-k.ensures ∙ c.settings_fault.ensures)) at c.if-k-ne0.true),
+      (rw c.settings_of-s.ensures at (c.number-k.ensures ∙ c.settings_fault.ensures)),
     )
 
 pub put_sizes-requires : goal.put_sizes-requires
 put_sizes-requires c =
-    (c.if-sizes-lt7.false, settings-fine _ (sym c.settings_fault-k.ensures ∙ c.if-k-ne0.false))
+    (c.if-sizes-lt7.false, settings-fine _ (sym (c.number-k.ensures ∙ c.settings_fault.ensures) ∙ c.if-k-ne0.false))
 
 pub returns : goal.returns
 unfolding host_sizes
@@ -42,7 +42,7 @@ returns c =
       (sym c.settings_fine.ensures ∙ c.if-not-settings_fine.false),
       le-ltb _ _ c.if-sizes-lt7.false,
       eq-eqb _ _
-          (sym (rw c.settings_of-s.ensures at c.settings_fault-k.ensures) ∙ c.if-k-ne0.false),
+          (sym (rw c.settings_of-s.ensures at (c.number-k.ensures ∙ c.settings_fault.ensures)) ∙ c.if-k-ne0.false),
       c.put_sizes.ensures,
       c.settings_of-s.ensures,
     )

@@ -32,9 +32,9 @@ settings_of-s-requires c =
 pub returns-then-k-ne0 : goal.returns-then-k-ne0
 returns-then-k-ne0 c =
     rw (ne_eqb _ 0 c.if-k-ne0.true) at
-    (read-so-far _ c.if-words-lt14.false c.settings_fine.ensures c.if-not-settings_fine.false c.settings_of-s.ensures c.settings_fault-k.ensures)
+    (read-so-far _ c.if-words-lt14.false c.settings_fine.ensures c.if-not-settings_fine.false c.settings_of-s.ensures (c.number-k.ensures ∙ c.settings_fault.ensures))
 
 pub returns : goal.returns
 returns c =
     rw (eq-eqb _ 0 c.if-k-ne0.false) at
-    (read-so-far _ c.if-words-lt14.false c.settings_fine.ensures c.if-not-settings_fine.false c.settings_of-s.ensures c.settings_fault-k.ensures)
+    (read-so-far _ c.if-words-lt14.false c.settings_fine.ensures c.if-not-settings_fine.false c.settings_of-s.ensures (c.number-k.ensures ∙ c.settings_fault.ensures))

@@ -9,56 +9,56 @@ use Rattle.prepare.proofs.prepare_fault.Goals as goal
 pub returns-then-e-ne0 : goal.returns-then-e-ne0
 unfolding prepare_fault
 returns-then-e-ne0 c =
-    rw (ne_eqb _ _ (rw c.early_fault-e.ensures at c.if-e-ne0.true)) c.early_fault-e.ensures
+    rw (ne_eqb _ _ (rw (c.number-e.ensures ∙ c.early_fault.ensures) at c.if-e-ne0.true)) (c.number-e.ensures ∙ c.early_fault.ensures)
 
 pub times-nf-requires : goal.times-nf-requires
 times-nf-requires c =
-    let z = early-most _ (sym c.early_fault-e.ensures ∙ c.if-e-ne0.false) in
+    let z = early-most _ (sym (c.number-e.ensures ∙ c.early_fault.ensures) ∙ c.if-e-ne0.false) in
     (omega arith, omega arith)
 
 pub returns-then-table-nf : goal.returns-then-table-nf
 unfolding prepare_fault
 returns-then-table-nf c =
-    rw ((sym c.early_fault-e.ensures ∙ c.if-e-ne0.false), ne_eqb _ _ (rw c.times-nf.ensures at c.if-table-nf.true))
+    rw ((sym (c.number-e.ensures ∙ c.early_fault.ensures) ∙ c.if-e-ne0.false), ne_eqb _ _ (rw c.times-nf.ensures at c.if-table-nf.true))
 
 pub returns-then-not-all_in : goal.returns-then-not-all_in
 unfolding prepare_fault
 returns-then-not-all_in c =
     rw (
-      (sym c.early_fault-e.ensures ∙ c.if-e-ne0.false),
+      (sym (c.number-e.ensures ∙ c.early_fault.ensures) ∙ c.if-e-ne0.false),
       (eq-eqb _ _ (rw c.times-nf.ensures at c.if-table-nf.false)),
       sym
           (rw c.times-nf.ensures at c.all_in.ensures) ∙ c.if-not-all_in.true,
     )
 
-pub late_fault-t-requires : goal.late_fault-t-requires
-late_fault-t-requires c =
-    (early-most _ (sym c.early_fault-e.ensures ∙ c.if-e-ne0.false)).0
+pub late_fault-requires : goal.late_fault-requires
+late_fault-requires c =
+    (early-most _ (sym (c.number-e.ensures ∙ c.early_fault.ensures) ∙ c.if-e-ne0.false)).0
 
 pub returns-then-t-ne0 : goal.returns-then-t-ne0
 unfolding prepare_fault
 returns-then-t-ne0 c =
     rw (
-      (sym c.early_fault-e.ensures ∙ c.if-e-ne0.false),
+      (sym (c.number-e.ensures ∙ c.early_fault.ensures) ∙ c.if-e-ne0.false),
       (eq-eqb _ _ (rw c.times-nf.ensures at c.if-table-nf.false)),
       (sym (rw c.times-nf.ensures at c.all_in.ensures) ∙ c.if-not-all_in.false),
-      ne_eqb _ _ (rw c.late_fault-t.ensures at c.if-t-ne0.true),
+      ne_eqb _ _ (rw (c.number-t.ensures ∙ c.late_fault.ensures) at c.if-t-ne0.true),
     )
-    c.late_fault-t.ensures
+    (c.number-t.ensures ∙ c.late_fault.ensures)
 
 pub times-nc-requires : goal.times-nc-requires
 times-nc-requires c =
-    let z = early-most _ (sym c.early_fault-e.ensures ∙ c.if-e-ne0.false) in
+    let z = early-most _ (sym (c.number-e.ensures ∙ c.early_fault.ensures) ∙ c.if-e-ne0.false) in
     (omega arith, omega arith)
 
 pub returns-then-start-nc : goal.returns-then-start-nc
 unfolding prepare_fault
 returns-then-start-nc c =
     rw (
-      (sym c.early_fault-e.ensures ∙ c.if-e-ne0.false),
+      (sym (c.number-e.ensures ∙ c.early_fault.ensures) ∙ c.if-e-ne0.false),
       (eq-eqb _ _ (rw c.times-nf.ensures at c.if-table-nf.false)),
       (sym (rw c.times-nf.ensures at c.all_in.ensures) ∙ c.if-not-all_in.false),
-      (sym c.late_fault-t.ensures ∙ c.if-t-ne0.false),
+      (sym (c.number-t.ensures ∙ c.late_fault.ensures) ∙ c.if-t-ne0.false),
       ne_eqb _ _
           (rw c.times-nc.ensures at c.if-start-nc.true),
     )
@@ -67,26 +67,26 @@ pub returns-then-not-all_in-2 : goal.returns-then-not-all_in-2
 unfolding prepare_fault
 returns-then-not-all_in-2 c =
     rw (
-      (sym c.early_fault-e.ensures ∙ c.if-e-ne0.false),
+      (sym (c.number-e.ensures ∙ c.early_fault.ensures) ∙ c.if-e-ne0.false),
       (eq-eqb _ _ (rw c.times-nf.ensures at c.if-table-nf.false)),
       (sym (rw c.times-nf.ensures at c.all_in.ensures) ∙ c.if-not-all_in.false),
-      (sym c.late_fault-t.ensures ∙ c.if-t-ne0.false),
+      (sym (c.number-t.ensures ∙ c.late_fault.ensures) ∙ c.if-t-ne0.false),
       (eq-eqb _ _ (rw c.times-nc.ensures at c.if-start-nc.false)),
       sym (rw c.times-nc.ensures at c.all_in-2.ensures) ∙ c.if-not-all_in-2.true,
     )
 
 pub lengths_fit-requires : goal.lengths_fit-requires
 lengths_fit-requires c =
-    early-late _ (sym c.early_fault-e.ensures ∙ c.if-e-ne0.false) (sym c.late_fault-t.ensures ∙ c.if-t-ne0.false)
+    early-late _ (sym (c.number-e.ensures ∙ c.early_fault.ensures) ∙ c.if-e-ne0.false) (sym (c.number-t.ensures ∙ c.late_fault.ensures) ∙ c.if-t-ne0.false)
 
 pub returns-then-lengths_fit : goal.returns-then-lengths_fit
 unfolding prepare_fault
 returns-then-lengths_fit c =
     rw (
-      (sym c.early_fault-e.ensures ∙ c.if-e-ne0.false),
+      (sym (c.number-e.ensures ∙ c.early_fault.ensures) ∙ c.if-e-ne0.false),
       (eq-eqb _ _ (rw c.times-nf.ensures at c.if-table-nf.false)),
       (sym (rw c.times-nf.ensures at c.all_in.ensures) ∙ c.if-not-all_in.false),
-      (sym c.late_fault-t.ensures ∙ c.if-t-ne0.false),
+      (sym (c.number-t.ensures ∙ c.late_fault.ensures) ∙ c.if-t-ne0.false),
       (eq-eqb _ _ (rw c.times-nc.ensures at c.if-start-nc.false)),
       (sym (rw c.times-nc.ensures at c.all_in-2.ensures) ∙ c.if-not-all_in-2.false),
       sym
@@ -97,10 +97,10 @@ pub returns : goal.returns
 unfolding prepare_fault
 returns c =
     rw (
-      (sym c.early_fault-e.ensures ∙ c.if-e-ne0.false),
+      (sym (c.number-e.ensures ∙ c.early_fault.ensures) ∙ c.if-e-ne0.false),
       (eq-eqb _ _ (rw c.times-nf.ensures at c.if-table-nf.false)),
       (sym (rw c.times-nf.ensures at c.all_in.ensures) ∙ c.if-not-all_in.false),
-      (sym c.late_fault-t.ensures ∙ c.if-t-ne0.false),
+      (sym (c.number-t.ensures ∙ c.late_fault.ensures) ∙ c.if-t-ne0.false),
       (eq-eqb _ _ (rw c.times-nc.ensures at c.if-start-nc.false)),
       (sym (rw c.times-nc.ensures at c.all_in-2.ensures) ∙ c.if-not-all_in-2.false),
       sym

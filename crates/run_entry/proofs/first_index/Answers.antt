@@ -1,3 +1,4 @@
+use native.Mathlib.Omega.{arith}
 use mathlib.Core.Path.{ap}
 use mathlib.Core.Bool.{not}
 use Rattle.laws.proofs.First.{seek-start, seek-next, seek_stop, seek-done}
@@ -17,4 +18,4 @@ loop-i-preserved c =
 
 pub returns : goal.returns
 returns c =
-    seek-done c.loop-i.invariant c.loop-i-test.false
+    omega (arith, c.loop-i.invariant.within, c.loop-i-test.false, seek-done c.loop-i.invariant c.loop-i-test.false)

@@ -31,8 +31,8 @@ returns-then-not-table_fine c =
           (rw c.times-nf.ensures at c.table_fine.ensures) ∙ c.if-not-table_fine.true,
     )
 
-pub late_fault-t-requires : goal.late_fault-t-requires
-late_fault-t-requires c =
+pub late_fault-requires : goal.late_fault-requires
+late_fault-requires c =
     (sizes-pass _ (sym c.size_fault-e.ensures ∙ c.if-e-ne0.false)).n-in.1
 
 pub returns-then-t-ne0 : goal.returns-then-t-ne0
@@ -43,8 +43,8 @@ returns-then-t-ne0 c =
       (eq-eqb _ _ (rw c.times-nf.ensures at c.if-table-nf.false)),
       (sym (rw c.times-nf.ensures at c.table_fine.ensures) ∙ c.if-not-table_fine.false),
       ne_eqb _ _
-          (rw c.late_fault-t.ensures at c.if-t-ne0.true),
-    ) c.late_fault-t.ensures
+          (rw (c.number-t.ensures ∙ c.late_fault.ensures) at c.if-t-ne0.true),
+    ) (c.number-t.ensures ∙ c.late_fault.ensures)
 
 pub returns-then-rows_fit : goal.returns-then-rows_fit
 unfolding blind_fault
@@ -53,7 +53,7 @@ returns-then-rows_fit c =
       (sym c.size_fault-e.ensures ∙ c.if-e-ne0.false),
       (eq-eqb _ _ (rw c.times-nf.ensures at c.if-table-nf.false)),
       (sym (rw c.times-nf.ensures at c.table_fine.ensures) ∙ c.if-not-table_fine.false),
-      (sym c.late_fault-t.ensures ∙ c.if-t-ne0.false),
+      (sym (c.number-t.ensures ∙ c.late_fault.ensures) ∙ c.if-t-ne0.false),
       sym
           c.rows_fit.ensures ∙ c.if-rows_fit.true,
     )
@@ -65,7 +65,7 @@ returns c =
       (sym c.size_fault-e.ensures ∙ c.if-e-ne0.false),
       (eq-eqb _ _ (rw c.times-nf.ensures at c.if-table-nf.false)),
       (sym (rw c.times-nf.ensures at c.table_fine.ensures) ∙ c.if-not-table_fine.false),
-      (sym c.late_fault-t.ensures ∙ c.if-t-ne0.false),
+      (sym (c.number-t.ensures ∙ c.late_fault.ensures) ∙ c.if-t-ne0.false),
       sym
           c.rows_fit.ensures ∙ c.if-rows_fit.false,
     )

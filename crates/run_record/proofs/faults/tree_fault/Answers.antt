@@ -6,38 +6,19 @@ use Rattle.run_record.proofs.faults.tree_fault.Goals as goal
 
 pub returns-then-not-is_tree : goal.returns-then-not-is_tree
 unfolding angle_fault
-returns-then-not-is_tree c =
-    simp (sym c.is_tree.ensures ∙ c.if-not-is_tree.true)
+returns-then-not-is_tree c = simp (sym c.is_tree.ensures ∙ c.if-not-is_tree.true)
 
 pub returns-then-not-is_inside : goal.returns-then-not-is_inside
 unfolding angle_fault
 returns-then-not-is_inside c =
-    let the-if1 = c.if-not-is_tree in
-    let the-is-tree = c.is_tree in
-    simp (sym the-is-tree.ensures ∙ the-if1.false, sym c.is_inside.ensures ∙ c.if-not-is_inside.true)
+    simp (sym c.is_tree.ensures ∙ c.if-not-is_tree.false, sym c.is_inside.ensures ∙ c.if-not-is_inside.true)
 
 pub returns-then-c-gt-MOST_AXES : goal.returns-then-c-gt-MOST_AXES
 unfolding angle_fault
 returns-then-c-gt-MOST_AXES c =
-    let the-is-inside = c.is_inside in
-    let the-if1 = c.if-not-is_tree in
-    let the-is-tree = c.is_tree in
-    simp (
-      sym the-is-tree.ensures ∙ the-if1.false,
-      sym the-is-inside.ensures ∙ c.if-not-is_inside.false,
-      lt-ltb _ _
-          c.if-c-gt-MOST_AXES.true,
-    )
+    simp (sym c.is_tree.ensures ∙ c.if-not-is_tree.false, sym c.is_inside.ensures ∙ c.if-not-is_inside.false, lt-ltb _ _ c.if-c-gt-MOST_AXES.true)
 
 pub returns : goal.returns
 unfolding angle_fault
 returns c =
-    let the-is-inside = c.is_inside in
-    let the-if1 = c.if-not-is_tree in
-    let the-is-tree = c.is_tree in
-    simp (
-      sym the-is-tree.ensures ∙ the-if1.false,
-      sym the-is-inside.ensures ∙ c.if-not-is_inside.false,
-      le-ltb _ _
-          c.if-c-gt-MOST_AXES.false,
-    )
+    simp (sym c.is_tree.ensures ∙ c.if-not-is_tree.false, sym c.is_inside.ensures ∙ c.if-not-is_inside.false, le-ltb _ _ c.if-c-gt-MOST_AXES.false)
