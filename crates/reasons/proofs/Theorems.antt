@@ -12,6 +12,7 @@ use Rattle.laws.proofs.Bools.{by_bool}
 use Rattle.laws.proofs.First.{first_holds, first-before, first-all, first-none, first-at}
 use Rattle.tree_node.specs.declared.Node.{Node}
 use Rattle.tree_node.specs.Arena.{node_at}
+use Rattle.std.specs.declared.result.Result.TheVariants.{Err}
 use Rattle.tree_contents.specs.Contents.{node_fault, point_ok}
 use Rattle.tree.specs.Contents.{contents_of}
 use Rattle.run_record.specs.Record.{is_tree, settings_fault, counters_ok}
@@ -89,10 +90,10 @@ module _ (s : Shown) where
                 unfolding tree_fault_at contents_of
                 used-answer h = tree-answer ∙ rw (ne_eqb s.run.phase 0 i, h)
 
-                node-kind : (n j : ℕ) (v : Node) → tree_fault (node_fault n j v) ≡ BadTree j
+                node-kind : (n j : ℕ) (v : Node) → tree_fault (Err (node_fault n j v)) ≡ BadTree j
                 unfolding node_fault
-                node-kind n j v = by_bool (tree_fault (node_fault n j v) ≡ BadTree j) (ltb n v.count) (λ x. rw x) (λ x. by_bool
-                    (tree_fault (node_fault n j v) ≡ BadTree j) (point_ok n v.leaf) (λ y. rw (x, y)) (λ y. rw (x, y)))
+                node-kind n j v = by_bool (tree_fault (Err (node_fault n j v)) ≡ BadTree j) (ltb n v.count) (λ x. rw x) (λ x. by_bool
+                    (tree_fault (Err (node_fault n j v)) ≡ BadTree j) (point_ok n v.leaf) (λ y. rw (x, y)) (λ y. rw (x, y)))
 
                 node-answer : used_bad s ≡ false → u < s.run.used → found_in s ≡ BadTree u
                 unfolding tree_fault_at contents_of

@@ -16,7 +16,8 @@ use Rattle.tree_node.specs.Arena.{nodes_of}
 use Rattle.tree_node.proofs.Told.{nodes-length}
 use Rattle.tree.specs.Insert.{tree}
 use Rattle.tree.specs.Contents.{contents_of}
-use Rattle.tree_contents.specs.declared.Contents.{Contents}
+use Rattle.std.specs.declared.result.Result.{Result}
+use Rattle.tree_contents.specs.declared.Unsound.{Unsound}
 use Rattle.run_entry.specs.declared.Fault.{Fault}
 use Rattle.run_entry.specs.declared.Fault.TheVariants.{Fine, Settings as BadSettings, Counters, Areas, Offsets, Index, Tree}
 use Rattle.run_entry.specs.Entry.{areas_fit, first_offset, first_index, listed, tree_fault, tree_fault_at, contents_fault, is_fine, record_fault, lists_fault, fault_before_tree, asks_tree, fault_at}
@@ -99,7 +100,7 @@ module _ (r : Run) (p i g a f : ℕ) (xs off : List ℕ) (cs : List Cell) (t : F
   pub early-axes : b ≡ true → Axes r.settings.c
   early-axes y = asked-axes r p i g a f xs off (nodes_of cs) (subst (λ (x : Fault). asks_tree r x ≡ true) early-is (sym eb ∙ y))
 
-  pub early-asked : b ≡ true → (k : Contents) → k ≡ contents_of r.settings.n r.settings.c (tree r.used (nodes_of cs)) → (w : Fault) → w ≡ tree_fault k → w ≡ fault_at r p i g a f xs off (nodes_of cs)
+  pub early-asked : b ≡ true → (k : Result Unit Unsound) → k ≡ contents_of r.settings.n r.settings.c (tree r.used (nodes_of cs)) → (w : Fault) → w ≡ tree_fault k → w ≡ fault_at r p i g a f xs off (nodes_of cs)
   early-asked y k ek w ew = ew ∙ ap tree_fault ek ∙ asked r p i g a f xs off (nodes_of cs) (subst (λ (x : Fault). asks_tree r x ≡ true) early-is (sym eb ∙ y))
 
   pub early-unasked : b ≡ false → t ≡ fault_at r p i g a f xs off (nodes_of cs)

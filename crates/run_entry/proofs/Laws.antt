@@ -18,8 +18,10 @@ use Rattle.tree_node.specs.declared.Node.{Node}
 use Rattle.tree_node.specs.Node.{Axes}
 use Rattle.tree.specs.Insert.{tree}
 use Rattle.tree.specs.Contents.{contents_of, contents_fine as is_sound}
-use Rattle.tree_contents.specs.declared.Contents.{Contents}
-use Rattle.tree_contents.specs.declared.Contents.TheVariants.{Fine as FineTree, Used, Count, Point, Block}
+use Rattle.std.specs.declared.result.Result.{Result}
+use Rattle.std.specs.declared.result.Result.TheVariants.{Ok, Err}
+use Rattle.tree_contents.specs.declared.Unsound.{Unsound}
+use Rattle.tree_contents.specs.declared.Unsound.TheVariants.{Used, Count, Point, Block}
 use Rattle.tree.proofs.Tested.{Sound, sound-fine, fine-sound}
 use Rattle.run_entry.specs.State.{State}
 use Rattle.run_entry.specs.declared.Fault.{Fault}
@@ -159,19 +161,16 @@ module _ (s : Settings) (p i g a x o f nodes : ℕ) where
 
 -- ---- the contents
 
-same-fine : (t : Contents) → is_fine (tree_fault t) ≡ is_sound t
-same-fine FineTree = refl
-same-fine Used = refl
-same-fine (Count i) = refl
-same-fine (Point i) = refl
-same-fine (Block i) = refl
+same-fine : (t : Result Unit Unsound) → is_fine (tree_fault t) ≡ is_sound t
+same-fine (Ok u) = refl
+same-fine (Err Used) = refl
+same-fine (Err (Count i)) = refl
+same-fine (Err (Point i)) = refl
+same-fine (Err (Block i)) = refl
 
-fine-is : (t : Contents) → is_sound t ≡ true → tree_fault t ≡ Fine
-fine-is FineTree e = refl
-fine-is Used e = absurd (true≢false (sym e))
-fine-is (Count i) e = absurd (true≢false (sym e))
-fine-is (Point i) e = absurd (true≢false (sym e))
-fine-is (Block i) e = absurd (true≢false (sym e))
+fine-is : (t : Result Unit Unsound) → is_sound t ≡ true → tree_fault t ≡ Fine
+fine-is (Ok u) e = refl
+fine-is (Err f) e = absurd (true≢false (sym e))
 
 module _ (r : Run) (xs off : List ℕ) (ns : List Node) where
   tree-fine-at : is_fine (tree_fault_at r ns) ≡ true → (r.phase ≡ 0 → ⊥) → GoodTree r.settings.n r ns

@@ -1,5 +1,5 @@
 -- The entry tests of a work call: the record, the areas, the contents; and a state in good order. Definitions only.
-use Rattle.std.specs.Prelude.{List, ◌≡◌, Bool, true, false, cond, not, ◌&&◌, ℕ, ◌+◌, ◌-◌, ◌*◌, ◌<◌, ◌≤◌, eqb, ltb, leb, length}
+use Rattle.std.specs.Prelude.{List, ◌≡◌, Bool, true, false, cond, not, ◌&&◌, ℕ, ◌+◌, ◌-◌, ◌*◌, ◌<◌, ◌≤◌, eqb, ltb, leb, length, Result, Ok, Err}
 use Rattle.laws.specs.Loops.{first}
 use Rattle.laws.specs.Area.{num}
 use Rattle.run_record.specs.declared.Settings.{Settings}
@@ -9,8 +9,8 @@ use Rattle.tree_node.specs.declared.Node.{Node}
 use Rattle.tree_node.specs.Arena.{nameable}
 use Rattle.tree.specs.Insert.{tree, tree_ok}
 use Rattle.tree.specs.Contents.{contents_of}
-use Rattle.tree_contents.specs.declared.Contents.{Contents}
-use Rattle.tree_contents.specs.declared.Contents.TheVariants.{Fine as FineTree, Used, Count, Point, Block}
+use Rattle.tree_contents.specs.declared.Unsound.{Unsound}
+use Rattle.tree_contents.specs.declared.Unsound.TheVariants.{Used, Count, Point, Block}
 use Rattle.run_entry.specs.State.{State}
 use Rattle.run_entry.specs.declared.Fault.{Fault}
 use Rattle.run_entry.specs.declared.Fault.TheVariants.{Fine, Settings as BadSettings, Counters, Areas, Offsets, Index, Tree}
@@ -49,12 +49,12 @@ abbrev pub first_index : Settings → List ℕ → List ℕ → ℕ
 first_index s xs off = first (λ i. not (index_fine xs s.n i)) (listed s off)
 
 -- a faulty tree by its lowest faulty node; 0 where the number in use is bad
-abbrev pub tree_fault : Contents → Fault
-tree_fault FineTree = Fine
-tree_fault Used = Tree 0
-tree_fault (Count i) = Tree i
-tree_fault (Point i) = Tree i
-tree_fault (Block i) = Tree i
+abbrev pub tree_fault : Result Unit Unsound → Fault
+tree_fault (Ok u) = Fine
+tree_fault (Err Used) = Tree 0
+tree_fault (Err (Count i)) = Tree i
+tree_fault (Err (Point i)) = Tree i
+tree_fault (Err (Block i)) = Tree i
 
 -- between an iteration's box and its finish the nodes in use are tested
 unfoldable pub tree_fault_at : Run → List Node → Fault

@@ -14,7 +14,7 @@ use refusal::number;
 use run_record::counters::counters_ok;
 use run_record::faults::{is_tree, settings_fault, sizes_of};
 use run_record::{Run, Settings};
-use tree::Contents;
+use tree::Unsound;
 use tree::wellformed::tree_ok;
 use tree_node::Cell;
 
@@ -168,15 +168,13 @@ pub fn areas_fit(
     z.square <= a
 }
 
-fn tree_fault(t: Contents) -> Fault
+fn tree_fault(t: Result<(), Unsound>) -> Fault
     ensures { result ≡ tree_fault t }
 {
     match t {
-        Contents::Fine => Fault::Fine,
-        Contents::Used => Fault::Tree(0),
-        Contents::Count(i) => Fault::Tree(i),
-        Contents::Point(i) => Fault::Tree(i),
-        Contents::Block(i) => Fault::Tree(i),
+        Ok(()) => Fault::Fine,
+        Err(Unsound::Used) => Fault::Tree(0),
+        Err(Unsound::Count(i) | Unsound::Point(i) | Unsound::Block(i)) => Fault::Tree(i),
     }
 }
 
