@@ -15,7 +15,7 @@ use elementary::in_domain;
 use elementary::words::value_of;
 use partner::{first_bad_link, given_links};
 use partner_load::{load_indices, load_offsets, load_weights};
-use run_entry::areas_fit;
+use run_entry::{Lengths, areas_fit};
 use run_record::faults::{settings_fault, sizes_of, times};
 use run_record::progress::fresh_run;
 use run_record::{Method, Run, Settings, Sizes};
@@ -100,17 +100,14 @@ pub fn import_fault(s: Settings, start: &[u64], l: LentLengths) -> u8
     if !start_fine(start, m) {
         return 11;
     }
-    if areas_fit(
-        s,
-        l.positions,
-        l.increments,
-        l.gains,
-        l.affinities,
-        l.indices,
-        l.offsets,
-        l.forces,
-        l.nodes,
-    ) {
+    let areas = Lengths {
+        positions: l.positions,
+        increments: l.increments,
+        gains: l.gains,
+        affinities: l.affinities,
+        forces: l.forces,
+    };
+    if areas_fit(s, areas, l.indices, l.offsets, l.nodes) {
         return 0;
     }
     12

@@ -1,10 +1,5 @@
-<<<<<<< HEAD
 use native.Mathlib.Omega.{arith}
 use mathlib.Core.Path.{ap}
-=======
-use mathlib.Core.Path.{◌≡◌, ap, ◌∙◌}
-use native.Mathlib.Omega.{arith}
->>>>>>> 679fe86c
 use mathlib.Core.Bool.{not}
 use Rattle.laws.proofs.First.{seek-start, seek-next, seek_stop, seek-done}
 use Rattle.run_entry.proofs.first_index.Goals as goal
@@ -23,8 +18,4 @@ loop-i-preserved c =
 
 pub returns : goal.returns
 returns c =
-<<<<<<< HEAD
     omega (arith, c.loop-i.invariant.within, c.loop-i-test.false, seek-done c.loop-i.invariant c.loop-i-test.false)
-=======
-    let e : c.args.count ≡ c.loop-i.i = omega arith in e ∙ seek-done c.loop-i.invariant c.loop-i-test.false
->>>>>>> 679fe86c
