@@ -210,7 +210,7 @@ pub fn number(a: Taken) -> u8
     ensures { result ≡ take_number a }
 {
     match a {
-        Taken::Told(v) => take_left::number(v),
+        Taken::Told(v) => refusal::number(v),
         Taken::Bad(f) => f.number(),
     }
 }

@@ -3,6 +3,7 @@ use Rattle.take_out.proofs.Tested.{tested-bad, tested-told, tested-done, tested-
 use Rattle.take_out.specs.TakeOut.{holdings}
 use Rattle.run_entry.specs.Entry.{is_fine}
 use mathlib.Core.Path.{refl, sym, ◌∙◌, ap}
+use mathlib.Core.Bool.{not}
 use native.Mathlib.Omega.{arith}
 use Rattle.take_out.proofs.take_tested.Goals as goal
 
@@ -31,7 +32,7 @@ returns-then-is_err c =
     tested-told c.args.f c.args.r c.args.gone.now
     (holdings c.args.positions.now c.args.increments.now c.args.gains.now c.args.affinities.now
     c.args.indices.now c.args.offsets.now c.args.forces.now c.args.table.now c.args.old.now)
-    (ap is_fine c.in_default.is) _ c.look_ahead-v.ensures (sym c.is_accepted.ensures ∙ c.if-not-is_accepted.true)
+    (ap is_fine c.in_default.is) _ c.look_ahead-v.ensures (c.is_err.ensures.negation ∙ ap not c.if-is_err.true)
 
 pub overflow_sub-s : goal.overflow_sub-s
 overflow_sub-s c =
@@ -54,7 +55,7 @@ pack_run-requires c =
     tested-room c.args.r c.args.gone.now
     (holdings c.args.positions.now c.args.increments.now c.args.gains.now c.args.affinities.now
     c.args.indices.now c.args.offsets.now c.args.forces.now c.args.table.now c.args.old.now)
-    c.look_ahead-v.ensures (sym c.is_accepted.ensures ∙ c.if-not-is_accepted.false)
+    c.look_ahead-v.ensures (c.is_err.ensures.negation ∙ ap not c.if-is_err.false)
     (c.requires (ap is_fine c.in_default.is))
 
 pub shape_of-positions : goal.shape_of-positions
@@ -98,5 +99,5 @@ returns c =
     tested-done c.args.f c.args.r c.args.gone.now
     (holdings c.args.positions.now c.args.increments.now c.args.gains.now c.args.affinities.now
     c.args.indices.now c.args.offsets.now c.args.forces.now c.args.table.now c.args.old.now)
-    (ap is_fine c.in_default.is) _ c.look_ahead-v.ensures (sym c.is_accepted.ensures ∙ c.if-not-is_accepted.false) _ _
+    (ap is_fine c.in_default.is) _ c.look_ahead-v.ensures (c.is_err.ensures.negation ∙ ap not c.if-is_err.false) _ _
     c.thinned_run-run.ensures c.pack_run.ensures
