@@ -6,8 +6,7 @@ use lib.ListN.{length, set}
 use borrow.Author.Tests.{eq-eqb, ne_eqb}
 use Rattle.run_entry.specs.State.{Memory}
 use Rattle.record_words.specs.RecordWords.{Worded, worded}
-use Rattle.hand_out.specs.declared.Handed.{Handed}
-use Rattle.hand_out.specs.HandOut.{Handing, handing, handed_out, hand_number}
+use Rattle.hand_out.specs.HandOut.{Handed, Handing, handing, handed_out, hand_number}
 use Rattle.desk_strip.specs.HostStrip.{hand_told, host_handed, handing_told, host_strip}
 
 module _ (w : List ℕ) (m : Memory) (o g a : List ℕ) where

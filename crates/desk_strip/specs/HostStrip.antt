@@ -1,19 +1,22 @@
 -- Handing out the frames of an ended strip run, with record and answer as plain words. Definitions only.
 -- a are the answer's words: word 0 tells the frames, or, refused, the place that comes with the number, 0 where none does.
-use Rattle.std.specs.Prelude.{List, cond, ℕ, eqb, length, set}
+use Rattle.std.specs.Prelude.{List, cond, ℕ, eqb, length, set, Ok, Err}
 use Rattle.run_entry.specs.State.{Memory}
 use Rattle.fault_words.specs.FaultWords.{fault_value}
-use Rattle.hand_out.specs.declared.Handed.{Handed}
-use Rattle.hand_out.specs.declared.Handed.TheVariants.{Done, Outside, Early, Barred, Short, Bad}
-use Rattle.hand_out.specs.HandOut.{Handing, handed_out, hand_number}
+use Rattle.hand_out.specs.declared.HandFault.{HandFault}
+use Rattle.hand_out.specs.declared.HandFault.TheVariants.{Outside, Early, Barred, Short, Bad}
+use Rattle.hand_out.specs.HandOut.{Handed, Handing, handed_out, hand_number}
+
+unfoldable pub place_told : HandFault → ℕ
+place_told Outside = 0
+place_told Early = 0
+place_told Barred = 0
+place_told Short = 0
+place_told (Bad f) = fault_value f
 
 unfoldable pub hand_told : Handed → ℕ
-hand_told (Done n) = n
-hand_told Outside = 0
-hand_told Early = 0
-hand_told Barred = 0
-hand_told Short = 0
-hand_told (Bad f) = fault_value f
+hand_told (Ok n) = n
+hand_told (Err e) = place_told e
 
 -- the number, and order, gaps and answer as they are left
 pub record HostHanded : Type 0 where

@@ -6,32 +6,41 @@ ghost use Rattle.std.specs.Prelude.{◌≡◌, ◌≤◌, length, set};
 ghost use Rattle.run_entry.specs.State.{memory};
 ghost use Rattle.record_words.specs.RecordWords.{worded};
 ghost use Rattle.hand_out.specs.HandOut.{hand_number};
-ghost use Rattle.desk_strip.specs.HostStrip.{hand_told, host_handed, host_strip};
+ghost use Rattle.desk_strip.specs.HostStrip.{place_told, hand_told, host_handed, host_strip};
 
 use fault_words::fault_value;
-use hand_out::{Handed, hand_out};
+use hand_out::{HandFault, hand_out};
 use tree_node::Cell;
 
-fn hand_told(h: Handed) -> u64
+// The place that comes with a refusal, 0 where none does.
+fn place_told(e: HandFault) -> u64
+    ensures { result ≡ place_told e }
+{
+    match e {
+        HandFault::Outside => 0,
+        HandFault::Early => 0,
+        HandFault::Barred => 0,
+        HandFault::Short => 0,
+        HandFault::Bad(f) => fault_value(f),
+    }
+}
+
+fn hand_told(h: Result<usize, HandFault>) -> u64
     ensures { result ≡ hand_told h }
 {
     match h {
-        Handed::Done(n) => n as u64,
-        Handed::Outside => 0,
-        Handed::Early => 0,
-        Handed::Barred => 0,
-        Handed::Short => 0,
-        Handed::Bad(f) => fault_value(f),
+        Ok(n) => n as u64,
+        Err(e) => place_told(e),
     }
 }
 
 // Tells the frames, or the place that comes with the refusal. Answers the number.
-fn put_handed(answer: &mut [u64], h: Handed) -> u32
+fn put_handed(answer: &mut [u64], h: Result<usize, HandFault>) -> u32
     requires { 1 ≤ length answer.old }
     ensures { worded result answer.new ≡ worded (hand_number h) (set answer.old 0 (hand_told h)) }
 {
     answer[0] = hand_told(h);
-    hand_out::number(h) as u32
+    refusal::number(h) as u32
 }
 
 // Hands out the frames along the line. Answers 0, or the number of the refusal; then order and gaps are not changed.

@@ -1,24 +1,18 @@
 -- Frames taken out, with record and answer as plain words. Definitions only.
 -- w are the record's words, a the answer's: word 0 tells how many are left, or, refused, the place that comes with the number, 0 where none does.
-use Rattle.std.specs.Prelude.{List, cond, ℕ, length, set}
+use Rattle.std.specs.Prelude.{List, cond, ℕ, length, set, Ok, Err}
 use Rattle.run_record.specs.declared.Run.{Run}
 use Rattle.tree_node.specs.declared.Node.{Node}
 use Rattle.record_words.specs.RecordWords.{run_of, Worded}
 use Rattle.fault_words.specs.FaultWords.{fault_value, unfit, unfit_told}
-use Rattle.take_left.specs.declared.Outlook.{Outlook}
-use Rattle.take_left.specs.declared.Outlook.TheVariants.{Left, Inside, Unordered, Few, Perplexed, Crowded, Barred}
+use Rattle.take_left.specs.Outlook.{Outlook}
 use Rattle.take_out.specs.declared.Taken.{Taken}
 use Rattle.take_out.specs.declared.Taken.TheVariants.{Told, Bad}
 use Rattle.take_out.specs.TakeOut.{Holdings, TookOut, take_out, take_number}
 
 abbrev pub left_told : Outlook → ℕ
-left_told (Left m) = m
-left_told Inside = 0
-left_told Unordered = 0
-left_told Few = 0
-left_told Perplexed = 0
-left_told Crowded = 0
-left_told Barred = 0
+left_told (Ok m) = m
+left_told (Err d) = 0
 
 unfoldable pub taken_told : Taken → ℕ
 taken_told (Told v) = left_told v

@@ -11,21 +11,16 @@ ghost use Rattle.desk_take.specs.HostTake.{left_told, taken_told, size_put, host
 use fault_words::{fault_value, is_unfit, put_unfit};
 use record_words::run_of;
 use run_record::Run;
-use take_left::Outlook;
+use take_left::Denial;
 use take_out::{Taken, take_out};
 use tree_node::Cell;
 
-fn left_told(v: Outlook) -> u64
+fn left_told(v: Result<usize, Denial>) -> u64
     ensures { result ≡ left_told v }
 {
     match v {
-        Outlook::Left(m) => m as u64,
-        Outlook::Inside => 0,
-        Outlook::Unordered => 0,
-        Outlook::Few => 0,
-        Outlook::Perplexed => 0,
-        Outlook::Crowded => 0,
-        Outlook::Barred => 0,
+        Ok(m) => m as u64,
+        Err(_) => 0,
     }
 }
 

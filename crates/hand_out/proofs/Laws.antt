@@ -1,5 +1,5 @@
 -- What the entry tests show of a run that is handed out, what is answered in each case, and what the call cites. Assumes nothing.
-use Rattle.std.specs.Prelude.{Err}
+use Rattle.std.specs.Prelude.{Ok, Err}
 use mathlib.Core.List.{List}
 use mathlib.Core.Path.{◌≡◌, sym, ap, subst, ◌∙◌}
 use mathlib.Core.Bool.{true, false}
@@ -28,9 +28,8 @@ use Rattle.words_entry.proofs.Laws.{words-fine}
 use Rattle.strip_order.specs.Strip.{strip_order, strip_gaps, AllCalm, NamesAll}
 use Rattle.strip_order.proofs.Places.{order-all}
 use Rattle.strip_profile.specs.Profile.{in_profile}
-use Rattle.hand_out.specs.declared.Handed.{Handed}
-use Rattle.hand_out.specs.declared.Handed.TheVariants.{Done, Outside, Early, Barred, Short, Bad}
-use Rattle.hand_out.specs.HandOut.{calm_along, handing, along_line, hand_tested, hand_fault, handed_out, HandRoom}
+use Rattle.hand_out.specs.declared.HandFault.TheVariants.{Outside, Early, Barred, Short, Bad}
+use Rattle.hand_out.specs.HandOut.{Handed, calm_along, handing, along_line, hand_tested, hand_fault, handed_out, HandRoom}
 
 -- ---- positions that 15 does not bar
 
@@ -42,38 +41,38 @@ all-calm y n e = record { each-calm = every-at (λ i. calm (at y i)) n e }
 pub order-fine : (y : List Float) (n : ℕ) (o : List ℕ) {o' : List ℕ} → calm_along y n ≡ true → n ≤ length o → o' ≡ strip_order y n o → NamesAll o' n
 order-fine y n o e h q = subst (λ (x : List ℕ). NamesAll x n) (sym q) (order-all y n (all-calm y n e) o h)
 
-pub along-told : (y : List Float) (n : ℕ) (o g : List ℕ) {o' g' : List ℕ} → o' ≡ strip_order y n o → g' ≡ strip_gaps y o' n g → handing (Done n) o' g' ≡ along_line y n o g
+pub along-told : (y : List Float) (n : ℕ) (o g : List ℕ) {o' g' : List ℕ} → o' ≡ strip_order y n o → g' ≡ strip_gaps y o' n g → handing (Ok n) o' g' ≡ along_line y n o g
 unfolding along_line
 along-told y n o g a b = rw (b, a)
 
 -- ---- once the tests have found f: what is answered in each case
 
 module _ (f : Found) (w : List ℕ) (y : List Float) (o g : List ℕ) where
-  pub hand-bad : (b : Fault) → f ≡ Err b → handing (Bad b) o g ≡ hand_tested f w y o g
+  pub hand-bad : (b : Fault) → f ≡ Err b → handing (Err (Bad b)) o g ≡ hand_tested f w y o g
   unfolding hand_tested
   hand-bad b e = rw e
 
   module _ (e : is_fine f ≡ true) where
-    pub hand-outside : in_profile (settings_of w) ≡ false → handing Outside o g ≡ hand_tested f w y o g
+    pub hand-outside : in_profile (settings_of w) ≡ false → handing (Err Outside) o g ≡ hand_tested f w y o g
     unfolding hand_tested
     hand-outside p = rw (found-none f e, p)
 
     module _ (p : in_profile (settings_of w) ≡ true) where
-      pub hand-early : is_ended (standing_of (num w 9)) ≡ false → handing Early o g ≡ hand_tested f w y o g
+      pub hand-early : is_ended (standing_of (num w 9)) ≡ false → handing (Err Early) o g ≡ hand_tested f w y o g
       unfolding hand_tested
       hand-early s = rw (found-none f e, p, s)
 
       module _ (s : is_ended (standing_of (num w 9)) ≡ true) where
-        pub hand-barred : calm_along y (num w 0) ≡ false → handing Barred o g ≡ hand_tested f w y o g
+        pub hand-barred : calm_along y (num w 0) ≡ false → handing (Err Barred) o g ≡ hand_tested f w y o g
         unfolding hand_tested
         hand-barred c = rw (found-none f e, p, s, c)
 
         module _ (c : calm_along y (num w 0) ≡ true) where
-          pub order-short : length o < num w 0 → handing Short o g ≡ hand_tested f w y o g
+          pub order-short : length o < num w 0 → handing (Err Short) o g ≡ hand_tested f w y o g
           unfolding hand_tested
           order-short h = rw (found-none f e, p, s, c, lt-ltb (length o) (num w 0) h)
 
-          pub gaps-short : length g < num w 0 → handing Short o g ≡ hand_tested f w y o g
+          pub gaps-short : length g < num w 0 → handing (Err Short) o g ≡ hand_tested f w y o g
           unfolding hand_tested
           gaps-short h = rw (found-none f e, p, s, c, or_yes (ltb (length o) (num w 0)) (ltb (length g) (num w 0)) (lt-ltb (length g) (num w 0) h))
 

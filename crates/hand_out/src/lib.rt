@@ -6,7 +6,7 @@ ghost use Rattle.std.specs.Prelude.{◌≡◌, true, ◌≤◌, length};
 ghost use Rattle.laws.specs.Domain.{most_frames};
 ghost use Rattle.run_entry.specs.Entry.{is_fine};
 ghost use Rattle.run_entry.specs.State.{memory};
-ghost use Rattle.hand_out.specs.HandOut.{calm_along, handing, along_line, hand_tested, handed_out, hand_number, HandRoom};
+ghost use Rattle.hand_out.specs.HandOut.{calm_along, handing, along_line, hand_tested, handed_out, hand_fault_number, HandRoom};
 
 use elementary::limits::is_calm;
 use record_words::{settings_of, standing_of};
@@ -18,11 +18,9 @@ use strip_profile::in_profile;
 use tree_node::Cell;
 use words_entry::words_fault;
 
-// What is answered.
-#[derive(Clone, Copy)]
-pub enum Handed {
-    // so many frames
-    Done(usize),
+// Why nothing is handed out.
+#[derive(Clone, Copy, Debug, PartialEq, Eq)]
+pub enum HandFault {
     // 20: the settings are outside the profile
     Outside,
     // 17: the run has not ended
@@ -33,6 +31,20 @@ pub enum Handed {
     Short,
     // what the entry tests found
     Bad(Fault),
+}
+
+impl Numbered for HandFault {
+    ghost number_of = { hand_fault_number };
+
+    fn number(self) -> u8 {
+        match self {
+            HandFault::Outside => 20,
+            HandFault::Early => 17,
+            HandFault::Barred => 15,
+            HandFault::Short => 12,
+            HandFault::Bad(f) => f.number(),
+        }
+    }
 }
 
 // Whether 15 bars none of the first n positions.
@@ -48,14 +60,14 @@ fn is_calm_along(y: &[f64], n: usize) -> bool
     true
 }
 
-// Writes order and gaps of n frames.
-fn put_along(y: &[f64], n: usize, order: &mut [u32], gaps: &mut [u64]) -> Handed
+// Writes order and gaps of n frames, and answers how many.
+fn put_along(y: &[f64], n: usize, order: &mut [u32], gaps: &mut [u64]) -> Result<usize, HandFault>
     requires { (n ≤ most_frames) × (n ≤ length y.now) × (n ≤ length order.old) × (n ≤ length gaps.old) × (calm_along y.now n ≡ true) }
     ensures { handing result order.new gaps.new ≡ along_line y.now n order.old gaps.old }
 {
     put_order(y, n, order);
     put_gaps(y, n, order, gaps);
-    Handed::Done(n)
+    Ok(n)
 }
 
 // Once the entry tests have found a fault or none: refuses, or writes order and gaps.
@@ -65,30 +77,30 @@ fn hand_tested(
     positions: &[f64],
     order: &mut [u32],
     gaps: &mut [u64],
-) -> Handed
+) -> Result<usize, HandFault>
     requires { is_fine fault ≡ true → HandRoom words.now positions.now }
     ensures { handing result order.new gaps.new ≡ hand_tested fault words.now positions.now order.old gaps.old }
 {
     if let Err(f) = fault {
-        return Handed::Bad(f);
+        return Err(HandFault::Bad(f));
     }
     let s = settings_of(words);
     if !in_profile(s) {
-        return Handed::Outside;
+        return Err(HandFault::Outside);
     }
     let t = standing_of(words[9]);
     if !is_ended(t) {
-        return Handed::Early;
+        return Err(HandFault::Early);
     }
     let n = words[0] as usize;
     if !is_calm_along(positions, n) {
-        return Handed::Barred;
+        return Err(HandFault::Barred);
     }
     if order.len() < n {
-        return Handed::Short;
+        return Err(HandFault::Short);
     }
     if gaps.len() < n {
-        return Handed::Short;
+        return Err(HandFault::Short);
     }
     put_along(positions, n, order, gaps)
 }
@@ -106,7 +118,7 @@ pub fn hand_out(
     cells: &[Cell],
     order: &mut [u32],
     gaps: &mut [u64],
-) -> Handed
+) -> Result<usize, HandFault>
     ensures { handing result order.new gaps.new
         ≡ handed_out words.now
         (memory
@@ -131,18 +143,4 @@ pub fn hand_out(
     let t = words_fault(words, l, indices, offsets, cells);
     let a = hand_tested(t, words, positions, order, gaps);
     a
-}
-
-// The number of a refusal; 0: it is none.
-pub fn number(a: Handed) -> u8
-    ensures { result ≡ hand_number a }
-{
-    match a {
-        Handed::Done(_) => 0,
-        Handed::Outside => 20,
-        Handed::Early => 17,
-        Handed::Barred => 15,
-        Handed::Short => 12,
-        Handed::Bad(f) => f.number(),
-    }
 }

@@ -3,7 +3,7 @@ ghost use Rattle.std.specs.Prelude.{◌≤◌};
 
 use crate::lending::hand_in;
 use fault_words::fault_value;
-use hand_out::Handed;
+use hand_out::HandFault;
 use replay::areas::{copy_words, plus, same_numbers};
 use replay::word_at;
 use replay_areas::lengths::{Lengths, Places, length_at, lengths_at, places_from};
@@ -11,21 +11,18 @@ use replay_areas::values::{marked_numbers, marked_values, numbers_at, record_at,
 use replay_areas::{both, empty_cells};
 
 // What comes with the number: the frames, or what is told of a fault.
-fn value(a: Handed) -> u64 {
+fn value(a: Result<usize, HandFault>) -> u64 {
     match a {
-        Handed::Done(n) => n as u64,
-        Handed::Outside => 0,
-        Handed::Early => 0,
-        Handed::Barred => 0,
-        Handed::Short => 0,
-        Handed::Bad(f) => fault_value(f),
+        Ok(n) => n as u64,
+        Err(HandFault::Bad(f)) => fault_value(f),
+        Err(_) => 0,
     }
 }
 
 // Number and value are the words from i on.
-fn same_told(a: Handed, list: &[u8], i: usize) -> bool {
+fn same_told(a: Result<usize, HandFault>, list: &[u8], i: usize) -> bool {
     both(
-        hand_out::number(a) as u64 == word_at(list, i),
+        refusal::number(a) as u64 == word_at(list, i),
         value(a) == word_at(list, plus(i, 1)),
     )
 }
@@ -57,7 +54,7 @@ fn rooms_at(list: &[u8], i: usize) -> Rooms
 // What a call leaves: its answer, the order and the gaps.
 #[derive(Clone, Copy)]
 struct Left {
-    answer: Handed,
+    answer: Result<usize, HandFault>,
     order: [u32; 48],
     gaps: [u64; 48],
 }

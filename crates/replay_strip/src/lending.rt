@@ -3,7 +3,7 @@ ghost use Rattle.std.specs.Prelude.{◌≡◌, ◌≤◌, take};
 ghost use Rattle.run_entry.specs.State.{memory};
 ghost use Rattle.hand_out.specs.HandOut.{handing, handed_out};
 
-use hand_out::Handed;
+use hand_out::HandFault;
 use tree_node::Cell;
 
 // The call that is lent the first k cells.
@@ -20,7 +20,7 @@ pub(crate) fn hand_in(
     k: usize,
     order: &mut [u32],
     gaps: &mut [u64],
-) -> Handed
+) -> Result<usize, HandFault>
     requires { k ≤ 4 }
     ensures { handing result order.new gaps.new
         ≡ handed_out words.now

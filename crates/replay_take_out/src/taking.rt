@@ -11,7 +11,7 @@ use record_words::{put_run, run_fine, run_of};
 use replay::areas::plus;
 use replay::word_at;
 use run_record::Run;
-use take_left::Outlook;
+use take_left::Denial;
 use take_out::Taken;
 
 // The record of fourteen words from word a on.
@@ -41,15 +41,10 @@ fn same_record(words: [u64; 14], list: &[u8], a: usize) -> bool {
 }
 
 // How many are left; nothing comes with a refusal.
-fn left(v: Outlook) -> u64 {
+fn left(v: Result<usize, Denial>) -> u64 {
     match v {
-        Outlook::Left(m) => m as u64,
-        Outlook::Inside => 0,
-        Outlook::Unordered => 0,
-        Outlook::Few => 0,
-        Outlook::Perplexed => 0,
-        Outlook::Crowded => 0,
-        Outlook::Barred => 0,
+        Ok(m) => m as u64,
+        Err(_) => 0,
     }
 }
 

@@ -22,9 +22,8 @@ use Rattle.record_words.specs.RecordWords.{settings_of, standing_of}
 use Rattle.strip_order.specs.Strip.{strip_place, strip_order, strip_gap, strip_gaps}
 use Rattle.strip_order.proofs.Places.{place-below, order-size}
 use Rattle.strip_profile.specs.Profile.{in_profile}
-use Rattle.hand_out.specs.declared.Handed.{Handed}
-use Rattle.hand_out.specs.declared.Handed.TheVariants.{Done, Outside, Early, Barred, Short, Bad}
-use Rattle.hand_out.specs.HandOut.{calm_along, Handing, handing, along_line, hand_tested, hand_fault, handed_out}
+use Rattle.std.specs.Prelude.{Ok, Err}
+use Rattle.hand_out.specs.HandOut.{Handed, calm_along, Handing, handing, along_line, hand_tested, hand_fault, handed_out}
 use Rattle.hand_out.proofs.Laws.{all-calm, handed-along}
 use Rattle.stripping.specs.Along.{HandedAlong}
 use Rattle.stripping.proofs.Rule.{order-by-rule, gap-not-below}
@@ -69,37 +68,25 @@ record Through (f : Found) (w : List ℕ) (y : List Float) (o g : List ℕ) : Ty
 
 -- the frames of an answer, and whether it has any
 abbrev frames_in : Handed → ℕ
-frames_in (Done n) = n
-frames_in Outside = 0
-frames_in Early = 0
-frames_in Barred = 0
-frames_in Short = 0
-frames_in (Bad f) = 0
+frames_in (Ok n) = n
+frames_in (Err b) = 0
 
 abbrev is_done : Handed → Bool
-is_done (Done n) = true
-is_done Outside = false
-is_done Early = false
-is_done Barred = false
-is_done Short = false
-is_done (Bad f) = false
+is_done (Ok n) = true
+is_done (Err b) = false
 
-refuses : {A : Type 0} {a : Handed} {n : ℕ} → is_done a ≡ false → a ≡ Done n → A
+refuses : {A : Type 0} {a : Handed} {n : ℕ} → is_done a ≡ false → a ≡ Ok n → A
 refuses r e = absurd (true≢false (sym (ap is_done e) ∙ r))
 
-done-is : (a : Handed) → is_done a ≡ true → a ≡ Done (frames_in a)
-done-is (Done n) e = refl
-done-is Outside e = absurd (true≢false (sym e))
-done-is Early e = absurd (true≢false (sym e))
-done-is Barred e = absurd (true≢false (sym e))
-done-is Short e = absurd (true≢false (sym e))
-done-is (Bad f) e = absurd (true≢false (sym e))
+done-is : (a : Handed) → is_done a ≡ true → a ≡ Ok (frames_in a)
+done-is (Ok n) e = refl
+done-is (Err b) e = absurd (true≢false (sym e))
 
-not_done : (a : Handed) → ((n : ℕ) → a ≡ Done n → ⊥) → is_done a ≡ false
+not_done : (a : Handed) → ((n : ℕ) → a ≡ Ok n → ⊥) → is_done a ≡ false
 not_done a k = by_bool (is_done a ≡ false) (is_done a) (λ t. absurd (k (frames_in a) (done-is a t))) (λ t. t)
 
 module _ (f : Found) (w : List ℕ) (y : List Float) (o g : List ℕ) (n : ℕ) where
-  through : (hand_tested f w y o g).answer ≡ Done n → Through f w y o g
+  through : (hand_tested f w y o g).answer ≡ Ok n → Through f w y o g
   unfolding hand_tested
   through e = by_bool (Through f w y o g) (is_fine f) (λ a0. let a = found-none f a0 in by_bool (Through f w y o g) (in_profile (settings_of w)) (λ b. by_bool (Through f w y o g)
       (is_ended (standing_of (num w 9))) (λ c. by_bool (Through f w y o g) (calm_along y (num w 0)) (λ d. by_bool (Through f w y o g)
@@ -171,7 +158,7 @@ module _ (w : List ℕ) (m : Memory) (o g : List ℕ) where
       }
 
   -- n frames are told: they are all, by the rule, with their gaps, and the tails are kept
-  pub handed-all : (n : ℕ) → left.answer ≡ Done n → HandedAlong w m o g n left
+  pub handed-all : (n : ℕ) → left.answer ≡ Ok n → HandedAlong w m o g n left
   unfolding handed_out along_line
   handed-all n e =
       let y = m.positions in
@@ -181,13 +168,13 @@ module _ (w : List ℕ) (m : Memory) (o g : List ℕ) where
       subst (λ (x : ℕ). HandedAlong w m o g x left) many (subst (HandedAlong w m o g (num w 0)) (sym is) (line-along v))
 
   -- refused, order and gaps are as they were
-  pub refused-keeps : ((n : ℕ) → left.answer ≡ Done n → ⊥) → left ≡ handing left.answer o g
+  pub refused-keeps : ((n : ℕ) → left.answer ≡ Ok n → ⊥) → left ≡ handing left.answer o g
   unfolding handed_out
   refused-keeps k = keeps (hand_fault w m) w m.positions o g (not_done left.answer k)
 
   -- every ended run in the profile is handed out: whoever prepared, read or thinned it
   pub handed-where : is_fine (hand_fault w m) ≡ true → in_profile (settings_of w) ≡ true → is_ended (standing_of (num w 9)) ≡ true →
-      calm_along m.positions (num w 0) ≡ true → num w 0 ≤ length o → num w 0 ≤ length g → left.answer ≡ Done (num w 0)
+      calm_along m.positions (num w 0) ≡ true → num w 0 ≤ length o → num w 0 ≤ length g → left.answer ≡ Ok (num w 0)
   unfolding handed_out along_line
   handed-where a b c d h k = ap (λ (x : Handing). x.answer)
       (line-is (hand_fault w m) w m.positions o g (record { found-fine = a0; profile = b; end = c; all-fine = d; order-room = h; gaps-room = k }))

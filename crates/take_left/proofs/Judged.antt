@@ -21,7 +21,8 @@ use Rattle.take_rows.proofs.Survive.{survivors-kept}
 use Rattle.take_calm.specs.CalmLeft.{calm_left}
 use Rattle.take_lists.specs.Packed.{links_left}
 use Rattle.take_lists.proofs.Bounds.{before-all}
-use Rattle.take_left.specs.declared.Outlook.TheVariants.{Left, Inside, Unordered, Few, Perplexed, Crowded, Barred}
+use Rattle.std.specs.Prelude.{Ok, Err}
+use Rattle.take_left.specs.declared.Denial.TheVariants.{Inside, Unordered, Few, Perplexed, Crowded, Barred}
 use Rattle.take_left.specs.Outlook.{thinned, crowded, outlook_of, OutlookRoom, CountRoom}
 
 -- so many are left
@@ -133,48 +134,48 @@ judging-room {r} {g} {m} {t} v j = record {
 -- ---- the outlook
 
 module _ (r : Run) (g : List ℕ) (y : List Float) (I O : List ℕ) where
-  pub judged-inside : (r.phase ≡ 0 → ⊥) → Inside ≡ outlook_of r g y I O
+  pub judged-inside : (r.phase ≡ 0 → ⊥) → Err Inside ≡ outlook_of r g y I O
   unfolding outlook_of
   judged-inside p = rw (ne_eqb r.phase 0 p)
 
-  pub judged-unordered : r.phase ≡ 0 → gone_fine g r.settings.n ≡ false → Unordered ≡ outlook_of r g y I O
+  pub judged-unordered : r.phase ≡ 0 → gone_fine g r.settings.n ≡ false → Err Unordered ≡ outlook_of r g y I O
   unfolding outlook_of
   judged-unordered p f = rw (eq-eqb r.phase 0 p, f)
 
   module _ (p : r.phase ≡ 0) (f : gone_fine g r.settings.n ≡ true) where
-    pub judged-few : length (survivors g r.settings.n) < 2 → Few ≡ outlook_of r g y I O
+    pub judged-few : length (survivors g r.settings.n) < 2 → Err Few ≡ outlook_of r g y I O
     unfolding outlook_of
     judged-few h = rw (eq-eqb r.phase 0 p, f, lt-ltb (length (survivors g r.settings.n)) 2 h)
 
     module _ (m : 2 ≤ length (survivors g r.settings.n)) where
-      pub judged-perplexed : lt r.settings.perplexity (of_int binary64 (pos (length (survivors g r.settings.n)))) ≡ false → Perplexed ≡ outlook_of r g y I O
+      pub judged-perplexed : lt r.settings.perplexity (of_int binary64 (pos (length (survivors g r.settings.n)))) ≡ false → Err Perplexed ≡ outlook_of r g y I O
       unfolding outlook_of
       judged-perplexed b = rw (eq-eqb r.phase 0 p, f, le-ltb (length (survivors g r.settings.n)) 2 m, b)
 
       module _ (b : lt r.settings.perplexity (of_int binary64 (pos (length (survivors g r.settings.n)))) ≡ true) where
-        pub judged-crowded : crowded r.settings (survivors g r.settings.n) I O ≡ true → Crowded ≡ outlook_of r g y I O
+        pub judged-crowded : crowded r.settings (survivors g r.settings.n) I O ≡ true → Err Crowded ≡ outlook_of r g y I O
         unfolding outlook_of
         judged-crowded e = rw (eq-eqb r.phase 0 p, f, le-ltb (length (survivors g r.settings.n)) 2 m, b, e)
 
         pub judged-left : (k : ℕ) → k ≡ length (survivors g r.settings.n) → crowded r.settings (survivors g r.settings.n) I O ≡ false →
-            calm_left (survivors g r.settings.n) r.settings.c y ≡ true → Left k ≡ outlook_of r g y I O
+            calm_left (survivors g r.settings.n) r.settings.c y ≡ true → Ok k ≡ outlook_of r g y I O
         unfolding outlook_of
-        judged-left k q e c = rw (eq-eqb r.phase 0 p, f, le-ltb (length (survivors g r.settings.n)) 2 m, b, e, c) (ap Left q)
+        judged-left k q e c = rw (eq-eqb r.phase 0 p, f, le-ltb (length (survivors g r.settings.n)) 2 m, b, e, c) (ap Ok q)
 
-        pub judged-barred : crowded r.settings (survivors g r.settings.n) I O ≡ false → calm_left (survivors g r.settings.n) r.settings.c y ≡ false → Barred ≡ outlook_of r g y I O
+        pub judged-barred : crowded r.settings (survivors g r.settings.n) I O ≡ false → calm_left (survivors g r.settings.n) r.settings.c y ≡ false → Err Barred ≡ outlook_of r g y I O
         unfolding outlook_of
         judged-barred e c = rw (eq-eqb r.phase 0 p, f, le-ltb (length (survivors g r.settings.n)) 2 m, b, e, c)
 
 pub told-crowded : {r : Run} {g : List ℕ} {m : ℕ} {t : Settings} (y : List Float) (I O : List ℕ) → Judging r g m t →
-    crowded r.settings (survivors g r.settings.n) I O ≡ true → Crowded ≡ outlook_of r g y I O
+    crowded r.settings (survivors g r.settings.n) I O ≡ true → Err Crowded ≡ outlook_of r g y I O
 told-crowded {r} {g} y I O j e = judged-crowded r g y I O j.between j.listed-fine j.enough j.below e
 
 pub told-left : {r : Run} {g : List ℕ} {m : ℕ} {t : Settings} (y : List Float) (I O : List ℕ) → Judging r g m t →
     crowded r.settings (survivors g r.settings.n) I O ≡ false → calm_left (survivors g r.settings.n) r.settings.c y ≡ true →
-    Left m ≡ outlook_of r g y I O
+    Ok m ≡ outlook_of r g y I O
 told-left {r} {g} {m} y I O j e c = judged-left r g y I O j.between j.listed-fine j.enough j.below m j.count e c
 
 pub told-barred : {r : Run} {g : List ℕ} {m : ℕ} {t : Settings} (y : List Float) (I O : List ℕ) → Judging r g m t →
     crowded r.settings (survivors g r.settings.n) I O ≡ false → calm_left (survivors g r.settings.n) r.settings.c y ≡ false →
-    Barred ≡ outlook_of r g y I O
+    Err Barred ≡ outlook_of r g y I O
 told-barred {r} {g} y I O j e c = judged-barred r g y I O j.between j.listed-fine j.enough j.below e c

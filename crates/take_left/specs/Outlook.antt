@@ -1,5 +1,5 @@
 -- What the tests say once those of a work call have passed, of what would be left. Definitions only.
-use Rattle.std.specs.Prelude.{List, ◌≡◌, Bool, true, cond, not, ◌&&◌, ℕ, ◌*◌, ◌<◌, ◌≤◌, eqb, ltb, pos, length, Float}
+use Rattle.std.specs.Prelude.{List, ◌≡◌, Bool, true, cond, not, ◌&&◌, ℕ, ◌*◌, ◌<◌, ◌≤◌, eqb, ltb, pos, length, Float, Result, Ok, Err}
 use Rattle.std.specs.Float.{binary64}
 use Rattle.std.specs.Float.Ieee.{of_int, lt}
 use Rattle.laws.specs.Area.{num}
@@ -10,8 +10,9 @@ use Rattle.run_record.specs.Record.{is_tree, sizes_of, per_of, GoodSettings}
 use Rattle.take_gone.specs.Gone.{gone_fine, survivors, Climbs}
 use Rattle.take_calm.specs.CalmLeft.{calm_left}
 use Rattle.take_lists.specs.Packed.{links_left, Listed}
-use Rattle.take_left.specs.declared.Outlook.{Outlook}
-use Rattle.take_left.specs.declared.Outlook.TheVariants.{Left, Inside, Unordered, Few, Perplexed, Crowded, Barred}
+use Rattle.refusal.specs.Refusal.{number_told}
+use Rattle.take_left.specs.declared.Denial.{Denial}
+use Rattle.take_left.specs.declared.Denial.TheVariants.{Inside, Unordered, Few, Perplexed, Crowded, Barred}
 
 -- ---- the record of m survivors
 
@@ -25,6 +26,10 @@ thinned_run r m = record { settings = thinned r.settings m; standing = r.standin
 
 -- ---- the tests
 
+-- what the tests say: so many are left, or why nothing is taken out
+abbrev pub Outlook : Type 0
+Outlook = Result ℕ Denial
+
 -- more links would be left than lists of that many samples hold: I and O are indices and offsets
 unfoldable pub crowded : Settings → List ℕ → List ℕ → List ℕ → Bool
 crowded s keep I O = is_tree s.method && ltb (sizes_of (thinned s (length keep))).links (links_left keep I O)
@@ -34,22 +39,24 @@ unfoldable pub outlook_of : Run → List ℕ → List Float → List ℕ → Lis
 outlook_of r g y I O =
     let s = r.settings in
     let keep = survivors g s.n in
-    cond (not (eqb r.phase 0)) Inside
-    (cond (not (gone_fine g s.n)) Unordered
-    (cond (ltb (length keep) 2) Few
-    (cond (not (lt s.perplexity (of_int binary64 (pos (length keep))))) Perplexed
-    (cond (crowded s keep I O) Crowded
-    (cond (calm_left keep s.c y) (Left (length keep)) Barred)))))
+    cond (not (eqb r.phase 0)) (Err Inside)
+    (cond (not (gone_fine g s.n)) (Err Unordered)
+    (cond (ltb (length keep) 2) (Err Few)
+    (cond (not (lt s.perplexity (of_int binary64 (pos (length keep))))) (Err Perplexed)
+    (cond (crowded s keep I O) (Err Crowded)
+    (cond (calm_left keep s.c y) (Ok (length keep)) (Err Barred))))))
+
+abbrev pub denial_number : Denial → ℕ
+denial_number Inside = 17
+denial_number Unordered = 18
+denial_number Few = 9
+denial_number Perplexed = 10
+denial_number Crowded = 18
+denial_number Barred = 15
 
 -- the number of a refusal; 0 where there is none
-unfoldable pub outlook_number : Outlook → ℕ
-outlook_number (Left m) = 0
-outlook_number Inside = 17
-outlook_number Unordered = 18
-outlook_number Few = 9
-outlook_number Perplexed = 10
-outlook_number Crowded = 18
-outlook_number Barred = 15
+abbrev pub outlook_number : Outlook → ℕ
+outlook_number = number_told denial_number
 
 -- what the tests of a work call have shown
 pub record OutlookRoom (r : Run) (y : List Float) (I O : List ℕ) : Type 0 where

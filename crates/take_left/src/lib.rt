@@ -7,8 +7,9 @@ ghost use Rattle.laws.specs.Domain.{most_frames};
 ghost use Rattle.run_record.specs.Record.{GoodSettings, is_tree};
 ghost use Rattle.take_gone.specs.Gone.{survivors, Climbs};
 ghost use Rattle.take_lists.specs.Packed.{Listed};
-ghost use Rattle.take_left.specs.Outlook.{thinned, thinned_run, crowded, outlook_of, outlook_number, OutlookRoom, CountRoom};
+ghost use Rattle.take_left.specs.Outlook.{thinned, thinned_run, crowded, outlook_of, denial_number, OutlookRoom, CountRoom};
 
+use refusal::Numbered;
 use run_record::counters::per;
 use run_record::faults::{is_tree, late_fault, sizes_of};
 use run_record::{Run, Settings};
@@ -16,11 +17,9 @@ use take_calm::is_calm_left;
 use take_gone::gone_fine;
 use take_lists::links_left;
 
-// What the tests say.
-#[derive(Clone, Copy)]
-pub enum Outlook {
-    // so many survivors
-    Left(usize),
+// Why nothing is taken out.
+#[derive(Clone, Copy, Debug, PartialEq, Eq)]
+pub enum Denial {
     // 17: a unit of an iteration is done, and the iteration is not
     Inside,
     // 18: the list does not rise, or names no sample
@@ -35,11 +34,25 @@ pub enum Outlook {
     Barred,
 }
 
+impl Numbered for Denial {
+    ghost number_of = { denial_number };
+
+    fn number(self) -> u8 {
+        match self {
+            Denial::Inside => 17,
+            Denial::Unordered => 18,
+            Denial::Few => 9,
+            Denial::Perplexed => 10,
+            Denial::Crowded => 18,
+            Denial::Barred => 15,
+        }
+    }
+}
+
 // The settings of m samples.
 fn thinned_settings(s: Settings, m: usize) -> Settings
     ensures { result ≡ thinned s m }
 {
-    let method = s.method;
     Settings {
         n: m,
         f: s.f,
@@ -49,14 +62,8 @@ fn thinned_settings(s: Settings, m: usize) -> Settings
         iterations: s.iterations,
         minimum: s.minimum,
         angle: s.angle,
-        method: method,
+        method: s.method,
     }
-}
-
-fn wide(x: u32) -> usize
-    ensures { result ≡ x }
-{
-    x as usize
 }
 
 // Whether more links would be left than lists of t's samples hold. Where no more are listed now, none need be counted.
@@ -70,45 +77,45 @@ fn is_crowded(s: Settings, t: Settings, gone: &[u32], indices: &[u32], offsets: 
     }
     let n = s.n;
     let most = sizes_of(t).links;
-    if wide(offsets[n]) <= most {
+    if offsets[n] as usize <= most {
         return false;
     }
     most < links_left(gone, n, indices, offsets)
 }
 
-// The tests in their order.
+// The tests in their order: how many are left, or why nothing is taken out.
 pub fn look_ahead(
     r: Run,
     gone: &[u32],
     positions: &[f64],
     indices: &[u32],
     offsets: &[u32],
-) -> Outlook
+) -> Result<usize, Denial>
     requires { OutlookRoom r positions.now indices.now offsets.now }
     ensures { result ≡ outlook_of r gone.now positions.now indices.now offsets.now }
 {
     if r.phase != 0 {
-        return Outlook::Inside;
+        return Err(Denial::Inside);
     }
     let s = r.settings;
     if !gone_fine(gone, s.n) {
-        return Outlook::Unordered;
+        return Err(Denial::Unordered);
     }
     let m = s.n - gone.len();
     if m < 2 {
-        return Outlook::Few;
+        return Err(Denial::Few);
     }
     let t = thinned_settings(s, m);
     if refusal::number(late_fault(t)) != 0 {
-        return Outlook::Perplexed;
+        return Err(Denial::Perplexed);
     }
     if is_crowded(s, t, gone, indices, offsets) {
-        return Outlook::Crowded;
+        return Err(Denial::Crowded);
     }
     if is_calm_left(positions, gone, s.n, s.c, m) {
-        return Outlook::Left(m);
+        return Ok(m);
     }
-    Outlook::Barred
+    Err(Denial::Barred)
 }
 
 // The record of m survivors: the iterations done stay done.
@@ -128,20 +135,5 @@ pub fn thinned_run(r: Run, m: usize) -> Run
         phase: 0,
         units: units,
         used: r.used,
-    }
-}
-
-// The number of a refusal; 0: it is none.
-pub fn number(v: Outlook) -> u8
-    ensures { result ≡ outlook_number v }
-{
-    match v {
-        Outlook::Left(_) => 0,
-        Outlook::Inside => 17,
-        Outlook::Unordered => 18,
-        Outlook::Few => 9,
-        Outlook::Perplexed => 10,
-        Outlook::Crowded => 18,
-        Outlook::Barred => 15,
     }
 }

@@ -15,8 +15,7 @@ use Rattle.run_entry.specs.Entry.{Found, is_fine}
 use Rattle.run_entry.proofs.Laws.{found-none}
 use Rattle.take_gone.specs.Gone.{gone_fine, survivors}
 use Rattle.take_gone.proofs.Left.{gone-climbs}
-use Rattle.take_left.specs.declared.Outlook.{Outlook}
-use Rattle.take_left.specs.Outlook.{outlook_of, thinned_run}
+use Rattle.take_left.specs.Outlook.{Outlook, outlook_of, thinned_run}
 use Rattle.take_left.proofs.Judged.{count_left, judged-inside, judged-unordered}
 use Rattle.take_out.specs.declared.Taken.TheVariants.{Told, Bad}
 use Rattle.take_out.specs.TakeOut.{Holdings, is_accepted, packed_areas, took_out, take_tested, TakeRoom, PackRoom}

@@ -1,5 +1,6 @@
 -- Frames taken out of a run: the order of the tests, and the record and every area afterwards. Definitions only.
 use Rattle.std.specs.Prelude.{List, ◌++◌, map, ◌≡◌, Bool, true, false, cond, not, ◌&&◌, ◌||◌, ℕ, ◌+◌, ◌*◌, ◌≤◌, eqb, leb, length, drop, Float}
+use Rattle.std.specs.Result.{is_ok}
 use Rattle.laws.specs.Area.{num, bits, zero64}
 use Rattle.laws.specs.Domain.{most_frames}
 use Rattle.areas.specs.Filled.{filled}
@@ -12,9 +13,7 @@ use Rattle.run_entry.specs.Entry.{Found, by_tests, fault_at, fault_number}
 use Rattle.take_gone.specs.Gone.{survivors, Climbs}
 use Rattle.take_rows.specs.Rows.{shrunk, kept_rows, kept_square, centred_rows, Staying}
 use Rattle.take_lists.specs.Packed.{packed_indices, packed_weights, packed_offsets, Listed}
-use Rattle.take_left.specs.declared.Outlook.{Outlook}
-use Rattle.take_left.specs.declared.Outlook.TheVariants.{Left, Inside, Unordered, Few, Perplexed, Crowded, Barred}
-use Rattle.take_left.specs.Outlook.{thinned_run, outlook_of, outlook_number, OutlookRoom}
+use Rattle.take_left.specs.Outlook.{Outlook, thinned_run, outlook_of, outlook_number, OutlookRoom}
 use Rattle.take_out.specs.declared.Taken.{Taken}
 use Rattle.take_out.specs.declared.Taken.TheVariants.{Told, Bad}
 
@@ -62,14 +61,9 @@ take_fault r h ns =
     fault_at r (lent_positions r.settings (length h.positions) (length h.table) (length h.old))
     (length h.increments) (length h.gains) (length h.affinities) (length h.forces) h.indices h.offsets ns
 
+-- the tests of what would be left have passed
 abbrev pub is_accepted : Outlook → Bool
-is_accepted (Left m) = true
-is_accepted Inside = false
-is_accepted Unordered = false
-is_accepted Few = false
-is_accepted Perplexed = false
-is_accepted Crowded = false
-is_accepted Barred = false
+is_accepted v = is_ok v
 
 -- ---- what is left
 

@@ -8,7 +8,7 @@ ghost use Rattle.tree_node.specs.Arena.{nodes_of};
 ghost use Rattle.run_entry.specs.Entry.{is_fine};
 ghost use Rattle.take_gone.specs.Gone.{survivors};
 ghost use Rattle.take_rows.specs.Rows.{shrunk, kept_rows, centred_rows};
-ghost use Rattle.take_out.specs.TakeOut.{holdings, lent_positions, is_accepted, affinities_after, indices_after, offsets_after, packed_areas, took_out, take_tested, take_out, take_number, TakeRoom, ValuesRoom, LinksRoom, PackRoom};
+ghost use Rattle.take_out.specs.TakeOut.{holdings, lent_positions, affinities_after, indices_after, offsets_after, packed_areas, took_out, take_tested, take_out, take_number, TakeRoom, ValuesRoom, LinksRoom, PackRoom};
 
 use areas::fill;
 use refusal::Numbered;
@@ -17,7 +17,7 @@ use run_record::faults::{is_tree, settings_fault, times};
 use run_record::{Run, Settings};
 use take_calm::means_left;
 use take_gone::put_survivors;
-use take_left::{Outlook, look_ahead, thinned_run};
+use take_left::{Denial, look_ahead, thinned_run};
 use take_lists::pack_lists;
 use take_rows::{pack_centred, pack_rows, pack_square};
 use tree_node::Cell;
@@ -26,7 +26,7 @@ use tree_node::Cell;
 #[derive(Clone, Copy)]
 pub enum Taken {
     // what the tests of what would be left say
-    Told(Outlook),
+    Told(Result<usize, Denial>),
     // what the entry tests found
     Bad(Fault),
 }
@@ -52,21 +52,6 @@ fn lent_positions(s: Settings, p: usize, t: usize, q: usize) -> usize
         return 0;
     }
     p
-}
-
-// Whether the tests have passed.
-fn is_accepted(v: Outlook) -> bool
-    ensures { result ≡ is_accepted v }
-{
-    match v {
-        Outlook::Left(_) => true,
-        Outlook::Inside => false,
-        Outlook::Unordered => false,
-        Outlook::Few => false,
-        Outlook::Perplexed => false,
-        Outlook::Crowded => false,
-        Outlook::Barred => false,
-    }
 }
 
 // Positions, increments, gains and table: the rows of the frames in `keep`.
@@ -165,7 +150,7 @@ fn take_tested(
     }
     let v = look_ahead(r, gone, positions, indices, offsets);
     let answer = Taken::Told(v);
-    if !is_accepted(v) {
+    if v.is_err() {
         return Took {
             answer: answer,
             run: r,
@@ -225,7 +210,7 @@ pub fn number(a: Taken) -> u8
     ensures { result ≡ take_number a }
 {
     match a {
-        Taken::Told(v) => take_left::number(v),
+        Taken::Told(v) => refusal::number(v),
         Taken::Bad(f) => f.number(),
     }
 }

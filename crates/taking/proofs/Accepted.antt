@@ -24,9 +24,9 @@ use Rattle.run_entry.specs.Entry.{Found, is_fine, record_fault, areas_fit, fault
 use Rattle.run_entry.proofs.Laws.{record-fine, areas-fine, fault-fine, found-none, found-some}
 use Rattle.take_gone.specs.Gone.{gone_fine, survivors}
 use Rattle.take_calm.specs.CalmLeft.{calm_left}
-use Rattle.take_left.specs.declared.Outlook.{Outlook}
-use Rattle.take_left.specs.declared.Outlook.TheVariants.{Left, Inside, Unordered, Few, Perplexed, Crowded, Barred}
-use Rattle.take_left.specs.Outlook.{thinned_run, crowded, outlook_of, outlook_number}
+use Rattle.take_left.specs.declared.Denial.TheVariants.{Inside, Unordered, Few, Perplexed, Crowded, Barred}
+use Rattle.std.specs.Prelude.{Ok, Err}
+use Rattle.take_left.specs.Outlook.{Outlook, thinned_run, crowded, outlook_of, outlook_number, denial_number}
 use Rattle.take_left.proofs.Judged.{judged-left}
 use Rattle.take_out.specs.declared.Taken.TheVariants.{Told, Bad}
 use Rattle.take_out.specs.TakeOut.{Holdings, TookOut, took_out, state_held, left_behind, lent_positions, take_fault, is_accepted, packed_areas, take_tested, take_out, take_number}
@@ -36,23 +36,23 @@ use Rattle.take_out.proofs.Calls.{words-told}
 
 no_number : (v : Outlook) → is_accepted v ≡ true → outlook_number v ≡ 0
 unfolding outlook_number
-no_number (Left m) e = refl
-no_number Inside e = absurd (true≢false (sym e))
-no_number Unordered e = absurd (true≢false (sym e))
-no_number Few e = absurd (true≢false (sym e))
-no_number Perplexed e = absurd (true≢false (sym e))
-no_number Crowded e = absurd (true≢false (sym e))
-no_number Barred e = absurd (true≢false (sym e))
+no_number (Ok m) e = refl
+no_number (Err Inside) e = absurd (true≢false (sym e))
+no_number (Err Unordered) e = absurd (true≢false (sym e))
+no_number (Err Few) e = absurd (true≢false (sym e))
+no_number (Err Perplexed) e = absurd (true≢false (sym e))
+no_number (Err Crowded) e = absurd (true≢false (sym e))
+no_number (Err Barred) e = absurd (true≢false (sym e))
 
 told-numbered : (v : Outlook) → is_accepted v ≡ false → take_number (Told v) ≡ 0 → ⊥
 unfolding take_number outlook_number
-told-numbered (Left m) e z = true≢false e
-told-numbered Inside e z = let y : ◌≡◌ {A = ℕ} 17 0 = z in omega arith
-told-numbered Unordered e z = let y : ◌≡◌ {A = ℕ} 18 0 = z in omega arith
-told-numbered Few e z = let y : ◌≡◌ {A = ℕ} 9 0 = z in omega arith
-told-numbered Perplexed e z = let y : ◌≡◌ {A = ℕ} 10 0 = z in omega arith
-told-numbered Crowded e z = let y : ◌≡◌ {A = ℕ} 18 0 = z in omega arith
-told-numbered Barred e z = let y : ◌≡◌ {A = ℕ} 15 0 = z in omega arith
+told-numbered (Ok m) e z = true≢false e
+told-numbered (Err Inside) e z = let y : ◌≡◌ {A = ℕ} 17 0 = z in omega arith
+told-numbered (Err Unordered) e z = let y : ◌≡◌ {A = ℕ} 18 0 = z in omega arith
+told-numbered (Err Few) e z = let y : ◌≡◌ {A = ℕ} 9 0 = z in omega arith
+told-numbered (Err Perplexed) e z = let y : ◌≡◌ {A = ℕ} 10 0 = z in omega arith
+told-numbered (Err Crowded) e z = let y : ◌≡◌ {A = ℕ} 18 0 = z in omega arith
+told-numbered (Err Barred) e z = let y : ◌≡◌ {A = ℕ} 15 0 = z in omega arith
 
 bad-numbered : (f : Fault) → take_number (Bad f) ≡ 0 → ⊥
 unfolding take_number fault_number
@@ -229,33 +229,33 @@ unfolding outlook_of
 passes r g y I O e =
     let s = r.settings in
     let keep = survivors g s.n in
-    let C = cond (calm_left keep s.c y) (Left (length keep)) Barred in
-    let L = cond (crowded s keep I O) Crowded C in
-    let P = cond (not (lt s.perplexity (of_int binary64 (pos (length keep))))) Perplexed L in
-    let F = cond (ltb (length keep) 2) Few P in
-    let U = cond (not (gone_fine g s.n)) Unordered F in
-    let a = on-cond (not (eqb r.phase 0)) Inside U refl e in
-    let b = on-cond (not (gone_fine g s.n)) Unordered F refl a.1 in
-    let c = on-cond (ltb (length keep) 2) Few P refl b.1 in
-    let d = on-cond (not (lt s.perplexity (of_int binary64 (pos (length keep))))) Perplexed L refl c.1 in
-    let f = on-cond (crowded s keep I O) Crowded C refl d.1 in
+    let C = cond (calm_left keep s.c y) (Ok (length keep)) (Err Barred) in
+    let L = cond (crowded s keep I O) (Err Crowded) C in
+    let P = cond (not (lt s.perplexity (of_int binary64 (pos (length keep))))) (Err Perplexed) L in
+    let F = cond (ltb (length keep) 2) (Err Few) P in
+    let U = cond (not (gone_fine g s.n)) (Err Unordered) F in
+    let a = on-cond (not (eqb r.phase 0)) (Err Inside) U refl e in
+    let b = on-cond (not (gone_fine g s.n)) (Err Unordered) F refl a.1 in
+    let c = on-cond (ltb (length keep) 2) (Err Few) P refl b.1 in
+    let d = on-cond (not (lt s.perplexity (of_int binary64 (pos (length keep))))) (Err Perplexed) L refl c.1 in
+    let f = on-cond (crowded s keep I O) (Err Crowded) C refl d.1 in
     record {
       between = eqb-true r.phase 0 (not-false (eqb r.phase 0) a.0);
       gone-fine = not-false (gone_fine g s.n) b.0;
       enough = ltb-false (length keep) 2 c.0;
       below = not-false (lt s.perplexity (of_int binary64 (pos (length keep)))) d.0;
       room = f.0;
-      calm = on-else (calm_left keep s.c y) (Left (length keep)) Barred refl f.1;
+      calm = on-else (calm_left keep s.c y) (Ok (length keep)) (Err Barred) refl f.1;
     }
 
-passes-told : (r : Run) (g : List ℕ) (y : List Float) (I O : List ℕ) → Passes r g y I O → Left (length (survivors g r.settings.n)) ≡ outlook_of r g y I O
+passes-told : (r : Run) (g : List ℕ) (y : List Float) (I O : List ℕ) → Passes r g y I O → Ok (length (survivors g r.settings.n)) ≡ outlook_of r g y I O
 passes-told r g y I O p = judged-left r g y I O p.between p.gone-fine p.enough p.below (length (survivors g r.settings.n)) refl p.room p.calm
 
 -- ---- a removal that is not refused
 
 -- the record and the areas with the samples of g taken out
 abbrev pub took_from : List ℕ → Run → Holdings → TookOut
-took_from g r h = took_as (Left (length (survivors g r.settings.n))) g r h
+took_from g r h = took_as (Ok (length (survivors g r.settings.n))) g r h
 
 module _ (g : List ℕ) (r : Run) (h : Holdings) (ns : List Node) where
   pub record Accepted : Type 0 where
@@ -275,7 +275,7 @@ module _ (g : List ℕ) (r : Run) (h : Holdings) (ns : List Node) where
       }
 
   -- an answer that tells how many are left is that of a removal that was done
-  pub accepted : (m : ℕ) → (take_out g r h ns).answer ≡ Told (Left m) → Accepted
+  pub accepted : (m : ℕ) → (take_out g r h ns).answer ≡ Told (Ok m) → Accepted
   accepted m a = by_bool Accepted (is_fine (fault g r h ns))
       (λ f. by_bool Accepted (is_accepted (outlook g r h ns)) (accepts f)
       (λ e. absurd (true≢false (sym (ap is_accepted (same (sym (ap (λ (o : TookOut). o.answer) (told_is g r h ns f e)) ∙ a))) ∙ e))))
@@ -285,11 +285,11 @@ module _ (g : List ℕ) (r : Run) (h : Holdings) (ns : List Node) where
       same e = cc
 
   -- and it tells their number
-  pub accepted-count : (m : ℕ) → (take_out g r h ns).answer ≡ Told (Left m) → m ≡ length (survivors g r.settings.n)
-  accepted-count m a = let z : Told (Left (length (survivors g r.settings.n))) ≡ Told (Left m) = sym (ap (λ (o : TookOut). o.answer) (accepted m a).outcome) ∙ a in cc
+  pub accepted-count : (m : ℕ) → (take_out g r h ns).answer ≡ Told (Ok m) → m ≡ length (survivors g r.settings.n)
+  accepted-count m a = let z : Told (Ok (length (survivors g r.settings.n))) ≡ Told (Ok m) = sym (ap (λ (o : TookOut). o.answer) (accepted m a).outcome) ∙ a in cc
 
   -- the answers without a number are just those
-  pub no-number-left : take_number (take_out g r h ns).answer ≡ 0 → (take_out g r h ns).answer ≡ Told (Left (length (survivors g r.settings.n)))
+  pub no-number-left : take_number (take_out g r h ns).answer ≡ 0 → (take_out g r h ns).answer ≡ Told (Ok (length (survivors g r.settings.n)))
   no-number-left z = by_bool Goal (is_fine (fault g r h ns))
       (λ f. by_bool Goal (is_accepted (outlook g r h ns))
       (λ e. ap (λ (o : TookOut). o.answer) (accepts f e).outcome)
@@ -297,4 +297,4 @@ module _ (g : List ℕ) (r : Run) (h : Holdings) (ns : List Node) where
       (λ f. let x = found-some (fault g r h ns) f in absurd (bad-numbered x.0 (sym (ap (λ (o : TookOut). take_number o.answer) (bad-is g r h ns x.0 x.1)) ∙ z)))
     where
       Goal : Type 0
-      Goal = (take_out g r h ns).answer ≡ Told (Left (length (survivors g r.settings.n)))
+      Goal = (take_out g r h ns).answer ≡ Told (Ok (length (survivors g r.settings.n)))

@@ -26,7 +26,7 @@ use Rattle.take_rows.proofs.Survive.{survivors-kept}
 use Rattle.take_lists.specs.Packed.{packed_indices, packed_offsets, links_left, Listed}
 use Rattle.take_lists.proofs.Bounds.{lists-rise, packed-offsets-size}
 use Rattle.take_lists.proofs.Theorems.{packed-offsets-end, packed-listed, packed-named}
-use Rattle.take_left.specs.declared.Outlook.TheVariants.{Left}
+use Rattle.std.specs.Prelude.{Ok}
 use Rattle.take_left.specs.Outlook.{thinned, thinned_run, crowded}
 use Rattle.take_left.proofs.Judged.{thinned-fine}
 use Rattle.take_out.specs.declared.Taken.TheVariants.{Told}
@@ -183,7 +183,7 @@ module _ (g : List ℕ) (r : Run) (h : Holdings) (ns : List Node) (a : Accepted 
 
 -- ---- THEOREM 1: a removal that is not refused leaves an honest state
 
-module _ (g : List ℕ) (r : Run) (h : Holdings) (ns : List Node) (m : ℕ) (left : (take_out g r h ns).answer ≡ Told (Left m)) where
+module _ (g : List ℕ) (r : Run) (h : Holdings) (ns : List Node) (m : ℕ) (left : (take_out g r h ns).answer ≡ Told (Ok m)) where
   pub what-is-left-is-honest : Honest (left_behind (take_out g r h ns) ns)
   what-is-left-is-honest = let a = accepted g r h ns m left in subst Honest (ap (λ (o : TookOut). left_behind o ns) (sym a.outcome)) (honest-left g r h ns a)
 

@@ -2,32 +2,12 @@
 use Rattle.desk_strip.specs.HostStrip.{hand_told}
 use Rattle.desk_strip.proofs.hand_told.Goals as goal
 
-pub returns-in-Done : goal.returns-in-Done
+pub returns-in-Ok : goal.returns-in-Ok
 unfolding hand_told
-returns-in-Done c =
-    rw c.in-Done.is
+returns-in-Ok c =
+    rw c.in-Ok.is
 
-pub returns-in-Outside : goal.returns-in-Outside
+pub returns-in-Err : goal.returns-in-Err
 unfolding hand_told
-returns-in-Outside c =
-    rw c.in-Outside.is
-
-pub returns-in-Early : goal.returns-in-Early
-unfolding hand_told
-returns-in-Early c =
-    rw c.in-Early.is
-
-pub returns-in-Barred : goal.returns-in-Barred
-unfolding hand_told
-returns-in-Barred c =
-    rw c.in-Barred.is
-
-pub returns-in-Short : goal.returns-in-Short
-unfolding hand_told
-returns-in-Short c =
-    rw c.in-Short.is
-
-pub returns-in-Bad : goal.returns-in-Bad
-unfolding hand_told
-returns-in-Bad c =
-    rw c.in-Bad.is c.fault_value.ensures
+returns-in-Err c =
+    rw c.in-Err.is c.place_told.ensures

@@ -1,6 +1,7 @@
 -- `take_left::is_crowded` meets its contract: by `exact-not-crowded`, `few-not-crowded`, `crowded-counted`.
 use Rattle.take_left.proofs.Judged.{exact-not-crowded, few-not-crowded, crowded-counted}
-use mathlib.Core.Path.{sym, ◌∙◌}
+use mathlib.Core.Path.{refl, sym, ◌∙◌}
+use Rattle.laws.specs.Area.{num}
 use native.Mathlib.Omega.{arith}
 use Rattle.take_left.proofs.is_crowded.Goals as goal
 
@@ -20,10 +21,10 @@ pub bounds-offsets-n : goal.bounds-offsets-n
 bounds-offsets-n c =
     omega (arith, (c.requires.counted-lie (sym c.is_tree.ensures ∙ c.if-not-is_tree.false)).offsets-long)
 
-pub returns-then-wide-most : goal.returns-then-wide-most
-returns-then-wide-most c =
+pub returns-then-offsets-n : goal.returns-then-offsets-n
+returns-then-offsets-n c =
     few-not-crowded c.requires (sym c.is_tree.ensures ∙ c.if-not-is_tree.false) c.sizes_of-most.result c.sizes_of-most.ensures
-    c.wide.result c.wide.ensures c.if-wide-most.true
+    (num c.args.offsets.now c.args.s.n) refl c.if-offsets-n.true
 
 pub links_left-requires : goal.links_left-requires
 links_left-requires c = (

@@ -3,6 +3,7 @@ use Rattle.take_out.proofs.Tested.{tested-bad, tested-told, tested-done, tested-
 use Rattle.take_out.specs.TakeOut.{holdings}
 use Rattle.run_entry.specs.Entry.{is_fine}
 use mathlib.Core.Path.{refl, sym, ◌∙◌, ap}
+use mathlib.Core.Bool.{not}
 use native.Mathlib.Omega.{arith}
 use Rattle.take_out.proofs.take_tested.Goals as goal
 
@@ -14,28 +15,24 @@ pub look_ahead-v-requires : goal.look_ahead-v-requires
 look_ahead-v-requires c =
     (c.requires (ap is_fine c.in_default.is)).outlook-room
 
-pub is_accepted-requires : goal.is_accepted-requires
-is_accepted-requires c =
-    tt
-
-pub shape_of-positions-then-not-is_accepted : goal.shape_of-positions-then-not-is_accepted
-shape_of-positions-then-not-is_accepted c =
+pub shape_of-positions-then-is_err : goal.shape_of-positions-then-is_err
+shape_of-positions-then-is_err c =
     refl
 
-pub shape_of-indices-then-not-is_accepted : goal.shape_of-indices-then-not-is_accepted
-shape_of-indices-then-not-is_accepted c =
+pub shape_of-indices-then-is_err : goal.shape_of-indices-then-is_err
+shape_of-indices-then-is_err c =
     refl
 
-pub shape_of-offsets-then-not-is_accepted : goal.shape_of-offsets-then-not-is_accepted
-shape_of-offsets-then-not-is_accepted c =
+pub shape_of-offsets-then-is_err : goal.shape_of-offsets-then-is_err
+shape_of-offsets-then-is_err c =
     refl
 
-pub returns-then-not-is_accepted : goal.returns-then-not-is_accepted
-returns-then-not-is_accepted c =
+pub returns-then-is_err : goal.returns-then-is_err
+returns-then-is_err c =
     tested-told c.args.f c.args.r c.args.gone.now
     (holdings c.args.positions.now c.args.increments.now c.args.gains.now c.args.affinities.now
     c.args.indices.now c.args.offsets.now c.args.forces.now c.args.table.now c.args.old.now)
-    (ap is_fine c.in_default.is) _ c.look_ahead-v.ensures (sym c.is_accepted.ensures ∙ c.if-not-is_accepted.true)
+    (ap is_fine c.in_default.is) _ c.look_ahead-v.ensures (c.is_err.ensures.negation ∙ ap not c.if-is_err.true)
 
 pub overflow_sub-s : goal.overflow_sub-s
 overflow_sub-s c =
@@ -44,7 +41,7 @@ overflow_sub-s c =
       tested-count c.args.r c.args.gone.now
           (holdings c.args.positions.now c.args.increments.now c.args.gains.now c.args.affinities.now
           c.args.indices.now c.args.offsets.now c.args.forces.now c.args.table.now c.args.old.now)
-          c.look_ahead-v.ensures (sym c.is_accepted.ensures ∙ c.if-not-is_accepted.false),
+          c.look_ahead-v.ensures (c.is_err.ensures.negation ∙ ap not c.if-is_err.false),
     )
 
 pub thinned_run-run-requires : goal.thinned_run-run-requires
@@ -58,7 +55,7 @@ pack_run-requires c =
     tested-room c.args.r c.args.gone.now
     (holdings c.args.positions.now c.args.increments.now c.args.gains.now c.args.affinities.now
     c.args.indices.now c.args.offsets.now c.args.forces.now c.args.table.now c.args.old.now)
-    c.look_ahead-v.ensures (sym c.is_accepted.ensures ∙ c.if-not-is_accepted.false)
+    c.look_ahead-v.ensures (c.is_err.ensures.negation ∙ ap not c.if-is_err.false)
     (c.requires (ap is_fine c.in_default.is))
 
 pub shape_of-positions : goal.shape_of-positions
@@ -102,5 +99,5 @@ returns c =
     tested-done c.args.f c.args.r c.args.gone.now
     (holdings c.args.positions.now c.args.increments.now c.args.gains.now c.args.affinities.now
     c.args.indices.now c.args.offsets.now c.args.forces.now c.args.table.now c.args.old.now)
-    (ap is_fine c.in_default.is) _ c.look_ahead-v.ensures (sym c.is_accepted.ensures ∙ c.if-not-is_accepted.false) _ _
+    (ap is_fine c.in_default.is) _ c.look_ahead-v.ensures (c.is_err.ensures.negation ∙ ap not c.if-is_err.false) _ _
     c.thinned_run-run.ensures c.pack_run.ensures

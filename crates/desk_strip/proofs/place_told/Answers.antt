@@ -1,33 +1,28 @@
--- `hand_out::number` meets its contract: from what its calls promise.
-use Rattle.hand_out.specs.HandOut.{hand_number}
-use Rattle.hand_out.proofs.number.Goals as goal
-
-pub returns-in-Done : goal.returns-in-Done
-unfolding hand_number
-returns-in-Done c =
-    rw c.in-Done.is
+-- `desk_strip::place_told` meets its contract: from what its calls promise.
+use Rattle.desk_strip.specs.HostStrip.{place_told}
+use Rattle.desk_strip.proofs.place_told.Goals as goal
 
 pub returns-in-Outside : goal.returns-in-Outside
-unfolding hand_number
+unfolding place_told
 returns-in-Outside c =
     rw c.in-Outside.is
 
 pub returns-in-Early : goal.returns-in-Early
-unfolding hand_number
+unfolding place_told
 returns-in-Early c =
     rw c.in-Early.is
 
 pub returns-in-Barred : goal.returns-in-Barred
-unfolding hand_number
+unfolding place_told
 returns-in-Barred c =
     rw c.in-Barred.is
 
 pub returns-in-Short : goal.returns-in-Short
-unfolding hand_number
+unfolding place_told
 returns-in-Short c =
     rw c.in-Short.is
 
 pub returns-in-Bad : goal.returns-in-Bad
-unfolding hand_number
+unfolding place_told
 returns-in-Bad c =
-    rw c.in-Bad.is c.number.ensures
+    rw c.in-Bad.is c.fault_value.ensures
