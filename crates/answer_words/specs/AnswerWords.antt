@@ -1,8 +1,8 @@
 -- The work call's answer as plain words of 64 bits: kind, number, units, fault and its value; and the record's words after it. Definitions only.
-use Rattle.std.specs.Prelude.{List, Bool, true, false, cond, ℕ, set}
+use Rattle.std.specs.Prelude.{List, Ok, Err, Bool, true, false, cond, ℕ, set}
 use Rattle.run_record.specs.declared.Run.{Run}
-use Rattle.run_entry.specs.declared.Fault.{Fault}
-use Rattle.run_entry.specs.declared.Fault.TheVariants.{Fine}
+use Rattle.refusal.specs.Refusal.{number_told}
+use Rattle.run_entry.specs.Entry.{Found}
 use Rattle.run_budget.specs.declared.Answer.{Answer}
 use Rattle.run_budget.specs.declared.Answer.TheVariants.{Running, Stopped, Finished, Full, Wild, Bad}
 use Rattle.descent.specs.Descent.{work_number, units_of}
@@ -18,16 +18,16 @@ kind_word (Full d) = 3
 kind_word (Wild d) = 3
 kind_word (Bad f) = 3
 
-abbrev pub fault_in : Answer → Fault
-fault_in (Running d) = Fine
-fault_in (Stopped d) = Fine
-fault_in (Finished d) = Fine
-fault_in (Full d) = Fine
-fault_in (Wild d) = Fine
-fault_in (Bad f) = f
+abbrev pub fault_in : Answer → Found
+fault_in (Running d) = Ok tt
+fault_in (Stopped d) = Ok tt
+fault_in (Finished d) = Ok tt
+fault_in (Full d) = Ok tt
+fault_in (Wild d) = Ok tt
+fault_in (Bad f) = Err f
 
 unfoldable pub answer_put : Answer → List ℕ → List ℕ
-answer_put a w = set (set (set (set (set w 0 (kind_word a)) 1 (work_number a)) 2 (units_of a)) 3 (fault_word (fault_in a))) 4 (fault_value (fault_in a))
+answer_put a w = set (set (set (set (set w 0 (kind_word a)) 1 (work_number a)) 2 (units_of a)) 3 (number_told fault_word (fault_in a))) 4 (number_told fault_value (fault_in a))
 
 -- refused at the entry
 abbrev pub is_bad : Answer → Bool

@@ -3,6 +3,8 @@
 #![tactic(auto)]
 
 ghost use Rattle.std.specs.Prelude.{◌≡◌, ◌≤◌, length};
+ghost use Rattle.refusal.specs.Refusal.{number_told};
+ghost use Rattle.fault_words.specs.FaultWords.{fault_word, fault_value};
 ghost use Rattle.descent.specs.Descent.{units_of};
 ghost use Rattle.answer_words.specs.AnswerWords.{is_bad, run_after, kind_word, fault_in, answer_put};
 
@@ -62,16 +64,22 @@ fn units_word(a: Answer) -> u64
     }
 }
 
-fn fault_in(a: Answer) -> Fault
+fn fault_in(a: Answer) -> Result<(), Fault>
     ensures { result ≡ fault_in a }
 {
     match a {
-        Answer::Running(_) => Fault::Fine,
-        Answer::Stopped(_) => Fault::Fine,
-        Answer::Finished(_) => Fault::Fine,
-        Answer::Full(_) => Fault::Fine,
-        Answer::Wild(_) => Fault::Fine,
-        Answer::Bad(f) => f,
+        Answer::Bad(f) => Err(f),
+        _ => Ok(()),
+    }
+}
+
+// The kind of the fault, and what comes with it; 0 and 0 where there is none.
+fn fault_words(a: Answer) -> (u64, u64)
+    ensures { (result.0 ≡ number_told fault_word (fault_in a)) × (result.1 ≡ number_told fault_value (fault_in a)) }
+{
+    match fault_in(a) {
+        Err(f) => (fault_word(f), fault_value(f)),
+        Ok(_) => (0, 0),
     }
 }
 
@@ -79,10 +87,10 @@ pub fn put_answer(words: &mut [u64], a: Answer)
     requires { 5 ≤ length words.old }
     ensures { words.new ≡ answer_put a words.old }
 {
-    let f = fault_in(a);
+    let f = fault_words(a);
     words[0] = kind_word(a);
     words[1] = descent::number(a) as u64;
     words[2] = units_word(a);
-    words[3] = fault_word(f);
-    words[4] = fault_value(f);
+    words[3] = f.0;
+    words[4] = f.1;
 }

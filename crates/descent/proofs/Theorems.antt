@@ -1,5 +1,6 @@
 -- What is so of every run, in the words of the work call. The contract of `work` is one equation with `work` of specs/, so each theorem here is one about the code. Assumes nothing.
 use mathlib.Core.List.{List, [], ◌∷◌}
+use Rattle.std.specs.Prelude.{Ok, Err}
 use mathlib.Core.Path.{◌≡◌, refl, sym, ap, ◌∙◌}
 use mathlib.Core.Logic.{◌⊎◌, inl, inr}
 use mathlib.Core.Bool.{true, false, cond, true≢false}
@@ -16,11 +17,12 @@ use Rattle.run_record.specs.declared.Standing.{Standing}
 use Rattle.run_record.specs.declared.Standing.TheVariants.{Running as Runs, Stopped as Stops, Finished as Ends}
 use Rattle.run_record.specs.Record.{is_ended}
 use Rattle.run_entry.specs.State.{State}
-use Rattle.run_entry.specs.Entry.{Good, fault_of, is_fine}
+use Rattle.run_entry.specs.Entry.{Found, Good, fault_of, is_fine, by_tests}
 use Rattle.run_entry.proofs.Laws.{fault-fine, fault-good}
 use Rattle.run_finish.specs.declared.Why.{Why}
 use Rattle.run_finish.specs.declared.Why.TheVariants.{Done, Full as NoNodes, Wild as TooLarge, Over}
 use Rattle.run_units.specs.Units.{unit, is_done}
+use Rattle.run_budget.specs.declared.Answer.TheVariants.{Running, Bad}
 use Rattle.run_budget.specs.Budget.{machine, answer_of, stands_of, refused_of}
 use Rattle.descent.specs.Descent.{work, work_number, units_of, answer_kind, is_last, whole_units, units_left, works, told_all}
 use Rattle.descent.specs.Honest.{Honest, Roomy}
@@ -50,8 +52,12 @@ pub units-told : (b : ℕ) (s : State) → units_of (work b s).answer ≡ (call 
 unfolding work call go kind_at answer_of units_of
 units-told b s = by_bool (units_of (work b s).answer ≡ (call machine b s).units) (is_fine (fault_of s))
     (λ f. rw f (live (after machine b s) (units_done machine b s)))
-    (λ f. rw f)
+    (λ f. rw f (none (fault_of s)))
   where
+    none : (f : Found) → units_of (by_tests f (Running 0) Bad) ≡ 0
+    none (Ok t) = refl
+    none (Err f) = refl
+
     live : (t : State) (d : ℕ) → units_of (answer_of (cond (is_ended t.run.standing) over (cond (ltb d b) refused running)) t d) ≡ d
     live t d = by_bool (units_of (answer_of (cond (is_ended t.run.standing) over (cond (ltb d b) refused running)) t d) ≡ d) (is_ended t.run.standing)
         (λ e. rw e (units-stands t.run.standing d))
@@ -83,7 +89,11 @@ kind-refused Over d e = refl
 
 kind-same : (k : Kind) (s : State) (d e : ℕ) → answer_kind (answer_of k s d) ≡ answer_kind (answer_of k s e)
 unfolding answer_of answer_kind
-kind-same faulty s d e = refl
+kind-same faulty s d e = by (fault_of s)
+  where
+    by : (f : Found) → answer_kind (by_tests f (Running d) Bad) ≡ answer_kind (by_tests f (Running e) Bad)
+    by (Ok t) = refl
+    by (Err f) = refl
 kind-same over s d e = kind-stands s.run.standing d e
 kind-same refused s d e = kind-refused (unit s).why d e
 kind-same running s d e = refl

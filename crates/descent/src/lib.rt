@@ -3,30 +3,16 @@
 #![tactic(auto)]
 
 ghost use Rattle.std.specs.Prelude.{◌≡◌};
-ghost use Rattle.run_entry.specs.Entry.{is_fine};
 ghost use Rattle.run_entry.specs.State.{memory, state};
-ghost use Rattle.run_budget.specs.declared.Answer.TheVariants.{Bad};
 ghost use Rattle.run_budget.specs.Budget.{worked};
 ghost use Rattle.descent.specs.Descent.{work, work_number};
 
+use refusal::Numbered;
 use run_budget::go_on;
 pub use run_budget::{Answer, Worked};
-use run_entry::{Fault, fault_at, fault_number, is_fine};
+use run_entry::{Lengths, fault_at};
 use run_record::{Run, Standing};
 use tree_node::Cell;
-
-// Whether the call goes on to its units.
-fn passes(f: Fault) -> bool
-    ensures { result ≡ is_fine f }
-{
-    is_fine(f)
-}
-
-fn bad(f: Fault) -> Answer
-    ensures { result ≡ Bad f }
-{
-    Answer::Bad(f)
-}
 
 // A call with a budget: takes any record and any areas.
 pub fn work(
@@ -60,30 +46,21 @@ pub fn work(
         forces.old
         cells.old)) }
 {
-    let r = *run;
-    let f = fault_at(
-        r,
-        positions.len(),
-        increments.len(),
-        gains.len(),
-        affinities.len(),
-        forces.len(),
-        indices,
-        offsets,
-        cells,
-    );
-    let fine = passes(f);
-    if fine {
-        let t = go_on(
-            r, positions, increments, gains, affinities, indices, offsets, forces, cells, budget,
-        );
-        let x = t.run;
-        *run = x;
-        let a = t.answer;
-        return a;
+    let l = Lengths {
+        positions: positions.len(),
+        increments: increments.len(),
+        gains: gains.len(),
+        affinities: affinities.len(),
+        forces: forces.len(),
+    };
+    if let Err(f) = fault_at(*run, l, indices, offsets, cells) {
+        return Answer::Bad(f);
     }
-    let a = bad(f);
-    a
+    let t = go_on(
+        *run, positions, increments, gains, affinities, indices, offsets, forces, cells, budget,
+    );
+    *run = t.run;
+    t.answer
 }
 
 // The scope paper's number of an answer; 0: it is no refusal.
@@ -96,7 +73,7 @@ pub fn number(a: Answer) -> u8
         Answer::Finished(_) => 0,
         Answer::Full(_) => 14,
         Answer::Wild(_) => 15,
-        Answer::Bad(t) => fault_number(t),
+        Answer::Bad(f) => f.number(),
     }
 }
 

@@ -19,8 +19,7 @@ use Rattle.run_record.specs.declared.Run.{Run}
 use Rattle.run_record.specs.Record.{closed_of}
 use Rattle.run_plan.specs.Plan.{exaggeration_of}
 use Rattle.run_entry.specs.State.{memory, state}
-use Rattle.run_entry.specs.declared.Fault.{Fault}
-use Rattle.run_entry.specs.Entry.{is_fine, fault_at, fault_of}
+use Rattle.run_entry.specs.Entry.{Found, is_fine, fault_at, fault_of}
 use Rattle.run_entry.proofs.Laws.{fault-fine}
 use Rattle.run_rooms.proofs.Lists.{linked-at}
 use Rattle.divergence.specs.declared.Diverged.{Diverged}
@@ -49,15 +48,15 @@ module _ (r : Run) (y v g P : List Float) (xs off : List ℕ) (F : List Float) (
         lists-within = λ t i b. linked-at r xs off (nodes_of cs) (h.contents t) P (h.areas.tree-long t) i b;
       }
 
-  module _ (q : ℕ) (eq : q ≡ min (length y) (length z)) (f : Fault) (ef : f ≡ fault_at r q (length v) (length g) (length P) (length F) xs off (nodes_of cs)) where
+  module _ (q : ℕ) (eq : q ≡ min (length y) (length z)) (f : Found) (ef : f ≡ fault_at r q (length v) (length g) (length P) (length F) xs off (nodes_of cs)) where
     -- the fault of a state whose positions have the tested length
     fault-as : (p : List Float) → length p ≡ q → f ≡ fault_of (state r (memory p v g P xs off F cs))
     unfolding fault_of
     fault-as p lp = ef ∙ rw lp
 
     by_order : (length z ≤ length y) ⊎ (length y < length z) → is_fine f ≡ true → FigureRoom r P xs off F z
-    by_order (inl l) t = room_of z (omega arith) (subst (λ (x : Fault). is_fine x ≡ true) (fault-as z (omega (arith, eq, l))) t)
-    by_order (inr l) t = room_of y (omega arith) (subst (λ (x : Fault). is_fine x ≡ true) (fault-as y (omega (arith, eq, l))) t)
+    by_order (inl l) t = room_of z (omega arith) (subst (λ (x : Found). is_fine x ≡ true) (fault-as z (omega (arith, eq, l))) t)
+    by_order (inr l) t = room_of y (omega arith) (subst (λ (x : Found). is_fine x ≡ true) (fault-as y (omega (arith, eq, l))) t)
 
     pub divergence-asks : is_fine f ≡ true → FigureRoom r P xs off F z
     divergence-asks t = by_order (order (length y) (length z)) t
@@ -68,4 +67,4 @@ module _ (r : Run) (y v g P : List Float) (xs off : List ℕ) (F : List Float) (
 
     pub divergence-told : (t : Diverged) → t ≡ after_tests f r P xs off F z → t ≡ divergence_of r (memory y v g P xs off F cs) z
     unfolding divergence_of
-    divergence-told t et = et ∙ ap (λ (x : Fault). after_tests x r P xs off F z) fault-is
+    divergence-told t et = et ∙ ap (λ (x : Found). after_tests x r P xs off F z) fault-is

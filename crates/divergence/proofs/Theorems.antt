@@ -22,6 +22,7 @@ use Rattle.run_record.specs.Record.{is_tree, is_ended, above_zero, state_fits, s
 use Rattle.run_entry.specs.State.{Memory, memory}
 use Rattle.run_entry.specs.declared.Fault.TheVariants.{Areas}
 use Rattle.run_entry.specs.Entry.{is_fine, record_fault, areas_fit, fault_at, GoodCounters}
+use Rattle.run_entry.proofs.Laws.{found-none}
 use Rattle.run_rooms.proofs.Places.{cells-forces}
 use Rattle.divergence.specs.declared.Diverged.TheVariants.{Early, Bad}
 use Rattle.divergence.specs.Divergence.{total_of, is_zero, just_ended, too_early, divergence_fault, after_tests, divergence_of}
@@ -97,4 +98,4 @@ unfolding divergence_of after_tests divergence_fault
 zero-forces r y v g P xs off F cs z e h =
     let f = divergence_fault r (memory y v g P xs off F cs) z in
     let room = divergence-asks r y v g P xs off F cs z (min (length y) (length z)) refl f refl e in
-    rw (e, early-zero r F room.total-room.settings-good.n-some h)
+    rw (found-none f e, early-zero r F room.total-room.settings-good.n-some h)

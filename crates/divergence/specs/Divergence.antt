@@ -9,8 +9,7 @@ use Rattle.divergence_sums.specs.Sums.{kl_dense, kl_lists, AllLinked}
 use Rattle.run_record.specs.declared.Run.{Run}
 use Rattle.run_record.specs.Record.{is_tree, GoodSettings}
 use Rattle.run_entry.specs.State.{Memory}
-use Rattle.run_entry.specs.declared.Fault.{Fault}
-use Rattle.run_entry.specs.Entry.{is_fine, fault_at, fault_number}
+use Rattle.run_entry.specs.Entry.{Found, by_tests, fault_at, fault_number}
 use Rattle.divergence.specs.declared.Diverged.{Diverged}
 use Rattle.divergence.specs.declared.Diverged.TheVariants.{Figure, Early, Bad}
 
@@ -44,13 +43,13 @@ figure_of r W I O F y =
 -- ---- the order of the tests
 
 -- as in a work call, the copy an area like the positions: the shorter of the two is tested
-unfoldable pub divergence_fault : Run → Memory → List Float → Fault
+unfoldable pub divergence_fault : Run → Memory → List Float → Found
 divergence_fault r m y = fault_at r (min (length m.positions) (length y)) (length m.increments) (length m.gains) (length m.affinities)
     (length m.forces) m.indices m.offsets m.nodes
 
 -- then 17; else the figure
-unfoldable pub after_tests : Fault → Run → List Float → List ℕ → List ℕ → List Float → List Float → Diverged
-after_tests f r W I O F y = cond (is_fine f) (cond (too_early r F) Early (Figure (figure_of r W I O F y))) (Bad f)
+unfoldable pub after_tests : Found → Run → List Float → List ℕ → List ℕ → List Float → List Float → Diverged
+after_tests f r W I O F y = by_tests f (cond (too_early r F) Early (Figure (figure_of r W I O F y))) Bad
 
 unfoldable pub divergence_of : Run → Memory → List Float → Diverged
 divergence_of r m y = after_tests (divergence_fault r m y) r m.affinities m.indices m.offsets m.forces y

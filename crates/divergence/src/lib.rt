@@ -10,7 +10,8 @@ ghost use Rattle.divergence.specs.Divergence.{last_exaggeration, total_of, just_
 use divergence_sums::{barnes_hut_kl, kl_divergence};
 use gradient::element::{normaliser, share_sum};
 use laws::EARLY_ITERATIONS;
-use run_entry::{Fault, fault_at, fault_number, is_fine};
+use refusal::Numbered;
+use run_entry::{Fault, Lengths, fault_at};
 use run_record::Run;
 use run_record::faults::is_tree;
 use tree_node::Cell;
@@ -93,7 +94,7 @@ fn figure(
 
 // What is answered once the entry tests have found f.
 fn after_tests(
-    f: Fault,
+    f: Result<(), Fault>,
     r: Run,
     affinities: &[f64],
     indices: &[u32],
@@ -104,8 +105,8 @@ fn after_tests(
     requires { is_fine f ≡ true → FigureRoom r affinities.now indices.now offsets.now forces.now copy.now }
     ensures { result ≡ after_tests f r affinities.now indices.now offsets.now forces.now copy.now }
 {
-    if !is_fine(f) {
-        return Diverged::Bad(f);
+    if let Err(b) = f {
+        return Diverged::Bad(b);
     }
     if too_early(r, forces) {
         return Diverged::Early;
@@ -149,17 +150,14 @@ pub fn divergence(
         copy.now }
 {
     let least = smaller(positions.len(), copy.len());
-    let f = fault_at(
-        r,
-        least,
-        increments.len(),
-        gains.len(),
-        affinities.len(),
-        forces.len(),
-        indices,
-        offsets,
-        cells,
-    );
+    let l = Lengths {
+        positions: least,
+        increments: increments.len(),
+        gains: gains.len(),
+        affinities: affinities.len(),
+        forces: forces.len(),
+    };
+    let f = fault_at(r, l, indices, offsets, cells);
     let a = after_tests(f, r, affinities, indices, offsets, forces, copy);
     a
 }
@@ -171,6 +169,6 @@ pub fn number(a: Diverged) -> u8
     match a {
         Diverged::Figure(_) => 0,
         Diverged::Early => 17,
-        Diverged::Bad(f) => fault_number(f),
+        Diverged::Bad(f) => f.number(),
     }
 }

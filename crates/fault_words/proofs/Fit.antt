@@ -1,4 +1,4 @@
--- Words that are a record, and an answer with a word in it; and that something is told of words that are none. Assumes nothing.
+-- Words that are a record, and an answer with a word in it. Assumes nothing.
 use mathlib.Core.Path.{◌≡◌, refl}
 use mathlib.Core.List.{List}
 use mathlib.Core.Bool.{Bool, true, false, cond, not}
@@ -29,13 +29,3 @@ fit-long w k e = run_long w (not-false (run_fine w) (or_right (eqb k 0) (not (ru
 -- of fourteen words whose method there is, the settings are looked at before the state
 pub unread-state : (w : List ℕ) {s : Settings} {k : ℕ} → 14 ≤ length w → settings_fine w ≡ true → s ≡ settings_of w → k ≡ settings_fault s → settings_first k ≡ unread_fault w
 unread-state w l f es ek = rw (le-ltb (length w) 14 l, f, ek, es)
-
--- words that are no record have a fault
-pub unread-bad : (w : List ℕ) → is_fine (unread_fault w) ≡ false
-unread-bad w = by (ltb (length w) 14) (settings_fine w) (eqb (settings_fault (settings_of w)) 0)
-  where
-    by : (a b c : Bool) → is_fine (cond a Counters (cond b (cond c Counters (BadSettings (settings_fault (settings_of w)))) (BadSettings 21))) ≡ false
-    by true b c = refl
-    by false true true = refl
-    by false true false = refl
-    by false false c = refl

@@ -1,15 +1,16 @@
 -- A fault and what comes with it, as plain words of 64 bits; and what is told of words that are no record. Definitions only.
 use Rattle.std.specs.Prelude.{List, Bool, cond, not, ◌||◌, ℕ, eqb, ltb, length, set}
+use Rattle.refusal.specs.declared.Refusal.TheVariants.{Method as NoMethod}
+use Rattle.refusal.specs.Refusal.{refusal_number, refusal_of}
 use Rattle.run_entry.specs.declared.Fault.{Fault}
-use Rattle.run_entry.specs.declared.Fault.TheVariants.{Fine, Settings as BadSettings, Counters, Areas, Offsets, Index, Tree}
+use Rattle.run_entry.specs.declared.Fault.TheVariants.{Settings as BadSettings, Counters, Areas, Offsets, Index, Tree}
 use Rattle.run_record.specs.Record.{settings_fault}
 use Rattle.run_entry.specs.Entry.{fault_number}
 use Rattle.record_words.specs.RecordWords.{settings_fine, settings_of, run_fine, Worded, worded}
 
--- 0 none, 1 settings, 2 counters, 3 areas, 4 offsets, 5 listed index, 6 tree
+-- 1 settings, 2 counters, 3 areas, 4 offsets, 5 listed index, 6 tree
 abbrev pub fault_word : Fault → ℕ
-fault_word Fine = 0
-fault_word (BadSettings k) = 1
+fault_word (BadSettings r) = 1
 fault_word Counters = 2
 fault_word Areas = 3
 fault_word (Offsets i) = 4
@@ -18,8 +19,7 @@ fault_word (Tree i) = 6
 
 -- what comes with it: the number that the settings would have had, the frame, the place, the node
 abbrev pub fault_value : Fault → ℕ
-fault_value Fine = 0
-fault_value (BadSettings k) = k
+fault_value (BadSettings r) = refusal_number r
 fault_value Counters = 0
 fault_value Areas = 0
 fault_value (Offsets i) = i
@@ -28,12 +28,12 @@ fault_value (Tree i) = i
 
 -- settings that get the number k are told before counters
 abbrev pub settings_first : ℕ → Fault
-settings_first k = cond (eqb k 0) Counters (BadSettings k)
+settings_first k = cond (eqb k 0) Counters (BadSettings (refusal_of k))
 
 -- what is told of words that are no record: too few words, as counters; a method that there is not, as settings, with the 21 that preparation would give; a
 -- state that there is not, as counters, where the settings are good
 abbrev pub unread_fault : List ℕ → Fault
-unread_fault w = cond (ltb (length w) 14) Counters (cond (settings_fine w) (settings_first (settings_fault (settings_of w))) (BadSettings 21))
+unread_fault w = cond (ltb (length w) 14) Counters (cond (settings_fine w) (settings_first (settings_fault (settings_of w))) (BadSettings NoMethod))
 
 -- ---- a call that is lent a record as words, and words to answer in
 

@@ -7,15 +7,14 @@ ghost use Rattle.record_words.specs.RecordWords.{worded};
 ghost use Rattle.fault_words.specs.FaultWords.{fault_word, fault_value, unread_fault, unfit, unfit_told};
 
 use record_words::{run_fine, settings_fine, settings_of};
-use run_entry::{Fault, fault_number};
-use refusal::number;
+use refusal::{Numbered, Refusal};
+use run_entry::Fault;
 use run_record::faults::settings_fault;
 
 pub fn fault_word(f: Fault) -> u64
     ensures { result ≡ fault_word f }
 {
     match f {
-        Fault::Fine => 0,
         Fault::Settings(_) => 1,
         Fault::Counters => 2,
         Fault::Areas => 3,
@@ -29,8 +28,7 @@ pub fn fault_value(f: Fault) -> u64
     ensures { result ≡ fault_value f }
 {
     match f {
-        Fault::Fine => 0,
-        Fault::Settings(k) => k as u64,
+        Fault::Settings(r) => r.number() as u64,
         Fault::Counters => 0,
         Fault::Areas => 0,
         Fault::Offsets(i) => i as u64,
@@ -47,24 +45,19 @@ pub fn unread_fault(words: &[u64]) -> Fault
         return Fault::Counters;
     }
     if !settings_fine(words) {
-        return Fault::Settings(21);
+        return Fault::Settings(Refusal::Method);
     }
-    let s = settings_of(words);
-    let k = number(settings_fault(s));
-    if k != 0 {
-        return Fault::Settings(k);
+    match settings_fault(settings_of(words)) {
+        Err(r) => Fault::Settings(r),
+        Ok(_) => Fault::Counters,
     }
-    Fault::Counters
 }
 
 // Whether an answer of so many words has none, or the words are no record.
 pub fn is_unfit(words: &[u64], told: usize) -> bool
     ensures { result ≡ unfit words.now told }
 {
-    if told == 0 {
-        return true;
-    }
-    !run_fine(words)
+    told == 0 || !run_fine(words)
 }
 
 // Answers 12, or the number of what is wrong with the words, and tells what comes with it.
@@ -76,5 +69,5 @@ pub fn put_unfit(words: &[u64], answer: &mut [u64]) -> u32
     }
     let f = unread_fault(words);
     answer[0] = fault_value(f);
-    fault_number(f) as u32
+    f.number() as u32
 }

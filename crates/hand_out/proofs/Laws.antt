@@ -1,4 +1,5 @@
 -- What the entry tests show of a run that is handed out, what is answered in each case, and what the call cites. Assumes nothing.
+use Rattle.std.specs.Prelude.{Err}
 use mathlib.Core.List.{List}
 use mathlib.Core.Path.{◌≡◌, sym, ap, subst, ◌∙◌}
 use mathlib.Core.Bool.{true, false}
@@ -18,8 +19,8 @@ use Rattle.tree_node.specs.Arena.{nodes_of}
 use Rattle.run_record.specs.Record.{is_ended}
 use Rattle.run_entry.specs.declared.Fault.{Fault}
 use Rattle.run_entry.specs.State.{Memory, memory, state}
-use Rattle.run_entry.specs.Entry.{is_fine, fault_of}
-use Rattle.run_entry.proofs.Laws.{fault-fine}
+use Rattle.run_entry.specs.Entry.{Found, is_fine, fault_of}
+use Rattle.run_entry.proofs.Laws.{found-none, fault-fine}
 use Rattle.record_words.specs.RecordWords.{settings_of, standing_of, run_of}
 use Rattle.record_words.proofs.Laws.{run_long}
 use Rattle.words_entry.specs.WordsEntry.{words_fault}
@@ -47,38 +48,38 @@ along-told y n o g a b = rw (b, a)
 
 -- ---- once the tests have found f: what is answered in each case
 
-module _ (f : Fault) (w : List ℕ) (y : List Float) (o g : List ℕ) where
-  pub hand-bad : is_fine f ≡ false → handing (Bad f) o g ≡ hand_tested f w y o g
+module _ (f : Found) (w : List ℕ) (y : List Float) (o g : List ℕ) where
+  pub hand-bad : (b : Fault) → f ≡ Err b → handing (Bad b) o g ≡ hand_tested f w y o g
   unfolding hand_tested
-  hand-bad e = rw e
+  hand-bad b e = rw e
 
   module _ (e : is_fine f ≡ true) where
     pub hand-outside : in_profile (settings_of w) ≡ false → handing Outside o g ≡ hand_tested f w y o g
     unfolding hand_tested
-    hand-outside p = rw (e, p)
+    hand-outside p = rw (found-none f e, p)
 
     module _ (p : in_profile (settings_of w) ≡ true) where
       pub hand-early : is_ended (standing_of (num w 9)) ≡ false → handing Early o g ≡ hand_tested f w y o g
       unfolding hand_tested
-      hand-early s = rw (e, p, s)
+      hand-early s = rw (found-none f e, p, s)
 
       module _ (s : is_ended (standing_of (num w 9)) ≡ true) where
         pub hand-barred : calm_along y (num w 0) ≡ false → handing Barred o g ≡ hand_tested f w y o g
         unfolding hand_tested
-        hand-barred c = rw (e, p, s, c)
+        hand-barred c = rw (found-none f e, p, s, c)
 
         module _ (c : calm_along y (num w 0) ≡ true) where
           pub order-short : length o < num w 0 → handing Short o g ≡ hand_tested f w y o g
           unfolding hand_tested
-          order-short h = rw (e, p, s, c, lt-ltb (length o) (num w 0) h)
+          order-short h = rw (found-none f e, p, s, c, lt-ltb (length o) (num w 0) h)
 
           pub gaps-short : length g < num w 0 → handing Short o g ≡ hand_tested f w y o g
           unfolding hand_tested
-          gaps-short h = rw (e, p, s, c, or_yes (ltb (length o) (num w 0)) (ltb (length g) (num w 0)) (lt-ltb (length g) (num w 0) h))
+          gaps-short h = rw (found-none f e, p, s, c, or_yes (ltb (length o) (num w 0)) (ltb (length g) (num w 0)) (lt-ltb (length g) (num w 0) h))
 
           pub handed-along : num w 0 ≤ length o → num w 0 ≤ length g → along_line y (num w 0) o g ≡ hand_tested f w y o g
           unfolding hand_tested
-          handed-along h k = rw (e, p, s, c, le-ltb (length o) (num w 0) h, le-ltb (length g) (num w 0) k)
+          handed-along h k = rw (found-none f e, p, s, c, le-ltb (length o) (num w 0) h, le-ltb (length g) (num w 0) k)
 
 -- ---- what the entry tests show
 
@@ -100,13 +101,13 @@ hand-room w m e =
 
 module _ (w : List ℕ) (P I G A : List Float) (xs off : List ℕ) (F : List Float) (cs : List Cell) (p i g a f : ℕ) (lp : length P ≡ p) (li : length I ≡ i)
     (lg : length G ≡ g) (la : length A ≡ a) (lf : length F ≡ f)
-    (t : Fault) (et : t ≡ words_fault w p i g a f xs off (nodes_of cs)) where
+    (t : Found) (et : t ≡ words_fault w p i g a f xs off (nodes_of cs)) where
   fault-is : t ≡ hand_fault w (memory P I G A xs off F cs)
   fault-is = et ∙ rw (lp, li, lg, la, lf)
 
   pub hand-asks : is_fine t ≡ true → HandRoom w P
-  hand-asks e = hand-room w (memory P I G A xs off F cs) (subst (λ (x : Fault). is_fine x ≡ true) fault-is e)
+  hand-asks e = hand-room w (memory P I G A xs off F cs) (subst (λ (x : Found). is_fine x ≡ true) fault-is e)
 
   pub hand-said : (x : Handed) (o₀ o g₀ g : List ℕ) → handing x o g ≡ hand_tested t w P o₀ g₀ → handing x o g ≡ handed_out w (memory P I G A xs off F cs) o₀ g₀
   unfolding handed_out
-  hand-said x o₀ o g₀ g e = e ∙ ap (λ (y : Fault). hand_tested y w P o₀ g₀) fault-is
+  hand-said x o₀ o g₀ g e = e ∙ ap (λ (y : Found). hand_tested y w P o₀ g₀) fault-is

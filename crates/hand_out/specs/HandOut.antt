@@ -6,8 +6,7 @@ use Rattle.laws.specs.Area.{at, num}
 use Rattle.elementary.specs.Limits.{calm}
 use Rattle.run_record.specs.Record.{is_ended}
 use Rattle.run_entry.specs.State.{Memory}
-use Rattle.run_entry.specs.declared.Fault.{Fault}
-use Rattle.run_entry.specs.Entry.{is_fine, fault_number}
+use Rattle.run_entry.specs.Entry.{Found, by_tests, fault_number}
 use Rattle.record_words.specs.RecordWords.{settings_of, standing_of}
 use Rattle.words_entry.specs.WordsEntry.{words_fault}
 use Rattle.strip_order.specs.Strip.{strip_order, strip_gaps}
@@ -34,18 +33,19 @@ along_line y n o g = handing (Done n) (strip_order y n o) (strip_gaps y (strip_o
 
 -- once the entry tests have found f: 20 for settings outside the profile, 17 before the run has ended, 15 for a position that it bars, 12 for order or gaps
 -- below n. w are the record's words, y the positions
-unfoldable pub hand_tested : Fault → List ℕ → List Float → List ℕ → List ℕ → Handing
+unfoldable pub hand_tested : Found → List ℕ → List Float → List ℕ → List ℕ → Handing
 hand_tested f w y o g =
     let n = num w 0 in
-    cond (not (is_fine f)) (handing (Bad f) o g)
+    by_tests f
     (cond (not (in_profile (settings_of w))) (handing Outside o g)
     (cond (not (is_ended (standing_of (num w 9)))) (handing Early o g)
     (cond (not (calm_along y n)) (handing Barred o g)
     (cond (ltb (length o) n || ltb (length g) n) (handing Short o g)
     (along_line y n o g)))))
+    (λ b. handing (Bad b) o g)
 
 -- what the entry tests of a work call find of the words w and the areas m
-abbrev pub hand_fault : List ℕ → Memory → Fault
+abbrev pub hand_fault : List ℕ → Memory → Found
 hand_fault w m = words_fault w (length m.positions) (length m.increments) (length m.gains) (length m.affinities) (length m.forces) m.indices m.offsets m.nodes
 
 -- the run with the words w and the areas m, handed out to o and g

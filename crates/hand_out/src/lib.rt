@@ -10,7 +10,8 @@ ghost use Rattle.hand_out.specs.HandOut.{calm_along, handing, along_line, hand_t
 
 use elementary::limits::is_calm;
 use record_words::{settings_of, standing_of};
-use run_entry::{Fault, fault_number, is_fine};
+use refusal::Numbered;
+use run_entry::{Fault, Lengths};
 use run_record::counters::is_ended;
 use strip_order::{put_gaps, put_order};
 use strip_profile::in_profile;
@@ -59,7 +60,7 @@ fn put_along(y: &[f64], n: usize, order: &mut [u32], gaps: &mut [u64]) -> Handed
 
 // Once the entry tests have found a fault or none: refuses, or writes order and gaps.
 fn hand_tested(
-    fault: Fault,
+    fault: Result<(), Fault>,
     words: &[u64],
     positions: &[f64],
     order: &mut [u32],
@@ -68,8 +69,8 @@ fn hand_tested(
     requires { is_fine fault ≡ true → HandRoom words.now positions.now }
     ensures { handing result order.new gaps.new ≡ hand_tested fault words.now positions.now order.old gaps.old }
 {
-    if !is_fine(fault) {
-        return Handed::Bad(fault);
+    if let Err(f) = fault {
+        return Handed::Bad(f);
     }
     let s = settings_of(words);
     if !in_profile(s) {
@@ -120,17 +121,14 @@ pub fn hand_out(
         order.old
         gaps.old }
 {
-    let t = words_fault(
-        words,
-        positions.len(),
-        increments.len(),
-        gains.len(),
-        affinities.len(),
-        forces.len(),
-        indices,
-        offsets,
-        cells,
-    );
+    let l = Lengths {
+        positions: positions.len(),
+        increments: increments.len(),
+        gains: gains.len(),
+        affinities: affinities.len(),
+        forces: forces.len(),
+    };
+    let t = words_fault(words, l, indices, offsets, cells);
     let a = hand_tested(t, words, positions, order, gaps);
     a
 }
@@ -145,6 +143,6 @@ pub fn number(a: Handed) -> u8
         Handed::Early => 17,
         Handed::Barred => 15,
         Handed::Short => 12,
-        Handed::Bad(f) => fault_number(f),
+        Handed::Bad(f) => f.number(),
     }
 }

@@ -9,10 +9,10 @@ use Rattle.run_calls.specs.Machine.{Kind, faulty, over, refused, running, Called
 use Rattle.run_record.specs.declared.Run.{Run}
 use Rattle.run_record.specs.declared.Standing.{Standing}
 use Rattle.run_entry.specs.State.{State}
-use Rattle.run_entry.specs.Entry.{is_fine, fault_of}
+use Rattle.run_entry.specs.Entry.{Found, is_fine, by_tests, fault_of}
 use Rattle.run_finish.specs.declared.Why.{Why}
 use Rattle.run_units.specs.Units.{unit}
-use Rattle.run_budget.specs.declared.Answer.TheVariants.{Bad}
+use Rattle.run_budget.specs.declared.Answer.TheVariants.{Running, Bad}
 use Rattle.run_budget.specs.Budget.{machine, answer_of, stands_of, refused_of}
 use Rattle.descent.specs.Descent.{work, works, told_all}
 use Rattle.mirror.specs.Mirror.{ShowsState, ShowsCalls}
@@ -76,7 +76,7 @@ module _ (turns : ℕ → Bool) where
 
   answer-same : (k : Kind) (d : ℕ) (s t : State) → ShowsState turns s t → answer_of k s d ≡ answer_of k t d
   unfolding answer_of
-  answer-same faulty d s t w = ap Bad (fault-mirrored s t w)
+  answer-same faulty d s t w = ap (λ (f : Found). by_tests f (Running d) Bad) (fault-mirrored s t w)
   answer-same over d s t w = ap (λ (z : Standing). stands_of z d) (stands_same s t w)
   answer-same refused d s t w = ap (λ (z : Why). refused_of z d) (unit-mirrored turns s t w).why
   answer-same running d s t w = refl

@@ -1,4 +1,5 @@
 -- What the entry tests on words show of a run that is parked, what the loop that writes its words keeps, and what the call cites. Assumes nothing.
+use Rattle.std.specs.Prelude.{Err}
 use mathlib.Core.List.{List, ◌++◌, append_assoc}
 use mathlib.Core.Path.{◌≡◌, refl, sym, ap, subst, ◌∙◌}
 use mathlib.Core.Bool.{Bool, true, false, ◌&&◌}
@@ -21,8 +22,8 @@ use Rattle.run_record.specs.declared.Run.{Run}
 use Rattle.run_record.specs.Record.{is_tree, k_of, sizes_of}
 use Rattle.run_record.proofs.Laws.{k-most}
 use Rattle.run_entry.specs.declared.Fault.{Fault}
-use Rattle.run_entry.specs.Entry.{is_fine, offset_fine, listed}
-use Rattle.run_entry.proofs.Laws.{GoodAt, at-fine, links-is}
+use Rattle.run_entry.specs.Entry.{Found, is_fine, offset_fine, listed}
+use Rattle.run_entry.proofs.Laws.{found-none, GoodAt, at-fine, links-is}
 use Rattle.record_words.specs.RecordWords.{settings_fine, settings_of, run_fine, run_of}
 use Rattle.record_words.proofs.Laws.{method-tree, run_long}
 use Rattle.words_entry.specs.WordsEntry.{words_fault}
@@ -93,7 +94,7 @@ module _ (w P I G A : List ℕ) (f : ℕ) (xs off : List ℕ) (ns : List Node) w
   abbrev Seen : Type 0
   Seen = Shown run (length P) (length I) (length G) (length A) f xs off ns
 
-  abbrev fault : Fault
+  abbrev fault : Found
   fault = words_fault w (length P) (length I) (length G) (length A) f xs off ns
 
   read : is_fine fault ≡ true → (run_fine w ≡ true) × Seen
@@ -160,40 +161,40 @@ module _ (d : Stored) (l : Layout) (el : l ≡ layout_in d.run d.offsets) (g : P
       subst (λ (x : Layout). x.end ≤ 100000000) (sym el)
       (end-most tree (num d.run 0) (num d.run 2) (links_in tree (num d.run 0) d.offsets) r.frames-most r.components-most r.links-most)
 
-module _ (f : Fault) (d : Stored) (t : List ℕ) where
-  pub bad-said : is_fine f ≡ false → parking (Bad f) t ≡ park_tested f d t
+module _ (f : Found) (d : Stored) (t : List ℕ) where
+  pub bad-said : (b : Fault) → f ≡ Err b → parking (Bad b) t ≡ park_tested f d t
   unfolding park_tested
-  bad-said e = rw e
+  bad-said b e = rw e
 
   module _ (e : is_fine f ≡ true) where
     pub inside-said : (num d.run 11 ≡ 0 → ⊥) → parking Inside t ≡ park_tested f d t
     unfolding park_tested
-    inside-said n = rw (e, ne_eqb (num d.run 11) 0 n)
+    inside-said n = rw (found-none f e, ne_eqb (num d.run 11) 0 n)
 
     module _ (z : num d.run 11 ≡ 0) (l : Layout) (el : l ≡ layout_in d.run d.offsets) where
       pub barred-said : calm_state l.cells d.positions d.increments d.gains ≡ false → parking Barred t ≡ park_tested f d t
       unfolding park_tested
-      barred-said n = rw (e, eq-eqb (num d.run 11) 0 z, sym el, n)
+      barred-said n = rw (found-none f e, eq-eqb (num d.run 11) 0 z, sym el, n)
 
       module _ (c : calm_state l.cells d.positions d.increments d.gains ≡ true) where
         pub small-said : length t < 8 * l.end → parking Short t ≡ park_tested f d t
         unfolding park_tested
-        small-said h = rw (e, eq-eqb (num d.run 11) 0 z, sym el, c, lt-ltb (length t) (8 * l.end) h)
+        small-said h = rw (found-none f e, eq-eqb (num d.run 11) 0 z, sym el, c, lt-ltb (length t) (8 * l.end) h)
 
         pub written-said : 8 * l.end ≤ length t → (t' : List ℕ) → t' ≡ parked_into l d t → parking (Written (l.end / 4)) t' ≡ park_tested f d t
         unfolding park_tested
-        written-said h t' q = rw (e, eq-eqb (num d.run 11) 0 z, sym el, c, le-ltb (length t) (8 * l.end) h, q)
+        written-said h t' q = rw (found-none f e, eq-eqb (num d.run 11) 0 z, sym el, c, le-ltb (length t) (8 * l.end) h, q)
 
 -- ---- what the call cites, with the machine's counts of the areas
 
 module _ (w P I G A xs off : List ℕ) (f : ℕ) (cs : List Cell) (p i g a : ℕ) (lp : length P ≡ p) (li : length I ≡ i) (lg : length G ≡ g) (la : length A ≡ a)
-    (t : Fault) (et : t ≡ words_fault w p i g a f xs off (nodes_of cs)) where
+    (t : Found) (et : t ≡ words_fault w p i g a f xs off (nodes_of cs)) where
   fault-is : t ≡ fault w P I G A f xs off (nodes_of cs)
   fault-is = et ∙ rw (lp, li, lg, la)
 
   pub park-asks : is_fine t ≡ true → ParkRoom (stored_of w P I G A xs off)
-  park-asks e = park-room w P I G A f xs off (nodes_of cs) (subst (λ (x : Fault). is_fine x ≡ true) fault-is e)
+  park-asks e = park-room w P I G A f xs off (nodes_of cs) (subst (λ (x : Found). is_fine x ≡ true) fault-is e)
 
   pub park-said : (x : Parked) (b₀ b : List ℕ) → parking x b ≡ park_tested t (stored_of w P I G A xs off) b₀ → parking x b ≡ park_of (stored_of w P I G A xs off) f (nodes_of cs) b₀
   unfolding park_of
-  park-said x b₀ b e = e ∙ ap (λ (y : Fault). park_tested y (stored_of w P I G A xs off) b₀) fault-is
+  park-said x b₀ b e = e ∙ ap (λ (y : Found). park_tested y (stored_of w P I G A xs off) b₀) fault-is

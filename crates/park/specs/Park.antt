@@ -7,8 +7,7 @@ use Rattle.laws.specs.Joined.{laid}
 use Rattle.elementary.specs.Limits.{calm}
 use Rattle.little.specs.Little.{little_bytes}
 use Rattle.tree_node.specs.declared.Node.{Node}
-use Rattle.run_entry.specs.declared.Fault.{Fault}
-use Rattle.run_entry.specs.Entry.{is_fine, fault_number}
+use Rattle.run_entry.specs.Entry.{Found, by_tests, fault_number}
 use Rattle.words_entry.specs.WordsEntry.{words_fault}
 use Rattle.parked.specs.declared.Layout.{Layout}
 use Rattle.parked.specs.Layout.{records_in}
@@ -36,14 +35,15 @@ unfoldable pub parked_into : Layout → Stored → List ℕ → List ℕ
 parked_into l d t = laid (λ w. little_bytes 8 (parked_word l d w)) 8 l.end t
 
 -- once the entry tests have found f: 17 inside an iteration, 15 for a value that it bars, 12 for a target below the records needed
-unfoldable pub park_tested : Fault → Stored → List ℕ → Parking
+unfoldable pub park_tested : Found → Stored → List ℕ → Parking
 park_tested f d t =
     let l = layout_in d.run d.offsets in
-    cond (not (is_fine f)) (parking (Bad f) t)
+    by_tests f
     (cond (not (eqb (num d.run 11) 0)) (parking Inside t)
     (cond (not (calm_state l.cells d.positions d.increments d.gains)) (parking Barred t)
     (cond (ltb (length t) (8 * l.end)) (parking Short t)
     (parking (Written (records_in l)) (parked_into l d t)))))
+    (λ b. parking (Bad b) t)
 
 -- the run in d with so many forces and these nodes, written to t
 unfoldable pub park_of : Stored → ℕ → List Node → List ℕ → Parking

@@ -13,7 +13,8 @@ use elementary::limits::is_calm;
 use elementary::words::value_of;
 use little::put_word;
 use parked::{Layout, layout_of, parked_word};
-use run_entry::{Fault, fault_number, is_fine};
+use refusal::Numbered;
+use run_entry::{Fault, Lengths};
 use tree_node::Cell;
 use words_entry::words_fault;
 
@@ -106,7 +107,7 @@ fn put_words(
 
 // Once the entry tests have found f: refuses, or writes the records.
 fn put_tested(
-    fault: Fault,
+    fault: Result<(), Fault>,
     words: &[u64],
     positions: &[u64],
     increments: &[u64],
@@ -119,8 +120,8 @@ fn put_tested(
     requires { is_fine fault ≡ true → ParkRoom (stored_of words.now positions.now increments.now gains.now affinities.now indices.now offsets.now) }
     ensures { parking result target.new ≡ park_tested fault (stored_of words.now positions.now increments.now gains.now affinities.now indices.now offsets.now) target.old }
 {
-    if !is_fine(fault) {
-        return Parked::Bad(fault);
+    if let Err(f) = fault {
+        return Parked::Bad(f);
     }
     if words[11] != 0 {
         return Parked::Inside;
@@ -153,17 +154,14 @@ pub fn park(
 ) -> Parked
     ensures { parking result target.new ≡ park_of (stored_of words.now positions.now increments.now gains.now affinities.now indices.now offsets.now) forces (nodes_of cells.now) target.old }
 {
-    let t = words_fault(
-        words,
-        positions.len(),
-        increments.len(),
-        gains.len(),
-        affinities.len(),
+    let l = Lengths {
+        positions: positions.len(),
+        increments: increments.len(),
+        gains: gains.len(),
+        affinities: affinities.len(),
         forces,
-        indices,
-        offsets,
-        cells,
-    );
+    };
+    let t = words_fault(words, l, indices, offsets, cells);
     let a = put_tested(
         t, words, positions, increments, gains, affinities, indices, offsets, target,
     );
@@ -179,6 +177,6 @@ pub fn number(a: Parked) -> u8
         Parked::Inside => 17,
         Parked::Barred => 15,
         Parked::Short => 12,
-        Parked::Bad(f) => fault_number(f),
+        Parked::Bad(f) => f.number(),
     }
 }

@@ -1,4 +1,5 @@
 -- A run is written exactly where its words are a record, the state that they are is in good order and between two iterations, 15 bars no value, and the target has room. Assumes nothing.
+use Rattle.std.specs.Prelude.{Ok, Err}
 use mathlib.Core.Path.{◌≡◌, refl, sym, ap, ◌∙◌}
 use mathlib.Core.List.{List}
 use mathlib.Core.Bool.{Bool, true, false, cond, not, true≢false}
@@ -11,13 +12,10 @@ use Rattle.laws.specs.Area.{num, bits, zero64}
 use Rattle.laws.proofs.Bools.{by_bool}
 use Rattle.laws.proofs.Joined.{length-map}
 use Rattle.tree_node.specs.declared.Node.{Node}
-use Rattle.run_entry.specs.declared.Fault.{Fault}
-use Rattle.run_entry.specs.declared.Fault.TheVariants.{Fine}
-use Rattle.run_entry.specs.Entry.{is_fine, fault_of, Good}
+use Rattle.run_entry.specs.Entry.{Found, is_fine, by_tests, fault_of, Good}
 use Rattle.run_entry.proofs.Laws.{fault-fine, fault-good}
 use Rattle.record_words.specs.RecordWords.{run_fine}
 use Rattle.fault_words.specs.FaultWords.{unread_fault}
-use Rattle.fault_words.proofs.Fit.{unread-bad}
 use Rattle.words_entry.specs.WordsEntry.{words_fault}
 use Rattle.parked.specs.declared.Layout.{Layout}
 use Rattle.parked.specs.Layout.{records_in}
@@ -30,19 +28,19 @@ use Rattle.parking.specs.Held.{state_in}
 -- ---- the entry tests
 
 module _ (d : Stored) (F : List Float) (ns : List Node) where
-  abbrev found : Fault
+  abbrev found : Found
   found = words_fault d.run (length d.positions) (length d.increments) (length d.gains) (length d.affinities) (length F) d.indices d.offsets ns
 
-  found-is : found ≡ cond (run_fine d.run) (fault_of (state_in d F ns)) (unread_fault d.run)
+  found-is : found ≡ cond (run_fine d.run) (fault_of (state_in d F ns)) (Err (unread_fault d.run))
   unfolding words_fault fault_of
   found-is = rw (length-map bits d.positions, length-map bits d.increments, length-map bits d.gains, length-map bits d.affinities)
 
   entry-fine : is_fine found ≡ true → (run_fine d.run ≡ true) × Good (state_in d F ns)
   entry-fine e = by_bool _ (run_fine d.run)
       (λ t. (t, fault-fine (state_in d F ns) (rw t at (sym (ap is_fine found-is) ∙ e))))
-      (λ t. absurd (true≢false (sym (rw t at (sym (ap is_fine found-is) ∙ e)) ∙ unread-bad d.run)))
+      (λ t. absurd (true≢false (sym (rw t at (sym (ap is_fine found-is) ∙ e)))))
 
-  entry-good : run_fine d.run ≡ true → Good (state_in d F ns) → found ≡ Fine
+  entry-good : run_fine d.run ≡ true → Good (state_in d F ns) → found ≡ Ok tt
   entry-good t g = found-is ∙ rw (t, fault-good (state_in d F ns) g)
 
 -- ---- the answer
@@ -73,6 +71,11 @@ unfolding is_written
 passes true x y k n e = absurd (true≢false (sym (ap is_written e) ∙ n))
 passes false x y k n e = (refl, e)
 
+passes-tests : (f : Found) (t : List ℕ) (y : Parking) (k : ℕ) → (by_tests f y (λ b. parking (Bad b) t)).answer ≡ Written k → (is_fine f ≡ true) × (y.answer ≡ Written k)
+unfolding is_written
+passes-tests (Ok u) t y k e = (refl, e)
+passes-tests (Err b) t y k e = absurd (true≢false (sym (ap is_written e)))
+
 module _ (d : Stored) (F : List Float) (ns : List Node) (t : List ℕ) where
   abbrev lies : Layout
   lies = layout_in d.run d.offsets
@@ -91,11 +94,11 @@ module _ (d : Stored) (F : List Float) (ns : List Node) (t : List ℕ) where
       let e4 = cond (ltb (length t) (8 * lies.end)) (parking Short t) written_into in
       let e3 = cond (not (calm_state lies.cells d.positions d.increments d.gains)) (parking Barred t) e4 in
       let e2 = cond (not (eqb (num d.run 11) 0)) (parking Inside t) e3 in
-      let a = passes (not (is_fine f)) (parking (Bad f) t) e2 k refl e in
+      let a = passes-tests f t e2 k e in
       let b = passes (not (eqb (num d.run 11) 0)) (parking Inside t) e3 k refl a.1 in
       let c = passes (not (calm_state lies.cells d.positions d.increments d.gains)) (parking Barred t) e4 k refl b.1 in
       let s = passes (ltb (length t) (8 * lies.end)) (parking Short t) written_into k refl c.1 in
-      let g = entry-fine d F ns (not-false (is_fine f) a.0) in (
+      let g = entry-fine d F ns a.0 in (
         record {
           read = g.0;
           good = g.1;

@@ -18,7 +18,7 @@ use elementary::words::value_of;
 use partner::{first_bad_link, given_links};
 use partner_load::{load_links, load_offsets};
 use refusal::{Numbered, Refusal};
-use run_entry::areas_fit;
+use run_entry::{Lengths, areas_fit};
 use run_record::faults::{settings_fault, sizes_of, times};
 use run_record::progress::fresh_run;
 use run_record::{Method, Run, Settings, Sizes};
@@ -103,17 +103,14 @@ pub fn import_fault(s: Settings, start: &[u64], l: LentLengths) -> Result<(), Re
     if start.len() != m || !start_fine(start, m) {
         return Err(Refusal::Start);
     }
-    if !areas_fit(
-        s,
-        l.positions,
-        l.increments,
-        l.gains,
-        l.affinities,
-        l.indices,
-        l.offsets,
-        l.forces,
-        l.nodes,
-    ) {
+    let areas = Lengths {
+        positions: l.positions,
+        increments: l.increments,
+        gains: l.gains,
+        affinities: l.affinities,
+        forces: l.forces,
+    };
+    if !areas_fit(s, areas, l.indices, l.offsets, l.nodes) {
         return Err(Refusal::Short);
     }
     Ok(())

@@ -1,4 +1,5 @@
 -- Lists of records written one after the other, what the entry tests on words show of a run whose lists are written, and what the call cites. Assumes nothing.
+use Rattle.std.specs.Prelude.{Err}
 use mathlib.Core.List.{List, [], ◌++◌, append_assoc, append-nil}
 use mathlib.Core.Path.{◌≡◌, refl, sym, ap, subst, ◌∙◌}
 use mathlib.Core.Bool.{true, false, ◌&&◌}
@@ -23,8 +24,8 @@ use Rattle.tree_node.specs.Arena.{nodes_of}
 use Rattle.run_record.specs.declared.Run.{Run}
 use Rattle.run_record.specs.Record.{is_tree, sizes_of}
 use Rattle.run_entry.specs.declared.Fault.{Fault}
-use Rattle.run_entry.specs.Entry.{is_fine, offset_fine}
-use Rattle.run_entry.proofs.Laws.{GoodAt, at-fine, links-is}
+use Rattle.run_entry.specs.Entry.{Found, is_fine, offset_fine}
+use Rattle.run_entry.proofs.Laws.{found-none, GoodAt, at-fine, links-is}
 use Rattle.record_words.specs.RecordWords.{method_of, settings_of, run_of}
 use Rattle.record_words.proofs.Laws.{run_long}
 use Rattle.words_entry.specs.WordsEntry.{words_fault}
@@ -174,7 +175,7 @@ tree-word x e = rw e
 
 -- what the tests ask of the run's words and areas is what the writing asks
 module _ (w P I G A : List ℕ) (f : ℕ) (xs off : List ℕ) (ns : List Node) where
-  abbrev found : Fault
+  abbrev found : Found
   found = words_fault w (length P) (length I) (length G) (length A) f xs off ns
 
   write-room : is_fine found ≡ true → WriteRoom w A xs off
@@ -189,35 +190,35 @@ module _ (w P I G A : List ℕ) (f : ℕ) (xs off : List ℕ) (ns : List Node) w
 
 -- ---- once they have found f: what is answered in each case
 
-module _ (f : Fault) (w W I O t : List ℕ) where
-  pub lists-bad : is_fine f ≡ false → listing (Bad f) t ≡ lists_tested f w W I O t
+module _ (f : Found) (w W I O t : List ℕ) where
+  pub lists-bad : (b : Fault) → f ≡ Err b → listing (Bad b) t ≡ lists_tested f w W I O t
   unfolding lists_tested
-  lists-bad e = rw e
+  lists-bad b e = rw e
 
   module _ (e : is_fine f ≡ true) where
     pub lists-none : (num w 3 ≡ 1 → ⊥) → listing NoLists t ≡ lists_tested f w W I O t
     unfolding lists_tested
-    lists-none n = rw (e, ne_eqb (num w 3) 1 n)
+    lists-none n = rw (found-none f e, ne_eqb (num w 3) 1 n)
 
     module _ (m : num w 3 ≡ 1) where
       pub lists-short : length t < 16 * num O (num w 0) → listing Short t ≡ lists_tested f w W I O t
       unfolding lists_tested
-      lists-short h = rw (e, eq-eqb (num w 3) 1 m, lt-ltb (length t) (16 * num O (num w 0)) h)
+      lists-short h = rw (found-none f e, eq-eqb (num w 3) 1 m, lt-ltb (length t) (16 * num O (num w 0)) h)
 
       pub lists-told : 16 * num O (num w 0) ≤ length t → (t' : List ℕ) → t' ≡ lists_into (num w 0) W I O t → listing (Written (num O (num w 0))) t' ≡ lists_tested f w W I O t
       unfolding lists_tested
-      lists-told h t' q = rw (e, eq-eqb (num w 3) 1 m, le-ltb (length t) (16 * num O (num w 0)) h, q)
+      lists-told h t' q = rw (found-none f e, eq-eqb (num w 3) 1 m, le-ltb (length t) (16 * num O (num w 0)) h, q)
 
 -- ---- what the call cites, with the machine's counts of the areas
 
 module _ (w P I G A xs off : List ℕ) (f : ℕ) (cs : List Cell) (p i g a : ℕ) (lp : length P ≡ p) (li : length I ≡ i) (lg : length G ≡ g) (la : length A ≡ a)
-    (t : Fault) (et : t ≡ words_fault w p i g a f xs off (nodes_of cs)) where
+    (t : Found) (et : t ≡ words_fault w p i g a f xs off (nodes_of cs)) where
   fault-is : t ≡ found w P I G A f xs off (nodes_of cs)
   fault-is = et ∙ rw (lp, li, lg, la)
 
   pub write-asks : is_fine t ≡ true → WriteRoom w A xs off
-  write-asks e = write-room w P I G A f xs off (nodes_of cs) (subst (λ (x : Fault). is_fine x ≡ true) fault-is e)
+  write-asks e = write-room w P I G A f xs off (nodes_of cs) (subst (λ (x : Found). is_fine x ≡ true) fault-is e)
 
   pub write-said : (x : ListsWritten) (b₀ b : List ℕ) → listing x b ≡ lists_tested t w A xs off b₀ → listing x b ≡ written_lists (stored_of w P I G A xs off) f (nodes_of cs) b₀
   unfolding written_lists
-  write-said x b₀ b e = e ∙ ap (λ (y : Fault). lists_tested y w A xs off b₀) fault-is
+  write-said x b₀ b e = e ∙ ap (λ (y : Found). lists_tested y w A xs off b₀) fault-is

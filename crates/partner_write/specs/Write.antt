@@ -4,8 +4,7 @@ use Rattle.laws.specs.Area.{num}
 use Rattle.laws.specs.Joined.{joined}
 use Rattle.little.specs.Little.{little_bytes}
 use Rattle.tree_node.specs.declared.Node.{Node}
-use Rattle.run_entry.specs.declared.Fault.{Fault}
-use Rattle.run_entry.specs.Entry.{is_fine, fault_number}
+use Rattle.run_entry.specs.Entry.{Found, by_tests, fault_number}
 use Rattle.words_entry.specs.WordsEntry.{words_fault}
 use Rattle.parked.specs.Parked.{Stored}
 use Rattle.partner_write.specs.declared.ListsWritten.{ListsWritten}
@@ -44,13 +43,14 @@ abbrev pub listing : ListsWritten → List ℕ → Listing
 listing a t = record { answer = a; target = t }
 
 -- once the entry tests have found f: 17 for an exact run, 12 for a target below 16 bytes a link. w are the record's words
-unfoldable pub lists_tested : Fault → List ℕ → List ℕ → List ℕ → List ℕ → List ℕ → Listing
+unfoldable pub lists_tested : Found → List ℕ → List ℕ → List ℕ → List ℕ → List ℕ → Listing
 lists_tested f w W I O t =
     let n = num w 0 in
-    cond (not (is_fine f)) (listing (Bad f) t)
+    by_tests f
     (cond (not (eqb (num w 3) 1)) (listing NoLists t)
     (cond (ltb (length t) (16 * num O n)) (listing Short t)
     (listing (Written (num O n)) (lists_into n W I O t))))
+    (λ b. listing (Bad b) t)
 
 -- the lists of the run in d with so many forces and these nodes, written to t
 unfoldable pub written_lists : Stored → ℕ → List Node → List ℕ → Listing

@@ -11,7 +11,8 @@ ghost use Rattle.parked.specs.Parked.{stored_of};
 ghost use Rattle.partner_write.specs.Write.{link_record, link_at, lists_into, listing, lists_tested, written_lists, lists_number, ListsLie, WriteRoom};
 
 use little::{put_half_word, put_word};
-use run_entry::{Fault, fault_number, is_fine};
+use refusal::Numbered;
+use run_entry::{Fault, Lengths};
 use tree_node::Cell;
 use words_entry::words_fault;
 
@@ -64,7 +65,7 @@ fn put_lists(target: &mut [u8], weights: &[u64], indices: &[u32], offsets: &[u32
 
 // Once the entry tests have found a fault or none: refuses, or writes the records.
 fn write_tested(
-    fault: Fault,
+    fault: Result<(), Fault>,
     words: &[u64],
     affinities: &[u64],
     indices: &[u32],
@@ -74,8 +75,8 @@ fn write_tested(
     requires { is_fine fault ≡ true → WriteRoom words.now affinities.now indices.now offsets.now }
     ensures { listing result target.new ≡ lists_tested fault words.now affinities.now indices.now offsets.now target.old }
 {
-    if !is_fine(fault) {
-        return ListsWritten::Bad(fault);
+    if let Err(f) = fault {
+        return ListsWritten::Bad(f);
     }
     if words[3] != 1 {
         return ListsWritten::NoLists;
@@ -104,17 +105,14 @@ pub fn write_lists(
 ) -> ListsWritten
     ensures { listing result target.new ≡ written_lists (stored_of words.now positions.now increments.now gains.now affinities.now indices.now offsets.now) forces (nodes_of cells.now) target.old }
 {
-    let t = words_fault(
-        words,
-        positions.len(),
-        increments.len(),
-        gains.len(),
-        affinities.len(),
+    let l = Lengths {
+        positions: positions.len(),
+        increments: increments.len(),
+        gains: gains.len(),
+        affinities: affinities.len(),
         forces,
-        indices,
-        offsets,
-        cells,
-    );
+    };
+    let t = words_fault(words, l, indices, offsets, cells);
     let a = write_tested(t, words, affinities, indices, offsets, target);
     a
 }
@@ -127,6 +125,6 @@ pub fn number(a: ListsWritten) -> u8
         ListsWritten::Written(_) => 0,
         ListsWritten::NoLists => 17,
         ListsWritten::Short => 12,
-        ListsWritten::Bad(f) => fault_number(f),
+        ListsWritten::Bad(f) => f.number(),
     }
 }

@@ -1,4 +1,5 @@
 -- The two calls as the desk sees them: an import accepts exactly the lists that meet the rules, a run in good order gets its lists written, and a refusal changes nothing. Assumes nothing.
+use Rattle.std.specs.Prelude.{Ok}
 use mathlib.Core.Path.{◌≡◌, refl}
 use mathlib.Core.List.{List}
 use mathlib.Core.Bool.{true}
@@ -14,10 +15,8 @@ use Rattle.tree_node.specs.declared.Node.{Node}
 use Rattle.run_record.specs.declared.Settings.{Settings}
 use Rattle.run_record.specs.declared.Run.{Run}
 use Rattle.run_record.specs.Record.{sizes_of, fresh_run}
-use Rattle.run_entry.specs.Entry.{is_fine, fault_of, Good}
-use Rattle.run_entry.specs.declared.Fault.{Fault}
-use Rattle.run_entry.specs.declared.Fault.TheVariants.{Fine}
-use Rattle.run_entry.proofs.Laws.{fault-good}
+use Rattle.run_entry.specs.Entry.{Found, is_fine, fault_of, Good}
+use Rattle.run_entry.proofs.Laws.{fault-good, found-none, found-some}
 use Rattle.record_words.specs.RecordWords.{run_fine, run_of}
 use Rattle.words_entry.specs.WordsEntry.{words_fault}
 use Rattle.parked.specs.Parked.{Stored, stored_of}
@@ -55,7 +54,7 @@ module _ (w : List ℕ) (l : Loading) (ns : List Node) where
 
   entry-passes : run_fine w ≡ true → Good (state_loaded (run_of w) l ns) →
       words_fault w (length l.positions) (length l.increments) (length l.gains) (length l.affinities) (length l.forces) l.indices
-      l.offsets ns ≡ Fine
+      l.offsets ns ≡ Ok tt
   unfolding words_fault fault_of
   entry-passes f g =
       let h = fault-good (state_loaded (run_of w) l ns) g in
@@ -70,16 +69,16 @@ module _ (w : List ℕ) (l : Loading) (ns : List Node) where
 -- ---- A REFUSAL CHANGES NOTHING
 
 module _ (d : Stored) (forces : ℕ) (ns : List Node) (t : List ℕ) where
-  abbrev fault : Fault
+  abbrev fault : Found
   fault = words_fault d.run (length d.positions) (length d.increments) (length d.gains) (length d.affinities) forces d.indices d.offsets ns
 
   pub refused-writing-changes-nothing : (lists_number (written_lists d forces ns t).answer ≡ 0 → ⊥) → (written_lists d forces ns t).target ≡ t
   unfolding written_lists lists_tested lists_number
   refused-writing-changes-nothing = by_bool Kept (is_fine fault)
-      (λ f. by_bool Kept (eqb (num d.run 3) 1)
+      (λ f. let f = found-none fault f in by_bool Kept (eqb (num d.run 3) 1)
       (λ m. by_bool Kept (ltb (length t) (16 * num d.offsets (num d.run 0))) (λ q. rw (f, m, q) (λ z. refl)) (λ q. rw (f, m, q) (λ z. absurd (z refl))))
       (λ m. rw (f, m) (λ z. refl)))
-      (λ f. rw f (λ z. refl))
+      (λ f. let f = (found-some fault f).1 in rw f (λ z. refl))
     where
       Kept : Type 0
       Kept = (lists_number (written_lists d forces ns t).answer ≡ 0 → ⊥) → (written_lists d forces ns t).target ≡ t

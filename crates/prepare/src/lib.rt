@@ -15,8 +15,8 @@ ghost use Rattle.prepare.specs.Prepare.{all_inside, lengths_fit, prepare_fault, 
 
 use areas::{clear_indices, copy_values, fill};
 use elementary::in_domain;
-use run_entry::areas_fit;
 use refusal::number;
+use run_entry::areas_fit;
 use run_record::faults::{early_fault, is_tree, late_fault, sizes_of, times};
 use run_record::progress::fresh_run;
 use run_record::{Run, Settings, Sizes};

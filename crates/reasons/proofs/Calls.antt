@@ -1,4 +1,5 @@
 -- What each call tells of a run that it refuses at its entry has its reason in what the call is lent. Assumes nothing.
+use Rattle.std.specs.Prelude.{Err}
 use mathlib.Core.Path.{◌≡◌, refl, sym, subst, ◌∙◌}
 use mathlib.Core.List.{List}
 use mathlib.Core.Bool.{true, false}
@@ -7,8 +8,7 @@ use lib.Ieee.{Float}
 use Rattle.tree_node.specs.declared.Node.{Node}
 use Rattle.run_record.specs.declared.Run.{Run}
 use Rattle.run_entry.specs.State.{Memory, State}
-use Rattle.run_entry.specs.declared.Fault.{Fault}
-use Rattle.run_entry.specs.Entry.{fault_of}
+use Rattle.run_entry.specs.Entry.{Found, fault_of}
 use Rattle.record_words.specs.RecordWords.{run_fine}
 use Rattle.fault_words.specs.FaultWords.{unread_fault}
 use Rattle.words_entry.specs.WordsEntry.{words_fault}
@@ -18,11 +18,11 @@ use Rattle.reasons.specs.Reasons.{Shown, found_in, Reason, shown_by, shown_copy,
 use Rattle.reasons.proofs.Theorems.{reason-told, reason-only}
 
 -- the reason is there, and what has a reason is told
-pub record Explained (s : Shown) (found : Fault) : Type 0 where
+pub record Explained (s : Shown) (found : Found) : Type 0 where
   pub has-reason : Reason s found
-  pub no_other : (f : Fault) → Reason s f → found ≡ f
+  pub no_other : (f : Found) → Reason s f → found ≡ f
 
-explained : (s : Shown) {found : Fault} → found ≡ found_in s → Explained s found
+explained : (s : Shown) {found : Found} → found ≡ found_in s → Explained s found
 explained s e = record { has-reason = subst (Reason s) (sym e) (reason-told s); no_other = λ f r. e ∙ reason-only s f r }
 
 -- a work call
@@ -47,6 +47,6 @@ module _ (w : List ℕ) (p i g a f : ℕ) (xs off : List ℕ) (ns : List Node) w
   words-explained e = explained (shown_words w p i g a f xs off ns) (rw e)
 
   -- .. and words that are none: the areas are not looked at
-  pub unread-explained : run_fine w ≡ false → words_fault w p i g a f xs off ns ≡ unread_fault w
+  pub unread-explained : run_fine w ≡ false → words_fault w p i g a f xs off ns ≡ Err (unread_fault w)
   unfolding words_fault
   unread-explained e = rw e

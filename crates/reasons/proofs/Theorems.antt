@@ -1,7 +1,8 @@
 -- Each kind of fault is told exactly where its condition holds and none before it does, with the lowest place. Assumes nothing.
+use Rattle.std.specs.Prelude.{Ok, Err}
 use mathlib.Core.Path.{◌≡◌, refl, sym, ap, subst, ◌∙◌}
 use mathlib.Core.Logic.{◌⊎◌, inl, inr}
-use mathlib.Core.Bool.{Bool, true, false, not, true≢false}
+use mathlib.Core.Bool.{Bool, true, false, cond, not, true≢false}
 use Prim.Native.Nat.{ℕ, ◌+◌, ◌-◌, ◌<◌, ◌≤◌}
 use native.Mathlib.Omega.{arith}
 use native.Mathlib.Decide.{ℕ_discrete}
@@ -14,12 +15,36 @@ use Rattle.tree_node.specs.declared.Node.{Node}
 use Rattle.tree_node.specs.Arena.{node_at}
 use Rattle.tree_contents.specs.Contents.{node_fault, point_ok}
 use Rattle.tree.specs.Contents.{contents_of}
-use Rattle.run_record.specs.Record.{is_tree, settings_fault, counters_ok}
-use Rattle.run_entry.specs.declared.Fault.{Fault}
-use Rattle.run_entry.specs.declared.Fault.TheVariants.{Fine, Settings as BadSettings, Counters, Areas, Offsets, Index, Tree as BadTree}
-use Rattle.run_entry.specs.Entry.{first_offset, first_index, tree_fault, tree_fault_at, contents_fault, record_fault, fault_at}
+use Rattle.run_record.specs.Record.{is_tree, settings_fault, early_fault, late_fault, angle_fault, counters_ok}
+use Rattle.run_record.specs.declared.Settings.{Settings}
+use Rattle.refusal.specs.declared.Refusal.{Refusal}
+use Rattle.refusal.specs.Refusal.{refusal_number, refusal_of}
+use Rattle.refusal.proofs.Numbers.{refusal-by-number, refusal-some}
+use Rattle.run_entry.specs.declared.Fault.TheVariants.{Settings as BadSettings, Counters, Areas, Offsets, Index, Tree as BadTree}
+use Rattle.run_entry.specs.Entry.{Found, first_offset, first_index, tree_fault, tree_fault_at, contents_fault, record_fault, fault_at}
 use Rattle.reasons.specs.Reasons.{Shown, found_in, RecordPasses, areas_long, AreasPass, offset_at, OffsetsPass, links_listed, index_at, IndicesPass, used_bad}
 use Rattle.reasons.specs.Reasons.{node_bad, EndFails, OffsetsFail, IndexFail, NodeFails, TreeFail, AllPass, Reason}
+
+-- ---- the number that settings get is a refusal's
+
+Named : ℕ → Type 0
+Named k = (k ≡ 0 → ⊥) → refusal_number (refusal_of k) ≡ k
+
+named-cond : (b : Bool) (k r : ℕ) → Named k → Named r → Named (cond b k r)
+named-cond true k r x y = x
+named-cond false k r x y = y
+
+pub settings-named : (v : Settings) → Named (settings_fault v)
+unfolding settings_fault early_fault late_fault angle_fault
+settings-named v =
+    named-cond _ _ _ early (named-cond _ 9 _ (λ n. refl) (named-cond _ 0 10 (λ n. absurd (n refl)) (λ n. refl)))
+  where
+    angle : Named (angle_fault v.method v.angle v.c)
+    angle = named-cond _ _ _ (named-cond _ 5 _ (λ n. refl) (named-cond _ 6 0 (λ n. refl) (λ n. absurd (n refl)))) (λ n. absurd (n refl))
+
+    early : Named (early_fault v)
+    early = named-cond _ 1 _ (λ n. refl) (named-cond _ 2 _ (λ n. refl) (named-cond _ 3 _ (λ n. refl) (named-cond _ 4 _ (λ n. refl)
+        (named-cond _ _ _ angle (named-cond _ 7 0 (λ n. refl) (λ n. absurd (n refl)))))))
 
 -- ---- what the tests answer, step by step
 
@@ -42,22 +67,22 @@ module _ (s : Shown) where
   abbrev u : ℕ
   u = first (node_bad s) s.run.used
 
-  settings-answer : (k ≡ 0 → ⊥) → found_in s ≡ BadSettings k
+  settings-answer : (k ≡ 0 → ⊥) → found_in s ≡ Err (BadSettings (refusal_of k))
   unfolding fault_at record_fault
   settings-answer n = rw (ne_eqb k 0 n)
 
   module _ (a : k ≡ 0) where
-    counters-answer : counters_ok s.run ≡ false → found_in s ≡ Counters
+    counters-answer : counters_ok s.run ≡ false → found_in s ≡ Err Counters
     unfolding fault_at record_fault
     counters-answer b = rw (eq-eqb k 0 a, b)
 
     module _ (b : counters_ok s.run ≡ true) where
-      areas-answer : areas_long s ≡ false → found_in s ≡ Areas
+      areas-answer : areas_long s ≡ false → found_in s ≡ Err Areas
       unfolding fault_at record_fault
       areas-answer c = rw (eq-eqb k 0 a, b, c)
 
       module _ (c : areas_long s ≡ true) where
-        exact-answer : is_tree s.run.settings.method ≡ false → found_in s ≡ Fine
+        exact-answer : is_tree s.run.settings.method ≡ false → found_in s ≡ Ok tt
         unfolding fault_at record_fault
         exact-answer d = rw (eq-eqb k 0 a, b, c, d)
 
@@ -66,12 +91,12 @@ module _ (s : Shown) where
           unfolding fault_at record_fault
           contents-answer = rw (eq-eqb k 0 a, b, c, d)
 
-          offsets-answer : e < s.run.settings.n + 1 → found_in s ≡ Offsets (e - 1)
+          offsets-answer : e < s.run.settings.n + 1 → found_in s ≡ Err (Offsets (e - 1))
           unfolding contents_fault
           offsets-answer h = contents-answer ∙ rw (lt-ltb e (s.run.settings.n + 1) h)
 
           module _ (f : s.run.settings.n + 1 ≤ e) where
-            index-answer : p < links_listed s → found_in s ≡ Index p
+            index-answer : p < links_listed s → found_in s ≡ Err (Index p)
             unfolding contents_fault
             index-answer h = contents-answer ∙ rw (le-ltb e (s.run.settings.n + 1) f, lt-ltb p (links_listed s) h)
 
@@ -80,25 +105,25 @@ module _ (s : Shown) where
               unfolding contents_fault
               tree-answer = contents-answer ∙ rw (le-ltb e (s.run.settings.n + 1) f, le-ltb p (links_listed s) g)
 
-              between-answer : s.run.phase ≡ 0 → found_in s ≡ Fine
+              between-answer : s.run.phase ≡ 0 → found_in s ≡ Ok tt
               unfolding tree_fault_at
               between-answer h = tree-answer ∙ rw (eq-eqb s.run.phase 0 h)
 
               module _ (i : s.run.phase ≡ 0 → ⊥) where
-                used-answer : used_bad s ≡ true → found_in s ≡ BadTree 0
+                used-answer : used_bad s ≡ true → found_in s ≡ Err (BadTree 0)
                 unfolding tree_fault_at contents_of
                 used-answer h = tree-answer ∙ rw (ne_eqb s.run.phase 0 i, h)
 
-                node-kind : (n j : ℕ) (v : Node) → tree_fault (node_fault n j v) ≡ BadTree j
+                node-kind : (n j : ℕ) (v : Node) → tree_fault (Err (node_fault n j v)) ≡ Err (BadTree j)
                 unfolding node_fault
-                node-kind n j v = by_bool (tree_fault (node_fault n j v) ≡ BadTree j) (ltb n v.count) (λ x. rw x) (λ x. by_bool
-                    (tree_fault (node_fault n j v) ≡ BadTree j) (point_ok n v.leaf) (λ y. rw (x, y)) (λ y. rw (x, y)))
+                node-kind n j v = by_bool (tree_fault (Err (node_fault n j v)) ≡ Err (BadTree j)) (ltb n v.count) (λ x. rw x) (λ x. by_bool
+                    (tree_fault (Err (node_fault n j v)) ≡ Err (BadTree j)) (point_ok n v.leaf) (λ y. rw (x, y)) (λ y. rw (x, y)))
 
-                node-answer : used_bad s ≡ false → u < s.run.used → found_in s ≡ BadTree u
+                node-answer : used_bad s ≡ false → u < s.run.used → found_in s ≡ Err (BadTree u)
                 unfolding tree_fault_at contents_of
                 node-answer h l = tree-answer ∙ rw (ne_eqb s.run.phase 0 i, h, lt-ltb u s.run.used l) (node-kind s.run.settings.n u (node_at s.nodes u))
 
-                fine-answer : used_bad s ≡ false → s.run.used ≤ u → found_in s ≡ Fine
+                fine-answer : used_bad s ≡ false → s.run.used ≤ u → found_in s ≡ Ok tt
                 unfolding tree_fault_at contents_of
                 fine-answer h l = tree-answer ∙ rw (ne_eqb s.run.phase 0 i, h, le-ltb u s.run.used l)
 
@@ -121,7 +146,7 @@ module _ (s : Shown) where
   areas-of : RecordPasses s → areas_long s ≡ true → is_tree s.run.settings.method ≡ true → AreasPass s
   areas-of r c d = record { record-passes = r; areas-pass = c; lists-there = d }
 
-  told : {f : Fault} → found_in s ≡ f → Reason s f → Reason s (found_in s)
+  told : {f : Found} → found_in s ≡ f → Reason s f → Reason s (found_in s)
   told q r = subst (Reason s) (sym q) r
 
   -- the lowest bad offset is the start, or the end of a frame's list
@@ -212,7 +237,7 @@ module _ (s : Shown) where
       })))
       (λ c. told (areas-answer a b c) (record { record-passes = record_of a b; areas-fail = c })))
       (λ b. told (counters-answer a b) (record { settings-pass = a; counters-fail = b }))))
-      (λ x. (let n = eqb-false k 0 x in told (settings-answer n) (record { number_is = refl; some_number = n })))
+      (λ x. (let n = eqb-false k 0 x in told (settings-answer n) (record { number_is = sym (settings-named s.run.settings n); some_number = refusal-some (refusal_of k) })))
 
   -- ---- where a condition holds, it is told
 
@@ -229,55 +254,55 @@ module _ (s : Shown) where
   places-past : IndicesPass s → links_listed s ≤ p
   places-past o = omega (arith, first-none (λ j. not (index_at s j)) (links_listed s) (λ j h. rw (o.indices-pass j h)))
 
-  offset-only : AreasPass s → (x i : ℕ) → x < s.run.settings.n + 1 → e ≡ x → x - 1 ≡ i → found_in s ≡ Offsets i
+  offset-only : AreasPass s → (x i : ℕ) → x < s.run.settings.n + 1 → e ≡ x → x - 1 ≡ i → found_in s ≡ Err (Offsets i)
   offset-only a x i h q z = offsets-answer a.record-passes.settings-pass a.record-passes.counters-pass a.areas-pass a.lists-there
-      (omega (arith, q)) ∙ ap Offsets (ap (λ (y : ℕ). y - 1) q ∙ z)
+      (omega (arith, q)) ∙ ap (λ (y : ℕ). Err (Offsets y)) (ap (λ (y : ℕ). y - 1) q ∙ z)
 
-  offsets-only : (i : ℕ) (r : OffsetsFail s i) → found_in s ≡ Offsets i
+  offsets-only : (i : ℕ) (r : OffsetsFail s i) → found_in s ≡ Err (Offsets i)
   offsets-only i r = by r.start-or-end
     where
-      by : ((offset_at s 0 ≡ false) × (i ≡ 0)) ⊎ EndFails s i → found_in s ≡ Offsets i
+      by : ((offset_at s 0 ≡ false) × (i ≡ 0)) ⊎ EndFails s i → found_in s ≡ Err (Offsets i)
       by (inl x) = offset-only r.areas-before 0 i (omega arith) (first-end 0 (omega arith) x.0 (λ j h. absurd (omega arith))) (sym x.1)
       by (inr x) = offset-only r.areas-before (i + 1) i (omega (arith, x.frame-within)) (first-end (i + 1) (omega (arith, x.frame-within)) x.end-fails x.ends-before) (omega arith)
 
-  tree-only : (i : ℕ) (r : TreeFail s i) → found_in s ≡ BadTree i
+  tree-only : (i : ℕ) (r : TreeFail s i) → found_in s ≡ Err (BadTree i)
   tree-only i r = by r.used-or-node
     where
-      by : ((used_bad s ≡ true) × (i ≡ 0)) ⊎ NodeFails s i → found_in s ≡ BadTree i
+      by : ((used_bad s ≡ true) × (i ≡ 0)) ⊎ NodeFails s i → found_in s ≡ Err (BadTree i)
       by (inl x) =
           let o = r.indices-before.offsets-before in
           let a = o.areas-before in
           used-answer a.record-passes.settings-pass a.record-passes.counters-pass a.areas-pass a.lists-there (ends-past o)
-          (places-past r.indices-before) r.inside x.0 ∙ ap BadTree (sym x.1)
+          (places-past r.indices-before) r.inside x.0 ∙ ap (λ (y : ℕ). Err (BadTree y)) (sym x.1)
       by (inr x) =
           let o = r.indices-before.offsets-before in
           let a = o.areas-before in
           let q : u ≡ i = first-at (node_bad s) s.run.used i x.node-within x.node-fails x.nodes-before in
           node-answer a.record-passes.settings-pass a.record-passes.counters-pass a.areas-pass a.lists-there (ends-past o)
-          (places-past r.indices-before) r.inside x.used-good (omega (arith, q, x.node-within)) ∙ ap BadTree q
+          (places-past r.indices-before) r.inside x.used-good (omega (arith, q, x.node-within)) ∙ ap (λ (y : ℕ). Err (BadTree y)) q
 
-  fine-only : AllPass s → found_in s ≡ Fine
+  fine-only : AllPass s → found_in s ≡ Ok tt
   fine-only r =
       let a = r.record-passes.settings-pass in
       let b = r.record-passes.counters-pass in
       let c = r.areas-pass in
-      by_bool (found_in s ≡ Fine) (is_tree s.run.settings.method)
+      by_bool (found_in s ≡ Ok tt) (is_tree s.run.settings.method)
       (λ d. (let ip = r.lists-pass d in let f = ends-past ip.offsets-before in let g = places-past ip in
-      by_bool (found_in s ≡ Fine) (eqb s.run.phase 0)
+      by_bool (found_in s ≡ Ok tt) (eqb s.run.phase 0)
       (λ h. between-answer a b c d f g (eqb-true s.run.phase 0 h))
       (λ h. (let i = eqb-false s.run.phase 0 h in let t = r.tree-passes d i in
       fine-answer a b c d f g i t.0 (omega (arith, first-none (node_bad s) s.run.used t.1))))))
       (λ d. exact-answer a b c d)
 
   -- THEOREM: where a condition holds and none before it, that is what is told
-  pub reason-only : (f : Fault) → Reason s f → found_in s ≡ f
-  reason-only Fine r = fine-only r
-  reason-only (BadSettings j) r = settings-answer (λ z. r.some_number (sym r.number_is ∙ z)) ∙ ap BadSettings r.number_is
-  reason-only Counters r = counters-answer r.settings-pass r.counters-fail
-  reason-only Areas r = areas-answer r.record-passes.settings-pass r.record-passes.counters-pass r.areas-fail
-  reason-only (Offsets i) r = offsets-only i r
-  reason-only (Index j) r =
+  pub reason-only : (f : Found) → Reason s f → found_in s ≡ f
+  reason-only (Ok t) r = fine-only r
+  reason-only (Err (BadSettings j)) r = settings-answer (λ z. r.some_number (sym r.number_is ∙ z)) ∙ ap (λ (y : Refusal). Err (BadSettings y)) (ap refusal_of r.number_is ∙ refusal-by-number j)
+  reason-only (Err Counters) r = counters-answer r.settings-pass r.counters-fail
+  reason-only (Err Areas) r = areas-answer r.record-passes.settings-pass r.record-passes.counters-pass r.areas-fail
+  reason-only (Err (Offsets i)) r = offsets-only i r
+  reason-only (Err (Index j)) r =
       let a = r.offsets-before.areas-before in
       let q = first-bad-place j r in
-      index-answer a.record-passes.settings-pass a.record-passes.counters-pass a.areas-pass a.lists-there (ends-past r.offsets-before) (omega (arith, q, r.place-within)) ∙ ap Index q
-  reason-only (BadTree i) r = tree-only i r
+      index-answer a.record-passes.settings-pass a.record-passes.counters-pass a.areas-pass a.lists-there (ends-past r.offsets-before) (omega (arith, q, r.place-within)) ∙ ap (λ (y : ℕ). Err (Index y)) q
+  reason-only (Err (BadTree i)) r = tree-only i r

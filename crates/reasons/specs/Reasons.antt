@@ -1,5 +1,5 @@
 -- Why a run is refused at its entry, in words: a condition for each kind of fault, asked only where what comes before it in the order is good, with the place that is told. Definitions only.
-use Rattle.std.specs.Prelude.{◌≡◌, List, Bool, true, false, ◌||◌, ◌⊎◌, ℕ, ◌+◌, ◌<◌, ◌≤◌, min, eqb, ltb, length, Float}
+use Rattle.std.specs.Prelude.{Ok, Err, ◌≡◌, List, Bool, true, false, ◌||◌, ◌⊎◌, ℕ, ◌+◌, ◌<◌, ◌≤◌, min, eqb, ltb, length, Float}
 use Rattle.laws.specs.Area.{num}
 use Rattle.tree_node.specs.declared.Node.{Node}
 use Rattle.tree_node.specs.Arena.{nameable}
@@ -8,10 +8,10 @@ use Rattle.tree.specs.Contents.{faulty}
 use Rattle.run_record.specs.declared.Settings.{Settings}
 use Rattle.run_record.specs.declared.Run.{Run}
 use Rattle.run_record.specs.Record.{is_tree, settings_fault, counters_ok, sizes_of}
+use Rattle.refusal.specs.Refusal.{refusal_number, number_told}
 use Rattle.run_entry.specs.State.{Memory, State}
-use Rattle.run_entry.specs.declared.Fault.{Fault}
-use Rattle.run_entry.specs.declared.Fault.TheVariants.{Fine, Settings as BadSettings, Counters, Areas, Offsets, Index, Tree as BadTree}
-use Rattle.run_entry.specs.Entry.{areas_fit, offset_fine, index_fine, listed, fault_at, fault_number}
+use Rattle.run_entry.specs.declared.Fault.TheVariants.{Settings as BadSettings, Counters, Areas, Offsets, Index, Tree as BadTree}
+use Rattle.run_entry.specs.Entry.{Found, areas_fit, offset_fine, index_fine, listed, fault_at, fault_number}
 use Rattle.record_words.specs.RecordWords.{settings_fine, settings_of, run_of}
 use Rattle.fault_words.specs.FaultWords.{fault_value}
 use Rattle.take_out.specs.TakeOut.{Holdings, lent_positions}
@@ -30,7 +30,7 @@ pub record Shown : Type 0 where
   pub nodes : List Node
 
 -- what they find
-abbrev pub found_in : Shown → Fault
+abbrev pub found_in : Shown → Found
 found_in s = fault_at s.run s.positions s.increments s.gains s.affinities s.forces s.indices s.offsets s.nodes
 
 -- ---- what is good so far, in the order of the tests
@@ -135,14 +135,14 @@ pub record AllPass (s : Shown) : Type 0 where
 
 -- ---- the reason for each answer of the entry tests
 
-abbrev pub Reason : Shown → Fault → Type 0
-Reason s Fine = AllPass s
-Reason s (BadSettings k) = SettingsFail s k
-Reason s Counters = CountersFail s
-Reason s Areas = AreasFail s
-Reason s (Offsets i) = OffsetsFail s i
-Reason s (Index p) = IndexFail s p
-Reason s (BadTree i) = TreeFail s i
+abbrev pub Reason : Shown → Found → Type 0
+Reason s (Ok t) = AllPass s
+Reason s (Err (BadSettings r)) = SettingsFail s (refusal_number r)
+Reason s (Err Counters) = CountersFail s
+Reason s (Err Areas) = AreasFail s
+Reason s (Err (Offsets i)) = OffsetsFail s i
+Reason s (Err (Index p)) = IndexFail s p
+Reason s (Err (BadTree i)) = TreeFail s i
 
 -- ---- what each call shows the tests
 
@@ -218,9 +218,9 @@ UnreadCounters w = (length w < 14) ⊎ UnreadState w
 -- ---- the numbers
 
 -- the number is told exactly where a condition on its place holds, and with that place
-pub record Tells (found : Fault) (number : ℕ) (Fails : ℕ → Type 0) : Type 0 where
-  pub so-where-told : fault_number found ≡ number → Fails (fault_value found)
-  pub told-where-so : (p : ℕ) → Fails p → (fault_number found ≡ number) × (fault_value found ≡ p)
+pub record Tells (found : Found) (number : ℕ) (Fails : ℕ → Type 0) : Type 0 where
+  pub so-where-told : number_told fault_number found ≡ number → Fails (number_told fault_value found)
+  pub told-where-so : (p : ℕ) → Fails p → (number_told fault_number found ≡ number) × (number_told fault_value found ≡ p)
 
 -- a condition that has no place tells 0
 abbrev pub Placeless : Type 0 → ℕ → Type 0

@@ -12,7 +12,6 @@ ghost use Rattle.tree_node.specs.Arena.{nodes_of};
 ghost use Rattle.tree_bounds.specs.Bounds.{box_of};
 ghost use Rattle.tree_walk.specs.Repel.{repelled};
 ghost use Rattle.tree.specs.Insert.{tree, insert_of};
-ghost use Rattle.tree.specs.Contents.{contents_fine};
 ghost use Rattle.replay_arena.specs.Fronts.{front, behind, fine_of, Walkable, put_of, told_by, nothing_put};
 
 use tree::Inserted;
@@ -20,7 +19,6 @@ use tree::insertion::insert;
 use tree::root::plant;
 use tree::wellformed::tree_ok;
 use tree_bodies::Acc;
-use tree_contents::Contents;
 use tree_node::Cell;
 use tree_walk::{Eye, repulsive_force};
 
@@ -44,18 +42,6 @@ pub fn put_of(a: Inserted, cells: [Cell; 512]) -> Put
     }
 }
 
-pub fn is_fine(t: Contents) -> bool
-    ensures { result ≡ contents_fine t }
-{
-    match t {
-        Contents::Fine => true,
-        Contents::Used => false,
-        Contents::Count(_) => false,
-        Contents::Point(_) => false,
-        Contents::Block(_) => false,
-    }
-}
-
 // The root over n points into cell 0.
 pub fn plant_in(cells: [Cell; 512], k: usize, positions: &[f64], n: usize, c: usize) -> [Cell; 512]
     requires { (Axes c) × (n * c ≤ length positions.now) × (0 < k) × (k ≤ 512) }
@@ -71,10 +57,7 @@ pub fn fine_in(cells: [Cell; 512], k: usize, used: usize, n: usize, c: usize) ->
     requires { (Axes c) × (k ≤ 512) }
     ensures { result ≡ fine_of k used n c cells }
 {
-    let own = cells;
-    let t = tree_ok(&own[..k], used, n, c);
-    let r = is_fine(t);
-    r
+    tree_ok(&cells[..k], used, n, c).is_ok()
 }
 
 // Point j goes into the tree in the first k cells, or finds no room there; the cells behind stay.

@@ -6,7 +6,7 @@ use Rattle.run_record.specs.declared.Standing.{Standing}
 use Rattle.run_record.specs.declared.Standing.TheVariants.{Running as Runs, Stopped as Stops, Finished as Ends}
 use Rattle.run_record.specs.Record.{is_ended}
 use Rattle.run_entry.specs.State.{State}
-use Rattle.run_entry.specs.Entry.{is_fine, fault_of}
+use Rattle.run_entry.specs.Entry.{is_fine, by_tests, fault_of}
 use Rattle.run_finish.specs.declared.Why.{Why}
 use Rattle.run_finish.specs.declared.Why.TheVariants.{Done, Full as NoNodes, Wild as TooLarge, Over}
 use Rattle.run_finish.specs.declared.Turn.{Turn}
@@ -46,7 +46,7 @@ unfoldable pub halted_of : Standing → Why → ℕ → Answer
 halted_of s w d = cond (is_ended s) (stands_of s d) (refused_of w d)
 
 unfoldable pub answer_of : Kind → State → ℕ → Answer
-answer_of faulty s d = Bad (fault_of s)
+answer_of faulty s d = by_tests (fault_of s) (Running d) Bad
 answer_of over s d = stands_of s.run.standing d
 answer_of refused s d = refused_of (unit s).why d
 answer_of running s d = Running d

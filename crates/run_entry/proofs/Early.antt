@@ -1,11 +1,12 @@
 -- What `fault_at` cites: the tests before those of the nodes, and these, are all of them. Assumes nothing.
+use Rattle.std.specs.Prelude.{Result, Ok, Err}
 use mathlib.Core.List.{List}
 use mathlib.Core.Path.{◌≡◌, refl, sym, ap, subst, ◌∙◌}
 use mathlib.Core.Bool.{Bool, true, false, cond, not, ◌&&◌, true≢false}
 use Prim.Native.Nat.{ℕ, ◌+◌, ◌-◌}
 use lib.Dec.{eqb, ltb}
 use lib.ListN.{length}
-use borrow.Author.Tests.{not-true, not-false}
+use borrow.Author.Tests.{not-true, not-false, eq-eqb, ne_eqb}
 use Rattle.laws.proofs.Bools.{by_bool, and_left, and_right}
 use Rattle.run_record.specs.declared.Run.{Run}
 use Rattle.run_record.specs.Record.{is_tree}
@@ -16,11 +17,11 @@ use Rattle.tree_node.specs.Arena.{nodes_of}
 use Rattle.tree_node.proofs.Told.{nodes-length}
 use Rattle.tree.specs.Insert.{tree}
 use Rattle.tree.specs.Contents.{contents_of}
-use Rattle.tree_contents.specs.declared.Contents.{Contents}
+use Rattle.tree_contents.specs.declared.Unsound.{Unsound}
 use Rattle.run_entry.specs.declared.Fault.{Fault}
-use Rattle.run_entry.specs.declared.Fault.TheVariants.{Fine, Settings as BadSettings, Counters, Areas, Offsets, Index, Tree}
-use Rattle.run_entry.specs.Entry.{areas_fit, first_offset, first_index, listed, tree_fault, tree_fault_at, contents_fault, is_fine, record_fault, lists_fault, fault_before_tree, asks_tree, fault_at}
-use Rattle.run_entry.proofs.Laws.{axes, record-fine}
+use Rattle.run_entry.specs.declared.Fault.TheVariants.{Offsets, Index}
+use Rattle.run_entry.specs.Entry.{Found, areas_fit, first_offset, first_index, listed, tree_fault, tree_fault_at, contents_fault, is_fine, record_fault, lists_fault, fault_before_tree, asks_tree, fault_at}
+use Rattle.run_entry.proofs.Laws.{axes, record-fine, found-none}
 
 -- the nodes are tested where the lists are fine
 contents-split : (r : Run) (xs off : List ℕ) (ns : List Node) → contents_fault r xs off ns ≡ cond (is_fine (lists_fault r xs off)) (tree_fault_at r ns) (lists_fault r xs off)
@@ -28,15 +29,15 @@ unfolding contents_fault lists_fault
 contents-split r xs off ns = by (ltb (first_offset r.settings off) (r.settings.n + 1)) (ltb (first_index r.settings xs off) (listed r.settings off))
   where
     by : (a b : Bool)
-        → cond a (Offsets (first_offset r.settings off - 1)) (cond b (Index (first_index r.settings xs off)) (tree_fault_at r ns))
-        ≡ cond (is_fine (cond a (Offsets (first_offset r.settings off - 1)) (cond b (Index (first_index r.settings xs off)) Fine))) (tree_fault_at r ns)
-        (cond a (Offsets (first_offset r.settings off - 1)) (cond b (Index (first_index r.settings xs off)) Fine))
+        → cond a (Err (Offsets (first_offset r.settings off - 1))) (cond b (Err (Index (first_index r.settings xs off))) (tree_fault_at r ns))
+        ≡ cond (is_fine (cond a (Err (Offsets (first_offset r.settings off - 1))) (cond b (Err (Index (first_index r.settings xs off))) (Ok tt)))) (tree_fault_at r ns)
+        (cond a (Err (Offsets (first_offset r.settings off - 1))) (cond b (Err (Index (first_index r.settings xs off))) (Ok tt)))
     by true b = refl
     by false true = refl
     by false false = refl
 
 module _ (r : Run) (p i g a f : ℕ) (xs off : List ℕ) (ns : List Node) where
-  abbrev early : Fault
+  abbrev early : Found
   early = fault_before_tree r p i g a f xs off (length ns)
 
   record-first : is_fine early ≡ true → is_fine (record_fault r) ≡ true
@@ -75,32 +76,40 @@ module _ (r : Run) (p i g a f : ℕ) (xs off : List ℕ) (ns : List Node) where
       (λ w. by_bool (early ≡ fault_at r p i g a f xs off ns) (is_fine (lists_fault r xs off))
       (λ l.
       let z : eqb r.phase 0 ≡ true = not-false (eqb r.phase 0) (rw (u, v, w, l) at e) in
-      rw (u, v, w, contents-split r xs off ns, l, z) (fine-one (lists_fault r xs off) l))
+      rw (u, v, w, contents-split r xs off ns, l, z) (found-none (lists_fault r xs off) l))
       (λ l. rw (u, v, w, contents-split r xs off ns, l)))
       (λ w. rw (u, v, w)))
       (λ v. rw (u, v)))
       (λ u. rw u)
-    where
-      fine-one : (t : Fault) → is_fine t ≡ true → t ≡ Fine
-      fine-one Fine e = refl
-      fine-one (BadSettings k) e = absurd (true≢false (sym e))
-      fine-one Counters e = absurd (true≢false (sym e))
-      fine-one Areas e = absurd (true≢false (sym e))
-      fine-one (Offsets k) e = absurd (true≢false (sym e))
-      fine-one (Index k) e = absurd (true≢false (sym e))
-      fine-one (Tree k) e = absurd (true≢false (sym e))
 
--- ---- what the code finds: t before the nodes, b that they are to be tested
+-- ---- what the code finds: t before the nodes
 
-module _ (r : Run) (p i g a f : ℕ) (xs off : List ℕ) (cs : List Cell) (t : Fault) (et : t ≡ fault_before_tree r p i g a f xs off (length cs)) (b : Bool) (eb : b ≡ asks_tree r t) where
+module _ (r : Run) (p i g a f : ℕ) (xs off : List ℕ) (cs : List Cell) (t : Found) (et : t ≡ fault_before_tree r p i g a f xs off (length cs)) where
   early-is : t ≡ fault_before_tree r p i g a f xs off (length (nodes_of cs))
   early-is = et ∙ ap (fault_before_tree r p i g a f xs off) (sym (nodes-length cs))
 
-  pub early-axes : b ≡ true → Axes r.settings.c
-  early-axes y = asked-axes r p i g a f xs off (nodes_of cs) (subst (λ (x : Fault). asks_tree r x ≡ true) early-is (sym eb ∙ y))
+  pub early-axes : asks_tree r t ≡ true → Axes r.settings.c
+  early-axes y = asked-axes r p i g a f xs off (nodes_of cs) (subst (λ (x : Found). asks_tree r x ≡ true) early-is y)
 
-  pub early-asked : b ≡ true → (k : Contents) → k ≡ contents_of r.settings.n r.settings.c (tree r.used (nodes_of cs)) → (w : Fault) → w ≡ tree_fault k → w ≡ fault_at r p i g a f xs off (nodes_of cs)
-  early-asked y k ek w ew = ew ∙ ap tree_fault ek ∙ asked r p i g a f xs off (nodes_of cs) (subst (λ (x : Fault). asks_tree r x ≡ true) early-is (sym eb ∙ y))
+  pub early-asked : asks_tree r t ≡ true → (k : Result Unit Unsound) → k ≡ contents_of r.settings.n r.settings.c (tree r.used (nodes_of cs)) → (w : Found) → w ≡ tree_fault k → w ≡ fault_at r p i g a f xs off (nodes_of cs)
+  early-asked y k ek w ew = ew ∙ ap tree_fault ek ∙ asked r p i g a f xs off (nodes_of cs) (subst (λ (x : Found). asks_tree r x ≡ true) early-is y)
 
-  pub early-unasked : b ≡ false → t ≡ fault_at r p i g a f xs off (nodes_of cs)
-  early-unasked y = early-is ∙ unasked r p i g a f xs off (nodes_of cs) (subst (λ (x : Fault). asks_tree r x ≡ false) early-is (sym eb ∙ y))
+  pub early-unasked : asks_tree r t ≡ false → t ≡ fault_at r p i g a f xs off (nodes_of cs)
+  early-unasked y = early-is ∙ unasked r p i g a f xs off (nodes_of cs) (subst (λ (x : Found). asks_tree r x ≡ false) early-is y)
+
+-- where nothing was found, the nodes are to be tested in a Barnes-Hut run inside an iteration
+pub asks-inside : (r : Run) → is_tree r.settings.method ≡ true → (r.phase ≡ 0 → ⊥) → asks_tree r (Ok tt) ≡ true
+unfolding asks_tree
+asks-inside r t n = rw (t, ne_eqb r.phase 0 n)
+
+pub asks-between : (r : Run) → r.phase ≡ 0 → asks_tree r (Ok tt) ≡ false
+unfolding asks_tree
+asks-between r e = by_bool (asks_tree r (Ok tt) ≡ false) (is_tree r.settings.method) (λ t. rw (t, eq-eqb r.phase 0 e)) (λ t. rw t)
+
+pub asks-exact : (r : Run) → is_tree r.settings.method ≡ false → asks_tree r (Ok tt) ≡ false
+unfolding asks_tree
+asks-exact r t = rw t
+
+pub asks-faulty : (r : Run) (f : Fault) → asks_tree r (Err f) ≡ false
+unfolding asks_tree
+asks-faulty r f = refl

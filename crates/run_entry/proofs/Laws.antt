@@ -1,4 +1,5 @@
 -- The entry tests pass exactly on a state in good order. Assumes nothing.
+use Rattle.std.specs.Prelude.{Ok, Err}
 use mathlib.Core.List.{List}
 use mathlib.Core.Path.{◌≡◌, refl, sym, ap, ◌∙◌}
 use mathlib.Core.Bool.{Bool, true, false, cond, not, ◌&&◌, true≢false}
@@ -10,6 +11,7 @@ use borrow.Author.Tests.{ltb-true, leb-true, ltb-false, ne_eqb, eq-eqb, lt-ltb, 
 use Rattle.laws.specs.Area.{num}
 use Rattle.laws.proofs.Bools.{by_bool, and_left, and_right}
 use Rattle.laws.proofs.First.{first-all, first-none}
+use Rattle.refusal.specs.Refusal.{refusal_of}
 use Rattle.run_record.specs.declared.Settings.{Settings}
 use Rattle.run_record.specs.declared.Run.{Run}
 use Rattle.run_record.specs.Record.{is_tree, angle_fine, angle_fault as bad_tree, settings_fault, counters_ok, per_of, state_fits, k_of, sizes_of, GoodSettings}
@@ -18,14 +20,15 @@ use Rattle.tree_node.specs.declared.Node.{Node}
 use Rattle.tree_node.specs.Node.{Axes}
 use Rattle.tree.specs.Insert.{tree}
 use Rattle.tree.specs.Contents.{contents_of, contents_fine as is_sound}
-use Rattle.tree_contents.specs.declared.Contents.{Contents}
-use Rattle.tree_contents.specs.declared.Contents.TheVariants.{Fine as FineTree, Used, Count, Point, Block}
+use Rattle.std.specs.declared.result.Result.{Result}
+use Rattle.std.specs.declared.result.Result.TheVariants.{Ok, Err}
+use Rattle.tree_contents.specs.declared.Unsound.{Unsound}
 use Rattle.tree.proofs.Tested.{Sound, sound-fine, fine-sound}
 use Rattle.run_entry.specs.State.{State}
-use Rattle.run_entry.specs.declared.Fault.{Fault}
-use Rattle.run_entry.specs.declared.Fault.TheVariants.{Fine, Settings as BadSettings, Counters, Areas, Offsets, Index}
+use Rattle.run_entry.specs.declared.Fault.TheVariants.{Settings as BadSettings, Counters, Areas, Offsets, Index}
 use Rattle.run_entry.specs.Entry.{tree_fits, areas_fit, offset_fine, index_fine, first_offset, first_index, listed, tree_fault, tree_fault_at, contents_fault}
-use Rattle.run_entry.specs.Entry.{is_fine, record_fault, fault_at, fault_of, GoodCounters, TreeAreas, GoodAreas, GoodTree, GoodContents, Good}
+use Rattle.run_entry.specs.declared.Fault.{Fault}
+use Rattle.run_entry.specs.Entry.{Found, is_fine, record_fault, fault_at, fault_of, GoodCounters, TreeAreas, GoodAreas, GoodTree, GoodContents, Good}
 
 -- a Barnes-Hut run has 1, 2 or 3 components
 pub axes : (s : Settings) → GoodSettings s → is_tree s.method ≡ true → Axes s.c
@@ -54,11 +57,20 @@ listed-most s off h l =
     let f : leb (num off (n - 1)) (num off n) && leb (num off n) (sizes_of s).links ≡ true = rw (ne_eqb n 0 (λ q. omega arith)) at e in
     leb-true _ _ (and_right (leb (num off (n - 1)) (num off n)) (leb (num off n) (sizes_of s).links) f)
 
-fine-cond : (t : Bool) (a b : Fault) → is_fine a ≡ false → is_fine (cond t a b) ≡ true → (t ≡ false) × (is_fine b ≡ true)
+-- tests that pass have found nothing
+pub found-none : (f : Found) → is_fine f ≡ true → f ≡ Ok tt
+found-none (Ok t) e = refl
+found-none (Err f) e = absurd (true≢false (sym e))
+
+pub found-some : (f : Found) → is_fine f ≡ false → (b : Fault) × (f ≡ Err b)
+found-some (Ok t) e = absurd (true≢false e)
+found-some (Err b) e = (b, refl)
+
+fine-cond : (t : Bool) (a b : Found) → is_fine a ≡ false → is_fine (cond t a b) ≡ true → (t ≡ false) × (is_fine b ≡ true)
 fine-cond true a b n e = absurd (true≢false (sym e ∙ n))
 fine-cond false a b n e = (refl, e)
 
-fine-else : (t : Bool) (a b : Fault) → is_fine b ≡ false → is_fine (cond t a b) ≡ true → (t ≡ true) × (is_fine a ≡ true)
+fine-else : (t : Bool) (a b : Found) → is_fine b ≡ false → is_fine (cond t a b) ≡ true → (t ≡ true) × (is_fine a ≡ true)
 fine-else true a b n e = (refl, e)
 fine-else false a b n e = absurd (true≢false (sym e ∙ n))
 
@@ -85,11 +97,11 @@ pub record-fine : (r : Run) → is_fine (record_fault r) ≡ true → GoodSettin
 unfolding record_fault
 record-fine r e =
     let k = settings_fault r.settings in
-    let a = fine-cond (not (eqb k 0)) (BadSettings k) (cond (counters_ok r) Fine Counters) refl e in
-    let b = fine-else (counters_ok r) Fine Counters refl a.1 in
+    let a = fine-cond (not (eqb k 0)) (Err (BadSettings (refusal_of k))) (cond (counters_ok r) (Ok tt) (Err Counters)) refl e in
+    let b = fine-else (counters_ok r) (Ok tt) (Err Counters) refl a.1 in
     (settings-fine r.settings (eqb-true k 0 (not-false (eqb k 0) a.0)), counters-fine r b.0)
 
-record-good : (r : Run) → GoodSettings r.settings → GoodCounters r → record_fault r ≡ Fine
+record-good : (r : Run) → GoodSettings r.settings → GoodCounters r → record_fault r ≡ Ok tt
 unfolding record_fault
 record-good r s g = simp (settings-good r.settings s, counters-good r g)
 
@@ -159,19 +171,13 @@ module _ (s : Settings) (p i g a x o f nodes : ℕ) where
 
 -- ---- the contents
 
-same-fine : (t : Contents) → is_fine (tree_fault t) ≡ is_sound t
-same-fine FineTree = refl
-same-fine Used = refl
-same-fine (Count i) = refl
-same-fine (Point i) = refl
-same-fine (Block i) = refl
+same-fine : (t : Result Unit Unsound) → is_fine (tree_fault t) ≡ is_sound t
+same-fine (Ok u) = refl
+same-fine (Err f) = refl
 
-fine-is : (t : Contents) → is_sound t ≡ true → tree_fault t ≡ Fine
-fine-is FineTree e = refl
-fine-is Used e = absurd (true≢false (sym e))
-fine-is (Count i) e = absurd (true≢false (sym e))
-fine-is (Point i) e = absurd (true≢false (sym e))
-fine-is (Block i) e = absurd (true≢false (sym e))
+fine-is : (t : Result Unit Unsound) → is_sound t ≡ true → tree_fault t ≡ Ok tt
+fine-is (Ok u) e = refl
+fine-is (Err f) e = absurd (true≢false (sym e))
 
 module _ (r : Run) (xs off : List ℕ) (ns : List Node) where
   tree-fine-at : is_fine (tree_fault_at r ns) ≡ true → (r.phase ≡ 0 → ⊥) → GoodTree r.settings.n r ns
@@ -182,13 +188,13 @@ module _ (r : Run) (xs off : List ℕ) (ns : List Node) where
       let g = fine-sound r.settings.n r.settings.c (tree r.used ns) (sym (same-fine t) ∙ q) in
       record { used-some = g.some; used-most = g.within; each-node = g.nodes }
 
-  tree-good-at : (r.phase ≡ 0 → ⊥) → GoodTree r.settings.n r ns → tree_fault_at r ns ≡ Fine
+  tree-good-at : (r.phase ≡ 0 → ⊥) → GoodTree r.settings.n r ns → tree_fault_at r ns ≡ Ok tt
   unfolding tree_fault_at
   tree-good-at n g =
       let s : Sound r.settings.n r.settings.c (tree r.used ns) = record { some = g.used-some; within = g.used-most; nodes = g.each-node } in
       rw (ne_eqb r.phase 0 n) (fine-is (contents_of r.settings.n r.settings.c (tree r.used ns)) (sound-fine r.settings.n r.settings.c (tree r.used ns) s))
 
-  tree-rests : r.phase ≡ 0 → tree_fault_at r ns ≡ Fine
+  tree-rests : r.phase ≡ 0 → tree_fault_at r ns ≡ Ok tt
   unfolding tree_fault_at
   tree-rests e = rw (eq-eqb r.phase 0 e)
 
@@ -196,22 +202,22 @@ module _ (r : Run) (xs off : List ℕ) (ns : List Node) where
   unfolding contents_fault
   contents-fine e =
       let s = r.settings in
-      let rest = cond (ltb (first_index s xs off) (listed s off)) (Index (first_index s xs off)) (tree_fault_at r ns) in
-      let a = fine-cond (ltb (first_offset s off) (s.n + 1)) (Offsets (first_offset s off - 1)) rest refl e in
-      let b = fine-cond (ltb (first_index s xs off) (listed s off)) (Index (first_index s xs off)) (tree_fault_at r ns) refl a.1 in
+      let rest = cond (ltb (first_index s xs off) (listed s off)) (Err (Index (first_index s xs off))) (tree_fault_at r ns) in
+      let a = fine-cond (ltb (first_offset s off) (s.n + 1)) (Err (Offsets (first_offset s off - 1))) rest refl e in
+      let b = fine-cond (ltb (first_index s xs off) (listed s off)) (Err (Index (first_index s xs off))) (tree_fault_at r ns) refl a.1 in
       record {
         each-offset = offsets-fine s off (ltb-false (first_offset s off) (s.n + 1) a.0);
         each_index = λ i h. not-false _ (first-all (λ i. not (index_fine xs s.n i)) (listed s off) (ltb-false (first_index s xs off) (listed s off) b.0) i h);
         tree = tree-fine-at b.1;
       }
 
-  pub contents-good : GoodContents r.settings.n r xs off ns → contents_fault r xs off ns ≡ Fine
+  pub contents-good : GoodContents r.settings.n r xs off ns → contents_fault r xs off ns ≡ Ok tt
   unfolding contents_fault
   contents-good g =
       let s = r.settings in
       let q : first_offset s off ≡ s.n + 1 = first-none (λ i. not (offset_fine off (sizes_of s).links i)) (s.n + 1) (λ i h. ap not (g.each-offset i h)) in
       let x : first_index s xs off ≡ listed s off = first-none (λ i. not (index_fine xs s.n i)) (listed s off) (λ i h. ap not (g.each_index i h)) in
-      let t : tree_fault_at r ns ≡ Fine = by_bool (tree_fault_at r ns ≡ Fine) (eqb r.phase 0) (λ z. tree-rests (eqb-true r.phase 0 z)) (λ z. tree-good-at
+      let t : tree_fault_at r ns ≡ Ok tt = by_bool (tree_fault_at r ns ≡ Ok tt) (eqb r.phase 0) (λ z. tree-rests (eqb-true r.phase 0 z)) (λ z. tree-good-at
       (eqb-false r.phase 0 z) (g.tree (eqb-false r.phase 0 z))) in
       rw (le-ltb (first_offset s off) (s.n + 1) (omega (arith, q)), le-ltb (first_index s xs off) (listed s off) (omega (arith, x))) t
 
@@ -224,16 +230,16 @@ module _ (r : Run) (p i g a f : ℕ) (xs off : List ℕ) (ns : List Node) where
     pub areas : GoodAreas r.settings p i g a (length xs) (length off) f (length ns)
     pub contents : is_tree r.settings.method ≡ true → GoodContents r.settings.n r xs off ns
 
-  by-record : (x : Fault) → is_fine (cond (is_fine (record_fault r)) x (record_fault r)) ≡ true → (is_fine (record_fault r) ≡ true) × (is_fine x ≡ true)
+  by-record : (x : Found) → is_fine (cond (is_fine (record_fault r)) x (record_fault r)) ≡ true → (is_fine (record_fault r) ≡ true) × (is_fine x ≡ true)
   by-record x e = by_bool ((is_fine (record_fault r) ≡ true) × (is_fine x ≡ true)) (is_fine (record_fault r)) (λ t. (t, rw t at e)) (λ f. absurd (true≢false (sym (rw f at e) ∙ f)))
 
   pub at-fine : is_fine (fault_at r p i g a f xs off ns) ≡ true → GoodAt
   unfolding fault_at
   at-fine e =
       let F = areas_fit r.settings p i g a (length xs) (length off) f (length ns) in
-      let T = cond (is_tree r.settings.method) (contents_fault r xs off ns) Fine in
-      let y = by-record (cond F T Areas) e in
-      let z = fine-else F T Areas refl y.1 in
+      let T = cond (is_tree r.settings.method) (contents_fault r xs off ns) (Ok tt) in
+      let y = by-record (cond F T (Err Areas)) e in
+      let z = fine-else F T (Err Areas) refl y.1 in
       let h = record-fine r y.0 in
       record {
         settings = h.0;
@@ -242,16 +248,16 @@ module _ (r : Run) (p i g a f : ℕ) (xs off : List ℕ) (ns : List Node) where
         contents = λ t. contents-fine r xs off ns (rw t at z.1);
       }
 
-  pub at-good : GoodAt → fault_at r p i g a f xs off ns ≡ Fine
+  pub at-good : GoodAt → fault_at r p i g a f xs off ns ≡ Ok tt
   unfolding fault_at
   at-good h = rw (record-good r h.settings h.counters, areas-good r.settings p i g a (length xs) (length off) f (length ns) h.areas)
-      (by_bool (cond (is_tree r.settings.method) (contents_fault r xs off ns) Fine ≡ Fine) (is_tree r.settings.method) (λ t. rw t (contents-good r xs off ns (h.contents t))) (λ t. rw t))
+      (by_bool (cond (is_tree r.settings.method) (contents_fault r xs off ns) (Ok tt) ≡ Ok tt) (is_tree r.settings.method) (λ t. rw t (contents-good r xs off ns (h.contents t))) (λ t. rw t))
 
 -- .. of a state
 pub fault-fine : (s : State) → is_fine (fault_of s) ≡ true → Good s
 unfolding fault_of
 fault-fine s e = let h = at-fine _ _ _ _ _ _ _ _ _ e in record { settings = h.settings; counters = h.counters; areas = h.areas; contents = h.contents }
 
-pub fault-good : (s : State) → Good s → fault_of s ≡ Fine
+pub fault-good : (s : State) → Good s → fault_of s ≡ Ok tt
 unfolding fault_of
 fault-good s g = at-good _ _ _ _ _ _ _ _ _ (record { settings = g.settings; counters = g.counters; areas = g.areas; contents = g.contents })

@@ -1,7 +1,8 @@
 -- The entry tests of a work call: the record, the areas, the contents; and a state in good order. Definitions only.
-use Rattle.std.specs.Prelude.{List, ◌≡◌, Bool, true, false, cond, not, ◌&&◌, ℕ, ◌+◌, ◌-◌, ◌*◌, ◌<◌, ◌≤◌, eqb, ltb, leb, length}
+use Rattle.std.specs.Prelude.{List, Result, Ok, Err, ◌≡◌, Bool, true, false, cond, not, ◌&&◌, ℕ, ◌+◌, ◌-◌, ◌*◌, ◌<◌, ◌≤◌, eqb, ltb, leb, length}
 use Rattle.laws.specs.Loops.{first}
 use Rattle.laws.specs.Area.{num}
+use Rattle.refusal.specs.Refusal.{refusal_of}
 use Rattle.run_record.specs.declared.Settings.{Settings}
 use Rattle.run_record.specs.declared.Run.{Run}
 use Rattle.run_record.specs.Record.{is_tree, settings_fault, counters_ok, per_of, state_fits, k_of, sizes_of, GoodSettings}
@@ -9,11 +10,15 @@ use Rattle.tree_node.specs.declared.Node.{Node}
 use Rattle.tree_node.specs.Arena.{nameable}
 use Rattle.tree.specs.Insert.{tree, tree_ok}
 use Rattle.tree.specs.Contents.{contents_of}
-use Rattle.tree_contents.specs.declared.Contents.{Contents}
-use Rattle.tree_contents.specs.declared.Contents.TheVariants.{Fine as FineTree, Used, Count, Point, Block}
+use Rattle.tree_contents.specs.declared.Unsound.{Unsound}
+use Rattle.tree_contents.specs.declared.Unsound.TheVariants.{Used, Count, Point, Block}
 use Rattle.run_entry.specs.State.{State}
 use Rattle.run_entry.specs.declared.Fault.{Fault}
-use Rattle.run_entry.specs.declared.Fault.TheVariants.{Fine, Settings as BadSettings, Counters, Areas, Offsets, Index, Tree}
+use Rattle.run_entry.specs.declared.Fault.TheVariants.{Settings as BadSettings, Counters, Areas, Offsets, Index, Tree}
+
+-- what the entry tests find: nothing, or a fault
+abbrev pub Found : Type 0
+Found = Result Unit Fault
 
 -- ---- areas: each is long enough
 
@@ -49,72 +54,75 @@ abbrev pub first_index : Settings → List ℕ → List ℕ → ℕ
 first_index s xs off = first (λ i. not (index_fine xs s.n i)) (listed s off)
 
 -- a faulty tree by its lowest faulty node; 0 where the number in use is bad
-abbrev pub tree_fault : Contents → Fault
-tree_fault FineTree = Fine
-tree_fault Used = Tree 0
-tree_fault (Count i) = Tree i
-tree_fault (Point i) = Tree i
-tree_fault (Block i) = Tree i
+abbrev pub unsound_fault : Unsound → Fault
+unsound_fault Used = Tree 0
+unsound_fault (Count i) = Tree i
+unsound_fault (Point i) = Tree i
+unsound_fault (Block i) = Tree i
+
+abbrev pub tree_fault : Result Unit Unsound → Found
+tree_fault (Ok u) = Ok tt
+tree_fault (Err u) = Err (unsound_fault u)
 
 -- between an iteration's box and its finish the nodes in use are tested
-unfoldable pub tree_fault_at : Run → List Node → Fault
-tree_fault_at r ns = cond (eqb r.phase 0) Fine (tree_fault (contents_of r.settings.n r.settings.c (tree r.used ns)))
+unfoldable pub tree_fault_at : Run → List Node → Found
+tree_fault_at r ns = cond (eqb r.phase 0) (Ok tt) (tree_fault (contents_of r.settings.n r.settings.c (tree r.used ns)))
 
 -- offset i is the end of the list of frame i − 1
-unfoldable pub contents_fault : Run → List ℕ → List ℕ → List Node → Fault
+unfoldable pub contents_fault : Run → List ℕ → List ℕ → List Node → Found
 contents_fault r xs off ns =
-    cond (ltb (first_offset r.settings off) (r.settings.n + 1)) (Offsets (first_offset r.settings off - 1))
-    (cond (ltb (first_index r.settings xs off) (listed r.settings off)) (Index (first_index r.settings xs off)) (tree_fault_at r ns))
+    cond (ltb (first_offset r.settings off) (r.settings.n + 1)) (Err (Offsets (first_offset r.settings off - 1)))
+    (cond (ltb (first_index r.settings xs off) (listed r.settings off)) (Err (Index (first_index r.settings xs off))) (tree_fault_at r ns))
 
 -- ---- all of them, in their order
 
-abbrev pub is_fine : Fault → Bool
-is_fine Fine = true
-is_fine (BadSettings k) = false
-is_fine Counters = false
-is_fine Areas = false
-is_fine (Offsets i) = false
-is_fine (Index i) = false
-is_fine (Tree i) = false
+abbrev pub is_fine : Found → Bool
+is_fine (Ok t) = true
+is_fine (Err f) = false
 
-unfoldable pub record_fault : Run → Fault
-record_fault r = cond (not (eqb (settings_fault r.settings) 0)) (BadSettings (settings_fault r.settings)) (cond (counters_ok r) Fine Counters)
+-- what follows: x where they pass, else what y makes of the fault
+module _ {A : Type 0} where
+  abbrev pub by_tests : Found → A → (Fault → A) → A
+  by_tests (Ok t) x y = x
+  by_tests (Err f) x y = y f
 
-unfoldable pub fault_at : Run → ℕ → ℕ → ℕ → ℕ → ℕ → List ℕ → List ℕ → List Node → Fault
+unfoldable pub record_fault : Run → Found
+record_fault r = cond (not (eqb (settings_fault r.settings) 0)) (Err (BadSettings (refusal_of (settings_fault r.settings)))) (cond (counters_ok r) (Ok tt) (Err Counters))
+
+unfoldable pub fault_at : Run → ℕ → ℕ → ℕ → ℕ → ℕ → List ℕ → List ℕ → List Node → Found
 fault_at r p i g a f xs off ns =
     cond (is_fine (record_fault r))
     (cond (areas_fit r.settings p i g a (length xs) (length off) f (length ns))
-    (cond (is_tree r.settings.method) (contents_fault r xs off ns) Fine)
-    Areas)
+    (cond (is_tree r.settings.method) (contents_fault r xs off ns) (Ok tt))
+    (Err Areas))
     (record_fault r)
 
 -- the same tests but those of the nodes, of which there are so many
-unfoldable pub lists_fault : Run → List ℕ → List ℕ → Fault
+unfoldable pub lists_fault : Run → List ℕ → List ℕ → Found
 lists_fault r xs off =
-    cond (ltb (first_offset r.settings off) (r.settings.n + 1)) (Offsets (first_offset r.settings off - 1))
-    (cond (ltb (first_index r.settings xs off) (listed r.settings off)) (Index (first_index r.settings xs off)) Fine)
+    cond (ltb (first_offset r.settings off) (r.settings.n + 1)) (Err (Offsets (first_offset r.settings off - 1)))
+    (cond (ltb (first_index r.settings xs off) (listed r.settings off)) (Err (Index (first_index r.settings xs off))) (Ok tt))
 
-unfoldable pub fault_before_tree : Run → ℕ → ℕ → ℕ → ℕ → ℕ → List ℕ → List ℕ → ℕ → Fault
+unfoldable pub fault_before_tree : Run → ℕ → ℕ → ℕ → ℕ → ℕ → List ℕ → List ℕ → ℕ → Found
 fault_before_tree r p i g a f xs off nodes =
     cond (is_fine (record_fault r))
     (cond (areas_fit r.settings p i g a (length xs) (length off) f nodes)
-    (cond (is_tree r.settings.method) (lists_fault r xs off) Fine)
-    Areas)
+    (cond (is_tree r.settings.method) (lists_fault r xs off) (Ok tt))
+    (Err Areas))
     (record_fault r)
 
 -- .. which found t: the nodes are to be tested
-unfoldable pub asks_tree : Run → Fault → Bool
+unfoldable pub asks_tree : Run → Found → Bool
 asks_tree r t = is_fine t && is_tree r.settings.method && not (eqb r.phase 0)
 
-unfoldable pub fault_of : State → Fault
+unfoldable pub fault_of : State → Found
 fault_of s =
     let m = s.memory in
     fault_at s.run (length m.positions) (length m.increments) (length m.gains) (length m.affinities) (length m.forces) m.indices m.offsets m.nodes
 
--- the number of a fault, which says what to look at: 12 for an area, and 21 to 25 where the scope paper had 13 (request 2026-10); 0, which is no refusal, where all is fine
+-- the number of a fault, which says what to look at: 12 for an area, and 21 to 25 where the scope paper had 13 (request 2026-10)
 unfoldable pub fault_number : Fault → ℕ
-fault_number Fine = 0
-fault_number (BadSettings k) = 21
+fault_number (BadSettings r) = 21
 fault_number Counters = 22
 fault_number Areas = 12
 fault_number (Offsets i) = 23

@@ -8,22 +8,22 @@ ghost use Rattle.laws.specs.Loops.{first};
 ghost use Rattle.tree_node.specs.Node.{Axes};
 ghost use Rattle.tree_node.specs.Arena.{nodes_of};
 ghost use Rattle.run_record.specs.Record.{GoodSettings, sizes_of};
-ghost use Rattle.run_entry.specs.Entry.{offset_fine, index_fine, tree_fits, areas_fit, is_fine, fault_number, tree_fault, record_fault, lists_fault, fault_before_tree, asks_tree, fault_at, ContentsRoom};
+ghost use Rattle.run_entry.specs.declared.Fault.TheVariants.{Settings};
+ghost use Rattle.run_entry.specs.Entry.{offset_fine, index_fine, tree_fits, areas_fit, fault_number, unsound_fault, record_fault, lists_fault, fault_before_tree, fault_at, ContentsRoom};
 
-use refusal::number;
+use refusal::{Numbered, Refusal};
 use run_record::counters::counters_ok;
 use run_record::faults::{is_tree, settings_fault, sizes_of};
 use run_record::{Run, Settings};
-use tree::Contents;
+use tree::Unsound;
 use tree::wellformed::tree_ok;
 use tree_node::Cell;
 
-// What the entry tests find, a case for each kind of fault.
-#[derive(Clone, Copy)]
+// What the entry tests find wrong, a case for each kind of fault.
+#[derive(Clone, Copy, Debug, PartialEq, Eq)]
 pub enum Fault {
-    Fine,
-    // with the number that 1 to 10 would give
-    Settings(u8),
+    // with what 1 to 10 would say
+    Settings(Refusal),
     Counters,
     Areas,
     // the frame whose list's end is bad, 0 for a bad start
@@ -34,39 +34,52 @@ pub enum Fault {
     Tree(usize),
 }
 
-pub fn is_fine(f: Fault) -> bool
-    ensures { result ≡ is_fine f }
-{
-    match f {
-        Fault::Fine => true,
-        Fault::Settings(_) => false,
-        Fault::Counters => false,
-        Fault::Areas => false,
-        Fault::Offsets(_) => false,
-        Fault::Index(_) => false,
-        Fault::Tree(_) => false,
+// The number of a fault, which says what to look at: 12 for an area, 21 to 25 for all else that the entry tests find.
+impl Numbered for Fault {
+    ghost number_of = { fault_number };
+
+    fn number(self) -> u8 {
+        match self {
+            Fault::Settings(_) => 21,
+            Fault::Counters => 22,
+            Fault::Areas => 12,
+            Fault::Offsets(_) => 23,
+            Fault::Index(_) => 24,
+            Fault::Tree(_) => 25,
+        }
     }
 }
 
-// The number of a fault, which says what to look at: 12 for an area, 21 to 25 for all else that the entry tests find; 0: there is none.
-pub fn fault_number(f: Fault) -> u8
-    ensures { result ≡ fault_number f }
-{
-    match f {
-        Fault::Fine => 0,
-        Fault::Settings(_) => 21,
-        Fault::Counters => 22,
-        Fault::Areas => 12,
-        Fault::Offsets(_) => 23,
-        Fault::Index(_) => 24,
-        Fault::Tree(_) => 25,
+impl From<Refusal> for Fault {
+    ghost from_gives = { λ r f. f ≡ Settings r };
+
+    fn from(r: Refusal) -> Fault {
+        Fault::Settings(r)
     }
 }
 
-fn wide(x: u32) -> usize
-    ensures { result ≡ x }
-{
-    x as usize
+// A faulty tree is told by its lowest faulty node; 0 where the number in use is bad.
+impl From<Unsound> for Fault {
+    ghost from_gives = { λ u f. f ≡ unsound_fault u };
+
+    fn from(u: Unsound) -> Fault {
+        match u {
+            Unsound::Used => Fault::Tree(0),
+            Unsound::Count(i) => Fault::Tree(i),
+            Unsound::Point(i) => Fault::Tree(i),
+            Unsound::Block(i) => Fault::Tree(i),
+        }
+    }
+}
+
+// How many values each area of values has.
+#[derive(Clone, Copy)]
+pub struct Lengths {
+    pub positions: usize,
+    pub increments: usize,
+    pub gains: usize,
+    pub affinities: usize,
+    pub forces: usize,
 }
 
 fn offset_fine(offsets: &[u32], most: usize, i: usize) -> bool
@@ -74,14 +87,9 @@ fn offset_fine(offsets: &[u32], most: usize, i: usize) -> bool
     ensures { result ≡ offset_fine offsets.now most i }
 {
     if i == 0 {
-        return wide(offsets[i]) == 0;
+        return offsets[i] == 0;
     }
-    let a = wide(offsets[i - 1]);
-    let b = wide(offsets[i]);
-    if b < a {
-        return false;
-    }
-    b <= most
+    offsets[i - 1] <= offsets[i] && offsets[i] as usize <= most
 }
 
 // The first bad offset of n.
@@ -101,7 +109,7 @@ fn index_fine(indices: &[u32], n: usize, i: usize) -> bool
     requires { i < length indices.now }
     ensures { result ≡ index_fine indices.now n i }
 {
-    wide(indices[i]) < n
+    (indices[i] as usize) < n
 }
 
 // The first bad index of count.
@@ -121,67 +129,29 @@ fn tree_fits(n: usize, links: usize, a: usize, x: usize, o: usize, nodes: usize)
     requires { n ≤ most_frames }
     ensures { result ≡ tree_fits n links a x o nodes }
 {
-    if a < links {
-        return false;
-    }
-    if x < links {
-        return false;
-    }
-    if o < n + 1 {
+    if a < links || x < links || o < n + 1 {
         return false;
     }
     1 <= nodes
 }
 
-// No area is too short, by their lengths.
-pub fn areas_fit(
-    s: Settings,
-    p: usize,
-    i: usize,
-    g: usize,
-    a: usize,
-    x: usize,
-    o: usize,
-    f: usize,
-    nodes: usize,
-) -> bool
+// No area is too short: of values by their lengths, with so many indices, offsets and nodes.
+pub fn areas_fit(s: Settings, l: Lengths, indices: usize, offsets: usize, nodes: usize) -> bool
     requires { GoodSettings s }
-    ensures { result ≡ areas_fit s p i g a x o f nodes }
+    ensures { result ≡ areas_fit s l.positions l.increments l.gains l.affinities indices offsets l.forces nodes }
 {
     let z = sizes_of(s);
-    if p < z.cells {
+    if l.positions < z.cells || l.increments < z.cells || l.gains < z.cells || l.forces < z.forces {
         return false;
     }
-    if i < z.cells {
-        return false;
+    if is_tree(s.method) {
+        return tree_fits(s.n, z.links, l.affinities, indices, offsets, nodes);
     }
-    if g < z.cells {
-        return false;
-    }
-    if f < z.forces {
-        return false;
-    }
-    let m = s.method;
-    if is_tree(m) {
-        return tree_fits(s.n, z.links, a, x, o, nodes);
-    }
-    z.square <= a
-}
-
-fn tree_fault(t: Contents) -> Fault
-    ensures { result ≡ tree_fault t }
-{
-    match t {
-        Contents::Fine => Fault::Fine,
-        Contents::Used => Fault::Tree(0),
-        Contents::Count(i) => Fault::Tree(i),
-        Contents::Point(i) => Fault::Tree(i),
-        Contents::Block(i) => Fault::Tree(i),
-    }
+    z.square <= l.affinities
 }
 
 // A Barnes-Hut run's offsets and indices.
-fn lists_fault(r: Run, indices: &[u32], offsets: &[u32]) -> Fault
+fn lists_fault(r: Run, indices: &[u32], offsets: &[u32]) -> Result<(), Fault>
     requires { ContentsRoom r (length indices.now) (length offsets.now) }
     ensures { result ≡ lists_fault r indices.now offsets.now }
 {
@@ -190,14 +160,14 @@ fn lists_fault(r: Run, indices: &[u32], offsets: &[u32]) -> Fault
     let n = s.n;
     let o = first_offset(offsets, z.links, n + 1);
     if o < n + 1 {
-        return Fault::Offsets(before(o));
+        return Err(Fault::Offsets(before(o)));
     }
-    let count = wide(offsets[n]);
+    let count = offsets[n] as usize;
     let x = first_index(indices, n, count);
     if x < count {
-        return Fault::Index(x);
+        return Err(Fault::Index(x));
     }
-    Fault::Fine
+    Ok(())
 }
 
 // One less, and 0 for 0.
@@ -211,85 +181,50 @@ fn before(i: usize) -> usize
 }
 
 // Settings and counters.
-fn record_fault(r: Run) -> Fault
+fn record_fault(r: Run) -> Result<(), Fault>
     ensures { result ≡ record_fault r }
 {
-    let s = r.settings;
-    let k = number(settings_fault(s));
-    if k != 0 {
-        return Fault::Settings(k);
-    }
+    settings_fault(r.settings)?;
     if !counters_ok(r) {
-        return Fault::Counters;
+        return Err(Fault::Counters);
     }
-    Fault::Fine
+    Ok(())
 }
 
 // All but the nodes, of which there are so many: the record, the areas by their lengths, the lists.
 fn early_fault(
     r: Run,
-    p: usize,
-    i: usize,
-    g: usize,
-    a: usize,
-    f: usize,
+    l: Lengths,
     indices: &[u32],
     offsets: &[u32],
     nodes: usize,
-) -> Fault
-    ensures { result ≡ fault_before_tree r p i g a f indices.now offsets.now nodes }
+) -> Result<(), Fault>
+    ensures { result ≡ fault_before_tree r l.positions l.increments l.gains l.affinities l.forces indices.now offsets.now nodes }
 {
-    let t = record_fault(r);
-    if !is_fine(t) {
-        return t;
+    record_fault(r)?;
+    if !areas_fit(r.settings, l, indices.len(), offsets.len(), nodes) {
+        return Err(Fault::Areas);
     }
-    let s = r.settings;
-    if !areas_fit(s, p, i, g, a, indices.len(), offsets.len(), f, nodes) {
-        return Fault::Areas;
-    }
-    let m = s.method;
-    if !is_tree(m) {
-        return Fault::Fine;
+    if !is_tree(r.settings.method) {
+        return Ok(());
     }
     lists_fault(r, indices, offsets)
 }
 
-// Whether the nodes are to be tested: between an iteration's box and its finish, where nothing else was found.
-fn asks_tree(r: Run, t: Fault) -> bool
-    ensures { result ≡ asks_tree r t }
-{
-    if !is_fine(t) {
-        return false;
-    }
-    let s = r.settings;
-    let m = s.method;
-    if !is_tree(m) {
-        return false;
-    }
-    r.phase != 0
-}
-
-// The record, the areas (by their lengths), the contents.
+// The record, the areas (of values by their lengths), the contents. The nodes are tested between an iteration's box and its finish.
 pub fn fault_at(
     r: Run,
-    p: usize,
-    i: usize,
-    g: usize,
-    a: usize,
-    f: usize,
+    l: Lengths,
     indices: &[u32],
     offsets: &[u32],
     cells: &[Cell],
-) -> Fault
-    ensures { result ≡ fault_at r p i g a f indices.now offsets.now (nodes_of cells.now) }
+) -> Result<(), Fault>
+    ensures { result ≡ fault_at r l.positions l.increments l.gains l.affinities l.forces indices.now offsets.now (nodes_of cells.now) }
 {
-    let t = early_fault(r, p, i, g, a, f, indices, offsets, cells.len());
-    let asks = asks_tree(r, t);
-    if asks {
-        let s = r.settings;
-        let k = tree_ok(cells, r.used, s.n, s.c);
-        let w = tree_fault(k);
-        return w;
+    early_fault(r, l, indices, offsets, cells.len())?;
+    let s = r.settings;
+    if is_tree(s.method) && r.phase != 0 {
+        tree_ok(cells, r.used, s.n, s.c)?;
     }
-    t
+    Ok(())
 }

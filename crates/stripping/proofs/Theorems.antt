@@ -15,9 +15,9 @@ use Rattle.laws.proofs.Bools.{by_bool, or_left, or_right}
 use Rattle.laws.proofs.Loops.{loop-keeps}
 use Rattle.laws.proofs.Joined.{length-singles, singles-at}
 use Rattle.run_record.specs.Record.{is_ended}
-use Rattle.run_entry.specs.declared.Fault.{Fault}
 use Rattle.run_entry.specs.State.{Memory}
-use Rattle.run_entry.specs.Entry.{is_fine}
+use Rattle.run_entry.specs.Entry.{Found, is_fine}
+use Rattle.run_entry.proofs.Laws.{found-none, found-some}
 use Rattle.record_words.specs.RecordWords.{settings_of, standing_of}
 use Rattle.strip_order.specs.Strip.{strip_place, strip_order, strip_gap, strip_gaps}
 use Rattle.strip_order.proofs.Places.{place-below, order-size}
@@ -59,7 +59,7 @@ later-gap y o q h = rw (ne_eqb q 0 (λ e. omega arith))
 -- ---- a call that is done
 
 -- every test is passed
-record Through (f : Fault) (w : List ℕ) (y : List Float) (o g : List ℕ) : Type 0 where
+record Through (f : Found) (w : List ℕ) (y : List Float) (o g : List ℕ) : Type 0 where
   found-fine : is_fine f ≡ true
   profile : in_profile (settings_of w) ≡ true
   end : is_ended (standing_of (num w 9)) ≡ true
@@ -98,15 +98,15 @@ done-is (Bad f) e = absurd (true≢false (sym e))
 not_done : (a : Handed) → ((n : ℕ) → a ≡ Done n → ⊥) → is_done a ≡ false
 not_done a k = by_bool (is_done a ≡ false) (is_done a) (λ t. absurd (k (frames_in a) (done-is a t))) (λ t. t)
 
-module _ (f : Fault) (w : List ℕ) (y : List Float) (o g : List ℕ) (n : ℕ) where
+module _ (f : Found) (w : List ℕ) (y : List Float) (o g : List ℕ) (n : ℕ) where
   through : (hand_tested f w y o g).answer ≡ Done n → Through f w y o g
   unfolding hand_tested
-  through e = by_bool (Through f w y o g) (is_fine f) (λ a. by_bool (Through f w y o g) (in_profile (settings_of w)) (λ b. by_bool (Through f w y o g)
+  through e = by_bool (Through f w y o g) (is_fine f) (λ a0. let a = found-none f a0 in by_bool (Through f w y o g) (in_profile (settings_of w)) (λ b. by_bool (Through f w y o g)
       (is_ended (standing_of (num w 9))) (λ c. by_bool (Through f w y o g) (calm_along y (num w 0)) (λ d. by_bool (Through f w y o g)
       (ltb (length o) (num w 0) || ltb (length g) (num w 0))
       (λ s. refuses refl (rw (a, b, c, d, s) at e))
       (λ s. record {
-        found-fine = a;
+        found-fine = a0;
         profile = b;
         end = c;
         all-fine = d;
@@ -118,20 +118,20 @@ module _ (f : Fault) (w : List ℕ) (y : List Float) (o g : List ℕ) (n : ℕ) 
       (λ d. refuses refl (rw (a, b, c, d) at e)))
       (λ c. refuses refl (rw (a, b, c) at e)))
       (λ b. refuses refl (rw (a, b) at e)))
-      (λ a. refuses refl (rw a at e))
+      (λ a. refuses refl (rw (found-some f a).1 at e))
 
-module _ (f : Fault) (w : List ℕ) (y : List Float) (o g : List ℕ) where
+module _ (f : Found) (w : List ℕ) (y : List Float) (o g : List ℕ) where
   -- refused, nothing is changed
   keeps : is_done (hand_tested f w y o g).answer ≡ false → hand_tested f w y o g ≡ handing (hand_tested f w y o g).answer o g
   unfolding hand_tested along_line
-  keeps e = by_bool Kept (is_fine f) (λ a. by_bool Kept (in_profile (settings_of w)) (λ b. by_bool Kept (is_ended (standing_of (num w 9))) (λ c. by_bool Kept
+  keeps e = by_bool Kept (is_fine f) (λ a0. let a = found-none f a0 in by_bool Kept (in_profile (settings_of w)) (λ b. by_bool Kept (is_ended (standing_of (num w 9))) (λ c. by_bool Kept
       (calm_along y (num w 0)) (λ d. by_bool Kept (ltb (length o) (num w 0) || ltb (length g) (num w 0))
       (λ s. rw (a, b, c, d, s))
       (λ s. absurd (true≢false (rw (a, b, c, d, s) at e))))
       (λ d. rw (a, b, c, d)))
       (λ c. rw (a, b, c)))
       (λ b. rw (a, b)))
-      (λ a. rw a)
+      (λ a. rw (found-some f a).1)
     where
       Kept : Type 0
       Kept = hand_tested f w y o g ≡ handing (hand_tested f w y o g).answer o g
@@ -190,4 +190,4 @@ module _ (w : List ℕ) (m : Memory) (o g : List ℕ) where
       calm_along m.positions (num w 0) ≡ true → num w 0 ≤ length o → num w 0 ≤ length g → left.answer ≡ Done (num w 0)
   unfolding handed_out along_line
   handed-where a b c d h k = ap (λ (x : Handing). x.answer)
-      (line-is (hand_fault w m) w m.positions o g (record { found-fine = a; profile = b; end = c; all-fine = d; order-room = h; gaps-room = k }))
+      (line-is (hand_fault w m) w m.positions o g (record { found-fine = a0; profile = b; end = c; all-fine = d; order-room = h; gaps-room = k }))

@@ -21,8 +21,7 @@ use Rattle.tree_node.specs.declared.Cell.{Cell}
 use Rattle.tree_node.specs.declared.Node.{Node}
 use Rattle.tree_node.specs.Arena.{nodes_of}
 use Rattle.run_entry.specs.State.{State}
-use Rattle.run_entry.specs.declared.Fault.{Fault}
-use Rattle.run_entry.specs.Entry.{offset_fine, fault_at, fault_of, is_fine, Good}
+use Rattle.run_entry.specs.Entry.{Found, offset_fine, fault_at, fault_of, is_fine, Good}
 use Rattle.run_entry.proofs.Laws.{fault-fine, links-is}
 use Rattle.run_rooms.proofs.Lists.{offset-rises, index_below}
 use Rattle.take_lists.specs.Packed.{Listed}
@@ -142,7 +141,7 @@ room-shown r h ns e = go (fault-fine (state_held r (cut p h) ns) (ap is_fine (sy
 -- ---- the fault that was found is the definition's
 
 module _ (r : Run) (y : List Float) (v g P xs off : List ℕ) (F : List Float) (cs : List Cell) (t gone q : List ℕ)
-    (p : ℕ) (ep : p ≡ lent_positions r.settings (length y) (length t) (length q)) (f : Fault) (ef : f ≡ fault_at r p (length v) (length g) (length P) (length F) xs off (nodes_of cs)) where
+    (p : ℕ) (ep : p ≡ lent_positions r.settings (length y) (length t) (length q)) (f : Found) (ef : f ≡ fault_at r p (length v) (length g) (length P) (length F) xs off (nodes_of cs)) where
   fault-is : f ≡ take_fault r (holdings y v g P xs off F t q) (nodes_of cs)
   unfolding take_fault
   fault-is = ef ∙ rw ep
@@ -154,4 +153,4 @@ module _ (r : Run) (y : List Float) (v g P xs off : List ℕ) (F : List Float) (
       → took_out w.answer w.run (holdings y' v' g' P' xs' off' F' t' q') ≡ take_tested f r gone (holdings y v g P xs off F t q)
       → took_out w.answer w.run (holdings y' v' g' P' xs' off' F' t' q') ≡ take_out gone r (holdings y v g P xs off F t q) (nodes_of cs)
   unfolding take_out
-  taking-told w y' v' g' P' xs' off' F' t' q' h = h ∙ ap (λ (x : Fault). take_tested x r gone (holdings y v g P xs off F t q)) fault-is
+  taking-told w y' v' g' P' xs' off' F' t' q' h = h ∙ ap (λ (x : Found). take_tested x r gone (holdings y v g P xs off F t q)) fault-is

@@ -1,4 +1,5 @@
 -- Once the entry tests have been made: what each way leaves, and what an outlook that lets the call go on has shown. Assumes nothing.
+use Rattle.std.specs.Prelude.{Err}
 use mathlib.Core.Path.{◌≡◌, sym, ap, ◌∙◌}
 use mathlib.Core.Logic.{⊎_elim}
 use mathlib.Core.List.{List}
@@ -10,7 +11,8 @@ use lib.Ieee.{Float}
 use Rattle.laws.proofs.Bools.{two}
 use Rattle.run_record.specs.declared.Run.{Run}
 use Rattle.run_entry.specs.declared.Fault.{Fault}
-use Rattle.run_entry.specs.Entry.{is_fine}
+use Rattle.run_entry.specs.Entry.{Found, is_fine}
+use Rattle.run_entry.proofs.Laws.{found-none}
 use Rattle.take_gone.specs.Gone.{gone_fine, survivors}
 use Rattle.take_gone.proofs.Left.{gone-climbs}
 use Rattle.take_left.specs.declared.Outlook.{Outlook}
@@ -50,17 +52,17 @@ module _ (r : Run) (g : List ℕ) (h : Holdings) {v : Outlook} (e : v ≡ outloo
 
 -- ---- the three ways
 
-module _ (f : Fault) (r : Run) (g : List ℕ) (h : Holdings) where
-  pub tested-bad : is_fine f ≡ false → took_out (Bad f) r h ≡ take_tested f r g h
+module _ (f : Found) (r : Run) (g : List ℕ) (h : Holdings) where
+  pub tested-bad : (b : Fault) → f ≡ Err b → took_out (Bad b) r h ≡ take_tested f r g h
   unfolding take_tested
-  tested-bad e = rw e
+  tested-bad b e = rw e
 
   module _ (e : is_fine f ≡ true) (v : Outlook) (w : v ≡ outlook_of r g h.positions h.indices h.offsets) where
     pub tested-told : is_accepted v ≡ false → took_out (Told v) r h ≡ take_tested f r g h
     unfolding take_tested
-    tested-told n = rw (e, sym w, n)
+    tested-told n = rw (found-none f e, sym w, n)
 
     pub tested-done : is_accepted v ≡ true → (x : Run) (k : Holdings) → x ≡ thinned_run r (r.settings.n - length g) →
         k ≡ packed_areas r.settings (survivors g r.settings.n) h → took_out (Told v) x k ≡ take_tested f r g h
     unfolding take_tested
-    tested-done n x k a b = rw (e, sym w, n, a, b, (tested-count r g h w n).1)
+    tested-done n x k a b = rw (found-none f e, sym w, n, a, b, (tested-count r g h w n).1)

@@ -8,8 +8,7 @@ use Rattle.run_record.specs.declared.Settings.{Settings}
 use Rattle.run_record.specs.Record.{is_tree, settings_fault, GoodSettings}
 use Rattle.tree_node.specs.declared.Node.{Node}
 use Rattle.run_entry.specs.State.{State}
-use Rattle.run_entry.specs.declared.Fault.{Fault}
-use Rattle.run_entry.specs.Entry.{is_fine, fault_at, fault_number}
+use Rattle.run_entry.specs.Entry.{Found, by_tests, fault_at, fault_number}
 use Rattle.take_gone.specs.Gone.{survivors, Climbs}
 use Rattle.take_rows.specs.Rows.{shrunk, kept_rows, kept_square, centred_rows, Staying}
 use Rattle.take_lists.specs.Packed.{packed_indices, packed_weights, packed_offsets, Listed}
@@ -58,7 +57,7 @@ unfoldable pub lent_positions : Settings → ℕ → ℕ → ℕ → ℕ
 lent_positions s p t q = cond (not (eqb (settings_fault s) 0) || (leb (s.n * s.f) t && leb s.n q)) p 0
 
 -- as in a work call
-unfoldable pub take_fault : Run → Holdings → List Node → Fault
+unfoldable pub take_fault : Run → Holdings → List Node → Found
 take_fault r h ns =
     fault_at r (lent_positions r.settings (length h.positions) (length h.table) (length h.old))
     (length h.increments) (length h.gains) (length h.affinities) (length h.forces) h.indices h.offsets ns
@@ -108,13 +107,13 @@ abbrev pub took_out : Taken → Run → Holdings → TookOut
 took_out a r h = record { answer = a; run = r; areas = h }
 
 -- once the entry tests have found f: a refusal changes nothing
-unfoldable pub take_tested : Fault → Run → List ℕ → Holdings → TookOut
+unfoldable pub take_tested : Found → Run → List ℕ → Holdings → TookOut
 take_tested f r g h =
     let v = outlook_of r g h.positions h.indices h.offsets in
     let keep = survivors g r.settings.n in
-    cond (is_fine f)
+    by_tests f
     (cond (is_accepted v) (took_out (Told v) (thinned_run r (length keep)) (packed_areas r.settings keep h)) (took_out (Told v) r h))
-    (took_out (Bad f) r h)
+    (λ b. took_out (Bad b) r h)
 
 -- ---- the whole call
 

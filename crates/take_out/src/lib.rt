@@ -11,7 +11,8 @@ ghost use Rattle.take_rows.specs.Rows.{shrunk, kept_rows, centred_rows};
 ghost use Rattle.take_out.specs.TakeOut.{holdings, lent_positions, is_accepted, affinities_after, indices_after, offsets_after, packed_areas, took_out, take_tested, take_out, take_number, TakeRoom, ValuesRoom, LinksRoom, PackRoom};
 
 use areas::fill;
-use run_entry::{Fault, fault_at, fault_number, is_fine};
+use refusal::Numbered;
+use run_entry::{Fault, Lengths, fault_at};
 use run_record::faults::{is_tree, settings_fault, times};
 use run_record::{Run, Settings};
 use take_calm::means_left;
@@ -139,7 +140,7 @@ fn pack_run(
 
 // Once the entry tests have found f: refuses, or takes the frames out.
 fn take_tested(
-    f: Fault,
+    f: Result<(), Fault>,
     r: Run,
     gone: &[u32],
     positions: &mut [f64],
@@ -156,9 +157,9 @@ fn take_tested(
     ensures { took_out result.answer result.run (holdings positions.new increments.new gains.new affinities.new indices.new offsets.new forces.new table.new old.new)
         ≡ take_tested f r gone.now (holdings positions.old increments.old gains.old affinities.old indices.old offsets.old forces.old table.old old.old) }
 {
-    if !is_fine(f) {
+    if let Err(b) = f {
         return Took {
-            answer: Taken::Bad(f),
+            answer: Taken::Bad(b),
             run: r,
         };
     }
@@ -202,17 +203,14 @@ pub fn take_out(
     let r = *run;
     let s = r.settings;
     let lent = lent_positions(s, positions.len(), table.len(), old.len());
-    let f = fault_at(
-        r,
-        lent,
-        increments.len(),
-        gains.len(),
-        affinities.len(),
-        forces.len(),
-        indices,
-        offsets,
-        cells,
-    );
+    let l = Lengths {
+        positions: lent,
+        increments: increments.len(),
+        gains: gains.len(),
+        affinities: affinities.len(),
+        forces: forces.len(),
+    };
+    let f = fault_at(r, l, indices, offsets, cells);
     let k = take_tested(
         f, r, gone, positions, increments, gains, affinities, indices, offsets, forces, table, old,
     );
@@ -228,6 +226,6 @@ pub fn number(a: Taken) -> u8
 {
     match a {
         Taken::Told(v) => take_left::number(v),
-        Taken::Bad(f) => fault_number(f),
+        Taken::Bad(f) => f.number(),
     }
 }

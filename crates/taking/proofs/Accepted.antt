@@ -1,4 +1,5 @@
 -- A removal that is refused changes nothing; of one that is not, what its tests have shown and what it leaves. Assumes nothing.
+use Rattle.std.specs.Prelude.{Ok, Err}
 use mathlib.Core.Path.{◌≡◌, refl, sym, ap, ◌∙◌}
 use mathlib.Core.Logic.{◌⊎◌, ⊎_elim}
 use mathlib.Core.List.{List}
@@ -18,9 +19,9 @@ use Rattle.run_record.specs.Record.{settings_fault, GoodSettings}
 use Rattle.run_record.proofs.Laws.{settings-good}
 use Rattle.tree_node.specs.declared.Node.{Node}
 use Rattle.run_entry.specs.declared.Fault.{Fault}
-use Rattle.run_entry.specs.declared.Fault.TheVariants.{Fine, Settings as BadSettings, Counters, Areas, Offsets, Index, Tree}
-use Rattle.run_entry.specs.Entry.{is_fine, record_fault, areas_fit, fault_at, fault_of, fault_number, Good}
-use Rattle.run_entry.proofs.Laws.{record-fine, areas-fine, fault-fine}
+use Rattle.run_entry.specs.declared.Fault.TheVariants.{Settings as BadSettings, Counters, Areas, Offsets, Index, Tree}
+use Rattle.run_entry.specs.Entry.{Found, is_fine, record_fault, areas_fit, fault_at, fault_of, fault_number, Good}
+use Rattle.run_entry.proofs.Laws.{record-fine, areas-fine, fault-fine, found-none, found-some}
 use Rattle.take_gone.specs.Gone.{gone_fine, survivors}
 use Rattle.take_calm.specs.CalmLeft.{calm_left}
 use Rattle.take_left.specs.declared.Outlook.{Outlook}
@@ -53,15 +54,14 @@ told-numbered Perplexed e z = let y : ◌≡◌ {A = ℕ} 10 0 = z in omega arit
 told-numbered Crowded e z = let y : ◌≡◌ {A = ℕ} 18 0 = z in omega arith
 told-numbered Barred e z = let y : ◌≡◌ {A = ℕ} 15 0 = z in omega arith
 
-bad-numbered : (f : Fault) → is_fine f ≡ false → take_number (Bad f) ≡ 0 → ⊥
+bad-numbered : (f : Fault) → take_number (Bad f) ≡ 0 → ⊥
 unfolding take_number fault_number
-bad-numbered Fine e z = true≢false e
-bad-numbered (BadSettings k) e z = let y : ◌≡◌ {A = ℕ} 21 0 = z in omega arith
-bad-numbered Counters e z = let y : ◌≡◌ {A = ℕ} 22 0 = z in omega arith
-bad-numbered Areas e z = let y : ◌≡◌ {A = ℕ} 12 0 = z in omega arith
-bad-numbered (Offsets i) e z = let y : ◌≡◌ {A = ℕ} 23 0 = z in omega arith
-bad-numbered (Index i) e z = let y : ◌≡◌ {A = ℕ} 24 0 = z in omega arith
-bad-numbered (Tree i) e z = let y : ◌≡◌ {A = ℕ} 25 0 = z in omega arith
+bad-numbered (BadSettings k) z = let y : ◌≡◌ {A = ℕ} 21 0 = z in omega arith
+bad-numbered Counters z = let y : ◌≡◌ {A = ℕ} 22 0 = z in omega arith
+bad-numbered Areas z = let y : ◌≡◌ {A = ℕ} 12 0 = z in omega arith
+bad-numbered (Offsets i) z = let y : ◌≡◌ {A = ℕ} 23 0 = z in omega arith
+bad-numbered (Index i) z = let y : ◌≡◌ {A = ℕ} 24 0 = z in omega arith
+bad-numbered (Tree i) z = let y : ◌≡◌ {A = ℕ} 25 0 = z in omega arith
 
 -- the record and the areas with the samples of g taken out, where v is told
 abbrev took_as : Outlook → List ℕ → Run → Holdings → TookOut
@@ -70,7 +70,7 @@ took_as v g r h =
     took_out (Told v) (thinned_run r (length keep)) (packed_areas r.settings keep h)
 
 module _ (g : List ℕ) (r : Run) (h : Holdings) (ns : List Node) where
-  abbrev fault : Fault
+  abbrev fault : Found
   fault = take_fault r h ns
 
   abbrev outlook : Outlook
@@ -81,17 +81,17 @@ module _ (g : List ℕ) (r : Run) (h : Holdings) (ns : List Node) where
     pub run : (take_out g r h ns).run ≡ r
     pub areas : (take_out g r h ns).areas ≡ h
 
-  bad-is : is_fine fault ≡ false → take_out g r h ns ≡ took_out (Bad fault) r h
+  bad-is : (b : Fault) → fault ≡ Err b → take_out g r h ns ≡ took_out (Bad b) r h
   unfolding take_out take_tested
-  bad-is f = rw f
+  bad-is b e = rw e
 
   told_is : is_fine fault ≡ true → is_accepted outlook ≡ false → take_out g r h ns ≡ took_out (Told outlook) r h
   unfolding take_out take_tested
-  told_is f e = rw (f, e)
+  told_is f e = rw (found-none fault f, e)
 
   left_is : is_fine fault ≡ true → is_accepted outlook ≡ true → take_out g r h ns ≡ took_as outlook g r h
   unfolding take_out take_tested
-  left_is f e = rw (f, e)
+  left_is f e = rw (found-none fault f, e)
 
   -- once the entry tests have passed, the outlook is told
   pub outlook-told : is_fine fault ≡ true → (take_out g r h ns).answer ≡ Told outlook
@@ -106,7 +106,7 @@ module _ (g : List ℕ) (r : Run) (h : Holdings) (ns : List Node) where
       (λ f. by_bool Unchanged (is_accepted outlook)
       (λ e. absurd (n (rw (left_is f e) (no_number outlook e))))
       (λ e. record { run = rw (told_is f e); areas = rw (told_is f e) }))
-      (λ f. record { run = rw (bad-is f); areas = rw (bad-is f) })
+      (λ f. let x = found-some fault f in record { run = rw (bad-is x.0 x.1); areas = rw (bad-is x.0 x.1) })
 
   -- so the state is as it was
   pub refused-state : (take_number (take_out g r h ns).answer ≡ 0 → ⊥) → left_behind (take_out g r h ns) ns ≡ state_held r h ns
@@ -114,12 +114,12 @@ module _ (g : List ℕ) (r : Run) (h : Holdings) (ns : List Node) where
 
 -- ---- what the tests of a work call have shown, for any lengths
 
-fine-cond : (b : Bool) (x y : Fault) → is_fine y ≡ false → is_fine (cond b x y) ≡ true → (b ≡ true) × (is_fine x ≡ true)
+fine-cond : (b : Bool) (x y : Found) → is_fine y ≡ false → is_fine (cond b x y) ≡ true → (b ≡ true) × (is_fine x ≡ true)
 fine-cond true x y n e = (refl, e)
 fine-cond false x y n e = absurd (true≢false (sym e ∙ n))
 
 module _ (r : Run) (h : Holdings) (ns : List Node) (p : ℕ) where
-  abbrev fault_by : Fault
+  abbrev fault_by : Found
   fault_by = fault_at r p (length h.increments) (length h.gains) (length h.affinities) (length h.forces) h.indices h.offsets ns
 
   abbrev fits : Bool
@@ -133,7 +133,7 @@ module _ (r : Run) (h : Holdings) (ns : List Node) (p : ℕ) where
   unfolding fault_at
   areas-next e = by_bool (fits ≡ true) fits (λ f. f) (λ f. absurd (true≢false (sym (rw (record-first e, f) at e))))
 
-  areas-short : is_fine (record_fault r) ≡ true → fits ≡ false → fault_by ≡ Areas
+  areas-short : is_fine (record_fault r) ≡ true → fits ≡ false → fault_by ≡ Err Areas
   unfolding fault_at
   areas-short e f = rw (e, f)
 
@@ -157,7 +157,7 @@ module _ (r : Run) (h : Holdings) (ns : List Node) where
   abbrev both : Bool
   both = leb (r.settings.n * r.settings.f) (length h.table) && leb r.settings.n (length h.old)
 
-  short-areas : is_fine (record_fault r) ≡ true → both ≡ false → take_fault r h ns ≡ Areas
+  short-areas : is_fine (record_fault r) ≡ true → both ≡ false → take_fault r h ns ≡ Err Areas
   unfolding take_fault
   short-areas e b =
       let g = (record-fine r e).0 in
@@ -200,11 +200,11 @@ short-table-told g r h ns e x = (told, rw told)
     is-short : both r h ns ≡ false
     is-short = ⊎_elim (λ a. rw (lt-leb (n * r.settings.f) (length h.table) a)) (λ a. rw (lt-leb n (length h.old) a) (and_no (leb (n * r.settings.f) (length h.table)))) x.short
 
-    areas : take_fault r h ns ≡ Areas
+    areas : take_fault r h ns ≡ Err Areas
     areas = short-areas r h ns e is-short
 
     told : (take_out g r h ns).answer ≡ Bad Areas
-    told = ap (λ (o : TookOut). o.answer) (bad-is g r h ns (ap is_fine areas)) ∙ ap Bad areas
+    told = ap (λ (o : TookOut). o.answer) (bad-is g r h ns Areas areas)
 
 -- ---- what the tests of what would be left have shown
 
@@ -279,7 +279,7 @@ module _ (g : List ℕ) (r : Run) (h : Holdings) (ns : List Node) where
   accepted m a = by_bool Accepted (is_fine (fault g r h ns))
       (λ f. by_bool Accepted (is_accepted (outlook g r h ns)) (accepts f)
       (λ e. absurd (true≢false (sym (ap is_accepted (same (sym (ap (λ (o : TookOut). o.answer) (told_is g r h ns f e)) ∙ a))) ∙ e))))
-      (λ f. absurd (let z : Bad (fault g r h ns) ≡ Told (Left m) = sym (ap (λ (o : TookOut). o.answer) (bad-is g r h ns f)) ∙ a in let y : ◌≡◌ {A = ℕ} 0 1 = cc in omega arith))
+      (λ f. absurd (let x = found-some (fault g r h ns) f in let z : Bad x.0 ≡ Told (Left m) = sym (ap (λ (o : TookOut). o.answer) (bad-is g r h ns x.0 x.1)) ∙ a in let y : ◌≡◌ {A = ℕ} 0 1 = cc in omega arith))
     where
       same : {v w : Outlook} → Told v ≡ Told w → v ≡ w
       same e = cc
@@ -294,7 +294,7 @@ module _ (g : List ℕ) (r : Run) (h : Holdings) (ns : List Node) where
       (λ f. by_bool Goal (is_accepted (outlook g r h ns))
       (λ e. ap (λ (o : TookOut). o.answer) (accepts f e).outcome)
       (λ e. absurd (told-numbered (outlook g r h ns) e (sym (ap (λ (o : TookOut). take_number o.answer) (told_is g r h ns f e)) ∙ z))))
-      (λ f. absurd (bad-numbered (fault g r h ns) f (sym (ap (λ (o : TookOut). take_number o.answer) (bad-is g r h ns f)) ∙ z)))
+      (λ f. let x = found-some (fault g r h ns) f in absurd (bad-numbered x.0 (sym (ap (λ (o : TookOut). take_number o.answer) (bad-is g r h ns x.0 x.1)) ∙ z)))
     where
       Goal : Type 0
       Goal = (take_out g r h ns).answer ≡ Told (Left (length (survivors g r.settings.n)))

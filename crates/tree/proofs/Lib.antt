@@ -5,6 +5,5 @@ pub mod Opens
 pub mod Tested
 pub mod Settles
 pub mod Longer
-pub mod Looks
 pub mod Descends
 pub mod Enters

@@ -7,7 +7,7 @@ pub mod root;
 mod ways;
 pub mod wellformed;
 
-pub use tree_contents::Contents;
+pub use tree_contents::Unsound;
 use tree_turns::Out;
 
 // Where a level leads.
@@ -72,17 +72,4 @@ pub struct Split {
     pub c: usize,
     // how many children are made
     pub made: usize,
-}
-
-// How far the contents test has come.
-#[derive(Clone, Copy)]
-pub struct Look {
-    // points, components, nodes in use
-    pub n: usize,
-    pub c: usize,
-    pub used: usize,
-    // the node to look at next
-    pub i: usize,
-    // what was found
-    pub found: Contents,
 }

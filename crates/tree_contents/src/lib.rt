@@ -8,10 +8,9 @@ ghost use Rattle.tree_contents.specs.Contents.{point_ok, block_ok, node_ok, node
 
 use tree_node::{Leaf, Node};
 
-// What the contents test says of the nodes in use.
-#[derive(Clone, Copy)]
-pub enum Contents {
-    Fine,
+// Why the nodes in use are not well formed.
+#[derive(Clone, Copy, Debug, PartialEq, Eq)]
+pub enum Unsound {
     // the number in use is 0 or above the arena
     Used,
     // the lowest faulty node, whose count is above the number of points
@@ -62,15 +61,15 @@ pub fn node_ok(v: Node, n: usize, c: usize, used: usize, i: usize) -> bool
 }
 
 // Which part of the rule a faulty node breaks first.
-pub fn fault(v: Node, n: usize, i: usize) -> Contents
+pub fn fault(v: Node, n: usize, i: usize) -> Unsound
     ensures { result ≡ node_fault n i v }
 {
     if v.count as usize > n {
-        return Contents::Count(i);
+        return Unsound::Count(i);
     }
     let l = v.leaf;
     if point_ok(l, n) {
-        return Contents::Block(i);
+        return Unsound::Block(i);
     }
-    Contents::Point(i)
+    Unsound::Point(i)
 }

@@ -8,7 +8,7 @@ ghost use Rattle.unpark.specs.Steps.{room_for};
 use elementary::words::value_of;
 use little::word;
 use record_words::method_of;
-use run_entry::areas_fit;
+use run_entry::{Lengths, areas_fit};
 use run_record::Settings;
 
 // The settings.
@@ -54,5 +54,12 @@ pub fn has_room(
         return false;
     }
     let s = settings_read(file);
-    areas_fit(s, p, i, g, a, x, o, f, nodes)
+    let l = Lengths {
+        positions: p,
+        increments: i,
+        gains: g,
+        affinities: a,
+        forces: f,
+    };
+    areas_fit(s, l, x, o, nodes)
 }

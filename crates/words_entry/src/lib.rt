@@ -8,29 +8,21 @@ ghost use Rattle.words_entry.specs.WordsEntry.{words_fault};
 
 use fault_words::unread_fault;
 use record_words::{run_fine, run_of};
-use run_entry::{Fault, fault_at};
+use run_entry::{Fault, Lengths, fault_at};
 use tree_node::Cell;
 
-// What is told of the words, or what the tests find: p, i, g, a and f are the lengths of positions, increments, gains, affinities and forces.
+// What is told of the words, or what the tests find: of areas of values by their lengths.
 pub fn words_fault(
     words: &[u64],
-    p: usize,
-    i: usize,
-    g: usize,
-    a: usize,
-    f: usize,
+    l: Lengths,
     indices: &[u32],
     offsets: &[u32],
     cells: &[Cell],
-) -> Fault
-    ensures { result ≡ words_fault words.now p i g a f indices.now offsets.now (nodes_of cells.now) }
+) -> Result<(), Fault>
+    ensures { result ≡ words_fault words.now l.positions l.increments l.gains l.affinities l.forces indices.now offsets.now (nodes_of cells.now) }
 {
-    let fine = run_fine(words);
-    if fine {
-        let r = run_of(words);
-        let t = fault_at(r, p, i, g, a, f, indices, offsets, cells);
-        return t;
+    if run_fine(words) {
+        return fault_at(run_of(words), l, indices, offsets, cells);
     }
-    let u = unread_fault(words);
-    u
+    Err(unread_fault(words))
 }

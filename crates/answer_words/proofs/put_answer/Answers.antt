@@ -23,4 +23,4 @@ bounds-words-4 c =
 pub returns : goal.returns
 unfolding answer_put
 returns c =
-    rw (c.kind_word.ensures, c.number.ensures, c.units_word.ensures, c.fault_word.ensures, c.fault_value.ensures, c.fault_in-f.ensures)
+    rw (c.kind_word.ensures, c.number.ensures, c.units_word.ensures, c.fault_words-f.ensures.0, c.fault_words-f.ensures.1)

@@ -30,4 +30,4 @@ returns-in-Wild c =
 pub returns-in-Bad : goal.returns-in-Bad
 unfolding work_number
 returns-in-Bad c =
-    rw c.in-Bad.is c.fault_number.ensures
+    rw c.in-Bad.is c.number.ensures

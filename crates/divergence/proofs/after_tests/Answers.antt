@@ -1,27 +1,28 @@
 -- `divergence::after_tests` meets its contract: from what its calls promise.
-use mathlib.Core.Path.{sym, ◌∙◌}
+use Rattle.run_entry.specs.Entry.{is_fine}
+use mathlib.Core.Path.{sym, ◌∙◌, ap}
 use Rattle.divergence.specs.Divergence.{after_tests}
 use Rattle.divergence.proofs.after_tests.Goals as goal
 
-pub returns-then-not-is_fine : goal.returns-then-not-is_fine
+pub returns-in-Err : goal.returns-in-Err
 unfolding after_tests
-returns-then-not-is_fine c =
-    rw (sym c.is_fine.ensures ∙ c.if-not-is_fine.true)
+returns-in-Err c =
+    rw c.in-Err.is
 
 pub too_early-requires : goal.too_early-requires
 too_early-requires c =
-    (c.requires (sym c.is_fine.ensures ∙ c.if-not-is_fine.false)).total-room
+    (c.requires (ap is_fine c.in_default.is)).total-room
 
 pub returns-then-too_early : goal.returns-then-too_early
 unfolding after_tests
 returns-then-too_early c =
-    rw (sym c.is_fine.ensures ∙ c.if-not-is_fine.false, sym c.too_early.ensures ∙ c.if-too_early.true)
+    rw (c.in_default.is, sym c.too_early.ensures ∙ c.if-too_early.true)
 
 pub figure-requires : goal.figure-requires
 figure-requires c =
-    c.requires (sym c.is_fine.ensures ∙ c.if-not-is_fine.false)
+    c.requires (ap is_fine c.in_default.is)
 
 pub returns : goal.returns
 unfolding after_tests
 returns c =
-    rw (sym c.is_fine.ensures ∙ c.if-not-is_fine.false, sym c.too_early.ensures ∙ c.if-too_early.false, c.figure.ensures)
+    rw (c.in_default.is, sym c.too_early.ensures ∙ c.if-too_early.false, c.figure.ensures)

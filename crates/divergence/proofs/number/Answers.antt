@@ -15,4 +15,4 @@ returns-in-Early c =
 pub returns-in-Bad : goal.returns-in-Bad
 unfolding divergence_number
 returns-in-Bad c =
-    rw c.in-Bad.is c.fault_number.ensures
+    rw c.in-Bad.is c.number.ensures

@@ -8,7 +8,7 @@ unfolding unfit
 returns-then-told-eq0 c =
     rw (eq-eqb _ _ c.if-told-eq0.true)
 
-pub returns : goal.returns
+pub returns-else-told-eq0 : goal.returns-else-told-eq0
 unfolding unfit
-returns c =
+returns-else-told-eq0 c =
     rw (ne_eqb _ _ c.if-told-eq0.false, c.run_fine.ensures)

@@ -11,4 +11,4 @@ returns-then-answer-eq0 c =
 pub returns : goal.returns
 unfolding unfit_told
 returns c =
-    rw (ne_eqb _ _ c.if-answer-eq0.false, c.fault_number.ensures, c.fault_value.ensures, c.unread_fault-f.ensures)
+    rw (ne_eqb _ _ c.if-answer-eq0.false, c.number.ensures, c.fault_value.ensures, c.unread_fault-f.ensures)

@@ -25,4 +25,4 @@ returns-in-Short c =
 pub returns-in-Bad : goal.returns-in-Bad
 unfolding park_number
 returns-in-Bad c =
-    rw c.in-Bad.is c.fault_number.ensures
+    rw c.in-Bad.is c.number.ensures

@@ -1,33 +1,34 @@
 -- `partner_write::write_tested` meets its contract: by `lists-bad`, `lists-none`, `lists-short`, `lists-told`.
 use Rattle.laws.specs.Area.{num}
-use mathlib.Core.Path.{sym, ◌∙◌}
+use Rattle.run_entry.specs.Entry.{is_fine}
+use mathlib.Core.Path.{sym, ◌∙◌, ap}
 use Rattle.partner_write.proofs.Laws.{lists-bad, lists-none, lists-short, lists-told}
 use native.Mathlib.Omega.{arith}
 use Rattle.partner_write.proofs.write_tested.Goals as goal
 
-pub returns-then-not-is_fine : goal.returns-then-not-is_fine
-returns-then-not-is_fine c =
-    lists-bad _ _ _ _ _ _ (sym c.is_fine.ensures ∙ c.if-not-is_fine.true)
+pub returns-in-Err : goal.returns-in-Err
+returns-in-Err c =
+    lists-bad _ _ _ _ _ _ _ c.in-Err.is
 
 pub bounds-words-3 : goal.bounds-words-3
 bounds-words-3 c =
-    omega (arith, (c.requires (sym c.is_fine.ensures ∙ c.if-not-is_fine.false)).words_long)
+    omega (arith, (c.requires (ap is_fine c.in_default.is)).words_long)
 
 pub returns-then-words-ne1 : goal.returns-then-words-ne1
 returns-then-words-ne1 c =
-    lists-none _ _ _ _ _ _ (sym c.is_fine.ensures ∙ c.if-not-is_fine.false) c.if-words-ne1.true
+    lists-none _ _ _ _ _ _ (ap is_fine c.in_default.is) c.if-words-ne1.true
 
 pub bounds-words-0 : goal.bounds-words-0
 bounds-words-0 c =
-    omega (arith, (c.requires (sym c.is_fine.ensures ∙ c.if-not-is_fine.false)).words_long)
+    omega (arith, (c.requires (ap is_fine c.in_default.is)).words_long)
 
 pub offset_bounds-offsets-n : goal.offset_bounds-offsets-n
 offset_bounds-offsets-n c =
-    omega (arith, ((c.requires (sym c.is_fine.ensures ∙ c.if-not-is_fine.false)).lists c.if-words-ne1.false).offsets-long)
+    omega (arith, ((c.requires (ap is_fine c.in_default.is)).lists c.if-words-ne1.false).offsets-long)
 
 pub bounds-offsets-n : goal.bounds-offsets-n
 bounds-offsets-n c =
-    omega (arith, ((c.requires (sym c.is_fine.ensures ∙ c.if-not-is_fine.false)).lists c.if-words-ne1.false).offsets-long)
+    omega (arith, ((c.requires (ap is_fine c.in_default.is)).lists c.if-words-ne1.false).offsets-long)
 
 pub overflow_cast-links : goal.overflow_cast-links
 overflow_cast-links c =
@@ -39,11 +40,11 @@ overflow_mul-links c =
 
 pub returns-then-target-links : goal.returns-then-target-links
 returns-then-target-links c =
-    lists-short _ _ _ _ _ _ (sym c.is_fine.ensures ∙ c.if-not-is_fine.false) c.if-words-ne1.false c.if-target-links.true
+    lists-short _ _ _ _ _ _ (ap is_fine c.in_default.is) c.if-words-ne1.false c.if-target-links.true
 
 pub put_lists-requires : goal.put_lists-requires
 put_lists-requires c =
-    ((c.requires (sym c.is_fine.ensures ∙ c.if-not-is_fine.false)).lists c.if-words-ne1.false, c.if-target-links.false)
+    ((c.requires (ap is_fine c.in_default.is)).lists c.if-words-ne1.false, c.if-target-links.false)
 
 pub shape_of-target : goal.shape_of-target
 shape_of-target c =
@@ -51,4 +52,4 @@ shape_of-target c =
 
 pub returns : goal.returns
 returns c =
-    lists-told _ _ _ _ _ _ (sym c.is_fine.ensures ∙ c.if-not-is_fine.false) c.if-words-ne1.false c.if-target-links.false _ c.put_lists.ensures
+    lists-told _ _ _ _ _ _ (ap is_fine c.in_default.is) c.if-words-ne1.false c.if-target-links.false _ c.put_lists.ensures

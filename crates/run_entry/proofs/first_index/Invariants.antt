@@ -2,7 +2,6 @@
 use mathlib.Core.Bool.{not}
 use Rattle.laws.proofs.First.{Seeks}
 use Rattle.run_entry.specs.Entry.{index_fine}
-use Prim.Native.Nat.{◌-◌}
 use Rattle.run_entry.proofs.first_index.Given as goal
 
 abbrev pub invariant-loop-i : goal.invariant-loop-i

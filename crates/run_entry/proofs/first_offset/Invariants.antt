@@ -2,7 +2,6 @@
 use mathlib.Core.Bool.{not}
 use Rattle.laws.proofs.First.{Seeks}
 use Rattle.run_entry.specs.Entry.{offset_fine}
-use Prim.Native.Nat.{◌-◌}
 use Rattle.run_entry.proofs.first_offset.Given as goal
 
 abbrev pub invariant-loop-i : goal.invariant-loop-i

@@ -21,7 +21,6 @@ first_index-x-requires c =
       listed-most c.args.r.settings c.args.offsets.now (omega (arith, c.requires.settings-good.n-some))
           (rw (rw c.sizes_of-z.ensures at c.first_offset-o.ensures) at c.if-o-n.false),
       links-is c.args.r.settings,
-      c.wide-count.ensures,
       c.requires.x-long,
     )
 
@@ -31,8 +30,8 @@ returns-then-x-count c =
     rw (
       le-ltb _ _ (rw (rw c.sizes_of-z.ensures at c.first_offset-o.ensures) at c.if-o-n.false),
       lt-ltb _ _
-          (rw ((rw c.wide-count.ensures at c.first_index-x.ensures), c.wide-count.ensures) at c.if-x-count.true),
-      (rw c.wide-count.ensures at c.first_index-x.ensures),
+          (rw c.first_index-x.ensures at c.if-x-count.true),
+      c.first_index-x.ensures,
     )
 
 pub returns : goal.returns
@@ -41,5 +40,5 @@ returns c =
     rw (
       le-ltb _ _ (rw (rw c.sizes_of-z.ensures at c.first_offset-o.ensures) at c.if-o-n.false),
       le-ltb _ _
-          (rw ((rw c.wide-count.ensures at c.first_index-x.ensures), c.wide-count.ensures) at c.if-x-count.false),
+          (rw c.first_index-x.ensures at c.if-x-count.false),
     )

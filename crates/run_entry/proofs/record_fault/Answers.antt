@@ -1,25 +1,28 @@
 -- `run_entry::record_fault` meets its contract: by `settings-fine`.
-use Rattle.run_record.proofs.Laws.{settings-fine}
 use mathlib.Core.Path.{sym, ◌∙◌}
 use borrow.Author.Tests.{eq-eqb, ne_eqb}
+use Rattle.std.proofs.lemmas.Result.{err_from_is_err_and}
+use Rattle.refusal.proofs.Numbers.{refusal-some, refusal-by-number}
+use Rattle.run_record.proofs.Laws.{settings-fine}
 use Rattle.run_entry.specs.Entry.{record_fault}
 use Rattle.run_entry.proofs.record_fault.Goals as goal
 
-pub returns-then-k-ne0 : goal.returns-then-k-ne0
+pub returns-in_err-settings_fault : goal.returns-in_err-settings_fault
 unfolding record_fault
-returns-then-k-ne0 c =
-    rw (ne_eqb _ _ (rw (c.number-k.ensures ∙ c.settings_fault.ensures) at c.if-k-ne0.true), (c.number-k.ensures ∙ c.settings_fault.ensures))
+returns-in_err-settings_fault c =
+    let p = err_from_is_err_and c.from_residual.result c.from_residual.ensures.1 in
+    let d = c.in_err-settings_fault.field-0.0 in
+    rw (p.1, p.2, sym c.in_err-settings_fault.ensures, ne_eqb _ 0 (refusal-some d), refusal-by-number d)
 
 pub counters_ok-requires : goal.counters_ok-requires
-counters_ok-requires c =
-    settings-fine _ (sym (c.number-k.ensures ∙ c.settings_fault.ensures) ∙ c.if-k-ne0.false)
+counters_ok-requires c = settings-fine c.args.r.settings (sym c.in_ok-settings_fault.ensures)
 
 pub returns-then-not-counters_ok : goal.returns-then-not-counters_ok
 unfolding record_fault
 returns-then-not-counters_ok c =
-    rw (eq-eqb _ _ (sym (c.number-k.ensures ∙ c.settings_fault.ensures) ∙ c.if-k-ne0.false), sym c.counters_ok.ensures ∙ c.if-not-counters_ok.true)
+    rw (eq-eqb _ 0 (sym c.in_ok-settings_fault.ensures), sym c.counters_ok.ensures ∙ c.if-not-counters_ok.true)
 
 pub returns : goal.returns
 unfolding record_fault
 returns c =
-    rw (eq-eqb _ _ (sym (c.number-k.ensures ∙ c.settings_fault.ensures) ∙ c.if-k-ne0.false), sym c.counters_ok.ensures ∙ c.if-not-counters_ok.false)
+    rw (eq-eqb _ 0 (sym c.in_ok-settings_fault.ensures), sym c.counters_ok.ensures ∙ c.if-not-counters_ok.false)

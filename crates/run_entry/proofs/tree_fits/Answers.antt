@@ -2,23 +2,16 @@
 use borrow.Author.Tests.{le-leb, lt-leb}
 use Rattle.run_entry.specs.Entry.{tree_fits}
 use Rattle.run_entry.proofs.tree_fits.Goals as goal
+use Rattle.run_entry.proofs.tree_fits.Goals.{then-a-links-via-then-a-links, then-a-links-via-else-a-links+then-x-links, then-a-links-via-else-a-links+else-x-links+then-o-n}
 
 pub returns-then-a-links : goal.returns-then-a-links
 unfolding tree_fits
-returns-then-a-links c =
-    rw (lt-leb _ _ c.if-a-links.true)
-
-pub returns-then-x-links : goal.returns-then-x-links
-unfolding tree_fits
-returns-then-x-links c =
-    rw (le-leb _ _ c.if-a-links.false, lt-leb _ _ c.if-x-links.true)
-
-pub returns-then-o-n : goal.returns-then-o-n
-unfolding tree_fits
-returns-then-o-n c =
-    rw (le-leb _ _ c.if-a-links.false, le-leb _ _ c.if-x-links.false, lt-leb _ _ c.if-o-n.true)
+returns-then-a-links c = elim c.then-a-links.branch [
+  | then-a-links-via-then-a-links w ↦ rw (lt-leb _ _ w.if-a-links.true)
+  | then-a-links-via-else-a-links+then-x-links w ↦ rw (le-leb _ _ w.if-a-links.false, lt-leb _ _ w.if-x-links.true)
+  | then-a-links-via-else-a-links+else-x-links+then-o-n w ↦ rw (le-leb _ _ w.if-a-links.false, le-leb _ _ w.if-x-links.false, lt-leb _ _ w.if-o-n.true)
+]
 
 pub returns : goal.returns
 unfolding tree_fits
-returns c =
-    rw (le-leb _ _ c.if-a-links.false, le-leb _ _ c.if-x-links.false, le-leb _ _ c.if-o-n.false)
+returns c = rw (le-leb _ _ c.if-a-links.false, le-leb _ _ c.if-x-links.false, le-leb _ _ c.if-o-n.false)

@@ -11,4 +11,4 @@ returns-in-Told c =
 pub returns-in-Bad : goal.returns-in-Bad
 unfolding take_number
 returns-in-Bad c =
-    c.fault_number.ensures ∙ ap take_number (sym c.in-Bad.is)
+    c.number.ensures ∙ ap take_number (sym c.in-Bad.is)

@@ -1,21 +1,18 @@
 -- `take_out::take_tested` meets its contract: by `tested-bad`, `tested-told`, `tested-done`, `tested-count`, `tested-room`, `survivors-few`.
 use Rattle.take_out.proofs.Tested.{tested-bad, tested-told, tested-done, tested-count, tested-room}
 use Rattle.take_out.specs.TakeOut.{holdings}
-use mathlib.Core.Path.{refl, sym, ◌∙◌}
+use Rattle.run_entry.specs.Entry.{is_fine}
+use mathlib.Core.Path.{refl, sym, ◌∙◌, ap}
 use native.Mathlib.Omega.{arith}
 use Rattle.take_out.proofs.take_tested.Goals as goal
 
-pub is_fine-requires : goal.is_fine-requires
-is_fine-requires c =
-    tt
-
-pub returns-then-not-is_fine : goal.returns-then-not-is_fine
-returns-then-not-is_fine c =
-    tested-bad c.args.f c.args.r c.args.gone.now _ (sym c.is_fine.ensures ∙ c.if-not-is_fine.true)
+pub returns-in-Err : goal.returns-in-Err
+returns-in-Err c =
+    tested-bad c.args.f c.args.r c.args.gone.now _ _ c.in-Err.is
 
 pub look_ahead-v-requires : goal.look_ahead-v-requires
 look_ahead-v-requires c =
-    (c.requires (sym c.is_fine.ensures ∙ c.if-not-is_fine.false)).outlook-room
+    (c.requires (ap is_fine c.in_default.is)).outlook-room
 
 pub is_accepted-requires : goal.is_accepted-requires
 is_accepted-requires c =
@@ -38,7 +35,7 @@ returns-then-not-is_accepted c =
     tested-told c.args.f c.args.r c.args.gone.now
     (holdings c.args.positions.now c.args.increments.now c.args.gains.now c.args.affinities.now
     c.args.indices.now c.args.offsets.now c.args.forces.now c.args.table.now c.args.old.now)
-    (sym c.is_fine.ensures ∙ c.if-not-is_fine.false) _ c.look_ahead-v.ensures (sym c.is_accepted.ensures ∙ c.if-not-is_accepted.true)
+    (ap is_fine c.in_default.is) _ c.look_ahead-v.ensures (sym c.is_accepted.ensures ∙ c.if-not-is_accepted.true)
 
 pub overflow_sub-s : goal.overflow_sub-s
 overflow_sub-s c =
@@ -52,8 +49,8 @@ overflow_sub-s c =
 
 pub thinned_run-run-requires : goal.thinned_run-run-requires
 thinned_run-run-requires c = (
-  omega (arith, (c.requires (sym c.is_fine.ensures ∙ c.if-not-is_fine.false)).outlook-room.settings-good.n-most),
-  (c.requires (sym c.is_fine.ensures ∙ c.if-not-is_fine.false)).done-most,
+  omega (arith, (c.requires (ap is_fine c.in_default.is)).outlook-room.settings-good.n-most),
+  (c.requires (ap is_fine c.in_default.is)).done-most,
 )
 
 pub pack_run-requires : goal.pack_run-requires
@@ -62,7 +59,7 @@ pack_run-requires c =
     (holdings c.args.positions.now c.args.increments.now c.args.gains.now c.args.affinities.now
     c.args.indices.now c.args.offsets.now c.args.forces.now c.args.table.now c.args.old.now)
     c.look_ahead-v.ensures (sym c.is_accepted.ensures ∙ c.if-not-is_accepted.false)
-    (c.requires (sym c.is_fine.ensures ∙ c.if-not-is_fine.false))
+    (c.requires (ap is_fine c.in_default.is))
 
 pub shape_of-positions : goal.shape_of-positions
 shape_of-positions c =
@@ -105,5 +102,5 @@ returns c =
     tested-done c.args.f c.args.r c.args.gone.now
     (holdings c.args.positions.now c.args.increments.now c.args.gains.now c.args.affinities.now
     c.args.indices.now c.args.offsets.now c.args.forces.now c.args.table.now c.args.old.now)
-    (sym c.is_fine.ensures ∙ c.if-not-is_fine.false) _ c.look_ahead-v.ensures (sym c.is_accepted.ensures ∙ c.if-not-is_accepted.false) _ _
+    (ap is_fine c.in_default.is) _ c.look_ahead-v.ensures (sym c.is_accepted.ensures ∙ c.if-not-is_accepted.false) _ _
     c.thinned_run-run.ensures c.pack_run.ensures

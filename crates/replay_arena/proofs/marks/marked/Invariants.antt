@@ -1,5 +1,5 @@
 -- `marked`: its loop ends, and its places are in the array. Assumes nothing.
-use Rattle.std.proofs.Common.{◌-◌, ◌≤◌}
+use Rattle.std.proofs.Common.{◌≤◌}
 use Rattle.replay_arena.proofs.marks.marked.Given as goal
 
 abbrev pub invariant-loop-i : goal.invariant-loop-i

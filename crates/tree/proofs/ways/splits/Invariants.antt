@@ -1,7 +1,5 @@
 -- `tree::ways::splits` meets its contract: the loop keeps `Splits`; by `splits-few`, `splits-go`, `splits_last`, `splits-end`, `splits-le`.
-use Rattle.laws.specs.Domain.{deepest}
 use Rattle.tree.proofs.Grow.{Splits}
-use Prim.Native.Nat.{◌-◌}
 use Rattle.tree.proofs.ways.splits.Given as goal
 
 abbrev pub invariant-loop-d : goal.invariant-loop-d

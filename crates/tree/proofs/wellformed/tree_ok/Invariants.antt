@@ -1,11 +1,9 @@
--- What the loop of `tree::wellformed::tree_ok` holds on to, and the number that falls: the nodes still to be looked at.
-use Prim.Native.Nat.{◌-◌}
+-- What the loop of `tree::wellformed::tree_ok` holds on to: the nodes before the next one are well formed.
 use Rattle.tree_node.specs.Arena.{nodes_of}
-use Rattle.tree.proofs.Looks.{Looks}
+use Rattle.laws.proofs.First.{Seeks}
+use Rattle.tree.specs.Insert.{tree}
+use Rattle.tree.specs.Contents.{faulty}
 use Rattle.tree.proofs.wellformed.tree_ok.Given as goal
 
-abbrev pub invariant-loop-v : goal.invariant-loop-v
-invariant-loop-v l = Looks l.n l.c l.used (nodes_of l.cells) l.s
-
-abbrev pub decreases-loop-v : goal.decreases-loop-v
-decreases-loop-v l = l.used - l.s.i
+abbrev pub invariant-loop-i : goal.invariant-loop-i
+invariant-loop-i l = Seeks (faulty l.n l.c (tree l.used (nodes_of l.cells))) l.used l.i
