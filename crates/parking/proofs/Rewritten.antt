@@ -21,7 +21,6 @@ use Rattle.parked.specs.declared.Layout.{Layout}
 use Rattle.parked.specs.Layout.{records_in}
 use Rattle.parked.specs.Parked.{Stored, parked_word}
 use Rattle.parked.specs.Fine.{layout_by}
-use Rattle.park.specs.declared.Parked.TheVariants.{Written}
 use Rattle.park.specs.Park.{calm_state, parking, parked_into, park_of}
 use Rattle.refusal.specs.declared.Unreadable.{Unreadable}
 use Rattle.refusal.specs.declared.Unreadable.TheVariants.{Bad, Short}
@@ -106,7 +105,7 @@ module _ (f : List ℕ) (small : AllBelow bytes_most f) (P : is_parked f ≡ tru
 module _ (f : List ℕ) (d : Stored) (F : List Float) (nodes k : ℕ) where
   pub writing-what-was-read : AllBelow bytes_most f → (unpark_of f d F nodes).answer ≡ Ok k → (forces : ℕ) (ns : List Node) (t : List ℕ) →
       (sizes_of (settings_read (word_in f))).forces ≤ forces → (is_tree (settings_read (word_in f)).method ≡ true → 1 ≤ length ns) → length f ≤ length t →
-      park_of (unpark_of f d F nodes).left forces ns t ≡ parking (Written k) (f ++ drop (length f) t)
+      park_of (unpark_of f d F nodes).left forces ns t ≡ parking (Ok k) (f ++ drop (length f) t)
   unfolding sizes_of settings_read settings_of record_read records_due
   writing-what-was-read b a forces ns t m n h =
       let r = reads f d F nodes k a in
@@ -118,5 +117,5 @@ module _ (f : List ℕ) (d : Stored) (F : List Float) (nodes k : ℕ) where
       ap (λ (x : Stored). park_of x forces ns t) r.same
       ∙ ap (λ (x : ℕ). park_of e x ns t) (sym z)
       ∙ writes-parks e Z ns t W
-      ∙ ap (λ (x : Layout). parking (Written (records_in x)) (parked_into x e t)) q
+      ∙ ap (λ (x : Layout). parking (Ok (records_in x)) (parked_into x e t)) q
       ∙ rw (r.count, into-read f b r.stands d t)

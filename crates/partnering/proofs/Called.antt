@@ -25,7 +25,6 @@ use Rattle.partner.proofs.Accepted.{accepted-rules, rules-accepted}
 use Rattle.std.specs.Prelude.{Ok}
 use Rattle.partner_import.specs.Import.{Loading, lent_lengths, tree_settings, import_fault, judged_list, import_of}
 use Rattle.partner_import.proofs.Laws.{let-in}
-use Rattle.partner_write.specs.declared.ListsWritten.TheVariants.{Written}
 use Rattle.partner_write.specs.Write.{listing, lists_into, lists_tested, written_lists, lists_number}
 use Rattle.desk_lists.specs.HostLists.{host_lists}
 use Rattle.partnering.specs.Begun.{state_loaded}
@@ -62,7 +61,7 @@ module _ (w : List ℕ) (l : Loading) (ns : List Node) where
 
   -- n frames of a Barnes-Hut run, a target of 16 bytes a link
   pub good-lists-are-written : (t : List ℕ) → run_fine w ≡ true → num w 3 ≡ 1 → Good (state_loaded (run_of w) l ns) → 16 * num l.offsets (num w 0) ≤ length t
-      → written_lists stored (length l.forces) ns t ≡ listing (Written (num l.offsets (num w 0))) (lists_into (num w 0) l.affinities l.indices l.offsets t)
+      → written_lists stored (length l.forces) ns t ≡ listing (Ok (num l.offsets (num w 0))) (lists_into (num w 0) l.affinities l.indices l.offsets t)
   unfolding written_lists lists_tested
   good-lists-are-written t f m g h = rw (entry-passes f g, eq-eqb (num w 3) 1 m, le-ltb (length t) (16 * num l.offsets (num w 0)) h)
 

@@ -3,7 +3,7 @@ ghost use Rattle.std.specs.Prelude.{◌≤◌, length};
 
 use crate::forces::{marked_forces, same_forces};
 use crate::lending::park_in;
-use park::Parked;
+use park::ParkFault;
 use replay::areas::plus;
 use replay::word_at;
 use replay_areas::bytes::{bytes_at, marked_target, same_file, words_of};
@@ -22,13 +22,10 @@ fn value(a: Result<usize, Unreadable>) -> u64 {
 }
 
 // Whether so many records were written.
-fn wrote(a: Parked, records: u64) -> bool {
+fn wrote(a: Result<usize, ParkFault>, records: u64) -> bool {
     match a {
-        Parked::Written(k) => k as u64 == records,
-        Parked::Inside => false,
-        Parked::Barred => false,
-        Parked::Short => false,
-        Parked::Bad(_) => false,
+        Ok(k) => k as u64 == records,
+        Err(_) => false,
     }
 }
 
