@@ -2,34 +2,27 @@
 
 #![tactic(auto)]
 
-ghost use Rattle.std.specs.Prelude.{◌≡◌, ◌≤◌, length};
+ghost use Rattle.std.specs.Prelude.{◌≡◌};
 ghost use Rattle.run_entry.specs.State.{memory};
 ghost use Rattle.record_words.specs.RecordWords.{worded};
-ghost use Rattle.desk_divergence.specs.HostDivergence.{diverged_word, diverged_told, host_divergence};
+ghost use Rattle.desk_divergence.specs.HostDivergence.{diverged_word, host_divergence};
 
-use divergence::{Diverged, divergence, number};
+use divergence::{DivergenceFault, divergence};
 use elementary::words::bits_of;
 use fault_words::{fault_value, is_unfit, put_unfit};
 use record_words::run_of;
+use record_words::told::put_told;
 use tree_node::Cell;
 
-fn diverged_word(d: Diverged) -> u64
+// The figure's bits, or the place that comes with the refusal.
+fn diverged_word(d: Result<f64, DivergenceFault>) -> u64
     ensures { result ≡ diverged_word d }
 {
     match d {
-        Diverged::Figure(x) => bits_of(x),
-        Diverged::Early => 0,
-        Diverged::Bad(f) => fault_value(f),
+        Ok(x) => bits_of(x),
+        Err(DivergenceFault::Early) => 0,
+        Err(DivergenceFault::Bad(f)) => fault_value(f),
     }
-}
-
-// Tells the figure, or the place that comes with the refusal. Answers the number.
-fn put_diverged(answer: &mut [u64], d: Diverged) -> u32
-    requires { 1 ≤ length answer.old }
-    ensures { worded result answer.new ≡ diverged_told d answer.old }
-{
-    answer[0] = diverged_word(d);
-    number(d) as u32
 }
 
 // The figure of the iteration just finished. Answers 0, or the number of the refusal, and writes the answer's first word.
@@ -61,15 +54,12 @@ pub fn host_divergence(
         copy.now
         answer.old }
 {
-    let stuck = is_unfit(words, answer.len());
-    if stuck {
-        let t = put_unfit(words, answer);
-        return t;
+    if is_unfit(words, answer.len()) {
+        return put_unfit(words, answer);
     }
     let r = run_of(words);
     let d = divergence(
         r, positions, increments, gains, affinities, indices, offsets, forces, cells, copy,
     );
-    let k = put_diverged(answer, d);
-    k
+    put_told(answer, d, diverged_word(d))
 }

@@ -1,5 +1,5 @@
 -- The answer of an import in words, case by case. Assumes nothing.
-use mathlib.Core.Path.{◌≡◌, sym}
+use mathlib.Core.Path.{◌≡◌, sym, ap, ◌∙◌}
 use mathlib.Core.List.{List}
 use Prim.Native.Nat.{ℕ, ◌<◌, ◌≤◌}
 use lib.ListN.{length, set}
@@ -7,7 +7,10 @@ use borrow.Author.Tests.{eq-eqb, ne_eqb, lt-ltb, le-ltb}
 use Rattle.run_record.specs.declared.Settings.{Settings}
 use Rattle.record_words.specs.RecordWords.{settings_of, short_number}
 use Rattle.partner.specs.Partner.{whole_links}
-use Rattle.partner_import.specs.declared.Imported.{Imported}
+use Rattle.std.specs.Prelude.{Result}
+use Rattle.run_record.specs.declared.Run.{Run}
+use Rattle.record_words.specs.RecordWords.{Worded, worded}
+use Rattle.partner_import.specs.declared.ImportFault.{ImportFault}
 use Rattle.partner_import.specs.Import.{Loading, lent_lengths, tree_settings, import_fault, import_outcome, import_of, import_number}
 use Rattle.desk_import.specs.HostImport.{import_told, record_imported, host_imported, host_import}
 
@@ -26,8 +29,10 @@ module _ (s start file w : List ℕ) (l : Loading) (nodes : ℕ) (a : List ℕ) 
     unfolding host_import
     import-short {t} {k} h r q e = rw (ne_eqb (length a) 0 some, le-ltb (length s) 9 h, lt-ltb (length w) 14 r, sym q, e)
 
-    pub import-answered : {t : Settings} {x : Imported} {L : Loading} {w' : List ℕ} {v k : ℕ} → 9 ≤ length s → 14 ≤ length w → t ≡ settings_of s
-        → import_outcome x L ≡ import_of t start file nodes l → w' ≡ record_imported x w → v ≡ import_told (whole_links file) x → k ≡ import_number x
-        → host_imported k w' L (set a 0 v) ≡ host_import s start file w l nodes a
+    pub import-answered : {t : Settings} {x : Result Run ImportFault} {L : Loading} {w' : List ℕ} {v k : ℕ} {a' : List ℕ} → 9 ≤ length s → 14 ≤ length w → t ≡ settings_of s
+        → import_outcome x L ≡ import_of t start file nodes l → w' ≡ record_imported x w → v ≡ import_told (whole_links file) x → worded k a' ≡ worded (import_number x) (set a 0 v)
+        → host_imported k w' L a' ≡ host_import s start file w l nodes a
     unfolding host_import
-    import-answered {t} {x} {L} {w'} {v} {k} h r q o ew ev ek = rw (ne_eqb (length a) 0 some, le-ltb (length s) 9 h, le-ltb (length w) 14 r, sym q, sym o, ew, ev, ek)
+    import-answered {t} {x} {L} {w'} {v} {k} {a'} h r q o ew ev e =
+        ap (λ (y : Worded). host_imported y.number w' L y.words) e
+        ∙ rw (ne_eqb (length a) 0 some, le-ltb (length s) 9 h, le-ltb (length w) 14 r, sym q, sym o, ew, ev)

@@ -1,23 +1,23 @@
 -- A run begun from a partner's list, with settings, record and answer as plain words. Definitions only.
 -- a are the answer's words: word 0 tells the links, or, refused by 19, the first record at which a rule fails, else 0.
-use Rattle.std.specs.Prelude.{List, cond, ℕ, eqb, ltb, length, set}
+use Rattle.std.specs.Prelude.{List, cond, ℕ, eqb, ltb, length, set, Result, Ok, Err}
 use Rattle.record_words.specs.RecordWords.{settings_of, run_put, short_number}
 use Rattle.partner.specs.Partner.{whole_links}
-use Rattle.partner_import.specs.declared.Imported.{Imported}
-use Rattle.partner_import.specs.declared.Imported.TheVariants.{Refused, BadRecord, Loaded}
+use Rattle.run_record.specs.declared.Run.{Run}
+use Rattle.partner_import.specs.declared.ImportFault.{ImportFault}
+use Rattle.partner_import.specs.declared.ImportFault.TheVariants.{Refused, BadRecord}
 use Rattle.partner_import.specs.Import.{Loading, lent_lengths, tree_settings, import_fault, ImportOutcome, import_of, import_number}
 
 -- what word 0 tells, where the file has so many whole records
-unfoldable pub import_told : ℕ → Imported → ℕ
-import_told links (Refused k) = 0
-import_told links (BadRecord p) = p
-import_told links (Loaded r) = links
+abbrev pub import_told : ℕ → Result Run ImportFault → ℕ
+import_told links (Ok r) = links
+import_told links (Err (BadRecord p)) = p
+import_told links (Err (Refused k)) = 0
 
 -- the record's words are written where there is a record
-abbrev pub record_imported : Imported → List ℕ → List ℕ
-record_imported (Refused k) w = w
-record_imported (BadRecord p) w = w
-record_imported (Loaded r) w = run_put r w
+abbrev pub record_imported : Result Run ImportFault → List ℕ → List ℕ
+record_imported (Ok r) w = run_put r w
+record_imported (Err e) w = w
 
 -- the number, and record, areas and answer as they are left
 pub record HostImported : Type 0 where

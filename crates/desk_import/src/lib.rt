@@ -2,25 +2,27 @@
 
 #![tactic(auto)]
 
-ghost use Rattle.std.specs.Prelude.{◌≡◌, ◌≤◌, length, set};
+ghost use Rattle.std.specs.Prelude.{◌≡◌, ◌≤◌, length};
 ghost use Rattle.record_words.specs.RecordWords.{short_number};
 ghost use Rattle.partner.specs.Partner.{whole_links};
-ghost use Rattle.partner_import.specs.Import.{loading, tree_settings, import_fault, import_number};
+ghost use Rattle.partner_import.specs.Import.{loading, tree_settings, import_fault};
 ghost use Rattle.desk_import.specs.HostImport.{import_told, record_imported, host_imported, host_import};
 
 use partner::LINK_BYTES;
-use partner_import::{Imported, LentLengths, import, import_fault, tree_settings};
+use partner_import::{ImportFault, LentLengths, import, import_fault, tree_settings};
+use record_words::told::put_told;
 use record_words::{put_run, settings_of};
-use run_record::Settings;
+use refusal::Numbered;
+use run_record::{Run, Settings};
 
 // What word 0 tells, where the file has so many whole records.
-fn import_told(links: usize, a: Imported) -> u64
+fn import_told(links: usize, a: Result<Run, ImportFault>) -> u64
     ensures { result ≡ import_told links a }
 {
     match a {
-        Imported::Refused(_) => 0,
-        Imported::BadRecord(p) => p as u64,
-        Imported::Loaded(_) => links as u64,
+        Ok(_) => links as u64,
+        Err(ImportFault::BadRecord(p)) => p as u64,
+        Err(ImportFault::Refused(_)) => 0,
     }
 }
 
@@ -29,22 +31,19 @@ fn short_import(s: Settings, start: &[u64], l: LentLengths) -> u32
     ensures { result ≡ short_number (import_fault (tree_settings s) start.now l) }
 {
     let t = tree_settings(s);
-    let k = import_fault(t, start, l);
-    if k == 0 {
-        return 12;
+    match import_fault(t, start, l) {
+        Ok(()) => 12,
+        Err(r) => r.number() as u32,
     }
-    k as u32
 }
 
 // Writes the record where there is one.
-fn put_record_of(record: &mut [u64], a: Imported)
+fn put_record_of(record: &mut [u64], a: Result<Run, ImportFault>)
     requires { 14 ≤ length «record».old }
     ensures { «record».new ≡ record_imported a «record».old }
 {
-    match a {
-        Imported::Refused(_) => {}
-        Imported::BadRecord(_) => {}
-        Imported::Loaded(r) => put_run(record, r),
+    if let Ok(r) = a {
+        put_run(record, r);
     }
 }
 
@@ -117,6 +116,5 @@ pub fn host_import(
         s, start, file, positions, increments, gains, affinities, indices, offsets, forces, nodes,
     );
     put_record_of(record, a);
-    answer[0] = import_told(file.len() / LINK_BYTES, a);
-    partner_import::number(a) as u32
+    put_told(answer, a, import_told(file.len() / LINK_BYTES, a))
 }

@@ -1,18 +1,18 @@
 -- Writing the neighbour lists of a run, with record and answer as plain words. Definitions only.
 -- a are the answer's words: word 0 tells the records written, or, refused, the place that comes with the number, 0 where none does.
-use Rattle.std.specs.Prelude.{List, cond, ℕ, eqb, length, set}
+use Rattle.std.specs.Prelude.{List, cond, ℕ, eqb, length, set, Result, Ok, Err}
 use Rattle.tree_node.specs.declared.Node.{Node}
 use Rattle.fault_words.specs.FaultWords.{fault_value}
 use Rattle.parked.specs.Parked.{Stored}
-use Rattle.partner_write.specs.declared.ListsWritten.{ListsWritten}
-use Rattle.partner_write.specs.declared.ListsWritten.TheVariants.{Written, NoLists, Short, Bad}
+use Rattle.partner_write.specs.declared.ListsFault.{ListsFault}
+use Rattle.partner_write.specs.declared.ListsFault.TheVariants.{NoLists, Short, Bad}
 use Rattle.partner_write.specs.Write.{Listing, written_lists, lists_number}
 
-unfoldable pub lists_told : ListsWritten → ℕ
-lists_told (Written k) = k
-lists_told NoLists = 0
-lists_told Short = 0
-lists_told (Bad f) = fault_value f
+abbrev pub lists_told : Result ℕ ListsFault → ℕ
+lists_told (Ok k) = k
+lists_told (Err NoLists) = 0
+lists_told (Err Short) = 0
+lists_told (Err (Bad f)) = fault_value f
 
 -- the number, and target and answer as they are left
 pub record HostListed : Type 0 where

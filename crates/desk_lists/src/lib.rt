@@ -2,41 +2,25 @@
 
 #![tactic(auto)]
 
-ghost use Rattle.std.specs.Prelude.{◌≡◌, ◌≤◌, eqb, length, set};
+ghost use Rattle.std.specs.Prelude.{◌≡◌, length};
 ghost use Rattle.tree_node.specs.Arena.{nodes_of};
-ghost use Rattle.record_words.specs.RecordWords.{worded};
 ghost use Rattle.parked.specs.Parked.{stored_of};
-ghost use Rattle.partner_write.specs.Write.{lists_number};
 ghost use Rattle.desk_lists.specs.HostLists.{lists_told, host_listed, host_lists};
 
 use fault_words::fault_value;
-use partner_write::{ListsWritten, write_lists};
+use partner_write::{ListsFault, write_lists};
+use record_words::told::put_told;
 use tree_node::Cell;
 
-fn is_mute(told: usize) -> bool
-    ensures { result ≡ eqb told 0 }
-{
-    told == 0
-}
-
-fn lists_told(p: ListsWritten) -> u64
+// The records, or the place that comes with the refusal.
+fn lists_told(p: Result<usize, ListsFault>) -> u64
     ensures { result ≡ lists_told p }
 {
     match p {
-        ListsWritten::Written(k) => k as u64,
-        ListsWritten::NoLists => 0,
-        ListsWritten::Short => 0,
-        ListsWritten::Bad(f) => fault_value(f),
+        Ok(k) => k as u64,
+        Err(ListsFault::Bad(f)) => fault_value(f),
+        Err(ListsFault::NoLists | ListsFault::Short) => 0,
     }
-}
-
-// Tells the records, or the place that comes with the refusal. Answers the number.
-fn put_listing(answer: &mut [u64], p: ListsWritten) -> u32
-    requires { 1 ≤ length answer.old }
-    ensures { worded result answer.new ≡ worded (lists_number p) (set answer.old 0 (lists_told p)) }
-{
-    answer[0] = lists_told(p);
-    partner_write::number(p) as u32
 }
 
 // Writes the lists of the run into records. Answers 0, or the number of the refusal; then the target is not changed.
@@ -68,8 +52,7 @@ pub fn host_lists(
         target.old
         answer.old }
 {
-    let mute = is_mute(answer.len());
-    if mute {
+    if answer.len() == 0 {
         return 12;
     }
     let p = write_lists(
@@ -84,6 +67,5 @@ pub fn host_lists(
         cells,
         target,
     );
-    let k = put_listing(answer, p);
-    k
+    put_told(answer, p, lists_told(p))
 }

@@ -1,19 +1,19 @@
 -- Parking a run, with record and answer as plain words. Definitions only.
 -- a are the answer's words: word 0 tells the records written, or, refused, the place that comes with the number, 0 where none does.
-use Rattle.std.specs.Prelude.{List, cond, ℕ, eqb, length, set}
+use Rattle.std.specs.Prelude.{List, cond, ℕ, eqb, length, set, Result, Ok, Err}
 use Rattle.tree_node.specs.declared.Node.{Node}
 use Rattle.fault_words.specs.FaultWords.{fault_value}
 use Rattle.parked.specs.Parked.{Stored}
-use Rattle.park.specs.declared.Parked.{Parked}
-use Rattle.park.specs.declared.Parked.TheVariants.{Written, Inside, Barred, Short, Bad}
+use Rattle.park.specs.declared.ParkFault.{ParkFault}
+use Rattle.park.specs.declared.ParkFault.TheVariants.{Inside, Barred, Short, Bad}
 use Rattle.park.specs.Park.{Parking, park_of, park_number}
 
-unfoldable pub parked_told : Parked → ℕ
-parked_told (Written k) = k
-parked_told Inside = 0
-parked_told Barred = 0
-parked_told Short = 0
-parked_told (Bad f) = fault_value f
+abbrev pub parked_told : Result ℕ ParkFault → ℕ
+parked_told (Ok k) = k
+parked_told (Err Inside) = 0
+parked_told (Err Barred) = 0
+parked_told (Err Short) = 0
+parked_told (Err (Bad f)) = fault_value f
 
 -- the number, and target and answer as they are left
 pub record HostParked : Type 0 where

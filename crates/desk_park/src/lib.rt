@@ -2,42 +2,25 @@
 
 #![tactic(auto)]
 
-ghost use Rattle.std.specs.Prelude.{◌≡◌, ◌≤◌, eqb, length, set};
+ghost use Rattle.std.specs.Prelude.{◌≡◌, length};
 ghost use Rattle.tree_node.specs.Arena.{nodes_of};
-ghost use Rattle.record_words.specs.RecordWords.{worded};
 ghost use Rattle.parked.specs.Parked.{stored_of};
-ghost use Rattle.park.specs.Park.{park_number};
 ghost use Rattle.desk_park.specs.HostPark.{parked_told, host_parked, host_park};
 
 use fault_words::fault_value;
-use park::{Parked, park};
+use park::{ParkFault, park};
+use record_words::told::put_told;
 use tree_node::Cell;
 
-fn is_mute(told: usize) -> bool
-    ensures { result ≡ eqb told 0 }
-{
-    told == 0
-}
-
-fn parked_told(p: Parked) -> u64
+// The records, or the place that comes with the refusal.
+fn parked_told(p: Result<usize, ParkFault>) -> u64
     ensures { result ≡ parked_told p }
 {
     match p {
-        Parked::Written(k) => k as u64,
-        Parked::Inside => 0,
-        Parked::Barred => 0,
-        Parked::Short => 0,
-        Parked::Bad(f) => fault_value(f),
+        Ok(k) => k as u64,
+        Err(ParkFault::Bad(f)) => fault_value(f),
+        Err(ParkFault::Inside | ParkFault::Barred | ParkFault::Short) => 0,
     }
-}
-
-// Tells the records, or the place that comes with the refusal. Answers the number.
-fn put_parked(answer: &mut [u64], p: Parked) -> u32
-    requires { 1 ≤ length answer.old }
-    ensures { worded result answer.new ≡ worded (park_number p) (set answer.old 0 (parked_told p)) }
-{
-    answer[0] = parked_told(p);
-    park::number(p) as u32
 }
 
 // Writes the run into records. Answers 0, or the number of the refusal; then the target is not changed.
@@ -69,8 +52,7 @@ pub fn host_park(
         target.old
         answer.old }
 {
-    let mute = is_mute(answer.len());
-    if mute {
+    if answer.len() == 0 {
         return 12;
     }
     let p = park(
@@ -85,6 +67,5 @@ pub fn host_park(
         cells,
         target,
     );
-    let k = put_parked(answer, p);
-    k
+    put_told(answer, p, parked_told(p))
 }

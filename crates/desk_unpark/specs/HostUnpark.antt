@@ -1,15 +1,15 @@
 -- Reading a parked run back, with record and answer as plain words. Definitions only.
 -- a are the answer's words: word 0 tells the records read, or the first bad one, 0 where a lent area is too short.
-use Rattle.std.specs.Prelude.{List, cond, ℕ, eqb, length, set, Float}
+use Rattle.std.specs.Prelude.{List, cond, ℕ, eqb, length, set, Float, Result, Ok, Err}
 use Rattle.parked.specs.Parked.{Stored}
-use Rattle.unpark.specs.declared.Unparked.{Unparked}
-use Rattle.unpark.specs.declared.Unparked.TheVariants.{Read, Bad, Short}
+use Rattle.refusal.specs.declared.Unreadable.{Unreadable}
+use Rattle.refusal.specs.declared.Unreadable.TheVariants.{Bad, Short}
 use Rattle.unpark.specs.Unpark.{Unparking, unpark_of, unpark_number}
 
-unfoldable pub unparked_told : Unparked → ℕ
-unparked_told (Read k) = k
-unparked_told (Bad q) = q
-unparked_told Short = 0
+abbrev pub unparked_told : Result ℕ Unreadable → ℕ
+unparked_told (Ok k) = k
+unparked_told (Err (Bad q)) = q
+unparked_told (Err Short) = 0
 
 -- the number, and record, areas, forces and answer as they are left
 pub record HostUnparked : Type 0 where

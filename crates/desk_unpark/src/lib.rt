@@ -2,31 +2,23 @@
 
 #![tactic(auto)]
 
-ghost use Rattle.std.specs.Prelude.{◌≡◌, ◌≤◌, length, set};
-ghost use Rattle.record_words.specs.RecordWords.{worded};
+ghost use Rattle.std.specs.Prelude.{◌≡◌};
 ghost use Rattle.parked.specs.Parked.{stored_of};
-ghost use Rattle.unpark.specs.Unpark.{unpark_number};
 ghost use Rattle.desk_unpark.specs.HostUnpark.{unparked_told, host_unparked, host_unpark};
 
-use unpark::{Unparked, unpark};
+use record_words::told::put_told;
+use refusal::Unreadable;
+use unpark::unpark;
 
-fn unparked_told(u: Unparked) -> u64
+// The records, or the first bad one.
+fn unparked_told(u: Result<usize, Unreadable>) -> u64
     ensures { result ≡ unparked_told u }
 {
     match u {
-        Unparked::Read(k) => k as u64,
-        Unparked::Bad(q) => q as u64,
-        Unparked::Short => 0,
+        Ok(k) => k as u64,
+        Err(Unreadable::Bad(q)) => q as u64,
+        Err(Unreadable::Short) => 0,
     }
-}
-
-// Tells the records, or the first bad one. Answers the number.
-fn put_unparked(answer: &mut [u64], u: Unparked) -> u32
-    requires { 1 ≤ length answer.old }
-    ensures { worded result answer.new ≡ worded (unpark_number u) (set answer.old 0 (unparked_told u)) }
-{
-    answer[0] = unparked_told(u);
-    unpark::number(u) as u32
 }
 
 // Reads a parked run into record and areas. Answers 0, or the number of the refusal; then none of them is changed.
@@ -74,5 +66,5 @@ pub fn host_unpark(
     let u = unpark(
         file, words, positions, increments, gains, affinities, indices, offsets, forces, nodes,
     );
-    put_unparked(answer, u)
+    put_told(answer, u, unparked_told(u))
 }

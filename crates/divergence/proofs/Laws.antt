@@ -22,7 +22,8 @@ use Rattle.run_entry.specs.State.{memory, state}
 use Rattle.run_entry.specs.Entry.{Found, is_fine, fault_at, fault_of}
 use Rattle.run_entry.proofs.Laws.{fault-fine}
 use Rattle.run_rooms.proofs.Lists.{linked-at}
-use Rattle.divergence.specs.declared.Diverged.{Diverged}
+use Rattle.std.specs.Prelude.{Result}
+use Rattle.divergence.specs.declared.DivergenceFault.{DivergenceFault}
 use Rattle.divergence.specs.Divergence.{last_exaggeration, divergence_fault, after_tests, divergence_of, FigureRoom}
 
 -- after a finish it is the exaggeration that the finished iteration went by
@@ -65,6 +66,6 @@ module _ (r : Run) (y v g P : List Float) (xs off : List ℕ) (F : List Float) (
     unfolding divergence_fault
     fault-is = ef ∙ rw eq
 
-    pub divergence-told : (t : Diverged) → t ≡ after_tests f r P xs off F z → t ≡ divergence_of r (memory y v g P xs off F cs) z
+    pub divergence-told : (t : Result Float DivergenceFault) → t ≡ after_tests f r P xs off F z → t ≡ divergence_of r (memory y v g P xs off F cs) z
     unfolding divergence_of
     divergence-told t et = et ∙ ap (λ (x : Found). after_tests x r P xs off F z) fault-is

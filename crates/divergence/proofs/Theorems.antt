@@ -24,13 +24,14 @@ use Rattle.run_entry.specs.declared.Fault.TheVariants.{Areas}
 use Rattle.run_entry.specs.Entry.{is_fine, record_fault, areas_fit, fault_at, GoodCounters}
 use Rattle.run_entry.proofs.Laws.{found-none}
 use Rattle.run_rooms.proofs.Places.{cells-forces}
-use Rattle.divergence.specs.declared.Diverged.TheVariants.{Early, Bad}
+use Rattle.std.specs.Prelude.{Err}
+use Rattle.divergence.specs.declared.DivergenceFault.TheVariants.{Early, Bad}
 use Rattle.divergence.specs.Divergence.{total_of, is_zero, just_ended, too_early, divergence_fault, after_tests, divergence_of}
 use Rattle.divergence.proofs.Laws.{divergence-asks}
 
 -- ---- a short copy is 12, whatever the contents are
 
-pub short-copy : (r : Run) (m : Memory) (y : List Float) → is_fine (record_fault r) ≡ true → length y < r.settings.n * r.settings.c → divergence_of r m y ≡ Bad Areas
+pub short-copy : (r : Run) (m : Memory) (y : List Float) → is_fine (record_fault r) ≡ true → length y < r.settings.n * r.settings.c → divergence_of r m y ≡ Err (Bad Areas)
 unfolding divergence_of divergence_fault after_tests fault_at areas_fit sizes_of
 short-copy r m y e l = rw (e, lt-leb (r.settings.n * r.settings.c) (min (length m.positions) (length y)) (omega (arith, l)))
 
@@ -93,7 +94,7 @@ unfolding too_early
 early-zero r F l h = rw (total-zero r F l h, zero_is) (or-true (not (just_ended r)))
 
 pub zero-forces : (r : Run) (y v g P : List Float) (xs off : List ℕ) (F : List Float) (cs : List Cell) (z : List Float)
-    → is_fine (divergence_fault r (memory y v g P xs off F cs) z) ≡ true → Zeros r F → divergence_of r (memory y v g P xs off F cs) z ≡ Early
+    → is_fine (divergence_fault r (memory y v g P xs off F cs) z) ≡ true → Zeros r F → divergence_of r (memory y v g P xs off F cs) z ≡ Err Early
 unfolding divergence_of after_tests divergence_fault
 zero-forces r y v g P xs off F cs z e h =
     let f = divergence_fault r (memory y v g P xs off F cs) z in

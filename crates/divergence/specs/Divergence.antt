@@ -1,6 +1,6 @@
 -- The Kullback-Leibler figure of the iteration just finished, or why there is none. Definitions only.
 -- y is the lent copy: the positions before that iteration's step.
-use Rattle.std.specs.Prelude.{List, ◌≡◌, Bool, true, false, cond, not, ◌&&◌, ◌||◌, ℕ, ◌+◌, ◌*◌, ◌≤◌, min, eqb, leb, length, Float}
+use Rattle.std.specs.Prelude.{List, ◌≡◌, Bool, true, false, cond, not, ◌&&◌, ◌||◌, ℕ, ◌+◌, ◌*◌, ◌≤◌, min, eqb, leb, length, Float, Result, Ok, Err}
 use Rattle.std.specs.Float.Ieee.{eq}
 use Rattle.laws.specs.Domain.{early_iterations}
 use Rattle.laws.specs.Area.{at, bits, zero64, one64}
@@ -10,8 +10,9 @@ use Rattle.run_record.specs.declared.Run.{Run}
 use Rattle.run_record.specs.Record.{is_tree, GoodSettings}
 use Rattle.run_entry.specs.State.{Memory}
 use Rattle.run_entry.specs.Entry.{Found, by_tests, fault_at, fault_number}
-use Rattle.divergence.specs.declared.Diverged.{Diverged}
-use Rattle.divergence.specs.declared.Diverged.TheVariants.{Figure, Early, Bad}
+use Rattle.refusal.specs.Refusal.{number_told}
+use Rattle.divergence.specs.declared.DivergenceFault.{DivergenceFault}
+use Rattle.divergence.specs.declared.DivergenceFault.TheVariants.{Early, Bad}
 
 -- what the iteration just finished went by: 12 where at most 250 are done, else 1
 unfoldable pub last_exaggeration : Run → Float
@@ -48,17 +49,19 @@ divergence_fault r m y = fault_at r (min (length m.positions) (length y)) (lengt
     (length m.forces) m.indices m.offsets m.nodes
 
 -- then 17; else the figure
-unfoldable pub after_tests : Found → Run → List Float → List ℕ → List ℕ → List Float → List Float → Diverged
-after_tests f r W I O F y = by_tests f (cond (too_early r F) Early (Figure (figure_of r W I O F y))) Bad
+unfoldable pub after_tests : Found → Run → List Float → List ℕ → List ℕ → List Float → List Float → Result Float DivergenceFault
+after_tests f r W I O F y = by_tests f (cond (too_early r F) (Err Early) (Ok (figure_of r W I O F y))) (λ b. Err (Bad b))
 
-unfoldable pub divergence_of : Run → Memory → List Float → Diverged
+unfoldable pub divergence_of : Run → Memory → List Float → Result Float DivergenceFault
 divergence_of r m y = after_tests (divergence_fault r m y) r m.affinities m.indices m.offsets m.forces y
 
 -- the number of a refusal; 0 where there is none
-unfoldable pub divergence_number : Diverged → ℕ
-divergence_number (Figure x) = 0
-divergence_number Early = 17
-divergence_number (Bad f) = fault_number f
+abbrev pub divergence_fault_number : DivergenceFault → ℕ
+divergence_fault_number Early = 17
+divergence_fault_number (Bad f) = fault_number f
+
+abbrev pub divergence_number : Result Float DivergenceFault → ℕ
+divergence_number a = number_told divergence_fault_number a
 
 -- ---- what the tests have shown
 

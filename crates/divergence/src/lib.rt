@@ -2,10 +2,10 @@
 
 #![tactic(auto)]
 
-ghost use Rattle.std.specs.Prelude.{◌≡◌, true, min};
+ghost use Rattle.std.specs.Prelude.{◌≡◌, true};
 ghost use Rattle.run_entry.specs.State.{memory};
 ghost use Rattle.run_entry.specs.Entry.{is_fine};
-ghost use Rattle.divergence.specs.Divergence.{last_exaggeration, total_of, just_ended, too_early, figure_of, after_tests, divergence_of, divergence_number, TotalRoom, FigureRoom};
+ghost use Rattle.divergence.specs.Divergence.{last_exaggeration, total_of, just_ended, too_early, figure_of, after_tests, divergence_of, divergence_fault_number, TotalRoom, FigureRoom};
 
 use divergence_sums::{barnes_hut_kl, kl_divergence};
 use gradient::element::{normaliser, share_sum};
@@ -18,14 +18,24 @@ use run_record::Run;
 use run_record::faults::is_tree;
 use tree_node::Cell;
 
-// What is answered.
-#[derive(Clone, Copy)]
-pub enum Diverged {
-    Figure(f64),
+// Why there is no figure.
+#[derive(Clone, Copy, Debug, PartialEq, Eq)]
+pub enum DivergenceFault {
     // 17: no iteration has just ended, or the forces give a total of 0
     Early,
     // what the entry tests found
     Bad(Fault),
+}
+
+impl Numbered for DivergenceFault {
+    ghost number_of = { divergence_fault_number };
+
+    fn number(self) -> u8 {
+        match self {
+            DivergenceFault::Early => 17,
+            DivergenceFault::Bad(f) => f.number(),
+        }
+    }
 }
 
 fn last_exaggeration(r: Run) -> f64
@@ -51,24 +61,20 @@ fn total(r: Run, forces: &[f64]) -> f64
 }
 
 // Whether an iteration has just ended: one is done, and no unit of the next.
+#[tactic(auto, unfolding(crate::specs::Divergence::just_ended))]
 fn just_ended(r: Run) -> bool
     ensures { result ≡ just_ended r }
 {
-    if r.done == 0 {
-        return false;
-    }
-    r.phase == 0
+    r.done != 0 && r.phase == 0
 }
 
 // Whether it is 17: none has just ended, or the forces give a total of 0.
+#[tactic(auto, unfolding(crate::specs::Divergence::too_early))]
 fn too_early(r: Run, forces: &[f64]) -> bool
     requires { TotalRoom r forces.now }
     ensures { result ≡ too_early r forces.now }
 {
-    if !just_ended(r) {
-        return true;
-    }
-    total(r, forces) == 0.0
+    !just_ended(r) || total(r, forces) == 0.0
 }
 
 // The figure by method.
@@ -118,26 +124,17 @@ fn after_tests(
     offsets: &[u32],
     forces: &[f64],
     copy: &[f64],
-) -> Diverged
+) -> Result<f64, DivergenceFault>
     requires { is_fine f ≡ true → FigureRoom r affinities.now indices.now offsets.now forces.now copy.now }
     ensures { result ≡ after_tests f r affinities.now indices.now offsets.now forces.now copy.now }
 {
     if let Err(b) = f {
-        return Diverged::Bad(b);
+        return Err(DivergenceFault::Bad(b));
     }
     if too_early(r, forces) {
-        return Diverged::Early;
+        return Err(DivergenceFault::Early);
     }
-    Diverged::Figure(figure(r, affinities, indices, offsets, forces, copy))
-}
-
-fn smaller(a: usize, b: usize) -> usize
-    ensures { result ≡ min a b }
-{
-    if a <= b {
-        return a;
-    }
-    b
+    Ok(figure(r, affinities, indices, offsets, forces, copy))
 }
 
 // The figure, with any record and any areas; the copy holds the positions before the last step.
@@ -152,7 +149,7 @@ pub fn divergence(
     forces: &[f64],
     cells: &[Cell],
     copy: &[f64],
-) -> Diverged
+) -> Result<f64, DivergenceFault>
     ensures { result
         ≡ divergence_of r
         (memory
@@ -166,7 +163,7 @@ pub fn divergence(
         cells.now)
         copy.now }
 {
-    let least = smaller(positions.len(), copy.len());
+    let least = positions.len().min(copy.len());
     let l = Lengths {
         positions: least,
         increments: increments.len(),
@@ -177,15 +174,4 @@ pub fn divergence(
     let f = fault_at(r, l, indices, offsets, cells);
     let a = after_tests(f, r, affinities, indices, offsets, forces, copy);
     a
-}
-
-// The number of a refusal; 0: it is none.
-pub fn number(a: Diverged) -> u8
-    ensures { result ≡ divergence_number a }
-{
-    match a {
-        Diverged::Figure(_) => 0,
-        Diverged::Early => 17,
-        Diverged::Bad(f) => f.number(),
-    }
 }

@@ -32,8 +32,9 @@ use Rattle.parked.specs.declared.Layout.{Layout}
 use Rattle.parked.specs.Layout.{layout_of}
 use Rattle.parked.specs.Parked.{Stored, stored_of, links_in, layout_in, parked_word, StoredRoom}
 use Rattle.parked.proofs.Laws.{end-most}
-use Rattle.park.specs.declared.Parked.{Parked}
-use Rattle.park.specs.declared.Parked.TheVariants.{Written, Inside, Barred, Short, Bad}
+use Rattle.std.specs.Prelude.{Result, Ok, Err}
+use Rattle.park.specs.declared.ParkFault.{ParkFault}
+use Rattle.park.specs.declared.ParkFault.TheVariants.{Inside, Barred, Short, Bad}
 use Rattle.park.specs.Park.{calm_state, parking, parked_into, park_tested, park_of, LayoutRoom, ParkRoom}
 
 -- ---- the loop: w words are written
@@ -162,26 +163,26 @@ module _ (d : Stored) (l : Layout) (el : l ≡ layout_in d.run d.offsets) (g : P
       (end-most tree (num d.run 0) (num d.run 2) (links_in tree (num d.run 0) d.offsets) r.frames-most r.components-most r.links-most)
 
 module _ (f : Found) (d : Stored) (t : List ℕ) where
-  pub bad-said : (b : Fault) → f ≡ Err b → parking (Bad b) t ≡ park_tested f d t
+  pub bad-said : (b : Fault) → f ≡ Err b → parking (Err (Bad b)) t ≡ park_tested f d t
   unfolding park_tested
   bad-said b e = rw e
 
   module _ (e : is_fine f ≡ true) where
-    pub inside-said : (num d.run 11 ≡ 0 → ⊥) → parking Inside t ≡ park_tested f d t
+    pub inside-said : (num d.run 11 ≡ 0 → ⊥) → parking (Err Inside) t ≡ park_tested f d t
     unfolding park_tested
     inside-said n = rw (found-none f e, ne_eqb (num d.run 11) 0 n)
 
     module _ (z : num d.run 11 ≡ 0) (l : Layout) (el : l ≡ layout_in d.run d.offsets) where
-      pub barred-said : calm_state l.cells d.positions d.increments d.gains ≡ false → parking Barred t ≡ park_tested f d t
+      pub barred-said : calm_state l.cells d.positions d.increments d.gains ≡ false → parking (Err Barred) t ≡ park_tested f d t
       unfolding park_tested
       barred-said n = rw (found-none f e, eq-eqb (num d.run 11) 0 z, sym el, n)
 
       module _ (c : calm_state l.cells d.positions d.increments d.gains ≡ true) where
-        pub small-said : length t < 8 * l.end → parking Short t ≡ park_tested f d t
+        pub small-said : length t < 8 * l.end → parking (Err Short) t ≡ park_tested f d t
         unfolding park_tested
         small-said h = rw (found-none f e, eq-eqb (num d.run 11) 0 z, sym el, c, lt-ltb (length t) (8 * l.end) h)
 
-        pub written-said : 8 * l.end ≤ length t → (t' : List ℕ) → t' ≡ parked_into l d t → parking (Written (l.end / 4)) t' ≡ park_tested f d t
+        pub written-said : 8 * l.end ≤ length t → (t' : List ℕ) → t' ≡ parked_into l d t → parking (Ok (l.end / 4)) t' ≡ park_tested f d t
         unfolding park_tested
         written-said h t' q = rw (found-none f e, eq-eqb (num d.run 11) 0 z, sym el, c, le-ltb (length t) (8 * l.end) h, q)
 
@@ -195,6 +196,6 @@ module _ (w P I G A xs off : List ℕ) (f : ℕ) (cs : List Cell) (p i g a : ℕ
   pub park-asks : is_fine t ≡ true → ParkRoom (stored_of w P I G A xs off)
   park-asks e = park-room w P I G A f xs off (nodes_of cs) (subst (λ (x : Found). is_fine x ≡ true) fault-is e)
 
-  pub park-said : (x : Parked) (b₀ b : List ℕ) → parking x b ≡ park_tested t (stored_of w P I G A xs off) b₀ → parking x b ≡ park_of (stored_of w P I G A xs off) f (nodes_of cs) b₀
+  pub park-said : (x : Result ℕ ParkFault) (b₀ b : List ℕ) → parking x b ≡ park_tested t (stored_of w P I G A xs off) b₀ → parking x b ≡ park_of (stored_of w P I G A xs off) f (nodes_of cs) b₀
   unfolding park_of
   park-said x b₀ b e = e ∙ ap (λ (y : Found). park_tested y (stored_of w P I G A xs off) b₀) fault-is

@@ -1,5 +1,5 @@
 -- Parking a run: the order of the tests, and what is written. Definitions only.
-use Rattle.std.specs.Prelude.{List, ◌≡◌, Bool, true, cond, not, ◌&&◌, ℕ, ◌*◌, ◌<◌, ◌≤◌, eqb, ltb, length}
+use Rattle.std.specs.Prelude.{List, ◌≡◌, Bool, true, cond, not, ◌&&◌, ℕ, ◌*◌, ◌<◌, ◌≤◌, eqb, ltb, length, Result, Ok, Err}
 use Rattle.laws.specs.Domain.{most_components, most_frames}
 use Rattle.laws.specs.Loops.{every}
 use Rattle.laws.specs.Area.{num, bits}
@@ -12,8 +12,9 @@ use Rattle.words_entry.specs.WordsEntry.{words_fault}
 use Rattle.parked.specs.declared.Layout.{Layout}
 use Rattle.parked.specs.Layout.{records_in}
 use Rattle.parked.specs.Parked.{Stored, links_in, layout_in, parked_word, StoredRoom}
-use Rattle.park.specs.declared.Parked.{Parked}
-use Rattle.park.specs.declared.Parked.TheVariants.{Written, Inside, Barred, Short, Bad}
+use Rattle.refusal.specs.Refusal.{number_told}
+use Rattle.park.specs.declared.ParkFault.{ParkFault}
+use Rattle.park.specs.declared.ParkFault.TheVariants.{Inside, Barred, Short, Bad}
 
 -- the first m values of an area: 15 bars none
 unfoldable pub calm_all : List ℕ → ℕ → Bool
@@ -24,10 +25,10 @@ calm_state m p i g = calm_all p m && calm_all i m && calm_all g m
 
 -- what is answered, and the target afterwards
 pub record Parking : Type 0 where
-  pub answer : Parked
+  pub answer : Result ℕ ParkFault
   pub target : List ℕ
 
-abbrev pub parking : Parked → List ℕ → Parking
+abbrev pub parking : Result ℕ ParkFault → List ℕ → Parking
 parking a t = record { answer = a; target = t }
 
 -- the target from its start on holds the records; a longer one keeps its tail
@@ -39,23 +40,25 @@ unfoldable pub park_tested : Found → Stored → List ℕ → Parking
 park_tested f d t =
     let l = layout_in d.run d.offsets in
     by_tests f
-    (cond (not (eqb (num d.run 11) 0)) (parking Inside t)
-    (cond (not (calm_state l.cells d.positions d.increments d.gains)) (parking Barred t)
-    (cond (ltb (length t) (8 * l.end)) (parking Short t)
-    (parking (Written (records_in l)) (parked_into l d t)))))
-    (λ b. parking (Bad b) t)
+    (cond (not (eqb (num d.run 11) 0)) (parking (Err Inside) t)
+    (cond (not (calm_state l.cells d.positions d.increments d.gains)) (parking (Err Barred) t)
+    (cond (ltb (length t) (8 * l.end)) (parking (Err Short) t)
+    (parking (Ok (records_in l)) (parked_into l d t)))))
+    (λ b. parking (Err (Bad b)) t)
 
 -- the run in d with so many forces and these nodes, written to t
 unfoldable pub park_of : Stored → ℕ → List Node → List ℕ → Parking
 park_of d forces ns t = park_tested (words_fault d.run (length d.positions) (length d.increments) (length d.gains) (length d.affinities) forces d.indices d.offsets ns) d t
 
 -- the number of a refusal; 0 where there is none
-unfoldable pub park_number : Parked → ℕ
-park_number (Written k) = 0
-park_number Inside = 17
-park_number Barred = 15
-park_number Short = 12
-park_number (Bad f) = fault_number f
+abbrev pub park_fault_number : ParkFault → ℕ
+park_fault_number Inside = 17
+park_fault_number Barred = 15
+park_fault_number Short = 12
+park_fault_number (Bad f) = fault_number f
+
+abbrev pub park_number : Result ℕ ParkFault → ℕ
+park_number a = number_told park_fault_number a
 
 -- what the entry tests have shown of the words and the offsets by which a run lies
 pub record LayoutRoom (w off : List ℕ) : Type 0 where

@@ -7,7 +7,7 @@ ghost use Rattle.laws.specs.Domain.{most_components, most_frames};
 ghost use Rattle.tree_node.specs.Arena.{nodes_of};
 ghost use Rattle.run_entry.specs.Entry.{is_fine};
 ghost use Rattle.parked.specs.Parked.{stored_of, links_in, layout_in, StoredRoom};
-ghost use Rattle.park.specs.Park.{calm_all, calm_state, parking, parked_into, park_tested, park_of, park_number, LayoutRoom, ParkRoom};
+ghost use Rattle.park.specs.Park.{calm_all, calm_state, parking, parked_into, park_tested, park_of, park_fault_number, LayoutRoom, ParkRoom};
 
 use elementary::limits::is_calm;
 use elementary::words::value_of;
@@ -18,11 +18,9 @@ use run_entry::{Fault, Lengths};
 use tree_node::Cell;
 use words_entry::words_fault;
 
-// What is answered.
-#[derive(Clone, Copy)]
-pub enum Parked {
-    // so many records
-    Written(usize),
+// Why a run is not written.
+#[derive(Clone, Copy, Debug, PartialEq, Eq)]
+pub enum ParkFault {
     // 17: a unit of an iteration is done, and the iteration is not
     Inside,
     // 15: a position, increment or gain that it bars
@@ -31,6 +29,19 @@ pub enum Parked {
     Short,
     // what the entry tests found
     Bad(Fault),
+}
+
+impl Numbered for ParkFault {
+    ghost number_of = { park_fault_number };
+
+    fn number(self) -> u8 {
+        match self {
+            ParkFault::Inside => 17,
+            ParkFault::Barred => 15,
+            ParkFault::Short => 12,
+            ParkFault::Bad(f) => f.number(),
+        }
+    }
 }
 
 // Whether 15 bars none of the first m values.
@@ -105,7 +116,7 @@ fn put_words(
     }
 }
 
-// Once the entry tests have found f: refuses, or writes the records.
+// Once the entry tests have found a fault or none: refuses, or writes the records and tells how many.
 fn put_tested(
     fault: Result<(), Fault>,
     words: &[u64],
@@ -116,30 +127,30 @@ fn put_tested(
     indices: &[u32],
     offsets: &[u32],
     target: &mut [u8],
-) -> Parked
+) -> Result<usize, ParkFault>
     requires { is_fine fault ≡ true → ParkRoom (stored_of words.now positions.now increments.now gains.now affinities.now indices.now offsets.now) }
     ensures { parking result target.new ≡ park_tested fault (stored_of words.now positions.now increments.now gains.now affinities.now indices.now offsets.now) target.old }
 {
     if let Err(f) = fault {
-        return Parked::Bad(f);
+        return Err(ParkFault::Bad(f));
     }
     if words[11] != 0 {
-        return Parked::Inside;
+        return Err(ParkFault::Inside);
     }
     let l = layout_in(words, offsets);
     if !is_calm_state(l.cells, positions, increments, gains) {
-        return Parked::Barred;
+        return Err(ParkFault::Barred);
     }
     if target.len() < 8 * l.end {
-        return Parked::Short;
+        return Err(ParkFault::Short);
     }
     put_words(
         words, positions, increments, gains, affinities, indices, offsets, l, target,
     );
-    Parked::Written(l.end / 4)
+    Ok(l.end / 4)
 }
 
-// The run, with any words and any areas, written to the target as a file of its own.
+// The run, with any words and any areas, written to the target as a file of its own, and how many records that takes.
 pub fn park(
     words: &[u64],
     positions: &[u64],
@@ -151,7 +162,7 @@ pub fn park(
     forces: usize,
     cells: &[Cell],
     target: &mut [u8],
-) -> Parked
+) -> Result<usize, ParkFault>
     ensures { parking result target.new ≡ park_of (stored_of words.now positions.now increments.now gains.now affinities.now indices.now offsets.now) forces (nodes_of cells.now) target.old }
 {
     let l = Lengths {
@@ -166,17 +177,4 @@ pub fn park(
         t, words, positions, increments, gains, affinities, indices, offsets, target,
     );
     a
-}
-
-// The number of a refusal; 0: it is none.
-pub fn number(a: Parked) -> u8
-    ensures { result ≡ park_number a }
-{
-    match a {
-        Parked::Written(_) => 0,
-        Parked::Inside => 17,
-        Parked::Barred => 15,
-        Parked::Short => 12,
-        Parked::Bad(f) => f.number(),
-    }
 }

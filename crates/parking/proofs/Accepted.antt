@@ -27,7 +27,7 @@ use Rattle.parked.specs.declared.Layout.{Layout}
 use Rattle.parked.specs.Layout.{records_in}
 use Rattle.parked.specs.Parked.{Stored, stored_of}
 use Rattle.parked.specs.Fine.{layout_by}
-use Rattle.park.specs.declared.Parked.TheVariants.{Written}
+use Rattle.std.specs.Prelude.{Ok}
 use Rattle.park.specs.Park.{Parking, parking, parked_into, park_of}
 use Rattle.parked_file.specs.File.{records_due, is_parked}
 use Rattle.unpark.specs.Unpark.{record_read, settings_read, fetched, weights_read, offsets_read, stored_read, has_room}
@@ -208,8 +208,8 @@ module _ (f : List ℕ) (small : AllBelow bytes_most f) (P : is_parked f ≡ tru
         same =
             ap (λ (x : ℕ). park_of e x (blank ∷ []) f) (sym z)
             ∙ writes-parks e Z (blank ∷ []) f W
-            ∙ ap (λ (x : Layout). parking (Written (records_in x)) (parked_into x e f)) (layout-read g A zeros)
-            ∙ ap (parking (Written (records_in l))) (into-read f small P zeros f ∙ ap (λ (x : List ℕ). f ++ x) (drop-length f) ∙ append-nil f);
+            ∙ ap (λ (x : Layout). parking (Ok (records_in x)) (parked_into x e f)) (layout-read g A zeros)
+            ∙ ap (parking (Ok (records_in l))) (into-read f small P zeros f ∙ ap (λ (x : List ℕ). f ++ x) (drop-length f) ∙ append-nil f);
         whole = parked-long f P;
       }
 

@@ -20,8 +20,8 @@ use Rattle.words_entry.specs.WordsEntry.{words_fault}
 use Rattle.parked.specs.declared.Layout.{Layout}
 use Rattle.parked.specs.Layout.{records_in}
 use Rattle.parked.specs.Parked.{Stored, layout_in}
-use Rattle.park.specs.declared.Parked.{Parked}
-use Rattle.park.specs.declared.Parked.TheVariants.{Written, Inside, Barred, Short, Bad}
+use Rattle.park.specs.declared.ParkFault.{ParkFault}
+use Rattle.park.specs.declared.ParkFault.TheVariants.{Inside, Barred, Short, Bad}
 use Rattle.park.specs.Park.{calm_state, Parking, parking, parked_into, park_tested, park_of}
 use Rattle.parking.specs.Held.{state_in}
 
@@ -45,20 +45,6 @@ module _ (d : Stored) (F : List Float) (ns : List Node) where
 
 -- ---- the answer
 
-is_written : Parked → Bool
-is_written (Written k) = true
-is_written Inside = false
-is_written Barred = false
-is_written Short = false
-is_written (Bad f) = false
-
-records_of : Parked → ℕ
-records_of (Written k) = k
-records_of Inside = 0
-records_of Barred = 0
-records_of Short = 0
-records_of (Bad f) = 0
-
 pub record Writes (d : Stored) (F : List Float) (ns : List Node) (t : List ℕ) : Type 0 where
   pub read : run_fine d.run ≡ true
   pub good : Good (state_in d F ns)
@@ -66,38 +52,36 @@ pub record Writes (d : Stored) (F : List Float) (ns : List Node) (t : List ℕ) 
   pub calm-all : calm_state (layout_in d.run d.offsets).cells d.positions d.increments d.gains ≡ true
   pub room : 8 * (layout_in d.run d.offsets).end ≤ length t
 
-passes : (b : Bool) (x y : Parking) (k : ℕ) → is_written x.answer ≡ false → (cond b x y).answer ≡ Written k → (b ≡ false) × (y.answer ≡ Written k)
-unfolding is_written
-passes true x y k n e = absurd (true≢false (sym (ap is_written e) ∙ n))
-passes false x y k n e = (refl, e)
+passes : (b : Bool) (x y : Parking) (k : ℕ) (u : ParkFault) → x.answer ≡ Err u → (cond b x y).answer ≡ Ok k → (b ≡ false) × (y.answer ≡ Ok k)
+passes true x y k u n e = cc
+passes false x y k u n e = (refl, e)
 
-passes-tests : (f : Found) (t : List ℕ) (y : Parking) (k : ℕ) → (by_tests f y (λ b. parking (Bad b) t)).answer ≡ Written k → (is_fine f ≡ true) × (y.answer ≡ Written k)
-unfolding is_written
+passes-tests : (f : Found) (t : List ℕ) (y : Parking) (k : ℕ) → (by_tests f y (λ b. parking (Err (Bad b)) t)).answer ≡ Ok k → (is_fine f ≡ true) × (y.answer ≡ Ok k)
 passes-tests (Ok u) t y k e = (refl, e)
-passes-tests (Err b) t y k e = absurd (true≢false (sym (ap is_written e)))
+passes-tests (Err b) t y k e = cc
 
 module _ (d : Stored) (F : List Float) (ns : List Node) (t : List ℕ) where
   abbrev lies : Layout
   lies = layout_in d.run d.offsets
 
   abbrev pub written_into : Parking
-  written_into = parking (Written (records_in lies)) (parked_into lies d t)
+  written_into = parking (Ok (records_in lies)) (parked_into lies d t)
 
   pub writes-parks : Writes d F ns t → park_of d (length F) ns t ≡ written_into
   unfolding park_of park_tested
   writes-parks w = rw (entry-good d F ns w.read w.good, eq-eqb (num d.run 11) 0 w.between, w.calm-all, le-ltb (length t) (8 * lies.end) w.room)
 
-  pub parks-writes : (k : ℕ) → (park_of d (length F) ns t).answer ≡ Written k → Writes d F ns t × (records_in lies ≡ k)
-  unfolding park_of park_tested is_written records_of
+  pub parks-writes : (k : ℕ) → (park_of d (length F) ns t).answer ≡ Ok k → Writes d F ns t × (records_in lies ≡ k)
+  unfolding park_of park_tested
   parks-writes k e =
       let f = found d F ns in
-      let e4 = cond (ltb (length t) (8 * lies.end)) (parking Short t) written_into in
-      let e3 = cond (not (calm_state lies.cells d.positions d.increments d.gains)) (parking Barred t) e4 in
-      let e2 = cond (not (eqb (num d.run 11) 0)) (parking Inside t) e3 in
+      let e4 = cond (ltb (length t) (8 * lies.end)) (parking (Err Short) t) written_into in
+      let e3 = cond (not (calm_state lies.cells d.positions d.increments d.gains)) (parking (Err Barred) t) e4 in
+      let e2 = cond (not (eqb (num d.run 11) 0)) (parking (Err Inside) t) e3 in
       let a = passes-tests f t e2 k e in
-      let b = passes (not (eqb (num d.run 11) 0)) (parking Inside t) e3 k refl a.1 in
-      let c = passes (not (calm_state lies.cells d.positions d.increments d.gains)) (parking Barred t) e4 k refl b.1 in
-      let s = passes (ltb (length t) (8 * lies.end)) (parking Short t) written_into k refl c.1 in
+      let b = passes (not (eqb (num d.run 11) 0)) (parking (Err Inside) t) e3 k _ refl a.1 in
+      let c = passes (not (calm_state lies.cells d.positions d.increments d.gains)) (parking (Err Barred) t) e4 k _ refl b.1 in
+      let s = passes (ltb (length t) (8 * lies.end)) (parking (Err Short) t) written_into k _ refl c.1 in
       let g = entry-fine d F ns a.0 in (
         record {
           read = g.0;
@@ -106,7 +90,7 @@ module _ (d : Stored) (F : List Float) (ns : List Node) (t : List ℕ) where
           calm-all = not-false (calm_state lies.cells d.positions d.increments d.gains) c.0;
           room = ltb-false (length t) (8 * lies.end) s.0;
         },
-        ap records_of s.1,
+        cc s.1,
       )
 
 -- with so many forces
@@ -115,7 +99,7 @@ pub record ParksAll (d : Stored) (forces : ℕ) (ns : List Node) (t : List ℕ) 
   pub count : records_in (layout_in d.run d.offsets) ≡ k
   pub same : park_of d forces ns t ≡ written_into d (replicate forces zero64) ns t
 
-pub parks-all : (d : Stored) (forces : ℕ) (ns : List Node) (t : List ℕ) (k : ℕ) → (park_of d forces ns t).answer ≡ Written k → ParksAll d forces ns t k
+pub parks-all : (d : Stored) (forces : ℕ) (ns : List Node) (t : List ℕ) (k : ℕ) → (park_of d forces ns t).answer ≡ Ok k → ParksAll d forces ns t k
 parks-all d forces ns t k e =
     let F : List Float = replicate forces zero64 in
     let n : length F ≡ forces = length-replicate forces zero64 in

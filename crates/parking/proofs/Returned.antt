@@ -22,9 +22,8 @@ use Rattle.record_words.proofs.Laws.{method-tree}
 use Rattle.parked.specs.declared.Layout.{Layout}
 use Rattle.parked.specs.Parked.{Stored, links_in, layout_in}
 use Rattle.parked.specs.Fine.{layout_by}
-use Rattle.park.specs.declared.Parked.TheVariants.{Written}
 use Rattle.park.specs.Park.{park_of}
-use Rattle.unpark.specs.declared.Unparked.TheVariants.{Read}
+use Rattle.std.specs.Prelude.{Ok}
 use Rattle.unpark.specs.Unpark.{record_read, settings_read, fetched, weights_read, offsets_read, stored_read, has_room, unparking, unpark_of}
 use Rattle.parking.specs.Held.{InWords, first_records}
 use Rattle.parking.specs.Again.{record_again, stored_again}
@@ -136,9 +135,9 @@ module _ (d : Stored) (F : List Float) (ns : List Node) (t : List ℕ) (W : Writ
 -- Reading what was written: where k records of d are written, the first k records of the target are read into any record of fourteen words and areas that a
 -- work call on d would take, and leave there what d again is; the forces are zero.
 module _ (d : Stored) (forces : ℕ) (ns : List Node) (t : List ℕ) (k : ℕ) where
-  pub reading-what-was-written : InWords d → (park_of d forces ns t).answer ≡ Written k → (e : Stored) (F : List Float) (nodes : ℕ) → 14 ≤ length e.run →
+  pub reading-what-was-written : InWords d → (park_of d forces ns t).answer ≡ Ok k → (e : Stored) (F : List Float) (nodes : ℕ) → 14 ≤ length e.run →
       areas_fit (settings_of d.run) (length e.positions) (length e.increments) (length e.gains) (length e.affinities) (length e.indices)
-      (length e.offsets) (length F) nodes ≡ true → unpark_of (first_records k (park_of d forces ns t).target) e F nodes ≡ unparking (Read k) (stored_again d e)
+      (length e.offsets) (length F) nodes ≡ true → unpark_of (first_records k (park_of d forces ns t).target) e F nodes ≡ unparking (Ok k) (stored_again d e)
       (filled zero64 (sizes_of (settings_of d.run)).forces F)
   unfolding unpark_of
   reading-what-was-written i a e F nodes n r =

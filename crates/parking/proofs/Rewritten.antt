@@ -1,4 +1,5 @@
 -- Writing what was read: the same bytes. Assumes nothing.
+use Rattle.std.specs.Prelude.{Ok, Err}
 use mathlib.Core.Path.{◌≡◌, refl, sym, ap, subst, ◌∙◌}
 use mathlib.Core.List.{List, ◌++◌}
 use mathlib.Core.Bool.{Bool, true, false, cond, not, true≢false}
@@ -20,10 +21,9 @@ use Rattle.parked.specs.declared.Layout.{Layout}
 use Rattle.parked.specs.Layout.{records_in}
 use Rattle.parked.specs.Parked.{Stored, parked_word}
 use Rattle.parked.specs.Fine.{layout_by}
-use Rattle.park.specs.declared.Parked.TheVariants.{Written}
 use Rattle.park.specs.Park.{calm_state, parking, parked_into, park_of}
-use Rattle.unpark.specs.declared.Unparked.{Unparked}
-use Rattle.unpark.specs.declared.Unparked.TheVariants.{Read, Bad, Short}
+use Rattle.refusal.specs.declared.Unreadable.{Unreadable}
+use Rattle.refusal.specs.declared.Unreadable.TheVariants.{Bad, Short}
 use Rattle.parked_file.specs.File.{records_due, first_bad, is_parked}
 use Rattle.unpark.specs.Unpark.{record_read, settings_read, stored_read, has_room, Unparking, unparking, unpark_of}
 use Rattle.parking.specs.Held.{bytes_most}
@@ -35,20 +35,9 @@ use Rattle.parking.proofs.Taken.{layout-read, word_read, read-fine, read_between
 
 -- ---- what was read
 
-is_read : Unparked → Bool
-is_read (Read k) = true
-is_read (Bad q) = false
-is_read Short = false
-
-read_of : Unparked → ℕ
-read_of (Read k) = k
-read_of (Bad q) = 0
-read_of Short = 0
-
-passes : (b : Bool) (x y : Unparking) (k : ℕ) → is_read x.answer ≡ false → (cond b x y).answer ≡ Read k → (b ≡ false) × (y.answer ≡ Read k)
-unfolding is_read
-passes true x y k n e = absurd (true≢false (sym (ap is_read e) ∙ n))
-passes false x y k n e = (refl, e)
+passes : (b : Bool) (x y : Unparking) (k : ℕ) (u : Unreadable) → x.answer ≡ Err u → (cond b x y).answer ≡ Ok k → (b ≡ false) × (y.answer ≡ Ok k)
+passes true x y k u n e = cc
+passes false x y k u n e = (refl, e)
 
 -- the file is a parked run, and there is room
 pub record Reads (f : List ℕ) (d : Stored) (F : List Float) (nodes k : ℕ) : Type 0 where
@@ -58,17 +47,17 @@ pub record Reads (f : List ℕ) (d : Stored) (F : List Float) (nodes k : ℕ) : 
   pub same : (unpark_of f d F nodes).left ≡ stored_read (word_in f) d
   pub cleared : (unpark_of f d F nodes).forces ≡ filled zero64 (sizes_of (settings_read (word_in f))).forces F
 
-pub reads : (f : List ℕ) (d : Stored) (F : List Float) (nodes k : ℕ) → (unpark_of f d F nodes).answer ≡ Read k → Reads f d F nodes k
-unfolding unpark_of is_read read_of
+pub reads : (f : List ℕ) (d : Stored) (F : List Float) (nodes k : ℕ) → (unpark_of f d F nodes).answer ≡ Ok k → Reads f d F nodes k
+unfolding unpark_of
 reads f d F nodes k e =
     let g : ℕ → ℕ = word_in f in
-    let all = unparking (Read (records_due f)) (stored_read g d) (filled zero64 (sizes_of (settings_read g)).forces F) in
-    let rest = cond (not (has_room g d (length F) nodes)) (unparking Short d F) all in
-    let a = passes (not (is_parked f)) (unparking (Bad (first_bad f)) d F) rest k refl e in
-    let b = passes (not (has_room g d (length F) nodes)) (unparking Short d F) all k refl a.1 in
+    let all = unparking (Ok (records_due f)) (stored_read g d) (filled zero64 (sizes_of (settings_read g)).forces F) in
+    let rest = cond (not (has_room g d (length F) nodes)) (unparking (Err Short) d F) all in
+    let a = passes (not (is_parked f)) (unparking (Err (Bad (first_bad f))) d F) rest k _ refl e in
+    let b = passes (not (has_room g d (length F) nodes)) (unparking (Err Short) d F) all k _ refl a.1 in
     let p = not-false (is_parked f) a.0 in
     let r = not-false (has_room g d (length F) nodes) b.0 in
-    record { stands = p; room = r; count = ap read_of b.1; same = rw (p, r); cleared = rw (p, r) }
+    record { stands = p; room = r; count = cc b.1; same = rw (p, r); cleared = rw (p, r) }
 
 -- ---- what it is written as
 
@@ -114,9 +103,9 @@ module _ (f : List ℕ) (small : AllBelow bytes_most f) (P : is_parked f ≡ tru
 -- Writing what was read: where k records of f are read, what they left, with any forces and nodes that a work call on it would take, is written as k records
 -- into any target that has room, and the target from its start on is f.
 module _ (f : List ℕ) (d : Stored) (F : List Float) (nodes k : ℕ) where
-  pub writing-what-was-read : AllBelow bytes_most f → (unpark_of f d F nodes).answer ≡ Read k → (forces : ℕ) (ns : List Node) (t : List ℕ) →
+  pub writing-what-was-read : AllBelow bytes_most f → (unpark_of f d F nodes).answer ≡ Ok k → (forces : ℕ) (ns : List Node) (t : List ℕ) →
       (sizes_of (settings_read (word_in f))).forces ≤ forces → (is_tree (settings_read (word_in f)).method ≡ true → 1 ≤ length ns) → length f ≤ length t →
-      park_of (unpark_of f d F nodes).left forces ns t ≡ parking (Written k) (f ++ drop (length f) t)
+      park_of (unpark_of f d F nodes).left forces ns t ≡ parking (Ok k) (f ++ drop (length f) t)
   unfolding sizes_of settings_read settings_of record_read records_due
   writing-what-was-read b a forces ns t m n h =
       let r = reads f d F nodes k a in
@@ -128,5 +117,5 @@ module _ (f : List ℕ) (d : Stored) (F : List Float) (nodes k : ℕ) where
       ap (λ (x : Stored). park_of x forces ns t) r.same
       ∙ ap (λ (x : ℕ). park_of e x ns t) (sym z)
       ∙ writes-parks e Z ns t W
-      ∙ ap (λ (x : Layout). parking (Written (records_in x)) (parked_into x e t)) q
+      ∙ ap (λ (x : Layout). parking (Ok (records_in x)) (parked_into x e t)) q
       ∙ rw (r.count, into-read f b r.stands d t)

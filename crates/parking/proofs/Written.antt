@@ -23,7 +23,7 @@ use Rattle.parked.specs.declared.Layout.{Layout}
 use Rattle.parked.specs.Layout.{filled_up, layout_of, records_in}
 use Rattle.parked.specs.Parked.{Stored, head_of, links_in, layout_in, parked_word}
 use Rattle.parked.specs.Fine.{layout_by, offset_fits}
-use Rattle.park.specs.declared.Parked.TheVariants.{Written}
+use Rattle.std.specs.Prelude.{Ok}
 use Rattle.park.specs.Park.{calm_all, calm_state, Parking, parked_into, park_of}
 use Rattle.parked_file.specs.File.{records_due, is_parked}
 use Rattle.parking.specs.Held.{words_most, InWords, first_records}
@@ -299,14 +299,14 @@ module _ (d : Stored) where
 
 -- What is written stands: where k records are written, the first 32·k bytes of the target are a parked run of k records.
 module _ (d : Stored) (forces : ℕ) (ns : List Node) (t : List ℕ) (k : ℕ) where
-  pub front-is : (park_of d forces ns t).answer ≡ Written k → first_records k (park_of d forces ns t).target ≡ file_of d
+  pub front-is : (park_of d forces ns t).answer ≡ Ok k → first_records k (park_of d forces ns t).target ≡ file_of d
   front-is a =
       let p = parks-all d forces ns t k a in
       ap (λ (x : Parking). take (32 * k) x.target) p.same
       ∙ ap (λ (x : ℕ). take (32 * x) (parked_into (layout_in d.run d.offsets) d t)) (sym p.count)
       ∙ file-front d t
 
-  pub what-is-written-stands : InWords d → (park_of d forces ns t).answer ≡ Written k → (is_parked (first_records k (park_of d forces ns t).target) ≡ true) ×
+  pub what-is-written-stands : InWords d → (park_of d forces ns t).answer ≡ Ok k → (is_parked (first_records k (park_of d forces ns t).target) ≡ true) ×
       (records_due (first_records k (park_of d forces ns t).target) ≡ k)
   what-is-written-stands e a =
       let p = parks-all d forces ns t k a in

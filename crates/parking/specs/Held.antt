@@ -1,12 +1,11 @@
 -- A run as it lies in memory: what its words can be, and the state that it is. Definitions only.
-use Rattle.std.specs.Prelude.{◌≡◌, List, map, true, ℕ, ◌*◌, ◌≤◌, length, take, Float}
+use Rattle.std.specs.Prelude.{◌≡◌, List, map, true, ℕ, ◌*◌, ◌≤◌, length, take, Float, Ok}
 use Rattle.laws.specs.Area.{bits}
 use Rattle.little.specs.Little.{AllBelow}
 use Rattle.tree_node.specs.declared.Node.{Node}
 use Rattle.run_entry.specs.State.{State}
 use Rattle.record_words.specs.RecordWords.{run_of}
 use Rattle.parked.specs.Parked.{Stored}
-use Rattle.park.specs.declared.Parked.TheVariants.{Written}
 use Rattle.park.specs.Park.{parking, park_of}
 use Rattle.parked_file.specs.File.{is_parked}
 
@@ -58,7 +57,7 @@ pub record WrittenAs (f : List ℕ) : Type 0 where
   pub target : List ℕ
   pub records : ℕ
   pub in_words : InWords run
-  pub same : park_of run forces nodes target ≡ parking (Written records) f
+  pub same : park_of run forces nodes target ≡ parking (Ok records) f
   pub whole : length f ≡ 32 * records
 
 -- some parked run starts with the first n records of f

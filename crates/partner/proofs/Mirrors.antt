@@ -7,22 +7,14 @@ use Prim.Native.Nat.{ℕ, ◌+◌, ◌-◌, ◌<◌, ◌≤◌}
 use native.Mathlib.Omega.{arith}
 use native.Mathlib.Decide.{dec_lt}
 use lib.Dec.{eqb}
-use borrow.Author.Tests.{eq-eqb, ne_eqb, eqb-true, lt-ltb, le-ltb, ltb-true}
+use borrow.Author.Tests.{eq-eqb, eqb-true, lt-ltb, le-ltb, ltb-true}
 use Rattle.laws.specs.Loops.{first}
 use Rattle.laws.proofs.First.{first_some, first_holds, first-none}
-use Rattle.laws.proofs.Bools.{two, and_left, and_right, and_no, not-true-is}
+use Rattle.laws.proofs.Bools.{two, and_left, and_right, not-true-is}
 use Rattle.partner.specs.Partner.{link_from, link_to, link_weight, link_pair, turned_pair, is_mirror, mirrored_in, PairsRise}
 use Rattle.laws.proofs.Bisects.{Bisects, bisects-done}
 
 module _ (f : List ℕ) (i : ℕ) where
-  pub mirror-not-from : (j : ℕ) → (link_from f j ≡ link_to f i → ⊥) → is_mirror f i j ≡ false
-  unfolding is_mirror
-  mirror-not-from j h = rw (ne_eqb (link_from f j) (link_to f i) h)
-
-  pub mirror-not-to : (j : ℕ) → (link_to f j ≡ link_from f i → ⊥) → is_mirror f i j ≡ false
-  unfolding is_mirror
-  mirror-not-to j h = rw (ne_eqb (link_to f j) (link_from f i) h, and_no (eqb (link_from f j) (link_to f i)))
-
   pub mirror-weight : (j : ℕ) → link_from f j ≡ link_to f i → link_to f j ≡ link_from f i → is_mirror f i j ≡ eqb (link_weight f j) (link_weight f i)
   unfolding is_mirror
   mirror-weight j h l = rw (eq-eqb (link_from f j) (link_to f i) h, eq-eqb (link_to f j) (link_from f i) l)

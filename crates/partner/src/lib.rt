@@ -3,7 +3,7 @@
 
 #![tactic(auto)]
 
-ghost use Rattle.std.specs.Prelude.{◌≡◌, cond, not, ◌||◌, ◌+◌, ◌-◌, ◌<◌, ◌≤◌, eqb, ltb, leb, length};
+ghost use Rattle.std.specs.Prelude.{◌≡◌, not, ◌||◌, ◌+◌, ◌-◌, ◌<◌, ◌≤◌, eqb, ltb, length};
 ghost use Rattle.laws.specs.Loops.{first};
 ghost use Rattle.partner.specs.Partner.{whole_links, given_links, link_from, link_to, link_weight, link_pair, turned_pair, link_fine, is_mirror, mirrored_in, mirrored, first_bad_link, PairsRise};
 
@@ -18,11 +18,7 @@ pub const LINK_BYTES: usize = 16;
 pub fn given_links(file: &[u8]) -> usize
     ensures { result ≡ given_links file.now }
 {
-    let whole = file.len() / LINK_BYTES;
-    if file.len() % LINK_BYTES == 0 {
-        return whole;
-    }
-    whole + 1
+    file.len().div_ceil(LINK_BYTES)
 }
 
 // The frame whose link record i is.
@@ -70,35 +66,23 @@ fn is_raised(file: &[u8], i: usize) -> bool
     requires { i < whole_links file.now }
     ensures { result ≡ (eqb i 0 || ltb (link_pair file.now (i - 1)) (link_pair file.now i)) }
 {
-    if i == 0 {
-        return true;
-    }
-    link_pair(file, i - 1) < link_pair(file, i)
+    i == 0 || link_pair(file, i - 1) < link_pair(file, i)
 }
 
 // Whether record i meets the rules but for its mirror: n frames, at most so many links.
+#[tactic(auto, unfolding(crate::specs::Partner::link_fine))]
 fn link_fine(file: &[u8], n: usize, most: usize, i: usize) -> bool
     requires { i < whole_links file.now }
     ensures { result ≡ link_fine n most file.now i }
 {
-    if most <= i {
-        return false;
-    }
     let from = link_from(file, i);
     let to = link_to(file, i);
-    if n as u64 <= from {
-        return false;
-    }
-    if n as u64 <= to {
-        return false;
-    }
-    if !is_raised(file, i) {
-        return false;
-    }
-    if from == to {
-        return false;
-    }
-    is_positive(value_of(link_weight(file, i)))
+    i < most
+        && from < n as u64
+        && to < n as u64
+        && is_raised(file, i)
+        && from != to
+        && is_positive(value_of(link_weight(file, i)))
 }
 
 // The first record that does not; the number of whole records where there is none.
@@ -115,28 +99,14 @@ fn first_unfit(file: &[u8], n: usize, most: usize) -> usize
 }
 
 // Whether record j is the mirror of record i.
+#[tactic(auto, unfolding(crate::specs::Partner::is_mirror))]
 fn is_mirror(file: &[u8], i: usize, j: usize) -> bool
     requires { (i < whole_links file.now) × (j < whole_links file.now) }
     ensures { result ≡ is_mirror file.now i j }
 {
-    if link_from(file, j) != link_to(file, i) {
-        return false;
-    }
-    if link_to(file, j) != link_from(file, i) {
-        return false;
-    }
-    link_weight(file, j) == link_weight(file, i)
-}
-
-// The middle of the part that may hold the pair, or its start where the pair stands below the middle.
-fn raised_pair(file: &[u8], low: usize, half: usize, pair: u64) -> usize
-    requires { low + half < whole_links file.now }
-    ensures { result ≡ cond (leb (link_pair file.now (low + half)) pair) (low + half) low }
-{
-    if link_pair(file, low + half) <= pair {
-        return low + half;
-    }
-    low
+    link_from(file, j) == link_to(file, i)
+        && link_to(file, j) == link_from(file, i)
+        && link_weight(file, j) == link_weight(file, i)
 }
 
 // Whether one of the k records from a on, whose pairs rise, is the mirror of record i. In each turn the part that may be is halved.
@@ -152,7 +122,9 @@ fn is_met(file: &[u8], i: usize, a: usize, k: usize) -> bool
     let mut left = k;
     while left > 1 {
         let half = left / 2;
-        low = raised_pair(file, low, half, pair);
+        if link_pair(file, low + half) <= pair {
+            low += half;
+        }
         left -= half;
     }
     is_mirror(file, i, low)
@@ -193,13 +165,9 @@ fn is_mirrored(file: &[u8], i: usize, e: usize, k: usize) -> bool
     requires { (i < whole_links file.now) × (e + k ≤ whole_links file.now) × PairsRise file.now 0 e × PairsRise file.now e k }
     ensures { result ≡ mirrored file.now i }
 {
-    if is_met(file, i, 0, e) {
-        return true;
-    }
-    if is_met(file, i, e, k) {
-        return true;
-    }
-    is_met_anywhere(file, i, e + k, file.len() / LINK_BYTES - (e + k))
+    is_met(file, i, 0, e)
+        || is_met(file, i, e, k)
+        || is_met_anywhere(file, i, e + k, file.len() / LINK_BYTES - (e + k))
 }
 
 // The first of the first d records that has none; d where each has one.

@@ -1,5 +1,6 @@
 -- What the tests of an import have shown, and what an accepted list asks of its areas. Assumes nothing.
-use mathlib.Core.Path.{◌≡◌, ap, ◌∙◌}
+use Rattle.std.specs.Prelude.{Ok, Err}
+use mathlib.Core.Path.{◌≡◌, sym, ap, ◌∙◌}
 use mathlib.Core.List.{List}
 use mathlib.Core.Bool.{true, cond, not}
 use Prim.Native.Nat.{ℕ, ◌+◌, ◌*◌, ◌<◌, ◌≤◌}
@@ -21,7 +22,10 @@ use Rattle.partner.specs.Partner.{whole_links, given_links, first_bad_link, is_p
 use Rattle.partner.proofs.Accepted.{accepted-few, accepted-frames}
 use Rattle.partner_load.specs.Loaded.{indices_loaded, weights_loaded, offsets_loaded, FramesRise}
 use Rattle.partner_import.specs.declared.LentLengths.{LentLengths}
-use Rattle.partner_import.specs.declared.Imported.TheVariants.{Refused, BadRecord, Loaded}
+use Rattle.refusal.specs.declared.Refusal.{Refusal}
+use Rattle.refusal.specs.Refusal.{refusal_number, refusal_of}
+use Rattle.refusal.proofs.Numbers.{refusal-some, refusal-by-number}
+use Rattle.partner_import.specs.declared.ImportFault.TheVariants.{Refused, BadRecord}
 use Rattle.partner_import.specs.Import.{Loading, loading, lent_lengths, tree_settings, start_fine, import_fault, one_bits, loaded_areas, import_outcome, judged_list, import_of}
 
 -- ---- the tests
@@ -88,20 +92,20 @@ module _ (s : Settings) (start file : List ℕ) (nodes : ℕ) (l : Loading) {t :
   abbrev bad : ℕ
   bad = first_bad_link t.n (sizes_of t).links file
 
-  as-tree : import_of s start file nodes l ≡ cond (eqb fault 0) (judged_list t start file l) (import_outcome (Refused fault) l)
+  as-tree : import_of s start file nodes l ≡ cond (eqb fault 0) (judged_list t start file l) (import_outcome (Err (Refused (refusal_of fault))) l)
   unfolding import_of
   as-tree = rw same
 
-  pub import-refused : {k : ℕ} → k ≡ fault → (k ≡ 0 → ⊥) → import_outcome (Refused k) l ≡ import_of s start file nodes l
-  import-refused {k} q n = rw (as-tree, ne_eqb fault 0 (λ e. n (q ∙ e)), q)
+  pub import-refused : (r : Refusal) → refusal_number r ≡ fault → import_outcome (Err (Refused r)) l ≡ import_of s start file nodes l
+  import-refused r q = rw (as-tree, ne_eqb fault 0 (λ e. refusal-some r (q ∙ e)), sym q, refusal-by-number r)
 
-  pub import-bad : {b : ℕ} → fault ≡ 0 → b ≡ bad → (b ≡ given_links file → ⊥) → import_outcome (BadRecord b) l ≡ import_of s start file nodes l
+  pub import-bad : {b : ℕ} → fault ≡ 0 → b ≡ bad → (b ≡ given_links file → ⊥) → import_outcome (Err (BadRecord b)) l ≡ import_of s start file nodes l
   unfolding judged_list
   import-bad {b} e q n = rw (as-tree, eq-eqb fault 0 e, ne_eqb bad (given_links file) (λ z. n (q ∙ z)), q)
 
   pub import-loaded : {r : Run} {p i g a x o f : List ℕ} → fault ≡ 0 → bad ≡ given_links file → r ≡ fresh_run t
       → p ≡ pasted start 0 (t.n * t.c) l.positions → i ≡ filled 0 (t.n * t.c) l.increments → g ≡ filled one_bits (t.n * t.c) l.gains
       → a ≡ weights_loaded file l.affinities → x ≡ indices_loaded file l.indices → o ≡ offsets_loaded file t.n l.offsets → f ≡ filled 0 (t.n * (2 * t.c + 1)) l.forces
-      → import_outcome (Loaded r) (loading p i g a x o f) ≡ import_of s start file nodes l
+      → import_outcome (Ok r) (loading p i g a x o f) ≡ import_of s start file nodes l
   unfolding judged_list loaded_areas
   import-loaded e b er ep ei eg ea ex eo ef = rw (as-tree, eq-eqb fault 0 e, eq-eqb bad (given_links file) b, er, ep, ei, eg, ea, ex, eo, ef)

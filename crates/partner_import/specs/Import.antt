@@ -1,5 +1,5 @@
 -- A run begun from a partner's list: the order of the tests, and every area afterwards. Areas of values are lent by their bits. Definitions only.
-use Rattle.std.specs.Prelude.{List, Bool, cond, not, ℕ, ◌+◌, ◌*◌, eqb, length}
+use Rattle.std.specs.Prelude.{List, Bool, cond, not, ℕ, ◌+◌, ◌*◌, eqb, length, Result, Ok, Err}
 use Rattle.laws.specs.Loops.{every}
 use Rattle.laws.specs.Area.{num, bits}
 use Rattle.laws.specs.Joined.{pasted}
@@ -11,8 +11,10 @@ use Rattle.run_record.specs.Record.{settings_fault, sizes_of, fresh_run}
 use Rattle.run_entry.specs.Entry.{areas_fit}
 use Rattle.partner.specs.Partner.{first_bad_link, is_partner}
 use Rattle.partner_load.specs.Loaded.{indices_loaded, weights_loaded, offsets_loaded}
-use Rattle.partner_import.specs.declared.Imported.{Imported}
-use Rattle.partner_import.specs.declared.Imported.TheVariants.{Refused, BadRecord, Loaded}
+use Rattle.refusal.specs.Refusal.{refusal_number, refusal_of, number_told}
+use Rattle.run_record.specs.declared.Run.{Run}
+use Rattle.partner_import.specs.declared.ImportFault.{ImportFault}
+use Rattle.partner_import.specs.declared.ImportFault.TheVariants.{Refused, BadRecord}
 use Rattle.partner_import.specs.declared.LentLengths.{LentLengths}
 
 -- ---- the areas that are lent
@@ -82,28 +84,30 @@ loaded_areas s start file l =
 -- ---- the whole call
 
 pub record ImportOutcome : Type 0 where
-  pub answer : Imported
+  pub answer : Result Run ImportFault
   pub areas : Loading
 
-abbrev pub import_outcome : Imported → Loading → ImportOutcome
+abbrev pub import_outcome : Result Run ImportFault → Loading → ImportOutcome
 import_outcome a l = record { answer = a; areas = l }
 
 -- once the tests up to 12 have passed: 19 with the first record at which a rule fails, or the list is loaded
 unfoldable pub judged_list : Settings → List ℕ → List ℕ → Loading → ImportOutcome
 judged_list s start file l =
     cond (is_partner s.n (sizes_of s).links file)
-    (import_outcome (Loaded (fresh_run s)) (loaded_areas s start file l))
-    (import_outcome (BadRecord (first_bad_link s.n (sizes_of s).links file)) l)
+    (import_outcome (Ok (fresh_run s)) (loaded_areas s start file l))
+    (import_outcome (Err (BadRecord (first_bad_link s.n (sizes_of s).links file))) l)
 
 -- refused, nothing is changed and there is no record
 unfoldable pub import_of : Settings → List ℕ → List ℕ → ℕ → Loading → ImportOutcome
 import_of s start file nodes l =
     let t = tree_settings s in
     let k = import_fault t start (lent_lengths l nodes) in
-    cond (eqb k 0) (judged_list t start file l) (import_outcome (Refused k) l)
+    cond (eqb k 0) (judged_list t start file l) (import_outcome (Err (Refused (refusal_of k))) l)
 
 -- the number of a refusal; 0 where there is none
-unfoldable pub import_number : Imported → ℕ
-import_number (Refused k) = k
-import_number (BadRecord p) = 19
-import_number (Loaded r) = 0
+abbrev pub import_fault_number : ImportFault → ℕ
+import_fault_number (Refused r) = refusal_number r
+import_fault_number (BadRecord p) = 19
+
+abbrev pub import_number : Result Run ImportFault → ℕ
+import_number a = number_told import_fault_number a

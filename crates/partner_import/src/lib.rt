@@ -5,30 +5,50 @@
 ghost use Rattle.std.specs.Prelude.{◌≡◌, true, ◌+◌, ◌*◌, ◌≤◌, length};
 ghost use Rattle.laws.specs.Joined.{pasted};
 ghost use Rattle.areas.specs.Filled.{filled};
+ghost use Rattle.refusal.specs.Refusal.{refusal_number, number_told};
 ghost use Rattle.run_record.specs.Record.{GoodSettings, sizes_of};
 ghost use Rattle.partner.specs.Partner.{is_partner};
 ghost use Rattle.partner_load.specs.Loaded.{indices_loaded, weights_loaded, offsets_loaded};
-ghost use Rattle.partner_import.specs.Import.{loading, tree_settings, start_fine, import_fault, one_bits, import_outcome, judged_list, import_of, import_number};
+ghost use Rattle.partner_import.specs.Import.{loading, tree_settings, start_fine, import_fault, one_bits, import_outcome, judged_list, import_of, import_fault_number};
+ghost use Rattle.partner_import.specs.declared.ImportFault.TheVariants.{Refused};
 
-use areas::{copy_words, fill_words};
+use areas::{copy_front, fill};
 use elementary::in_domain;
 use elementary::words::value_of;
 use partner::{first_bad_link, given_links};
-use partner_load::{load_indices, load_offsets, load_weights};
+use partner_load::{load_links, load_offsets};
+use refusal::{Numbered, Refusal};
 use run_entry::{Lengths, areas_fit};
 use run_record::faults::{settings_fault, sizes_of, times};
 use run_record::progress::fresh_run;
 use run_record::{Method, Run, Settings, Sizes};
 
-// What is answered.
-#[derive(Clone, Copy)]
-pub enum Imported {
-    // 1 to 7 and 9 to 12: the number of the first test that failed
-    Refused(u8),
+// Why no run is begun.
+#[derive(Clone, Copy, Debug, PartialEq, Eq)]
+pub enum ImportFault {
+    // 1 to 7 and 9 to 12: the first test that failed
+    Refused(Refusal),
     // 19: the first record at which a rule fails
     BadRecord(usize),
-    // with the record of the run
-    Loaded(Run),
+}
+
+impl From<Refusal> for ImportFault {
+    ghost from_gives = { λ r e. e ≡ Refused r };
+
+    fn from(r: Refusal) -> ImportFault {
+        ImportFault::Refused(r)
+    }
+}
+
+impl Numbered for ImportFault {
+    ghost number_of = { import_fault_number };
+
+    fn number(self) -> u8 {
+        match self {
+            ImportFault::Refused(r) => r.number(),
+            ImportFault::BadRecord(_) => 19,
+        }
+    }
 }
 
 // The lengths of the areas that are lent, and the nodes of the arena.
@@ -42,17 +62,6 @@ pub struct LentLengths {
     pub offsets: usize,
     pub forces: usize,
     pub nodes: usize,
-}
-
-// The number of a refusal; 0 where there is none.
-pub fn number(a: Imported) -> u8
-    ensures { result ≡ import_number a }
-{
-    match a {
-        Imported::Refused(k) => k,
-        Imported::BadRecord(_) => 19,
-        Imported::Loaded(_) => 0,
-    }
 }
 
 // The same settings for a Barnes-Hut run.
@@ -85,20 +94,14 @@ fn start_fine(start: &[u64], m: usize) -> bool
     true
 }
 
-// The number of the first test that fails, 1 to 12; 0: none.
-pub fn import_fault(s: Settings, start: &[u64], l: LentLengths) -> u8
-    ensures { result ≡ import_fault s start.now l }
+// The first test that fails, 1 to 12.
+pub fn import_fault(s: Settings, start: &[u64], l: LentLengths) -> Result<(), Refusal>
+    ensures { number_told refusal_number result ≡ import_fault s start.now l }
 {
-    let k = refusal::number(settings_fault(s));
-    if k != 0 {
-        return k;
-    }
+    settings_fault(s)?;
     let m = times(s.n, s.c);
-    if start.len() != m {
-        return 11;
-    }
-    if !start_fine(start, m) {
-        return 11;
+    if start.len() != m || !start_fine(start, m) {
+        return Err(Refusal::Start);
     }
     let areas = Lengths {
         positions: l.positions,
@@ -107,10 +110,10 @@ pub fn import_fault(s: Settings, start: &[u64], l: LentLengths) -> u8
         affinities: l.affinities,
         forces: l.forces,
     };
-    if areas_fit(s, areas, l.indices, l.offsets, l.nodes) {
-        return 0;
+    if !areas_fit(s, areas, l.indices, l.offsets, l.nodes) {
+        return Err(Refusal::Short);
     }
-    12
+    Ok(())
 }
 
 // Positions, increments, gains and forces as a run begins.
@@ -128,10 +131,10 @@ fn set_out_words(
         × (gains.new ≡ filled one_bits z.cells gains.old)
         × (forces.new ≡ filled 0 z.forces forces.old) }
 {
-    copy_words(positions, start, 0, z.cells);
-    fill_words(increments, z.cells, 0);
-    fill_words(gains, z.cells, 4607182418800017408);
-    fill_words(forces, z.forces, 0);
+    copy_front(positions, start, 0, z.cells);
+    fill(increments, z.cells, 0);
+    fill(gains, z.cells, 1f64.to_bits());
+    fill(forces, z.forces, 0);
 }
 
 // The lists as an accepted file has them.
@@ -147,8 +150,7 @@ fn load_lists(
         × (indices.new ≡ indices_loaded file.now indices.old)
         × (offsets.new ≡ offsets_loaded file.now s.n offsets.old) }
 {
-    load_weights(file, affinities);
-    load_indices(file, indices);
+    load_links(file, indices, affinities);
     load_offsets(file, s.n, offsets);
 }
 
@@ -165,7 +167,7 @@ pub fn import(
     offsets: &mut [u32],
     forces: &mut [u64],
     nodes: usize,
-) -> Imported
+) -> Result<Run, ImportFault>
     ensures { import_outcome result (loading
         positions.new
         increments.new
@@ -198,17 +200,13 @@ pub fn import(
         forces: forces.len(),
         nodes,
     };
-    let k = import_fault(t, start, l);
-    if k != 0 {
-        return Imported::Refused(k);
-    }
+    import_fault(t, start, l)?;
     let z = sizes_of(t);
     let b = first_bad_link(file, t.n, z.links);
     if b != given_links(file) {
-        return Imported::BadRecord(b);
+        return Err(ImportFault::BadRecord(b));
     }
     load_lists(file, t, affinities, indices, offsets);
     set_out_words(z, start, positions, increments, gains, forces);
-    let r = fresh_run(t);
-    Imported::Loaded(r)
+    Ok(fresh_run(t))
 }

@@ -31,8 +31,9 @@ use Rattle.record_words.proofs.Laws.{run_long}
 use Rattle.words_entry.specs.WordsEntry.{words_fault}
 use Rattle.words_entry.proofs.Laws.{words-fine}
 use Rattle.parked.specs.Parked.{stored_of}
-use Rattle.partner_write.specs.declared.ListsWritten.{ListsWritten}
-use Rattle.partner_write.specs.declared.ListsWritten.TheVariants.{Written, NoLists, Short, Bad}
+use Rattle.std.specs.Prelude.{Result, Ok, Err}
+use Rattle.partner_write.specs.declared.ListsFault.{ListsFault}
+use Rattle.partner_write.specs.declared.ListsFault.TheVariants.{NoLists, Short, Bad}
 use Rattle.partner_write.specs.Write.{link_record, link_at, list_records, lists_bytes, lists_into, listing, lists_tested, written_lists, ListsLie, WriteRoom}
 
 -- ---- lists written one after the other
@@ -191,21 +192,21 @@ module _ (w P I G A : List ℕ) (f : ℕ) (xs off : List ℕ) (ns : List Node) w
 -- ---- once they have found f: what is answered in each case
 
 module _ (f : Found) (w W I O t : List ℕ) where
-  pub lists-bad : (b : Fault) → f ≡ Err b → listing (Bad b) t ≡ lists_tested f w W I O t
+  pub lists-bad : (b : Fault) → f ≡ Err b → listing (Err (Bad b)) t ≡ lists_tested f w W I O t
   unfolding lists_tested
   lists-bad b e = rw e
 
   module _ (e : is_fine f ≡ true) where
-    pub lists-none : (num w 3 ≡ 1 → ⊥) → listing NoLists t ≡ lists_tested f w W I O t
+    pub lists-none : (num w 3 ≡ 1 → ⊥) → listing (Err NoLists) t ≡ lists_tested f w W I O t
     unfolding lists_tested
     lists-none n = rw (found-none f e, ne_eqb (num w 3) 1 n)
 
     module _ (m : num w 3 ≡ 1) where
-      pub lists-short : length t < 16 * num O (num w 0) → listing Short t ≡ lists_tested f w W I O t
+      pub lists-short : length t < 16 * num O (num w 0) → listing (Err Short) t ≡ lists_tested f w W I O t
       unfolding lists_tested
       lists-short h = rw (found-none f e, eq-eqb (num w 3) 1 m, lt-ltb (length t) (16 * num O (num w 0)) h)
 
-      pub lists-told : 16 * num O (num w 0) ≤ length t → (t' : List ℕ) → t' ≡ lists_into (num w 0) W I O t → listing (Written (num O (num w 0))) t' ≡ lists_tested f w W I O t
+      pub lists-told : 16 * num O (num w 0) ≤ length t → (t' : List ℕ) → t' ≡ lists_into (num w 0) W I O t → listing (Ok (num O (num w 0))) t' ≡ lists_tested f w W I O t
       unfolding lists_tested
       lists-told h t' q = rw (found-none f e, eq-eqb (num w 3) 1 m, le-ltb (length t) (16 * num O (num w 0)) h, q)
 
@@ -219,6 +220,6 @@ module _ (w P I G A xs off : List ℕ) (f : ℕ) (cs : List Cell) (p i g a : ℕ
   pub write-asks : is_fine t ≡ true → WriteRoom w A xs off
   write-asks e = write-room w P I G A f xs off (nodes_of cs) (subst (λ (x : Found). is_fine x ≡ true) fault-is e)
 
-  pub write-said : (x : ListsWritten) (b₀ b : List ℕ) → listing x b ≡ lists_tested t w A xs off b₀ → listing x b ≡ written_lists (stored_of w P I G A xs off) f (nodes_of cs) b₀
+  pub write-said : (x : Result ℕ ListsFault) (b₀ b : List ℕ) → listing x b ≡ lists_tested t w A xs off b₀ → listing x b ≡ written_lists (stored_of w P I G A xs off) f (nodes_of cs) b₀
   unfolding written_lists
   write-said x b₀ b e = e ∙ ap (λ (y : Found). lists_tested y w A xs off b₀) fault-is

@@ -1,5 +1,5 @@
 -- The neighbour lists of a Barnes-Hut run as records for a partner: the order of the tests, and what is written. Definitions only.
-use Rattle.std.specs.Prelude.{List, ◌++◌, ◌≡◌, cond, not, ℕ, ◌+◌, ◌-◌, ◌*◌, ◌<◌, ◌≤◌, eqb, ltb, length, drop}
+use Rattle.std.specs.Prelude.{List, ◌++◌, ◌≡◌, cond, not, ℕ, ◌+◌, ◌-◌, ◌*◌, ◌<◌, ◌≤◌, eqb, ltb, length, drop, Result, Ok, Err}
 use Rattle.laws.specs.Area.{num}
 use Rattle.laws.specs.Joined.{joined}
 use Rattle.little.specs.Little.{little_bytes}
@@ -7,8 +7,9 @@ use Rattle.tree_node.specs.declared.Node.{Node}
 use Rattle.run_entry.specs.Entry.{Found, by_tests, fault_number}
 use Rattle.words_entry.specs.WordsEntry.{words_fault}
 use Rattle.parked.specs.Parked.{Stored}
-use Rattle.partner_write.specs.declared.ListsWritten.{ListsWritten}
-use Rattle.partner_write.specs.declared.ListsWritten.TheVariants.{Written, NoLists, Short, Bad}
+use Rattle.refusal.specs.Refusal.{number_told}
+use Rattle.partner_write.specs.declared.ListsFault.{ListsFault}
+use Rattle.partner_write.specs.declared.ListsFault.TheVariants.{NoLists, Short, Bad}
 
 -- ---- the records: W are the weights by their bits, I the frames that links name, O the offsets at which lists begin
 
@@ -36,10 +37,10 @@ lists_into n W I O t = lists_bytes n W I O ++ drop (16 * num O n) t
 
 -- what is answered, and the target afterwards
 pub record Listing : Type 0 where
-  pub answer : ListsWritten
+  pub answer : Result ℕ ListsFault
   pub target : List ℕ
 
-abbrev pub listing : ListsWritten → List ℕ → Listing
+abbrev pub listing : Result ℕ ListsFault → List ℕ → Listing
 listing a t = record { answer = a; target = t }
 
 -- once the entry tests have found f: 17 for an exact run, 12 for a target below 16 bytes a link. w are the record's words
@@ -47,10 +48,10 @@ unfoldable pub lists_tested : Found → List ℕ → List ℕ → List ℕ → L
 lists_tested f w W I O t =
     let n = num w 0 in
     by_tests f
-    (cond (not (eqb (num w 3) 1)) (listing NoLists t)
-    (cond (ltb (length t) (16 * num O n)) (listing Short t)
-    (listing (Written (num O n)) (lists_into n W I O t))))
-    (λ b. listing (Bad b) t)
+    (cond (not (eqb (num w 3) 1)) (listing (Err NoLists) t)
+    (cond (ltb (length t) (16 * num O n)) (listing (Err Short) t)
+    (listing (Ok (num O n)) (lists_into n W I O t))))
+    (λ b. listing (Err (Bad b)) t)
 
 -- the lists of the run in d with so many forces and these nodes, written to t
 unfoldable pub written_lists : Stored → ℕ → List Node → List ℕ → Listing
@@ -59,11 +60,13 @@ written_lists d forces ns t = lists_tested
     d.run d.affinities d.indices d.offsets t
 
 -- the number of a refusal; 0 where there is none
-unfoldable pub lists_number : ListsWritten → ℕ
-lists_number (Written k) = 0
-lists_number NoLists = 17
-lists_number Short = 12
-lists_number (Bad f) = fault_number f
+abbrev pub lists_fault_number : ListsFault → ℕ
+lists_fault_number NoLists = 17
+lists_fault_number Short = 12
+lists_fault_number (Bad f) = fault_number f
+
+abbrev pub lists_number : Result ℕ ListsFault → ℕ
+lists_number a = number_told lists_fault_number a
 
 -- ---- what the entry tests have shown
 

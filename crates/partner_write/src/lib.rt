@@ -8,7 +8,7 @@ ghost use Rattle.laws.specs.Joined.{joined, written};
 ghost use Rattle.tree_node.specs.Arena.{nodes_of};
 ghost use Rattle.run_entry.specs.Entry.{is_fine};
 ghost use Rattle.parked.specs.Parked.{stored_of};
-ghost use Rattle.partner_write.specs.Write.{link_record, link_at, lists_into, listing, lists_tested, written_lists, lists_number, ListsLie, WriteRoom};
+ghost use Rattle.partner_write.specs.Write.{link_record, link_at, lists_into, listing, lists_tested, written_lists, lists_fault_number, ListsLie, WriteRoom};
 
 use little::{put_half_word, put_word};
 use refusal::Numbered;
@@ -16,17 +16,27 @@ use run_entry::{Fault, Lengths};
 use tree_node::Cell;
 use words_entry::words_fault;
 
-// What is answered.
-#[derive(Clone, Copy)]
-pub enum ListsWritten {
-    // so many records
-    Written(usize),
+// Why no lists are written.
+#[derive(Clone, Copy, Debug, PartialEq, Eq)]
+pub enum ListsFault {
     // 17: an exact run has no lists
     NoLists,
     // 12: the target is below the records needed
     Short,
     // what the entry tests found
     Bad(Fault),
+}
+
+impl Numbered for ListsFault {
+    ghost number_of = { lists_fault_number };
+
+    fn number(self) -> u8 {
+        match self {
+            ListsFault::NoLists => 17,
+            ListsFault::Short => 12,
+            ListsFault::Bad(f) => f.number(),
+        }
+    }
 }
 
 // Writes a record from byte a on.
@@ -63,7 +73,7 @@ fn put_lists(target: &mut [u8], weights: &[u64], indices: &[u32], offsets: &[u32
     }
 }
 
-// Once the entry tests have found a fault or none: refuses, or writes the records.
+// Once the entry tests have found a fault or none: refuses, or writes the records and tells how many.
 fn write_tested(
     fault: Result<(), Fault>,
     words: &[u64],
@@ -71,26 +81,26 @@ fn write_tested(
     indices: &[u32],
     offsets: &[u32],
     target: &mut [u8],
-) -> ListsWritten
+) -> Result<usize, ListsFault>
     requires { is_fine fault ≡ true → WriteRoom words.now affinities.now indices.now offsets.now }
     ensures { listing result target.new ≡ lists_tested fault words.now affinities.now indices.now offsets.now target.old }
 {
     if let Err(f) = fault {
-        return ListsWritten::Bad(f);
+        return Err(ListsFault::Bad(f));
     }
     if words[3] != 1 {
-        return ListsWritten::NoLists;
+        return Err(ListsFault::NoLists);
     }
     let n = words[0] as usize;
     let links = offsets[n] as usize;
     if target.len() < 16 * links {
-        return ListsWritten::Short;
+        return Err(ListsFault::Short);
     }
     put_lists(target, affinities, indices, offsets, n);
-    ListsWritten::Written(links)
+    Ok(links)
 }
 
-// The lists of the run, with any words and any areas, written to the target.
+// The lists of the run, with any words and any areas, written to the target, and how many records that takes.
 pub fn write_lists(
     words: &[u64],
     positions: &[u64],
@@ -102,7 +112,7 @@ pub fn write_lists(
     forces: usize,
     cells: &[Cell],
     target: &mut [u8],
-) -> ListsWritten
+) -> Result<usize, ListsFault>
     ensures { listing result target.new ≡ written_lists (stored_of words.now positions.now increments.now gains.now affinities.now indices.now offsets.now) forces (nodes_of cells.now) target.old }
 {
     let l = Lengths {
@@ -115,16 +125,4 @@ pub fn write_lists(
     let t = words_fault(words, l, indices, offsets, cells);
     let a = write_tested(t, words, affinities, indices, offsets, target);
     a
-}
-
-// The number of a refusal; 0: it is none.
-pub fn number(a: ListsWritten) -> u8
-    ensures { result ≡ lists_number a }
-{
-    match a {
-        ListsWritten::Written(_) => 0,
-        ListsWritten::NoLists => 17,
-        ListsWritten::Short => 12,
-        ListsWritten::Bad(f) => f.number(),
-    }
 }

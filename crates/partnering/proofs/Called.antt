@@ -22,10 +22,9 @@ use Rattle.words_entry.specs.WordsEntry.{words_fault}
 use Rattle.parked.specs.Parked.{Stored, stored_of}
 use Rattle.partner.specs.Rules.{PartnerRules}
 use Rattle.partner.proofs.Accepted.{accepted-rules, rules-accepted}
-use Rattle.partner_import.specs.declared.Imported.TheVariants.{Loaded}
+use Rattle.std.specs.Prelude.{Ok}
 use Rattle.partner_import.specs.Import.{Loading, lent_lengths, tree_settings, import_fault, judged_list, import_of}
 use Rattle.partner_import.proofs.Laws.{let-in}
-use Rattle.partner_write.specs.declared.ListsWritten.TheVariants.{Written}
 use Rattle.partner_write.specs.Write.{listing, lists_into, lists_tested, written_lists, lists_number}
 use Rattle.desk_lists.specs.HostLists.{host_lists}
 use Rattle.partnering.specs.Begun.{state_loaded}
@@ -37,10 +36,10 @@ module _ (s : Settings) (start file : List ℕ) (nodes : ℕ) (l : Loading) wher
   abbrev t : Settings
   t = tree_settings s
 
-  pub loaded-meets-the-rules : (r : Run) → (import_of s start file nodes l).answer ≡ Loaded r → PartnerRules t.n (sizes_of t).links file
+  pub loaded-meets-the-rules : (r : Run) → (import_of s start file nodes l).answer ≡ Ok r → PartnerRules t.n (sizes_of t).links file
   loaded-meets-the-rules r a = let i = imports s start file nodes l r a in accepted-rules t.n (sizes_of t).links file i.accepted (omega (arith, i.let_through.good.n-most))
 
-  pub what-meets-the-rules-is-loaded : import_fault t start (lent_lengths l nodes) ≡ 0 → PartnerRules t.n (sizes_of t).links file → (import_of s start file nodes l).answer ≡ Loaded (fresh_run t)
+  pub what-meets-the-rules-is-loaded : import_fault t start (lent_lengths l nodes) ≡ 0 → PartnerRules t.n (sizes_of t).links file → (import_of s start file nodes l).answer ≡ Ok (fresh_run t)
   unfolding import_of judged_list
   what-meets-the-rules-is-loaded e R =
       let p = let-in t start (lent_lengths l nodes) e in
@@ -62,7 +61,7 @@ module _ (w : List ℕ) (l : Loading) (ns : List Node) where
 
   -- n frames of a Barnes-Hut run, a target of 16 bytes a link
   pub good-lists-are-written : (t : List ℕ) → run_fine w ≡ true → num w 3 ≡ 1 → Good (state_loaded (run_of w) l ns) → 16 * num l.offsets (num w 0) ≤ length t
-      → written_lists stored (length l.forces) ns t ≡ listing (Written (num l.offsets (num w 0))) (lists_into (num w 0) l.affinities l.indices l.offsets t)
+      → written_lists stored (length l.forces) ns t ≡ listing (Ok (num l.offsets (num w 0))) (lists_into (num w 0) l.affinities l.indices l.offsets t)
   unfolding written_lists lists_tested
   good-lists-are-written t f m g h = rw (entry-passes f g, eq-eqb (num w 3) 1 m, le-ltb (length t) (16 * num l.offsets (num w 0)) h)
 

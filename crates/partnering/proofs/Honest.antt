@@ -20,7 +20,10 @@ use Rattle.run_record.proofs.Laws.{per-some}
 use Rattle.run_entry.specs.State.{State}
 use Rattle.run_entry.specs.Entry.{GoodAreas, Good}
 use Rattle.partner.specs.Partner.{first_bad_link, is_partner}
-use Rattle.partner_import.specs.declared.Imported.TheVariants.{Refused, BadRecord, Loaded}
+use Rattle.std.specs.Prelude.{Result, Ok, Err}
+use Rattle.refusal.specs.Refusal.{refusal_of}
+use Rattle.partner_import.specs.declared.ImportFault.{ImportFault}
+use Rattle.partner_import.specs.declared.ImportFault.TheVariants.{Refused, BadRecord}
 use Rattle.partner_import.specs.Import.{Loading, lent_lengths, tree_settings, import_fault, one_bits, loaded_areas, judged_list, import_of, import_number}
 use Rattle.partner_import.proofs.Laws.{LetIn, let-in, list-room, links-in-number}
 use Rattle.descent.specs.Descent.{work, work_number, is_last, whole_units, works}
@@ -42,7 +45,7 @@ module _ (s : Settings) (start file : List ℕ) (nodes : ℕ) (l : Loading) wher
     pub run_is : r ≡ fresh_run t
     pub areas-are : (import_of s start file nodes l).areas ≡ loaded_areas t start file l
 
-  pub imports : (r : Run) → (import_of s start file nodes l).answer ≡ Loaded r → Imports r
+  pub imports : (r : Run) → (import_of s start file nodes l).answer ≡ Ok r → Imports r
   unfolding import_of judged_list
   imports r a =
       let k = import_fault t start (lent_lengths l nodes) in
@@ -50,11 +53,11 @@ module _ (s : Settings) (start file : List ℕ) (nodes : ℕ) (l : Loading) wher
       let b = first_bad_link t.n (sizes_of t).links file in
       by_bool (Imports r) (eqb k 0)
       (λ e. by_bool (Imports r) P
-      (λ p. let q : Loaded (fresh_run t) ≡ Loaded r = rw (e, p) at a in
+      (λ p. let q : ◌≡◌ {A = Result Run ImportFault} (Ok (fresh_run t)) (Ok r) = rw (e, p) at a in
       let same : r ≡ fresh_run t = cc in
       record { let_through = let-in t start (lent_lengths l nodes) (eqb-true k 0 e); accepted = p; run_is = same; areas-are = rw (e, p) })
-      (λ p. absurd (let q : BadRecord b ≡ Loaded r = rw (e, p) at a in let z : ◌≡◌ {A = ℕ} 0 1 = cc in omega arith)))
-      (λ e. absurd (let q : Refused k ≡ Loaded r = rw e at a in let z : ◌≡◌ {A = ℕ} 0 1 = cc in omega arith))
+      (λ p. absurd (let q : ◌≡◌ {A = Result Run ImportFault} (Err (BadRecord b)) (Ok r) = rw (e, p) at a in let z : ◌≡◌ {A = ℕ} 0 1 = cc in omega arith)))
+      (λ e. absurd (let q : ◌≡◌ {A = Result Run ImportFault} (Err (Refused (refusal_of k))) (Ok r) = rw e at a in let z : ◌≡◌ {A = ℕ} 0 1 = cc in omega arith))
 
   -- ---- the state
 
@@ -106,7 +109,7 @@ module _ (s : Settings) (start file : List ℕ) (nodes : ℕ) (l : Loading) wher
 
   -- ---- WHAT IS LOADED IS HONEST
 
-  module _ (r : Run) (a : (import_of s start file nodes l).answer ≡ Loaded r) (ns : List Node) (some : 1 ≤ length ns) where
+  module _ (r : Run) (a : (import_of s start file nodes l).answer ≡ Ok r) (ns : List Node) (some : 1 ≤ length ns) where
     -- record and areas as the import leaves them
     abbrev pub imported_state : State
     imported_state = state_loaded r (import_of s start file nodes l).areas ns
@@ -132,7 +135,7 @@ module _ (s : Settings) (start file : List ℕ) (nodes : ℕ) (l : Loading) wher
 
   -- ---- A REFUSAL CHANGES NOTHING
   pub refused-import-changes-nothing : (import_number (import_of s start file nodes l).answer ≡ 0 → ⊥) → (import_of s start file nodes l).areas ≡ l
-  unfolding import_of judged_list import_number
+  unfolding import_of judged_list
   refused-import-changes-nothing n =
       let k = import_fault t start (lent_lengths l nodes) in
       let P = is_partner t.n (sizes_of t).links file in

@@ -14,8 +14,11 @@ use Rattle.run_record.specs.Record.{sizes_of, fresh_run}
 use Rattle.record_words.specs.RecordWords.{settings_of, run_of, run_put}
 use Rattle.record_words.proofs.Roundtrip.{Sayable, run-back, read-sayable}
 use Rattle.partner.specs.Partner.{whole_links, is_partner}
-use Rattle.partner_import.specs.declared.Imported.{Imported}
-use Rattle.partner_import.specs.declared.Imported.TheVariants.{Loaded}
+use Rattle.std.specs.Prelude.{Result, Ok}
+use Rattle.refusal.specs.Refusal.{refusal_of}
+use Rattle.run_record.specs.declared.Run.{Run}
+use Rattle.refusal.proofs.Numbers.{refusal-some}
+use Rattle.partner_import.specs.declared.ImportFault.{ImportFault}
 use Rattle.partner_import.specs.Import.{Loading, lent_lengths, tree_settings, import_fault, judged_list, import_of, import_number}
 use Rattle.desk_import.specs.HostImport.{HostImported, record_imported, imported_in, host_import}
 use Rattle.descent.specs.Honest.{Honest}
@@ -47,7 +50,7 @@ module _ (s start file w : List ℕ) (l : Loading) (nodes : ℕ) (a : List ℕ) 
 
   -- where the number is 0, every test has passed
   all-passed : answered.number ≡ 0 → AllPassed
-  unfolding host_import import_of judged_list import_number
+  unfolding host_import import_of judged_list
   all-passed = by_bool (answered.number ≡ 0 → AllPassed) (eqb (length a) 0)
       (λ m. rw m (λ q. absurd (let x : ◌≡◌ {A = ℕ} 12 0 = q in omega arith)))
       (λ m. by_bool (answered.number ≡ 0 → AllPassed) (ltb (length s) 9)
@@ -59,10 +62,10 @@ module _ (s start file w : List ℕ) (l : Loading) (nodes : ℕ) (a : List ℕ) 
       (λ z. by_bool (answered.number ≡ 0 → AllPassed) accepted
       (λ p q. record { told = m; nine = n; long = o; none = z; good = p })
       (λ p. rw (m, n, o, z, p) (λ q. absurd (let x : ◌≡◌ {A = ℕ} 19 0 = q in omega arith))))
-      (λ z. rw (m, n, o, z) (λ q. absurd (not_none fault z q))))))
+      (λ z. rw (m, n, o, z) (λ q. absurd (refusal-some (refusal_of fault) q))))))
 
   module _ (ready : answered.number ≡ 0) (ns : List Node) (some : 1 ≤ length ns) where
-    answer-is : (import_of (settings_of s) start file nodes l).answer ≡ Loaded (fresh_run t)
+    answer-is : (import_of (settings_of s) start file nodes l).answer ≡ Ok (fresh_run t)
     unfolding import_of judged_list
     answer-is = let p = all-passed ready in rw (p.none, p.good)
 
@@ -71,7 +74,7 @@ module _ (s start file w : List ℕ) (l : Loading) (nodes : ℕ) (a : List ℕ) 
     imported-is = let p = all-passed ready in rw (p.told, p.nine, p.long)
 
     run_is : answered.run ≡ run_put (fresh_run t) w
-    run_is = ap (λ (x : HostImported). x.run) imported-is ∙ ap (λ (p : Imported). record_imported p w) answer-is
+    run_is = ap (λ (x : HostImported). x.run) imported-is ∙ ap (λ (p : Result Run ImportFault). record_imported p w) answer-is
 
     sayable : Sayable t
     sayable = let v = read-sayable s in record { perplexity = v.perplexity; rate = v.rate; angle = v.angle; minimum = v.minimum }
@@ -86,7 +89,7 @@ module _ (s start file w : List ℕ) (l : Loading) (nodes : ℕ) (a : List ℕ) 
 
   -- ---- A REFUSAL CHANGES NEITHER RECORD NOR AREAS
   pub host-refused-import-changes-nothing : (answered.number ≡ 0 → ⊥) → (answered.run ≡ w) × (answered.areas ≡ l)
-  unfolding host_import import_of judged_list import_number
+  unfolding host_import import_of judged_list
   host-refused-import-changes-nothing = by_bool Kept (eqb (length a) 0)
       (λ m. rw m (λ q. (refl, refl)))
       (λ m. by_bool Kept (ltb (length s) 9)

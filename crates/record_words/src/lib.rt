@@ -8,6 +8,8 @@ ghost use Rattle.record_words.specs.RecordWords.{method_of, method_word, setting
 use elementary::words::{bits_of, value_of};
 use run_record::{Method, Run, Settings, Standing};
 
+pub mod told;
+
 pub fn method_of(w: u64) -> Method
     ensures { result ≡ method_of w }
 {

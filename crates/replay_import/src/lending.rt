@@ -4,7 +4,7 @@ ghost use Rattle.tree_node.specs.Arena.{nodes_of};
 ghost use Rattle.parked.specs.Parked.{stored_of};
 ghost use Rattle.partner_write.specs.Write.{listing, written_lists};
 
-use partner_write::ListsWritten;
+use partner_write::ListsFault;
 use tree_node::Cell;
 
 // The call that is lent the first k cells.
@@ -20,7 +20,7 @@ pub(crate) fn lists_in(
     cells: [Cell; 4],
     k: usize,
     target: &mut [u8],
-) -> ListsWritten
+) -> Result<usize, ListsFault>
     requires { k ≤ 4 }
     ensures { listing result target.new
         ≡ written_lists (stored_of

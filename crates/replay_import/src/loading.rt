@@ -3,7 +3,7 @@ ghost use Rattle.std.specs.Prelude.{◌≤◌, length};
 
 use crate::lending::lists_in;
 use desk_import::host_import;
-use partner_write::ListsWritten;
+use partner_write::ListsFault;
 use replay::areas::plus;
 use replay::word_at;
 use replay_areas::bytes::{bytes_at, marked_target, same_file, words_of};
@@ -59,12 +59,10 @@ fn load(
 }
 
 // Whether so many records were written.
-fn wrote(a: ListsWritten, records: u64) -> bool {
+fn wrote(a: Result<usize, ListsFault>, records: u64) -> bool {
     match a {
-        ListsWritten::Written(k) => k as u64 == records,
-        ListsWritten::NoLists => false,
-        ListsWritten::Short => false,
-        ListsWritten::Bad(_) => false,
+        Ok(k) => k as u64 == records,
+        Err(_) => false,
     }
 }
 

@@ -3,7 +3,7 @@ ghost use Rattle.std.specs.Prelude.{◌≤◌};
 
 use crate::lending::lists_in;
 use fault_words::fault_value;
-use partner_write::ListsWritten;
+use partner_write::ListsFault;
 use replay::areas::plus;
 use replay::word_at;
 use replay_areas::bytes::{marked_target, same_target, still_marked, words_of};
@@ -12,19 +12,18 @@ use replay_areas::values::{numbers_at, record_at, values_at};
 use replay_areas::{both, empty_cells};
 
 // What comes with the number: the records, or what is told of a fault.
-fn value(a: ListsWritten) -> u64 {
+fn value(a: Result<usize, ListsFault>) -> u64 {
     match a {
-        ListsWritten::Written(k) => k as u64,
-        ListsWritten::NoLists => 0,
-        ListsWritten::Short => 0,
-        ListsWritten::Bad(f) => fault_value(f),
+        Ok(k) => k as u64,
+        Err(ListsFault::Bad(f)) => fault_value(f),
+        Err(ListsFault::NoLists | ListsFault::Short) => 0,
     }
 }
 
 // Number and value are the words from i on.
-fn same_told(a: ListsWritten, list: &[u8], i: usize) -> bool {
+fn same_told(a: Result<usize, ListsFault>, list: &[u8], i: usize) -> bool {
     both(
-        partner_write::number(a) as u64 == word_at(list, i),
+        refusal::number(a) as u64 == word_at(list, i),
         value(a) == word_at(list, plus(i, 1)),
     )
 }
@@ -32,7 +31,7 @@ fn same_told(a: ListsWritten, list: &[u8], i: usize) -> bool {
 // What a call leaves: its answer, and the target.
 #[derive(Clone, Copy)]
 struct Left {
-    answer: ListsWritten,
+    answer: Result<usize, ListsFault>,
     target: [u8; 1408],
 }
 

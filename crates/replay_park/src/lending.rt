@@ -4,7 +4,7 @@ ghost use Rattle.tree_node.specs.Arena.{nodes_of};
 ghost use Rattle.parked.specs.Parked.{stored_of};
 ghost use Rattle.park.specs.Park.{parking, park_of};
 
-use park::Parked;
+use park::ParkFault;
 use tree_node::Cell;
 
 // The call that is lent the first k cells.
@@ -20,7 +20,7 @@ pub(crate) fn park_in(
     cells: [Cell; 4],
     k: usize,
     target: &mut [u8],
-) -> Parked
+) -> Result<usize, ParkFault>
     requires { k ≤ 4 }
     ensures { parking result target.new
         ≡ park_of (stored_of

@@ -3,7 +3,7 @@ ghost use Rattle.std.specs.Prelude.{◌≤◌, length};
 
 use crate::forces::{marked_forces, same_forces};
 use crate::lending::park_in;
-use park::Parked;
+use park::ParkFault;
 use replay::areas::plus;
 use replay::word_at;
 use replay_areas::bytes::{bytes_at, marked_target, same_file, words_of};
@@ -11,25 +11,21 @@ use replay_areas::lengths::{length_at, lengths_at};
 use replay_areas::values::{marked_numbers, marked_record, marked_values};
 use replay_areas::wanted::{Wants, same_lists, same_state, wanted};
 use replay_areas::{both, empty_cells};
-use unpark::Unparked;
+use refusal::Unreadable;
 
 // What comes with the number: the records, or the place.
-fn value(a: Unparked) -> u64 {
+fn value(a: Result<usize, Unreadable>) -> u64 {
     match a {
-        Unparked::Read(k) => k as u64,
-        Unparked::Bad(k) => k as u64,
-        Unparked::Short => 0,
+        Ok(k) | Err(Unreadable::Bad(k)) => k as u64,
+        Err(Unreadable::Short) => 0,
     }
 }
 
 // Whether so many records were written.
-fn wrote(a: Parked, records: u64) -> bool {
+fn wrote(a: Result<usize, ParkFault>, records: u64) -> bool {
     match a {
-        Parked::Written(k) => k as u64 == records,
-        Parked::Inside => false,
-        Parked::Barred => false,
-        Parked::Short => false,
-        Parked::Bad(_) => false,
+        Ok(k) => k as u64 == records,
+        Err(_) => false,
     }
 }
 
@@ -93,7 +89,7 @@ fn read_back(
     let a = unpark::unpark(
         file, words, positions, increments, gains, affinities, indices, offsets, forces, nodes,
     );
-    let number = unpark::number(a) as u64;
+    let number = refusal::number(a) as u64;
     let value = value(a);
     if number != 0 {
         return Told {

@@ -3,7 +3,7 @@ ghost use Rattle.std.specs.Prelude.{◌≤◌};
 
 use crate::lending::park_in;
 use fault_words::fault_value;
-use park::Parked;
+use park::ParkFault;
 use replay::areas::plus;
 use replay::word_at;
 use replay_areas::bytes::{marked_target, same_target, still_marked, words_of};
@@ -12,20 +12,18 @@ use replay_areas::values::{numbers_at, record_at, values_at};
 use replay_areas::{both, empty_cells};
 
 // What comes with the number: the records, or what is told of a fault.
-fn value(a: Parked) -> u64 {
+fn value(a: Result<usize, ParkFault>) -> u64 {
     match a {
-        Parked::Written(k) => k as u64,
-        Parked::Inside => 0,
-        Parked::Barred => 0,
-        Parked::Short => 0,
-        Parked::Bad(f) => fault_value(f),
+        Ok(k) => k as u64,
+        Err(ParkFault::Bad(f)) => fault_value(f),
+        Err(ParkFault::Inside | ParkFault::Barred | ParkFault::Short) => 0,
     }
 }
 
 // Number and value are the words from i on.
-fn same_told(a: Parked, list: &[u8], i: usize) -> bool {
+fn same_told(a: Result<usize, ParkFault>, list: &[u8], i: usize) -> bool {
     both(
-        park::number(a) as u64 == word_at(list, i),
+        refusal::number(a) as u64 == word_at(list, i),
         value(a) == word_at(list, plus(i, 1)),
     )
 }
@@ -33,7 +31,7 @@ fn same_told(a: Parked, list: &[u8], i: usize) -> bool {
 // What a call leaves: its answer, and the target.
 #[derive(Clone, Copy)]
 struct Left {
-    answer: Parked,
+    answer: Result<usize, ParkFault>,
     target: [u8; 1408],
 }
 

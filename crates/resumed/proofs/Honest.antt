@@ -13,7 +13,7 @@ use Rattle.tree_node.specs.declared.Node.{Node}
 use Rattle.run_record.specs.Record.{is_tree, sizes_of}
 use Rattle.record_words.specs.RecordWords.{run_of, settings_of}
 use Rattle.parked.specs.Parked.{Stored}
-use Rattle.unpark.specs.declared.Unparked.TheVariants.{Read}
+use Rattle.std.specs.Prelude.{Ok}
 use Rattle.unpark.specs.Unpark.{record_read, settings_read, stored_read, unpark_of}
 use Rattle.parking.specs.Held.{state_in}
 use Rattle.parking.proofs.Files.{parked-fine}
@@ -33,7 +33,7 @@ module _ (f : List ℕ) (d : Stored) (F : List Float) (nodes k : ℕ) where
       record { good = read-good (word_in f) A d (length F) nodes r.room Z ns z n; grown = λ t p. absurd (p (read_between (word_in f) A d)) }
 
   -- What is read is honest: with the forces, which reading has cleared, and any nodes, of a Barnes-Hut run at least one.
-  pub what-is-read-is-honest : (unpark_of f d F nodes).answer ≡ Read k → (ns : List Node) → (is_tree (settings_read (word_in f)).method ≡ true → 1 ≤ length ns) →
+  pub what-is-read-is-honest : (unpark_of f d F nodes).answer ≡ Ok k → (ns : List Node) → (is_tree (settings_read (word_in f)).method ≡ true → 1 ≤ length ns) →
       Honest (state_in (unpark_of f d F nodes).left (unpark_of f d F nodes).forces ns)
   what-is-read-is-honest a ns n =
       let r = reads f d F nodes k a in

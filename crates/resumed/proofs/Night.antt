@@ -28,7 +28,7 @@ use Rattle.record_words.specs.RecordWords.{run_of, settings_of, method_of}
 use Rattle.record_words.proofs.Laws.{method-tree}
 use Rattle.parked.specs.declared.Layout.{Layout}
 use Rattle.parked.specs.Parked.{Stored, links_in, layout_in}
-use Rattle.unpark.specs.declared.Unparked.TheVariants.{Read}
+use Rattle.std.specs.Prelude.{Ok}
 use Rattle.unpark.specs.Unpark.{settings_read, has_room, Unparking, unparking, unpark_of}
 use Rattle.parking.specs.Held.{state_in}
 use Rattle.parking.specs.Again.{record_again, stored_again}
@@ -146,7 +146,7 @@ module _ (d : Stored) (F : List Float) (ns : List Node) (t : List ℕ) (k : ℕ)
   W : Writes d F ns t
   W = (parks-writes d F ns t k N.written).0
 
-  all_read : morning d F ns t k e F' ns' ≡ unparking (Read k) (stored_again d e) (filled zero64 (sizes_of (settings_of d.run)).forces F')
+  all_read : morning d F ns t k e F' ns' ≡ unparking (Ok k) (stored_again d e) (filled zero64 (sizes_of (settings_of d.run)).forces F')
   all_read = reading-what-was-written d (length F) ns t k N.in_words N.written e F' (length ns') N.words_long N.areas-long
 
   -- What is read is the run that was parked, as `ReadBack` says it.
@@ -159,7 +159,7 @@ module _ (d : Stored) (F : List Float) (ns : List Node) (t : List ℕ) (k : ℕ)
   unfolding has_room
   read-back-honest =
       let f = night_bytes d F ns t k e F' ns' in
-      let a : (unpark_of f e F' (length ns')).answer ≡ Read k = ap (λ (u : Unparking). u.answer) all_read in
+      let a : (unpark_of f e F' (length ns')).answer ≡ Ok k = ap (λ (u : Unparking). u.answer) all_read in
       let s = settings_read (word_in f) in
       let fits = areas_fit s (length e.positions) (length e.increments) (length e.gains) (length e.affinities) (length e.indices) (length e.offsets) (length F') (length ns') in
       let room = and_right (leb 14 (length e.run)) fits (reads f e F' (length ns') k a).room in

@@ -5,7 +5,7 @@ use Rattle.run_entry.specs.State.{State}
 use Rattle.run_entry.specs.Entry.{areas_fit}
 use Rattle.record_words.specs.RecordWords.{settings_of}
 use Rattle.parked.specs.Parked.{Stored}
-use Rattle.park.specs.declared.Parked.TheVariants.{Written}
+use Rattle.std.specs.Prelude.{Ok}
 use Rattle.park.specs.Park.{park_of}
 use Rattle.unpark.specs.Unpark.{Unparking, unpark_of}
 use Rattle.parking.specs.Held.{InWords, state_in, first_records}
@@ -26,7 +26,7 @@ module _ (d : Stored) (forces : List Float) (nodes : List Node) (target : List �
   -- k records are written; a record of fourteen words, areas as a work call on d asks for them, and an arena as long as before are there to read them into
   pub record Night : Type 0 where
     pub in_words : InWords d
-    pub written : (park_of d (length forces) nodes target).answer ≡ Written k
+    pub written : (park_of d (length forces) nodes target).answer ≡ Ok k
     pub words_long : 14 ≤ length e.run
     pub areas-long : areas_fit (settings_of d.run) (length e.positions) (length e.increments) (length e.gains) (length e.affinities)
         (length e.indices) (length e.offsets) (length into) (length arena) ≡ true

@@ -1,4 +1,5 @@
 -- What reading leaves, from what its parts leave. Assumes nothing.
+use Rattle.std.specs.Prelude.{Ok, Err}
 use mathlib.Core.Path.{◌≡◌, refl, sym, ap, ◌∙◌}
 use mathlib.Core.List.{List, ◌++◌}
 use mathlib.Core.Bool.{Bool, true, false}
@@ -18,7 +19,7 @@ use Rattle.parked.specs.declared.Layout.{Layout}
 use Rattle.parked.specs.Parked.{Stored}
 use Rattle.parked.specs.Fine.{layout_by}
 use Rattle.parked_file.specs.declared.Verdict.{Verdict}
-use Rattle.unpark.specs.declared.Unparked.TheVariants.{Read, Bad, Short}
+use Rattle.refusal.specs.declared.Unreadable.TheVariants.{Bad, Short}
 use Rattle.parked_file.specs.File.{is_parked}
 use Rattle.unpark.specs.Unpark.{record_read, settings_read, fetched, weights_read, offsets_read, stored_read, has_room, unparking, unpark_of}
 use Rattle.parked_file.specs.File.{verdict_of}
@@ -62,17 +63,17 @@ pub said : (f : List ℕ) (v : Verdict) → v ≡ verdict_of f → (b : Bool) �
 said f v e b h = sym (ap (λ (y : Verdict). y.parked) e) ∙ h
 
 module _ (f : List ℕ) (d : Stored) (F : List Float) (nodes : ℕ) (v : Verdict) (e : v ≡ verdict_of f) where
-  pub out-bad : v.parked ≡ false → unparking (Bad v.at) d F ≡ unpark_of f d F nodes
+  pub out-bad : v.parked ≡ false → unparking (Err (Bad v.at)) d F ≡ unpark_of f d F nodes
   unfolding unpark_of
   out-bad h = rw (said f v e false h, ap (λ (y : Verdict). y.at) e)
 
-  pub out-short : v.parked ≡ true → has_room (word_in f) d (length F) nodes ≡ false → unparking Short d F ≡ unpark_of f d F nodes
+  pub out-short : v.parked ≡ true → has_room (word_in f) d (length F) nodes ≡ false → unparking (Err Short) d F ≡ unpark_of f d F nodes
   unfolding unpark_of
   out-short h r = rw (said f v e true h, r)
 
   pub out-read : (d' : Stored) (F' : List Float) → v.parked ≡ true → has_room (word_in f) d (length F) nodes ≡ true →
       d' ≡ stored_read (word_in f) d →
       F' ≡ filled zero64 (sizes_of (settings_read (word_in f))).forces F →
-      unparking (Read v.at) d' F' ≡ unpark_of f d F nodes
+      unparking (Ok v.at) d' F' ≡ unpark_of f d F nodes
   unfolding unpark_of
   out-read d' F' h r a b = rw (said f v e true h, r, a, b, ap (λ (y : Verdict). y.at) e ∙ parked-all f (said f v e true h))

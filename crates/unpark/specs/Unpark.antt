@@ -1,5 +1,5 @@
 -- Reading a parked run: the first bad record, the areas, and what they hold afterwards. Definitions only.
-use Rattle.std.specs.Prelude.{List, [], ◌∷◌, ◌++◌, Bool, cond, not, ◌&&◌, ℕ, ◌+◌, ◌*◌, leb, length, drop, Float}
+use Rattle.std.specs.Prelude.{List, [], ◌∷◌, ◌++◌, Bool, cond, not, ◌&&◌, ℕ, ◌+◌, ◌*◌, leb, length, drop, Float, Result, Ok, Err}
 use Rattle.laws.specs.Area.{zero64}
 use Rattle.laws.specs.Joined.{each}
 use Rattle.areas.specs.Filled.{filled}
@@ -12,8 +12,9 @@ use Rattle.parked.specs.declared.Layout.{Layout}
 use Rattle.parked.specs.Parked.{Stored, stored_of}
 use Rattle.parked.specs.Fine.{layout_by}
 use Rattle.parked_file.specs.File.{records_due, first_bad, is_parked}
-use Rattle.unpark.specs.declared.Unparked.{Unparked}
-use Rattle.unpark.specs.declared.Unparked.TheVariants.{Read, Bad, Short}
+use Rattle.refusal.specs.declared.Unreadable.{Unreadable}
+use Rattle.refusal.specs.declared.Unreadable.TheVariants.{Bad, Short}
+use Rattle.refusal.specs.Refusal.{unreadable_number, number_told}
 
 -- ---- what is read, where g w is word w
 
@@ -58,23 +59,21 @@ has_room g d forces nodes =
 
 -- what is answered, and record and areas afterwards
 pub record Unparking : Type 0 where
-  pub answer : Unparked
+  pub answer : Result ℕ Unreadable
   pub left : Stored
   pub forces : List Float
 
-abbrev pub unparking : Unparked → Stored → List Float → Unparking
+abbrev pub unparking : Result ℕ Unreadable → Stored → List Float → Unparking
 unparking a d f = record { answer = a; left = d; forces = f }
 
 -- 16 with the first bad record, then 12; else everything is read, and the forces are zero
 unfoldable pub unpark_of : List ℕ → Stored → List Float → ℕ → Unparking
 unpark_of f d F nodes =
     let g = word_in f in
-    cond (not (is_parked f)) (unparking (Bad (first_bad f)) d F)
-    (cond (not (has_room g d (length F) nodes)) (unparking Short d F)
-    (unparking (Read (records_due f)) (stored_read g d) (filled zero64 (sizes_of (settings_read g)).forces F)))
+    cond (not (is_parked f)) (unparking (Err (Bad (first_bad f))) d F)
+    (cond (not (has_room g d (length F) nodes)) (unparking (Err Short) d F)
+    (unparking (Ok (records_due f)) (stored_read g d) (filled zero64 (sizes_of (settings_read g)).forces F)))
 
 -- the number of a refusal; 0 where there is none
-unfoldable pub unpark_number : Unparked → ℕ
-unpark_number (Read k) = 0
-unpark_number (Bad q) = 16
-unpark_number Short = 12
+abbrev pub unpark_number : Result ℕ Unreadable → ℕ
+unpark_number a = number_told unreadable_number a

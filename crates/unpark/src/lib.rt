@@ -9,40 +9,19 @@ ghost use Rattle.little.specs.Little.{word_in};
 ghost use Rattle.run_record.specs.Record.{sizes_of};
 ghost use Rattle.parked.specs.Parked.{stored_of};
 ghost use Rattle.parked_file.specs.File.{is_parked};
-ghost use Rattle.unpark.specs.Unpark.{settings_read, stored_read, has_room, unparking, unpark_of, unpark_number};
+ghost use Rattle.unpark.specs.Unpark.{settings_read, stored_read, has_room, unparking, unpark_of};
 
 use crate::fetch::{fetch_lists, fetch_state};
 use crate::record::put_record;
 use crate::room::{has_room, settings_read};
 use parked_file::head::layout_read;
 use parked_file::records::judge;
+use refusal::Unreadable;
 use run_record::faults::sizes_of;
 
 mod fetch;
 mod record;
 mod room;
-
-// What is answered.
-#[derive(Clone, Copy)]
-pub enum Unparked {
-    // so many records, all of them
-    Read(usize),
-    // 16: the first record that no run can hold after those before it
-    Bad(usize),
-    // 12: a lent area is too short
-    Short,
-}
-
-// The number of a refusal; 0 where there is none.
-pub fn number(a: Unparked) -> u8
-    ensures { result ≡ unpark_number a }
-{
-    match a {
-        Unparked::Read(_) => 0,
-        Unparked::Bad(_) => 16,
-        Unparked::Short => 12,
-    }
-}
 
 // Record and areas as the file has them; the forces are zero.
 fn read_in(
@@ -88,7 +67,7 @@ fn read_in(
     areas::fill(forces, z.forces, 0.0);
 }
 
-// Reads a parked run: takes any file and any areas. Of the arena it asks only how many nodes it has.
+// Reads a parked run, and tells how many records it has: takes any file and any areas. Of the arena it asks only how many nodes it has.
 pub fn unpark(
     file: &[u8],
     words: &mut [u64],
@@ -100,7 +79,7 @@ pub fn unpark(
     offsets: &mut [u32],
     forces: &mut [f64],
     nodes: usize,
-) -> Unparked
+) -> Result<usize, Unreadable>
     ensures { unparking result (stored_of words.new
         positions.new
         increments.new
@@ -120,7 +99,7 @@ pub fn unpark(
 {
     let v = judge(file);
     if !v.parked {
-        return Unparked::Bad(v.at);
+        return Err(Unreadable::Bad(v.at));
     }
     if !has_room(
         file,
@@ -134,10 +113,10 @@ pub fn unpark(
         forces.len(),
         nodes,
     ) {
-        return Unparked::Short;
+        return Err(Unreadable::Short);
     }
     read_in(
         file, words, positions, increments, gains, affinities, indices, offsets, forces, nodes,
     );
-    Unparked::Read(v.at)
+    Ok(v.at)
 }

@@ -10,14 +10,14 @@ use Rattle.run_record.specs.Record.{is_tree, fresh_run}
 use Rattle.tree_node.specs.declared.Node.{Node}
 use Rattle.run_entry.specs.State.{State}
 use Rattle.descent.specs.Descent.{works, told_all}
-use Rattle.partner_import.specs.declared.Imported.TheVariants.{Loaded}
+use Rattle.std.specs.Prelude.{Ok}
 use Rattle.partner_import.specs.Import.{Loading, import_of}
 use Rattle.partnering.specs.Begun.{state_loaded}
 use Rattle.partnering.proofs.Honest.{imports, what-is-loaded-is-honest}
 use Rattle.worth.specs.Insertions.{insertions_in, Midway, TreeWorth}
 use Rattle.worth.proofs.Reached.{works-worth}
 
-module _ (s : Settings) (start file : List ℕ) (nodes : ℕ) (l : Loading) (r : Run) (answer : (import_of s start file nodes l).answer ≡ Loaded r) (ns : List Node) (some : 1 ≤ length ns) where
+module _ (s : Settings) (start file : List ℕ) (nodes : ℕ) (l : Loading) (r : Run) (answer : (import_of s start file nodes l).answer ≡ Ok r) (ns : List Node) (some : 1 ≤ length ns) where
   abbrev begun_from : State
   begun_from = state_loaded r (import_of s start file nodes l).areas ns
 

@@ -20,7 +20,7 @@ use Rattle.descent.specs.Honest.{Honest}
 use Rattle.prepare.specs.Prepare.{Lent}
 use Rattle.record_words.specs.RecordWords.{settings_of}
 use Rattle.parked.specs.Parked.{Stored}
-use Rattle.unpark.specs.declared.Unparked.TheVariants.{Read}
+use Rattle.std.specs.Prelude.{Ok}
 use Rattle.unpark.specs.Unpark.{settings_read, unpark_of}
 use Rattle.little.specs.Little.{word_in}
 use Rattle.parking.specs.Held.{state_in}
@@ -63,7 +63,7 @@ module _ (s : List ℕ) (table start : List Float) (cs : List Cell) (l : Lent) (
 
 -- ---- a run that was read
 
-module _ (f : List ℕ) (d : Stored) (F : List Float) (nodes k : ℕ) (answer : (unpark_of f d F nodes).answer ≡ Read k) (ns : List Node)
+module _ (f : List ℕ) (d : Stored) (F : List Float) (nodes k : ℕ) (answer : (unpark_of f d F nodes).answer ≡ Ok k) (ns : List Node)
     (some : is_tree (settings_read (word_in f)).method ≡ true → 1 ≤ length ns) where
   abbrev read_state : State
   read_state = state_in (unpark_of f d F nodes).left (unpark_of f d F nodes).forces ns

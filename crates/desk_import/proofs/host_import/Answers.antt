@@ -25,4 +25,4 @@ returns c =
     import-answered _ _ _ _
     (loading c.args.positions.now c.args.increments.now c.args.gains.now c.args.affinities.now
     c.args.indices.now c.args.offsets.now c.args.forces.now) _ _ c.if-answer-eq0.false c.if-settings-lt9.false c.if-record-lt14.false
-    c.settings_of-s.ensures c.import-a.ensures c.put_record_of.ensures c.import_told.ensures c.number.ensures
+    c.settings_of-s.ensures c.import-a.ensures c.put_record_of.ensures c.import_told.ensures c.put_told.ensures

@@ -8,4 +8,4 @@ returns-then-answer-eq0 c =
 
 pub returns : goal.returns
 returns c =
-    unparked-left _ _ _ _ _ c.if-answer-eq0.false _ _ _ c.unpark-u.ensures _ _ c.put_unparked.ensures
+    unparked-left _ _ _ _ _ c.if-answer-eq0.false _ _ _ c.unpark-u.ensures _ _ (rw c.unparked_told.ensures at c.put_told.ensures)

@@ -3,13 +3,9 @@ use Rattle.partner_import.proofs.Laws.{links-in-number, links-in-words, frames-r
 use native.Mathlib.Omega.{arith}
 use Rattle.partner_import.proofs.load_lists.Goals as goal
 
-pub load_weights-requires : goal.load_weights-requires
-load_weights-requires c =
-    omega (arith, links-in-number _ c.requires.0 _ c.requires.1, c.requires.2)
-
-pub load_indices-requires : goal.load_indices-requires
-load_indices-requires c =
-    omega (arith, links-in-number _ c.requires.0 _ c.requires.1, c.requires.3)
+pub load_links-requires : goal.load_links-requires
+load_links-requires c =
+    let k = links-in-number _ c.requires.0 _ c.requires.1 in (omega (arith, k, c.requires.3), omega (arith, k, c.requires.2))
 
 pub load_offsets-requires : goal.load_offsets-requires
 load_offsets-requires c = (
