@@ -1,7 +1,7 @@
 // Areas of a replay: marked, taking the words of a list, and compared with them.
-ghost use Rattle.std.specs.Prelude.{◌≡◌, ◌*◌, ◌≤◌, length, min, ◌==◌, to_bits};
+ghost use Rattle.std.specs.Prelude.{◌≡◌, ◌*◌, ◌≤◌, length, min, replicate, ◌==◌, to_bits};
 ghost use Rattle.std.specs.Float.{binary64};
-ghost use Rattle.laws.specs.Area.{bits};
+ghost use Rattle.laws.specs.Area.{bits, zero64};
 ghost use Rattle.replay.specs.Replay.{word_of};
 ghost use Rattle.replay.specs.Areas.{onward, marked, marked_numbers, words_copied, wanted_at, same_area, same_numbers};
 
@@ -69,6 +69,27 @@ pub fn copy_words(area: &mut [f64], m: usize, list: &[u8], a: usize)
     for i in 0..m {
         area[i] = value_at(list, plus(a, i));
     }
+}
+
+// An area of zeros whose first m places take the words from a on.
+pub fn floats_at<const N: usize>(list: &[u8], a: usize, m: usize) -> [f64; N]
+    requires { m ≤ N }
+    ensures { result ≡ words_copied list.now a m (replicate N zero64) }
+{
+    let mut area = [0.0; N];
+    copy_words(&mut area, m, list, a);
+    area
+}
+
+// The same whose other places hold their marks.
+pub fn ready_at<const N: usize>(list: &[u8], a: usize, m: usize) -> [f64; N]
+    requires { m ≤ N }
+    ensures { result ≡ words_copied list.now a m (marked (replicate N zero64)) }
+{
+    let mut ready = [0.0; N];
+    mark(&mut ready);
+    copy_words(&mut ready, m, list, a);
+    ready
 }
 
 // What place i holds where the first m have the words from a on, and the others their marks.

@@ -1,1 +1,2 @@
 pub mod Whole
+mod Made

@@ -27,34 +27,21 @@ fn byte_at(list: &[u8], a: usize, i: usize) -> u8
 pub fn bytes_at(list: &[u8], a: usize) -> [u8; 1408]
     ensures { result ≡ each (list_byte list.now a) 1408 }
 {
-    let mut bytes = [0u8; 1408];
-    for i in 0..1408 {
-        bytes[i] = byte_at(list, a, i);
-    }
-    bytes
+    std::array::from_fn(|i| byte_at(list, a, i))
 }
 
 // A target before a call: byte i is i mod 251 and one.
 pub fn marked_target() -> [u8; 1408]
     ensures { result ≡ each byte_mark 1408 }
 {
-    let mut bytes = [0u8; 1408];
-    for i in 0..1408 {
-        bytes[i] = (i % 251 + 1) as u8;
-    }
-    bytes
+    std::array::from_fn(|i| (i % 251 + 1) as u8)
 }
 
 // What byte i of a target of m bytes is listed as: zeros follow the last.
 fn listed(target: [u8; 1408], m: usize, i: usize) -> u8
     ensures { result ≡ listed_byte target m i }
 {
-    if i < m {
-        if i < 1408 {
-            return target[i];
-        }
-    }
-    0
+    if i < m && i < 1408 { target[i] } else { 0 }
 }
 
 // The words from a on hold the first m bytes of the target, and nothing else.
@@ -76,10 +63,7 @@ fn keeps_mark(target: [u8; 1408], m: usize, i: usize) -> bool
     requires { i < 1408 }
     ensures { result ≡ (nat_lt i m || num target i == byte_mark i) }
 {
-    if i < m {
-        return true;
-    }
-    target[i] == (i % 251 + 1) as u8
+    i < m || target[i] == (i % 251 + 1) as u8
 }
 
 // Past the first m bytes the target has its marks.

@@ -22,11 +22,7 @@ pub struct Lengths {
 pub fn length_at(list: &[u8], i: usize, most: usize) -> usize
     ensures { result ≤ most }
 {
-    let m = word_at(list, i) as usize;
-    if m > most {
-        return most;
-    }
-    m
+    most.min(word_at(list, i) as usize)
 }
 
 // The eight lengths from word i on.

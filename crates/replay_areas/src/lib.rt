@@ -7,20 +7,10 @@ pub mod lengths;
 pub mod values;
 pub mod wanted;
 
-ghost use Rattle.std.specs.Prelude.{◌≡◌, ◌&&◌, replicate};
+ghost use Rattle.std.specs.Prelude.{◌≡◌, replicate};
 ghost use Rattle.replay_areas.specs.Said.{empty_cell};
 
 use tree_node::Cell;
-
-// Whether both hold.
-pub fn both(a: bool, b: bool) -> bool
-    ensures { result ≡ (a && b) }
-{
-    if a {
-        return b;
-    }
-    false
-}
 
 // Nodes of zeros.
 pub fn empty_cells() -> [Cell; 4]

@@ -1,5 +1,4 @@
 // What a call that fills areas has to leave: the answer's two words, then, where nothing was refused, the record and the areas from positions to offsets.
-use crate::both;
 use crate::lengths::{Lengths, Places, length_at, places_from};
 use crate::values::same_values;
 use replay::areas::{plus, same_numbers};
@@ -70,7 +69,7 @@ pub fn same_state(
     let p = same_values(&positions, l.positions, list, at.positions);
     let q = same_values(&increments, l.increments, list, at.increments);
     let g = same_values(&gains, l.gains, list, at.gains);
-    both(both(record, p), both(q, g))
+    record && p && q && g
 }
 
 // Affinities, indices and offsets.
@@ -86,5 +85,5 @@ pub fn same_lists(
     let v = same_values(&affinities, l.affinities, list, at.affinities);
     let x = same_numbers(&indices, l.indices, list, at.indices);
     let o = same_numbers(&offsets, l.offsets, list, at.offsets);
-    both(both(v, x), o)
+    v && x && o
 }

@@ -2,25 +2,18 @@
 ghost use Rattle.std.specs.Prelude.{◌≤◌};
 
 use desk_blind::host_blind;
-use replay::areas::{copy_words, mark, mark_words, plus, same_area, same_numbers};
+use replay::areas::{floats_at, mark, mark_words, plus, same_area, same_numbers};
 use replay::word_at;
-use replay_areas::both;
 use replay_areas::lengths::length_at;
-use replay_areas::values::{mark_values, same_values, values_at};
+use replay_areas::values::{marked, same_values, values_at};
 
-// Whether the length that word i tells is no more than most.
-fn fits(list: &[u8], i: usize, most: u64) -> bool {
-    word_at(list, i) <= most
-}
-
-// The same of the four rows and the answer, whose lengths are the words from i on.
+// Whether the lengths of the four rows and the answer, which are the words from i on, are no more than there is room for.
 fn rooms_fit(list: &[u8], i: usize) -> bool {
-    let squares = fits(list, i, 32);
-    let values = fits(list, plus(i, 1), 32);
-    let shares = fits(list, plus(i, 2), 32);
-    let places = fits(list, plus(i, 3), 32);
-    let answer = fits(list, plus(i, 4), 4);
-    both(both(squares, values), both(both(shares, places), answer))
+    word_at(list, i) <= 32
+        && word_at(list, plus(i, 1)) <= 32
+        && word_at(list, plus(i, 2)) <= 32
+        && word_at(list, plus(i, 3)) <= 32
+        && word_at(list, plus(i, 4)) <= 4
 }
 
 // How long the four rows and the answer are.
@@ -46,15 +39,6 @@ fn rooms_at(list: &[u8], i: usize) -> Rooms
     }
 }
 
-// So many table values from word a on.
-fn table_at(list: &[u8], a: usize, values: usize) -> [f64; 150]
-    requires { values ≤ 150 }
-{
-    let mut table = [0.0; 150];
-    copy_words(&mut table, values, list, a);
-    table
-}
-
 // Areas of marks.
 fn marked_row() -> [f64; 32] {
     let mut row = [0.0; 32];
@@ -66,12 +50,6 @@ fn marked_places() -> [u32; 32] {
     let mut row = [0u32; 32];
     mark_words(&mut row);
     row
-}
-
-fn marked_answer() -> [u64; 4] {
-    let mut words = [0u64; 4];
-    mark_values(&mut words);
-    words
 }
 
 // What a call leaves: its number, the words of its answer, and the rows.
@@ -91,8 +69,8 @@ fn sighted(list: &[u8], a: usize, words: usize, values: usize, m: Rooms) -> Left
     requires squares_bound { (m.squares ≤ 32) × (m.values ≤ 32) × (m.shares ≤ 32) × (m.places ≤ 32) × (m.answer ≤ 4) }
 {
     let settings = values_at(list, a);
-    let table = table_at(list, plus(plus(a, words), 1), values);
-    let mut answer = marked_answer();
+    let table = floats_at::<150>(list, plus(plus(a, words), 1), values);
+    let mut answer = marked();
     let mut squares = marked_row();
     let mut row_values = marked_row();
     let mut row_shares = marked_row();
@@ -126,14 +104,14 @@ fn same_rows(left: Left, m: Rooms, list: &[u8], i: usize) -> bool {
     let q = same_area(&squares, 0, m.squares, list, i);
     let d = same_area(&values, 0, m.values, list, v);
     let w = same_area(&shares, 0, m.shares, list, h);
-    both(q, both(d, w))
+    q && d && w
 }
 
 // So are all of the indices, up to word `end`.
 fn same_places(left: Left, m: Rooms, list: &[u8], i: usize, end: usize) -> bool {
     let places = left.places;
     let p = same_numbers(&places, m.places, list, i);
-    both(p, plus(i, m.places) == end)
+    p && plus(i, m.places) == end
 }
 
 // Number and answer are the words from i on, and all of the rows those after them.
@@ -145,18 +123,18 @@ fn same_left(left: Left, m: Rooms, list: &[u8], i: usize, end: usize) -> bool {
     let x = plus(plus(plus(r, m.squares), m.values), m.shares);
     let rows = same_rows(left, m, list, r);
     let places = same_places(left, m, list, x, end);
-    both(both(k, told), both(rows, places))
+    k && told && rows && places
 }
 
 // The case from word a on: what is told, and every place of the rows. One that asks for more room than there is, is wrong and not run.
 pub(crate) fn sighted_right(list: &[u8], a: usize) -> bool {
     let s = plus(a, 1);
-    if !fits(list, s, 12) {
+    if word_at(list, s) > 12 {
         return false;
     }
     let words = length_at(list, s, 12);
     let t = plus(plus(a, 2), words);
-    if !fits(list, t, 150) {
+    if word_at(list, t) > 150 {
         return false;
     }
     let values = length_at(list, t, 150);

@@ -7,12 +7,12 @@ use partner_write::ListsFault;
 use replay::areas::plus;
 use replay::word_at;
 use replay_areas::bytes::{bytes_at, marked_target, same_file, words_of};
+use replay_areas::empty_cells;
 use replay_areas::lengths::{length_at, lengths_at};
 use replay_areas::values::{
-    mark_values, marked_numbers, marked_record, marked_values, record_at, same_values, values_at,
+    marked, marked_numbers, marked_record, marked_values, record_at, same_values, values_at,
 };
 use replay_areas::wanted::{Wants, same_lists, same_state, wanted};
-use replay_areas::{both, empty_cells};
 
 // Number and word 0 of an answer.
 #[derive(Clone, Copy)]
@@ -97,7 +97,7 @@ fn same_again(
         nodes,
         &mut target[..m],
     );
-    both(wrote(a, records), same_file(file, target))
+    wrote(a, records) && same_file(file, target)
 }
 
 // What is told of a list: number and value, and whether what was loaded is written as the same bytes.
@@ -147,12 +147,6 @@ fn load_back(
     }
 }
 
-fn marked_forces() -> [u64; 96] {
-    let mut area = [0u64; 96];
-    mark_values(&mut area);
-    area
-}
-
 // Affinities, indices, offsets and forces. The words that the zeros of the forces are held against lie past the list's end.
 fn same_rest(
     list: &[u8],
@@ -162,17 +156,15 @@ fn same_rest(
     offsets: [u32; 48],
     forces: [u64; 96],
 ) -> bool {
-    both(
-        same_lists(list, w, affinities, indices, offsets),
-        same_values(&forces, w.zeros, list, list.len()),
-    )
+    same_lists(list, w, affinities, indices, offsets)
+        && same_values(&forces, w.zeros, list, list.len())
 }
 
 // Number and value are the words from i on, and what was loaded is written as the same bytes.
 fn same_told(t: Told, list: &[u8], i: usize) -> bool {
     let number = t.number == word_at(list, i);
     let value = t.value == word_at(list, plus(i, 1));
-    both(both(number, value), t.again)
+    number && value && t.again
 }
 
 // The case from word a on: what is told, every place of record and areas, and that the case ends with them.
@@ -193,7 +185,7 @@ pub(crate) fn loaded_right(list: &[u8], a: usize) -> bool {
     let mut affinities = marked_values();
     let mut indices = marked_numbers();
     let mut offsets = marked_numbers();
-    let mut forces = marked_forces();
+    let mut forces = marked();
     let t = load_back(
         &settings[..9],
         &start[..m],
@@ -214,5 +206,5 @@ pub(crate) fn loaded_right(list: &[u8], a: usize) -> bool {
     let rest = same_rest(list, w, affinities, indices, offsets, forces);
     let at = w.places;
     let ends = at.end == plus(a, word_at(list, a) as usize);
-    both(both(same_told(t, list, b), ends), both(state, rest))
+    same_told(t, list, b) && ends && state && rest
 }

@@ -7,9 +7,9 @@ use partner_write::ListsFault;
 use replay::areas::plus;
 use replay::word_at;
 use replay_areas::bytes::{marked_target, same_target, still_marked, words_of};
+use replay_areas::empty_cells;
 use replay_areas::lengths::{Lengths, Places, length_at, lengths_at, places_from};
 use replay_areas::values::{numbers_at, record_at, values_at};
-use replay_areas::{both, empty_cells};
 
 // What comes with the number: the records, or what is told of a fault.
 fn value(a: Result<usize, ListsFault>) -> u64 {
@@ -22,10 +22,7 @@ fn value(a: Result<usize, ListsFault>) -> u64 {
 
 // Number and value are the words from i on.
 fn same_told(a: Result<usize, ListsFault>, list: &[u8], i: usize) -> bool {
-    both(
-        refusal::number(a) as u64 == word_at(list, i),
-        value(a) == word_at(list, plus(i, 1)),
-    )
+    refusal::number(a) as u64 == word_at(list, i) && value(a) == word_at(list, plus(i, 1))
 }
 
 // What a call leaves: its answer, and the target.
@@ -72,10 +69,7 @@ pub(crate) fn written_right(list: &[u8], a: usize) -> bool {
     let answer = left.answer;
     let target = left.target;
     let from = plus(at.end, 2);
-    let told = both(
-        same_told(answer, list, at.end),
-        same_target(target, bytes, list, from),
-    );
+    let told = same_told(answer, list, at.end) && same_target(target, bytes, list, from);
     let ends = plus(from, words_of(bytes)) == plus(a, word_at(list, a) as usize);
-    both(both(told, still_marked(target, bytes)), ends)
+    told && still_marked(target, bytes) && ends
 }

@@ -2,7 +2,6 @@
 use monitor_narrow::{narrow, widen};
 use replay::areas::plus;
 use replay::word_at;
-use replay_areas::both;
 
 // What is listed for a value that no single-precision number is near enough to.
 const NONE: u64 = 0x100000000;
@@ -26,5 +25,5 @@ fn comes_back(a: Option<u32>) -> bool {
 // The case from word a on: the bits or none, and that the bits come back.
 pub(crate) fn narrowed_right(list: &[u8], a: usize) -> bool {
     let r = narrow(word_at(list, a));
-    both(listed(r) == word_at(list, plus(a, 1)), comes_back(r))
+    listed(r) == word_at(list, plus(a, 1)) && comes_back(r)
 }

@@ -1,12 +1,11 @@
 // A case of reading: a file, read into areas of marks.
 ghost use Rattle.std.specs.Prelude.{◌≤◌};
 
-use crate::rooms::{Rooms, Spots, are_within, is_within, rooms_at, same_told, spots_from};
+use crate::rooms::{Rooms, Spots, are_within, rooms_at, same_told, spots_from};
 use crate::sides::same_sides;
 use desk_monitor::host_monitor_read;
 use replay::areas::{plus, same_numbers};
 use replay::word_at;
-use replay_areas::both;
 use replay_areas::bytes::{bytes_at, marked_target, words_of};
 use replay_areas::lengths::length_at;
 use replay_areas::values::{marked_numbers, marked_values, same_values};
@@ -62,7 +61,7 @@ fn same_left(left: Left, m: Rooms, list: &[u8], at: Spots) -> bool
     let s = same_sides(sides, m.sides, list, at.sides);
     let f = same_sides(fields, m.fields, list, at.fields);
     let x = same_values(&positions, m.positions, list, at.positions);
-    both(both(p, s), both(f, x))
+    p && s && f && x
 }
 
 // The case from word a on, whose file has so many bytes and whose lengths stand from word i on: number and word 0, every place of all areas, and that the case ends with them.
@@ -74,12 +73,12 @@ fn case_of(list: &[u8], a: usize, bytes: usize, i: usize) -> bool
     let left = read(list, plus(a, 2), bytes, m);
     let told = same_told(left.number, left.value, list, plus(i, 4));
     let ends = at.end == plus(a, word_at(list, a) as usize);
-    both(both(told, ends), same_left(left, m, list, at))
+    told && ends && same_left(left, m, list, at)
 }
 
 // The case from word a on. One of more than 16 frames' room is not run.
 pub(crate) fn read_right(list: &[u8], a: usize) -> bool {
-    if !is_within(list, plus(a, 1), 256) {
+    if word_at(list, plus(a, 1)) > 256 {
         return false;
     }
     let bytes = length_at(list, plus(a, 1), 256);

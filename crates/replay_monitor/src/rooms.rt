@@ -3,7 +3,6 @@ ghost use Rattle.std.specs.Prelude.{◌≤◌};
 
 use replay::areas::plus;
 use replay::word_at;
-use replay_areas::both;
 use replay_areas::lengths::length_at;
 
 // How long pictures, sides, fields and positions are.
@@ -15,18 +14,12 @@ pub(crate) struct Rooms {
     pub(crate) positions: usize,
 }
 
-// Whether word i tells a length of at most that.
-pub(crate) fn is_within(list: &[u8], i: usize, most: u64) -> bool {
-    word_at(list, i) <= most
-}
-
 // Whether the four lengths from word i on are those of at most 16 frames.
 pub(crate) fn are_within(list: &[u8], i: usize) -> bool {
-    let pictures = is_within(list, i, 16);
-    let sides = is_within(list, plus(i, 1), 16);
-    let fields = is_within(list, plus(i, 2), 16);
-    let positions = is_within(list, plus(i, 3), 32);
-    both(both(pictures, sides), both(fields, positions))
+    word_at(list, i) <= 16
+        && word_at(list, plus(i, 1)) <= 16
+        && word_at(list, plus(i, 2)) <= 16
+        && word_at(list, plus(i, 3)) <= 32
 }
 
 // The four lengths from word i on.
@@ -67,8 +60,5 @@ pub(crate) fn spots_from(m: Rooms, a: usize) -> Spots {
 
 // Number and word 0 are the words from i on.
 pub(crate) fn same_told(number: u32, value: u64, list: &[u8], i: usize) -> bool {
-    both(
-        number as u64 == word_at(list, i),
-        value == word_at(list, plus(i, 1)),
-    )
+    number as u64 == word_at(list, i) && value == word_at(list, plus(i, 1))
 }

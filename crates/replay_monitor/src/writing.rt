@@ -1,12 +1,11 @@
 // A case of writing: frames, written into a target of marks.
 ghost use Rattle.std.specs.Prelude.{◌≤◌};
 
-use crate::rooms::{Rooms, Spots, are_within, is_within, rooms_at, same_told, spots_from};
+use crate::rooms::{Rooms, Spots, are_within, rooms_at, same_told, spots_from};
 use crate::sides::sides_at;
 use desk_monitor::host_monitor_write;
 use replay::areas::plus;
 use replay::word_at;
-use replay_areas::both;
 use replay_areas::bytes::{marked_target, same_target, still_marked, words_of};
 use replay_areas::lengths::length_at;
 use replay_areas::values::{numbers_at, values_at};
@@ -52,13 +51,13 @@ fn same_left(left: Left, bytes: usize, list: &[u8], i: usize) -> bool
     let target = left.target;
     let told = same_told(left.number, left.value, list, i);
     let first = same_target(target, bytes, list, plus(i, 2));
-    both(both(told, first), still_marked(target, bytes))
+    told && first && still_marked(target, bytes)
 }
 
 // The case from word a on: number and word 0, the whole target, and that the case ends with it. One of more than 16 frames' room is not run.
 pub(crate) fn written_right(list: &[u8], a: usize) -> bool {
     let i = plus(a, 2);
-    if !both(are_within(list, i), is_within(list, plus(a, 6), 256)) {
+    if !are_within(list, i) || word_at(list, plus(a, 6)) > 256 {
         return false;
     }
     let m = rooms_at(list, i);
@@ -67,5 +66,5 @@ pub(crate) fn written_right(list: &[u8], a: usize) -> bool {
     let left = written(list, word_at(list, plus(a, 1)) as usize, m, at, bytes);
     let end = plus(plus(at.end, 2), words_of(bytes));
     let ends = end == plus(a, word_at(list, a) as usize);
-    both(same_left(left, bytes, list, at.end), ends)
+    same_left(left, bytes, list, at.end) && ends
 }

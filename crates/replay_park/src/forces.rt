@@ -8,12 +8,6 @@ pub(crate) fn marked_forces() -> [f64; 96] {
 
 // The first m forces are +0.0, bit by bit, and the others their marks.
 pub(crate) fn same_forces(forces: &[f64], m: usize, list: &[u8]) -> bool {
-    for i in 0..forces.len() {
-        if i < m {
-            if elementary::bits_of(forces[i]) != 0 {
-                return false;
-            }
-        }
-    }
-    replay::areas::same_area(forces, m, 0, list, 0)
+    forces.iter().take(m).all(|x| elementary::bits_of(*x) == 0)
+        && replay::areas::same_area(forces, m, 0, list, 0)
 }

@@ -7,10 +7,10 @@ use park::ParkFault;
 use replay::areas::plus;
 use replay::word_at;
 use replay_areas::bytes::{bytes_at, marked_target, same_file, words_of};
+use replay_areas::empty_cells;
 use replay_areas::lengths::{length_at, lengths_at};
 use replay_areas::values::{marked_numbers, marked_record, marked_values};
 use replay_areas::wanted::{Wants, same_lists, same_state, wanted};
-use replay_areas::{both, empty_cells};
 use refusal::Unreadable;
 
 // What comes with the number: the records, or the place.
@@ -60,7 +60,7 @@ fn same_again(
         nodes,
         &mut target[..m],
     );
-    both(wrote(a, records), same_file(file, target))
+    wrote(a, records) && same_file(file, target)
 }
 
 // What is told of a file: number and value, and whether what was read is parked as the same bytes.
@@ -118,17 +118,14 @@ fn same_rest(
     offsets: [u32; 48],
     forces: [f64; 96],
 ) -> bool {
-    both(
-        same_lists(list, w, affinities, indices, offsets),
-        same_forces(&forces, w.zeros, list),
-    )
+    same_lists(list, w, affinities, indices, offsets) && same_forces(&forces, w.zeros, list)
 }
 
 // Number and value are the words from i on, and what was read was parked as the same bytes.
 fn same_told(t: Told, list: &[u8], i: usize) -> bool {
     let number = t.number == word_at(list, i);
     let value = t.value == word_at(list, plus(i, 1));
-    both(both(number, value), t.again)
+    number && value && t.again
 }
 
 // The case from word a on: what is told, every place of all areas, and that the case ends with them.
@@ -163,5 +160,5 @@ pub(crate) fn read_right(list: &[u8], a: usize) -> bool {
     let rest = same_rest(list, w, affinities, indices, offsets, forces);
     let at = w.places;
     let ends = at.end == plus(a, word_at(list, a) as usize);
-    both(both(same_told(t, list, b), ends), both(state, rest))
+    same_told(t, list, b) && ends && state && rest
 }

@@ -4,21 +4,13 @@ ghost use Rattle.std.specs.Prelude.{◌≤◌};
 use desk_salvage::host_salvage;
 use replay::areas::plus;
 use replay::word_at;
-use replay_areas::both;
 use replay_areas::bytes::{bytes_at, marked_target, same_target, still_marked, words_of};
 use replay_areas::lengths::length_at;
 use replay_areas::values::{marked_values, same_values};
 
-// Whether the length that word i tells is no more than most.
-fn fits(list: &[u8], i: usize, most: u64) -> bool {
-    word_at(list, i) <= most
-}
-
-// The same of target, places and rules, whose lengths are the words from i on.
+// Whether the lengths of target, places and rules, which are the words from i on, are no more than there is room for.
 fn areas_fit(list: &[u8], i: usize) -> bool {
-    let places = fits(list, plus(i, 1), 48);
-    let rules = fits(list, plus(i, 2), 1408);
-    both(fits(list, i, 1408), both(places, rules))
+    word_at(list, i) <= 1408 && word_at(list, plus(i, 1)) <= 48 && word_at(list, plus(i, 2)) <= 1408
 }
 
 // How long target, places and rules are.
@@ -81,7 +73,7 @@ fn same_count(number: u32, told: u64, list: &[u8], i: usize) -> bool {
     if number == 0 {
         return told == listed;
     }
-    both(told == 9, listed == 0)
+    told == 9 && listed == 0
 }
 
 // Number, records kept and records told are the words from i on.
@@ -89,19 +81,14 @@ fn same_told(number: u32, answer: [u64; 2], list: &[u8], i: usize) -> bool {
     let k = number as u64 == word_at(list, i);
     let kept = answer[0] == word_at(list, plus(i, 1));
     let told = same_count(number, answer[1], list, plus(i, 2));
-    both(k, both(kept, told))
+    k && kept && told
 }
 
 // The first m rules are the words from a on.
 fn same_rules(rules: [u8; 1408], m: usize, list: &[u8], a: usize) -> bool
     requires { m ≤ 1408 }
 {
-    for i in 0..m {
-        if rules[i] as u64 != word_at(list, plus(a, i)) {
-            return false;
-        }
-    }
-    true
+    rules[..m].iter().enumerate().all(|(i, rule)| *rule as u64 == word_at(list, plus(a, i)))
 }
 
 // All places are the words from i on, and all rules are those after them; behind them are marks.
@@ -109,10 +96,7 @@ fn same_dropped(places: [u64; 48], rules: [u8; 1408], m: Rooms, list: &[u8], i: 
     requires { m.rules ≤ 1408 }
 {
     let first = same_rules(rules, m.rules, list, plus(i, m.places));
-    both(
-        same_values(&places, m.places, list, i),
-        both(first, still_marked(rules, m.rules)),
-    )
+    same_values(&places, m.places, list, i) && first && still_marked(rules, m.rules)
 }
 
 // What is told is the words from i on, and all of the areas those after it, up to word `end`; behind them are marks.
@@ -130,13 +114,13 @@ fn same_left(left: Left, m: Rooms, list: &[u8], i: usize, end: usize) -> bool
     let tail = still_marked(target, m.target);
     let dropped = same_dropped(places, rules, m, list, p);
     let ends = plus(plus(p, m.places), m.rules) == end;
-    both(both(told, ends), both(both(kept, tail), dropped))
+    told && ends && kept && tail && dropped
 }
 
 // The case from word a on: what is told, and every place of the areas. One that asks for more room than there is, is wrong and not run.
 pub(crate) fn salvaged_right(list: &[u8], a: usize) -> bool {
     let i = plus(a, 1);
-    if !fits(list, i, 1408) {
+    if word_at(list, i) > 1408 {
         return false;
     }
     let bytes = length_at(list, i, 1408);

@@ -4,11 +4,11 @@ ghost use Rattle.std.specs.Prelude.{◌≤◌};
 use crate::lending::hand_in;
 use fault_words::fault_value;
 use hand_out::HandFault;
-use replay::areas::{copy_words, plus, same_numbers};
+use replay::areas::{floats_at, plus, same_numbers};
 use replay::word_at;
+use replay_areas::empty_cells;
 use replay_areas::lengths::{Lengths, Places, length_at, lengths_at, places_from};
 use replay_areas::values::{marked_numbers, marked_values, numbers_at, record_at, same_values};
-use replay_areas::{both, empty_cells};
 
 // What comes with the number: the frames, or what is told of a fault.
 fn value(a: Result<usize, HandFault>) -> u64 {
@@ -21,17 +21,7 @@ fn value(a: Result<usize, HandFault>) -> u64 {
 
 // Number and value are the words from i on.
 fn same_told(a: Result<usize, HandFault>, list: &[u8], i: usize) -> bool {
-    both(
-        refusal::number(a) as u64 == word_at(list, i),
-        value(a) == word_at(list, plus(i, 1)),
-    )
-}
-
-// Values from word a on, with these bits: as many as there is room for, of which a case lends those that are its own.
-fn floats_at(list: &[u8], a: usize) -> [f64; 48] {
-    let mut area = [0.0; 48];
-    copy_words(&mut area, 48, list, a);
-    area
+    refusal::number(a) as u64 == word_at(list, i) && value(a) == word_at(list, plus(i, 1))
 }
 
 // How long order and gaps are.
@@ -73,10 +63,10 @@ fn handed(list: &[u8], a: usize, l: Lengths, at: Places, m: Rooms) -> Left
         × (m.gaps ≤ 48) }
 {
     let words = record_at(list, a);
-    let positions = floats_at(list, at.positions);
-    let increments = floats_at(list, at.increments);
-    let gains = floats_at(list, at.gains);
-    let affinities = floats_at(list, at.affinities);
+    let positions = floats_at::<48>(list, at.positions, 48);
+    let increments = floats_at::<48>(list, at.increments, 48);
+    let gains = floats_at::<48>(list, at.gains, 48);
+    let affinities = floats_at::<48>(list, at.affinities, 48);
     let indices = numbers_at(list, at.indices);
     let offsets = numbers_at(list, at.offsets);
     let forces = [0.0; 96];
@@ -105,10 +95,7 @@ fn handed(list: &[u8], a: usize, l: Lengths, at: Places, m: Rooms) -> Left
 
 // The whole order is the words from i on, and all gaps are those after it; behind them are marks.
 fn same_along(order: [u32; 48], gaps: [u64; 48], m: Rooms, list: &[u8], i: usize) -> bool {
-    both(
-        same_numbers(&order, m.order, list, i),
-        same_values(&gaps, m.gaps, list, plus(i, m.order)),
-    )
+    same_numbers(&order, m.order, list, i) && same_values(&gaps, m.gaps, list, plus(i, m.order))
 }
 
 // The case from word a on: number and value, the whole order, all gaps, and that the case ends with them.
@@ -125,5 +112,5 @@ pub(crate) fn handed_right(list: &[u8], a: usize) -> bool {
     let along = same_along(order, gaps, m, list, i);
     let end = plus(plus(i, m.order), m.gaps);
     let ends = end == plus(a, word_at(list, a) as usize);
-    both(both(told, along), ends)
+    told && along && ends
 }

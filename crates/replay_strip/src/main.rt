@@ -6,29 +6,16 @@ mod handing;
 mod lending;
 
 use handing::handed_right;
-use replay::areas::plus;
-use replay::word_at;
+use replay::Tally;
+use replay::cases::{next_told, replay_cases, replay_list};
 use std::io;
 
-// A case that does not lead on ends the replay, and counts as wrong.
-fn cases(list: &[u8]) -> replay::Tally {
-    let count = list.len() / 8;
-    let mut t = replay::Tally::new();
-    let mut a: usize = 0;
-    while a < count {
-        t = t.with(handed_right(list, a));
-        let at = plus(a, word_at(list, a) as usize);
-        if at <= a {
-            return t.with(false);
-        }
-        a = at;
-    }
-    t
+fn cases(list: &[u8]) -> Tally {
+    replay_cases(list, |a| next_told(list, a, handed_right(list, a)))
 }
 
 fn main(rt: HostRuntime) -> io::Result<()> {
     let mut list = [0u8; 278528];
-    let n = replay::load(&rt, b"strip.words", &mut list);
-    replay::print(&rt, b"strip", cases(&list[..n]))?;
+    replay_list(&rt, b"strip.words", b"strip", &mut list, cases)?;
     Ok(())
 }

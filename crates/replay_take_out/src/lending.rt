@@ -8,20 +8,6 @@ use run_record::Run;
 use take_out::{Taken, Took};
 use tree_node::Cell;
 
-// Nodes of zeros.
-pub(crate) fn empty_cells() -> [Cell; 4] {
-    let zero = [0.0; 3];
-    let v = Cell {
-        centre: zero,
-        half: zero,
-        mass: zero,
-        count: 0,
-        first: 0,
-        leaf: 0,
-    };
-    [v; 4]
-}
-
 pub(crate) fn took_of(answer: Taken, run: Run) -> Took
     ensures { result ≡ took_of answer run }
 {

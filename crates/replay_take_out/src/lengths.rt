@@ -2,7 +2,7 @@
 ghost use Rattle.std.specs.Prelude.{◌≤◌};
 
 use replay::areas::plus;
-use replay::word_at;
+use replay_areas::lengths::length_at;
 
 // How long each area is: those of the run, the table, the list of samples that go, and the old places.
 #[derive(Clone, Copy)]
@@ -18,17 +18,6 @@ pub(crate) struct Lengths {
     pub(crate) table: usize,
     pub(crate) gone: usize,
     pub(crate) old: usize,
-}
-
-// The length that word i tells, but no more than most; a case of more does not end where its words do, and counts as wrong.
-fn length_at(list: &[u8], i: usize, most: usize) -> usize
-    ensures { result ≤ most }
-{
-    let m = word_at(list, i) as usize;
-    if m > most {
-        return most;
-    }
-    m
 }
 
 // The eleven lengths from word i on.

@@ -7,30 +7,17 @@ mod lengths;
 mod run_areas;
 mod taking;
 
-use replay::areas::plus;
-use replay::word_at;
+use replay::Tally;
+use replay::cases::{next_told, replay_cases, replay_list};
 use std::io;
 use taking::case_right;
 
-// A case that does not lead on ends the replay, and counts as wrong.
-fn cases(list: &[u8]) -> replay::Tally {
-    let count = list.len() / 8;
-    let mut t = replay::Tally::new();
-    let mut a: usize = 0;
-    while a < count {
-        t = t.with(case_right(list, a));
-        let at = plus(a, word_at(list, a) as usize);
-        if at <= a {
-            return t.with(false);
-        }
-        a = at;
-    }
-    t
+fn cases(list: &[u8]) -> Tally {
+    replay_cases(list, |a| next_told(list, a, case_right(list, a)))
 }
 
 fn main(rt: HostRuntime) -> io::Result<()> {
     let mut list = [0u8; 278528];
-    let n = replay::load(&rt, b"takes.words", &mut list);
-    replay::print(&rt, b"takes", cases(&list[..n]))?;
+    replay_list(&rt, b"takes.words", b"takes", &mut list, cases)?;
     Ok(())
 }

@@ -1,27 +1,18 @@
 // A case: the run of a list, frames taken out of it, and what comes of it.
 ghost use Rattle.std.specs.Prelude.{◌≤◌};
 
-use crate::lending::{empty_cells, take_lent};
+use crate::lending::take_lent;
 use crate::lengths::{Lengths, Places, lengths_at, places_from};
-use crate::run_areas::{
-    bits_at, both, numbers_at, same_bits, same_numbers, same_values, values_at,
-};
+use crate::run_areas::{bits_at, numbers_at, same_bits, same_numbers, same_values};
 use fault_words::{fault_value, unread_fault};
 use record_words::{put_run, run_fine, run_of};
-use replay::areas::plus;
+use replay::areas::{plus, ready_at};
 use replay::word_at;
+use replay_areas::empty_cells;
+use replay_areas::values::record_at;
 use run_record::Run;
 use take_left::Denial;
 use take_out::Taken;
-
-// The record of fourteen words from word a on.
-fn record_at(list: &[u8], a: usize) -> [u64; 14] {
-    let mut words = [0u64; 14];
-    for i in 0..14 {
-        words[i] = word_at(list, plus(a, i));
-    }
-    words
-}
 
 // The record as fourteen words.
 fn words_of(r: Run) -> [u64; 14] {
@@ -32,12 +23,7 @@ fn words_of(r: Run) -> [u64; 14] {
 
 // Whether they are the words from a on.
 fn same_record(words: [u64; 14], list: &[u8], a: usize) -> bool {
-    for i in 0..14 {
-        if words[i] != word_at(list, plus(a, i)) {
-            return false;
-        }
-    }
-    true
+    words == record_at(list, a)
 }
 
 // How many are left; nothing comes with a refusal.
@@ -69,7 +55,7 @@ fn same_told(t: Told, list: &[u8], i: usize) -> bool {
     let words = t.words;
     let number = take_out::number(a) as u64 == word_at(list, i);
     let value = value(a) == word_at(list, plus(i, 1));
-    both(both(number, value), same_record(words, list, plus(i, 2)))
+    number && value && same_record(words, list, plus(i, 2))
 }
 
 // The call with the record as words; words that are no record are told without it.
@@ -130,7 +116,7 @@ fn same_state(
     let q = same_bits(&increments, l.increments, list, plus(j, 1));
     let g = same_bits(&gains, l.gains, list, plus(j, 2));
     let v = same_bits(&affinities, l.affinities, list, plus(j, 3));
-    both(both(p, q), both(g, v))
+    p && q && g && v
 }
 
 // Indices, offsets and old places.
@@ -144,13 +130,13 @@ fn same_lists(
 ) -> bool {
     let x = same_numbers(&indices, l.indices, list, plus(j, 4));
     let o = same_numbers(&offsets, l.offsets, list, plus(j, 5));
-    both(both(x, o), same_numbers(&old, l.old, list, plus(j, 8)))
+    x && o && same_numbers(&old, l.old, list, plus(j, 8))
 }
 
 // Forces and table.
 fn same_rest(list: &[u8], l: Lengths, j: usize, forces: [f64; 96], table: [u64; 96]) -> bool {
     let f = same_values(&forces, l.forces, list, plus(j, 6));
-    both(f, same_bits(&table, l.table, list, plus(j, 7)))
+    f && same_bits(&table, l.table, list, plus(j, 7))
 }
 
 // The call on the run whose areas stand at their places: what is told, the record, and every place of all areas.
@@ -167,13 +153,13 @@ fn run_right(list: &[u8], l: Lengths, at: Places, words: [u64; 14]) -> bool
         × (l.gone ≤ 64)
         × (l.old ≤ 64) }
 {
-    let mut positions = values_at(list, at.positions, l.positions);
+    let mut positions = ready_at::<96>(list, at.positions, l.positions);
     let mut increments = bits_at(list, at.increments, l.increments);
     let mut gains = bits_at(list, at.gains, l.gains);
     let mut affinities = bits_at(list, at.affinities, l.affinities);
     let mut indices = numbers_at(list, at.indices, l.indices);
     let mut offsets = numbers_at(list, at.offsets, l.offsets);
-    let mut forces = values_at(list, 0, 0);
+    let mut forces = ready_at::<96>(list, 0, 0);
     let mut table = bits_at(list, at.table, l.table);
     let gone = numbers_at(list, at.gone, l.gone);
     let mut old = numbers_at(list, 0, 0);
@@ -196,7 +182,7 @@ fn run_right(list: &[u8], l: Lengths, at: Places, words: [u64; 14]) -> bool
     let state = same_state(list, l, j, positions, increments, gains, affinities);
     let lists = same_lists(list, l, j, indices, offsets, old);
     let rest = same_rest(list, l, j, forces, table);
-    both(both(told, state), both(lists, rest))
+    told && state && lists && rest
 }
 
 // The case from word a on; it has to end with what is compared.
@@ -205,5 +191,5 @@ pub(crate) fn case_right(list: &[u8], a: usize) -> bool {
     let at = places_from(l, plus(a, 26));
     let words = record_at(list, plus(a, 1));
     let ends = plus(at.end, 25) == plus(a, word_at(list, a) as usize);
-    both(ends, run_right(list, l, at, words))
+    ends && run_right(list, l, at, words)
 }

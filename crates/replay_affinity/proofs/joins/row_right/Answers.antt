@@ -39,9 +39,7 @@ returns-then-v-i c =
 pub loop-t-preserved : goal.loop-t-preserved
 loop-t-preserved c = (
   omega arith,
-  rw c.wide-v.ensures
-      (risen-next (rw c.wide-v.ensures at c.if-v-low.false) (rw c.wide-v.ensures at c.if-v-n.false) (rw c.wide-v.ensures at c.if-v-i.false)
-      c.loop-t.invariant.1),
+  risen-next c.if-v-low.false c.if-v-n.false c.if-v-i.false c.loop-t.invariant.1,
 )
 
 pub returns : goal.returns

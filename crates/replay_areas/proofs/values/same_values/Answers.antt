@@ -7,10 +7,10 @@ loop-i-init c = (every-none _, omega arith)
 
 pub returns-then-area-i : goal.returns-then-area-i
 returns-then-area-i c =
-    sym (every-no _ _ c.loop-i.i c.loop-i-test.true (ne_eqb _ _ (λ q. c.if-area-i.true (q ∙ sym c.wanted_at.ensures))))
+    sym (every-no _ _ c.loop-i.i c.loop-i-test.true (ne_eqb _ _ (λ q. c.if-area-i.true (q ∙ sym c.wanted.ensures))))
 
 pub loop-i-preserved : goal.loop-i-preserved
-loop-i-preserved c = (every-next _ _ c.loop-i.invariant.0 (eq-eqb _ _ (c.if-area-i.false ∙ c.wanted_at.ensures)), omega (arith, c.loop-i-test.true))
+loop-i-preserved c = (every-next _ _ c.loop-i.invariant.0 (eq-eqb _ _ (c.if-area-i.false ∙ c.wanted.ensures)), omega (arith, c.loop-i-test.true))
 
 pub returns : goal.returns
 returns c = every-done _ _ _ c.loop-i.invariant.0 c.loop-i.invariant.1 c.loop-i-test.false
