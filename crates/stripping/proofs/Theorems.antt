@@ -177,4 +177,4 @@ module _ (w : List ℕ) (m : Memory) (o g : List ℕ) where
       calm_along m.positions (num w 0) ≡ true → num w 0 ≤ length o → num w 0 ≤ length g → left.answer ≡ Ok (num w 0)
   unfolding handed_out along_line
   handed-where a b c d h k = ap (λ (x : Handing). x.answer)
-      (line-is (hand_fault w m) w m.positions o g (record { found-fine = a0; profile = b; end = c; all-fine = d; order-room = h; gaps-room = k }))
+      (line-is (hand_fault w m) w m.positions o g (record { found-fine = a; profile = b; end = c; all-fine = d; order-room = h; gaps-room = k }))

@@ -1,5 +1,4 @@
 -- A removal that is refused changes nothing; of one that is not, what its tests have shown and what it leaves. Assumes nothing.
-use Rattle.std.specs.Prelude.{Ok, Err}
 use mathlib.Core.Path.{◌≡◌, refl, sym, ap, ◌∙◌}
 use mathlib.Core.Logic.{◌⊎◌, ⊎_elim}
 use mathlib.Core.List.{List}
@@ -26,7 +25,7 @@ use Rattle.take_gone.specs.Gone.{gone_fine, survivors}
 use Rattle.take_calm.specs.CalmLeft.{calm_left}
 use Rattle.take_left.specs.declared.Denial.TheVariants.{Inside, Unordered, Few, Perplexed, Crowded, Barred}
 use Rattle.std.specs.Prelude.{Ok, Err}
-use Rattle.take_left.specs.Outlook.{Outlook, thinned_run, crowded, outlook_of, outlook_number, denial_number}
+use Rattle.take_left.specs.Outlook.{Outlook, thinned_run, crowded, outlook_of, outlook_number}
 use Rattle.take_left.proofs.Judged.{judged-left}
 use Rattle.take_out.specs.declared.Taken.TheVariants.{Told, Bad}
 use Rattle.take_out.specs.TakeOut.{Holdings, TookOut, took_out, state_held, left_behind, lent_positions, take_fault, is_accepted, packed_areas, take_tested, take_out, take_number}
@@ -35,7 +34,6 @@ use Rattle.take_out.proofs.Calls.{words-told}
 -- ---- a refusal
 
 no_number : (v : Outlook) → is_accepted v ≡ true → outlook_number v ≡ 0
-unfolding outlook_number
 no_number (Ok m) e = refl
 no_number (Err Inside) e = absurd (true≢false (sym e))
 no_number (Err Unordered) e = absurd (true≢false (sym e))
@@ -45,7 +43,7 @@ no_number (Err Crowded) e = absurd (true≢false (sym e))
 no_number (Err Barred) e = absurd (true≢false (sym e))
 
 told-numbered : (v : Outlook) → is_accepted v ≡ false → take_number (Told v) ≡ 0 → ⊥
-unfolding take_number outlook_number
+unfolding take_number
 told-numbered (Ok m) e z = true≢false e
 told-numbered (Err Inside) e z = let y : ◌≡◌ {A = ℕ} 17 0 = z in omega arith
 told-numbered (Err Unordered) e z = let y : ◌≡◌ {A = ℕ} 18 0 = z in omega arith
@@ -279,7 +277,7 @@ module _ (g : List ℕ) (r : Run) (h : Holdings) (ns : List Node) where
   accepted m a = by_bool Accepted (is_fine (fault g r h ns))
       (λ f. by_bool Accepted (is_accepted (outlook g r h ns)) (accepts f)
       (λ e. absurd (true≢false (sym (ap is_accepted (same (sym (ap (λ (o : TookOut). o.answer) (told_is g r h ns f e)) ∙ a))) ∙ e))))
-      (λ f. absurd (let x = found-some (fault g r h ns) f in let z : Bad x.0 ≡ Told (Left m) = sym (ap (λ (o : TookOut). o.answer) (bad-is g r h ns x.0 x.1)) ∙ a in let y : ◌≡◌ {A = ℕ} 0 1 = cc in omega arith))
+      (λ f. absurd (let x = found-some (fault g r h ns) f in let z : Bad x.0 ≡ Told (Ok m) = sym (ap (λ (o : TookOut). o.answer) (bad-is g r h ns x.0 x.1)) ∙ a in let y : ◌≡◌ {A = ℕ} 0 1 = cc in omega arith))
     where
       same : {v w : Outlook} → Told v ≡ Told w → v ≡ w
       same e = cc

@@ -4,7 +4,7 @@ use Rattle.laws.specs.Area.{at}
 use Rattle.laws.specs.Loops.{every}
 use mathlib.Core.Path.{◌≡◌}
 use mathlib.Core.Bool.{true}
-use Prim.Native.Nat.{◌≤◌, ◌-◌}
+use Prim.Native.Nat.{◌≤◌}
 use Rattle.hand_out.proofs.is_calm_along.Given as goal
 
 abbrev pub invariant-loop-i : goal.invariant-loop-i

@@ -2,7 +2,7 @@
 use Rattle.take_out.proofs.Tested.{tested-bad, tested-told, tested-done, tested-count, tested-room}
 use Rattle.take_out.specs.TakeOut.{holdings}
 use Rattle.run_entry.specs.Entry.{is_fine}
-use mathlib.Core.Path.{refl, sym, ◌∙◌, ap}
+use mathlib.Core.Path.{refl, ◌∙◌, ap}
 use mathlib.Core.Bool.{not}
 use native.Mathlib.Omega.{arith}
 use Rattle.take_out.proofs.take_tested.Goals as goal
