@@ -25,10 +25,7 @@ use run_record::faults::{is_below, is_inside, is_positive};
 fn in_range(x: u64, low: u64, high: usize) -> bool
     ensures { result ≡ leb low x && leb x high }
 {
-    if x < low {
-        return false;
-    }
-    x <= high as u64
+    low <= x && x <= high as u64
 }
 
 // The most components, by method.
@@ -42,20 +39,14 @@ fn most_components(m: u64) -> usize
 }
 
 // Method, frames, features, components.
+#[tactic(auto, unfolding(parked::specs::Fine::first_fine))]
 pub fn first_fine(m: u64, n: u64, f: u64, c: u64) -> bool
     ensures { result ≡ first_fine m n f c }
 {
-    if 1 < m {
-        return false;
-    }
-    if !in_range(n, 2, MOST_FRAMES) {
-        return false;
-    }
-    if !in_range(f, 1, MOST_FEATURES) {
-        return false;
-    }
-    let most = most_components(m);
-    in_range(c, 1, most)
+    m <= 1
+        && in_range(n, 2, MOST_FRAMES)
+        && in_range(f, 1, MOST_FEATURES)
+        && in_range(c, 1, most_components(m))
 }
 
 // A perplexity is finite, above 0 and below n.
@@ -64,10 +55,7 @@ fn perplexity_fine(perplexity: u64, n: u64) -> bool
     ensures { result ≡ positive (bits perplexity) && lt (bits perplexity) (of_int binary64 (pos n)) }
 {
     let x = value_of(perplexity);
-    if !is_positive(x) {
-        return false;
-    }
-    is_below(x, n as f64)
+    is_positive(x) && is_below(x, n as f64)
 }
 
 // An angle is in [0, 1), and that of an exact run zero bits.
@@ -82,21 +70,15 @@ fn angle_fine(m: u64, angle: u64) -> bool
 }
 
 // Perplexity, rate, iterations, angle.
+#[tactic(auto, unfolding(parked::specs::Fine::second_fine))]
 pub fn second_fine(m: u64, n: u64, perplexity: u64, rate: u64, iterations: u64, angle: u64) -> bool
     requires { n ≤ most_frames }
     ensures { result ≡ second_fine m n perplexity rate iterations angle }
 {
-    if !perplexity_fine(perplexity, n) {
-        return false;
-    }
-    let x = value_of(rate);
-    if !is_positive(x) {
-        return false;
-    }
-    if !in_range(iterations, 1, MOST_ITERATIONS) {
-        return false;
-    }
-    angle_fine(m, angle)
+    perplexity_fine(perplexity, n)
+        && is_positive(value_of(rate))
+        && in_range(iterations, 1, MOST_ITERATIONS)
+        && angle_fine(m, angle)
 }
 
 // At most 2·n·k links, and of an exact run none.

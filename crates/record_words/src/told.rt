@@ -6,7 +6,11 @@ ghost use Rattle.record_words.specs.RecordWords.{worded};
 use refusal::{Numbered, number};
 
 // Writes what comes with the answer into word 0. Answers its number.
-pub fn put_told<T: Copy, E: Numbered + Copy>(words: &mut [u64], answer: Result<T, E>, told: u64) -> u32
+pub fn put_told<T: Copy, E: Numbered + Copy>(
+    words: &mut [u64],
+    answer: Result<T, E>,
+    told: u64,
+) -> u32
     requires { 1 ≤ length words.old }
     ensures { worded result words.new ≡ worded (number_told E.number_of answer) (set words.old 0 told) }
 {

@@ -4,6 +4,7 @@ ghost use Rattle.std.specs.Prelude.{◌≤◌, length};
 use crate::forces::{marked_forces, same_forces};
 use crate::lending::park_in;
 use park::ParkFault;
+use refusal::Unreadable;
 use replay::areas::plus;
 use replay::word_at;
 use replay_areas::bytes::{bytes_at, marked_target, same_file, words_of};
@@ -11,7 +12,6 @@ use replay_areas::empty_cells;
 use replay_areas::lengths::{length_at, lengths_at};
 use replay_areas::values::{marked_numbers, marked_record, marked_values};
 use replay_areas::wanted::{Wants, same_lists, same_state, wanted};
-use refusal::Unreadable;
 
 // What comes with the number: the records, or the place.
 fn value(a: Result<usize, Unreadable>) -> u64 {

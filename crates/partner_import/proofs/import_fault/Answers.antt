@@ -28,10 +28,10 @@ unfolding import_fault
 returns-then-start-m c = elim c.then-start-m.branch [
   | then-start-m-via-then-start-m w ↦ rw (sym c.in_ok-settings_fault.ensures, ne_eqb _ _ (rw c.times-m.ensures at w.if-start-m.true))
   | then-start-m-via-else-start-m+then-not-start_fine w ↦ rw (
-      sym c.in_ok-settings_fault.ensures,
-      eq-eqb _ _ (rw c.times-m.ensures at w.if-start-m.false),
-      sym (rw c.times-m.ensures at w.start_fine.ensures) ∙ w.if-not-start_fine.true,
-    )
+    sym c.in_ok-settings_fault.ensures,
+    eq-eqb _ _ (rw c.times-m.ensures at w.if-start-m.false),
+    sym (rw c.times-m.ensures at w.start_fine.ensures) ∙ w.if-not-start_fine.true,
+  )
 ]
 
 pub areas_fit-requires : goal.areas_fit-requires
