@@ -9,17 +9,17 @@ ghost use Rattle.desk_prepare.specs.HostPrepare.{host_prepared, host_prepare};
 
 use prepare::{Lengths, Prepared, prepare, prepare_fault};
 use record_words::{put_run, settings_fine, settings_of};
+use refusal::Numbered;
 use run_record::Settings;
 
 // The number where the record's area is too short: 12, unless one of the tests before it fails.
 fn short_number(s: Settings, table: &[f64], start: &[f64], l: Lengths) -> u32
     ensures { result ≡ short_number (prepare_fault s table.now start.now l) }
 {
-    let k = prepare_fault(s, table, start, l);
-    if k == 0 {
-        return 12;
+    match prepare_fault(s, table, start, l) {
+        Err(e) => e.number() as u32,
+        Ok(_) => 12,
     }
-    k as u32
 }
 
 // Prepares a run. Answers 0, or the number of the refusal; then nothing is changed.
@@ -73,14 +73,17 @@ pub fn host_prepare(
     }
     let s = settings_of(settings);
     if record.len() < 14 {
-        let l = Lengths {
+        let areas = run_entry::Lengths {
             positions: positions.len(),
             increments: increments.len(),
             gains: gains.len(),
             affinities: affinities.len(),
+            forces: forces.len(),
+        };
+        let l = Lengths {
+            areas,
             indices: indices.len(),
             offsets: offsets.len(),
-            forces: forces.len(),
             nodes,
             values: row_values.len(),
             places: row_indices.len(),

@@ -73,14 +73,17 @@ pub fn host_prepare_strip(
         row_indices.old)
         «record».old }
 {
-    let l = Lengths {
+    let areas = run_entry::Lengths {
         positions: positions.len(),
         increments: increments.len(),
         gains: gains.len(),
         affinities: affinities.len(),
+        forces: forces.len(),
+    };
+    let l = Lengths {
+        areas,
         indices: indices.len(),
         offsets: offsets.len(),
-        forces: forces.len(),
         nodes,
         values: row_values.len(),
         places: row_indices.len(),

@@ -51,7 +51,7 @@ pub record Passed (s : Settings) (table start : List Float) (l : Lengths) : Type
   pub table_is : length table ≡ s.n * s.f
   pub table-in : all_inside table (s.n * s.f) ≡ true
   pub start_is : length start ≡ s.n * s.c
-  pub areas : GoodAreas s l.positions l.increments l.gains l.affinities l.indices l.offsets l.forces l.nodes
+  pub areas : GoodAreas s l.areas.positions l.areas.increments l.areas.gains l.areas.affinities l.indices l.offsets l.areas.forces l.nodes
   pub values : s.n ≤ l.values
   pub places : s.n ≤ l.places
 
@@ -74,7 +74,7 @@ passed s table start l e =
     let f = test-told (not (eqb (length start) (s.n * s.c))) 11 r5 (λ q. omega arith) d.1 in
     let g = test-told (not S) 11 r6 (λ q. omega arith) f.1 in
     let h = last-told F 12 (λ q. omega arith) g.1 in
-    let A = areas_fit s l.positions l.increments l.gains l.affinities l.indices l.offsets l.forces l.nodes in
+    let A = areas_fit s l.areas.positions l.areas.increments l.areas.gains l.areas.affinities l.indices l.offsets l.areas.forces l.nodes in
     let X = leb s.n l.values in
     let Y = leb s.n l.places in
     record {
@@ -82,7 +82,7 @@ passed s table start l e =
       table_is = eqb-true (length table) (s.n * s.f) (not-false (eqb (length table) (s.n * s.f)) b.0);
       table-in = not-false T c.0;
       start_is = eqb-true (length start) (s.n * s.c) (not-false (eqb (length start) (s.n * s.c)) f.0);
-      areas = areas-fine s l.positions l.increments l.gains l.affinities l.indices l.offsets l.forces l.nodes (and_left A X (and_left (A && X) Y h));
+      areas = areas-fine s l.areas.positions l.areas.increments l.areas.gains l.areas.affinities l.indices l.offsets l.areas.forces l.nodes (and_left A X (and_left (A && X) Y h));
       values = leb-true s.n l.values (and_right A X (and_left (A && X) Y h));
       places = leb-true s.n l.places (and_right (A && X) Y h);
     }
@@ -93,7 +93,7 @@ twice n k l h = rw (mul_assoc 2 n k) at h
 
 -- the routes have what they ask
 pub route-room : (s : Settings) (table start : List Float) (l : Lengths) → Passed s table start l →
-    RouteRoom s (length table) l.affinities l.indices l.offsets l.forces l.values l.places
+    RouteRoom s (length table) l.areas.affinities l.indices l.offsets l.areas.forces l.values l.places
 route-room s table start l p =
     let cf = cells-forces s.n s.c in
     let f = p.areas.forces-long in
@@ -103,7 +103,7 @@ route-room s table start l p =
       squares-in = omega arith;
       values-in = p.values;
       places-in = p.places;
-      weights-in = λ t. twice s.n (k_of s) l.affinities (p.areas.tree-long t).links-most;
+      weights-in = λ t. twice s.n (k_of s) l.areas.affinities (p.areas.tree-long t).links-most;
       indices-in = λ t. twice s.n (k_of s) l.indices (p.areas.tree-long t).indices-most;
       offsets-in = λ t. (p.areas.tree-long t).offsets-most;
       square-in = p.areas.exact-long;

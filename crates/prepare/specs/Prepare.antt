@@ -36,17 +36,17 @@ lent p i g a x o f v w = record { positions = p; increments = i; gains = g; affi
 -- their lengths; of the arena the number of its nodes
 abbrev pub lengths_of : Lent → ℕ → Lengths
 lengths_of l nodes = record {
-  positions = length l.positions;
-  increments = length l.increments;
-  gains = length l.gains;
-  affinities = length
-      l.affinities;
+  areas = record {
+    positions = length l.positions;
+    increments = length l.increments;
+    gains = length l.gains;
+    affinities = length l.affinities;
+    forces = length l.forces;
+  };
   indices = length l.indices;
   offsets = length l.offsets;
-  forces = length l.forces;
   nodes = nodes;
-  values = length
-      l.row_values;
+  values = length l.row_values;
   places = length l.row_indices;
 }
 
@@ -58,7 +58,7 @@ all_inside t m = every (λ i. in_domain (at t i)) m
 
 -- no area is too short; preparation rows have n values and n indices
 unfoldable pub lengths_fit : Settings → Lengths → Bool
-lengths_fit s l = areas_fit s l.positions l.increments l.gains l.affinities l.indices l.offsets l.forces l.nodes && leb s.n l.values && leb s.n l.places
+lengths_fit s l = areas_fit s l.areas.positions l.areas.increments l.areas.gains l.areas.affinities l.indices l.offsets l.areas.forces l.nodes && leb s.n l.values && leb s.n l.places
 
 -- the number of the first test that fails; 0: none
 unfoldable pub prepare_fault : Settings → List Float → List Float → Lengths → ℕ

@@ -9,13 +9,14 @@ ghost use Rattle.areas.specs.Filled.{filled};
 ghost use Rattle.affinity_lists.specs.Lists.{areas};
 ghost use Rattle.affinity_distances.specs.Distances.{squares_of};
 ghost use Rattle.affinity.specs.Exact.{exact_of};
+ghost use Rattle.refusal.specs.Refusal.{refusal_number, number_told};
 ghost use Rattle.run_record.specs.Record.{GoodSettings};
 ghost use Rattle.prepare.specs.Room.{RouteRoom};
 ghost use Rattle.prepare.specs.Prepare.{all_inside, lengths_fit, prepare_fault, routed, lent, prepare_outcome, prepared};
 
-use areas::{clear_indices, copy_values, fill};
+use areas::{copy_front, fill};
 use elementary::in_domain;
-use refusal::number;
+use refusal::{Numbered, Refusal};
 use run_entry::areas_fit;
 use run_record::faults::{early_fault, is_tree, late_fault, sizes_of, times};
 use run_record::progress::fresh_run;
@@ -33,13 +34,9 @@ pub enum Prepared {
 // The lengths of the areas that are lent, and the nodes of the arena.
 #[derive(Clone, Copy)]
 pub struct Lengths {
-    pub positions: usize,
-    pub increments: usize,
-    pub gains: usize,
-    pub affinities: usize,
+    pub areas: run_entry::Lengths,
     pub indices: usize,
     pub offsets: usize,
-    pub forces: usize,
     pub nodes: usize,
     // of the two preparation rows
     pub values: usize,
@@ -62,17 +59,7 @@ fn lengths_fit(s: Settings, l: Lengths) -> bool
     requires { GoodSettings s }
     ensures { result ≡ lengths_fit s l }
 {
-    if !areas_fit(
-        s,
-        l.positions,
-        l.increments,
-        l.gains,
-        l.affinities,
-        l.indices,
-        l.offsets,
-        l.forces,
-        l.nodes,
-    ) {
+    if !areas_fit(s, l.areas, l.indices, l.offsets, l.nodes) {
         return false;
     }
     if l.values < s.n {
@@ -81,36 +68,30 @@ fn lengths_fit(s: Settings, l: Lengths) -> bool
     s.n <= l.places
 }
 
-// The number of the first test that fails; 0: none.
-pub fn prepare_fault(s: Settings, table: &[f64], start: &[f64], l: Lengths) -> u8
-    ensures { result ≡ prepare_fault s table.now start.now l }
+// The first test that fails.
+pub fn prepare_fault(s: Settings, table: &[f64], start: &[f64], l: Lengths) -> Result<(), Refusal>
+    ensures { number_told refusal_number result ≡ prepare_fault s table.now start.now l }
 {
-    let e = number(early_fault(s));
-    if e != 0 {
-        return e;
-    }
+    early_fault(s)?;
     let nf = times(s.n, s.f);
     if table.len() != nf {
-        return 7;
+        return Err(Refusal::Size);
     }
     if !all_in(table, nf) {
-        return 8;
+        return Err(Refusal::Value);
     }
-    let t = number(late_fault(s));
-    if t != 0 {
-        return t;
-    }
+    late_fault(s)?;
     let nc = times(s.n, s.c);
     if start.len() != nc {
-        return 11;
+        return Err(Refusal::Start);
     }
     if !all_in(start, nc) {
-        return 11;
+        return Err(Refusal::Start);
     }
     if lengths_fit(s, l) {
-        return 0;
+        return Ok(());
     }
-    12
+    Err(Refusal::Short)
 }
 
 // Positions, increments, gains and forces as a run begins.
@@ -128,7 +109,7 @@ fn set_out(
         × (gains.new ≡ filled one64 z.cells gains.old)
         × (forces.new ≡ filled zero64 z.forces forces.old) }
 {
-    copy_values(positions, start, 0, z.cells);
+    copy_front(positions, start, 0, z.cells);
     fill(increments, z.cells, 0.0);
     fill(gains, z.cells, 1.0);
     fill(forces, z.forces, 0.0);
@@ -192,7 +173,7 @@ fn route(
         squares,
         row_values,
     );
-    clear_indices(row_indices, s.n);
+    fill(row_indices, s.n, 0);
 }
 
 // Prepares a run: takes any settings and any areas. Of the arena it asks only how many nodes it has.
@@ -236,21 +217,23 @@ pub fn prepare(
         row_values.old
         row_indices.old) }
 {
-    let l = Lengths {
+    let areas = run_entry::Lengths {
         positions: positions.len(),
         increments: increments.len(),
         gains: gains.len(),
         affinities: affinities.len(),
+        forces: forces.len(),
+    };
+    let l = Lengths {
+        areas,
         indices: indices.len(),
         offsets: offsets.len(),
-        forces: forces.len(),
         nodes,
         values: row_values.len(),
         places: row_indices.len(),
     };
-    let k = prepare_fault(s, table, start, l);
-    if k != 0 {
-        return Prepared::Refused(k);
+    if let Err(e) = prepare_fault(s, table, start, l) {
+        return Prepared::Refused(e.number());
     }
     let z = sizes_of(s);
     route(

@@ -7,6 +7,7 @@ ghost use Rattle.prepare.specs.Prepare.{prepare_fault, lent, prepare_outcome};
 ghost use Rattle.prepare_strip.specs.PrepareStrip.{strip_bars, prepared_strip};
 
 use prepare::{Lengths, Prepared, prepare, prepare_fault};
+use refusal::number;
 use run_record::Settings;
 use strip_profile::in_profile;
 
@@ -17,7 +18,7 @@ pub fn strip_bars(s: Settings, table: &[f64], start: &[f64], l: Lengths) -> bool
     if in_profile(s) {
         return false;
     }
-    let k = prepare_fault(s, table, start, l);
+    let k = number(prepare_fault(s, table, start, l));
     if k == 0 {
         return true;
     }
@@ -65,14 +66,17 @@ pub fn prepare_strip(
         row_values.old
         row_indices.old) }
 {
-    let l = Lengths {
+    let areas = run_entry::Lengths {
         positions: positions.len(),
         increments: increments.len(),
         gains: gains.len(),
         affinities: affinities.len(),
+        forces: forces.len(),
+    };
+    let l = Lengths {
+        areas,
         indices: indices.len(),
         offsets: offsets.len(),
-        forces: forces.len(),
         nodes,
         values: row_values.len(),
         places: row_indices.len(),

@@ -108,6 +108,10 @@ advanced_of r used = record { settings = r.settings; standing = r.standing; done
 unfoldable pub stops_now : Run → Float → Bool
 stops_now r norm = leb early_iterations r.done && above_zero r.settings.minimum && lt norm r.settings.minimum
 
+-- how a run stands after an iteration more
+abbrev pub standing_after : Run → Float → Standing
+standing_after r norm = cond (stops_now r norm) Stopped (cond (eqb (r.done + 1) r.settings.iterations) Finished Running)
+
 unfoldable pub closed_of : Run → Float → Run
 closed_of r norm = record {
   settings = r.settings;

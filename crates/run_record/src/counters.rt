@@ -11,11 +11,7 @@ use laws::EARLY_ITERATIONS;
 pub fn is_ended(s: Standing) -> bool
     ensures { result ≡ is_ended s }
 {
-    match s {
-        Standing::Running => false,
-        Standing::Stopped => true,
-        Standing::Finished => true,
-    }
+    !matches!(s, Standing::Running)
 }
 
 // the units of an iteration
@@ -47,10 +43,7 @@ fn stopped_fits(done: usize, set: usize, phase: usize, least: f64) -> bool
 fn finished_fits(done: usize, set: usize, phase: usize, least: f64) -> bool
     ensures { result ≡ state_fits Finished done set phase least }
 {
-    if done != set {
-        return false;
-    }
-    phase == 0
+    done == set && phase == 0
 }
 
 pub fn state_fits(s: Standing, done: usize, set: usize, phase: usize, least: f64) -> bool

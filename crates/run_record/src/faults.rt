@@ -13,19 +13,13 @@ use refusal::Refusal;
 pub fn is_positive(x: f64) -> bool
     ensures { result ≡ positive x }
 {
-    if 0.0 < x {
-        return x <= 1.7976931348623157e308;
-    }
-    false
+    0.0 < x && x <= 1.7976931348623157e308
 }
 
 pub fn is_inside(a: f64) -> bool
     ensures { result ≡ angle_fine a }
 {
-    if 0.0 <= a {
-        return a < 1.0;
-    }
-    false
+    0.0 <= a && a < 1.0
 }
 
 pub fn is_below(x: f64, y: f64) -> bool
@@ -43,10 +37,7 @@ pub fn is_above(x: f64) -> bool
 pub fn is_tree(m: Method) -> bool
     ensures { result ≡ is_tree m }
 {
-    match m {
-        Method::Exact => false,
-        Method::BarnesHut => true,
-    }
+    matches!(m, Method::BarnesHut)
 }
 
 // refusals 1 to 6, and 7 for n or f

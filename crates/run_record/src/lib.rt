@@ -7,14 +7,14 @@ pub mod faults;
 pub mod progress;
 
 // Which gradient the run goes by.
-#[derive(Clone, Copy)]
+#[derive(Clone, Copy, Debug, PartialEq, Eq)]
 pub enum Method {
     Exact,
     BarnesHut,
 }
 
 // How a run stands.
-#[derive(Clone, Copy)]
+#[derive(Clone, Copy, Debug, PartialEq, Eq)]
 pub enum Standing {
     Running,
     // the norm was below the minimum

@@ -1,6 +1,6 @@
 // The record where a run begins, and what a unit does to it.
 ghost use Rattle.std.specs.Prelude.{◌≡◌, ◌<◌};
-ghost use Rattle.run_record.specs.Record.{fresh_run, advanced_of, stops_now, closed_of};
+ghost use Rattle.run_record.specs.Record.{fresh_run, advanced_of, stops_now, standing_after, closed_of};
 
 use crate::faults::is_above;
 use crate::{Run, Settings, Standing};
@@ -25,15 +25,11 @@ pub fn advanced(r: Run, used: usize) -> Run
     requires { (r.phase < 10000) × (r.units < 1000000000) }
     ensures { result ≡ advanced_of r used }
 {
-    let s = r.settings;
-    let st = r.standing;
     Run {
-        settings: s,
-        standing: st,
-        done: r.done,
         phase: r.phase + 1,
         units: r.units + 1,
         used,
+        ..r
     }
 }
 
@@ -50,38 +46,30 @@ fn stops_now(r: Run, norm: f64) -> bool
     norm < s.minimum
 }
 
+// How a run stands after an iteration more.
+fn standing_after(r: Run, norm: f64) -> Standing
+    requires { r.done < 100000 }
+    ensures { result ≡ standing_after r norm }
+{
+    if stops_now(r, norm) {
+        return Standing::Stopped;
+    }
+    if r.done + 1 == r.settings.iterations {
+        return Standing::Finished;
+    }
+    Standing::Running
+}
+
 // the finish unit: an iteration more
 pub fn closed(r: Run, norm: f64) -> Run
     requires { (r.done < 100000) × (r.units < 1000000000) }
     ensures { result ≡ closed_of r norm }
 {
-    let s = r.settings;
-    if stops_now(r, norm) {
-        return Run {
-            settings: s,
-            standing: Standing::Stopped,
-            done: r.done + 1,
-            phase: 0,
-            units: r.units + 1,
-            used: r.used,
-        };
-    }
-    if r.done + 1 == s.iterations {
-        return Run {
-            settings: s,
-            standing: Standing::Finished,
-            done: r.done + 1,
-            phase: 0,
-            units: r.units + 1,
-            used: r.used,
-        };
-    }
     Run {
-        settings: s,
-        standing: Standing::Running,
+        standing: standing_after(r, norm),
         done: r.done + 1,
         phase: 0,
         units: r.units + 1,
-        used: r.used,
+        ..r
     }
 }

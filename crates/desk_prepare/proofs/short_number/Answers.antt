@@ -1,12 +1,13 @@
 -- `desk_prepare::short_number` meets its contract: from what its calls promise.
-use borrow.Author.Tests.{eq-eqb, ne_eqb}
-use mathlib.Core.Path.{sym, ◌∙◌}
+use borrow.Author.Tests.{ne_eqb}
+use mathlib.Core.Path.{sym}
+use Rattle.refusal.proofs.Numbers.{refusal-some}
 use Rattle.desk_prepare.proofs.short_number.Goals as goal
 
-pub returns-then-k-eq0 : goal.returns-then-k-eq0
-returns-then-k-eq0 c =
-    rw (eq-eqb _ _ (sym c.prepare_fault-k.ensures ∙ c.if-k-eq0.true))
+pub returns-in-Err : goal.returns-in-Err
+returns-in-Err c =
+    rw (c.number.ensures, sym c.in-Err.ensures, ne_eqb _ 0 (refusal-some c.in-Err.e))
 
-pub returns : goal.returns
-returns c =
-    rw (sym c.prepare_fault-k.ensures, ne_eqb _ _ c.if-k-eq0.false)
+pub returns-in-Ok : goal.returns-in-Ok
+returns-in-Ok c =
+    rw (sym c.in-Ok.ensures)

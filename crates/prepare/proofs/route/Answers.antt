@@ -41,14 +41,14 @@ exact_affinities-requires c = (
   c.requires.values-in,
 )
 
-pub clear_indices-requires : goal.clear_indices-requires
-clear_indices-requires c =
+pub fill-requires : goal.fill-requires
+fill-requires c =
     c.requires.places-in
 
 pub returns : goal.returns
 returns c =
     record {
       row_indices_after = routed-exact _ _ _ (sym c.is_tree.ensures ∙ c.if-is_tree.false) c.exact_affinities.ensures.affinities_after c.exact_affinities.ensures.row_after
-          c.clear_indices.ensures;
+          c.fill.ensures;
       squares_after = c.exact_affinities.ensures.squares_after;
     }

@@ -3,4 +3,4 @@ use Rattle.prepare.proofs.set_out.Goals as goal
 
 pub returns : goal.returns
 returns c =
-    (c.copy_values.ensures, c.fill.ensures, c.fill-2.ensures, c.fill-3.ensures)
+    (c.copy_front.ensures, c.fill.ensures, c.fill-2.ensures, c.fill-3.ensures)

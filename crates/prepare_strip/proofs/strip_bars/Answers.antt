@@ -9,9 +9,9 @@ returns-then-in_profile c =
 
 pub returns-then-k-eq0 : goal.returns-then-k-eq0
 returns-then-k-eq0 c =
-    sym (bars-passed _ _ (sym c.in_profile.ensures ∙ c.if-in_profile.false) (sym c.prepare_fault-k.ensures ∙ c.if-k-eq0.true))
+    sym (bars-passed _ _ (sym c.in_profile.ensures ∙ c.if-in_profile.false) (sym (c.number-k.ensures ∙ c.prepare_fault.ensures) ∙ c.if-k-eq0.true))
 
 pub returns : goal.returns
 returns c =
-    rw c.prepare_fault-k.ensures
-    (sym (bars-twelve _ _ (sym c.in_profile.ensures ∙ c.if-in_profile.false) (rw c.prepare_fault-k.ensures at c.if-k-eq0.false)))
+    rw (c.number-k.ensures ∙ c.prepare_fault.ensures)
+    (sym (bars-twelve _ _ (sym c.in_profile.ensures ∙ c.if-in_profile.false) (rw (c.number-k.ensures ∙ c.prepare_fault.ensures) at c.if-k-eq0.false)))

@@ -4,10 +4,8 @@ use Rattle.run_record.proofs.faults.is_inside.Goals as goal
 
 pub returns-then-a : goal.returns-then-a
 unfolding angle_fine
-returns-then-a c =
-    simp c.if-a.true
+returns-then-a c = simp c.if-a.true
 
-pub returns : goal.returns
+pub returns-else-a : goal.returns-else-a
 unfolding angle_fine
-returns c =
-    simp c.if-a.false
+returns-else-a c = simp c.if-a.false

@@ -4,10 +4,8 @@ use Rattle.run_record.proofs.faults.is_positive.Goals as goal
 
 pub returns-then-x : goal.returns-then-x
 unfolding positive
-returns-then-x c =
-    simp c.if-x.true
+returns-then-x c = simp c.if-x.true
 
-pub returns : goal.returns
+pub returns-else-x : goal.returns-else-x
 unfolding positive
-returns c =
-    simp c.if-x.false
+returns-else-x c = simp c.if-x.false
