@@ -173,7 +173,12 @@ fn lacks_room(file: &[u8], good: usize, places: usize, rules: usize) -> bool
 }
 
 // Copies the good records in order, and tells the others.
-pub fn salvage(file: &[u8], good: &mut [u8], places: &mut [u64], rules: &mut [u8]) -> Result<Saved, Refusal>
+pub fn salvage(
+    file: &[u8],
+    good: &mut [u8],
+    places: &mut [u64],
+    rules: &mut [u8],
+) -> Result<Saved, Refusal>
     ensures { salvage_outcome (numbered refusal_number result) good.new places.new rules.new
         ≡ salvage_of file.now good.old places.old rules.old }
 {
