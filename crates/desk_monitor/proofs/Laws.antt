@@ -4,7 +4,7 @@ use mathlib.Core.List.{List}
 use Prim.Native.Nat.{ℕ}
 use lib.ListN.{length, set}
 use borrow.Author.Tests.{eq-eqb, ne_eqb}
-use Rattle.std.specs.Prelude.{Result, Ok, Err}
+use Rattle.std.specs.Prelude.{Result}
 use Rattle.monitor_write.specs.declared.Unwritable.{Unwritable}
 use Rattle.monitor_write.specs.MonitorWrite.{monitor_writing, write_monitor, monitored_number}
 use Rattle.refusal.specs.declared.Unreadable.{Unreadable}

@@ -1,13 +1,13 @@
 -- Salvaging a frame file, with the answer as plain words. Definitions only.
 -- a are the answer's words: word 0 tells the records kept and word 1 the records told; word 0 is 0 where a lent area is too short, and word 1 stays.
 use Rattle.std.specs.Prelude.{List, cond, ℕ, ltb, length, set}
-use Rattle.salvage.specs.declared.Salvaged.{Salvaged}
-use Rattle.salvage.specs.declared.Salvaged.TheVariants.{Saved, Short}
+use Rattle.std.specs.Prelude.{Result, Ok, Err}
+use Rattle.salvage.specs.declared.Saved.{Saved}
 use Rattle.salvage.specs.Salvage.{SalvageOutcome, salvage_of, salvage_number}
 
-unfoldable pub salvaged_words : Salvaged → List ℕ → List ℕ
-salvaged_words (Saved k t) a = set (set a 0 k) 1 t
-salvaged_words Short a = set a 0 0
+unfoldable pub salvaged_words : Result Saved ℕ → List ℕ → List ℕ
+salvaged_words (Ok s) a = set (set a 0 s.kept) 1 s.told
+salvaged_words (Err k) a = set a 0 0
 
 -- the number, and areas and answer as they are left
 pub record HostSalvaged : Type 0 where

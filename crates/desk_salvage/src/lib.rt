@@ -3,27 +3,29 @@
 #![tactic(auto)]
 
 ghost use Rattle.std.specs.Prelude.{◌≡◌, ◌≤◌, length};
+ghost use Rattle.refusal.specs.Refusal.{refusal_number, numbered};
 ghost use Rattle.salvage.specs.Salvage.{salvage_number};
 ghost use Rattle.desk_salvage.specs.HostSalvage.{salvaged_words, host_salvaged, host_salvage};
 
-use salvage::{Salvaged, salvage};
+use refusal::{Refusal, number};
+use salvage::{Saved, salvage};
 
 // Tells the records kept and the records told, or 0. Answers the number.
-fn put_salvaged(answer: &mut [u64], s: Salvaged) -> u32
+#[tactic(auto, unfolding(crate::specs::HostSalvage::salvaged_words, salvage::specs::Salvage::salvage_number))]
+fn put_salvaged(answer: &mut [u64], s: Result<Saved, Refusal>) -> u32
     requires { 2 ≤ length answer.old }
-    ensures { (result ≡ salvage_number s) × (answer.new ≡ salvaged_words s answer.old) }
+    ensures { (result ≡ salvage_number (numbered refusal_number s)) × (answer.new ≡ salvaged_words (numbered refusal_number s) answer.old) }
 {
     match s {
-        Salvaged::Saved { kept, told } => {
-            answer[0] = kept as u64;
-            answer[1] = told as u64;
-            0
+        Ok(saved) => {
+            answer[0] = saved.kept as u64;
+            answer[1] = saved.told as u64;
         }
-        Salvaged::Short => {
+        Err(_) => {
             answer[0] = 0;
-            12
         }
     }
+    number(s) as u32
 }
 
 // Copies the good records in order, and tells the others. Answers 0, or 12; then none of the areas is changed.

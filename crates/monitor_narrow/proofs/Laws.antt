@@ -4,7 +4,7 @@ use Prim.Native.Nat.{ℕ, zero, suc, ◌+◌, ◌-◌, ◌*◌, ◌/◌, ◌%◌
 use native.Mathlib.Nat.{lt_of_le_of_lt, lt_of_lt_of_le, zero-add, add-zero, lt_irrefl, div-le_self, mod-lt}
 use native.Mathlib.Omega.{arith}
 use native.Mathlib.Decide.{dec_lt}
-use mathlib.Core.Bool.{Bool, true, false, cond, true≢false}
+use mathlib.Core.Bool.{Bool, false, cond, true≢false}
 use lib.Dec.{leb, ltb, eqb}
 use lib.Count.{count_leading_zeros}
 use lib.Pow.{pow_pos, pow_mono}
@@ -16,7 +16,7 @@ use lib.Ieee.Scale.{finite}
 use lib.Ieee.Order.{drop, kept}
 use borrow.Author.Tests.{eq-eqb, ne_eqb, lt-ltb, le-ltb, le-leb, lt-leb}
 use Rattle.elementary.proofs.Parts.{placed}
-use Rattle.std.specs.Prelude.{Option, Some, None}
+use Rattle.std.specs.Prelude.{Some, None}
 use Rattle.monitor_narrow.specs.Narrow.{single_of, told_single, narrow_of, widen_of, finite_single}
 use Rattle.monitor_narrow.specs.Steps.{magnitude_of}
 use Rattle.monitor_narrow.proofs.Patterns.{value_as, pattern, lead_of, fields_value, fields-finite}

@@ -20,7 +20,7 @@ use lib.Ieee.Order.{drop, kept}
 use lib.Ieee.Scale.{finite}
 use borrow.Author.Tests.{ltb-true, lt-ltb, le-ltb, lt-leb, le-leb}
 use Rattle.elementary.proofs.Digits.{under_back}
-use Rattle.std.specs.Prelude.{Option, Some, None}
+use Rattle.std.specs.Prelude.{Some, None}
 use Rattle.monitor_narrow.specs.Narrow.{single_of, told_single, narrow_of, widen_of, finite_single}
 use Rattle.monitor_narrow.specs.Nearness.{grains_of, sign_of, differ, apart_of, halfway_past}
 use Rattle.monitor_narrow.proofs.Patterns.{value_as, lead_of, cut-is}

@@ -1,6 +1,6 @@
 -- Values of narrowing and widening, computed: ties, subnormals, signed zeros, and both sides of halfway past the largest.
 use Rattle.std.specs.Prelude.{◌≡◌, refl}
-use Rattle.std.specs.Prelude.{Option, Some, None}
+use Rattle.std.specs.Prelude.{Some, None}
 use Rattle.monitor_narrow.specs.Narrow.{narrow_of, widen_of}
 
 -- 1

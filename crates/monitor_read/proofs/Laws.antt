@@ -6,7 +6,7 @@ use Prim.Native.Nat.{ℕ, ◌*◌, ◌%◌, ◌<◌, ◌≤◌}
 use lib.ListN.{length}
 use borrow.Author.Tests.{lt-ltb, le-ltb, eq-eqb, ne_eqb}
 use Rattle.monitor.specs.Monitor.{frames_room}
-use Rattle.std.specs.Prelude.{Result, Ok, Err}
+use Rattle.std.specs.Prelude.{Ok, Err}
 use Rattle.refusal.specs.declared.Unreadable.TheVariants.{Bad, Short}
 use Rattle.monitor_read.specs.MonitorRead.{byte_at, monitor_picture, whole_monitor, first_broken, is_monitor, monitor_reading, fronted, widened_at, read_monitor}
 

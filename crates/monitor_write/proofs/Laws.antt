@@ -18,7 +18,7 @@ use Rattle.monitor.specs.Monitor.{frames_room}
 use Rattle.monitor.proofs.Laws.{record-size, frames-lie}
 use Rattle.monitor_narrow.specs.Narrow.{narrow_of}
 use Rattle.std.specs.Prelude.{Option, Some, None, unwrap_or}
-use Rattle.std.specs.Prelude.{Result, Ok, Err}
+use Rattle.std.specs.Prelude.{Ok, Err}
 use Rattle.monitor_write.specs.declared.Unwritable.{Unwritable}
 use Rattle.monitor_write.specs.declared.Unwritable.TheVariants.{Short}
 use Rattle.monitor_write.specs.MonitorWrite.{faulty_at, single_bits, monitor_row, monitor_writing, room_to_write, fault_told, write_monitor, WriteLies}

@@ -19,12 +19,12 @@ use Rattle.take_rows.proofs.Packing.{joined_same}
 use Rattle.little.specs.Little.{AllBelow}
 use Rattle.little.proofs.Roundtrip.{little-below}
 use Rattle.frames.specs.Frames.{spare_fine}
-use Rattle.std.specs.Prelude.{Option, Some, None}
+use Rattle.std.specs.Prelude.{Option, Some}
 use Rattle.monitor_narrow.specs.Narrow.{narrow_of, widen_of, finite_single}
 use Rattle.monitor_narrow.proofs.Theorems.{narrow-widened, narrow-once}
 use Rattle.monitor.specs.Monitor.{monitor_record, frame_fine, follows_at, frames_room, FramesLie}
 use Rattle.monitor.proofs.Laws.{frames-lie}
-use Rattle.std.specs.Prelude.{Result, Ok, Err}
+use Rattle.std.specs.Prelude.{Ok}
 use Rattle.monitor_write.specs.MonitorWrite.{wrong_at, is_past, past_at, faulty_at, single_bits, monitor_row, monitor_writing, room_to_write, write_monitor}
 use Rattle.monitor_write.proofs.Laws.{writing-whole}
 use Rattle.monitor_read.specs.MonitorRead.{byte_at, monitor_picture, coordinate_at, coordinates_fine, broken_at, whole_monitor, MonitorReading, fronted, widened_at, read_monitor}

@@ -21,7 +21,7 @@ use Rattle.std.specs.Prelude.{Option, Some, None}
 use Rattle.monitor_narrow.specs.Narrow.{narrow_of, widen_of, finite_single}
 use Rattle.monitor_narrow.proofs.Theorems.{narrowed-below, narrowed-finite}
 use Rattle.monitor.specs.Monitor.{frame_fine, follows_at, frames_room}
-use Rattle.std.specs.Prelude.{Result, Ok, Err}
+use Rattle.std.specs.Prelude.{Ok}
 use Rattle.monitor_write.specs.MonitorWrite.{wrong_at, is_past, past_at, faulty_at, single_bits, monitor_row, write_monitor}
 use Rattle.monitor_write.proofs.Laws.{row-size}
 use Rattle.monitor_read.specs.MonitorRead.{byte_at, monitor_picture, coordinate_at, coordinates_fine, broken_at, whole_monitor, is_monitor, monitor_reading, fronted, widened_at, read_monitor}

@@ -1,13 +1,12 @@
--- A list at the front of an area, and more put behind it; the bytes of a record, copied one by one. Assumes nothing.
+-- A list at the front of an area, and more put behind it; the bytes of a record. Assumes nothing.
 use mathlib.Core.Path.{◌≡◌, refl, sym, ap, subst, ◌∙◌}
 use mathlib.Core.List.{List, [], ◌∷◌, ◌++◌}
-use Prim.Native.Nat.{ℕ, ◌+◌, ◌<◌, ◌≤◌}
+use Prim.Native.Nat.{ℕ, ◌+◌, ◌-◌, ◌<◌, ◌≤◌}
 use native.Mathlib.Omega.{arith}
-use lib.ListN.{length, set, drop, length-append, length-drop}
+use lib.ListN.{length, set, take, drop, length-append, length-drop}
 use lib.Seq.{take-append_seam, drop-append-add, drop-drop, length-take-le, get_or-take, get_or-drop}
 use Rattle.laws.specs.Area.{num}
 use Rattle.laws.specs.Joined.{written}
-use Rattle.laws.proofs.Parts.{Spells, spells-next, spells-done}
 use Rattle.areas.proofs.Fetched.{put_next}
 use Rattle.frames.specs.Frames.{record_bytes}
 use Rattle.salvage.specs.Salvage.{record_at, foremost}
@@ -31,9 +30,8 @@ module _ (f : List ℕ) (a : ℕ) (h : a + record_bytes ≤ length f) where
   pub record-byte : (t : ℕ) → t < record_bytes → num (record_at f a) t ≡ num f (a + t)
   record-byte t l = get_or-take record_bytes (drop a f) t 0 l ∙ get_or-drop a f t 0
 
-  module _ {g₀ g : List ℕ} {to t : ℕ} (r : Spells (record_at f a) g₀ to t g) where
-    pub record-next : to + record_bytes ≤ length g₀ → t < record_bytes → Spells (record_at f a) g₀ to (t + 1) (set g (to + t) (num f (a + t)))
-    record-next m l = subst (λ (x : ℕ). Spells (record_at f a) g₀ to (t + 1) (set g (to + t) x)) (record-byte t l) (spells-next 0 (omega (arith, copied-size)) (omega (arith, copied-size)) r)
-
-    pub record-done : record_bytes ≤ t → g ≡ written (record_at f a) to g₀
-    record-done l = spells-done (omega (arith, copied-size)) r
+-- the part of the file that is copied
+pub part-copied : (f : List ℕ) (a : ℕ) → take (a + record_bytes - a) (drop a f) ≡ record_at f a
+part-copied f a =
+    let e : a + record_bytes - a ≡ record_bytes = omega arith in
+    ap (λ (n : ℕ). take n (drop a f)) e

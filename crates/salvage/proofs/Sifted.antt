@@ -14,9 +14,9 @@ use Rattle.laws.proofs.Bools.{two, by_bool, or_left, or_right}
 use Rattle.laws.proofs.Joined.{those-yes, those-no, joined-next, length-map, map-append}
 use Rattle.frames.specs.Frames.{record_bytes, whole_records}
 use Rattle.salvage.specs.declared.Sift.{Sift}
-use Rattle.salvage.specs.declared.Salvaged.TheVariants.{Saved, Short}
+use Rattle.std.specs.Prelude.{Err}
 use Rattle.salvage.specs.Salvage.{tail_rule, rule_after, last_kept, rule_of, is_kept, kept_in, told_in, rules_told}
-use Rattle.salvage.specs.Salvage.{record_at, bytes_of, bytes_kept, records_read, lacks_room, foremost, salvage_outcome, salvage_of}
+use Rattle.salvage.specs.Salvage.{record_at, bytes_of, bytes_kept, records_read, lacks_room, foremost, saved, salvage_outcome, salvage_of}
 use Rattle.salvage.specs.Steps.{Sifting, sifting, keep_step, tell_step, sift_step, SiftFits, SiftRoom, sifted_by}
 use Rattle.salvage.proofs.Foremost.{foremost-copy, foremost-put, foremost-size, copied-size}
 
@@ -239,18 +239,18 @@ module _ {f g p r : List ℕ} (room : SiftRoom f g p r) where
 -- ---- the call
 
 module _ (f g p r : List ℕ) where
-  pub short-left : lacks_room f (length g) (length p) (length r) ≡ true → salvage_outcome Short g p r ≡ salvage_of f g p r
+  pub short-left : lacks_room f (length g) (length p) (length r) ≡ true → salvage_outcome (Err 12) g p r ≡ salvage_of f g p r
   unfolding salvage_of
   short-left e = rw e
 
   module _ (e : lacks_room f (length g) (length p) (length r) ≡ false) {s : Sift} {g' p' r' : List ℕ} (d : sifting s g' p' r' ≡ sifted_by f (whole_records f) g p r) where
     saved-as :
         (n : ℕ) → records_read f ≡ n → (k t : ℕ) (g'' p'' r'' : List ℕ) → k ≡ length (kept_in f n) → t ≡ length (told_in f n)
-        → g'' ≡ foremost (bytes_kept f n) g → p'' ≡ foremost (told_in f n) p → r'' ≡ foremost (rules_told f n) r → salvage_outcome (Saved k t) g'' p'' r'' ≡ salvage_of f g p r
+        → g'' ≡ foremost (bytes_kept f n) g → p'' ≡ foremost (told_in f n) p → r'' ≡ foremost (rules_told f n) r → salvage_outcome (saved k t) g'' p'' r'' ≡ salvage_of f g p r
     unfolding salvage_of
     saved-as n q k t g'' p'' r'' a b c u v = rw (e, q, a, b, c, u, v)
 
-    pub saved-left : length f % record_bytes ≡ 0 → salvage_outcome (Saved s.kept s.told) g' p' r' ≡ salvage_of f g p r
+    pub saved-left : length f % record_bytes ≡ 0 → salvage_outcome (saved s.kept s.told) g' p' r' ≡ salvage_of f g p r
     unfolding records_read
     saved-left z = saved-as (whole_records f) (rw (eq-eqb (length f % record_bytes) 0 z) (omega arith)) s.kept s.told g' p' r'
         (ap (λ (y : Sifting). y.counts.kept) d)
@@ -259,7 +259,7 @@ module _ (f g p r : List ℕ) where
         (ap (λ (y : Sifting). y.places) d)
         (ap (λ (y : Sifting). y.rules) d)
 
-    pub tail-left : (length f % record_bytes ≡ 0 → ⊥) → salvage_outcome (Saved s.kept (s.told + 1)) g' (set p' s.told (whole_records f)) (set r' s.told tail_rule) ≡ salvage_of f g p r
+    pub tail-left : (length f % record_bytes ≡ 0 → ⊥) → salvage_outcome (saved s.kept (s.told + 1)) g' (set p' s.told (whole_records f)) (set r' s.told tail_rule) ≡ salvage_of f g p r
     unfolding records_read
     tail-left z =
         let w = whole_records f in

@@ -3,8 +3,8 @@
 use Rattle.std.specs.Prelude.{List, [], ◌++◌, map, Bool, cond, not, ◌||◌, ℕ, zero, suc, ◌+◌, ◌-◌, ◌*◌, ◌%◌, eqb, ltb, length, take, drop}
 use Rattle.laws.specs.Joined.{those, joined}
 use Rattle.frames.specs.Frames.{record_bytes, picture_at, side_at, field_at, picture_fine, side_fine, field_fine, spare_fine, values_fine, may_follow, whole_records}
-use Rattle.salvage.specs.declared.Salvaged.{Salvaged}
-use Rattle.salvage.specs.declared.Salvaged.TheVariants.{Saved, Short}
+use Rattle.std.specs.Prelude.{Result, Ok, Err}
+use Rattle.salvage.specs.declared.Saved.{Saved}
 
 -- ---- the rules, as they are numbered and tested; 0 is no rule
 
@@ -100,24 +100,28 @@ lacks_room f g p r = ltb g (whole_records f * record_bytes) || (ltb p (records_r
 abbrev pub foremost : List ℕ → List ℕ → List ℕ
 foremost w l = w ++ drop (length w) l
 
+-- so many kept, and so many told
+abbrev pub saved : ℕ → ℕ → Result Saved ℕ
+saved k t = Ok (record { kept = k; told = t })
+
 -- what is answered, and the areas afterwards
 pub record SalvageOutcome : Type 0 where
-  pub answer : Salvaged
+  pub answer : Result Saved ℕ
   pub good : List ℕ
   pub places : List ℕ
   pub rules : List ℕ
 
-abbrev pub salvage_outcome : Salvaged → List ℕ → List ℕ → List ℕ → SalvageOutcome
+abbrev pub salvage_outcome : Result Saved ℕ → List ℕ → List ℕ → List ℕ → SalvageOutcome
 salvage_outcome a g p r = record { answer = a; good = g; places = p; rules = r }
 
 -- 12 comes first and changes nothing
 unfoldable pub salvage_of : List ℕ → List ℕ → List ℕ → List ℕ → SalvageOutcome
 salvage_of f g p r =
     let n = records_read f in
-    cond (lacks_room f (length g) (length p) (length r)) (salvage_outcome Short g p r)
-    (salvage_outcome (Saved (length (kept_in f n)) (length (told_in f n))) (foremost (bytes_kept f n) g) (foremost (told_in f n) p) (foremost (rules_told f n) r))
+    cond (lacks_room f (length g) (length p) (length r)) (salvage_outcome (Err 12) g p r)
+    (salvage_outcome (saved (length (kept_in f n)) (length (told_in f n))) (foremost (bytes_kept f n) g) (foremost (told_in f n) p) (foremost (rules_told f n) r))
 
 -- the number of a refusal; 0 where there is none
-unfoldable pub salvage_number : Salvaged → ℕ
-salvage_number (Saved k t) = 0
-salvage_number Short = 12
+unfoldable pub salvage_number : Result Saved ℕ → ℕ
+salvage_number (Ok s) = 0
+salvage_number (Err k) = k

@@ -6,11 +6,13 @@
 ghost use Rattle.std.specs.Prelude.{◌≡◌, ◌+◌, ◌*◌, ◌<◌, ◌≤◌, length};
 ghost use Rattle.laws.specs.Joined.{written};
 ghost use Rattle.frames.specs.Frames.{record_bytes, whole_records};
+ghost use Rattle.refusal.specs.Refusal.{refusal_number, numbered};
 ghost use Rattle.salvage.specs.Salvage.{rule_alone, follows_last, rule_after, record_at, records_read, lacks_room, salvage_outcome, salvage_of};
 ghost use Rattle.salvage.specs.Steps.{sifting, sift_step, SiftFits, SiftRoom, sifted_by};
 
 use frames::RECORD_BYTES;
 use little::half_word;
+use refusal::Refusal;
 
 // The rules, in the order in which they are tested; 0 is no rule.
 pub const PICTURE_RULE: u8 = 1;
@@ -27,13 +29,11 @@ pub const ORDER_RULE: u8 = 6;
 
 pub const TAIL_RULE: u8 = 7;
 
-// What the call answers.
-#[derive(Clone, Copy)]
-pub enum Salvaged {
-    // so many records are copied, and so many told
-    Saved { kept: usize, told: usize },
-    // an area is too short: 12
-    Short,
+// So many records are copied, and so many told.
+#[derive(Clone, Copy, Debug, PartialEq, Eq)]
+pub struct Saved {
+    pub kept: usize,
+    pub told: usize,
 }
 
 // Where the sifting stands.
@@ -69,21 +69,12 @@ fn rule_alone(file: &[u8], a: usize) -> u8
 }
 
 // Record i may follow the last record kept; `last` is one past that one's number, 0 where none is kept.
+#[tactic(auto, unfolding(crate::specs::Salvage::follows_last))]
 fn follows_last(file: &[u8], last: usize, i: usize) -> bool
     requires { (last ≤ i) × (i * record_bytes + record_bytes ≤ length file.now) }
     ensures { result ≡ follows_last file.now last i }
 {
-    if last == 0 {
-        return true;
-    }
-    let b = (last - 1) * RECORD_BYTES;
-    let a = i * RECORD_BYTES;
-    frames::may_follow(
-        half_word(file, b),
-        file[b + 5],
-        half_word(file, a),
-        file[a + 5],
-    )
+    last == 0 || frames::record_follows(file, (last - 1) * RECORD_BYTES, i * RECORD_BYTES)
 }
 
 // The first rule that record i breaks; 0 where it is to be kept.
@@ -106,9 +97,7 @@ fn copy_record(good: &mut [u8], to: usize, file: &[u8], a: usize)
     requires { (to + record_bytes ≤ length good.old) × (a + record_bytes ≤ length file.now) }
     ensures { good.new ≡ written (record_at file.now a) to good.old }
 {
-    for t in 0..RECORD_BYTES {
-        good[to + t] = file[a + t];
-    }
+    good[to..to + RECORD_BYTES].copy_from_slice(&file[a..a + RECORD_BYTES]);
 }
 
 // Record i is copied, or told.
@@ -164,6 +153,7 @@ fn sift_all(file: &[u8], good: &mut [u8], places: &mut [u64], rules: &mut [u8]) 
 }
 
 // How many records the file has, a stray tail counted.
+#[tactic(auto, unfolding(crate::specs::Salvage::records_read))]
 fn records_read(file: &[u8]) -> usize
     ensures { result ≡ records_read file.now }
 {
@@ -174,36 +164,36 @@ fn records_read(file: &[u8]) -> usize
 }
 
 // One of the areas, by their lengths, is too short.
+#[tactic(auto, unfolding(crate::specs::Salvage::lacks_room))]
 fn lacks_room(file: &[u8], good: usize, places: usize, rules: usize) -> bool
     ensures { result ≡ lacks_room file.now good places rules }
 {
-    if good < file.len() / RECORD_BYTES * RECORD_BYTES {
-        return true;
-    }
     let n = records_read(file);
-    if places < n {
-        return true;
-    }
-    rules < n
+    good < file.len() / RECORD_BYTES * RECORD_BYTES || places < n || rules < n
 }
 
 // Copies the good records in order, and tells the others.
-pub fn salvage(file: &[u8], good: &mut [u8], places: &mut [u64], rules: &mut [u8]) -> Salvaged
-    ensures { salvage_outcome result good.new places.new rules.new
+pub fn salvage(
+    file: &[u8],
+    good: &mut [u8],
+    places: &mut [u64],
+    rules: &mut [u8],
+) -> Result<Saved, Refusal>
+    ensures { salvage_outcome (numbered refusal_number result) good.new places.new rules.new
         ≡ salvage_of file.now good.old places.old rules.old }
 {
     if lacks_room(file, good.len(), places.len(), rules.len()) {
-        return Salvaged::Short;
+        return Err(Refusal::Short);
     }
     let s = sift_all(file, good, places, rules);
     let kept = s.kept;
     let told = s.told;
     let stray = file.len() % RECORD_BYTES;
     if stray == 0 {
-        return Salvaged::Saved { kept, told };
+        return Ok(Saved { kept, told });
     }
     places[told] = (file.len() / RECORD_BYTES) as u64;
     rules[told] = TAIL_RULE;
     let all = told + 1;
-    Salvaged::Saved { kept, told: all }
+    Ok(Saved { kept, told: all })
 }

@@ -17,10 +17,10 @@ use Rattle.std.specs.Prelude.{Result, Ok, Err}
 use Rattle.frames.specs.declared.BadRecord.{BadRecord}
 use Rattle.frames.specs.Frames.{bad_place, record_bytes, bad_at, whole_records, frames_of}
 use Rattle.frames.proofs.Fields.{Taken, taken_is}
-use Rattle.salvage.specs.declared.Salvaged.{Salvaged}
-use Rattle.salvage.specs.declared.Salvaged.TheVariants.{Saved, Short}
+use Rattle.std.specs.Prelude.{Result, Ok, Err}
+use Rattle.salvage.specs.declared.Saved.{Saved}
 use Rattle.salvage.specs.Salvage.{tail_rule, rule_of, is_kept, kept_in, told_in, rules_told, record_at, bytes_of, bytes_kept}
-use Rattle.salvage.specs.Salvage.{records_read, lacks_room, foremost, SalvageOutcome, salvage_outcome, salvage_of}
+use Rattle.salvage.specs.Salvage.{records_read, lacks_room, foremost, SalvageOutcome, saved, salvage_outcome, salvage_of}
 use Rattle.salvage.specs.Steps.{SiftRoom}
 use Rattle.salvage.proofs.Foremost.{foremost-size}
 use Rattle.salvage.proofs.Sifted.{rule-tail, bytes-size, counts, short-left, sift-room}
@@ -32,17 +32,17 @@ use Rattle.salvaging.proofs.Output.{straight-told, straight-bytes, straight-coun
 
 -- ---- the refusal
 
-abbrev is_saved : Salvaged → Bool
-is_saved (Saved k t) = true
-is_saved Short = false
+abbrev is_saved : Result Saved ℕ → Bool
+is_saved (Ok s) = true
+is_saved (Err k) = false
 
-abbrev count_kept : Salvaged → ℕ
-count_kept (Saved k t) = k
-count_kept Short = 0
+abbrev count_kept : Result Saved ℕ → ℕ
+count_kept (Ok s) = s.kept
+count_kept (Err k) = 0
 
-abbrev count_told : Salvaged → ℕ
-count_told (Saved k t) = t
-count_told Short = 0
+abbrev count_told : Result Saved ℕ → ℕ
+count_told (Ok s) = s.told
+count_told (Err k) = 0
 
 module _ (f g p r : List ℕ) where
   abbrev is_short : Bool
@@ -69,29 +69,29 @@ module _ (f g p r : List ℕ) where
 
   -- what the first n records leave, as an outcome
   abbrev saved_by : ℕ → SalvageOutcome
-  saved_by n = salvage_outcome (Saved (length (kept_in f n)) (length (told_in f n))) (foremost (bytes_kept f n) g) (foremost (told_in f n) p) (foremost (rules_told f n) r)
+  saved_by n = salvage_outcome (saved (length (kept_in f n)) (length (told_in f n))) (foremost (bytes_kept f n) g) (foremost (told_in f n) p) (foremost (rules_told f n) r)
 
   roomy-saves : is_short ≡ false → salvage_of f g p r ≡ saved_by (records_read f)
   unfolding salvage_of
   roomy-saves e = rw e
 
-  refused-then : (salvage_of f g p r).answer ≡ Short → is_short ≡ true
+  refused-then : (salvage_of f g p r).answer ≡ Err 12 → is_short ≡ true
   refused-then e = by_bool (is_short ≡ true) is_short (λ b. b) (λ b. absurd (true≢false (ap (λ (o : SalvageOutcome). is_saved o.answer) (sym (roomy-saves b)) ∙ ap is_saved e)))
 
   -- 12 exactly where an area is too short
-  pub refused-where-short : (salvage_of f g p r).answer ≡ Short → AreaShort f (length g) (length p) (length r)
+  pub refused-where-short : (salvage_of f g p r).answer ≡ Err 12 → AreaShort f (length g) (length p) (length r)
   refused-where-short e = short-then (refused-then e)
 
-  pub short-is-refused : AreaShort f (length g) (length p) (length r) → (salvage_of f g p r).answer ≡ Short
+  pub short-is-refused : AreaShort f (length g) (length p) (length r) → (salvage_of f g p r).answer ≡ Err 12
   short-is-refused s = ap (λ (o : SalvageOutcome). o.answer) (sym (short-left f g p r (short-if s)))
 
   -- and then nothing is changed
-  pub short-changes-nothing : (salvage_of f g p r).answer ≡ Short → salvage_of f g p r ≡ salvage_outcome Short g p r
+  pub short-changes-nothing : (salvage_of f g p r).answer ≡ Err 12 → salvage_of f g p r ≡ salvage_outcome (Err 12) g p r
   short-changes-nothing e = sym (short-left f g p r (refused-then e))
 
   -- ---- a call that is not refused keeps k records and tells t
 
-  module _ (k t : ℕ) (e : (salvage_of f g p r).answer ≡ Saved k t) where
+  module _ (k t : ℕ) (e : (salvage_of f g p r).answer ≡ saved k t) where
     abbrev read : ℕ
     read = records_read f
 
@@ -265,7 +265,7 @@ module _ (f g p r : List ℕ) where
 
   -- ---- a good file comes through unchanged, with nothing told
 
-  pub good-file-unchanged : (n : ℕ) → frames_of f ≡ Ok n → is_short ≡ false → salvage_of f g p r ≡ salvage_outcome (Saved n 0) (foremost f g) p r
+  pub good-file-unchanged : (n : ℕ) → frames_of f ≡ Ok n → is_short ≡ false → salvage_of f g p r ≡ salvage_outcome (saved n 0) (foremost f g) p r
   unfolding frames_of
   good-file-unchanged n d e =
       let s : Taken (bad_at f) f n = taken_is (bad_at f) f n d in
@@ -277,16 +277,16 @@ module _ (f g p r : List ℕ) where
       roomy-saves e ∙ rw (whole, none, bytes, count)
 
   -- and only a good file has nothing told
-  pub nothing-told-is-good : (k : ℕ) → (salvage_of f g p r).answer ≡ Saved k 0 → frames_of f ≡ Ok k
+  pub nothing-told-is-good : (k : ℕ) → (salvage_of f g p r).answer ≡ saved k 0 → frames_of f ≡ Ok k
   nothing-told-is-good k e = go (frames_of f) refl
     where
       go : (x : Result ℕ BadRecord) → frames_of f ≡ x → frames_of f ≡ Ok k
-      go (Ok n) d = d ∙ ap (λ (a : Salvaged). Ok (count_kept a)) (ap (λ (o : SalvageOutcome). o.answer) (sym (good-file-unchanged n d (roomy k 0 e))) ∙ e)
+      go (Ok n) d = d ∙ ap (λ (a : Result Saved ℕ). Ok (count_kept a)) (ap (λ (o : SalvageOutcome). o.answer) (sym (good-file-unchanged n d (roomy k 0 e))) ∙ e)
       go (Err q) d = absurd (omega (arith, (refused-told-first k 0 e q.place d).2))
 
 -- salvaging the output again changes nothing: the same bytes, and nothing told
 pub output-unchanged :
-    (f g p r : List ℕ) (k t : ℕ) (e : (salvage_of f g p r).answer ≡ Saved k t) (g' p' r' : List ℕ)
+    (f g p r : List ℕ) (k t : ℕ) (e : (salvage_of f g p r).answer ≡ saved k t) (g' p' r' : List ℕ)
     → lacks_room (output f g p r k t e) (length g') (length p') (length r') ≡ false
-    → salvage_of (output f g p r k t e) g' p' r' ≡ salvage_outcome (Saved k 0) (foremost (output f g p r k t e) g') p' r'
+    → salvage_of (output f g p r k t e) g' p' r' ≡ salvage_outcome (saved k 0) (foremost (output f g p r k t e) g') p' r'
 output-unchanged f g p r k t e g' p' r' h = good-file-unchanged (output f g p r k t e) g' p' r' k (output-taken f g p r k t e) h

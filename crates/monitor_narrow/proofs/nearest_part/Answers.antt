@@ -1,7 +1,7 @@
 -- The nearest whole number: the remainder, doubled, is below the unit, above it or at it, and 1 << d is 2^d.
 use Prim.Native.Nat.{◌^◌}
 use Rattle.laws.proofs.Numbers.{shl_one}
-use Rattle.monitor_narrow.proofs.Laws.{nearest-down, nearest-up, nearest-even, part-most, unit-pos, remainder-most}
+use Rattle.monitor_narrow.proofs.Laws.{nearest-down, nearest-up, nearest-even, part-most, remainder-most}
 use native.Mathlib.Omega.{arith}
 use Rattle.monitor_narrow.proofs.nearest_part.Goals as goal
 

@@ -1,6 +1,5 @@
 -- A byte of each record: the loop of the laws that fills an area's front.
 use Rattle.monitor_read.specs.MonitorRead.{byte_at}
-use Prim.Native.Nat.{◌-◌}
 use Rattle.areas.proofs.Fetched.{Fetches}
 use Rattle.monitor_read.proofs.fetch_bytes.Given as goal
 

@@ -1,6 +1,5 @@
 -- The pictures, one after the other: the loop of the laws that fills an area's front.
 use Rattle.monitor_read.specs.MonitorRead.{monitor_picture}
-use Prim.Native.Nat.{◌-◌}
 use Rattle.areas.proofs.Fetched.{Fetches}
 use Rattle.monitor_read.proofs.fetch_pictures.Given as goal
 

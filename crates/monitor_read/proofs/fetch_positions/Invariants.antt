@@ -1,6 +1,6 @@
 -- The coordinates, widened: the loop of the laws that fills an area's front.
 use Rattle.monitor_read.specs.MonitorRead.{widened_at}
-use Prim.Native.Nat.{◌-◌, ◌*◌}
+use Prim.Native.Nat.{◌*◌}
 use Rattle.areas.proofs.Fetched.{Fetches}
 use Rattle.monitor_read.proofs.fetch_positions.Given as goal
 

@@ -1,5 +1,4 @@
 -- The first bad record: the loop of the laws that looks for the least place at which a test holds.
-use Prim.Native.Nat.{◌-◌}
 use Rattle.laws.proofs.First.{Seeks}
 use Rattle.monitor_read.specs.MonitorRead.{broken_at, whole_monitor}
 use Rattle.monitor_read.proofs.first_broken.Given as goal

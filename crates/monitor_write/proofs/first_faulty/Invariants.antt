@@ -1,5 +1,4 @@
 -- The first faulty frame: the loop of the laws that looks for the least place at which a test holds.
-use Prim.Native.Nat.{◌-◌}
 use Rattle.laws.proofs.First.{Seeks}
 use Rattle.monitor_write.specs.MonitorWrite.{faulty_at}
 use Rattle.monitor_write.proofs.first_faulty.Given as goal

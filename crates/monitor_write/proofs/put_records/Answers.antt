@@ -13,8 +13,12 @@ unfolding monitor_row
 loop-i-preserved c =
     records-next c.loop-i.invariant c.loop-i-test.true c.requires.target-long
     (row-size c.args.pictures.now c.args.sides.now c.args.fields.now c.args.positions.now c.loop-i.i)
-    c.put_record.auto.target (rw (c.unwrap_or-x.ensures ∙ single-or c.narrow.result, c.narrow.ensures,
-    c.unwrap_or-y.ensures ∙ single-or c.narrow-in-loop-i.result, c.narrow-in-loop-i.ensures) at c.put_record.ensures)
+    c.put_record.auto.target (rw (
+      c.unwrap_or-x.ensures ∙ single-or c.narrow.result,
+      c.narrow.ensures,
+      c.unwrap_or-y.ensures ∙ single-or c.narrow-in-loop-i.result,
+      c.narrow-in-loop-i.ensures,
+    ) at c.put_record.ensures)
 
 pub shape_of-target : goal.shape_of-target
 shape_of-target c =

@@ -1,5 +1,4 @@
 -- The records laid one after the other: the loop of the laws on rows, sixteen bytes wide.
-use Prim.Native.Nat.{◌-◌}
 use Rattle.laws.proofs.Laid.{Lays}
 use Rattle.monitor_write.specs.MonitorWrite.{monitor_row}
 use Rattle.monitor_write.proofs.put_records.Given as goal

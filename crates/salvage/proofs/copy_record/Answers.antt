@@ -1,15 +1,12 @@
-use Rattle.salvage.proofs.Foremost.{record-next, record-done}
-use Rattle.laws.proofs.Parts.{spells-start}
+-- `salvage::copy_record` meets its contract: the part of the area that is written is the record. Assumes nothing.
+use mathlib.Core.Path.{sym, ◌∙◌}
+use native.Mathlib.Omega.{arith}
+use Rattle.little.proofs.Bytes.{mid-written}
+use Rattle.salvage.proofs.Foremost.{copied-size, part-copied}
 use Rattle.salvage.proofs.copy_record.Goals as goal
-
-pub loop-t-init : goal.loop-t-init
-loop-t-init c =
-    spells-start
-
-pub loop-t-preserved : goal.loop-t-preserved
-loop-t-preserved c =
-    record-next _ _ c.requires.1 c.loop-t.invariant c.requires.0 c.loop-t-test.true
 
 pub returns : goal.returns
 returns c =
-    record-done _ _ c.requires.1 c.loop-t.invariant c.loop-t-test.false
+    mid-written c.args.good.now c.args.to
+    (c.copy_from_slice.ensures.after ∙ part-copied c.args.file.now c.args.a)
+    (omega (arith, copied-size c.args.file.now c.args.a c.requires.1))
