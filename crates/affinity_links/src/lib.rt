@@ -3,6 +3,7 @@
 #![tactic(auto)]
 
 ghost use Rattle.std.specs.Prelude.{◌≡◌, ◌+◌, ◌-◌, ◌*◌, ◌<◌, ◌≤◌, length};
+ghost use Rattle.std.specs.Bool.{then_some};
 ghost use Rattle.laws.specs.Domain.{most_frames};
 ghost use Rattle.laws.specs.Area.{num, zero64};
 ghost use Rattle.affinity_links.specs.Links.{Rising, found_in, past, held_of, cursor_of, fallen_of, plus_fallen, below_yes, below_weight, above_yes, above_weight, sought_yes, sought_weight, sought_row, sought_cursor, Within, WithinBoth, Sought};
@@ -57,11 +58,10 @@ fn joint(values: &[f64], a: usize, w: u32, p: u32, b: usize, c: u32, r: u32) -> 
     plus(values, b, c, r, v)
 }
 
-// Whether two frames are linked, and the weight; +0.0 if they are not. Then the words of the cursors: of row i, and of row j or list j.
+// The weight of the link of two frames, where they are linked. Then the words of the cursors: of row i, and of row j or list j.
 #[derive(Clone, Copy)]
 pub struct Link {
-    pub yes: bool,
-    pub weight: f64,
+    pub weight: Option<f64>,
     pub row: u32,
     pub cursor: u32,
 }
@@ -77,25 +77,15 @@ fn link_below(
     w: u32,
 ) -> Link
     requires { (i < most_frames) × (j < most_frames) × WithinBoth weights.now indices.now (i * k) c × WithinBoth weights.now indices.now (j * k) w }
-    ensures yes_value { result.yes ≡ below_yes indices.now k i j c w }
-    ensures weight_value { result.weight ≡ below_weight weights.now indices.now k i j c w }
+    ensures weight_value { result.weight ≡ then_some (below_yes indices.now k i j c w) (below_weight weights.now indices.now k i j c w) }
     ensures row_value { result.row ≡ fallen_of (past indices.now (i * k)) c j }
     ensures cursor_value { result.cursor ≡ fallen_of (past indices.now (j * k)) w i }
 {
     let r = fallen(indices, i * k, c, j as u32);
     let p = fallen(indices, j * k, w, i as u32);
     let weight = joint(weights, j * k, w, p, i * k, c, r);
-    if r < c {
-        return Link {
-            yes: true,
-            weight: weight,
-            row: r,
-            cursor: p,
-        };
-    }
     Link {
-        yes: p < w,
-        weight: weight,
+        weight: (r < c || p < w).then_some(weight),
         row: r,
         cursor: p,
     }
@@ -112,24 +102,19 @@ fn link_above(
     w: u32,
 ) -> Link
     requires { (i < most_frames) × (j < length offsets.now) × WithinBoth weights.now indices.now (num offsets.now j) w }
-    ensures yes_value { result.yes ≡ above_yes indices.now offsets.now i j w }
-    ensures weight_value { result.weight ≡ above_weight weights.now indices.now offsets.now i j w }
+    ensures weight_value { result.weight ≡ then_some (above_yes indices.now offsets.now i j w) (above_weight weights.now indices.now offsets.now i j w) }
     ensures row_value { result.row ≡ c }
     ensures cursor_value { result.cursor ≡ fallen_of (past indices.now (num offsets.now j)) w i }
 {
     let o = offsets[j] as usize;
     let p = fallen(indices, o, w, i as u32);
-    if p < w {
-        return Link {
-            yes: true,
-            weight: weights[o + (p / 8192) as usize],
-            row: c,
-            cursor: p,
-        };
-    }
+    let weight = if p < w {
+        Some(weights[o + (p / 8192) as usize])
+    } else {
+        None
+    };
     Link {
-        yes: false,
-        weight: 0.0,
+        weight,
         row: c,
         cursor: p,
     }
@@ -147,8 +132,7 @@ pub fn link_of(
     w: u32,
 ) -> Link
     requires { Sought weights.now indices.now offsets.now k i j c w }
-    ensures yes_value { result.yes ≡ sought_yes indices.now offsets.now k i j c w }
-    ensures weight_value { result.weight ≡ sought_weight weights.now indices.now offsets.now k i j c w }
+    ensures weight_value { result.weight ≡ then_some (sought_yes indices.now offsets.now k i j c w) (sought_weight weights.now indices.now offsets.now k i j c w) }
     ensures row_value { result.row ≡ sought_row indices.now k i j c }
     ensures cursor_value { result.cursor ≡ sought_cursor indices.now offsets.now k i j w }
 {

@@ -44,12 +44,12 @@ pub(crate) fn fill_list(
         }
         let link = link_of(weights, indices, offsets, k, i, j, c, row_indices[j]);
         c = link.row;
-        if !link.yes {
+        let Some(weight) = link.weight else {
             continue;
-        }
+        };
         row_indices[j] = link.cursor;
         q -= 1;
-        weights[q] = link.weight;
+        weights[q] = weight;
         indices[q] = j as u32;
     }
     row_indices[i] = held(indices, q, m - q);

@@ -136,7 +136,8 @@ module _ (s : Settings) (table : List Float) (r : SightRows) {k : ℕ} (q : k �
   pub sight-seen : {Q₁ X₁ H₁ Q₂ X₂ H₂ : List Float} {I₁ I₂ : List ℕ} {blind alone : ℕ} → k ≡ 0 → Q₁ ≡ squares_of table s.n s.f r.squares
       → (KeptPast s.n r.values X₁) × (KeptPast s.n r.shares H₁) × (KeptPast s.n r.places I₁)
       → (Q₂ ≡ filled zero64 s.n Q₁) × (X₂ ≡ filled zero64 s.n X₁) × (H₂ ≡ filled zero64 s.n H₁) × (I₂ ≡ filled 0 s.n I₁)
-      → (blind ≡ how_many (blind_at s table) s.n) × (alone ≡ how_many (alone_at s table) s.n) → sight_outcome (Ok (record { blind = blind; alone = alone })) (sight_rows Q₂ X₂ H₂ I₂) ≡ sighted s table r
+      → (blind ≡ how_many (blind_at s table) s.n) × (alone ≡ how_many (alone_at s table) s.n)
+      → sight_outcome (Ok (record { blind = blind; alone = alone })) (sight_rows Q₂ X₂ H₂ I₂) ≡ sighted s table r
   unfolding sighted
   sight-seen {Q₁} e q₁ tails zeros c =
       let n = s.n in

@@ -1,6 +1,6 @@
 -- A value that differs from itself is NaN, and every other is not; the patterns above infinity's are NaN's. Assumes nothing.
 use Rattle.std.proofs.Common.{◌≡◌, ℕ, ◌%◌, ◌<◌, ◌≤◌, true, false, sym, refl, ◌∙◌, true≢false, le-ltb, lt-ltb}
-use lib.Ieee.{Float, nan, inf, fin, binary64, ne, eq, is_nan, of_bits, nan_bits, div}
+use lib.Ieee.{Float, nan, inf, fin, binary64, ne, eq, is_nan, of_bits, nan_bits}
 use lib.Ieee.Bits.{nan_bits_is, nan_bits_above}
 use lib.Ieee.Compare.{differs_from_itself}
 use denote.Floats.{passes}

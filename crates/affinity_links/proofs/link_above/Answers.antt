@@ -25,34 +25,23 @@ pub fallen-p-requires : goal.fallen-p-requires
 fallen-p-requires c =
     (c.requires.0, c.requires.2.0)
 
-pub overflow_add-result : goal.overflow_add-result
-overflow_add-result c =
-    omega (arith, c.requires.2.1, within_low c.args.i c.requires.2.0 c.fallen-p.ensures c.if-p-w.true)
-
-pub offset_bounds-weights-o : goal.offset_bounds-weights-o
-offset_bounds-weights-o c =
-    omega (arith, c.requires.2.1, within_low c.args.i c.requires.2.0 c.fallen-p.ensures c.if-p-w.true)
-
 pub bounds-weights-o : goal.bounds-weights-o
 bounds-weights-o c =
-    let the-fallen = c.fallen-p in
-    omega (arith, c.requires.2.1, within_low c.args.i c.requires.2.0 the-fallen.ensures c.if-p-w.true)
+    omega (arith, c.requires.2.1, within_low c.args.i c.requires.2.0 c.fallen-p.ensures c.if-p-w.true)
 
 pub returns-then-p-w : goal.returns-then-p-w
 returns-then-p-w c =
     let the-fallen = c.fallen-p in
     record {
-      yes_value = rw (lt-ltb _ _ (rw the-fallen.ensures at c.if-p-w.true));
-      weight_value = rw ((lt-ltb _ _ (rw the-fallen.ensures at c.if-p-w.true)), the-fallen.ensures);
+      weight_value = rw ((lt-ltb _ _ (rw the-fallen.ensures at c.if-p-w.true)), the-fallen.ensures) refl;
       row_value = refl;
       cursor_value = the-fallen.ensures;
     }
 
-pub returns : goal.returns
-returns c =
+pub returns-else-p-w : goal.returns-else-p-w
+returns-else-p-w c =
     record {
-      yes_value = rw (le-ltb _ _ (rw c.fallen-p.ensures at c.if-p-w.false));
-      weight_value = rw (le-ltb _ _ (rw c.fallen-p.ensures at c.if-p-w.false));
+      weight_value = rw (le-ltb _ _ (rw c.fallen-p.ensures at c.if-p-w.false)) refl;
       row_value = refl;
       cursor_value = c.fallen-p.ensures;
     }

@@ -1,11 +1,18 @@
 -- `affinity_links::link_below` meets its contract: both cursors fall, `joint` adds the shares. Assumes nothing.
-use mathlib.Core.Path.{ap}
-use Prim.Native.Nat.{ℕ}
-use lib.Dec.{ltb}
+use mathlib.Core.Path.{◌≡◌, refl, sym, ap, ◌∙◌}
 use borrow.Author.Tests.{lt-ltb, le-ltb}
+use Prim.Native.Nat.{ℕ}
+use mathlib.Core.Bool.{Bool}
+use lib.Dec.{ltb}
+use lib.Ieee.{Float}
+use Rattle.std.specs.Bool.{then_some}
 use Rattle.affinity_links.proofs.Search.{within_low}
 use native.Mathlib.Omega.{arith}
 use Rattle.affinity_links.proofs.link_below.Goals as goal
+use Rattle.affinity_links.proofs.link_below.Goals.{then-r-c, else-r-c}
+
+both : {a b : Bool} {v w : Float} → a ≡ b → v ≡ w → then_some a v ≡ then_some b w
+both e f = rw (e, f) refl
 
 pub overflow_mul-i : goal.overflow_mul-i
 overflow_mul-i c =
@@ -46,25 +53,13 @@ joint-weight-requires c = (
       (arith, c.requires.2.1, within_low c.args.j c.requires.2.0 c.fallen-r.ensures l),
 )
 
-pub returns-then-r-c : goal.returns-then-r-c
-returns-then-r-c c =
-    let the-fallen2 = c.fallen-p in
-    let the-fallen = c.fallen-r in
-    record {
-      yes_value = rw (lt-ltb _ _ (rw the-fallen.ensures at c.if-r-c.true));
-      weight_value = rw (c.joint-weight.ensures, the-fallen.ensures, the-fallen2.ensures);
-      row_value = the-fallen.ensures;
-      cursor_value = the-fallen2.ensures;
-    }
-
 pub returns : goal.returns
 returns c =
-    let the-fallen2 = c.fallen-p in
-    let the-fallen = c.fallen-r in
     record {
-      yes_value = rw (le-ltb _ _ (rw the-fallen.ensures at c.if-r-c.false)) (ap (λ (x : ℕ). ltb x c.args.w) the-fallen2.ensures);
-      weight_value =
-          rw (c.joint-weight.ensures, the-fallen.ensures, the-fallen2.ensures);
-      row_value = the-fallen.ensures;
-      cursor_value = the-fallen2.ensures;
+      weight_value = c.then_some.ensures ∙ both (elim c.if-r-c.branch [
+        | then-r-c w ↦ w.then_some-is ∙ lt-ltb _ _ w.if-r-c.true ∙ sym (rw (lt-ltb _ _ (rw c.fallen-r.ensures at w.if-r-c.true)) refl)
+        | else-r-c w ↦ w.then_some-is ∙ sym (rw (le-ltb _ _ (rw c.fallen-r.ensures at w.if-r-c.false)) (ap (λ (x : ℕ). ltb x c.args.w) (sym c.fallen-p.ensures)))
+      ]) (rw (c.joint-weight.ensures, c.fallen-r.ensures, c.fallen-p.ensures) refl);
+      row_value = c.fallen-r.ensures;
+      cursor_value = c.fallen-p.ensures;
     }

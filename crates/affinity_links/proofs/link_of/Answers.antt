@@ -12,7 +12,6 @@ pub returns-then-j-i : goal.returns-then-j-i
 unfolding sought_yes sought_weight sought_row sought_cursor
 returns-then-j-i c =
     record {
-      yes_value = rw (lt-ltb _ _ c.if-j-i.true) c.link_below.ensures.yes_value;
       weight_value = rw (lt-ltb _ _ c.if-j-i.true) c.link_below.ensures.weight_value;
       row_value = rw (lt-ltb _ _ c.if-j-i.true) c.link_below.ensures.row_value;
       cursor_value = rw (lt-ltb _ _ c.if-j-i.true) c.link_below.ensures.cursor_value;
@@ -26,7 +25,6 @@ pub returns : goal.returns
 unfolding sought_yes sought_weight sought_row sought_cursor
 returns c =
     record {
-      yes_value = rw (le-ltb _ _ c.if-j-i.false) c.link_above.ensures.yes_value;
       weight_value = rw (le-ltb _ _ c.if-j-i.false) c.link_above.ensures.weight_value;
       row_value = rw (le-ltb _ _ c.if-j-i.false) c.link_above.ensures.row_value;
       cursor_value = rw (le-ltb _ _ c.if-j-i.false) c.link_above.ensures.cursor_value;

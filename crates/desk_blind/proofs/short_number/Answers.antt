@@ -1,5 +1,5 @@
 -- `desk_blind::short_number` meets its contract: from what its calls promise.
-use mathlib.Core.Path.{sym, ◌∙◌}
+use mathlib.Core.Path.{sym}
 use borrow.Author.Tests.{ne_eqb}
 use Rattle.refusal.proofs.Numbers.{refusal-some}
 use Rattle.desk_blind.proofs.short_number.Goals as goal

@@ -1,10 +1,26 @@
-use mathlib.Core.Path.{refl, ◌∙◌}
+use mathlib.Core.Path.{◌≡◌, refl, sym, ◌∙◌}
+use mathlib.Core.Bool.{Bool, true, false}
+use lib.Ieee.{Float}
+use Rattle.std.specs.Prelude.{Some, None}
+use Rattle.std.specs.Bool.{then_some}
 use Prim.Native.Nat.{◌-◌}
-use borrow.Author.Tests.{not-true, not-false}
 use Rattle.affinity_lists.proofs.Listing.{writing_start, writing-mark, writing-sought, writing_pass, writing-room, writing-next, writing-below, writing-held, writing-done}
 use lib.ListN.{length-set}
 use native.Mathlib.Omega.{arith}
 use Rattle.affinity_lists.proofs.filling.fill_list.Goals as goal
+
+-- what the weight of a link tells
+joined : (b : Bool) (v w : Float) → Some w ≡ then_some b v → true ≡ b
+joined true v w e = refl
+joined false v w e = cc
+
+weighs : (b : Bool) (v w : Float) → Some w ≡ then_some b v → w ≡ v
+weighs true v w e = cc
+weighs false v w e = cc
+
+apart : (b : Bool) (v : Float) → None ≡ then_some b v → false ≡ b
+apart true v e = cc
+apart false v e = refl
 
 pub offset_bounds-row_indices-i : goal.offset_bounds-row_indices-i
 offset_bounds-row_indices-i c =
@@ -34,49 +50,49 @@ pub link_of-link-requires : goal.link_of-link-requires
 link_of-link-requires c =
     writing-sought c.requires (c.loop-j.j - 1) c.loop-j.j (omega arith) c.loop-j.invariant c.if-j-i.false
 
-pub loop-j-preserved-then-not-link : goal.loop-j-preserved-then-not-link
-loop-j-preserved-then-not-link c =
-    writing_pass c.requires (c.loop-j.j - 1) c.loop-j.j (omega arith) c.loop-j.invariant c.if-j-i.false _ c.link_of-link.ensures.yes_value _
-    c.link_of-link.ensures.row_value (not-true _ c.if-not-link.true)
+pub loop-j-preserved-in_default : goal.loop-j-preserved-in_default
+loop-j-preserved-in_default c =
+    writing_pass c.requires (c.loop-j.j - 1) c.loop-j.j (omega arith) c.loop-j.invariant c.if-j-i.false false (apart _ _ (sym c.in_default.is ∙ c.link_of-link.ensures.weight_value)) _
+    c.link_of-link.ensures.row_value refl
 
 pub offset_bounds-row_indices-j-in-loop-j : goal.offset_bounds-row_indices-j-in-loop-j
 offset_bounds-row_indices-j-in-loop-j c =
     omega (
       arith,
-      writing-room c.requires (c.loop-j.j - 1) c.loop-j.j (omega arith) c.loop-j.invariant c.if-j-i.false _ c.link_of-link.ensures.yes_value _
-          c.link_of-link.ensures.row_value (not-false _ c.if-not-link.false),
+      writing-room c.requires (c.loop-j.j - 1) c.loop-j.j (omega arith) c.loop-j.invariant c.if-j-i.false true (joined _ _ _ (sym c.in-Some.is ∙ c.link_of-link.ensures.weight_value)) _
+          c.link_of-link.ensures.row_value refl,
     )
 
 pub bounds-row_indices-j-in-loop-j : goal.bounds-row_indices-j-in-loop-j
 bounds-row_indices-j-in-loop-j c =
     omega (
       arith,
-      writing-room c.requires (c.loop-j.j - 1) c.loop-j.j (omega arith) c.loop-j.invariant c.if-j-i.false _ c.link_of-link.ensures.yes_value _
-          c.link_of-link.ensures.row_value (not-false _ c.if-not-link.false),
+      writing-room c.requires (c.loop-j.j - 1) c.loop-j.j (omega arith) c.loop-j.invariant c.if-j-i.false true (joined _ _ _ (sym c.in-Some.is ∙ c.link_of-link.ensures.weight_value)) _
+          c.link_of-link.ensures.row_value refl,
     )
 
 pub overflow_sub-q : goal.overflow_sub-q
 overflow_sub-q c =
     omega (
       arith,
-      writing-room c.requires (c.loop-j.j - 1) c.loop-j.j (omega arith) c.loop-j.invariant c.if-j-i.false _ c.link_of-link.ensures.yes_value _
-          c.link_of-link.ensures.row_value (not-false _ c.if-not-link.false),
+      writing-room c.requires (c.loop-j.j - 1) c.loop-j.j (omega arith) c.loop-j.invariant c.if-j-i.false true (joined _ _ _ (sym c.in-Some.is ∙ c.link_of-link.ensures.weight_value)) _
+          c.link_of-link.ensures.row_value refl,
     )
 
 pub offset_bounds-weights-q : goal.offset_bounds-weights-q
 offset_bounds-weights-q c =
     omega (
       arith,
-      writing-room c.requires (c.loop-j.j - 1) c.loop-j.j (omega arith) c.loop-j.invariant c.if-j-i.false _ c.link_of-link.ensures.yes_value _
-          c.link_of-link.ensures.row_value (not-false _ c.if-not-link.false),
+      writing-room c.requires (c.loop-j.j - 1) c.loop-j.j (omega arith) c.loop-j.invariant c.if-j-i.false true (joined _ _ _ (sym c.in-Some.is ∙ c.link_of-link.ensures.weight_value)) _
+          c.link_of-link.ensures.row_value refl,
     )
 
 pub bounds-weights-q : goal.bounds-weights-q
 bounds-weights-q c =
     omega (
       arith,
-      writing-room c.requires (c.loop-j.j - 1) c.loop-j.j (omega arith) c.loop-j.invariant c.if-j-i.false _ c.link_of-link.ensures.yes_value _
-          c.link_of-link.ensures.row_value (not-false _ c.if-not-link.false),
+      writing-room c.requires (c.loop-j.j - 1) c.loop-j.j (omega arith) c.loop-j.invariant c.if-j-i.false true (joined _ _ _ (sym c.in-Some.is ∙ c.link_of-link.ensures.weight_value)) _
+          c.link_of-link.ensures.row_value refl,
     )
 
 pub overflow_cast-indices : goal.overflow_cast-indices
@@ -87,22 +103,22 @@ pub offset_bounds-indices-q : goal.offset_bounds-indices-q
 offset_bounds-indices-q c =
     omega (
       arith,
-      writing-room c.requires (c.loop-j.j - 1) c.loop-j.j (omega arith) c.loop-j.invariant c.if-j-i.false _ c.link_of-link.ensures.yes_value _
-          c.link_of-link.ensures.row_value (not-false _ c.if-not-link.false),
+      writing-room c.requires (c.loop-j.j - 1) c.loop-j.j (omega arith) c.loop-j.invariant c.if-j-i.false true (joined _ _ _ (sym c.in-Some.is ∙ c.link_of-link.ensures.weight_value)) _
+          c.link_of-link.ensures.row_value refl,
     )
 
 pub bounds-indices-q : goal.bounds-indices-q
 bounds-indices-q c =
     omega (
       arith,
-      writing-room c.requires (c.loop-j.j - 1) c.loop-j.j (omega arith) c.loop-j.invariant c.if-j-i.false _ c.link_of-link.ensures.yes_value _
-          c.link_of-link.ensures.row_value (not-false _ c.if-not-link.false),
+      writing-room c.requires (c.loop-j.j - 1) c.loop-j.j (omega arith) c.loop-j.invariant c.if-j-i.false true (joined _ _ _ (sym c.in-Some.is ∙ c.link_of-link.ensures.weight_value)) _
+          c.link_of-link.ensures.row_value refl,
     )
 
 pub loop-j-preserved : goal.loop-j-preserved
 loop-j-preserved c =
-    writing-next c.requires (c.loop-j.j - 1) c.loop-j.j (omega arith) c.loop-j.invariant c.if-j-i.false _ c.link_of-link.ensures.yes_value _
-    c.link_of-link.ensures.row_value (not-false _ c.if-not-link.false) _ _ _ refl c.link_of-link.ensures.weight_value c.link_of-link.ensures.cursor_value
+    writing-next c.requires (c.loop-j.j - 1) c.loop-j.j (omega arith) c.loop-j.invariant c.if-j-i.false true (joined _ _ _ (sym c.in-Some.is ∙ c.link_of-link.ensures.weight_value)) _
+    c.link_of-link.ensures.row_value refl _ _ _ refl (weighs _ _ _ (sym c.in-Some.is ∙ c.link_of-link.ensures.weight_value)) c.link_of-link.ensures.cursor_value
 
 pub overflow_sub-m : goal.overflow_sub-m
 overflow_sub-m c =

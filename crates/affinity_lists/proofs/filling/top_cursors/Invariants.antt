@@ -1,5 +1,4 @@
 -- `affinity_lists::filling::top_cursors` meets its contract: j cursors are set (`Topping`). Assumes nothing.
-use Prim.Native.Nat.{◌-◌}
 use Rattle.affinity_lists.proofs.Topping.{Topping}
 use Rattle.affinity_lists.proofs.filling.top_cursors.Given as goal
 

@@ -1,7 +1,6 @@
 -- `lists::rows::misses` meets its contract: t terms, each at most 1, are added. Assumes nothing.
 use Rattle.laws.proofs.Sums.{Adds}
 use Rattle.affinity_lists.specs.Steps.{miss_of}
-use Prim.Native.Nat.{◌-◌}
 use Rattle.affinity_lists.proofs.rows.misses.Given as goal
 
 abbrev pub invariant-loop-t : goal.invariant-loop-t

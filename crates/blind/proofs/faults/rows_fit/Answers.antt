@@ -1,7 +1,7 @@
 -- `blind::faults::rows_fit` meets its contract: n is no more than the least where it is no more than each.
-use mathlib.Core.Path.{◌≡◌, refl}
+use mathlib.Core.Path.{◌≡◌}
 use mathlib.Core.Bool.{◌&&◌}
-use Prim.Native.Nat.{ℕ, ◌≤◌}
+use Prim.Native.Nat.{ℕ}
 use Rattle.std.specs.Prelude.{min}
 use native.Mathlib.Decide.{dec_lt}
 use native.Mathlib.Omega.{arith}

@@ -1,7 +1,7 @@
 -- `blind::faults::table_fine` meets its contract: the loop keeps what has been done equal to its part of the whole; by `every-none`, `every-next`, `every-no`, `every-done`.
 use mathlib.Core.Path.{◌≡◌}
 use mathlib.Core.Bool.{true}
-use Prim.Native.Nat.{◌-◌, ◌≤◌}
+use Prim.Native.Nat.{◌≤◌}
 use Rattle.laws.specs.Loops.{every}
 use Rattle.laws.specs.Area.{at}
 use Rattle.elementary.specs.Limits.{in_domain}

@@ -1,5 +1,4 @@
 -- `blind::looks::look_at_all` meets its contract: the loop keeps `Adds` and `Scratch`; by `adds-room`, `adds-start`, `adds-next`, `adds-done`, `bit_le`, `scratch-start` and others.
-use Prim.Native.Nat.{◌-◌}
 use Rattle.laws.specs.Sums.{bit}
 use Rattle.laws.proofs.Sums.{Adds}
 use Rattle.laws.proofs.Parts.{Scratch}

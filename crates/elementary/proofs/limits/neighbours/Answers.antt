@@ -1,7 +1,7 @@
 -- `elementary::limits::neighbours` meets its contract: by `three-bounded`, `ceil-small`, `one-neighbour`, `all_others`, `nearest-ones`.
 use lib.Ieee.{mul, binary64}
-use Rattle.elementary.specs.Limits.{neighbours_of, ceil_of, three64}
-use Rattle.elementary.proofs.Ceil.{three-bounded, ceil-small, one-neighbour, all_others, nearest-ones}
+use Rattle.elementary.specs.Limits.{neighbours_of, three64}
+use Rattle.elementary.proofs.Ceil.{three-bounded, ceil-small}
 use Rattle.std.proofs.Common.{arith}
 use Rattle.std.proofs.Math.Nat.{max_comm}
 use Rattle.elementary.proofs.limits.neighbours.Goals as goal

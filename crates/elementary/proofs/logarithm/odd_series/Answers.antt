@@ -1,4 +1,4 @@
-use Rattle.std.proofs.Common.{◌-◌, arith}
+use Rattle.std.proofs.Common.{arith}
 use Rattle.elementary.specs.Ln.{odd_series}
 use Rattle.laws.proofs.Loops.{loop-start, loop-next, loop-done}
 use Rattle.elementary.proofs.logarithm.odd_series.Goals as goal

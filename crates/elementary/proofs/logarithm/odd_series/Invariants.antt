@@ -1,5 +1,4 @@
 -- `elementary::logarithm::odd_series` meets its contract: the loop keeps `Loops`; by `loop-start`, `loop-next`, `loop-done`.
-use Rattle.std.proofs.Common.{◌-◌}
 use Rattle.elementary.specs.Ln.{odd_step}
 use Rattle.laws.proofs.Loops.{Loops}
 use Rattle.elementary.proofs.logarithm.odd_series.Given as goal
