@@ -25,13 +25,28 @@ fn higher(a: f64, v: f64) -> f64
     a
 }
 
-// The span with one coordinate more.
-fn widen(s: Span, v: f64) -> Span
-    ensures { result ≡ widened s v }
-{
-    Span {
-        low: lower(s.low, v),
-        high: higher(s.high, v),
+impl Span {
+    // The span with one coordinate more.
+    fn widen(self, v: f64) -> Span
+        ensures { result ≡ widened self v }
+    {
+        Span {
+            low: lower(self.low, v),
+            high: higher(self.high, v),
+        }
+    }
+
+    fn middle(self) -> f64
+        ensures { result ≡ middle_of self }
+    {
+        (self.low + self.high) / 2.0
+    }
+
+    // Half the span, at least 1e-12, and 1e-12 more: every point lies inside.
+    fn reach(self) -> f64
+        ensures { result ≡ reach_of self }
+    {
+        elementary::unless_above(1e-12, (self.high - self.low) / 2.0) + 1e-12
     }
 }
 
@@ -45,22 +60,9 @@ fn span(positions: &[f64], n: usize, c: usize, d: usize) -> Span
         high: -1.0 / 0.0,
     };
     for i in 0..n {
-        s = widen(s, positions[i * c + d]);
+        s = s.widen(positions[i * c + d]);
     }
     s
-}
-
-fn middle(s: Span) -> f64
-    ensures { result ≡ middle_of s }
-{
-    (s.low + s.high) / 2.0
-}
-
-// Half the span, at least 1e-12, and 1e-12 more: every point lies inside.
-fn reach(s: Span) -> f64
-    ensures { result ≡ reach_of s }
-{
-    elementary::unless_above(1e-12, (s.high - s.low) / 2.0) + 1e-12
 }
 
 // An empty leaf over the padded span of n points.
@@ -72,8 +74,8 @@ pub fn bounding_box(positions: &[f64], n: usize, c: usize) -> Node
     let mut half = [0.0; 3];
     for d in 0..c {
         let s = span(positions, n, c, d);
-        centre[d] = middle(s);
-        half[d] = reach(s);
+        centre[d] = s.middle();
+        half[d] = s.reach();
     }
     fresh(centre, half)
 }

@@ -1,3 +1,4 @@
+-- `tree::ways::splits` meets its contract: the laws of its loop.
 use Rattle.laws.specs.Domain.{deepest}
 use Rattle.tree.proofs.Grow.{splits-few, splits-go, splits_last, splits-end, splits-le}
 use Prim.Native.Nat.{◌-◌}

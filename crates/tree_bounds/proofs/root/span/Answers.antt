@@ -1,3 +1,4 @@
+-- `tree_bounds::root::span` meets its contract: by `row_in` and the laws of its loop.
 use lib.Ieee.{div, neg, of_bits}
 use Rattle.laws.proofs.Numbers.{row_in}
 use Rattle.laws.proofs.Loops.{loop-start, loop-next, loop-done}
