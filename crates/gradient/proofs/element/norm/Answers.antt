@@ -1,11 +1,7 @@
 use Rattle.gradient.specs.Element.{norm_of}
-use Rattle.laws.proofs.Loops.{loop-start, loop-next, loop-done}
+use Rattle.laws.proofs.Loops.{loop-next, loop-done}
 use native.Mathlib.Omega.{arith}
 use Rattle.gradient.proofs.element.norm.Goals as goal
-
-pub loop-e-init : goal.loop-e-init
-loop-e-init c =
-    loop-start _ _ _
 
 pub loop-e-preserved : goal.loop-e-preserved
 loop-e-preserved c =

@@ -1,11 +1,7 @@
-use Rattle.laws.proofs.Loops.{loop-start, loop-next, loop-done}
+use Rattle.laws.proofs.Loops.{loop-next, loop-done}
 use borrow.Author.Rules.{rules}
 use native.Mathlib.Omega.{arith}
 use Rattle.gradient.proofs.rows.slopes.Goals as goal
-
-pub loop-d-init : goal.loop-d-init
-loop-d-init c =
-    (search rules, loop-start _ _ _)
 
 pub loop-d-preserved : goal.loop-d-preserved
 loop-d-preserved c =

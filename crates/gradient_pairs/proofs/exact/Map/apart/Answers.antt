@@ -1,11 +1,7 @@
 use Rattle.tree_bodies.specs.Bodies.{gap_of}
-use Rattle.laws.proofs.Loops.{loop-start, loop-next, loop-done}
+use Rattle.laws.proofs.Loops.{loop-next, loop-done}
 use native.Mathlib.Omega.{arith}
 use Rattle.gradient_pairs.proofs.exact.Map.apart.Goals as goal
-
-pub loop-d-init : goal.loop-d-init
-loop-d-init c =
-    loop-start _ _ _
 
 pub loop-d-preserved : goal.loop-d-preserved
 loop-d-preserved c =

@@ -1,12 +1,8 @@
 use Rattle.gradient_pairs.specs.Exact.{pulls_of}
-use Rattle.laws.proofs.Loops.{loop-start, loop-on, loop-done}
+use Rattle.laws.proofs.Loops.{loop-on, loop-done}
 use Rattle.std.specs.Prelude.{◌≡◌, ◌+◌}
 use native.Mathlib.Omega.{arith}
 use Rattle.gradient_pairs.proofs.exact.Pairs.gather.Goals as goal
-
-pub loop-j-init : goal.loop-j-init
-loop-j-init c =
-    loop-start _ _ _
 
 pub loop-j-preserved : goal.loop-j-preserved
 loop-j-preserved c =

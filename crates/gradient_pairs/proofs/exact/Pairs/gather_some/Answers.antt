@@ -3,14 +3,6 @@ use mathlib.Core.Path.{◌∙◌}
 use Rattle.gradient_pairs.proofs.Parts.{gathered-in-parts}
 use Rattle.gradient_pairs.proofs.exact.Pairs.gather_some.Goals as goal
 
-pub lay_weights-requires : goal.lay_weights-requires
-lay_weights-requires c =
-    (c.requires.1, c.requires.2, c.requires.5, rw c.lay_nums.auto.nums c.requires.3, c.requires.3)
-
-pub add_frames-requires : goal.add_frames-requires
-add_frames-requires c =
-    (c.requires.0, c.requires.2, c.requires.4, rw c.lay_weights.auto.weights c.requires.3)
-
 pub returns : goal.returns
 returns c =
     c.add_frames.ensures ∙ rw (c.lay_weights.ensures, c.lay_nums.ensures)
