@@ -3,8 +3,9 @@ ghost use Rattle.std.specs.Prelude.{◌+◌, ◌≤◌, length};
 ghost use Rattle.affinity_near.specs.Near.{Plains};
 
 use affinity_near::neighbours::nearest;
-use replay::areas::{mark, mark_words};
-use replay::word_at;
+use replay::areas::{mark, mark_words, plus, value_at};
+use replay::cases::{Next, replay_cases};
+use replay::{Tally, word_at};
 
 // The first m places become the distances that the list has from word a on. What is no distance becomes +0.0, and differs then.
 fn read_distances(list: &[u8], a: usize, to: &mut [f64], m: usize)
@@ -12,13 +13,8 @@ fn read_distances(list: &[u8], a: usize, to: &mut [f64], m: usize)
     ensures { Plains to.new m }
 {
     for i in 0..m {
-        let d = elementary::value_of(word_at(list, std::num::wrapping_add_usize(a, i)));
-        to[i] = elementary::limits::unless_above(0.0, d);
+        to[i] = elementary::limits::unless_above(0.0, value_at(list, plus(a, i)));
     }
-}
-
-fn number(i: u32) -> u64 {
-    i as u64
 }
 
 // The first k pairs are those that the list has from word a on, index and distance.
@@ -26,7 +22,7 @@ fn same_pairs(values: &[f64], indices: &[u32], k: usize, list: &[u8], a: usize) 
     requires { (a ≤ 200000) × (k ≤ 1000) × (k ≤ length values.now) × (k ≤ length indices.now) }
 {
     for t in 0..k {
-        if number(indices[t]) != word_at(list, a + 2 * t) {
+        if indices[t] as u64 != word_at(list, a + 2 * t) {
             return false;
         }
         if elementary::bits_of(values[t]) != word_at(list, a + 2 * t + 1) {
@@ -40,13 +36,7 @@ fn same_pairs(values: &[f64], indices: &[u32], k: usize, list: &[u8], a: usize) 
 fn case_right(list: &[u8], a: usize, n: usize, k: usize) -> bool
     requires { (a ≤ 100000) × (n ≤ 1000) × (k ≤ 1000) }
 {
-    if k == 0 {
-        return false;
-    }
-    if n > 256 {
-        return false;
-    }
-    if k > 256 {
+    if k == 0 || n > 256 || k > 256 {
         return false;
     }
     let mut distances = [0.0; 256];
@@ -67,24 +57,19 @@ fn case_right(list: &[u8], a: usize, n: usize, k: usize) -> bool
 }
 
 // Numbers that no case has end the replay, and count as wrong.
-pub(crate) fn cases(list: &[u8]) -> replay::Tally {
-    let words = list.len() / 8;
-    let mut t = replay::Tally::new();
-    let mut a: usize = 0;
-    while a < words {
-        if a > 100000 {
-            return t.with(false);
-        }
-        let n = word_at(list, a);
-        if n > 1000 {
-            return t.with(false);
-        }
-        let k = word_at(list, a + 1);
-        if k > 1000 {
-            return t.with(false);
-        }
-        t = t.with(case_right(list, a, n as usize, k as usize));
-        a = a + 3 + n as usize + 2 * k as usize;
+fn case_at(list: &[u8], a: usize) -> Option<Next> {
+    let n = word_at(list, a);
+    let k = word_at(list, plus(a, 1));
+    if a > 100000 || n > 1000 || k > 1000 {
+        return None;
     }
-    t
+    let right = case_right(list, a, n as usize, k as usize);
+    Some(Next {
+        right,
+        at: a + 3 + n as usize + 2 * k as usize,
+    })
+}
+
+pub(crate) fn cases(list: &[u8]) -> Tally {
+    replay_cases(list, |a| case_at(list, a))
 }

@@ -3,8 +3,9 @@ ghost use Rattle.std.specs.Prelude.{◌≡◌, ◌+◌, ◌*◌, ◌<◌, ◌≤
 ghost use Rattle.affinity_lists.specs.Lists.{Rowed, Rows};
 
 use affinity_lists::symmetrise;
-use replay::areas::{mark, mark_words};
-use replay::word_at;
+use replay::areas::{mark, mark_words, plus};
+use replay::cases::{Next, replay_cases};
+use replay::{Tally, word_at};
 
 // A product that is small.
 fn product(n: usize, k: usize) -> usize
@@ -16,20 +17,7 @@ fn product(n: usize, k: usize) -> usize
 
 // A word as a frame's number; one that is too large becomes 0, and differs then.
 fn short(x: u64) -> u32 {
-    if x > 0xffff_ffff {
-        return 0;
-    }
-    x as u32
-}
-
-fn wide(x: u32) -> usize
-    ensures { result ≡ x }
-{
-    x as usize
-}
-
-fn number(x: u32) -> u64 {
-    x as u64
+    u32::try_from(x).unwrap_or(0)
 }
 
 // The first m links and their shares, divided by what all are divided by, from word a on.
@@ -50,7 +38,7 @@ fn row_right(indices: &[u32], n: usize, k: usize, i: usize) -> bool
     let a = i * k;
     let mut low = 0;
     for t in 0..k {
-        let v = wide(indices[a + t]);
+        let v = indices[a + t] as usize;
         if v < low {
             return false;
         }
@@ -82,12 +70,10 @@ fn rows_right(indices: &[u32], n: usize, k: usize) -> bool
 fn same_offsets(offsets: &[u32], n: usize, list: &[u8], a: usize) -> bool
     requires { (n < length offsets.now) × (n ≤ 1000) × (a ≤ 300000) }
 {
-    let mut i = 0;
-    while i <= n {
-        if number(offsets[i]) != word_at(list, a + i) {
+    for i in 0..n + 1 {
+        if offsets[i] as u64 != word_at(list, a + i) {
             return false;
         }
-        i += 1;
     }
     true
 }
@@ -97,7 +83,7 @@ fn same_links(weights: &[f64], indices: &[u32], m: usize, list: &[u8], a: usize)
     requires { (a ≤ 400000) × (m ≤ 20000) × (m ≤ length weights.now) × (m ≤ length indices.now) }
 {
     for p in 0..m {
-        if number(indices[p]) != word_at(list, a + 2 * p) {
+        if indices[p] as u64 != word_at(list, a + 2 * p) {
             return false;
         }
         if elementary::bits_of(weights[p]) != word_at(list, a + 2 * p + 1) {
@@ -127,10 +113,7 @@ fn join_right(
         return false;
     }
     symmetrise(weights, indices, offsets, row_values, row_indices, n, k);
-    if !same_offsets(offsets, n, list, a) {
-        return false;
-    }
-    same_links(weights, indices, links, list, a + n + 1)
+    same_offsets(offsets, n, list, a) && same_links(weights, indices, links, list, a + n + 1)
 }
 
 // The sizes at word a are such that the case fits.
@@ -146,17 +129,19 @@ fn sizes_right(a: usize, n: usize, k: usize) -> bool
     k < n
 }
 
-// What became of one case: right or not, and the word after it.
-#[derive(Clone, Copy)]
-struct Next {
-    right: bool,
-    at: usize,
+// The case from word a on. Numbers that no case has end the replay, and count as wrong.
+fn case_in(list: &[u8], a: usize) -> Option<Next> {
+    let n = word_at(list, a) as usize;
+    let k = word_at(list, plus(a, 1)) as usize;
+    if !sizes_right(a, n, k) {
+        return None;
+    }
+    Some(case_at(list, a, n, k))
 }
 
 // The case from word a on: n rows of k links with their shares, then the offsets and the links of all lists. More links than the areas hold end the replay.
 fn case_at(list: &[u8], a: usize, n: usize, k: usize) -> Next
     requires { (a ≤ 100000) × (n ≤ 64) × (k < n) }
-    ensures { (a < result.at) × (result.at ≤ 200000) }
 {
     let m = product(n, k);
     let from = a + 2 + 2 * m;
@@ -195,20 +180,6 @@ fn case_at(list: &[u8], a: usize, n: usize, k: usize) -> Next
     Next { right, at }
 }
 
-// Numbers that no case has end the replay, and count as wrong.
-pub(crate) fn cases(list: &[u8]) -> replay::Tally {
-    let end = list.len() / 8;
-    let mut t = replay::Tally::new();
-    let mut a: usize = 0;
-    while a < end {
-        let n = word_at(list, a) as usize;
-        let k = word_at(list, a + 1) as usize;
-        if !sizes_right(a, n, k) {
-            return t.with(false);
-        }
-        let next = case_at(list, a, n, k);
-        t = t.with(next.right);
-        a = next.at;
-    }
-    t
+pub(crate) fn cases(list: &[u8]) -> Tally {
+    replay_cases(list, |a| case_in(list, a))
 }

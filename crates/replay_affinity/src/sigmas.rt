@@ -2,7 +2,8 @@
 ghost use Rattle.std.specs.Prelude.{◌≤◌};
 
 use replay::areas::{copy_words, mark, same_area};
-use replay::word_at;
+use replay::cases::{Next, replay_cases};
+use replay::{Tally, word_at};
 
 // The case from word a on: a row of n distances, whose shares follow it; what lies past the shares keeps its marks.
 fn case_right(list: &[u8], a: usize, n: usize) -> bool
@@ -21,21 +22,19 @@ fn case_right(list: &[u8], a: usize, n: usize) -> bool
 }
 
 // A length that no case has ends the replay, and counts as wrong.
-pub(crate) fn cases(list: &[u8]) -> replay::Tally {
-    let words = list.len() / 8;
-    let mut t = replay::Tally::new();
-    let mut a: usize = 0;
-    while a < words {
-        let n = word_at(list, a);
-        if n > 1000 {
-            return t.with(false);
-        }
-        if a > 100000 {
-            return t.with(false);
-        }
-        let length = n as usize;
-        t = t.with(case_right(list, a, length));
-        a = a + 2 + 2 * length;
+fn case_at(list: &[u8], a: usize) -> Option<Next> {
+    let n = word_at(list, a);
+    if n > 1000 || a > 100000 {
+        return None;
     }
-    t
+    let length = n as usize;
+    let right = case_right(list, a, length);
+    Some(Next {
+        right,
+        at: a + 2 + 2 * length,
+    })
+}
+
+pub(crate) fn cases(list: &[u8]) -> Tally {
+    replay_cases(list, |a| case_at(list, a))
 }

@@ -6,7 +6,7 @@ use tree_node::Cell;
 
 // Where a value is to be, at place i: the value with the bits 4000000000000000 + i.
 fn real_mark(i: usize) -> f64 {
-    value_of(std::num::wrapping_add_u64(0x4000000000000000, i as u64))
+    value_of(0x4000000000000000u64.wrapping_add(i as u64))
 }
 
 // Where a number is to be: 40000000 + i, in hex.
@@ -54,53 +54,22 @@ pub fn marked() -> [Cell; 512] {
 
 // Bit by bit.
 fn same_reals(a: [f64; 3], b: [f64; 3]) -> bool {
-    if bits_of(a[0]) != bits_of(b[0]) {
-        return false;
-    }
-    if bits_of(a[1]) != bits_of(b[1]) {
-        return false;
-    }
-    bits_of(a[2]) == bits_of(b[2])
-}
-
-fn same_words(a: Cell, b: Cell) -> bool {
-    if a.count != b.count {
-        return false;
-    }
-    if a.first != b.first {
-        return false;
-    }
-    a.leaf == b.leaf
+    a.iter()
+        .zip(b.iter())
+        .all(|(x, y)| bits_of(*x) == bits_of(*y))
 }
 
 // Every field.
 fn same_cell(a: Cell, b: Cell) -> bool {
-    let z = a.centre;
-    let y = b.centre;
-    let h = a.half;
-    let g = b.half;
-    let m = a.mass;
-    let l = b.mass;
-    if !same_reals(z, y) {
-        return false;
-    }
-    if !same_reals(h, g) {
-        return false;
-    }
-    if !same_reals(m, l) {
-        return false;
-    }
-    same_words(a, b)
+    same_reals(a.centre, b.centre)
+        && same_reals(a.half, b.half)
+        && same_reals(a.mass, b.mass)
+        && a.count == b.count
+        && a.first == b.first
+        && a.leaf == b.leaf
 }
 
 // Whether one arena is the other, in all its cells.
 pub fn same_cells(a: [Cell; 512], b: [Cell; 512]) -> bool {
-    for i in 0..512 {
-        let x = a[i];
-        let y = b[i];
-        if !same_cell(x, y) {
-            return false;
-        }
-    }
-    true
+    a.iter().zip(b.iter()).all(|(x, y)| same_cell(*x, *y))
 }

@@ -1,6 +1,6 @@
 // The settings, the record and the answers, as a list has them.
 use descent::Answer;
-use replay::areas::plus;
+use replay::areas::{plus, same_value, value_at};
 use replay::word_at;
 use run_record::{Method, Run, Settings, Standing};
 
@@ -13,10 +13,6 @@ pub(crate) struct Change {
 
 fn number_at(list: &[u8], i: usize) -> usize {
     word_at(list, i) as usize
-}
-
-fn value_at(list: &[u8], i: usize) -> f64 {
-    elementary::value_of(word_at(list, i))
 }
 
 fn method_of(w: u64) -> Method {
@@ -63,46 +59,23 @@ pub(crate) fn change_at(list: &[u8], b: usize) -> Change {
     Change { field: 14, word: 0 }
 }
 
-fn or_number(x: Change, field: u64, old: usize) -> usize {
-    if x.field == field {
-        return x.word as usize;
-    }
-    old
-}
-
-fn or_value(x: Change, field: u64, old: f64) -> f64 {
-    if x.field == field {
-        return elementary::value_of(x.word);
-    }
-    old
-}
-
-fn or_method(x: Change, old: Method) -> Method {
-    if x.field == 3 {
-        return method_of(x.word);
-    }
-    old
-}
-
-fn or_standing(x: Change, old: Standing) -> Standing {
-    if x.field == 9 {
-        return standing_of(x.word);
-    }
-    old
+// What the change has for the field, else the old.
+fn or<T: Copy>(x: Change, field: u64, new: T, old: T) -> T {
+    if x.field == field { new } else { old }
 }
 
 fn changed_settings(s: Settings, x: Change) -> Settings {
     let m = s.method;
-    let method = or_method(x, m);
+    let method = or(x, 3, method_of(x.word), m);
     Settings {
-        n: or_number(x, 0, s.n),
-        f: or_number(x, 1, s.f),
-        c: or_number(x, 2, s.c),
-        perplexity: or_value(x, 4, s.perplexity),
-        rate: or_value(x, 5, s.rate),
-        iterations: or_number(x, 6, s.iterations),
-        minimum: or_value(x, 8, s.minimum),
-        angle: or_value(x, 7, s.angle),
+        n: or(x, 0, x.word as usize, s.n),
+        f: or(x, 1, x.word as usize, s.f),
+        c: or(x, 2, x.word as usize, s.c),
+        perplexity: or(x, 4, elementary::value_of(x.word), s.perplexity),
+        rate: or(x, 5, elementary::value_of(x.word), s.rate),
+        iterations: or(x, 6, x.word as usize, s.iterations),
+        minimum: or(x, 8, elementary::value_of(x.word), s.minimum),
+        angle: or(x, 7, elementary::value_of(x.word), s.angle),
         method,
     }
 }
@@ -112,14 +85,14 @@ pub(crate) fn changed(r: Run, x: Change) -> Run {
     let s = r.settings;
     let st = r.standing;
     let settings = changed_settings(s, x);
-    let standing = or_standing(x, st);
+    let standing = or(x, 9, standing_of(x.word), st);
     Run {
         settings,
         standing,
-        done: or_number(x, 10, r.done),
-        phase: or_number(x, 11, r.phase),
-        units: or_number(x, 12, r.units),
-        used: or_number(x, 13, r.used),
+        done: or(x, 10, x.word as usize, r.done),
+        phase: or(x, 11, x.word as usize, r.phase),
+        units: or(x, 12, x.word as usize, r.units),
+        used: or(x, 13, x.word as usize, r.used),
     }
 }
 
@@ -142,70 +115,38 @@ fn same_number(x: usize, list: &[u8], i: usize) -> bool {
     x as u64 == word_at(list, i)
 }
 
-fn same_value(x: f64, list: &[u8], i: usize) -> bool {
-    elementary::bits_of(x) == word_at(list, i)
-}
-
 // The numbers of the settings, and the method.
 fn same_numbers(s: Settings, list: &[u8], i: usize) -> bool {
-    if !same_number(s.n, list, i) {
-        return false;
-    }
-    if !same_number(s.f, list, plus(i, 1)) {
-        return false;
-    }
-    if !same_number(s.c, list, plus(i, 2)) {
-        return false;
-    }
     let m = s.method;
-    if method_word(m) != word_at(list, plus(i, 3)) {
-        return false;
-    }
-    same_number(s.iterations, list, plus(i, 6))
+    same_number(s.n, list, i)
+        && same_number(s.f, list, plus(i, 1))
+        && same_number(s.c, list, plus(i, 2))
+        && method_word(m) == word_at(list, plus(i, 3))
+        && same_number(s.iterations, list, plus(i, 6))
 }
 
 // The values of the settings.
 fn same_values(s: Settings, list: &[u8], i: usize) -> bool {
-    if !same_value(s.perplexity, list, plus(i, 4)) {
-        return false;
-    }
-    if !same_value(s.rate, list, plus(i, 5)) {
-        return false;
-    }
-    if !same_value(s.angle, list, plus(i, 7)) {
-        return false;
-    }
-    same_value(s.minimum, list, plus(i, 8))
+    same_value(s.perplexity, list, plus(i, 4))
+        && same_value(s.rate, list, plus(i, 5))
+        && same_value(s.angle, list, plus(i, 7))
+        && same_value(s.minimum, list, plus(i, 8))
 }
 
 // The state and the counters.
 fn same_progress(r: Run, list: &[u8], i: usize) -> bool {
     let st = r.standing;
-    if standing_word(st) != word_at(list, plus(i, 9)) {
-        return false;
-    }
-    if !same_number(r.done, list, plus(i, 10)) {
-        return false;
-    }
-    if !same_number(r.phase, list, plus(i, 11)) {
-        return false;
-    }
-    if !same_number(r.units, list, plus(i, 12)) {
-        return false;
-    }
-    same_number(r.used, list, plus(i, 13))
+    standing_word(st) == word_at(list, plus(i, 9))
+        && same_number(r.done, list, plus(i, 10))
+        && same_number(r.phase, list, plus(i, 11))
+        && same_number(r.units, list, plus(i, 12))
+        && same_number(r.used, list, plus(i, 13))
 }
 
 // The record has the 14 words from i on.
 pub(crate) fn same_run(r: Run, list: &[u8], i: usize) -> bool {
     let s = r.settings;
-    if !same_numbers(s, list, i) {
-        return false;
-    }
-    if !same_values(s, list, i) {
-        return false;
-    }
-    same_progress(r, list, i)
+    same_numbers(s, list, i) && same_values(s, list, i) && same_progress(r, list, i)
 }
 
 fn kind(a: Answer) -> u64 {
@@ -236,11 +177,7 @@ fn units(a: Answer) -> u64 {
 
 // The answer has the three words from i on: kind, number of the refusal, units.
 pub(crate) fn same_answer(a: Answer, list: &[u8], i: usize) -> bool {
-    if kind(a) != word_at(list, i) {
-        return false;
-    }
-    if refusal(a) != word_at(list, plus(i, 1)) {
-        return false;
-    }
-    units(a) == word_at(list, plus(i, 2))
+    kind(a) == word_at(list, i)
+        && refusal(a) == word_at(list, plus(i, 1))
+        && units(a) == word_at(list, plus(i, 2))
 }

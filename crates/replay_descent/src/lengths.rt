@@ -1,7 +1,6 @@
 // How much of each area a call is lent.
 ghost use Rattle.std.specs.Prelude.{◌≤◌};
 
-use crate::run_areas::least;
 use replay::areas::plus;
 use replay::word_at;
 
@@ -22,7 +21,7 @@ pub(crate) struct Lent {
 pub(crate) fn length_at(list: &[u8], i: usize, k: usize, most: usize) -> usize
     ensures { result ≤ most }
 {
-    least(word_at(list, plus(i, k)), most)
+    most.min(word_at(list, plus(i, k)) as usize)
 }
 
 // The eight lengths from word i on, but no more than each area has.

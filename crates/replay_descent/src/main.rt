@@ -12,12 +12,11 @@ mod working;
 
 use descent::Answer;
 use preparation::{answer_place, begin};
+use replay::Tally;
 use replay::areas::plus;
-use replay::word_at;
-use run_areas::both;
+use replay::cases::{next_told, replay_cases, replay_list};
 use run_record::Run;
 use std::io;
-use std::rt::Files;
 use tree_node::Cell;
 use working::all_calls;
 
@@ -36,39 +35,17 @@ fn case_right(list: &[u8], a: usize) -> bool {
     let areas = begun.areas;
     let first = plus(answer_place(list, a), 12);
     let right = all_calls(list, a, first, begun.calls, run, areas);
-    both(begun.right, right)
+    begun.right && right
 }
 
-// A case that does not lead on ends the replay, and counts as wrong.
-fn cases(list: &[u8]) -> replay::Tally {
-    let count = list.len() / 8;
-    let mut t = replay::Tally::new();
-    let mut a: usize = 0;
-    while a < count {
-        t = t.with(case_right(list, a));
-        let at = plus(a, word_at(list, a) as usize);
-        if at <= a {
-            return t.with(false);
-        }
-        a = at;
-    }
-    t
-}
-
-// One list, with a line for it.
-fn replay_list(
-    rt: &(impl Files + Print),
-    path: &[u8],
-    name: &[u8],
-    list: &mut [u8],
-) -> io::Result<()> {
-    let n = replay::load(rt, path, list);
-    replay::print(rt, name, cases(&list[..n]))?;
-    Ok(())
+// What became of the cases of a list.
+fn cases(list: &[u8]) -> Tally {
+    replay_cases(list, |a| next_told(list, a, case_right(list, a)))
 }
 
 fn main(rt: HostRuntime) -> io::Result<()> {
     let mut list = [0u8; 278528];
-    replay_list(&rt, b"runs.words", b"runs", &mut list)?;
-    replay_list(&rt, b"faults.words", b"faults", &mut list)
+    replay_list(&rt, b"runs.words", b"runs", &mut list, cases)?;
+    replay_list(&rt, b"faults.words", b"faults", &mut list, cases)?;
+    Ok(())
 }

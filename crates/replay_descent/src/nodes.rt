@@ -1,8 +1,8 @@
 // The nodes of an arena as a list has them: a node is twelve words, fields 0 to 8 values and 9 to 11 numbers.
 ghost use Rattle.std.specs.Prelude.{◌≤◌};
 
-use crate::run_areas::{more, narrow, wide};
-use replay::areas::plus;
+use crate::run_areas::more;
+use replay::areas::{narrow, plus};
 use replay::word_at;
 use tree_node::Cell;
 
@@ -73,21 +73,16 @@ fn more_cell(digest: u64, v: Cell) -> u64 {
     let half = v.half;
     let mass = v.mass;
     let a = more_three(more_three(more_three(digest, centre), half), mass);
-    let b = more(a, wide(v.count));
-    let c = more(b, wide(v.first));
-    more(c, wide(v.leaf))
+    let b = more(a, v.count as u64);
+    let c = more(b, v.first as u64);
+    more(c, v.leaf as u64)
 }
 
 // The digest of the first m nodes.
 fn digest_cells(cells: [Cell; 512], m: usize) -> u64
     requires { m ≤ 512 }
 {
-    let mut d = m as u64;
-    for i in 0..m {
-        let v = cells[i];
-        d = more_cell(d, v);
-    }
-    d
+    cells[..m].iter().fold(m as u64, |d, v| more_cell(d, *v))
 }
 
 // As many nodes as word i says have the digest of word j, each word k further on; more than there is room for counts as wrong.

@@ -3,9 +3,9 @@ ghost use Rattle.std.specs.Prelude.{◌≤◌, length};
 
 use crate::fields::settings_at;
 use crate::lengths::{length_at, lent_at};
-use crate::run_areas::{Areas, both, least, marked, same, same_areas, same_words};
+use crate::run_areas::{Areas, marked, same, same_areas, same_words};
 use prepare::Prepared;
-use replay::areas::{copy_words, mark, mark_words, plus};
+use replay::areas::{floats_at, mark, mark_words, plus};
 use replay::word_at;
 use run_record::{Run, Settings, Standing};
 
@@ -30,15 +30,6 @@ pub(crate) fn answer_place(list: &[u8], a: usize) -> usize {
     )
 }
 
-// The m values from word a on.
-fn values_at(list: &[u8], a: usize, m: usize) -> [f64; 200]
-    requires { m ≤ 200 }
-{
-    let mut values = [0.0; 200];
-    copy_words(&mut values, m, list, a);
-    values
-}
-
 // The two rows that a preparation is lent beside the areas.
 #[derive(Clone, Copy)]
 struct Rows {
@@ -60,7 +51,7 @@ fn same_rows(s: Rows, list: &[u8], i: usize, j: usize) -> bool {
     let values = s.values;
     let indices = s.indices;
     let x = same(&values, list, i, j, 8);
-    both(x, same_words(&indices, list, i, j, 9))
+    x && same_words(&indices, list, i, j, 9)
 }
 
 // What a preparation gives: its outcome, the areas and the rows.
@@ -170,7 +161,7 @@ fn calls_after(k: u64, list: &[u8], i: usize) -> usize
     ensures { result ≤ length list.now }
 {
     if k == 0 {
-        return least(word_at(list, i), list.len());
+        return list.len().min(word_at(list, i) as usize);
     }
     0
 }
@@ -182,8 +173,8 @@ pub(crate) fn begin(list: &[u8], a: usize) -> Begun
     let s = settings_at(list, plus(a, 1));
     let t = table_length(list, a);
     let u = start_length(list, a);
-    let table = values_at(list, plus(a, 22), t);
-    let start = values_at(list, plus(plus(a, 22), t), u);
+    let table = floats_at::<200>(list, plus(a, 22), t);
+    let start = floats_at::<200>(list, plus(plus(a, 22), t), u);
     let p = prepared(
         list,
         a,
@@ -200,8 +191,8 @@ pub(crate) fn begin(list: &[u8], a: usize) -> Begun
     let b = answer_place(list, a);
     let i = plus(a, 10);
     let j = plus(b, 1);
-    let answered = both(k == word_at(list, b), same_rows(rows, list, i, j));
-    let right = both(answered, same_areas(areas, list, i, j));
+    let answered = k == word_at(list, b) && same_rows(rows, list, i, j);
+    let right = answered && same_areas(areas, list, i, j);
     let run = run_of(outcome, s);
     let calls = calls_after(k, list, plus(b, 11));
     Begun {

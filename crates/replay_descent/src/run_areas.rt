@@ -2,7 +2,7 @@
 ghost use Rattle.std.specs.Prelude.{◌≤◌, length};
 
 use crate::nodes::{alter_cells, same_cells};
-use replay::areas::{mark, mark_words, plus};
+use replay::areas::{mark, mark_words, narrow, plus};
 use replay::word_at;
 use tree_node::Cell;
 
@@ -17,25 +17,6 @@ pub(crate) struct Areas {
     pub(crate) offsets: [u32; 70],
     pub(crate) forces: [f64; 324],
     pub(crate) cells: [Cell; 512],
-}
-
-// The word as a number, but no more than most.
-pub(crate) fn least(w: u64, most: usize) -> usize
-    ensures { result ≤ most }
-{
-    let m = w as usize;
-    if m > most {
-        return most;
-    }
-    m
-}
-
-// The word as a number of 32 bits; one that does not fit is cut down to the largest.
-pub(crate) fn narrow(w: u64) -> u32 {
-    if w > 4294967295 {
-        return 4294967295;
-    }
-    w as u32
 }
 
 // Areas in which each place holds its mark.
@@ -121,33 +102,7 @@ pub(crate) fn altered(s: Areas, list: &[u8], b: usize) -> Areas {
 
 // The digest with one word more.
 pub(crate) fn more(digest: u64, word: u64) -> u64 {
-    scatter::mix(std::num::wrapping_add_u64(digest, word))
-}
-
-// The digest of the first m places.
-fn digest(area: &[f64], m: usize) -> u64
-    requires { m ≤ length area.now }
-{
-    let mut d = m as u64;
-    for i in 0..m {
-        d = more(d, elementary::bits_of(area[i]));
-    }
-    d
-}
-
-pub(crate) fn wide(x: u32) -> u64 {
-    x as u64
-}
-
-// The same of numbers.
-fn digest_words(area: &[u32], m: usize) -> u64
-    requires { m ≤ length area.now }
-{
-    let mut d = m as u64;
-    for i in 0..m {
-        d = more(d, wide(area[i]));
-    }
-    d
+    scatter::mix(digest.wrapping_add(word))
 }
 
 // As many places as word i says have the digest of word j, each word k further on; an area without room counts as wrong.
@@ -156,7 +111,10 @@ pub(crate) fn same(area: &[f64], list: &[u8], i: usize, j: usize, k: usize) -> b
     if m > area.len() {
         return false;
     }
-    digest(area, m) == word_at(list, plus(j, k))
+    let digest = area[..m]
+        .iter()
+        .fold(m as u64, |d, x| more(d, elementary::bits_of(*x)));
+    digest == word_at(list, plus(j, k))
 }
 
 // The same of numbers.
@@ -165,14 +123,8 @@ pub(crate) fn same_words(area: &[u32], list: &[u8], i: usize, j: usize, k: usize
     if m > area.len() {
         return false;
     }
-    digest_words(area, m) == word_at(list, plus(j, k))
-}
-
-pub(crate) fn both(a: bool, b: bool) -> bool {
-    if a {
-        return b;
-    }
-    false
+    let digest = area[..m].iter().fold(m as u64, |d, x| more(d, *x as u64));
+    digest == word_at(list, plus(j, k))
 }
 
 // The areas of values have their digests among those from word j on; the words from i on say how long they are.
@@ -187,7 +139,7 @@ fn same_values(s: Areas, list: &[u8], i: usize, j: usize) -> bool {
     let g = same(&gains, list, i, j, 2);
     let a = same(&affinities, list, i, j, 3);
     let f = same(&forces, list, i, j, 6);
-    both(both(both(p, q), both(g, a)), f)
+    p && q && g && a && f
 }
 
 // The areas of numbers, and the nodes.
@@ -198,10 +150,10 @@ fn same_numbers(s: Areas, list: &[u8], i: usize, j: usize) -> bool {
     let x = same_words(&indices, list, i, j, 4);
     let o = same_words(&offsets, list, i, j, 5);
     let n = same_cells(cells, list, i, j, 7);
-    both(both(x, o), n)
+    x && o && n
 }
 
 // The eight areas have the digests from word j on; the words from i on say how long they are.
 pub(crate) fn same_areas(s: Areas, list: &[u8], i: usize, j: usize) -> bool {
-    both(same_values(s, list, i, j), same_numbers(s, list, i, j))
+    same_values(s, list, i, j) && same_numbers(s, list, i, j)
 }

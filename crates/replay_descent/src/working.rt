@@ -2,9 +2,9 @@
 use crate::fields::{change_at, changed, same_answer, same_run};
 use crate::lending::work_lent;
 use crate::lengths::lent_at;
-use crate::run_areas::{Areas, altered, both, narrow, same_areas};
+use crate::run_areas::{Areas, altered, same_areas};
 use descent::Worked;
-use replay::areas::plus;
+use replay::areas::{narrow, plus};
 use replay::word_at;
 use run_record::Run;
 
@@ -69,10 +69,7 @@ struct Called {
 fn same_worked(w: Worked, list: &[u8], i: usize) -> bool {
     let answer = w.answer;
     let run = w.run;
-    both(
-        same_answer(answer, list, i),
-        same_run(run, list, plus(i, 3)),
-    )
+    same_answer(answer, list, i) && same_run(run, list, plus(i, 3))
 }
 
 // The call at word b of the case from word a on: its alteration, then the call, then answer, record and digests.
@@ -82,10 +79,8 @@ fn one_call(list: &[u8], a: usize, b: usize, r: Run, s: Areas) -> Called {
     let w = t.worked;
     let areas = t.areas;
     let run = w.run;
-    let right = both(
-        same_worked(w, list, plus(b, 12)),
-        same_areas(areas, list, plus(a, 10), plus(b, 29)),
-    );
+    let right = same_worked(w, list, plus(b, 12))
+        && same_areas(areas, list, plus(a, 10), plus(b, 29));
     Called { run, areas, right }
 }
 
@@ -106,8 +101,8 @@ pub(crate) fn all_calls(
         let t = one_call(list, a, b, run, areas);
         run = t.run;
         areas = t.areas;
-        right = both(right, t.right);
+        right = right && t.right;
         b = plus(b, 37);
     }
-    both(right, b == plus(a, word_at(list, a) as usize))
+    right && b == plus(a, word_at(list, a) as usize)
 }

@@ -3,11 +3,13 @@ ghost use Rattle.std.specs.Prelude.{◌≡◌, true, ◌≤◌};
 ghost use Rattle.tree_node.specs.Node.{Axes};
 ghost use Rattle.divergence_sums.specs.Sums.{AllLinked};
 
-use crate::areas::{numbers_at, times, values_at};
+use crate::areas::numbers_at;
 use crate::links::linked;
-use crate::pulls::{Case, Next, answer_at, case_at};
+use crate::pulls::{Case, answer_at, case_at};
 use divergence_sums::barnes_hut_kl;
-use replay::areas::{plus, same_value};
+use replay::Tally;
+use replay::areas::{floats_at, plus, same_value, times};
+use replay::cases::{Next, replay_cases};
 
 // Whether all n lists may be followed.
 fn all_linked(weights: &[f64], indices: &[u32], offsets: &[u32], n: usize) -> bool
@@ -33,10 +35,10 @@ fn figures_case(list: &[u8], s: Case) -> bool
     }
     let b = plus(s.at, m);
     let d = plus(b, n + 1);
-    let positions = values_at(list, s.at, m);
+    let positions = floats_at::<400>(list, s.at, m);
     let offsets = numbers_at(list, b, n + 1);
     let indices = numbers_at(list, d, s.links);
-    let weights = values_at(list, plus(d, s.links), s.links);
+    let weights = floats_at::<400>(list, plus(d, s.links), s.links);
     if !all_linked(&weights, &indices, &offsets, n) {
         return false;
     }
@@ -68,19 +70,6 @@ fn one_figure(list: &[u8], a: usize) -> Next {
     Next { right, at }
 }
 
-// A case that does not lead on ends the replay, and counts as wrong.
-pub(crate) fn figures_cases(list: &[u8]) -> replay::Tally {
-    let end = list.len() / 8;
-    let mut t = replay::Tally::new();
-    let mut a: usize = 0;
-    while a < end {
-        let next = one_figure(list, a);
-        t = t.with(next.right);
-        let at = next.at;
-        if at <= a {
-            return t.with(false);
-        }
-        a = at;
-    }
-    t
+pub(crate) fn figures_cases(list: &[u8]) -> Tally {
+    replay_cases(list, |a| Some(one_figure(list, a)))
 }

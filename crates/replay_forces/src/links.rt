@@ -2,19 +2,13 @@
 ghost use Rattle.std.specs.Prelude.{◌≡◌, true, ◌≤◌, length};
 ghost use Rattle.gradient.specs.Forces.{Below, Linked};
 
-fn wide(x: u32) -> usize
-    ensures { result ≡ x }
-{
-    x as usize
-}
-
 // Whether the first m indices name frames that there are.
 fn below(indices: &[u32], m: usize, n: usize) -> bool
     requires { m ≤ length indices.now }
     ensures { result ≡ true → Below n m indices.now }
 {
     for k in 0..m {
-        if wide(indices[k]) >= n {
+        if indices[k] as usize >= n {
             return false;
         }
     }
@@ -29,8 +23,8 @@ pub(crate) fn linked(weights: &[f64], indices: &[u32], offsets: &[u32], n: usize
     if i + 1 >= offsets.len() {
         return false;
     }
-    let a = wide(offsets[i]);
-    let e = wide(offsets[i + 1]);
+    let a = offsets[i] as usize;
+    let e = offsets[i + 1] as usize;
     if e < a {
         return false;
     }

@@ -13,30 +13,31 @@ mod pulls;
 use figures::figures_cases;
 use moves::moves_cases;
 use pulls::pulls_cases;
+use replay::cases::replay_list;
 use std::io;
-use std::rt::Files;
-
-fn replay_pulls(rt: &(impl Files + Print), list: &mut [u8]) -> io::Result<()> {
-    let n = replay::load(rt, b"pulls.words", list);
-    replay::print(rt, b"Barnes-Hut gradients", pulls_cases(&list[..n]))?;
-    Ok(())
-}
-
-fn replay_moves(rt: &(impl Files + Print), list: &mut [u8]) -> io::Result<()> {
-    let n = replay::load(rt, b"moves.words", list);
-    replay::print(rt, b"steps before centring", moves_cases(&list[..n]))?;
-    Ok(())
-}
-
-fn replay_links(rt: &(impl Files + Print), list: &mut [u8]) -> io::Result<()> {
-    let n = replay::load(rt, b"links.words", list);
-    replay::print(rt, b"divergence over links", figures_cases(&list[..n]))?;
-    Ok(())
-}
 
 fn main(rt: HostRuntime) -> io::Result<()> {
     let mut list = [0u8; 278528];
-    replay_pulls(&rt, &mut list)?;
-    replay_moves(&rt, &mut list)?;
-    replay_links(&rt, &mut list)
+    replay_list(
+        &rt,
+        b"pulls.words",
+        b"Barnes-Hut gradients",
+        &mut list,
+        pulls_cases,
+    )?;
+    replay_list(
+        &rt,
+        b"moves.words",
+        b"steps before centring",
+        &mut list,
+        moves_cases,
+    )?;
+    replay_list(
+        &rt,
+        b"links.words",
+        b"divergence over links",
+        &mut list,
+        figures_cases,
+    )?;
+    Ok(())
 }

@@ -1,21 +1,17 @@
 // Steps before centring: each element's gain, increment and moved position.
 ghost use Rattle.std.specs.Prelude.{◌≡◌, ◌+◌, ◌*◌, ◌<◌, ◌≤◌, length};
 
-use crate::areas::{times, values_at};
-use replay::areas::{plus, same_value, value_at};
-use replay::word_at;
+use replay::areas::{floats_at, plus, same_value, times, value_at};
+use replay::cases::{Next, replay_cases};
+use replay::{Tally, word_at};
 use step::{Element, Pace};
 
 // Element e is what the list has: from word a on m moved positions, then m increments, then m gains.
 fn same_element(x: Element, list: &[u8], a: usize, m: usize, e: usize) -> bool {
     let b = plus(a, m);
-    if !same_value(x.moved, list, plus(a, e)) {
-        return false;
-    }
-    if !same_value(x.increment, list, plus(b, e)) {
-        return false;
-    }
-    same_value(x.gain, list, plus(plus(b, m), e))
+    same_value(x.moved, list, plus(a, e))
+        && same_value(x.increment, list, plus(b, e))
+        && same_value(x.gain, list, plus(plus(b, m), e))
 }
 
 // Every element of a case whose areas are ready.
@@ -61,10 +57,10 @@ fn moves_case(list: &[u8], a: usize, n: usize, c: usize) -> bool
     };
     let b = plus(a, 4);
     let d = plus(b, plus(m, m));
-    let forces = values_at(list, b, m);
-    let positions = values_at(list, plus(b, m), m);
-    let increments = values_at(list, d, m);
-    let gains = values_at(list, plus(d, m), m);
+    let forces = floats_at::<400>(list, b, m);
+    let positions = floats_at::<400>(list, plus(b, m), m);
+    let increments = floats_at::<400>(list, d, m);
+    let gains = floats_at::<400>(list, plus(d, m), m);
     let e = plus(d, plus(m, m));
     same_moves(
         list,
@@ -81,27 +77,19 @@ fn moves_case(list: &[u8], a: usize, n: usize, c: usize) -> bool
 }
 
 // A size that no case has ends the replay, and counts as wrong.
-pub(crate) fn moves_cases(list: &[u8]) -> replay::Tally {
-    let words = list.len() / 8;
-    let mut t = replay::Tally::new();
-    let mut a: usize = 0;
-    while a < words {
-        let n = word_at(list, a);
-        let c = word_at(list, a + 1);
-        if n > 12 {
-            return t.with(false);
-        }
-        if c > 8 {
-            return t.with(false);
-        }
-        if c == 0 {
-            return t.with(false);
-        }
-        if a > 100000 {
-            return t.with(false);
-        }
-        t = t.with(moves_case(list, a, n as usize, c as usize));
-        a = a + 4 + 7 * times(n as usize, c as usize);
+fn case_at(list: &[u8], a: usize) -> Option<Next> {
+    let n = word_at(list, a);
+    let c = word_at(list, plus(a, 1));
+    if n > 12 || c > 8 || c == 0 || a > 100000 {
+        return None;
     }
-    t
+    let right = moves_case(list, a, n as usize, c as usize);
+    Some(Next {
+        right,
+        at: a + 4 + 7 * times(n as usize, c as usize),
+    })
+}
+
+pub(crate) fn moves_cases(list: &[u8]) -> Tally {
+    replay_cases(list, |a| case_at(list, a))
 }

@@ -3,13 +3,14 @@ ghost use Rattle.std.specs.Prelude.{◌≡◌, true, ◌+◌, ◌*◌, ◌<◌, 
 ghost use Rattle.tree_node.specs.Node.{Axes};
 ghost use Rattle.replay_arena.specs.Fronts.{Walkable};
 
-use crate::areas::{numbers_at, times, values_at};
+use crate::areas::numbers_at;
 use crate::growth::grow;
 use crate::lending::forces_in;
 use crate::links::linked;
 use gradient::element::{gradient_at, normaliser};
-use replay::areas::{mark, plus, same_area, same_value, value_at};
-use replay::word_at;
+use replay::areas::{floats_at, mark, plus, same_area, same_value, times, value_at};
+use replay::cases::{Next, replay_cases};
+use replay::{Tally, word_at};
 use replay_arena::fine_in;
 use replay_arena::marks::marked;
 use tree_node::Cell;
@@ -132,10 +133,7 @@ fn forces_of(
 fn same_forces(forces: &[f64], n: usize, c: usize, m: usize, list: &[u8], a: usize) -> bool
     requires { (n ≤ 64) × (0 < c) × (c ≤ 8) × (m ≡ n * c) × (n * (2 * c + 1) ≤ length forces.now) }
 {
-    if !same_gradient(forces, n, c, m, list, a) {
-        return false;
-    }
-    same_area(forces, times(n, 2 * c + 1), 0, list, a)
+    same_gradient(forces, n, c, m, list, a) && same_area(forces, times(n, 2 * c + 1), 0, list, a)
 }
 
 // The word behind the links of a case with m coordinates.
@@ -162,10 +160,10 @@ fn pulls_case(list: &[u8], s: Case) -> bool
     }
     let b = plus(s.at, m);
     let d = plus(b, n + 1);
-    let positions = values_at(list, s.at, m);
+    let positions = floats_at::<400>(list, s.at, m);
     let offsets = numbers_at(list, b, n + 1);
     let indices = numbers_at(list, d, s.links);
-    let weights = values_at(list, plus(d, s.links), s.links);
+    let weights = floats_at::<400>(list, plus(d, s.links), s.links);
     let mut forces = [0.0; 460];
     mark(&mut forces);
     if !forces_of(s, &positions, &weights, &indices, &offsets, &mut forces) {
@@ -196,16 +194,7 @@ pub(crate) fn case_at(list: &[u8], a: usize) -> Case
     let n = word_at(list, a);
     let c = word_at(list, plus(a, 1));
     let links = word_at(list, plus(a, 4));
-    if n > 64 {
-        return no_case(a);
-    }
-    if c == 0 {
-        return no_case(a);
-    }
-    if c > 3 {
-        return no_case(a);
-    }
-    if links > 400 {
+    if n > 64 || c == 0 || c > 3 || links > 400 {
         return no_case(a);
     }
     Case {
@@ -227,13 +216,6 @@ fn end_of(s: Case) -> usize
     plus(answer_at(s, m), m + 1)
 }
 
-// What became of one case: right or not, and the word after it.
-#[derive(Clone, Copy)]
-pub(crate) struct Next {
-    pub(crate) right: bool,
-    pub(crate) at: usize,
-}
-
 // The case from word a on: sizes and numbers, positions, offsets, indices and weights, then the normaliser and the gradient.
 fn one_case(list: &[u8], a: usize) -> Next {
     let s = case_at(list, a);
@@ -248,19 +230,6 @@ fn one_case(list: &[u8], a: usize) -> Next {
     Next { right, at }
 }
 
-// A case that does not lead on ends the replay, and counts as wrong.
-pub(crate) fn pulls_cases(list: &[u8]) -> replay::Tally {
-    let end = list.len() / 8;
-    let mut t = replay::Tally::new();
-    let mut a: usize = 0;
-    while a < end {
-        let next = one_case(list, a);
-        t = t.with(next.right);
-        let at = next.at;
-        if at <= a {
-            return t.with(false);
-        }
-        a = at;
-    }
-    t
+pub(crate) fn pulls_cases(list: &[u8]) -> Tally {
+    replay_cases(list, |a| Some(one_case(list, a)))
 }

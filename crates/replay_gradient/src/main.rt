@@ -2,37 +2,35 @@
 
 #![tactic(auto)]
 
-ghost use Rattle.std.specs.Prelude.{◌≡◌, ◌+◌, ◌*◌, ◌<◌, ◌≤◌, length};
+ghost use Rattle.std.specs.Prelude.{◌*◌, ◌<◌, ◌≤◌, length, IfSome};
 
 use divergence_sums::kl_divergence;
-use replay::areas::{copy_words, mark, plus, same_area, same_value, value_at};
-use replay::word_at;
+use replay::areas::{plus, ready_at, same_area, same_value, times, value_at};
+use replay::cases::{Next, replay_cases, replay_list};
+use replay::{Tally, word_at};
 use std::io;
-use std::rt::Files;
 use step::{Pace, Stepped};
 
-fn times(a: usize, b: usize) -> usize
-    requires { (a ≤ 4096) × (b ≤ 4096) }
-    ensures { (result ≡ a * b) × (result ≤ 16777216) }
-{
-    a * b
+// How many frames and components a case has.
+#[derive(Clone, Copy)]
+struct Sizes {
+    n: usize,
+    c: usize,
 }
 
-fn both(a: bool, b: bool) -> bool {
-    if a {
-        return b;
+// The sizes of the case from word a on. A size that no case has ends the replay, and counts as wrong.
+fn sizes_at(list: &[u8], a: usize) -> Option<Sizes>
+    ensures { IfSome result (λ s. (a ≤ 100000) × (s.n ≤ 12) × (s.c ≤ 8)) }
+{
+    let n = word_at(list, a);
+    let c = word_at(list, plus(a, 1));
+    if n > 12 || c > 8 || a > 100000 {
+        return None;
     }
-    false
-}
-
-// An area whose first m places have the words from a on, and the others their marks.
-fn ready(list: &[u8], a: usize, m: usize) -> [f64; 210]
-    requires { m ≤ 210 }
-{
-    let mut area = [0.0; 210];
-    mark(&mut area);
-    copy_words(&mut area, m, list, a);
-    area
+    Some(Sizes {
+        n: n as usize,
+        c: c as usize,
+    })
 }
 
 // The units of all rows: first those of the total, then those of the gradient.
@@ -58,12 +56,9 @@ fn exact_rows(
 fn same_forces(forces: &[f64], m: usize, list: &[u8], a: usize) -> bool
     requires { m < length forces.now }
 {
-    let total = same_value(forces[m], list, a);
-    let tail = same_area(forces, m + 1, 0, list, a);
-    both(
-        both(total, tail),
-        same_area(&forces[..m], 0, m, list, plus(a, 1)),
-    )
+    same_value(forces[m], list, a)
+        && same_area(forces, m + 1, 0, list, a)
+        && same_area(&forces[..m], 0, m, list, plus(a, 1))
 }
 
 // An exact case from word a on: n, c, exaggeration, positions, affinities, then the total and the gradient. Areas without room count as wrong.
@@ -82,36 +77,24 @@ fn exact_case(list: &[u8], a: usize, n: usize, c: usize) -> bool
     let d = plus(b, m);
     let e = plus(d, p);
     let exaggeration = value_at(list, plus(a, 2));
-    let positions = ready(list, b, m);
-    let affinities = ready(list, d, p);
-    let mut forces = ready(list, e, 0);
+    let positions = ready_at::<210>(list, b, m);
+    let affinities = ready_at::<210>(list, d, p);
+    let mut forces = ready_at::<210>(list, e, 0);
     exact_rows(&positions, &affinities, exaggeration, n, c, &mut forces);
-    let right = same_forces(&forces, m, list, e);
-    let kept = same_area(&positions, 0, m, list, b);
-    both(both(right, kept), same_area(&affinities, 0, p, list, d))
+    same_forces(&forces, m, list, e)
+        && same_area(&positions, 0, m, list, b)
+        && same_area(&affinities, 0, p, list, d)
 }
 
-// A size that no case has ends the replay, and counts as wrong.
-fn exact_cases(list: &[u8]) -> replay::Tally {
-    let words = list.len() / 8;
-    let mut t = replay::Tally::new();
-    let mut a: usize = 0;
-    while a < words {
-        let n = word_at(list, a);
-        let c = word_at(list, a + 1);
-        if n > 12 {
-            return t.with(false);
-        }
-        if c > 8 {
-            return t.with(false);
-        }
-        if a > 100000 {
-            return t.with(false);
-        }
-        t = t.with(exact_case(list, a, n as usize, c as usize));
-        a = a + 4 + 2 * times(n as usize, c as usize) + times(n as usize, n as usize);
-    }
-    t
+fn exact_cases(list: &[u8]) -> Tally {
+    replay_cases(list, |a| {
+        let Sizes { n, c } = sizes_at(list, a)?;
+        let right = exact_case(list, a, n, c);
+        Some(Next {
+            right,
+            at: a + 4 + 2 * times(n, c) + times(n, n),
+        })
+    })
 }
 
 fn number(r: Stepped) -> u64 {
@@ -131,12 +114,9 @@ fn same_step(
     gains: &[f64],
 ) -> bool {
     let b = plus(a, m);
-    let moved = same_area(positions, 0, m, list, a);
-    let stepped = same_area(increments, 0, m, list, b);
-    both(
-        both(moved, stepped),
-        same_area(gains, 0, m, list, plus(b, m)),
-    )
+    same_area(positions, 0, m, list, a)
+        && same_area(increments, 0, m, list, b)
+        && same_area(gains, 0, m, list, plus(b, m))
 }
 
 // A case of the step from word a on: n, c, momentum, rate, gradient, positions, increments and gains, the answer, then positions, increments and gains. Areas without room count as wrong.
@@ -159,10 +139,10 @@ fn step_case(list: &[u8], a: usize, n: usize, c: usize) -> bool
     let b = plus(a, 4);
     let d = plus(b, plus(m, m));
     let e = plus(d, plus(m, m));
-    let forces = ready(list, b, m);
-    let mut positions = ready(list, plus(b, m), m);
-    let mut increments = ready(list, d, m);
-    let mut gains = ready(list, plus(d, m), m);
+    let forces = ready_at::<210>(list, b, m);
+    let mut positions = ready_at::<210>(list, plus(b, m), m);
+    let mut increments = ready_at::<210>(list, d, m);
+    let mut gains = ready_at::<210>(list, plus(d, m), m);
     let answer = step::finish(
         pace,
         n,
@@ -172,36 +152,22 @@ fn step_case(list: &[u8], a: usize, n: usize, c: usize) -> bool
         &mut increments,
         &mut gains,
     );
-    both(
-        number(answer) == word_at(list, e),
-        same_step(list, plus(e, 1), m, &positions, &increments, &gains),
-    )
+    number(answer) == word_at(list, e)
+        && same_step(list, plus(e, 1), m, &positions, &increments, &gains)
 }
 
-// A size that no case has ends the replay, and counts as wrong.
-fn step_cases(list: &[u8]) -> replay::Tally {
-    let words = list.len() / 8;
-    let mut t = replay::Tally::new();
-    let mut a: usize = 0;
-    while a < words {
-        let n = word_at(list, a);
-        let c = word_at(list, a + 1);
-        if n > 12 {
-            return t.with(false);
-        }
-        if c > 8 {
-            return t.with(false);
-        }
+fn step_cases(list: &[u8]) -> Tally {
+    replay_cases(list, |a| {
+        let Sizes { n, c } = sizes_at(list, a)?;
         if c == 0 {
-            return t.with(false);
+            return None;
         }
-        if a > 100000 {
-            return t.with(false);
-        }
-        t = t.with(step_case(list, a, n as usize, c as usize));
-        a = a + 5 + 7 * times(n as usize, c as usize);
-    }
-    t
+        let right = step_case(list, a, n, c);
+        Some(Next {
+            right,
+            at: a + 5 + 7 * times(n, c),
+        })
+    })
 }
 
 // A case of the divergence over pairs from word a on: n, c, exaggeration, total, positions, affinities, then the figure. Areas without room count as wrong.
@@ -220,56 +186,33 @@ fn pairs_case(list: &[u8], a: usize, n: usize, c: usize) -> bool
     let d = plus(b, m);
     let exaggeration = value_at(list, plus(a, 2));
     let total = value_at(list, plus(a, 3));
-    let positions = ready(list, b, m);
-    let affinities = ready(list, d, p);
+    let positions = ready_at::<210>(list, b, m);
+    let affinities = ready_at::<210>(list, d, p);
     let figure = kl_divergence(&positions, &affinities, exaggeration, total, n, c);
     same_value(figure, list, plus(d, p))
 }
 
-// A size that no case has ends the replay, and counts as wrong.
-fn pairs_cases(list: &[u8]) -> replay::Tally {
-    let words = list.len() / 8;
-    let mut t = replay::Tally::new();
-    let mut a: usize = 0;
-    while a < words {
-        let n = word_at(list, a);
-        let c = word_at(list, a + 1);
-        if n > 12 {
-            return t.with(false);
-        }
-        if c > 8 {
-            return t.with(false);
-        }
-        if a > 100000 {
-            return t.with(false);
-        }
-        t = t.with(pairs_case(list, a, n as usize, c as usize));
-        a = a + 5 + times(n as usize, c as usize) + times(n as usize, n as usize);
-    }
-    t
-}
-
-fn replay_exact(rt: &(impl Files + Print), list: &mut [u8]) -> io::Result<()> {
-    let n = replay::load(rt, b"exact.words", list);
-    replay::print(rt, b"exact", exact_cases(&list[..n]))?;
-    Ok(())
-}
-
-fn replay_step(rt: &(impl Files + Print), list: &mut [u8]) -> io::Result<()> {
-    let n = replay::load(rt, b"step.words", list);
-    replay::print(rt, b"step", step_cases(&list[..n]))?;
-    Ok(())
-}
-
-fn replay_pairs(rt: &(impl Files + Print), list: &mut [u8]) -> io::Result<()> {
-    let n = replay::load(rt, b"pairs.words", list);
-    replay::print(rt, b"divergence over pairs", pairs_cases(&list[..n]))?;
-    Ok(())
+fn pairs_cases(list: &[u8]) -> Tally {
+    replay_cases(list, |a| {
+        let Sizes { n, c } = sizes_at(list, a)?;
+        let right = pairs_case(list, a, n, c);
+        Some(Next {
+            right,
+            at: a + 5 + times(n, c) + times(n, n),
+        })
+    })
 }
 
 fn main(rt: HostRuntime) -> io::Result<()> {
     let mut list = vec![in rt.alloc(); 0u8; 524288]?;
-    replay_exact(&rt, &mut list)?;
-    replay_step(&rt, &mut list)?;
-    replay_pairs(&rt, &mut list)
+    replay_list(&rt, b"exact.words", b"exact", &mut list, exact_cases)?;
+    replay_list(&rt, b"step.words", b"step", &mut list, step_cases)?;
+    replay_list(
+        &rt,
+        b"pairs.words",
+        b"divergence over pairs",
+        &mut list,
+        pairs_cases,
+    )?;
+    Ok(())
 }

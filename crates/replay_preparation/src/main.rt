@@ -8,24 +8,10 @@ ghost use Rattle.std.specs.Float.{binary64};
 ghost use Rattle.laws.specs.Area.{zero64};
 ghost use Rattle.elementary.specs.Limits.{neighbours_of};
 
-use replay::areas::{copy_words, mark, mark_words, plus, same_area, same_numbers, value_at};
-use replay::word_at;
+use replay::areas::{copy_words, mark, mark_words, plus, same_area, same_numbers, times, value_at};
+use replay::cases::{Next, replay_cases, replay_list};
+use replay::{Tally, word_at};
 use std::io;
-use std::rt::Files;
-
-fn times(a: usize, b: usize) -> usize
-    requires { (a ≤ 64) × (b ≤ 64) }
-    ensures { (result ≡ a * b) × (result ≤ 4096) }
-{
-    a * b
-}
-
-fn both(a: bool, b: bool) -> bool {
-    if a {
-        return b;
-    }
-    false
-}
 
 // The first n places of an area are 0, as the words past the list's end are, and the others hold their marks.
 fn zeroed(area: &[f64], n: usize, list: &[u8]) -> bool {
@@ -52,9 +38,9 @@ fn exact_case(list: &[u8], a: usize, n: usize, f: usize, perplexity: f64, table:
         &mut squares,
         &mut row,
     );
-    let right = same_area(&affinities, 0, p, list, a);
-    let kept = same_area(&squares, n, 0, list, a);
-    both(both(right, kept), zeroed(&row, n, list))
+    same_area(&affinities, 0, p, list, a)
+        && same_area(&squares, n, 0, list, a)
+        && zeroed(&row, n, list)
 }
 
 // From word a on n + 1 offsets, then as many indices as the last of them says, then as many weights.
@@ -69,12 +55,9 @@ fn same_lists(
     let b = plus(a, n);
     let links = word_at(list, b) as usize;
     let e = plus(b, 1);
-    let right = same_numbers(offsets, plus(n, 1), list, a);
-    let named = same_numbers(indices, links, list, e);
-    both(
-        both(right, named),
-        same_area(weights, 0, links, list, plus(e, links)),
-    )
+    same_numbers(offsets, plus(n, 1), list, a)
+        && same_numbers(indices, links, list, e)
+        && same_area(weights, 0, links, list, plus(e, links))
 }
 
 // What is lent beside the lists: the squares' tail, and the zeroed rows.
@@ -85,12 +68,9 @@ fn same_rows(
     row_values: &[f64],
     row_indices: &[u32],
 ) -> bool {
-    let kept = same_area(squares, n, 0, list, 0);
-    let values = zeroed(row_values, n, list);
-    both(
-        both(kept, values),
-        same_numbers(row_indices, n, list, list.len()),
-    )
+    same_area(squares, n, 0, list, 0)
+        && zeroed(row_values, n, list)
+        && same_numbers(row_indices, n, list, list.len())
 }
 
 // A perplexity that a preparation lets pass, and room for the links of its neighbours.
@@ -144,11 +124,8 @@ fn lists_case(list: &[u8], a: usize, n: usize, f: usize, perplexity: f64, table:
         &mut row_values,
         &mut row_indices,
     );
-    let right = same_lists(list, a, n, &weights, &indices, &offsets);
-    both(
-        right,
-        same_rows(list, n, &squares, &row_values, &row_indices),
-    )
+    same_lists(list, a, n, &weights, &indices, &offsets)
+        && same_rows(list, n, &squares, &row_values, &row_indices)
 }
 
 // The case from word a on: method, n, f, perplexity, table, then what the route gives.
@@ -182,24 +159,11 @@ fn rest(list: &[u8], a: usize, n: usize, f: usize) -> usize
     plus(plus(m, plus(n, 1)), plus(links, links))
 }
 
-// What became of one case: right or not, and the word after it.
-#[derive(Clone, Copy)]
-struct Next {
-    right: bool,
-    at: usize,
-}
-
 // The case from word a on. A size that no case has ends the replay, and counts as wrong.
 fn one_case(list: &[u8], a: usize) -> Next {
     let n = word_at(list, plus(a, 1)) as usize;
     let f = word_at(list, plus(a, 2)) as usize;
-    if n > 64 {
-        return Next {
-            right: false,
-            at: 0,
-        };
-    }
-    if f > 6 {
+    if n > 64 || f > 6 {
         return Next {
             right: false,
             at: 0,
@@ -210,38 +174,26 @@ fn one_case(list: &[u8], a: usize) -> Next {
     Next { right, at }
 }
 
-// A case that does not lead on ends the replay, and counts as wrong.
-fn preparation_cases(list: &[u8]) -> replay::Tally {
-    let words = list.len() / 8;
-    let mut t = replay::Tally::new();
-    let mut a: usize = 0;
-    while a < words {
-        let next = one_case(list, a);
-        t = t.with(next.right);
-        let at = next.at;
-        if at <= a {
-            return t.with(false);
-        }
-        a = at;
-    }
-    t
-}
-
-// One list, with a line for it.
-fn replay_list(
-    rt: &(impl Files + Print),
-    path: &[u8],
-    name: &[u8],
-    list: &mut [u8],
-) -> io::Result<()> {
-    let n = replay::load(rt, path, list);
-    replay::print(rt, name, preparation_cases(&list[..n]))?;
-    Ok(())
+fn cases(list: &[u8]) -> Tally {
+    replay_cases(list, |a| Some(one_case(list, a)))
 }
 
 fn main(rt: HostRuntime) -> io::Result<()> {
     let mut list = [0u8; 278528];
-    replay_list(&rt, b"preparation.words", b"preparation", &mut list)?;
-    replay_list(&rt, b"larger.words", b"larger preparations", &mut list)?;
-    replay_list(&rt, b"far.words", b"preparations of far frames", &mut list)
+    replay_list(&rt, b"preparation.words", b"preparation", &mut list, cases)?;
+    replay_list(
+        &rt,
+        b"larger.words",
+        b"larger preparations",
+        &mut list,
+        cases,
+    )?;
+    replay_list(
+        &rt,
+        b"far.words",
+        b"preparations of far frames",
+        &mut list,
+        cases,
+    )?;
+    Ok(())
 }

@@ -18,10 +18,7 @@ pub(crate) fn same_three(v: [f64; 3], list: &[u8], a: usize, c: usize) -> bool
     requires { a ≤ 400000 }
 {
     for d in 0..3 {
-        let mut wanted = 0;
-        if d < c {
-            wanted = word_at(list, a + d);
-        }
+        let wanted = if d < c { word_at(list, a + d) } else { 0 };
         if elementary::bits_of(v[d]) != wanted {
             return false;
         }
@@ -56,20 +53,10 @@ pub(crate) fn same_node(v: Node, list: &[u8], a: usize, c: usize) -> bool
     let half = v.half;
     let mass = v.mass;
     let leaf = v.leaf;
-    if !same_three(centre, list, a, c) {
-        return false;
-    }
-    if !same_three(half, list, a + c, c) {
-        return false;
-    }
-    if !same_three(mass, list, a + 2 * c, c) {
-        return false;
-    }
-    if v.count as u64 != word_at(list, a + 3 * c) {
-        return false;
-    }
-    if leaf_number(leaf) != word_at(list, a + 3 * c + 1) {
-        return false;
-    }
-    children(v.first, c) as u64 == word_at(list, a + 3 * c + 2)
+    same_three(centre, list, a, c)
+        && same_three(half, list, a + c, c)
+        && same_three(mass, list, a + 2 * c, c)
+        && v.count as u64 == word_at(list, a + 3 * c)
+        && leaf_number(leaf) == word_at(list, a + 3 * c + 1)
+        && children(v.first, c) as u64 == word_at(list, a + 3 * c + 2)
 }

@@ -39,10 +39,7 @@ fn same_force(r: Acc, list: &[u8], a: usize, c: usize) -> bool
     requires { (Axes c) × (a ≤ 300000) }
 {
     let force = r.neg;
-    if !same_three(force, list, a, c) {
-        return false;
-    }
-    elementary::bits_of(r.sum) == word_at(list, a + c)
+    same_three(force, list, a, c) && elementary::bits_of(r.sum) == word_at(list, a + c)
 }
 
 // The same for every point and angle; none in an arena that is not well formed.

@@ -22,10 +22,7 @@ pub(crate) struct Grown {
 
 // Whether an arena in which a nodes are used is the one in which b were, in all its cells.
 fn unchanged(cells: [Cell; 512], old: [Cell; 512], a: usize, b: usize) -> bool {
-    if a != b {
-        return false;
-    }
-    same_cells(cells, old)
+    a == b && same_cells(cells, old)
 }
 
 // The points go into a tree of one node in the first k cells.

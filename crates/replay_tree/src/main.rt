@@ -14,11 +14,11 @@ use compare::product;
 use forces::same_forces;
 use growth::{Grown, grow};
 use order::same_tree;
-use replay::areas::copy_words;
-use replay::word_at;
+use replay::areas::{copy_words, plus};
+use replay::cases::{Next, replay_cases, replay_list};
+use replay::{Tally, word_at};
 use replay_arena::marks::marked;
 use std::io;
-use std::rt::Files;
 
 // Where the parts of a case begin in the list, and how large they are.
 #[derive(Clone, Copy)]
@@ -35,22 +35,12 @@ struct Case {
     forces: usize,
 }
 
-// What became of one case: right or not, and the word after it.
-#[derive(Clone, Copy)]
-struct Next {
-    right: bool,
-    at: usize,
-}
-
 // In an arena with room to spare: the point that took the last node, or the number of points where something differs.
 fn in_all(list: &[u8], s: Case, positions: &[f64]) -> u32
     requires { (Axes s.c) × (s.n ≤ 64) × (s.n * s.c ≤ length positions.now) × (s.count ≤ 1000) × (s.nodes ≤ 200000) × (s.forces ≤ 200000) }
 {
     let g = grow(marked(), 512, positions, s.n, s.c);
-    if g.full {
-        return s.n;
-    }
-    if g.used != s.count {
+    if g.full || g.used != s.count {
         return s.n;
     }
     let cells = g.cells;
@@ -84,10 +74,7 @@ fn in_exact(positions: &[f64], n: u32, c: usize, count: usize) -> bool
     requires { (Axes c) × (n * c ≤ length positions.now) × (n ≤ 64) }
 {
     let g = grow_in(positions, n, c, count);
-    if g.full {
-        return false;
-    }
-    g.used == count
+    !g.full && g.used == count
 }
 
 // In an arena of one node less, the point that would take the last node is refused, and nothing changes; a tree of one node has no such point.
@@ -98,13 +85,7 @@ fn in_short(positions: &[f64], n: u32, c: usize, count: usize, last: u32) -> boo
         return true;
     }
     let g = grow_in(positions, n, c, count - 1);
-    if !g.full {
-        return false;
-    }
-    if g.last != last {
-        return false;
-    }
-    g.kept
+    g.full && g.last == last && g.kept
 }
 
 // One case: the tree in an arena with room to spare, then in just enough nodes, then in one less.
@@ -112,13 +93,9 @@ fn case_right(list: &[u8], s: Case, positions: &[f64]) -> bool
     requires { (Axes s.c) × (s.n ≤ 64) × (s.n * s.c ≤ length positions.now) × (s.count ≤ 1000) × (s.nodes ≤ 200000) × (s.forces ≤ 200000) }
 {
     let last = in_all(list, s, positions);
-    if last >= s.n {
-        return false;
-    }
-    if !in_exact(positions, s.n, s.c, s.count) {
-        return false;
-    }
-    in_short(positions, s.n, s.c, s.count, last)
+    last < s.n
+        && in_exact(positions, s.n, s.c, s.count)
+        && in_short(positions, s.n, s.c, s.count, last)
 }
 
 // The sizes that begin at word a are such that the case fits.
@@ -143,7 +120,6 @@ fn sizes_right(a: usize, c: usize, n: u64, room: usize) -> bool
 // The case from word a on, with c components and n points. A number of nodes that no case has ends the replay.
 fn case_at(list: &[u8], a: usize, c: usize, n: u32) -> Next
     requires { (a ≤ 100000) × (Axes c) × (n ≤ 64) × (n * c ≤ 192) }
-    ensures { (a < result.at) × (result.at ≤ 200000) }
 {
     let coordinates = product(n as usize, c);
     let count = word_at(list, a + 2 + coordinates);
@@ -170,43 +146,42 @@ fn case_at(list: &[u8], a: usize, c: usize, n: u32) -> Next
     }
 }
 
-// Numbers that no case has end the replay, and count as wrong.
-fn tree_cases(list: &[u8]) -> replay::Tally {
-    let end = list.len() / 8;
-    let mut t = replay::Tally::new();
-    let mut a: usize = 0;
-    while a < end {
-        let c = word_at(list, a) as usize;
-        let n = word_at(list, a + 1);
-        if !sizes_right(a, c, n, 192) {
-            return t.with(false);
-        }
-        let next = case_at(list, a, c, n as u32);
-        t = t.with(next.right);
-        a = next.at;
+// The case from word a on. Numbers that no case has end the replay, and count as wrong.
+fn case_in(list: &[u8], a: usize) -> Option<Next> {
+    let c = word_at(list, a) as usize;
+    let n = word_at(list, plus(a, 1));
+    if !sizes_right(a, c, n, 192) {
+        return None;
     }
-    t
+    Some(case_at(list, a, c, n as u32))
 }
 
-// One list, with a line for it.
-fn replay_list(
-    rt: &(impl Files + Print),
-    path: &[u8],
-    name: &[u8],
-    list: &mut [u8],
-) -> io::Result<()> {
-    let n = replay::load(rt, path, list);
-    replay::print(rt, name, tree_cases(&list[..n]))?;
-    Ok(())
-}
-
-fn replay_lists(rt: &(impl Files + Print), list: &mut [u8]) -> io::Result<()> {
-    replay_list(rt, b"tree_1.words", b"trees in 1 component", list)?;
-    replay_list(rt, b"tree_2.words", b"trees in 2 components", list)?;
-    replay_list(rt, b"tree_3.words", b"trees in 3 components", list)
+fn cases(list: &[u8]) -> Tally {
+    replay_cases(list, |a| case_in(list, a))
 }
 
 fn main(rt: HostRuntime) -> io::Result<()> {
     let mut list = [0u8; 278528];
-    replay_lists(&rt, &mut list)
+    replay_list(
+        &rt,
+        b"tree_1.words",
+        b"trees in 1 component",
+        &mut list,
+        cases,
+    )?;
+    replay_list(
+        &rt,
+        b"tree_2.words",
+        b"trees in 2 components",
+        &mut list,
+        cases,
+    )?;
+    replay_list(
+        &rt,
+        b"tree_3.words",
+        b"trees in 3 components",
+        &mut list,
+        cases,
+    )?;
+    Ok(())
 }

@@ -6,22 +6,14 @@ use crate::compare::{children, product, same_node};
 use tree_node::Cell;
 use tree_node::arena::read_node;
 
-fn number(i: u32) -> usize {
-    i as usize
-}
-
 // n children go onto the stack, the last one first.
 fn push(stack: &mut [u32], top: usize, first: u32, n: usize) -> usize
     requires { (n ≤ 8) × (top + 8 ≤ length stack.old) }
 {
-    let mut t = top;
-    let mut b = n;
-    while b > 0 {
-        b -= 1;
-        stack[t] = std::num::wrapping_add_u32(first, b as u32);
-        t += 1;
+    for k in 0..n {
+        stack[top + k] = first.wrapping_add((n - 1 - k) as u32);
     }
-    t
+    top + n
 }
 
 // The nodes of which the top ones are on the stack, and those below them, are the count nodes that the list has from word a on.
@@ -37,13 +29,10 @@ fn same_nodes(
 {
     let mut top: usize = 1;
     for k in 0..count {
-        if top == 0 {
+        if top == 0 || top > 500 {
             return false;
         }
-        if top > 500 {
-            return false;
-        }
-        let i = number(stack[top - 1]);
+        let i = stack[top - 1] as usize;
         if i >= 512 {
             return false;
         }

@@ -7,10 +7,10 @@ finish-answer-requires c = (
   c.requires.1,
   c.requires.2,
   omega (arith, c.requires.0),
-  omega (arith, c.times.ensures.0, c.if-times-gt210.false, c.ready-forces.type_inv.1.0.1),
+  omega (arith, c.times.ensures.0, c.if-times-gt210.false, c.ready_at-forces.type_inv.1.0.1),
   omega
-      (arith, c.times-m.ensures.0, c.if-m-gt210.false, c.ready-positions.type_inv.1.0.1),
-  omega (arith, c.times-m.ensures.0, c.if-m-gt210.false, c.ready-increments.type_inv.1.0.1),
+      (arith, c.times-m.ensures.0, c.if-m-gt210.false, c.ready_at-positions.type_inv.1.0.1),
+  omega (arith, c.times-m.ensures.0, c.if-m-gt210.false, c.ready_at-increments.type_inv.1.0.1),
   omega
-      (arith, c.times-m.ensures.0, c.if-m-gt210.false, c.ready-gains.type_inv.1.0.1),
+      (arith, c.times-m.ensures.0, c.if-m-gt210.false, c.ready_at-gains.type_inv.1.0.1),
 )

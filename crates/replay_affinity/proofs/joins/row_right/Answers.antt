@@ -12,10 +12,6 @@ pub loop-t-init : goal.loop-t-init
 loop-t-init c =
     (search rules, risen-none)
 
-pub overflow_add-a : goal.overflow_add-a
-overflow_add-a c =
-    omega (arith, row_in _ _ _ _ c.requires.0 c.requires.1)
-
 pub offset_bounds-indices-a : goal.offset_bounds-indices-a
 offset_bounds-indices-a c =
     omega (arith, row_in _ _ _ _ c.requires.0 c.requires.1, c.loop-t-test.true)
@@ -39,9 +35,7 @@ returns-then-v-i c =
 pub loop-t-preserved : goal.loop-t-preserved
 loop-t-preserved c = (
   omega arith,
-  rw c.wide-v.ensures
-      (risen-next (rw c.wide-v.ensures at c.if-v-low.false) (rw c.wide-v.ensures at c.if-v-n.false) (rw c.wide-v.ensures at c.if-v-i.false)
-      c.loop-t.invariant.1),
+  risen-next c.if-v-low.false c.if-v-n.false c.if-v-i.false c.loop-t.invariant.1,
 )
 
 pub returns : goal.returns

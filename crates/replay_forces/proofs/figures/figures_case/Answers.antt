@@ -8,7 +8,7 @@ all_linked-requires c =
 
 pub barnes_hut_kl-figure-requires : goal.barnes_hut_kl-figure-requires
 barnes_hut_kl-figure-requires c =
-    record { c_in_bounds = omega (arith, c.times-m.ensures.0, c.if-m-gt400.false, c.values_at-positions.type_inv.1.0.1); all_linked = c.all_linked.ensures c.if-not-all_linked.false }
+    record { c_in_bounds = omega (arith, c.times-m.ensures.0, c.if-m-gt400.false, c.floats_at-positions.type_inv.1.0.1); all_linked = c.all_linked.ensures c.if-not-all_linked.false }
 
 pub answer_at-requires : goal.answer_at-requires
 answer_at-requires c =

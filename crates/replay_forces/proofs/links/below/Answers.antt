@@ -5,15 +5,15 @@ use borrow.Author.Rules.{rules}
 use native.Mathlib.Omega.{arith}
 use Rattle.replay_forces.proofs.links.below.Goals as goal
 
-pub returns-then-wide-n : goal.returns-then-wide-n
-returns-then-wide-n c =
+pub returns-then-indices-k : goal.returns-then-indices-k
+returns-then-indices-k c =
     λ e. absurd (true≢false (sym e))
 
 pub loop-k-preserved : goal.loop-k-preserved
 loop-k-preserved c = (
   search rules,
   below_next c.args.n c.loop-k.k c.args.indices.now c.loop-k.invariant.1
-      (rw c.wide.ensures at c.if-wide-n.false),
+      c.if-indices-k.false,
 )
 
 pub returns : goal.returns

@@ -23,9 +23,8 @@ pub returns : goal.returns
 returns c =
     λ e. record {
       offsets = c.if-i-offsets.false;
-      rises = rw (c.wide-e.ensures, c.wide-a.ensures) at c.if-e-a.false;
-      weights = rw c.wide-e.ensures at
-          c.if-e-weights.false;
-      indices = rw c.wide-e.ensures at c.if-e-indices.false;
-      frames = rw c.wide-e.ensures at (c.below.ensures e);
+      rises = c.if-e-a.false;
+      weights = c.if-e-weights.false;
+      indices = c.if-e-indices.false;
+      frames = c.below.ensures e;
     }

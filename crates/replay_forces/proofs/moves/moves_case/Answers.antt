@@ -7,10 +7,10 @@ same_moves-requires c = (
   c.requires.1,
   c.requires.2,
   c.times-m.ensures.0,
-  omega (arith, c.times.ensures.0, c.if-times-gt400.false, c.values_at-forces.type_inv.1.0.1),
+  omega (arith, c.times.ensures.0, c.if-times-gt400.false, c.floats_at-forces.type_inv.1.0.1),
   omega
-      (arith, c.if-m-gt400.false, c.values_at-positions.type_inv.1.0.1),
-  omega (arith, c.if-m-gt400.false, c.values_at-increments.type_inv.1.0.1),
+      (arith, c.if-m-gt400.false, c.floats_at-positions.type_inv.1.0.1),
+  omega (arith, c.if-m-gt400.false, c.floats_at-increments.type_inv.1.0.1),
   omega
-      (arith, c.if-m-gt400.false, c.values_at-gains.type_inv.1.0.1),
+      (arith, c.if-m-gt400.false, c.floats_at-gains.type_inv.1.0.1),
 )

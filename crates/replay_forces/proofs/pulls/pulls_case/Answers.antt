@@ -6,7 +6,7 @@ pub forces_of-requires : goal.forces_of-requires
 forces_of-requires c = (
   c.requires.0,
   c.requires.1,
-  omega (arith, c.times-m.ensures.0, c.if-m-gt400.false, c.values_at-positions.type_inv.1.0.1),
+  omega (arith, c.times-m.ensures.0, c.if-m-gt400.false, c.floats_at-positions.type_inv.1.0.1),
   omega
       (arith, c.times.ensures.0, c.if-times-gt460.false),
 )
