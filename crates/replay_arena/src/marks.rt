@@ -54,7 +54,9 @@ pub fn marked() -> [Cell; 512] {
 
 // Bit by bit.
 fn same_reals(a: [f64; 3], b: [f64; 3]) -> bool {
-    a.iter().zip(b.iter()).all(|(x, y)| bits_of(*x) == bits_of(*y))
+    a.iter()
+        .zip(b.iter())
+        .all(|(x, y)| bits_of(*x) == bits_of(*y))
 }
 
 // Every field.

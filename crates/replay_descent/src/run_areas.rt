@@ -111,7 +111,9 @@ pub(crate) fn same(area: &[f64], list: &[u8], i: usize, j: usize, k: usize) -> b
     if m > area.len() {
         return false;
     }
-    let digest = area[..m].iter().fold(m as u64, |d, x| more(d, elementary::bits_of(*x)));
+    let digest = area[..m]
+        .iter()
+        .fold(m as u64, |d, x| more(d, elementary::bits_of(*x)));
     digest == word_at(list, plus(j, k))
 }
 

@@ -19,7 +19,10 @@ pub(crate) fn sides_at(list: &[u8], a: usize) -> [u8; 16] {
 fn same_first(area: [u8; 1408], m: usize, list: &[u8], a: usize) -> bool
     requires { m ≤ 1408 }
 {
-    area[..m].iter().enumerate().all(|(i, x)| *x as u64 == word_at(list, plus(a, i)))
+    area[..m]
+        .iter()
+        .enumerate()
+        .all(|(i, x)| *x as u64 == word_at(list, plus(a, i)))
 }
 
 // The same, and the others have their marks.

@@ -88,7 +88,10 @@ fn same_told(number: u32, answer: [u64; 2], list: &[u8], i: usize) -> bool {
 fn same_rules(rules: [u8; 1408], m: usize, list: &[u8], a: usize) -> bool
     requires { m ≤ 1408 }
 {
-    rules[..m].iter().enumerate().all(|(i, rule)| *rule as u64 == word_at(list, plus(a, i)))
+    rules[..m]
+        .iter()
+        .enumerate()
+        .all(|(i, rule)| *rule as u64 == word_at(list, plus(a, i)))
 }
 
 // All places are the words from i on, and all rules are those after them; behind them are marks.

@@ -40,7 +40,10 @@ fn bits_marked(area: &[u64], m: usize) -> bool {
 
 // From place m on each number is its mark.
 fn still_marked(area: &[u32], m: usize) -> bool {
-    area.iter().enumerate().skip(m).all(|(i, x)| *x as u64 == 0x40000000u64.wrapping_add(i as u64))
+    area.iter()
+        .enumerate()
+        .skip(m)
+        .all(|(i, x)| *x as u64 == 0x40000000u64.wrapping_add(i as u64))
 }
 
 // The first m places have the digest of word j, and the others their marks.
@@ -48,7 +51,9 @@ pub(crate) fn same_values(area: &[f64], m: usize, list: &[u8], j: usize) -> bool
     if m > area.len() {
         return false;
     }
-    let digest = area[..m].iter().fold(m as u64, |d, x| more(d, elementary::bits_of(*x)));
+    let digest = area[..m]
+        .iter()
+        .fold(m as u64, |d, x| more(d, elementary::bits_of(*x)));
     digest == word_at(list, j) && same_area(area, m, 0, list, 0)
 }
 

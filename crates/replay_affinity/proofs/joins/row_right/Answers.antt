@@ -12,10 +12,6 @@ pub loop-t-init : goal.loop-t-init
 loop-t-init c =
     (search rules, risen-none)
 
-pub overflow_add-a : goal.overflow_add-a
-overflow_add-a c =
-    omega (arith, row_in _ _ _ _ c.requires.0 c.requires.1)
-
 pub offset_bounds-indices-a : goal.offset_bounds-indices-a
 offset_bounds-indices-a c =
     omega (arith, row_in _ _ _ _ c.requires.0 c.requires.1, c.loop-t-test.true)
