@@ -6,4 +6,5 @@ use Rattle.laws.proofs.Loops.{Loops}
 use Rattle.gradient_pairs.proofs.exact.Pairs.lay_weights.Given as goal
 
 abbrev pub invariant-loop-k : goal.invariant-loop-k
-invariant-loop-k l = (length l.weights ≡ length l.initial.weights) × Loops (weight_laid l.nums l.self.affinities.now l.self.exaggeration l.self.total l.self.map.n l.i l.j) l.m l.initial.weights l.k l.weights
+invariant-loop-k l = (length l.weights ≡ length l.initial.weights) × Loops (weight_laid l.nums l.self.affinities.now l.self.exaggeration l.self.total l.self.map.n l.i l.j)
+    l.m l.initial.weights l.k l.weights
