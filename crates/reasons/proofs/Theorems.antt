@@ -27,7 +27,7 @@ use Rattle.reasons.specs.Reasons.{node_bad, EndFails, OffsetsFail, IndexFail, No
 
 -- ---- the number that settings get is a refusal's
 
-Named : ℕ → Type 0
+abbrev Named : ℕ → Type 0
 Named k = (k ≡ 0 → ⊥) → refusal_number (refusal_of k) ≡ k
 
 named-cond : (b : Bool) (k r : ℕ) → Named k → Named r → Named (cond b k r)
