@@ -29,7 +29,8 @@ module _ (w : List ℕ) (m : Memory) (y : List Float) (a : List ℕ) (b : Bool) 
   pub long-said : b ≡ false → 14 ≤ length w
   long-said t = fit-long w (length a) (sym e ∙ t)
 
-  pub figure-said : b ≡ false → (r : Run) → r ≡ run_of w → (d : Result Float DivergenceFault) → d ≡ divergence_of r m y → (k : ℕ) (a' : List ℕ) → worded k a' ≡ worded (divergence_number d) (set a 0 (diverged_word d)) → worded k a' ≡ host_divergence w m y a
+  pub figure-said : b ≡ false → (r : Run) → r ≡ run_of w → (d : Result Float DivergenceFault) → d ≡ divergence_of r m y →
+      (k : ℕ) (a' : List ℕ) → worded k a' ≡ worded (divergence_number d) (set a 0 (diverged_word d)) → worded k a' ≡ host_divergence w m y a
   unfolding host_divergence diverged_told
   figure-said t r er d ed k a' s =
       let d' : d ≡ divergence_of (run_of w) m y = ed ∙ ap (λ (x : Run). divergence_of x m y) er in

@@ -13,5 +13,6 @@ told : (r : Result Unit Refusal) → number_told refusal_number r ≡ or_zero (s
 told (Ok x) = refl
 told (Err e) = refl
 
-pub scattered-is : (r : Result Unit Refusal) {p : List Float} (o : ScatterOutcome) → scatter_outcome (numbered refusal_number r) p ≡ o → (k : ℕ) → k ≡ number_told refusal_number r → (k ≡ or_zero o.number) × (p ≡ o.positions)
+pub scattered-is : (r : Result Unit Refusal) {p : List Float} (o : ScatterOutcome) → scatter_outcome (numbered refusal_number r) p ≡ o →
+    (k : ℕ) → k ≡ number_told refusal_number r → (k ≡ or_zero o.number) × (p ≡ o.positions)
 scattered-is r o e k q = (q ∙ told r ∙ ap (λ (x : ScatterOutcome). or_zero x.number) e, ap (λ (x : ScatterOutcome). x.positions) e)

@@ -20,7 +20,22 @@ use Rattle.tree.specs.Contents.{contents_of}
 use Rattle.tree_contents.specs.declared.Unsound.{Unsound}
 use Rattle.run_entry.specs.declared.Fault.{Fault}
 use Rattle.run_entry.specs.declared.Fault.TheVariants.{Offsets, Index}
-use Rattle.run_entry.specs.Entry.{Found, areas_fit, first_offset, first_index, listed, tree_fault, tree_fault_at, contents_fault, is_fine, record_fault, lists_fault, fault_before_tree, asks_tree, fault_at}
+use Rattle.run_entry.specs.Entry.{
+  Found,
+  areas_fit,
+  first_offset,
+  first_index,
+  listed,
+  tree_fault,
+  tree_fault_at,
+  contents_fault,
+  is_fine,
+  record_fault,
+  lists_fault,
+  fault_before_tree,
+  asks_tree,
+  fault_at,
+}
 use Rattle.run_entry.proofs.Laws.{axes, record-fine, found-none}
 
 -- the nodes are tested where the lists are fine
@@ -91,7 +106,8 @@ module _ (r : Run) (p i g a f : ℕ) (xs off : List ℕ) (cs : List Cell) (t : F
   pub early-axes : asks_tree r t ≡ true → Axes r.settings.c
   early-axes y = asked-axes r p i g a f xs off (nodes_of cs) (subst (λ (x : Found). asks_tree r x ≡ true) early-is y)
 
-  pub early-asked : asks_tree r t ≡ true → (k : Result Unit Unsound) → k ≡ contents_of r.settings.n r.settings.c (tree r.used (nodes_of cs)) → (w : Found) → w ≡ tree_fault k → w ≡ fault_at r p i g a f xs off (nodes_of cs)
+  pub early-asked : asks_tree r t ≡ true → (k : Result Unit Unsound) → k ≡ contents_of r.settings.n r.settings.c (tree r.used (nodes_of cs)) →
+      (w : Found) → w ≡ tree_fault k → w ≡ fault_at r p i g a f xs off (nodes_of cs)
   early-asked y k ek w ew = ew ∙ ap tree_fault ek ∙ asked r p i g a f xs off (nodes_of cs) (subst (λ (x : Found). asks_tree r x ≡ true) early-is y)
 
   pub early-unasked : asks_tree r t ≡ false → t ≡ fault_at r p i g a f xs off (nodes_of cs)

@@ -277,7 +277,8 @@ module _ (g : List ℕ) (r : Run) (h : Holdings) (ns : List Node) where
   accepted m a = by_bool Accepted (is_fine (fault g r h ns))
       (λ f. by_bool Accepted (is_accepted (outlook g r h ns)) (accepts f)
       (λ e. absurd (true≢false (sym (ap is_accepted (same (sym (ap (λ (o : TookOut). o.answer) (told_is g r h ns f e)) ∙ a))) ∙ e))))
-      (λ f. absurd (let x = found-some (fault g r h ns) f in let z : Bad x.0 ≡ Told (Ok m) = sym (ap (λ (o : TookOut). o.answer) (bad-is g r h ns x.0 x.1)) ∙ a in let y : ◌≡◌ {A = ℕ} 0 1 = cc in omega arith))
+      (λ f. absurd (let x = found-some (fault g r h ns) f in
+      let z : Bad x.0 ≡ Told (Ok m) = sym (ap (λ (o : TookOut). o.answer) (bad-is g r h ns x.0 x.1)) ∙ a in let y : ◌≡◌ {A = ℕ} 0 1 = cc in omega arith))
     where
       same : {v w : Outlook} → Told v ≡ Told w → v ≡ w
       same e = cc

@@ -31,7 +31,11 @@ bounds-offsets-j-in-loop-i c =
 
 pub overflow_sub-k : goal.overflow_sub-k
 overflow_sub-k c =
-    omega (arith, closes-room c.requires.1 c.requires.2 c.requires.3 c.loop-i.invariant.0 c.loop-i-test.true (same (num c.args.keep.now c.loop-i.i)) (same (num c.loop-i.offsets (num c.args.keep.now c.loop-i.i))) (same (num c.loop-i.offsets (num c.args.keep.now c.loop-i.i + 1))))
+    omega (
+      arith,
+      closes-room c.requires.1 c.requires.2 c.requires.3 c.loop-i.invariant.0 c.loop-i-test.true
+          (same (num c.args.keep.now c.loop-i.i)) (same (num c.loop-i.offsets (num c.args.keep.now c.loop-i.i))) (same (num c.loop-i.offsets (num c.args.keep.now c.loop-i.i + 1))),
+    )
 
 pub overflow_cast-offsets : goal.overflow_cast-offsets
 overflow_cast-offsets c =
@@ -47,12 +51,15 @@ bounds-offsets-i c =
 
 pub pack_list-q-requires : goal.pack_list-q-requires
 pack_list-q-requires c =
-    let room = closes-room c.requires.1 c.requires.2 c.requires.3 c.loop-i.invariant.0 c.loop-i-test.true (same (num c.args.keep.now c.loop-i.i)) (same (num c.loop-i.offsets (num c.args.keep.now c.loop-i.i))) (same (num c.loop-i.offsets (num c.args.keep.now c.loop-i.i + 1))) in
+    let room = closes-room c.requires.1 c.requires.2 c.requires.3 c.loop-i.invariant.0 c.loop-i-test.true
+    (same (num c.args.keep.now c.loop-i.i)) (same (num c.loop-i.offsets (num c.args.keep.now c.loop-i.i))) (same (num c.loop-i.offsets (num c.args.keep.now c.loop-i.i + 1))) in
     (c.requires.1, omega (arith, c.requires.0, c.requires.2.few), omega (arith, room), omega (arith, room), omega (arith, room))
 
 pub loop-i-preserved : goal.loop-i-preserved
 loop-i-preserved c = (
-  closes-next c.requires.1 c.requires.2 c.requires.3 c.loop-i.invariant.0 c.loop-i-test.true (same (num c.args.keep.now c.loop-i.i)) (same (num c.loop-i.offsets (num c.args.keep.now c.loop-i.i))) (same (num c.loop-i.offsets (num c.args.keep.now c.loop-i.i + 1))) c.pack_list-q.ensures.value
+  closes-next c.requires.1 c.requires.2 c.requires.3 c.loop-i.invariant.0 c.loop-i-test.true
+      (same (num c.args.keep.now c.loop-i.i)) (same (num c.loop-i.offsets (num c.args.keep.now c.loop-i.i))) (same (num c.loop-i.offsets (num c.args.keep.now c.loop-i.i + 1)))
+      c.pack_list-q.ensures.value
       c.pack_list-q.ensures.weights_after c.pack_list-q.ensures.indices_after c.pack_list-q.auto.weights c.pack_list-q.auto.indices,
   c.loop-i.invariant.1,
 )

@@ -8,7 +8,10 @@ use Rattle.run_record.proofs.faults.early_fault.Goals as goal
 use Rattle.run_record.proofs.faults.early_fault.Goals.{then-s-eq0-via-then-s-eq0, then-s-eq0-via-else-s-eq0+then-s-gt-MOST_COMPONENTS}
 use Rattle.run_record.proofs.faults.early_fault.Goals.{then-s-eq0-2-via-then-s-eq0-2, then-s-eq0-2-via-else-s-eq0-2+then-s-gt-MOST_ITERATIONS}
 use Rattle.run_record.proofs.faults.early_fault.Goals.{then-s-eq0-3-via-then-s-eq0-3, then-s-eq0-3-via-else-s-eq0-3+then-s-gt-MOST_FRAMES}
-use Rattle.run_record.proofs.faults.early_fault.Goals.{then-s-eq0-3-via-else-s-eq0-3+else-s-gt-MOST_FRAMES+then-s-eq0-4, then-s-eq0-3-via-else-s-eq0-3+else-s-gt-MOST_FRAMES+else-s-eq0-4+then-s-gt-MOST_FEATURES}
+use Rattle.run_record.proofs.faults.early_fault.Goals.{
+  then-s-eq0-3-via-else-s-eq0-3+else-s-gt-MOST_FRAMES+then-s-eq0-4,
+  then-s-eq0-3-via-else-s-eq0-3+else-s-gt-MOST_FRAMES+else-s-eq0-4+then-s-gt-MOST_FEATURES,
+}
 
 pub returns-then-s-eq0 : goal.returns-then-s-eq0
 unfolding early_fault
