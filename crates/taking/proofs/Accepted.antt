@@ -25,7 +25,7 @@ use Rattle.take_gone.specs.Gone.{gone_fine, survivors}
 use Rattle.take_calm.specs.CalmLeft.{calm_left}
 use Rattle.take_left.specs.declared.Denial.TheVariants.{Inside, Unordered, Few, Perplexed, Crowded, Barred}
 use Rattle.std.specs.Prelude.{Ok, Err}
-use Rattle.take_left.specs.Outlook.{Outlook, thinned_run, crowded, outlook_of, outlook_number}
+use Rattle.take_left.specs.Outlook.{Outlook, thinned_run, crowded, outlook_of}
 use Rattle.take_left.proofs.Judged.{judged-left}
 use Rattle.take_out.specs.declared.TakeFault.TheVariants.{Denied, Bad}
 use Rattle.take_out.specs.TakeOut.{Holdings, Taken, TookOut, took_out, as_taken, state_held, left_behind, lent_positions, take_fault, is_accepted, packed_areas, take_tested, take_out, take_number}
@@ -33,7 +33,7 @@ use Rattle.take_out.proofs.Calls.{words-told}
 
 -- ---- a refusal
 
-no_number : (v : Outlook) → is_accepted v ≡ true → outlook_number v ≡ 0
+no_number : (v : Outlook) → is_accepted v ≡ true → take_number (as_taken v) ≡ 0
 no_number (Ok m) e = refl
 no_number (Err Inside) e = absurd (true≢false (sym e))
 no_number (Err Unordered) e = absurd (true≢false (sym e))
