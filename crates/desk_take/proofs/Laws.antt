@@ -9,8 +9,7 @@ use Rattle.tree_node.specs.declared.Node.{Node}
 use Rattle.record_words.specs.RecordWords.{run_of, Worded, worded}
 use Rattle.fault_words.specs.FaultWords.{unfit, unfit_told}
 use Rattle.fault_words.proofs.Fit.{fit-room, fit-long}
-use Rattle.take_out.specs.declared.Taken.{Taken}
-use Rattle.take_out.specs.TakeOut.{Holdings, TookOut, took_out, take_out, take_number}
+use Rattle.take_out.specs.TakeOut.{Holdings, Taken, TookOut, took_out, take_out, take_number}
 use Rattle.desk_take.specs.HostTake.{taken_told, size_put, host_took, taken_in, unfit_in, host_take}
 
 module _ (g w : List ℕ) (h : Holdings) (ns : List Node) (a : List ℕ) (b : Bool) (q : b ≡ unfit w (length a)) where

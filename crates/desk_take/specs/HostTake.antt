@@ -5,18 +5,17 @@ use Rattle.run_record.specs.declared.Run.{Run}
 use Rattle.tree_node.specs.declared.Node.{Node}
 use Rattle.record_words.specs.RecordWords.{run_of, Worded}
 use Rattle.fault_words.specs.FaultWords.{fault_value, unfit, unfit_told}
-use Rattle.take_left.specs.Outlook.{Outlook}
-use Rattle.take_out.specs.declared.Taken.{Taken}
-use Rattle.take_out.specs.declared.Taken.TheVariants.{Told, Bad}
-use Rattle.take_out.specs.TakeOut.{Holdings, TookOut, take_out, take_number}
+use Rattle.take_out.specs.declared.TakeFault.{TakeFault}
+use Rattle.take_out.specs.declared.TakeFault.TheVariants.{Denied, Bad}
+use Rattle.take_out.specs.TakeOut.{Holdings, Taken, TookOut, take_out, take_number}
 
-abbrev pub left_told : Outlook → ℕ
-left_told (Ok m) = m
-left_told (Err d) = 0
+abbrev pub take_fault_value : TakeFault → ℕ
+take_fault_value (Denied d) = 0
+take_fault_value (Bad f) = fault_value f
 
-unfoldable pub taken_told : Taken → ℕ
-taken_told (Told v) = left_told v
-taken_told (Bad f) = fault_value f
+abbrev pub taken_told : Taken → ℕ
+taken_told (Ok m) = m
+taken_told (Err e) = take_fault_value e
 
 -- the two words that a removal can change: the samples, and the units done in all
 unfoldable pub size_put : Run → List ℕ → List ℕ

@@ -6,40 +6,40 @@ ghost use Rattle.std.specs.Prelude.{◌≡◌, ◌≤◌, length, set};
 ghost use Rattle.tree_node.specs.Arena.{nodes_of};
 ghost use Rattle.record_words.specs.RecordWords.{worded};
 ghost use Rattle.take_out.specs.TakeOut.{holdings, take_number};
-ghost use Rattle.desk_take.specs.HostTake.{left_told, taken_told, size_put, host_took, host_take};
+ghost use Rattle.desk_take.specs.HostTake.{take_fault_value, taken_told, size_put, host_took, host_take};
 
 use fault_words::{fault_value, is_unfit, put_unfit};
 use record_words::run_of;
 use run_record::Run;
-use take_left::Denial;
-use take_out::{Taken, take_out};
+use take_out::{TakeFault, take_out};
 use tree_node::Cell;
 
-fn left_told(v: Result<usize, Denial>) -> u64
-    ensures { result ≡ left_told v }
+// What is told of a refusal: a fault's place, nothing where the removal is denied.
+fn take_fault_value(e: TakeFault) -> u64
+    ensures { result ≡ take_fault_value e }
 {
-    match v {
-        Ok(m) => m as u64,
-        Err(_) => 0,
+    match e {
+        TakeFault::Denied(_) => 0,
+        TakeFault::Bad(f) => fault_value(f),
     }
 }
 
-fn taken_told(a: Taken) -> u64
+fn taken_told(a: Result<usize, TakeFault>) -> u64
     ensures { result ≡ taken_told a }
 {
     match a {
-        Taken::Told(v) => left_told(v),
-        Taken::Bad(f) => fault_value(f),
+        Ok(m) => m as u64,
+        Err(e) => take_fault_value(e),
     }
 }
 
 // Tells how many are left, or the place that comes with the refusal. Answers the number.
-fn put_taken(answer: &mut [u64], a: Taken) -> u32
+fn put_taken(answer: &mut [u64], a: Result<usize, TakeFault>) -> u32
     requires { 1 ≤ length answer.old }
     ensures { worded result answer.new ≡ worded (take_number a) (set answer.old 0 (taken_told a)) }
 {
     answer[0] = taken_told(a);
-    take_out::number(a) as u32
+    refusal::number(a) as u32
 }
 
 // Writes the samples and the units done to the record's words; the others stay as they are.

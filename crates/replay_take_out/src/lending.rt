@@ -2,16 +2,16 @@
 ghost use Rattle.std.specs.Prelude.{◌≡◌, ◌≤◌, take};
 ghost use Rattle.tree_node.specs.Arena.{nodes_of};
 ghost use Rattle.take_out.specs.TakeOut.{holdings, took_out, take_out};
-ghost use Rattle.replay_take_out.specs.Lending.{took_of};
 
 use run_record::Run;
-use take_out::{Taken, Took};
+use take_out::TakeFault;
 use tree_node::Cell;
 
-pub(crate) fn took_of(answer: Taken, run: Run) -> Took
-    ensures { result ≡ took_of answer run }
-{
-    Took { answer, run }
+// An answer with the record afterwards.
+#[derive(Clone, Copy)]
+pub(crate) struct Took {
+    pub(crate) answer: Result<usize, TakeFault>,
+    pub(crate) run: Run,
 }
 
 // The call that is lent the first k cells.
@@ -39,7 +39,7 @@ pub(crate) fn take_lent(
 {
     let mut run = r;
     let own = cells;
-    let a = take_out::take_out(
+    let answer = take_out::take_out(
         &mut run,
         positions,
         increments,
@@ -53,6 +53,5 @@ pub(crate) fn take_lent(
         gone,
         old,
     );
-    let t = took_of(a, run);
-    t
+    Took { answer, run }
 }

@@ -11,8 +11,7 @@ use replay::word_at;
 use replay_areas::empty_cells;
 use replay_areas::values::record_at;
 use run_record::Run;
-use take_left::Denial;
-use take_out::Taken;
+use take_out::TakeFault;
 
 // The record as fourteen words.
 fn words_of(r: Run) -> [u64; 14] {
@@ -26,26 +25,19 @@ fn same_record(words: [u64; 14], list: &[u8], a: usize) -> bool {
     words == record_at(list, a)
 }
 
-// How many are left; nothing comes with a refusal.
-fn left(v: Result<usize, Denial>) -> u64 {
-    match v {
-        Ok(m) => m as u64,
-        Err(_) => 0,
-    }
-}
-
-// What comes with the number: how many are left, or what is told of a fault.
-fn value(a: Taken) -> u64 {
+// What comes with the number: how many are left, or what is told of a fault; nothing where the removal is denied.
+fn value(a: Result<usize, TakeFault>) -> u64 {
     match a {
-        Taken::Told(v) => left(v),
-        Taken::Bad(f) => fault_value(f),
+        Ok(m) => m as u64,
+        Err(TakeFault::Denied(_)) => 0,
+        Err(TakeFault::Bad(f)) => fault_value(f),
     }
 }
 
 // What a call leaves besides areas: its answer, and the record's words.
 #[derive(Clone, Copy)]
 struct Told {
-    answer: Taken,
+    answer: Result<usize, TakeFault>,
     words: [u64; 14],
 }
 
@@ -53,7 +45,7 @@ struct Told {
 fn same_told(t: Told, list: &[u8], i: usize) -> bool {
     let a = t.answer;
     let words = t.words;
-    let number = take_out::number(a) as u64 == word_at(list, i);
+    let number = refusal::number(a) as u64 == word_at(list, i);
     let value = value(a) == word_at(list, plus(i, 1));
     number && value && same_record(words, list, plus(i, 2))
 }
@@ -76,7 +68,7 @@ fn taken(
     requires { nodes ≤ 4 }
 {
     if !run_fine(&words) {
-        let answer = Taken::Bad(unread_fault(&words));
+        let answer = Err(TakeFault::Bad(unread_fault(&words)));
         return Told { answer, words };
     }
     let t = take_lent(

@@ -1,7 +1,7 @@
 -- The tests of what would be left, one after the other: what each has shown, and what is told where it fails. Assumes nothing.
 use mathlib.Core.Path.{◌≡◌, refl, sym, ap, subst, ◌∙◌}
 use mathlib.Core.List.{List}
-use mathlib.Core.Bool.{Bool, true, false, cond}
+use mathlib.Core.Bool.{Bool, true, false, cond, true≢false}
 use Prim.Native.Nat.{ℕ, ◌-◌, ◌<◌, ◌≤◌}
 use native.Mathlib.Omega.{arith}
 use native.Mathlib.Nat.{le_refl}
@@ -21,13 +21,27 @@ use Rattle.take_rows.proofs.Survive.{survivors-kept}
 use Rattle.take_calm.specs.CalmLeft.{calm_left}
 use Rattle.take_lists.specs.Packed.{links_left}
 use Rattle.take_lists.proofs.Bounds.{before-all}
-use Rattle.std.specs.Prelude.{Ok, Err}
+use Rattle.std.specs.Prelude.{Result, Ok, Err}
+use Rattle.std.specs.Result.{is_ok}
+use Rattle.refusal.specs.declared.Refusal.{Refusal}
+use Rattle.refusal.specs.Refusal.{refusal_number, number_told}
+use Rattle.refusal.proofs.Numbers.{refusal-some}
 use Rattle.take_left.specs.declared.Denial.TheVariants.{Inside, Unordered, Few, Perplexed, Crowded, Barred}
 use Rattle.take_left.specs.Outlook.{thinned, crowded, outlook_of, OutlookRoom, CountRoom}
 
 -- so many are left
 pub count_left : (g : List ℕ) (n : ℕ) → gone_fine g n ≡ true → (length g ≤ n) × (n - length g ≡ length (survivors g n))
 count_left g n f = (omega (arith, survivors-count g n f), omega (arith, survivors-count g n f))
+
+-- ---- an answer that is no refusal has the number 0, a refusal another
+
+pub told-none : {A : Type 0} (a : Result A Refusal) (k : ℕ) → number_told refusal_number a ≡ k → is_ok a ≡ true → k ≡ 0
+told-none (Ok x) k e o = sym e
+told-none (Err d) k e o = absurd (true≢false (sym o))
+
+pub told-some : {A : Type 0} (a : Result A Refusal) (k : ℕ) → number_told refusal_number a ≡ k → is_ok a ≡ false → k ≡ 0 → ⊥
+told-some (Ok x) k e o z = true≢false o
+told-some (Err d) k e o z = refusal-some d (e ∙ z)
 
 -- ---- the settings of what would be left
 

@@ -106,7 +106,7 @@ pub fn look_ahead(
         return Err(Denial::Few);
     }
     let t = thinned_settings(s, m);
-    if refusal::number(late_fault(t)) != 0 {
+    if late_fault(t).is_err() {
         return Err(Denial::Perplexed);
     }
     if is_crowded(s, t, gone, indices, offsets) {

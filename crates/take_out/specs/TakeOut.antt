@@ -1,5 +1,5 @@
 -- Frames taken out of a run: the order of the tests, and the record and every area afterwards. Definitions only.
-use Rattle.std.specs.Prelude.{List, ◌++◌, map, ◌≡◌, Bool, true, false, cond, not, ◌&&◌, ◌||◌, ℕ, ◌+◌, ◌*◌, ◌≤◌, eqb, leb, length, drop, Float}
+use Rattle.std.specs.Prelude.{List, ◌++◌, map, ◌≡◌, Bool, true, false, cond, not, ◌&&◌, ◌||◌, ℕ, ◌+◌, ◌*◌, ◌≤◌, eqb, leb, length, drop, Float, Result, Ok, Err}
 use Rattle.std.specs.Result.{is_ok}
 use Rattle.laws.specs.Area.{num, bits, zero64}
 use Rattle.laws.specs.Domain.{most_frames}
@@ -13,9 +13,10 @@ use Rattle.run_entry.specs.Entry.{Found, by_tests, fault_at, fault_number}
 use Rattle.take_gone.specs.Gone.{survivors, Climbs}
 use Rattle.take_rows.specs.Rows.{shrunk, kept_rows, kept_square, centred_rows, Staying}
 use Rattle.take_lists.specs.Packed.{packed_indices, packed_weights, packed_offsets, Listed}
-use Rattle.take_left.specs.Outlook.{Outlook, thinned_run, outlook_of, outlook_number, OutlookRoom}
-use Rattle.take_out.specs.declared.Taken.{Taken}
-use Rattle.take_out.specs.declared.Taken.TheVariants.{Told, Bad}
+use Rattle.refusal.specs.Refusal.{number_told}
+use Rattle.take_left.specs.Outlook.{Outlook, thinned_run, outlook_of, denial_number, OutlookRoom}
+use Rattle.take_out.specs.declared.TakeFault.{TakeFault}
+use Rattle.take_out.specs.declared.TakeFault.TheVariants.{Denied, Bad}
 
 -- ---- the areas of which something is taken out: those of the run but for the nodes, the table and the old places. Values that are only moved are words, by their bits
 
@@ -91,6 +92,15 @@ packed_areas s keep h = record {
   old = keep ++ drop (length keep) h.old;
 }
 
+-- what is answered: so many are left, or why nothing is taken out
+abbrev pub Taken : Type 0
+Taken = Result ℕ TakeFault
+
+-- an outlook as it is answered
+abbrev pub as_taken : Outlook → Taken
+as_taken (Ok m) = Ok m
+as_taken (Err d) = Err (Denied d)
+
 -- what is answered, and record and areas afterwards
 pub record TookOut : Type 0 where
   pub answer : Taken
@@ -106,8 +116,8 @@ take_tested f r g h =
     let v = outlook_of r g h.positions h.indices h.offsets in
     let keep = survivors g r.settings.n in
     by_tests f
-    (cond (is_accepted v) (took_out (Told v) (thinned_run r (length keep)) (packed_areas r.settings keep h)) (took_out (Told v) r h))
-    (λ b. took_out (Bad b) r h)
+    (cond (is_accepted v) (took_out (as_taken v) (thinned_run r (length keep)) (packed_areas r.settings keep h)) (took_out (as_taken v) r h))
+    (λ b. took_out (Err (Bad b)) r h)
 
 -- ---- the whole call
 
@@ -119,10 +129,13 @@ take_out g r h ns = take_tested (take_fault r h ns) r g h
 abbrev pub left_behind : TookOut → List Node → State
 left_behind k ns = state_held k.run k.areas ns
 
+abbrev pub take_fault_number : TakeFault → ℕ
+take_fault_number (Denied d) = denial_number d
+take_fault_number (Bad f) = fault_number f
+
 -- the number of a refusal; 0 where there is none
-unfoldable pub take_number : Taken → ℕ
-take_number (Told v) = outlook_number v
-take_number (Bad f) = fault_number f
+abbrev pub take_number : Taken → ℕ
+take_number = number_told take_fault_number
 
 -- ---- what the entry tests have shown
 

@@ -8,7 +8,8 @@ ghost use Rattle.tree_node.specs.Arena.{nodes_of};
 ghost use Rattle.run_entry.specs.Entry.{is_fine};
 ghost use Rattle.take_gone.specs.Gone.{survivors};
 ghost use Rattle.take_rows.specs.Rows.{shrunk, kept_rows, centred_rows};
-ghost use Rattle.take_out.specs.TakeOut.{holdings, lent_positions, affinities_after, indices_after, offsets_after, packed_areas, took_out, take_tested, take_out, take_number, TakeRoom, ValuesRoom, LinksRoom, PackRoom};
+ghost use Rattle.take_out.specs.declared.TakeFault.TheVariants.{Denied, Bad};
+ghost use Rattle.take_out.specs.TakeOut.{holdings, lent_positions, affinities_after, indices_after, offsets_after, packed_areas, took_out, take_tested, take_out, take_fault_number, TakeRoom, ValuesRoom, LinksRoom, PackRoom};
 
 use areas::fill;
 use refusal::Numbered;
@@ -22,27 +23,47 @@ use take_lists::pack_lists;
 use take_rows::{pack_centred, pack_rows, pack_square};
 use tree_node::Cell;
 
-// What is answered.
-#[derive(Clone, Copy)]
-pub enum Taken {
+// Why nothing is taken out.
+#[derive(Clone, Copy, Debug, PartialEq, Eq)]
+pub enum TakeFault {
     // what the tests of what would be left say
-    Told(Result<usize, Denial>),
+    Denied(Denial),
     // what the entry tests found
     Bad(Fault),
 }
 
-// The answer, with the record afterwards.
-#[derive(Clone, Copy)]
-pub struct Took {
-    pub answer: Taken,
-    pub run: Run,
+impl Numbered for TakeFault {
+    ghost number_of = { take_fault_number };
+
+    fn number(self) -> u8 {
+        match self {
+            TakeFault::Denied(d) => d.number(),
+            TakeFault::Bad(f) => f.number(),
+        }
+    }
+}
+
+impl From<Denial> for TakeFault {
+    ghost from_gives = { λ d e. e ≡ Denied d };
+
+    fn from(d: Denial) -> TakeFault {
+        TakeFault::Denied(d)
+    }
+}
+
+impl From<Fault> for TakeFault {
+    ghost from_gives = { λ f e. e ≡ Bad f };
+
+    fn from(f: Fault) -> TakeFault {
+        TakeFault::Bad(f)
+    }
 }
 
 // How many positions count as lent: none where the table is below n·f or fewer than n old places are lent.
 fn lent_positions(s: Settings, p: usize, t: usize, q: usize) -> usize
     ensures { result ≡ lent_positions s p t q }
 {
-    if refusal::number(settings_fault(s)) != 0 {
+    if settings_fault(s).is_err() {
         return p;
     }
     if t < times(s.n, s.f) {
@@ -126,7 +147,7 @@ fn pack_run(
 // Once the entry tests have found f: refuses, or takes the frames out.
 fn take_tested(
     f: Result<(), Fault>,
-    r: Run,
+    run: &mut Run,
     gone: &[u32],
     positions: &mut [f64],
     increments: &mut [u64],
@@ -137,34 +158,20 @@ fn take_tested(
     forces: &mut [f64],
     table: &mut [u64],
     old: &mut [u32],
-) -> Took
-    requires { is_fine f ≡ true → TakeRoom r (holdings positions.old increments.old gains.old affinities.old indices.old offsets.old forces.old table.old old.old) }
-    ensures { took_out result.answer result.run (holdings positions.new increments.new gains.new affinities.new indices.new offsets.new forces.new table.new old.new)
-        ≡ take_tested f r gone.now (holdings positions.old increments.old gains.old affinities.old indices.old offsets.old forces.old table.old old.old) }
+) -> Result<usize, TakeFault>
+    requires { is_fine f ≡ true → TakeRoom run.old (holdings positions.old increments.old gains.old affinities.old indices.old offsets.old forces.old table.old old.old) }
+    ensures { took_out result run.new (holdings positions.new increments.new gains.new affinities.new indices.new offsets.new forces.new table.new old.new)
+        ≡ take_tested f run.old gone.now (holdings positions.old increments.old gains.old affinities.old indices.old offsets.old forces.old table.old old.old) }
 {
-    if let Err(b) = f {
-        return Took {
-            answer: Taken::Bad(b),
-            run: r,
-        };
-    }
-    let v = look_ahead(r, gone, positions, indices, offsets);
-    let answer = Taken::Told(v);
-    if v.is_err() {
-        return Took {
-            answer: answer,
-            run: r,
-        };
-    }
-    let s = r.settings;
-    let run = thinned_run(r, s.n - gone.len());
+    f?;
+    let r = *run;
+    let left = look_ahead(r, gone, positions, indices, offsets)?;
+    *run = thinned_run(r, left);
     pack_run(
-        s, gone, positions, increments, gains, affinities, indices, offsets, forces, table, old,
+        r.settings, gone, positions, increments, gains, affinities, indices, offsets, forces, table,
+        old,
     );
-    Took {
-        answer: answer,
-        run: run,
-    }
+    Ok(left)
 }
 
 // The samples in `gone` taken out of a run, with any record, list and areas. Values that are only moved are lent as words, by their bits. The nodes are only looked at.
@@ -181,7 +188,7 @@ pub fn take_out(
     table: &mut [u64],
     gone: &[u32],
     old: &mut [u32],
-) -> Taken
+) -> Result<usize, TakeFault>
     ensures { took_out result run.new (holdings positions.new increments.new gains.new affinities.new indices.new offsets.new forces.new table.new old.new)
         ≡ take_out gone.now run.old (holdings positions.old increments.old gains.old affinities.old indices.old offsets.old forces.old table.old old.old) (nodes_of cells.now) }
 {
@@ -196,21 +203,8 @@ pub fn take_out(
         forces: forces.len(),
     };
     let f = fault_at(r, l, indices, offsets, cells);
-    let k = take_tested(
-        f, r, gone, positions, increments, gains, affinities, indices, offsets, forces, table, old,
-    );
-    let x = k.run;
-    *run = x;
-    let a = k.answer;
-    a
-}
-
-// The number of a refusal; 0: it is none.
-pub fn number(a: Taken) -> u8
-    ensures { result ≡ take_number a }
-{
-    match a {
-        Taken::Told(v) => refusal::number(v),
-        Taken::Bad(f) => f.number(),
-    }
+    take_tested(
+        f, run, gone, positions, increments, gains, affinities, indices, offsets, forces, table,
+        old,
+    )
 }

@@ -25,15 +25,15 @@ use Rattle.take_gone.specs.Gone.{gone_fine, survivors}
 use Rattle.take_calm.specs.CalmLeft.{calm_left}
 use Rattle.take_left.specs.declared.Denial.TheVariants.{Inside, Unordered, Few, Perplexed, Crowded, Barred}
 use Rattle.std.specs.Prelude.{Ok, Err}
-use Rattle.take_left.specs.Outlook.{Outlook, thinned_run, crowded, outlook_of, outlook_number}
+use Rattle.take_left.specs.Outlook.{Outlook, thinned_run, crowded, outlook_of}
 use Rattle.take_left.proofs.Judged.{judged-left}
-use Rattle.take_out.specs.declared.Taken.TheVariants.{Told, Bad}
-use Rattle.take_out.specs.TakeOut.{Holdings, TookOut, took_out, state_held, left_behind, lent_positions, take_fault, is_accepted, packed_areas, take_tested, take_out, take_number}
+use Rattle.take_out.specs.declared.TakeFault.TheVariants.{Denied, Bad}
+use Rattle.take_out.specs.TakeOut.{Holdings, Taken, TookOut, took_out, as_taken, state_held, left_behind, lent_positions, take_fault, is_accepted, packed_areas, take_tested, take_out, take_number}
 use Rattle.take_out.proofs.Calls.{words-told}
 
 -- ---- a refusal
 
-no_number : (v : Outlook) → is_accepted v ≡ true → outlook_number v ≡ 0
+no_number : (v : Outlook) → is_accepted v ≡ true → take_number (as_taken v) ≡ 0
 no_number (Ok m) e = refl
 no_number (Err Inside) e = absurd (true≢false (sym e))
 no_number (Err Unordered) e = absurd (true≢false (sym e))
@@ -42,8 +42,7 @@ no_number (Err Perplexed) e = absurd (true≢false (sym e))
 no_number (Err Crowded) e = absurd (true≢false (sym e))
 no_number (Err Barred) e = absurd (true≢false (sym e))
 
-told-numbered : (v : Outlook) → is_accepted v ≡ false → take_number (Told v) ≡ 0 → ⊥
-unfolding take_number
+told-numbered : (v : Outlook) → is_accepted v ≡ false → take_number (as_taken v) ≡ 0 → ⊥
 told-numbered (Ok m) e z = true≢false e
 told-numbered (Err Inside) e z = let y : ◌≡◌ {A = ℕ} 17 0 = z in omega arith
 told-numbered (Err Unordered) e z = let y : ◌≡◌ {A = ℕ} 18 0 = z in omega arith
@@ -52,8 +51,8 @@ told-numbered (Err Perplexed) e z = let y : ◌≡◌ {A = ℕ} 10 0 = z in omeg
 told-numbered (Err Crowded) e z = let y : ◌≡◌ {A = ℕ} 18 0 = z in omega arith
 told-numbered (Err Barred) e z = let y : ◌≡◌ {A = ℕ} 15 0 = z in omega arith
 
-bad-numbered : (f : Fault) → take_number (Bad f) ≡ 0 → ⊥
-unfolding take_number fault_number
+bad-numbered : (f : Fault) → take_number (Err (Bad f)) ≡ 0 → ⊥
+unfolding fault_number
 bad-numbered (BadSettings k) z = let y : ◌≡◌ {A = ℕ} 21 0 = z in omega arith
 bad-numbered Counters z = let y : ◌≡◌ {A = ℕ} 22 0 = z in omega arith
 bad-numbered Areas z = let y : ◌≡◌ {A = ℕ} 12 0 = z in omega arith
@@ -65,7 +64,7 @@ bad-numbered (Tree i) z = let y : ◌≡◌ {A = ℕ} 25 0 = z in omega arith
 abbrev took_as : Outlook → List ℕ → Run → Holdings → TookOut
 took_as v g r h =
     let keep = survivors g r.settings.n in
-    took_out (Told v) (thinned_run r (length keep)) (packed_areas r.settings keep h)
+    took_out (as_taken v) (thinned_run r (length keep)) (packed_areas r.settings keep h)
 
 module _ (g : List ℕ) (r : Run) (h : Holdings) (ns : List Node) where
   abbrev fault : Found
@@ -79,11 +78,11 @@ module _ (g : List ℕ) (r : Run) (h : Holdings) (ns : List Node) where
     pub run : (take_out g r h ns).run ≡ r
     pub areas : (take_out g r h ns).areas ≡ h
 
-  bad-is : (b : Fault) → fault ≡ Err b → take_out g r h ns ≡ took_out (Bad b) r h
+  bad-is : (b : Fault) → fault ≡ Err b → take_out g r h ns ≡ took_out (Err (Bad b)) r h
   unfolding take_out take_tested
   bad-is b e = rw e
 
-  told_is : is_fine fault ≡ true → is_accepted outlook ≡ false → take_out g r h ns ≡ took_out (Told outlook) r h
+  told_is : is_fine fault ≡ true → is_accepted outlook ≡ false → take_out g r h ns ≡ took_out (as_taken outlook) r h
   unfolding take_out take_tested
   told_is f e = rw (found-none fault f, e)
 
@@ -92,14 +91,13 @@ module _ (g : List ℕ) (r : Run) (h : Holdings) (ns : List Node) where
   left_is f e = rw (found-none fault f, e)
 
   -- once the entry tests have passed, the outlook is told
-  pub outlook-told : is_fine fault ≡ true → (take_out g r h ns).answer ≡ Told outlook
-  outlook-told f = by_bool ((take_out g r h ns).answer ≡ Told outlook) (is_accepted outlook)
+  pub outlook-told : is_fine fault ≡ true → (take_out g r h ns).answer ≡ as_taken outlook
+  outlook-told f = by_bool ((take_out g r h ns).answer ≡ as_taken outlook) (is_accepted outlook)
       (λ e. ap (λ (o : TookOut). o.answer) (left_is f e))
       (λ e. ap (λ (o : TookOut). o.answer) (told_is f e))
 
   -- THEOREM: a removal whose answer has a number, and so is refused, changes nothing
   pub refused-changes-nothing : (take_number (take_out g r h ns).answer ≡ 0 → ⊥) → Unchanged
-  unfolding take_number
   refused-changes-nothing n = by_bool Unchanged (is_fine fault)
       (λ f. by_bool Unchanged (is_accepted outlook)
       (λ e. absurd (n (rw (left_is f e) (no_number outlook e))))
@@ -188,8 +186,8 @@ pub record TooShort (r : Run) (h : Holdings) : Type 0 where
 
 -- THEOREM: where the record passes, a table below n·f or fewer than n old places give 12, whatever else is lent and whatever the areas hold
 pub short-table-told : (g : List ℕ) (r : Run) (h : Holdings) (ns : List Node) → is_fine (record_fault r) ≡ true → TooShort r h
-    → ((take_out g r h ns).answer ≡ Bad Areas) × (take_number (take_out g r h ns).answer ≡ 12)
-unfolding take_number fault_number
+    → ((take_out g r h ns).answer ≡ Err (Bad Areas)) × (take_number (take_out g r h ns).answer ≡ 12)
+unfolding fault_number
 short-table-told g r h ns e x = (told, rw told)
   where
     n : ℕ
@@ -201,7 +199,7 @@ short-table-told g r h ns e x = (told, rw told)
     areas : take_fault r h ns ≡ Err Areas
     areas = short-areas r h ns e is-short
 
-    told : (take_out g r h ns).answer ≡ Bad Areas
+    told : (take_out g r h ns).answer ≡ Err (Bad Areas)
     told = ap (λ (o : TookOut). o.answer) (bad-is g r h ns Areas areas)
 
 -- ---- what the tests of what would be left have shown
@@ -273,22 +271,23 @@ module _ (g : List ℕ) (r : Run) (h : Holdings) (ns : List Node) where
       }
 
   -- an answer that tells how many are left is that of a removal that was done
-  pub accepted : (m : ℕ) → (take_out g r h ns).answer ≡ Told (Ok m) → Accepted
+  pub accepted : (m : ℕ) → (take_out g r h ns).answer ≡ Ok m → Accepted
   accepted m a = by_bool Accepted (is_fine (fault g r h ns))
       (λ f. by_bool Accepted (is_accepted (outlook g r h ns)) (accepts f)
-      (λ e. absurd (true≢false (sym (ap is_accepted (same (sym (ap (λ (o : TookOut). o.answer) (told_is g r h ns f e)) ∙ a))) ∙ e))))
+      (λ e. absurd (true≢false (sym (same (outlook g r h ns) (sym (ap (λ (o : TookOut). o.answer) (told_is g r h ns f e)) ∙ a)) ∙ e))))
       (λ f. absurd (let x = found-some (fault g r h ns) f in
-      let z : Bad x.0 ≡ Told (Ok m) = sym (ap (λ (o : TookOut). o.answer) (bad-is g r h ns x.0 x.1)) ∙ a in let y : ◌≡◌ {A = ℕ} 0 1 = cc in omega arith))
+      let z : Err (Bad x.0) ≡ Ok m = sym (ap (λ (o : TookOut). o.answer) (bad-is g r h ns x.0 x.1)) ∙ a in let y : ◌≡◌ {A = ℕ} 0 1 = cc in omega arith))
     where
-      same : {v w : Outlook} → Told v ≡ Told w → v ≡ w
-      same e = cc
+      same : (v : Outlook) → as_taken v ≡ Ok m → is_accepted v ≡ true
+      same (Ok k) q = refl
+      same (Err d) q = absurd (let y : ◌≡◌ {A = ℕ} 0 1 = cc in omega arith)
 
   -- and it tells their number
-  pub accepted-count : (m : ℕ) → (take_out g r h ns).answer ≡ Told (Ok m) → m ≡ length (survivors g r.settings.n)
-  accepted-count m a = let z : Told (Ok (length (survivors g r.settings.n))) ≡ Told (Ok m) = sym (ap (λ (o : TookOut). o.answer) (accepted m a).outcome) ∙ a in cc
+  pub accepted-count : (m : ℕ) → (take_out g r h ns).answer ≡ Ok m → m ≡ length (survivors g r.settings.n)
+  accepted-count m a = let z : Ok (length (survivors g r.settings.n)) ≡ Ok m = sym (ap (λ (o : TookOut). o.answer) (accepted m a).outcome) ∙ a in cc
 
   -- the answers without a number are just those
-  pub no-number-left : take_number (take_out g r h ns).answer ≡ 0 → (take_out g r h ns).answer ≡ Told (Ok (length (survivors g r.settings.n)))
+  pub no-number-left : take_number (take_out g r h ns).answer ≡ 0 → (take_out g r h ns).answer ≡ Ok (length (survivors g r.settings.n))
   no-number-left z = by_bool Goal (is_fine (fault g r h ns))
       (λ f. by_bool Goal (is_accepted (outlook g r h ns))
       (λ e. ap (λ (o : TookOut). o.answer) (accepts f e).outcome)
@@ -296,4 +295,4 @@ module _ (g : List ℕ) (r : Run) (h : Holdings) (ns : List Node) where
       (λ f. let x = found-some (fault g r h ns) f in absurd (bad-numbered x.0 (sym (ap (λ (o : TookOut). take_number o.answer) (bad-is g r h ns x.0 x.1)) ∙ z)))
     where
       Goal : Type 0
-      Goal = (take_out g r h ns).answer ≡ Told (Ok (length (survivors g r.settings.n)))
+      Goal = (take_out g r h ns).answer ≡ Ok (length (survivors g r.settings.n))

@@ -29,7 +29,6 @@ use Rattle.take_lists.proofs.Theorems.{packed-offsets-end, packed-listed, packed
 use Rattle.std.specs.Prelude.{Ok}
 use Rattle.take_left.specs.Outlook.{thinned, thinned_run, crowded}
 use Rattle.take_left.proofs.Judged.{thinned-fine}
-use Rattle.take_out.specs.declared.Taken.TheVariants.{Told}
 use Rattle.take_out.specs.TakeOut.{Holdings, TookOut, state_held, left_behind, indices_after, offsets_after, packed_areas, take_out, take_number}
 use Rattle.take_out.proofs.Calls.{words-listed}
 use Rattle.descent.specs.Descent.{work, work_number, is_last, whole_units, works}
@@ -183,7 +182,7 @@ module _ (g : List ℕ) (r : Run) (h : Holdings) (ns : List Node) (a : Accepted 
 
 -- ---- THEOREM 1: a removal that is not refused leaves an honest state
 
-module _ (g : List ℕ) (r : Run) (h : Holdings) (ns : List Node) (m : ℕ) (left : (take_out g r h ns).answer ≡ Told (Ok m)) where
+module _ (g : List ℕ) (r : Run) (h : Holdings) (ns : List Node) (m : ℕ) (left : (take_out g r h ns).answer ≡ Ok m) where
   pub what-is-left-is-honest : Honest (left_behind (take_out g r h ns) ns)
   what-is-left-is-honest = let a = accepted g r h ns m left in subst Honest (ap (λ (o : TookOut). left_behind o ns) (sym a.outcome)) (honest-left g r h ns a)
 

@@ -13,7 +13,6 @@ use Rattle.tree_node.specs.declared.Node.{Node}
 use Rattle.take_gone.specs.Gone.{stands_at, is_among, survivors}
 use Rattle.take_gone.proofs.Left.{survivors-count}
 use Rattle.std.specs.Prelude.{Ok}
-use Rattle.take_out.specs.declared.Taken.TheVariants.{Told}
 use Rattle.take_out.specs.TakeOut.{Holdings, TookOut, packed_areas, take_out}
 use Rattle.taking.proofs.Accepted.{accepted, accepted-count}
 
@@ -53,7 +52,7 @@ places g n q e = record {
     here i h = get_or-append (survivors g n) (drop (length (survivors g n)) q) 0 i h
 
 -- THEOREM: a removal that is not refused tells each survivor's old place
-pub old-places-told : (g : List ℕ) (r : Run) (h : Holdings) (ns : List Node) (m : ℕ) → (take_out g r h ns).answer ≡ Told (Ok m) → OldPlaces g r.settings.n m h.old (take_out g r h ns).areas.old
+pub old-places-told : (g : List ℕ) (r : Run) (h : Holdings) (ns : List Node) (m : ℕ) → (take_out g r h ns).answer ≡ Ok m → OldPlaces g r.settings.n m h.old (take_out g r h ns).areas.old
 unfolding packed_areas
 old-places-told g r h ns m left =
     let a = accepted g r h ns m left in

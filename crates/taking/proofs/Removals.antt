@@ -28,8 +28,8 @@ use Rattle.take_left.specs.declared.Denial.TheVariants.{Barred}
 use Rattle.std.specs.Prelude.{Ok, Err}
 use Rattle.take_left.specs.Outlook.{thinned, thinned_run, crowded}
 use Rattle.take_left.proofs.Judged.{exact-not-crowded, judged-left, judged-barred}
-use Rattle.take_out.specs.declared.Taken.TheVariants.{Told}
-use Rattle.take_out.specs.TakeOut.{Holdings, TookOut, state_held, affinities_after, indices_after, offsets_after, packed_areas, take_fault, take_out}
+use Rattle.take_out.specs.declared.TakeFault.TheVariants.{Denied}
+use Rattle.take_out.specs.TakeOut.{Holdings, TookOut, as_taken, state_held, affinities_after, indices_after, offsets_after, packed_areas, take_fault, take_out}
 use Rattle.taking.specs.Union.{Union}
 use Rattle.taking.proofs.Accepted.{outlook-told, long-enough-told, Passes, took_from, Accepted, accepted}
 use Rattle.taking.proofs.Honest.{entered-room}
@@ -123,9 +123,9 @@ module _ (g1 g2 u : List ℕ) (r : Run) (h : Holdings) (q2 q3 : List ℕ) (e : U
 
 -- THEOREM: two removals that are not refused leave what one removal of their union leaves, where that is not refused; the positions are centred once more. Any areas may be lent for the old places
 pub two-removals-as-one : (g1 g2 u : List ℕ) (r : Run) (h : Holdings) (ns : List Node) (q2 q3 : List ℕ) (m1 m2 m3 : ℕ) → Union g1 g2 u r.settings.n
-    → (take_out g1 r h ns).answer ≡ Told (Ok m1)
-    → (take_out g2 (take_out g1 r h ns).run (lent_old (take_out g1 r h ns).areas q2) ns).answer ≡ Told (Ok m2)
-    → (take_out u r (lent_old h q3) ns).answer ≡ Told (Ok m3)
+    → (take_out g1 r h ns).answer ≡ Ok m1
+    → (take_out g2 (take_out g1 r h ns).run (lent_old (take_out g1 r h ns).areas q2) ns).answer ≡ Ok m2
+    → (take_out u r (lent_old h q3) ns).answer ≡ Ok m3
     → OneRemoval g1 u r h (take_out g1 r h ns) (take_out g2 (take_out g1 r h ns).run (lent_old (take_out g1 r h ns).areas q2) ns) (take_out u r (lent_old h q3) ns)
 two-removals-as-one g1 g2 u r h ns q2 q3 m1 m2 m3 e a1 a2 a3 =
     let x1 = take_out g1 r h ns in
@@ -200,7 +200,7 @@ module _ (g1 g2 u : List ℕ) (r : Run) (h : Holdings) (ns : List Node) (q2 q3 :
   union-fault l = ap is_fine (long-enough-told r (lent_old h q3) ns a.entered.table-long l ∙ fault-good (state_held r h ns) a.entered.good)
 
   union-told : Passed → gone_fine u r.settings.n ≡ true → r.settings.n ≤ length q3
-      → ((take_out u r (lent_old h q3) ns).answer ≡ Told (Ok (length keep_u))) ⊎ ((take_out u r (lent_old h q3) ns).answer ≡ Told (Err Barred))
+      → ((take_out u r (lent_old h q3) ns).answer ≡ Ok (length keep_u)) ⊎ ((take_out u r (lent_old h q3) ns).answer ≡ Err (Denied Barred))
   union-told p f l =
       let y = h.positions in
       let I = h.indices in
@@ -209,17 +209,17 @@ module _ (g1 g2 u : List ℕ) (r : Run) (h : Holdings) (ns : List Node) (q2 q3 :
       let c = union-not-crowded p in
       let v = outlook-told u r (lent_old h q3) ns (union-fault l) in
       ⊎_elim
-      (λ b. inl (v ∙ ap Told (sym (judged-left r u y I O a.passed.between f z.0 z.1 (length keep_u) refl c b))))
-      (λ b. inr (v ∙ ap Told (sym (judged-barred r u y I O a.passed.between f z.0 z.1 c b))))
+      (λ b. inl (v ∙ ap as_taken (sym (judged-left r u y I O a.passed.between f z.0 z.1 (length keep_u) refl c b))))
+      (λ b. inr (v ∙ ap as_taken (sym (judged-barred r u y I O a.passed.between f z.0 z.1 c b))))
       (two (calm_left keep_u r.settings.c y))
 
 -- THEOREM: where two removals are not refused, one of their union is not refused either, but perhaps by 15: its positions are centred otherwise
 pub union-taken-or-barred : (g1 g2 u : List ℕ) (r : Run) (h : Holdings) (ns : List Node) (q2 q3 : List ℕ) (m1 m2 : ℕ) → Union g1 g2 u r.settings.n
     → gone_fine u r.settings.n ≡ true
     → r.settings.n ≤ length q3
-    → (take_out g1 r h ns).answer ≡ Told (Ok m1)
-    → (take_out g2 (take_out g1 r h ns).run (lent_old (take_out g1 r h ns).areas q2) ns).answer ≡ Told (Ok m2)
-    → ((take_out u r (lent_old h q3) ns).answer ≡ Told (Ok (length (survivors u r.settings.n)))) ⊎ ((take_out u r (lent_old h q3) ns).answer ≡ Told (Err Barred))
+    → (take_out g1 r h ns).answer ≡ Ok m1
+    → (take_out g2 (take_out g1 r h ns).run (lent_old (take_out g1 r h ns).areas q2) ns).answer ≡ Ok m2
+    → ((take_out u r (lent_old h q3) ns).answer ≡ Ok (length (survivors u r.settings.n))) ⊎ ((take_out u r (lent_old h q3) ns).answer ≡ Err (Denied Barred))
 union-taken-or-barred g1 g2 u r h ns q2 q3 m1 m2 e f l a1 a2 =
     let x1 = take_out g1 r h ns in
     let b1 = accepted g1 r h ns m1 a1 in
@@ -242,12 +242,12 @@ unfolding packed_areas affinities_after indices_after offsets_after
 links-of g r h b = record { offsets = rw b; indices = rw b; weights = rw b; between = links-between-survivors (survivors g r.settings.n) h.affinities h.indices h.offsets }
 
 -- THEOREM: the links and weights that a removal leaves are those between survivors, bit for bit
-pub links-left-told : (g : List ℕ) (r : Run) (h : Holdings) (ns : List Node) (m : ℕ) → (take_out g r h ns).answer ≡ Told (Ok m) → is_tree r.settings.method ≡ true
+pub links-left-told : (g : List ℕ) (r : Run) (h : Holdings) (ns : List Node) (m : ℕ) → (take_out g r h ns).answer ≡ Ok m → is_tree r.settings.method ≡ true
     → LinksLeft g r h (take_out g r h ns).areas
 links-left-told g r h ns m a b = subst (λ (o : TookOut). LinksLeft g r h o.areas) (sym (accepted g r h ns m a).outcome) (links-of g r h b)
 
 -- the same of an exact run: the word for survivors i and j is the one that the matrix had for them
-pub matrix-left-told : (g : List ℕ) (r : Run) (h : Holdings) (ns : List Node) (m : ℕ) → (take_out g r h ns).answer ≡ Told (Ok m) → is_tree r.settings.method ≡ false
+pub matrix-left-told : (g : List ℕ) (r : Run) (h : Holdings) (ns : List Node) (m : ℕ) → (take_out g r h ns).answer ≡ Ok m → is_tree r.settings.method ≡ false
     → (i j : ℕ) → i < length (survivors g r.settings.n) → j < length (survivors g r.settings.n)
     → num (take_out g r h ns).areas.affinities (i * length (survivors g r.settings.n) + j)
     ≡ num h.affinities (num (survivors g r.settings.n) i * r.settings.n + num (survivors g r.settings.n) j)

@@ -8,9 +8,9 @@ use lib.Ieee.{binary64, of_int, lt}
 use lib.ListN.{length}
 use lib.IntN.{pos}
 use Prim.Native.Nat.{◌-◌}
-use mathlib.Core.Bool.{false}
+use mathlib.Core.Bool.{false, not}
 use mathlib.Core.Path.{◌≡◌}
-use Rattle.take_left.proofs.Judged.{count_left, late-above, judged-inside, judged-unordered, judged-few, judged-perplexed}
+use Rattle.take_left.proofs.Judged.{told-none, told-some, count_left, late-above, judged-inside, judged-unordered, judged-few, judged-perplexed}
 use Rattle.take_gone.proofs.Left.{gone-climbs}
 use Prim.Native.Nat.{ℕ, ◌≤◌}
 use mathlib.Core.Path.{sym, ap, subst, ◌∙◌}
@@ -50,8 +50,8 @@ late_fault-requires c =
       c.requires.settings-good.n-most,
     ))
 
-pub returns-then-number-ne0 : goal.returns-then-number-ne0
-returns-then-number-ne0 c =
+pub returns-then-is_err : goal.returns-then-is_err
+returns-then-is_err c =
     judged-perplexed c.args.r c.args.gone.now c.args.positions.now c.args.indices.now
     c.args.offsets.now c.if-r-ne0.false (sym c.gone_fine.ensures ∙ c.if-not-gone_fine.false)
     (omega (
@@ -61,24 +61,24 @@ returns-then-number-ne0 c =
     )) (subst (λ (x : ℕ). lt c.args.r.settings.perplexity (of_int binary64 (pos x)) ≡ false)
     (count_left c.args.gone.now c.args.r.settings.n (sym c.gone_fine.ensures ∙ c.if-not-gone_fine.false)).1
     (late-above c.args.r.settings _ _ (omega (arith, c.if-m-lt2.false))
-    ((c.number.ensures ∙ c.late_fault.ensures) ∙ ap late_fault c.thinned_settings-t.ensures) c.if-number-ne0.true))
+    (ap late_fault c.thinned_settings-t.ensures) (told-some _ _ c.late_fault.ensures (c.is_err.ensures.negation ∙ ap not c.if-is_err.true))))
 
 pub is_crowded-requires : goal.is_crowded-requires
 is_crowded-requires c =
     judging-room c.requires
     (judging c.args.r c.args.gone.now _ _ _ c.if-r-ne0.false (sym c.gone_fine.ensures ∙ c.if-not-gone_fine.false) refl
-    (omega (arith, c.if-m-lt2.false)) c.thinned_settings-t.ensures (c.number.ensures ∙ c.late_fault.ensures) c.if-number-ne0.false)
+    (omega (arith, c.if-m-lt2.false)) c.thinned_settings-t.ensures refl (told-none _ _ c.late_fault.ensures (c.is_err.ensures.negation ∙ ap not c.if-is_err.false)))
 
 pub returns-then-is_crowded : goal.returns-then-is_crowded
 returns-then-is_crowded c =
     told-crowded _ _ _ (judging c.args.r c.args.gone.now _ _ _ c.if-r-ne0.false
-    (sym c.gone_fine.ensures ∙ c.if-not-gone_fine.false) refl (omega (arith, c.if-m-lt2.false)) c.thinned_settings-t.ensures (c.number.ensures ∙ c.late_fault.ensures)
-    c.if-number-ne0.false) (sym c.is_crowded.ensures ∙ c.if-is_crowded.true)
+    (sym c.gone_fine.ensures ∙ c.if-not-gone_fine.false) refl (omega (arith, c.if-m-lt2.false)) c.thinned_settings-t.ensures refl
+    (told-none _ _ c.late_fault.ensures (c.is_err.ensures.negation ∙ ap not c.if-is_err.false))) (sym c.is_crowded.ensures ∙ c.if-is_crowded.true)
 
 pub is_calm_left-requires : goal.is_calm_left-requires
 is_calm_left-requires c =
     let j = (judging c.args.r c.args.gone.now _ _ _ c.if-r-ne0.false (sym c.gone_fine.ensures ∙ c.if-not-gone_fine.false) refl
-    (omega (arith, c.if-m-lt2.false)) c.thinned_settings-t.ensures (c.number.ensures ∙ c.late_fault.ensures) c.if-number-ne0.false) in (
+    (omega (arith, c.if-m-lt2.false)) c.thinned_settings-t.ensures refl (told-none _ _ c.late_fault.ensures (c.is_err.ensures.negation ∙ ap not c.if-is_err.false))) in (
       c.requires.settings-good.n-most,
       c.requires.settings-good.c-most,
       c.requires.positions-long,
@@ -90,11 +90,11 @@ is_calm_left-requires c =
 pub returns-then-is_calm_left : goal.returns-then-is_calm_left
 returns-then-is_calm_left c =
     told-left _ _ _ (judging c.args.r c.args.gone.now _ _ _ c.if-r-ne0.false
-    (sym c.gone_fine.ensures ∙ c.if-not-gone_fine.false) refl (omega (arith, c.if-m-lt2.false)) c.thinned_settings-t.ensures (c.number.ensures ∙ c.late_fault.ensures)
-    c.if-number-ne0.false) (sym c.is_crowded.ensures ∙ c.if-is_crowded.false) (sym c.is_calm_left.ensures ∙ c.if-is_calm_left.true)
+    (sym c.gone_fine.ensures ∙ c.if-not-gone_fine.false) refl (omega (arith, c.if-m-lt2.false)) c.thinned_settings-t.ensures refl
+    (told-none _ _ c.late_fault.ensures (c.is_err.ensures.negation ∙ ap not c.if-is_err.false))) (sym c.is_crowded.ensures ∙ c.if-is_crowded.false) (sym c.is_calm_left.ensures ∙ c.if-is_calm_left.true)
 
 pub returns : goal.returns
 returns c =
     told-barred _ _ _ (judging c.args.r c.args.gone.now _ _ _ c.if-r-ne0.false
-    (sym c.gone_fine.ensures ∙ c.if-not-gone_fine.false) refl (omega (arith, c.if-m-lt2.false)) c.thinned_settings-t.ensures (c.number.ensures ∙ c.late_fault.ensures)
-    c.if-number-ne0.false) (sym c.is_crowded.ensures ∙ c.if-is_crowded.false) (sym c.is_calm_left.ensures ∙ c.if-is_calm_left.false)
+    (sym c.gone_fine.ensures ∙ c.if-not-gone_fine.false) refl (omega (arith, c.if-m-lt2.false)) c.thinned_settings-t.ensures refl
+    (told-none _ _ c.late_fault.ensures (c.is_err.ensures.negation ∙ ap not c.if-is_err.false))) (sym c.is_crowded.ensures ∙ c.if-is_crowded.false) (sym c.is_calm_left.ensures ∙ c.if-is_calm_left.false)

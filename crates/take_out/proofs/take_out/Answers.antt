@@ -2,8 +2,8 @@
 use Rattle.take_out.proofs.Calls.{taking-asks, taking-told}
 use Rattle.take_out.proofs.take_out.Goals as goal
 
-pub take_tested-k-requires : goal.take_tested-k-requires
-take_tested-k-requires c =
+pub take_tested-requires : goal.take_tested-requires
+take_tested-requires c =
     taking-asks c.args.run.now c.args.positions.now c.args.increments.now c.args.gains.now c.args.affinities.now c.args.indices.now c.args.offsets.now c.args.forces.now
     c.args.cells.now c.args.table.now c.args.gone.now c.args.old.now _ c.lent_positions-lent.ensures _ c.fault_at-f.ensures
 
@@ -11,4 +11,4 @@ pub returns : goal.returns
 returns c =
     taking-told c.args.run.now c.args.positions.now c.args.increments.now c.args.gains.now c.args.affinities.now c.args.indices.now c.args.offsets.now c.args.forces.now
     c.args.cells.now c.args.table.now c.args.gone.now c.args.old.now _ c.lent_positions-lent.ensures _ c.fault_at-f.ensures
-    c.take_tested-k.result _ _ _ _ _ _ _ _ _ c.take_tested-k.ensures
+    _ _ _ _ _ _ _ _ _ _ _ c.take_tested.ensures

@@ -1,62 +1,52 @@
--- `take_out::take_tested` meets its contract: by `tested-bad`, `tested-told`, `tested-done`, `tested-count`, `tested-room`, `survivors-few`.
-use Rattle.take_out.proofs.Tested.{tested-bad, tested-told, tested-done, tested-count, tested-room}
+-- `take_out::take_tested` meets its contract: by `tested-bad`, `tested-denied`, `tested-done`, `tested-count`, `tested-room`, `survivors-few`.
+use Rattle.take_out.proofs.Tested.{tested-bad, tested-denied, tested-done, tested-count, tested-room}
 use Rattle.take_out.specs.TakeOut.{holdings}
+use Rattle.take_gone.proofs.Left.{survivors-few}
 use Rattle.run_entry.specs.Entry.{is_fine}
-use mathlib.Core.Path.{refl, ◌∙◌, ap}
-use mathlib.Core.Bool.{not}
+use Rattle.std.specs.Result.{result_from_control_flow}
+use Rattle.std.proofs.lemmas.Result.{err_from_is_err_and}
+use mathlib.Core.Path.{refl, sym, ap, ◌∙◌}
 use native.Mathlib.Omega.{arith}
 use Rattle.take_out.proofs.take_tested.Goals as goal
 
-pub returns-in-Err : goal.returns-in-Err
-returns-in-Err c =
-    tested-bad c.args.f c.args.r c.args.gone.now _ _ c.in-Err.is
+pub returns-in_err-f : goal.returns-in_err-f
+returns-in_err-f c =
+    let p = err_from_is_err_and c.from_residual.result c.from_residual.ensures.1 in
+    rw (p.1, p.2) (tested-bad c.args.f c.args.run.now c.args.gone.now _ _ (c.branch-f.ensures ∙ ap result_from_control_flow c.in_err-f.is))
 
-pub look_ahead-v-requires : goal.look_ahead-v-requires
-look_ahead-v-requires c =
-    (c.requires (ap is_fine c.in_default.is)).outlook-room
+pub look_ahead-requires : goal.look_ahead-requires
+look_ahead-requires c =
+    (c.requires (ap is_fine (c.branch-f.ensures ∙ ap result_from_control_flow c.in_ok-f.is))).outlook-room
 
-pub shape_of-positions-then-is_err : goal.shape_of-positions-then-is_err
-shape_of-positions-then-is_err c =
-    refl
-
-pub shape_of-indices-then-is_err : goal.shape_of-indices-then-is_err
-shape_of-indices-then-is_err c =
-    refl
-
-pub shape_of-offsets-then-is_err : goal.shape_of-offsets-then-is_err
-shape_of-offsets-then-is_err c =
-    refl
-
-pub returns-then-is_err : goal.returns-then-is_err
-returns-then-is_err c =
-    tested-told c.args.f c.args.r c.args.gone.now
+pub returns-in_err-left : goal.returns-in_err-left
+returns-in_err-left c =
+    let p = err_from_is_err_and c.from_residual-in_err-left.result c.from_residual-in_err-left.ensures.1 in
+    rw (p.1, p.2) (tested-denied c.args.f c.args.run.now c.args.gone.now
     (holdings c.args.positions.now c.args.increments.now c.args.gains.now c.args.affinities.now
     c.args.indices.now c.args.offsets.now c.args.forces.now c.args.table.now c.args.old.now)
-    (ap is_fine c.in_default.is) _ c.look_ahead-v.ensures (c.is_err.ensures.negation ∙ ap not c.if-is_err.true)
+    (ap is_fine (c.branch-f.ensures ∙ ap result_from_control_flow c.in_ok-f.is)) _ c.in_err-left.ensures)
 
-pub overflow_sub-s : goal.overflow_sub-s
-overflow_sub-s c =
-    omega (
-      arith,
-      tested-count c.args.r c.args.gone.now
-          (holdings c.args.positions.now c.args.increments.now c.args.gains.now c.args.affinities.now
-          c.args.indices.now c.args.offsets.now c.args.forces.now c.args.table.now c.args.old.now)
-          c.look_ahead-v.ensures (c.is_err.ensures.negation ∙ ap not c.if-is_err.false),
+pub thinned_run-requires : goal.thinned_run-requires
+thinned_run-requires c =
+    let t = c.requires (ap is_fine (c.branch-f.ensures ∙ ap result_from_control_flow c.in_ok-f.is)) in (
+      omega (
+        arith,
+        tested-count c.args.run.now c.args.gone.now
+            (holdings c.args.positions.now c.args.increments.now c.args.gains.now c.args.affinities.now
+    c.args.indices.now c.args.offsets.now c.args.forces.now c.args.table.now c.args.old.now)
+            c.in_ok-left.ensures,
+        survivors-few c.args.gone.now c.args.run.now.settings.n,
+        t.outlook-room.settings-good.n-most,
+      ),
+      t.done-most,
     )
-
-pub thinned_run-run-requires : goal.thinned_run-run-requires
-thinned_run-run-requires c = (
-  omega (arith, (c.requires (ap is_fine c.in_default.is)).outlook-room.settings-good.n-most),
-  (c.requires (ap is_fine c.in_default.is)).done-most,
-)
 
 pub pack_run-requires : goal.pack_run-requires
 pack_run-requires c =
-    tested-room c.args.r c.args.gone.now
+    tested-room c.args.run.now c.args.gone.now
     (holdings c.args.positions.now c.args.increments.now c.args.gains.now c.args.affinities.now
     c.args.indices.now c.args.offsets.now c.args.forces.now c.args.table.now c.args.old.now)
-    c.look_ahead-v.ensures (c.is_err.ensures.negation ∙ ap not c.if-is_err.false)
-    (c.requires (ap is_fine c.in_default.is))
+    c.in_ok-left.ensures (c.requires (ap is_fine (c.branch-f.ensures ∙ ap result_from_control_flow c.in_ok-f.is)))
 
 pub shape_of-positions : goal.shape_of-positions
 shape_of-positions c =
@@ -96,8 +86,7 @@ shape_of-old c =
 
 pub returns : goal.returns
 returns c =
-    tested-done c.args.f c.args.r c.args.gone.now
+    tested-done c.args.f c.args.run.now c.args.gone.now
     (holdings c.args.positions.now c.args.increments.now c.args.gains.now c.args.affinities.now
     c.args.indices.now c.args.offsets.now c.args.forces.now c.args.table.now c.args.old.now)
-    (ap is_fine c.in_default.is) _ c.look_ahead-v.ensures (c.is_err.ensures.negation ∙ ap not c.if-is_err.false) _ _
-    c.thinned_run-run.ensures c.pack_run.ensures
+    (ap is_fine (c.branch-f.ensures ∙ ap result_from_control_flow c.in_ok-f.is)) _ c.in_ok-left.ensures _ _ c.thinned_run.ensures c.pack_run.ensures
