@@ -1,11 +1,11 @@
 -- An array that is made of a closure's answers, which changes nothing: each place holds what the closure gives for it. Assumes nothing.
-use Rattle.std.proofs.Common.{◌≡◌, ℕ, zero, suc, ◌+◌, ◌<◌, List, [], ◌∷◌, ◌++◌, length, get_or, subst, refl, sym, ap, ◌∙◌, append-nil, arith}
+use Rattle.std.proofs.Common.{◌≡◌, ℕ, zero, suc, ◌+◌, ◌<◌, List, [], get_or, subst, refl, sym, ap, ◌∙◌, append-nil, arith}
 use native.Mathlib.Nat.{zero-add}
 use native.Mathlib.Numerals.{unary_clauses}
 use Rattle.std.proofs.lemmas.List.{ext_get_or}
 use Rattle.std.specs.Fn.{Mut, Called}
 use Rattle.std.specs.Array.{IsFromFnResultFrom, IsFromFnResult}
-use Rattle.laws.specs.Joined.{joined, each}
+use Rattle.laws.specs.Joined.{each}
 use Rattle.laws.proofs.Laid.{singles-size, singles-get}
 
 module _ {F : Type 0} (g : Mut F (ℕ × Unit {0}) ℕ) (h : ℕ → ℕ) (f : F) (same : (i x : ℕ) (q : F) → Called g f (i, tt) x q → (q ≡ f) × (x ≡ h i)) (ys : List ℕ) where

@@ -40,6 +40,14 @@ listed_word l a i = word_of l (onward a i)
 abbrev pub listed_number : List ℕ → ℕ → ℕ → ℕ
 listed_number l a i = min (listed_word l a i) 4294967295
 
+-- the words from a on are the first m bytes of the area, one word each
+abbrev pub bytes_stand : List ℕ → ℕ → List ℕ → ℕ → Bool
+bytes_stand t m l a = every (λ i. nat_eq (num t i) (listed_word l a i)) m
+
+-- number and value are the words from i on
+abbrev pub told_stands : ℕ → ℕ → List ℕ → ℕ → Bool
+told_stands k v l i = (k == word_of l i) && (v == word_of l (onward i 1))
+
 -- the mark of place i of an area of values, by its bits
 abbrev pub value_mark : ℕ → ℕ
 value_mark i = (0x4000000000000000 + i) % 2 ^ 64

@@ -1,8 +1,8 @@
 // Files and targets, byte by byte: the words of a list hold them, filled up with zeros to whole words.
-ghost use Rattle.std.specs.Prelude.{◌≡◌, ◌<◌, ◌≤◌, ◌||◌, ◌==◌, nat_lt};
+ghost use Rattle.std.specs.Prelude.{◌≡◌, ◌<◌, ◌≤◌, ◌&&◌, ◌||◌, ◌==◌, nat_lt};
 ghost use Rattle.laws.specs.Area.{num};
 ghost use Rattle.laws.specs.Joined.{each};
-ghost use Rattle.replay_areas.specs.Said.{list_byte, byte_mark, listed_byte, target_stands, marks_stay, file_stands};
+ghost use Rattle.replay_areas.specs.Said.{list_byte, byte_mark, listed_byte, target_stands, marks_stay, file_stands, bytes_stand};
 
 use replay::areas::plus;
 use replay::word_at;
@@ -89,4 +89,25 @@ pub fn same_file(file: &[u8], target: [u8; 1408]) -> bool
         }
     }
     true
+}
+
+// The first m bytes are the words from a on, one word each.
+fn same_first(area: [u8; 1408], m: usize, list: &[u8], a: usize) -> bool
+    requires { m ≤ 1408 }
+    ensures { result ≡ bytes_stand area m list.now a }
+{
+    for i in 0..m {
+        if area[i] as u64 != word_at(list, plus(a, i)) {
+            return false;
+        }
+    }
+    true
+}
+
+// The first m bytes are the words from a on, one word each, and the others have their marks.
+pub fn same_bytes(area: [u8; 1408], m: usize, list: &[u8], a: usize) -> bool
+    requires { m ≤ 1408 }
+    ensures { result ≡ (bytes_stand area m list.now a && marks_stay area m) }
+{
+    same_first(area, m, list, a) && still_marked(area, m)
 }

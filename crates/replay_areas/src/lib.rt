@@ -4,6 +4,7 @@
 
 pub mod bytes;
 pub mod lengths;
+pub mod told;
 pub mod values;
 pub mod wanted;
 

@@ -3,12 +3,12 @@ ghost use Rattle.std.specs.Prelude.{◌≤◌, length};
 
 use crate::lending::lists_in;
 use desk_import::host_import;
-use partner_write::ListsFault;
 use replay::areas::plus;
 use replay::word_at;
 use replay_areas::bytes::{bytes_at, marked_target, same_file, words_of};
 use replay_areas::empty_cells;
 use replay_areas::lengths::{length_at, lengths_at};
+use replay_areas::told::Told;
 use replay_areas::values::{
     marked, marked_numbers, marked_record, marked_values, record_at, same_values, values_at,
 };
@@ -58,14 +58,6 @@ fn load(
     }
 }
 
-// Whether so many records were written.
-fn wrote(a: Result<usize, ListsFault>, records: u64) -> bool {
-    match a {
-        Ok(k) => k as u64 == records,
-        Err(_) => false,
-    }
-}
-
 // Whether what was loaded is written as the file's own bytes.
 fn same_again(
     file: &[u8],
@@ -97,15 +89,7 @@ fn same_again(
         nodes,
         &mut target[..m],
     );
-    wrote(a, records) && same_file(file, target)
-}
-
-// What is told of a list: number and value, and whether what was loaded is written as the same bytes.
-#[derive(Clone, Copy)]
-struct Told {
-    number: u64,
-    value: u64,
-    again: bool,
+    a.is_ok_and(|k| k as u64 == records) && same_file(file, target)
 }
 
 // Loads the list, and writes it again if it was loaded.
@@ -160,13 +144,6 @@ fn same_rest(
         && same_values(&forces, w.zeros, list, list.len())
 }
 
-// Number and value are the words from i on, and what was loaded is written as the same bytes.
-fn same_told(t: Told, list: &[u8], i: usize) -> bool {
-    let number = t.number == word_at(list, i);
-    let value = t.value == word_at(list, plus(i, 1));
-    number && value && t.again
-}
-
 // The case from word a on: what is told, every place of record and areas, and that the case ends with them.
 pub(crate) fn loaded_right(list: &[u8], a: usize) -> bool {
     let settings = record_at(list, plus(a, 1));
@@ -206,5 +183,5 @@ pub(crate) fn loaded_right(list: &[u8], a: usize) -> bool {
     let rest = same_rest(list, w, affinities, indices, offsets, forces);
     let at = w.places;
     let ends = at.end == plus(a, word_at(list, a) as usize);
-    same_told(t, list, b) && ends && state && rest
+    t.same(list, b) && ends && state && rest
 }

@@ -9,6 +9,7 @@ use replay::word_at;
 use replay_areas::bytes::{marked_target, same_target, still_marked, words_of};
 use replay_areas::empty_cells;
 use replay_areas::lengths::{Lengths, Places, length_at, lengths_at, places_from};
+use replay_areas::told::same_told;
 use replay_areas::values::{numbers_at, record_at, values_at};
 
 // What comes with the number: the records, or what is told of a fault.
@@ -18,11 +19,6 @@ fn value(a: Result<usize, ListsFault>) -> u64 {
         Err(ListsFault::Bad(f)) => fault_value(f),
         Err(ListsFault::NoLists | ListsFault::Short) => 0,
     }
-}
-
-// Number and value are the words from i on.
-fn same_told(a: Result<usize, ListsFault>, list: &[u8], i: usize) -> bool {
-    refusal::number(a) as u64 == word_at(list, i) && value(a) == word_at(list, plus(i, 1))
 }
 
 // What a call leaves: its answer, and the target.
@@ -69,7 +65,9 @@ pub(crate) fn written_right(list: &[u8], a: usize) -> bool {
     let answer = left.answer;
     let target = left.target;
     let from = plus(at.end, 2);
-    let told = same_told(answer, list, at.end) && same_target(target, bytes, list, from);
+    let number = refusal::number(answer) as u64;
+    let told = same_told(number, value(answer), list, at.end);
+    let kept = same_target(target, bytes, list, from) && still_marked(target, bytes);
     let ends = plus(from, words_of(bytes)) == plus(a, word_at(list, a) as usize);
-    told && still_marked(target, bytes) && ends
+    told && kept && ends
 }

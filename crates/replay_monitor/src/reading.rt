@@ -1,13 +1,13 @@
 // A case of reading: a file, read into areas of marks.
 ghost use Rattle.std.specs.Prelude.{◌≤◌};
 
-use crate::rooms::{Rooms, Spots, are_within, rooms_at, same_told, spots_from};
-use crate::sides::same_sides;
+use crate::rooms::{Rooms, Spots, are_within, rooms_at, spots_from};
 use desk_monitor::host_monitor_read;
 use replay::areas::{plus, same_numbers};
 use replay::word_at;
-use replay_areas::bytes::{bytes_at, marked_target, words_of};
+use replay_areas::bytes::{bytes_at, marked_target, same_bytes, words_of};
 use replay_areas::lengths::length_at;
+use replay_areas::told::same_told;
 use replay_areas::values::{marked_numbers, marked_values, same_values};
 
 // What a call leaves: its number, word 0 and the areas.
@@ -58,8 +58,8 @@ fn same_left(left: Left, m: Rooms, list: &[u8], at: Spots) -> bool
     let fields = left.fields;
     let positions = left.positions;
     let p = same_numbers(&pictures, m.pictures, list, at.pictures);
-    let s = same_sides(sides, m.sides, list, at.sides);
-    let f = same_sides(fields, m.fields, list, at.fields);
+    let s = same_bytes(sides, m.sides, list, at.sides);
+    let f = same_bytes(fields, m.fields, list, at.fields);
     let x = same_values(&positions, m.positions, list, at.positions);
     p && s && f && x
 }
@@ -71,7 +71,7 @@ fn case_of(list: &[u8], a: usize, bytes: usize, i: usize) -> bool
     let m = rooms_at(list, i);
     let at = spots_from(m, plus(i, 6));
     let left = read(list, plus(a, 2), bytes, m);
-    let told = same_told(left.number, left.value, list, plus(i, 4));
+    let told = same_told(left.number as u64, left.value, list, plus(i, 4));
     let ends = at.end == plus(a, word_at(list, a) as usize);
     told && ends && same_left(left, m, list, at)
 }

@@ -1,4 +1,4 @@
-// How long the areas of frames are, where their words stand, and what is told of a call.
+// How long the areas of frames are, and where their words stand.
 ghost use Rattle.std.specs.Prelude.{◌≤◌};
 
 use replay::areas::plus;
@@ -56,9 +56,4 @@ pub(crate) fn spots_from(m: Rooms, a: usize) -> Spots {
         positions,
         end: plus(positions, m.positions),
     }
-}
-
-// Number and word 0 are the words from i on.
-pub(crate) fn same_told(number: u32, value: u64, list: &[u8], i: usize) -> bool {
-    number as u64 == word_at(list, i) && value == word_at(list, plus(i, 1))
 }

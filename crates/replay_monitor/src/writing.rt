@@ -1,13 +1,14 @@
 // A case of writing: frames, written into a target of marks.
 ghost use Rattle.std.specs.Prelude.{◌≤◌};
 
-use crate::rooms::{Rooms, Spots, are_within, rooms_at, same_told, spots_from};
+use crate::rooms::{Rooms, Spots, are_within, rooms_at, spots_from};
 use crate::sides::sides_at;
 use desk_monitor::host_monitor_write;
 use replay::areas::plus;
 use replay::word_at;
 use replay_areas::bytes::{marked_target, same_target, still_marked, words_of};
 use replay_areas::lengths::length_at;
+use replay_areas::told::same_told;
 use replay_areas::values::{numbers_at, values_at};
 
 // What a call leaves: its number, word 0 and the target.
@@ -49,7 +50,7 @@ fn same_left(left: Left, bytes: usize, list: &[u8], i: usize) -> bool
     requires { bytes ≤ 256 }
 {
     let target = left.target;
-    let told = same_told(left.number, left.value, list, i);
+    let told = same_told(left.number as u64, left.value, list, i);
     let first = same_target(target, bytes, list, plus(i, 2));
     told && first && still_marked(target, bytes)
 }

@@ -3,13 +3,13 @@ ghost use Rattle.std.specs.Prelude.{◌≤◌, length};
 
 use crate::forces::{marked_forces, same_forces};
 use crate::lending::park_in;
-use park::ParkFault;
 use refusal::Unreadable;
 use replay::areas::plus;
 use replay::word_at;
 use replay_areas::bytes::{bytes_at, marked_target, same_file, words_of};
 use replay_areas::empty_cells;
 use replay_areas::lengths::{length_at, lengths_at};
+use replay_areas::told::Told;
 use replay_areas::values::{marked_numbers, marked_record, marked_values};
 use replay_areas::wanted::{Wants, same_lists, same_state, wanted};
 
@@ -18,14 +18,6 @@ fn value(a: Result<usize, Unreadable>) -> u64 {
     match a {
         Ok(k) | Err(Unreadable::Bad(k)) => k as u64,
         Err(Unreadable::Short) => 0,
-    }
-}
-
-// Whether so many records were written.
-fn wrote(a: Result<usize, ParkFault>, records: u64) -> bool {
-    match a {
-        Ok(k) => k as u64 == records,
-        Err(_) => false,
     }
 }
 
@@ -60,15 +52,7 @@ fn same_again(
         nodes,
         &mut target[..m],
     );
-    wrote(a, records) && same_file(file, target)
-}
-
-// What is told of a file: number and value, and whether what was read is parked as the same bytes.
-#[derive(Clone, Copy)]
-struct Told {
-    number: u64,
-    value: u64,
-    again: bool,
+    a.is_ok_and(|k| k as u64 == records) && same_file(file, target)
 }
 
 // Reads the file, and parks it again if it was read.
@@ -121,13 +105,6 @@ fn same_rest(
     same_lists(list, w, affinities, indices, offsets) && same_forces(&forces, w.zeros, list)
 }
 
-// Number and value are the words from i on, and what was read was parked as the same bytes.
-fn same_told(t: Told, list: &[u8], i: usize) -> bool {
-    let number = t.number == word_at(list, i);
-    let value = t.value == word_at(list, plus(i, 1));
-    number && value && t.again
-}
-
 // The case from word a on: what is told, every place of all areas, and that the case ends with them.
 pub(crate) fn read_right(list: &[u8], a: usize) -> bool {
     let bytes = length_at(list, plus(a, 1), 1408);
@@ -160,5 +137,5 @@ pub(crate) fn read_right(list: &[u8], a: usize) -> bool {
     let rest = same_rest(list, w, affinities, indices, offsets, forces);
     let at = w.places;
     let ends = at.end == plus(a, word_at(list, a) as usize);
-    same_told(t, list, b) && ends && state && rest
+    t.same(list, b) && ends && state && rest
 }

@@ -4,7 +4,7 @@ ghost use Rattle.std.specs.Prelude.{◌≤◌};
 use desk_salvage::host_salvage;
 use replay::areas::plus;
 use replay::word_at;
-use replay_areas::bytes::{bytes_at, marked_target, same_target, still_marked, words_of};
+use replay_areas::bytes::{bytes_at, marked_target, same_bytes, same_target, still_marked, words_of};
 use replay_areas::lengths::length_at;
 use replay_areas::values::{marked_values, same_values};
 
@@ -84,22 +84,11 @@ fn same_told(number: u32, answer: [u64; 2], list: &[u8], i: usize) -> bool {
     k && kept && told
 }
 
-// The first m rules are the words from a on.
-fn same_rules(rules: [u8; 1408], m: usize, list: &[u8], a: usize) -> bool
-    requires { m ≤ 1408 }
-{
-    rules[..m]
-        .iter()
-        .enumerate()
-        .all(|(i, rule)| *rule as u64 == word_at(list, plus(a, i)))
-}
-
 // All places are the words from i on, and all rules are those after them; behind them are marks.
 fn same_dropped(places: [u64; 48], rules: [u8; 1408], m: Rooms, list: &[u8], i: usize) -> bool
     requires { m.rules ≤ 1408 }
 {
-    let first = same_rules(rules, m.rules, list, plus(i, m.places));
-    same_values(&places, m.places, list, i) && first && still_marked(rules, m.rules)
+    same_values(&places, m.places, list, i) && same_bytes(rules, m.rules, list, plus(i, m.places))
 }
 
 // What is told is the words from i on, and all of the areas those after it, up to word `end`; behind them are marks.

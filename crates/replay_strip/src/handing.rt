@@ -8,6 +8,7 @@ use replay::areas::{floats_at, plus, same_numbers};
 use replay::word_at;
 use replay_areas::empty_cells;
 use replay_areas::lengths::{Lengths, Places, length_at, lengths_at, places_from};
+use replay_areas::told::same_told;
 use replay_areas::values::{marked_numbers, marked_values, numbers_at, record_at, same_values};
 
 // What comes with the number: the frames, or what is told of a fault.
@@ -17,11 +18,6 @@ fn value(a: Result<usize, HandFault>) -> u64 {
         Err(HandFault::Bad(f)) => fault_value(f),
         Err(_) => 0,
     }
-}
-
-// Number and value are the words from i on.
-fn same_told(a: Result<usize, HandFault>, list: &[u8], i: usize) -> bool {
-    refusal::number(a) as u64 == word_at(list, i) && value(a) == word_at(list, plus(i, 1))
 }
 
 // How long order and gaps are.
@@ -108,7 +104,8 @@ pub(crate) fn handed_right(list: &[u8], a: usize) -> bool {
     let order = left.order;
     let gaps = left.gaps;
     let i = plus(at.end, 2);
-    let told = same_told(answer, list, at.end);
+    let number = refusal::number(answer) as u64;
+    let told = same_told(number, value(answer), list, at.end);
     let along = same_along(order, gaps, m, list, i);
     let end = plus(plus(i, m.order), m.gaps);
     let ends = end == plus(a, word_at(list, a) as usize);

@@ -1,5 +1,5 @@
 -- `replay_areas::bytes::same_file` meets its contract: the loop keeps what has been done equal to its part of the whole; by `every-none`, `every-next`, `every-no`, `every-done`.
-use Rattle.std.proofs.Common.{◌≡◌, ◌-◌, ◌≤◌, true, eqb, length}
+use Rattle.std.proofs.Common.{◌≡◌, ◌≤◌, true, eqb, length}
 use Rattle.laws.specs.Area.{num}
 use Rattle.replay_areas.specs.Said.{listed_byte}
 use Rattle.laws.specs.Loops.{every}

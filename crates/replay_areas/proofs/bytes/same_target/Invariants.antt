@@ -1,5 +1,5 @@
 -- `replay_areas::bytes::same_target` meets its contract: the loop keeps what has been done equal to its part of the whole; by `every-none`, `every-next`, `every-no`, `every-done`.
-use Rattle.std.proofs.Common.{◌≡◌, ◌-◌, ◌≤◌, true, eqb}
+use Rattle.std.proofs.Common.{◌≡◌, ◌≤◌, true, eqb}
 use Rattle.replay_areas.specs.Said.{list_byte, listed_byte}
 use Rattle.laws.specs.Loops.{every}
 use Rattle.replay_areas.proofs.bytes.same_target.Given as goal

@@ -1,5 +1,5 @@
 -- `replay_areas::bytes::still_marked` meets its contract: the loop keeps what has been done equal to its part of the whole; by `every-none`, `every-next`, `every-no`, `every-done`.
-use Rattle.std.proofs.Common.{◌≡◌, ◌-◌, ◌≤◌, true, ◌||◌, eqb, ltb}
+use Rattle.std.proofs.Common.{◌≡◌, ◌≤◌, true, ◌||◌, eqb, ltb}
 use Rattle.replay_areas.specs.Said.{byte_mark}
 use Rattle.laws.specs.Area.{num}
 use Rattle.laws.specs.Loops.{every}

@@ -1,5 +1,5 @@
 -- `replay_areas::values::same_values` meets its contract: the loop keeps what has been done equal to its part of the whole; by `every-none`, `every-next`, `every-no`, `every-done`.
-use Rattle.std.proofs.Common.{◌≡◌, ◌-◌, ◌≤◌, true, eqb, length}
+use Rattle.std.proofs.Common.{◌≡◌, ◌≤◌, true, eqb, length}
 use Rattle.laws.specs.Loops.{every}
 use Rattle.laws.specs.Area.{num}
 use Rattle.replay.specs.Areas.{wanted_at}

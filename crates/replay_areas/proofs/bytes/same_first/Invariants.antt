@@ -1,0 +1,9 @@
+-- `replay_areas::bytes::same_first` meets its contract: the loop keeps what has been done equal to its part of the whole; by `every-none`, `every-next`, `every-no`, `every-done`.
+use Rattle.std.proofs.Common.{◌≡◌, ◌≤◌, true, eqb}
+use Rattle.laws.specs.Area.{num}
+use Rattle.laws.specs.Loops.{every}
+use Rattle.replay_areas.specs.Said.{listed_word}
+use Rattle.replay_areas.proofs.bytes.same_first.Given as goal
+
+abbrev pub invariant-loop-i : goal.invariant-loop-i
+invariant-loop-i l = (every (λ t. eqb (num l.area t) (listed_word l.list l.a t)) l.i ≡ true) × (l.i ≤ l.m)
