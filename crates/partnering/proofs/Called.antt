@@ -72,7 +72,7 @@ module _ (d : Stored) (forces : ℕ) (ns : List Node) (t : List ℕ) where
   fault = words_fault d.run (length d.positions) (length d.increments) (length d.gains) (length d.affinities) forces d.indices d.offsets ns
 
   pub refused-writing-changes-nothing : (lists_number (written_lists d forces ns t).answer ≡ 0 → ⊥) → (written_lists d forces ns t).target ≡ t
-  unfolding written_lists lists_tested lists_number
+  unfolding written_lists lists_tested
   refused-writing-changes-nothing = by_bool Kept (is_fine fault)
       (λ f. let f = found-none fault f in by_bool Kept (eqb (num d.run 3) 1)
       (λ m. by_bool Kept (ltb (length t) (16 * num d.offsets (num d.run 0))) (λ q. rw (f, m, q) (λ z. refl)) (λ q. rw (f, m, q) (λ z. absurd (z refl))))
