@@ -91,10 +91,12 @@ pub returns-then-is_calm_left : goal.returns-then-is_calm_left
 returns-then-is_calm_left c =
     told-left _ _ _ (judging c.args.r c.args.gone.now _ _ _ c.if-r-ne0.false
     (sym c.gone_fine.ensures ∙ c.if-not-gone_fine.false) refl (omega (arith, c.if-m-lt2.false)) c.thinned_settings-t.ensures refl
-    (told-none _ _ c.late_fault.ensures (c.is_err.ensures.negation ∙ ap not c.if-is_err.false))) (sym c.is_crowded.ensures ∙ c.if-is_crowded.false) (sym c.is_calm_left.ensures ∙ c.if-is_calm_left.true)
+    (told-none _ _ c.late_fault.ensures (c.is_err.ensures.negation ∙ ap not c.if-is_err.false)))
+    (sym c.is_crowded.ensures ∙ c.if-is_crowded.false) (sym c.is_calm_left.ensures ∙ c.if-is_calm_left.true)
 
 pub returns : goal.returns
 returns c =
     told-barred _ _ _ (judging c.args.r c.args.gone.now _ _ _ c.if-r-ne0.false
     (sym c.gone_fine.ensures ∙ c.if-not-gone_fine.false) refl (omega (arith, c.if-m-lt2.false)) c.thinned_settings-t.ensures refl
-    (told-none _ _ c.late_fault.ensures (c.is_err.ensures.negation ∙ ap not c.if-is_err.false))) (sym c.is_crowded.ensures ∙ c.if-is_crowded.false) (sym c.is_calm_left.ensures ∙ c.if-is_calm_left.false)
+    (told-none _ _ c.late_fault.ensures (c.is_err.ensures.negation ∙ ap not c.if-is_err.false)))
+    (sym c.is_crowded.ensures ∙ c.if-is_crowded.false) (sym c.is_calm_left.ensures ∙ c.if-is_calm_left.false)
