@@ -20,9 +20,10 @@ use Rattle.tree.specs.Box.{boxed}
 use Rattle.tree.proofs.Whole.{looser, In, first-in, in_all, built-next, room_in, taken, enough-named}
 use Rattle.run_entry.specs.State.{Memory, State}
 use Rattle.run_entry.proofs.Laws.{axes}
-use Rattle.run_finish.specs.declared.Why.TheVariants.{Done, Full, Wild}
+use Rattle.run_finish.specs.declared.Halt.TheVariants.{Full, Wild}
+use Rattle.std.specs.Prelude.{Ok, Err}
 use Rattle.run_plan.specs.Plan.{group_of}
-use Rattle.run_finish.specs.Finish.{FinishTurn}
+use Rattle.run_finish.specs.Finish.{FinishTurn, Why}
 use Rattle.run_units.specs.Units.{unit, is_done, TreeTurn, tree_turn, box_turn, force_unit, Turned, with_tree, with_forces, with_finish}
 use Rattle.run_units.proofs.Rooms.{group-zero, group-one}
 use Rattle.run_units.proofs.One.{by-unit}
@@ -88,7 +89,7 @@ module _ (s : State) (g : Honest s) (live : is_ended s.run.standing ≡ false) w
 
   insert-grown : group_of R ≡ 0 → (R.phase ≡ 0 → ⊥) → (inserting R M.positions M.nodes).full ≡ false →
       Built (with_tree M (tree_turn (advanced_of R (inserting R M.positions M.nodes).tree.used)
-      (inserting R M.positions M.nodes).tree.nodes Done)).now
+      (inserting R M.positions M.nodes).tree.nodes (Ok tt))).now
   unfolding advanced_of
   insert-grown z p f =
       let k = group-zero R z in
@@ -152,15 +153,15 @@ module _ (s : State) (g : Honest s) (live : is_ended s.run.standing ≡ false) (
       next-in s.memory.positions r.settings.n r.settings.c (r.phase - 1) (tree r.used s.memory.nodes) b.before b.some (omega (arith, k.1, p)) (rw j at b.same)
       (enough-named r.settings.c r.settings.n (length s.memory.nodes) (axes r.settings g.good.settings k.0).1 g.good.settings.n-most room)
 
-  pub unit-never-full : (unit s).why ≡ Full → ⊥
-  unit-never-full = by-unit s live (λ (t : Turned). t.why ≡ Full → ⊥)
-      (λ z. by-tree s.run s.memory.positions s.memory.nodes (λ (t : TreeTurn). t.why ≡ Full →
+  pub unit-never-full : (unit s).why ≡ Err Full → ⊥
+  unit-never-full = by-unit s live (λ (t : Turned). t.why ≡ Err Full → ⊥)
+      (λ z. by-tree s.run s.memory.positions s.memory.nodes (λ (t : TreeTurn). t.why ≡ Err Full →
       ⊥) (λ e q. apart-done q) (λ e f q. true≢false (sym f ∙ insert-room z e)) (λ e f q. apart-done q))
       (λ z q. apart-done q)
-      (λ a b. by-finish s.run s.memory.positions s.memory.increments s.memory.gains s.memory.forces (λ (t : FinishTurn). t.why ≡ Full → ⊥) (λ q. apart-done q) (λ q. apart-wild q))
+      (λ a b. by-finish s.run s.memory.positions s.memory.increments s.memory.gains s.memory.forces (λ (t : FinishTurn). t.why ≡ Err Full → ⊥) (λ q. apart-done q) (λ q. apart-wild q))
     where
-      apart-done : Done ≡ Full → ⊥
+      apart-done : ◌≡◌ {A = Why} (Ok tt) (Err Full) → ⊥
       apart-done q = let z : ◌≡◌ {A = ℕ} 0 1 = cc in omega arith
 
-      apart-wild : Wild ≡ Full → ⊥
+      apart-wild : ◌≡◌ {A = Why} (Err Wild) (Err Full) → ⊥
       apart-wild q = let z : ◌≡◌ {A = ℕ} 0 1 = cc in omega arith

@@ -22,7 +22,7 @@ use Rattle.tree.proofs.Longer.{Fits, extended, longer-ok, box-longer, insert-lon
 use Rattle.gradient.specs.Forces.{stored, attraction_of, forces_of}
 use Rattle.run_entry.specs.State.{Memory, State}
 use Rattle.run_entry.specs.Entry.{GoodTree, Ordered}
-use Rattle.run_finish.specs.declared.Why.TheVariants.{Done}
+use Rattle.std.specs.Prelude.{Ok}
 use Rattle.run_plan.specs.Plan.{exaggeration_of, group_of}
 use Rattle.run_units.specs.Units.{unit, is_done, TreeTurn, tree_turn, box_turn, force_unit, Turned, turned, with_tree, with_forces}
 use Rattle.run_units.proofs.Rooms.{group-zero, group-one}
@@ -89,22 +89,22 @@ module _ (more : List Node) where
     abbrev L : Memory
     L = (longer more s).memory
 
-    box-same : group_of R ≡ 0 → R.phase ≡ 0 → unit (longer more s) ≡ turned (longer more (with_tree M (box_turn R M.positions M.nodes)).now) Done
+    box-same : group_of R ≡ 0 → R.phase ≡ 0 → unit (longer more s) ≡ turned (longer more (with_tree M (box_turn R M.positions M.nodes)).now) (Ok tt)
     box-same z e =
         unit-tree (longer more s) live z ∙ ap (λ (t : TreeTurn). with_tree L t) (tree-box R M.positions L.nodes e
-        ∙ ap (λ (t : Tree). tree_turn (advanced_of R 1) t.nodes Done)
+        ∙ ap (λ (t : Tree). tree_turn (advanced_of R 1) t.nodes (Ok tt))
         (box-longer more M.positions R.settings.n R.settings.c M.nodes (g.areas.tree-long (group-zero R z).0).nodes-some))
 
     insert-same : group_of R ≡ 0 → (R.phase ≡ 0 → ⊥) → (inserting R M.positions M.nodes).full ≡ false
         → unit (longer more s) ≡ turned (longer more
         (with_tree M (tree_turn (advanced_of R (inserting R M.positions M.nodes).tree.used)
-        (inserting R M.positions M.nodes).tree.nodes Done)).now) Done
+        (inserting R M.positions M.nodes).tree.nodes (Ok tt))).now) (Ok tt)
     insert-same z p f =
         let k = group-zero R z in
         let t = (g.contents k.0).tree p in
         let e = insert-longer more M.positions R.settings.n R.settings.c m (R.phase - 1) (tree R.used M.nodes) (omega (arith, k.1, p)) some (tree-fits R M.nodes t) f in
         unit-tree (longer more s) live z ∙ ap (λ (t : TreeTurn). with_tree L t) (tree-insert R M.positions L.nodes p (ap (λ (x : Insertion). x.full) e)
-        ∙ ap (λ (x : Insertion). tree_turn (advanced_of R x.tree.used) x.tree.nodes Done) e)
+        ∙ ap (λ (x : Insertion). tree_turn (advanced_of R x.tree.used) x.tree.nodes (Ok tt)) e)
 
     force-same : group_of R ≡ 1 → force_unit R M.positions M.affinities M.indices M.offsets L.nodes M.forces ≡ force_unit R M.positions
         M.affinities M.indices M.offsets M.nodes M.forces

@@ -19,8 +19,8 @@ use Rattle.run_record.specs.Record.{is_ended}
 use Rattle.run_entry.specs.State.{State}
 use Rattle.run_entry.specs.Entry.{Found, Good, fault_of, is_fine, by_tests}
 use Rattle.run_entry.proofs.Laws.{fault-fine, fault-good}
-use Rattle.run_finish.specs.declared.Why.{Why}
-use Rattle.run_finish.specs.declared.Why.TheVariants.{Done, Full as NoNodes, Wild as TooLarge, Over}
+use Rattle.run_finish.specs.Finish.{Why}
+use Rattle.run_finish.specs.declared.Halt.TheVariants.{Full as NoNodes, Wild as TooLarge, Over}
 use Rattle.run_units.specs.Units.{unit, is_done}
 use Rattle.run_budget.specs.declared.Answer.TheVariants.{Running, Bad}
 use Rattle.run_budget.specs.Budget.{machine, answer_of, stands_of, refused_of}
@@ -43,10 +43,10 @@ units-stands Ends d = refl
 
 units-refused : (w : Why) (d : ℕ) → units_of (refused_of w d) ≡ d
 unfolding units_of
-units-refused Done d = refl
-units-refused NoNodes d = refl
-units-refused TooLarge d = refl
-units-refused Over d = refl
+units-refused (Ok tt) d = refl
+units-refused (Err NoNodes) d = refl
+units-refused (Err TooLarge) d = refl
+units-refused (Err Over) d = refl
 
 pub units-told : (b : ℕ) (s : State) → units_of (work b s).answer ≡ (call machine b s).units
 unfolding work call go kind_at answer_of units_of
@@ -82,10 +82,10 @@ kind-stands Ends d e = refl
 
 kind-refused : (w : Why) (d e : ℕ) → answer_kind (refused_of w d) ≡ answer_kind (refused_of w e)
 unfolding answer_kind
-kind-refused Done d e = refl
-kind-refused NoNodes d e = refl
-kind-refused TooLarge d e = refl
-kind-refused Over d e = refl
+kind-refused (Ok tt) d e = refl
+kind-refused (Err NoNodes) d e = refl
+kind-refused (Err TooLarge) d e = refl
+kind-refused (Err Over) d e = refl
 
 kind-same : (k : Kind) (s : State) (d e : ℕ) → answer_kind (answer_of k s d) ≡ answer_kind (answer_of k s e)
 unfolding answer_of answer_kind
@@ -108,10 +108,10 @@ number-stands Ends d = refl
 
 number-refused : (w : Why) (d : ℕ) → (work_number (refused_of w d) ≡ 0) ⊎ ((work_number (refused_of w d) ≡ 14) ⊎ (work_number (refused_of w d) ≡ 15))
 unfolding work_number
-number-refused Done d = inl refl
-number-refused NoNodes d = inr (inl refl)
-number-refused TooLarge d = inr (inr refl)
-number-refused Over d = inl refl
+number-refused (Ok tt) d = inl refl
+number-refused (Err NoNodes) d = inr (inl refl)
+number-refused (Err TooLarge) d = inr (inr refl)
+number-refused (Err Over) d = inl refl
 
 -- of b units d led to t: the answer's number
 abbrev number_at : ℕ → ℕ → State → ℕ
@@ -197,12 +197,12 @@ last-stands Runs d e = absurd (true≢false (sym e))
 last-stands Stops d e = refl
 last-stands Ends d e = refl
 
-last-refused : (w : Why) (d : ℕ) → is_done w ≡ false → (w ≡ Over → ⊥) → is_last (refused_of w d) ≡ true
+last-refused : (w : Why) (d : ℕ) → is_done w ≡ false → (w ≡ Err Over → ⊥) → is_last (refused_of w d) ≡ true
 unfolding is_last
-last-refused Done d e n = absurd (true≢false e)
-last-refused NoNodes d e n = refl
-last-refused TooLarge d e n = refl
-last-refused Over d e n = absurd (n refl)
+last-refused (Ok tt) d e n = absurd (true≢false e)
+last-refused (Err NoNodes) d e n = refl
+last-refused (Err TooLarge) d e n = refl
+last-refused (Err Over) d e n = absurd (n refl)
 
 -- where the run has not ended, fewer units are done than it has in all
 short-of : (b : ℕ) (s : State) → Honest s → is_ended (after machine b s).run.standing ≡ false → units_done machine b s < whole_units s
@@ -244,15 +244,15 @@ refused_why b s g n =
     let e = refused-kind b s g n in
     rw e
 
-full-why : (w : Why) (d : ℕ) → work_number (refused_of w d) ≡ 14 → w ≡ NoNodes
+full-why : (w : Why) (d : ℕ) → work_number (refused_of w d) ≡ 14 → w ≡ Err NoNodes
 unfolding work_number
-full-why Done d e = absurd (let z : ◌≡◌ {A = ℕ} 0 14 = e in omega arith)
-full-why NoNodes d e = refl
-full-why TooLarge d e = absurd (let z : ◌≡◌ {A = ℕ} 15 14 = e in omega arith)
-full-why Over d e = absurd (let z : ◌≡◌ {A = ℕ} 0 14 = e in omega arith)
+full-why (Ok tt) d e = absurd (let z : ◌≡◌ {A = ℕ} 0 14 = e in omega arith)
+full-why (Err NoNodes) d e = refl
+full-why (Err TooLarge) d e = absurd (let z : ◌≡◌ {A = ℕ} 15 14 = e in omega arith)
+full-why (Err Over) d e = absurd (let z : ◌≡◌ {A = ℕ} 0 14 = e in omega arith)
 
 -- a call refused by 14 stands before an insertion that lacks nodes
-pub refused_full : (b : ℕ) (s : State) → Good s → work_number (work b s).answer ≡ 14 → (unit (work b s).left).why ≡ NoNodes
+pub refused_full : (b : ℕ) (s : State) → Good s → work_number (work b s).answer ≡ 14 → (unit (work b s).left).why ≡ Err NoNodes
 refused_full b s g e =
     let n : work_number (work b s).answer ≡ 0 → ⊥ = λ z. let q : ◌≡◌ {A = ℕ} 0 14 = sym z ∙ e in omega arith in
     full-why (unit (work b s).left).why (call machine b s).units (ap work_number (sym (refused_why b s g n)) ∙ e)

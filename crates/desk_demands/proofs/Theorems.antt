@@ -20,8 +20,9 @@ use Rattle.run_record.specs.declared.Run.{Run}
 use Rattle.run_record.specs.Record.{is_ended, fresh_run}
 use Rattle.run_entry.specs.State.{State, state}
 use Rattle.run_entry.specs.Entry.{fault_of, is_fine, Good}
-use Rattle.run_finish.specs.declared.Why.{Why}
-use Rattle.run_finish.specs.declared.Why.TheVariants.{Done, Full as NoNodes, Wild as TooLarge, Over}
+use Rattle.std.specs.Prelude.{Ok, Err}
+use Rattle.run_finish.specs.Finish.{Why}
+use Rattle.run_finish.specs.declared.Halt.TheVariants.{Full as NoNodes, Wild as TooLarge, Over}
 use Rattle.run_units.specs.Units.{unit}
 use Rattle.run_budget.specs.declared.Answer.{Answer}
 use Rattle.run_budget.specs.declared.Answer.TheVariants.{Running, Stopped, Finished, Full, Wild, Bad}
@@ -69,10 +70,10 @@ stands-fine Stops d = refl
 stands-fine Ends d = refl
 
 refused-fine : (w : Why) (d : ℕ) → is_bad (refused_of w d) ≡ false
-refused-fine Done d = refl
-refused-fine NoNodes d = refl
-refused-fine TooLarge d = refl
-refused-fine Over d = refl
+refused-fine (Ok tt) d = refl
+refused-fine (Err NoNodes) d = refl
+refused-fine (Err TooLarge) d = refl
+refused-fine (Err Over) d = refl
 
 -- of b units d led to t: the answer is none of the entry's
 gone-fine : (b d : ℕ) (t : State) → is_bad (answer_of (kind_at machine b d t) t d) ≡ false

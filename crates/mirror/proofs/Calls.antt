@@ -10,7 +10,7 @@ use Rattle.run_record.specs.declared.Run.{Run}
 use Rattle.run_record.specs.declared.Standing.{Standing}
 use Rattle.run_entry.specs.State.{State}
 use Rattle.run_entry.specs.Entry.{Found, is_fine, by_tests, fault_of}
-use Rattle.run_finish.specs.declared.Why.{Why}
+use Rattle.run_finish.specs.Finish.{Why}
 use Rattle.run_units.specs.Units.{unit}
 use Rattle.run_budget.specs.declared.Answer.TheVariants.{Running, Bad}
 use Rattle.run_budget.specs.Budget.{machine, answer_of, stands_of, refused_of}

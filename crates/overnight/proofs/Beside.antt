@@ -24,7 +24,8 @@ use Rattle.run_entry.specs.Entry.{Good}
 use Rattle.run_rooms.proofs.Lists.{offset-listed, linked-at}
 use Rattle.run_rooms.proofs.Places.{cells-forces}
 use Rattle.run_plan.specs.Plan.{group_of}
-use Rattle.run_finish.specs.declared.Why.TheVariants.{Done, Full}
+use Rattle.run_finish.specs.declared.Halt.TheVariants.{Full}
+use Rattle.std.specs.Prelude.{Ok, Err}
 use Rattle.run_finish.specs.Finish.{FinishTurn, finish_turn, finish_unit}
 use Rattle.run_units.specs.Units.{unit, TreeTurn, tree_turn, box_turn, tree_unit, force_unit, Turned, with_tree, with_forces, with_finish}
 use Rattle.run_units.proofs.Rooms.{group-zero, group-one, group-two}
@@ -103,7 +104,7 @@ module _ (o o' s : State) (a : Float) (u : ℕ) (m : Memory) (w : Beside o o' s 
   -- ---- the tree
 
   tree-moves : is_tree R.settings.method ≡ true → R.phase ≤ n → (v v' : ℕ) (ns ns' : List Node) → Twin (tree v ns) (tree v' ns')
-      → Both o o' (with_tree M (tree_turn (advanced_of R v) ns Done)) (with_tree m (tree_turn (advanced_of R' v') ns' Done))
+      → Both o o' (with_tree M (tree_turn (advanced_of R v) ns (Ok tt))) (with_tree m (tree_turn (advanced_of R' v') ns' (Ok tt)))
   unfolding advanced_of
   tree-moves x l v v' ns ns' d = (
     refl,
@@ -165,12 +166,12 @@ module _ (o o' s : State) (a : Float) (u : ℕ) (m : Memory) (w : Beside o o' s 
       (λ _. box-both k.0 k.1)
       (λ p. absurd (p e))
       (λ p. absurd (p e)))
-      (λ p f. by-tree R' m.positions m.nodes (λ (x' : TreeTurn). Both o o' (with_tree M (tree_turn R M.nodes Full)) (with_tree m x'))
+      (λ p f. by-tree R' m.positions m.nodes (λ (x' : TreeTurn). Both o o' (with_tree M (tree_turn R M.nodes (Err Full))) (with_tree m x'))
       (λ e. absurd (p e))
       (λ _ _. (refl, w))
       (λ _ f'. absurd (true≢false (sym f ∙ ((inserts k.0 k.1 p).0 ∙ f')))))
       (λ p f. by-tree R' m.positions m.nodes (λ (x' : TreeTurn). Both o o'
-      (with_tree M (tree_turn (advanced_of R (inserting R M.positions M.nodes).tree.used) (inserting R M.positions M.nodes).tree.nodes Done))
+      (with_tree M (tree_turn (advanced_of R (inserting R M.positions M.nodes).tree.used) (inserting R M.positions M.nodes).tree.nodes (Ok tt)))
       (with_tree m x'))
       (λ e. absurd (p e))
       (λ _ f'. absurd (true≢false (sym f' ∙ (sym (inserts k.0 k.1 p).0 ∙ f))))
@@ -265,7 +266,7 @@ module _ (o o' s : State) (a : Float) (u : ℕ) (m : Memory) (w : Beside o o' s 
 
   finish-moves : (group_of R ≡ 0 → ⊥) → (group_of R ≡ 1 → ⊥) → (norm : Float) (Y Y' I I' G G' : List Float) → Moves (n * c) M.positions m.positions Y Y' →
       Moves (n * c) M.increments m.increments I I' → Moves (n * c) M.gains m.gains G G'
-      → Both o o' (with_finish M (finish_turn (closed_of R norm) Y I G Done)) (with_finish m (finish_turn (closed_of R' norm) Y' I' G' Done))
+      → Both o o' (with_finish M (finish_turn (closed_of R norm) Y I G (Ok tt))) (with_finish m (finish_turn (closed_of R' norm) Y' I' G' (Ok tt)))
   unfolding closed_of stops_now
   finish-moves x y norm Y Y' I I' G G' sy si sg =
       let l = last-phase x y in (

@@ -27,7 +27,8 @@ use Rattle.gradient.proofs.Spots.{spot-of}
 use Rattle.step_gains.specs.declared.Element.{Element}
 use Rattle.step_passes.specs.Passes.{Before, element_at, sum_step, mean_step, means_of, centred_by, calm_at, calm_moves, calm_centred, position_step, increment_step, gain_step}
 use Rattle.step.specs.Step.{finish_of}
-use Rattle.run_finish.specs.declared.Why.TheVariants.{Done, Wild}
+use Rattle.run_finish.specs.declared.Halt.TheVariants.{Wild}
+use Rattle.std.specs.Prelude.{Ok, Err}
 use Rattle.run_finish.specs.Finish.{is_exact, before_of, FinishTurn, finish_turn, finish_unit}
 use Rattle.overnight.specs.Across.{reread, SameTo, Kept}
 use Rattle.overnight.proofs.Writes.{puts-alike, puts-there}
@@ -108,8 +109,8 @@ module _ (r : Run) (angle : Float) (used' : ℕ) (y y' v v' g g' F F' : List Flo
       → m ≤ length y → m ≤ length y' → m ≤ length v → m ≤ length v' → m ≤ length g → m ≤ length g'
       → (P : FinishTurn → FinishTurn → Type 0)
       → ((norm : Float) (Y Y' I I' G G' : List Float) → Moves m y y' Y Y' → Moves m v v' I I' → Moves m g g' G G' →
-      P (finish_turn (closed_of r norm) Y I G Done) (finish_turn (closed_of (reread angle used' r) norm) Y' I' G' Done))
-      → P (finish_turn r y v g Wild) (finish_turn (reread angle used' r) y' v' g' Wild)
+      P (finish_turn (closed_of r norm) Y I G (Ok tt)) (finish_turn (closed_of (reread angle used' r) norm) Y' I' G' (Ok tt)))
+      → P (finish_turn r y v g (Err Wild)) (finish_turn (reread angle used' r) y' v' g' (Err Wild))
       → P (finish_unit r y v g F) (finish_unit (reread angle used' r) y' v' g' F')
   unfolding finish_unit finish_of element_at momentum_of
   by_both some sy sv sg tree exact ly ly' lv lv' lg lg' P moved wild =

@@ -21,7 +21,7 @@ use Rattle.run_record.specs.declared.Standing.{Standing}
 use Rattle.run_record.specs.Record.{is_tree, is_ended}
 use Rattle.run_entry.specs.State.{Memory, State, state}
 use Rattle.run_entry.specs.Entry.{Good}
-use Rattle.run_finish.specs.declared.Why.{Why}
+use Rattle.run_finish.specs.Finish.{Why}
 use Rattle.run_units.specs.Units.{unit}
 use Rattle.run_budget.specs.Budget.{machine, answer_of, stands_of, refused_of}
 use Rattle.run_budget.proofs.Spends.{due}

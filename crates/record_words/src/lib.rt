@@ -19,7 +19,7 @@ pub fn method_of(w: u64) -> Method
     Method::BarnesHut
 }
 
-fn method_word(m: Method) -> u64
+pub fn method_word(m: Method) -> u64
     ensures { result ≡ method_word m }
 {
     match m {
@@ -40,7 +40,7 @@ pub fn standing_of(w: u64) -> Standing
     Standing::Finished
 }
 
-fn standing_word(s: Standing) -> u64
+pub fn standing_word(s: Standing) -> u64
     ensures { result ≡ standing_word s }
 {
     match s {

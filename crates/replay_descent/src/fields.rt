@@ -1,8 +1,9 @@
 // The settings, the record and the answers, as a list has them.
 use descent::Answer;
+use record_words::{method_of, method_word, standing_of, standing_word};
 use replay::areas::{plus, same_value, value_at};
 use replay::word_at;
-use run_record::{Method, Run, Settings, Standing};
+use run_record::{Run, Settings};
 
 // What a call alters in the record: a field and its word. From 14 on there is no such field.
 #[derive(Clone, Copy)]
@@ -13,23 +14,6 @@ pub(crate) struct Change {
 
 fn number_at(list: &[u8], i: usize) -> usize {
     word_at(list, i) as usize
-}
-
-fn method_of(w: u64) -> Method {
-    if w == 0 {
-        return Method::Exact;
-    }
-    Method::BarnesHut
-}
-
-fn standing_of(w: u64) -> Standing {
-    if w == 0 {
-        return Standing::Running;
-    }
-    if w == 1 {
-        return Standing::Stopped;
-    }
-    Standing::Finished
 }
 
 // The settings from word i on.
@@ -93,21 +77,6 @@ pub(crate) fn changed(r: Run, x: Change) -> Run {
         phase: or(x, 11, x.word as usize, r.phase),
         units: or(x, 12, x.word as usize, r.units),
         used: or(x, 13, x.word as usize, r.used),
-    }
-}
-
-fn method_word(m: Method) -> u64 {
-    match m {
-        Method::Exact => 0,
-        Method::BarnesHut => 1,
-    }
-}
-
-fn standing_word(s: Standing) -> u64 {
-    match s {
-        Standing::Running => 0,
-        Standing::Stopped => 1,
-        Standing::Finished => 2,
     }
 }
 

@@ -21,9 +21,10 @@ use Rattle.tree_bounds.specs.Bounds.{box_of}
 use Rattle.tree.proofs.Whole.{looser, taken-ends, taken-fits}
 use Rattle.run_entry.specs.State.{Memory, State}
 use Rattle.run_entry.specs.Entry.{GoodTree, Ordered, Workable}
-use Rattle.run_finish.specs.declared.Why.TheVariants.{Done, Full as NoNodes, Wild as TooLarge, Over}
+use Rattle.std.specs.Prelude.{Ok, Err}
+use Rattle.run_finish.specs.declared.Halt.TheVariants.{Full as NoNodes, Wild as TooLarge, Over}
 use Rattle.run_plan.specs.Plan.{group_of}
-use Rattle.run_finish.specs.Finish.{FinishTurn, finish_turn}
+use Rattle.run_finish.specs.Finish.{Why, FinishTurn, finish_turn}
 use Rattle.run_units.specs.Units.{unit, is_done, TreeTurn, tree_turn, box_turn, force_unit, Turned, with_tree, with_forces, with_finish}
 use Rattle.run_units.proofs.Rooms.{group-zero, group-one, group-two}
 use Rattle.run_units.proofs.One.{unit-over, by-unit}
@@ -100,7 +101,7 @@ module _ (m : ℕ) (s : State) (g : Ordered m s) (live : is_ended s.run.standing
       }
 
   insert-keeps : group_of R ≡ 0 → (R.phase ≡ 0 → ⊥) → (inserting R M.positions M.nodes).full ≡ false
-      → Ordered (m + 1) (with_tree M (tree_turn (advanced_of R (inserting R M.positions M.nodes).tree.used) (inserting R M.positions M.nodes).tree.nodes Done)).now
+      → Ordered (m + 1) (with_tree M (tree_turn (advanced_of R (inserting R M.positions M.nodes).tree.used) (inserting R M.positions M.nodes).tree.nodes (Ok tt))).now
   unfolding advanced_of
   insert-keeps z p f =
       let k = group-zero R z in
@@ -146,7 +147,7 @@ module _ (m : ℕ) (s : State) (g : Ordered m s) (live : is_ended s.run.standing
       }
 
   finish-keeps : (group_of R ≡ 0 → ⊥) → (group_of R ≡ 1 → ⊥) → (norm : Float) (y v x : List Float) → length y ≡ length M.positions →
-      length v ≡ length M.increments → length x ≡ length M.gains → Ordered (m + 1) (with_finish M (finish_turn (closed_of R norm) y v x Done)).now
+      length v ≡ length M.increments → length x ≡ length M.gains → Ordered (m + 1) (with_finish M (finish_turn (closed_of R norm) y v x (Ok tt))).now
   unfolding closed_of
   finish-keeps a b norm y v x ly lv lx = record {
     settings = g.settings;
@@ -177,15 +178,15 @@ module _ (s : State) (live : is_ended s.run.standing ≡ false) where
       t.why ≡ true → t.run.units ≡ s.run.units + 1) (λ d. refl) (λ d. absurd (true≢false (sym d))))
 
   -- it is done, or lacks nodes, or finds a value too large
-  pub unit-not-over : (unit s).why ≡ Over → ⊥
-  unit-not-over = by-unit s live (λ (t : Turned). t.why ≡ Over → ⊥)
-      (λ z. by-tree s.run s.memory.positions s.memory.nodes (λ (t : TreeTurn). t.why ≡ Over →
-      ⊥) (λ e. done) (λ e f d. absurd (let q : NoNodes ≡ Over = d in let u : ◌≡◌ {A = ℕ} 0 1 = cc in omega arith)) (λ e f. done))
+  pub unit-not-over : (unit s).why ≡ Err Over → ⊥
+  unit-not-over = by-unit s live (λ (t : Turned). t.why ≡ Err Over → ⊥)
+      (λ z. by-tree s.run s.memory.positions s.memory.nodes (λ (t : TreeTurn). t.why ≡ Err Over →
+      ⊥) (λ e. done) (λ e f d. absurd (let q : ◌≡◌ {A = Why} (Err NoNodes) (Err Over) = d in let u : ◌≡◌ {A = ℕ} 0 1 = cc in omega arith)) (λ e f. done))
       (λ z. done)
-      (λ a b. by-finish s.run s.memory.positions s.memory.increments s.memory.gains s.memory.forces (λ (t : FinishTurn). t.why ≡ Over →
-      ⊥) done (λ d. absurd (let q : TooLarge ≡ Over = d in let u : ◌≡◌ {A = ℕ} 0 1 = cc in omega arith)))
+      (λ a b. by-finish s.run s.memory.positions s.memory.increments s.memory.gains s.memory.forces (λ (t : FinishTurn). t.why ≡ Err Over →
+      ⊥) done (λ d. absurd (let q : ◌≡◌ {A = Why} (Err TooLarge) (Err Over) = d in let u : ◌≡◌ {A = ℕ} 0 1 = cc in omega arith)))
     where
-      done : Done ≡ Over → ⊥
+      done : ◌≡◌ {A = Why} (Ok tt) (Err Over) → ⊥
       done d = let u : ◌≡◌ {A = ℕ} 0 1 = cc in omega arith
 
   -- settings stay as they are

@@ -10,7 +10,9 @@ use Rattle.run_calls.specs.Machine.{go}
 use Rattle.run_record.specs.declared.Run.{Run}
 use Rattle.run_entry.specs.State.{Memory, State, state}
 use Rattle.run_entry.specs.Entry.{Good, Workable}
-use Rattle.run_finish.specs.declared.Turn.{Turn}
+use Rattle.std.specs.Prelude.{Result}
+use Rattle.run_finish.specs.declared.Halt.{Halt}
+use Rattle.run_finish.specs.Finish.{why_of, run_left}
 use Rattle.run_units.specs.Units.{is_done, turned, Turned, unit}
 use Rattle.run_budget.specs.declared.Going.{Going}
 use Rattle.run_budget.specs.declared.Worked.{Worked as Left}
@@ -45,9 +47,9 @@ module _ (b : ℕ) (y : State) (g : Going) (m : Memory) (k : Leads b y g m) (t :
     pub calls-fits : b < 2 ^ 32 → g.k + 1 < 2 ^ 32
     calls-fits h = omega (arith, less, h)
 
-    module _ (u : Turn) (m' : Memory) (eu : turned (state u.run m') u.why ≡ unit (state g.run m)) (h : Going) (eh : h ≡ counted_on g u) where
+    module _ (u : Result Run Halt) (m' : Memory) (eu : turned (state (run_left g.run u) m') (why_of u) ≡ unit (state g.run m)) (h : Going) (eh : h ≡ counted_on g u) where
       abbrev here : Turned
-      here = turned (state u.run m') u.why
+      here = turned (state (run_left g.run u) m') (why_of u)
 
       pub calls-next : Leads b y h m'
       unfolding counted_on
@@ -59,7 +61,7 @@ module _ (b : ℕ) (y : State) (g : Going) (m : Memory) (k : Leads b y g m) (t :
 
       pub calls-nearer : calls_left b h < calls_left b g
       unfolding counted_on
-      calls-nearer = rw (eh, done) (by_bool (cond (is_done u.why) (suc (b - cond (is_done u.why) (g.k + 1) g.k)) 0 < suc (b - g.k)) (is_done u.why)
+      calls-nearer = rw (eh, done) (by_bool (cond (is_done (why_of u)) (suc (b - cond (is_done (why_of u)) (g.k + 1) g.k)) 0 < suc (b - g.k)) (is_done (why_of u))
           (λ e. rw e (omega (arith, less))) (λ e. rw e (omega arith)))
 
   pub calls-end : t ≡ false → (w : Left) → w ≡ ended_of g → worked w.answer (state w.run m) ≡ told (go machine b y)

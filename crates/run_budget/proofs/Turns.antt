@@ -26,7 +26,8 @@ use Rattle.gradient.specs.Exact.{total_row, slope_step, gradient_row}
 use Rattle.gradient.specs.Element.{norm_of}
 use Rattle.step_passes.specs.Passes.{Before, means_of, calm_moves, calm_centred, position_step, increment_step, gain_step}
 use Rattle.step.specs.Step.{finish_of}
-use Rattle.run_finish.specs.declared.Why.TheVariants.{Done, Full, Wild}
+use Rattle.std.specs.Prelude.{Ok, Err}
+use Rattle.run_finish.specs.declared.Halt.TheVariants.{Full, Wild}
 use Rattle.run_plan.specs.Plan.{exaggeration_of}
 use Rattle.run_finish.specs.Finish.{before_of, FinishTurn, finish_turn, finish_unit}
 use Rattle.run_units.specs.Units.{TreeTurn, tree_turn, box_turn, insert_turn, tree_unit, force_unit}
@@ -51,18 +52,18 @@ module _ (r : Run) (y : List Float) (ns : List Node) where
   full-same e = full_is (ltb (nameable (length ns)) (r.used + needs_of (length ns) y r.settings.c (point_of y r.settings.c (r.phase - 1)) 0 0 ns))
       (tree r.used ns) (inserted (length ns) y r.settings.c (point_of y r.settings.c (r.phase - 1)) (r.phase - 1) 0 0 (tree r.used ns)) e
 
-  tree-full : (r.phase ≡ 0 → ⊥) → inserting.full ≡ true → tree_unit r y ns ≡ tree_turn r ns Full
+  tree-full : (r.phase ≡ 0 → ⊥) → inserting.full ≡ true → tree_unit r y ns ≡ tree_turn r ns (Err Full)
   unfolding tree_unit insert_turn
   tree-full n e = rw (ne_eqb r.phase 0 n, full-same e)
 
-  pub tree-insert : (r.phase ≡ 0 → ⊥) → inserting.full ≡ false → tree_unit r y ns ≡ tree_turn (advanced_of r inserting.tree.used) inserting.tree.nodes Done
+  pub tree-insert : (r.phase ≡ 0 → ⊥) → inserting.full ≡ false → tree_unit r y ns ≡ tree_turn (advanced_of r inserting.tree.used) inserting.tree.nodes (Ok tt)
   unfolding tree_unit insert_turn
   tree-insert n e = rw (ne_eqb r.phase 0 n, e)
 
   pub by-tree : (P : TreeTurn → Type 0)
       → (r.phase ≡ 0 → P (box_turn r y ns))
-      → ((r.phase ≡ 0 → ⊥) → inserting.full ≡ true → P (tree_turn r ns Full))
-      → ((r.phase ≡ 0 → ⊥) → inserting.full ≡ false → P (tree_turn (advanced_of r inserting.tree.used) inserting.tree.nodes Done))
+      → ((r.phase ≡ 0 → ⊥) → inserting.full ≡ true → P (tree_turn r ns (Err Full)))
+      → ((r.phase ≡ 0 → ⊥) → inserting.full ≡ false → P (tree_turn (advanced_of r inserting.tree.used) inserting.tree.nodes (Ok tt)))
       → P (tree_unit r y ns)
   by-tree P a b d =
       elim (ℕ_discrete r.phase 0) [
@@ -81,8 +82,8 @@ module _ (r : Run) (y v g F : List Float) where
 
   pub by-finish : (P : FinishTurn → Type 0)
       → P (finish_turn (closed_of r (norm_of b.gradients m)) (loop (position_step (means_of b r.settings.n r.settings.c) b r.settings.c) m 0 y)
-      (loop (increment_step b) m 0 v) (loop (gain_step b) m 0 g) Done)
-      → P (finish_turn r y v g Wild)
+      (loop (increment_step b) m 0 v) (loop (gain_step b) m 0 g) (Ok tt))
+      → P (finish_turn r y v g (Err Wild))
       → P (finish_unit r y v g F)
   unfolding finish_unit finish_of
   by-finish P moved wild = by_bool (P (finish_unit r y v g F)) (calm_moves b m && calm_centred (means_of b r.settings.n r.settings.c) b r.settings.c m) (λ t. rw t moved) (λ t. rw t wild)

@@ -1,5 +1,5 @@
 -- The units of a work call as a machine, and what the call answers. Definitions only.
-use Rattle.std.specs.Prelude.{Bool, false, cond, not, ℕ, ◌+◌, ltb}
+use Rattle.std.specs.Prelude.{Bool, false, cond, not, ℕ, ◌+◌, ltb, Result, Ok, Err}
 use Rattle.run_calls.specs.Machine.{Kind, faulty, over, refused, running, Machine, Called}
 use Rattle.run_record.specs.declared.Run.{Run}
 use Rattle.run_record.specs.declared.Standing.{Standing}
@@ -7,9 +7,9 @@ use Rattle.run_record.specs.declared.Standing.TheVariants.{Running as Runs, Stop
 use Rattle.run_record.specs.Record.{is_ended}
 use Rattle.run_entry.specs.State.{State}
 use Rattle.run_entry.specs.Entry.{is_fine, by_tests, fault_of}
-use Rattle.run_finish.specs.declared.Why.{Why}
-use Rattle.run_finish.specs.declared.Why.TheVariants.{Done, Full as NoNodes, Wild as TooLarge, Over}
-use Rattle.run_finish.specs.declared.Turn.{Turn}
+use Rattle.run_finish.specs.Finish.{Why, why_of, run_left}
+use Rattle.run_finish.specs.declared.Halt.{Halt}
+use Rattle.run_finish.specs.declared.Halt.TheVariants.{Full as NoNodes, Wild as TooLarge, Over}
 use Rattle.run_units.specs.Units.{unit, is_done}
 use Rattle.run_budget.specs.declared.Going.{Going}
 use Rattle.run_budget.specs.declared.Worked.{Worked as Left}
@@ -36,10 +36,10 @@ stands_of Ends d = Finished d
 
 -- why the next unit was refused
 abbrev pub refused_of : Why → ℕ → Answer
-refused_of Done d = Running d
-refused_of NoNodes d = Full d
-refused_of TooLarge d = Wild d
-refused_of Over d = Running d
+refused_of (Ok tt) d = Running d
+refused_of (Err NoNodes) d = Full d
+refused_of (Err TooLarge) d = Wild d
+refused_of (Err Over) d = Running d
 
 -- where a unit was not done: the run has ended, or the unit was refused
 unfoldable pub halted_of : Standing → Why → ℕ → Answer
@@ -66,15 +66,15 @@ told k = worked (answer_of k.kind k.state k.units) k.state
 -- ---- a call as it goes, by value
 
 abbrev pub started_of : Run → Going
-started_of r = record { run = r; why = Done; k = 0 }
+started_of r = record { run = r; why = Ok tt; k = 0 }
 
 -- the last unit was done, and there is more of the budget
 unfoldable pub spends_on : Going → ℕ → Bool
 spends_on g b = cond (is_done g.why) (ltb g.k b) false
 
 -- a unit that was done is counted
-unfoldable pub counted_on : Going → Turn → Going
-counted_on g t = record { run = t.run; why = t.why; k = cond (is_done t.why) (g.k + 1) g.k }
+unfoldable pub counted_on : Going → Result Run Halt → Going
+counted_on g t = record { run = run_left g.run t; why = why_of t; k = cond (is_done (why_of t)) (g.k + 1) g.k }
 
 unfoldable pub ended_of : Going → Left
 ended_of g = record { run = g.run; answer = cond (is_done g.why) (stands_of g.run.standing g.k) (halted_of g.run.standing g.why g.k) }

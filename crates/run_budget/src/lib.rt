@@ -2,17 +2,17 @@
 
 #![tactic(auto)]
 
-ghost use Rattle.std.specs.Prelude.{◌≡◌, ◌+◌, ◌<◌, ◌^◌};
+ghost use Rattle.std.specs.Prelude.{◌≡◌, ◌+◌, ◌<◌, ◌^◌, Err};
 ghost use Rattle.run_calls.specs.Machine.{go};
 ghost use Rattle.run_entry.specs.State.{memory, state};
 ghost use Rattle.run_entry.specs.Entry.{Good};
 ghost use Rattle.run_budget.specs.Budget.{machine, stands_of, refused_of, halted_of, worked, told, started_of, spends_on, counted_on, ended_of};
 
 use run_entry::Fault;
-use run_finish::{Turn, Why};
+use run_finish::Halt;
 use run_record::counters::is_ended;
 use run_record::{Run, Standing};
-use run_units::{is_done, one_unit};
+use run_units::one_unit;
 use tree_node::Cell;
 
 // What a work call answers, with the units done in it.
@@ -41,7 +41,7 @@ pub struct Worked {
 pub struct Going {
     pub run: Run,
     // whether the last unit that was tried was done, and if not, why
-    pub why: Why,
+    pub why: Result<(), Halt>,
     // units done in this call
     pub k: u32,
 }
@@ -58,25 +58,24 @@ fn stands(s: Standing, k: u32) -> Answer
 }
 
 // Why the next unit was refused.
-fn turned_down(w: Why, k: u32) -> Answer
-    ensures { result ≡ refused_of w k }
+fn turned_down(h: Halt, k: u32) -> Answer
+    ensures { result ≡ refused_of (Err h) k }
 {
-    match w {
-        Why::Done => Answer::Running(k),
-        Why::Full => Answer::Full(k),
-        Why::Wild => Answer::Wild(k),
-        Why::Over => Answer::Running(k),
+    match h {
+        Halt::Full => Answer::Full(k),
+        Halt::Wild => Answer::Wild(k),
+        Halt::Over => Answer::Running(k),
     }
 }
 
 // Where a unit was not done.
-fn halted(s: Standing, w: Why, k: u32) -> Answer
-    ensures { result ≡ halted_of s w k }
+fn halted(s: Standing, h: Halt, k: u32) -> Answer
+    ensures { result ≡ halted_of s (Err h) k }
 {
     if is_ended(s) {
         return stands(s, k);
     }
-    turned_down(w, k)
+    turned_down(h, k)
 }
 
 fn started(r: Run) -> Going
@@ -84,7 +83,7 @@ fn started(r: Run) -> Going
 {
     Going {
         run: r,
-        why: Why::Done,
+        why: Ok(()),
         k: 0,
     }
 }
@@ -92,28 +91,26 @@ fn started(r: Run) -> Going
 fn goes_on(g: Going, budget: u32) -> bool
     ensures { result ≡ spends_on g budget }
 {
-    let w = g.why;
-    if is_done(w) {
-        return g.k < budget;
-    }
-    false
+    g.why.is_ok() && g.k < budget
 }
 
 // A unit was tried.
-fn onward(g: Going, t: Turn) -> Going
+fn onward(g: Going, t: Result<Run, Halt>) -> Going
     requires { g.k + 1 < 2 ^ 32 }
     ensures { result ≡ counted_on g t }
 {
-    let run = t.run;
-    let why = t.why;
-    if is_done(why) {
-        return Going {
+    match t {
+        Ok(run) => Going {
             run,
-            why,
+            why: Ok(()),
             k: g.k + 1,
-        };
+        },
+        Err(h) => Going {
+            run: g.run,
+            why: Err(h),
+            k: g.k,
+        },
     }
-    Going { run, why, k: g.k }
 }
 
 // What the call leaves and answers.
@@ -122,12 +119,10 @@ fn ended(g: Going) -> Worked
 {
     let run = g.run;
     let s = run.standing;
-    let w = g.why;
-    if is_done(w) {
-        let answer = stands(s, g.k);
-        return Worked { run, answer };
-    }
-    let answer = halted(s, w, g.k);
+    let answer = match g.why {
+        Ok(()) => stands(s, g.k),
+        Err(h) => halted(s, h, g.k),
+    };
     Worked { run, answer }
 }
 

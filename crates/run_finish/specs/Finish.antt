@@ -7,8 +7,21 @@ use Rattle.gradient.specs.Element.{normaliser_for, gradients_of, norm_of}
 use Rattle.step_passes.specs.declared.Pace.{Pace}
 use Rattle.step_passes.specs.Passes.{Before, before}
 use Rattle.step.specs.Step.{StepOutcome, finish_of}
-use Rattle.run_finish.specs.declared.Why.{Why}
-use Rattle.run_finish.specs.declared.Why.TheVariants.{Done, Wild}
+use Rattle.run_finish.specs.declared.Halt.{Halt}
+use Rattle.run_finish.specs.declared.Halt.TheVariants.{Wild}
+
+-- whether a unit was done, and if not, why
+abbrev pub Why : Type 0
+Why = Result (Unit {0}) Halt
+
+abbrev pub why_of : Result Run Halt → Why
+why_of (Ok t) = Ok tt
+why_of (Err h) = Err h
+
+-- the record after a unit on r: one that is not done leaves it as it was
+abbrev pub run_left : Run → Result Run Halt → Run
+run_left r (Ok t) = t
+run_left r (Err h) = r
 
 -- an exact run's forces area holds the gradients themselves
 abbrev pub is_exact : Run → Bool
@@ -34,8 +47,8 @@ finish_turn r y v g w = record { run = r; positions = y; increments = v; gains =
 
 -- the step, then the stop test by the largest gradient; refused, nothing changes
 abbrev pub finish_as : Run → Float → StepOutcome → Result (Unit {0}) ℕ → FinishTurn
-finish_as r norm o (Ok tt) = finish_turn (closed_of r norm) o.positions o.increments o.gains Done
-finish_as r norm o (Err k) = finish_turn r o.positions o.increments o.gains Wild
+finish_as r norm o (Ok tt) = finish_turn (closed_of r norm) o.positions o.increments o.gains (Ok tt)
+finish_as r norm o (Err k) = finish_turn r o.positions o.increments o.gains (Err Wild)
 
 unfoldable pub finish_unit : Run → List Float → List Float → List Float → List Float → FinishTurn
 finish_unit r y v g F =

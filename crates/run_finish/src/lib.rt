@@ -1,9 +1,9 @@
-// The finish of an iteration: Z, gradient, step and stop test; and how a unit tells what it did.
+// The finish of an iteration: Z, gradient, step and stop test; and why a unit is not done.
 
 #![tactic(auto)]
 
 ghost use Rattle.std.specs.Prelude.{◌≡◌, ◌+◌, ◌*◌, ◌≤◌, length};
-ghost use Rattle.run_finish.specs.Finish.{pace_of, finish_turn, finish_unit};
+ghost use Rattle.run_finish.specs.Finish.{pace_of, run_left, why_of, finish_turn, finish_unit};
 ghost use Rattle.run_finish.specs.FinishRoom.{FinishRoom};
 
 use run_plan::momentum;
@@ -12,23 +12,15 @@ use run_record::faults::is_tree;
 use run_record::progress::closed;
 use step::Pace;
 
-// Whether a unit was done, and if not, why.
-#[derive(Clone, Copy)]
-pub enum Why {
-    Done,
+// Why a unit is not done; the record stays as it was.
+#[derive(Clone, Copy, Debug, PartialEq, Eq)]
+pub enum Halt {
     // 14: the arena has not the nodes that the point needs
     Full,
     // 15: a value would be NaN or too large
     Wild,
     // the run has ended
     Over,
-}
-
-// The record after a unit.
-#[derive(Clone, Copy)]
-pub struct Turn {
-    pub run: Run,
-    pub why: Why,
 }
 
 // What the step goes by.
@@ -62,24 +54,17 @@ pub fn finish_unit(
     increments: &mut [f64],
     gains: &mut [f64],
     forces: &[f64],
-) -> Turn
+) -> Result<Run, Halt>
     requires { FinishRoom r (length positions.old) (length increments.old) (length gains.old) (length forces.now) }
-    ensures { finish_turn result.run positions.new increments.new gains.new result.why
+    ensures { finish_turn (run_left r result) positions.new increments.new gains.new (why_of result)
         ≡ finish_unit r positions.old increments.old gains.old forces.now }
 {
     let s = r.settings;
     let p = pace(r, forces);
     let a = step::finish(p, s.n, s.c, forces, positions, increments, gains);
     let Ok(()) = a else {
-        return Turn {
-            run: r,
-            why: Why::Wild,
-        };
+        return Err(Halt::Wild);
     };
     let norm = gradient::element::norm(p.exact, forces, p.z, s.n, s.c, s.n * s.c);
-    let next = closed(r, norm);
-    Turn {
-        run: next,
-        why: Why::Done,
-    }
+    Ok(closed(r, norm))
 }

@@ -23,10 +23,11 @@ use Rattle.tree.specs.Insert.{tree, insertion, insert_of, growable, shaped}
 use Rattle.gradient.specs.Forces.{Linked, forces_of}
 use Rattle.run_entry.specs.State.{memory, state}
 use Rattle.run_entry.specs.Entry.{Workable}
-use Rattle.run_finish.specs.declared.Turn.{Turn}
-use Rattle.run_finish.specs.declared.Why.TheVariants.{Done, Over}
-use Rattle.run_finish.specs.Finish.{finish_turn, finish_unit}
-use Rattle.run_units.specs.Units.{turn_as, inserted_of, tree_turn, tree_unit, force_unit, row_unit, turned, unit}
+use Rattle.std.specs.Prelude.{Result, Ok, Err}
+use Rattle.run_finish.specs.declared.Halt.{Halt}
+use Rattle.run_finish.specs.declared.Halt.TheVariants.{Over}
+use Rattle.run_finish.specs.Finish.{run_left, why_of, finish_turn, finish_unit}
+use Rattle.run_units.specs.Units.{inserted_of, tree_turn, tree_unit, force_unit, row_unit, turned, unit}
 use Rattle.run_finish.specs.FinishRoom.{Small, FinishRoom}
 use Rattle.run_units.specs.Room.{TreeRoom, ForceRoom, RowRoom}
 use Rattle.run_units.proofs.Rooms.{tree-room, force-room, finish-room}
@@ -39,10 +40,10 @@ module _ (r : Run) (y : List Float) (cs : List Cell) (k : TreeRoom r (length y) 
   pub box-asks : (Axes r.settings.c) × (r.settings.n * r.settings.c ≤ length y) × (0 < length cs)
   box-asks = (k.axes, k.positions-in, omega (arith, k.nodes-some, nodes-length cs))
 
-  pub box-told : b ≡ true → (ds : List Cell) → nodes_of ds ≡ set (nodes_of cs) 0 (box_of y r.settings.n r.settings.c) → (t : Turn) →
-      t ≡ turn_as (advanced_of r 1) Done → tree_turn t.run (nodes_of ds) t.why ≡ tree_unit r y (nodes_of cs)
+  pub box-told : b ≡ true → (ds : List Cell) → nodes_of ds ≡ set (nodes_of cs) 0 (box_of y r.settings.n r.settings.c) → (t : Result Run Halt) →
+      t ≡ Ok (advanced_of r 1) → tree_turn (run_left r t) (nodes_of ds) (why_of t) ≡ tree_unit r y (nodes_of cs)
   box-told yes-b ds ed t et =
-      ap (λ (x : Turn). tree_turn x.run (nodes_of ds) x.why) et ∙ box-is r y (nodes_of cs) (nodes_of ds) (eqb-true r.phase 0 (sym eb ∙ yes-b)) refl ed
+      ap (λ (x : Result Run Halt). tree_turn (run_left r x) (nodes_of ds) (why_of x)) et ∙ box-is r y (nodes_of cs) (nodes_of ds) (eqb-true r.phase 0 (sym eb ∙ yes-b)) refl ed
 
   module _ (no-b : b ≡ false) where
     later : r.phase ≡ 0 → ⊥
@@ -65,13 +66,13 @@ module _ (r : Run) (y : List Float) (cs : List Cell) (k : TreeRoom r (length y) 
       )
 
       pub insert-told : (a : Inserted) (ds : List Cell) → insertion a.full (tree a.used (nodes_of ds)) ≡ insert_of y r.settings.c j (tree r.used (nodes_of cs))
-          → (t : Turn) → t ≡ inserted_of r a.full a.used → tree_turn t.run (nodes_of ds) t.why ≡ tree_unit r y (nodes_of cs)
+          → (t : Result Run Halt) → t ≡ inserted_of r a.full a.used → tree_turn (run_left r t) (nodes_of ds) (why_of t) ≡ tree_unit r y (nodes_of cs)
       unfolding inserted_of
       insert-told a ds ed t et =
           let q : insertion a.full (tree a.used (nodes_of ds)) ≡ insert_of y r.settings.c (r.phase - 1) (tree r.used (nodes_of cs)) = subst
           (λ (x : ℕ). insertion a.full (tree a.used (nodes_of ds)) ≡ insert_of y r.settings.c x (tree r.used (nodes_of cs))) ej ed in
-          ap (λ (x : Turn). tree_turn x.run (nodes_of ds) x.why) et
-          ∙ by_bool (tree_turn (inserted_of r a.full a.used).run (nodes_of ds) (inserted_of r a.full a.used).why ≡ tree_unit r y (nodes_of cs)) a.full
+          ap (λ (x : Result Run Halt). tree_turn (run_left r x) (nodes_of ds) (why_of x)) et
+          ∙ by_bool (tree_turn (run_left r (inserted_of r a.full a.used)) (nodes_of ds) (why_of (inserted_of r a.full a.used)) ≡ tree_unit r y (nodes_of cs)) a.full
           (λ f. rw f (insert-full r y (nodes_of cs) (nodes_of ds) a.full a.used later q f))
           (λ f. rw f (insert-done r y (nodes_of cs) (nodes_of ds) a.full a.used later q f refl))
 
@@ -130,8 +131,8 @@ module _ (r : Run) (y v g P : List Float) (xs off : List ℕ) (F : List Float) (
   few-frames = k.settings.n-most
 
   module _ (b₁ : Bool) (e₁ : b₁ ≡ is_ended r.standing) where
-    pub over-told : b₁ ≡ true → (t : Turn) → t ≡ turn_as r Over → turned (state t.run (memory y v g P xs off F cs)) t.why ≡ unit (state r (memory y v g P xs off F cs))
-    over-told yes₁ t et = ap (λ (x : Turn). turned (state x.run (memory y v g P xs off F cs)) x.why) et ∙
+    pub over-told : b₁ ≡ true → (t : Result Run Halt) → t ≡ Err Over → turned (state (run_left r t) (memory y v g P xs off F cs)) (why_of t) ≡ unit (state r (memory y v g P xs off F cs))
+    over-told yes₁ t et = ap (λ (x : Result Run Halt). turned (state (run_left r x) (memory y v g P xs off F cs)) (why_of x)) et ∙
         unit-over (state r (memory y v g P xs off F cs)) (sym e₁ ∙ yes₁)
 
     module _ (no₁ : b₁ ≡ false) (b₂ : Bool) (e₂ : b₂ ≡ eqb (group_of r) 0) where
@@ -145,9 +146,9 @@ module _ (r : Run) (y v g P : List Float) (xs off : List ℕ) (F : List Float) (
         pub tree-asks : TreeRoom r (length y) (nodes_of cs)
         tree-asks = tree-room (state r (memory y v g P xs off F cs)) k group-0
 
-        pub tree-told : (t : Turn) (ds : List Cell) → tree_turn t.run (nodes_of ds) t.why ≡ tree_unit r y (nodes_of cs) →
-            turned (state t.run (memory y v g P xs off F ds)) t.why ≡ unit (state r (memory y v g P xs off F cs))
-        tree-told t ds e = tree_is (state r (memory y v g P xs off F cs)) live t.run (nodes_of ds) t.why group-0 e
+        pub tree-told : (t : Result Run Halt) (ds : List Cell) → tree_turn (run_left r t) (nodes_of ds) (why_of t) ≡ tree_unit r y (nodes_of cs) →
+            turned (state (run_left r t) (memory y v g P xs off F ds)) (why_of t) ≡ unit (state r (memory y v g P xs off F cs))
+        tree-told t ds e = tree_is (state r (memory y v g P xs off F cs)) live (run_left r t) (nodes_of ds) (why_of t) group-0 e
 
       module _ (no₂ : b₂ ≡ false) (b₃ : Bool) (e₃ : b₃ ≡ eqb (group_of r) 1) where
         module _ (yes₃ : b₃ ≡ true) where
@@ -157,16 +158,17 @@ module _ (r : Run) (y v g P : List Float) (xs off : List ℕ) (F : List Float) (
           pub force-asks : ForceRoom r (length y) (length P) (length F) P xs off (nodes_of cs)
           force-asks = force-room (state r (memory y v g P xs off F cs)) k group-1
 
-          pub force-told : (u : Run) (F' : List Float) → (u ≡ advanced_of r r.used) × (F' ≡ force_unit r y P xs off (nodes_of cs) F) → (t : Turn) → t ≡ turn_as u Done
-              → turned (state t.run (memory y v g P xs off F' cs)) t.why ≡ unit (state r (memory y v g P xs off F cs))
-          force-told u F' e t et = ap (λ (x : Turn). turned (state x.run (memory y v g P xs off F' cs)) x.why) et ∙ force-is (state r (memory y v g P xs off F cs)) live u F' group-1 e
+          pub force-told : (u : Run) (F' : List Float) → (u ≡ advanced_of r r.used) × (F' ≡ force_unit r y P xs off (nodes_of cs) F) → (t : Result Run Halt) → t ≡ Ok u
+              → turned (state (run_left r t) (memory y v g P xs off F' cs)) (why_of t) ≡ unit (state r (memory y v g P xs off F cs))
+          force-told u F' e t et = ap (λ (x : Result Run Halt). turned (state (run_left r x) (memory y v g P xs off F' cs)) (why_of x)) et ∙
+              force-is (state r (memory y v g P xs off F cs)) live u F' group-1 e
 
         module _ (no₃ : b₃ ≡ false) where
           pub finish-asks : FinishRoom r (length y) (length v) (length g) (length F)
           finish-asks = finish-room (state r (memory y v g P xs off F cs)) k
 
-          pub finish-told : (t : Turn) (y' v' g' : List Float) → finish_turn t.run y' v' g' t.why ≡ finish_unit r y v g F →
-              turned (state t.run (memory y' v' g' P xs off F cs)) t.why ≡ unit (state r (memory y v g P xs off F cs))
+          pub finish-told : (t : Result Run Halt) (y' v' g' : List Float) → finish_turn (run_left r t) y' v' g' (why_of t) ≡ finish_unit r y v g F →
+              turned (state (run_left r t) (memory y' v' g' P xs off F cs)) (why_of t) ≡ unit (state r (memory y v g P xs off F cs))
           finish-told t y' v' g' e =
-              finish-is (state r (memory y v g P xs off F cs)) live t.run y' v' g' t.why
+              finish-is (state r (memory y v g P xs off F cs)) live (run_left r t) y' v' g' (why_of t)
               (eqb-false (group_of r) 0 (sym e₂ ∙ no₂)) (eqb-false (group_of r) 1 (sym e₃ ∙ no₃)) e

@@ -10,14 +10,14 @@ use Rattle.run_record.specs.declared.Run.{Run}
 use Rattle.run_record.specs.Record.{is_ended, advanced_of}
 use Rattle.tree_node.specs.declared.Node.{Node}
 use Rattle.run_entry.specs.State.{State}
-use Rattle.run_finish.specs.declared.Why.{Why}
-use Rattle.run_finish.specs.declared.Why.TheVariants.{Over}
+use Rattle.std.specs.Prelude.{Err}
+use Rattle.run_finish.specs.declared.Halt.TheVariants.{Over}
 use Rattle.run_plan.specs.Plan.{group_of}
-use Rattle.run_finish.specs.Finish.{FinishTurn, finish_turn, finish_unit}
+use Rattle.run_finish.specs.Finish.{Why, FinishTurn, finish_turn, finish_unit}
 use Rattle.run_units.specs.Units.{TreeTurn, tree_turn, tree_unit, force_unit, Turned, turned, with_tree, with_forces, with_finish, unit}
 
 module _ (s : State) where
-  pub unit-over : is_ended s.run.standing ≡ true → turned s Over ≡ unit s
+  pub unit-over : is_ended s.run.standing ≡ true → turned s (Err Over) ≡ unit s
   unfolding unit
   unit-over e = rw e
 

@@ -11,19 +11,20 @@ use Rattle.run_record.specs.Record.{advanced_of}
 use Rattle.tree_node.specs.declared.Node.{Node}
 use Rattle.tree.specs.Insert.{tree, insertion, insert_of}
 use Rattle.tree_bounds.specs.Bounds.{box_of}
-use Rattle.run_finish.specs.declared.Why.TheVariants.{Done, Full}
+use Rattle.std.specs.Prelude.{Ok, Err}
+use Rattle.run_finish.specs.declared.Halt.TheVariants.{Full}
 use Rattle.run_units.specs.Units.{tree_turn, insert_turn, tree_unit}
 
 module _ (r : Run) (y : List Float) (ns ns' : List Node) where
-  pub box-is : {t : Run} → r.phase ≡ 0 → t ≡ advanced_of r 1 → ns' ≡ set ns 0 (box_of y r.settings.n r.settings.c) → tree_turn t ns' Done ≡ tree_unit r y ns
+  pub box-is : {t : Run} → r.phase ≡ 0 → t ≡ advanced_of r 1 → ns' ≡ set ns 0 (box_of y r.settings.n r.settings.c) → tree_turn t ns' (Ok tt) ≡ tree_unit r y ns
   unfolding tree_unit
   box-is e a q = rw (eq-eqb r.phase 0 e, a, q)
 
   module _ (full : Bool) (u : ℕ) (z : r.phase ≡ 0 → ⊥) (q : insertion full (tree u ns') ≡ insert_of y r.settings.c (r.phase - 1) (tree r.used ns)) where
-    pub insert-full : full ≡ true → tree_turn r ns' Full ≡ tree_unit r y ns
+    pub insert-full : full ≡ true → tree_turn r ns' (Err Full) ≡ tree_unit r y ns
     unfolding tree_unit insert_turn
     insert-full e = rw (ne_eqb r.phase 0 z, sym q, e)
 
-    pub insert-done : {t : Run} → full ≡ false → t ≡ advanced_of r u → tree_turn t ns' Done ≡ tree_unit r y ns
+    pub insert-done : {t : Run} → full ≡ false → t ≡ advanced_of r u → tree_turn t ns' (Ok tt) ≡ tree_unit r y ns
     unfolding tree_unit insert_turn
     insert-done e a = rw (ne_eqb r.phase 0 z, sym q, e, a)

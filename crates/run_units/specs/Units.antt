@@ -1,5 +1,6 @@
 -- One unit of either method: box, insertions, forces or rows, finish. Definitions only.
-use Rattle.std.specs.Prelude.{List, Bool, true, false, cond, ℕ, ◌-◌, eqb, ltb, Float}
+use Rattle.std.specs.Prelude.{List, Bool, cond, ℕ, ◌-◌, eqb, ltb, Float, Result, Ok, Err}
+use Rattle.std.specs.Result.{is_ok}
 use Rattle.run_record.specs.declared.Run.{Run}
 use Rattle.run_record.specs.Record.{is_tree, is_ended, advanced_of}
 use Rattle.run_plan.specs.Plan.{exaggeration_of, group_of}
@@ -9,25 +10,16 @@ use Rattle.tree.specs.Box.{boxed}
 use Rattle.gradient.specs.Forces.{forces_of}
 use Rattle.gradient.specs.Exact.{total_row, gradient_row}
 use Rattle.run_entry.specs.State.{Memory, State}
-use Rattle.run_finish.specs.Finish.{FinishTurn, finish_unit}
-use Rattle.run_finish.specs.declared.Why.{Why}
-use Rattle.run_finish.specs.declared.Turn.{Turn}
-use Rattle.run_finish.specs.declared.Why.TheVariants.{Done, Full, Wild, Over}
+use Rattle.run_finish.specs.Finish.{Why, FinishTurn, finish_unit}
+use Rattle.run_finish.specs.declared.Halt.{Halt}
+use Rattle.run_finish.specs.declared.Halt.TheVariants.{Full, Over}
 
 abbrev pub is_done : Why → Bool
-is_done Done = true
-is_done Full = false
-is_done Wild = false
-is_done Over = false
-
--- ---- the record after a unit, by value
-
-abbrev pub turn_as : Run → Why → Turn
-turn_as r y = record { run = r; why = y }
+is_done w = is_ok w
 
 -- an insertion that is refused, or leaves so many nodes in use
-unfoldable pub inserted_of : Run → Bool → ℕ → Turn
-inserted_of r full used = cond full (turn_as r Full) (turn_as (advanced_of r used) Done)
+unfoldable pub inserted_of : Run → Bool → ℕ → Result Run Halt
+inserted_of r full used = cond full (Err Full) (Ok (advanced_of r used))
 
 -- ---- box and insertion
 
@@ -41,11 +33,11 @@ tree_turn r ns y = record { run = r; nodes = ns; why = y }
 
 -- the box: node 0 is the root, and the only node in use
 abbrev pub box_turn : Run → List Float → List Node → TreeTurn
-box_turn r y ns = tree_turn (advanced_of r 1) (boxed y r.settings.n r.settings.c ns).nodes Done
+box_turn r y ns = tree_turn (advanced_of r 1) (boxed y r.settings.n r.settings.c ns).nodes (Ok tt)
 
 -- an insertion with its refusal, which leaves the tree as it was
 unfoldable pub insert_turn : Run → Insertion → TreeTurn
-insert_turn r t = cond t.full (tree_turn r t.tree.nodes Full) (tree_turn (advanced_of r t.tree.used) t.tree.nodes Done)
+insert_turn r t = cond t.full (tree_turn r t.tree.nodes (Err Full)) (tree_turn (advanced_of r t.tree.used) t.tree.nodes (Ok tt))
 
 -- unit 0 is the box, unit j + 1 the insertion of point j
 unfoldable pub tree_unit : Run → List Float → List Node → TreeTurn
@@ -102,7 +94,7 @@ with_forces m r F = turned (record {
     forces = F;
     nodes = m.nodes;
   };
-}) Done
+}) (Ok tt)
 
 abbrev pub with_finish : Memory → FinishTurn → Turned
 with_finish m t = turned (record {
@@ -123,7 +115,7 @@ unfoldable pub unit : State → Turned
 unit s =
     let r = s.run in
     let m = s.memory in
-    cond (is_ended r.standing) (turned s Over)
+    cond (is_ended r.standing) (turned s (Err Over))
     (cond (eqb (group_of r) 0) (with_tree m (tree_unit r m.positions m.nodes))
     (cond (eqb (group_of r) 1) (with_forces m (advanced_of r r.used) (force_unit r m.positions m.affinities m.indices m.offsets m.nodes m.forces))
     (with_finish m (finish_unit r m.positions m.increments m.gains m.forces))))

@@ -8,14 +8,14 @@ ghost use Rattle.tree_node.specs.Arena.{nodes_of};
 ghost use Rattle.run_record.specs.Record.{is_tree, is_ended, advanced_of};
 ghost use Rattle.run_entry.specs.State.{memory, state};
 ghost use Rattle.run_entry.specs.Entry.{Workable};
-ghost use Rattle.run_finish.specs.declared.Why.TheVariants.{Done, Over};
+ghost use Rattle.run_finish.specs.Finish.{run_left, why_of};
 ghost use Rattle.run_finish.specs.FinishRoom.{Small};
-ghost use Rattle.run_units.specs.Units.{is_done, turn_as, inserted_of, tree_turn, tree_unit, force_unit, row_unit, turned, unit};
+ghost use Rattle.run_units.specs.Units.{inserted_of, tree_turn, tree_unit, force_unit, row_unit, turned, unit};
 ghost use Rattle.run_units.specs.Room.{TreeRoom, ForceRoom, RowRoom};
 
 use gradient::forces::{Lists, point_forces};
 use gradient_pairs::exact::Map;
-use run_finish::{Turn, Why, finish_unit};
+use run_finish::{Halt, finish_unit};
 use run_plan::{Group, exaggeration, next_group};
 use run_record::Run;
 use run_record::counters::is_ended;
@@ -24,17 +24,6 @@ use run_record::progress::advanced;
 use tree::insertion::insert;
 use tree::root::plant;
 use tree_node::Cell;
-
-pub fn is_done(w: Why) -> bool
-    ensures { result ≡ is_done w }
-{
-    match w {
-        Why::Done => true,
-        Why::Full => false,
-        Why::Wild => false,
-        Why::Over => false,
-    }
-}
 
 // ---- the units of the tree
 
@@ -45,18 +34,6 @@ fn is_box(r: Run) -> bool
     r.phase == 0
 }
 
-// The record after the box.
-fn planted(r: Run) -> Turn
-    requires { Small r }
-    ensures { result ≡ turn_as (advanced_of r 1) Done }
-{
-    let next = advanced(r, 1);
-    Turn {
-        run: next,
-        why: Why::Done,
-    }
-}
-
 // The point that goes in next.
 fn point_next(r: Run) -> u32
     requires { (Small r) × (0 < r.phase) }
@@ -65,40 +42,31 @@ fn point_next(r: Run) -> u32
     (r.phase - 1) as u32
 }
 
-// The record after an insertion.
-fn inserted(r: Run, full: bool, used: usize) -> Turn
+// The record after an insertion, which may be refused.
+fn inserted(r: Run, full: bool, used: usize) -> Result<Run, Halt>
     requires { Small r }
     ensures { result ≡ inserted_of r full used }
 {
     if full {
-        return Turn {
-            run: r,
-            why: Why::Full,
-        };
+        return Err(Halt::Full);
     }
-    let next = advanced(r, used);
-    Turn {
-        run: next,
-        why: Why::Done,
-    }
+    Ok(advanced(r, used))
 }
 
 // The box unit, or the insertion of a point, which may be refused.
-pub(crate) fn tree_unit(r: Run, positions: &[f64], cells: &mut [Cell]) -> Turn
+pub(crate) fn tree_unit(r: Run, positions: &[f64], cells: &mut [Cell]) -> Result<Run, Halt>
     requires { TreeRoom r (length positions.now) (nodes_of cells.old) }
-    ensures { tree_turn result.run (nodes_of cells.new) result.why ≡ tree_unit r positions.now (nodes_of cells.old) }
+    ensures { tree_turn (run_left r result) (nodes_of cells.new) (why_of result) ≡ tree_unit r positions.now (nodes_of cells.old) }
 {
     let s = r.settings;
     let first = is_box(r);
     if first {
         plant(cells, positions, s.n, s.c);
-        let t = planted(r);
-        return t;
+        return Ok(advanced(r, 1));
     }
     let j = point_next(r);
     let a = insert(cells, positions, s.n, r.used, j, s.c);
-    let t = inserted(r, a.full, a.used);
-    t
+    inserted(r, a.full, a.used)
 }
 
 // ---- the units of the forces
@@ -192,24 +160,6 @@ fn is_over(r: Run) -> bool
     is_ended(st)
 }
 
-fn over(r: Run) -> Turn
-    ensures { result ≡ turn_as r Over }
-{
-    Turn {
-        run: r,
-        why: Why::Over,
-    }
-}
-
-fn done(r: Run) -> Turn
-    ensures { result ≡ turn_as r Done }
-{
-    Turn {
-        run: r,
-        why: Why::Done,
-    }
-}
-
 // The next unit, whichever it is.
 pub fn one_unit(
     r: Run,
@@ -221,10 +171,10 @@ pub fn one_unit(
     offsets: &[u32],
     forces: &mut [f64],
     cells: &mut [Cell],
-) -> Turn
+) -> Result<Run, Halt>
     requires { Workable (state r (memory positions.old increments.old gains.old affinities.now indices.now offsets.now forces.old cells.old)) }
     ensures { turned
-        (state result.run (memory
+        (state (run_left r result) (memory
         positions.new
         increments.new
         gains.new
@@ -233,7 +183,7 @@ pub fn one_unit(
         offsets.now
         forces.new
         cells.new))
-        result.why
+        (why_of result)
         ≡ unit (state r (memory
         positions.old
         increments.old
@@ -245,13 +195,11 @@ pub fn one_unit(
         cells.old)) }
 {
     if is_over(r) {
-        return over(r);
+        return Err(Halt::Over);
     }
     match next_group(r) {
         Group::Tree => tree_unit(r, positions, cells),
-        Group::Forces => done(force_unit(
-            r, positions, affinities, indices, offsets, cells, forces,
-        )),
+        Group::Forces => Ok(force_unit(r, positions, affinities, indices, offsets, cells, forces)),
         Group::Finish => finish_unit(r, positions, increments, gains, forces),
     }
 }

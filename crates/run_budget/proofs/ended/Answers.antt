@@ -2,12 +2,12 @@
 use Rattle.run_budget.specs.Budget.{ended_of}
 use Rattle.run_budget.proofs.ended.Goals as goal
 
-pub returns-then-is_done : goal.returns-then-is_done
+pub returns-in-Ok : goal.returns-in-Ok
 unfolding ended_of
-returns-then-is_done c =
-    rw ((rw c.is_done.ensures at c.if-is_done.true), c.stands-answer.ensures)
+returns-in-Ok c =
+    rw (c.in-Ok.is, c.stands-answer.ensures)
 
-pub returns : goal.returns
+pub returns-in-Err : goal.returns-in-Err
 unfolding ended_of
-returns c =
-    rw ((rw c.is_done.ensures at c.if-is_done.false), c.halted-answer.ensures)
+returns-in-Err c =
+    rw (c.in-Err.is, c.halted-answer.ensures)

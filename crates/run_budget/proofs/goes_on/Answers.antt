@@ -1,13 +1,13 @@
--- `run_budget::goes_on` meets its contract: from what its calls promise.
+-- `run_budget::goes_on` meets its contract: by whether the last unit was done.
 use Rattle.run_budget.specs.Budget.{spends_on}
 use Rattle.run_budget.proofs.goes_on.Goals as goal
 
-pub returns-then-is_done : goal.returns-then-is_done
+pub returns-then-is_ok : goal.returns-then-is_ok
 unfolding spends_on
-returns-then-is_done c =
-    rw (rw c.is_done.ensures at c.if-is_done.true)
+returns-then-is_ok c =
+    rw (rw c.is_ok.ensures.value at c.if-is_ok.true)
 
-pub returns : goal.returns
+pub returns-else-is_ok : goal.returns-else-is_ok
 unfolding spends_on
-returns c =
-    rw (rw c.is_done.ensures at c.if-is_done.false)
+returns-else-is_ok c =
+    rw (rw c.is_ok.ensures.value at c.if-is_ok.false) c.if-is_ok.false

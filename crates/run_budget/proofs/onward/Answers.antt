@@ -1,13 +1,13 @@
--- `run_budget::onward` meets its contract: from what its calls promise.
+-- `run_budget::onward` meets its contract: by the answer of the unit.
 use Rattle.run_budget.specs.Budget.{counted_on}
 use Rattle.run_budget.proofs.onward.Goals as goal
 
-pub returns-then-is_done : goal.returns-then-is_done
+pub returns-in-Ok : goal.returns-in-Ok
 unfolding counted_on
-returns-then-is_done c =
-    rw (rw c.is_done.ensures at c.if-is_done.true)
+returns-in-Ok c =
+    rw c.in-Ok.is
 
-pub returns : goal.returns
+pub returns-in-Err : goal.returns-in-Err
 unfolding counted_on
-returns c =
-    rw (rw c.is_done.ensures at c.if-is_done.false)
+returns-in-Err c =
+    rw c.in-Err.is

@@ -33,12 +33,12 @@ pub norm-norm-requires : goal.norm-norm-requires
 norm-norm-requires c =
     (c.requires.c-some, c.requires.c-most, le_refl _, c.requires.forces-in)
 
-pub closed-next-requires : goal.closed-next-requires
-closed-next-requires c =
+pub closed-requires : goal.closed-requires
+closed-requires c =
     (c.requires.done-small, c.requires.numbers.units_small)
 
 pub returns : goal.returns
 unfolding finish_unit pace_of
 returns c =
     finish-moved _ _ _ _ _ _ _ _ (rw c.pace-p.ensures at c.finish-a.ensures) c.in-Ok.is
-    (rw c.pace-p.ensures at c.norm-norm.ensures) c.closed-next.ensures
+    (rw c.pace-p.ensures at c.norm-norm.ensures) c.closed.ensures

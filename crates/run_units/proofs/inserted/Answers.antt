@@ -10,4 +10,4 @@ returns-then-full c =
 pub returns : goal.returns
 unfolding inserted_of
 returns c =
-    rw (c.if-full.false, c.advanced-next.ensures)
+    rw (c.if-full.false, c.advanced.ensures)

@@ -8,7 +8,7 @@ use Rattle.run_units.proofs.one_unit.Goals as goal
 pub returns-then-is_over : goal.returns-then-is_over
 returns-then-is_over c =
     over-told c.args.r c.args.positions.now c.args.increments.now c.args.gains.now c.args.affinities.now c.args.indices.now c.args.offsets.now c.args.forces.now c.args.cells.now
-    c.requires _ c.is_over.ensures c.if-is_over.true _ c.over.ensures
+    c.requires _ c.is_over.ensures c.if-is_over.true _ refl
 
 pub tree_unit-requires : goal.tree_unit-requires
 tree_unit-requires c =
@@ -33,7 +33,7 @@ returns-in-Forces c =
     force-told c.args.r c.args.positions.now c.args.increments.now c.args.gains.now c.args.affinities.now c.args.indices.now c.args.offsets.now c.args.forces.now c.args.cells.now
     c.requires _ c.is_over.ensures c.if-is_over.false
     _ (sym (ne_eqb _ 0 (λ e. omega (arith, e, c.in-Forces.ensures)))) refl _ (sym (eq-eqb _ 1 (sym c.in-Forces.ensures))) refl
-    _ _ c.force_unit.ensures _ c.done.ensures
+    _ _ c.force_unit.ensures _ refl
 
 pub finish_unit-requires : goal.finish_unit-requires
 finish_unit-requires c =
