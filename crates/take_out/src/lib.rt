@@ -168,8 +168,8 @@ fn take_tested(
     let left = look_ahead(r, gone, positions, indices, offsets)?;
     *run = thinned_run(r, left);
     pack_run(
-        r.settings, gone, positions, increments, gains, affinities, indices, offsets, forces, table,
-        old,
+        r.settings, gone, positions, increments, gains, affinities, indices, offsets, forces,
+        table, old,
     );
     Ok(left)
 }

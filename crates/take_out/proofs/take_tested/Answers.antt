@@ -33,7 +33,7 @@ thinned_run-requires c =
         arith,
         tested-count c.args.run.now c.args.gone.now
             (holdings c.args.positions.now c.args.increments.now c.args.gains.now c.args.affinities.now
-    c.args.indices.now c.args.offsets.now c.args.forces.now c.args.table.now c.args.old.now)
+            c.args.indices.now c.args.offsets.now c.args.forces.now c.args.table.now c.args.old.now)
             c.in_ok-left.ensures,
         survivors-few c.args.gone.now c.args.run.now.settings.n,
         t.outlook-room.settings-good.n-most,
