@@ -21,7 +21,7 @@ use borrow.Author.Tests.{eq-eqb, ne_eqb, lt-ltb, le-ltb}
 use Rattle.laws.specs.Domain.{most_frames}
 use Rattle.laws.specs.Area.{at, num, zero64}
 use Rattle.laws.proofs.First.{first-at, first-none, first-same}
-use Rattle.affinity_links.specs.Links.{Rising, found, found_in, past, held_of, cursor_of, fallen_of, Cursor, plus_of, plus_fallen, Within, WithinBoth}
+use Rattle.affinity_links.specs.Links.{Rising, found, found_place, past, held_of, cursor_of, fallen_of, Cursor, plus_of, plus_fallen, Within, WithinBoth}
 
 -- ---- by its place
 
@@ -50,7 +50,7 @@ module _ (l : List ℕ) (a k j : ℕ) where
         (dec_lt t m) [ yes w ↦ omega (arith, under t w q, x) | no w ↦ omega (arith, over t (omega arith) q, x) ]))
 
     -- what std's search finds among them
-    pub sought : (r : Result ℕ ℕ) → IsBinarySearchResult (λ y. nat_cmp y j) (take k (drop a l)) r → result_ok r ≡ found_in l a k j
+    pub sought : (r : Result ℕ ℕ) → IsBinarySearchResult (λ y. nat_cmp y j) (take k (drop a l)) r → result_ok r ≡ found_place l a k j
     sought (Ok i) h =
         let f = searched (take k (drop a l)) j (Ok i) h part-rises in
         let q : i < k = omega (arith, part-long, f.0) in

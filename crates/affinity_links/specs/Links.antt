@@ -15,8 +15,8 @@ abbrev pub found : List ℕ → ℕ → ℕ → ℕ → ℕ
 found l a k j = first (λ t. eqb (num l (a + t)) j) k
 
 -- its place, and none if it does not
-abbrev pub found_in : List ℕ → ℕ → ℕ → ℕ → Option ℕ
-found_in l a k j = cond (ltb (found l a k j) k) (Some (found l a k j)) None
+abbrev pub found_place : List ℕ → ℕ → ℕ → ℕ → Option ℕ
+found_place l a k j = cond (ltb (found l a k j) k) (Some (found l a k j)) None
 
 -- w, and what stands p past place a if p is below k
 abbrev pub plus_of : List Float → ℕ → ℕ → ℕ → Float → Float

@@ -6,12 +6,12 @@ ghost use Rattle.std.specs.Prelude.{◌≡◌, ◌+◌, ◌-◌, ◌*◌, ◌<�
 ghost use Rattle.std.specs.Bool.{then_some};
 ghost use Rattle.laws.specs.Domain.{most_frames};
 ghost use Rattle.laws.specs.Area.{num, zero64};
-ghost use Rattle.affinity_links.specs.Links.{Rising, found_in, past, held_of, cursor_of, fallen_of, plus_fallen, below_yes, below_weight, above_yes, above_weight, sought_yes, sought_weight, sought_row, sought_cursor, Within, WithinBoth, Sought};
+ghost use Rattle.affinity_links.specs.Links.{Rising, found_place, past, held_of, cursor_of, fallen_of, plus_fallen, below_yes, below_weight, above_yes, above_weight, sought_yes, sought_weight, sought_row, sought_cursor, Within, WithinBoth, Sought};
 
 // The place of j among the k numbers from a on, which rise.
 pub fn find(indices: &[u32], a: usize, k: usize, j: u32) -> Option<usize>
     requires { (a + k ≤ length indices.now) × Rising indices.now a k }
-    ensures { result ≡ found_in indices.now a k j }
+    ensures { result ≡ found_place indices.now a k j }
 {
     indices[a..a + k].binary_search(&j).ok()
 }

@@ -9,7 +9,7 @@ use Rattle.tree_node.specs.declared.Node.{Node}
 use Rattle.record_words.specs.RecordWords.{run_of, Worded, worded}
 use Rattle.fault_words.specs.FaultWords.{unfit, unfit_told}
 use Rattle.fault_words.proofs.Fit.{fit-room, fit-long}
-use Rattle.take_out.specs.TakeOut.{Holdings, Taken, TookOut, took_out, take_out, take_number}
+use Rattle.take_out.specs.TakeOut.{Holdings, TakeAnswer, TookOut, took_out, take_out, take_number}
 use Rattle.desk_take.specs.HostTake.{taken_told, size_put, host_took, taken_in, unfit_in, host_take}
 
 module _ (g w : List ℕ) (h : Holdings) (ns : List Node) (a : List ℕ) (b : Bool) (q : b ≡ unfit w (length a)) where
@@ -23,7 +23,7 @@ module _ (g w : List ℕ) (h : Holdings) (ns : List Node) (a : List ℕ) (b : Bo
   pub record-long : b ≡ false → 14 ≤ length w
   record-long y = fit-long w (length a) (sym q ∙ y)
 
-  pub taken-said : b ≡ false → (r : Run) → r ≡ run_of w → (o : Taken) (r' : Run) (h' : Holdings) → took_out o r' h' ≡ take_out g r h ns
+  pub taken-said : b ≡ false → (r : Run) → r ≡ run_of w → (o : TakeAnswer) (r' : Run) (h' : Holdings) → took_out o r' h' ≡ take_out g r h ns
       → (w' : List ℕ) → w' ≡ size_put r' w → (k : ℕ) (a' : List ℕ) → worded k a' ≡ worded (take_number o) (set a 0 (taken_told o)) → host_took k a' w' h' ≡ host_take g w h ns a
   unfolding host_take
   taken-said y r er o r' h' eo w' ew k a' e =

@@ -7,13 +7,13 @@ use Rattle.record_words.specs.RecordWords.{run_of, Worded}
 use Rattle.fault_words.specs.FaultWords.{fault_value, unfit, unfit_told}
 use Rattle.take_out.specs.declared.TakeFault.{TakeFault}
 use Rattle.take_out.specs.declared.TakeFault.TheVariants.{Denied, Bad}
-use Rattle.take_out.specs.TakeOut.{Holdings, Taken, TookOut, take_out, take_number}
+use Rattle.take_out.specs.TakeOut.{Holdings, TakeAnswer, TookOut, take_out, take_number}
 
 abbrev pub take_fault_value : TakeFault → ℕ
 take_fault_value (Denied d) = 0
 take_fault_value (Bad f) = fault_value f
 
-abbrev pub taken_told : Taken → ℕ
+abbrev pub taken_told : TakeAnswer → ℕ
 taken_told (Ok m) = m
 taken_told (Err e) = take_fault_value e
 

@@ -5,7 +5,7 @@ use Rattle.replay.specs.Cases.{cases_tally}
 use Rattle.replay.specs.declared.Tally.{Tally}
 use Rattle.replay.specs.declared.cases.Next.{Next}
 
-pub record Leads (g : ℕ → Option Next) (n : ℕ) (w : Tally) (a : ℕ) (t : Tally) : Type 0 where
+pub record CasesLead (g : ℕ → Option Next) (n : ℕ) (w : Tally) (a : ℕ) (t : Tally) : Type 0 where
   pub most : ℕ
   pub enough : n ≤ a + most
   pub same : w ≡ cases_tally g n most a t
@@ -26,25 +26,25 @@ module _ (g : ℕ → Option Next) (n a : ℕ) (t w : Tally) where
   stop-at x zero e h f m s = absurd (omega arith)
   stop-at x (suc k) e h f m s = rw (lt-ltb a n h, f, le-ltb a x.at m) at s
 
-  next-at : (x : Next) (k : ℕ) → n ≤ a + k → a < n → g a ≡ Some x → a < x.at → w ≡ cases_tally g n k a t → Leads g n w x.at (tallied t x.right)
+  next-at : (x : Next) (k : ℕ) → n ≤ a + k → a < n → g a ≡ Some x → a < x.at → w ≡ cases_tally g n k a t → CasesLead g n w x.at (tallied t x.right)
   unfolding cases_tally
   next-at x zero e h f m s = absurd (omega arith)
   next-at x (suc k) e h f m s = record { most = k; enough = omega arith; same = rw (lt-ltb a n h, f, lt-ltb a x.at m) at s }
 
 module _ {g : ℕ → Option Next} {n : ℕ} where
-  pub leads-start : (t : Tally) → Leads g n (cases_tally g n n 0 t) 0 t
+  pub leads-start : (t : Tally) → CasesLead g n (cases_tally g n n 0 t) 0 t
   leads-start t = record { most = n; enough = omega arith; same = refl }
 
   module _ {w : Tally} {a : ℕ} {t : Tally} where
-    pub leads-done : n ≤ a → Leads g n w a t → w ≡ t
+    pub leads-done : n ≤ a → CasesLead g n w a t → w ≡ t
     leads-done h r = done-at g n a t w r.most h r.same
 
-    pub leads-none : a < n → g a ≡ None → Leads g n w a t → w ≡ tallied t false
+    pub leads-none : a < n → g a ≡ None → CasesLead g n w a t → w ≡ tallied t false
     leads-none h f r = none-at g n a t w r.most r.enough h f r.same
 
     module _ {x : Next} (h : a < n) (f : g a ≡ Some x) where
-      pub leads-stop : x.at ≤ a → Leads g n w a t → w ≡ tallied (tallied t x.right) false
+      pub leads-stop : x.at ≤ a → CasesLead g n w a t → w ≡ tallied (tallied t x.right) false
       leads-stop m r = stop-at g n a t w x r.most r.enough h f m r.same
 
-      pub leads-next : a < x.at → Leads g n w a t → Leads g n w x.at (tallied t x.right)
+      pub leads-next : a < x.at → CasesLead g n w a t → CasesLead g n w x.at (tallied t x.right)
       leads-next m r = next-at g n a t w x r.most r.enough h f m r.same

@@ -1,6 +1,6 @@
 // Steps before centring: each element's gain, increment and moved position.
 ghost use Rattle.std.specs.Prelude.{◌<◌, ◌≤◌};
-ghost use Rattle.step_passes.specs.Passes.{Fits};
+ghost use Rattle.step_passes.specs.Passes.{AreasFit};
 
 use replay::areas::{floats_at, plus, same_value, times, value_at};
 use replay::cases::{Next, replay_cases};
@@ -17,7 +17,7 @@ fn same_element(x: Element, list: &[u8], a: usize, m: usize, e: usize) -> bool {
 
 // Every element of a case whose areas are ready.
 fn same_moves(list: &[u8], a: usize, areas: Areas) -> bool
-    requires { Fits areas.n areas.c areas.forces.now areas.positions.now areas.increments.now areas.gains.now }
+    requires { AreasFit areas.n areas.c areas.forces.now areas.positions.now areas.increments.now areas.gains.now }
 {
     let m = areas.n * areas.c;
     for e in 0..m {

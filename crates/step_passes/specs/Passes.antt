@@ -33,8 +33,8 @@ abbrev pub areas_before : Areas → Before
 areas_before a = paced a.pace a.c a.forces.now a.positions.now a.increments.now a.gains.now
 
 -- there are one to eight components, and the areas are long enough for n frames
-abbrev pub Fits : ℕ → ℕ → List Float → List Float → List Float → List Float → Type 0
-Fits n c F y v g = (0 < c) × (c ≤ 8) × (n * (2 * c + 1) ≤ length F) × (n * c ≤ length y) × (n * c ≤ length v) × (n * c ≤ length g)
+abbrev pub AreasFit : ℕ → ℕ → List Float → List Float → List Float → List Float → Type 0
+AreasFit n c F y v g = (0 < c) × (c ≤ 8) × (n * (2 * c + 1) ≤ length F) × (n * c ≤ length y) × (n * c ≤ length v) × (n * c ≤ length g)
 
 unfoldable pub element_at : Before → ℕ → Element
 unfolding new_of

@@ -5,7 +5,7 @@
 ghost use Rattle.std.specs.Prelude.{◌≡◌, ◌&&◌, ◌+◌, ◌*◌, ◌<◌, ◌≤◌, length};
 ghost use Rattle.laws.specs.Loops.{loop};
 ghost use Rattle.elementary.specs.Limits.{calm};
-ghost use Rattle.step_passes.specs.Passes.{Fits, areas_before, element_at, paced, sum_step, mean_step, calm_moves, calm_centred, position_step, increment_step, gain_step};
+ghost use Rattle.step_passes.specs.Passes.{AreasFit, areas_before, element_at, paced, sum_step, mean_step, calm_moves, calm_centred, position_step, increment_step, gain_step};
 
 use step_gains::{Element, new_element};
 
@@ -42,7 +42,7 @@ fn still_calm(sofar: bool, x: Element) -> bool
 impl<'a> Areas<'a> {
     // Element e's new values before centring.
     pub fn element_at(self, e: usize) -> Element
-        requires { (e < self.n * self.c) × Fits self.n self.c self.forces.now self.positions.now self.increments.now self.gains.now }
+        requires { (e < self.n * self.c) × AreasFit self.n self.c self.forces.now self.positions.now self.increments.now self.gains.now }
         ensures { result ≡ element_at (areas_before self.entry) e }
     {
         let g = gradient::element::gradient_at(
@@ -65,7 +65,7 @@ impl<'a> Areas<'a> {
 
     // Adds each moved position to its component's sum; false where a gain or an increment is not calm.
     pub fn sum_moves(self, sums: &mut [f64; 8]) -> bool
-        requires { Fits self.n self.c self.forces.now self.positions.now self.increments.now self.gains.now }
+        requires { AreasFit self.n self.c self.forces.now self.positions.now self.increments.now self.gains.now }
         ensures { (result ≡ calm_moves (areas_before self.entry) (self.entry.n * self.entry.c))
             × (sums.new ≡ loop (sum_step (areas_before self.entry) self.entry.c) (self.entry.n * self.entry.c) 0 sums.old) }
     {
@@ -81,7 +81,7 @@ impl<'a> Areas<'a> {
 
     // Whether each centred position is calm.
     pub fn calm_centred(self, means: &[f64; 8]) -> bool
-        requires { Fits self.n self.c self.forces.now self.positions.now self.increments.now self.gains.now }
+        requires { AreasFit self.n self.c self.forces.now self.positions.now self.increments.now self.gains.now }
         ensures { result ≡ calm_centred means.now (areas_before self.entry) self.entry.c (self.entry.n * self.entry.c) }
     {
         for e in 0..self.n * self.c {
@@ -116,7 +116,7 @@ pub fn write_moves(
     gains: &mut [f64],
     means: &[f64; 8],
 )
-    requires { Fits n c forces.now positions.old increments.old gains.old }
+    requires { AreasFit n c forces.now positions.old increments.old gains.old }
     ensures { (positions.new
         ≡ loop
         (position_step

@@ -25,7 +25,7 @@ use Rattle.run_entry.specs.Entry.{Found, offset_fine, fault_at, fault_of, is_fin
 use Rattle.run_entry.proofs.Laws.{fault-fine, links-is}
 use Rattle.run_rooms.proofs.Lists.{offset-rises, index_below}
 use Rattle.take_lists.specs.Packed.{Listed}
-use Rattle.take_out.specs.TakeOut.{Holdings, holdings, state_held, lent_positions, Taken, take_fault, took_out, take_tested, take_out, TakeRoom}
+use Rattle.take_out.specs.TakeOut.{Holdings, holdings, state_held, lent_positions, TakeAnswer, take_fault, took_out, take_tested, take_out, TakeRoom}
 use Rattle.take_out.proofs.Rooms.{lent-no-table, lent-no-old, lent-all}
 
 -- ---- where positions count as lent, the table and the old places are long enough
@@ -148,7 +148,7 @@ module _ (r : Run) (y : List Float) (v g P xs off : List ℕ) (F : List Float) (
   pub taking-asks : is_fine f ≡ true → TakeRoom r (holdings y v g P xs off F t q)
   taking-asks h = room-shown r (holdings y v g P xs off F t q) (nodes_of cs) (ap is_fine (sym fault-is) ∙ h)
 
-  pub taking-told : (w : Taken) (x' : Run) (y' : List Float) (v' g' P' xs' off' : List ℕ) (F' : List Float) (t' q' : List ℕ)
+  pub taking-told : (w : TakeAnswer) (x' : Run) (y' : List Float) (v' g' P' xs' off' : List ℕ) (F' : List Float) (t' q' : List ℕ)
       → took_out w x' (holdings y' v' g' P' xs' off' F' t' q') ≡ take_tested f r gone (holdings y v g P xs off F t q)
       → took_out w x' (holdings y' v' g' P' xs' off' F' t' q') ≡ take_out gone r (holdings y v g P xs off F t q) (nodes_of cs)
   unfolding take_out

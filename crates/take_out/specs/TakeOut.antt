@@ -93,21 +93,21 @@ packed_areas s keep h = record {
 }
 
 -- what is answered: so many are left, or why nothing is taken out
-abbrev pub Taken : Type 0
-Taken = Result ℕ TakeFault
+abbrev pub TakeAnswer : Type 0
+TakeAnswer = Result ℕ TakeFault
 
 -- an outlook as it is answered
-abbrev pub as_taken : Outlook → Taken
+abbrev pub as_taken : Outlook → TakeAnswer
 as_taken (Ok m) = Ok m
 as_taken (Err d) = Err (Denied d)
 
 -- what is answered, and record and areas afterwards
 pub record TookOut : Type 0 where
-  pub answer : Taken
+  pub answer : TakeAnswer
   pub run : Run
   pub areas : Holdings
 
-abbrev pub took_out : Taken → Run → Holdings → TookOut
+abbrev pub took_out : TakeAnswer → Run → Holdings → TookOut
 took_out a r h = record { answer = a; run = r; areas = h }
 
 -- once the entry tests have found f: a refusal changes nothing
@@ -134,7 +134,7 @@ take_fault_number (Denied d) = denial_number d
 take_fault_number (Bad f) = fault_number f
 
 -- the number of a refusal; 0 where there is none
-abbrev pub take_number : Taken → ℕ
+abbrev pub take_number : TakeAnswer → ℕ
 take_number = number_told take_fault_number
 
 -- ---- what the entry tests have shown

@@ -28,7 +28,22 @@ use Rattle.std.specs.Prelude.{Ok, Err}
 use Rattle.take_left.specs.Outlook.{Outlook, thinned_run, crowded, outlook_of}
 use Rattle.take_left.proofs.Judged.{judged-left}
 use Rattle.take_out.specs.declared.TakeFault.TheVariants.{Denied, Bad}
-use Rattle.take_out.specs.TakeOut.{Holdings, Taken, TookOut, took_out, as_taken, state_held, left_behind, lent_positions, take_fault, is_accepted, packed_areas, take_tested, take_out, take_number}
+use Rattle.take_out.specs.TakeOut.{
+  Holdings,
+  TakeAnswer,
+  TookOut,
+  took_out,
+  as_taken,
+  state_held,
+  left_behind,
+  lent_positions,
+  take_fault,
+  is_accepted,
+  packed_areas,
+  take_tested,
+  take_out,
+  take_number,
+}
 use Rattle.take_out.proofs.Calls.{words-told}
 
 -- ---- a refusal
