@@ -1,5 +1,5 @@
 -- The loop over the cases of a list has come to a word: what follows from there on is the rest of the whole. Assumes nothing.
-use Rattle.std.proofs.Common.{◌≡◌, ℕ, zero, suc, ◌+◌, ◌<◌, ◌≤◌, Bool, true, false, Option, None, Some, refl, arith, le-ltb, lt-ltb}
+use Rattle.std.proofs.Common.{◌≡◌, ℕ, zero, suc, ◌+◌, ◌<◌, ◌≤◌, false, Option, None, Some, refl, arith, le-ltb, lt-ltb}
 use Rattle.replay.specs.Replay.{tallied}
 use Rattle.replay.specs.Cases.{cases_tally}
 use Rattle.replay.specs.declared.Tally.{Tally}

@@ -1,5 +1,5 @@
 -- The cases of a list, one after the other. Definitions only.
-use Rattle.std.specs.Prelude.{ℕ, zero, suc, Bool, true, false, cond, List, nat_lt, Option, None, Some}
+use Rattle.std.specs.Prelude.{ℕ, zero, suc, Bool, false, cond, List, nat_lt, Option, None, Some}
 use Rattle.replay.specs.Replay.{word_of, tallied}
 use Rattle.replay.specs.Areas.{onward}
 use Rattle.replay.specs.declared.Tally.{Tally}

@@ -4,7 +4,9 @@ ghost use Rattle.std.specs.Prelude.{◌≤◌};
 use desk_salvage::host_salvage;
 use replay::areas::plus;
 use replay::word_at;
-use replay_areas::bytes::{bytes_at, marked_target, same_bytes, same_target, still_marked, words_of};
+use replay_areas::bytes::{
+    bytes_at, marked_target, same_bytes, same_target, still_marked, words_of,
+};
 use replay_areas::lengths::length_at;
 use replay_areas::values::{marked_values, same_values};
 

@@ -1,7 +1,7 @@
 -- `replay::areas::copy_words` meets its contract: the loop keeps `Loops`; by `loop-start`, `loop-next`, `loop-done`.
 use Rattle.laws.proofs.Loops.{Loops}
 use Rattle.laws.specs.Area.{bits}
-use Rattle.std.proofs.Common.{◌≡◌, ◌-◌, length, set}
+use Rattle.std.proofs.Common.{◌≡◌, length, set}
 use Rattle.replay.specs.Replay.{word_of}
 use Rattle.replay.specs.Areas.{onward}
 use Rattle.replay.proofs.areas.copy_words.Given as goal

@@ -1,7 +1,7 @@
 -- `replay::areas::mark` meets its contract: the loop keeps `Loops`; by `loop-start`, `loop-next`, `loop-done`.
 use Rattle.laws.proofs.Loops.{Loops}
 use Rattle.laws.specs.Area.{bits}
-use Rattle.std.proofs.Common.{◌≡◌, ◌+◌, ◌-◌, ◌%◌, ◌^◌, length, set}
+use Rattle.std.proofs.Common.{◌≡◌, ◌+◌, ◌%◌, ◌^◌, length, set}
 use Rattle.replay.proofs.areas.mark.Given as goal
 
 abbrev pub invariant-loop-i : goal.invariant-loop-i

@@ -1,6 +1,6 @@
 -- `replay::areas::mark_words` meets its contract: the loop keeps `Loops`; by `loop-start`, `loop-next`, `loop-done`.
 use Rattle.laws.proofs.Loops.{Loops}
-use Rattle.std.proofs.Common.{◌≡◌, ◌+◌, ◌-◌, ◌%◌, length, set}
+use Rattle.std.proofs.Common.{◌≡◌, ◌+◌, ◌%◌, length, set}
 use Rattle.replay.proofs.areas.mark_words.Given as goal
 
 abbrev pub invariant-loop-i : goal.invariant-loop-i

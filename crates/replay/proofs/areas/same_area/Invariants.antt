@@ -2,7 +2,7 @@
 -- `value-wrong`, `area-before`, `area-short`, `area-is` and others.
 use Rattle.replay.specs.Areas.{right_value}
 use Rattle.laws.specs.Loops.{every}
-use Rattle.std.proofs.Common.{◌≡◌, ◌-◌, ◌≤◌, true, length}
+use Rattle.std.proofs.Common.{◌≡◌, ◌≤◌, true, length}
 use Rattle.replay.proofs.areas.same_area.Given as goal
 
 abbrev pub invariant-loop-i : goal.invariant-loop-i

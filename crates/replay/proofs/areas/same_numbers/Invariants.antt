@@ -2,7 +2,7 @@
 -- `numbers-short`, `numbers-are`, `every-none`, `every-next` and others.
 use Rattle.replay.specs.Areas.{right_number}
 use Rattle.laws.specs.Loops.{every}
-use Rattle.std.proofs.Common.{◌≡◌, ◌-◌, ◌≤◌, true, length}
+use Rattle.std.proofs.Common.{◌≡◌, ◌≤◌, true, length}
 use Rattle.replay.proofs.areas.same_numbers.Given as goal
 
 abbrev pub invariant-loop-i : goal.invariant-loop-i

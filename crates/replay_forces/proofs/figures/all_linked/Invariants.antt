@@ -1,5 +1,5 @@
 -- `replay_forces::figures::all_linked` meets its contract: the loop keeps `Linked`; by `each_next`.
-use Prim.Native.Nat.{ℕ, ◌<◌, ◌≤◌, ◌-◌}
+use Prim.Native.Nat.{ℕ, ◌<◌, ◌≤◌}
 use Rattle.gradient.specs.Forces.{Linked}
 use Rattle.replay_forces.proofs.figures.all_linked.Given as goal
 

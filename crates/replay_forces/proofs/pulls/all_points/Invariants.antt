@@ -1,7 +1,7 @@
 -- `all_points`: what is well formed may be walked through, for every point. Assumes nothing.
 use mathlib.Core.Path.{◌≡◌}
 use lib.ListN.{length}
-use Prim.Native.Nat.{◌≤◌, ◌-◌}
+use Prim.Native.Nat.{◌≤◌}
 use Rattle.replay_arena.specs.Fronts.{Walkable}
 use Rattle.replay_forces.proofs.pulls.all_points.Given as goal
 

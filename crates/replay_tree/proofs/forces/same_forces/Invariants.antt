@@ -1,5 +1,5 @@
 -- `same_forces`: what is well formed may be walked through, for every point and angle. Assumes nothing.
-use Rattle.std.proofs.Common.{◌-◌, ◌*◌, ◌≤◌}
+use Rattle.std.proofs.Common.{◌*◌, ◌≤◌}
 use Rattle.replay_arena.specs.Fronts.{Walkable}
 use Rattle.replay_tree.proofs.forces.same_forces.Given as goal
 
