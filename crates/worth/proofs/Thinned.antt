@@ -8,14 +8,14 @@ use Rattle.run_record.specs.Record.{is_tree}
 use Rattle.tree_node.specs.declared.Node.{Node}
 use Rattle.run_entry.specs.State.{State}
 use Rattle.descent.specs.Descent.{works, told_all}
-use Rattle.take_left.specs.declared.Outlook.TheVariants.{Left}
+use Rattle.std.specs.Prelude.{Ok}
 use Rattle.take_out.specs.declared.Taken.TheVariants.{Told}
 use Rattle.take_out.specs.TakeOut.{Holdings, take_out, left_behind}
 use Rattle.taking.proofs.Honest.{what-is-left-is-honest}
 use Rattle.worth.specs.Insertions.{insertions_in, Midway, TreeWorth}
 use Rattle.worth.proofs.Reached.{works-worth}
 
-module _ (g : List ℕ) (r : Run) (h : Holdings) (ns : List Node) (m : ℕ) (answer : (take_out g r h ns).answer ≡ Told (Left m)) where
+module _ (g : List ℕ) (r : Run) (h : Holdings) (ns : List Node) (m : ℕ) (answer : (take_out g r h ns).answer ≡ Told (Ok m)) where
   abbrev thinned_state : State
   thinned_state = left_behind (take_out g r h ns) ns
 
