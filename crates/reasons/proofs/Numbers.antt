@@ -173,7 +173,8 @@ module _ (w : List ℕ) (none : run_fine w ≡ false) where
       (settings_fault (settings_of w)) = record { number_is = refl; some_number = eqb-false (settings_fault (settings_of w)) 0 c } in
       so (number-answer h b n) (record {
         words-enough = h;
-        method-or-number = inr (b, record { number_is = sym (settings-number (settings_of w) (settings_fault (settings_of w)) n); some_number = refusal-some (refusal_of (settings_fault (settings_of w))) });
+        method-or-number = inr (b, record { number_is = sym (settings-number (settings_of w) (settings_fault (settings_of w)) n);
+            some_number = refusal-some (refusal_of (settings_fault (settings_of w))) });
       }))))
       (λ b. so (method-answer h b) (record { words-enough = h; method-or-number = inl (b, refl) }))))
 

@@ -304,5 +304,6 @@ module _ (s : Shown) where
   reason-only (Err (Index j)) r =
       let a = r.offsets-before.areas-before in
       let q = first-bad-place j r in
-      index-answer a.record-passes.settings-pass a.record-passes.counters-pass a.areas-pass a.lists-there (ends-past r.offsets-before) (omega (arith, q, r.place-within)) ∙ ap (λ (y : ℕ). Err (Index y)) q
+      index-answer a.record-passes.settings-pass a.record-passes.counters-pass a.areas-pass a.lists-there (ends-past r.offsets-before) (omega (arith, q, r.place-within))
+      ∙ ap (λ (y : ℕ). Err (Index y)) q
   reason-only (Err (BadTree i)) r = tree-only i r
