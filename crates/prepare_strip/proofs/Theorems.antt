@@ -136,7 +136,8 @@ module _ (s : Settings) (table start : List Float) (nodes : ℕ) (l : Lent) wher
       (prepared_strip s table start nodes l ≡ prepared s table start nodes l)
   a-prepared-strip r ready =
       by_bool ((in_profile r.settings ≡ true) × (r ≡ fresh_run s) × (prepared_strip s table start nodes l ≡ prepared s table start nodes l)) (strip_bars s told_fault)
-      (λ b. absurd (let q : ◌≡◌ {A = Result Run ℕ} (Err 20) (Ok r) = ap (λ (o : PrepareOutcome). o.answer) (barred-outcome s table start nodes l b) ∙ ready in let z : ◌≡◌ {A = ℕ} 0 1 = cc in omega arith))
+      (λ b. absurd (let q : ◌≡◌ {A = Result Run ℕ} (Err 20) (Ok r) = ap (λ (o : PrepareOutcome). o.answer) (barred-outcome s table start nodes l b) ∙ ready in
+      let z : ◌≡◌ {A = ℕ} 0 1 = cc in omega arith))
       (λ b. let same : prepared s table start nodes l ≡ prepared_strip s table start nodes l = passed_on s table start nodes l b in
       let f = ready-fresh r (ap (λ (o : PrepareOutcome). o.answer) same ∙ ready) in
       (fresh-profile r f.1 (passed-profile f.0 b), f.1, sym same))
