@@ -19,28 +19,32 @@ use Rattle.tree_node.specs.declared.Cell.{Cell}
 use Rattle.run_entry.specs.State.{state}
 use Rattle.run_budget.specs.declared.Answer.{Answer}
 use Rattle.descent.specs.Descent.{work}
-use Rattle.prepare.specs.declared.Prepared.{Prepared}
-use Rattle.prepare.specs.declared.Prepared.TheVariants.{Refused as Turned, Ready}
+use Rattle.refusal.specs.declared.Refusal.{Refusal}
+use Rattle.refusal.specs.Refusal.{refusal_number, refusal_of, numbered}
+use Rattle.refusal.proofs.Numbers.{refusal-by-number}
 use Rattle.prepare.specs.Prepare.{Lent, PrepareOutcome, prepare_outcome, prepared, memory_of}
-use Rattle.bench_mapping.specs.declared.Told.TheVariants.{Long, Record, Refused, Worked as Answered}
+use Rattle.bench_mapping.specs.declared.MapFault.{MapFault}
+use Rattle.bench_mapping.specs.declared.MapFault.TheVariants.{Long, Record, Refused}
 use Rattle.bench_mapping.specs.declared.Mapped.{Mapped}
 use Rattle.bench_mapping.specs.Mapping.{bench_frames, bench_bytes, zeros, bench_areas, bench_cells, mapped_as, worked_as, goes_on, descended, mapped, records_of, map_of}
 
 -- ---- preparation, then the work call
 
-module _ (s : Settings) (table start : List Float) (l : Lent) (p : Prepared) (e : prepare_outcome p l ≡ prepared s table start 256 bench_areas) where
-  goes-on : goes_on p l ≡ descended s table start
+module _ (s : Settings) (table start : List Float) (l : Lent) (p : Result Run Refusal) (e : prepare_outcome (numbered refusal_number p) l ≡ prepared s table start 256 bench_areas) where
+  goes-on : goes_on (numbered refusal_number p) l ≡ descended s table start
   unfolding descended
   goes-on = ap (λ (o : PrepareOutcome). goes_on o.answer o.areas) e
 
-  pub refused-map : (k : ℕ) → p ≡ Turned k → mapped_as (Refused k) l.positions ≡ descended s table start
-  refused-map k h = ap (λ (x : Prepared). goes_on x l) (sym h) ∙ goes-on
+  pub refused-map : (k : Refusal) → p ≡ Err k → mapped_as (Err (Refused k)) l.positions ≡ descended s table start
+  refused-map k h =
+      let same : mapped_as (Err (Refused k)) l.positions ≡ goes_on (Err (refusal_number k)) l = ap (λ (r : Refusal). mapped_as (Err (Refused r)) l.positions) (sym (refusal-by-number k)) in
+      same ∙ ap (λ (x : Result Run Refusal). goes_on (numbered refusal_number x) l) (sym h) ∙ goes-on
 
-  pub worked-is : (r : Run) (a : Answer) (y : List Float) (cs : List Cell) → p ≡ Ready r → cs ≡ bench_cells
-      → (a ≡ (work most_word (state r (memory_of l cs))).answer) × (y ≡ (work most_word (state r (memory_of l cs))).left.memory.positions) → mapped_as (Answered a) y ≡ descended s table start
+  pub worked-is : (r : Run) (a : Answer) (y : List Float) (cs : List Cell) → p ≡ Ok r → cs ≡ bench_cells
+      → (a ≡ (work most_word (state r (memory_of l cs))).answer) × (y ≡ (work most_word (state r (memory_of l cs))).left.memory.positions) → mapped_as (Ok a) y ≡ descended s table start
   worked-is r a y cs h q w =
-      ap (λ (b : Answer). mapped_as (Answered b) y) w.0 ∙ ap (mapped_as (Answered (work most_word (state r (memory_of l cs))).answer)) w.1
-      ∙ ap (λ (ds : List Cell). worked_as (work most_word (state r (memory_of l ds)))) q ∙ ap (λ (x : Prepared). goes_on x l) (sym h) ∙ goes-on
+      ap (λ (b : Answer). mapped_as (Ok b) y) w.0 ∙ ap (mapped_as (Ok (work most_word (state r (memory_of l cs))).answer)) w.1
+      ∙ ap (λ (ds : List Cell). worked_as (work most_word (state r (memory_of l ds)))) q ∙ ap (λ (x : Result Run Refusal). goes_on (numbered refusal_number x) l) (sym h) ∙ goes-on
 
 -- ---- the records of a file
 
@@ -71,7 +75,7 @@ frames-few f n h e = omega (arith, subst (λ (r : Result ℕ BadRecord). count_o
 
 -- ---- the whole file
 
-pub too_long : (f : List ℕ) → bench_bytes < length f → mapped_as Long (zeros 128) ≡ map_of f
+pub too_long : (f : List ℕ) → bench_bytes < length f → mapped_as (Err Long) (zeros 128) ≡ map_of f
 unfolding map_of
 too_long f h = rw (lt-ltb _ _ h)
 
@@ -80,7 +84,7 @@ module _ (f : List ℕ) (h : length f ≤ bench_bytes) where
   unfolding map_of
   within = rw (le-ltb _ _ h)
 
-  pub bad-record : (p : ℕ) → frames_of f ≡ Err (bad_place p) → mapped_as (Record p) (zeros 128) ≡ map_of f
+  pub bad-record : (p : ℕ) → frames_of f ≡ Err (bad_place p) → mapped_as (Err (Record p)) (zeros 128) ≡ map_of f
   bad-record p e = ap (records_of f) (sym e) ∙ within
 
   pub all-mapped : (n : ℕ) (m : Mapped) → frames_of f ≡ Ok n → m ≡ mapped f n → m ≡ map_of f

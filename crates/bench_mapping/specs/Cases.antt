@@ -1,9 +1,9 @@
 -- The scope paper's example, and refusals, computed by the checker.
-use Rattle.std.specs.Prelude.{◌≡◌, refl, List, [], ◌∷◌, ◌++◌, ℕ, replicate}
+use Rattle.std.specs.Prelude.{◌≡◌, refl, List, [], ◌∷◌, ◌++◌, ℕ, replicate, Ok, Err}
 use Rattle.std.specs.Float.Ieee.{of_bits, of_int, is_nan, size, add, sub, mul, div, lt, le, eq, neg}
 use Rattle.laws.specs.Area.{bits, zero64}
 use Rattle.run_budget.specs.declared.Answer.TheVariants.{Finished}
-use Rattle.bench_mapping.specs.declared.Told.TheVariants.{Record, Worked as Answered}
+use Rattle.bench_mapping.specs.declared.MapFault.TheVariants.{Record}
 use Rattle.laws.specs.Loops.{loop, every, seek}
 use Rattle.elementary.specs.Limits.{up_to, neighbours_of}
 use Rattle.little.specs.Little.{little_of, value_at}
@@ -55,13 +55,13 @@ unfolding map_of of_bits add sub mul div lt le eq neg of_int is_nan size map_num
 single-9 = refl
 
 -- one record and a tail
-pub tail-16 : (map_of (first101 ++ none 1)).told ≡ Record 1
+pub tail-16 : (map_of (first101 ++ none 1)).told ≡ Err (Record 1)
 unfolding map_of of_bits add sub mul div lt le eq neg of_int is_nan size frames_of seek bad_at good_alone picture_fine little_of side_fine field_fine spare_fine values_fine every
     up_to value_at in_order may_follow
 tail-16 = refl
 
 -- the whole outcome of the example
-pub example : map_of (first101 ++ then102) ≡ mapped_as (Answered (Finished 6)) (bits 0x4050600000000000 ∷ zero64 ∷ bits 0xc050600000000000 ∷ zeros 125)
+pub example : map_of (first101 ++ then102) ≡ mapped_as (Ok (Finished 6)) (bits 0x4050600000000000 ∷ zero64 ∷ bits 0xc050600000000000 ∷ zeros 125)
 unfolding map_of of_bits add sub mul div lt le eq neg of_int is_nan size frames_of seek bad_at good_alone picture_fine little_of side_fine field_fine spare_fine values_fine
     every up_to value_at in_order may_follow mapped descended prepared prepare_fault early_fault bench_settings positive angle_fault angle_fine bench_table loop frame_of
     features_at late_fault bench_start starts_at lengths_fit areas_fit sizes_of tree_fits neighbours_of nodes_of work answer_of call fault_of fault_at record_fault

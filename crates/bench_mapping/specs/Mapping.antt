@@ -7,16 +7,18 @@ use Rattle.frames.specs.declared.BadRecord.{BadRecord}
 use Rattle.frames.specs.Frames.{record_bytes, frames_of, frame_of, bad_place, frames_number, or_zero}
 use Rattle.run_record.specs.declared.Method.TheVariants.{BarnesHut}
 use Rattle.run_record.specs.declared.Settings.{Settings}
+use Rattle.run_record.specs.declared.Run.{Run}
 use Rattle.tree_node.specs.declared.Cell.{Cell}
 use Rattle.tree_node.specs.Arena.{void}
 use Rattle.run_entry.specs.State.{state}
+use Rattle.run_budget.specs.declared.Answer.{Answer}
 use Rattle.run_budget.specs.Budget.{Worked}
 use Rattle.descent.specs.Descent.{work, work_number}
-use Rattle.prepare.specs.declared.Prepared.{Prepared}
-use Rattle.prepare.specs.declared.Prepared.TheVariants.{Refused as Turned, Ready}
+use Rattle.refusal.specs.declared.Refusal.{Refusal}
+use Rattle.refusal.specs.Refusal.{refusal_number, refusal_of}
 use Rattle.prepare.specs.Prepare.{Lent, lent, prepared, memory_of}
-use Rattle.bench_mapping.specs.declared.Told.{Told}
-use Rattle.bench_mapping.specs.declared.Told.TheVariants.{Long, Record, Refused, Worked as Answered}
+use Rattle.bench_mapping.specs.declared.MapFault.{MapFault}
+use Rattle.bench_mapping.specs.declared.MapFault.TheVariants.{Long, Record, Refused}
 use Rattle.bench_mapping.specs.declared.Mapped.{Mapped}
 
 -- the most frames that the bench takes, and their bytes
@@ -69,16 +71,16 @@ bench_cells = replicate 256 void
 
 -- ---- the answer
 
-abbrev pub mapped_as : Told → List Float → Mapped
+abbrev pub mapped_as : Result Answer MapFault → List Float → Mapped
 mapped_as t p = record { told = t; positions = p }
 
 abbrev pub worked_as : Worked → Mapped
-worked_as w = mapped_as (Answered w.answer) w.left.memory.positions
+worked_as w = mapped_as (Ok w.answer) w.left.memory.positions
 
 -- a run that preparation made is worked, one that it refused is not
-abbrev pub goes_on : Prepared → Lent → Mapped
-goes_on (Turned k) l = mapped_as (Refused k) l.positions
-goes_on (Ready r) l = worked_as (work most_word (state r (memory_of l bench_cells)))
+abbrev pub goes_on : Result Run ℕ → Lent → Mapped
+goes_on (Err k) l = mapped_as (Err (Refused (refusal_of k))) l.positions
+goes_on (Ok r) l = worked_as (work most_word (state r (memory_of l bench_cells)))
 
 -- preparation, then one work call
 unfoldable pub descended : Settings → List Float → List Float → Mapped
@@ -91,16 +93,19 @@ unfoldable pub mapped : List ℕ → ℕ → Mapped
 mapped file n = descended (bench_settings n) (take (n * 6) (bench_table file (n * 6))) (take (n * 2) (bench_start file (n * 2)))
 
 abbrev pub records_of : List ℕ → Result ℕ BadRecord → Mapped
-records_of file (Err b) = mapped_as (Record b.place) (zeros 128)
+records_of file (Err b) = mapped_as (Err (Record b.place)) (zeros 128)
 records_of file (Ok n) = mapped file n
 
 -- of a longer file no record is tested
 unfoldable pub map_of : List ℕ → Mapped
-map_of file = cond (ltb bench_bytes (length file)) (mapped_as Long (zeros 128)) (records_of file (frames_of file))
+map_of file = cond (ltb bench_bytes (length file)) (mapped_as (Err Long) (zeros 128)) (records_of file (frames_of file))
 
 -- the scope paper's number of an answer; 0 where it is no refusal
-unfoldable pub map_number : Told → ℕ
-map_number Long = 7
-map_number (Record p) = or_zero (frames_number (Err (bad_place p)))
-map_number (Refused k) = k
-map_number (Answered a) = work_number a
+abbrev pub map_fault_number : MapFault → ℕ
+map_fault_number Long = 7
+map_fault_number (Record p) = or_zero (frames_number (Err (bad_place p)))
+map_fault_number (Refused e) = refusal_number e
+
+unfoldable pub map_number : Result Answer MapFault → ℕ
+map_number (Err e) = map_fault_number e
+map_number (Ok a) = work_number a

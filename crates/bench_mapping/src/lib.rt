@@ -7,12 +7,12 @@ ghost use Rattle.std.specs.Prelude.{◌≡◌, ◌≤◌, length, replicate};
 ghost use Rattle.tree_node.specs.Arena.{void};
 ghost use Rattle.run_entry.specs.State.{memory, state};
 ghost use Rattle.descent.specs.Descent.{work};
-ghost use Rattle.bench_mapping.specs.Mapping.{bench_frames, bench_settings, bench_table, bench_start, descended, mapped, map_of, map_number};
+ghost use Rattle.bench_mapping.specs.Mapping.{bench_frames, bench_settings, bench_table, bench_start, descended, mapped, map_of, map_fault_number, map_number};
 
 use descent::Answer;
 use frames::{RECORD_BYTES, frame_at, read_frames};
 use laws::MOST_BUDGET;
-use prepare::Prepared;
+use refusal::{Numbered, Refusal};
 use run_record::{Method, Run, Settings};
 use tree_node::Cell;
 
@@ -22,23 +22,33 @@ pub const BENCH_FRAMES: usize = 64;
 // Their bytes.
 const BENCH_BYTES: usize = BENCH_FRAMES * RECORD_BYTES;
 
-// What the bench says of a file.
-#[derive(Clone, Copy)]
-pub enum Told {
+// Why a file has no map.
+#[derive(Clone, Copy, Debug, PartialEq, Eq)]
+pub enum MapFault {
     // 7: more bytes than the bench takes
     Long,
     // 16: the place of the first bad record, from 0
     Record(usize),
     // what preparation refused by
-    Refused(u8),
-    // what the work call answered
-    Worked(Answer),
+    Refused(Refusal),
 }
 
-// The answer, and the positions afterwards: two for each frame, then zeros.
+impl Numbered for MapFault {
+    ghost number_of = { map_fault_number };
+
+    fn number(self) -> u8 {
+        match self {
+            MapFault::Long => 7,
+            MapFault::Record(_) => 16,
+            MapFault::Refused(e) => e.number(),
+        }
+    }
+}
+
+// What the work call answered, and the positions afterwards: two for each frame, then zeros.
 #[derive(Clone, Copy)]
 pub struct Mapped {
-    pub told: Told,
+    pub told: Result<Answer, MapFault>,
     pub positions: [f64; 128],
 }
 
@@ -176,11 +186,11 @@ fn descend(s: Settings, table: &[f64], start: &[f64]) -> Mapped
         256,
     );
     match p {
-        Prepared::Refused(k) => {
-            let told = Told::Refused(k);
-            Mapped { told, positions }
-        }
-        Prepared::Ready(run) => {
+        Err(e) => Mapped {
+            told: Err(MapFault::Refused(e)),
+            positions,
+        },
+        Ok(run) => {
             let answer = work_on(
                 run,
                 &mut positions,
@@ -193,8 +203,10 @@ fn descend(s: Settings, table: &[f64], start: &[f64]) -> Mapped
                 cells,
                 MOST_BUDGET,
             );
-            let told = Told::Worked(answer);
-            Mapped { told, positions }
+            Mapped {
+                told: Ok(answer),
+                positions,
+            }
         }
     }
 }
@@ -216,13 +228,13 @@ pub fn map_file(file: &[u8]) -> Mapped
 {
     if file.len() > BENCH_BYTES {
         return Mapped {
-            told: Told::Long,
+            told: Err(MapFault::Long),
             positions: [0.0; 128],
         };
     }
     match read_frames(file) {
         Err(bad) => Mapped {
-            told: Told::Record(bad.place),
+            told: Err(MapFault::Record(bad.place)),
             positions: [0.0; 128],
         },
         Ok(n) => map_frames(file, n),
@@ -232,13 +244,11 @@ pub fn map_file(file: &[u8]) -> Mapped
 // ---- the number of an answer
 
 // The number that the file is refused by; 0: it has a map.
-pub fn number(t: Told) -> u8
+pub fn number(t: Result<Answer, MapFault>) -> u8
     ensures { result ≡ map_number t }
 {
     match t {
-        Told::Long => 7,
-        Told::Record(_) => 16,
-        Told::Refused(k) => k,
-        Told::Worked(a) => descent::number(a),
+        Err(e) => e.number(),
+        Ok(a) => descent::number(a),
     }
 }

@@ -8,21 +8,19 @@ use native.Mathlib.Decide.{dec_lt}
 use lib.ListN.{length}
 use Rattle.frames.specs.Frames.{whole_records}
 use Rattle.run_budget.specs.declared.Answer.{Answer}
-use Rattle.bench_mapping.specs.declared.Told.{Told}
-use Rattle.bench_mapping.specs.declared.Told.TheVariants.{Long, Record, Refused, Worked as Answered}
+use Rattle.std.specs.Prelude.{Result, Ok, Err}
+use Rattle.bench_mapping.specs.declared.MapFault.{MapFault}
 use Rattle.bench_mapping.specs.declared.Mapped.{Mapped}
 use Rattle.bench_mapping.specs.Mapping.{bench_bytes, map_of}
 use Rattle.bench_mapping.proofs.Laws.{too_long}
 use Rattle.bench_printout.specs.Printed.{frames_shown}
 
 -- whether a run was made and worked
-abbrev answered : Told → Bool
-answered Long = false
-answered (Record q) = false
-answered (Refused k) = false
-answered (Answered a) = true
+abbrev answered : Result Answer MapFault → Bool
+answered (Err e) = false
+answered (Ok a) = true
 
-pub all_shown : (file : List ℕ) (a : Answer) → (map_of file).told ≡ Answered a → frames_shown file ≡ whole_records file
+pub all_shown : (file : List ℕ) (a : Answer) → (map_of file).told ≡ Ok a → frames_shown file ≡ whole_records file
 all_shown file a e = elim (dec_lt bench_bytes (length file)) [
   | yes l ↦ absurd (true≢false (ap answered (sym e ∙ ap (λ (m : Mapped). m.told) (sym (too_long file l)))))
   | no l ↦ few (length file) (omega arith)

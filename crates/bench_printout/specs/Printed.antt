@@ -1,5 +1,5 @@
 -- What the bench prints of a frame file, byte for byte. Definitions only.
-use Rattle.std.specs.Prelude.{List, [], ◌∷◌, ◌++◌, ℕ, ◌+◌, ◌*◌, min, Float}
+use Rattle.std.specs.Prelude.{List, [], ◌∷◌, ◌++◌, ℕ, ◌+◌, ◌*◌, min, Float, Result, Ok, Err}
 use Rattle.laws.specs.Area.{at}
 use Rattle.laws.specs.Joined.{joined}
 use Rattle.text.specs.Text.{space, line_end, decimal_of}
@@ -8,9 +8,9 @@ use Rattle.run_budget.specs.declared.Answer.{Answer}
 use Rattle.run_budget.specs.declared.Answer.TheVariants.{Running, Stopped, Finished, Full, Wild, Bad}
 use Rattle.descent.specs.Descent.{work_number}
 use Rattle.bench_lines.specs.BenchLines.{label_text, position_text, refusal_text, record_text}
-use Rattle.bench_mapping.specs.declared.Told.{Told}
-use Rattle.bench_mapping.specs.declared.Told.TheVariants.{Long, Record, Refused, Worked as Answered}
-use Rattle.bench_mapping.specs.Mapping.{bench_frames, map_of, map_number}
+use Rattle.bench_mapping.specs.declared.MapFault.{MapFault}
+use Rattle.bench_mapping.specs.declared.MapFault.TheVariants.{Long, Record, Refused}
+use Rattle.bench_mapping.specs.Mapping.{bench_frames, map_of, map_fault_number}
 
 -- ---- words, by their ASCII codes
 
@@ -48,11 +48,14 @@ answer_text (Full k) file p = refusal_text (work_number (Full k))
 answer_text (Wild k) file p = refusal_text (work_number (Wild k))
 answer_text (Bad f) file p = refusal_text (work_number (Bad f))
 
-unfoldable pub told_text : Told → List ℕ → List Float → List ℕ
-told_text Long file p = refusal_text (map_number Long)
-told_text (Record q) file p = record_text (map_number (Record q)) q
-told_text (Refused k) file p = refusal_text (map_number (Refused k))
-told_text (Answered a) file p = answer_text a file p
+unfoldable pub fault_text : MapFault → List ℕ
+fault_text Long = refusal_text (map_fault_number Long)
+fault_text (Record q) = record_text (map_fault_number (Record q)) q
+fault_text (Refused k) = refusal_text (map_fault_number (Refused k))
+
+unfoldable pub told_text : Result Answer MapFault → List ℕ → List Float → List ℕ
+told_text (Err e) file p = fault_text e
+told_text (Ok a) file p = answer_text a file p
 
 unfoldable pub printed : List ℕ → List ℕ
 printed file = told_text (map_of file).told file (map_of file).positions

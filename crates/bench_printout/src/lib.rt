@@ -8,11 +8,11 @@ ghost use Rattle.laws.specs.Joined.{joined, written};
 ghost use Rattle.text.specs.Text.{Puts};
 ghost use Rattle.frames.specs.Frames.{frame_of};
 ghost use Rattle.descent.specs.Descent.{work_number};
-ghost use Rattle.bench_mapping.specs.Mapping.{bench_frames, map_number};
-ghost use Rattle.bench_printout.specs.Printed.{frame_text, frames_shown, map_text, answer_text, told_text, printed};
+ghost use Rattle.bench_mapping.specs.Mapping.{bench_frames};
+ghost use Rattle.bench_printout.specs.Printed.{frame_text, frames_shown, map_text, answer_text, fault_text, told_text, printed};
 
 use bench_lines::{put_label, put_position, put_record, put_refusal};
-use bench_mapping::{BENCH_FRAMES, Told, map_file};
+use bench_mapping::{BENCH_FRAMES, MapFault, map_file};
 use descent::Answer;
 use frames::{RECORD_BYTES, frame_at};
 use text::{put, put_decimal};
@@ -70,16 +70,30 @@ fn put_answer(out: &mut [u8], a: Answer, file: &[u8], positions: [f64; 128]) -> 
     }
 }
 
-fn put_told(out: &mut [u8], t: Told, file: &[u8], positions: [f64; 128]) -> usize
+fn put_fault(out: &mut [u8], e: MapFault) -> usize
+    requires { 6400 ≤ length out.old }
+    ensures { Puts (fault_text e) 0 out.old result out.new }
+{
+    let k = bench_mapping::number(Err(e));
+    match e {
+        MapFault::Long => put_refusal(out, k),
+        MapFault::Record(p) => put_record(out, k, p),
+        MapFault::Refused(_) => put_refusal(out, k),
+    }
+}
+
+fn put_told(
+    out: &mut [u8],
+    t: Result<Answer, MapFault>,
+    file: &[u8],
+    positions: [f64; 128],
+) -> usize
     requires { 6400 ≤ length out.old }
     ensures { Puts (told_text t file.now positions) 0 out.old result out.new }
 {
-    let k = bench_mapping::number(t);
     match t {
-        Told::Long => put_refusal(out, k),
-        Told::Record(p) => put_record(out, k, p),
-        Told::Refused(_) => put_refusal(out, k),
-        Told::Worked(a) => put_answer(out, a, file, positions),
+        Err(e) => put_fault(out, e),
+        Ok(a) => put_answer(out, a, file, positions),
     }
 }
 

@@ -34,8 +34,7 @@ use Rattle.descent.specs.Honest.{Honest, Roomy}
 use Rattle.descent.specs.Longer.{Holds, lent_arena}
 use Rattle.descent.proofs.Theorems.{demand-three, after-each, stays-honest, ends-in-time, never-14, Refused, refusal}
 use Rattle.descent.proofs.Lent.{goes-on-lent}
-use Rattle.prepare.specs.declared.Prepared.{Prepared}
-use Rattle.prepare.specs.declared.Prepared.TheVariants.{Ready}
+use Rattle.std.specs.Prelude.{Result, Ok}
 use Rattle.prepare.specs.Prepare.{Lent, lengths_of, prepare_fault, prepared, memory_of, prepare_number}
 use Rattle.prepare.proofs.Begins.{preparation-honest}
 use Rattle.record_words.specs.RecordWords.{settings_fine, settings_of, run_fine, run_of, progress_put, run_put}
@@ -295,7 +294,7 @@ module _ (s : List ℕ) (table start : List Float) (cs : List Cell) (l : Lent) (
     abbrev fresh : Run
     fresh = fresh_run (settings_of s)
 
-    answer-is : (prepared (settings_of s) table start (length cs) l).answer ≡ Ready fresh
+    answer-is : (prepared (settings_of s) table start (length cs) l).answer ≡ Ok fresh
     unfolding prepared
     answer-is = rw (eq-eqb fault 0 (told-passed ready).none)
 
@@ -304,7 +303,7 @@ module _ (s : List ℕ) (table start : List Float) (cs : List Cell) (l : Lent) (
     prepared-is = rw ((told-passed ready).fine, le-ltb (length w) 14 (told-passed ready).long)
 
     run_is : answered.run ≡ run_put fresh w
-    run_is = ap (λ (x : HostPrepared). x.run) prepared-is ∙ ap (λ (p : Prepared). recorded p w) answer-is
+    run_is = ap (λ (x : HostPrepared). x.run) prepared-is ∙ ap (λ (p : Result Run ℕ). recorded p w) answer-is
 
     pub begun-readable : Readable host_begun
     begun-readable = record { fine = rw run_is (run-back-fine fresh w (told-passed ready).long); room = room }

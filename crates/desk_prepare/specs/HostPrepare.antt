@@ -1,7 +1,6 @@
 -- What preparation leaves and answers, with settings and record as plain words. Definitions only.
-use Rattle.std.specs.Prelude.{List, cond, ℕ, ltb, length, Float}
-use Rattle.prepare.specs.declared.Prepared.{Prepared}
-use Rattle.prepare.specs.declared.Prepared.TheVariants.{Refused, Ready}
+use Rattle.std.specs.Prelude.{List, cond, ℕ, ltb, length, Float, Result, Ok, Err}
+use Rattle.run_record.specs.declared.Run.{Run}
 use Rattle.prepare.specs.Prepare.{Lent, lengths_of, prepare_fault, PrepareOutcome, prepared, prepare_number}
 use Rattle.record_words.specs.RecordWords.{settings_fine, settings_of, run_put, short_number}
 
@@ -15,9 +14,9 @@ abbrev pub host_prepared : ℕ → List ℕ → Lent → HostPrepared
 host_prepared k w l = record { number = k; run = w; areas = l }
 
 -- the record's words are written where there is a record
-abbrev pub recorded : Prepared → List ℕ → List ℕ
-recorded (Refused k) w = w
-recorded (Ready r) w = run_put r w
+abbrev pub recorded : Result Run ℕ → List ℕ → List ℕ
+recorded (Err k) w = w
+recorded (Ok r) w = run_put r w
 
 abbrev pub prepared_in : PrepareOutcome → List ℕ → HostPrepared
 prepared_in o w = host_prepared (prepare_number o.answer) (recorded o.answer w) o.areas

@@ -7,7 +7,7 @@ ghost use Rattle.prepare.specs.Prepare.{lent, prepare_fault};
 ghost use Rattle.record_words.specs.RecordWords.{short_number};
 ghost use Rattle.desk_prepare.specs.HostPrepare.{host_prepared, host_prepare};
 
-use prepare::{Lengths, Prepared, prepare, prepare_fault};
+use prepare::{Lengths, prepare, prepare_fault};
 use record_words::{put_run, settings_fine, settings_of};
 use refusal::Numbered;
 use run_record::Settings;
@@ -106,8 +106,8 @@ pub fn host_prepare(
         nodes,
     );
     match p {
-        Prepared::Refused(k) => k as u32,
-        Prepared::Ready(r) => {
+        Err(e) => e.number() as u32,
+        Ok(r) => {
             put_run(record, r);
             0
         }

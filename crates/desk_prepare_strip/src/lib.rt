@@ -13,6 +13,7 @@ use desk_prepare::host_prepare;
 use prepare::Lengths;
 use prepare_strip::strip_bars;
 use record_words::{settings_fine, settings_of};
+use refusal::number;
 
 // Whether 20 refuses: the words are settings, and 20 refuses these.
 fn words_barred(settings: &[u64], table: &[f64], start: &[f64], l: Lengths) -> bool
@@ -24,7 +25,7 @@ fn words_barred(settings: &[u64], table: &[f64], start: &[f64], l: Lengths) -> b
         return false;
     }
     let s = settings_of(settings);
-    strip_bars(s, table, start, l)
+    number(strip_bars(s, table, start, l)) != 0
 }
 
 // Prepares a run along one line. Answers 0, or the number of the refusal; then nothing is changed.

@@ -13,7 +13,7 @@ use Rattle.run_record.specs.declared.Run.{Run}
 use Rattle.run_record.specs.Record.{is_tree}
 use Rattle.run_entry.specs.State.{State}
 use Rattle.descent.specs.Descent.{work, work_number, units_of, works}
-use Rattle.prepare.specs.declared.Prepared.TheVariants.{Ready}
+use Rattle.std.specs.Prelude.{Ok}
 use Rattle.prepare.specs.Prepare.{Lent, prepared}
 use Rattle.mirror_values.specs.Shown.{just_one, ShowsAll}
 use Rattle.mirror.specs.Mirror.{ShowsState, ShowsCalls, TurnedIn, TurnedState, TurnedCalls}
@@ -23,7 +23,7 @@ use Rattle.mirror.proofs.Theorems.{run_begun, mirror_begun, preparation-mirrored
 -- ---- any set of components
 
 module _ (turns : ℕ → Bool) (s : Settings) (table start : List Float) (cs : List Cell) (l : Lent) (exact : is_tree s.method ≡ false) (run : Run)
-    (ready : (prepared s table start (length cs) l).answer ≡ Ready run) where
+    (ready : (prepared s table start (length cs) l).answer ≡ Ok run) where
   -- THEOREM: any set of components. After any calls with the same budgets records, answers and unit counts agree;
   -- positions, increments and gradients have those components turned, all else is equal to the bit
   pub mirrored-runs : (bs : List ℕ) → ShowsCalls turns bs (run_begun turns s table start cs l exact run ready) (mirror_begun turns s table start cs l exact run ready)
@@ -66,7 +66,7 @@ one-mirrored d s t w =
 -- THEOREM: one component. With its sign turned in every starting position, records, answers and unit counts agree after any calls with the same budgets;
 -- every later position, increment and gradient has it turned, and all else is equal
 module _ (d : ℕ) (s : Settings) (table start : List Float) (cs : List Cell) (l : Lent) (exact : is_tree s.method ≡ false) (run : Run)
-    (ready : (prepared s table start (length cs) l).answer ≡ Ready run) where
+    (ready : (prepared s table start (length cs) l).answer ≡ Ok run) where
   pub mirrored-in-one : (bs : List ℕ) → TurnedCalls d bs (run_begun (just_one d) s table start cs l exact run ready) (mirror_begun (just_one d) s table start cs l exact run ready)
   mirrored-in-one bs =
       let x = run_begun (just_one d) s table start cs l exact run ready in

@@ -27,7 +27,7 @@ use Rattle.run_record.specs.Record.{is_tree, fresh_run}
 use Rattle.run_entry.specs.State.{State}
 use Rattle.run_rooms.proofs.Places.{cells-forces}
 use Rattle.prepare.specs.declared.Lengths.{Lengths}
-use Rattle.prepare.specs.declared.Prepared.TheVariants.{Refused, Ready}
+use Rattle.std.specs.Prelude.{Result, Ok, Err}
 use Rattle.prepare.specs.Prepare.{Lent, lengths_of, all_inside, prepare_fault, begun_areas, prepared, memory_of}
 use Rattle.prepare.proofs.Laws.{Passed, passed}
 use Rattle.prepare.proofs.Begins.{begun_state}
@@ -81,9 +81,9 @@ module _ (s : Settings) (table : List Float) (cs : List Cell) (l : Lent) where
   abbrev fault_with : List Float → ℕ
   fault_with x = prepare_fault s table x (lengths_of l (length cs))
 
-  answer-is : (x : List Float) → (prepared s table x (length cs) l).answer ≡ cond (eqb (fault_with x) 0) (Ready (fresh_run s)) (Refused (fault_with x))
+  answer-is : (x : List Float) → (prepared s table x (length cs) l).answer ≡ cond (eqb (fault_with x) 0) (Ok (fresh_run s)) (Err (fault_with x))
   unfolding prepared
-  answer-is x = by_bool ((prepared s table x (length cs) l).answer ≡ cond (eqb (fault_with x) 0) (Ready (fresh_run s)) (Refused (fault_with x))) (eqb (fault_with x) 0) (λ e. rw e) (λ e. rw e)
+  answer-is x = by_bool ((prepared s table x (length cs) l).answer ≡ cond (eqb (fault_with x) 0) (Ok (fresh_run s)) (Err (fault_with x))) (eqb (fault_with x) 0) (λ e. rw e) (λ e. rw e)
 
   areas-ready : (x : List Float) → eqb (fault_with x) 0 ≡ true → (prepared s table x (length cs) l).areas ≡ begun_areas s table x l
   unfolding prepared
@@ -94,10 +94,10 @@ module _ (s : Settings) (table : List Float) (cs : List Cell) (l : Lent) where
   areas-refused x e = rw e
 
   -- what is ready has no fault, and the record of a fresh run
-  ready-fine : (x : List Float) (run : Run) → (prepared s table x (length cs) l).answer ≡ Ready run → (eqb (fault_with x) 0 ≡ true) × (run ≡ fresh_run s)
+  ready-fine : (x : List Float) (run : Run) → (prepared s table x (length cs) l).answer ≡ Ok run → (eqb (fault_with x) 0 ≡ true) × (run ≡ fresh_run s)
   ready-fine x run ready = by_bool ((eqb (fault_with x) 0 ≡ true) × (run ≡ fresh_run s)) (eqb (fault_with x) 0)
-      (λ e. (e, (let q : Ready run ≡ Ready (fresh_run s) = sym ready ∙ answer-is x ∙ rw e in cc)))
-      (λ e. absurd (let q : Ready run ≡ Refused (fault_with x) = sym ready ∙ answer-is x ∙ rw e in let z : ◌≡◌ {A = ℕ} 0 1 = cc in omega arith))
+      (λ e. (e, (let q : ◌≡◌ {A = Result Run ℕ} (Ok run) (Ok (fresh_run s)) = sym ready ∙ answer-is x ∙ rw e in cc)))
+      (λ e. absurd (let q : ◌≡◌ {A = Result Run ℕ} (Ok run) (Err (fault_with x)) = sym ready ∙ answer-is x ∙ rw e in let z : ◌≡◌ {A = ℕ} 0 1 = cc in omega arith))
 
 module _ (turns : ℕ → Bool) (s : Settings) (table start : List Float) (cs : List Cell) (l : Lent) where
   -- the start as the mirror shows it
@@ -112,21 +112,21 @@ module _ (turns : ℕ → Bool) (s : Settings) (table start : List Float) (cs : 
 
   -- THEOREM: preparation answers the same, a record or a refusal
   pub preparations-agree : (prepared s table start (length cs) l).answer ≡ (prepared s table facing (length cs) l).answer
-  preparations-agree = answer-is s table cs l start ∙ ap (λ (k : ℕ). cond (eqb k 0) (Ready (fresh_run s)) (Refused k)) fault-is ∙ sym (answer-is s table cs l facing)
+  preparations-agree = answer-is s table cs l start ∙ ap (λ (k : ℕ). cond (eqb k 0) (Ok (fresh_run s)) (Err k)) fault-is ∙ sym (answer-is s table cs l facing)
 
   -- THEOREM: refused, both leave every area as it was lent
-  pub refusals-agree : (k : ℕ) → (prepared s table start (length cs) l).answer ≡ Refused k → ((prepared s table start (length cs) l).areas ≡ l) × ((prepared s table facing (length cs) l).areas ≡ l)
+  pub refusals-agree : (k : ℕ) → (prepared s table start (length cs) l).answer ≡ Err k → ((prepared s table start (length cs) l).areas ≡ l) × ((prepared s table facing (length cs) l).areas ≡ l)
   refusals-agree k told = by_bool (((prepared s table start (length cs) l).areas ≡ l) × ((prepared s table facing (length cs) l).areas ≡ l)) (eqb fault 0)
-      (λ e. absurd (let q : Refused k ≡ Ready (fresh_run s) = sym told ∙ answer-is s table cs l start ∙ rw e in let z : ◌≡◌ {A = ℕ} 0 1 = cc in omega arith))
+      (λ e. absurd (let q : ◌≡◌ {A = Result Run ℕ} (Err k) (Ok (fresh_run s)) = sym told ∙ answer-is s table cs l start ∙ rw e in let z : ◌≡◌ {A = ℕ} 0 1 = cc in omega arith))
       (λ e. (areas-refused s table cs l start e, areas-refused s table cs l facing (rw (← fault-is) e)))
 
   -- THEOREM: ready, both leave the same preparation rows, of either method
-  pub rows_agree : (run : Run) → (prepared s table start (length cs) l).answer ≡ Ready run →
+  pub rows_agree : (run : Run) → (prepared s table start (length cs) l).answer ≡ Ok run →
       ((prepared s table start (length cs) l).areas.row_values ≡ (prepared s table facing (length cs) l).areas.row_values) ×
       ((prepared s table start (length cs) l).areas.row_indices ≡ (prepared s table facing (length cs) l).areas.row_indices)
   rows_agree run ready = let e = (ready-fine s table cs l start run ready).0 in rw (areas-ready s table cs l start e, areas-ready s table cs l facing (rw (← fault-is) e)) (refl, refl)
 
-  module _ (exact : is_tree s.method ≡ false) (run : Run) (ready : (prepared s table start (length cs) l).answer ≡ Ready run) where
+  module _ (exact : is_tree s.method ≡ false) (run : Run) (ready : (prepared s table start (length cs) l).answer ≡ Ok run) where
     -- the run, and the one from the turned start
     abbrev pub run_begun : State
     run_begun = begun_state s table start cs l run ready

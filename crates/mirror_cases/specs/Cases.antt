@@ -1,5 +1,5 @@
 -- Request 2026-13: Barnes-Hut runs in one component that the mirror does not show, a point lying on a centre line, where a tie goes low. Definitions only.
-use Rattle.std.specs.Prelude.{◌≡◌, List, [], ◌∷◌, false, ℕ, replicate, Float}
+use Rattle.std.specs.Prelude.{◌≡◌, List, [], ◌∷◌, false, ℕ, replicate, Float, Ok}
 use Rattle.std.specs.Float.Ieee.{neg}
 use Rattle.laws.specs.Loops.{loop}
 use Rattle.laws.specs.Area.{at, bits, zero64, one64}
@@ -15,7 +15,6 @@ use Rattle.run_record.specs.Record.{fresh_run}
 use Rattle.run_entry.specs.State.{State, state}
 use Rattle.run_budget.specs.declared.Answer.TheVariants.{Finished}
 use Rattle.run_budget.specs.Budget.{Worked}
-use Rattle.prepare.specs.declared.Prepared.TheVariants.{Ready}
 use Rattle.prepare.specs.Prepare.{Lent, lent, PrepareOutcome, prepared, memory_of}
 use Rattle.descent.specs.Descent.{work}
 use Rattle.mirror_values.specs.Shown.{just_one, turned_start}
@@ -75,7 +74,7 @@ three_forces y = loop (λ i F. forces_of one64 (bits 0x3fe8000000000000) 1 y [] 
 -- of a start and of the start turned
 pub record PairTold : Type 0 where
   -- both are prepared
-  pub ready : ((pair_prepared close_pair).answer ≡ Ready (fresh_run pair_settings)) × ((pair_prepared (line_turned close_pair)).answer ≡ Ready (fresh_run pair_settings))
+  pub ready : ((pair_prepared close_pair).answer ≡ Ok (fresh_run pair_settings)) × ((pair_prepared (line_turned close_pair)).answer ≡ Ok (fresh_run pair_settings))
   -- the call answers that the run has finished, with 6 units, in both
   pub answer : ((pair_worked close_pair).answer ≡ Finished 6) × ((pair_worked (line_turned close_pair)).answer ≡ Finished 6)
   -- the first point lies on the centre line in both

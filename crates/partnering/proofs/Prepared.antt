@@ -30,7 +30,7 @@ use Rattle.run_record.specs.declared.Run.{Run}
 use Rattle.run_record.specs.Record.{is_tree, k_of, sizes_of, fresh_run}
 use Rattle.run_entry.specs.Entry.{TreeAreas}
 use Rattle.prepare.proofs.Begins.{preparation-honest}
-use Rattle.prepare.specs.declared.Prepared.TheVariants.{Refused, Ready}
+use Rattle.std.specs.Prelude.{Result, Ok, Err}
 use Rattle.prepare.specs.Prepare.{Lent, lengths_of, prepare_fault, routed_in, begun_areas, PrepareOutcome, prepare_outcome, prepared}
 use Rattle.prepare.proofs.Laws.{Passed, passed, routed-tree}
 use Rattle.partner.specs.Partner.{is_partner}
@@ -52,7 +52,7 @@ same_word x y a b n e = sym (to_bits-of_bits binary64 x a (no_nan (bits x) n)) �
     no_nan (fin t m d) n = tt
 
 module _ (s : Settings) (table start : List Float) (cs : List Cell) (l : Lent) (run : Run)
-    (ready : (prepared s table start (length cs) l).answer ≡ Ready run) (tree : is_tree s.method ≡ true) where
+    (ready : (prepared s table start (length cs) l).answer ≡ Ok run) (tree : is_tree s.method ≡ true) where
   -- the areas as preparation leaves them
   abbrev A : Lent
   A = (prepared s table start (length cs) l).areas
@@ -80,12 +80,12 @@ module _ (s : Settings) (table start : List Float) (cs : List Cell) (l : Lent) (
   no-fault =
       by_bool (fault ≡ 0) (eqb fault 0)
       (λ e. eqb-true fault 0 e)
-      (λ e. absurd (let q : Refused fault ≡ Ready run = rw e at ready in let z : ◌≡◌ {A = ℕ} 0 1 = cc in omega arith))
+      (λ e. absurd (let q : ◌≡◌ {A = Result Run ℕ} (Err fault) (Ok run) = rw e at ready in let z : ◌≡◌ {A = ℕ} 0 1 = cc in omega arith))
 
   pass : Passed s table start (lengths_of l (length cs))
   pass = passed s table start (lengths_of l (length cs)) no-fault
 
-  outcome-is : prepared s table start (length cs) l ≡ prepare_outcome (Ready (fresh_run s)) (begun_areas s table start l)
+  outcome-is : prepared s table start (length cs) l ≡ prepare_outcome (Ok (fresh_run s)) (begun_areas s table start l)
   unfolding prepared
   outcome-is = rw (eq-eqb fault 0 no-fault)
 
@@ -93,7 +93,7 @@ module _ (s : Settings) (table start : List Float) (cs : List Cell) (l : Lent) (
   areas-are = ap (λ (o : PrepareOutcome). o.areas) outcome-is
 
   run_is : run ≡ fresh_run s
-  run_is = let q : Ready (fresh_run s) ≡ Ready run = ap (λ (o : PrepareOutcome). o.answer) (sym outcome-is) ∙ ready in cc
+  run_is = let q : ◌≡◌ {A = Result Run ℕ} (Ok (fresh_run s)) (Ok run) = ap (λ (o : PrepareOutcome). o.answer) (sym outcome-is) ∙ ready in cc
 
   routed-is : routed_in s table l ≡ made
   routed-is = sym (routed-tree s table before tree)

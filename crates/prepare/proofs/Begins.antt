@@ -41,7 +41,7 @@ use Rattle.descent.specs.Longer.{Holds, lent_arena}
 use Rattle.descent.proofs.Theorems.{OneCall, demand-three, SoMany, after-each, stays-honest, ends-in-time, never-14, Refused as RefusedCall, refusal}
 use Rattle.descent.proofs.Longer.{GoesOn}
 use Rattle.descent.proofs.Lent.{goes-on-lent}
-use Rattle.prepare.specs.declared.Prepared.TheVariants.{Refused, Ready}
+use Rattle.std.specs.Prelude.{Result, Ok, Err}
 use Rattle.prepare.specs.Prepare.{Lent, lengths_of, prepare_fault, routed_in, begun_areas, prepared, memory_of}
 use Rattle.prepare.proofs.Laws.{Passed, passed, twice, routed-tree, routed-exact}
 
@@ -190,7 +190,7 @@ module _ (s : Settings) (table start : List Float) (cs : List Cell) (l : Lent) w
 
 -- ---- THEOREM 1, where a run begins: preparation that is not refused leaves an honest state
 
-module _ (s : Settings) (table start : List Float) (cs : List Cell) (l : Lent) (run : Run) (ready : (prepared s table start (length cs) l).answer ≡ Ready run) where
+module _ (s : Settings) (table start : List Float) (cs : List Cell) (l : Lent) (run : Run) (ready : (prepared s table start (length cs) l).answer ≡ Ok run) where
   -- record and areas as preparation leaves them
   abbrev pub begun_state : State
   begun_state = state run (memory_of (prepared s table start (length cs) l).areas cs)
@@ -200,12 +200,12 @@ module _ (s : Settings) (table start : List Float) (cs : List Cell) (l : Lent) (
   preparation-honest =
       let fault = prepare_fault s table start (lengths_of l (length cs)) in
       by_bool (Honest begun_state) (eqb fault 0)
-      (λ e. let q : Ready (fresh_run s) ≡ Ready run = rw e at ready in
+      (λ e. let q : ◌≡◌ {A = Result Run ℕ} (Ok (fresh_run s)) (Ok run) = rw e at ready in
       let same : run ≡ fresh_run s = cc in
       rw (e, same) (honest-begin s table start cs l
       (subst (λ (x : ℕ). Passed s table start (lengths_of l x)) (sym (nodes-length cs))
       (passed s table start (lengths_of l (length cs)) (eqb-true fault 0 e)))))
-      (λ e. absurd (let q : Refused fault ≡ Ready run = rw e at ready in let z : ◌≡◌ {A = ℕ} 0 1 = cc in omega arith))
+      (λ e. absurd (let q : ◌≡◌ {A = Result Run ℕ} (Err fault) (Ok run) = rw e at ready in let z : ◌≡◌ {A = ℕ} 0 1 = cc in omega arith))
 
   -- THEOREM 2 from there on: calls one after the other, the last of at least 1, leave everything where one call with the sum leaves it
   pub demand-three-begun : (bs : List ℕ) (b : ℕ) → 1 ≤ b → OneCall bs b begun_state

@@ -27,7 +27,7 @@ use Rattle.run_entry.specs.Entry.{areas_fit, GoodAreas}
 use Rattle.run_entry.proofs.Laws.{areas-fine}
 use Rattle.run_rooms.proofs.Places.{cells-forces}
 use Rattle.prepare.specs.declared.Lengths.{Lengths}
-use Rattle.prepare.specs.declared.Prepared.TheVariants.{Refused, Ready}
+use Rattle.std.specs.Prelude.{Ok, Err}
 use Rattle.prepare.specs.Prepare.{Lent, lent, lengths_of, all_inside, lengths_fit, prepare_fault, routed, routed_in, prepare_outcome, prepared}
 use Rattle.run_record.specs.declared.Run.{Run}
 use Rattle.prepare.specs.Room.{RouteRoom}
@@ -128,14 +128,14 @@ squares-gone t n f m z F h = ap (λ (l : List Float). replicate m z ++ l) (drop-
 -- ---- the answer
 
 module _ (s : Settings) (table start : List Float) (nodes : ℕ) (l : Lent) {k : ℕ} (q : k ≡ prepare_fault s table start (lengths_of l nodes)) where
-  pub refused-outcome : (k ≡ 0 → ⊥) → prepare_outcome (Refused k) l ≡ prepared s table start nodes l
+  pub refused-outcome : (k ≡ 0 → ⊥) → prepare_outcome (Err k) l ≡ prepared s table start nodes l
   unfolding prepared
   refused-outcome n = rw (ne_eqb (prepare_fault s table start (lengths_of l nodes)) 0 (λ e. n (q ∙ e)), q)
 
   pub ready-is : {r : Run} {p i g a F F₁ v : List Float} {x o w : List ℕ} → k ≡ 0 → r ≡ fresh_run s → areas a x o v w ≡ routed_in s table l
       → p ≡ pasted start 0 (s.n * s.c) l.positions → i ≡ filled zero64 (s.n * s.c) l.increments → g ≡ filled one64 (s.n * s.c) l.gains
       → F₁ ≡ squares_of table s.n s.f l.forces → F ≡ filled zero64 (s.n * (2 * s.c + 1)) F₁
-      → prepare_outcome (Ready r) (lent p i g a x o F v w) ≡ prepared s table start nodes l
+      → prepare_outcome (Ok r) (lent p i g a x o F v w) ≡ prepared s table start nodes l
   unfolding prepared
   ready-is {r} {p} {i} {g} {a} {F} {F₁} {v} {x} {o} {w} e er ea ep ei eg ef e_f =
       let R = routed_in s table l in

@@ -1,5 +1,5 @@
 -- Preparation: the tests 1 to 12 in their order, the areas as a run begins, and its record. Definitions only.
-use Rattle.std.specs.Prelude.{List, Bool, cond, not, ◌&&◌, ℕ, ◌+◌, ◌*◌, eqb, leb, length, Float}
+use Rattle.std.specs.Prelude.{List, Bool, cond, not, ◌&&◌, ℕ, ◌+◌, ◌*◌, eqb, leb, length, Float, Result, Ok, Err}
 use Rattle.laws.specs.Loops.{every}
 use Rattle.laws.specs.Area.{at, zero64, one64}
 use Rattle.laws.specs.Joined.{pasted}
@@ -9,12 +9,11 @@ use Rattle.affinity_lists.specs.Lists.{Areas, areas}
 use Rattle.affinity.specs.Exact.{exact_of}
 use Rattle.affinity.specs.Neighbours.{neighbours_listed}
 use Rattle.run_record.specs.declared.Settings.{Settings}
+use Rattle.run_record.specs.declared.Run.{Run}
 use Rattle.run_record.specs.Record.{is_tree, early_fault, late_fault, fresh_run}
 use Rattle.tree_node.specs.declared.Cell.{Cell}
 use Rattle.run_entry.specs.State.{Memory, memory}
 use Rattle.run_entry.specs.Entry.{areas_fit}
-use Rattle.prepare.specs.declared.Prepared.{Prepared}
-use Rattle.prepare.specs.declared.Prepared.TheVariants.{Refused, Ready}
 use Rattle.prepare.specs.declared.Lengths.{Lengths}
 
 -- ---- the areas that are lent
@@ -100,24 +99,24 @@ begun_areas s table start l =
 -- ---- preparation
 
 pub record PrepareOutcome : Type 0 where
-  pub answer : Prepared
+  pub answer : Result Run ℕ
   pub areas : Lent
 
-abbrev pub prepare_outcome : Prepared → Lent → PrepareOutcome
+abbrev pub prepare_outcome : Result Run ℕ → Lent → PrepareOutcome
 prepare_outcome a l = record { answer = a; areas = l }
 
 -- refused, nothing is changed and there is no record
 unfoldable pub prepared : Settings → List Float → List Float → ℕ → Lent → PrepareOutcome
 prepared s table start nodes l =
     cond (eqb (prepare_fault s table start (lengths_of l nodes)) 0)
-    (prepare_outcome (Ready (fresh_run s)) (begun_areas s table start l))
-    (prepare_outcome (Refused (prepare_fault s table start (lengths_of l nodes))) l)
+    (prepare_outcome (Ok (fresh_run s)) (begun_areas s table start l))
+    (prepare_outcome (Err (prepare_fault s table start (lengths_of l nodes))) l)
 
 -- the lent areas and the arena, as the work call has them
 abbrev pub memory_of : Lent → List Cell → Memory
 memory_of l cs = memory l.positions l.increments l.gains l.affinities l.indices l.offsets l.forces cs
 
 -- the scope paper's number of an answer; 0 where it is no refusal
-unfoldable pub prepare_number : Prepared → ℕ
-prepare_number (Refused k) = k
-prepare_number (Ready r) = 0
+unfoldable pub prepare_number : Result Run ℕ → ℕ
+prepare_number (Err k) = k
+prepare_number (Ok r) = 0

@@ -9,27 +9,18 @@ ghost use Rattle.areas.specs.Filled.{filled};
 ghost use Rattle.affinity_lists.specs.Lists.{areas};
 ghost use Rattle.affinity_distances.specs.Distances.{squares_of};
 ghost use Rattle.affinity.specs.Exact.{exact_of};
-ghost use Rattle.refusal.specs.Refusal.{refusal_number, number_told};
+ghost use Rattle.refusal.specs.Refusal.{refusal_number, number_told, numbered};
 ghost use Rattle.run_record.specs.Record.{GoodSettings};
 ghost use Rattle.prepare.specs.Room.{RouteRoom};
 ghost use Rattle.prepare.specs.Prepare.{all_inside, lengths_fit, prepare_fault, routed, lent, prepare_outcome, prepared};
 
 use areas::{copy_front, fill};
 use elementary::in_domain;
-use refusal::{Numbered, Refusal};
+use refusal::Refusal;
 use run_entry::areas_fit;
 use run_record::faults::{early_fault, is_tree, late_fault, sizes_of, times};
 use run_record::progress::fresh_run;
 use run_record::{Run, Settings, Sizes};
-
-// What preparation answers.
-#[derive(Clone, Copy)]
-pub enum Prepared {
-    // with the number of the first test that failed
-    Refused(u8),
-    // with the record of the run
-    Ready(Run),
-}
 
 // The lengths of the areas that are lent, and the nodes of the arena.
 #[derive(Clone, Copy)]
@@ -176,7 +167,8 @@ fn route(
     fill(row_indices, s.n, 0);
 }
 
-// Prepares a run: takes any settings and any areas. Of the arena it asks only how many nodes it has.
+// Prepares a run: takes any settings and any areas, and answers its record or the first test that fails. Of the arena it asks
+// only how many nodes it has.
 pub fn prepare(
     s: Settings,
     table: &[f64],
@@ -191,8 +183,8 @@ pub fn prepare(
     row_values: &mut [f64],
     row_indices: &mut [u32],
     nodes: usize,
-) -> Prepared
-    ensures { prepare_outcome result (lent
+) -> Result<Run, Refusal>
+    ensures { prepare_outcome (numbered refusal_number result) (lent
         positions.new
         increments.new
         gains.new
@@ -232,9 +224,7 @@ pub fn prepare(
         values: row_values.len(),
         places: row_indices.len(),
     };
-    if let Err(e) = prepare_fault(s, table, start, l) {
-        return Prepared::Refused(e.number());
-    }
+    prepare_fault(s, table, start, l)?;
     let z = sizes_of(s);
     route(
         s,
@@ -247,6 +237,5 @@ pub fn prepare(
         row_indices,
     );
     set_out(z, start, positions, increments, gains, forces);
-    let r = fresh_run(s);
-    Prepared::Ready(r)
+    Ok(fresh_run(s))
 }

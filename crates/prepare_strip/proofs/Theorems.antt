@@ -16,7 +16,7 @@ use Rattle.run_record.specs.declared.Run.{Run}
 use Rattle.run_record.specs.Record.{is_tree, positive, angle_fine, angle_fault, early_fault, late_fault, fresh_run}
 use Rattle.strip_profile.specs.Profile.{in_profile}
 use Rattle.prepare.specs.declared.Lengths.{Lengths}
-use Rattle.prepare.specs.declared.Prepared.TheVariants.{Refused, Ready}
+use Rattle.std.specs.Prelude.{Result, Ok, Err}
 use Rattle.prepare.specs.Prepare.{Lent, lengths_of, all_inside, lengths_fit, prepare_fault, PrepareOutcome, prepared, prepare_number}
 use Rattle.prepare_strip.specs.PrepareStrip.{strip_bars, strip_fault, prepared_strip}
 use Rattle.prepare_strip.proofs.Laws.{bars-no-strip, bars-no-refused, bars-passed, bars-twelve, barred-outcome, passed_on}
@@ -115,14 +115,14 @@ module _ (s : Settings) (table start : List Float) (nodes : ℕ) (l : Lent) wher
       (λ e. rw (sym (barred-outcome s table start nodes l e)) (sym (barred-number s table start (lengths_of l nodes) e)))
       (λ e. rw (sym (passed_on s table start nodes l e)) (prepared-number ∙ sym (passed-number s table start (lengths_of l nodes) e)))
 
-  ready-fresh : (r : Run) → (prepared s table start nodes l).answer ≡ Ready r → (told_fault ≡ 0) × (r ≡ fresh_run s)
+  ready-fresh : (r : Run) → (prepared s table start nodes l).answer ≡ Ok r → (told_fault ≡ 0) × (r ≡ fresh_run s)
   unfolding prepared
   ready-fresh r ready =
       by_bool ((told_fault ≡ 0) × (r ≡ fresh_run s)) (eqb told_fault 0)
-      (λ e. let q : Ready (fresh_run s) ≡ Ready r = rw e at ready in
+      (λ e. let q : ◌≡◌ {A = Result Run ℕ} (Ok (fresh_run s)) (Ok r) = rw e at ready in
       let same : r ≡ fresh_run s = cc in
       (eqb-true told_fault 0 e, same))
-      (λ e. absurd (let q : Refused told_fault ≡ Ready r = rw e at ready in let z : ◌≡◌ {A = ℕ} 0 1 = cc in omega arith))
+      (λ e. absurd (let q : ◌≡◌ {A = Result Run ℕ} (Err told_fault) (Ok r) = rw e at ready in let z : ◌≡◌ {A = ℕ} 0 1 = cc in omega arith))
 
   passed-profile : told_fault ≡ 0 → strip_bars s told_fault ≡ false → in_profile s ≡ true
   passed-profile z b = by_bool (in_profile s ≡ true) (in_profile s) (λ e. e) (λ e. absurd (true≢false (sym (bars-passed s told_fault e z) ∙ b)))
@@ -132,11 +132,12 @@ module _ (s : Settings) (table start : List Float) (nodes : ℕ) (l : Lent) wher
   fresh-profile r e p = rw e p
 
   -- a strip that is prepared is in the profile, its record is a fresh one, and everything is left as preparation leaves it: so all that is proved of a prepared run (prepare, Begins) is so of it
-  pub a-prepared-strip : (r : Run) → (prepared_strip s table start nodes l).answer ≡ Ready r → (in_profile r.settings ≡ true) × (r ≡ fresh_run s) ×
+  pub a-prepared-strip : (r : Run) → (prepared_strip s table start nodes l).answer ≡ Ok r → (in_profile r.settings ≡ true) × (r ≡ fresh_run s) ×
       (prepared_strip s table start nodes l ≡ prepared s table start nodes l)
   a-prepared-strip r ready =
       by_bool ((in_profile r.settings ≡ true) × (r ≡ fresh_run s) × (prepared_strip s table start nodes l ≡ prepared s table start nodes l)) (strip_bars s told_fault)
-      (λ b. absurd (let q : Refused 20 ≡ Ready r = ap (λ (o : PrepareOutcome). o.answer) (barred-outcome s table start nodes l b) ∙ ready in let z : ◌≡◌ {A = ℕ} 0 1 = cc in omega arith))
+      (λ b. absurd (let q : ◌≡◌ {A = Result Run ℕ} (Err 20) (Ok r) = ap (λ (o : PrepareOutcome). o.answer) (barred-outcome s table start nodes l b) ∙ ready in
+      let z : ◌≡◌ {A = ℕ} 0 1 = cc in omega arith))
       (λ b. let same : prepared s table start nodes l ≡ prepared_strip s table start nodes l = passed_on s table start nodes l b in
       let f = ready-fresh r (ap (λ (o : PrepareOutcome). o.answer) same ∙ ready) in
       (fresh-profile r f.1 (passed-profile f.0 b), f.1, sym same))

@@ -1,8 +1,7 @@
 -- Preparation of a strip: as preparation, and by 20 the settings must be in the profile. Definitions only.
-use Rattle.std.specs.Prelude.{List, Bool, cond, not, ◌&&◌, ◌||◌, ℕ, eqb, Float}
+use Rattle.std.specs.Prelude.{List, Bool, cond, not, ◌&&◌, ◌||◌, ℕ, eqb, Float, Err}
 use Rattle.run_record.specs.declared.Settings.{Settings}
 use Rattle.strip_profile.specs.Profile.{in_profile}
-use Rattle.prepare.specs.declared.Prepared.TheVariants.{Refused}
 use Rattle.prepare.specs.declared.Lengths.{Lengths}
 use Rattle.prepare.specs.Prepare.{Lent, lengths_of, prepare_fault, PrepareOutcome, prepare_outcome, prepared}
 
@@ -16,4 +15,4 @@ strip_fault s table start l = let k = prepare_fault s table start l in cond (str
 
 -- refused by 20, nothing is changed; else it is preparation
 unfoldable pub prepared_strip : Settings → List Float → List Float → ℕ → Lent → PrepareOutcome
-prepared_strip s table start nodes l = cond (strip_bars s (prepare_fault s table start (lengths_of l nodes))) (prepare_outcome (Refused 20) l) (prepared s table start nodes l)
+prepared_strip s table start nodes l = cond (strip_bars s (prepare_fault s table start (lengths_of l nodes))) (prepare_outcome (Err 20) l) (prepared s table start nodes l)

@@ -2,27 +2,32 @@
 
 #![tactic(auto)]
 
-ghost use Rattle.std.specs.Prelude.{◌≡◌};
+ghost use Rattle.std.specs.Prelude.{◌≡◌, cond};
+ghost use Rattle.refusal.specs.Refusal.{refusal_number, number_told, numbered};
 ghost use Rattle.prepare.specs.Prepare.{prepare_fault, lent, prepare_outcome};
 ghost use Rattle.prepare_strip.specs.PrepareStrip.{strip_bars, prepared_strip};
 
-use prepare::{Lengths, Prepared, prepare, prepare_fault};
-use refusal::number;
-use run_record::Settings;
+use prepare::{Lengths, prepare, prepare_fault};
+use refusal::{Refusal, number};
+use run_record::{Run, Settings};
 use strip_profile::in_profile;
 
 // Whether 20 refuses: no test from 1 to 11 fails, and the settings are outside the profile.
-pub fn strip_bars(s: Settings, table: &[f64], start: &[f64], l: Lengths) -> bool
-    ensures { result ≡ strip_bars s (prepare_fault s table.now start.now l) }
+pub fn strip_bars(s: Settings, table: &[f64], start: &[f64], l: Lengths) -> Result<(), Refusal>
+    ensures { number_told refusal_number result ≡ cond (strip_bars s (prepare_fault s table.now start.now l)) 20 0 }
 {
     if in_profile(s) {
-        return false;
+        return Ok(());
     }
     let k = number(prepare_fault(s, table, start, l));
     if k == 0 {
-        return true;
+        return Err(Refusal::Profile);
     }
-    k == 12
+    let short = k == 12;
+    if short {
+        return Err(Refusal::Profile);
+    }
+    Ok(())
 }
 
 // Prepares a run along one line: takes any settings and any areas.
@@ -40,8 +45,8 @@ pub fn prepare_strip(
     row_values: &mut [f64],
     row_indices: &mut [u32],
     nodes: usize,
-) -> Prepared
-    ensures { prepare_outcome result (lent
+) -> Result<Run, Refusal>
+    ensures { prepare_outcome (numbered refusal_number result) (lent
         positions.new
         increments.new
         gains.new
@@ -81,9 +86,7 @@ pub fn prepare_strip(
         values: row_values.len(),
         places: row_indices.len(),
     };
-    if strip_bars(s, table, start, l) {
-        return Prepared::Refused(20);
-    }
+    strip_bars(s, table, start, l)?;
     prepare(
         s,
         table,

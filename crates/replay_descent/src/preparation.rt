@@ -4,7 +4,7 @@ ghost use Rattle.std.specs.Prelude.{◌≤◌, length};
 use crate::fields::settings_at;
 use crate::lengths::{length_at, lent_at};
 use crate::run_areas::{Areas, marked, same, same_areas, same_words};
-use prepare::Prepared;
+use refusal::{Refusal, number};
 use replay::areas::{floats_at, mark, mark_words, plus};
 use replay::word_at;
 use run_record::{Run, Settings, Standing};
@@ -57,7 +57,7 @@ fn same_rows(s: Rows, list: &[u8], i: usize, j: usize) -> bool {
 // What a preparation gives: its outcome, the areas and the rows.
 #[derive(Clone, Copy)]
 struct Ready {
-    outcome: Prepared,
+    outcome: Result<Run, Refusal>,
     areas: Areas,
     rows: Rows,
 }
@@ -142,17 +142,10 @@ fn no_run(s: Settings) -> Run {
     }
 }
 
-fn run_of(p: Prepared, s: Settings) -> Run {
+fn run_of(p: Result<Run, Refusal>, s: Settings) -> Run {
     match p {
-        Prepared::Refused(_) => no_run(s),
-        Prepared::Ready(r) => r,
-    }
-}
-
-fn refusal(p: Prepared) -> u64 {
-    match p {
-        Prepared::Refused(k) => k as u64,
-        Prepared::Ready(_) => 0,
+        Err(_) => no_run(s),
+        Ok(r) => r,
     }
 }
 
@@ -187,7 +180,7 @@ pub(crate) fn begin(list: &[u8], a: usize) -> Begun
     let outcome = p.outcome;
     let areas = p.areas;
     let rows = p.rows;
-    let k = refusal(outcome);
+    let k = number(outcome) as u64;
     let b = answer_place(list, a);
     let i = plus(a, 10);
     let j = plus(b, 1);

@@ -26,7 +26,7 @@ use Rattle.descent.specs.Descent.{work, works, told_all}
 use Rattle.descent.specs.Honest.{points_in, Honest}
 use Rattle.descent.proofs.Theorems.{call-keeps, stays-honest, after-each}
 use Rattle.descent.proofs.Framed.{work-frames}
-use Rattle.prepare.specs.declared.Prepared.TheVariants.{Ready, Refused}
+use Rattle.std.specs.Prelude.{Result, Ok, Err}
 use Rattle.prepare.specs.Prepare.{Lent, lengths_of, prepare_fault, prepared}
 use Rattle.prepare.proofs.Begins.{begun_state, preparation-honest}
 use Rattle.tree_worth.specs.Worth.{leaves_add, leaves_in, NoAngle}
@@ -102,7 +102,7 @@ module _ (s : State) (h : Honest s) (tree : is_tree s.run.settings.method ≡ tr
 
 -- ---- from preparation on: the answers tell all units
 
-module _ (s : Settings) (table start : List Float) (cs : List Cell) (l : Lent) (run : Run) (ready : (prepared s table start (length cs) l).answer ≡ Ready run) where
+module _ (s : Settings) (table start : List Float) (cs : List Cell) (l : Lent) (run : Run) (ready : (prepared s table start (length cs) l).answer ≡ Ok run) where
   abbrev begun : State
   begun = begun_state s table start cs l run ready
 
@@ -111,8 +111,8 @@ module _ (s : Settings) (table start : List Float) (cs : List Cell) (l : Lent) (
   fresh-is =
       let fault = prepare_fault s table start (lengths_of l (length cs)) in
       by_bool (run ≡ fresh_run s) (eqb fault 0)
-      (λ e. let q : Ready (fresh_run s) ≡ Ready run = rw e at ready in cc)
-      (λ e. absurd (let q : Refused fault ≡ Ready run = rw e at ready in let z : ◌≡◌ {A = ℕ} 0 1 = cc in omega arith))
+      (λ e. let q : ◌≡◌ {A = Result Run ℕ} (Ok (fresh_run s)) (Ok run) = rw e at ready in cc)
+      (λ e. absurd (let q : ◌≡◌ {A = Result Run ℕ} (Err fault) (Ok run) = rw e at ready in let z : ◌≡◌ {A = ℕ} 0 1 = cc in omega arith))
 
   fresh-settings : run.settings ≡ s
   unfolding fresh_run

@@ -2,10 +2,10 @@
 use Rattle.bench_mapping.proofs.Laws.{refused-map, worked-is}
 use Rattle.bench_mapping.proofs.descend.Goals as goal
 
-pub returns-in-Refused : goal.returns-in-Refused
-returns-in-Refused c =
-    refused-map _ _ _ _ _ c.prepare-p.ensures _ c.in-Refused.is
+pub returns-in-Err : goal.returns-in-Err
+returns-in-Err c =
+    refused-map _ _ _ _ _ c.prepare-p.ensures _ c.in-Err.is
 
-pub returns-in-Ready : goal.returns-in-Ready
-returns-in-Ready c =
-    worked-is _ _ _ _ _ c.prepare-p.ensures _ _ _ _ c.in-Ready.is c.zero_cells-cells.ensures c.work_on-answer.ensures
+pub returns-in-Ok : goal.returns-in-Ok
+returns-in-Ok c =
+    worked-is _ _ _ _ _ c.prepare-p.ensures _ _ _ _ c.in-Ok.is c.zero_cells-cells.ensures c.work_on-answer.ensures

@@ -2,22 +2,12 @@
 use Rattle.bench_mapping.specs.Mapping.{map_number}
 use Rattle.bench_mapping.proofs.number.Goals as goal
 
-pub returns-in-Long : goal.returns-in-Long
+pub returns-in-Err : goal.returns-in-Err
 unfolding map_number
-returns-in-Long c =
-    rw c.in-Long.is
+returns-in-Err c =
+    rw c.in-Err.is c.number.ensures
 
-pub returns-in-Record : goal.returns-in-Record
+pub returns-in-Ok : goal.returns-in-Ok
 unfolding map_number
-returns-in-Record c =
-    rw c.in-Record.is
-
-pub returns-in-Refused : goal.returns-in-Refused
-unfolding map_number
-returns-in-Refused c =
-    rw c.in-Refused.is
-
-pub returns-in-Worked : goal.returns-in-Worked
-unfolding map_number
-returns-in-Worked c =
-    rw c.in-Worked.is c.number.ensures
+returns-in-Ok c =
+    rw c.in-Ok.is c.number-in-Ok.ensures

@@ -1,5 +1,4 @@
 -- `bench_printout::put_frames` meets its contract: the loop keeps `Lines`; by `lines_start`, `lines_next`, `lines-done`, `puts_then`.
-use Prim.Native.Nat.{◌-◌}
 use Rattle.bench_printout.proofs.Lines.{Lines}
 use Rattle.bench_printout.specs.Printed.{frame_text}
 use Rattle.bench_printout.proofs.put_frames.Given as goal

@@ -2,22 +2,12 @@
 use Rattle.bench_printout.specs.Printed.{told_text}
 use Rattle.bench_printout.proofs.put_told.Goals as goal
 
-pub returns-in-Long : goal.returns-in-Long
+pub returns-in-Err : goal.returns-in-Err
 unfolding told_text
-returns-in-Long c =
-    rw c.in-Long.is (rw (c.number-k.ensures, c.in-Long.is) at c.put_refusal.ensures)
+returns-in-Err c =
+    rw c.in-Err.is c.put_fault.ensures
 
-pub returns-in-Record : goal.returns-in-Record
+pub returns-in-Ok : goal.returns-in-Ok
 unfolding told_text
-returns-in-Record c =
-    rw c.in-Record.is (rw (c.number-k.ensures, c.in-Record.is) at c.put_record.ensures)
-
-pub returns-in-Refused : goal.returns-in-Refused
-unfolding told_text
-returns-in-Refused c =
-    rw c.in-Refused.is (rw (c.number-k.ensures, c.in-Refused.is) at c.put_refusal-in-Refused.ensures)
-
-pub returns-in-Worked : goal.returns-in-Worked
-unfolding told_text
-returns-in-Worked c =
-    rw c.in-Worked.is c.put_answer.ensures
+returns-in-Ok c =
+    rw c.in-Ok.is c.put_answer.ensures

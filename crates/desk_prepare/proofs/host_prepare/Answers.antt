@@ -22,14 +22,14 @@ pub put_run-requires : goal.put_run-requires
 put_run-requires c =
     c.if-record-lt14.false
 
-pub returns-in-Refused : goal.returns-in-Refused
+pub returns-in-Err : goal.returns-in-Err
 unfolding prepare_number
-returns-in-Refused c =
+returns-in-Err c =
     begun-is _ _ _ _ _ _ (sym c.settings_fine.ensures ∙ c.if-not-settings_fine.false) c.if-record-lt14.false c.settings_of-s.ensures c.prepare-p.ensures
-    (rw c.in-Refused.is) (rw c.in-Refused.is)
+    (rw c.in-Err.is c.number.ensures) (rw c.in-Err.is)
 
-pub returns-in-Ready : goal.returns-in-Ready
+pub returns-in-Ok : goal.returns-in-Ok
 unfolding prepare_number
-returns-in-Ready c =
+returns-in-Ok c =
     begun-is _ _ _ _ _ _ (sym c.settings_fine.ensures ∙ c.if-not-settings_fine.false) c.if-record-lt14.false c.settings_of-s.ensures c.prepare-p.ensures
-    (rw c.in-Ready.is) (rw c.in-Ready.is c.put_run.ensures)
+    (rw c.in-Ok.is) (rw c.in-Ok.is c.put_run.ensures)

@@ -1,5 +1,6 @@
--- `desk_prepare_strip::words_barred` meets its contract: by `settings-long`.
+-- `desk_prepare_strip::words_barred` meets its contract: by `settings-long`, `bars-told`.
 use Rattle.record_words.proofs.Laws.{settings-long}
+use Rattle.desk_prepare_strip.proofs.Laws.{bars-told}
 use mathlib.Core.Path.{sym, ◌∙◌}
 use Rattle.desk_prepare_strip.proofs.words_barred.Goals as goal
 
@@ -13,4 +14,4 @@ settings_of-s-requires c =
 
 pub returns : goal.returns
 returns c =
-    rw (sym c.settings_fine.ensures ∙ c.if-not-settings_fine.false, sym c.settings_of-s.ensures) c.strip_bars.ensures
+    rw (sym c.settings_fine.ensures ∙ c.if-not-settings_fine.false, sym c.settings_of-s.ensures) (bars-told _ _ (c.number.ensures ∙ c.strip_bars.ensures))

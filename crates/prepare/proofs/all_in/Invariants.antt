@@ -2,7 +2,7 @@
 use Rattle.elementary.specs.Limits.{in_domain}
 use Rattle.laws.specs.Area.{at}
 use Rattle.laws.specs.Loops.{every}
-use Prim.Native.Nat.{◌-◌, ◌≤◌}
+use Prim.Native.Nat.{◌≤◌}
 use mathlib.Core.Bool.{true}
 use mathlib.Core.Path.{◌≡◌}
 use Rattle.prepare.proofs.all_in.Given as goal
