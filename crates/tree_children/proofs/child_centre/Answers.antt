@@ -1,20 +1,15 @@
--- `tree_children::child_centre` meets its contract: from what its calls promise.
-use Rattle.tree_children.specs.Children.{child_centre}
-use Rattle.laws.specs.Loops.{loop}
-use Rattle.tree_node.proofs.Axes.{third}
+-- `tree_children::child_centre` meets its contract: the laws of its loop.
+use Rattle.laws.proofs.Loops.{loop-start, loop-next, loop-done}
+use Rattle.tree_node.specs.Node.{zeros3}
+use Rattle.tree_children.specs.Children.{move_step, child_centre}
 use Rattle.tree_children.proofs.child_centre.Goals as goal
 
-pub returns-then-c-eq1 : goal.returns-then-c-eq1
-unfolding child_centre loop
-returns-then-c-eq1 c =
-    rw (c.if-c-eq1.true, c.moved-x.ensures)
+pub loop-d-init : goal.loop-d-init
+loop-d-init c = loop-start (move_step c.args.z c.args.h c.args.b) c.args.c zeros3
 
-pub returns-then-c-eq2 : goal.returns-then-c-eq2
-unfolding child_centre loop
-returns-then-c-eq2 c =
-    rw (c.if-c-eq2.true, c.moved-y.ensures, c.moved-x.ensures)
+pub loop-d-preserved : goal.loop-d-preserved
+loop-d-preserved c = rw c.moved.ensures (loop-next c.loop-d.invariant c.loop-d-test.true)
 
 pub returns : goal.returns
-unfolding child_centre loop
-returns c =
-    rw ((third _ c.requires c.if-c-eq1.false c.if-c-eq2.false), c.moved.ensures, c.moved-y.ensures, c.moved-x.ensures)
+unfolding child_centre
+returns c = loop-done c.loop-d.invariant c.loop-d-test.false

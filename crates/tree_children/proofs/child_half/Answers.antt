@@ -1,20 +1,15 @@
--- `tree_children::child_half` meets its contract: each need follows from its own premises.
-use Rattle.tree_children.specs.Children.{child_half}
-use Rattle.laws.specs.Loops.{loop}
-use Rattle.tree_node.proofs.Axes.{third}
+-- `tree_children::child_half` meets its contract: the laws of its loop.
+use Rattle.laws.proofs.Loops.{loop-start, loop-next, loop-done}
+use Rattle.tree_node.specs.Node.{zeros3}
+use Rattle.tree_children.specs.Children.{half_step, child_half}
 use Rattle.tree_children.proofs.child_half.Goals as goal
 
-pub returns-then-c-eq1 : goal.returns-then-c-eq1
-unfolding child_half loop
-returns-then-c-eq1 c =
-    rw c.if-c-eq1.true
+pub loop-d-init : goal.loop-d-init
+loop-d-init c = loop-start (half_step c.args.h) c.args.c zeros3
 
-pub returns-then-c-eq2 : goal.returns-then-c-eq2
-unfolding child_half loop
-returns-then-c-eq2 c =
-    rw c.if-c-eq2.true
+pub loop-d-preserved : goal.loop-d-preserved
+loop-d-preserved c = (loop-next c.loop-d.invariant c.loop-d-test.true)
 
 pub returns : goal.returns
-unfolding child_half loop
-returns c =
-    rw (third _ c.requires c.if-c-eq1.false c.if-c-eq2.false)
+unfolding child_half
+returns c = loop-done c.loop-d.invariant c.loop-d-test.false

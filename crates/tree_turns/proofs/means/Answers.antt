@@ -1,19 +1,13 @@
--- `tree_turns::means` meets its contract: from what its calls promise.
-use Rattle.laws.specs.Loops.{loop}
-use Rattle.tree_node.proofs.Axes.{third}
+-- `tree_turns::means` meets its contract: the laws of its loop.
+use Rattle.laws.proofs.Loops.{loop-start, loop-next, loop-done}
+use Rattle.tree_turns.specs.Turns.{mass_step}
 use Rattle.tree_turns.proofs.means.Goals as goal
 
-pub returns-then-c-eq1 : goal.returns-then-c-eq1
-unfolding loop
-returns-then-c-eq1 c =
-    rw (c.if-c-eq1.true, c.mean.ensures)
+pub loop-d-init : goal.loop-d-init
+loop-d-init c = loop-start (mass_step c.args.cs c.args.p) c.args.c c.args.m
 
-pub returns-then-c-eq2 : goal.returns-then-c-eq2
-unfolding loop
-returns-then-c-eq2 c =
-    rw (c.if-c-eq2.true, c.mean-2.ensures, c.mean.ensures)
+pub loop-d-preserved : goal.loop-d-preserved
+loop-d-preserved c = rw c.mean.ensures (loop-next c.loop-d.invariant c.loop-d-test.true)
 
 pub returns : goal.returns
-unfolding loop
-returns c =
-    rw ((third _ c.requires c.if-c-eq1.false c.if-c-eq2.false), c.mean-3.ensures, c.mean-2.ensures, c.mean.ensures)
+returns c = loop-done c.loop-d.invariant c.loop-d-test.false
