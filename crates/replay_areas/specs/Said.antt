@@ -7,6 +7,7 @@ use Rattle.replay.specs.Replay.{word_of}
 use Rattle.replay.specs.Areas.{onward, wanted_at}
 use Rattle.replay_areas.specs.declared.lengths.Lengths.{Lengths}
 use Rattle.replay_areas.specs.declared.lengths.Places.{Places}
+use Rattle.replay_areas.specs.declared.wanted.Wants.{Wants}
 
 -- byte i from word a of a list on, the lowest byte of a word first
 unfoldable pub list_byte : List ℕ → ℕ → ℕ → ℕ
@@ -71,3 +72,19 @@ abbrev pub empty_cell : Cell
 empty_cell =
     let z = zero64 ∷ zero64 ∷ zero64 ∷ [] in
     record { centre = z; half = z; mass = z; count = 0; first = 0; leaf = 0 }
+
+-- the lengths of nothing
+abbrev pub no_lengths : Lengths
+no_lengths = record { positions = 0; increments = 0; gains = 0; affinities = 0; indices = 0; offsets = 0; forces = 0; nodes = 0 }
+
+-- how many forces the record from word i on has: n · (2c + 1), where n and c are no more than a run's
+abbrev pub zeros_of : List ℕ → ℕ → ℕ
+zeros_of f i = min 4096 (word_of f i) * (2 * min 8 (word_of f (onward i 2)) + 1)
+
+-- what a reading whose answer stands at word i has to leave: the record and the areas of a file that is read, nothing of one that is refused
+abbrev pub wants_of : List ℕ → ℕ → Lengths → Wants
+wants_of f i l =
+    let r = onward i 2 in
+    cond (nat_eq (word_of f i) 0)
+    (record { words = 14; lengths = l; places = places_of l (onward r 14); zeros = zeros_of f r })
+    (record { words = 0; lengths = no_lengths; places = places_of no_lengths r; zeros = 0 })

@@ -1,5 +1,6 @@
 // How long the areas of a case are.
-ghost use Rattle.std.specs.Prelude.{◌≡◌, ◌≤◌};
+ghost use Rattle.std.specs.Prelude.{◌≡◌, ◌≤◌, min};
+ghost use Rattle.replay.specs.Replay.{word_of};
 ghost use Rattle.replay_areas.specs.Said.{places_of};
 
 use replay::areas::plus;
@@ -20,7 +21,8 @@ pub struct Lengths {
 
 // The length that word i tells, but no more than most; a case of more does not end where its words do, and counts as wrong.
 pub fn length_at(list: &[u8], i: usize, most: usize) -> usize
-    ensures { result ≤ most }
+    ensures most_value { result ≡ min most (word_of list.now i) }
+    ensures upper_bound { result ≤ most }
 {
     most.min(word_at(list, i) as usize)
 }

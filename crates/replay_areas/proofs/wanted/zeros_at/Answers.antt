@@ -7,4 +7,4 @@ odd h = omega arith
 
 pub overflow_mul-result-2 : goal.overflow_mul-result-2
 overflow_mul-result-2 c =
-    record { fits = omega (arith, mul-le-mul c.length_at-n.ensures (odd c.length_at-c.ensures)) }
+    record { fits = omega (arith, mul-le-mul c.length_at-n.ensures.upper_bound (odd c.length_at-c.ensures.upper_bound)) }

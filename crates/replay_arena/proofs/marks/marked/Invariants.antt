@@ -1,6 +1,8 @@
--- `marked`: its loop ends, and its places are in the array. Assumes nothing.
-use Rattle.std.proofs.Common.{◌≤◌}
+-- `replay_arena::marks::marked` meets its contract: the cells below i are marked.
+use Rattle.std.specs.Prelude.{replicate}
+use Rattle.laws.proofs.Loops.{Loops}
+use Rattle.replay_arena.specs.Marks.{mark_step, marked_cell}
 use Rattle.replay_arena.proofs.marks.marked.Given as goal
 
 abbrev pub invariant-loop-i : goal.invariant-loop-i
-invariant-loop-i l = l.i ≤ 512
+invariant-loop-i l = Loops mark_step 512 (replicate 512 (marked_cell 0)) l.i l.cells
