@@ -66,7 +66,10 @@ fn put(forces: &mut [f64], a: usize, x: [f64; 3], c: usize)
     requires { (Axes c) × (a + c ≤ length forces.old) }
     ensures { forces.new ≡ loop (put_step x a) c 0 forces.old }
 {
-    for d in 0..c {
+    for d in 0..3 {
+        if d == c {
+            break;
+        }
         forces[a + d] = x[d];
     }
 }

@@ -142,6 +142,7 @@ fn case_in(list: &[u8], a: usize) -> Option<Next> {
 // The case from word a on: n rows of k links with their shares, then the offsets and the links of all lists. More links than the areas hold end the replay.
 fn case_at(list: &[u8], a: usize, n: usize, k: usize) -> Next
     requires { (a ≤ 100000) × (n ≤ 64) × (k < n) }
+    ensures { (a < result.at) × (result.at ≤ 200000) }
 {
     let m = product(n, k);
     let from = a + 2 + 2 * m;

@@ -120,6 +120,7 @@ fn sizes_right(a: usize, c: usize, n: u64, room: usize) -> bool
 // The case from word a on, with c components and n points. A number of nodes that no case has ends the replay.
 fn case_at(list: &[u8], a: usize, c: usize, n: u32) -> Next
     requires { (a ≤ 100000) × (Axes c) × (n ≤ 64) × (n * c ≤ 192) }
+    ensures { (a < result.at) × (result.at ≤ 200000) }
 {
     let coordinates = product(n as usize, c);
     let count = word_at(list, a + 2 + coordinates);

@@ -26,7 +26,10 @@ pub fn child_index(z: [f64; 3], p: [f64; 3], c: usize) -> usize
     ensures { result ≡ child_index c z p }
 {
     let mut k = 0;
-    for d in 0..c {
+    for d in 0..3 {
+        if d == c {
+            break;
+        }
         k += bit(z[d], p[d], d);
     }
     k
@@ -49,7 +52,10 @@ pub fn child_half(h: [f64; 3], c: usize) -> [f64; 3]
     ensures { result ≡ child_half c h }
 {
     let mut t = [0.0; 3];
-    for d in 0..c {
+    for d in 0..3 {
+        if d == c {
+            break;
+        }
         t[d] = h[d] / 2.0;
     }
     t
@@ -61,7 +67,10 @@ pub fn child_centre(z: [f64; 3], h: [f64; 3], b: usize, c: usize) -> [f64; 3]
     ensures { result ≡ child_centre c z h b }
 {
     let mut t = [0.0; 3];
-    for d in 0..c {
+    for d in 0..3 {
+        if d == c {
+            break;
+        }
         t[d] = moved(z[d], h[d], b, d);
     }
     t

@@ -10,7 +10,10 @@ pub fn point(positions: &[f64], j: usize, c: usize) -> [f64; 3]
     ensures { result ≡ point_of positions.now c j }
 {
     let mut p = [0.0; 3];
-    for d in 0..c {
+    for d in 0..3 {
+        if d == c {
+            break;
+        }
         p[d] = positions[j * c + d];
     }
     p

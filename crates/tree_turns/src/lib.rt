@@ -39,7 +39,10 @@ fn means(cs: f64, m: [f64; 3], p: [f64; 3], c: usize) -> [f64; 3]
     ensures { result ≡ loop (mass_step cs p) c 0 m }
 {
     let mut t = m;
-    for d in 0..c {
+    for d in 0..3 {
+        if d == c {
+            break;
+        }
         t[d] = mean(cs, t[d], p[d]);
     }
     t

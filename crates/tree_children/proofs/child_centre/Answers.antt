@@ -1,4 +1,5 @@
--- `tree_children::child_centre` meets its contract: the laws of its loop.
+-- `tree_children::child_centre` meets its contract: the laws of its loop, which is left after the last component.
+use native.Mathlib.Omega.{arith}
 use Rattle.laws.proofs.Loops.{loop-start, loop-next, loop-done}
 use Rattle.tree_node.specs.Node.{zeros3}
 use Rattle.tree_children.specs.Children.{move_step, child_centre}
@@ -8,8 +9,12 @@ pub loop-d-init : goal.loop-d-init
 loop-d-init c = loop-start (move_step c.args.z c.args.h c.args.b) c.args.c zeros3
 
 pub loop-d-preserved : goal.loop-d-preserved
-loop-d-preserved c = rw c.moved.ensures (loop-next c.loop-d.invariant c.loop-d-test.true)
+loop-d-preserved c = let w = c.loop-d.invariant.within in rw c.moved.ensures (loop-next c.loop-d.invariant (omega arith))
 
-pub returns : goal.returns
+pub returns-then-d-c : goal.returns-then-d-c
 unfolding child_centre
-returns c = loop-done c.loop-d.invariant c.loop-d-test.false
+returns-then-d-c c = loop-done c.loop-d.invariant (omega arith)
+
+pub returns-after-loop-d : goal.returns-after-loop-d
+unfolding child_centre
+returns-after-loop-d c = loop-done c.loop-d.invariant (omega arith)
