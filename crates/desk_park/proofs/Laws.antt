@@ -1,10 +1,13 @@
--- What the parking call tells in each case. Assumes nothing.
+-- What the parking call cites: what its test has shown, and what it tells in each case. Assumes nothing.
 use Rattle.std.specs.Prelude.{Result}
-use mathlib.Core.Path.{◌≡◌, ap, ◌∙◌}
+use mathlib.Core.Path.{◌≡◌, sym, ap, ◌∙◌}
 use mathlib.Core.List.{List}
-use Prim.Native.Nat.{ℕ}
+use mathlib.Core.Bool.{Bool, false}
+use Prim.Native.Nat.{ℕ, ◌≤◌}
+use native.Mathlib.Omega.{arith}
+use lib.Dec.{eqb}
 use lib.ListN.{length, set}
-use borrow.Author.Tests.{eq-eqb, ne_eqb}
+use borrow.Author.Tests.{eqb-false, eq-eqb, ne_eqb}
 use Rattle.tree_node.specs.declared.Node.{Node}
 use Rattle.record_words.specs.RecordWords.{Worded, worded}
 use Rattle.parked.specs.Parked.{Stored}
@@ -16,6 +19,9 @@ module _ (d : Stored) (forces : ℕ) (ns : List Node) (t a : List ℕ) where
   pub mute-said : length a ≡ 0 → host_parked 12 t a ≡ host_park d forces ns t a
   unfolding host_park
   mute-said e = rw (eq-eqb (length a) 0 e)
+
+  pub parked-room : (b : Bool) → b ≡ eqb (length a) 0 → b ≡ false → 1 ≤ length a
+  parked-room b q y = let n = eqb-false (length a) 0 (sym q ∙ y) in omega (arith, n)
 
   pub parked-said : (length a ≡ 0 → ⊥) → (p : Result ℕ ParkFault) (t' : List ℕ) → parking p t' ≡ park_of d forces ns t → (k : ℕ) (a' : List ℕ) →
       worded k a' ≡ worded (park_number p) (set a 0 (parked_told p)) → host_parked k t' a' ≡ host_park d forces ns t a

@@ -1,4 +1,5 @@
--- Words that are a record, and an answer with a word in it. Assumes nothing.
+-- Words that are a record, and an answer with a word in it; and that something is told of words that are none. Assumes nothing.
+use Rattle.std.specs.Prelude.{Err}
 use mathlib.Core.Path.{◌≡◌, refl}
 use mathlib.Core.List.{List}
 use mathlib.Core.Bool.{Bool, true, false, cond, not}
@@ -29,3 +30,7 @@ fit-long w k e = run_long w (not-false (run_fine w) (or_right (eqb k 0) (not (ru
 -- of fourteen words whose method there is, the settings are looked at before the state
 pub unread-state : (w : List ℕ) {s : Settings} {k : ℕ} → 14 ≤ length w → settings_fine w ≡ true → s ≡ settings_of w → k ≡ settings_fault s → settings_first k ≡ unread_fault w
 unread-state w l f es ek = rw (le-ltb (length w) 14 l, f, ek, es)
+
+-- words that are no record have a fault
+pub unread-bad : (w : List ℕ) → is_fine (Err (unread_fault w)) ≡ false
+unread-bad w = refl

@@ -9,16 +9,34 @@ ghost use Rattle.partner_load.specs.Loaded.{indices_loaded, weights_loaded, offs
 
 use partner::{LINK_BYTES, link_from, link_to, link_weight};
 
+// The frame that each link names.
+pub fn load_indices(file: &[u8], indices: &mut [u32])
+    requires { whole_links file.now ≤ length indices.old }
+    ensures { indices.new ≡ indices_loaded file.now indices.old }
+{
+    for p in 0..file.len() / LINK_BYTES {
+        indices[p] = link_to(file, p) as u32;
+    }
+}
+
+// Each link's weight.
+pub fn load_weights(file: &[u8], weights: &mut [u64])
+    requires { whole_links file.now ≤ length weights.old }
+    ensures { weights.new ≡ weights_loaded file.now weights.old }
+{
+    for p in 0..file.len() / LINK_BYTES {
+        weights[p] = link_weight(file, p);
+    }
+}
+
 // The frame that each link names, and its weight.
 pub fn load_links(file: &[u8], indices: &mut [u32], weights: &mut [u64])
     requires { (whole_links file.now ≤ length indices.old) × (whole_links file.now ≤ length weights.old) }
     ensures indices_after { indices.new ≡ indices_loaded file.now indices.old }
     ensures weights_after { weights.new ≡ weights_loaded file.now weights.old }
 {
-    for p in 0..file.len() / LINK_BYTES {
-        indices[p] = link_to(file, p) as u32;
-        weights[p] = link_weight(file, p);
-    }
+    load_indices(file, indices);
+    load_weights(file, weights);
 }
 
 // The first link from link a on that does not start at a frame below j; the number of links where there is none.

@@ -5,7 +5,7 @@
 use mathlib.Core.List.{List}
 use mathlib.Core.Path.{◌≡◌}
 use Prim.Native.Nat.{ℕ, ◌+◌, ◌^◌}
-use borrow.Author.Tests.{eq-eqb}
+use borrow.Author.Tests.{eq-eqb, ne_eqb}
 use Rattle.tree_bodies.specs.Bodies.{body_of}
 use Rattle.tree_node.specs.declared.Cell.{Cell}
 use Rattle.tree_node.specs.Arena.{node_of}
@@ -25,7 +25,7 @@ pub turned-body : (levels : ℕ) (y : Eye) (v : Cell) (st : List ℕ) (s r : Spo
 unfolding turned_of stacked_of
 turned-body levels y v st s r k e = (rw k e, rw k)
 
-pub turned-open : (levels : ℕ) (y : Eye) (v : Cell) (st zs : List ℕ) (s r : Spot) → seen_as y v ≡ 2
+pub turned-open : (levels : ℕ) (y : Eye) (v : Cell) (st zs : List ℕ) (s r : Spot) → (seen_as y v ≡ 0 → ⊥) → (seen_as y v ≡ 1 → ⊥)
     → r ≡ opened_of levels s v.first (v.first + 2 ^ y.c) → zs ≡ pushed_of levels st s → TurnLeaves levels y v st s r zs
 unfolding turned_of stacked_of
-turned-open levels y v st zs s r k e p = (rw k e, rw k p)
+turned-open levels y v st zs s r n0 n1 e p = (rw (ne_eqb _ _ n0, ne_eqb _ _ n1) e, rw (ne_eqb _ _ n0, ne_eqb _ _ n1) p)

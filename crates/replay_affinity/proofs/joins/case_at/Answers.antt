@@ -7,3 +7,7 @@ pub int_to_float-n : goal.int_to_float-n
 unfolding in_float
 int_to_float-n c =
     le→leb c.args.n (2 ^ 53) (omega (arith, c.requires.1))
+
+pub returns : goal.returns
+returns c =
+    (omega (arith, c.requires, c.product-m.ensures.1, c.if-links-gt8192.false), omega (arith, c.requires, c.product-m.ensures.1, c.if-links-gt8192.false))

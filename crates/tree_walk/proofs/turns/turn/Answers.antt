@@ -32,4 +32,4 @@ pub returns-in-Open : goal.returns-in-Open
 returns-in-Open c =
     let k : seen_as c.args.eye c.args.v ≡ 2 = rw c.requires.1 (sym (rw c.from-n.ensures at c.kind.ensures) ∙ ap role_number c.in-Open.is) in
     let width = shl-32 c.args.c (few-32 c.args.c (omega arith)) in
-    turned-open c.args.levels _ _ _ _ _ _ k (rw c.requires.1 (rw width at c.opened.ensures.0)) c.opened.ensures.1
+    turned-open c.args.levels _ _ _ _ _ _ (λ e. omega (arith, k, e)) (λ e. omega (arith, k, e)) (rw c.requires.1 (rw width at c.opened.ensures.0)) c.opened.ensures.1
