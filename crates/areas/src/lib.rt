@@ -21,5 +21,7 @@ pub fn copy_front<T: Copy>(to: &mut [T], from: &[T], a: usize, k: usize)
     requires { (k ≤ length to.old) × (a + k ≤ length from.now) }
     ensures { to.new ≡ pasted from.now a k to.old }
 {
-    to[..k].copy_from_slice(&from[a..a + k]);
+    for t in 0..k {
+        to[t] = from[a + t];
+    }
 }
