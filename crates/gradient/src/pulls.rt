@@ -66,12 +66,15 @@ fn put(forces: &mut [f64], a: usize, x: [f64; 3], c: usize)
     requires { (Axes c) × (a + c ≤ length forces.old) }
     ensures { forces.new ≡ loop (put_step x a) c 0 forces.old }
 {
-    for d in 0..3 {
-        if d == c {
-            break;
-        }
-        forces[a + d] = x[d];
+    forces[a] = x[0];
+    if c == 1 {
+        return;
     }
+    forces[a + 1] = x[1];
+    if c == 2 {
+        return;
+    }
+    forces[a + 2] = x[2];
 }
 
 // Attraction, repulsion and share of point i take their places.

@@ -1,4 +1,4 @@
-// The forces unit of a point, with an arena by value: the cells are lent from a local.
+// The forces unit of a point, in the first cells of an arena that is lent whole.
 ghost use Rattle.std.specs.Prelude.{◌≡◌, ◌+◌, ◌*◌, ◌<◌, ◌≤◌, length};
 ghost use Rattle.laws.specs.Domain.{most_frames};
 ghost use Rattle.tree_node.specs.Node.{Axes};
@@ -11,7 +11,7 @@ use tree_node::Cell;
 
 // Point i, in the tree that lies in the first k cells.
 pub(crate) fn forces_in(
-    cells: [Cell; 512],
+    cells: &[Cell; 512],
     k: usize,
     used: usize,
     map: Map,
@@ -27,7 +27,7 @@ pub(crate) fn forces_in(
         × (map.n * map.c ≤ length map.positions.now)
         × (map.n * (2 * map.c + 1) ≤ length forces.old)
         × (k ≤ 512)
-        × (Walkable k used map.c cells)
+        × (Walkable k used map.c cells.now)
         × Linked map.n lists.weights.now lists.indices.now lists.offsets.now i }
     ensures { forces.new
         ≡ forces_of exaggeration angle map.entry.c
@@ -36,10 +36,18 @@ pub(crate) fn forces_in(
         lists.entry.indices.now
         lists.entry.offsets.now
         used
-        (front k cells)
+        (front k cells.now)
         i
         forces.old }
 {
-    let own = cells;
-    point_forces(&own[..k], used, map, lists, i, exaggeration, angle, forces);
+    point_forces(
+        &cells[..k],
+        used,
+        map,
+        lists,
+        i,
+        exaggeration,
+        angle,
+        forces,
+    );
 }

@@ -41,10 +41,10 @@ fn one_point(
     i: usize,
     map: Map,
     lists: Lists,
-    cells: [Cell; 512],
+    cells: &[Cell; 512],
     forces: &mut [f64],
 ) -> bool
-    requires { (Axes map.c) × (i < map.n) × (map.n ≤ 64) × (map.n * map.c ≤ length map.positions.now) × (map.n * (2 * map.c + 1) ≤ length forces.old) × Walkable 512 used map.c cells }
+    requires { (Axes map.c) × (i < map.n) × (map.n ≤ 64) × (map.n * map.c ≤ length map.positions.now) × (map.n * (2 * map.c + 1) ≤ length forces.old) × Walkable 512 used map.c cells.now }
 {
     if !linked(lists, map.n, i) {
         return false;
@@ -69,12 +69,12 @@ fn all_points(
     used: usize,
     map: Map,
     lists: Lists,
-    cells: [Cell; 512],
+    cells: &[Cell; 512],
     forces: &mut [f64],
 ) -> bool
     requires { (Axes map.c) × (map.n ≤ 64) × (map.n * map.c ≤ length map.positions.now) × (map.n * (2 * map.c + 1) ≤ length forces.old) }
 {
-    if !fine_in(cells, 512, used, map.n, map.c) {
+    if !fine_in(*cells, 512, used, map.n, map.c) {
         return false;
     }
     for i in 0..map.n {
@@ -107,13 +107,12 @@ fn forces_of(s: Case, positions: &[f64], lists: Lists, forces: &mut [f64]) -> bo
     requires { (Axes s.c) × (s.n ≤ 64) × (s.n * s.c ≤ length positions.now) × (s.n * (2 * s.c + 1) ≤ length forces.old) }
 {
     let g = grow(marked(), positions, s.n, s.c);
-    let cells = g.cells;
     let map = Map {
         positions,
         n: s.n as usize,
         c: s.c,
     };
-    all_points(s, g.used, map, lists, cells, forces)
+    all_points(s, g.used, map, lists, &g.cells, forces)
 }
 
 // The normaliser, which stands at word a, the gradient, and what lies past the forces of n points.

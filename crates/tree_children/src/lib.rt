@@ -25,14 +25,15 @@ pub fn child_index(z: [f64; 3], p: [f64; 3], c: usize) -> usize
     requires { Axes c }
     ensures { result ≡ child_index c z p }
 {
-    let mut k = 0;
-    for d in 0..3 {
-        if d == c {
-            break;
-        }
-        k += bit(z[d], p[d], d);
+    let x = bit(z[0], p[0], 0);
+    if c == 1 {
+        return x;
     }
-    k
+    let y = x + bit(z[1], p[1], 1);
+    if c == 2 {
+        return y;
+    }
+    y + bit(z[2], p[2], 2)
 }
 
 // One component of the centre of child b.
@@ -51,14 +52,15 @@ pub fn child_half(h: [f64; 3], c: usize) -> [f64; 3]
     requires { Axes c }
     ensures { result ≡ child_half c h }
 {
-    let mut t = [0.0; 3];
-    for d in 0..3 {
-        if d == c {
-            break;
-        }
-        t[d] = h[d] / 2.0;
+    let x = h[0] / 2.0;
+    if c == 1 {
+        return [x, 0.0, 0.0];
     }
-    t
+    let y = h[1] / 2.0;
+    if c == 2 {
+        return [x, y, 0.0];
+    }
+    [x, y, h[2] / 2.0]
 }
 
 // The middle of child b.
@@ -66,14 +68,15 @@ pub fn child_centre(z: [f64; 3], h: [f64; 3], b: usize, c: usize) -> [f64; 3]
     requires { Axes c }
     ensures { result ≡ child_centre c z h b }
 {
-    let mut t = [0.0; 3];
-    for d in 0..3 {
-        if d == c {
-            break;
-        }
-        t[d] = moved(z[d], h[d], b, d);
+    let x = moved(z[0], h[0], b, 0);
+    if c == 1 {
+        return [x, 0.0, 0.0];
     }
-    t
+    let y = moved(z[1], h[1], b, 1);
+    if c == 2 {
+        return [x, y, 0.0];
+    }
+    [x, y, moved(z[2], h[2], b, 2)]
 }
 
 // Child b of a split: an empty leaf.

@@ -9,14 +9,14 @@ pub fn point(positions: &[f64], j: usize, c: usize) -> [f64; 3]
     requires { (Axes c) × (j * c + c ≤ length positions.now) }
     ensures { result ≡ point_of positions.now c j }
 {
-    let mut p = [0.0; 3];
-    for d in 0..3 {
-        if d == c {
-            break;
-        }
-        p[d] = positions[j * c + d];
+    let a = j * c;
+    if c == 1 {
+        return [positions[a], 0.0, 0.0];
     }
-    p
+    if c == 2 {
+        return [positions[a], positions[a + 1], 0.0];
+    }
+    [positions[a], positions[a + 1], positions[a + 2]]
 }
 
 // An empty leaf with that cell.

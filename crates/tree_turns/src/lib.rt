@@ -39,12 +39,15 @@ fn means(cs: f64, m: [f64; 3], p: [f64; 3], c: usize) -> [f64; 3]
     ensures { result ≡ loop (mass_step cs p) c 0 m }
 {
     let mut t = m;
-    for d in 0..3 {
-        if d == c {
-            break;
-        }
-        t[d] = mean(cs, t[d], p[d]);
+    t[0] = mean(cs, t[0], p[0]);
+    if c == 1 {
+        return t;
     }
+    t[1] = mean(cs, t[1], p[1]);
+    if c == 2 {
+        return t;
+    }
+    t[2] = mean(cs, t[2], p[2]);
     t
 }
 

@@ -1,20 +1,20 @@
--- `tree_children::child_centre` meets its contract: the laws of its loop, which is left after the last component.
-use native.Mathlib.Omega.{arith}
-use Rattle.laws.proofs.Loops.{loop-start, loop-next, loop-done}
-use Rattle.tree_node.specs.Node.{zeros3}
-use Rattle.tree_children.specs.Children.{move_step, child_centre}
+-- `tree_children::child_centre` meets its contract: from what its calls promise.
+use Rattle.tree_children.specs.Children.{child_centre}
+use Rattle.laws.specs.Loops.{loop}
+use Rattle.tree_node.proofs.Axes.{third}
 use Rattle.tree_children.proofs.child_centre.Goals as goal
 
-pub loop-d-init : goal.loop-d-init
-loop-d-init c = loop-start (move_step c.args.z c.args.h c.args.b) c.args.c zeros3
+pub returns-then-c-eq1 : goal.returns-then-c-eq1
+unfolding child_centre loop
+returns-then-c-eq1 c =
+    rw (c.if-c-eq1.true, c.moved-x.ensures)
 
-pub loop-d-preserved : goal.loop-d-preserved
-loop-d-preserved c = let w = c.loop-d.invariant.within in rw c.moved.ensures (loop-next c.loop-d.invariant (omega arith))
+pub returns-then-c-eq2 : goal.returns-then-c-eq2
+unfolding child_centre loop
+returns-then-c-eq2 c =
+    rw (c.if-c-eq2.true, c.moved-y.ensures, c.moved-x.ensures)
 
-pub returns-then-d-c : goal.returns-then-d-c
-unfolding child_centre
-returns-then-d-c c = loop-done c.loop-d.invariant (omega arith)
-
-pub returns-after-loop-d : goal.returns-after-loop-d
-unfolding child_centre
-returns-after-loop-d c = loop-done c.loop-d.invariant (omega arith)
+pub returns : goal.returns
+unfolding child_centre loop
+returns c =
+    rw ((third _ c.requires c.if-c-eq1.false c.if-c-eq2.false), c.moved.ensures, c.moved-y.ensures, c.moved-x.ensures)

@@ -1,19 +1,21 @@
--- `tree_children::child_index` meets its contract: the laws of its loop, which is left after the last component.
+-- `tree_children::child_index` meets its contract: from what its calls promise.
+use Rattle.tree_children.specs.Children.{child_index}
+use Rattle.laws.specs.Loops.{loop}
+use Rattle.tree_node.proofs.Axes.{third}
 use native.Mathlib.Omega.{arith}
-use Rattle.laws.proofs.Loops.{loop-start, loop-next, loop-done}
-use Rattle.tree_children.specs.Children.{bit_step, child_index}
 use Rattle.tree_children.proofs.child_index.Goals as goal
 
-pub loop-d-init : goal.loop-d-init
-loop-d-init c = (loop-start (bit_step c.args.z c.args.p) c.args.c 0, omega arith)
+pub returns-then-c-eq1 : goal.returns-then-c-eq1
+unfolding child_index loop
+returns-then-c-eq1 c =
+    rw (c.if-c-eq1.true, c.bit-x.ensures.0) (omega arith)
 
-pub loop-d-preserved : goal.loop-d-preserved
-loop-d-preserved c = let w = c.loop-d.invariant.0.within in (rw c.bit-k.ensures.0 (loop-next c.loop-d.invariant.0 (omega arith)), omega arith)
+pub returns-then-c-eq2 : goal.returns-then-c-eq2
+unfolding child_index loop
+returns-then-c-eq2 c =
+    rw (c.if-c-eq2.true, c.bit.ensures.0, c.bit-x.ensures.0) (omega arith)
 
-pub returns-then-d-c : goal.returns-then-d-c
-unfolding child_index
-returns-then-d-c c = loop-done c.loop-d.invariant.0 (omega arith)
-
-pub returns-after-loop-d : goal.returns-after-loop-d
-unfolding child_index
-returns-after-loop-d c = loop-done c.loop-d.invariant.0 (omega arith)
+pub returns : goal.returns
+unfolding child_index loop
+returns c =
+    rw ((third _ c.requires c.if-c-eq1.false c.if-c-eq2.false), c.bit-2.ensures.0, c.bit.ensures.0, c.bit-x.ensures.0) (omega arith)

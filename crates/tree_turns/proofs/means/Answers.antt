@@ -1,17 +1,19 @@
--- `tree_turns::means` meets its contract: the laws of its loop, which is left after the last component.
-use native.Mathlib.Omega.{arith}
-use Rattle.laws.proofs.Loops.{loop-start, loop-next, loop-done}
-use Rattle.tree_turns.specs.Turns.{mass_step}
+-- `tree_turns::means` meets its contract: from what its calls promise.
+use Rattle.laws.specs.Loops.{loop}
+use Rattle.tree_node.proofs.Axes.{third}
 use Rattle.tree_turns.proofs.means.Goals as goal
 
-pub loop-d-init : goal.loop-d-init
-loop-d-init c = loop-start (mass_step c.args.cs c.args.p) c.args.c c.args.m
+pub returns-then-c-eq1 : goal.returns-then-c-eq1
+unfolding loop
+returns-then-c-eq1 c =
+    rw (c.if-c-eq1.true, c.mean.ensures)
 
-pub loop-d-preserved : goal.loop-d-preserved
-loop-d-preserved c = let w = c.loop-d.invariant.within in rw c.mean.ensures (loop-next c.loop-d.invariant (omega arith))
+pub returns-then-c-eq2 : goal.returns-then-c-eq2
+unfolding loop
+returns-then-c-eq2 c =
+    rw (c.if-c-eq2.true, c.mean-2.ensures, c.mean.ensures)
 
-pub returns-then-d-c : goal.returns-then-d-c
-returns-then-d-c c = loop-done c.loop-d.invariant (omega arith)
-
-pub returns-after-loop-d : goal.returns-after-loop-d
-returns-after-loop-d c = loop-done c.loop-d.invariant (omega arith)
+pub returns : goal.returns
+unfolding loop
+returns c =
+    rw ((third _ c.requires c.if-c-eq1.false c.if-c-eq2.false), c.mean-3.ensures, c.mean-2.ensures, c.mean.ensures)

@@ -1,18 +1,30 @@
--- The values into their places: the turn and the end of its loop, which is left after the last component.
-use Rattle.laws.proofs.Loops.{loop-next, loop-done}
-use borrow.Author.Rules.{rules}
+-- The values into their places: the turns of the loop up to c, written one after the other. By the test that each return has passed.
+use Rattle.laws.specs.Loops.{loop}
+use Rattle.tree_node.proofs.Axes.{third}
+use native.Mathlib.Nat.{add-zero}
+use lib.ListN.{length-set}
 use native.Mathlib.Omega.{arith}
 use Rattle.gradient.proofs.pulls.put.Goals as goal
 
-pub loop-d-preserved : goal.loop-d-preserved
-loop-d-preserved c =
-    let w = c.loop-d.invariant.1.within in
-    (search rules, loop-next c.loop-d.invariant.1 (omega arith))
+pub returns-then-c-eq1 : goal.returns-then-c-eq1
+unfolding loop
+returns-then-c-eq1 c =
+    rw (c.if-c-eq1.true, add-zero)
 
-pub returns-then-d-c : goal.returns-then-d-c
-returns-then-d-c c =
-    loop-done c.loop-d.invariant.1 (omega arith)
+pub bounds-forces-a-2 : goal.bounds-forces-a-2
+bounds-forces-a-2 c =
+    simp length-set (omega arith)
 
-pub returns-after-loop-d : goal.returns-after-loop-d
-returns-after-loop-d c =
-    loop-done c.loop-d.invariant.1 (omega arith)
+pub returns-then-c-eq2 : goal.returns-then-c-eq2
+unfolding loop
+returns-then-c-eq2 c =
+    rw (c.if-c-eq2.true, add-zero)
+
+pub bounds-forces-a-3 : goal.bounds-forces-a-3
+bounds-forces-a-3 c =
+    simp length-set (omega arith)
+
+pub returns : goal.returns
+unfolding loop
+returns c =
+    rw (third _ c.requires.0 c.if-c-eq1.false c.if-c-eq2.false, add-zero)

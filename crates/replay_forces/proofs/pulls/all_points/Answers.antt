@@ -7,6 +7,6 @@ pub loop-i-init : goal.loop-i-init
 loop-i-init c = (
   (search rules),
   (search rules),
-  fine-walks 512 c.args.used c.args.map.n c.args.map.c c.args.cells (search rules)
+  fine-walks 512 c.args.used c.args.map.n c.args.map.c c.args.cells.now (search rules)
       (sym c.fine_in.ensures ∙ c.if-not-fine_in.false),
 )

@@ -1,20 +1,23 @@
--- `tree_node::cells::point` meets its contract: the laws of its loop, which is left after the last component.
-use Prim.Native.Nat.{◌*◌}
-use native.Mathlib.Omega.{arith}
-use Rattle.laws.proofs.Loops.{loop-start, loop-next, loop-done}
-use Rattle.tree_node.specs.Node.{point_of, point_step, zeros3}
+-- `tree_node::cells::point` meets its contract: each need follows from its own premises.
+use native.Mathlib.Nat.{add-zero}
+use Rattle.tree_node.specs.Node.{point_of}
+use Rattle.laws.specs.Loops.{loop}
+use Rattle.tree_node.proofs.Axes.{third}
 use Rattle.tree_node.proofs.cells.point.Goals as goal
 
-pub loop-d-init : goal.loop-d-init
-loop-d-init c = loop-start (point_step c.args.positions.now (c.args.j * c.args.c)) c.args.c zeros3
+pub returns-then-c-eq1 : goal.returns-then-c-eq1
+unfolding point_of loop
+returns-then-c-eq1 c =
+    rw (c.if-c-eq1.true, add-zero)
 
-pub loop-d-preserved : goal.loop-d-preserved
-loop-d-preserved c = let w = c.loop-d.invariant.within in loop-next c.loop-d.invariant (omega arith)
+pub returns-then-c-eq2 : goal.returns-then-c-eq2
+unfolding point_of loop
+returns-then-c-eq2 c =
+    rw (c.if-c-eq2.true, add-zero)
 
-pub returns-then-d-c : goal.returns-then-d-c
-unfolding point_of
-returns-then-d-c c = loop-done c.loop-d.invariant (omega arith)
-
-pub returns-after-loop-d : goal.returns-after-loop-d
-unfolding point_of
-returns-after-loop-d c = loop-done c.loop-d.invariant (omega arith)
+pub returns : goal.returns
+unfolding point_of loop
+returns c =
+    let the-if2 = c.if-c-eq2 in
+    let the-if1 = c.if-c-eq1 in
+    rw ((third _ c.requires.0 the-if1.false the-if2.false), add-zero)
