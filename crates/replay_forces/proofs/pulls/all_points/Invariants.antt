@@ -6,4 +6,4 @@ use Rattle.replay_arena.specs.Fronts.{Walkable}
 use Rattle.replay_forces.proofs.pulls.all_points.Given as goal
 
 abbrev pub invariant-loop-i : goal.invariant-loop-i
-invariant-loop-i l = (length l.forces ≡ length l.initial.forces) × (l.i ≤ l.map.n) × Walkable 512 l.used l.map.c l.cells.now
+invariant-loop-i l = (length l.forces ≡ length l.initial.forces) × (l.i ≤ l.map.n) × Walkable 512 l.used l.map.c l.cells
