@@ -25,7 +25,9 @@ fn ln_at(m: f64, k: i64) -> f64
     kf * 0.6931471803691238 + ((2.0 * s) * t + kf * 1.9082149292705877e-10)
 }
 
-// The logarithm of m * 2 ^ (x - 1074), where m in [1, 2) has the digits t below its leading one.
+// The logarithm of m * 2 ^ (x - 1074), where m in [1, 2) has the digits t below its leading one. It becomes part of each caller, so that a
+// loop over logarithms divides for the series' fractions once.
+#[inline(always)]
 fn ln_digits(t: u64, x: u64) -> f64
     requires { (t < 2 ^ 52) × (x < 4096) }
     ensures { result ≡ ln_in (from_bits binary64 (1023 * 2 ^ 52 + t)) (minus x 1074) }
