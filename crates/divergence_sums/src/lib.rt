@@ -11,7 +11,8 @@ ghost use Rattle.divergence_sums.specs.Sums.{kl_term, kl_pair, kl_share_step, kl
 use gradient::forces::Lists;
 use gradient_pairs::exact::{Map, Pairs, TOGETHER};
 
-// One pair more on a sum: p·ln(p / q) with q at least 2^-52, where p is above 0.
+// One pair more on a sum: p·ln(p / q) with q at least 2^-52, where p is above 0. It becomes part of each caller, as `ln` does.
+#[inline(always)]
 fn kl_term(p: f64, q: f64, sum: f64) -> f64
     ensures { result ≡ kl_term p q sum }
 {

@@ -25,8 +25,7 @@ fn ln_at(m: f64, k: i64) -> f64
     kf * 0.6931471803691238 + ((2.0 * s) * t + kf * 1.9082149292705877e-10)
 }
 
-// The logarithm of m * 2 ^ (x - 1074), where m in [1, 2) has the digits t below its leading one. It becomes part of each caller, so that a
-// loop over logarithms divides for the series' fractions once.
+// The logarithm of m * 2 ^ (x - 1074), where m in [1, 2) has the digits t below its leading one.
 #[inline(always)]
 fn ln_digits(t: u64, x: u64) -> f64
     requires { (t < 2 ^ 52) × (x < 4096) }
@@ -50,6 +49,7 @@ fn ln_small(b: u64) -> f64
 }
 
 // The logarithm of the positive number with the bits b.
+#[inline(always)]
 fn ln_bits(b: u64) -> f64
     requires { (0 < b) × (b < 2047 * 2 ^ 52) }
     ensures { result ≡ ln_of (from_bits binary64 b) }
@@ -61,7 +61,9 @@ fn ln_bits(b: u64) -> f64
     ln_digits(b - (x << 52), x + 51)
 }
 
-// The natural logarithm of v, as the scope paper fixes it for every v.
+// The natural logarithm of v, as the scope paper fixes it for every v. With `ln_bits` and `ln_digits` it becomes part of each caller, so that
+// a loop over logarithms divides for the series' fractions once.
+#[inline(always)]
 pub fn ln(v: f64) -> f64
     ensures { result ≡ ln_of v }
 {
